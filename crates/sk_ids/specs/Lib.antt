@@ -1,0 +1,7 @@
+pub mod Pid
+pub mod Padded
+pub mod PaddedLemma
+pub mod Name
+pub mod NameLemma
+pub mod Entity
+pub mod Tags

@@ -1,0 +1,44 @@
+-- The guesses that a kernel drew, and what became of each.
+use Rattle.std.specs.Prelude.{ℕ, Bool, true, false, ◌+◌, ◌-◌, ◌^◌, ◌==◌, ◌||◌, nat_le, if◌then◌else◌, List, [], ◌∷◌, ◌++◌, length, slice_get, slice_set, count_by, Option, None}
+use Rattle.sk_guesses.specs.declared.status.Status.{Status}
+use Rattle.sk_guesses.specs.declared.status.Status.TheVariants.{Undecided, Committed, Failed, Struck}
+
+-- the kernel's number, and the status of guess 1, of guess 2, and so on
+pub record GuessesView : Type 0 where
+  pub kernel : ℕ
+  pub statuses : List Status
+
+-- where none is drawn
+abbrev pub opened : ℕ → GuessesView
+opened kernel = record { kernel = kernel; statuses = [] }
+
+-- nothing decided it yet
+abbrev pub is_undecided : Status → Bool
+is_undecided Undecided = true
+is_undecided Committed = false
+is_undecided Failed = false
+is_undecided Struck = false
+
+-- how many are undecided
+abbrev pub undecided_of : List Status → ℕ
+undecided_of statuses = count_by is_undecided statuses
+
+-- the number that is drawn next
+abbrev pub next_of : GuessesView → ℕ
+next_of v = length v.statuses + 1
+
+-- 64 guesses are undecided, or the last number, 2^63 - 1, is drawn
+abbrev pub is_full : GuessesView → Bool
+is_full v = nat_le 64 (undecided_of v.statuses) || nat_le (2 ^ 63) (next_of v)
+
+-- the status of a guess, where it was drawn
+abbrev pub status_of : GuessesView → ℕ → Option Status
+status_of v id = if id == 0 then None else slice_get v.statuses (id - 1)
+
+-- one guess with another status
+abbrev pub with_status : GuessesView → ℕ → Status → GuessesView
+with_status v id status = record v { statuses = slice_set v.statuses (id - 1) status }
+
+-- one guess more, undecided
+abbrev pub drawn : GuessesView → GuessesView
+drawn v = record v { statuses = v.statuses ++ Undecided ∷ [] }

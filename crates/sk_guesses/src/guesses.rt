@@ -1,0 +1,161 @@
+//! The guesses that a kernel drew.
+ghost use Rattle.std.specs.Prelude.{◌≡◌, ◌<◌, ◌≤◌, ◌^◌, Some, false};
+ghost use Rattle.sk_guesses.specs.declared.status.Status.TheVariants.{Undecided, Committed, Failed, Struck};
+ghost use Rattle.sk_guesses.specs.Guesses.{opened, next_of, undecided_of, is_full, is_undecided, status_of, with_status};
+ghost use Rattle.sk_guesses.specs.Calls.{Draws, redeemed};
+
+use crate::{Guess, Redeemed, Status};
+use sk_ids::GuessId;
+use std::alloc::Global;
+use std::marker::Model;
+use thiserror::Error;
+
+/// The greatest number of undecided guesses.
+pub const GUESS_LIMIT: usize = 64;
+
+/// The last number of a guess.
+pub const LAST_NUMBER: u64 = (1 << 63) - 1;
+
+/// Why no guess was drawn.
+#[derive(Debug, Drop, PartialEq, Eq, Error)]
+pub enum DrawRefusal {
+    #[error("too many guesses are undecided, or no number is left")]
+    TooMany,
+    #[error("out of memory")]
+    Memory,
+}
+
+/// The guesses of one kernel, numbered from 1 in the order in which they were drawn. All calls but
+/// `draw` take no memory.
+#[derive(Drop)]
+pub struct Guesses {
+    kernel: u64,
+    statuses: Vec<Status>,
+    undecided: usize,
+}
+
+impl Model for Guesses {
+    ghost use Rattle.std.specs.Prelude.{◌≡◌, ◌<◌, ◌≤◌, ◌^◌, length};
+    ghost use Rattle.sk_guesses.specs.Guesses.{GuessesView, undecided_of};
+
+    ghost Value = { GuessesView };
+
+    ghost view = { λ a. record { kernel = a.kernel; statuses = a.statuses.items } };
+
+    ghost invariant = { λ a. (a.undecided ≡ undecided_of a.statuses.items) × (a.undecided ≤ 64) × (length a.statuses.items < 2 ^ 63) };
+}
+
+impl Guesses {
+    /// No guess drawn yet, for the kernel of this number.
+    pub fn new(alloc: Global, kernel: u64) -> Guesses
+        ensures { result ≡ opened kernel }
+    {
+        Guesses {
+            kernel,
+            statuses: Vec::new(alloc),
+            undecided: 0,
+        }
+    }
+
+    /// The number of the kernel.
+    pub fn kernel(&self) -> u64
+        ensures { result ≡ self.now.kernel }
+    {
+        self.kernel
+    }
+
+    /// The number of the guess that is drawn next, up to 2^63.
+    pub fn next(&self) -> u64
+        ensures value { result ≡ next_of self.now }
+        ensures limit { result ≤ 2 ^ 63 }
+    {
+        self.statuses.len() as u64 + 1
+    }
+
+    /// How many guesses are undecided, up to 64.
+    pub fn undecided(&self) -> usize
+        ensures value { result ≡ undecided_of self.now.statuses }
+        ensures limit { result ≤ 64 }
+    {
+        self.undecided
+    }
+
+    /// Whether `draw` would answer `TooMany`.
+    pub fn is_full(&self) -> bool
+        ensures { result ≡ is_full self.now }
+    {
+        self.undecided >= GUESS_LIMIT || self.next() > LAST_NUMBER
+    }
+
+    /// What became of a guess; `None` where it was never drawn.
+    pub fn status(&self, id: GuessId) -> Option<Status>
+        ensures { result ≡ status_of self.now id }
+    {
+        let place = id.number().checked_sub(1)?;
+        self.statuses.get(place as usize).copied()
+    }
+
+    /// Draws the next number, whose guess is undecided. After a refusal everything is as it was.
+    pub fn draw(&mut self) -> Result<Guess, DrawRefusal>
+        ensures { Draws self.old self.new result }
+    {
+        if self.is_full() {
+            return Err(DrawRefusal::TooMany);
+        }
+        let id = GuessId::new(self.next());
+        if self.statuses.push(Status::Undecided).is_err() {
+            return Err(DrawRefusal::Memory);
+        }
+        self.undecided += 1;
+        Ok(Guess::new(self.kernel, id))
+    }
+
+    /// Takes a token in, or hands it back where it is another kernel's, or its guess is neither
+    /// undecided nor struck. The status stays.
+    pub fn redeem(&self, guess: Guess) -> Result<Redeemed, Guess>
+        ensures { result ≡ redeemed self.now guess }
+    {
+        if guess.kernel() != self.kernel {
+            return Err(guess);
+        }
+        match self.status(guess.id()) {
+            Some(Status::Undecided) => Ok(Redeemed::Undecided(guess.spent())),
+            Some(Status::Struck) => Ok(Redeemed::Struck(guess.spent())),
+            _ => Err(guess),
+        }
+    }
+
+    /// Commits an undecided guess.
+    pub fn commit(&mut self, id: GuessId)
+        requires { status_of self.old id ≡ Some Undecided }
+        ensures { self.new ≡ with_status self.old id Committed }
+    {
+        self.decide(id, Status::Committed);
+    }
+
+    /// Fails an undecided guess.
+    pub fn fail(&mut self, id: GuessId)
+        requires { status_of self.old id ≡ Some Undecided }
+        ensures { self.new ≡ with_status self.old id Failed }
+    {
+        self.decide(id, Status::Failed);
+    }
+
+    /// Strikes an undecided guess, whose step another's failure took away.
+    pub fn strike(&mut self, id: GuessId)
+        requires { status_of self.old id ≡ Some Undecided }
+        ensures { self.new ≡ with_status self.old id Struck }
+    {
+        self.decide(id, Status::Struck);
+    }
+
+    fn decide(&mut self, id: GuessId, status: Status)
+        requires was { status_of self.old id ≡ Some Undecided }
+        requires becomes { is_undecided status ≡ false }
+        ensures { self.new ≡ with_status self.old id status }
+    {
+        let place = (id.number() - 1) as usize;
+        self.statuses[place] = status;
+        self.undecided -= 1;
+    }
+}

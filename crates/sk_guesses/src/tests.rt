@@ -1,0 +1,105 @@
+//! Tokens across kernels, and the limit of undecided guesses.
+use crate::{DrawRefusal, GUESS_LIMIT, Guess, Guesses, Redeemed, Status};
+use sk_ids::GuessId;
+use std::test::Fail;
+
+/// Whether the token is taken as undecided; it is spent either way.
+fn is_taken(guesses: &Guesses, guess: Guess) -> bool {
+    match guesses.redeem(guess) {
+        Ok(redeemed) => matches!(redeemed, Redeemed::Undecided(_)),
+        Err(guess) => {
+            guess.spent();
+            false
+        }
+    }
+}
+
+#[test]
+fn tokens_of_two_kernels(rt: HostRuntime) -> Result<(), Fail> {
+    let mut one = Guesses::new(rt.alloc(), 1);
+    let mut two = Guesses::new(rt.alloc(), 2);
+    let first = one.draw()?;
+    let second = match two.draw() {
+        Ok(second) => second,
+        Err(refusal) => {
+            first.spent();
+            return Err(refusal.into());
+        }
+    };
+    let came_back = match two.redeem(first) {
+        Ok(_) => false,
+        Err(first) => is_taken(&one, first),
+    };
+    let taken = is_taken(&two, second);
+    assert!(rt; came_back);
+    assert!(rt; taken);
+    Ok(())
+}
+
+#[test]
+fn sixty_four_guesses(rt: HostRuntime) -> Result<(), Fail> {
+    let mut guesses = Guesses::new(rt.alloc(), 7);
+    for number in 1..=64u64 {
+        assert!(rt; !guesses.is_full());
+        assert_eq!(rt; guesses.next(), number);
+        let token = guesses.draw()?;
+        let (kernel, id) = (token.kernel(), token.id());
+        token.spent();
+        assert_eq!(rt; (kernel, id), (7, GuessId::new(number)));
+    }
+    assert_eq!(rt; guesses.undecided(), GUESS_LIMIT);
+    let refused = match guesses.draw() {
+        Ok(token) => {
+            token.spent();
+            false
+        }
+        Err(refusal) => refusal == DrawRefusal::TooMany,
+    };
+    assert!(rt; refused);
+    Ok(())
+}
+
+/// Decides the guess so, where it is undecided.
+fn decide(guesses: &mut Guesses, id: GuessId, to: Status) {
+    match guesses.status(id) {
+        Some(Status::Undecided) => match to {
+            Status::Undecided => {}
+            Status::Committed => guesses.commit(id),
+            Status::Failed => guesses.fail(id),
+            Status::Struck => guesses.strike(id),
+        },
+        _ => {}
+    }
+}
+
+#[test]
+fn tokens_after_a_decision(rt: HostRuntime) -> Result<(), Fail> {
+    let mut guesses = Guesses::new(rt.alloc(), 7);
+    let rows = [
+        (
+            1,
+            Status::Undecided,
+            Some(Redeemed::Undecided(GuessId::new(1))),
+        ),
+        (2, Status::Committed, None),
+        (3, Status::Failed, None),
+        (4, Status::Struck, Some(Redeemed::Struck(GuessId::new(4)))),
+    ];
+    for (number, to, want) in rows {
+        let token = guesses.draw()?;
+        decide(&mut guesses, token.id(), to);
+        let answer = match guesses.redeem(token) {
+            Ok(redeemed) => Some(redeemed),
+            Err(token) => {
+                token.spent();
+                None
+            }
+        };
+        assert_eq!(rt; answer, want);
+        assert_eq!(rt; guesses.status(GuessId::new(number)), Some(to));
+    }
+    assert_eq!(rt; guesses.undecided(), 1);
+    assert_eq!(rt; guesses.status(GuessId::new(0)), None);
+    assert_eq!(rt; guesses.status(GuessId::new(5)), None);
+    Ok(())
+}

@@ -1,0 +1,12 @@
+//! The texts said to a terminal, released once they rest on no undecided guess.
+#![tactic(auto)]
+
+pub mod held;
+pub mod laws;
+pub mod terminal;
+
+pub use held::Held;
+pub use terminal::Terminal;
+
+#[cfg(test)]
+mod tests;

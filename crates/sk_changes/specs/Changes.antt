@@ -1,0 +1,67 @@
+-- Changes of values of any kind: each as its kind has it.
+use Rattle.std.specs.Prelude.{◌≡◌, ℕ, Bool, ◌≤◌, List, length, All}
+use Rattle.sk_objects.specs.Directory.{IsRising}
+use Rattle.sk_objects.specs.Signals.{IsSignal}
+use Rattle.sk_objects.specs.declared.value.Value.{Value}
+use Rattle.sk_objects.specs.declared.value.Value.TheVariants.{File, Dir, Pipe, Signals, Exit, Copy}
+use Rattle.sk_changes.specs.declared.change.Change.{Change}
+use Rattle.sk_changes.specs.declared.change.Undo.{Undo}
+use Rattle.sk_changes.specs.Files.{file_fits, file_after, file_undo, CanUndoFile, file_undone}
+use Rattle.sk_changes.specs.Directories.{directory_fits, directory_after, directory_undo, CanUndoDirectory, directory_undone}
+use Rattle.sk_changes.specs.Pipes.{pipe_fits, pipe_after, pipe_undo, CanUndoPipe, pipe_undone}
+use Rattle.sk_changes.specs.Queues.{queue_fits, queue_after, queue_undo, CanUndoQueue, queue_undone}
+use Rattle.sk_changes.specs.Slots.{exit_fits, exit_after, exit_undo, CanUndoExit, exit_undone, copy_fits, copy_after, copy_undo, CanUndoCopy, copy_undone}
+
+-- what holds of every value that there is
+abbrev pub IsValue : Value → Type 0
+IsValue (File f) = length f ≤ 32768
+IsValue (Dir d) = IsRising d × (length d ≤ 64)
+IsValue (Pipe p) = length p.bytes ≤ 4096
+IsValue (Signals s) = (length s ≤ 32) × All IsSignal s
+IsValue (Exit e) = Unit {0}
+IsValue (Copy c) = Unit {0}
+
+-- whether a change fits a value
+abbrev pub value_fits : Value → Change → Bool
+value_fits (File f) c = file_fits f c
+value_fits (Dir d) c = directory_fits d c
+value_fits (Pipe p) c = pipe_fits p c
+value_fits (Signals s) c = queue_fits s c
+value_fits (Exit e) c = exit_fits e c
+value_fits (Copy v) c = copy_fits v c
+
+-- the value after a change that fits
+abbrev pub value_after : Value → Change → Value
+value_after (File f) c = File (file_after f c)
+value_after (Dir d) c = Dir (directory_after d c)
+value_after (Pipe p) c = Pipe (pipe_after p c)
+value_after (Signals s) c = Signals (queue_after s c)
+value_after (Exit e) c = Exit (exit_after e c)
+value_after (Copy v) c = Copy (copy_after v c)
+
+-- what puts it back
+abbrev pub value_undo : Value → Change → Undo
+value_undo (File f) c = file_undo f c
+value_undo (Dir d) c = directory_undo d c
+value_undo (Pipe p) c = pipe_undo p c
+value_undo (Signals s) c = queue_undo s c
+value_undo (Exit e) c = exit_undo e c
+value_undo (Copy v) c = copy_undo v c
+
+-- whether an undo may be given back to a value
+abbrev pub CanUndo : Value → Undo → Type 0
+CanUndo (File f) u = CanUndoFile f u
+CanUndo (Dir d) u = CanUndoDirectory d u
+CanUndo (Pipe p) u = CanUndoPipe p u
+CanUndo (Signals s) u = CanUndoQueue s u
+CanUndo (Exit e) u = CanUndoExit e u
+CanUndo (Copy v) u = CanUndoCopy v u
+
+-- the value after an undo
+abbrev pub value_undone : Value → Undo → Value
+value_undone (File f) u = File (file_undone f u)
+value_undone (Dir d) u = Dir (directory_undone d u)
+value_undone (Pipe p) u = Pipe (pipe_undone p u)
+value_undone (Signals s) u = Signals (queue_undone s u)
+value_undone (Exit e) u = Exit (exit_undone e u)
+value_undone (Copy v) u = Copy (copy_undone v u)

@@ -1,0 +1,37 @@
+-- Changes of files.
+use Rattle.std.specs.Prelude.{◌≡◌, ℕ, Bool, true, false, ◌&&◌, ◌≤◌, ◌+◌, nat_le, nat_lt, if◌then◌else◌, List, length, take}
+use Rattle.sk_objects.specs.File.{written, cut, part, overwritten}
+use Rattle.sk_changes.specs.declared.change.Change.{Change}
+use Rattle.sk_changes.specs.declared.change.Change.TheVariants.{WriteAt, CutTo}
+use Rattle.sk_changes.specs.declared.change.Undo.{Undo}
+use Rattle.sk_changes.specs.declared.change.Undo.TheVariants.{Unwrite, Uncut, Shorten, Reopen}
+
+-- a write of 1 to 512 bytes that ends within the limit, or a length within it
+abbrev pub file_fits : List ℕ → Change → Bool
+file_fits f (WriteAt at bytes) = nat_le 1 (length bytes) && (nat_le (length bytes) 512 && nat_le (at + length bytes) 32768)
+file_fits f (CutTo n) = nat_le n 32768
+file_fits f _ = false
+
+-- the file after a change
+abbrev pub file_after : List ℕ → Change → List ℕ
+file_after f (WriteAt at bytes) = written f at bytes
+file_after f (CutTo n) = cut f n
+file_after f _ = f
+
+-- what puts it back: the bytes that stood there and the length, the whole file, or the length
+abbrev pub file_undo : List ℕ → Change → Undo
+file_undo f (WriteAt at bytes) = Unwrite at (part f at (length bytes)) (length f)
+file_undo f (CutTo n) = if nat_lt n (length f) then Uncut f else Shorten (length f)
+file_undo f _ = Reopen
+
+-- bytes go back only over bytes that are there
+abbrev pub CanUndoFile : List ℕ → Undo → Type 0
+CanUndoFile f (Unwrite at bytes len) = at + length bytes ≤ length f
+CanUndoFile f _ = Unit {0}
+
+-- the file after an undo
+abbrev pub file_undone : List ℕ → Undo → List ℕ
+file_undone f (Unwrite at bytes len) = take len (overwritten f at bytes)
+file_undone f (Uncut old) = old
+file_undone f (Shorten len) = take len f
+file_undone f _ = f

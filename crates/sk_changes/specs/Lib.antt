@@ -1,0 +1,14 @@
+pub mod Files
+pub mod FilesLaw
+pub mod Directories
+pub mod DirectoriesLaw
+pub mod Pipes
+pub mod PipesLaw
+pub mod Queues
+pub mod QueuesLaw
+pub mod Slots
+pub mod SlotsLaw
+pub mod Changes
+pub mod ChangesLaw
+pub mod InTurn
+pub mod Back

@@ -1,0 +1,39 @@
+-- Changes of pipes.
+use Rattle.std.specs.Prelude.{◌≡◌, ℕ, Bool, true, false, not, ◌&&◌, ◌≤◌, ◌+◌, nat_le, List, ◌++◌, length, take, drop}
+use Rattle.sk_objects.specs.Pipe.{PipeView}
+use Rattle.sk_changes.specs.declared.change.Change.{Change}
+use Rattle.sk_changes.specs.declared.change.Change.TheVariants.{Put, Take, Shut}
+use Rattle.sk_changes.specs.declared.change.Undo.{Undo}
+use Rattle.sk_changes.specs.declared.change.Undo.TheVariants.{Unput, Untake, Reopen}
+
+-- 1 to 512 bytes with room for them where it is not shut, 1 to 512 of those held, or not yet shut
+abbrev pub pipe_fits : PipeView → Change → Bool
+pipe_fits p (Put bytes) = not p.shut && (nat_le 1 (length bytes) && (nat_le (length bytes) 512 && nat_le (length p.bytes + length bytes) 4096))
+pipe_fits p (Take n) = nat_le 1 n && (nat_le n 512 && nat_le n (length p.bytes))
+pipe_fits p Shut = not p.shut
+pipe_fits p _ = false
+
+-- the pipe after a change
+abbrev pub pipe_after : PipeView → Change → PipeView
+pipe_after p (Put bytes) = record p { bytes = p.bytes ++ bytes }
+pipe_after p (Take n) = record p { bytes = drop n p.bytes }
+pipe_after p Shut = record p { shut = true }
+pipe_after p _ = p
+
+-- what puts it back: the number held, the bytes taken, or that it was open
+abbrev pub pipe_undo : PipeView → Change → Undo
+pipe_undo p (Put bytes) = Unput (length p.bytes)
+pipe_undo p (Take n) = Untake (take n p.bytes)
+pipe_undo p _ = Reopen
+
+-- bytes go back to the front only where there is room
+abbrev pub CanUndoPipe : PipeView → Undo → Type 0
+CanUndoPipe p (Untake bytes) = length p.bytes + length bytes ≤ 4096
+CanUndoPipe p _ = Unit {0}
+
+-- the pipe after an undo
+abbrev pub pipe_undone : PipeView → Undo → PipeView
+pipe_undone p (Unput n) = record p { bytes = take n p.bytes }
+pipe_undone p (Untake bytes) = record p { bytes = bytes ++ p.bytes }
+pipe_undone p Reopen = record p { shut = false }
+pipe_undone p _ = p

@@ -1,0 +1,77 @@
+//! Changes of files.
+ghost use Rattle.std.specs.Prelude.{◌<◌, ◌^◌, ◌&&◌, nat_le, ◌≡◌, ◌≤◌, ◌+◌, length};
+ghost use Rattle.sk_changes.specs.Files.{file_fits, file_after, file_undo, CanUndoFile, file_undone};
+
+use crate::{Change, Invertible, NotApplied, Undo};
+use sk_objects::File;
+use sk_objects::file::FILE_LIMIT;
+
+/// Whether a write of so many bytes, at most 512, fits.
+fn is_write(at: usize, count: usize) -> bool
+    requires low { at < 2 ^ 32 }
+    requires short { count ≤ 512 }
+    ensures { result ≡ (nat_le 1 count && (nat_le count 512 && nat_le (at + count) 32768)) }
+{
+    count >= 1 && at + count <= FILE_LIMIT
+}
+
+impl Invertible for File {
+    ghost valid = { λ f. length f ≤ 32768 };
+
+    ghost fits = { file_fits };
+
+    ghost applied = { file_after };
+
+    ghost undo_of = { file_undo };
+
+    ghost can_undo = { CanUndoFile };
+
+    ghost undone = { file_undone };
+
+    fn apply(&mut self, change: Change) -> Result<Undo, NotApplied> {
+        let len = self.len() as u32;
+        match change {
+            Change::WriteAt { offset, bytes } => {
+                if !is_write(offset as usize, bytes.len()) {
+                    return Err(NotApplied::Unfit);
+                }
+                let old = self.part(offset as usize, bytes.len());
+                self.write_at(offset as usize, bytes.as_slice())?;
+                Ok(Undo::Unwrite {
+                    offset,
+                    bytes: old,
+                    len,
+                })
+            }
+            Change::CutTo(count) => {
+                if count as usize > FILE_LIMIT {
+                    return Err(NotApplied::Unfit);
+                }
+                let undo = if count < len {
+                    Undo::Uncut(self.copy()?)
+                } else {
+                    Undo::Shorten(len)
+                };
+                self.cut_to(count as usize)?;
+                Ok(undo)
+            }
+            _ => Err(NotApplied::Unfit),
+        }
+    }
+
+    fn undo(&mut self, undo: Undo) {
+        match undo {
+            Undo::Unwrite { offset, bytes, len } => {
+                self.overwrite(offset as usize, bytes.as_slice());
+                self.truncate(len as usize);
+            }
+            Undo::Uncut(file) => *self = file,
+            Undo::Shorten(len) => self.truncate(len as usize),
+            _ => {}
+        }
+    }
+
+    ghost use Rattle.sk_changes.specs.FilesLaw.{file_restores};
+
+    ghost restores = { file_restores };
+}

@@ -1,0 +1,16 @@
+//! The changes of values, each with the undo that takes it back.
+#![tactic(auto)]
+
+pub mod change;
+pub mod directory;
+pub mod file;
+pub mod pipe;
+pub mod run;
+pub mod signals;
+pub mod slots;
+pub mod value;
+
+pub use change::{Change, Invertible, NotApplied, Undo};
+
+#[cfg(test)]
+mod tests;

@@ -1,0 +1,54 @@
+//! Changes of queues of signals.
+ghost use Rattle.std.specs.Prelude.{◌≡◌, ◌≤◌, length, All};
+ghost use Rattle.sk_objects.specs.Signals.{IsSignal};
+ghost use Rattle.sk_changes.specs.Queues.{queue_fits, queue_after, queue_undo, CanUndoQueue, queue_undone};
+
+use crate::{Change, Invertible, NotApplied, Undo};
+use sk_objects::Signals;
+use sk_objects::signals::SIGNALS_LIMIT;
+
+impl Invertible for Signals {
+    ghost valid = { λ s. (length s ≤ 32) × All IsSignal s };
+
+    ghost fits = { queue_fits };
+
+    ghost applied = { queue_after };
+
+    ghost undo_of = { queue_undo };
+
+    ghost can_undo = { CanUndoQueue };
+
+    ghost undone = { queue_undone };
+
+    fn apply(&mut self, change: Change) -> Result<Undo, NotApplied> {
+        let len = self.len();
+        match change {
+            Change::PushSignal(signal) => {
+                if len >= SIGNALS_LIMIT || signal < 1 || signal > 31 {
+                    return Err(NotApplied::Unfit);
+                }
+                self.push(signal);
+                Ok(Undo::Unpush)
+            }
+            Change::TakeSignal => {
+                if len == 0 {
+                    return Err(NotApplied::Unfit);
+                }
+                Ok(Undo::Requeue(self.take()))
+            }
+            _ => Err(NotApplied::Unfit),
+        }
+    }
+
+    fn undo(&mut self, undo: Undo) {
+        match undo {
+            Undo::Unpush => self.drop_newest(),
+            Undo::Requeue(signal) => self.put_back(signal),
+            _ => {}
+        }
+    }
+
+    ghost use Rattle.sk_changes.specs.QueuesLaw.{queue_restores};
+
+    ghost restores = { queue_restores };
+}

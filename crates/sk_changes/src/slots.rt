@@ -1,0 +1,75 @@
+//! Changes of exit slots and of cached copies.
+ghost use Rattle.std.specs.Prelude.{◌≡◌};
+ghost use Rattle.sk_changes.specs.Slots.{exit_fits, exit_after, exit_undo, CanUndoExit, exit_undone, copy_fits, copy_after, copy_undo, CanUndoCopy, copy_undone};
+
+use crate::{Change, Invertible, NotApplied, Undo};
+use sk_objects::Content;
+
+/// An exit slot.
+impl Invertible for Option<u8> {
+    ghost valid = { λ e. Unit {0} };
+
+    ghost fits = { exit_fits };
+
+    ghost applied = { exit_after };
+
+    ghost undo_of = { exit_undo };
+
+    ghost can_undo = { CanUndoExit };
+
+    ghost undone = { exit_undone };
+
+    fn apply(&mut self, change: Change) -> Result<Undo, NotApplied> {
+        let Change::SetExit(status) = change else {
+            return Err(NotApplied::Unfit);
+        };
+        if self.is_some() {
+            return Err(NotApplied::Unfit);
+        }
+        *self = Some(status);
+        Ok(Undo::ClearExit)
+    }
+
+    fn undo(&mut self, undo: Undo) {
+        if let Undo::ClearExit = undo {
+            *self = None;
+        }
+    }
+
+    ghost use Rattle.sk_changes.specs.SlotsLaw.{exit_restores};
+
+    ghost restores = { exit_restores };
+}
+
+impl Invertible for Content {
+    ghost valid = { λ c. Unit {0} };
+
+    ghost fits = { copy_fits };
+
+    ghost applied = { copy_after };
+
+    ghost undo_of = { copy_undo };
+
+    ghost can_undo = { CanUndoCopy };
+
+    ghost undone = { copy_undone };
+
+    fn apply(&mut self, change: Change) -> Result<Undo, NotApplied> {
+        let Change::SetCopy(content) = change else {
+            return Err(NotApplied::Unfit);
+        };
+        let old = *self;
+        *self = content;
+        Ok(Undo::Recopy(old))
+    }
+
+    fn undo(&mut self, undo: Undo) {
+        if let Undo::Recopy(content) = undo {
+            *self = content;
+        }
+    }
+
+    ghost use Rattle.sk_changes.specs.SlotsLaw.{copy_restores};
+
+    ghost restores = { copy_restores };
+}

@@ -1,0 +1,46 @@
+//! Changes of values of any kind.
+ghost use Rattle.std.specs.Prelude.{◌≡◌};
+ghost use Rattle.sk_changes.specs.Changes.{IsValue, value_fits, value_after, value_undo, CanUndo, value_undone};
+
+use crate::{Change, Invertible, NotApplied, Undo};
+use sk_objects::Value;
+
+impl Invertible for Value {
+    ghost valid = { IsValue };
+
+    ghost fits = { value_fits };
+
+    ghost applied = { value_after };
+
+    ghost undo_of = { value_undo };
+
+    ghost can_undo = { CanUndo };
+
+    ghost undone = { value_undone };
+
+    fn apply(&mut self, change: Change) -> Result<Undo, NotApplied> {
+        match self {
+            Value::File(file) => file.apply(change),
+            Value::Dir(directory) => directory.apply(change),
+            Value::Pipe(pipe) => pipe.apply(change),
+            Value::Signals(signals) => signals.apply(change),
+            Value::Exit(status) => status.apply(change),
+            Value::Copy(content) => content.apply(change),
+        }
+    }
+
+    fn undo(&mut self, undo: Undo) {
+        match self {
+            Value::File(file) => file.undo(undo),
+            Value::Dir(directory) => directory.undo(undo),
+            Value::Pipe(pipe) => pipe.undo(undo),
+            Value::Signals(signals) => signals.undo(undo),
+            Value::Exit(status) => status.undo(undo),
+            Value::Copy(content) => content.undo(undo),
+        }
+    }
+
+    ghost use Rattle.sk_changes.specs.ChangesLaw.{value_restores};
+
+    ghost restores = { value_restores };
+}

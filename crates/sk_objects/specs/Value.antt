@@ -1,0 +1,73 @@
+-- What an entity holds, and what its readers see of it.
+use Rattle.std.specs.Prelude.{ℕ, Bool, false, Option, Some, None, List, [], length, min, slice_get}
+use Rattle.std.specs.Option.{option_map}
+use Rattle.sk_ids.specs.declared.pid.ObjId.{ObjId}
+use Rattle.sk_objects.specs.File.{part}
+use Rattle.sk_objects.specs.Directory.{Link, looked_up}
+use Rattle.sk_objects.specs.declared.value.Kind.{Kind}
+use Rattle.sk_objects.specs.declared.value.Kind.TheVariants as kinds
+use Rattle.sk_objects.specs.declared.value.Value.{Value}
+use Rattle.sk_objects.specs.declared.value.Value.TheVariants.{File, Dir, Pipe, Signals, Exit, Copy}
+
+-- the kind of a value
+abbrev pub kind_of : Value → Kind
+kind_of (File f) = kinds.File
+kind_of (Dir d) = kinds.Dir
+kind_of (Pipe p) = kinds.Pipe
+kind_of (Signals s) = kinds.Signals
+kind_of (Exit e) = kinds.Exit
+kind_of (Copy c) = kinds.Copy
+
+-- the first value of a kind: nothing in it, open, not set, version 0
+abbrev pub empty_of : Kind → Value
+empty_of kinds.File = File []
+empty_of kinds.Dir = Dir []
+empty_of kinds.Pipe = Pipe (record { bytes = []; shut = false })
+empty_of kinds.Signals = Signals []
+empty_of kinds.Exit = Exit None
+empty_of kinds.Copy = Copy (record { version = 0; bytes = [] })
+
+-- the bytes of a file, a pipe (the oldest first) or a copy
+abbrev pub held_bytes : Value → Option (List ℕ)
+held_bytes (File f) = Some f
+held_bytes (Pipe p) = Some p.bytes
+held_bytes (Copy c) = Some c.bytes
+held_bytes _ = None
+
+-- up to so many of them from a place on, and at most 512
+abbrev pub bytes_from : Value → ℕ → ℕ → Option (List ℕ)
+bytes_from v offset count = option_map (λ held. part held offset (min count 512)) (held_bytes v)
+
+-- their number
+abbrev pub size_of : Value → Option ℕ
+size_of v = option_map length (held_bytes v)
+
+-- whether a pipe is shut
+abbrev pub shut_of : Value → Option Bool
+shut_of (Pipe p) = Some p.shut
+shut_of _ = None
+
+-- the object of a name of a directory, where it is linked
+abbrev pub look_in : Value → List ℕ → Option (Option ObjId)
+look_in (Dir d) name = Some (looked_up d name)
+look_in _ name = None
+
+-- the name at a place of a directory, by rising bytes, with its object
+abbrev pub link_at : Value → ℕ → Option Link
+link_at (Dir d) i = slice_get d i
+link_at _ i = None
+
+-- the signal at a place of a queue, the oldest first
+abbrev pub queued_at : Value → ℕ → Option ℕ
+queued_at (Signals s) i = slice_get s i
+queued_at _ i = None
+
+-- the status of an exit slot, where it is set
+abbrev pub status_of : Value → Option (Option ℕ)
+status_of (Exit e) = Some e
+status_of _ = None
+
+-- the version of a copy
+abbrev pub version_of : Value → Option ℕ
+version_of (Copy c) = Some c.version
+version_of _ = None

@@ -1,0 +1,135 @@
+//! Files.
+ghost use Rattle.std.specs.Prelude.{◌≡◌, ◌≤◌, ◌+◌, [], length, take, vec_len, IfOk, OnOk, OnErr};
+ghost use Rattle.sk_objects.specs.File.{overwritten, written, cut, part};
+
+use sk_ids::Text;
+use std::alloc::{AllocError, Global};
+use std::marker::Model;
+
+/// The greatest length of a file, in bytes.
+pub const FILE_LIMIT: usize = 32_768;
+
+/// The bytes of a file, at most 32,768.
+#[derive(Drop)]
+pub struct File {
+    bytes: Vec<u8>,
+}
+
+impl Model for File {
+    ghost use Rattle.std.specs.Prelude.{ℕ, List, ◌≤◌, length};
+
+    ghost Value = { List ℕ };
+
+    ghost view = { λ f. f.bytes.items };
+
+    ghost invariant = { λ f. length f.bytes.items ≤ 32768 };
+}
+
+/// Writes over a part that is there.
+fn place(cells: &mut [u8], at: usize, bytes: &[u8])
+    requires { at + length bytes.now ≤ length cells.old }
+    ensures { cells.new ≡ overwritten cells.old at bytes.now }
+{
+    cells[at..at + bytes.len()].copy_from_slice(bytes);
+}
+
+/// Writes bytes at a place, with zeros in a gap. Without memory nothing changes.
+fn write(cells: &mut Vec<u8>, at: usize, bytes: &[u8]) -> Result<(), AllocError>
+    requires end { at + length bytes.now ≤ 32768 }
+    requires short { vec_len cells.old ≤ 32768 }
+    ensures short { vec_len cells.new ≤ 32768 }
+    ensures ok { OnOk result (cells.new.items ≡ written cells.old.items at bytes.now) }
+    ensures err { OnErr result (cells.new.items ≡ cells.old.items) }
+{
+    let end = at + bytes.len();
+    let len = cells.len();
+    cells.resize(end.max(len), 0)?;
+    place(cells, at, bytes);
+    Ok(())
+}
+
+impl File {
+    /// The empty file.
+    pub fn new(alloc: Global) -> File
+        ensures { result ≡ [] }
+    {
+        File {
+            bytes: Vec::new(alloc),
+        }
+    }
+
+    /// The file of these bytes, at most 32,768.
+    pub fn from_slice(alloc: Global, bytes: &[u8]) -> Result<File, AllocError>
+        requires { length bytes.now ≤ 32768 }
+        ensures { IfOk result (λ file. file ≡ bytes.now) }
+    {
+        let bytes = Vec::from_slice(alloc, bytes)?;
+        Ok(File { bytes })
+    }
+
+    /// Another file of the same bytes.
+    pub fn copy(&self) -> Result<File, AllocError>
+        ensures { IfOk result (λ copy. copy ≡ self.now) }
+    {
+        let bytes = Vec::from_slice(*self.bytes.allocator(), self.bytes.as_slice())?;
+        Ok(File { bytes })
+    }
+
+    /// All the bytes.
+    pub fn as_slice(&self) -> &[u8]
+        ensures value { result.now ≡ self.now }
+        ensures limit { length result.now ≤ 32768 }
+    {
+        self.bytes.as_slice()
+    }
+
+    /// The number of bytes.
+    pub fn len(&self) -> usize
+        ensures value { result ≡ length self.now }
+        ensures limit { result ≤ 32768 }
+    {
+        self.bytes.len()
+    }
+
+    /// Up to `count` bytes, at most 512, from a place on; none past the end.
+    pub fn part(&self, at: usize, count: usize) -> Text
+        requires { count ≤ 512 }
+        ensures { result ≡ part self.now at count }
+    {
+        let rest = &self.bytes[at.min(self.bytes.len())..];
+        Text::new(&rest[..count.min(rest.len())]).unwrap()
+    }
+
+    /// Writes bytes at a place, with zeros in a gap. Without memory nothing changes.
+    pub fn write_at(&mut self, at: usize, bytes: &[u8]) -> Result<(), AllocError>
+        requires { at + length bytes.now ≤ 32768 }
+        ensures ok { OnOk result (self.new ≡ written self.old at bytes.now) }
+        ensures err { OnErr result (self.new ≡ self.old) }
+    {
+        write(&mut self.bytes, at, bytes)
+    }
+
+    /// Writes bytes over those that stand at a place, which takes no memory.
+    pub fn overwrite(&mut self, at: usize, bytes: &[u8])
+        requires { at + length bytes.now ≤ length self.old }
+        ensures { self.new ≡ overwritten self.old at bytes.now }
+    {
+        place(&mut self.bytes, at, bytes);
+    }
+
+    /// Keeps the first `len` bytes, or appends zeros up to `len`. Without memory nothing changes.
+    pub fn cut_to(&mut self, len: usize) -> Result<(), AllocError>
+        requires { len ≤ 32768 }
+        ensures ok { OnOk result (self.new ≡ cut self.old len) }
+        ensures err { OnErr result (self.new ≡ self.old) }
+    {
+        self.bytes.resize(len, 0)
+    }
+
+    /// Drops the bytes past a length, which takes no memory.
+    pub fn truncate(&mut self, len: usize)
+        ensures { self.new ≡ take len self.old }
+    {
+        self.bytes.truncate(len);
+    }
+}

@@ -1,0 +1,19 @@
+//! The values that kernel objects have.
+#![tactic(auto)]
+
+pub mod content;
+pub mod directory;
+pub mod file;
+pub mod pipe;
+pub mod signals;
+pub mod value;
+
+pub use content::Content;
+pub use directory::Directory;
+pub use file::File;
+pub use pipe::Pipe;
+pub use signals::Signals;
+pub use value::{Kind, Value};
+
+#[cfg(test)]
+mod tests;

@@ -1,0 +1,141 @@
+//! Pipes.
+ghost use Rattle.std.specs.Prelude.{◌≡◌, ◌≤◌, ◌+◌, ◌++◌, false, [], length, take, drop, vec_len, vec_capacity, IfOk};
+ghost use Rattle.sk_objects.specs.Pipe.{PipeView};
+
+use sk_ids::Text;
+use std::alloc::{AllocError, Global};
+use std::marker::Model;
+
+/// The greatest number of bytes that a pipe holds.
+pub const PIPE_LIMIT: usize = 4_096;
+
+/// At most 4,096 bytes in the order in which they came, and whether the pipe is shut. The room for
+/// all of them is made with the pipe.
+#[derive(Drop)]
+pub struct Pipe {
+    bytes: Vec<u8>,
+    shut: bool,
+}
+
+impl Model for Pipe {
+    ghost use Rattle.std.specs.Prelude.{◌≤◌, vec_len, vec_capacity};
+    ghost use Rattle.sk_objects.specs.Pipe.{PipeView};
+
+    ghost Value = { PipeView };
+
+    ghost view = { λ p. record { bytes = p.bytes.items; shut = p.shut } };
+
+    ghost invariant = { λ p. (vec_len p.bytes ≤ 4096) × (4096 ≤ vec_capacity p.bytes) };
+}
+
+/// Takes bytes from the front.
+fn take_front(held: &mut Vec<u8>, count: usize) -> Text
+    requires held { count ≤ vec_len held.old }
+    requires short { count ≤ 512 }
+    ensures taken { result ≡ take count held.old.items }
+    ensures items { held.new.items ≡ drop count held.old.items }
+    ensures capacity { vec_capacity held.new ≡ vec_capacity held.old }
+{
+    let taken = Text::new(&held[..count]).unwrap();
+    held.rotate_left(count);
+    let left = held.len() - count;
+    held.truncate(left);
+    taken
+}
+
+/// Puts bytes back at the front, where there is room.
+fn put_front(held: &mut Vec<u8>, bytes: &[u8])
+    requires { vec_len held.old + length bytes.now ≤ vec_capacity held.old }
+    ensures items { held.new.items ≡ bytes.now ++ held.old.items }
+    ensures capacity { vec_capacity held.old ≤ vec_capacity held.new }
+{
+    held.extend_from_slice(bytes).unwrap();
+    held.rotate_right(bytes.len());
+}
+
+impl Pipe {
+    /// The empty pipe, not shut.
+    pub fn new(alloc: Global) -> Result<Pipe, AllocError>
+        ensures { IfOk result (λ pipe. pipe ≡ record { bytes = []; shut = false }) }
+    {
+        Ok(Pipe {
+            bytes: Vec::with_capacity(alloc, PIPE_LIMIT)?,
+            shut: false,
+        })
+    }
+
+    /// Another pipe that holds the same.
+    pub fn copy(&self) -> Result<Pipe, AllocError>
+        ensures { IfOk result (λ copy. copy ≡ self.now) }
+    {
+        let mut bytes = Vec::with_capacity(*self.bytes.allocator(), PIPE_LIMIT)?;
+        bytes.extend_from_slice(self.bytes.as_slice())?;
+        Ok(Pipe {
+            bytes,
+            shut: self.shut,
+        })
+    }
+
+    /// All the bytes, the oldest first.
+    pub fn as_slice(&self) -> &[u8]
+        ensures value { result.now ≡ self.now.bytes }
+        ensures limit { length result.now ≤ 4096 }
+    {
+        self.bytes.as_slice()
+    }
+
+    /// The number of bytes.
+    pub fn len(&self) -> usize
+        ensures value { result ≡ length self.now.bytes }
+        ensures limit { result ≤ 4096 }
+    {
+        self.bytes.len()
+    }
+
+    /// Whether the pipe is shut.
+    pub fn is_shut(&self) -> bool
+        ensures { result ≡ self.now.shut }
+    {
+        self.shut
+    }
+
+    /// Appends bytes, for which there must be room. This takes no memory.
+    pub fn put(&mut self, bytes: &[u8])
+        requires { length self.old.bytes + length bytes.now ≤ 4096 }
+        ensures { self.new ≡ record self.old { bytes = self.old.bytes ++ bytes.now } }
+    {
+        self.bytes.extend_from_slice(bytes).unwrap();
+    }
+
+    /// Takes out the `count` oldest bytes, at most 512 and at most those held.
+    pub fn take(&mut self, count: usize) -> Text
+        requires held { count ≤ length self.old.bytes }
+        requires short { count ≤ 512 }
+        ensures taken { result ≡ take count self.old.bytes }
+        ensures left { self.new ≡ record self.old { bytes = drop count self.old.bytes } }
+    {
+        take_front(&mut self.bytes, count)
+    }
+
+    /// Puts bytes back at the front, for which there must be room. This takes no memory.
+    pub fn put_back(&mut self, bytes: &[u8])
+        requires { length self.old.bytes + length bytes.now ≤ 4096 }
+        ensures { self.new ≡ record self.old { bytes = bytes.now ++ self.old.bytes } }
+    {
+        put_front(&mut self.bytes, bytes);
+    }
+
+    /// Drops the newest bytes down to a number.
+    pub fn truncate(&mut self, len: usize)
+        ensures { self.new ≡ record self.old { bytes = take len self.old.bytes } }
+    {
+        self.bytes.truncate(len);
+    }
+
+    /// Shuts the pipe, or opens it again; the bytes stay.
+    pub fn set_shut(&mut self, shut: bool)
+        ensures { self.new ≡ record self.old { shut = shut } }
+    {
+        self.shut = shut;
+    }
+}

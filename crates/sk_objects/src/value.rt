@@ -1,0 +1,180 @@
+//! What an entity holds.
+ghost use Rattle.std.specs.Prelude.{◌≡◌, ◌≤◌, min, IfOk, IfSome};
+ghost use Rattle.sk_objects.specs.Content.{LAST_VERSION};
+ghost use Rattle.sk_objects.specs.File.{part as bytes_part};
+ghost use Rattle.sk_objects.specs.Value.{kind_of, empty_of, bytes_from, size_of, shut_of, look_in, link_at, queued_at, status_of, version_of};
+
+use crate::{Content, Directory, File, Pipe, Signals};
+use sk_ids::{Name, ObjId, Text};
+use std::alloc::{AllocError, Global};
+
+/// What an entity other than a process holds.
+#[derive(Drop)]
+pub enum Value {
+    /// A file.
+    File(File),
+    /// A directory.
+    Dir(Directory),
+    /// A pipe.
+    Pipe(Pipe),
+    /// A queue of signals.
+    Signals(Signals),
+    /// An exit slot: the status of a process that has ended.
+    Exit(Option<u8>),
+    /// A cached copy of a file of the server.
+    Copy(Content),
+}
+
+/// The kinds of values.
+#[derive(Clone, Copy, Debug, PartialEq, Eq)]
+pub enum Kind {
+    File,
+    Dir,
+    Pipe,
+    Signals,
+    Exit,
+    Copy,
+}
+
+/// Up to `count` bytes from a place on, and at most 512; none past the end.
+fn part(bytes: &[u8], offset: u64, count: usize) -> Text
+    ensures { result ≡ bytes_part bytes.now offset (min count 512) }
+{
+    let rest = &bytes[bytes.len().min(offset as usize)..];
+    Text::new(&rest[..count.min(512).min(rest.len())]).unwrap()
+}
+
+impl Value {
+    /// The first value of a kind: empty, open, not set, version 0. The room that a directory, a pipe
+    /// or a queue may need is made here.
+    pub fn empty(alloc: Global, kind: Kind) -> Result<Value, AllocError>
+        ensures { IfOk result (λ value. value ≡ empty_of kind) }
+    {
+        Ok(match kind {
+            Kind::File => Value::File(File::new(alloc)),
+            Kind::Dir => Value::Dir(Directory::new(alloc)?),
+            Kind::Pipe => Value::Pipe(Pipe::new(alloc)?),
+            Kind::Signals => Value::Signals(Signals::new(alloc)?),
+            Kind::Exit => Value::Exit(None),
+            Kind::Copy => Value::Copy(Content::new(0, Text::empty()).unwrap()),
+        })
+    }
+
+    /// Another value that holds the same.
+    pub fn copy(&self) -> Result<Value, AllocError>
+        ensures { IfOk result (λ copy. copy ≡ self.now) }
+    {
+        Ok(match self {
+            Value::File(file) => Value::File(file.copy()?),
+            Value::Dir(directory) => Value::Dir(directory.copy()?),
+            Value::Pipe(pipe) => Value::Pipe(pipe.copy()?),
+            Value::Signals(signals) => Value::Signals(signals.copy()?),
+            Value::Exit(status) => Value::Exit(*status),
+            Value::Copy(content) => Value::Copy(*content),
+        })
+    }
+
+    /// The kind.
+    pub fn kind(&self) -> Kind
+        ensures { result ≡ kind_of self.now }
+    {
+        match self {
+            Value::File(_) => Kind::File,
+            Value::Dir(_) => Kind::Dir,
+            Value::Pipe(_) => Kind::Pipe,
+            Value::Signals(_) => Kind::Signals,
+            Value::Exit(_) => Kind::Exit,
+            Value::Copy(_) => Kind::Copy,
+        }
+    }
+
+    /// Up to `count` bytes of a file, a pipe or a copy from a place on, and at most 512; none past the
+    /// end. A pipe's places count from its front. `None` for another kind.
+    pub fn bytes_at(&self, offset: u64, count: usize) -> Option<Text>
+        ensures { result ≡ bytes_from self.now offset count }
+    {
+        match self {
+            Value::File(file) => Some(part(file.as_slice(), offset, count)),
+            Value::Pipe(pipe) => Some(part(pipe.as_slice(), offset, count)),
+            Value::Copy(content) => Some(part(content.bytes().as_slice(), offset, count)),
+            _ => None,
+        }
+    }
+
+    /// The number of bytes of a file, a pipe or a copy; `None` for another kind.
+    pub fn size(&self) -> Option<u32>
+        ensures value { result ≡ size_of self.now }
+        ensures limit { IfSome result (λ size. size ≤ 32768) }
+    {
+        match self {
+            Value::File(file) => Some(file.len() as u32),
+            Value::Pipe(pipe) => Some(pipe.len() as u32),
+            Value::Copy(content) => Some(content.bytes().len() as u32),
+            _ => None,
+        }
+    }
+
+    /// Whether a pipe is shut; `None` for another kind.
+    pub fn is_shut(&self) -> Option<bool>
+        ensures { result ≡ shut_of self.now }
+    {
+        match self {
+            Value::Pipe(pipe) => Some(pipe.is_shut()),
+            _ => None,
+        }
+    }
+
+    /// The object that a directory has under a name, `Some(None)` where the name is not linked;
+    /// `None` for another kind.
+    pub fn look(&self, name: &Name) -> Option<Option<ObjId>>
+        ensures { result ≡ look_in self.now name.now }
+    {
+        match self {
+            Value::Dir(directory) => Some(directory.look(name)),
+            _ => None,
+        }
+    }
+
+    /// The name at a place of a directory, by rising bytes, with its object; `None` past the last,
+    /// and for another kind.
+    pub fn name_at(&self, place: usize) -> Option<(Name, ObjId)>
+        ensures { result ≡ link_at self.now place }
+    {
+        match self {
+            Value::Dir(directory) => directory.as_slice().get(place).copied(),
+            _ => None,
+        }
+    }
+
+    /// The signal at a place of a queue, the oldest first; `None` past the last, and for another
+    /// kind.
+    pub fn signal_at(&self, place: usize) -> Option<u8>
+        ensures { result ≡ queued_at self.now place }
+    {
+        match self {
+            Value::Signals(signals) => signals.as_slice().get(place).copied(),
+            _ => None,
+        }
+    }
+
+    /// The status of an exit slot, `Some(None)` where it is not set; `None` for another kind.
+    pub fn status(&self) -> Option<Option<u8>>
+        ensures { result ≡ status_of self.now }
+    {
+        match self {
+            Value::Exit(status) => Some(*status),
+            _ => None,
+        }
+    }
+
+    /// The version of a copy; `None` for another kind.
+    pub fn version(&self) -> Option<u64>
+        ensures value { result ≡ version_of self.now }
+        ensures limit { IfSome result (λ version. version ≤ LAST_VERSION) }
+    {
+        match self {
+            Value::Copy(content) => Some(content.version()),
+            _ => None,
+        }
+    }
+}

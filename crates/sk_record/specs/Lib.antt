@@ -1,0 +1,10 @@
+pub mod Step
+pub mod Run
+pub mod Trail
+pub mod Strike
+pub mod Notes
+pub mod Trace
+pub mod Release
+pub mod Seen
+pub mod Machine
+pub mod Laws

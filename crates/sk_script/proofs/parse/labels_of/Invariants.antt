@@ -1,0 +1,13 @@
+-- The labels so far, and those of the lines that are left, are the labels of all lines.
+use Rattle.std.proofs.Common.{◌≡◌, ◌≤◌, ◌++◌, length}
+use Rattle.sk_script.specs.Scripting.{labels_from}
+use Rattle.sk_script.proofs.parse.labels_of.Given as goal
+
+abbrev pub invariant-loop-line : goal.invariant-loop-line
+invariant-loop-line l = record {
+  place : l.place ≤ 4097;
+  same : labels_from 0 l.fn.lines ≡ l.labels ++ labels_from l.place l.lines;
+}
+
+abbrev pub decreases-loop-line : goal.decreases-loop-line
+decreases-loop-line l = length l.lines

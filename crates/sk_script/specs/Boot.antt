@@ -1,0 +1,87 @@
+-- What a kernel starts from.
+use Rattle.std.specs.Prelude.{◌≡◌, ℕ, Bool, List, [], ◌∷◌, ◌++◌, Option, Some, None, is_some, Result, Ok, Err, refl, ◌==◌, bytes_eq, if◌then◌else◌}
+use Rattle.std.specs.List.{list_any}
+use Rattle.std.specs.FinMap as map
+use Rattle.std.specs.Coded.{Coded, code_by, coded×, coded_ℕ, coded_list}
+use Rattle.sk_objects.specs.Content.{ContentView, content_code}
+use Rattle.sk_script.specs.Scripts.{ScriptMap, script_map_code}
+use Rattle.sk_script.specs.declared.instruction.Instruction.{Instruction}
+use Rattle.sk_script.specs.declared.boot.ObjectKind.{ObjectKind}
+use Rattle.sk_script.specs.declared.boot.BootObject.{BootObject}
+use Rattle.sk_script.specs.declared.boot.BootProcess.{BootProcess}
+use Rattle.sk_script.specs.declared.boot.BootFault.{BootFault}
+use Rattle.sk_script.specs.declared.boot.BootFault.TheVariants.{Duplicate, NoScript, Memory}
+use Rattle.sk_script.specs.contracts.boot.BootObject as boot_object
+use Rattle.sk_script.specs.contracts.boot.BootProcess as boot_process
+
+-- the scripts by name, and the rest in the order of declaration
+pub record BootView : Type 0 where
+  pub scripts : ScriptMap
+  pub objects : List BootObject
+  pub copies : List (List ℕ × ContentView)
+  pub processes : List BootProcess
+
+abbrev pub boot_code : Coded BootView
+boot_code = code_by (ScriptMap × (List BootObject × (List (List ℕ × ContentView) × List BootProcess)))
+    (coded× script_map_code (coded× (coded_list boot_object.the_row.coded) (coded× (coded_list (coded× (coded_list coded_ℕ) content_code)) (coded_list boot_process.the_row.coded))))
+    (λ b. (b.scripts, (b.objects, (b.copies, b.processes))))
+    (λ p. record { scripts = p.0; objects = p.1.0; copies = p.1.1.0; processes = p.1.1.1 })
+    (λ _. refl)
+
+-- the greatest number of boot objects
+abbrev pub BOOT_OBJECTS : ℕ
+BOOT_OBJECTS = 64
+
+-- ---- what is there: scripts, objects and copies are named apart
+
+abbrev pub has_script : BootView → List ℕ → Bool
+has_script b name = is_some (map.get b.scripts name)
+
+abbrev pub has_object : BootView → List ℕ → Bool
+has_object b name = list_any (λ o. bytes_eq o.name name) b.objects
+
+abbrev pub has_copy : BootView → List ℕ → Bool
+has_copy b name = list_any (λ c. bytes_eq c.0 name) b.copies
+
+abbrev pub has_process : BootView → ℕ → Bool
+has_process b number = list_any (λ p. p.number == number) b.processes
+
+-- ---- what is there after a declaration
+
+abbrev pub with_script : BootView → List ℕ → List Instruction → BootView
+with_script b name script = record b { scripts = map.insert b.scripts name script }
+
+abbrev pub with_object : BootView → List ℕ → ObjectKind → List ℕ → BootView
+with_object b name kind bytes = record b { objects = b.objects ++ record { name = name; kind = kind; bytes = bytes } ∷ [] }
+
+abbrev pub with_copy : BootView → List ℕ → ContentView → BootView
+with_copy b name content = record b { copies = b.copies ++ (name, content) ∷ [] }
+
+abbrev pub with_process : BootView → ℕ → List ℕ → ℕ → BootView
+with_process b number script terminal = record b { processes = b.processes ++ record { number = number; script = script; terminal = terminal } ∷ [] }
+
+-- ---- what stands against a declaration, want of memory aside
+
+abbrev pub duplicate_if : Bool → Option BootFault
+duplicate_if taken = if taken then Some Duplicate else None
+
+abbrev pub script_fault : BootView → List ℕ → Option BootFault
+script_fault b name = duplicate_if (has_script b name)
+
+abbrev pub object_fault : BootView → List ℕ → Option BootFault
+object_fault b name = duplicate_if (has_object b name)
+
+abbrev pub copy_fault : BootView → List ℕ → Option BootFault
+copy_fault b name = duplicate_if (has_copy b name)
+
+-- the number first, and then the script
+abbrev pub process_fault : BootView → ℕ → List ℕ → Option BootFault
+process_fault b number script = if has_process b number then Some Duplicate else if has_script b script then None else Some NoScript
+
+-- A declaration is made where no fault stands against it; else that fault is told, and nothing changes. Memory
+-- can be wanting only where there is no other fault.
+abbrev pub Declares : Result (Unit {0}) BootFault → Option BootFault → BootView → BootView → BootView → Type 0
+Declares (Ok u) fault old made new = (fault ≡ None) × (new ≡ made)
+Declares (Err Duplicate) fault old made new = (fault ≡ Some Duplicate) × (new ≡ old)
+Declares (Err NoScript) fault old made new = (fault ≡ Some NoScript) × (new ≡ old)
+Declares (Err Memory) fault old made new = (fault ≡ None) × (new ≡ old)

@@ -1,0 +1,36 @@
+-- The inputs of steps, as words.
+use Rattle.std.specs.Prelude.{ℕ, List, [], ◌∷◌, Ok, Err, codes}
+use Rattle.sk_objects.specs.Content.{ContentView}
+use Rattle.sk_script.specs.declared.words.fault.FaultKind.{FaultKind}
+use Rattle.sk_script.specs.declared.words.fault.FaultKind.TheVariants as kinds
+use Rattle.sk_script.specs.declared.instruction.Input.{Input}
+use Rattle.sk_script.specs.declared.instruction.Input.TheVariants as inputs
+use Rattle.sk_script.specs.Faults.{◌>>=◌}
+use Rattle.sk_script.specs.Literals.{literal}
+use Rattle.sk_script.specs.Operands.{natural, none_of, two_of}
+use Rattle.sk_script.specs.Tables.{Rule, rule_in, by_first}
+
+-- a version and a literal
+abbrev pub content_of : ℕ × List ℕ → ContentView
+content_of x = record { version = x.0; bytes = x.1 }
+
+unfoldable pub content : Rule ContentView
+content ws = two_of natural literal ws >>= λ x. Ok (content_of x)
+
+abbrev pub input_rules : List (List ℕ × Rule Input)
+input_rules =
+    (codes "none", λ ws. none_of ws >>= λ x. Ok inputs.None) ∷
+    (codes "good", λ ws. none_of ws >>= λ x. Ok inputs.Good) ∷
+    (codes "fresh", λ ws. content ws >>= λ c. Ok (inputs.Fresh c)) ∷
+    (codes "stale", λ ws. content ws >>= λ c. Ok (inputs.Stale c)) ∷
+    []
+
+-- an unknown input is told as such only where the count of words fits some input
+abbrev pub no_input : List (List ℕ) → FaultKind
+no_input [] = kinds.Operand
+no_input (v ∷ []) = kinds.Word
+no_input (v ∷ w ∷ []) = kinds.Operand
+no_input (v ∷ w ∷ u ∷ ws) = kinds.Word
+
+unfoldable pub input : Rule Input
+input ws = by_first (rule_in input_rules (λ vs. Err (no_input vs))) ws

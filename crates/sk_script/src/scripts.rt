@@ -1,0 +1,68 @@
+//! Scripts by name.
+ghost use Rattle.std.specs.Prelude.{◌≡◌, IfOk, OnOk, OnErr, None};
+ghost use Rattle.std.specs.Option.{option_copied};
+ghost use Rattle.std.specs.FinMap as map;
+
+use crate::Script;
+use sk_ids::Name;
+use std::alloc::{AllocError, Global};
+use std::collections::BTreeMap;
+use std::marker::Model;
+
+/// Scripts by name, which contracts see as a map.
+#[derive(Drop)]
+pub struct Scripts {
+    alloc: Global,
+    scripts: BTreeMap<Name, Script>,
+}
+
+impl Model for Scripts {
+    ghost use Rattle.std.specs.FinMap as map;
+    ghost use Rattle.sk_script.specs.Scripts.{ScriptMap, script_map_code};
+
+    ghost Value = { ScriptMap };
+
+    ghost coded = { script_map_code };
+
+    ghost view = { λ a. map.from_entries a.scripts.entries };
+}
+
+impl Scripts {
+    /// No script.
+    pub fn new(alloc: Global) -> Scripts
+        ensures { result ≡ map.empty }
+    {
+        Scripts {
+            alloc,
+            scripts: BTreeMap::new(alloc),
+        }
+    }
+
+    /// The script of this name.
+    pub fn get(&self, name: &Name) -> Option<&Script>
+        ensures { option_copied result ≡ map.get self.now name.now }
+    {
+        self.scripts.get(name)
+    }
+
+    /// Gives a script this name, which no other may have yet.
+    pub fn insert(&mut self, name: Name, script: Script) -> Result<(), AllocError>
+        requires { map.get self.old name ≡ None }
+        ensures ok { OnOk result (self.new ≡ map.insert self.old name script) }
+        ensures err { OnErr result (self.new ≡ self.old) }
+    {
+        self.scripts.insert(name, script)?;
+        Ok(())
+    }
+
+    /// The same scripts again.
+    pub fn copy(&self) -> Result<Scripts, AllocError>
+        ensures { IfOk result (λ copy. copy ≡ self.now) }
+    {
+        let scripts = self.scripts.clone()?;
+        Ok(Scripts {
+            alloc: self.alloc,
+            scripts,
+        })
+    }
+}

@@ -1,0 +1,4 @@
+pub mod Views
+pub mod Ordered
+pub mod Puts
+pub mod Scan

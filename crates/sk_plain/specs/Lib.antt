@@ -1,0 +1,9 @@
+pub mod Stored
+pub mod Start
+pub mod Refusal
+pub mod Entry
+pub mod Trace
+pub mod Act
+pub mod Plan
+pub mod Planned
+pub mod Left

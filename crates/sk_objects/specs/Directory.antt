@@ -1,5 +1,5 @@
 -- What a directory holds: names, each with the object that it is linked to.
-use Rattle.std.specs.Prelude.{ℕ, Bool, not, Option, List, ◌∷◌, ◌≤◌, length, nat_eq}
+use Rattle.std.specs.Prelude.{ℕ, Bool, not, Option, List, nat_eq}
 use Rattle.std.specs.Option.{option_map}
 use Rattle.std.specs.declared.cmp.Ordering.{Ordering}
 use Rattle.std.specs.Ordering.{nat_cmp, is_lt}

@@ -1,6 +1,5 @@
 -- What a pipe holds.
-use Rattle.std.specs.Prelude.{ℕ, Bool, List, refl}
-use Rattle.std.specs.Coded.{Coded, code_by, coded×, coded_ℕ, coded_bool, coded_list}
+use Rattle.std.specs.Prelude.{ℕ, Bool, List}
 
 -- the bytes that were put and not taken, the oldest first, and whether the pipe is shut
 pub record PipeView : Type 0 where

@@ -1,7 +1,6 @@
 -- One more link behind those that come before it keeps the order.
-use Rattle.std.proofs.Common.{◌≡◌, ◌≤◌, ◌<◌, None, rules, arith, sym, ◌∙◌, ap, length, List, vec_len}
-use Rattle.sk_ids.specs.declared.pid.ObjId.{ObjId}
-use Rattle.sk_objects.specs.Directory.{Link, IsRising, linked, looked_up}
+use Rattle.std.proofs.Common.{◌≡◌, None, rules}
+use Rattle.sk_objects.specs.Directory.{linked, looked_up}
 use Rattle.sk_objects.proofs.Links.{rising-linked}
 use Rattle.sk_objects.proofs.directory.Directory.link.Goals as goal
 

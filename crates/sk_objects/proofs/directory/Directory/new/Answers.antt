@@ -1,5 +1,5 @@
 -- The list of no link rises.
-use Rattle.std.proofs.Common.{◌≡◌, ◌≤◌, rules, arith, sym}
+use Rattle.std.proofs.Common.{rules}
 use Rattle.sk_objects.proofs.Links.{rising_none}
 use Rattle.sk_objects.proofs.directory.Directory.new.Goals as goal
 

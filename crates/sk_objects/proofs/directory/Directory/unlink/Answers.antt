@@ -1,8 +1,8 @@
 -- What is kept is the links but for the name, which rise still.
-use Rattle.std.proofs.Common.{◌≡◌, ◌≤◌, not, List, rules, arith, ◌∙◌, ap, sym}
+use Rattle.std.proofs.Common.{◌≡◌, not, List, rules, arith, ◌∙◌, ap}
 use Rattle.std.proofs.lemmas.Fn.{filter_same}
 use Rattle.std.proofs.lemmas.List.Kept.{IsStrictlySortedBy-filter}
-use Rattle.sk_objects.specs.Directory.{Link, is_named, link_cmp, IsRising, unlinked}
+use Rattle.sk_objects.specs.Directory.{Link, is_named, link_cmp, unlinked}
 use Rattle.sk_objects.proofs.directory.Directory.unlink.Goals as goal
 
 pub invariant_of-self : goal.invariant_of-self

@@ -1,0 +1,5 @@
+pub mod Notes
+pub mod TerminalMaps
+pub mod InPlace
+pub mod Wholes
+pub mod Unwritten

@@ -1,5 +1,5 @@
 -- Changes of values of any kind: each as its kind has it.
-use Rattle.std.specs.Prelude.{◌≡◌, ℕ, Bool, ◌≤◌, List, length, All}
+use Rattle.std.specs.Prelude.{Bool, ◌≤◌, length, All}
 use Rattle.sk_objects.specs.Directory.{IsRising}
 use Rattle.sk_objects.specs.Signals.{IsSignal}
 use Rattle.sk_objects.specs.declared.value.Value.{Value}

@@ -1,5 +1,5 @@
 -- Changes of directories.
-use Rattle.std.specs.Prelude.{◌≡◌, ℕ, Bool, true, false, not, ◌&&◌, ◌<◌, nat_lt, Option, Some, None, is_some, List, length}
+use Rattle.std.specs.Prelude.{◌≡◌, ℕ, Bool, false, not, ◌&&◌, ◌<◌, nat_lt, Option, Some, None, is_some, List, length}
 use Rattle.sk_ids.specs.declared.pid.ObjId.{ObjId}
 use Rattle.sk_objects.specs.Directory.{Link as Entry, looked_up, linked, unlinked}
 use Rattle.sk_changes.specs.declared.change.Change.{Change}

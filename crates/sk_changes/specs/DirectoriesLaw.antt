@@ -1,6 +1,6 @@
 -- A change of a directory and its undo give the directory before.
-use Rattle.std.specs.Prelude.{◌≡◌, ℕ, ◌≤◌, ◌<◌, Bool, true, false, not, Option, Some, None, is_some, List, length, refl}
-use Rattle.std.proofs.Common.{arith, ap, sym, ◌∙◌}
+use Rattle.std.specs.Prelude.{◌≡◌, ℕ, ◌≤◌, true, Option, Some, None, is_some, List, length, refl}
+use Rattle.std.proofs.Common.{arith}
 use Rattle.std.proofs.lemmas.Bool.{false≢true}
 use Rattle.sk_ids.specs.declared.pid.ObjId.{ObjId}
 use Rattle.sk_objects.specs.Directory.{Link as Entry, looked_up, linked, unlinked, IsRising}

@@ -1,5 +1,5 @@
 -- Changes of files.
-use Rattle.std.specs.Prelude.{◌≡◌, ℕ, Bool, true, false, ◌&&◌, ◌≤◌, ◌+◌, nat_le, nat_lt, if◌then◌else◌, List, length, take}
+use Rattle.std.specs.Prelude.{ℕ, Bool, false, ◌&&◌, ◌≤◌, ◌+◌, nat_le, nat_lt, if◌then◌else◌, List, length, take}
 use Rattle.sk_objects.specs.File.{written, cut, part, overwritten}
 use Rattle.sk_changes.specs.declared.change.Change.{Change}
 use Rattle.sk_changes.specs.declared.change.Change.TheVariants.{WriteAt, CutTo}

@@ -1,13 +1,12 @@
 -- A change of a file and its undo give the file before.
-use Rattle.std.specs.Prelude.{◌≡◌, ℕ, nat_lt, ◌+◌, ◌-◌, ◌<◌, ◌≤◌, Bool, true, false, List, [], ◌++◌, length, take, drop, replicate}
-use Rattle.std.proofs.Common.{arith, ap, sym, refl, ◌∙◌, get_or, inl, inr, append_assoc}
+use Rattle.std.specs.Prelude.{◌≡◌, ℕ, nat_lt, ◌+◌, ◌-◌, ◌≤◌, Bool, true, false, List, [], ◌++◌, length, take, drop, replicate}
+use Rattle.std.proofs.Common.{arith, refl, ◌∙◌, inl, inr, append_assoc}
 use Rattle.std.proofs.lemmas.Bool.{false≢true, cases_lt, ltb-false}
-use Rattle.std.proofs.lemmas.Grind.{common_steps, same_number_lists}
 use Rattle.std.proofs.lemmas.List.{length-append, length-take, length-drop, length-replicate, take_at, take-append-drop, take-append-le, take_all, drop-append-le, drop_at, length-take-le, drop-drop, take-take}
 use Rattle.std.proofs.Math.ListN.{drop_of_length-le}
 use Rattle.sk_changes.specs.declared.change.Change.{Change}
 use Rattle.sk_changes.specs.declared.change.Change.TheVariants.{WriteAt, CutTo}
-use Rattle.sk_objects.specs.File.{written, cut, part, overwritten, filled}
+use Rattle.sk_objects.specs.File.{cut, overwritten, filled}
 use Rattle.sk_changes.specs.Files.{file_fits, file_after, file_undo, CanUndoFile, file_undone}
 
 length_written : (f bytes : List ℕ) (at : ℕ) → at + length bytes ≤ length (overwritten (filled f (at + length bytes)) at bytes)

@@ -1,5 +1,5 @@
 -- Changes of pipes.
-use Rattle.std.specs.Prelude.{◌≡◌, ℕ, Bool, true, false, not, ◌&&◌, ◌≤◌, ◌+◌, nat_le, List, ◌++◌, length, take, drop}
+use Rattle.std.specs.Prelude.{Bool, true, false, not, ◌&&◌, ◌≤◌, ◌+◌, nat_le, ◌++◌, length, take, drop}
 use Rattle.sk_objects.specs.Pipe.{PipeView}
 use Rattle.sk_changes.specs.declared.change.Change.{Change}
 use Rattle.sk_changes.specs.declared.change.Change.TheVariants.{Put, Take, Shut}

@@ -1,5 +1,5 @@
 -- Changes of queues of signals.
-use Rattle.std.specs.Prelude.{◌≡◌, ℕ, Bool, true, false, ◌&&◌, ◌<◌, ◌-◌, nat_le, nat_lt, List, [], ◌∷◌, ◌++◌, length, take, drop, slice_index}
+use Rattle.std.specs.Prelude.{ℕ, Bool, false, ◌&&◌, ◌<◌, ◌-◌, nat_le, nat_lt, List, [], ◌∷◌, ◌++◌, length, take, drop, slice_index}
 use Rattle.sk_objects.specs.Signals.{IsSignal}
 use Rattle.sk_changes.specs.declared.change.Change.{Change}
 use Rattle.sk_changes.specs.declared.change.Change.TheVariants.{PushSignal, TakeSignal}

@@ -4,7 +4,7 @@ use Rattle.sk_objects.specs.Content.{ContentView}
 use Rattle.sk_changes.specs.declared.change.Change.{Change}
 use Rattle.sk_changes.specs.declared.change.Change.TheVariants.{SetExit, SetCopy}
 use Rattle.sk_changes.specs.declared.change.Undo.{Undo}
-use Rattle.sk_changes.specs.declared.change.Undo.TheVariants.{ClearExit, Recopy, Reopen}
+use Rattle.sk_changes.specs.declared.change.Undo.TheVariants.{ClearExit, Recopy}
 
 -- a slot that is not set
 abbrev pub exit_fits : Option ℕ → Change → Bool

@@ -80,12 +80,7 @@ fn pending_tags(alloc: Global, pending: &Option<Open>) -> TagSet
 
 impl Kernel {
     /// A kernel of this number and trace limit, as it is booted. It keeps a copy of the start.
-    pub fn boot(
-        alloc: Global,
-        number: u64,
-        boot: &Boot,
-        limit: u32,
-    ) -> Result<Kernel, AllocError>
+    pub fn boot(alloc: Global, number: u64, boot: &Boot, limit: u32) -> Result<Kernel, AllocError>
         ensures { IfOk result (λ kernel. kernel ≡ booted number boot.now limit) }
     {
         let scripts = boot.scripts().copy()?;

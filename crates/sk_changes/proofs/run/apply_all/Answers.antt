@@ -2,7 +2,6 @@
 use Rattle.std.proofs.Math.Seq.{drop-cons}
 use Rattle.std.proofs.Common.{◌+◌, drop, get_or, refl, sym, add-one, ◌≡◌, List, ◌∷◌, [], ◌++◌, ap, ◌∙◌}
 use Rattle.sk_changes.specs.declared.change.Undo.{Undo}
-use Rattle.sk_changes.specs.Back.{back, CanGoBack}
 use Rattle.sk_changes.proofs.GoingBack.{back_push, CanGoBack-push}
 use Rattle.sk_changes.proofs.run.apply_all.Goals as goal
 

@@ -1,8 +1,8 @@
 -- The undo gives the directory before, by the law of directories.
-use Rattle.std.proofs.Common.{◌≡◌, ◌≤◌, ◌<◌, true, Some, length, rules, refl}
-use Rattle.sk_objects.specs.Directory.{IsRising, looked_up, linked, unlinked}
+use Rattle.std.proofs.Common.{◌≡◌, true, Some, rules, refl}
+use Rattle.sk_objects.specs.Directory.{looked_up}
 use Rattle.sk_changes.specs.declared.change.Change.TheVariants.{Link, Unlink}
-use Rattle.sk_changes.specs.Directories.{directory_fits, directory_after, directory_undo, CanUndoDirectory, directory_undone}
+use Rattle.sk_changes.specs.Directories.{directory_fits}
 use Rattle.sk_changes.specs.DirectoriesLaw.{directory_restores}
 use Rattle.sk_changes.proofs.directory.DirectoryInvertible.apply.Goals as goal
 

@@ -1,8 +1,8 @@
 -- The undo of a write gives the file before, by the law of files.
-use Rattle.std.proofs.Common.{◌≡◌, ◌≤◌, true, length, rules, refl}
+use Rattle.std.proofs.Common.{◌≡◌, true, length, rules}
 use Rattle.sk_objects.specs.File.{part, written}
 use Rattle.sk_changes.specs.declared.change.Change.TheVariants.{WriteAt}
-use Rattle.sk_changes.specs.Files.{file_fits, file_after, file_undo, CanUndoFile, file_undone}
+use Rattle.sk_changes.specs.Files.{file_fits}
 use Rattle.sk_changes.specs.FilesLaw.{file_restores}
 use Rattle.sk_changes.proofs.file.FileInvertible.apply.Goals as goal
 

@@ -1,0 +1,5 @@
+pub mod Report
+pub mod Played
+pub mod Steps
+pub mod Declarations
+pub mod Game

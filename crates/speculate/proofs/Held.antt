@@ -1,14 +1,14 @@
 -- What becomes of held tokens when a guess is drawn or decided, or a token is taken out: from the definitions of a
 -- guess's status and of what a token redeems.
-use Rattle.std.proofs.Common.{◌≡◌, ◌≢◌, ℕ, zero, suc, ◌+◌, ◌-◌, ◌<◌, ◌≤◌, Bool, true, false, not, ◌&&◌, ◌==◌, List, [], ◌∷◌, ◌++◌, take, drop, length, get_or, refl, sym, ap, ◌∙◌, arith, eqb, subst, Option, Some, None, Result, Ok, Err}
-use Rattle.std.specs.Prelude.{is_ok, slice_get, slice_set, if◌then◌else◌}
+use Rattle.std.proofs.Common.{◌≡◌, ℕ, zero, suc, ◌+◌, ◌-◌, ◌<◌, Bool, true, false, not, ◌&&◌, ◌==◌, List, [], ◌∷◌, ◌++◌, length, get_or, refl, sym, ap, arith, subst, Some}
+use Rattle.std.specs.Prelude.{is_ok, slice_get, slice_set}
 use Rattle.std.specs.List.{list_all, remove}
 use Rattle.std.proofs.lemmas.Bool.{ne_eqb, eq-eqb}
 use Rattle.sk_guesses.specs.Token.{Token}
 use Rattle.sk_guesses.specs.Guesses.{GuessesView, status_of, with_status, drawn, next_of}
 use Rattle.sk_guesses.specs.Calls.{redeemed, redeemed_at}
 use Rattle.sk_guesses.specs.declared.status.Status.{Status}
-use Rattle.sk_guesses.specs.declared.status.Status.TheVariants.{Undecided, Committed, Failed, Struck}
+use Rattle.sk_guesses.specs.declared.status.Status.TheVariants.{Undecided}
 use Rattle.speculate.specs.Game.{none_of, all_taken}
 
 both : (a b : Bool) → (a && b) ≡ true → (a ≡ true) × (b ≡ true)

@@ -1,8 +1,8 @@
 -- The kernel takes each held token, also behind each of its calls: from what the calls answer.
-use Rattle.std.proofs.Common.{◌≡◌, ℕ, Bool, true, false, List, [], ◌∷◌, ◌++◌, refl, sym, Option, Some, None, Result, Ok, Err}
+use Rattle.std.proofs.Common.{◌≡◌, true, false, List, [], ◌∷◌, ◌++◌, refl, Option, Result, Ok, Err}
 use Rattle.std.specs.Prelude.{is_ok}
 use Rattle.sk_guesses.specs.Token.{Token}
-use Rattle.sk_guesses.specs.Guesses.{GuessesView, drawn}
+use Rattle.sk_guesses.specs.Guesses.{drawn}
 use Rattle.sk_guesses.specs.Calls.{redeemed}
 use Rattle.sk_guesses.specs.declared.status.Status.TheVariants.{Committed, Failed}
 use Rattle.sk_plain.specs.declared.refusal.Refusal.{Refusal}

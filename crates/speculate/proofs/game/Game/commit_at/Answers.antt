@@ -1,6 +1,6 @@
 use Rattle.std.proofs.Common.{rules, ◌≡◌, true}
 use Rattle.speculate.specs.Game.{all_taken}
-use Rattle.speculate.proofs.Held.{Out, out_of}
+use Rattle.speculate.proofs.Held.{out_of}
 use Rattle.speculate.proofs.Settled.{commits_keep, no_stranger}
 use Rattle.speculate.proofs.game.Game.commit_at.Goals as goal
 

@@ -1,6 +1,6 @@
 use Rattle.std.proofs.Common.{rules, ◌≡◌, ◌∙◌, ap, true, Err}
 use Rattle.speculate.specs.Game.{all_taken}
-use Rattle.speculate.proofs.Held.{Out, out_of}
+use Rattle.speculate.proofs.Held.{out_of}
 use Rattle.speculate.proofs.Settled.{fails_keep, fails_back, no_stranger_fails}
 use Rattle.speculate.proofs.game.Game.fail_at.Goals as goal
 

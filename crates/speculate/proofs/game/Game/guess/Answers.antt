@@ -1,4 +1,4 @@
-use Rattle.std.proofs.Common.{rules, ◌≡◌, true, refl}
+use Rattle.std.proofs.Common.{rules, ◌≡◌, true}
 use Rattle.speculate.specs.Game.{all_taken}
 use Rattle.speculate.proofs.Settled.{draws_keep, guessed_guesses}
 use Rattle.speculate.proofs.game.Game.guess.Goals as goal

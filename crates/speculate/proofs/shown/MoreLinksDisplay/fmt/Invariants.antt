@@ -1,6 +1,6 @@
 -- What stands before the loop's place is written.
 use Rattle.std.proofs.Common.{take, ◌∷◌}
-use Rattle.std.specs.Prelude.{flat_map, decimal}
+use Rattle.std.specs.Prelude.{flat_map}
 use Rattle.std.specs.Fmt.{HasWritten, IsPlainFormatter}
 use Rattle.speculate.specs.Report.{link_text}
 use Rattle.speculate.proofs.shown.MoreLinksDisplay.fmt.Given as goal

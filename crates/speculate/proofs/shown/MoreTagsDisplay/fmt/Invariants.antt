@@ -2,7 +2,6 @@
 use Rattle.std.proofs.Common.{take, ◌∷◌}
 use Rattle.std.specs.Prelude.{flat_map, decimal}
 use Rattle.std.specs.Fmt.{HasWritten, IsPlainFormatter}
-use Rattle.speculate.specs.Report.{link_text}
 use Rattle.speculate.proofs.shown.MoreTagsDisplay.fmt.Given as goal
 
 abbrev pub invariant-loop-id : goal.invariant-loop-id

@@ -11,6 +11,3 @@ pub mod slots;
 pub mod value;
 
 pub use change::{Change, Invertible, NotApplied, Undo};
-
-#[cfg(test)]
-mod tests;

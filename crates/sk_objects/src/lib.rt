@@ -14,6 +14,3 @@ pub use file::File;
 pub use pipe::Pipe;
 pub use signals::Signals;
 pub use value::{Kind, Value};
-
-#[cfg(test)]
-mod tests;

@@ -19,6 +19,3 @@ pub use refusal::{Errno, Refusal};
 pub use store::Store;
 pub use stored::{Stored, View};
 pub use trace::{Entry, Event, Trace};
-
-#[cfg(test)]
-mod tests;

@@ -2,7 +2,7 @@
 use Rattle.std.proofs.Common.{◌≡◌, ◌≤◌, ℕ, List, [], ◌∷◌, ◌++◌, map, sym, append_assoc, arith}
 use Rattle.std.proofs.lemmas.List.{append-nil}
 use Rattle.sk_script.specs.declared.parse.labels.Mark.{Mark}
-use Rattle.sk_script.specs.Words.{words}
+use Rattle.sk_words.specs.Words.{words}
 use Rattle.sk_script.specs.Instructions.{Labels}
 use Rattle.sk_script.specs.Scripting.{Line, Ignored, Declares, Does, line_of, labels_of, next_place, labels_from}
 

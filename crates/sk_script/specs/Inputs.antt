@@ -1,14 +1,14 @@
 -- The inputs of steps, as words.
 use Rattle.std.specs.Prelude.{ℕ, List, [], ◌∷◌, Ok, Err, codes}
 use Rattle.sk_objects.specs.Content.{ContentView}
-use Rattle.sk_script.specs.declared.words.fault.FaultKind.{FaultKind}
-use Rattle.sk_script.specs.declared.words.fault.FaultKind.TheVariants as kinds
+use Rattle.sk_words.specs.declared.fault.FaultKind.{FaultKind}
+use Rattle.sk_words.specs.declared.fault.FaultKind.TheVariants as kinds
 use Rattle.sk_script.specs.declared.instruction.Input.{Input}
 use Rattle.sk_script.specs.declared.instruction.Input.TheVariants as inputs
-use Rattle.sk_script.specs.Faults.{◌>>=◌}
-use Rattle.sk_script.specs.Literals.{literal}
-use Rattle.sk_script.specs.Operands.{natural, none_of, two_of}
-use Rattle.sk_script.specs.Tables.{Rule, rule_in, by_first}
+use Rattle.sk_words.specs.Faults.{◌>>=◌}
+use Rattle.sk_words.specs.Literals.{literal}
+use Rattle.sk_words.specs.Operands.{natural, none_of, two_of}
+use Rattle.sk_words.specs.Tables.{Rule, rule_in, by_first}
 
 -- a version and a literal
 abbrev pub content_of : ℕ × List ℕ → ContentView

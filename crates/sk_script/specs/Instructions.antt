@@ -1,13 +1,14 @@
 -- The instructions: the first word of a line, and what the words behind it say.
 use Rattle.std.specs.Prelude.{ℕ, List, [], ◌∷◌, Result, Ok, Err, bytes_eq, codes, if◌then◌else◌}
-use Rattle.sk_script.specs.declared.words.fault.FaultKind.{FaultKind}
-use Rattle.sk_script.specs.declared.words.fault.FaultKind.TheVariants as kinds
+use Rattle.sk_words.specs.declared.fault.FaultKind.{FaultKind}
+use Rattle.sk_words.specs.declared.fault.FaultKind.TheVariants as kinds
 use Rattle.sk_script.specs.declared.instruction.Instruction.{Instruction}
 use Rattle.sk_script.specs.declared.instruction.Instruction.TheVariants as does
-use Rattle.sk_script.specs.Faults.{◌>>=◌}
-use Rattle.sk_script.specs.Operands.{register, integer, name, none_of, one_of, two_of}
-use Rattle.sk_script.specs.Literals.{literal}
-use Rattle.sk_script.specs.Tables.{Rule, rule_in, unknown}
+use Rattle.sk_words.specs.Faults.{◌>>=◌}
+use Rattle.sk_words.specs.Operands.{integer, name, none_of, one_of, two_of}
+use Rattle.sk_script.specs.Registers.{register}
+use Rattle.sk_words.specs.Literals.{literal}
+use Rattle.sk_words.specs.Tables.{Rule, rule_in, unknown}
 
 -- the labels of a script, each with its place
 abbrev pub Labels : Type 0

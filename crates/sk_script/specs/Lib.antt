@@ -3,13 +3,6 @@ pub mod Process
 pub mod Script
 pub mod Scripts
 pub mod Boot
-pub mod Faults
-pub mod Words
-pub mod Lines
-pub mod Operands
-pub mod Literals
-pub mod Reading
-pub mod Tables
 pub mod Inputs
 pub mod Spelling
 pub mod Instructions

@@ -2,18 +2,18 @@
 use Rattle.std.specs.Prelude.{◌≡◌, ◌≢◌, ℕ, ◌+◌, ◌-◌, min, List, [], ◌∷◌, ◌++◌, Option, Some, None, Result, Ok, Err, length, take, slice_index, ◌==◌, if◌then◌else◌, refl}
 use Rattle.std.specs.Str.Lines as text
 use Rattle.std.specs.Coded.{Coded, code_by, coded×, coded_ℕ, coded_list}
-use Rattle.sk_script.specs.declared.words.fault.FaultKind.{FaultKind}
-use Rattle.sk_script.specs.declared.words.fault.FaultKind.TheVariants as kinds
-use Rattle.sk_script.specs.declared.words.fault.Fault.{Fault}
+use Rattle.sk_words.specs.declared.fault.FaultKind.{FaultKind}
+use Rattle.sk_words.specs.declared.fault.FaultKind.TheVariants as kinds
+use Rattle.sk_words.specs.declared.fault.Fault.{Fault}
 use Rattle.sk_script.specs.declared.instruction.Instruction.{Instruction}
 use Rattle.sk_script.specs.contracts.instruction.Instruction as instruction_impl
 use Rattle.sk_script.specs.declared.parse.Line as code
 use Rattle.sk_script.specs.declared.parse.Line.TheVariants as cases
-use Rattle.sk_script.specs.Faults.{◌>>=◌}
-use Rattle.sk_script.specs.Words.{words}
-use Rattle.sk_script.specs.Operands.{label, none_of}
+use Rattle.sk_words.specs.Faults.{◌>>=◌}
+use Rattle.sk_words.specs.Words.{words}
+use Rattle.sk_words.specs.Operands.{label, none_of}
 use Rattle.sk_script.specs.Instructions.{Labels, place_of, instruction}
-use Rattle.sk_script.specs.Reading.{read_from}
+use Rattle.sk_words.specs.Reading.{read_from}
 use Rattle.sk_script.specs.Script.{INSTRUCTIONS}
 
 -- the label of a word that is a label and a colon

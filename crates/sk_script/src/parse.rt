@@ -1,10 +1,10 @@
 //! Reading a script.
 ghost use Rattle.std.specs.Prelude.{◌≡◌, ◌≤◌, ◌<◌, ◌+◌, ◌^◌, length, IfOk};
 ghost use Rattle.std.specs.Str.Lines.{lines};
-ghost use Rattle.sk_script.specs.Words.{words};
+ghost use Rattle.sk_words.specs.Words.{words};
 ghost use Rattle.sk_script.specs.Instructions.{instruction};
 ghost use Rattle.sk_script.specs.Script.{INSTRUCTIONS};
-ghost use Rattle.sk_script.specs.Reading.{Leaves};
+ghost use Rattle.sk_words.specs.Reading.{Leaves};
 ghost use Rattle.sk_script.specs.Scripting.{ScriptState, line_of, label_in, labels_of, labels_from, next_place, added, script_line, script_from, script_of, Parses, Marks, seen};
 
 pub mod labels;
@@ -13,8 +13,8 @@ pub mod table;
 use crate::parse::labels::Labels;
 use crate::parse::table::instruction_of;
 use crate::script::SCRIPT_LIMIT;
-use crate::words::{Block, Fault, FaultKind, Label, Operand, Reader, Words, none, read};
 use crate::{Instruction, Script};
+use sk_words::{Block, Fault, FaultKind, Label, Operand, Reader, Words, none, read};
 use std::alloc::{AllocError, Global};
 use std::marker::Model;
 

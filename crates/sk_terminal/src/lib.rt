@@ -7,6 +7,3 @@ pub mod terminal;
 
 pub use held::Held;
 pub use terminal::Terminal;
-
-#[cfg(test)]
-mod tests;

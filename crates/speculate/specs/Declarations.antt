@@ -8,12 +8,12 @@ use Rattle.sk_script.specs.Boot.{BootView, boot_code, BOOT_OBJECTS, has_script, 
 use Rattle.sk_script.specs.declared.boot.BootFault.{BootFault}
 use Rattle.sk_script.specs.declared.boot.BootFault.TheVariants as boot_faults
 use Rattle.sk_script.specs.declared.boot.ObjectKind.TheVariants.{File}
-use Rattle.sk_script.specs.declared.words.fault.FaultKind.{FaultKind}
-use Rattle.sk_script.specs.declared.words.fault.FaultKind.TheVariants as kinds
-use Rattle.sk_script.specs.Faults.{◌>>=◌}
-use Rattle.sk_script.specs.Literals.{literal}
-use Rattle.sk_script.specs.Operands.{name, natural, index, short, none_of, one_of, two_of, three_of}
-use Rattle.sk_script.specs.Tables.{Rule, rule_in, unknown}
+use Rattle.sk_words.specs.declared.fault.FaultKind.{FaultKind}
+use Rattle.sk_words.specs.declared.fault.FaultKind.TheVariants as kinds
+use Rattle.sk_words.specs.Faults.{◌>>=◌}
+use Rattle.sk_words.specs.Literals.{literal}
+use Rattle.sk_words.specs.Operands.{name, natural, index, short, none_of, one_of, two_of, three_of}
+use Rattle.sk_words.specs.Tables.{Rule, rule_in, unknown}
 use Rattle.speculate.specs.declared.declarations.Heading.{Heading}
 use Rattle.speculate.specs.declared.declarations.Heading.TheVariants as headings
 use Rattle.speculate.specs.declared.declarations.Said.{Said}

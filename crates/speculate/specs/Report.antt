@@ -14,7 +14,8 @@ use Rattle.sk_kernel.specs.Kernel.{KernelView, tags_at, undecided}
 use Rattle.sk_script.specs.declared.process.Process.{Process}
 use Rattle.sk_script.specs.declared.register.Val.{Val}
 use Rattle.sk_script.specs.Registers.{held}
-use Rattle.sk_script.specs.Spelling.{spelled, pid_word, object_word, val_word}
+use Rattle.sk_words.specs.Spelling.{spelled, pid_word, object_word}
+use Rattle.sk_script.specs.Spelling.{val_word}
 
 -- what is missing
 abbrev pub dash : List ℕ

@@ -1,14 +1,14 @@
 -- What the lines of a section of steps say.
 use Rattle.std.specs.Prelude.{◌≡◌, ◌≢◌, ℕ, List, [], ◌∷◌, ◌++◌, Option, Some, None, Result, Ok, Err, codes, slice_index, ◌==◌, if◌then◌else◌}
-use Rattle.sk_script.specs.declared.words.fault.FaultKind.{FaultKind}
-use Rattle.sk_script.specs.declared.words.fault.FaultKind.TheVariants as kinds
-use Rattle.sk_script.specs.declared.words.fault.Fault.{Fault}
+use Rattle.sk_words.specs.declared.fault.FaultKind.{FaultKind}
+use Rattle.sk_words.specs.declared.fault.FaultKind.TheVariants as kinds
+use Rattle.sk_words.specs.declared.fault.Fault.{Fault}
 use Rattle.sk_script.specs.declared.instruction.Input.{Input}
-use Rattle.sk_script.specs.Faults.{◌>>=◌}
-use Rattle.sk_script.specs.Words.{words}
-use Rattle.sk_script.specs.Operands.{closed, next_word, one_of, pid, positive}
+use Rattle.sk_words.specs.Faults.{◌>>=◌}
+use Rattle.sk_words.specs.Words.{words}
+use Rattle.sk_words.specs.Operands.{closed, next_word, one_of, pid, positive}
 use Rattle.sk_script.specs.Inputs.{input}
-use Rattle.sk_script.specs.Tables.{Rule, rule_in, unknown}
+use Rattle.sk_words.specs.Tables.{Rule, rule_in, unknown}
 use Rattle.speculate.specs.declared.step.Step.{Step}
 use Rattle.speculate.specs.declared.step.Step.TheVariants as steps
 

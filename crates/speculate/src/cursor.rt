@@ -1,10 +1,10 @@
 //! The lines of a text, counted.
 ghost use Rattle.std.specs.Prelude.{◌≡◌, ◌+◌, ◌<◌, ◌^◌, ◌∷◌, [], None, Some, MatchOption, length};
 ghost use Rattle.std.specs.Str.Lines.{lines};
-ghost use Rattle.sk_script.specs.Words.{words};
+ghost use Rattle.sk_words.specs.Words.{words};
 ghost use Rattle.speculate.specs.Steps.{first_of};
 
-use sk_script::words::{Fault, FaultKind, Lines, Words};
+use sk_words::{Fault, FaultKind, Lines, Words};
 
 /// What is left of a text, and the number of the last line taken from it; 0 before the first.
 #[derive(Drop)]

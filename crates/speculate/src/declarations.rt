@@ -1,8 +1,8 @@
 //! What the declarations of a scenario say.
 ghost use Rattle.std.specs.Prelude.{◌≡◌, Some, unwrap_or};
-ghost use Rattle.sk_script.specs.Words.{words};
+ghost use Rattle.sk_words.specs.Words.{words};
 ghost use Rattle.sk_script.specs.Boot.{has_object};
-ghost use Rattle.sk_script.specs.Reading.{Leaves};
+ghost use Rattle.sk_words.specs.Reading.{Leaves};
 ghost use Rattle.speculate.specs.Steps.{first_of};
 ghost use Rattle.speculate.specs.Declarations.{nothing_declared, script as script_added, boot_fault, file, copy, process, once, declares, new_script, declared_next, says_next, line_said, SaysNext};
 
@@ -10,8 +10,8 @@ use crate::cursor::first_word;
 use sk_ids::{Name, Text};
 use sk_objects::Content;
 use sk_script::boot::BOOT_OBJECT_LIMIT;
-use sk_script::words::{FaultKind, Index, Natural, Words, none, one, three, two};
 use sk_script::{Boot, BootFault, ObjectKind, Script};
+use sk_words::{FaultKind, Index, Natural, Words, none, one, three, two};
 use std::alloc::Global;
 use std::marker::Model;
 

@@ -6,7 +6,7 @@ use crate::input::{Open, ReadFault, read_all};
 use crate::play::{Stop, play};
 use crate::scenario::{Scenario, Section};
 use clap::error::ErrorKind;
-use sk_script::words::{Fault, FaultKind};
+use sk_words::{Fault, FaultKind};
 use std::alloc::Global;
 use std::io::Write;
 

@@ -9,7 +9,7 @@ use crate::shown::{ShownEntity, ShownProcess, ShownTags, ShownValue};
 use sk_ids::{Entity, Text};
 use sk_kernel::Kernel;
 use sk_plain::View;
-use sk_script::words::Literal;
+use sk_words::Literal;
 use std::alloc::{AllocError, Global};
 use std::io;
 use std::io::Write;

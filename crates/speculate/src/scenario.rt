@@ -1,6 +1,6 @@
 //! Reading a scenario.
 ghost use Rattle.std.specs.Prelude.{◌≤◌, ◌+◌, [], length};
-ghost use Rattle.sk_script.specs.Reading.{read_from};
+ghost use Rattle.sk_words.specs.Reading.{read_from};
 ghost use Rattle.speculate.specs.Steps.{step_line, ReadsSteps};
 
 use crate::cursor::Cursor;
@@ -8,7 +8,7 @@ use crate::declarations::{Declarations, Heading, Said};
 use crate::step::Steps;
 use sk_ids::Name;
 use sk_script::Script;
-use sk_script::words::{Block, Fault, FaultKind, Words, none};
+use sk_words::{Block, Fault, FaultKind, Words, none};
 use std::alloc::Global;
 
 /// The section below the declarations.

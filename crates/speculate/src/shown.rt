@@ -5,8 +5,8 @@ ghost use Rattle.sk_script.specs.Registers.{held};
 
 use sk_ids::{Entity, GuessId, Name, ObjId, TagSet};
 use sk_objects::{Directory, Signals, Value};
-use sk_script::words::{Literal, Shown};
 use sk_script::{Process, Register, Registers, Val};
+use sk_words::{Literal, Shown};
 use std::fmt;
 
 /// Guesses, each behind a comma.
@@ -146,11 +146,11 @@ impl fmt::Display for ShownOption {
 struct ShownRegisters(Registers);
 
 /// A register's value.
-fn shown(registers: &Registers, number: u8) -> Shown<Val>
+fn shown(registers: &Registers, number: u8) -> Val
     requires { number < 8 }
-    ensures { result.0 ≡ held registers.now number }
+    ensures { result ≡ held registers.now number }
 {
-    Shown(registers.get(Register::new(number).unwrap()))
+    registers.get(Register::new(number).unwrap())
 }
 
 impl fmt::Display for ShownRegisters {

@@ -1,14 +1,14 @@
 //! What the lines of a section of steps say.
 ghost use Rattle.std.specs.Prelude.{◌≡◌, []};
-ghost use Rattle.sk_script.specs.Operands.{one_of, positive};
-ghost use Rattle.sk_script.specs.Reading.{Leaves};
+ghost use Rattle.sk_words.specs.Operands.{one_of, positive};
+ghost use Rattle.sk_words.specs.Reading.{Leaves};
 ghost use Rattle.speculate.specs.Steps.{entry, step, step_line, with_said};
 
 use crate::cursor::first_word;
 use sk_ids::{GuessId, Pid};
 use sk_script::Input;
-use sk_script::words::input::input;
-use sk_script::words::{FaultKind, Operand, Positive, Words, closed, next_word, one};
+use sk_script::inputs::input;
+use sk_words::{FaultKind, Operand, Positive, Words, closed, next_word, one};
 use std::alloc::Global;
 use std::marker::Model;
 

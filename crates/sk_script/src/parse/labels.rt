@@ -2,7 +2,7 @@
 ghost use Rattle.std.specs.Prelude.{◌≡◌, [], ◌++◌, ◌∷◌, OnOk};
 ghost use Rattle.sk_script.specs.Instructions.{place_of};
 
-use crate::words::{FaultKind, Label};
+use sk_words::{FaultKind, Label};
 use std::alloc::{AllocError, Global};
 use std::marker::Model;
 

@@ -4,7 +4,7 @@ ghost use Rattle.sk_script.specs.Instructions.{instruction};
 
 use crate::Instruction;
 use crate::parse::labels::Labels;
-use crate::words::{FaultKind, Words, none, one, two};
+use sk_words::{FaultKind, Words, none, one, two};
 
 /// What a line says whose first word this is.
 #[tactic(auto, unfolding(crate::specs::Instructions::instruction))]

@@ -1,8 +1,8 @@
 -- A word that is no text is no instruction: from the table, whose words are all text.
 use Rattle.std.proofs.Common.{refl}
 use Rattle.sk_script.specs.Instructions.{instruction, instruction_rules}
-use Rattle.sk_script.specs.Tables.{unknown}
-use Rattle.sk_script.proofs.Unknown.{skipped, no_text}
+use Rattle.sk_words.specs.Tables.{unknown}
+use Rattle.sk_words.proofs.Unknown.{skipped, no_text}
 use Rattle.sk_script.proofs.parse.does.Goals as goal
 
 pub returns-in-Err : goal.returns-in-Err

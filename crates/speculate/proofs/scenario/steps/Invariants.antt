@@ -1,6 +1,6 @@
 -- Reading the steps: what the lines before said, with those that are left, is what all lines say.
 use Rattle.std.proofs.Common.{◌≡◌, ◌+◌, ◌≤◌, [], length}
-use Rattle.sk_script.specs.Reading.{read_from}
+use Rattle.sk_words.specs.Reading.{read_from}
 use Rattle.speculate.specs.Steps.{step_line}
 use Rattle.speculate.proofs.scenario.steps.Given as goal
 

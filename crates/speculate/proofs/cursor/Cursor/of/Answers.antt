@@ -1,5 +1,5 @@
 use Rattle.std.proofs.Common.{arith}
-use Rattle.sk_script.proofs.Parts.{lines_short}
+use Rattle.sk_words.proofs.Parts.{lines_short}
 use Rattle.speculate.proofs.cursor.Cursor.of.Goals as goal
 
 pub invariant_of-result : goal.invariant_of-result

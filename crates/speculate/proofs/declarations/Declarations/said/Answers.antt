@@ -1,5 +1,5 @@
 use Rattle.std.proofs.Common.{rules}
-use Rattle.sk_script.proofs.Unknown.{skipped}
+use Rattle.sk_words.proofs.Unknown.{skipped}
 use Rattle.speculate.specs.Declarations.{says_next, line_rules, declared_next}
 use Rattle.speculate.proofs.declarations.Declarations.said.Goals as goal
 

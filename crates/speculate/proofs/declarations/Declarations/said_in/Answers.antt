@@ -1,6 +1,6 @@
 use Rattle.std.proofs.Common.{refl}
-use Rattle.sk_script.specs.Tables.{unknown}
-use Rattle.sk_script.proofs.Unknown.{skipped, no_text}
+use Rattle.sk_words.specs.Tables.{unknown}
+use Rattle.sk_words.proofs.Unknown.{skipped, no_text}
 use Rattle.speculate.specs.Declarations.{says_next, declares, declared_next, line_rules, declaration_rules}
 use Rattle.speculate.proofs.declarations.Declarations.said_in.Goals as goal
 

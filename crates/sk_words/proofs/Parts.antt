@@ -1,0 +1,74 @@
+-- How the parts of a text come apart at its front, for the loop that looks for a separator: from the definition of
+-- parts, byte by byte.
+use Rattle.std.proofs.Common.{◌≡◌, ℕ, zero, suc, ◌+◌, ◌-◌, ◌<◌, ◌≤◌, List, [], ◌∷◌, true, false, eqb, length, take, drop, get_or, refl, ap, ◌∙◌, arith, add-one, drop-cons}
+use Rattle.std.proofs.lemmas.Grind.{take_at_read}
+use Rattle.std.proofs.lemmas.Bool.{ne_eqb, eq-eqb}
+use Rattle.std.specs.List.{onto_first}
+use Rattle.std.specs.Str.Lines.{lines, lines_of_parts, strip_carriage_return}
+use Rattle.sk_words.specs.Lines.{parts}
+use Rattle.sk_words.proofs.Cut.{onto, onto_more, onto_whole}
+
+at_front : (text : List ℕ) (i : ℕ) → i < length text → drop i text ≡ get_or text i 0 ∷ drop (i + 1) text
+at_front text i lt = rw add-one (drop-cons text i 0 lt)
+
+pub goes_on : (s : ℕ) (text : List ℕ) (i : ℕ) → i < length text → (get_or text i 0 ≡ s → ⊥) → parts s text ≡ onto (take i text) (parts s (drop i text)) → parts s text ≡ onto (take (i + 1) text) (parts s (drop (i + 1) text))
+goes_on s text i lt other h =
+    let here : parts s (drop i text) ≡ onto_first (get_or text i 0) (parts s (drop (i + 1) text)) = rw (at_front text i lt) (rw (ne_eqb (get_or text i 0) s other) refl) in
+    rw ((take_at_read text i 0 lt).1, onto_more (take i text) (get_or text i 0) (parts s (drop (i + 1) text)), ← here) h
+
+pub stops : (s : ℕ) (text : List ℕ) (i : ℕ) → i < length text → get_or text i 0 ≡ s → parts s text ≡ onto (take i text) (parts s (drop i text)) → parts s text ≡ take i text ∷ parts s (drop (i + 1) text)
+stops s text i lt feed h =
+    let here : parts s (drop i text) ≡ [] ∷ parts s (drop (i + 1) text) = rw (at_front text i lt) (rw (eq-eqb (get_or text i 0) s feed) refl) in
+    h ∙ ap (onto (take i text)) here ∙ onto_whole (take i text) (parts s (drop (i + 1) text))
+
+pub never : (s : ℕ) (text : List ℕ) (n : ℕ) → drop n text ≡ [] → take n text ≡ text → parts s text ≡ onto (take n text) (parts s (drop n text)) → parts s text ≡ text ∷ []
+never s text n none all h =
+    let here : parts s (drop n text) ≡ [] ∷ [] = rw none refl in
+    h ∙ ap (onto (take n text)) here ∙ onto_whole (take n text) [] ∙ ap (λ (t : List ℕ). t ∷ []) all
+
+-- a text has a part
+record HasPart (text : List ℕ) : Type 0 where
+  first : List ℕ
+  others : List (List ℕ)
+  is : parts 10 text ≡ first ∷ others
+
+has_part : (text : List ℕ) → HasPart text
+has_part [] = record { first = []; others = []; is = refl }
+has_part (b ∷ bs) =
+    let p = has_part bs in
+    elim (eqb b 10) as (λ t. eqb b 10 ≡ t → HasPart (b ∷ bs)) [
+      | true ↦ λ e. record { first = []; others = parts 10 bs; is = rw e refl }
+      | false ↦ λ e. record { first = b ∷ p.first; others = p.others; is = rw (e, p.is) refl }
+    ] refl
+
+pub next_line : (text line rest : List ℕ) → parts 10 text ≡ line ∷ parts 10 rest → lines text ≡ strip_carriage_return line ∷ lines rest
+next_line text line rest h =
+    let p = has_part rest in
+    rw (h, p.is) refl
+
+-- the first lines come apart as all lines do
+pub take_next : (n : ℕ) (l : List ℕ) (ls : List (List ℕ)) → (n ≡ 0 → ⊥) → take n (l ∷ ls) ≡ l ∷ take (n - 1) ls
+take_next zero l ls h = absurd (h refl)
+take_next (suc n) l ls h = let one : n ≡ suc n - 1 = omega arith in ap (λ (m : ℕ). l ∷ take m ls) one
+
+pub take_none : (n : ℕ) (ls : List (List ℕ)) → ls ≡ [] → take n ls ≡ []
+take_none zero ls h = refl
+take_none (suc n) [] h = refl
+take_none (suc n) (l ∷ ls) h = absurd cc
+
+-- ---- a text has no more lines than bytes
+
+longer : (b : ℕ) (p : List ℕ) (ps : List (List ℕ)) (n : ℕ) → length (lines_of_parts (p ∷ ps)) ≤ n → length (lines_of_parts ((b ∷ p) ∷ ps)) ≤ suc n
+longer b p [] n h = rw (ne_eqb (length (b ∷ p)) 0 (λ e. omega (arith, e))) (omega arith)
+longer b p (q ∷ qs) n h = omega (arith, h)
+
+pub lines_short : (text : List ℕ) → length (lines text) ≤ length text
+lines_short [] = omega arith
+lines_short (b ∷ bs) =
+    let p = has_part bs in
+    let short : length (lines bs) ≤ length bs = lines_short bs in
+    let rest = rw p.is at short in
+    elim (eqb b 10) as (λ t. eqb b 10 ≡ t → length (lines (b ∷ bs)) ≤ length (b ∷ bs)) [
+      | true ↦ λ e. rw (e, p.is) (omega (arith, rest))
+      | false ↦ λ e. rw (e, p.is) (longer b p.first p.others (length bs) rest)
+    ] refl

@@ -1,0 +1,10 @@
+-- The words of the bytes that are left are those of the line.
+use Rattle.std.proofs.Common.{◌≡◌, length}
+use Rattle.sk_words.specs.Words.{words}
+use Rattle.sk_words.proofs.line.trimmed.Given as goal
+
+abbrev pub invariant-loop-rest : goal.invariant-loop-rest
+invariant-loop-rest l = words l.rest ≡ words l.fn.line
+
+abbrev pub decreases-loop-rest : goal.decreases-loop-rest
+decreases-loop-rest l = length l.rest

@@ -1,0 +1,11 @@
+-- The process so far, and the numbers that are left, say what the word says.
+use Rattle.std.proofs.Common.{◌≡◌, length}
+use Rattle.sk_words.specs.Lines.{parts}
+use Rattle.sk_words.specs.Operands.{pid, path_below}
+use Rattle.sk_words.proofs.values.PidOperand.read.Given as goal
+
+abbrev pub invariant-loop-number : goal.invariant-loop-number
+invariant-loop-number l = pid l.fn.word ≡ path_below l.pid (parts 46 l.rest)
+
+abbrev pub decreases-loop-number : goal.decreases-loop-number
+decreases-loop-number l = length l.rest

@@ -1,0 +1,93 @@
+//! What the words behind the first of a line say.
+ghost use Rattle.std.specs.Prelude.{◌≡◌};
+ghost use Rattle.sk_words.specs.Operands.{NextWord, closed, no_more, none_of, one_of, two_of, three_of};
+
+use crate::{FaultKind, Words};
+
+/// A value that one word says.
+pub trait Operand: Sized + Drop {
+    ghost use Rattle.std.specs.Prelude.{◌≡◌, List, ℕ, Result};
+    ghost use Rattle.sk_words.specs.declared.fault.FaultKind.{FaultKind};
+
+    ghost said: { List ℕ → Result Self FaultKind };
+
+    /// What a word says, or what is wrong with it.
+    fn read(word: &[u8]) -> Result<Self, FaultKind>
+        ensures { result ≡ said word.now };
+}
+
+/// The same words, unless one is a literal without its closing quote.
+pub fn closed<'a>(words: &Words<'a>) -> Result<Words<'a>, FaultKind>
+    ensures { result ≡ closed words.now }
+{
+    if words.has_open_literal() {
+        return Err(FaultKind::Operand);
+    }
+    Ok(words.again())
+}
+
+/// The next word, where there is one.
+pub fn next_word<'a>(words: &mut Words<'a>) -> Result<&'a [u8], FaultKind>
+    ensures { NextWord result words.old words.new }
+{
+    words.next().ok_or(FaultKind::Word)
+}
+
+/// Whether no word is left.
+pub fn no_more(mut words: Words) -> Result<(), FaultKind>
+    ensures { result ≡ no_more words.entry }
+{
+    match words.next() {
+        None => Ok(()),
+        Some(_) => Err(FaultKind::Word),
+    }
+}
+
+/// No word.
+#[tactic(auto, unfolding(crate::specs::Operands::none_of))]
+pub fn none(words: &Words) -> Result<(), FaultKind>
+    ensures { result ≡ none_of words.now }
+{
+    no_more(closed(words)?)
+}
+
+/// One word.
+#[tactic(auto, unfolding(crate::specs::Operands::one_of))]
+pub fn one<A: Operand>(words: &Words) -> Result<A, FaultKind>
+    ensures { result ≡ one_of A.said words.now }
+{
+    let mut words = closed(words)?;
+    let a = next_word(&mut words)?;
+    no_more(words)?;
+    A::read(a)
+}
+
+/// Two words.
+#[tactic(auto, unfolding(crate::specs::Operands::two_of))]
+pub fn two<A: Operand, B: Operand>(words: &Words) -> Result<(A, B), FaultKind>
+    ensures { result ≡ two_of A.said B.said words.now }
+{
+    let mut words = closed(words)?;
+    let a = next_word(&mut words)?;
+    let b = next_word(&mut words)?;
+    no_more(words)?;
+    let a = A::read(a)?;
+    let b = B::read(b)?;
+    Ok((a, b))
+}
+
+/// Three words.
+#[tactic(auto, unfolding(crate::specs::Operands::three_of))]
+pub fn three<A: Operand, B: Operand, C: Operand>(words: &Words) -> Result<(A, B, C), FaultKind>
+    ensures { result ≡ three_of A.said B.said C.said words.now }
+{
+    let mut words = closed(words)?;
+    let a = next_word(&mut words)?;
+    let b = next_word(&mut words)?;
+    let c = next_word(&mut words)?;
+    no_more(words)?;
+    let a = A::read(a)?;
+    let b = B::read(b)?;
+    let c = C::read(c)?;
+    Ok((a, b, c))
+}

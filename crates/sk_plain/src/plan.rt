@@ -22,7 +22,7 @@ use sk_script::{Input, Instruction, Process, Register, Scripts, Val};
 use std::marker::Model;
 
 /// What a step does beside writing its process.
-#[derive(Clone, Copy, Debug, PartialEq, Eq)]
+#[derive(Clone, Copy)]
 pub enum Action {
     Alone,
     /// The text goes to the process's terminal.
@@ -38,7 +38,7 @@ pub enum Action {
 }
 
 /// What a step will do: the process as it becomes, and what else is read, written or said.
-#[derive(Clone, Copy, Debug, PartialEq, Eq)]
+#[derive(Clone, Copy)]
 pub struct Plan {
     pub process: Process,
     pub action: Action,

@@ -36,6 +36,24 @@ pub enum Input {
     Stale(Content),
 }
 
+/// A content: its version, and its bytes as a literal.
+#[derive(Clone, Copy)]
+struct ShownContent(Content);
+
+impl fmt::Display for ShownContent {
+    ghost use Rattle.std.specs.Prelude.{Some};
+    ghost use Rattle.sk_script.specs.Spelling.{spaced, content_words};
+
+    ghost output = { λ c. Some (spaced (content_words c.0)) };
+
+    fn fmt<W: fmt::Write>(&self, f: &mut fmt::Formatter<W>) -> fmt::Result {
+        let version = self.0.version();
+        let bytes = self.0.bytes();
+        let literal = Literal(bytes.as_slice());
+        write!(f, "{version} {literal}")
+    }
+}
+
 /// The words that say it, with single spaces.
 impl fmt::Display for Input {
     ghost use Rattle.std.specs.Prelude.{Some};
@@ -45,19 +63,15 @@ impl fmt::Display for Input {
 
     fn fmt<W: fmt::Write>(&self, f: &mut fmt::Formatter<W>) -> fmt::Result {
         match *self {
-            Input::None => write!(f, "none"),
-            Input::Good => write!(f, "good"),
+            Input::None => f.write_str("none"),
+            Input::Good => f.write_str("good"),
             Input::Fresh(content) => {
-                let version = content.version();
-                let bytes = content.bytes();
-                let literal = Literal(bytes.as_slice());
-                write!(f, "fresh {version} {literal}")
+                let content = ShownContent(content);
+                write!(f, "fresh {content}")
             }
             Input::Stale(content) => {
-                let version = content.version();
-                let bytes = content.bytes();
-                let literal = Literal(bytes.as_slice());
-                write!(f, "stale {version} {literal}")
+                let content = ShownContent(content);
+                write!(f, "stale {content}")
             }
         }
     }

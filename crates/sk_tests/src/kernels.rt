@@ -1,12 +1,14 @@
 //! The calls of the kernel that a scenario can't make: those with another kernel's token.
-ghost use Rattle.std.specs.Prelude.{◌≡◌, IfOk, Ok, Err, []};
+ghost use Rattle.std.specs.Prelude.{◌≡◌, IfOk, Ok, Err};
 ghost use Rattle.sk_guesses.specs.Calls.{redeemed};
+ghost use Rattle.sk_guesses.specs.Guesses.{opened, drawn, next_of};
 ghost use Rattle.sk_guesses.specs.declared.guess.Redeemed.TheVariants.{Undecided};
 
 use sk_guesses::Guess;
-use sk_ids::{GuessId, Name, Pid, Text};
+use sk_ids::{Name, Pid, Text};
 use sk_kernel::{FailRefusal, Kernel, Outcome, Stranger};
 use sk_objects::Content;
+use sk_plain::Refusal;
 use sk_script::{Boot, Input, Script};
 use std::alloc::Global;
 use std::test::Fail;
@@ -25,15 +27,29 @@ fn one_process(alloc: Global) -> Result<Boot, Fail> {
     Ok(boot)
 }
 
-/// A kernel of this number, which has drawn no guess, and whose process stands before its fetch.
-fn before_the_guess(alloc: Global, number: u64, pid: Pid) -> Result<Kernel, Fail>
-    ensures { IfOk result (λ kernel. kernel.guesses ≡ record { kernel = number; statuses = [] }) }
+/// A step without input, which draws no guess.
+fn step(kernel: &mut Kernel, pid: Pid) -> Result<(), Refusal>
+    ensures { kernel.new.guesses ≡ kernel.old.guesses }
 {
-    let boot = one_process(alloc)?;
-    let mut kernel = Kernel::boot(alloc, number, &boot, 100)?;
-    kernel.step(pid, Input::None)?;
-    kernel.step(pid, Input::None)?;
-    Ok(kernel)
+    kernel.step(pid, Input::None)
+}
+
+/// The kernel's next guess.
+fn next_guess(kernel: &mut Kernel, pid: Pid) -> Result<Guess, Refusal>
+    ensures drawn { IfOk result (λ token. kernel.new.guesses ≡ drawn kernel.old.guesses) }
+    ensures token { IfOk result (λ token. token ≡ record { kernel = kernel.old.guesses.kernel; id = next_of kernel.old.guesses }) }
+{
+    kernel.create_speculation(pid, Input::Good)
+}
+
+/// The guess of the process at its fetch, after the two steps before it.
+fn at_the_fetch(kernel: &mut Kernel, pid: Pid) -> Result<Guess, Refusal>
+    ensures drawn { IfOk result (λ token. kernel.new.guesses ≡ drawn kernel.old.guesses) }
+    ensures token { IfOk result (λ token. token ≡ record { kernel = kernel.old.guesses.kernel; id = next_of kernel.old.guesses }) }
+{
+    step(kernel, pid)?;
+    step(kernel, pid)?;
+    next_guess(kernel, pid)
 }
 
 /// Commits the guess of a token of this kernel.
@@ -64,26 +80,63 @@ fn refused_twice(kernel: &mut Kernel, guess: Guess) -> (Guess, bool)
     }
 }
 
-#[test]
-fn tokens_of_two_kernels(rt: HostRuntime) -> Result<(), Fail> {
-    let alloc = rt.alloc();
-    let pid = Pid::boot(1).ok_or("pid")?;
-    let mut one = before_the_guess(alloc, 1, pid)?;
-    let mut two = before_the_guess(alloc, 2, pid)?;
-    let first = one.create_speculation(pid, Input::Good)?;
-    let second = match two.create_speculation(pid, Input::Good) {
+/// What became of a token of the first kernel, given to the second and then to its own: whether the
+/// second handed it back twice, and what the first made of it.
+fn tried_on_both(one: &mut Kernel, two: &mut Kernel, token: Guess) -> (bool, Outcome)
+    requires own { redeemed one.old.guesses token ≡ Ok (Undecided token.id) }
+    requires other { redeemed two.old.guesses token ≡ Err token }
+    ensures { two.new ≡ two.old }
+{
+    let (token, is_stranger) = refused_twice(two, token);
+    (is_stranger, committed(one, token))
+}
+
+/// Kernels 1 and 2, each brought to its guess: what became of the first one's token, and of the second's.
+fn two_kernels(
+    one: &mut Kernel,
+    two: &mut Kernel,
+    pid: Pid,
+) -> Result<(bool, Outcome, Outcome), Refusal>
+    requires one { one.old.guesses ≡ opened 1 }
+    requires two { two.old.guesses ≡ opened 2 }
+{
+    let first = at_the_fetch(one, pid)?;
+    let second = match at_the_fetch(two, pid) {
         Ok(second) => second,
         Err(refusal) => {
-            committed(&mut one, first);
-            return Err(refusal.into());
+            committed(one, first);
+            return Err(refusal);
         }
     };
-    let numbers = (first.id(), second.id());
-    let (first, is_stranger) = refused_twice(&mut two, first);
-    let outcomes = (committed(&mut one, first), committed(&mut two, second));
+    let (is_stranger, outcome) = tried_on_both(one, two, first);
+    Ok((is_stranger, outcome, committed(two, second)))
+}
+
+/// The same, where the second kernel is not booted yet.
+fn with_second(
+    alloc: Global,
+    boot: &Boot,
+    one: &mut Kernel,
+) -> Result<(bool, Outcome, Outcome), Fail>
+    requires { one.old.guesses ≡ opened 1 }
+{
+    let pid = Pid::boot(1).ok_or("pid")?;
+    let mut two = Kernel::boot(alloc, 2, boot, 100)?;
+    Ok(two_kernels(one, &mut two, pid)?)
+}
+
+/// The same, where no kernel is booted yet.
+fn with_both(alloc: Global, boot: &Boot) -> Result<(bool, Outcome, Outcome), Fail> {
+    let mut one = Kernel::boot(alloc, 1, boot, 100)?;
+    with_second(alloc, boot, &mut one)
+}
+
+#[test]
+fn tokens_of_two_kernels(rt: HostRuntime) -> Result<(), Fail> {
+    let boot = one_process(rt.alloc())?;
+    let (is_stranger, first, second) = with_both(rt.alloc(), &boot)?;
     assert!(rt; is_stranger);
-    assert_eq!(rt; numbers, (GuessId::new(1), GuessId::new(1)));
-    assert_eq!(rt; outcomes, (Outcome::Done, Outcome::Done));
-    assert_eq!(rt; two.trace().events().len(), 4);
+    assert!(rt; first == Outcome::Done);
+    assert!(rt; second == Outcome::Done);
     Ok(())
 }

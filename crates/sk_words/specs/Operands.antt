@@ -37,15 +37,20 @@ one_of a ws = do
   end ← no_more v.1
   a v.0
 
+-- what two words say, the first before the second
+unfoldable pub both : {A B : Type 0} → (List ℕ → Result A FaultKind) → (List ℕ → Result B FaultKind) → List ℕ → List ℕ → Result (A × B) FaultKind
+both a b v w = do
+  x ← a v
+  y ← b w
+  Ok (x, y)
+
 unfoldable pub two_of : {A B : Type 0} → (List ℕ → Result A FaultKind) → (List ℕ → Result B FaultKind) → List (List ℕ) → Result (A × B) FaultKind
 two_of a b ws = do
   cs ← closed ws
   v ← next_word cs
   w ← next_word v.1
   end ← no_more w.1
-  x ← a v.0
-  y ← b w.0
-  Ok (x, y)
+  both a b v.0 w.0
 
 unfoldable pub three_of : {A B C : Type 0} → (List ℕ → Result A FaultKind) → (List ℕ → Result B FaultKind) → (List ℕ → Result C FaultKind) → List (List ℕ) → Result (A × B × C) FaultKind
 three_of a b c ws = do
@@ -55,9 +60,8 @@ three_of a b c ws = do
   w ← next_word v.1
   end ← no_more w.1
   x ← a u.0
-  y ← b v.0
-  z ← c w.0
-  Ok (x, y, z)
+  y ← both b c v.0 w.0
+  Ok (x, y.0, y.1)
 
 -- a function took the next word, and left the others
 abbrev pub NextWord : Result (Bor (List ℕ)) FaultKind → List (List ℕ) → List (List ℕ) → Type 0

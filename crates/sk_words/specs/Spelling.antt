@@ -18,17 +18,17 @@ spelled_byte b =
 abbrev pub spelled : List ℕ → List ℕ
 spelled text = 34 ∷ flat_map spelled_byte text ++ 34 ∷ []
 
--- one number of a path, the last being the 0th
-abbrev pub level : ℕ → ℕ → List ℕ
-level p i = decimal (p / 65536 ^ i % 65536)
+-- the two last numbers of a path, joined by a dot
+abbrev pub two_levels : ℕ → List ℕ
+two_levels p = decimal (p / 65536 % 65536) ++ 46 ∷ decimal (p % 65536)
 
 -- a process: its one to four numbers, joined by dots
 abbrev pub pid_word : ℕ → List ℕ
 pid_word p =
     if nat_lt p (2 ^ 16) then decimal p
-    else if nat_lt p (2 ^ 32) then level p 1 ++ 46 ∷ level p 0
-    else if nat_lt p (2 ^ 48) then level p 2 ++ 46 ∷ level p 1 ++ 46 ∷ level p 0
-    else level p 3 ++ 46 ∷ level p 2 ++ 46 ∷ level p 1 ++ 46 ∷ level p 0
+    else if nat_lt p (2 ^ 32) then two_levels p
+    else if nat_lt p (2 ^ 48) then decimal (p / 2 ^ 32) ++ 46 ∷ two_levels p
+    else two_levels (p / 2 ^ 32) ++ 46 ∷ two_levels p
 
 -- the maker of an object, 0 where it has none
 abbrev pub maker_word : Option ℕ → List ℕ

@@ -1,7 +1,7 @@
 //! Literals.
 ghost use Rattle.std.specs.Prelude.{◌≡◌, ◌<◌, length, IfSome, false};
 ghost use Rattle.sk_words.specs.Operands.{SaysSome};
-ghost use Rattle.sk_words.specs.Literals.{text_from, at_most_512, Plain, ends_here, Continues, hex_digit};
+ghost use Rattle.sk_words.specs.Literals.{text_from, at_most_512, Plain, Escaped, ends_here, Continues, hex_digit};
 
 use crate::{FaultKind, Operand};
 use sk_ids::Text;
@@ -48,10 +48,21 @@ fn character(bytes: &[u8]) -> Option<(u8, &[u8])>
     ensures shorter { IfSome result (λ x. length x.1.now < length bytes.now) }
 {
     match bytes {
-        [b'\\', quoted @ (b'"' | b'\\'), rest @ ..] => Some((*quoted, rest)),
-        [b'\\', b'n', rest @ ..] => Some((b'\n', rest)),
-        [b'\\', b'x', high, low, rest @ ..] => Some((hex(*high)? * 16 + hex(*low)?, rest)),
-        [plain @ (b' ' | b'!' | b'#'..=b'[' | b']'..=b'~'), rest @ ..] => Some((*plain, rest)),
+        [b'\\', rest @ ..] => escaped(rest),
+        [plain @ (b' ' | b'!' | b'#'..=b'~'), rest @ ..] => Some((*plain, rest)),
+        _ => None,
+    }
+}
+
+/// The byte that is said behind a backslash, and what is behind it.
+fn escaped(bytes: &[u8]) -> Option<(u8, &[u8])>
+    ensures byte { Continues result (text_from Escaped bytes.now) }
+    ensures shorter { IfSome result (λ x. length x.1.now < length bytes.now) }
+{
+    match bytes {
+        [quoted @ (b'"' | b'\\'), rest @ ..] => Some((*quoted, rest)),
+        [b'n', rest @ ..] => Some((b'\n', rest)),
+        [b'x', high, low, rest @ ..] => Some((hex(*high)? * 16 + hex(*low)?, rest)),
         _ => None,
     }
 }

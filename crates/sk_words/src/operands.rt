@@ -1,6 +1,6 @@
 //! What the words behind the first of a line say.
 ghost use Rattle.std.specs.Prelude.{◌≡◌};
-ghost use Rattle.sk_words.specs.Operands.{NextWord, closed, no_more, none_of, one_of, two_of, three_of};
+ghost use Rattle.sk_words.specs.Operands.{NextWord, closed, no_more, none_of, one_of, both, two_of, three_of};
 
 use crate::{FaultKind, Words};
 
@@ -62,6 +62,16 @@ pub fn one<A: Operand>(words: &Words) -> Result<A, FaultKind>
     A::read(a)
 }
 
+/// What two words say, the first before the second.
+#[tactic(auto, unfolding(crate::specs::Operands::both))]
+fn both<A: Operand, B: Operand>(a: &[u8], b: &[u8]) -> Result<(A, B), FaultKind>
+    ensures { result ≡ both A.said B.said a.now b.now }
+{
+    let a = A::read(a)?;
+    let b = B::read(b)?;
+    Ok((a, b))
+}
+
 /// Two words.
 #[tactic(auto, unfolding(crate::specs::Operands::two_of))]
 pub fn two<A: Operand, B: Operand>(words: &Words) -> Result<(A, B), FaultKind>
@@ -71,9 +81,7 @@ pub fn two<A: Operand, B: Operand>(words: &Words) -> Result<(A, B), FaultKind>
     let a = next_word(&mut words)?;
     let b = next_word(&mut words)?;
     no_more(words)?;
-    let a = A::read(a)?;
-    let b = B::read(b)?;
-    Ok((a, b))
+    both(a, b)
 }
 
 /// Three words.
@@ -87,7 +95,6 @@ pub fn three<A: Operand, B: Operand, C: Operand>(words: &Words) -> Result<(A, B,
     let c = next_word(&mut words)?;
     no_more(words)?;
     let a = A::read(a)?;
-    let b = B::read(b)?;
-    let c = C::read(c)?;
+    let (b, c) = both(b, c)?;
     Ok((a, b, c))
 }

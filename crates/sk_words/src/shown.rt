@@ -66,6 +66,23 @@ impl<'a> fmt::Display for Literal<'a> {
 #[derive(Clone, Copy)]
 pub struct Shown<T>(pub T);
 
+/// The two last numbers of a path.
+#[derive(Clone, Copy)]
+struct TwoLevels(u64);
+
+impl fmt::Display for TwoLevels {
+    ghost use Rattle.std.specs.Prelude.{Some};
+    ghost use Rattle.sk_words.specs.Spelling.{two_levels};
+
+    ghost output = { λ p. Some (two_levels p.0) };
+
+    fn fmt<W: fmt::Write>(&self, f: &mut fmt::Formatter<W>) -> fmt::Result {
+        let upper = self.0 / 65_536 % 65_536;
+        let last = self.0 % 65_536;
+        write!(f, "{upper}.{last}")
+    }
+}
+
 impl fmt::Display for Shown<Pid> {
     ghost use Rattle.std.specs.Prelude.{Some};
     ghost use Rattle.sk_words.specs.Spelling.{pid_word};
@@ -74,19 +91,17 @@ impl fmt::Display for Shown<Pid> {
 
     fn fmt<W: fmt::Write>(&self, f: &mut fmt::Formatter<W>) -> fmt::Result {
         let path = self.0.path();
+        let upper = path / 4_294_967_296;
+        let lower = TwoLevels(path);
         if path < 1 << 16 {
-            return write!(f, "{path}");
-        }
-        let last = path % 65_536;
-        let third = path / 65_536 % 65_536;
-        let second = path / 4_294_967_296 % 65_536;
-        let first = path / 281_474_976_710_656;
-        if path < 1 << 32 {
-            write!(f, "{third}.{last}")
+            write!(f, "{path}")
+        } else if path < 1 << 32 {
+            write!(f, "{lower}")
         } else if path < 1 << 48 {
-            write!(f, "{second}.{third}.{last}")
+            write!(f, "{upper}.{lower}")
         } else {
-            write!(f, "{first}.{second}.{third}.{last}")
+            let upper = TwoLevels(upper);
+            write!(f, "{upper}.{lower}")
         }
     }
 }

@@ -6,12 +6,11 @@ ghost use Rattle.sk_kernel.specs.Kernel.{booted, step_refused, stepped, guess_re
 ghost use Rattle.sk_kernel.specs.Calls.{cause};
 
 use crate::answer::Answer;
-use crate::declarations::Declarations;
-use crate::step::Step;
 use sk_guesses::Guess;
 use sk_ids::{GuessId, Pid};
 use sk_kernel::{FailRefusal, Kernel, Outcome};
 use sk_plain::Refusal;
+use sk_scenario::{Declarations, Step};
 use sk_script::Input;
 use std::alloc::{AllocError, Global};
 

@@ -3,21 +3,16 @@
 
 pub mod answer;
 pub mod command_line;
-pub mod cursor;
-pub mod declarations;
 pub mod game;
-pub mod input;
 pub mod play;
 pub mod program;
 pub mod report;
-pub mod scenario;
 pub mod shown;
-pub mod step;
 #[cfg(test)]
 mod tests;
 
-use crate::input::Open;
 use crate::program::{TROUBLE, USAGE, run};
+use sk_scenario::Open;
 use std::io::{BufWriter, ErrorKind, Read, Write};
 use std::process::ExitCode;
 use std::rt::Files;

@@ -4,10 +4,9 @@ ghost use Rattle.std.specs.Io.KnownBytes.{Appends};
 ghost use Rattle.speculate.specs.Played.{answer_line};
 
 use crate::answer::Answer;
-use crate::declarations::Declarations;
 use crate::game::Game;
 use crate::report::write_report;
-use crate::step::Step;
+use sk_scenario::{Declarations, Step};
 use std::alloc::{AllocError, Global};
 use std::io;
 use std::io::Write;

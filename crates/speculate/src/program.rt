@@ -2,10 +2,9 @@
 ghost use Rattle.std.specs.Prelude.{◌≡◌, ◌≤◌, IfOk, IfSome};
 
 use crate::command_line::{Job, parse};
-use crate::input::{Open, ReadFault, read_all};
 use crate::play::{Stop, play};
-use crate::scenario::{Scenario, Section};
 use clap::error::ErrorKind;
+use sk_scenario::{Open, ReadFault, Scenario, Section, read_all};
 use sk_words::{Fault, FaultKind};
 use std::alloc::Global;
 use std::io::Write;

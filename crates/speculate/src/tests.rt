@@ -1,8 +1,8 @@
 //! The program, run on inputs in memory.
 ghost use Rattle.std.specs.Prelude.{◌≡◌, ◌≤◌, length};
 
-use crate::input::Open;
 use crate::program::{DONE, FAULT, TROUBLE, USAGE, run};
+use sk_scenario::Open;
 use std::alloc::{AllocError, Global};
 use std::io;
 use std::io::{ErrorKind, Read, Write};

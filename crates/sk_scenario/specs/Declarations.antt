@@ -1,0 +1,120 @@
+-- What the declarations of a scenario say.
+use Rattle.std.specs.Prelude.{◌≡◌, ◌≢◌, ℕ, List, [], ◌∷◌, Option, Some, None, Result, Ok, Err, refl, codes, length, nat_lt, if◌then◌else◌}
+use Rattle.std.specs.Coded.{Coded, code_by, coded×, coded_ℕ, coded_option}
+use Rattle.std.specs.FinMap as map
+use Rattle.sk_objects.specs.Content.{ContentView}
+use Rattle.sk_script.specs.declared.instruction.Instruction.{Instruction}
+use Rattle.sk_script.specs.Boot.{BootView, boot_code, BOOT_OBJECTS, has_script, has_object, has_copy, has_process, with_script, with_object, with_copy, with_process}
+use Rattle.sk_script.specs.declared.boot.BootFault.{BootFault}
+use Rattle.sk_script.specs.declared.boot.BootFault.TheVariants as boot_faults
+use Rattle.sk_script.specs.declared.boot.ObjectKind.TheVariants.{File}
+use Rattle.sk_words.specs.declared.fault.FaultKind.{FaultKind}
+use Rattle.sk_words.specs.declared.fault.FaultKind.TheVariants as kinds
+use Rattle.sk_words.specs.Faults.{◌>>=◌}
+use Rattle.sk_words.specs.Literals.{literal}
+use Rattle.sk_words.specs.Operands.{name, natural, index, short, none_of, one_of, two_of, three_of}
+use Rattle.sk_words.specs.Tables.{Rule, rule_in, unknown}
+use Rattle.sk_scenario.specs.declared.declarations.Heading.{Heading}
+use Rattle.sk_scenario.specs.declared.declarations.Heading.TheVariants as headings
+use Rattle.sk_scenario.specs.declared.declarations.Said.{Said}
+use Rattle.sk_scenario.specs.declared.declarations.Said.TheVariants as says
+
+-- what is declared so far: the start, the trace limit and the kernel's number
+pub record Declared : Type 0 where
+  pub boot : BootView
+  pub limit : Option ℕ
+  pub number : Option ℕ
+
+abbrev pub declared_code : Coded Declared
+declared_code = code_by (BootView × (Option ℕ × Option ℕ)) (coded× boot_code (coded× (coded_option coded_ℕ) (coded_option coded_ℕ)))
+    (λ d. (d.boot, (d.limit, d.number))) (λ p. record { boot = p.0; limit = p.1.0; number = p.1.1 }) (λ _. refl)
+
+abbrev pub nothing_declared : Declared
+nothing_declared = record { boot = record { scripts = map.empty; objects = []; copies = []; processes = [] }; limit = None; number = None }
+
+-- a name or number that is taken or missing is a fault of the kind Label
+abbrev pub boot_fault : BootFault → FaultKind
+boot_fault boot_faults.Duplicate = kinds.Label
+boot_fault boot_faults.NoScript = kinds.Label
+boot_fault boot_faults.Memory = kinds.Memory
+
+-- ---- the declarations, after each operand is read
+
+abbrev pub file : Declared → List ℕ × List ℕ → Result Declared FaultKind
+file d x =
+    if has_object d.boot x.0 then Err kinds.Label
+    else if nat_lt (length d.boot.objects) BOOT_OBJECTS then Ok (record d { boot = with_object d.boot x.0 File x.1 })
+    else Err kinds.TooLong
+
+abbrev pub content_of : ℕ → List ℕ → ContentView
+content_of version bytes = record { version = version; bytes = bytes }
+
+abbrev pub copy : Declared → List ℕ × ℕ × List ℕ → Result Declared FaultKind
+copy d x = if has_copy d.boot x.0 then Err kinds.Label else Ok (record d { boot = with_copy d.boot x.0 (content_of x.1 x.2) })
+
+abbrev pub process : Declared → ℕ × List ℕ × ℕ → Result Declared FaultKind
+process d x =
+    if has_process d.boot x.0 then Err kinds.Label
+    else if has_script d.boot x.1 then Ok (record d { boot = with_process d.boot x.0 x.1 x.2 })
+    else Err kinds.Label
+
+-- at most once
+abbrev pub once : Option ℕ → Declared → Result Declared FaultKind
+once None new = Ok new
+once (Some before) new = Err kinds.Label
+
+abbrev pub declaration_rules : Declared → List (List ℕ × Rule Declared)
+declaration_rules d =
+    (codes "file", λ ws. two_of name literal ws >>= file d) ∷
+    (codes "copy", λ ws. three_of name natural literal ws >>= copy d) ∷
+    (codes "process", λ ws. three_of index name index ws >>= process d) ∷
+    (codes "limit", λ ws. one_of short ws >>= λ n. once d.limit (record d { limit = Some n })) ∷
+    (codes "number", λ ws. one_of natural ws >>= λ n. once d.number (record d { number = Some n })) ∷
+    []
+
+-- what is declared behind a line whose first word this is
+unfoldable pub declares : Declared → List ℕ → Rule Declared
+declares d word ws = rule_in (declaration_rules d) unknown word ws
+
+-- ---- the lines that go on below them: a script's, whose name must be new, and the headings of sections
+
+abbrev pub new_name : Declared → List ℕ → Result (List ℕ) FaultKind
+new_name d n = if has_script d.boot n then Err kinds.Label else Ok n
+
+-- what is declared with one script more
+abbrev pub script : Declared → List ℕ → List Instruction → Result Declared FaultKind
+script d name instructions =
+    if has_script d.boot name then Err kinds.Label
+    else Ok (record d { boot = with_script d.boot name instructions })
+
+-- the name of a script that begins
+abbrev pub new_script : Declared → Rule (List ℕ)
+new_script d ws = one_of name ws >>= new_name d
+
+abbrev pub heading_rule : Declared → Heading → Rule (Said × Declared)
+heading_rule d heading ws = none_of ws >>= λ x. Ok (says.Heading heading, d)
+
+abbrev pub line_rules : Declared → List (List ℕ × Rule (Said × Declared))
+line_rules d =
+    (codes "script", λ ws. new_script d ws >>= λ n. Ok (says.Script n, d)) ∷
+    (codes "steps", heading_rule d headings.Steps) ∷
+    (codes "world", heading_rule d headings.World) ∷
+    (codes "trace", heading_rule d headings.Trace) ∷
+    []
+
+-- a declaration
+abbrev pub declared_next : Declared → List ℕ → Rule (Said × Declared)
+declared_next d word ws = declares d word ws >>= λ e. Ok (says.Declared, e)
+
+-- what a line says whose first word this is, and what is declared behind it
+unfoldable pub says_next : Declared → List ℕ → Rule (Said × Declared)
+says_next d word ws = rule_in (line_rules d) (declared_next d word) word ws
+
+abbrev pub line_said : Declared → Option (List ℕ × List (List ℕ)) → Result (Said × Declared) FaultKind
+line_said d None = Ok (says.Declared, d)
+line_said d (Some x) = says_next d x.0 x.1
+
+-- a function answers what is said, and leaves what is declared then, unless memory ran out
+abbrev pub SaysNext : Result Said FaultKind → Result (Said × Declared) FaultKind → Declared → Type 0
+SaysNext (Ok s) said new = said ≡ Ok (s, new)
+SaysNext (Err e) said new = e ≢ kinds.Memory → said ≡ Err e

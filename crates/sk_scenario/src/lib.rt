@@ -1,0 +1,14 @@
+//! Scenarios: what a kernel starts from and what then happens, read from a text, and the inputs that such
+//! texts come from.
+#![tactic(auto)]
+
+pub mod cursor;
+pub mod declarations;
+pub mod input;
+pub mod scenario;
+pub mod step;
+
+pub use declarations::Declarations;
+pub use input::{Open, ReadFault, read_all};
+pub use scenario::{Scenario, Section};
+pub use step::{Step, Steps};

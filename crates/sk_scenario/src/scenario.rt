@@ -1,0 +1,160 @@
+//! Reading a scenario.
+ghost use Rattle.std.specs.Prelude.{◌≤◌, ◌+◌, [], length};
+ghost use Rattle.sk_words.specs.Reading.{read_from};
+ghost use Rattle.sk_scenario.specs.Steps.{step_line, ReadsSteps};
+
+use crate::cursor::Cursor;
+use crate::declarations::{Declarations, Heading, Said};
+use crate::step::Steps;
+use sk_ids::Name;
+use sk_script::Script;
+use sk_words::{Block, Fault, FaultKind, Words, none};
+use std::alloc::Global;
+
+/// The section below the declarations.
+#[derive(Drop)]
+pub enum Section {
+    /// The steps in order.
+    Steps(Steps),
+    /// Another section, whose lines are not looked at.
+    Other,
+}
+
+/// What a kernel starts from, and what happens then.
+#[derive(Drop)]
+pub struct Scenario {
+    pub declarations: Declarations,
+    pub section: Section,
+}
+
+impl Scenario {
+    /// The scenario that a text says, or its first faulty line.
+    pub fn parse(alloc: Global, text: &[u8]) -> Result<Scenario, Fault> {
+        let mut declarations = Declarations::new(alloc);
+        let mut cursor = Cursor::of(text);
+        while let Some(line) = cursor.next() {
+            let said = match declarations.line(line) {
+                Ok(said) => said,
+                Err(kind) => return Err(cursor.fault(kind)),
+            };
+            if let Some(section) = go_on(alloc, &mut declarations, said, &mut cursor)? {
+                return Ok(Scenario {
+                    declarations,
+                    section,
+                });
+            }
+        }
+        Ok(Scenario {
+            declarations,
+            section: Section::Steps(Steps::new(alloc)),
+        })
+    }
+}
+
+/// Reads what belongs to the line taken last: a script, or the section that begins.
+fn go_on(
+    alloc: Global,
+    declarations: &mut Declarations,
+    said: Said,
+    cursor: &mut Cursor<'_>,
+) -> Result<Option<Section>, Fault>
+    ensures { length cursor.new.lines ≤ length cursor.old.lines }
+{
+    match said {
+        Said::Declared => Ok(None),
+        Said::Script(name) => {
+            script(alloc, declarations, name, cursor)?;
+            Ok(None)
+        }
+        Said::Heading(heading) => Ok(Some(section_of(alloc, heading, cursor)?)),
+    }
+}
+
+/// The lines of a script, and the line that ends it, if there is one.
+#[derive(Drop)]
+struct ScriptLines<'a> {
+    lines: Block<'a>,
+    end: Option<&'a [u8]>,
+}
+
+/// Takes a script's lines, up to the first whose first word is `end`.
+fn take_script<'a>(cursor: &mut Cursor<'a>) -> ScriptLines<'a>
+    ensures lines { length result.lines ≤ length cursor.old.lines }
+    ensures left { length cursor.new.lines ≤ length cursor.old.lines }
+{
+    let lines = cursor.left();
+    let before = cursor.line();
+    while let Some(line) = cursor.next() {
+        if Words::of(line).next() == Some(b"end".as_slice()) {
+            let count = cursor.line() - before - 1;
+            return ScriptLines {
+                lines: Block::first(&lines, count),
+                end: Some(line),
+            };
+        }
+    }
+    let count = cursor.line() - before;
+    ScriptLines {
+        lines: Block::first(&lines, count),
+        end: None,
+    }
+}
+
+/// Declares the script whose first line comes next. One without an end is a fault of the text's last
+/// line, behind any other fault of it.
+fn script(
+    alloc: Global,
+    declarations: &mut Declarations,
+    name: Name,
+    cursor: &mut Cursor<'_>,
+) -> Result<(), Fault>
+    ensures { length cursor.new.lines ≤ length cursor.old.lines }
+{
+    let first = cursor.line() + 1;
+    let taken = take_script(cursor);
+    let script = Script::parse_lines(alloc, &taken.lines, first)?;
+    match ended(declarations, name, script, taken.end) {
+        Ok(()) => Ok(()),
+        Err(kind) => Err(cursor.fault(kind)),
+    }
+}
+
+/// Declares a script that ends with this line.
+fn ended(
+    declarations: &mut Declarations,
+    name: Name,
+    script: Script,
+    end: Option<&[u8]>,
+) -> Result<(), FaultKind> {
+    let Some(end) = end else {
+        return Err(FaultKind::Word);
+    };
+    let mut words = Words::of(end);
+    words.next();
+    none(&words)?;
+    declarations.script(name, script)
+}
+
+/// The section below a heading.
+fn section_of(alloc: Global, heading: Heading, cursor: &mut Cursor<'_>) -> Result<Section, Fault>
+    ensures { length cursor.new.lines ≤ length cursor.old.lines }
+{
+    match heading {
+        Heading::Steps => Ok(Section::Steps(steps(alloc, cursor)?)),
+        Heading::World | Heading::Trace => Ok(Section::Other),
+    }
+}
+
+/// The steps of all lines that are left, or the first fault.
+fn steps(alloc: Global, cursor: &mut Cursor<'_>) -> Result<Steps, Fault>
+    ensures steps { ReadsSteps result (read_from step_line [] (cursor.old.line + 1) cursor.old.lines) }
+    ensures left { length cursor.new.lines ≤ length cursor.old.lines }
+{
+    let mut steps = Steps::new(alloc);
+    while let Some(line) = cursor.next() {
+        if let Err(kind) = steps.line(line) {
+            return Err(cursor.fault(kind));
+        }
+    }
+    Ok(steps)
+}

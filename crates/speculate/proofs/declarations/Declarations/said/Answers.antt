@@ -1,8 +1,0 @@
-use Rattle.std.proofs.Common.{rules}
-use Rattle.sk_words.proofs.Unknown.{skipped}
-use Rattle.speculate.specs.Declarations.{says_next, line_rules, declared_next}
-use Rattle.speculate.proofs.declarations.Declarations.said.Goals as goal
-
-pub returns-in_default : goal.returns-in_default
-unfolding says_next
-returns-in_default c = rw (skipped (line_rules c.args.self.now) (declared_next c.args.self.now c.args.word.now) c.args.word.now (search rules)) c.declared.ensures

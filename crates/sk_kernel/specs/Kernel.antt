@@ -1,5 +1,5 @@
 -- The kernel as its callers see it.
-use Rattle.std.specs.Prelude.{◌≡◌, ℕ, ◌+◌, ◌-◌, ◌<◌, ◌==◌, ◌||◌, nat_lt, Bool, true, false, List, [], ◌∷◌, ◌++◌, length, is_some, Option, Some, None, Result, Ok, Err, refl, if◌then◌else◌}
+use Rattle.std.specs.Prelude.{◌≡◌, ℕ, ◌-◌, ◌==◌, ◌||◌, nat_lt, List, [], ◌∷◌, ◌++◌, length, is_some, Option, Some, None, Result, Ok, Err, refl, if◌then◌else◌}
 use Rattle.std.specs.Coded.{Coded, code_by, coded×, coded_ℕ, coded_list, coded_option}
 use Rattle.std.specs.FinMap as map
 use Rattle.sk_record.specs.Step.{Effect}
@@ -9,7 +9,7 @@ use Rattle.sk_ids.specs.Entity.{entity_cmp}
 use Rattle.sk_ids.specs.declared.entity.Entity.{Entity}
 use Rattle.sk_guesses.specs.Guesses.{GuessesView, undecided_of, is_full, opened, next_of, drawn, with_status}
 use Rattle.sk_guesses.specs.declared.status.Status.{Status}
-use Rattle.sk_guesses.specs.declared.status.Status.TheVariants.{Undecided, Committed, Failed}
+use Rattle.sk_guesses.specs.declared.status.Status.TheVariants.{Committed, Failed}
 use Rattle.sk_guesses.specs.contracts.status.Status as status
 use Rattle.sk_terminal.specs.Terminal.{committed_of, left_of}
 use Rattle.sk_terminal.specs.declared.held.Held.{Held}
@@ -27,7 +27,7 @@ use Rattle.sk_plain.specs.declared.stored.Stored.{Stored}
 use Rattle.sk_plain.specs.declared.trace.Event.{Event}
 use Rattle.sk_plain.specs.declared.trace.Event.TheVariants as events
 use Rattle.sk_plain.specs.declared.refusal.Refusal.{Refusal}
-use Rattle.sk_plain.specs.declared.refusal.Refusal.TheVariants.{NoProcess, Ended, Mismatch, NeedsReply, Blocked, TooMany, TraceFull, Memory}
+use Rattle.sk_plain.specs.declared.refusal.Refusal.TheVariants.{NoProcess, Ended, Mismatch, Blocked, TooMany, TraceFull}
 use Rattle.sk_kernel.specs.Open.{OpenView, open_code}
 use Rattle.sk_kernel.specs.Journal.{Written, written_code, state_code, puts_all, marked, kept, taken_back, written_over}
 use Rattle.sk_kernel.specs.Terminals.{TerminalMap, terminals_code, texts_at, said_to}

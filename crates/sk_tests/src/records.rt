@@ -203,31 +203,43 @@ fn first_cause_is_told(rt: HostRuntime) -> Result<(), Fail> {
     Ok(())
 }
 
+/// An object of the boot.
+fn boot_object(count: u32) -> ObjId {
+    ObjId { maker: None, count }
+}
+
+/// Declares a file and a pipe, where there is room.
+fn declares_both(boot: &mut Boot, file: Name, pipe: Name) -> Result<(), Fail> {
+    if boot.objects().len() >= BOOT_OBJECT_LIMIT {
+        return Err("room".into());
+    }
+    boot.object(file, ObjectKind::File, b"f0")?;
+    if boot.objects().len() >= BOOT_OBJECT_LIMIT {
+        return Err("room".into());
+    }
+    Ok(boot.object(pipe, ObjectKind::Pipe, b"ab")?)
+}
+
+/// Whether the root of a store names these two objects, in this order of numbers.
+fn names_both(store: &Store, first: &Name, second: &Name) -> bool {
+    match store.value(Entity::Obj(ROOT)) {
+        Some(Stored::Value(root)) => {
+            root.look(first) == Some(Some(boot_object(2)))
+                && root.look(second) == Some(Some(boot_object(3)))
+        }
+        _ => false,
+    }
+}
+
 #[test]
 fn starts_with_what_is_declared(rt: HostRuntime) -> Result<(), Fail> {
     let alloc = rt.alloc();
     let mut boot = two_processes(alloc, [b"say\n", b""])?;
     let (file, pipe) = (name(b"f")?, name(b"p")?);
-    assert!(rt; boot.objects().len() < BOOT_OBJECT_LIMIT);
-    boot.object(file, ObjectKind::File, b"f0")?;
-    assert!(rt; boot.objects().len() < BOOT_OBJECT_LIMIT);
-    boot.object(pipe, ObjectKind::Pipe, b"ab")?;
+    declares_both(&mut boot, file, pipe)?;
     let store = Store::start(alloc, &boot)?.copy()?;
-    let all = store.entities()?;
-    assert_eq!(rt; all.len(), 11);
-    let Some(Stored::Value(root)) = store.value(Entity::Obj(ROOT)) else {
-        return Err("root".into());
-    };
-    let first = ObjId {
-        maker: None,
-        count: 2,
-    };
-    let second = ObjId {
-        maker: None,
-        count: 3,
-    };
-    assert_eq!(rt; root.look(&file), Some(Some(first)));
-    assert_eq!(rt; root.look(&pipe), Some(Some(second)));
+    assert_eq!(rt; store.entities()?.len(), 11);
+    assert!(rt; names_both(&store, &file, &pipe));
     Ok(())
 }
 

@@ -5,6 +5,8 @@ use sk_script::{
     Boot, BootFault, Input, Instruction, ObjectKind, ROOT, Register, Script, Scripts, Val, inputs,
 };
 use sk_words::{Block, Fault, FaultKind, Lines, Literal, Operand, Shown, Words};
+use std::alloc::{AllocError, Global};
+use std::fmt;
 use std::test::Fail;
 
 fn fault(rt: &HostRuntime, text: &[u8]) -> (u64, u8) {
@@ -46,32 +48,42 @@ fn script_faults(rt: HostRuntime) -> Result<(), Fail> {
 
 #[test]
 fn fault_order(rt: HostRuntime) {
-    assert_eq!(rt; fault(&rt, b"set r1 1\nset r8 1"), (2, 2));
-    assert_eq!(rt; fault(&rt, b"sat \"a"), (1, 1));
-    assert_eq!(rt; fault(&rt, b"set \"a"), (1, 2));
-    assert_eq!(rt; fault(&rt, b"set r8"), (1, 1));
-    assert_eq!(rt; fault(&rt, b"set r1 1 2"), (1, 1));
-    assert_eq!(rt; fault(&rt, b"set r1 +1"), (1, 2));
-    assert_eq!(rt; fault(&rt, b"set r1 9223372036854775808"), (1, 2));
-    assert_eq!(rt; fault(&rt, b"set r1 -9223372036854775808"), (0, 0));
-    assert_eq!(rt; fault(&rt, b"text \"a\"b"), (1, 2));
-    assert_eq!(rt; fault(&rt, b"text \"\\q\""), (1, 2));
-    assert_eq!(rt; fault(&rt, b"text \"\xff\""), (1, 2));
-    assert_eq!(rt; fault(&rt, b"\xff"), (1, 1));
-    assert_eq!(rt; fault(&rt, b"# \xff"), (0, 0));
-    assert_eq!(rt; fault(&rt, b"say\nend"), (2, 1));
-    assert_eq!(rt; fault(&rt, b"fetch a:b"), (1, 2));
+    let rows: [(&[u8], (u64, u8)); 15] = [
+        (b"set r1 1\nset r8 1", (2, 2)),
+        (b"sat \"a", (1, 1)),
+        (b"set \"a", (1, 2)),
+        (b"set r8", (1, 1)),
+        (b"set r1 1 2", (1, 1)),
+        (b"set r1 +1", (1, 2)),
+        (b"set r1 9223372036854775808", (1, 2)),
+        (b"set r1 -9223372036854775808", (0, 0)),
+        (b"text \"a\"b", (1, 2)),
+        (b"text \"\\q\"", (1, 2)),
+        (b"text \"\xff\"", (1, 2)),
+        (b"\xff", (1, 1)),
+        (b"# \xff", (0, 0)),
+        (b"say\nend", (2, 1)),
+        (b"fetch a:b", (1, 2)),
+    ];
+    for (text, want) in rows {
+        assert_eq!(rt; fault(&rt, text), want);
+    }
 }
 
 #[test]
 fn labels(rt: HostRuntime) {
-    assert_eq!(rt; fault(&rt, b"a:\nsay\nb_2:"), (0, 0));
-    assert_eq!(rt; fault(&rt, b"a:\nsay\na:"), (3, 3));
-    assert_eq!(rt; fault(&rt, b"a: b"), (1, 1));
-    assert_eq!(rt; fault(&rt, b"a: \"b"), (1, 2));
-    assert_eq!(rt; fault(&rt, b"a: b\na:"), (1, 1));
-    assert_eq!(rt; fault(&rt, b"a.b:"), (1, 1));
-    assert_eq!(rt; fault(&rt, b":"), (1, 1));
+    let rows: [(&[u8], (u64, u8)); 7] = [
+        (b"a:\nsay\nb_2:", (0, 0)),
+        (b"a:\nsay\na:", (3, 3)),
+        (b"a: b", (1, 1)),
+        (b"a: \"b", (1, 2)),
+        (b"a: b\na:", (1, 1)),
+        (b"a.b:", (1, 1)),
+        (b":", (1, 1)),
+    ];
+    for (text, want) in rows {
+        assert_eq!(rt; fault(&rt, text), want);
+    }
 }
 
 #[test]
@@ -154,38 +166,34 @@ fn inputs(rt: HostRuntime) -> Result<(), Fail> {
     Ok(())
 }
 
+/// Whether a thing is printed so.
+fn shows<T: fmt::Display + Drop>(alloc: Global, thing: T, want: &str) -> Result<bool, AllocError> {
+    Ok(format!(in alloc; "{thing}")?.as_str() == want)
+}
+
 #[test]
 fn prints(rt: HostRuntime) -> Result<(), Fail> {
     let deep: Pid = Operand::read(b"1.3.05.65535").map_err(|_| "pid")?;
-    assert_eq!(rt;
-        format!(in rt.alloc(); "{}", Shown(deep))?.as_str(),
-        "1.3.5.65535"
-    );
     let child = Pid::boot(1).ok_or("boot")?.child(3).ok_or("child")?;
     let object = ObjId {
         maker: Some(child),
         count: 2,
     };
-    assert_eq!(rt;
-        format!(in rt.alloc(); "{}", Shown(object))?.as_str(),
-        "1.3:2"
-    );
-    assert_eq!(rt;
-        format!(in rt.alloc(); "{}", Val::Obj(ROOT))?.as_str(),
-        "0:1"
-    );
-    assert_eq!(rt;
-        format!(in rt.alloc(); "{}", Val::Who(child))?.as_str(),
-        "@1.3"
-    );
-    assert_eq!(rt; format!(in rt.alloc(); "{}", Val::Num(-2))?.as_str(), "-2");
-    assert_eq!(rt;
-        format!(in rt.alloc(); "{}", Literal(b"a\"\\\n\x7f"))?.as_str(),
-        "\"a\\\"\\\\\\n\\x7f\""
-    );
-    let bad: Result<Pid, FaultKind> = Operand::read(b"1.0");
-    assert!(rt; bad.is_err());
-    let long: Result<Pid, FaultKind> = Operand::read(b"1.1.1.1.1");
-    assert!(rt; long.is_err());
+    assert!(rt; shows(rt.alloc(), Shown(deep), "1.3.5.65535")?);
+    assert!(rt; shows(rt.alloc(), Shown(object), "1.3:2")?);
+    assert!(rt; shows(rt.alloc(), Val::Obj(ROOT), "0:1")?);
+    assert!(rt; shows(rt.alloc(), Val::Who(child), "@1.3")?);
+    assert!(rt; shows(rt.alloc(), Val::Num(-2), "-2")?);
+    let literal = Literal(b"a\"\\\n\x7f");
+    assert!(rt; shows(rt.alloc(), literal, "\"a\\\"\\\\\\n\\x7f\"")?);
     Ok(())
+}
+
+#[test]
+fn faulty_processes(rt: HostRuntime) {
+    let rows: [&[u8]; 4] = [b"1.0", b"1.1.1.1.1", b"65536", b"1."];
+    for text in rows {
+        let said: Result<Pid, FaultKind> = Operand::read(text);
+        assert!(rt; said.is_err());
+    }
 }

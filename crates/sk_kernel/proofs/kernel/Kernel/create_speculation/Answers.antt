@@ -1,6 +1,6 @@
 -- The guess that was drawn is the one that is undecided, and a place is left for its decision.
-use Rattle.std.proofs.Common.{◌≡◌, ◌≤◌, ◌∙◌, None, true, sym, subst, ap, rules, arith}
-use Rattle.sk_guesses.specs.Guesses.{drawn, next_of}
+use Rattle.std.proofs.Common.{◌≡◌, None, true, subst, rules}
+use Rattle.sk_guesses.specs.Guesses.{next_of}
 use Rattle.std.specs.FinMap as map
 use Rattle.sk_plain.specs.Planned.{row_effect}
 use Rattle.sk_kernel.specs.Whole.{IsWhole}

@@ -4,6 +4,5 @@ pub mod Script
 pub mod Scripts
 pub mod Boot
 pub mod Inputs
-pub mod Spelling
 pub mod Instructions
 pub mod Scripting

@@ -4,8 +4,7 @@ ghost use Rattle.sk_script.specs.Registers.{held};
 ghost use Rattle.sk_script.specs.declared.register.Val.{Val};
 
 use sk_ids::{ObjId, Pid};
-use sk_words::{FaultKind, Operand, Shown};
-use std::fmt;
+use sk_words::{FaultKind, Operand};
 use std::marker::Model;
 
 /// What a register holds: a number, an object or a process.
@@ -14,28 +13,6 @@ pub enum Val {
     Num(i64),
     Obj(ObjId),
     Who(Pid),
-}
-
-/// A number as such, an object, or a process behind `@`.
-impl fmt::Display for Val {
-    ghost use Rattle.std.specs.Prelude.{Some};
-    ghost use Rattle.sk_script.specs.Spelling.{val_word};
-
-    ghost output = { λ v. Some (val_word v) };
-
-    fn fmt<W: fmt::Write>(&self, f: &mut fmt::Formatter<W>) -> fmt::Result {
-        match *self {
-            Val::Num(number) => write!(f, "{number}"),
-            Val::Obj(object) => {
-                let object = Shown(object);
-                write!(f, "{object}")
-            }
-            Val::Who(pid) => {
-                let pid = Shown(pid);
-                write!(f, "@{pid}")
-            }
-        }
-    }
 }
 
 /// How many registers a process has.

@@ -1,10 +1,11 @@
 //! Scripts, inputs and boots, and the faults of their texts.
 use sk_ids::{Name, ObjId, Pid, Text};
 use sk_objects::Content;
+use sk_print::{Literal, Shown};
 use sk_script::{
     Boot, BootFault, Input, Instruction, ObjectKind, ROOT, Register, Script, Scripts, Val, inputs,
 };
-use sk_words::{Block, Fault, FaultKind, Lines, Literal, Operand, Shown, Words};
+use sk_words::{Block, Fault, FaultKind, Lines, Operand, Words};
 use std::alloc::{AllocError, Global};
 use std::fmt;
 use std::test::Fail;
@@ -181,9 +182,9 @@ fn prints(rt: HostRuntime) -> Result<(), Fail> {
     };
     assert!(rt; shows(rt.alloc(), Shown(deep), "1.3.5.65535")?);
     assert!(rt; shows(rt.alloc(), Shown(object), "1.3:2")?);
-    assert!(rt; shows(rt.alloc(), Val::Obj(ROOT), "0:1")?);
-    assert!(rt; shows(rt.alloc(), Val::Who(child), "@1.3")?);
-    assert!(rt; shows(rt.alloc(), Val::Num(-2), "-2")?);
+    assert!(rt; shows(rt.alloc(), Shown(Val::Obj(ROOT)), "0:1")?);
+    assert!(rt; shows(rt.alloc(), Shown(Val::Who(child)), "@1.3")?);
+    assert!(rt; shows(rt.alloc(), Shown(Val::Num(-2)), "-2")?);
     let literal = Literal(b"a\"\\\n\x7f");
     assert!(rt; shows(rt.alloc(), literal, "\"a\\\"\\\\\\n\\x7f\"")?);
     Ok(())

@@ -5,4 +5,3 @@ pub mod Operands
 pub mod Literals
 pub mod Reading
 pub mod Tables
-pub mod Spelling

@@ -1,4 +1,4 @@
-//! Words of all text forms: lines and their words, what words say, and how names of things are printed.
+//! Words of all text forms: lines and their words, and what words say.
 #![tactic(auto)]
 
 pub mod fault;
@@ -6,7 +6,6 @@ pub mod line;
 pub mod literal;
 pub mod operands;
 pub mod reader;
-pub mod shown;
 pub mod text;
 pub mod values;
 
@@ -14,6 +13,5 @@ pub use fault::{Fault, FaultKind};
 pub use line::Words;
 pub use operands::{Operand, closed, next_word, no_more, none, one, three, two};
 pub use reader::{Reader, read};
-pub use shown::{Literal, Shown};
 pub use text::{Block, Lines};
 pub use values::{Index, Label, Natural, Positive};

@@ -7,7 +7,6 @@ pub mod game;
 pub mod play;
 pub mod program;
 pub mod report;
-pub mod shown;
 #[cfg(test)]
 mod tests;
 

@@ -5,11 +5,10 @@ ghost use Rattle.std.specs.Io.KnownBytes.{Appends};
 ghost use Rattle.speculate.specs.Report.{entity_line, texts_lines, terminal_said, last_line};
 
 use crate::play::Stop;
-use crate::shown::{ShownEntity, ShownProcess, ShownTags, ShownValue};
 use sk_ids::{Entity, Text};
 use sk_kernel::Kernel;
 use sk_plain::View;
-use sk_words::Literal;
+use sk_print::{Literal, ShownEntity, ShownProcess, ShownTags, ShownValue};
 use std::alloc::{AllocError, Global};
 use std::io;
 use std::io::Write;

@@ -1,12 +1,12 @@
-//! How the report spells what it shows.
+//! How entities and what they have are printed.
 ghost use Rattle.std.specs.Prelude.{◌≡◌, ◌<◌, ◌∷◌, Some, flat_map, decimal, slice_index};
-ghost use Rattle.speculate.specs.Report.{tags_text, signals_text, links_text, link_text, option_text, registers_text, held_text, made_text, yes_or_no, process_text, value_text, entity_text};
+ghost use Rattle.sk_print.specs.Shown.{tags_text, signals_text, links_text, link_text, option_text, registers_text, held_text, made_text, yes_or_no, process_text, value_text, entity_text};
 ghost use Rattle.sk_script.specs.Registers.{held};
 
+use crate::spelling::{Literal, Shown};
 use sk_ids::{Entity, GuessId, Name, ObjId, TagSet};
 use sk_objects::{Directory, Signals, Value};
 use sk_script::{Process, Register, Registers, Val};
-use sk_words::{Literal, Shown};
 use std::fmt;
 
 /// Guesses, each behind a comma.
@@ -146,17 +146,17 @@ impl fmt::Display for ShownOption {
 struct ShownRegisters(Registers);
 
 /// A register's value.
-fn shown(registers: &Registers, number: u8) -> Val
+fn shown(registers: &Registers, number: u8) -> Shown<Val>
     requires { number < 8 }
-    ensures { result ≡ held registers.now number }
+    ensures { result.0 ≡ held registers.now number }
 {
-    registers.get(Register::new(number).unwrap())
+    Shown(registers.get(Register::new(number).unwrap()))
 }
 
 impl fmt::Display for ShownRegisters {
     ghost output = { λ s. Some (registers_text s.0) };
 
-    #[tactic(auto, unfolding(crate::specs::Report::registers_text))]
+    #[tactic(auto, unfolding(crate::specs::Shown::registers_text))]
     fn fmt<W: fmt::Write>(&self, f: &mut fmt::Formatter<W>) -> fmt::Result {
         let r0 = shown(&self.0, 0);
         let r1 = shown(&self.0, 1);
@@ -183,7 +183,7 @@ struct ShownHeld<'a>(&'a Process);
 impl fmt::Display for ShownHeld<'_> {
     ghost output = { λ s. Some (held_text s.0.now) };
 
-    #[tactic(auto, unfolding(crate::specs::Report::held_text))]
+    #[tactic(auto, unfolding(crate::specs::Shown::held_text))]
     fn fmt<W: fmt::Write>(&self, f: &mut fmt::Formatter<W>) -> fmt::Result {
         let process = self.0;
         let place = process.place;
@@ -200,7 +200,7 @@ struct ShownMade<'a>(&'a Process);
 impl fmt::Display for ShownMade<'_> {
     ghost output = { λ s. Some (made_text s.0.now) };
 
-    #[tactic(auto, unfolding(crate::specs::Report::made_text))]
+    #[tactic(auto, unfolding(crate::specs::Shown::made_text))]
     fn fmt<W: fmt::Write>(&self, f: &mut fmt::Formatter<W>) -> fmt::Result {
         let process = self.0;
         let children = process.children;

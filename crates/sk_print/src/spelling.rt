@@ -1,8 +1,10 @@
 //! How values are printed.
 ghost use Rattle.std.specs.Prelude.{◌≡◌, ◌<◌, Some};
-ghost use Rattle.sk_words.specs.Spelling.{hex_glyph};
+ghost use Rattle.sk_print.specs.Spelling.{hex_glyph};
 
 use sk_ids::{Name, ObjId, Pid};
+use sk_objects::Content;
+use sk_script::{Input, Val};
 use std::fmt;
 
 fn hex_glyph(digit: u8) -> char
@@ -23,7 +25,7 @@ struct Spelled(u8);
 
 impl fmt::Display for Spelled {
     ghost use Rattle.std.specs.Prelude.{Some};
-    ghost use Rattle.sk_words.specs.Spelling.{spelled_byte};
+    ghost use Rattle.sk_print.specs.Spelling.{spelled_byte};
 
     ghost output = { λ b. Some (spelled_byte b.0) };
 
@@ -49,7 +51,7 @@ pub struct Literal<'a>(pub &'a [u8]);
 
 impl<'a> fmt::Display for Literal<'a> {
     ghost use Rattle.std.specs.Prelude.{Some};
-    ghost use Rattle.sk_words.specs.Spelling.{spelled};
+    ghost use Rattle.sk_print.specs.Spelling.{spelled};
 
     ghost output = { λ t. Some (spelled t.0.now) };
 
@@ -72,7 +74,7 @@ struct TwoLevels(u64);
 
 impl fmt::Display for TwoLevels {
     ghost use Rattle.std.specs.Prelude.{Some};
-    ghost use Rattle.sk_words.specs.Spelling.{two_levels};
+    ghost use Rattle.sk_print.specs.Spelling.{two_levels};
 
     ghost output = { λ p. Some (two_levels p.0) };
 
@@ -85,7 +87,7 @@ impl fmt::Display for TwoLevels {
 
 impl fmt::Display for Shown<Pid> {
     ghost use Rattle.std.specs.Prelude.{Some};
-    ghost use Rattle.sk_words.specs.Spelling.{pid_word};
+    ghost use Rattle.sk_print.specs.Spelling.{pid_word};
 
     ghost output = { λ p. Some (pid_word p.0) };
 
@@ -108,7 +110,7 @@ impl fmt::Display for Shown<Pid> {
 
 impl fmt::Display for Shown<ObjId> {
     ghost use Rattle.std.specs.Prelude.{Some};
-    ghost use Rattle.sk_words.specs.Spelling.{object_word};
+    ghost use Rattle.sk_print.specs.Spelling.{object_word};
 
     ghost output = { λ o. Some (object_word o.0) };
 
@@ -134,6 +136,69 @@ impl fmt::Display for Shown<Name> {
         match str::from_utf8(bytes) {
             Ok(text) => write!(f, "{text}"),
             Err(_) => Err(fmt::Error),
+        }
+    }
+}
+
+/// A number as such, an object, or a process behind `@`.
+impl fmt::Display for Shown<Val> {
+    ghost use Rattle.std.specs.Prelude.{Some};
+    ghost use Rattle.sk_print.specs.Spelling.{val_word};
+
+    ghost output = { λ v. Some (val_word v.0) };
+
+    fn fmt<W: fmt::Write>(&self, f: &mut fmt::Formatter<W>) -> fmt::Result {
+        match self.0 {
+            Val::Num(number) => write!(f, "{number}"),
+            Val::Obj(object) => {
+                let object = Shown(object);
+                write!(f, "{object}")
+            }
+            Val::Who(pid) => {
+                let pid = Shown(pid);
+                write!(f, "@{pid}")
+            }
+        }
+    }
+}
+
+/// A content: its version, and its bytes as a literal.
+#[derive(Clone, Copy)]
+struct ShownContent(Content);
+
+impl fmt::Display for ShownContent {
+    ghost use Rattle.std.specs.Prelude.{Some};
+    ghost use Rattle.sk_print.specs.Spelling.{spaced, content_words};
+
+    ghost output = { λ c. Some (spaced (content_words c.0)) };
+
+    fn fmt<W: fmt::Write>(&self, f: &mut fmt::Formatter<W>) -> fmt::Result {
+        let version = self.0.version();
+        let bytes = self.0.bytes();
+        let literal = Literal(bytes.as_slice());
+        write!(f, "{version} {literal}")
+    }
+}
+
+/// The words that say it, with single spaces.
+impl fmt::Display for Shown<Input> {
+    ghost use Rattle.std.specs.Prelude.{Some};
+    ghost use Rattle.sk_print.specs.Spelling.{spaced, input_words};
+
+    ghost output = { λ i. Some (spaced (input_words i.0)) };
+
+    fn fmt<W: fmt::Write>(&self, f: &mut fmt::Formatter<W>) -> fmt::Result {
+        match self.0 {
+            Input::None => f.write_str("none"),
+            Input::Good => f.write_str("good"),
+            Input::Fresh(content) => {
+                let content = ShownContent(content);
+                write!(f, "fresh {content}")
+            }
+            Input::Stale(content) => {
+                let content = ShownContent(content);
+                write!(f, "stale {content}")
+            }
         }
     }
 }

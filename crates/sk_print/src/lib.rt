@@ -1,0 +1,8 @@
+//! How things are printed: literals, identifiers, inputs, and entities with what they have.
+#![tactic(auto)]
+
+pub mod shown;
+pub mod spelling;
+
+pub use shown::{ShownEntity, ShownProcess, ShownTags, ShownValue};
+pub use spelling::{Literal, Shown};

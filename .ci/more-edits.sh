@@ -1,6 +1,6 @@
 #!/usr/bin/env bash
-# The must-fail edits that `rt ci` does not try: those of the folders crates/NAME/more-edits/, one for each public
-# function that has none in must-fail/. The crate's own prover must refuse each. It works on a scratch copy, and takes
+# The must-fail edits that `rt ci` does not try: those of the folders crates/NAME/more-edits/, of public functions
+# that have none in must-fail/. The crate's own prover must refuse each. It works on a scratch copy, and takes
 # what earlier checks left in out/ along. The last line is 'N passed, M failed'.
 #   .ci/more-edits.sh [CRATE..]
 set -u

@@ -1,6 +1,7 @@
-//! How things are printed: literals, identifiers, inputs, and entities with what they have.
+//! How things are printed: literals, identifiers, inputs, refusals, and entities with what they have.
 #![tactic(auto)]
 
+pub mod refusals;
 pub mod shown;
 pub mod spelling;
 

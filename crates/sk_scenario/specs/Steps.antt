@@ -7,7 +7,7 @@ use Rattle.sk_script.specs.declared.instruction.Input.{Input}
 use Rattle.sk_words.specs.Faults.{◌>>=◌}
 use Rattle.sk_words.specs.Words.{words}
 use Rattle.sk_words.specs.Operands.{closed, next_word, one_of, pid, positive}
-use Rattle.sk_script.specs.Inputs.{input}
+use Rattle.sk_scenario.specs.Inputs.{input}
 use Rattle.sk_words.specs.Tables.{Rule, rule_in, unknown}
 use Rattle.sk_scenario.specs.declared.step.Step.{Step}
 use Rattle.sk_scenario.specs.declared.step.Step.TheVariants as steps

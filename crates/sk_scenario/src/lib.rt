@@ -5,6 +5,7 @@
 pub mod cursor;
 pub mod declarations;
 pub mod input;
+pub mod inputs;
 pub mod scenario;
 pub mod step;
 

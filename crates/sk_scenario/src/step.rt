@@ -5,9 +5,9 @@ ghost use Rattle.sk_words.specs.Reading.{Leaves};
 ghost use Rattle.sk_scenario.specs.Steps.{entry, step, step_line, with_said};
 
 use crate::cursor::first_word;
+use crate::inputs::input;
 use sk_ids::{GuessId, Pid};
 use sk_script::Input;
-use sk_script::inputs::input;
 use sk_words::{FaultKind, Operand, Positive, Words, closed, next_word, one};
 use std::alloc::Global;
 use std::marker::Model;

@@ -3,6 +3,5 @@ pub mod Process
 pub mod Script
 pub mod Scripts
 pub mod Boot
-pub mod Inputs
 pub mod Instructions
 pub mod Scripting

@@ -2,7 +2,6 @@
 #![tactic(auto)]
 
 pub mod boot;
-pub mod inputs;
 pub mod instruction;
 pub mod parse;
 pub mod process;

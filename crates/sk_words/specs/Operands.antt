@@ -44,23 +44,27 @@ both a b v w = do
   y ← b w
   Ok (x, y)
 
+-- the two words that are left
+unfoldable pub the_two : List (List ℕ) → Result (List ℕ × List ℕ) FaultKind
+the_two ws = do
+  v ← next_word ws
+  w ← next_word v.1
+  end ← no_more w.1
+  Ok (v.0, w.0)
+
 unfoldable pub two_of : {A B : Type 0} → (List ℕ → Result A FaultKind) → (List ℕ → Result B FaultKind) → List (List ℕ) → Result (A × B) FaultKind
 two_of a b ws = do
   cs ← closed ws
-  v ← next_word cs
-  w ← next_word v.1
-  end ← no_more w.1
-  both a b v.0 w.0
+  p ← the_two cs
+  both a b p.0 p.1
 
 unfoldable pub three_of : {A B C : Type 0} → (List ℕ → Result A FaultKind) → (List ℕ → Result B FaultKind) → (List ℕ → Result C FaultKind) → List (List ℕ) → Result (A × B × C) FaultKind
 three_of a b c ws = do
   cs ← closed ws
   u ← next_word cs
-  v ← next_word u.1
-  w ← next_word v.1
-  end ← no_more w.1
+  p ← the_two u.1
   x ← a u.0
-  y ← both b c v.0 w.0
+  y ← both b c p.0 p.1
   Ok (x, y.0, y.1)
 
 -- a function took the next word, and left the others

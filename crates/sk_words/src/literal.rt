@@ -1,7 +1,7 @@
 //! Literals.
 ghost use Rattle.std.specs.Prelude.{◌≡◌, ◌<◌, length, IfSome, false};
 ghost use Rattle.sk_words.specs.Operands.{SaysSome};
-ghost use Rattle.sk_words.specs.Literals.{text_from, at_most_512, Plain, Escaped, ends_here, Continues, hex_digit};
+ghost use Rattle.sk_words.specs.Literals.{text_from, at_most_512, Plain, Escaped, High, ends_here, Continues, hex_digit};
 
 use crate::{FaultKind, Operand};
 use sk_ids::Text;
@@ -62,7 +62,18 @@ fn escaped(bytes: &[u8]) -> Option<(u8, &[u8])>
     match bytes {
         [quoted @ (b'"' | b'\\'), rest @ ..] => Some((*quoted, rest)),
         [b'n', rest @ ..] => Some((b'\n', rest)),
-        [b'x', high, low, rest @ ..] => Some((hex(*high)? * 16 + hex(*low)?, rest)),
+        [b'x', rest @ ..] => of_two_digits(rest),
+        _ => None,
+    }
+}
+
+/// The byte of two hexadecimal digits, and what is behind them.
+fn of_two_digits(bytes: &[u8]) -> Option<(u8, &[u8])>
+    ensures byte { Continues result (text_from High bytes.now) }
+    ensures shorter { IfSome result (λ x. length x.1.now < length bytes.now) }
+{
+    match bytes {
+        [high, low, rest @ ..] => Some((hex(*high)? * 16 + hex(*low)?, rest)),
         _ => None,
     }
 }

@@ -1,6 +1,6 @@
 //! What the words behind the first of a line say.
-ghost use Rattle.std.specs.Prelude.{◌≡◌};
-ghost use Rattle.sk_words.specs.Operands.{NextWord, closed, no_more, none_of, one_of, both, two_of, three_of};
+ghost use Rattle.std.specs.Prelude.{◌≡◌, Ok, Err, MatchResult};
+ghost use Rattle.sk_words.specs.Operands.{NextWord, closed, no_more, none_of, one_of, both, the_two, two_of, three_of};
 
 use crate::{FaultKind, Words};
 
@@ -72,15 +72,23 @@ fn both<A: Operand, B: Operand>(a: &[u8], b: &[u8]) -> Result<(A, B), FaultKind>
     Ok((a, b))
 }
 
+/// The two words that are left.
+#[tactic(auto, unfolding(crate::specs::Operands::the_two))]
+fn the_two<'a>(mut words: Words<'a>) -> Result<(&'a [u8], &'a [u8]), FaultKind>
+    ensures { MatchResult result (λ two. the_two words.entry ≡ Ok (two.0.now, two.1.now)) (λ e. the_two words.entry ≡ Err e) }
+{
+    let a = next_word(&mut words)?;
+    let b = next_word(&mut words)?;
+    no_more(words)?;
+    Ok((a, b))
+}
+
 /// Two words.
 #[tactic(auto, unfolding(crate::specs::Operands::two_of))]
 pub fn two<A: Operand, B: Operand>(words: &Words) -> Result<(A, B), FaultKind>
     ensures { result ≡ two_of A.said B.said words.now }
 {
-    let mut words = closed(words)?;
-    let a = next_word(&mut words)?;
-    let b = next_word(&mut words)?;
-    no_more(words)?;
+    let (a, b) = the_two(closed(words)?)?;
     both(a, b)
 }
 
@@ -91,9 +99,7 @@ pub fn three<A: Operand, B: Operand, C: Operand>(words: &Words) -> Result<(A, B,
 {
     let mut words = closed(words)?;
     let a = next_word(&mut words)?;
-    let b = next_word(&mut words)?;
-    let c = next_word(&mut words)?;
-    no_more(words)?;
+    let (b, c) = the_two(words)?;
     let a = A::read(a)?;
     let (b, c) = both(b, c)?;
     Ok((a, b, c))

@@ -1,12 +1,8 @@
 //! `speculate`: plays a scenario on a kernel that runs ahead on guesses.
 #![tactic(auto)]
 
-pub mod answer;
 pub mod command_line;
-pub mod game;
-pub mod play;
 pub mod program;
-pub mod report;
 #[cfg(test)]
 mod tests;
 

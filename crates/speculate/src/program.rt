@@ -2,8 +2,8 @@
 ghost use Rattle.std.specs.Prelude.{◌≡◌, ◌≤◌, IfOk, IfSome};
 
 use crate::command_line::{Job, parse};
-use crate::play::{Stop, play};
 use clap::error::ErrorKind;
+use sk_play::{Stop, play};
 use sk_scenario::{Open, ReadFault, Scenario, Section, read_all};
 use sk_words::{Fault, FaultKind};
 use std::alloc::Global;

@@ -1,0 +1,7 @@
+//! The tests of records and kernels over their public calls.
+#![tactic(auto)]
+
+#[cfg(test)]
+mod kernels;
+#[cfg(test)]
+mod records;

@@ -1,0 +1,191 @@
+-- What becomes of held tokens when a guess is drawn or decided, or a token is taken out: from the definitions of a
+-- guess's status and of what a token redeems.
+use Rattle.std.proofs.Common.{◌≡◌, ℕ, zero, suc, ◌+◌, ◌-◌, ◌<◌, Bool, true, false, not, ◌&&◌, ◌==◌, List, [], ◌∷◌, ◌++◌, length, get_or, refl, sym, ap, arith, subst, Some}
+use Rattle.std.specs.Prelude.{is_ok, slice_get, slice_set}
+use Rattle.std.specs.List.{list_all, remove}
+use Rattle.std.proofs.lemmas.Bool.{ne_eqb, eq-eqb}
+use Rattle.sk_guesses.specs.Token.{Token}
+use Rattle.sk_guesses.specs.Guesses.{GuessesView, status_of, with_status, drawn, next_of}
+use Rattle.sk_guesses.specs.Calls.{redeemed, redeemed_at}
+use Rattle.sk_guesses.specs.declared.status.Status.{Status}
+use Rattle.sk_guesses.specs.declared.status.Status.TheVariants.{Undecided}
+use Rattle.sk_play.specs.Game.{none_of, all_taken}
+
+both : (a b : Bool) → (a && b) ≡ true → (a ≡ true) × (b ≡ true)
+both true true e = (refl, refl)
+both true false e = absurd cc
+both false b e = absurd cc
+
+pair : (a b : Bool) → a ≡ true → b ≡ true → (a && b) ≡ true
+pair true true e f = refl
+pair true false e f = absurd cc
+pair false b e f = absurd cc
+
+-- ---- taking a token out
+
+-- a test that all pass, all but one pass
+all_but : {A : Type 0} (p : A → Bool) (i : ℕ) (xs : List A) → list_all p xs ≡ true → list_all p (remove xs i) ≡ true
+all_but p zero [] h = refl
+all_but p (suc i) [] h = refl
+all_but p zero (x ∷ xs) h = (both (p x) (list_all p xs) h).1
+all_but p (suc i) (x ∷ xs) h =
+    let b = both (p x) (list_all p xs) h in
+    pair (p x) (list_all p (remove xs i)) b.0 (all_but p i xs b.1)
+
+all_at : {A : Type 0} (p : A → Bool) (i : ℕ) (xs : List A) (d : A) → i < length xs → list_all p xs ≡ true → p (get_or xs i d) ≡ true
+all_at p i [] d lt h = absurd (omega arith)
+all_at p zero (x ∷ xs) d lt h = (both (p x) (list_all p xs) h).0
+all_at p (suc i) (x ∷ xs) d lt h = all_at p i xs d (omega arith) (both (p x) (list_all p xs) h).1
+
+not_same : (a b : ℕ) → not (a == b) ≡ true → a ≡ b → ⊥
+not_same a b h e =
+    let bad : not (b == b) ≡ true = rw e at h in
+    let same : (b == b) ≡ true = eq-eqb b b refl in
+    let worse : not true ≡ true = rw same at bad in
+    absurd cc
+
+turned : (a b : ℕ) → not (a == b) ≡ true → not (b == a) ≡ true
+turned a b h = rw (ne_eqb b a (λ e. not_same a b h (sym e))) refl
+
+-- what is known of a token that is taken out, and of the others
+pub record Out (g : GuessesView) (t : Token) (others : List Token) : Type 0 where
+  pub takes : is_ok (redeemed g t) ≡ true
+  pub apart : none_of t.id others ≡ true
+  pub rest : all_taken g others ≡ true
+
+pub taken_out : (g : GuessesView) (i : ℕ) (ts : List Token) (d : Token) → i < length ts → all_taken g ts ≡ true → Out g (get_or ts i d) (remove ts i)
+taken_out g i [] d lt h = absurd (omega arith)
+taken_out g zero (t ∷ ts) d lt h =
+    let b = both (is_ok (redeemed g t)) (none_of t.id ts && all_taken g ts) h in
+    let c = both (none_of t.id ts) (all_taken g ts) b.1 in
+    record { takes = b.0; apart = c.0; rest = c.1 }
+taken_out g (suc i) (t ∷ ts) d lt h =
+    let b = both (is_ok (redeemed g t)) (none_of t.id ts && all_taken g ts) h in
+    let c = both (none_of t.id ts) (all_taken g ts) b.1 in
+    let o = taken_out g i ts d (omega arith) c.1 in
+    let one = all_at (λ u. not (u.id == t.id)) i ts d (omega arith) c.0 in
+    record {
+      takes = o.takes;
+      apart = pair (not (t.id == (get_or ts i d).id)) (none_of (get_or ts i d).id (remove ts i)) (turned (get_or ts i d).id t.id one) o.apart;
+      rest = pair (is_ok (redeemed g t)) (none_of t.id (remove ts i) && all_taken g (remove ts i)) b.0
+          (pair (none_of t.id (remove ts i)) (all_taken g (remove ts i)) (all_but (λ u. not (u.id == t.id)) i ts c.0) o.rest);
+    }
+
+-- ---- a guess is decided
+
+set_other : {A : Type 0} (xs : List A) (i j : ℕ) (x : A) → (j ≡ i → ⊥) → slice_get (slice_set xs i x) j ≡ slice_get xs j
+set_other [] i j x n = refl
+set_other (y ∷ ys) zero zero x n = absurd (n refl)
+set_other (y ∷ ys) zero (suc j) x n = refl
+set_other (y ∷ ys) (suc i) zero x n = refl
+set_other (y ∷ ys) (suc i) (suc j) x n = set_other ys i j x (λ e. n (ap suc e))
+
+other_status : (g : GuessesView) (id j : ℕ) (s : Status) → (j ≡ id → ⊥) → (id ≡ 0 → ⊥) → status_of (with_status g id s) j ≡ status_of g j
+other_status g id zero s n nz = refl
+other_status g zero (suc j) s n nz = absurd (nz refl)
+other_status g (suc i) (suc j) s n nz =
+    let e : (suc j == 0) ≡ false = ne_eqb (suc j) 0 (λ z. omega arith) in
+    rw e (set_other g.statuses (suc i - 1) (suc j - 1) s (λ same. n (omega (arith, same))))
+
+takes_other : (g : GuessesView) (id : ℕ) (s : Status) (t : Token) → (t.id ≡ id → ⊥) → (id ≡ 0 → ⊥) → is_ok (redeemed g t) ≡ true → is_ok (redeemed (with_status g id s) t) ≡ true
+takes_other g id s t n nz h = rw (other_status g id t.id s n nz) h
+
+pub decided : (g : GuessesView) (id : ℕ) (s : Status) (ts : List Token) → (id ≡ 0 → ⊥) → none_of id ts ≡ true → all_taken g ts ≡ true → all_taken (with_status g id s) ts ≡ true
+decided g id s [] nz n h = refl
+decided g id s (t ∷ ts) nz n h =
+    let b = both (is_ok (redeemed g t)) (none_of t.id ts && all_taken g ts) h in
+    let c = both (none_of t.id ts) (all_taken g ts) b.1 in
+    let m = both (not (t.id == id)) (none_of id ts) n in
+    pair (is_ok (redeemed (with_status g id s) t)) (none_of t.id ts && all_taken (with_status g id s) ts)
+    (takes_other g id s t (not_same t.id id m.0) nz b.0)
+    (pair (none_of t.id ts) (all_taken (with_status g id s) ts) c.0 (decided g id s ts nz m.1 c.1))
+
+-- guesses are numbered from 1
+pub numbered : (g : GuessesView) (t : Token) → is_ok (redeemed g t) ≡ true → t.id ≡ 0 → ⊥
+numbered g t h e =
+    elim (t.kernel == g.kernel) as (λ b. (t.kernel == g.kernel) ≡ b → ⊥) [
+      | true ↦ λ k. let bad : false ≡ true = rw (k, e) at h in absurd cc
+      | false ↦ λ k. let bad : false ≡ true = rw k at h in absurd cc
+    ] refl
+
+-- ---- a guess is drawn
+
+more : (ss : List Status) (x : Status) (t : Token) (i : ℕ) → is_ok (redeemed_at (slice_get ss i) t) ≡ true → is_ok (redeemed_at (slice_get (ss ++ x ∷ []) i) t) ≡ true
+more [] x t i h = absurd cc
+more (s ∷ ss) x t zero h = h
+more (s ∷ ss) x t (suc i) h = more ss x t i h
+
+within : (ss : List Status) (t : Token) (i : ℕ) → is_ok (redeemed_at (slice_get ss i) t) ≡ true → i < length ss
+within [] t i h = absurd cc
+within (s ∷ ss) t zero h = omega arith
+within (s ∷ ss) t (suc i) h = omega (arith, within ss t i h)
+
+at_end : (ss : List Status) (x : Status) → slice_get (ss ++ x ∷ []) (length ss) ≡ Some x
+at_end [] x = refl
+at_end (s ∷ ss) x = at_end ss x
+
+-- a token that is taken is of this kernel, and of a guess that was drawn
+record Taken (g : GuessesView) (t : Token) : Type 0 where
+  kernel : (t.kernel == g.kernel) ≡ true
+  some : (t.id == 0) ≡ false
+  there : is_ok (redeemed_at (slice_get g.statuses (t.id - 1)) t) ≡ true
+
+taken : (g : GuessesView) (t : Token) → is_ok (redeemed g t) ≡ true → Taken g t
+taken g t h =
+    elim (t.kernel == g.kernel) as (λ b. (t.kernel == g.kernel) ≡ b → Taken g t) [
+      | true ↦ λ k. elim (t.id == 0) as (λ b. (t.id == 0) ≡ b → Taken g t) [
+        | true ↦ λ z. let bad : false ≡ true = rw (k, z) at h in absurd cc
+        | false ↦ λ z. record { kernel = k; some = z; there = rw (k, z) at h }
+      ] refl
+      | false ↦ λ k. let bad : false ≡ true = rw k at h in absurd cc
+    ] refl
+
+takes_drawn : (g : GuessesView) (t : Token) → Taken g t → is_ok (redeemed (drawn g) t) ≡ true
+takes_drawn g t k = rw (k.kernel, k.some) (more g.statuses Undecided t (t.id - 1) k.there)
+
+-- the token of the guess that is drawn next
+abbrev pub drawn_token : GuessesView → Token
+drawn_token g = record { kernel = g.kernel; id = next_of g }
+
+takes_new : (g : GuessesView) → is_ok (redeemed (drawn g) (drawn_token g)) ≡ true
+takes_new g =
+    let some : (length g.statuses + 1 == 0) ≡ false = ne_eqb (length g.statuses + 1) 0 (λ z. omega arith) in
+    let last : length g.statuses + 1 - 1 ≡ length g.statuses = omega arith in
+    rw (eq-eqb g.kernel g.kernel refl, some, last, at_end g.statuses Undecided) refl
+
+none_more : (id : ℕ) (ts : List Token) (t : Token) → none_of id ts ≡ true → not (t.id == id) ≡ true → none_of id (ts ++ t ∷ []) ≡ true
+none_more id [] t h n = rw n refl
+none_more id (u ∷ us) t h n =
+    let b = both (not (u.id == id)) (none_of id us) h in
+    pair (not (u.id == id)) (none_of id (us ++ t ∷ [])) b.0 (none_more id us t b.1 n)
+
+new_apart : (g : GuessesView) (t : Token) → Taken g t → not (next_of g == t.id) ≡ true
+new_apart g t k =
+    let lt : t.id - 1 < length g.statuses = within g.statuses t (t.id - 1) k.there in
+    rw (ne_eqb (length g.statuses + 1) t.id (λ e. omega (arith, lt, e))) refl
+
+pub drawn_held : (g : GuessesView) (ts : List Token) → all_taken g ts ≡ true → all_taken (drawn g) (ts ++ drawn_token g ∷ []) ≡ true
+drawn_held g [] h = rw (takes_new g) refl
+drawn_held g (t ∷ ts) h =
+    let b = both (is_ok (redeemed g t)) (none_of t.id ts && all_taken g ts) h in
+    let c = both (none_of t.id ts) (all_taken g ts) b.1 in
+    let k = taken g t b.0 in
+    pair (is_ok (redeemed (drawn g) t)) (none_of t.id (ts ++ drawn_token g ∷ []) && all_taken (drawn g) (ts ++ drawn_token g ∷ []))
+    (takes_drawn g t k)
+    (pair (none_of t.id (ts ++ drawn_token g ∷ [])) (all_taken (drawn g) (ts ++ drawn_token g ∷ []))
+    (none_more t.id ts (drawn_token g) c.0 (new_apart g t k))
+    (drawn_held g ts c.1))
+
+-- ---- a token is put back
+
+pub put_back : (g : GuessesView) (t : Token) (others : List Token) → is_ok (redeemed g t) ≡ true → none_of t.id others ≡ true → all_taken g others ≡ true → all_taken g (others ++ t ∷ []) ≡ true
+put_back g t [] takes apart h = rw takes refl
+put_back g t (u ∷ us) takes apart h =
+    let b = both (is_ok (redeemed g u)) (none_of u.id us && all_taken g us) h in
+    let c = both (none_of u.id us) (all_taken g us) b.1 in
+    let m = both (not (u.id == t.id)) (none_of t.id us) apart in
+    pair (is_ok (redeemed g u)) (none_of u.id (us ++ t ∷ []) && all_taken g (us ++ t ∷ [])) b.0
+    (pair (none_of u.id (us ++ t ∷ [])) (all_taken g (us ++ t ∷ [])) (none_more u.id us t c.0 (turned u.id t.id m.0)) (put_back g t us takes m.1 c.1))
+
+pub out_of : (g : GuessesView) (i : ℕ) (ts : List Token) (t : Token) (others : List Token) → i < length ts → t ≡ get_or ts i t → others ≡ remove ts i → all_taken g ts ≡ true → Out g t others
+out_of g i ts t others lt e s h = rw s (subst (λ x. Out g x (remove ts i)) (sym e) (taken_out g i ts t lt h))

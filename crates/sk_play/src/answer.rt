@@ -1,0 +1,41 @@
+//! What the kernel answers to a step of a scenario.
+ghost use Rattle.std.specs.Prelude.{Some};
+ghost use Rattle.sk_play.specs.Played.{answer_text};
+
+use sk_ids::GuessId;
+use sk_plain::Refusal;
+use sk_print::Shown;
+use std::fmt;
+
+/// The answer to one step.
+#[derive(Clone, Copy, Debug, PartialEq, Eq)]
+pub enum Answer {
+    Stepped,
+    Guessed(GuessId),
+    Done,
+    Gone,
+    /// The run holds no token of that number.
+    NoToken,
+    Refused(Refusal),
+}
+
+impl fmt::Display for Answer {
+    ghost output = { λ answer. Some (answer_text answer) };
+
+    fn fmt<W: fmt::Write>(&self, f: &mut fmt::Formatter<W>) -> fmt::Result {
+        match self {
+            Answer::Stepped => write!(f, "stepped"),
+            Answer::Guessed(id) => {
+                let number = id.number();
+                write!(f, "guess {number}")
+            }
+            Answer::Done => write!(f, "done"),
+            Answer::Gone => write!(f, "gone"),
+            Answer::NoToken => write!(f, "no token"),
+            Answer::Refused(refusal) => {
+                let refusal = Shown(*refusal);
+                write!(f, "refused {refusal}")
+            }
+        }
+    }
+}

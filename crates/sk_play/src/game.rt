@@ -1,0 +1,158 @@
+//! A kernel at play, with the tokens of its guesses.
+ghost use Rattle.std.specs.Prelude.{MatchResult, IfOk, unwrap_or, None, Some, ◌≡◌, ◌+◌, ◌<◌, IfSome, true, vec_len};
+ghost use Rattle.sk_play.specs.Game.{all_taken, StepTold, GuessTold};
+ghost use Rattle.sk_guesses.specs.Guesses.{next_of};
+ghost use Rattle.sk_kernel.specs.Kernel.{booted, step_refused, stepped, guess_refused, guessed};
+ghost use Rattle.sk_kernel.specs.Calls.{cause};
+
+use crate::answer::Answer;
+use sk_guesses::Guess;
+use sk_ids::{GuessId, Pid};
+use sk_kernel::{FailRefusal, Kernel, Outcome};
+use sk_plain::Refusal;
+use sk_scenario::{Declarations, Step};
+use sk_script::Input;
+use std::alloc::{AllocError, Global};
+
+/// A kernel and the tokens that are not spent, each of which it takes.
+pub struct Game {
+    kernel: Kernel,
+    tokens: Vec<Guess>,
+    ghost held: { all_taken kernel.guesses tokens.items ≡ true },
+}
+
+impl Game {
+    /// The kernel that a scenario declares, at its start.
+    pub fn new(alloc: Global, declarations: &Declarations) -> Result<Game, AllocError>
+        ensures { IfOk result (λ game. game.kernel ≡ booted (unwrap_or declarations.now.number 1) declarations.now.boot (unwrap_or declarations.now.limit 1000000)) }
+    {
+        let kernel = Kernel::boot(
+            alloc,
+            declarations.number(),
+            declarations.boot(),
+            declarations.limit(),
+        )?;
+        Ok(Game {
+            kernel,
+            tokens: Vec::new(alloc),
+        })
+    }
+
+    /// The kernel.
+    pub fn kernel(&self) -> &Kernel
+        ensures { result.now ≡ self.now.kernel }
+    {
+        &self.kernel
+    }
+
+    /// Makes the call that a step says. Without memory nothing changes.
+    pub fn take(&mut self, step: &Step) -> Result<Answer, AllocError> {
+        match step {
+            Step::Step(pid, input) => self.step(*pid, *input),
+            Step::Guess(pid, input) => self.guess(*pid, *input),
+            Step::Commit(id) => Ok(self.commit(*id)),
+            Step::Fail(id) => self.fail(*id),
+        }
+    }
+
+    fn step(&mut self, pid: Pid, input: Input) -> Result<Answer, AllocError>
+        ensures { MatchResult result (λ answer. StepTold answer (step_refused self.old.kernel (record { pid = pid; input = input; guess = None })) self.old.kernel (stepped self.old.kernel (record { pid = pid; input = input; guess = None })) self.new.kernel) (λ _. self.new.kernel ≡ self.old.kernel) }
+    {
+        match self.kernel.step(pid, input) {
+            Ok(()) => Ok(Answer::Stepped),
+            Err(refusal) => refused(refusal),
+        }
+    }
+
+    fn guess(&mut self, pid: Pid, input: Input) -> Result<Answer, AllocError>
+        ensures { MatchResult result (λ answer. GuessTold answer (guess_refused self.old.kernel (record { pid = pid; input = input; guess = Some (next_of self.old.kernel.guesses) })) self.old.kernel (guessed self.old.kernel (record { pid = pid; input = input; guess = Some (next_of self.old.kernel.guesses) })) self.new.kernel) (λ _. self.new.kernel ≡ self.old.kernel) }
+    {
+        self.tokens.reserve(1)?;
+        match self.kernel.create_speculation(pid, input) {
+            Ok(token) => {
+                let id = token.id();
+                self.tokens.push_reserved(token);
+                Ok(Answer::Guessed(id))
+            }
+            Err(refusal) => refused(refusal),
+        }
+    }
+
+    fn commit(&mut self, id: GuessId) -> Answer {
+        match self.place_of(id) {
+            Some(place) => self.commit_at(place),
+            None => Answer::NoToken,
+        }
+    }
+
+    /// Commits the guess of a token.
+    fn commit_at(&mut self, place: usize) -> Answer
+        requires { place < vec_len self.old.tokens }
+        ensures { vec_len self.new.tokens + 1 ≡ vec_len self.old.tokens }
+    {
+        let token = self.tokens.remove(place);
+        match self.kernel.commit_speculation(token) {
+            Ok(outcome) => answer_of(outcome),
+            Err(_stranger) => unreachable!(),
+        }
+    }
+
+    fn fail(&mut self, id: GuessId) -> Result<Answer, AllocError> {
+        match self.place_of(id) {
+            Some(place) => self.fail_at(place),
+            None => Ok(Answer::NoToken),
+        }
+    }
+
+    /// Fails the guess of a token.
+    fn fail_at(&mut self, place: usize) -> Result<Answer, AllocError>
+        requires { place < vec_len self.old.tokens }
+    {
+        let token = self.tokens.remove(place);
+        let refusal = match self.kernel.fail_speculation(token) {
+            Ok(outcome) => return Ok(answer_of(outcome)),
+            Err(refusal) => refusal,
+        };
+        match refusal {
+            FailRefusal::Memory(token) => {
+                self.tokens.push_reserved(token);
+                Err(AllocError)
+            }
+            FailRefusal::Stranger(_token) => unreachable!(),
+        }
+    }
+
+    /// The place of a guess's token.
+    fn place_of(&self, id: GuessId) -> Option<usize>
+        ensures { IfSome result (λ place. place < vec_len self.now.tokens) }
+    {
+        self.tokens.iter().position(|token| token.id() == id)
+    }
+
+    /// Spends the tokens that are left by commits, and ends.
+    pub fn end(self) {
+        let mut game = self;
+        while !game.tokens.is_empty() {
+            game.commit_at(0);
+        }
+        let Game { kernel: _, tokens } = game;
+        tokens.destroy_empty();
+    }
+}
+
+/// A refusal that is an answer; want of memory is none.
+fn refused(refusal: Refusal) -> Result<Answer, AllocError>
+    ensures { MatchResult result (λ answer. (answer ≡ Answer.Refused refusal) × (cause refusal ≡ Some refusal)) (λ _. cause refusal ≡ None) }
+{
+    match refusal {
+        Refusal::Memory => Err(AllocError),
+        _ => Ok(Answer::Refused(refusal)),
+    }
+}
+
+fn answer_of(outcome: Outcome) -> Answer {
+    match outcome {
+        Outcome::Done => Answer::Done,
+        Outcome::Gone => Answer::Gone,
+    }
+}

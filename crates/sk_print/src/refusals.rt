@@ -1,0 +1,37 @@
+//! How refusals are printed.
+ghost use Rattle.std.specs.Prelude.{◌≡◌};
+ghost use Rattle.sk_print.specs.Refusals.{refusal_name};
+
+use crate::Shown;
+use sk_plain::Refusal;
+use std::fmt;
+
+/// Its number and its name.
+impl fmt::Display for Shown<Refusal> {
+    ghost use Rattle.std.specs.Prelude.{Some};
+    ghost use Rattle.sk_print.specs.Refusals.{refusal_words};
+
+    ghost output = { λ r. Some (refusal_words r.0) };
+
+    fn fmt<W: fmt::Write>(&self, f: &mut fmt::Formatter<W>) -> fmt::Result {
+        let number = self.0.number();
+        let name = name_of(self.0);
+        write!(f, "{number} {name}")
+    }
+}
+
+/// The name of a refusal.
+fn name_of(refusal: Refusal) -> &'static str
+    ensures { result.now ≡ refusal_name refusal }
+{
+    match refusal {
+        Refusal::NoProcess => "NoProcess",
+        Refusal::Ended => "Ended",
+        Refusal::Mismatch => "Mismatch",
+        Refusal::NeedsReply => "NeedsReply",
+        Refusal::Blocked => "Blocked",
+        Refusal::TooMany => "TooMany",
+        Refusal::TraceFull => "TraceFull",
+        Refusal::Memory => "Memory",
+    }
+}

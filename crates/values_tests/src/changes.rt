@@ -1,0 +1,458 @@
+//! The table of changes, each made and taken back, and many changes in turn.
+ghost use Rattle.std.specs.Prelude.{◌<◌};
+
+use crate::values::same;
+use sk_changes::run::{apply_all, try_all, undo_all};
+use sk_changes::{Change, Invertible, NotApplied};
+use sk_ids::{Name, ObjId, Text};
+use sk_objects::{Content, Directory, File, Kind, Pipe, Signals, Value};
+use std::alloc::{AllocError, Global};
+use std::test::Fail;
+
+/// Whether the change leaves what is wanted, or is unfit where nothing is wanted, and the value is
+/// then again, or still, as it was.
+fn leaves(value: &mut Value, change: Change, want: Option<&Value>) -> Result<bool, AllocError> {
+    let before = value.copy()?;
+    let is_as_wanted = match value.apply(change) {
+        Ok(undo) => {
+            let is_same = match want {
+                Some(want) => same(value, want),
+                None => false,
+            };
+            value.undo(undo);
+            is_same
+        }
+        Err(NotApplied::Unfit) => want.is_none(),
+        Err(NotApplied::Memory) => return Err(AllocError),
+    };
+    Ok(is_as_wanted && same(value, &before))
+}
+
+fn text(bytes: &[u8]) -> Text {
+    Text::new(bytes).unwrap_or(Text::empty())
+}
+
+fn write(offset: u32, bytes: &[u8]) -> Change {
+    Change::WriteAt {
+        offset,
+        bytes: text(bytes),
+    }
+}
+
+fn object(count: u32) -> ObjId {
+    ObjId { maker: None, count }
+}
+
+fn file(alloc: Global, bytes: Text) -> Result<Value, AllocError> {
+    Ok(Value::File(File::from_slice(alloc, bytes.as_slice())?))
+}
+
+fn file_row(
+    alloc: Global,
+    first: &[u8],
+    change: Change,
+    want: Option<Text>,
+) -> Result<bool, AllocError> {
+    let mut value = file(alloc, text(first))?;
+    match want {
+        Some(bytes) => leaves(&mut value, change, Some(&file(alloc, bytes)?)),
+        None => leaves(&mut value, change, None),
+    }
+}
+
+#[test]
+fn changes_table_of_files(rt: HostRuntime) -> Result<(), Fail> {
+    let table = [
+        (
+            b"abc".as_slice(),
+            write(8, b"Z"),
+            Some(text(b"abc\0\0\0\0\0Z")),
+        ),
+        (b"".as_slice(), write(32_767, b"ab"), None),
+        (b"abc".as_slice(), write(0, b""), None),
+        (b"abcdef".as_slice(), Change::CutTo(3), Some(text(b"abc"))),
+        (
+            b"abcdef".as_slice(),
+            Change::CutTo(8),
+            Some(text(b"abcdef\0\0")),
+        ),
+        (b"abcdef".as_slice(), Change::CutTo(32_769), None),
+    ];
+    for (first, change, want) in table {
+        assert!(rt; file_row(rt.alloc(), first, change, want)?);
+    }
+    Ok(())
+}
+
+/// The sizes of a file after a write at this place, and after its undo; `None` where it doesn't fit.
+fn sizes(alloc: Global, offset: u32, bytes: &[u8]) -> Result<Option<(u32, u32)>, AllocError> {
+    let mut value = Value::empty(alloc, Kind::File)?;
+    let Ok(undo) = value.apply(write(offset, bytes)) else {
+        return Ok(None);
+    };
+    let size = value.size().unwrap_or(0);
+    value.undo(undo);
+    Ok(Some((size, value.size().unwrap_or(1))))
+}
+
+#[test]
+fn longest_file(rt: HostRuntime) -> Result<(), Fail> {
+    assert!(rt; sizes(rt.alloc(), 32_766, b"ab")? == Some((32_768, 0)));
+    Ok(())
+}
+
+fn pipe(alloc: Global, bytes: Text, shut: bool) -> Result<Value, AllocError> {
+    let mut pipe = Pipe::new(alloc)?;
+    pipe.put(bytes.as_slice());
+    pipe.set_shut(shut);
+    Ok(Value::Pipe(pipe))
+}
+
+fn pipe_row(
+    alloc: Global,
+    shut: bool,
+    change: Change,
+    want: Option<(Text, bool)>,
+) -> Result<bool, AllocError> {
+    let mut value = pipe(alloc, text(b"AB"), shut)?;
+    match want {
+        Some((bytes, shut)) => leaves(&mut value, change, Some(&pipe(alloc, bytes, shut)?)),
+        None => leaves(&mut value, change, None),
+    }
+}
+
+#[test]
+fn changes_table_of_pipes(rt: HostRuntime) -> Result<(), Fail> {
+    let table = [
+        (
+            false,
+            Change::Put(text(b"CD")),
+            Some((text(b"ABCD"), false)),
+        ),
+        (false, Change::Take(1), Some((text(b"B"), false))),
+        (false, Change::Take(3), None),
+        (false, Change::Shut, Some((text(b"AB"), true))),
+        (false, write(0, b"Z"), None),
+        (true, Change::Put(text(b"C")), None),
+        (true, Change::Take(2), Some((text(b""), true))),
+        (true, Change::Shut, None),
+    ];
+    for (shut, change, want) in table {
+        assert!(rt; pipe_row(rt.alloc(), shut, change, want)?);
+    }
+    Ok(())
+}
+
+/// So many names from `aa` on, and `zz` where it is wanted.
+fn directory(alloc: Global, count: u8, with_last: bool) -> Result<Value, AllocError> {
+    let mut directory = Directory::new(alloc)?;
+    for n in 0..=count {
+        let name = if n < count {
+            Name::new(&[b'a' + n / 26 % 26, b'a' + n % 26])
+        } else {
+            Name::new(b"zz")
+        };
+        let Some(name) = name else {
+            continue;
+        };
+        let wanted = n < count || with_last;
+        if wanted && directory.len() < 64 && directory.look(&name).is_none() {
+            directory.link(name, object(u32::from(n)));
+        }
+    }
+    Ok(Value::Dir(directory))
+}
+
+fn directory_row(
+    alloc: Global,
+    count: u8,
+    with_last: bool,
+    change: Change,
+    fits: bool,
+) -> Result<bool, AllocError> {
+    let mut value = directory(alloc, count, with_last)?;
+    if fits {
+        leaves(
+            &mut value,
+            change,
+            Some(&directory(alloc, count, !with_last)?),
+        )
+    } else {
+        leaves(&mut value, change, None)
+    }
+}
+
+#[test]
+fn changes_table_of_directories(rt: HostRuntime) -> Result<(), Fail> {
+    let last = Name::new(b"zz").ok_or("a name")?;
+    let table = [
+        (64, false, Change::Link(last, object(64)), false),
+        (63, false, Change::Link(last, object(63)), true),
+        (63, true, Change::Link(last, object(63)), false),
+        (63, true, Change::Unlink(last), true),
+        (63, false, Change::Unlink(last), false),
+    ];
+    for (count, with_last, change, fits) in table {
+        assert!(rt; directory_row(rt.alloc(), count, with_last, change, fits)?);
+    }
+    Ok(())
+}
+
+fn queue(alloc: Global, numbers: &[u8]) -> Result<Value, AllocError> {
+    let mut signals = Signals::new(alloc)?;
+    for number in numbers {
+        let number = *number;
+        if signals.len() < 32 && number >= 1 && number <= 31 {
+            signals.push(number);
+        }
+    }
+    Ok(Value::Signals(signals))
+}
+
+fn queue_row(
+    alloc: Global,
+    first: &[u8],
+    change: Change,
+    want: Option<&[u8]>,
+) -> Result<bool, AllocError> {
+    let mut value = queue(alloc, first)?;
+    match want {
+        Some(numbers) => leaves(&mut value, change, Some(&queue(alloc, numbers)?)),
+        None => leaves(&mut value, change, None),
+    }
+}
+
+#[test]
+fn changes_table_of_queues(rt: HostRuntime) -> Result<(), Fail> {
+    let table = [
+        (
+            b"\x05\x09".as_slice(),
+            Change::TakeSignal,
+            Some(b"\x09".as_slice()),
+        ),
+        (
+            b"\x05".as_slice(),
+            Change::PushSignal(9),
+            Some(b"\x05\x09".as_slice()),
+        ),
+        (b"\x05\x09".as_slice(), Change::PushSignal(32), None),
+        (b"".as_slice(), Change::TakeSignal, None),
+        (&[7; 32], Change::PushSignal(1), None),
+    ];
+    for (first, change, want) in table {
+        assert!(rt; queue_row(rt.alloc(), first, change, want)?);
+    }
+    Ok(())
+}
+
+/// A cached copy with this version and these bytes.
+fn content(version: u64, bytes: &[u8]) -> Option<Content> {
+    Content::new(version, text(bytes))
+}
+
+fn exit_row(first: Option<u8>, fits: bool) -> Result<bool, AllocError> {
+    let mut value = Value::Exit(first);
+    let want = Value::Exit(Some(3));
+    leaves(
+        &mut value,
+        Change::SetExit(3),
+        if fits { Some(&want) } else { None },
+    )
+}
+
+fn copy_row(old: Content, new: Content) -> Result<bool, AllocError> {
+    let want = Value::Copy(new);
+    leaves(&mut Value::Copy(old), Change::SetCopy(new), Some(&want))
+}
+
+#[test]
+fn changes_table_of_slots(rt: HostRuntime) -> Result<(), Fail> {
+    assert!(rt; exit_row(None, true)?);
+    assert!(rt; exit_row(Some(3), false)?);
+    let old = content(3, b"old").ok_or("old")?;
+    let new = content(4, b"new").ok_or("new")?;
+    assert!(rt; copy_row(old, new)?);
+    Ok(())
+}
+
+#[test]
+fn small_calls(rt: HostRuntime) -> Result<(), Fail> {
+    let want = Some(text(b"abcdXYZ"));
+    assert!(rt; file_row(rt.alloc(), b"abcdef", write(4, b"XYZ"), want)?);
+    assert!(rt; pipe_row(rt.alloc(), false, write(4, b"XYZ"), None)?);
+    Ok(())
+}
+
+/// Eight puts of 512 bytes each, `A` to `H`.
+fn eight_puts() -> [Change; 8] {
+    [
+        Change::Put(text(&[b'A'; 512])),
+        Change::Put(text(&[b'B'; 512])),
+        Change::Put(text(&[b'C'; 512])),
+        Change::Put(text(&[b'D'; 512])),
+        Change::Put(text(&[b'E'; 512])),
+        Change::Put(text(&[b'F'; 512])),
+        Change::Put(text(&[b'G'; 512])),
+        Change::Put(text(&[b'H'; 512])),
+    ]
+}
+
+fn reads(value: &Value, letters: &[u8]) -> bool {
+    let mut offset = 0u64;
+    for letter in letters {
+        let held = match value.bytes_at(offset, 512) {
+            Some(part) => part.as_slice() == [*letter; 512].as_slice(),
+            None => false,
+        };
+        if !held {
+            return false;
+        }
+        offset = offset.wrapping_add(512);
+    }
+    true
+}
+
+/// Whether a pipe of eight blocks is the same again once a turn of it is taken back.
+fn turns_back(alloc: Global, value: &mut Value) -> bool {
+    let turn = [Change::Take(512), Change::Put(text(&[b'A'; 512]))];
+    let mut undos = Vec::new(alloc);
+    let is_made = apply_all(value, &turn, &mut undos).is_ok();
+    let is_turned = is_made && reads(value, b"BCDEFGHA");
+    undo_all(value, &mut undos);
+    is_turned && reads(value, b"ABCDEFGH")
+}
+
+#[test]
+fn pipe_order_restored(rt: HostRuntime) -> Result<(), Fail> {
+    let mut value = Value::empty(rt.alloc(), Kind::Pipe)?;
+    let mut undos = Vec::new(rt.alloc());
+    assert!(rt; apply_all(&mut value, &eight_puts(), &mut undos).is_ok());
+    assert!(rt; reads(&value, b"ABCDEFGH"));
+    assert!(rt; turns_back(rt.alloc(), &mut value));
+    Ok(())
+}
+
+/// A linear congruential generator.
+#[derive(Drop)]
+struct Draws {
+    state: u32,
+}
+
+impl Draws {
+    fn below(&mut self, limit: u32) -> u32
+        requires { 0 < limit }
+        ensures { result < limit }
+    {
+        self.state = self
+            .state
+            .wrapping_mul(1_664_525)
+            .wrapping_add(1_013_904_223);
+        (self.state >> 8) % limit
+    }
+
+    fn text(&mut self) -> Text {
+        let len = self.below(514) as usize;
+        let letter = b'a' + self.below(26) as u8;
+        text(&[letter; 514][..len])
+    }
+
+    fn name(&mut self) -> Option<Name> {
+        Name::new(&[b'a' + self.below(3) as u8, b'a' + self.below(26) as u8])
+    }
+
+    /// A change of a directory, or of another kind of value in place of a bad name.
+    fn of_directory(&mut self) -> Change {
+        match self.name() {
+            Some(name) if self.below(2) == 0 => Change::Link(name, object(self.below(9))),
+            Some(name) => Change::Unlink(name),
+            None => Change::TakeSignal,
+        }
+    }
+
+    fn copy(&mut self) -> Change {
+        match Content::new(7, self.text()) {
+            Some(content) => Change::SetCopy(content),
+            None => Change::TakeSignal,
+        }
+    }
+
+    fn change(&mut self) -> Change {
+        if self.below(300) == 0 {
+            return Change::Shut;
+        }
+        match self.below(10) {
+            0 => Change::WriteAt {
+                offset: self.below(32_800),
+                bytes: self.text(),
+            },
+            1 => Change::CutTo(self.below(33_000)),
+            2 | 3 => self.of_directory(),
+            4 => Change::Put(self.text()),
+            5 => Change::Take(self.below(514)),
+            6 => Change::PushSignal(self.below(33) as u8),
+            7 => Change::TakeSignal,
+            8 => Change::SetExit(self.below(256) as u8),
+            _ => self.copy(),
+        }
+    }
+
+    fn ten(&mut self) -> [Change; 10] {
+        [
+            self.change(),
+            self.change(),
+            self.change(),
+            self.change(),
+            self.change(),
+            self.change(),
+            self.change(),
+            self.change(),
+            self.change(),
+            self.change(),
+        ]
+    }
+}
+
+/// Makes those of the changes that fit, and tells which they were.
+fn fitting(alloc: Global, mut value: Value, changes: &[Change]) -> Result<Vec<Change>, AllocError> {
+    let mut made = Vec::new(alloc);
+    for change in changes {
+        match value.apply(*change) {
+            Ok(_) => made.push(*change)?,
+            Err(NotApplied::Unfit) => {}
+            Err(NotApplied::Memory) => return Err(AllocError),
+        }
+    }
+    Ok(made)
+}
+
+/// Whether those of the changes that fit leave the value as it was, once they are taken back; they
+/// are then made for good.
+fn goes_back(alloc: Global, value: &mut Value, changes: &[Change]) -> Result<bool, AllocError> {
+    let before = value.copy()?;
+    let made = fitting(alloc, value.copy()?, changes)?;
+    let tried = try_all(alloc, value, &made).is_ok();
+    let back = tried && same(value, &before);
+    let mut undos = Vec::new(alloc);
+    let again = apply_all(value, &made, &mut undos).is_ok();
+    Ok(back && again)
+}
+
+/// Whether forty times ten changes of a value of this kind are taken back.
+fn all_go_back(alloc: Global, draws: &mut Draws, kind: Kind) -> Result<bool, AllocError> {
+    let mut value = Value::empty(alloc, kind)?;
+    for _ in 0..40 {
+        if !goes_back(alloc, &mut value, &draws.ten())? {
+            return Ok(false);
+        }
+    }
+    Ok(true)
+}
+
+#[test]
+fn many_changes_and_back(rt: HostRuntime) -> Result<(), Fail> {
+    let mut draws = Draws { state: 7 };
+    for kind in [Kind::File, Kind::Dir, Kind::Pipe, Kind::Signals, Kind::Copy] {
+        assert!(rt; all_go_back(rt.alloc(), &mut draws, kind)?);
+    }
+    Ok(())
+}

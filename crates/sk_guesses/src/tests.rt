@@ -1,40 +1,7 @@
-//! Tokens across kernels, and the limit of undecided guesses.
-use crate::{DrawRefusal, GUESS_LIMIT, Guess, Guesses, Redeemed, Status};
+//! The limit of undecided guesses, and tokens of decided ones.
+use crate::{DrawRefusal, GUESS_LIMIT, Guesses, Redeemed, Status};
 use sk_ids::GuessId;
 use std::test::Fail;
-
-/// Whether the token is taken as undecided; it is spent either way.
-fn is_taken(guesses: &Guesses, guess: Guess) -> bool {
-    match guesses.redeem(guess) {
-        Ok(redeemed) => matches!(redeemed, Redeemed::Undecided(_)),
-        Err(guess) => {
-            guess.spent();
-            false
-        }
-    }
-}
-
-#[test]
-fn tokens_of_two_kernels(rt: HostRuntime) -> Result<(), Fail> {
-    let mut one = Guesses::new(rt.alloc(), 1);
-    let mut two = Guesses::new(rt.alloc(), 2);
-    let first = one.draw()?;
-    let second = match two.draw() {
-        Ok(second) => second,
-        Err(refusal) => {
-            first.spent();
-            return Err(refusal.into());
-        }
-    };
-    let came_back = match two.redeem(first) {
-        Ok(_) => false,
-        Err(first) => is_taken(&one, first),
-    };
-    let taken = is_taken(&two, second);
-    assert!(rt; came_back);
-    assert!(rt; taken);
-    Ok(())
-}
 
 #[test]
 fn sixty_four_guesses(rt: HostRuntime) -> Result<(), Fail> {

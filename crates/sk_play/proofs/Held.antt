@@ -1,6 +1,6 @@
 -- What becomes of held tokens when a guess is drawn or decided, or a token is taken out: from the definitions of a
 -- guess's status and of what a token redeems.
-use Rattle.std.proofs.Common.{◌≡◌, ℕ, zero, suc, ◌+◌, ◌-◌, ◌<◌, Bool, true, false, not, ◌&&◌, ◌==◌, List, [], ◌∷◌, ◌++◌, length, get_or, refl, sym, ap, arith, subst, Some}
+use Rattle.std.proofs.Common.{◌≡◌, ℕ, zero, suc, ◌+◌, ◌-◌, ◌<◌, Bool, true, false, not, ◌&&◌, ◌==◌, List, [], ◌∷◌, ◌++◌, length, get_or, refl, sym, ap, ◌∙◌, arith, subst, Some}
 use Rattle.std.specs.Prelude.{is_ok, slice_get, slice_set}
 use Rattle.std.specs.List.{list_all, remove}
 use Rattle.std.proofs.lemmas.Bool.{ne_eqb, eq-eqb}
@@ -9,7 +9,7 @@ use Rattle.sk_guesses.specs.Guesses.{GuessesView, status_of, with_status, drawn,
 use Rattle.sk_guesses.specs.Calls.{redeemed, redeemed_at}
 use Rattle.sk_guesses.specs.declared.status.Status.{Status}
 use Rattle.sk_guesses.specs.declared.status.Status.TheVariants.{Undecided}
-use Rattle.sk_play.specs.Game.{none_of, all_taken}
+use Rattle.sk_play.specs.Game.{none_of, all_taken, id_at}
 
 both : (a b : Bool) → (a && b) ≡ true → (a ≡ true) × (b ≡ true)
 both true true e = (refl, refl)
@@ -189,3 +189,13 @@ put_back g t (u ∷ us) takes apart h =
 
 pub out_of : (g : GuessesView) (i : ℕ) (ts : List Token) (t : Token) (others : List Token) → i < length ts → t ≡ get_or ts i t → others ≡ remove ts i → all_taken g ts ≡ true → Out g t others
 out_of g i ts t others lt e s h = rw s (subst (λ x. Out g x (remove ts i)) (sym e) (taken_out g i ts t lt h))
+
+-- ---- the guess of the token at a place
+
+id_at_get : (ts : List Token) (i : ℕ) (d : Token) → i < length ts → id_at ts i ≡ Some (get_or ts i d).id
+id_at_get [] i d lt = absurd (omega arith)
+id_at_get (t ∷ ts) zero d lt = refl
+id_at_get (t ∷ ts) (suc i) d lt = id_at_get ts i d (omega arith)
+
+pub id_at_of : (ts : List Token) (i : ℕ) (t : Token) → i < length ts → t ≡ get_or ts i t → id_at ts i ≡ Some t.id
+id_at_of ts i t lt e = id_at_get ts i t lt ∙ ap (λ u. Some u.id) (sym e)

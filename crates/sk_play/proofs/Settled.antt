@@ -1,10 +1,12 @@
 -- The kernel takes each held token, also behind each of its calls: from what the calls answer.
-use Rattle.std.proofs.Common.{◌≡◌, true, false, List, [], ◌∷◌, ◌++◌, refl, Option, Result, Ok, Err}
+use Rattle.std.proofs.Common.{◌≡◌, ◌==◌, true, false, List, [], ◌∷◌, ◌++◌, refl, Option, Some, None, Result, Ok, Err}
 use Rattle.std.specs.Prelude.{is_ok}
 use Rattle.sk_guesses.specs.Token.{Token}
-use Rattle.sk_guesses.specs.Guesses.{drawn}
-use Rattle.sk_guesses.specs.Calls.{redeemed}
-use Rattle.sk_guesses.specs.declared.status.Status.TheVariants.{Committed, Failed}
+use Rattle.sk_guesses.specs.Guesses.{GuessesView, drawn, status_of}
+use Rattle.sk_guesses.specs.Calls.{redeemed, redeemed_at}
+use Rattle.sk_guesses.specs.declared.guess.Redeemed.TheVariants as redeemed_as
+use Rattle.sk_guesses.specs.declared.status.Status.{Status}
+use Rattle.sk_guesses.specs.declared.status.Status.TheVariants.{Undecided, Committed, Failed, Struck}
 use Rattle.sk_plain.specs.declared.refusal.Refusal.{Refusal}
 use Rattle.sk_plain.specs.Entry.{EntryView}
 use Rattle.sk_plain.specs.declared.trace.Event.{Event}
@@ -16,7 +18,7 @@ use Rattle.sk_kernel.specs.declared.kernel.Outcome.TheVariants as outcomes
 use Rattle.sk_kernel.specs.declared.kernel.Stranger.{Stranger}
 use Rattle.sk_kernel.specs.declared.kernel.FailRefusal.{FailRefusal}
 use Rattle.sk_kernel.specs.declared.kernel.FailRefusal.TheVariants as refusals
-use Rattle.sk_play.specs.Game.{all_taken}
+use Rattle.sk_play.specs.Game.{all_taken, outcome_told, CommitTold, FailTold}
 use Rattle.sk_play.proofs.Held.{Out, decided, numbered, drawn_held, put_back}
 
 -- what a step does leaves the guesses
@@ -63,3 +65,51 @@ draws_keep (Err x) s refused old after new ts h a e held = absurd cc
 draws_keep (Ok x) s refused old after new ts h a e held =
     let same : s ≡ x = cc in
     rw (same, h.1, h.2, a) (drawn_held old.guesses ts held)
+
+-- ---- what a decision is told as
+
+undecided_at : (s : Option Status) (t : Token) → redeemed_at s t ≡ Ok (redeemed_as.Undecided t.id) → s ≡ Some Undecided
+undecided_at None t h = absurd cc
+undecided_at (Some Undecided) t h = refl
+undecided_at (Some Committed) t h = absurd cc
+undecided_at (Some Failed) t h = absurd cc
+undecided_at (Some Struck) t h = absurd cc
+
+struck_at : (s : Option Status) (t : Token) → redeemed_at s t ≡ Ok (redeemed_as.Struck t.id) → s ≡ Some Struck
+struck_at None t h = absurd cc
+struck_at (Some Undecided) t h = absurd cc
+struck_at (Some Committed) t h = absurd cc
+struck_at (Some Failed) t h = absurd cc
+struck_at (Some Struck) t h = refl
+
+undecided : (g : GuessesView) (t : Token) → redeemed g t ≡ Ok (redeemed_as.Undecided t.id) → status_of g t.id ≡ Some Undecided
+undecided g t h =
+    elim (t.kernel == g.kernel) as (λ b. (t.kernel == g.kernel) ≡ b → status_of g t.id ≡ Some Undecided) [
+      | true ↦ λ k. undecided_at (status_of g t.id) t (rw k at h)
+      | false ↦ λ k. let bad : Err t ≡ Ok (redeemed_as.Undecided t.id) = rw k at h in absurd cc
+    ] refl
+
+struck : (g : GuessesView) (t : Token) → redeemed g t ≡ Ok (redeemed_as.Struck t.id) → status_of g t.id ≡ Some Struck
+struck g t h =
+    elim (t.kernel == g.kernel) as (λ b. (t.kernel == g.kernel) ≡ b → status_of g t.id ≡ Some Struck) [
+      | true ↦ λ k. struck_at (status_of g t.id) t (rw k at h)
+      | false ↦ λ k. let bad : Err t ≡ Ok (redeemed_as.Struck t.id) = rw k at h in absurd cc
+    ] refl
+
+pub commit_told : (result : Result Outcome Stranger) (o : Outcome) (t : Token) (old new : KernelView) → Commits result t old new → result ≡ Ok o → CommitTold (outcome_told o) true t.id old new
+commit_told (Ok outcomes.Done) o t old new h e =
+    let same : o ≡ outcomes.Done = cc in
+    rw same (refl, undecided old.guesses t h.0, h.1)
+commit_told (Ok outcomes.Gone) o t old new h e =
+    let same : o ≡ outcomes.Gone = cc in
+    rw same (refl, struck old.guesses t h.0, h.1)
+commit_told (Err s) o t old new h e = absurd cc
+
+pub fail_told : (result : Result Outcome FailRefusal) (o : Outcome) (t : Token) (old new : KernelView) → Fails result t old new → result ≡ Ok o → FailTold (outcome_told o) true t.id old new
+fail_told (Ok outcomes.Done) o t old new h e =
+    let same : o ≡ outcomes.Done = cc in
+    rw same (refl, undecided old.guesses t h.0, h.1)
+fail_told (Ok outcomes.Gone) o t old new h e =
+    let same : o ≡ outcomes.Gone = cc in
+    rw same (refl, struck old.guesses t h.0, h.1)
+fail_told (Err s) o t old new h e = absurd cc

@@ -1,11 +1,18 @@
 -- The tokens that a run holds.
-use Rattle.std.specs.Prelude.{◌≡◌, Option, Some, None, ℕ, Bool, true, not, ◌&&◌, ◌==◌, List, [], ◌∷◌, is_ok}
-use Rattle.std.specs.List.{list_all}
+use Rattle.std.specs.Prelude.{◌≡◌, Option, Some, None, ℕ, zero, suc, Bool, true, false, not, ◌&&◌, ◌==◌, List, [], ◌∷◌, is_ok}
+use Rattle.std.specs.List.{list_all, list_any}
 use Rattle.sk_guesses.specs.Token.{Token}
-use Rattle.sk_guesses.specs.Guesses.{GuessesView, next_of}
+use Rattle.sk_guesses.specs.Guesses.{GuessesView, next_of, status_of}
+use Rattle.sk_guesses.specs.declared.status.Status.TheVariants.{Undecided, Struck}
 use Rattle.sk_guesses.specs.Calls.{redeemed}
 use Rattle.sk_plain.specs.declared.refusal.Refusal.{Refusal}
-use Rattle.sk_kernel.specs.Kernel.{KernelView}
+use Rattle.sk_plain.specs.Entry.{EntryView}
+use Rattle.sk_script.specs.declared.instruction.Input.{Input}
+use Rattle.sk_scenario.specs.declared.step.Step.{Step}
+use Rattle.sk_scenario.specs.declared.step.Step.TheVariants as calls
+use Rattle.sk_kernel.specs.Kernel.{KernelView, step_refused, stepped, guess_refused, guessed, IsCommitted, IsFailed}
+use Rattle.sk_kernel.specs.declared.kernel.Outcome.{Outcome}
+use Rattle.sk_kernel.specs.declared.kernel.Outcome.TheVariants as outcomes
 use Rattle.sk_play.specs.declared.answer.Answer.{Answer}
 use Rattle.sk_play.specs.declared.answer.Answer.TheVariants as answers
 
@@ -37,3 +44,47 @@ GuessTold answers.Stepped refused old after new = ⊥
 GuessTold answers.Done refused old after new = ⊥
 GuessTold answers.Gone refused old after new = ⊥
 GuessTold answers.NoToken refused old after new = ⊥
+
+-- whether some token is that of this guess
+abbrev pub is_held : ℕ → List Token → Bool
+is_held id tokens = list_any (λ t. t.id == id) tokens
+
+-- the guess of the token at a place
+abbrev pub id_at : List Token → ℕ → Option ℕ
+id_at [] place = None
+id_at (t ∷ ts) zero = Some t.id
+id_at (t ∷ ts) (suc place) = id_at ts place
+
+abbrev pub outcome_told : Outcome → Answer
+outcome_told outcomes.Done = answers.Done
+outcome_told outcomes.Gone = answers.Gone
+
+-- a commit: the guess of a held token is decided, or was struck before; without a token nothing changes
+abbrev pub CommitTold : Answer → Bool → ℕ → KernelView → KernelView → Type 0
+CommitTold answers.Done held id old new = (held ≡ true) × (status_of old.guesses id ≡ Some Undecided) × IsCommitted old id new
+CommitTold answers.Gone held id old new = (held ≡ true) × (status_of old.guesses id ≡ Some Struck) × (new ≡ old)
+CommitTold answers.NoToken held id old new = (held ≡ false) × (new ≡ old)
+CommitTold answers.Stepped held id old new = ⊥
+CommitTold (answers.Guessed other) held id old new = ⊥
+CommitTold (answers.Refused why) held id old new = ⊥
+
+-- the same for a failure
+abbrev pub FailTold : Answer → Bool → ℕ → KernelView → KernelView → Type 0
+FailTold answers.Done held id old new = (held ≡ true) × (status_of old.guesses id ≡ Some Undecided) × IsFailed old id new
+FailTold answers.Gone held id old new = (held ≡ true) × (status_of old.guesses id ≡ Some Struck) × (new ≡ old)
+FailTold answers.NoToken held id old new = (held ≡ false) × (new ≡ old)
+FailTold answers.Stepped held id old new = ⊥
+FailTold (answers.Guessed other) held id old new = ⊥
+FailTold (answers.Refused why) held id old new = ⊥
+
+abbrev pub entry : ℕ → Input → Option ℕ → EntryView
+entry pid input guess = record { pid = pid; input = input; guess = guess }
+
+-- what is answered to one step of a scenario, and what it leaves
+abbrev pub Told : Answer → Step → List Token → KernelView → KernelView → Type 0
+Told answer (calls.Step pid input) tokens old new =
+    StepTold answer (step_refused old (entry pid input None)) old (stepped old (entry pid input None)) new
+Told answer (calls.Guess pid input) tokens old new =
+    GuessTold answer (guess_refused old (entry pid input (Some (next_of old.guesses)))) old (guessed old (entry pid input (Some (next_of old.guesses)))) new
+Told answer (calls.Commit id) tokens old new = CommitTold answer (is_held id tokens) id old new
+Told answer (calls.Fail id) tokens old new = FailTold answer (is_held id tokens) id old new

@@ -1,6 +1,6 @@
 //! A kernel at play, with the tokens of its guesses.
-ghost use Rattle.std.specs.Prelude.{MatchResult, IfOk, unwrap_or, None, Some, ◌≡◌, ◌+◌, ◌<◌, IfSome, true, vec_len};
-ghost use Rattle.sk_play.specs.Game.{all_taken, StepTold, GuessTold};
+ghost use Rattle.std.specs.Prelude.{MatchResult, IfOk, unwrap_or, None, Some, ◌≡◌, ◌+◌, ◌<◌, IfSome, true, vec_len, is_some};
+ghost use Rattle.sk_play.specs.Game.{all_taken, is_held, id_at, outcome_told, entry, Told, StepTold, GuessTold, CommitTold, FailTold};
 ghost use Rattle.sk_guesses.specs.Guesses.{next_of};
 ghost use Rattle.sk_kernel.specs.Kernel.{booted, step_refused, stepped, guess_refused, guessed};
 ghost use Rattle.sk_kernel.specs.Calls.{cause};
@@ -46,7 +46,9 @@ impl Game {
     }
 
     /// Makes the call that a step says. Without memory nothing changes.
-    pub fn take(&mut self, step: &Step) -> Result<Answer, AllocError> {
+    pub fn take(&mut self, step: &Step) -> Result<Answer, AllocError>
+        ensures { MatchResult result (λ answer. Told answer step.now self.old.tokens.items self.old.kernel self.new.kernel) (λ _. self.new.kernel ≡ self.old.kernel) }
+    {
         match step {
             Step::Step(pid, input) => self.step(*pid, *input),
             Step::Guess(pid, input) => self.guess(*pid, *input),
@@ -56,7 +58,7 @@ impl Game {
     }
 
     fn step(&mut self, pid: Pid, input: Input) -> Result<Answer, AllocError>
-        ensures { MatchResult result (λ answer. StepTold answer (step_refused self.old.kernel (record { pid = pid; input = input; guess = None })) self.old.kernel (stepped self.old.kernel (record { pid = pid; input = input; guess = None })) self.new.kernel) (λ _. self.new.kernel ≡ self.old.kernel) }
+        ensures { MatchResult result (λ answer. StepTold answer (step_refused self.old.kernel (entry pid input None)) self.old.kernel (stepped self.old.kernel (entry pid input None)) self.new.kernel) (λ _. self.new.kernel ≡ self.old.kernel) }
     {
         match self.kernel.step(pid, input) {
             Ok(()) => Ok(Answer::Stepped),
@@ -65,7 +67,7 @@ impl Game {
     }
 
     fn guess(&mut self, pid: Pid, input: Input) -> Result<Answer, AllocError>
-        ensures { MatchResult result (λ answer. GuessTold answer (guess_refused self.old.kernel (record { pid = pid; input = input; guess = Some (next_of self.old.kernel.guesses) })) self.old.kernel (guessed self.old.kernel (record { pid = pid; input = input; guess = Some (next_of self.old.kernel.guesses) })) self.new.kernel) (λ _. self.new.kernel ≡ self.old.kernel) }
+        ensures { MatchResult result (λ answer. GuessTold answer (guess_refused self.old.kernel (entry pid input (Some (next_of self.old.kernel.guesses)))) self.old.kernel (guessed self.old.kernel (entry pid input (Some (next_of self.old.kernel.guesses)))) self.new.kernel) (λ _. self.new.kernel ≡ self.old.kernel) }
     {
         self.tokens.reserve(1)?;
         match self.kernel.create_speculation(pid, input) {
@@ -78,7 +80,9 @@ impl Game {
         }
     }
 
-    fn commit(&mut self, id: GuessId) -> Answer {
+    fn commit(&mut self, id: GuessId) -> Answer
+        ensures { CommitTold result (is_held id self.old.tokens.items) id self.old.kernel self.new.kernel }
+    {
         match self.place_of(id) {
             Some(place) => self.commit_at(place),
             None => Answer::NoToken,
@@ -88,7 +92,8 @@ impl Game {
     /// Commits the guess of a token.
     fn commit_at(&mut self, place: usize) -> Answer
         requires { place < vec_len self.old.tokens }
-        ensures { vec_len self.new.tokens + 1 ≡ vec_len self.old.tokens }
+        ensures less { vec_len self.new.tokens + 1 ≡ vec_len self.old.tokens }
+        ensures told { IfSome (id_at self.old.tokens.items place) (λ id. CommitTold result true id self.old.kernel self.new.kernel) }
     {
         let token = self.tokens.remove(place);
         match self.kernel.commit_speculation(token) {
@@ -97,7 +102,9 @@ impl Game {
         }
     }
 
-    fn fail(&mut self, id: GuessId) -> Result<Answer, AllocError> {
+    fn fail(&mut self, id: GuessId) -> Result<Answer, AllocError>
+        ensures { MatchResult result (λ answer. FailTold answer (is_held id self.old.tokens.items) id self.old.kernel self.new.kernel) (λ _. self.new.kernel ≡ self.old.kernel) }
+    {
         match self.place_of(id) {
             Some(place) => self.fail_at(place),
             None => Ok(Answer::NoToken),
@@ -107,6 +114,7 @@ impl Game {
     /// Fails the guess of a token.
     fn fail_at(&mut self, place: usize) -> Result<Answer, AllocError>
         requires { place < vec_len self.old.tokens }
+        ensures told { IfSome (id_at self.old.tokens.items place) (λ id. MatchResult result (λ answer. FailTold answer true id self.old.kernel self.new.kernel) (λ _. self.new.kernel ≡ self.old.kernel)) }
     {
         let token = self.tokens.remove(place);
         let refusal = match self.kernel.fail_speculation(token) {
@@ -124,9 +132,16 @@ impl Game {
 
     /// The place of a guess's token.
     fn place_of(&self, id: GuessId) -> Option<usize>
-        ensures { IfSome result (λ place. place < vec_len self.now.tokens) }
+        ensures within { IfSome result (λ place. place < vec_len self.now.tokens) }
+        ensures there { IfSome result (λ place. id_at self.now.tokens.items place ≡ Some id) }
+        ensures held { is_some result ≡ is_held id self.now.tokens.items }
     {
-        self.tokens.iter().position(|token| token.id() == id)
+        for (place, token) in self.tokens.iter().enumerate() {
+            if token.id() == id {
+                return Some(place);
+            }
+        }
+        None
     }
 
     /// Spends the tokens that are left by commits, and ends.
@@ -150,7 +165,9 @@ fn refused(refusal: Refusal) -> Result<Answer, AllocError>
     }
 }
 
-fn answer_of(outcome: Outcome) -> Answer {
+fn answer_of(outcome: Outcome) -> Answer
+    ensures { result ≡ outcome_told outcome }
+{
     match outcome {
         Outcome::Done => Answer::Done,
         Outcome::Gone => Answer::Gone,

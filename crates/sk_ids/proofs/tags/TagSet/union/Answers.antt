@@ -1,9 +1,8 @@
 -- The two lists joined, in order, with each number once.
 use Rattle.std.proofs.Common.{◌≡◌, ℕ, eqb, List, ◌++◌, length, ap, ◌∙◌, sym, subst, rules}
-use Rattle.std.specs.Ordering.{nat_cmp}
 use Rattle.std.specs.Cmp.{nat_cmp_total, unsigned_tied}
 use Rattle.std.specs.List.{dedup, refill}
-use Rattle.std.specs.List.Sorted.{IsPermutation, IsStrictlySortedBy}
+use Rattle.std.specs.List.Sorted.{IsPermutation}
 use Rattle.std.proofs.lemmas.List.Kept.{IsStrictlySortedBy-dedup}
 use Rattle.std.proofs.lemmas.List.{take_at}
 use Rattle.sk_ids.specs.Tags.{has}

@@ -20,12 +20,22 @@ pub enum Stop {
 }
 
 impl From<AllocError> for Stop {
+    ghost use Rattle.std.specs.Prelude.{◌≡◌};
+    ghost use Rattle.sk_play.specs.declared.playing.Stop.TheVariants.{Memory};
+
+    ghost from_gives = { λ _ stop. stop ≡ Memory };
+
     fn from(_error: AllocError) -> Stop {
         Stop::Memory
     }
 }
 
 impl From<io::Error> for Stop {
+    ghost use Rattle.std.specs.Prelude.{◌≡◌};
+    ghost use Rattle.sk_play.specs.declared.playing.Stop.TheVariants.{Output};
+
+    ghost from_gives = { λ _ stop. stop ≡ Output };
+
     fn from(_error: io::Error) -> Stop {
         Stop::Output
     }

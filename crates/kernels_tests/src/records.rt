@@ -1,9 +1,10 @@
 //! Records, stores and steps, and what a failure leaves of a record.
 use sk_ids::{Entity, GuessId, Name, ObjId, Pid, Text};
 use sk_objects::Content;
-use sk_plain::{Entry, Errno, Event, Look, Refusal, Store, Stored, Trace, plan_step, strike};
+use sk_plain::{Entry, Errno, Event, Refusal, Trace, apply_plan, plan_step, strike};
 use sk_script::boot::BOOT_OBJECT_LIMIT;
 use sk_script::{Boot, Input, ObjectKind, ROOT, Register, Script, Val};
+use sk_store::{Look, Store, Stored};
 use std::alloc::{AllocError, Global};
 use std::test::Fail;
 
@@ -130,7 +131,7 @@ fn writer_before_the_guess(rt: HostRuntime) -> Result<(), Fail> {
 fn steps(store: &mut Store, boot: &Boot, pid: Pid, count: usize) -> Result<(), Refusal> {
     for _ in 0..count {
         let plan = plan_step(store, boot.scripts(), pid, &Input::None)?;
-        store.apply(pid, &plan)?;
+        apply_plan(store, pid, &plan)?;
     }
     Ok(())
 }

@@ -1,3 +1,4 @@
 pub mod Cells
 pub mod GuessSets
 pub mod Entities
+pub mod Views

@@ -11,10 +11,10 @@ use Rattle.sk_ids.specs.declared.entity.Entity.{Entity}
 use Rattle.sk_ids.proofs.Entities.{entity_total}
 use Rattle.sk_plain.specs.Entry.{EntryView}
 use Rattle.sk_plain.specs.Act.{Saying}
-use Rattle.sk_plain.specs.declared.stored.Stored.{Stored}
+use Rattle.sk_store.specs.declared.stored.Stored.{Stored}
 use Rattle.sk_plain.specs.declared.trace.Event.TheVariants as events
 use Rattle.sk_kernel.specs.Open.{OpenView}
-use Rattle.sk_kernel.specs.Journal.{Written, puts, puts_all}
+use Rattle.sk_undo.specs.Journal.{Written, puts, puts_all}
 use Rattle.sk_kernel.specs.Kernel.{KernelView, effect_at, done, stepped, tags_at, pending_tags}
 
 abbrev Writes : Type 0

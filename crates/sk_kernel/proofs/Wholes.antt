@@ -3,13 +3,13 @@ use Rattle.std.proofs.Common.{◌≡◌, ℕ, ◌≤◌, Bool, true, false, eqb,
 use Rattle.std.specs.Prelude.{◌≢◌, is_some}
 use Rattle.std.proofs.lemmas.Bool.{false≢true, true≢false, eqb-true, eq-eqb}
 use Rattle.sk_ids.specs.declared.entity.Entity.{Entity}
-use Rattle.sk_plain.specs.declared.stored.Stored.{Stored}
+use Rattle.sk_store.specs.declared.stored.Stored.{Stored}
 use Rattle.sk_guesses.specs.Guesses.{GuessesView, status_of, with_status, drawn, next_of, is_undecided}
 use Rattle.sk_guesses.specs.declared.status.Status.{Status}
 use Rattle.sk_guesses.specs.declared.status.Status.TheVariants.{Undecided}
 use Rattle.sk_guesses.proofs.Statuses.{status-drawn_next, status-drawn, status-with_status, status-with_status_other}
 use Rattle.sk_kernel.specs.Open.{OpenView}
-use Rattle.sk_kernel.specs.Journal.{Written, written_over, puts, puts_all, marked}
+use Rattle.sk_undo.specs.Journal.{Written, written_over, puts, puts_all, marked}
 use Rattle.sk_kernel.specs.Whole.{IsWhole, IsTheUndecided}
 
 by_test : (q n : ℕ) (b : Bool) → eqb q n ≡ b → (q ≢ n → ⊥) → q ≡ n

@@ -4,9 +4,9 @@ use Rattle.sk_guesses.specs.Token.{Token}
 use Rattle.sk_guesses.specs.Guesses.{next_of}
 use Rattle.sk_guesses.specs.Calls.{redeemed}
 use Rattle.sk_guesses.specs.declared.guess.Redeemed.TheVariants as redeemed_as
-use Rattle.sk_plain.specs.Stored.{IsView}
-use Rattle.sk_plain.specs.declared.stored.Stored.{Stored}
-use Rattle.sk_plain.specs.declared.stored.View.{View}
+use Rattle.sk_plain.specs.View.{IsView}
+use Rattle.sk_store.specs.declared.stored.Stored.{Stored}
+use Rattle.sk_plain.specs.declared.view.View.{View}
 use Rattle.sk_plain.specs.declared.refusal.Refusal.{Refusal}
 use Rattle.sk_plain.specs.declared.refusal.Refusal.TheVariants.{NoProcess, Ended, Mismatch, NeedsReply, Blocked, TooMany, TraceFull, Memory}
 use Rattle.std.specs.FinMap as map

@@ -17,20 +17,20 @@ use Rattle.sk_script.specs.Scripts.{ScriptMap, script_map_code}
 use Rattle.sk_script.specs.Boot.{BootView}
 use Rattle.sk_script.specs.declared.instruction.Input.{Input}
 use Rattle.sk_script.specs.declared.instruction.Input.TheVariants as inputs
-use Rattle.sk_plain.specs.Stored.{State}
-use Rattle.sk_plain.specs.Start.{start_of}
+use Rattle.sk_store.specs.Stored.{State}
+use Rattle.sk_store.specs.Start.{start_of}
 use Rattle.sk_plain.specs.Entry.{EntryView}
 use Rattle.sk_plain.specs.Trace.{event_code}
 use Rattle.sk_plain.specs.Act.{plain, Saying}
 use Rattle.sk_plain.specs.Planned.{refusal_of}
-use Rattle.sk_plain.specs.declared.stored.Stored.{Stored}
+use Rattle.sk_store.specs.declared.stored.Stored.{Stored}
 use Rattle.sk_plain.specs.declared.trace.Event.{Event}
 use Rattle.sk_plain.specs.declared.trace.Event.TheVariants as events
 use Rattle.sk_plain.specs.declared.refusal.Refusal.{Refusal}
 use Rattle.sk_plain.specs.declared.refusal.Refusal.TheVariants.{NoProcess, Ended, Mismatch, Blocked, TooMany, TraceFull}
 use Rattle.sk_kernel.specs.Open.{OpenView, open_code}
-use Rattle.sk_kernel.specs.Journal.{Written, written_code, state_code, puts_all, marked, kept, taken_back, written_over}
-use Rattle.sk_kernel.specs.Terminals.{TerminalMap, terminals_code, texts_at, said_to}
+use Rattle.sk_undo.specs.Journal.{Written, written_code, state_code, puts_all, marked, kept, taken_back, written_over}
+use Rattle.sk_terminal.specs.Terminals.{TerminalMap, terminals_code, texts_at, said_to}
 
 pub record KernelView : Type 0 where
   -- what it was booted with

@@ -3,7 +3,7 @@ use Rattle.std.specs.Prelude.{◌≡◌, ℕ, ◌≤◌, true, Option, Some, Non
 use Rattle.sk_guesses.specs.Guesses.{GuessesView, status_of}
 use Rattle.sk_guesses.specs.declared.status.Status.TheVariants.{Undecided}
 use Rattle.sk_kernel.specs.Open.{OpenView}
-use Rattle.sk_kernel.specs.Journal.{Written, written_over}
+use Rattle.sk_undo.specs.Journal.{Written, written_over}
 
 -- the pending guess is the one that is undecided
 abbrev pub IsTheUndecided : GuessesView → Option OpenView → Type 0

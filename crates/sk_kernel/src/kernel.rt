@@ -8,15 +8,15 @@ ghost use Rattle.sk_guesses.specs.Guesses.{next_of};
 ghost use Rattle.sk_kernel.specs.Kernel.{booted, tags_at, undecided, room, pending_tags, others_wait, step_refused, stepped, guess_refused, guessed};
 ghost use Rattle.sk_kernel.specs.Calls.{Shows, Steps, Draws, PlansGuess, Commits, Fails};
 
-use crate::journal::Journal;
 use crate::open::Open;
 use crate::taken::{guess_with, perform};
-use crate::terminals::Terminals;
 use sk_guesses::{Guess, Guesses, Redeemed};
 use sk_ids::{Entity, Pid, TagSet};
-use sk_plain::{Entry, Event, Look, Plan, Refusal, Store, Trace, View, plan_step};
+use sk_plain::{Entry, Event, Plan, Refusal, Trace, View, plan_step};
 use sk_script::{Boot, Input, Scripts};
-use sk_terminal::Terminal;
+use sk_store::{Look, Store};
+use sk_terminal::{Terminal, Terminals};
+use sk_undo::Journal;
 use std::alloc::{AllocError, Global};
 use std::marker::Model;
 
@@ -105,7 +105,7 @@ impl Kernel {
         ensures { Shows (map.get self.now.written.now entity.now) result }
     {
         match self.journal.value(*entity) {
-            Some(stored) => Some(stored.view()),
+            Some(stored) => Some(View::of(stored)),
             None => None,
         }
     }

@@ -7,7 +7,7 @@ ghost use Rattle.sk_ids.specs.Entity.{entity_cmp};
 ghost use Rattle.sk_ids.specs.declared.entity.Entity.{Entity};
 ghost use Rattle.sk_plain.specs.Entry.{EntryView};
 ghost use Rattle.sk_plain.specs.Act.{Saying};
-ghost use Rattle.sk_plain.specs.declared.stored.Stored.{Stored};
+ghost use Rattle.sk_store.specs.declared.stored.Stored.{Stored};
 ghost use Rattle.sk_kernel.specs.Kernel.{KernelView, effect_at, stepped, tags_at, IsCommitted, IsFailed};
 
 /// An entity that an accepted step does not write keeps its value and its tags.

@@ -2,11 +2,9 @@
 //! taken back.
 #![tactic(auto)]
 
-mod journal;
 mod kernel;
 pub mod laws;
 mod open;
 mod taken;
-mod terminals;
 
 pub use kernel::{FailRefusal, Kernel, Outcome, Stranger};

@@ -4,19 +4,20 @@ ghost use Rattle.std.specs.FinMap as map;
 ghost use Rattle.sk_ids.specs.declared.entity.Entity.TheVariants.{Proc};
 ghost use Rattle.sk_guesses.specs.Guesses.{next_of, drawn, is_full};
 ghost use Rattle.sk_plain.specs.Planned.{CanDo, also_written, row_effect, said_by};
-ghost use Rattle.sk_kernel.specs.Journal.{puts_all, marked, written_over};
+ghost use Rattle.sk_undo.specs.Journal.{puts_all, marked, written_over};
 ghost use Rattle.sk_kernel.specs.Kernel.{texts_after};
 
-use crate::journal::Journal;
-use crate::terminals::Terminals;
 use sk_guesses::{Guess, Guesses};
 use sk_ids::{Entity, Pid, TagSet};
 use sk_objects::{File, Value};
-use sk_plain::{Action, Plan, Stored};
+use sk_plain::{Action, Plan};
+use sk_store::Stored;
+use sk_terminal::Terminals;
+use sk_undo::Journal;
 use std::alloc::{AllocError, Global};
 
 /// Writes what a plan writes beside the process. Without memory nothing has changed.
-#[tactic(auto, using(sk_plain::proofs::Puts::puts))]
+#[tactic(auto, using(sk_store::proofs::Puts::puts))]
 fn write_other(
     journal: &mut Journal,
     alloc: Global,

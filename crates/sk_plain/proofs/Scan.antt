@@ -11,13 +11,13 @@ use Rattle.sk_record.specs.Run.{IsLegal, after, foot, outcome, put_all, run, tra
 use Rattle.sk_ids.specs.declared.entity.Entity.{Entity}
 use Rattle.sk_ids.specs.declared.entity.Entity.TheVariants.{Proc}
 use Rattle.sk_ids.specs.Entity.{entity_cmp}
-use Rattle.sk_plain.specs.Stored.{State}
+use Rattle.sk_store.specs.Stored.{State}
 use Rattle.sk_plain.specs.Entry.{EntryView}
 use Rattle.sk_plain.specs.Act.{Scripts, Saying, plain}
 use Rattle.sk_plain.specs.Left.{depends, left, first_refusal, refusal_in, EndsBy}
 use Rattle.sk_plain.specs.Planned.{also_written, effect_of, read_by, written_by}
-use Rattle.sk_plain.specs.declared.stored.Stored.{Stored}
-use Rattle.sk_plain.specs.declared.stored.Stored.TheVariants as stored
+use Rattle.sk_store.specs.declared.stored.Stored.{Stored}
+use Rattle.sk_store.specs.declared.stored.Stored.TheVariants as stored
 use Rattle.sk_plain.specs.declared.refusal.Refusal.{Refusal}
 use Rattle.sk_plain.specs.declared.refusal.Refusal.TheVariants.{NoProcess, Ended, Mismatch, NeedsReply, Blocked, TooMany, TraceFull, Memory}
 use Rattle.sk_plain.specs.declared.plan.Plan.{Plan}

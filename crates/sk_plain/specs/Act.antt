@@ -1,6 +1,6 @@
 -- What a step does, as a tree: one function a row of the table of instructions.
 use Rattle.std.specs.Prelude.{ℕ, ◌+◌, pos, negsuc, neg_ℤ, true, List, [], ◌∷◌, length, Option, Some, None, slice_get, slice_set, if◌then◌else◌, nat_lt, nat_le, ◌==◌}
-use Rattle.std.specs.FinMap.{FinMap, get}
+use Rattle.std.specs.FinMap.{get}
 use Rattle.sk_record.specs.Step.{Step, Ask, Refuse, Done}
 use Rattle.sk_record.specs.Run.{Kernel}
 use Rattle.sk_ids.specs.declared.pid.ObjId.{ObjId}
@@ -20,10 +20,10 @@ use Rattle.sk_script.specs.declared.instruction.Instruction.{Instruction}
 use Rattle.sk_script.specs.declared.instruction.Instruction.TheVariants as does_
 use Rattle.sk_script.specs.declared.instruction.Input.{Input}
 use Rattle.sk_script.specs.declared.instruction.Input.TheVariants as inputs
-use Rattle.sk_plain.specs.Stored.{name_cmp}
+use Rattle.sk_script.specs.Scripts.{ScriptMap}
 use Rattle.sk_plain.specs.Refusal.{error_number}
-use Rattle.sk_plain.specs.declared.stored.Stored.{Stored}
-use Rattle.sk_plain.specs.declared.stored.Stored.TheVariants as stored
+use Rattle.sk_store.specs.declared.stored.Stored.{Stored}
+use Rattle.sk_store.specs.declared.stored.Stored.TheVariants as stored
 use Rattle.sk_plain.specs.declared.refusal.Refusal.{Refusal}
 use Rattle.sk_plain.specs.declared.refusal.Refusal.TheVariants.{NoProcess, Ended, Mismatch, NeedsReply}
 use Rattle.sk_plain.specs.declared.refusal.Errno.{Errno}
@@ -40,7 +40,7 @@ Steps = Step Entity Stored Saying Refusal
 
 -- the scripts of a kernel, by name
 abbrev pub Scripts : Type 0
-Scripts = FinMap name_cmp (List Instruction)
+Scripts = ScriptMap
 
 -- ---- what becomes of the process
 

@@ -6,12 +6,12 @@ use Rattle.sk_record.specs.Step.{Effect}
 use Rattle.sk_record.specs.Run.{after, outcome, trail}
 use Rattle.sk_ids.specs.declared.entity.Entity.{Entity}
 use Rattle.sk_ids.specs.Entity.{entity_cmp}
-use Rattle.sk_plain.specs.Stored.{State}
+use Rattle.sk_store.specs.Stored.{State}
 use Rattle.sk_plain.specs.Entry.{EntryView}
 use Rattle.sk_plain.specs.Act.{Scripts, Saying, plain}
 use Rattle.sk_plain.specs.Planned.{read_by, written_by}
 use Rattle.sk_plain.specs.declared.plan.Action.{Action}
-use Rattle.sk_plain.specs.declared.stored.Stored.{Stored}
+use Rattle.sk_store.specs.declared.stored.Stored.{Stored}
 use Rattle.sk_plain.specs.declared.refusal.Refusal.{Refusal}
 use Rattle.sk_plain.specs.declared.refusal.Refusal.TheVariants.{NoProcess, Ended, Mismatch, NeedsReply, Blocked, TooMany, TraceFull, Memory}
 

@@ -1,16 +1,15 @@
 -- What a plan stands for: the step's reads, writes and text.
-use Rattle.std.specs.Prelude.{◌≡◌, ℕ, List, [], ◌∷◌, ◌++◌, map, true, Option, Some, None, Result, Ok, Err}
+use Rattle.std.specs.Prelude.{◌≡◌, ℕ, List, [], ◌∷◌, ◌++◌, map, Option, Some, None, Result, Ok, Err}
 use Rattle.sk_record.specs.Step.{Effect, perform}
 use Rattle.sk_ids.specs.declared.entity.Entity.{Entity}
 use Rattle.sk_ids.specs.declared.entity.Entity.TheVariants.{Proc, Sig, Exit, Obj, Copy}
 use Rattle.sk_objects.specs.declared.value.Value.TheVariants as values
-use Rattle.sk_changes.specs.declared.change.Change.{Change}
-use Rattle.sk_changes.specs.Changes.{value_after, value_fits}
 use Rattle.sk_script.specs.declared.instruction.Input.{Input}
 use Rattle.sk_script.specs.declared.instruction.Input.TheVariants as inputs
 use Rattle.sk_plain.specs.Act.{Steps, Saying}
-use Rattle.sk_plain.specs.declared.stored.Stored.{Stored}
-use Rattle.sk_plain.specs.declared.stored.Stored.TheVariants as stored
+use Rattle.sk_store.specs.Changed.{changed, FitsAt}
+use Rattle.sk_store.specs.declared.stored.Stored.{Stored}
+use Rattle.sk_store.specs.declared.stored.Stored.TheVariants as stored
 use Rattle.sk_plain.specs.declared.refusal.Refusal.{Refusal}
 use Rattle.sk_plain.specs.declared.refusal.Refusal.TheVariants.{NoProcess, Ended, Mismatch, NeedsReply, Blocked, TooMany, TraceFull, Memory}
 use Rattle.sk_plain.specs.declared.plan.Plan.{Plan}
@@ -26,12 +25,6 @@ also_read (Makes o) = []
 also_read (Changes o change) = Obj o ∷ []
 also_read (Ends status) = []
 also_read (Caches name content) = []
-
--- the value after a change of what is looked up
-abbrev pub changed : Option Stored → Change → Stored
-changed (Some (stored.Value v)) change = stored.Value (value_after v change)
-changed (Some (stored.Process p)) change = stored.Process p
-changed None change = stored.Value (values.File [])
 
 -- the entity beside the process that is written
 abbrev pub also_written : (Entity → Option Stored) → ℕ → Action → List (Entity × Stored)
@@ -104,11 +97,6 @@ planned look pid input (Ok plan) = Ok (effect_of look pid input plan)
 planned look pid input (Err why) = Err why
 
 -- what a plan changes in place is there, and the change fits it
-abbrev pub FitsAt : Option Stored → Change → Type 0
-FitsAt (Some (stored.Value v)) change = value_fits v change ≡ true
-FitsAt (Some (stored.Process p)) change = ⊥
-FitsAt None change = ⊥
-
 abbrev pub CanDo : (Entity → Option Stored) → Action → Type 0
 CanDo look Alone = Unit {0}
 CanDo look (Says text) = Unit {0}

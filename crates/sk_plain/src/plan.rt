@@ -10,15 +10,16 @@ ghost use Rattle.std.specs.Prelude.{ℕ, List, length};
 ghost use Rattle.std.specs.FinMap as map;
 ghost use Rattle.sk_plain.specs.Planned.{PlansRow, step_planned, planned, CanDo, IsReply, IsPlainRefusal, said_by};
 ghost use Rattle.sk_ids.specs.declared.entity.Entity.{Entity};
-ghost use Rattle.sk_plain.specs.declared.stored.Stored.{Stored};
-ghost use Rattle.sk_plain.specs.declared.stored.Stored.TheVariants as stored;
+ghost use Rattle.sk_store.specs.declared.stored.Stored.{Stored};
+ghost use Rattle.sk_store.specs.declared.stored.Stored.TheVariants as stored;
 ghost use Rattle.sk_objects.specs.declared.value.Value.TheVariants as values;
 
-use crate::{Errno, Look, Refusal, Stored};
+use crate::{Errno, Refusal};
 use sk_changes::Change;
 use sk_ids::{Entity, Name, ObjId, Pid, Text};
 use sk_objects::{Content, Value};
 use sk_script::{Input, Instruction, Process, Register, Scripts, Val};
+use sk_store::{Look, Stored};
 use std::marker::Model;
 
 /// What a step does beside writing its process.

@@ -13,9 +13,10 @@ ghost use Rattle.sk_plain.specs.Planned.{CanDo, row_effect, read_by, written_by}
 ghost use Rattle.sk_plain.specs.declared.refusal.Refusal.TheVariants.{Memory};
 ghost use Rattle.sk_plain.specs.Left.{depends, left, refusal_in, EndsBy};
 
-use crate::{Action, Entry, Plan, Refusal, Store, plan_step};
+use crate::{Action, Entry, Plan, Refusal, apply_plan, plan_step};
 use sk_ids::{Entity, GuessId, Pid};
 use sk_script::{Input, Scripts};
+use sk_store::Store;
 use std::alloc::{AllocError, Global};
 use std::cmp::Ordering;
 
@@ -113,7 +114,7 @@ fn take(
     ensures memory { IfErr result (λ why. why ≡ Memory) }
     ensures kept { OnOk result (kept.new.items ≡ (if depends guess dirty.old.items entry.now plan.now.action then kept.old.items else kept.old.items ++ entry.now ∷ [])) }
 {
-    store.apply(entry.pid, plan)?;
+    apply_plan(store, entry.pid, plan)?;
     if depends(dirty, guess, entry, &plan.action) {
         mark(dirty, entry.pid, &plan.action)?;
     } else {

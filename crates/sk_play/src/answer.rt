@@ -1,11 +1,13 @@
 //! What the kernel answers to a step of a scenario.
-ghost use Rattle.std.specs.Prelude.{Some};
-ghost use Rattle.sk_play.specs.Played.{answer_text};
+ghost use Rattle.std.specs.Prelude.{Some, OnOk};
+ghost use Rattle.std.specs.Io.KnownBytes.{Appends};
+ghost use Rattle.sk_play.specs.Played.{answer_text, answer_line};
 
 use sk_ids::GuessId;
 use sk_plain::Refusal;
 use sk_print::Shown;
-use std::fmt;
+use std::io::Write;
+use std::{fmt, io};
 
 /// The answer to one step.
 #[derive(Clone, Copy, Debug, PartialEq, Eq)]
@@ -38,4 +40,11 @@ impl fmt::Display for Answer {
             }
         }
     }
+}
+
+/// Writes what the event of this number was answered.
+pub fn write_answer<W: Write>(number: usize, answer: &Answer, out: &mut W) -> io::Result<()>
+    ensures { OnOk result (Appends (W.contents out.old) (W.contents out.new) (answer_line number answer.now)) }
+{
+    writeln!(out, "{number} {answer}")
 }

@@ -144,12 +144,19 @@ impl Game {
         None
     }
 
+    /// Spends the tokens that are left by commits.
+    fn spend(&mut self)
+        ensures { vec_len self.new.tokens ≡ 0 }
+    {
+        while !self.tokens.is_empty() {
+            self.commit_at(0);
+        }
+    }
+
     /// Spends the tokens that are left by commits, and ends.
     pub fn end(self) {
         let mut game = self;
-        while !game.tokens.is_empty() {
-            game.commit_at(0);
-        }
+        game.spend();
         let Game { kernel: _, tokens } = game;
         tokens.destroy_empty();
     }

@@ -1,12 +1,8 @@
-//! A scenario at play: the kernel that it declares, what its steps are answered, and the report.
+//! A scenario at play: the kernel that it declares, with the tokens of its guesses, and what its steps are answered.
 #![tactic(auto)]
 
 pub mod answer;
 pub mod game;
-pub mod playing;
-pub mod report;
 
-pub use answer::Answer;
+pub use answer::{Answer, write_answer};
 pub use game::Game;
-pub use playing::{Stop, play};
-pub use report::write_report;

@@ -1,2 +1,1 @@
-pub mod MapViews
 pub mod Marks

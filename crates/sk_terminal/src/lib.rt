@@ -4,6 +4,8 @@
 pub mod held;
 pub mod laws;
 pub mod terminal;
+pub mod terminals;
 
 pub use held::Held;
 pub use terminal::Terminal;
+pub use terminals::Terminals;

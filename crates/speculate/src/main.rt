@@ -1,12 +1,13 @@
 //! `speculate`: plays a scenario on a kernel that runs ahead on guesses.
 #![tactic(auto)]
 
-pub mod command_line;
+pub mod playing;
 pub mod program;
 #[cfg(test)]
 mod tests;
 
-use crate::program::{TROUBLE, USAGE, run};
+use crate::program::run;
+use sk_command::status::{TROUBLE, USAGE};
 use sk_scenario::Open;
 use std::io::{BufWriter, ErrorKind, Read, Write};
 use std::process::ExitCode;

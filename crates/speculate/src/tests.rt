@@ -1,6 +1,7 @@
 //! The program, run on inputs and outputs that fail, which a stored run can't have.
 
-use crate::program::{TROUBLE, run};
+use crate::program::run;
+use sk_command::status::TROUBLE;
 use sk_scenario::Open;
 use std::alloc::{AllocError, Global};
 use std::io;

@@ -2,7 +2,7 @@
 use Rattle.std.proofs.Common.{◌≡◌, Some, refl, sym, subst, rules}
 use Rattle.sk_guesses.specs.Guesses.{status_of}
 use Rattle.sk_guesses.specs.declared.status.Status.TheVariants.{Undecided, Committed}
-use Rattle.sk_kernel.specs.Journal.{Written, written_over}
+use Rattle.sk_undo.specs.Journal.{Written, written_over}
 use Rattle.sk_kernel.proofs.Wholes.{decided_whole}
 use Rattle.sk_kernel.proofs.kernel.Kernel.commit_speculation.Goals as goal
 

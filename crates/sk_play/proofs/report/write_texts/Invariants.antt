@@ -1,8 +1,0 @@
--- The lines of the texts before the loop's place are written.
-use Rattle.std.proofs.Common.{take}
-use Rattle.std.specs.Io.KnownBytes.{Appends}
-use Rattle.sk_play.specs.Report.{texts_lines}
-use Rattle.sk_play.proofs.report.write_texts.Given as goal
-
-abbrev pub invariant-loop-text : goal.invariant-loop-text
-invariant-loop-text g l = Appends (g.W.Write.contents l.fn.out) (g.W.Write.contents l.out) (texts_lines (take l.text-index l.texts))

@@ -1,5 +1,7 @@
 //! What the words of the command line ask for.
-ghost use Rattle.std.specs.Prelude.{◌≤◌, IfErr};
+ghost use Rattle.std.specs.Prelude.{IfErr};
+ghost use Rattle.clap.specs.Values.{kind_of};
+ghost use Rattle.sk_command.specs.Status.{EndsFor, IsOfWords};
 
 use crate::status::{DONE, TROUBLE, USAGE, flushed};
 use clap::error::ErrorKind;
@@ -70,19 +72,22 @@ fn parse<'a>(alloc: Global, words: &'a [String]) -> Result<Option<Job<'a>>, Erro
 
 /// Writes what the command line's reader has to say: help to the output, a fault to the error writer.
 fn explain<W: Write, E: Write>(error: &Error, out: &mut W, err: &mut E) -> u8
-    ensures { result ≤ TROUBLE }
+    ensures told { EndsFor (kind_of error.now) result }
+    ensures words { IsOfWords result }
 {
-    if error.kind() == ErrorKind::OutOfMemory {
-        return TROUBLE;
+    match error.kind() {
+        ErrorKind::OutOfMemory => TROUBLE,
+        ErrorKind::DisplayHelp | ErrorKind::DisplayVersion => {
+            if write!(out, "{error}").is_err() {
+                return TROUBLE;
+            }
+            flushed(out, DONE)
+        }
+        _ => {
+            let _ = write!(err, "{error}");
+            USAGE
+        }
     }
-    if error.use_stderr() {
-        let _ = write!(err, "{error}");
-        return USAGE;
-    }
-    if write!(out, "{error}").is_err() {
-        return TROUBLE;
-    }
-    flushed(out, DONE)
 }
 
 /// What the program's words ask for, of which the first is its own name; or the status with which the
@@ -93,7 +98,7 @@ pub fn asked<'a, W: Write, E: Write>(
     out: &mut W,
     err: &mut E,
 ) -> Result<Job<'a>, u8>
-    ensures { IfErr result (λ status. status ≤ TROUBLE) }
+    ensures { IfErr result (λ status. IsOfWords status) }
 {
     match parse(alloc, words) {
         Ok(Some(job)) => Ok(job),

@@ -1,6 +1,6 @@
 //! The statuses of a run, and the messages that go with them.
-ghost use Rattle.std.specs.Prelude.{◌≡◌, true, ◌||◌, ◌==◌};
-ghost use Rattle.sk_command.specs.Status.{fault_status};
+ghost use Rattle.std.specs.Prelude.{◌≡◌};
+ghost use Rattle.sk_command.specs.Status.{fault_status, IsFlushed};
 
 use sk_words::{Fault, FaultKind};
 use std::io::Write;
@@ -19,7 +19,7 @@ pub const TROUBLE: u8 = 3;
 
 /// A status, once all output is written; `TROUBLE` where that is refused.
 pub fn flushed<W: Write>(out: &mut W, status: u8) -> u8
-    ensures { (result == status || result == TROUBLE) ≡ true }
+    ensures { IsFlushed status result }
 {
     if out.flush().is_err() {
         TROUBLE

@@ -1,5 +1,6 @@
 //! The run of the program, from its words to its status.
 ghost use Rattle.std.specs.Prelude.{◌≤◌};
+ghost use Rattle.sk_command.specs.Status.{IsOfFile};
 
 use crate::playing::play;
 use sk_command::input::input;
@@ -33,7 +34,7 @@ pub fn run<O: Open, W: Write, E: Write>(
 
 /// Plays a scenario's text.
 fn run_text<W: Write, E: Write>(alloc: Global, text: &[u8], out: &mut W, err: &mut E) -> u8
-    ensures { result ≤ TROUBLE }
+    ensures { IsOfFile result }
 {
     let Scenario {
         declarations,

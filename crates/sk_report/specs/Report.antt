@@ -1,6 +1,8 @@
--- The lines of the report on entities and terminals.
+-- The report of a kernel.
 use Rattle.std.specs.Prelude.{ℕ, List, [], ◌∷◌, ◌++◌, flat_map, codes, decimal, length, Option, Some, None}
+use Rattle.std.specs.Ordering.{nat_cmp}
 use Rattle.std.specs.FinMap as map
+use Rattle.std.specs.BTreeSet.{insert_key}
 use Rattle.sk_ids.specs.declared.entity.Entity.{Entity}
 use Rattle.sk_store.specs.declared.stored.Stored.{Stored}
 use Rattle.sk_store.specs.declared.stored.Stored.TheVariants as stored
@@ -39,3 +41,27 @@ terminal_said number (Some texts) = terminal_lines number texts
 
 abbrev pub last_line : KernelView → List ℕ
 last_line k = codes "trace " ++ decimal (length k.trace) ++ codes " undecided " ++ decimal (undecided k) ++ 10 ∷ []
+
+-- ---- the whole
+
+-- the terminals of processes, by rising number, each once
+abbrev pub with_terminal : List ℕ → Option Stored → List ℕ
+with_terminal numbers (Some (stored.Process p)) = insert_key nat_cmp numbers p.terminal
+with_terminal numbers (Some (stored.Value v)) = numbers
+with_terminal numbers None = numbers
+
+-- these terminals, with those of the processes among the entities
+abbrev pub with_terminals : (Entity → Option Stored) → List ℕ → List Entity → List ℕ
+with_terminals look numbers [] = numbers
+with_terminals look numbers (e ∷ es) = with_terminals look (with_terminal numbers (look e)) es
+
+abbrev pub terminals_text : KernelView → List ℕ → List ℕ
+terminals_text k numbers = flat_map (λ n. terminal_said n (map.get k.texts n)) numbers
+
+abbrev pub entities_text : KernelView → List Entity → List ℕ
+entities_text k es = flat_map (λ e. entity_line k e) es
+
+-- the terminals of all processes, the entities that are present by their order, and the last line
+abbrev pub report_text : KernelView → List ℕ
+report_text k =
+    terminals_text k (with_terminals (map.get k.written.now) [] (map.keys k.written.now)) ++ entities_text k (map.keys k.written.now) ++ last_line k

@@ -1,8 +1,8 @@
 //! The report of a kernel.
-ghost use Rattle.std.specs.Prelude.{OnOk};
+ghost use Rattle.std.specs.Prelude.{◌≡◌, ◌++◌, [], OnOk, IfOk};
 ghost use Rattle.std.specs.FinMap as map;
 ghost use Rattle.std.specs.Io.KnownBytes.{Appends};
-ghost use Rattle.sk_report.specs.Report.{entity_line, texts_lines, terminal_said, last_line};
+ghost use Rattle.sk_report.specs.Report.{entity_line, texts_lines, terminal_said, last_line, with_terminals, terminals_text, entities_text, report_text};
 
 use crate::Stop;
 use sk_ids::{Entity, Text};
@@ -10,20 +10,49 @@ use sk_kernel::Kernel;
 use sk_plain::View;
 use sk_print::{Literal, ShownEntity, ShownProcess, ShownTags, ShownValue};
 use std::alloc::{AllocError, Global};
+use std::collections::BTreeSet;
 use std::io;
 use std::io::Write;
 
 /// Writes the terminals, the entities and the last line.
-pub fn write_report<W: Write>(alloc: Global, kernel: &Kernel, out: &mut W) -> Result<(), Stop> {
+pub fn write_report<W: Write>(alloc: Global, kernel: &Kernel, out: &mut W) -> Result<(), Stop>
+    ensures { OnOk result (Appends (W.contents out.old) (W.contents out.new) (report_text kernel.now)) }
+{
     let entities = kernel.entities()?;
     let terminals = terminals_of(alloc, kernel, &entities)?;
-    for terminal in &terminals {
+    write_lines(kernel, &terminals, &entities, out)?;
+    Ok(())
+}
+
+/// Writes these terminals, these entities and the last line.
+fn write_lines<W: Write>(
+    kernel: &Kernel,
+    terminals: &[u16],
+    entities: &[Entity],
+    out: &mut W,
+) -> io::Result<()>
+    ensures { OnOk result (Appends (W.contents out.old) (W.contents out.new) (terminals_text kernel.now terminals.now ++ entities_text kernel.now entities.now ++ last_line kernel.now)) }
+{
+    write_terminals(kernel, terminals, out)?;
+    write_entities(kernel, entities, out)?;
+    write_last(kernel, out)
+}
+
+fn write_terminals<W: Write>(kernel: &Kernel, terminals: &[u16], out: &mut W) -> io::Result<()>
+    ensures { OnOk result (Appends (W.contents out.old) (W.contents out.new) (terminals_text kernel.now terminals.now)) }
+{
+    for terminal in terminals {
         write_terminal(kernel, *terminal, out)?;
     }
-    for entity in &entities {
+    Ok(())
+}
+
+fn write_entities<W: Write>(kernel: &Kernel, entities: &[Entity], out: &mut W) -> io::Result<()>
+    ensures { OnOk result (Appends (W.contents out.old) (W.contents out.new) (entities_text kernel.now entities.now)) }
+{
+    for entity in entities {
         write_entity(kernel, entity, out)?;
     }
-    write_last(kernel, out)?;
     Ok(())
 }
 
@@ -36,21 +65,17 @@ fn write_last<W: Write>(kernel: &Kernel, out: &mut W) -> io::Result<()>
     writeln!(out, "trace {events} undecided {undecided}")
 }
 
-/// The terminals of the processes, by rising number, each once.
-fn terminals_of(
-    alloc: Global,
-    kernel: &Kernel,
-    entities: &[Entity],
-) -> Result<Vec<u16>, AllocError> {
-    let mut terminals = Vec::new(alloc);
+/// The terminals of the processes among these entities, by rising number, each once.
+fn terminals_of(alloc: Global, kernel: &Kernel, entities: &[Entity]) -> Result<Vec<u16>, AllocError>
+    ensures { IfOk result (λ numbers. numbers.items ≡ with_terminals (map.get kernel.now.written.now) [] entities.now) }
+{
+    let mut numbers = BTreeSet::new(alloc);
     for entity in entities {
         if let Some(View::Process(process)) = kernel.value(entity) {
-            terminals.push(process.terminal)?;
+            numbers.insert(process.terminal)?;
         }
     }
-    terminals.sort_unstable();
-    terminals.dedup();
-    Ok(terminals)
+    numbers.iter().copied().collect(alloc)
 }
 
 /// Writes how many texts a terminal has, and those released.

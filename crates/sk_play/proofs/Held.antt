@@ -1,6 +1,6 @@
 -- What becomes of held tokens when a guess is drawn or decided, or a token is taken out: from the definitions of a
 -- guess's status and of what a token redeems.
-use Rattle.std.proofs.Common.{◌≡◌, ℕ, zero, suc, ◌+◌, ◌-◌, ◌<◌, Bool, true, false, not, ◌&&◌, ◌==◌, List, [], ◌∷◌, ◌++◌, length, get_or, refl, sym, ap, ◌∙◌, arith, subst, Some}
+use Rattle.std.proofs.Common.{◌≡◌, ℕ, zero, suc, ◌+◌, ◌-◌, ◌<◌, Bool, true, false, not, ◌&&◌, ◌||◌, ◌==◌, List, [], ◌∷◌, ◌++◌, length, get_or, refl, sym, ap, ◌∙◌, arith, subst, Some}
 use Rattle.std.specs.Prelude.{is_ok, slice_get, slice_set}
 use Rattle.std.specs.List.{list_all, remove}
 use Rattle.std.proofs.lemmas.Bool.{ne_eqb, eq-eqb}
@@ -9,7 +9,7 @@ use Rattle.sk_guesses.specs.Guesses.{GuessesView, status_of, with_status, drawn,
 use Rattle.sk_guesses.specs.Calls.{redeemed, redeemed_at}
 use Rattle.sk_guesses.specs.declared.status.Status.{Status}
 use Rattle.sk_guesses.specs.declared.status.Status.TheVariants.{Undecided}
-use Rattle.sk_play.specs.Game.{none_of, all_taken, id_at}
+use Rattle.sk_play.specs.Game.{none_of, all_taken, id_at, is_held, without_token}
 
 both : (a b : Bool) → (a && b) ≡ true → (a ≡ true) × (b ≡ true)
 both true true e = (refl, refl)
@@ -20,6 +20,11 @@ pair : (a b : Bool) → a ≡ true → b ≡ true → (a && b) ≡ true
 pair true true e f = refl
 pair true false e f = absurd cc
 pair false b e f = absurd cc
+
+swapped : (a b c : Bool) → (a || (b || c)) ≡ (b || (a || c))
+swapped true true c = refl
+swapped true false c = refl
+swapped false b c = refl
 
 -- ---- taking a token out
 
@@ -199,3 +204,48 @@ id_at_get (t ∷ ts) (suc i) d lt = id_at_get ts i d (omega arith)
 
 pub id_at_of : (ts : List Token) (i : ℕ) (t : Token) → i < length ts → t ≡ get_or ts i t → id_at ts i ≡ Some t.id
 id_at_of ts i t lt e = id_at_get ts i t lt ∙ ap (λ u. Some u.id) (sym e)
+
+-- ---- the tokens without that of a guess
+
+-- no token of the guess: none is taken out
+pub none_without : (id : ℕ) (ts : List Token) → is_held id ts ≡ false → without_token id ts ≡ ts
+none_without id [] h = refl
+none_without id (t ∷ ts) h =
+    elim (t.id == id) as (λ b. (t.id == id) ≡ b → without_token id (t ∷ ts) ≡ t ∷ ts) [
+      | true ↦ λ e. let bad : true ≡ false = rw e at h in absurd cc
+      | false ↦ λ e. rw e (ap (λ us. t ∷ us) (none_without id ts (rw e at h)))
+    ] refl
+
+same_id : (ts : List Token) (i id : ℕ) (t : ℕ) → none_of t ts ≡ true → id_at ts i ≡ Some id → (t == id) ≡ false
+same_id [] i id t n at = absurd cc
+same_id (u ∷ ts) zero id t n at =
+    let b = both (not (u.id == t)) (none_of t ts) n in
+    let is : u.id ≡ id = cc in
+    ne_eqb t id (λ e. not_same u.id t b.0 (is ∙ sym e))
+same_id (u ∷ ts) (suc i) id t n at = same_id ts i id t (both (not (u.id == t)) (none_of t ts) n).1 at
+
+-- the token at a place is the only one of its guess
+pub removed_without : (g : GuessesView) (ts : List Token) (i id : ℕ) → all_taken g ts ≡ true → id_at ts i ≡ Some id → remove ts i ≡ without_token id ts
+removed_without g [] i id h at = absurd cc
+removed_without g (t ∷ ts) zero id h at =
+    let is : t.id ≡ id = cc in
+    rw (eq-eqb t.id id is) refl
+removed_without g (t ∷ ts) (suc i) id h at =
+    let b = both (is_ok (redeemed g t)) (none_of t.id ts && all_taken g ts) h in
+    let c = both (none_of t.id ts) (all_taken g ts) b.1 in
+    rw (same_id ts i id t.id c.0 at) (ap (λ us. t ∷ us) (removed_without g ts i id c.1 at))
+
+-- ---- a token that is put back is held again
+
+held_end : (id : ℕ) (ts : List Token) (t : Token) → is_held id (ts ++ t ∷ []) ≡ is_held id (t ∷ ts)
+held_end id [] t = refl
+held_end id (u ∷ us) t = rw (held_end id us t) (swapped (u.id == id) (t.id == id) (is_held id us))
+
+held_at : (id : ℕ) (ts : List Token) (i : ℕ) (d : Token) → i < length ts → is_held id (get_or ts i d ∷ remove ts i) ≡ is_held id ts
+held_at id [] i d lt = absurd (omega arith)
+held_at id (t ∷ ts) zero d lt = refl
+held_at id (t ∷ ts) (suc i) d lt =
+    swapped ((get_or ts i d).id == id) (t.id == id) (is_held id (remove ts i)) ∙ ap (λ b. (t.id == id) || b) (held_at id ts i d (omega arith))
+
+pub held_back : (id : ℕ) (ts : List Token) (i : ℕ) (t : Token) (others : List Token) → i < length ts → t ≡ get_or ts i t → others ≡ remove ts i → is_held id (others ++ t ∷ []) ≡ is_held id ts
+held_back id ts i t others lt e s = held_end id others t ∙ rw s (subst (λ u. is_held id (u ∷ remove ts i) ≡ is_held id ts) (sym e) (held_at id ts i t lt))

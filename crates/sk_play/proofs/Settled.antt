@@ -60,6 +60,12 @@ fails_back (Err (refusals.Memory x)) s t old new others h e o =
     let same : s ≡ t = cc in
     rw (same, h.1) (put_back old.guesses t others o.takes o.apart o.rest)
 
+-- the token that comes back is the one that was handed in
+pub memory_back : (result : Result Outcome FailRefusal) (s : Token) (t : Token) (old new : KernelView) → Fails result t old new → result ≡ Err (refusals.Memory s) → s ≡ t
+memory_back (Ok x) s t old new h e = absurd cc
+memory_back (Err (refusals.Stranger x)) s t old new h e = absurd cc
+memory_back (Err (refusals.Memory x)) s t old new h e = cc
+
 pub draws_keep : (result : Result Token Refusal) (s : Token) (refused : Option Refusal) (old after new : KernelView) (ts : List Token) → Draws result refused old after new → after.guesses ≡ drawn old.guesses → result ≡ Ok s → all_taken old.guesses ts ≡ true → all_taken new.guesses (ts ++ s ∷ []) ≡ true
 draws_keep (Err x) s refused old after new ts h a e held = absurd cc
 draws_keep (Ok x) s refused old after new ts h a e held =

@@ -1,5 +1,5 @@
 -- The tokens that a run holds.
-use Rattle.std.specs.Prelude.{◌≡◌, Option, Some, None, ℕ, zero, suc, Bool, true, false, not, ◌&&◌, ◌==◌, List, [], ◌∷◌, is_ok}
+use Rattle.std.specs.Prelude.{◌≡◌, Option, Some, None, ℕ, zero, suc, Bool, true, false, not, ◌&&◌, ◌==◌, List, [], ◌∷◌, ◌++◌, is_ok, if◌then◌else◌}
 use Rattle.std.specs.List.{list_all, list_any}
 use Rattle.sk_guesses.specs.Token.{Token}
 use Rattle.sk_guesses.specs.Guesses.{GuessesView, next_of, status_of}
@@ -55,6 +55,20 @@ id_at [] place = None
 id_at (t ∷ ts) zero = Some t.id
 id_at (t ∷ ts) (suc place) = id_at ts place
 
+-- the tokens but the first of this guess
+abbrev pub without_token : ℕ → List Token → List Token
+without_token id [] = []
+without_token id (t ∷ ts) = if t.id == id then ts else t ∷ without_token id ts
+
+-- with the token of a guess that was drawn
+abbrev pub with_guess : Answer → ℕ → List Token → List Token
+with_guess (answers.Guessed id) kernel ts = ts ++ record { kernel = kernel; id = id } ∷ []
+with_guess answers.Stepped kernel ts = ts
+with_guess answers.Done kernel ts = ts
+with_guess answers.Gone kernel ts = ts
+with_guess answers.NoToken kernel ts = ts
+with_guess (answers.Refused why) kernel ts = ts
+
 abbrev pub outcome_told : Outcome → Answer
 outcome_told outcomes.Done = answers.Done
 outcome_told outcomes.Gone = answers.Gone
@@ -88,3 +102,14 @@ Told answer (calls.Guess pid input) tokens old new =
     GuessTold answer (guess_refused old (entry pid input (Some (next_of old.guesses)))) old (guessed old (entry pid input (Some (next_of old.guesses)))) new
 Told answer (calls.Commit id) tokens old new = CommitTold answer (is_held id tokens) id old new
 Told answer (calls.Fail id) tokens old new = FailTold answer (is_held id tokens) id old new
+
+-- the tokens that are held after a step of a scenario: a guess gives one, and a decision spends one
+abbrev pub tokens_after : Answer → Step → ℕ → List Token → List Token
+tokens_after answer (calls.Step pid input) kernel ts = ts
+tokens_after answer (calls.Guess pid input) kernel ts = with_guess answer kernel ts
+tokens_after answer (calls.Commit id) kernel ts = without_token id ts
+tokens_after answer (calls.Fail id) kernel ts = without_token id ts
+
+-- the same guesses have tokens
+abbrev pub HoldsTheSame : List Token → List Token → Type 0
+HoldsTheSame old new = (id : ℕ) → is_held id new ≡ is_held id old

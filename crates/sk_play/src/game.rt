@@ -1,6 +1,7 @@
 //! A kernel at play, with the tokens of its guesses.
-ghost use Rattle.std.specs.Prelude.{MatchResult, IfOk, unwrap_or, None, Some, ◌≡◌, ◌+◌, ◌<◌, IfSome, true, vec_len, is_some};
-ghost use Rattle.sk_play.specs.Game.{all_taken, is_held, id_at, outcome_told, entry, Told, StepTold, GuessTold, CommitTold, FailTold};
+ghost use Rattle.std.specs.Prelude.{MatchResult, IfOk, OnOk, OnErr, unwrap_or, None, Some, ◌≡◌, ◌+◌, ◌<◌, IfSome, true, vec_len, is_some};
+ghost use Rattle.std.specs.List.{remove};
+ghost use Rattle.sk_play.specs.Game.{all_taken, is_held, id_at, outcome_told, entry, without_token, with_guess, tokens_after, HoldsTheSame, Told, StepTold, GuessTold, CommitTold, FailTold};
 ghost use Rattle.sk_guesses.specs.Guesses.{next_of};
 ghost use Rattle.sk_kernel.specs.Kernel.{booted, step_refused, stepped, guess_refused, guessed};
 ghost use Rattle.sk_kernel.specs.Calls.{cause};
@@ -47,7 +48,9 @@ impl Game {
 
     /// Makes the call that a step says. Without memory nothing changes.
     pub fn take(&mut self, step: &Step) -> Result<Answer, AllocError>
-        ensures { MatchResult result (λ answer. Told answer step.now self.old.tokens.items self.old.kernel self.new.kernel) (λ _. self.new.kernel ≡ self.old.kernel) }
+        ensures tokens { IfOk result (λ answer. self.new.tokens.items ≡ tokens_after answer step.now self.old.kernel.guesses.kernel self.old.tokens.items) }
+        ensures held { OnErr result (HoldsTheSame self.old.tokens.items self.new.tokens.items) }
+        ensures told { MatchResult result (λ answer. Told answer step.now self.old.tokens.items self.old.kernel self.new.kernel) (λ _. self.new.kernel ≡ self.old.kernel) }
     {
         match step {
             Step::Step(pid, input) => self.step(*pid, *input),
@@ -58,7 +61,8 @@ impl Game {
     }
 
     fn step(&mut self, pid: Pid, input: Input) -> Result<Answer, AllocError>
-        ensures { MatchResult result (λ answer. StepTold answer (step_refused self.old.kernel (entry pid input None)) self.old.kernel (stepped self.old.kernel (entry pid input None)) self.new.kernel) (λ _. self.new.kernel ≡ self.old.kernel) }
+        ensures tokens { self.new.tokens.items ≡ self.old.tokens.items }
+        ensures told { MatchResult result (λ answer. StepTold answer (step_refused self.old.kernel (entry pid input None)) self.old.kernel (stepped self.old.kernel (entry pid input None)) self.new.kernel) (λ _. self.new.kernel ≡ self.old.kernel) }
     {
         match self.kernel.step(pid, input) {
             Ok(()) => Ok(Answer::Stepped),
@@ -67,7 +71,9 @@ impl Game {
     }
 
     fn guess(&mut self, pid: Pid, input: Input) -> Result<Answer, AllocError>
-        ensures { MatchResult result (λ answer. GuessTold answer (guess_refused self.old.kernel (entry pid input (Some (next_of self.old.kernel.guesses)))) self.old.kernel (guessed self.old.kernel (entry pid input (Some (next_of self.old.kernel.guesses)))) self.new.kernel) (λ _. self.new.kernel ≡ self.old.kernel) }
+        ensures tokens { IfOk result (λ answer. self.new.tokens.items ≡ with_guess answer self.old.kernel.guesses.kernel self.old.tokens.items) }
+        ensures held { OnErr result (self.new.tokens.items ≡ self.old.tokens.items) }
+        ensures told { MatchResult result (λ answer. GuessTold answer (guess_refused self.old.kernel (entry pid input (Some (next_of self.old.kernel.guesses)))) self.old.kernel (guessed self.old.kernel (entry pid input (Some (next_of self.old.kernel.guesses)))) self.new.kernel) (λ _. self.new.kernel ≡ self.old.kernel) }
     {
         self.tokens.reserve(1)?;
         match self.kernel.create_speculation(pid, input) {
@@ -81,7 +87,8 @@ impl Game {
     }
 
     fn commit(&mut self, id: GuessId) -> Answer
-        ensures { CommitTold result (is_held id self.old.tokens.items) id self.old.kernel self.new.kernel }
+        ensures tokens { self.new.tokens.items ≡ without_token id self.old.tokens.items }
+        ensures told { CommitTold result (is_held id self.old.tokens.items) id self.old.kernel self.new.kernel }
     {
         match self.place_of(id) {
             Some(place) => self.commit_at(place),
@@ -93,6 +100,7 @@ impl Game {
     fn commit_at(&mut self, place: usize) -> Answer
         requires { place < vec_len self.old.tokens }
         ensures less { vec_len self.new.tokens + 1 ≡ vec_len self.old.tokens }
+        ensures tokens { self.new.tokens.items ≡ remove self.old.tokens.items place }
         ensures told { IfSome (id_at self.old.tokens.items place) (λ id. CommitTold result true id self.old.kernel self.new.kernel) }
     {
         let token = self.tokens.remove(place);
@@ -103,7 +111,9 @@ impl Game {
     }
 
     fn fail(&mut self, id: GuessId) -> Result<Answer, AllocError>
-        ensures { MatchResult result (λ answer. FailTold answer (is_held id self.old.tokens.items) id self.old.kernel self.new.kernel) (λ _. self.new.kernel ≡ self.old.kernel) }
+        ensures tokens { OnOk result (self.new.tokens.items ≡ without_token id self.old.tokens.items) }
+        ensures held { OnErr result (HoldsTheSame self.old.tokens.items self.new.tokens.items) }
+        ensures told { MatchResult result (λ answer. FailTold answer (is_held id self.old.tokens.items) id self.old.kernel self.new.kernel) (λ _. self.new.kernel ≡ self.old.kernel) }
     {
         match self.place_of(id) {
             Some(place) => self.fail_at(place),
@@ -114,6 +124,8 @@ impl Game {
     /// Fails the guess of a token.
     fn fail_at(&mut self, place: usize) -> Result<Answer, AllocError>
         requires { place < vec_len self.old.tokens }
+        ensures tokens { OnOk result (self.new.tokens.items ≡ remove self.old.tokens.items place) }
+        ensures held { OnErr result (HoldsTheSame self.old.tokens.items self.new.tokens.items) }
         ensures told { IfSome (id_at self.old.tokens.items place) (λ id. MatchResult result (λ answer. FailTold answer true id self.old.kernel self.new.kernel) (λ _. self.new.kernel ≡ self.old.kernel)) }
     {
         let token = self.tokens.remove(place);

@@ -1,2 +1,3 @@
 pub mod Held
 pub mod Settled
+pub mod Turns

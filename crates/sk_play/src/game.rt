@@ -1,9 +1,10 @@
 //! A kernel at play, with the tokens of its guesses.
-ghost use Rattle.std.specs.Prelude.{MatchResult, IfOk, OnOk, OnErr, unwrap_or, None, Some, ◌≡◌, ◌+◌, ◌<◌, IfSome, true, vec_len, is_some};
+ghost use Rattle.std.specs.Prelude.{MatchResult, IfOk, OnOk, OnErr, [], None, Some, ◌≡◌, ◌+◌, ◌<◌, IfSome, true, vec_len, is_some};
 ghost use Rattle.std.specs.List.{remove};
 ghost use Rattle.sk_play.specs.Game.{all_taken, is_held, id_at, outcome_told, entry, without_token, with_guess, tokens_after, HoldsTheSame, Told, StepTold, GuessTold, CommitTold, FailTold};
+ghost use Rattle.sk_play.specs.Plays.{declared_kernel};
 ghost use Rattle.sk_guesses.specs.Guesses.{next_of};
-ghost use Rattle.sk_kernel.specs.Kernel.{booted, step_refused, stepped, guess_refused, guessed};
+ghost use Rattle.sk_kernel.specs.Kernel.{step_refused, stepped, guess_refused, guessed};
 ghost use Rattle.sk_kernel.specs.Calls.{cause};
 
 use crate::answer::Answer;
@@ -25,7 +26,8 @@ pub struct Game {
 impl Game {
     /// The kernel that a scenario declares, at its start.
     pub fn new(alloc: Global, declarations: &Declarations) -> Result<Game, AllocError>
-        ensures { IfOk result (λ game. game.kernel ≡ booted (unwrap_or declarations.now.number 1) declarations.now.boot (unwrap_or declarations.now.limit 1000000)) }
+        ensures kernel { IfOk result (λ game. game.kernel ≡ declared_kernel declarations.now) }
+        ensures tokens { IfOk result (λ game. game.tokens.items ≡ []) }
     {
         let kernel = Kernel::boot(
             alloc,

@@ -1,4 +1,8 @@
 //! Playing a scenario.
+ghost use Rattle.std.specs.Prelude.{OnOk, []};
+ghost use Rattle.sk_play.specs.Plays.{declared_kernel, Answered, Reported};
+ghost use Rattle.sk_report.specs.Report.{report_text};
+
 use sk_play::{Game, write_answer};
 use sk_report::{Stop, write_report};
 use sk_scenario::{Declarations, Step};
@@ -12,18 +16,32 @@ pub fn play<W: Write>(
     declarations: &Declarations,
     steps: &[Step],
     out: &mut W,
-) -> Result<(), Stop> {
+) -> Result<(), Stop>
+    ensures { OnOk result (Reported report_text steps.now [] (declared_kernel declarations.now) (W.contents out.old) (W.contents out.new)) }
+{
     let mut game = Game::new(alloc, declarations)?;
-    let played = take_all(&mut game, steps, out);
-    let reported = match played {
-        Ok(()) => write_report(alloc, game.kernel(), out),
-        Err(stop) => Err(stop),
-    };
+    let reported = report_all(alloc, &mut game, steps, out);
     game.end();
     reported
 }
 
-fn take_all<W: Write>(game: &mut Game, steps: &[Step], out: &mut W) -> Result<(), Stop> {
+/// Takes the steps in order, and writes a line for each answer and then the report.
+fn report_all<W: Write>(
+    alloc: Global,
+    game: &mut Game,
+    steps: &[Step],
+    out: &mut W,
+) -> Result<(), Stop>
+    ensures { OnOk result (Reported report_text steps.now game.old.tokens.items game.old.kernel (W.contents out.old) (W.contents out.new)) }
+{
+    take_all(game, steps, out)?;
+    write_report(alloc, game.kernel(), out)
+}
+
+/// Takes the steps in order, and writes a line for each answer.
+fn take_all<W: Write>(game: &mut Game, steps: &[Step], out: &mut W) -> Result<(), Stop>
+    ensures { OnOk result (Answered steps.now game.old.tokens.items game.old.kernel game.new.tokens.items game.new.kernel (W.contents out.old) (W.contents out.new)) }
+{
     for (place, step) in steps.iter().enumerate() {
         let answer = game.take(step)?;
         write_answer(place + 1, &answer, out)?;

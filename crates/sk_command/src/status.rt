@@ -1,5 +1,6 @@
 //! The statuses of a run, and the messages that go with them.
 ghost use Rattle.std.specs.Prelude.{◌≡◌};
+ghost use Rattle.std.specs.Io.KnownBytes.{Keeps};
 ghost use Rattle.sk_command.specs.Status.{fault_status, IsFlushed};
 
 use sk_words::{Fault, FaultKind};
@@ -19,7 +20,8 @@ pub const TROUBLE: u8 = 3;
 
 /// A status, once all output is written; `TROUBLE` where that is refused.
 pub fn flushed<W: Write>(out: &mut W, status: u8) -> u8
-    ensures { IsFlushed status result }
+    ensures status { IsFlushed status result }
+    ensures kept { Keeps (W.contents out.old) (W.contents out.new) }
 {
     if out.flush().is_err() {
         TROUBLE

@@ -1,5 +1,7 @@
 -- One more step that is taken: from what the steps before it left.
-use Rattle.std.proofs.Common.{◌≡◌, ℕ, suc, ◌+◌, List, [], ◌∷◌, ◌++◌, length, refl, sym, ap, ◌∙◌, arith}
+use Rattle.std.proofs.Common.{◌≡◌, ℕ, suc, ◌+◌, List, [], ◌∷◌, ◌++◌, length, Option, refl, sym, ap, ◌∙◌, arith}
+use Rattle.std.specs.Io.KnownBytes.{Keeps}
+use Rattle.std.proofs.KnownBytes.{Appends-kept}
 use Rattle.std.proofs.lemmas.List.{append_assoc}
 use Rattle.std.proofs.lemmas.List.{append-nil}
 use Rattle.sk_guesses.specs.Token.{Token}
@@ -8,7 +10,7 @@ use Rattle.sk_kernel.specs.Kernel.{KernelView}
 use Rattle.sk_play.specs.declared.answer.Answer.{Answer}
 use Rattle.sk_play.specs.Game.{Told, tokens_after}
 use Rattle.sk_play.specs.Played.{answer_line}
-use Rattle.sk_play.specs.Plays.{Plays, answer_lines}
+use Rattle.sk_play.specs.Plays.{Plays, answer_lines, Reported}
 
 pub plays_more : (ss : List Step) (bs : List Answer) (s : Step) (a : Answer) (ts us : List Token) (k mid last : KernelView) → Plays ss bs ts k us mid → Told a s us mid last
     → Plays (ss ++ s ∷ []) (bs ++ a ∷ []) ts k (tokens_after a s mid.guesses.kernel us) last
@@ -31,3 +33,7 @@ lines_more n (b ∷ bs) a =
     let later : n + 1 + length bs ≡ n + length (b ∷ bs) = omega arith in
     ap (λ ls. answer_line n b ++ ls) (lines_more (n + 1) bs a) ∙ sym (append_assoc (answer_line n b) (answer_lines (n + 1) bs) (answer_line (n + 1 + length bs) a))
     ∙ ap (λ m. (answer_line n b ++ answer_lines (n + 1) bs) ++ answer_line m a) later
+
+-- what is kept of the bytes that were written
+pub reported_kept : (report : KernelView → List ℕ) (ss : List Step) (ts : List Token) (k : KernelView) (old mid new : Option (List ℕ)) → Reported report ss ts k old mid → Keeps mid new → Reported report ss ts k old new
+reported_kept report ss ts k old mid new r kept = (r.0, r.1, r.2, r.3, Appends-kept old mid new _ r.4 kept)

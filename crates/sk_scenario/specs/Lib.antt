@@ -1,3 +1,4 @@
 pub mod Steps
 pub mod Declarations
 pub mod Inputs
+pub mod Whole

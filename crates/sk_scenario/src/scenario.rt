@@ -1,7 +1,11 @@
 //! Reading a scenario.
-ghost use Rattle.std.specs.Prelude.{◌≤◌, ◌+◌, [], length};
+ghost use Rattle.std.specs.Prelude.{◌≡◌, ◌≤◌, ◌+◌, ◌++◌, ◌∷◌, [], None, Some, MatchOption, true, not, length};
+ghost use Rattle.std.specs.List.{list_all};
 ghost use Rattle.sk_words.specs.Reading.{read_from};
+ghost use Rattle.sk_words.specs.Reading.{Leaves};
+ghost use Rattle.sk_scenario.specs.Declarations.{Declared};
 ghost use Rattle.sk_scenario.specs.Steps.{step_line, ReadsSteps};
+ghost use Rattle.sk_scenario.specs.Whole.{is_end, ended, goes_on, section_from, scenario_from, scenario_of, Says, SaysSection, Goes, GoesOn};
 
 use crate::cursor::Cursor;
 use crate::declarations::{Declarations, Heading, Said};
@@ -29,7 +33,9 @@ pub struct Scenario {
 
 impl Scenario {
     /// The scenario that a text says, or its first faulty line.
-    pub fn parse(alloc: Global, text: &[u8]) -> Result<Scenario, Fault> {
+    pub fn parse(alloc: Global, text: &[u8]) -> Result<Scenario, Fault>
+        ensures { Says result (scenario_of text.now) }
+    {
         let mut declarations = Declarations::new(alloc);
         let mut cursor = Cursor::of(text);
         while let Some(line) = cursor.next() {
@@ -58,7 +64,8 @@ fn go_on(
     said: Said,
     cursor: &mut Cursor<'_>,
 ) -> Result<Option<Section>, Fault>
-    ensures { length cursor.new.lines ≤ length cursor.old.lines }
+    ensures left { length cursor.new.lines ≤ length cursor.old.lines }
+    ensures said { GoesOn result (goes_on said declarations.old (cursor.old.line + 1) cursor.old.lines (λ begun. scenario_from declarations.old begun (cursor.old.line + 1) cursor.old.lines)) declarations.new (scenario_from declarations.new None (cursor.new.line + 1) cursor.new.lines) }
 {
     match said {
         Said::Declared => Ok(None),
@@ -77,23 +84,33 @@ struct ScriptLines<'a> {
     end: Option<&'a [u8]>,
 }
 
+/// Whether a line ends a script: its first word is `end`.
+fn is_end(line: &[u8]) -> bool
+    ensures { result ≡ is_end line.now }
+{
+    match Words::of(line).next() {
+        Some(word) => word == b"end".as_slice(),
+        None => false,
+    }
+}
+
 /// Takes a script's lines, up to the first whose first word is `end`.
 fn take_script<'a>(cursor: &mut Cursor<'a>) -> ScriptLines<'a>
-    ensures lines { length result.lines ≤ length cursor.old.lines }
-    ensures left { length cursor.new.lines ≤ length cursor.old.lines }
+    ensures none { list_all (λ line. not (is_end line)) result.lines ≡ true }
+    ensures end { MatchOption result.end (cursor.old.lines ≡ result.lines × cursor.new.lines ≡ []) (λ line. (cursor.old.lines ≡ result.lines ++ line.now ∷ cursor.new.lines) × (is_end line.now ≡ true)) }
+    ensures line { MatchOption result.end (cursor.new.line ≡ cursor.old.line + length result.lines) (λ line. cursor.new.line ≡ cursor.old.line + length result.lines + 1) }
 {
     let lines = cursor.left();
-    let before = cursor.line();
+    let mut count = 0;
     while let Some(line) = cursor.next() {
-        if Words::of(line).next() == Some(b"end".as_slice()) {
-            let count = cursor.line() - before - 1;
+        if is_end(line) {
             return ScriptLines {
                 lines: Block::first(&lines, count),
                 end: Some(line),
             };
         }
+        count += 1;
     }
-    let count = cursor.line() - before;
     ScriptLines {
         lines: Block::first(&lines, count),
         end: None,
@@ -108,14 +125,21 @@ fn script(
     name: Name,
     cursor: &mut Cursor<'_>,
 ) -> Result<(), Fault>
-    ensures { length cursor.new.lines ≤ length cursor.old.lines }
+    ensures left { length cursor.new.lines ≤ length cursor.old.lines }
+    ensures goes { Goes result (scenario_from declarations.old (Some (record { name = name; first = cursor.old.line + 1; lines = [] })) (cursor.old.line + 1) cursor.old.lines) (scenario_from declarations.new None (cursor.new.line + 1) cursor.new.lines) }
 {
     let first = cursor.line() + 1;
     let taken = take_script(cursor);
-    let script = Script::parse_lines(alloc, &taken.lines, first)?;
-    match ended(declarations, name, script, taken.end) {
-        Ok(()) => Ok(()),
-        Err(kind) => Err(cursor.fault(kind)),
+    let script = match Script::parse_lines(alloc, &taken.lines, first) {
+        Ok(script) => script,
+        Err(fault) => return Err(fault),
+    };
+    match taken.end {
+        None => Err(cursor.fault(FaultKind::Word)),
+        Some(end) => match ended(declarations, name, script, end) {
+            Ok(()) => Ok(()),
+            Err(kind) => Err(cursor.fault(kind)),
+        },
     }
 }
 
@@ -124,11 +148,10 @@ fn ended(
     declarations: &mut Declarations,
     name: Name,
     script: Script,
-    end: Option<&[u8]>,
-) -> Result<(), FaultKind> {
-    let Some(end) = end else {
-        return Err(FaultKind::Word);
-    };
+    end: &[u8],
+) -> Result<(), FaultKind>
+    ensures { Leaves result (ended declarations.old name script end.now) declarations.new }
+{
     let mut words = Words::of(end);
     words.next();
     none(&words)?;
@@ -137,7 +160,8 @@ fn ended(
 
 /// The section below a heading.
 fn section_of(alloc: Global, heading: Heading, cursor: &mut Cursor<'_>) -> Result<Section, Fault>
-    ensures { length cursor.new.lines ≤ length cursor.old.lines }
+    ensures left { length cursor.new.lines ≤ length cursor.old.lines }
+    ensures said { (d : Declared) → SaysSection result (section_from d heading (cursor.old.line + 1) cursor.old.lines) d }
 {
     match heading {
         Heading::Steps => Ok(Section::Steps(steps(alloc, cursor)?)),

@@ -1,6 +1,8 @@
 //! The run of the program, from its words to its status.
 ghost use Rattle.std.specs.Prelude.{◌≤◌};
 ghost use Rattle.sk_command.specs.Status.{IsOfFile};
+ghost use Rattle.sk_scenario.specs.Whole.{scenario_of};
+ghost use Rattle.speculate.specs.Run.{Ends};
 
 use crate::playing::play;
 use sk_command::input::input;
@@ -32,9 +34,10 @@ pub fn run<O: Open, W: Write, E: Write>(
     }
 }
 
-/// Plays a scenario's text.
-fn run_text<W: Write, E: Write>(alloc: Global, text: &[u8], out: &mut W, err: &mut E) -> u8
-    ensures { IsOfFile result }
+/// Plays a scenario's text, or tells its first fault.
+pub fn run_text<W: Write, E: Write>(alloc: Global, text: &[u8], out: &mut W, err: &mut E) -> u8
+    ensures file { IsOfFile result }
+    ensures ends { Ends (scenario_of text.now) result (W.contents out.old) (W.contents out.new) }
 {
     let Scenario {
         declarations,

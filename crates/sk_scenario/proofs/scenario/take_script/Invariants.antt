@@ -1,12 +1,16 @@
--- Taking a script's lines: as many were taken as the number of the last line grew.
-use Rattle.std.proofs.Common.{◌≡◌, ◌+◌, ◌≤◌, length}
+-- Taking a script's lines: those before the loop's place are taken, and none of them ends the script.
+use Rattle.std.proofs.Common.{◌≡◌, ◌+◌, ◌++◌, ◌≤◌, true, not, length, take, drop}
+use Rattle.std.specs.List.{list_all}
+use Rattle.sk_scenario.specs.Whole.{is_end}
 use Rattle.sk_scenario.proofs.scenario.take_script.Given as goal
 
 abbrev pub invariant-loop-line : goal.invariant-loop-line
 invariant-loop-line l = record {
-  counted : l.before ≤ l.cursor.line;
   lines : l.lines ≡ l.fn.cursor.lines;
-  left : (l.cursor.line + length l.cursor.lines) ≡ (l.before + length l.lines);
+  counted : l.cursor.line ≡ l.fn.cursor.line + l.count;
+  within : l.count + length l.cursor.lines ≡ length l.lines;
+  left : drop l.count l.lines ≡ l.cursor.lines;
+  none : list_all (λ line. not (is_end line)) (take l.count l.lines) ≡ true;
 }
 
 abbrev pub decreases-loop-line : goal.decreases-loop-line

@@ -4,7 +4,7 @@ use sk_objects::Content;
 use sk_plain::{Entry, Errno, Event, Refusal, Trace, apply_plan, plan_step, strike};
 use sk_script::boot::BOOT_OBJECT_LIMIT;
 use sk_script::{Boot, Input, ObjectKind, ROOT, Register, Script, Val};
-use sk_store::{Look, Store, Stored};
+use sk_store::{Look, Store, EntityState};
 use std::alloc::{AllocError, Global};
 use std::test::Fail;
 
@@ -139,7 +139,7 @@ fn steps(store: &mut Store, boot: &Boot, pid: Pid, count: usize) -> Result<(), R
 /// The number that a process has in r0.
 fn answer_in(store: &Store, pid: Pid) -> Option<i64> {
     match store.value(Entity::Proc(pid)) {
-        Some(Stored::Process(process)) => match process.registers.get(Register::ANSWER) {
+        Some(EntityState::Process(process)) => match process.registers.get(Register::ANSWER) {
             Val::Num(number) => Some(number),
             _ => None,
         },
@@ -242,7 +242,7 @@ fn declares_both(boot: &mut Boot, file: Name, pipe: Name) -> Result<(), Fail> {
 /// Whether the root of a store names these two objects, in this order of numbers.
 fn names_both(store: &Store, first: &Name, second: &Name) -> bool {
     match store.value(Entity::Obj(ROOT)) {
-        Some(Stored::Value(root)) => {
+        Some(EntityState::Value(root)) => {
             root.look(first) == Some(Some(boot_object(2)))
                 && root.look(second) == Some(Some(boot_object(3)))
         }

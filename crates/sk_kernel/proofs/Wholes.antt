@@ -3,14 +3,14 @@ use Rattle.std.proofs.Common.{◌≡◌, ℕ, ◌≤◌, Bool, true, false, eqb,
 use Rattle.std.specs.Prelude.{◌≢◌, is_some}
 use Rattle.std.proofs.lemmas.Bool.{false≢true, true≢false, eqb-true, eq-eqb}
 use Rattle.sk_ids.specs.declared.entity.Entity.{Entity}
-use Rattle.sk_store.specs.declared.stored.Stored.{Stored}
+use Rattle.sk_store.specs.declared.entity_state.EntityState.{EntityState}
 use Rattle.sk_guesses.specs.Guesses.{GuessesView, status_of, with_status, drawn, next_of, is_undecided}
 use Rattle.sk_guesses.specs.declared.status.Status.{Status}
 use Rattle.sk_guesses.specs.declared.status.Status.TheVariants.{Undecided}
 use Rattle.sk_guesses.proofs.Statuses.{status-drawn_next, status-drawn, status-with_status, status-with_status_other}
 use Rattle.sk_kernel.specs.Open.{OpenView}
 use Rattle.sk_undo.specs.Journal.{Written, written_over, puts, puts_all, marked}
-use Rattle.sk_kernel.specs.Whole.{IsWhole, IsTheUndecided}
+use Rattle.sk_kernel.specs.Invariant.{IsWhole, IsTheUndecided}
 
 by_test : (q n : ℕ) (b : Bool) → eqb q n ≡ b → (q ≢ n → ⊥) → q ≡ n
 by_test q n true e h = eqb-true q n e
@@ -51,11 +51,11 @@ drawn_whole g h o w v room left whole is number noting place = record {
 }
 
 -- writes are noted as long as they were
-noting-puts_all : (w : Written) (ws : List (Entity × Stored)) → (puts_all w ws).noting ≡ w.noting
+noting-puts_all : (w : Written) (ws : List (Entity × EntityState)) → (puts_all w ws).noting ≡ w.noting
 noting-puts_all w [] = refl
 noting-puts_all w (x ∷ xs) = noting-puts_all (puts w x.0 x.1) xs
 
-pub noting_marked : (w v : Written) (ws : List (Entity × Stored)) → v ≡ puts_all (marked w) ws → v.noting ≡ true
+pub noting_marked : (w v : Written) (ws : List (Entity × EntityState)) → v ≡ puts_all (marked w) ws → v.noting ≡ true
 noting_marked w v ws is = ap (λ u. u.noting) is ∙ noting-puts_all (marked w) ws
 
 pub none_pending : (p : Option OpenView) → is_some p ≡ false → p ≡ None

@@ -5,7 +5,7 @@ use Rattle.sk_guesses.specs.Guesses.{next_of}
 use Rattle.sk_guesses.specs.Calls.{redeemed}
 use Rattle.sk_guesses.specs.declared.guess.Redeemed.TheVariants as redeemed_as
 use Rattle.sk_plain.specs.View.{IsView}
-use Rattle.sk_store.specs.declared.stored.Stored.{Stored}
+use Rattle.sk_store.specs.declared.entity_state.EntityState.{EntityState}
 use Rattle.sk_plain.specs.declared.view.View.{View}
 use Rattle.sk_plain.specs.declared.refusal.Refusal.{Refusal}
 use Rattle.sk_plain.specs.declared.refusal.Refusal.TheVariants.{NoProcess, Ended, Mismatch, NeedsReply, Blocked, TooMany, TraceFull, Memory}
@@ -24,7 +24,7 @@ use Rattle.sk_kernel.specs.declared.kernel.FailRefusal.{FailRefusal}
 use Rattle.sk_kernel.specs.declared.kernel.FailRefusal.TheVariants as refusals
 
 -- an entity's view shows what it has, and there is none where it is absent
-abbrev pub Shows : Option Stored → Option View → Type 0
+abbrev pub Shows : Option EntityState → Option View → Type 0
 Shows None None = Unit {0}
 Shows None (Some v) = ⊥
 Shows (Some s) None = ⊥
@@ -42,14 +42,14 @@ cause TraceFull = Some TraceFull
 cause Memory = None
 
 -- a step is taken where no cause stands against it; a refusal tells the first cause, and changes nothing
-abbrev pub Steps : Result (Unit {0}) Refusal → Option Refusal → KernelView → KernelView → KernelView → Type 0
-Steps (Ok u) refused old after new = (refused ≡ None) × (new ≡ after)
-Steps (Err why) refused old after new = (refused ≡ cause why) × (new ≡ old)
+abbrev pub StepPost : Result (Unit {0}) Refusal → Option Refusal → KernelView → KernelView → KernelView → Type 0
+StepPost (Ok u) refused old after new = (refused ≡ None) × (new ≡ after)
+StepPost (Err why) refused old after new = (refused ≡ cause why) × (new ≡ old)
 
 -- the same for a guess, whose token is of this kernel and of the next number
-abbrev pub Draws : Result Token Refusal → Option Refusal → KernelView → KernelView → KernelView → Type 0
-Draws (Ok token) refused old after new = (refused ≡ None) × (token ≡ record { kernel = old.guesses.kernel; id = next_of old.guesses }) × (new ≡ after)
-Draws (Err why) refused old after new = (refused ≡ cause why) × (new ≡ old)
+abbrev pub GuessPost : Result Token Refusal → Option Refusal → KernelView → KernelView → KernelView → Type 0
+GuessPost (Ok token) refused old after new = (refused ≡ None) × (token ≡ record { kernel = old.guesses.kernel; id = next_of old.guesses }) × (new ≡ after)
+GuessPost (Err why) refused old after new = (refused ≡ cause why) × (new ≡ old)
 
 -- the plan of a guess with an input, or why it does not fit
 abbrev pub PlansGuess : KernelView → ℕ → Input → Result Plan Refusal → Type 0
@@ -60,14 +60,14 @@ PlansGuess k pid input (Ok plan) =
 PlansGuess k pid input (Err why) = (guess_misfits input (perform (map.get k.written.now) (act k.scripts pid input)) ≡ Some why) × (cause why ≡ Some why)
 
 -- a commit of a token: it is spent where its guess is undecided or struck, and comes back where it is a stranger
-abbrev pub Commits : Result Outcome Stranger → Token → KernelView → KernelView → Type 0
-Commits (Ok outcomes.Done) token old new = (redeemed old.guesses token ≡ Ok (redeemed_as.Undecided token.id)) × IsCommitted old token.id new
-Commits (Ok outcomes.Gone) token old new = (redeemed old.guesses token ≡ Ok (redeemed_as.Struck token.id)) × (new ≡ old)
-Commits (Err stranger) token old new = (redeemed old.guesses token ≡ Err token) × (stranger.guess ≡ token) × (new ≡ old)
+abbrev pub CommitPost : Result Outcome Stranger → Token → KernelView → KernelView → Type 0
+CommitPost (Ok outcomes.Done) token old new = (redeemed old.guesses token ≡ Ok (redeemed_as.Undecided token.id)) × IsCommitted old token.id new
+CommitPost (Ok outcomes.Gone) token old new = (redeemed old.guesses token ≡ Ok (redeemed_as.Struck token.id)) × (new ≡ old)
+CommitPost (Err stranger) token old new = (redeemed old.guesses token ≡ Err token) × (stranger.guess ≡ token) × (new ≡ old)
 
 -- a failure of a token
-abbrev pub Fails : Result Outcome FailRefusal → Token → KernelView → KernelView → Type 0
-Fails (Ok outcomes.Done) token old new = (redeemed old.guesses token ≡ Ok (redeemed_as.Undecided token.id)) × IsFailed old token.id new
-Fails (Ok outcomes.Gone) token old new = (redeemed old.guesses token ≡ Ok (redeemed_as.Struck token.id)) × (new ≡ old)
-Fails (Err (refusals.Stranger guess)) token old new = (redeemed old.guesses token ≡ Err token) × (guess ≡ token) × (new ≡ old)
-Fails (Err (refusals.Memory guess)) token old new = (guess ≡ token) × (new ≡ old)
+abbrev pub FailPost : Result Outcome FailRefusal → Token → KernelView → KernelView → Type 0
+FailPost (Ok outcomes.Done) token old new = (redeemed old.guesses token ≡ Ok (redeemed_as.Undecided token.id)) × IsFailed old token.id new
+FailPost (Ok outcomes.Gone) token old new = (redeemed old.guesses token ≡ Ok (redeemed_as.Struck token.id)) × (new ≡ old)
+FailPost (Err (refusals.Stranger guess)) token old new = (redeemed old.guesses token ≡ Err token) × (guess ≡ token) × (new ≡ old)
+FailPost (Err (refusals.Memory guess)) token old new = (guess ≡ token) × (new ≡ old)

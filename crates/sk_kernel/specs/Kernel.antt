@@ -3,7 +3,7 @@ use Rattle.std.specs.Prelude.{◌≡◌, ℕ, ◌-◌, ◌==◌, ◌||◌, nat_l
 use Rattle.std.specs.Coded.{Coded, code_by, coded×, coded_ℕ, coded_list, coded_option}
 use Rattle.std.specs.FinMap as map
 use Rattle.sk_record.specs.Step.{Effect}
-use Rattle.sk_record.specs.Trail.{is_in}
+use Rattle.sk_record.specs.Effects.{is_in}
 use Rattle.sk_record.specs.Run.{outcome}
 use Rattle.sk_ids.specs.Entity.{entity_cmp}
 use Rattle.sk_ids.specs.declared.entity.Entity.{Entity}
@@ -12,18 +12,18 @@ use Rattle.sk_guesses.specs.declared.status.Status.{Status}
 use Rattle.sk_guesses.specs.declared.status.Status.TheVariants.{Committed, Failed}
 use Rattle.sk_guesses.specs.contracts.status.Status as status
 use Rattle.sk_terminal.specs.Terminal.{committed_of, left_of}
-use Rattle.sk_terminal.specs.declared.held.Held.{Held}
+use Rattle.sk_terminal.specs.declared.buffered_text.BufferedText.{BufferedText}
 use Rattle.sk_script.specs.Scripts.{ScriptMap, script_map_code}
 use Rattle.sk_script.specs.Boot.{BootView}
 use Rattle.sk_script.specs.declared.instruction.Input.{Input}
 use Rattle.sk_script.specs.declared.instruction.Input.TheVariants as inputs
-use Rattle.sk_store.specs.Stored.{State}
+use Rattle.sk_store.specs.State.{State}
 use Rattle.sk_store.specs.Start.{start_of}
 use Rattle.sk_plain.specs.Entry.{EntryView}
 use Rattle.sk_plain.specs.Trace.{event_code}
 use Rattle.sk_plain.specs.Act.{plain, Saying}
 use Rattle.sk_plain.specs.Planned.{refusal_of}
-use Rattle.sk_store.specs.declared.stored.Stored.{Stored}
+use Rattle.sk_store.specs.declared.entity_state.EntityState.{EntityState}
 use Rattle.sk_plain.specs.declared.trace.Event.{Event}
 use Rattle.sk_plain.specs.declared.trace.Event.TheVariants as events
 use Rattle.sk_plain.specs.declared.refusal.Refusal.{Refusal}
@@ -95,7 +95,7 @@ or_else (Some why) later = Some why
 or_else None later = later
 
 -- what the plain kernel does at this entry
-abbrev pub effect_at : KernelView → EntryView → Result (Effect Entity Stored Saying) Refusal
+abbrev pub effect_at : KernelView → EntryView → Result (Effect Entity EntityState Saying) Refusal
 effect_at k n = outcome (plain k.scripts) k.written.now n
 
 -- while a guess is undecided, other processes wait
@@ -110,12 +110,12 @@ abbrev pub step_refused : KernelView → EntryView → Option Refusal
 step_refused k n = or_else (refusal_of (effect_at k n)) (or_else (others_wait k.pending n.pid) (trace_full k 1))
 
 -- a guess needs an input
-abbrev pub misfit : Result (Effect Entity Stored Saying) Refusal → Refusal
+abbrev pub misfit : Result (Effect Entity EntityState Saying) Refusal → Refusal
 misfit (Err NoProcess) = NoProcess
 misfit (Err Ended) = Ended
 misfit _ = Mismatch
 
-abbrev pub guess_misfits : Input → Result (Effect Entity Stored Saying) Refusal → Option Refusal
+abbrev pub guess_misfits : Input → Result (Effect Entity EntityState Saying) Refusal → Option Refusal
 guess_misfits inputs.None does = Some (misfit does)
 guess_misfits inputs.Good does = refusal_of does
 guess_misfits (inputs.Fresh content) does = refusal_of does
@@ -137,7 +137,7 @@ texts_after texts tags None = texts
 texts_after texts tags (Some s) = said_to texts s.to (record { text = s.text; tags = tags })
 
 -- the writes and the text of an accepted step; a refused one leaves everything
-abbrev pub done : KernelView → Event → Result (Effect Entity Stored Saying) Refusal → KernelView
+abbrev pub done : KernelView → Event → Result (Effect Entity EntityState Saying) Refusal → KernelView
 done k event (Ok f) = record k {
   trace = k.trace ++ event ∷ [];
   written = puts_all k.written f.written;
@@ -162,7 +162,7 @@ guessed k n = done (guessing k n.pid) (events.Guess n) (effect_at k n)
 -- ---- what a decision leaves
 
 -- the guess is decided, and this is what becomes of the texts and of what was written
-pub record Decided (old : KernelView) (event : Event) (id : ℕ) (status : Status) (left : Written) (keep : List Held → List Held) (new : KernelView) : Type 0 where
+pub record Decided (old : KernelView) (event : Event) (id : ℕ) (status : Status) (left : Written) (keep : List BufferedText → List BufferedText) (new : KernelView) : Type 0 where
   pub scripts : new.scripts ≡ old.scripts
   pub start : new.start ≡ old.start
   pub limit : new.limit ≡ old.limit

@@ -6,7 +6,7 @@ ghost use Rattle.std.specs.Option.{option_copied};
 ghost use Rattle.sk_ids.specs.Entity.{entity_cmp};
 ghost use Rattle.sk_guesses.specs.Guesses.{next_of};
 ghost use Rattle.sk_kernel.specs.Kernel.{booted, tags_at, undecided, room, pending_tags, others_wait, step_refused, stepped, guess_refused, guessed};
-ghost use Rattle.sk_kernel.specs.Calls.{Shows, Steps, Draws, PlansGuess, Commits, Fails};
+ghost use Rattle.sk_kernel.specs.Calls.{Shows, StepPost, GuessPost, PlansGuess, CommitPost, FailPost};
 
 use crate::open::Open;
 use crate::taken::{guess_with, perform};
@@ -57,7 +57,7 @@ pub struct Kernel {
 impl Model for Kernel {
     ghost use Rattle.std.specs.Prelude.{◌≡◌, []};
     ghost use Rattle.sk_kernel.specs.Kernel.{KernelView, kernel_code};
-    ghost use Rattle.sk_kernel.specs.Whole.{IsWhole};
+    ghost use Rattle.sk_kernel.specs.Invariant.{IsWhole};
 
     ghost Value = { KernelView };
 
@@ -170,7 +170,7 @@ impl Kernel {
 
     /// Takes a step of a process with an input. After a refusal the kernel is as it was.
     pub fn step(&mut self, pid: Pid, input: Input) -> Result<(), Refusal>
-        ensures { Steps result (step_refused self.old (record { pid = pid; input = input; guess = None })) self.old (stepped self.old (record { pid = pid; input = input; guess = None })) self.new }
+        ensures { StepPost result (step_refused self.old (record { pid = pid; input = input; guess = None })) self.old (stepped self.old (record { pid = pid; input = input; guess = None })) self.new }
     {
         let plan = plan_step(&self.journal, &self.scripts, pid, &input)?;
         if self.waits(pid) {
@@ -221,7 +221,7 @@ impl Kernel {
     /// Draws the next guess and takes its step with the guessed input. After a refusal the kernel is
     /// as it was. All growths are made here, those of the decision among them.
     pub fn create_speculation(&mut self, pid: Pid, input: Input) -> Result<Guess, Refusal>
-        ensures { Draws result (guess_refused self.old (record { pid = pid; input = input; guess = Some (next_of self.old.guesses) })) self.old (guessed self.old (record { pid = pid; input = input; guess = Some (next_of self.old.guesses) })) self.new }
+        ensures { GuessPost result (guess_refused self.old (record { pid = pid; input = input; guess = Some (next_of self.old.guesses) })) self.old (guessed self.old (record { pid = pid; input = input; guess = Some (next_of self.old.guesses) })) self.new }
     {
         let plan = self.plan_guess(pid, &input)?;
         if self.waits(pid) {
@@ -257,7 +257,7 @@ impl Kernel {
 
     /// Commits a guess. This takes no memory.
     pub fn commit_speculation(&mut self, guess: Guess) -> Result<Outcome, Stranger>
-        ensures { Commits result guess self.old self.new }
+        ensures { CommitPost result guess self.old self.new }
     {
         let redeemed = match self.guesses.redeem(guess) {
             Ok(redeemed) => redeemed,
@@ -278,7 +278,7 @@ impl Kernel {
 
     /// Fails a guess: what was done since it is taken back, in place.
     pub fn fail_speculation(&mut self, guess: Guess) -> Result<Outcome, FailRefusal>
-        ensures { Fails result guess self.old self.new }
+        ensures { FailPost result guess self.old self.new }
     {
         let redeemed = match self.guesses.redeem(guess) {
             Ok(redeemed) => redeemed,

@@ -11,7 +11,7 @@ use sk_guesses::{Guess, Guesses};
 use sk_ids::{Entity, Pid, TagSet};
 use sk_objects::{File, Value};
 use sk_plain::{Action, Plan};
-use sk_store::Stored;
+use sk_store::EntityState;
 use sk_terminal::Terminals;
 use sk_undo::Journal;
 use std::alloc::{AllocError, Global};
@@ -35,16 +35,16 @@ fn write_other(
     match action {
         Action::Alone | Action::Says(_) | Action::Looks(_) => Ok(()),
         Action::Makes(object) => {
-            let empty = Stored::Value(Value::File(File::new(alloc)));
+            let empty = EntityState::Value(Value::File(File::new(alloc)));
             journal.put(&Entity::Obj(*object), empty)
         }
         Action::Changes(object, change) => journal.change(object, *change),
         Action::Ends(status) => {
-            let set = Stored::Value(Value::Exit(Some(*status)));
+            let set = EntityState::Value(Value::Exit(Some(*status)));
             journal.put(&Entity::Exit(pid), set)
         }
         Action::Caches(name, content) => {
-            let copy = Stored::Value(Value::Copy(*content));
+            let copy = EntityState::Value(Value::Copy(*content));
             journal.put(&Entity::Copy(*name), copy)
         }
     }
@@ -72,7 +72,7 @@ pub fn perform(
         Action::Says(text) => terminals.say(plan.process.terminal, *text, tags)?,
         action => write_other(journal, alloc, pid, action)?,
     }
-    journal.set(&Entity::Proc(pid), Stored::Process(plan.process));
+    journal.set(&Entity::Proc(pid), EntityState::Process(plan.process));
     Ok(())
 }
 

@@ -6,18 +6,18 @@ use Rattle.std.specs.FinMap.{get}
 use Rattle.std.proofs.lemmas.List.{append_assoc}
 use Rattle.std.proofs.lemmas.List.Folds.{list_any-append}
 use Rattle.sk_record.specs.Step.{Effect}
-use Rattle.sk_record.specs.Trail.{is_in, is_marked, dirtied, hit, hits, keep}
-use Rattle.sk_record.specs.Run.{IsLegal, after, foot, outcome, put_all, run, trail}
+use Rattle.sk_record.specs.Effects.{is_in, is_marked, dirtied, hit, hits, keep}
+use Rattle.sk_record.specs.Run.{IsLegal, after, marked_effect, outcome, put_all, run, effects}
 use Rattle.sk_ids.specs.declared.entity.Entity.{Entity}
 use Rattle.sk_ids.specs.declared.entity.Entity.TheVariants.{Proc}
 use Rattle.sk_ids.specs.Entity.{entity_cmp}
-use Rattle.sk_store.specs.Stored.{State}
+use Rattle.sk_store.specs.State.{State}
 use Rattle.sk_plain.specs.Entry.{EntryView}
 use Rattle.sk_plain.specs.Act.{Scripts, Saying, plain}
-use Rattle.sk_plain.specs.Left.{depends, left, first_refusal, refusal_in, EndsBy}
+use Rattle.sk_plain.specs.Remaining.{depends, remaining, first_refusal, refusal_in, EndsBy}
 use Rattle.sk_plain.specs.Planned.{also_written, effect_of, read_by, written_by}
-use Rattle.sk_store.specs.declared.stored.Stored.{Stored}
-use Rattle.sk_store.specs.declared.stored.Stored.TheVariants as stored
+use Rattle.sk_store.specs.declared.entity_state.EntityState.{EntityState}
+use Rattle.sk_store.specs.declared.entity_state.EntityState.TheVariants as stored
 use Rattle.sk_plain.specs.declared.refusal.Refusal.{Refusal}
 use Rattle.sk_plain.specs.declared.refusal.Refusal.TheVariants.{NoProcess, Ended, Mismatch, NeedsReply, Blocked, TooMany, TraceFull, Memory}
 use Rattle.sk_plain.specs.declared.plan.Plan.{Plan}
@@ -28,7 +28,7 @@ asked : {A B : Type 0} (look : A → B) (es : List A) → map (λ (r : A × B). 
 asked look [] = refl
 asked look (e ∷ es) = ap (λ rest. e ∷ rest) (asked look es)
 
-changed_are : (look : Entity → Option Stored) (pid : ℕ) (a : Action) (v : Stored) → map (λ (w : Entity × Stored). w.0) (also_written look pid a ++ (Proc pid, v) ∷ []) ≡ written_by pid a
+changed_are : (look : Entity → Option EntityState) (pid : ℕ) (a : Action) (v : EntityState) → map (λ (w : Entity × EntityState). w.0) (also_written look pid a ++ (Proc pid, v) ∷ []) ≡ written_by pid a
 changed_are look pid Alone v = refl
 changed_are look pid (Says text) v = refl
 changed_are look pid (Looks e) v = refl
@@ -42,42 +42,42 @@ pub on_all : {A F P Q R S : Type 0} (r : Result A F) → OnOk r P → OnOk r Q �
 on_all (Ok x) p q r f = f p q r
 on_all (Err why) p q r f = tt
 
-module _ (scripts : Scripts) (g : ℕ) (n : EntryView) (plan : Plan) (look : Entity → Option Stored) where
+module _ (scripts : Scripts) (g : ℕ) (n : EntryView) (plan : Plan) (look : Entity → Option EntityState) where
   -- what the step leaves behind
-  abbrev pub planned_effect : Effect Entity Stored Saying
+  abbrev pub planned_effect : Effect Entity EntityState Saying
   planned_effect = effect_of look n.pid n.input plan
 
   -- the step depends on the guess where its plan does
-  hit_is : (dirty : List Entity) → hit entity_cmp g dirty (foot (plain scripts) n.guess (Ok planned_effect)) ≡ depends g dirty n plan.action
+  hit_is : (dirty : List Entity) → hit entity_cmp g dirty (marked_effect (plain scripts) n.guess (Ok planned_effect)) ≡ depends g dirty n plan.action
   hit_is dirty = ap (λ b. is_marked n.guess g || b)
-      (list_any-append (is_in entity_cmp dirty) (map (λ (r : Entity × Option Stored). r.0) planned_effect.read) (map (λ (w : Entity × Stored). w.0) planned_effect.written)
-      ∙ ap (λ es. list_any (is_in entity_cmp dirty) es || list_any (is_in entity_cmp dirty) (map (λ (w : Entity × Stored). w.0) planned_effect.written)) (asked look (read_by n.pid n.input plan.action))
+      (list_any-append (is_in entity_cmp dirty) (map (λ (r : Entity × Option EntityState). r.0) planned_effect.read) (map (λ (w : Entity × EntityState). w.0) planned_effect.written)
+      ∙ ap (λ es. list_any (is_in entity_cmp dirty) es || list_any (is_in entity_cmp dirty) (map (λ (w : Entity × EntityState). w.0) planned_effect.written)) (asked look (read_by n.pid n.input plan.action))
       ∙ ap (λ es. list_any (is_in entity_cmp dirty) (read_by n.pid n.input plan.action) || list_any (is_in entity_cmp dirty) es) (changed_are look n.pid plan.action (stored.Process plan.process)))
 
   -- what is left of the entry and the rest, by whether the step depends on the guess
   step_left : (t : State) (dirty more : List Entity) (kept before rest : List EntryView) (b : Bool)
       → more ≡ cond b (written_by n.pid plan.action ++ dirty) dirty → kept ≡ cond b before (before ++ n ∷ [])
-      → kept ++ left scripts g more t rest ≡ before ++ keep (b ∷ hits entity_cmp g (dirtied b (foot (plain scripts) n.guess (Ok planned_effect)) dirty) (trail (plain scripts) t rest)) (n ∷ rest)
+      → kept ++ remaining scripts g more t rest ≡ before ++ keep (b ∷ hits entity_cmp g (dirtied b (marked_effect (plain scripts) n.guess (Ok planned_effect)) dirty) (effects (plain scripts) t rest)) (n ∷ rest)
   step_left t dirty more kept before rest true are is =
-      ap (λ (k : List EntryView). k ++ left scripts g more t rest) is
-      ∙ ap (λ (m : List Entity). before ++ left scripts g m t rest) (are ∙ ap (λ (ws : List Entity). ws ++ dirty) (sym (changed_are look n.pid plan.action (stored.Process plan.process))))
+      ap (λ (k : List EntryView). k ++ remaining scripts g more t rest) is
+      ∙ ap (λ (m : List Entity). before ++ remaining scripts g m t rest) (are ∙ ap (λ (ws : List Entity). ws ++ dirty) (sym (changed_are look n.pid plan.action (stored.Process plan.process))))
   step_left t dirty more kept before rest false are is =
-      ap (λ (k : List EntryView). k ++ left scripts g more t rest) is
-      ∙ append_assoc before (n ∷ []) (left scripts g more t rest)
-      ∙ ap (λ (m : List Entity). before ++ n ∷ left scripts g m t rest) are
+      ap (λ (k : List EntryView). k ++ remaining scripts g more t rest) is
+      ∙ append_assoc before (n ∷ []) (remaining scripts g more t rest)
+      ∙ ap (λ (m : List Entity). before ++ n ∷ remaining scripts g m t rest) are
 
 module _ (scripts : Scripts) (n : EntryView) (plan : Plan) (s t : State) (accepted : outcome (plain scripts) s n ≡ Ok (effect_of (get s) n.pid n.input plan)) (taken : t ≡ put_all (effect_of (get s) n.pid n.input plan).written s) (rest : List EntryView) where
   -- what is kept with what the rest will leave
   pub kept_on : (g : ℕ) (dirty more : List Entity) (kept before : List EntryView)
       → more ≡ cond (depends g dirty n plan.action) (written_by n.pid plan.action ++ dirty) dirty
       → kept ≡ cond (depends g dirty n plan.action) before (before ++ n ∷ [])
-      → kept ++ left scripts g more t rest ≡ before ++ left scripts g dirty s (n ∷ rest)
+      → kept ++ remaining scripts g more t rest ≡ before ++ remaining scripts g dirty s (n ∷ rest)
   kept_on g dirty more kept before are is =
-      let left_behind = foot (plain scripts) n.guess (Ok (effect_of (get s) n.pid n.input plan)) in
+      let left_behind = marked_effect (plain scripts) n.guess (Ok (effect_of (get s) n.pid n.input plan)) in
       step_left scripts g n plan (get s) t dirty more kept before rest (depends g dirty n plan.action) are is
-      ∙ ap (λ b. before ++ keep (b ∷ hits entity_cmp g (dirtied b left_behind dirty) (trail (plain scripts) t rest)) (n ∷ rest)) (sym (hit_is scripts g n plan (get s) dirty))
-      ∙ ap (λ (u : State). before ++ keep (hits entity_cmp g dirty (left_behind ∷ trail (plain scripts) u rest)) (n ∷ rest)) taken
-      ∙ ap (λ o. before ++ keep (hits entity_cmp g dirty (foot (plain scripts) n.guess o ∷ trail (plain scripts) (after (plain scripts) o s) rest)) (n ∷ rest)) (sym accepted)
+      ∙ ap (λ b. before ++ keep (b ∷ hits entity_cmp g (dirtied b left_behind dirty) (effects (plain scripts) t rest)) (n ∷ rest)) (sym (hit_is scripts g n plan (get s) dirty))
+      ∙ ap (λ (u : State). before ++ keep (hits entity_cmp g dirty (left_behind ∷ effects (plain scripts) u rest)) (n ∷ rest)) taken
+      ∙ ap (λ o. before ++ keep (hits entity_cmp g dirty (marked_effect (plain scripts) n.guess o ∷ effects (plain scripts) (after (plain scripts) o s) rest)) (n ∷ rest)) (sym accepted)
 
   -- the entry and the rest are legal where the rest is
   pub legal_on : IsLegal (plain scripts) t rest → IsLegal (plain scripts) s (n ∷ rest)

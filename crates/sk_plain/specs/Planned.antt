@@ -8,8 +8,8 @@ use Rattle.sk_script.specs.declared.instruction.Input.{Input}
 use Rattle.sk_script.specs.declared.instruction.Input.TheVariants as inputs
 use Rattle.sk_plain.specs.Act.{Steps, Saying}
 use Rattle.sk_store.specs.Changed.{changed, FitsAt}
-use Rattle.sk_store.specs.declared.stored.Stored.{Stored}
-use Rattle.sk_store.specs.declared.stored.Stored.TheVariants as stored
+use Rattle.sk_store.specs.declared.entity_state.EntityState.{EntityState}
+use Rattle.sk_store.specs.declared.entity_state.EntityState.TheVariants as stored
 use Rattle.sk_plain.specs.declared.refusal.Refusal.{Refusal}
 use Rattle.sk_plain.specs.declared.refusal.Refusal.TheVariants.{NoProcess, Ended, Mismatch, NeedsReply, Blocked, TooMany, TraceFull, Memory}
 use Rattle.sk_plain.specs.declared.plan.Plan.{Plan}
@@ -27,7 +27,7 @@ also_read (Ends status) = []
 also_read (Caches name content) = []
 
 -- the entity beside the process that is written
-abbrev pub also_written : (Entity → Option Stored) → ℕ → Action → List (Entity × Stored)
+abbrev pub also_written : (Entity → Option EntityState) → ℕ → Action → List (Entity × EntityState)
 also_written look pid Alone = []
 also_written look pid (Says text) = []
 also_written look pid (Looks e) = []
@@ -50,19 +50,19 @@ abbrev pub said_by : Plan → Option Saying
 said_by plan = said_in plan.process.terminal plan.action
 
 -- what a plan does, but for what every step reads
-abbrev pub row_effect : (Entity → Option Stored) → ℕ → Plan → Effect Entity Stored Saying
+abbrev pub row_effect : (Entity → Option EntityState) → ℕ → Plan → Effect Entity EntityState Saying
 row_effect look pid plan = record {
   read = map (λ e. (e, look e)) (also_read plan.action);
   written = also_written look pid plan.action ++ (Proc pid, stored.Process plan.process) ∷ [];
   said = said_by plan;
 }
 
-abbrev pub rowed : (Entity → Option Stored) → ℕ → Result Plan Refusal → Result (Effect Entity Stored Saying) Refusal
+abbrev pub rowed : (Entity → Option EntityState) → ℕ → Result Plan Refusal → Result (Effect Entity EntityState Saying) Refusal
 rowed look pid (Ok plan) = Ok (row_effect look pid plan)
 rowed look pid (Err why) = Err why
 
 -- a plan is that of a row of the table, looked up here
-abbrev pub PlansRow : (Entity → Option Stored) → ℕ → Steps → Result Plan Refusal → Type 0
+abbrev pub PlansRow : (Entity → Option EntityState) → ℕ → Steps → Result Plan Refusal → Type 0
 PlansRow look pid row result = perform look row ≡ rowed look pid result
 
 -- the signals of the process are read by a step without input
@@ -73,31 +73,31 @@ signals_read pid (inputs.Fresh content) = []
 signals_read pid (inputs.Stale content) = []
 
 -- what a plan does once the process was looked at
-abbrev pub step_effect : (Entity → Option Stored) → ℕ → Input → Plan → Effect Entity Stored Saying
+abbrev pub step_effect : (Entity → Option EntityState) → ℕ → Input → Plan → Effect Entity EntityState Saying
 step_effect look pid input plan = record {
   read = map (λ e. (e, look e)) (signals_read pid input ++ also_read plan.action);
   written = also_written look pid plan.action ++ (Proc pid, stored.Process plan.process) ∷ [];
   said = said_by plan;
 }
 
-abbrev pub step_planned : (Entity → Option Stored) → ℕ → Input → Result Plan Refusal → Result (Effect Entity Stored Saying) Refusal
+abbrev pub step_planned : (Entity → Option EntityState) → ℕ → Input → Result Plan Refusal → Result (Effect Entity EntityState Saying) Refusal
 step_planned look pid input (Ok plan) = Ok (step_effect look pid input plan)
 step_planned look pid input (Err why) = Err why
 
 -- the whole step
-abbrev pub effect_of : (Entity → Option Stored) → ℕ → Input → Plan → Effect Entity Stored Saying
+abbrev pub effect_of : (Entity → Option EntityState) → ℕ → Input → Plan → Effect Entity EntityState Saying
 effect_of look pid input plan = record {
   read = map (λ e. (e, look e)) (Proc pid ∷ signals_read pid input ++ also_read plan.action);
   written = also_written look pid plan.action ++ (Proc pid, stored.Process plan.process) ∷ [];
   said = said_by plan;
 }
 
-abbrev pub planned : (Entity → Option Stored) → ℕ → Input → Result Plan Refusal → Result (Effect Entity Stored Saying) Refusal
+abbrev pub planned : (Entity → Option EntityState) → ℕ → Input → Result Plan Refusal → Result (Effect Entity EntityState Saying) Refusal
 planned look pid input (Ok plan) = Ok (effect_of look pid input plan)
 planned look pid input (Err why) = Err why
 
 -- what a plan changes in place is there, and the change fits it
-abbrev pub CanDo : (Entity → Option Stored) → Action → Type 0
+abbrev pub CanDo : (Entity → Option EntityState) → Action → Type 0
 CanDo look Alone = Unit {0}
 CanDo look (Says text) = Unit {0}
 CanDo look (Looks e) = Unit {0}
@@ -125,7 +125,7 @@ IsReply (inputs.Fresh content) = Unit {0}
 IsReply (inputs.Stale content) = Unit {0}
 
 -- the refusals that a step of the plain kernel has
-abbrev pub refusal_of : Result (Effect Entity Stored Saying) Refusal → Option Refusal
+abbrev pub refusal_of : Result (Effect Entity EntityState Saying) Refusal → Option Refusal
 refusal_of (Ok f) = None
 refusal_of (Err why) = Some why
 

@@ -11,7 +11,7 @@ use crate::{Action, Plan};
 use sk_changes::{Change, Invertible, NotApplied};
 use sk_ids::{Entity, ObjId, Pid};
 use sk_objects::{File, Value};
-use sk_store::{Store, Stored};
+use sk_store::{Store, EntityState};
 use std::alloc::AllocError;
 
 /// Changes the value of an object. A refused growth changes nothing.
@@ -22,12 +22,12 @@ fn change_value(store: &mut Store, object: &ObjId, change: &Change) -> Result<()
     ensures err { OnErr result (store.new ≡ store.old) }
 {
     // The value is taken out, changed, and put back.
-    let taken = store.replace(Entity::Obj(*object), Stored::Value(Value::Exit(None)));
-    let Stored::Value(mut value) = taken else {
+    let taken = store.replace(Entity::Obj(*object), EntityState::Value(Value::Exit(None)));
+    let EntityState::Value(mut value) = taken else {
         unreachable!();
     };
     let outcome = value.apply(*change);
-    store.replace(Entity::Obj(*object), Stored::Value(value));
+    store.replace(Entity::Obj(*object), EntityState::Value(value));
     match outcome {
         Ok(_) => Ok(()),
         Err(NotApplied::Memory) => Err(AllocError),
@@ -48,15 +48,15 @@ fn write_beside(store: &mut Store, pid: Pid, action: &Action) -> Result<(), Allo
         Action::Alone | Action::Says(_) | Action::Looks(_) => Ok(()),
         Action::Makes(object) => {
             let file = File::new(store.alloc());
-            store.put(Entity::Obj(*object), Stored::Value(Value::File(file)))
+            store.put(Entity::Obj(*object), EntityState::Value(Value::File(file)))
         }
         Action::Changes(object, change) => change_value(store, object, change),
         Action::Ends(status) => {
             let status = Value::Exit(Some(*status));
-            store.put(Entity::Exit(pid), Stored::Value(status))
+            store.put(Entity::Exit(pid), EntityState::Value(status))
         }
         Action::Caches(name, content) => {
-            store.put(Entity::Copy(*name), Stored::Value(Value::Copy(*content)))
+            store.put(Entity::Copy(*name), EntityState::Value(Value::Copy(*content)))
         }
     }
 }
@@ -69,6 +69,6 @@ pub fn apply_plan(store: &mut Store, pid: Pid, plan: &Plan) -> Result<(), AllocE
     ensures err { OnErr result (store.new ≡ store.old) }
 {
     write_beside(store, pid, &plan.action)?;
-    store.replace(Entity::Proc(pid), Stored::Process(plan.process));
+    store.replace(Entity::Proc(pid), EntityState::Process(plan.process));
     Ok(())
 }

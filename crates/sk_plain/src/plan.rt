@@ -10,8 +10,8 @@ ghost use Rattle.std.specs.Prelude.{ℕ, List, length};
 ghost use Rattle.std.specs.FinMap as map;
 ghost use Rattle.sk_plain.specs.Planned.{PlansRow, step_planned, planned, CanDo, IsReply, IsPlainRefusal, said_by};
 ghost use Rattle.sk_ids.specs.declared.entity.Entity.{Entity};
-ghost use Rattle.sk_store.specs.declared.stored.Stored.{Stored};
-ghost use Rattle.sk_store.specs.declared.stored.Stored.TheVariants as stored;
+ghost use Rattle.sk_store.specs.declared.entity_state.EntityState.{EntityState};
+ghost use Rattle.sk_store.specs.declared.entity_state.EntityState.TheVariants as stored;
 ghost use Rattle.sk_objects.specs.declared.value.Value.TheVariants as values;
 
 use crate::{Errno, Refusal};
@@ -19,7 +19,7 @@ use sk_changes::Change;
 use sk_ids::{Entity, Name, ObjId, Pid, Text};
 use sk_objects::{Content, Value};
 use sk_script::{Input, Instruction, Process, Register, Scripts, Val};
-use sk_store::{Look, Stored};
+use sk_store::{Look, EntityState};
 use std::marker::Model;
 
 /// What a step does beside writing its process.
@@ -141,8 +141,8 @@ fn number_in(val: &Val) -> Option<u64>
 /// A new file, unless the counter of objects is at its last value.
 fn file_made(pid: Pid, process: &Process, register: Register) -> Plan
     requires { process.now.place + 1 < 2 ^ 32 }
-    ensures plans { (look : Entity → Option Stored) → PlansRow look pid (file_made pid process.now register) (Ok result) }
-    ensures can { (look : Entity → Option Stored) → CanDo look result.action }
+    ensures plans { (look : Entity → Option EntityState) → PlansRow look pid (file_made pid process.now register) (Ok result) }
+    ensures can { (look : Entity → Option EntityState) → CanDo look result.action }
 {
     if process.objects >= u32::MAX {
         return alone(failed(process, Errno::NoSpace));
@@ -170,8 +170,8 @@ fn file_made(pid: Pid, process: &Process, register: Register) -> Plan
 /// The buffer written at a place of a file.
 fn written_at(process: &Process, object: &ObjId, at: u64) -> Plan
     requires { process.now.place + 1 < 2 ^ 32 }
-    ensures plans { (look : Entity → Option Stored) (pid : ℕ) (bytes : List ℕ) → look (Obj object.now) ≡ Some (stored.Value (values.File bytes)) → PlansRow look pid (Ask (Obj object.now) (λ v. written_at pid process.now object.now bytes at)) (Ok result) }
-    ensures can { (look : Entity → Option Stored) (bytes : List ℕ) → look (Obj object.now) ≡ Some (stored.Value (values.File bytes)) → CanDo look result.action }
+    ensures plans { (look : Entity → Option EntityState) (pid : ℕ) (bytes : List ℕ) → look (Obj object.now) ≡ Some (stored.Value (values.File bytes)) → PlansRow look pid (Ask (Obj object.now) (λ v. written_at pid process.now object.now bytes at)) (Ok result) }
+    ensures can { (look : Entity → Option EntityState) (bytes : List ℕ) → look (Obj object.now) ≡ Some (stored.Value (values.File bytes)) → CanDo look result.action }
 {
     let len = process.buffer.len() as u32;
     if at > FILE_LIMIT - u64::from(len) {
@@ -196,8 +196,8 @@ fn written_at(process: &Process, object: &ObjId, at: u64) -> Plan
 /// A file of this length cut to a size.
 fn cut_to(process: &Process, object: &ObjId, len: usize, size: u64) -> Plan
     requires { process.now.place + 1 < 2 ^ 32 }
-    ensures plans { (look : Entity → Option Stored) (pid : ℕ) (bytes : List ℕ) → len ≡ length bytes → look (Obj object.now) ≡ Some (stored.Value (values.File bytes)) → PlansRow look pid (Ask (Obj object.now) (λ v. cut_to pid process.now object.now bytes size)) (Ok result) }
-    ensures can { (look : Entity → Option Stored) (bytes : List ℕ) → look (Obj object.now) ≡ Some (stored.Value (values.File bytes)) → CanDo look result.action }
+    ensures plans { (look : Entity → Option EntityState) (pid : ℕ) (bytes : List ℕ) → len ≡ length bytes → look (Obj object.now) ≡ Some (stored.Value (values.File bytes)) → PlansRow look pid (Ask (Obj object.now) (λ v. cut_to pid process.now object.now bytes size)) (Ok result) }
+    ensures can { (look : Entity → Option EntityState) (bytes : List ℕ) → look (Obj object.now) ≡ Some (stored.Value (values.File bytes)) → CanDo look result.action }
 {
     if size > FILE_LIMIT {
         return looked(failed(process, Errno::TooBig), object);
@@ -239,12 +239,12 @@ fn write<S: Look>(
         return alone(failed(process, Errno::BadObject));
     };
     let error = match store.value(Entity::Obj(*object)) {
-        Some(Stored::Value(Value::File(_))) => match at {
+        Some(EntityState::Value(Value::File(_))) => match at {
             Some(at) => return written_at(process, object, at),
             None => Errno::Invalid,
         },
-        Some(Stored::Value(Value::Dir(_))) => Errno::IsDirectory,
-        Some(Stored::Value(Value::Pipe(_))) => Errno::Invalid,
+        Some(EntityState::Value(Value::Dir(_))) => Errno::IsDirectory,
+        Some(EntityState::Value(Value::Pipe(_))) => Errno::Invalid,
         _ => Errno::BadObject,
     };
     looked(failed(process, error), object)
@@ -266,12 +266,12 @@ fn cut<S: Look>(
         return alone(failed(process, Errno::BadObject));
     };
     let error = match store.value(Entity::Obj(*object)) {
-        Some(Stored::Value(Value::File(bytes))) => match size {
+        Some(EntityState::Value(Value::File(bytes))) => match size {
             Some(size) => return cut_to(process, object, bytes.len(), size),
             None => Errno::Invalid,
         },
-        Some(Stored::Value(Value::Dir(_))) => Errno::IsDirectory,
-        Some(Stored::Value(Value::Pipe(_))) => Errno::Invalid,
+        Some(EntityState::Value(Value::Dir(_))) => Errno::IsDirectory,
+        Some(EntityState::Value(Value::Pipe(_))) => Errno::Invalid,
         _ => Errno::BadObject,
     };
     looked(failed(process, error), object)
@@ -373,7 +373,7 @@ fn good<S: Look>(
         return Err(Refusal::Mismatch);
     };
     match store.value(Entity::Copy(name)) {
-        Some(Stored::Value(Value::Copy(content))) => Ok(Plan {
+        Some(EntityState::Value(Value::Copy(content))) => Ok(Plan {
             process: fetched(process, content),
             action: Action::Looks(Entity::Copy(name)),
         }),
@@ -384,8 +384,8 @@ fn good<S: Look>(
 /// A fetch of the server's content.
 fn fresh(process: &Process, name: Option<Name>, content: &Content) -> Result<Plan, Refusal>
     requires { IsSome name → process.now.place + 1 < 2 ^ 32 }
-    ensures plans { (look : Entity → Option Stored) (pid : ℕ) → PlansRow look pid (fresh_row pid process.now content.now name) result }
-    ensures can { (look : Entity → Option Stored) → IfOk result (λ plan. CanDo look plan.action) }
+    ensures plans { (look : Entity → Option EntityState) (pid : ℕ) → PlansRow look pid (fresh_row pid process.now content.now name) result }
+    ensures can { (look : Entity → Option EntityState) → IfOk result (λ plan. CanDo look plan.action) }
     ensures quiet { IfOk result (λ plan. said_by plan ≡ None) }
     ensures named { IfErr result IsPlainRefusal }
 {
@@ -446,7 +446,7 @@ pub fn plan_step<S: Look>(
     ensures named { IfErr result IsPlainRefusal }
 {
     let process = match store.value(Entity::Proc(pid)) {
-        Some(Stored::Process(process)) => process,
+        Some(EntityState::Process(process)) => process,
         _ => return Err(Refusal::NoProcess),
     };
     if process.ended {

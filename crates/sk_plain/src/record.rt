@@ -2,7 +2,7 @@
 ghost use Rattle.std.specs.Prelude.{◌≡◌, ◌∷◌, ◌++◌, [], List, IsSome, OnOk, IfOk, IfErr, if◌then◌else◌};
 ghost use Rattle.std.specs.List.{list_any};
 ghost use Rattle.std.specs.FinMap as map;
-ghost use Rattle.sk_record.specs.Trail.{is_in, is_marked};
+ghost use Rattle.sk_record.specs.Effects.{is_in, is_marked};
 ghost use Rattle.sk_record.specs.Run.{IsLegal, run, put_all};
 ghost use Rattle.sk_record.specs.Strike.{strike};
 ghost use Rattle.sk_ids.specs.declared.entity.Entity.TheVariants.{Proc};
@@ -11,7 +11,7 @@ ghost use Rattle.sk_plain.specs.Entry.{EntryView};
 ghost use Rattle.sk_plain.specs.Act.{plain};
 ghost use Rattle.sk_plain.specs.Planned.{CanDo, row_effect, read_by, written_by};
 ghost use Rattle.sk_plain.specs.declared.refusal.Refusal.TheVariants.{Memory};
-ghost use Rattle.sk_plain.specs.Left.{depends, left, refusal_in, EndsBy};
+ghost use Rattle.sk_plain.specs.Remaining.{depends, remaining, refusal_in, EndsBy};
 
 use crate::{Action, Entry, Plan, Refusal, apply_plan, plan_step};
 use sk_ids::{Entity, GuessId, Pid};
@@ -132,7 +132,7 @@ fn one_entry(
     kept: &mut Vec<Entry>,
     entry: &Entry,
 ) -> Result<(), Refusal>
-    ensures kept { OnOk result ((rest : List EntryView) → kept.new.items ++ left scripts.now guess dirty.new.items store.new rest ≡ kept.old.items ++ left scripts.now guess dirty.old.items store.old (entry.now ∷ rest)) }
+    ensures kept { OnOk result ((rest : List EntryView) → kept.new.items ++ remaining scripts.now guess dirty.new.items store.new rest ≡ kept.old.items ++ remaining scripts.now guess dirty.old.items store.old (entry.now ∷ rest)) }
     ensures legal { OnOk result ((rest : List EntryView) → IsLegal (plain scripts.now) store.new rest → IsLegal (plain scripts.now) store.old (entry.now ∷ rest)) }
     ensures run { OnOk result ((rest : List EntryView) → run (plain scripts.now) store.new rest ≡ run (plain scripts.now) store.old (entry.now ∷ rest)) }
     ensures passed { OnOk result ((rest : List EntryView) → refusal_in scripts.now store.new rest ≡ refusal_in scripts.now store.old (entry.now ∷ rest)) }

@@ -18,7 +18,7 @@ pub enum Refusal {
     NeedsReply,
     #[error("the step waits")]
     Blocked,
-    #[error("too many guesses are undecided, or no number is left")]
+    #[error("too many guesses are undecided, or no number is remaining")]
     TooMany,
     #[error("the trace is full")]
     TraceFull,

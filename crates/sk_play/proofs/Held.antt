@@ -9,7 +9,7 @@ use Rattle.sk_guesses.specs.Guesses.{GuessesView, status_of, with_status, drawn,
 use Rattle.sk_guesses.specs.Calls.{redeemed, redeemed_at}
 use Rattle.sk_guesses.specs.declared.status.Status.{Status}
 use Rattle.sk_guesses.specs.declared.status.Status.TheVariants.{Undecided}
-use Rattle.sk_play.specs.Game.{none_of, all_taken, id_at, is_held, without_token}
+use Rattle.sk_play.specs.Session.{none_of, all_taken, id_at, is_held, without_token}
 
 both : (a b : Bool) → (a && b) ≡ true → (a ≡ true) × (b ≡ true)
 both true true e = (refl, refl)

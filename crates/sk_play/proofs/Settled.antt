@@ -12,13 +12,13 @@ use Rattle.sk_plain.specs.Entry.{EntryView}
 use Rattle.sk_plain.specs.declared.trace.Event.{Event}
 use Rattle.sk_plain.specs.declared.trace.Event.TheVariants as events
 use Rattle.sk_kernel.specs.Kernel.{KernelView, done, effect_at, stepped, guessing, guessed}
-use Rattle.sk_kernel.specs.Calls.{Steps, Draws, Commits, Fails}
+use Rattle.sk_kernel.specs.Calls.{StepPost, GuessPost, CommitPost, FailPost}
 use Rattle.sk_kernel.specs.declared.kernel.Outcome.{Outcome}
 use Rattle.sk_kernel.specs.declared.kernel.Outcome.TheVariants as outcomes
 use Rattle.sk_kernel.specs.declared.kernel.Stranger.{Stranger}
 use Rattle.sk_kernel.specs.declared.kernel.FailRefusal.{FailRefusal}
 use Rattle.sk_kernel.specs.declared.kernel.FailRefusal.TheVariants as refusals
-use Rattle.sk_play.specs.Game.{all_taken, outcome_told, CommitTold, FailTold}
+use Rattle.sk_play.specs.Session.{all_taken, outcome_told, CommitTold, FailTold}
 use Rattle.sk_play.proofs.Held.{Out, decided, numbered, drawn_held, put_back}
 
 -- what a step does leaves the guesses
@@ -29,31 +29,31 @@ done_guesses k event (Err why) = refl
 pub guessed_guesses : (k : KernelView) (n : EntryView) → (guessed k n).guesses ≡ drawn k.guesses
 guessed_guesses k n = done_guesses (guessing k n.pid) (events.Guess n) (effect_at k n)
 
-pub steps_keep : (result : Result (Unit {0}) Refusal) (refused : Option Refusal) (old new : KernelView) (n : EntryView) (ts : List Token) → Steps result refused old (stepped old n) new → all_taken old.guesses ts ≡ true → all_taken new.guesses ts ≡ true
+pub steps_keep : (result : Result (Unit {0}) Refusal) (refused : Option Refusal) (old new : KernelView) (n : EntryView) (ts : List Token) → StepPost result refused old (stepped old n) new → all_taken old.guesses ts ≡ true → all_taken new.guesses ts ≡ true
 steps_keep (Ok u) refused old new n ts h held = rw (h.1, done_guesses old (events.Step n) (effect_at old n)) held
 steps_keep (Err why) refused old new n ts h held = rw h.1 held
 
-pub commits_keep : (result : Result Outcome Stranger) (t : Token) (old new : KernelView) (others : List Token) → Commits result t old new → Out old.guesses t others → all_taken new.guesses others ≡ true
+pub commits_keep : (result : Result Outcome Stranger) (t : Token) (old new : KernelView) (others : List Token) → CommitPost result t old new → Out old.guesses t others → all_taken new.guesses others ≡ true
 commits_keep (Ok outcomes.Done) t old new others h o = rw h.1.guesses (decided old.guesses t.id Committed others (numbered old.guesses t o.takes) o.apart o.rest)
 commits_keep (Ok outcomes.Gone) t old new others h o = rw h.1 o.rest
 commits_keep (Err s) t old new others h o = rw h.2 o.rest
 
-pub no_stranger : (result : Result Outcome Stranger) (s : Stranger) (t : Token) (old new : KernelView) → Commits result t old new → result ≡ Err s → is_ok (redeemed old.guesses t) ≡ true → ⊥
+pub no_stranger : (result : Result Outcome Stranger) (s : Stranger) (t : Token) (old new : KernelView) → CommitPost result t old new → result ≡ Err s → is_ok (redeemed old.guesses t) ≡ true → ⊥
 no_stranger (Ok x) s t old new h e takes = absurd cc
 no_stranger (Err x) s t old new h e takes = let bad : false ≡ true = rw h.0 at takes in absurd cc
 
-pub fails_keep : (result : Result Outcome FailRefusal) (t : Token) (old new : KernelView) (others : List Token) → Fails result t old new → Out old.guesses t others → all_taken new.guesses others ≡ true
+pub fails_keep : (result : Result Outcome FailRefusal) (t : Token) (old new : KernelView) (others : List Token) → FailPost result t old new → Out old.guesses t others → all_taken new.guesses others ≡ true
 fails_keep (Ok outcomes.Done) t old new others h o = rw h.1.guesses (decided old.guesses t.id Failed others (numbered old.guesses t o.takes) o.apart o.rest)
 fails_keep (Ok outcomes.Gone) t old new others h o = rw h.1 o.rest
 fails_keep (Err (refusals.Stranger s)) t old new others h o = rw h.2 o.rest
 fails_keep (Err (refusals.Memory s)) t old new others h o = rw h.1 o.rest
 
-pub no_stranger_fails : (result : Result Outcome FailRefusal) (s : Token) (t : Token) (old new : KernelView) → Fails result t old new → result ≡ Err (refusals.Stranger s) → is_ok (redeemed old.guesses t) ≡ true → ⊥
+pub no_stranger_fails : (result : Result Outcome FailRefusal) (s : Token) (t : Token) (old new : KernelView) → FailPost result t old new → result ≡ Err (refusals.Stranger s) → is_ok (redeemed old.guesses t) ≡ true → ⊥
 no_stranger_fails (Ok x) s t old new h e takes = absurd cc
 no_stranger_fails (Err (refusals.Stranger x)) s t old new h e takes = let bad : false ≡ true = rw h.0 at takes in absurd cc
 no_stranger_fails (Err (refusals.Memory x)) s t old new h e takes = absurd cc
 
-pub fails_back : (result : Result Outcome FailRefusal) (s : Token) (t : Token) (old new : KernelView) (others : List Token) → Fails result t old new → result ≡ Err (refusals.Memory s) → Out old.guesses t others → all_taken new.guesses (others ++ s ∷ []) ≡ true
+pub fails_back : (result : Result Outcome FailRefusal) (s : Token) (t : Token) (old new : KernelView) (others : List Token) → FailPost result t old new → result ≡ Err (refusals.Memory s) → Out old.guesses t others → all_taken new.guesses (others ++ s ∷ []) ≡ true
 fails_back (Ok x) s t old new others h e o = absurd cc
 fails_back (Err (refusals.Stranger x)) s t old new others h e o = absurd cc
 fails_back (Err (refusals.Memory x)) s t old new others h e o =
@@ -61,12 +61,12 @@ fails_back (Err (refusals.Memory x)) s t old new others h e o =
     rw (same, h.1) (put_back old.guesses t others o.takes o.apart o.rest)
 
 -- the token that comes back is the one that was handed in
-pub memory_back : (result : Result Outcome FailRefusal) (s : Token) (t : Token) (old new : KernelView) → Fails result t old new → result ≡ Err (refusals.Memory s) → s ≡ t
+pub memory_back : (result : Result Outcome FailRefusal) (s : Token) (t : Token) (old new : KernelView) → FailPost result t old new → result ≡ Err (refusals.Memory s) → s ≡ t
 memory_back (Ok x) s t old new h e = absurd cc
 memory_back (Err (refusals.Stranger x)) s t old new h e = absurd cc
 memory_back (Err (refusals.Memory x)) s t old new h e = cc
 
-pub draws_keep : (result : Result Token Refusal) (s : Token) (refused : Option Refusal) (old after new : KernelView) (ts : List Token) → Draws result refused old after new → after.guesses ≡ drawn old.guesses → result ≡ Ok s → all_taken old.guesses ts ≡ true → all_taken new.guesses (ts ++ s ∷ []) ≡ true
+pub draws_keep : (result : Result Token Refusal) (s : Token) (refused : Option Refusal) (old after new : KernelView) (ts : List Token) → GuessPost result refused old after new → after.guesses ≡ drawn old.guesses → result ≡ Ok s → all_taken old.guesses ts ≡ true → all_taken new.guesses (ts ++ s ∷ []) ≡ true
 draws_keep (Err x) s refused old after new ts h a e held = absurd cc
 draws_keep (Ok x) s refused old after new ts h a e held =
     let same : s ≡ x = cc in
@@ -102,7 +102,7 @@ struck g t h =
       | false ↦ λ k. let bad : Err t ≡ Ok (redeemed_as.Struck t.id) = rw k at h in absurd cc
     ] refl
 
-pub commit_told : (result : Result Outcome Stranger) (o : Outcome) (t : Token) (old new : KernelView) → Commits result t old new → result ≡ Ok o → CommitTold (outcome_told o) true t.id old new
+pub commit_told : (result : Result Outcome Stranger) (o : Outcome) (t : Token) (old new : KernelView) → CommitPost result t old new → result ≡ Ok o → CommitTold (outcome_told o) true t.id old new
 commit_told (Ok outcomes.Done) o t old new h e =
     let same : o ≡ outcomes.Done = cc in
     rw same (refl, undecided old.guesses t h.0, h.1)
@@ -111,7 +111,7 @@ commit_told (Ok outcomes.Gone) o t old new h e =
     rw same (refl, struck old.guesses t h.0, h.1)
 commit_told (Err s) o t old new h e = absurd cc
 
-pub fail_told : (result : Result Outcome FailRefusal) (o : Outcome) (t : Token) (old new : KernelView) → Fails result t old new → result ≡ Ok o → FailTold (outcome_told o) true t.id old new
+pub fail_told : (result : Result Outcome FailRefusal) (o : Outcome) (t : Token) (old new : KernelView) → FailPost result t old new → result ≡ Ok o → FailTold (outcome_told o) true t.id old new
 fail_told (Ok outcomes.Done) o t old new h e =
     let same : o ≡ outcomes.Done = cc in
     rw same (refl, undecided old.guesses t h.0, h.1)

@@ -1,3 +1,3 @@
 pub mod Played
-pub mod Game
+pub mod Session
 pub mod Plays

@@ -2,7 +2,7 @@
 #![tactic(auto)]
 
 pub mod answer;
-pub mod game;
+pub mod session;
 
 pub use answer::{Answer, write_answer};
-pub use game::Game;
+pub use session::Session;

@@ -9,7 +9,7 @@ use Rattle.std.specs.FinMap.{IsAntisymmetric}
 use Rattle.std.proofs.lemmas.Bool.{or_cases, or_left, or_right, true≢false, eqb-true, eq-eqb}
 use Rattle.std.proofs.lemmas.List.Folds.{list_any-append}
 use Rattle.std.proofs.lemmas.Map.Views.{list_any-from_Contains, Contains-from_any}
-use Rattle.sk_record.specs.Trail.{Foot, Dep, itself, fed, is_in, is_marked, hit, hits, dirt, dirtied, keep, place, writes, touches}
+use Rattle.sk_record.specs.Effects.{MarkedEffect, Dep, itself, fed, is_in, is_marked, hit, hits, dirt, dirtied, keep, place, writes, touches}
 use Rattle.sk_record.proofs.Values.{shared, StruckWrite}
 
 pub slice_get-keep : {A : Type 0} (bs : List Bool) (xs : List A) (k : ℕ) → slice_get (keep bs xs) k ≡ slice_get xs (place bs k)
@@ -42,19 +42,19 @@ module _ {E : Type 0} {R : E → E → Ordering} (total : IsTotalOrder R) where
   pub from_in : (es : List E) (e : E) → Contains es e → is_in R es e ≡ true
   from_in es e h = list_any-from_Contains (eq_by_cmp_equiv total) e es h
 
-  pub dirtied_more : {V W : Type 0} (b : Bool) (f : Foot E V W) (dirty : List E) (e : E) → is_in R dirty e ≡ true → is_in R (dirtied b f dirty) e ≡ true
+  pub dirtied_more : {V W : Type 0} (b : Bool) (f : MarkedEffect E V W) (dirty : List E) (e : E) → is_in R dirty e ≡ true → is_in R (dirtied b f dirty) e ≡ true
   dirtied_more true f dirty e h = list_any-append (eq_by_cmp R e) (writes f) dirty ∙ or_right _ _ h
   dirtied_more false f dirty e h = h
 
 module _ {E V W : Type 0} {R : E → E → Ordering} (total : IsTotalOrder R) (g : ℕ) where
   -- why a position depends on g
-  abbrev Source : List E → List (Foot E V W) → ℕ → Type 0
+  abbrev Source : List E → List (MarkedEffect E V W) → ℕ → Type 0
   Source dirty ts i =
-      (f : Foot E V W) × (slice_get ts i ≡ Some f)
+      (f : MarkedEffect E V W) × (slice_get ts i ≡ Some f)
       × ((is_marked f.mark g ≡ true) ⊎ ((e : E) × (is_in R (touches f) e ≡ true)
       × ((is_in R dirty e ≡ true) ⊎ ((j : ℕ) × (j < i) × StruckWrite R (hits R g dirty ts) ts e j))))
 
-  step_back : (dirty : List E) (f : Foot E V W) (ts : List (Foot E V W)) (i : ℕ) (e : E) (b : Bool) → hit R g dirty f ≡ b
+  step_back : (dirty : List E) (f : MarkedEffect E V W) (ts : List (MarkedEffect E V W)) (i : ℕ) (e : E) (b : Bool) → hit R g dirty f ≡ b
       → is_in R (dirtied b f dirty) e ≡ true
       → (is_in R dirty e ≡ true) ⊎ ((j : ℕ) × (j < suc i) × StruckWrite R (hits R g dirty (f ∷ ts)) (f ∷ ts) e j)
   step_back dirty f ts i e true is h =
@@ -64,7 +64,7 @@ module _ {E V W : Type 0} {R : E → E → Ordering} (total : IsTotalOrder R) (g
       ]
   step_back dirty f ts i e false is h = inl h
 
-  source : (dirty : List E) (ts : List (Foot E V W)) (i : ℕ) → slice_get (hits R g dirty ts) i ≡ Some true → Source dirty ts i
+  source : (dirty : List E) (ts : List (MarkedEffect E V W)) (i : ℕ) → slice_get (hits R g dirty ts) i ≡ Some true → Source dirty ts i
   source dirty [] i h = cc
   source dirty (f ∷ ts) zero h =
       let is : hit R g dirty f ≡ true = cc in
@@ -90,43 +90,43 @@ module _ {E V W : Type 0} {R : E → E → Ordering} (total : IsTotalOrder R) (g
         )
       ]
 
-  dirty_hit : (dirty : List E) (ts : List (Foot E V W)) (i : ℕ) (f : Foot E V W) (e : E) → is_in R dirty e ≡ true → slice_get ts i ≡ Some f → is_in R (touches f) e ≡ true → slice_get (hits R g dirty ts) i ≡ Some true
+  dirty_hit : (dirty : List E) (ts : List (MarkedEffect E V W)) (i : ℕ) (f : MarkedEffect E V W) (e : E) → is_in R dirty e ≡ true → slice_get ts i ≡ Some f → is_in R (touches f) e ≡ true → slice_get (hits R g dirty ts) i ≡ Some true
   dirty_hit dirty [] i f e d at t = cc
   dirty_hit dirty (x ∷ ts) zero f e d at t =
       let is : f ≡ x = cc in
-      let P : Foot E V W → Type 0 = λ y. is_in R (touches y) e ≡ true in
+      let P : MarkedEffect E V W → Type 0 = λ y. is_in R (touches y) e ≡ true in
       ap Some (or_right _ _ (shared total (touches x) dirty e (subst P is t) d))
   dirty_hit dirty (x ∷ ts) (suc i) f e d at t = dirty_hit (dirtied (hit R g dirty x) x dirty) ts i f e (dirtied_more total (hit R g dirty x) x dirty e d) at t
 
-  fed_hit : (dirty : List E) (ts : List (Foot E V W)) (j i : ℕ) (from to : Foot E V W) (e : E) → j < i → slice_get (hits R g dirty ts) j ≡ Some true
+  fed_hit : (dirty : List E) (ts : List (MarkedEffect E V W)) (j i : ℕ) (from to : MarkedEffect E V W) (e : E) → j < i → slice_get (hits R g dirty ts) j ≡ Some true
       → slice_get ts j ≡ Some from → is_in R (writes from) e ≡ true → slice_get ts i ≡ Some to → is_in R (touches to) e ≡ true → slice_get (hits R g dirty ts) i ≡ Some true
   fed_hit dirty [] j i from to e lt h at_j w at_i t = cc
   fed_hit dirty (x ∷ ts) j zero from to e lt h at_j w at_i t = absurd (omega arith)
   fed_hit dirty (x ∷ ts) zero (suc i) from to e lt h at_j w at_i t =
       let is : hit R g dirty x ≡ true = cc in
       let same : from ≡ x = cc in
-      let P : Foot E V W → Type 0 = λ y. is_in R (writes y) e ≡ true in
+      let P : MarkedEffect E V W → Type 0 = λ y. is_in R (writes y) e ≡ true in
       let Q : Bool → Type 0 = λ b. is_in R (dirtied b x dirty) e ≡ true in
       dirty_hit (dirtied (hit R g dirty x) x dirty) ts i to e
       (subst Q (sym is) (list_any-append (eq_by_cmp R e) (writes x) dirty ∙ or_left _ _ (subst P same w))) at_i t
   fed_hit dirty (x ∷ ts) (suc j) (suc i) from to e lt h at_j w at_i t =
       fed_hit (dirtied (hit R g dirty x) x dirty) ts j i from to e (omega arith) h at_j w at_i t
 
-  marked_hit : (dirty : List E) (ts : List (Foot E V W)) (i : ℕ) (f : Foot E V W) → slice_get ts i ≡ Some f → is_marked f.mark g ≡ true → slice_get (hits R g dirty ts) i ≡ Some true
+  marked_hit : (dirty : List E) (ts : List (MarkedEffect E V W)) (i : ℕ) (f : MarkedEffect E V W) → slice_get ts i ≡ Some f → is_marked f.mark g ≡ true → slice_get (hits R g dirty ts) i ≡ Some true
   marked_hit dirty [] i f at m = cc
   marked_hit dirty (x ∷ ts) zero f at m =
       let is : f ≡ x = cc in
-      let P : Foot E V W → Type 0 = λ y. is_marked y.mark g ≡ true in
+      let P : MarkedEffect E V W → Type 0 = λ y. is_marked y.mark g ≡ true in
       ap Some (or_left _ _ (subst P is m))
   marked_hit dirty (x ∷ ts) (suc i) f at m = marked_hit (dirtied (hit R g dirty x) x dirty) ts i f at m
 
   module _ (exact : IsAntisymmetric R) where
-    sound : (ts : List (Foot E V W)) (n i : ℕ) → i < n → slice_get (hits R g [] ts) i ≡ Some true → Dep ts g i
+    sound : (ts : List (MarkedEffect E V W)) (n i : ℕ) → i < n → slice_get (hits R g [] ts) i ≡ Some true → Dep ts g i
     sound ts zero i lt h = absurd (omega arith)
     sound ts (suc n) i lt h =
         let s = source [] ts i h in
         elim s.2 [
-          | inl m ↦ itself (record { foot = s.0; at_i = s.1; mark = mark_is s.0.mark g m })
+          | inl m ↦ itself (record { marked_effect = s.0; at_i = s.1; mark = mark_is s.0.mark g m })
           | inr d ↦ elim d.2 [
             | inl none ↦ absurd (true≢false (sym none))
             | inr w ↦ fed w.0 (sound ts n w.0 (omega arith) w.2.0) (record {
@@ -142,21 +142,21 @@ module _ {E V W : Type 0} {R : E → E → Ordering} (total : IsTotalOrder R) (g
           ]
         ]
 
-    complete : (ts : List (Foot E V W)) (i : ℕ) → Dep ts g i → slice_get (hits R g [] ts) i ≡ Some true
-    complete ts i (itself m) = marked_hit [] ts i m.foot m.at_i (is_mark m.foot.mark g m.mark)
+    complete : (ts : List (MarkedEffect E V W)) (i : ℕ) → Dep ts g i → slice_get (hits R g [] ts) i ≡ Some true
+    complete ts i (itself m) = marked_hit [] ts i m.marked_effect m.at_i (is_mark m.marked_effect.mark g m.mark)
     complete ts i (fed j d f) =
         fed_hit [] ts j i f.from f.to f.entity f.earlier (complete ts j d) f.at_j (from_in total _ _ f.is_written) f.at_i (from_in total _ _ f.is_touched)
 
     -- the flags and the relation
-    pub flags_are_Dep : (ts : List (Foot E V W)) (i : ℕ) → (slice_get (hits R g [] ts) i ≡ Some true) ↔ Dep ts g i
+    pub flags_are_Dep : (ts : List (MarkedEffect E V W)) (i : ℕ) → (slice_get (hits R g [] ts) i ≡ Some true) ↔ Dep ts g i
     flags_are_Dep ts i = (sound ts (suc i) i (omega arith), complete ts i)
 
 module _ {E V W : Type 0} {R : E → E → Ordering} (total : IsTotalOrder R) (g : ℕ) where
-  dirt_stays : (dirty : List E) (ts : List (Foot E V W)) (e : E) → is_in R dirty e ≡ true → is_in R (dirt R g dirty ts) e ≡ true
+  dirt_stays : (dirty : List E) (ts : List (MarkedEffect E V W)) (e : E) → is_in R dirty e ≡ true → is_in R (dirt R g dirty ts) e ≡ true
   dirt_stays dirty [] e h = h
   dirt_stays dirty (f ∷ ts) e h = dirt_stays (dirtied (hit R g dirty f) f dirty) ts e (dirtied_more total (hit R g dirty f) f dirty e h)
 
-  dirt_from : (dirty : List E) (ts : List (Foot E V W)) (e : E) → is_in R (dirt R g dirty ts) e ≡ true → (is_in R dirty e ≡ true) ⊎ ((i : ℕ) × StruckWrite R (hits R g dirty ts) ts e i)
+  dirt_from : (dirty : List E) (ts : List (MarkedEffect E V W)) (e : E) → is_in R (dirt R g dirty ts) e ≡ true → (is_in R dirty e ≡ true) ⊎ ((i : ℕ) × StruckWrite R (hits R g dirty ts) ts e i)
   dirt_from dirty [] e h = inl h
   dirt_from dirty (f ∷ ts) e h =
       elim (dirt_from (dirtied (hit R g dirty f) f dirty) ts e h) [
@@ -164,20 +164,20 @@ module _ {E V W : Type 0} {R : E → E → Ordering} (total : IsTotalOrder R) (g
         | inr w ↦ inr (suc w.0, w.1)
       ]
 
-  dirt_to : (dirty : List E) (ts : List (Foot E V W)) (e : E) (i : ℕ) → StruckWrite R (hits R g dirty ts) ts e i → is_in R (dirt R g dirty ts) e ≡ true
+  dirt_to : (dirty : List E) (ts : List (MarkedEffect E V W)) (e : E) (i : ℕ) → StruckWrite R (hits R g dirty ts) ts e i → is_in R (dirt R g dirty ts) e ≡ true
   dirt_to dirty [] e i w = cc
   dirt_to dirty (f ∷ ts) e zero w =
       let is : hit R g dirty f ≡ true = cc in
       let same : w.1.0 ≡ f = cc in
-      let P : Foot E V W → Type 0 = λ y. is_in R (writes y) e ≡ true in
+      let P : MarkedEffect E V W → Type 0 = λ y. is_in R (writes y) e ≡ true in
       let Q : Bool → Type 0 = λ b. is_in R (dirtied b f dirty) e ≡ true in
       dirt_stays (dirtied (hit R g dirty f) f dirty) ts e
       (subst Q (sym is) (list_any-append (eq_by_cmp R e) (writes f) dirty ∙ or_left _ _ (subst P same w.1.2)))
   dirt_to dirty (f ∷ ts) e (suc i) w = dirt_to (dirtied (hit R g dirty f) f dirty) ts e i w
 
   -- what a guess has dirtied is what some position that depends on it writes
-  pub dirt_is : IsAntisymmetric R → (ts : List (Foot E V W)) (e : E)
-      → (is_in R (dirt R g [] ts) e ≡ true) ↔ ((i : ℕ) × (f : Foot E V W) × (slice_get ts i ≡ Some f) × Dep ts g i × Contains (writes f) e)
+  pub dirt_is : IsAntisymmetric R → (ts : List (MarkedEffect E V W)) (e : E)
+      → (is_in R (dirt R g [] ts) e ≡ true) ↔ ((i : ℕ) × (f : MarkedEffect E V W) × (slice_get ts i ≡ Some f) × Dep ts g i × Contains (writes f) e)
   dirt_is exact ts e = (
     λ h. elim (dirt_from [] ts e h) [
       | inl none ↦ absurd (true≢false (sym none))

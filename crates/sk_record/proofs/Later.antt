@@ -5,7 +5,7 @@ use Rattle.std.specs.declared.cmp.Ordering.{Ordering}
 use Rattle.std.specs.Ordering.{eq_by_cmp}
 use Rattle.std.proofs.lemmas.Bool.{or_parts}
 use Rattle.std.proofs.lemmas.List.Folds.{list_any-append}
-use Rattle.sk_record.specs.Trail.{Foot, is_in, is_marked, hit, hits, dirtied, keep, writes, touches}
+use Rattle.sk_record.specs.Effects.{MarkedEffect, is_in, is_marked, hit, hits, dirtied, keep, writes, touches}
 use Rattle.sk_record.proofs.Sets.{none_of_both}
 
 -- dh and dk have the same entities outside dg
@@ -20,26 +20,26 @@ module _ {E : Type 0} (R : E → E → Ordering) where
       λ i. same e parts.0 i || any_same dg dh dk same es parts.1 i
 
   module _ {V W : Type 0} where
-    pub dirtied_other : (b : Bool) (f : Foot E V W) (d : List E) (e : E) → is_in R (writes f) e ≡ false → is_in R (dirtied b f d) e ≡ is_in R d e
+    pub dirtied_other : (b : Bool) (f : MarkedEffect E V W) (d : List E) (e : E) → is_in R (writes f) e ≡ false → is_in R (dirtied b f d) e ≡ is_in R d e
     dirtied_other true f d e none = list_any-append (eq_by_cmp R e) (writes f) d ∙ ap (λ b. b || is_in R d e) none
     dirtied_other false f d e none = refl
 
-    pub dirtied_same : (b : Bool) (f : Foot E V W) (dh dk : List E) (e : E) → is_in R dh e ≡ is_in R dk e → is_in R (dirtied b f dh) e ≡ is_in R (dirtied b f dk) e
+    pub dirtied_same : (b : Bool) (f : MarkedEffect E V W) (dh dk : List E) (e : E) → is_in R dh e ≡ is_in R dk e → is_in R (dirtied b f dh) e ≡ is_in R (dirtied b f dk) e
     dirtied_same true f dh dk e same =
         list_any-append (eq_by_cmp R e) (writes f) dh ∙ ap (λ b. is_in R (writes f) e || b) same ∙ sym (list_any-append (eq_by_cmp R e) (writes f) dk)
     dirtied_same false f dh dk e same = same
 
     module _ (g h : ℕ) where
       -- the flags of h among the positions that are left, which the first two lists of dirty entities say
-      LaterIs : List E → List E → List E → List (Foot E V W) → Type 0
+      LaterIs : List E → List E → List E → List (MarkedEffect E V W) → Type 0
       LaterIs dg dh dk ts = hits R h dk (keep (hits R g dg ts) ts) ≡ keep (hits R g dg ts) (hits R h dh ts)
 
-      LaterBy : List E → List E → List E → Foot E V W → List (Foot E V W) → Bool → Type 0
+      LaterBy : List E → List E → List E → MarkedEffect E V W → List (MarkedEffect E V W) → Bool → Type 0
       LaterBy dg dh dk f ts b =
           let flags = b ∷ hits R g (dirtied b f dg) ts in
           hits R h dk (keep flags (f ∷ ts)) ≡ keep flags (hits R h dh (f ∷ ts))
 
-      one_more : (dg dh dk : List E) → SameOff R dg dh dk → (f : Foot E V W) (ts : List (Foot E V W))
+      one_more : (dg dh dk : List E) → SameOff R dg dh dk → (f : MarkedEffect E V W) (ts : List (MarkedEffect E V W))
           → ((dg dh dk : List E) → SameOff R dg dh dk → LaterIs dg dh dk ts)
           → (b : Bool) → hit R g dg f ≡ b → LaterBy dg dh dk f ts b
       unfolding LaterIs LaterBy
@@ -56,7 +56,7 @@ module _ {E : Type 0} (R : E → E → Ordering) where
           (more dg (dirtied (hit R h dh f) f dh) (dirtied (hit R h dh f) f dk)
           (λ e clean. dirtied_same (hit R h dh f) f dh dk e (same e clean)))
 
-      pub later_hits : (dg dh dk : List E) → SameOff R dg dh dk → (ts : List (Foot E V W)) → hits R h dk (keep (hits R g dg ts) ts) ≡ keep (hits R g dg ts) (hits R h dh ts)
+      pub later_hits : (dg dh dk : List E) → SameOff R dg dh dk → (ts : List (MarkedEffect E V W)) → hits R h dk (keep (hits R g dg ts) ts) ≡ keep (hits R g dg ts) (hits R h dh ts)
       unfolding LaterIs LaterBy
       later_hits dg dh dk same [] = refl
       later_hits dg dh dk same (f ∷ ts) = one_more dg dh dk same f ts (λ dg dh dk same. later_hits dg dh dk same ts) (hit R g dg f) refl

@@ -4,15 +4,15 @@ use Rattle.std.specs.Prelude.{slice_get}
 use Rattle.std.specs.Cmp.{IsTotalOrder}
 use Rattle.std.specs.FinMap.{get, IsAntisymmetric}
 use Rattle.std.proofs.lemmas.List.Sums.{fold-append}
-use Rattle.sk_record.specs.Run.{Kernel, run, trail}
+use Rattle.sk_record.specs.Run.{System, run, effects}
 use Rattle.sk_record.specs.Strike.{struck, strike}
-use Rattle.sk_record.specs.Trace.{Commit, Fail, record_of, trail_of, all_recorded, no_record, undecided_of}
-use Rattle.sk_record.specs.Seen.{log_of}
+use Rattle.sk_record.specs.Trace.{Commit, Fail, record_of, effects_of, all_recorded, no_record, undecided_of}
+use Rattle.sk_record.specs.UndoState.{log_of}
 use Rattle.sk_record.specs.Machine.{Machine, machine_after, machine_at_start, moved}
 use Rattle.sk_record.specs.Laws.{StruckWithin, OneStatus, Survivors, TagsAlong, LogsAreRuns, NotesAreSuffix, UnwindsToStruckRun, CommitKeeps, StaysReleased, Headline}
 use Rattle.sk_record.proofs.Chains.{slice_get-keep}
 use Rattle.sk_record.proofs.Machine.{unwound_run, cut_run}
-use Rattle.sk_record.proofs.Seen.{inv_of}
+use Rattle.sk_record.proofs.UndoStates.{inv_of}
 use Rattle.sk_record.proofs.Tidy.{grows_of, recorded_more}
 use Rattle.sk_record.proofs.Sound.{entries_are, record_more, sound_before, sound_commit, undecided_is}
 use Rattle.sk_record.proofs.Headline as machine
@@ -23,9 +23,9 @@ use Rattle.sk_record.proofs.Released as released
 use Rattle.sk_record.proofs.Stays as stays
 pub use Rattle.sk_record.proofs.Struck.{flags, footprint, struck_runs, later, later_dep}
 
-module _ {E V W F N : Type 0} (K : Kernel E V W F N) (total : IsTotalOrder K.order) (exact : IsAntisymmetric K.order) where
+module _ {E V W F N : Type 0} (K : System E V W F N) (total : IsTotalOrder K.order) (exact : IsAntisymmetric K.order) where
   pub struck_within : StruckWithin K
-  struck_within s ns g h own i d = kept.struck_within (trail K s ns) g h own i d
+  struck_within s ns g h own i d = kept.struck_within (effects K s ns) g h own i d
 
   pub one_status : OneStatus K
   one_status start es g sound = status.one_status K start es sound g
@@ -33,7 +33,7 @@ module _ {E V W F N : Type 0} (K : Kernel E V W F N) (total : IsTotalOrder K.ord
   pub survivors : Survivors K
   survivors start es c k sound =
       let before = sound_before K start es (Fail c ∷ []) sound in (
-        ap (λ ts. slice_get ts k) (kept.trail_left K total exact start es c before) ∙ slice_get-keep (struck K start (record_of K start es) c) (trail_of K start es) k,
+        ap (λ ts. slice_get ts k) (kept.trail_left K total exact start es c before) ∙ slice_get-keep (struck K start (record_of K start es) c) (effects_of K start es) k,
         λ g. kept.tags_left K total exact start es c before k g,
       )
 
@@ -42,32 +42,32 @@ module _ {E V W F N : Type 0} (K : Kernel E V W F N) (total : IsTotalOrder K.ord
 
   pub logs_are_runs : LogsAreRuns K
   logs_are_runs start es e sound =
-      (machine.machine_stands K total exact start es sound).seen.logs e ∙ ap (λ ns. log_of K start ns (undecided_of K start es) e) (entries_are K start es)
+      (machine.machine_stands K total exact start es sound).state.logs e ∙ ap (λ ns. log_of K start ns (undecided_of K start es) e) (entries_are K start es)
 
   pub notes_are_suffix : NotesAreSuffix K
   notes_are_suffix start es e g sound =
-      let log = (machine_after K start es).seen.logs e in (
+      let log = (machine_after K start es).state.logs e in (
         carried_split g log,
         cut_none g log,
-        grows_of K total exact start (all_recorded K start no_record es) _ (machine.machine_stands K total exact start es sound).seen e g,
+        grows_of K total exact start (all_recorded K start no_record es) _ (machine.machine_stands K total exact start es sound).state e g,
       )
 
   pub unwinds_to_struck_run : UnwindsToStruckRun K
   unwinds_to_struck_run start es g e sound is_open =
       let r = all_recorded K start no_record es in
       let m = machine_after K start es in
-      let inv = inv_of K total exact start r m.seen (machine.machine_stands K total exact start es sound).seen in
+      let inv = inv_of K total exact start r m.state (machine.machine_stands K total exact start es sound).state in
       let there = (undecided_is K start es sound g).1 is_open in (
-        unwound_run K total exact start r m.seen g inv there e ∙ ap (λ ns. get (run K start (strike K start ns g)) e) (entries_are K start es),
-        cut_run K total exact start r m.seen g inv there e
+        unwound_run K total exact start r m.state g inv there e ∙ ap (λ ns. get (run K start (strike K start ns g)) e) (entries_are K start es),
+        cut_run K total exact start r m.state g inv there e
             ∙ (λ i. log_of K start (strike K start (entries_are K start es i) g) (sym (recorded_more K start no_record es (Fail g)) i).undecided e),
       )
 
   pub commit_keeps : CommitKeeps K
   commit_keeps start es g e sound is_open =
       let same = fold-append (moved K) (machine_at_start K start) es (Commit g ∷ []) in
-      let logs = ap (λ (m : Machine E V W). m.seen.logs e) same in (
-        ap (λ (m : Machine E V W). m.seen.look e) same,
+      let logs = ap (λ (m : Machine E V W). m.state.logs e) same in (
+        ap (λ (m : Machine E V W). m.state.look e) same,
         logs,
         logs_are_runs start (es ++ Commit g ∷ []) e (sound_commit K start es g sound is_open)
             ∙ (λ i. log_of K start (record_more K start es (Commit g) i) (recorded_more K start no_record es (Commit g) i).undecided e),

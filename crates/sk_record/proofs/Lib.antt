@@ -8,7 +8,7 @@ pub mod Notes
 pub mod Tags
 pub mod Machine
 pub mod Output
-pub mod Seen
+pub mod UndoStates
 pub mod Tidy
 pub mod Sound
 pub mod Status

@@ -11,12 +11,12 @@ use Rattle.std.proofs.lemmas.List.Folds.{list_any-append}
 use Rattle.std.proofs.lemmas.Map.Views.{any-filter_same}
 use Rattle.std.proofs.Math.Bool.{and-true}
 use Rattle.sk_record.specs.Step.{Effect, perform}
-use Rattle.sk_record.specs.Trail.{Foot, is_in, is_marked, hit, hits, dirt, dirtied, writes, touches, written_value, value_after}
-use Rattle.sk_record.specs.Run.{Kernel, outcome, after, foot, run, IsLegal, trail}
+use Rattle.sk_record.specs.Effects.{MarkedEffect, is_in, is_marked, hit, hits, dirt, dirtied, writes, touches, written_value, value_after}
+use Rattle.sk_record.specs.Run.{System, outcome, after, marked_effect, run, IsLegal, effects}
 use Rattle.sk_record.specs.Strike.{strike}
 use Rattle.sk_record.specs.Notes.{has, without, noted, last_tags, cut, unwound, committed, rests, next_dirty, notes_of}
 use Rattle.sk_record.specs.Trace.{Taken, Commit, Fail, marks, still_marked, Record, recorded, IsFresh, deps}
-use Rattle.sk_record.specs.Seen.{Open, Seen, numbers, opened, still_open, tags_at, is_tag, step_tags, Committed, Failed, Took}
+use Rattle.sk_record.specs.UndoState.{Open, UndoState, numbers, opened, still_open, tags_at, is_tag, step_tags, Committed, Failed, Took}
 use Rattle.sk_record.proofs.Values.{get-put_all, get-run}
 use Rattle.sk_record.proofs.Notes.{unwound_is, cut_is}
 use Rattle.sk_record.proofs.Tags.{tags_are, notes_more, commit_is, fewer_guesses}
@@ -48,7 +48,7 @@ has_filter p g gs = any-filter_same (λ t. t == g) p (p g) (λ k is. ap p (eqb-t
 
 module _ {E : Type 0} (R : E → E → Ordering) {V W : Type 0} where
   -- nothing depends on a guess of which there is no mark
-  pub unmarked_hits : (h : ℕ) (ts : List (Foot E V W)) → still_marked ts h ≡ false → list_any (λ b. b) (hits R h [] ts) ≡ false
+  pub unmarked_hits : (h : ℕ) (ts : List (MarkedEffect E V W)) → still_marked ts h ≡ false → list_any (λ b. b) (hits R h [] ts) ≡ false
   unmarked_hits h [] none = refl
   unmarked_hits h (f ∷ ts) none =
       let parts = or_parts _ _ none in
@@ -56,7 +56,7 @@ module _ {E : Type 0} (R : E → E → Ordering) {V W : Type 0} where
       let P : Bool → Type 0 = λ b. list_any (λ b. b) (b ∷ hits R h (dirtied b f []) ts) ≡ false in
       subst P (sym no_hit) (unmarked_hits h ts parts.1)
 
-  unmarked_dirt : (h : ℕ) (ts : List (Foot E V W)) → still_marked ts h ≡ false → dirt R h [] ts ≡ []
+  unmarked_dirt : (h : ℕ) (ts : List (MarkedEffect E V W)) → still_marked ts h ≡ false → dirt R h [] ts ≡ []
   unmarked_dirt h [] none = refl
   unmarked_dirt h (f ∷ ts) none =
       let parts = or_parts _ _ none in
@@ -65,7 +65,7 @@ module _ {E : Type 0} (R : E → E → Ordering) {V W : Type 0} where
       subst P (sym no_hit) (unmarked_dirt h ts parts.1)
 
   -- a guess on which nothing rests may be added
-  new_guess : (gs : List ℕ) (h : ℕ) (dirty : ℕ → List E) (ts : List (Foot E V W)) (e : E) (v : Option V) → list_any (λ b. b) (hits R h (dirty h) ts) ≡ false
+  new_guess : (gs : List ℕ) (h : ℕ) (dirty : ℕ → List E) (ts : List (MarkedEffect E V W)) (e : E) (v : Option V) → list_any (λ b. b) (hits R h (dirty h) ts) ≡ false
       → notes_of R (gs ++ h ∷ []) dirty ts e v ≡ notes_of R gs dirty ts e v
   new_guess gs h dirty [] e v none = refl
   new_guess gs h dirty (f ∷ ts) e v none =
@@ -74,14 +74,14 @@ module _ {E : Type 0} (R : E → E → Ordering) {V W : Type 0} where
       filter-append (λ g. hit R g (dirty g) f) gs (h ∷ []) ∙ ap (λ b. rests R gs dirty f ++ cond b (h ∷ []) []) parts.0 ∙ nil_right (rests R gs dirty f) in
       λ i. noted (is_in R (writes f) e) (same i) v (new_guess gs h (next_dirty R (gs ++ h ∷ []) dirty f) ts e (written_value R f.written e v) parts.1 i)
 
-module _ {E V W F N : Type 0} (K : Kernel E V W F N) where
+module _ {E V W F N : Type 0} (K : System E V W F N) where
   run_append : (s : FinMap K.order V) (ns ms : List N) → run K s (ns ++ ms) ≡ run K (run K s ns) ms
   run_append s [] ms = refl
   run_append s (n ∷ ns) ms = run_append (after K (outcome K s n) s) ns ms
 
-  pub trail_append : (s : FinMap K.order V) (ns ms : List N) → trail K s (ns ++ ms) ≡ trail K s ns ++ trail K (run K s ns) ms
+  pub trail_append : (s : FinMap K.order V) (ns ms : List N) → effects K s (ns ++ ms) ≡ effects K s ns ++ effects K (run K s ns) ms
   trail_append s [] ms = refl
-  trail_append s (n ∷ ns) ms = ap (λ fs. foot K (K.mark n) (outcome K s n) ∷ fs) (trail_append (after K (outcome K s n) s) ns ms)
+  trail_append s (n ∷ ns) ms = ap (λ fs. marked_effect K (K.mark n) (outcome K s n) ∷ fs) (trail_append (after K (outcome K s n) s) ns ms)
 
   pub legal_append : (s : FinMap K.order V) (ns ms : List N) → IsLegal K s ns → IsLegal K (run K s ns) ms → IsLegal K s (ns ++ ms)
   legal_append s [] ms h k = k
@@ -91,52 +91,52 @@ module _ {E V W F N : Type 0} (K : Kernel E V W F N) where
   legal_last s [] n h = h.0
   legal_last s (x ∷ ns) n h = legal_last (after K (outcome K s x) s) ns n h.1
 
-module _ {E V W F N : Type 0} (K : Kernel E V W F N) (total : IsTotalOrder K.order) (exact : IsAntisymmetric K.order) (start : FinMap K.order V) where
+module _ {E V W F N : Type 0} (K : System E V W F N) (total : IsTotalOrder K.order) (exact : IsAntisymmetric K.order) (start : FinMap K.order V) where
   -- what stands of a kernel, but for what the tags of its open guesses tell
-  pub record Inv (r : Record N) (a : Seen E V) : Type 0 where
+  pub record Inv (r : Record N) (a : UndoState E V) : Type 0 where
     pub legal : IsLegal K start r.entries
     pub guesses : numbers a.opens ≡ r.undecided
     pub look : (e : E) → a.look e ≡ get (run K start r.entries) e
-    pub logs : (e : E) → a.logs e ≡ notes_of K.order r.undecided (λ g. []) (trail K start r.entries) e (get start e)
+    pub logs : (e : E) → a.logs e ≡ notes_of K.order r.undecided (λ g. []) (effects K start r.entries) e (get start e)
 
-  pub inv_tags : (r : Record N) (a : Seen E V) → Inv r a → (e : E) → tags_at a e ≡ deps K start r e
+  pub inv_tags : (r : Record N) (a : UndoState E V) → Inv r a → (e : E) → tags_at a e ≡ deps K start r e
   inv_tags r a inv e =
       ap (last_tags []) (inv.logs e)
-      ∙ ap (λ t. last_tags t (notes_of K.order r.undecided (λ g. []) (trail K start r.entries) e (get start e))) (sym (filter_no r.undecided))
-      ∙ tags_are total r.undecided (λ g. []) (trail K start r.entries) e (get start e)
+      ∙ ap (λ t. last_tags t (notes_of K.order r.undecided (λ g. []) (effects K start r.entries) e (get start e))) (sym (filter_no r.undecided))
+      ∙ tags_are total r.undecided (λ g. []) (effects K start r.entries) e (get start e)
 
   marks_new : (r : Record N) (own : Option ℕ) → IsFresh K start r own → (e : E) (v : Option V)
-      → notes_of K.order (r.undecided ++ marks own) (λ g. []) (trail K start r.entries) e v ≡ notes_of K.order r.undecided (λ g. []) (trail K start r.entries) e v
-  marks_new r None fresh e v = ap (λ gs. notes_of K.order gs (λ g. []) (trail K start r.entries) e v) (nil_right r.undecided)
-  marks_new r (Some h) fresh e v = new_guess K.order r.undecided h (λ g. []) (trail K start r.entries) e v (unmarked_hits K.order h (trail K start r.entries) fresh.1)
+      → notes_of K.order (r.undecided ++ marks own) (λ g. []) (effects K start r.entries) e v ≡ notes_of K.order r.undecided (λ g. []) (effects K start r.entries) e v
+  marks_new r None fresh e v = ap (λ gs. notes_of K.order gs (λ g. []) (effects K start r.entries) e v) (nil_right r.undecided)
+  marks_new r (Some h) fresh e v = new_guess K.order r.undecided h (λ g. []) (effects K start r.entries) e v (unmarked_hits K.order h (effects K start r.entries) fresh.1)
 
-  pub own_dirt : (r : Record N) (own : Option ℕ) → IsFresh K start r own → (g : ℕ) → has g (marks own) ≡ true → dirt K.order g [] (trail K start r.entries) ≡ []
+  pub own_dirt : (r : Record N) (own : Option ℕ) → IsFresh K start r own → (g : ℕ) → has g (marks own) ≡ true → dirt K.order g [] (effects K start r.entries) ≡ []
   own_dirt r None fresh g here = absurd (true≢false (sym here))
   own_dirt r (Some h) fresh g here =
       elim (or_cases _ _ here) [
-        | inl is ↦ unmarked_dirt K.order g (trail K start r.entries) (ap (still_marked (trail K start r.entries)) (sym (eqb-true h g is)) ∙ fresh.1)
+        | inl is ↦ unmarked_dirt K.order g (effects K start r.entries) (ap (still_marked (effects K start r.entries)) (sym (eqb-true h g is)) ∙ fresh.1)
         | inr none ↦ absurd (true≢false (sym none))
       ]
 
   -- whether a guess that is undecided after the step is among an entity's tags
-  tag_is : (r : Record N) (a : Seen E V) → Inv r a → (own : Option ℕ) → IsFresh K start r own → (g : ℕ) → has g (r.undecided ++ marks own) ≡ true
-      → (e : E) → has g (tags_at a e) ≡ is_in K.order (dirt K.order g [] (trail K start r.entries)) e
+  tag_is : (r : Record N) (a : UndoState E V) → Inv r a → (own : Option ℕ) → IsFresh K start r own → (g : ℕ) → has g (r.undecided ++ marks own) ≡ true
+      → (e : E) → has g (tags_at a e) ≡ is_in K.order (dirt K.order g [] (effects K start r.entries)) e
   tag_is r a inv own fresh g there e =
       ap (has g) (inv_tags r a inv e)
-      ∙ has_filter (λ h. is_in K.order (dirt K.order h [] (trail K start r.entries)) e) g r.undecided
+      ∙ has_filter (λ h. is_in K.order (dirt K.order h [] (effects K start r.entries)) e) g r.undecided
       ∙ elim (or_cases _ _ (sym (list_any-append (λ t. t == g) r.undecided (marks own)) ∙ there)) [
-        | inl before ↦ ap (λ b. is_in K.order (dirt K.order g [] (trail K start r.entries)) e && b) before ∙ and-true _
+        | inl before ↦ ap (λ b. is_in K.order (dirt K.order g [] (effects K start r.entries)) e && b) before ∙ and-true _
         | inr its_own ↦
-            let clean : is_in K.order (dirt K.order g [] (trail K start r.entries)) e ≡ false = ap (λ d. is_in K.order d e) (own_dirt r own fresh g its_own) in
+            let clean : is_in K.order (dirt K.order g [] (effects K start r.entries)) e ≡ false = ap (λ d. is_in K.order d e) (own_dirt r own fresh g its_own) in
             ap (λ b. b && has g r.undecided) clean ∙ sym clean
       ]
 
   -- the union of the tags is the guesses that the step rests on
-  pub union_is : (r : Record N) (a : Seen E V) → Inv r a → (f : Foot E V W) → IsFresh K start r f.mark
-      → step_tags a f ≡ rests K.order (r.undecided ++ marks f.mark) (λ g. dirt K.order g [] (trail K start r.entries)) f
+  pub union_is : (r : Record N) (a : UndoState E V) → Inv r a → (f : MarkedEffect E V W) → IsFresh K start r f.mark
+      → step_tags a f ≡ rests K.order (r.undecided ++ marks f.mark) (λ g. dirt K.order g [] (effects K start r.entries)) f
   union_is r a inv f fresh =
       ap (λ gs. filter (is_tag a f) (gs ++ marks f.mark)) inv.guesses
-      ∙ filter_alike (is_tag a f) (λ g. hit K.order g (dirt K.order g [] (trail K start r.entries)) f) (r.undecided ++ marks f.mark)
+      ∙ filter_alike (is_tag a f) (λ g. hit K.order g (dirt K.order g [] (effects K start r.entries)) f) (r.undecided ++ marks f.mark)
       (λ g there. λ i. is_marked f.mark g || list_any (λ e. tag_is r a inv f.mark fresh g there e i) (touches f))
 
   -- ---- a step
@@ -148,18 +148,18 @@ module _ {E V W F N : Type 0} (K : Kernel E V W F N) (total : IsTotalOrder K.ord
   numbers_opened None tags = refl
   numbers_opened (Some g) tags = refl
 
-  pub accepted_run : (r : Record N) (a : Seen E V) → Inv r a → (n : N) (o : Result (Effect E V W) F) → perform a.look (K.act n) ≡ o → outcome K (run K start r.entries) n ≡ o
+  pub accepted_run : (r : Record N) (a : UndoState E V) → Inv r a → (n : N) (o : Result (Effect E V W) F) → perform a.look (K.act n) ≡ o → outcome K (run K start r.entries) n ≡ o
   accepted_run r a inv n o is = (λ i. perform (λ e. sym (inv.look e) i) (K.act n)) ∙ is
 
   pub longer : (r : Record N) (n : N) (o : Result (Effect E V W) F) → outcome K (run K start r.entries) n ≡ o
-      → trail K start (r.entries ++ n ∷ []) ≡ trail K start r.entries ++ foot K (K.mark n) o ∷ []
-  longer r n o is = trail_append K start r.entries (n ∷ []) ∙ ap (λ o. trail K start r.entries ++ foot K (K.mark n) o ∷ []) is
+      → effects K start (r.entries ++ n ∷ []) ≡ effects K start r.entries ++ marked_effect K (K.mark n) o ∷ []
+  longer r n o is = trail_append K start r.entries (n ∷ []) ∙ ap (λ o. effects K start r.entries ++ marked_effect K (K.mark n) o ∷ []) is
 
-  pub takes : (r : Record N) (a : Seen E V) (n : N) (b : Seen E V) → Inv r a → IsFresh K start r (K.mark n) → Took K a n b → Inv (recorded K start r (Taken n)) b
+  pub takes : (r : Record N) (a : UndoState E V) (n : N) (b : UndoState E V) → Inv r a → IsFresh K start r (K.mark n) → Took K a n b → Inv (recorded K start r (Taken n)) b
   takes r a n b inv fresh t =
       let now = run K start r.entries in
-      let ts = trail K start r.entries in
-      let f : Foot E V W = foot K (K.mark n) (Ok t.effect) in
+      let ts = effects K start r.entries in
+      let f : MarkedEffect E V W = marked_effect K (K.mark n) (Ok t.effect) in
       let accepted : outcome K now n ≡ Ok t.effect = accepted_run r a inv n (Ok t.effect) t.accepted in
       record {
         legal = legal_append K start r.entries (n ∷ []) inv.legal (ap is_ok accepted, tt);
@@ -189,20 +189,20 @@ module _ {E V W F N : Type 0} (K : Kernel E V W F N) (total : IsTotalOrder K.ord
         | false ↦ ap (λ ns. o.0 ∷ ns) (numbers_still g os)
       ]
 
-  pub commits : (r : Record N) (a : Seen E V) (g : ℕ) (b : Seen E V) → Inv r a → Committed a g b → Inv (recorded K start r (Commit g)) b
+  pub commits : (r : Record N) (a : UndoState E V) (g : ℕ) (b : UndoState E V) → Inv r a → Committed a g b → Inv (recorded K start r (Commit g)) b
   commits r a g b inv t = record {
     legal = inv.legal;
     guesses = ap numbers t.opens ∙ numbers_still g a.opens ∙ ap (without g) inv.guesses;
     look = λ e. t.look e ∙ inv.look e;
-    logs = λ e. t.logs e ∙ ap (committed g) (inv.logs e) ∙ sym (commit_is total r.undecided g (λ h. []) (trail K start r.entries) e (get start e));
+    logs = λ e. t.logs e ∙ ap (committed g) (inv.logs e) ∙ sym (commit_is total r.undecided g (λ h. []) (effects K start r.entries) e (get start e));
   }
 
   -- ---- a failure
   -- the value that is unwound to is the struck run's
-  pub unwound_run : (r : Record N) (a : Seen E V) (g : ℕ) → Inv r a → has g r.undecided ≡ true → (e : E)
+  pub unwound_run : (r : Record N) (a : UndoState E V) (g : ℕ) → Inv r a → has g r.undecided ≡ true → (e : E)
       → unwound g (a.logs e) (a.look e) ≡ get (run K start (strike K start r.entries g)) e
   unwound_run r a g inv is_open e =
-      let ts = trail K start r.entries in
+      let ts = effects K start r.entries in
       (λ i. unwound g (inv.logs e i) (inv.look e i))
       ∙ ap (unwound g (notes_of K.order r.undecided (λ h. []) ts e (get start e))) (get-run K total start r.entries e)
       ∙ unwound_is total r.undecided g is_open (λ h. []) ts e (get start e) refl
@@ -210,17 +210,17 @@ module _ {E V W F N : Type 0} (K : Kernel E V W F N) (total : IsTotalOrder K.ord
       ∙ sym (get-run K total start (strike K start r.entries g) e)
 
   -- the notes that are left are the struck run's
-  pub cut_run : (r : Record N) (a : Seen E V) (g : ℕ) → Inv r a → has g r.undecided ≡ true → (e : E)
-      → cut g (a.logs e) ≡ notes_of K.order (recorded K start r (Fail g)).undecided (λ h. []) (trail K start (strike K start r.entries g)) e (get start e)
+  pub cut_run : (r : Record N) (a : UndoState E V) (g : ℕ) → Inv r a → has g r.undecided ≡ true → (e : E)
+      → cut g (a.logs e) ≡ notes_of K.order (recorded K start r (Fail g)).undecided (λ h. []) (effects K start (strike K start r.entries g)) e (get start e)
   cut_run r a g inv is_open e =
-      let ts = trail K start r.entries in
-      let us = trail K start (strike K start r.entries g) in
+      let ts = effects K start r.entries in
+      let us = effects K start (strike K start r.entries g) in
       ap (cut g) (inv.logs e)
       ∙ sym (cut_is total r.undecided g is_open (λ h. []) (λ h. []) (λ h x clean. refl) ts e (get start e) refl)
       ∙ ap (λ fs. notes_of K.order r.undecided (λ h. []) fs e (get start e)) (sym (struck_runs K total exact start r.entries g inv.legal).steps)
       ∙ sym (fewer_guesses total r.undecided (still_marked us) (λ h. []) us e (get start e) (λ h none. unmarked_hits K.order h us none))
 
-  pub fails : (r : Record N) (a : Seen E V) (g : ℕ) (b : Seen E V) → Inv r a → has g r.undecided ≡ true → Failed a g b
+  pub fails : (r : Record N) (a : UndoState E V) (g : ℕ) (b : UndoState E V) → Inv r a → has g r.undecided ≡ true → Failed a g b
       → numbers b.opens ≡ (recorded K start r (Fail g)).undecided → Inv (recorded K start r (Fail g)) b
   fails r a g b inv is_open t guesses = record {
     legal = (struck_runs K total exact start r.entries g inv.legal).legal;

@@ -7,7 +7,7 @@ use Rattle.std.specs.Ordering.{eq_by_cmp}
 use Rattle.std.specs.Cmp.{IsTotalOrder}
 use Rattle.std.proofs.lemmas.Bool.{or_parts, or_left, or_right, true≢false, or_from, ne_eqb, eqb-true}
 use Rattle.std.proofs.lemmas.List.Folds.{list_any-append}
-use Rattle.sk_record.specs.Trail.{Foot, is_in, is_marked, hit, hits, dirt, dirtied, keep, writes, touches, written_value, value_after}
+use Rattle.sk_record.specs.Effects.{MarkedEffect, is_in, is_marked, hit, hits, dirt, dirtied, keep, writes, touches, written_value, value_after}
 use Rattle.sk_record.specs.Notes.{Note, has, noted, cut, unwound, rests, next_dirty, notes_of}
 use Rattle.sk_record.proofs.Sets.{none_of_both}
 use Rattle.sk_record.proofs.Later.{SameOff, any_same, dirtied_other, dirtied_same}
@@ -59,7 +59,7 @@ module _ {V : Type 0} where
 
 module _ {E V W : Type 0} {R : E → E → Ordering} (total : IsTotalOrder R) (guesses : List ℕ) (g : ℕ) (is_open : has g guesses ≡ true) where
   -- the value before the first note that carries g is that of the struck run
-  pub unwound_is : (dirty : ℕ → List E) (ts : List (Foot E V W)) (e : E) (v : Option V) → is_in R (dirty g) e ≡ false
+  pub unwound_is : (dirty : ℕ → List E) (ts : List (MarkedEffect E V W)) (e : E) (v : Option V) → is_in R (dirty g) e ≡ false
       → unwound g (notes_of R guesses dirty ts e v) (value_after R ts e v) ≡ value_after R (keep (hits R g (dirty g) ts) ts) e v
   unwound_is dirty [] e v clean = refl
   unwound_is dirty (f ∷ ts) e v clean =
@@ -86,7 +86,7 @@ module _ {E V W : Type 0} {R : E → E → Ordering} (total : IsTotalOrder R) (g
       ] refl (λ w clean. unwound_is (next_dirty R guesses dirty f) ts e w clean)
 
   -- a surviving step writes no dirty entity, and so makes no note for it
-  frozen_notes : (dg : List E) (dk : ℕ → List E) (ts : List (Foot E V W)) (e : E) (v : Option V) → is_in R dg e ≡ true → notes_of R guesses dk (keep (hits R g dg ts) ts) e v ≡ []
+  frozen_notes : (dg : List E) (dk : ℕ → List E) (ts : List (MarkedEffect E V W)) (e : E) (v : Option V) → is_in R dg e ≡ true → notes_of R guesses dk (keep (hits R g dg ts) ts) e v ≡ []
   frozen_notes dg dk [] e v dirt = refl
   frozen_notes dg dk (f ∷ ts) e v dirt =
       elim (hit R g dg f) as (λ b. hit R g dg f ≡ b → notes_of R guesses dk (keep (b ∷ hits R g (dirtied b f dg) ts) (f ∷ ts)) e v ≡ []) [
@@ -97,7 +97,7 @@ module _ {E V W : Type 0} {R : E → E → Ordering} (total : IsTotalOrder R) (g
       ] refl
 
   -- the notes of the struck run are those before the first that carries g
-  pub cut_is : (dirty dk : ℕ → List E) → ((h : ℕ) → SameOff R (dirty g) (dirty h) (dk h)) → (ts : List (Foot E V W)) (e : E) (v : Option V) → is_in R (dirty g) e ≡ false
+  pub cut_is : (dirty dk : ℕ → List E) → ((h : ℕ) → SameOff R (dirty g) (dirty h) (dk h)) → (ts : List (MarkedEffect E V W)) (e : E) (v : Option V) → is_in R (dirty g) e ≡ false
       → notes_of R guesses dk (keep (hits R g (dirty g) ts) ts) e v ≡ cut g (notes_of R guesses dirty ts e v)
   cut_is dirty dk same [] e v clean = refl
   cut_is dirty dk same (f ∷ ts) e v clean =

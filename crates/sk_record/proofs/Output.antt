@@ -4,7 +4,7 @@ use Rattle.std.specs.List.{filter}
 use Rattle.std.specs.declared.cmp.Ordering.{Ordering}
 use Rattle.std.specs.Ordering.{eq_by_cmp}
 use Rattle.std.proofs.lemmas.Bool.{or_parts}
-use Rattle.sk_record.specs.Trail.{Foot, is_in, is_marked, hit, hits, dirtied, keep, writes, touches}
+use Rattle.sk_record.specs.Effects.{MarkedEffect, is_in, is_marked, hit, hits, dirtied, keep, writes, touches}
 use Rattle.sk_record.specs.Notes.{has, rests, next_dirty, tags_along}
 use Rattle.sk_record.proofs.Sets.{none_of_both}
 use Rattle.sk_record.proofs.Later.{SameOff, any_same, dirtied_other, dirtied_same}
@@ -12,7 +12,7 @@ use Rattle.sk_record.proofs.Notes.{has_not, has_passed}
 
 module _ {E V W : Type 0} (R : E → E → Ordering) (guesses : List ℕ) where
   -- a position carries g exactly where it depends on it
-  pub carries_is : (g : ℕ) → has g guesses ≡ true → (dirty : ℕ → List E) (ts : List (Foot E V W)) → map (has g) (tags_along R guesses dirty ts) ≡ hits R g (dirty g) ts
+  pub carries_is : (g : ℕ) → has g guesses ≡ true → (dirty : ℕ → List E) (ts : List (MarkedEffect E V W)) → map (has g) (tags_along R guesses dirty ts) ≡ hits R g (dirty g) ts
   carries_is g is_open dirty [] = refl
   carries_is g is_open dirty (f ∷ ts) =
       let here : has g (rests R guesses dirty f) ≡ hit R g (dirty g) f =
@@ -23,7 +23,7 @@ module _ {E V W : Type 0} (R : E → E → Ordering) (guesses : List ℕ) where
       λ i. here i ∷ carries_is g is_open (next_dirty R guesses dirty f) ts i
 
   -- the survivors of a failure keep their tags
-  pub kept_rests : (g : ℕ) (dirty dk : ℕ → List E) → ((h : ℕ) → SameOff R (dirty g) (dirty h) (dk h)) → (ts : List (Foot E V W))
+  pub kept_rests : (g : ℕ) (dirty dk : ℕ → List E) → ((h : ℕ) → SameOff R (dirty g) (dirty h) (dk h)) → (ts : List (MarkedEffect E V W))
       → tags_along R guesses dk (keep (hits R g (dirty g) ts) ts) ≡ keep (hits R g (dirty g) ts) (tags_along R guesses dirty ts)
   kept_rests g dirty dk same [] = refl
   kept_rests g dirty dk same (f ∷ ts) =

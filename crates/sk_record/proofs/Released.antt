@@ -5,15 +5,15 @@ use Rattle.std.specs.List.{Contains}
 use Rattle.std.specs.Cmp.{IsTotalOrder}
 use Rattle.std.specs.FinMap.{FinMap, IsAntisymmetric}
 use Rattle.std.proofs.lemmas.Bool.{true≢false}
-use Rattle.sk_record.specs.Trail.{Foot, Dep, hits}
-use Rattle.sk_record.specs.Run.{Kernel, trail}
+use Rattle.sk_record.specs.Effects.{MarkedEffect, Dep, hits}
+use Rattle.sk_record.specs.Run.{System, effects}
 use Rattle.sk_record.specs.Notes.{has, tags_along}
-use Rattle.sk_record.specs.Trace.{Event, IsTagAt, IsSound, trail_of, all_recorded, no_record}
+use Rattle.sk_record.specs.Trace.{Event, IsTagAt, IsSound, effects_of, all_recorded, no_record}
 use Rattle.sk_record.specs.Release.{said_by, said_from, said_with, said, IsClear, IsReleased}
-use Rattle.sk_record.specs.Machine.{Tagged, released, TextsStand}
+use Rattle.sk_record.specs.Machine.{Tagged, released, TextsRepresent}
 use Rattle.sk_record.proofs.Chains.{flags_are_Dep}
 use Rattle.sk_record.proofs.Output.{carries_is}
-use Rattle.sk_record.proofs.Seen.{no_tags}
+use Rattle.sk_record.proofs.UndoStates.{no_tags}
 use Rattle.sk_record.proofs.Sound.{entries_are, undecided_is}
 use Rattle.sk_record.proofs.Texts.{along_length, along_within, got_map, map_append}
 
@@ -47,7 +47,7 @@ some_same b is = cc
 none_there : {A : Type 0} (x : A) → Contains [] x → ⊥
 none_there x (k, lt, is) = omega arith
 
-module _ {E V W F N : Type 0} (K : Kernel E V W F N) where
+module _ {E V W F N : Type 0} (K : System E V W F N) where
   -- a step says one text to the terminal, or none
   one_or_none : (t : ℕ) (s : Option W) (i : ℕ) (tags : List ℕ)
       → ((said_by K t s i ≡ []) × (said_by K t s tags ≡ [])) ⊎ ((w : W) × (said_by K t s i ≡ (w, i) ∷ []) × (said_by K t s tags ≡ (w, tags) ∷ []))
@@ -61,7 +61,7 @@ module _ {E V W F N : Type 0} (K : Kernel E V W F N) where
   moved_by : (P : ℕ → Type 0) (i k : ℕ) (A : Type 0) → A ↔ P (i + suc k) → A ↔ P (suc i + k)
   moved_by P i k A h = subst (λ n. A ↔ P n) (omega arith) h
 
-  front : (P : ℕ → Type 0) (t i : ℕ) (labels : List (List ℕ)) (ts : List (Foot E V W)) → length labels ≡ length ts
+  front : (P : ℕ → Type 0) (t i : ℕ) (labels : List (List ℕ)) (ts : List (MarkedEffect E V W)) → length labels ≡ length ts
       → ((k : ℕ) (tags : List ℕ) → slice_get labels k ≡ Some tags → (tags ≡ []) ↔ P (i + k))
       → Split P (said_from K t i ts) (said_with K t labels ts)
   front P t i [] [] long clear = record { out = []; held = []; split = refl; texts = refl; clear = λ x there. absurd (none_there x there); longest = λ x more is. cc }
@@ -119,7 +119,7 @@ module _ {E V W F N : Type 0} (K : Kernel E V W F N) where
   text_by t None a b = refl
   text_by t (Some w) a b = elim (K.goes_to w == t) as (λ c. map (λ x. x.0) (cond c (one w a) []) ≡ map (λ x. x.0) (cond c (one w b) [])) [ true ↦ refl | false ↦ refl ]
 
-  same_texts : (t i : ℕ) (labels : List (List ℕ)) (ts : List (Foot E V W)) → length labels ≡ length ts → map (λ x. x.0) (said_with K t labels ts) ≡ map (λ x. x.0) (said_from K t i ts)
+  same_texts : (t i : ℕ) (labels : List (List ℕ)) (ts : List (MarkedEffect E V W)) → length labels ≡ length ts → map (λ x. x.0) (said_with K t labels ts) ≡ map (λ x. x.0) (said_from K t i ts)
   same_texts t i [] [] long = refl
   same_texts t i [] (f ∷ ts) long = absurd (omega arith)
   same_texts t i (tags ∷ labels) [] long = absurd (omega arith)
@@ -128,9 +128,9 @@ module _ {E V W F N : Type 0} (K : Kernel E V W F N) where
       ∙ (λ j. text_by t f.said tags i j ++ same_texts t (suc i) labels ts (omega arith) j)
       ∙ sym (map_append (λ (x : W × ℕ). x.0) (said_by K t f.said i) (said_from K t (suc i) ts))
 
-module _ {E V W F N : Type 0} (K : Kernel E V W F N) (total : IsTotalOrder K.order) (exact : IsAntisymmetric K.order) (start : FinMap K.order V) where
-  -- the tags along the trail are the tags of its positions
-  tag_in : (gs : List ℕ) (ts : List (Foot E V W)) (i : ℕ) (tags : List ℕ) → slice_get (tags_along K.order gs (λ g. []) ts) i ≡ Some tags
+module _ {E V W F N : Type 0} (K : System E V W F N) (total : IsTotalOrder K.order) (exact : IsAntisymmetric K.order) (start : FinMap K.order V) where
+  -- the tags along the effects are the tags of its positions
+  tag_in : (gs : List ℕ) (ts : List (MarkedEffect E V W)) (i : ℕ) (tags : List ℕ) → slice_get (tags_along K.order gs (λ g. []) ts) i ≡ Some tags
       → (g : ℕ) → (has g tags ≡ true) ↔ ((has g gs ≡ true) × Dep ts g i)
   tag_in gs ts i tags at g =
       let flag : has g gs ≡ true → slice_get (hits K.order g [] ts) i ≡ Some (has g tags) =
@@ -145,35 +145,35 @@ module _ {E V W F N : Type 0} (K : Kernel E V W F N) (total : IsTotalOrder K.ord
       )
 
   pub tag_at : (es : List (Event N)) → IsSound K start es → (i : ℕ) (tags : List ℕ)
-      → slice_get (tags_along K.order (all_recorded K start no_record es).undecided (λ g. []) (trail_of K start es)) i ≡ Some tags
+      → slice_get (tags_along K.order (all_recorded K start no_record es).undecided (λ g. []) (effects_of K start es)) i ≡ Some tags
       → (g : ℕ) → (has g tags ≡ true) ↔ IsTagAt K start es i g
   tag_at es sound i tags at g =
-      let is = tag_in (all_recorded K start no_record es).undecided (trail_of K start es) i tags at g in (
+      let is = tag_in (all_recorded K start no_record es).undecided (effects_of K start es) i tags at g in (
         λ here. let d = is.0 here in ((undecided_is K start es sound g).0 d.0, d.1),
         λ d. is.1 ((undecided_is K start es sound g).1 d.0, d.1),
       )
 
   clear_at : (es : List (Event N)) → IsSound K start es → (i : ℕ) (tags : List ℕ)
-      → slice_get (tags_along K.order (all_recorded K start no_record es).undecided (λ g. []) (trail_of K start es)) i ≡ Some tags
+      → slice_get (tags_along K.order (all_recorded K start no_record es).undecided (λ g. []) (effects_of K start es)) i ≡ Some tags
       → (tags ≡ []) ↔ IsClear K start es i
   clear_at es sound i tags at = (
     λ none g d. true≢false (sym ((tag_at es sound i tags at g).1 d) ∙ ap (has g) none),
     λ clear. no_tags tags (λ g here. clear g ((tag_at es sound i tags at g).0 here)),
   )
 
-  along_trace : (es : List (Event N)) (texts : ℕ → List (Tagged W)) → TextsStand K start (all_recorded K start no_record es) texts → (t : ℕ)
-      → texts t ≡ said_with K t (tags_along K.order (all_recorded K start no_record es).undecided (λ g. []) (trail_of K start es)) (trail_of K start es)
+  along_trace : (es : List (Event N)) (texts : ℕ → List (Tagged W)) → TextsRepresent K start (all_recorded K start no_record es) texts → (t : ℕ)
+      → texts t ≡ said_with K t (tags_along K.order (all_recorded K start no_record es).undecided (λ g. []) (effects_of K start es)) (effects_of K start es)
   along_trace es texts are t =
-      are t ∙ ap (λ ns. said_with K t (tags_along K.order (all_recorded K start no_record es).undecided (λ g. []) (trail K start ns)) (trail K start ns)) (entries_are K start es)
+      are t ∙ ap (λ ns. said_with K t (tags_along K.order (all_recorded K start no_record es).undecided (λ g. []) (effects K start ns)) (effects K start ns)) (entries_are K start es)
 
-  pub release_is : (es : List (Event N)) → IsSound K start es → (texts : ℕ → List (Tagged W)) → TextsStand K start (all_recorded K start no_record es) texts → (t : ℕ) → IsReleased K start es t (released (texts t))
+  pub release_is : (es : List (Event N)) → IsSound K start es → (texts : ℕ → List (Tagged W)) → TextsRepresent K start (all_recorded K start no_record es) texts → (t : ℕ) → IsReleased K start es t (released (texts t))
   release_is es sound texts are t =
-      let labels = tags_along K.order (all_recorded K start no_record es).undecided (λ g. []) (trail_of K start es) in
-      let is = front K (IsClear K start es) t 0 labels (trail_of K start es) (along_length K.order _ (λ g. []) (trail_of K start es))
+      let labels = tags_along K.order (all_recorded K start no_record es).undecided (λ g. []) (effects_of K start es) in
+      let is = front K (IsClear K start es) t 0 labels (effects_of K start es) (along_length K.order _ (λ g. []) (effects_of K start es))
       (λ k tags at. subst (λ n. (tags ≡ []) ↔ IsClear K start es n) (omega arith) (clear_at es sound k tags at)) in
       record { out = is.out; held = is.held; split = is.split; texts = ap released (along_trace es texts are t) ∙ is.texts; clear = is.clear; longest = is.longest }
 
-  pub texts_are : (es : List (Event N)) (texts : ℕ → List (Tagged W)) → TextsStand K start (all_recorded K start no_record es) texts → (t : ℕ) → map (λ x. x.0) (texts t) ≡ map (λ x. x.0) (said K start es t)
+  pub texts_are : (es : List (Event N)) (texts : ℕ → List (Tagged W)) → TextsRepresent K start (all_recorded K start no_record es) texts → (t : ℕ) → map (λ x. x.0) (texts t) ≡ map (λ x. x.0) (said K start es t)
   texts_are es texts are t =
       ap (map (λ x. x.0)) (along_trace es texts are t)
-      ∙ same_texts K t 0 _ (trail_of K start es) (along_length K.order (all_recorded K start no_record es).undecided (λ g. []) (trail_of K start es))
+      ∙ same_texts K t 0 _ (effects_of K start es) (along_length K.order (all_recorded K start no_record es).undecided (λ g. []) (effects_of K start es))

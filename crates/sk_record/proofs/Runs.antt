@@ -7,8 +7,8 @@ use Rattle.std.specs.Cmp.{IsTotalOrder}
 use Rattle.std.specs.FinMap.{FinMap, get}
 use Rattle.std.proofs.lemmas.Bool.{or_parts, false≢true}
 use Rattle.sk_record.specs.Step.{Step, Effect, Ask, Refuse, Done, perform, with_read}
-use Rattle.sk_record.specs.Trail.{is_in, hit, hits, dirtied, keep}
-use Rattle.sk_record.specs.Run.{Kernel, put_all, outcome, after, IsLegal, foot, trail}
+use Rattle.sk_record.specs.Effects.{is_in, hit, hits, dirtied, keep}
+use Rattle.sk_record.specs.Run.{System, put_all, outcome, after, IsLegal, marked_effect, effects}
 use Rattle.sk_record.proofs.Sets.{none_of_both, get-put_all_other, get-put_all_same}
 
 abbrev pub AgreeOn : {E V : Type 0} → (E → Option V) → (E → Option V) → List E → Type 0
@@ -56,24 +56,24 @@ alike_on : {E V : Type 0} {R : E → E → Ordering} (dirty : List E) (s t : Fin
 alike_on dirty s t h [] none = tt
 alike_on dirty s t h (e ∷ es) none = let parts = or_parts _ _ none in (h e parts.0, alike_on dirty s t h es parts.1)
 
-module _ {E V W F N : Type 0} (K : Kernel E V W F N) (total : IsTotalOrder K.order) (g : ℕ) where
+module _ {E V W F N : Type 0} (K : System E V W F N) (total : IsTotalOrder K.order) (g : ℕ) where
   -- t runs the entries that are left of ns, where s runs ns
   unfoldable pub Follows : List E → FinMap K.order V → FinMap K.order V → List N → Type 0
   Follows dirty s t ns =
-      let flags = hits K.order g dirty (trail K s ns) in
-      IsLegal K t (keep flags ns) × (trail K t (keep flags ns) ≡ keep flags (trail K s ns))
+      let flags = hits K.order g dirty (effects K s ns) in
+      IsLegal K t (keep flags ns) × (effects K t (keep flags ns) ≡ keep flags (effects K s ns))
 
   -- the same of an entry more, with what its step did and whether it is struck
   FollowsBy : List E → FinMap K.order V → FinMap K.order V → N → List N → Result (Effect E V W) F → Bool → Type 0
   FollowsBy dirty s t n ns o b =
-      let rest = trail K (after K o s) ns in
-      let flags = b ∷ hits K.order g (dirtied b (foot K (K.mark n) o) dirty) rest in
-      IsLegal K t (keep flags (n ∷ ns)) × (trail K t (keep flags (n ∷ ns)) ≡ keep flags (foot K (K.mark n) o ∷ rest))
+      let rest = effects K (after K o s) ns in
+      let flags = b ∷ hits K.order g (dirtied b (marked_effect K (K.mark n) o) dirty) rest in
+      IsLegal K t (keep flags (n ∷ ns)) × (effects K t (keep flags (n ∷ ns)) ≡ keep flags (marked_effect K (K.mark n) o ∷ rest))
 
   one_more : (dirty : List E) (s t : FinMap K.order V) → Alike dirty s t → (n : N) (ns : List N)
       → ((dirty : List E) (s t : FinMap K.order V) → Alike dirty s t → IsLegal K s ns → Follows dirty s t ns)
       → (o : Result (Effect E V W) F) → outcome K s n ≡ o → IsOk o → IsLegal K (after K o s) ns
-      → (b : Bool) → hit K.order g dirty (foot K (K.mark n) o) ≡ b → FollowsBy dirty s t n ns o b
+      → (b : Bool) → hit K.order g dirty (marked_effect K (K.mark n) o) ≡ b → FollowsBy dirty s t n ns o b
   unfolding Follows FollowsBy
   one_more dirty s t alike n ns more (Err why) is ok legal b hit_is = absurd (false≢true ok)
   one_more dirty s t alike n ns more (Ok f) is ok legal true hit_is =
@@ -88,16 +88,16 @@ module _ {E V W F N : Type 0} (K : Kernel E V W F N) (total : IsTotalOrder K.ord
       let same : outcome K t n ≡ Ok f = same_accepted (get s) (get t) (K.act n) f is (alike_on dirty s t alike _ parts.0) in
       let rest = more dirty (put_all f.written s) (put_all f.written t)
       (λ e clean. get-put_all_same total f.written s t e (alike e clean)) legal in
-      let flags = hits K.order g dirty (trail K (put_all f.written s) ns) in
+      let flags = hits K.order g dirty (effects K (put_all f.written s) ns) in
       let P : Result (Effect E V W) F → Type 0 = λ o.
       (IsOk o × IsLegal K (after K o t) (keep flags ns))
-      × (foot K (K.mark n) o ∷ trail K (after K o t) (keep flags ns)
-      ≡ foot K (K.mark n) (Ok f) ∷ keep flags (trail K (put_all f.written s) ns)) in
-      subst P (sym same) ((refl, rest.0), ap (λ fs. foot K (K.mark n) (Ok f) ∷ fs) rest.1)
+      × (marked_effect K (K.mark n) o ∷ effects K (after K o t) (keep flags ns)
+      ≡ marked_effect K (K.mark n) (Ok f) ∷ keep flags (effects K (put_all f.written s) ns)) in
+      subst P (sym same) ((refl, rest.0), ap (λ fs. marked_effect K (K.mark n) (Ok f) ∷ fs) rest.1)
 
   pub struck_run : (dirty : List E) (s t : FinMap K.order V) → Alike dirty s t → (ns : List N) → IsLegal K s ns → Follows dirty s t ns
   unfolding Follows FollowsBy
   struck_run dirty s t alike [] legal = (tt, refl)
   struck_run dirty s t alike (n ∷ ns) legal =
       one_more dirty s t alike n ns (λ dirty s t alike legal. struck_run dirty s t alike ns legal) (outcome K s n) refl legal.0 legal.1
-      (hit K.order g dirty (foot K (K.mark n) (outcome K s n))) refl
+      (hit K.order g dirty (marked_effect K (K.mark n) (outcome K s n))) refl

@@ -7,7 +7,7 @@ use Rattle.std.specs.Cmp.{IsTotalOrder}
 use Rattle.std.specs.FinMap.{FinMap, get, insert, get-insert}
 use Rattle.std.proofs.lemmas.Bool.{or_parts}
 use Rattle.std.proofs.lemmas.List.Folds.{list_any-append}
-use Rattle.sk_record.specs.Trail.{is_in}
+use Rattle.sk_record.specs.Effects.{is_in}
 use Rattle.sk_record.specs.Run.{put_all}
 
 -- the test of a joined list, where it fails

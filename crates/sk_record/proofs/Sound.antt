@@ -8,13 +8,13 @@ use Rattle.std.proofs.lemmas.Bool.{or_parts, or_cases, or_from, true≢false, eq
 use Rattle.std.proofs.lemmas.List.Folds.{list_any-append}
 use Rattle.std.proofs.lemmas.List.Sums.{fold-append}
 use Rattle.std.proofs.lemmas.List.Elements.{Contains-push_cases}
-use Rattle.sk_record.specs.Trail.{is_marked, hit, hits, dirtied, keep}
-use Rattle.sk_record.specs.Run.{Kernel, outcome, after, foot, run, IsLegal, trail}
+use Rattle.sk_record.specs.Effects.{is_marked, hit, hits, dirtied, keep}
+use Rattle.sk_record.specs.Run.{System, outcome, after, marked_effect, run, IsLegal, effects}
 use Rattle.sk_record.specs.Strike.{strike}
 use Rattle.sk_record.specs.Notes.{has}
 use Rattle.sk_record.specs.Trace.{Event, Taken, Commit, Fail, Undecided, HasEntry, IsDrawn, record_after, record_of, StatusIs, IsAllowed, IsSound, marks, still_marked, Record, no_record, recorded, all_recorded, IsFresh}
 use Rattle.sk_record.proofs.Machine.{nil_right, has_filter, legal_append, legal_last}
-use Rattle.sk_record.proofs.Seen.{any_at}
+use Rattle.sk_record.proofs.UndoStates.{any_at}
 use Rattle.sk_record.proofs.Struck.{struck_runs}
 use Rattle.sk_record.proofs.Tidy.{any_keep, recorded_more}
 
@@ -70,7 +70,7 @@ mark_is (Some x) g h = ap Some (eqb-true x g h)
 pub is_mark : (m : Option ℕ) (g : ℕ) → m ≡ Some g → is_marked m g ≡ true
 is_mark m g h = subst (λ m. is_marked m g ≡ true) (sym h) (eq-eqb g g refl)
 
-module _ {E V W F N : Type 0} (K : Kernel E V W F N) where
+module _ {E V W F N : Type 0} (K : System E V W F N) where
   abbrev pub draws : ℕ → Event N → Bool
   draws g (Taken n) = is_marked (K.mark n) g
   draws g (Commit h) = false
@@ -90,14 +90,14 @@ module _ {E V W F N : Type 0} (K : Kernel E V W F N) where
     λ d. any_at (draws g) es (Taken d.0) d.1 (is_mark (K.mark d.0) g d.2),
   )
 
-  foot_mark : (own : Option ℕ) (s : FinMap K.order V) (n : N) → (foot K own (outcome K s n)).mark ≡ own
-  foot_mark own s n = elim (outcome K s n) as (λ o. (foot K own o).mark ≡ own) [ Ok f ↦ refl | Err why ↦ refl ]
+  foot_mark : (own : Option ℕ) (s : FinMap K.order V) (n : N) → (marked_effect K own (outcome K s n)).mark ≡ own
+  foot_mark own s n = elim (outcome K s n) as (λ o. (marked_effect K own o).mark ≡ own) [ Ok f ↦ refl | Err why ↦ refl ]
 
-  marked_trail : (s : FinMap K.order V) (ns : List N) (g : ℕ) → still_marked (trail K s ns) g ≡ list_any (λ n. is_marked (K.mark n) g) ns
+  marked_trail : (s : FinMap K.order V) (ns : List N) (g : ℕ) → still_marked (effects K s ns) g ≡ list_any (λ n. is_marked (K.mark n) g) ns
   marked_trail s [] g = refl
   marked_trail s (n ∷ ns) g = λ i. is_marked (foot_mark (K.mark n) s n i) g || marked_trail (after K (outcome K s n) s) ns g i
 
-  pub has_entry : (s : FinMap K.order V) (ns : List N) (g : ℕ) → (still_marked (trail K s ns) g ≡ true) ↔ HasEntry K ns g
+  pub has_entry : (s : FinMap K.order V) (ns : List N) (g : ℕ) → (still_marked (effects K s ns) g ≡ true) ↔ HasEntry K ns g
   has_entry s ns g = (
     λ h.
         let x = any_from (λ n. is_marked (K.mark n) g) ns (sym (marked_trail s ns g) ∙ h) in
@@ -105,7 +105,7 @@ module _ {E V W F N : Type 0} (K : Kernel E V W F N) where
     λ d. marked_trail s ns g ∙ any_at (λ n. is_marked (K.mark n) g) ns d.0 d.1 (is_mark (K.mark d.0) g d.2),
   )
 
-module _ {E V W F N : Type 0} (K : Kernel E V W F N) (start : FinMap K.order V) where
+module _ {E V W F N : Type 0} (K : System E V W F N) (start : FinMap K.order V) where
   -- the entries are those of the record
   entries_from : (r : Record N) (es : List (Event N)) → (all_recorded K start r es).entries ≡ fold (record_after K start) r.entries es
   entries_from r [] = refl
@@ -200,19 +200,19 @@ marks_has : (own : Option ℕ) (g : ℕ) → has g (marks own) ≡ is_marked own
 marks_has None g = refl
 marks_has (Some h) g = or_no (h == g)
 
-module _ {E V W F N : Type 0} (K : Kernel E V W F N) (start : FinMap K.order V) where
+module _ {E V W F N : Type 0} (K : System E V W F N) (start : FinMap K.order V) where
   abbrev pub in_entries : ℕ → List N → Bool
   in_entries g ns = list_any (λ n. is_marked (K.mark n) g) ns
 
-  pub marked_is : (s : FinMap K.order V) (ns : List N) (g : ℕ) → still_marked (trail K s ns) g ≡ in_entries g ns
+  pub marked_is : (s : FinMap K.order V) (ns : List N) (g : ℕ) → still_marked (effects K s ns) g ≡ in_entries g ns
   marked_is s ns g = marked_trail K s ns g
 
   -- a failure takes its own guess's entry
-  own_struck : (g : ℕ) (s : FinMap K.order V) (dirty : List E) (ns : List N) → in_entries g (keep (hits K.order g dirty (trail K s ns)) ns) ≡ false
+  own_struck : (g : ℕ) (s : FinMap K.order V) (dirty : List E) (ns : List N) → in_entries g (keep (hits K.order g dirty (effects K s ns)) ns) ≡ false
   own_struck g s dirty [] = refl
   own_struck g s dirty (n ∷ ns) =
-      let f = foot K (K.mark n) (outcome K s n) in
-      let rest = trail K (after K (outcome K s n) s) ns in
+      let f = marked_effect K (K.mark n) (outcome K s n) in
+      let rest = effects K (after K (outcome K s n) s) ns in
       elim (hit K.order g dirty f) as (λ b. hit K.order g dirty f ≡ b → in_entries g (keep (b ∷ hits K.order g (dirtied b f dirty) rest) (n ∷ ns)) ≡ false) [
         | true ↦ λ _. own_struck g (after K (outcome K s n) s) (dirtied true f dirty) ns
         | false ↦ λ is. or_from _ _ (ap (λ m. is_marked m g) (sym (foot_mark K (K.mark n) s n)) ∙ (or_parts _ _ is).0) (own_struck g (after K (outcome K s n) s) dirty ns)
@@ -304,8 +304,8 @@ module _ {E V W F N : Type 0} (K : Kernel E V W F N) (start : FinMap K.order V) 
       record {
         is_open =
             undecided_more es (Fail x) g
-            ∙ has_filter (still_marked (trail K start (strike K start (all_recorded K start no_record es).entries x))) g (all_recorded K start no_record es).undecided
-            ∙ (λ i. still_marked (trail K start (strike K start (entries_are K start es i) x)) g && t.is_open i)
+            ∙ has_filter (still_marked (effects K start (strike K start (all_recorded K start no_record es).entries x))) g (all_recorded K start no_record es).undecided
+            ∙ (λ i. still_marked (effects K start (strike K start (entries_are K start es i) x)) g && t.is_open i)
             ∙ ap (λ b. b && (not c && (not f && h))) (marked_is start (strike K start ns x) g)
             ∙ open_fail c f h left (x == g) own (left_within g x ns)
             ∙ (λ i. not (sym c_is i) && (not (sym f_is i) && sym h_is i));
@@ -376,7 +376,7 @@ module _ {A : Type 0} where
         | inr part ↦ inr (part.0, part.1, (λ i. first_or x (is i) ∷ part.2 i))
       ]
 
-module _ {E V W F N : Type 0} (K : Kernel E V W F N) (start : FinMap K.order V) where
+module _ {E V W F N : Type 0} (K : System E V W F N) (start : FinMap K.order V) where
   no_events : (before : List (Event N)) (e : Event N) (later : List (Event N)) → [] ≡ before ++ e ∷ later → ⊥
   no_events [] e later is = cc
   no_events (x ∷ before) e later is = cc

@@ -5,14 +5,14 @@ use Rattle.std.specs.List.{list_any}
 use Rattle.std.specs.FinMap.{FinMap}
 use Rattle.std.proofs.lemmas.Bool.{true≢false, false_from_ne_true, true_from_ne_false, eqb-true}
 use Rattle.std.proofs.lemmas.List.Folds.{list_any-append}
-use Rattle.sk_record.specs.Trail.{Foot, is_marked, hits, keep}
-use Rattle.sk_record.specs.Run.{Kernel}
+use Rattle.sk_record.specs.Effects.{MarkedEffect, is_marked, hits, keep}
+use Rattle.sk_record.specs.Run.{System}
 use Rattle.sk_record.specs.Strike.{strike}
 use Rattle.sk_record.specs.Notes.{has}
 use Rattle.sk_record.specs.Trace.{Event, Taken, Commit, Fail, Status, Undecided, Committed, Failed, Struck, HasEntry, IsDrawn, StatusIs, IsSound, record_of, still_marked, all_recorded, no_record}
-use Rattle.sk_record.specs.Seen.{Open, numbers, AllTold}
+use Rattle.sk_record.specs.UndoState.{Open, numbers, AllOwnTagsExact}
 use Rattle.sk_record.specs.Machine.{with_status, with_drawn, with_failure, rests_on}
-use Rattle.sk_record.proofs.Seen.{fate_is}
+use Rattle.sk_record.proofs.UndoStates.{fate_is}
 use Rattle.sk_record.proofs.Sound.{is_commit, is_fail, draws, in_entries, tests, undrawn_before, undecided_parts, left_within, more_any, record_more, sound_before, sound_first, eqb_turned, or_no, has_commit, has_fail, has_entry, is_drawn, marked_is}
 
 -- the status by the tests: committed, failed, its entry in the record, drawn
@@ -94,15 +94,15 @@ absorbed false true = refl
 absorbed false false = refl
 
 -- the open guesses that rest on the failed one are those whose entries are struck
-pub rests_are : {E V W F N : Type 0} (K : Kernel E V W F N) (ts : List (Foot E V W)) (gs : List ℕ) (c : ℕ) → has c gs ≡ true → (g : ℕ) (os : List Open) → AllTold K ts gs os
+pub rests_are : {E V W F N : Type 0} (K : System E V W F N) (ts : List (MarkedEffect E V W)) (gs : List ℕ) (c : ℕ) → has c gs ≡ true → (g : ℕ) (os : List Open) → AllOwnTagsExact K ts gs os
     → rests_on c os g ≡ (has g (numbers os) && not (still_marked (keep (hits K.order c [] ts) ts) g))
-rests_are K ts gs c is_open g [] told = refl
-rests_are K ts gs c is_open g (o ∷ os) told =
-    let rest = rests_are K ts gs c is_open g os told.1 in
+rests_are K ts gs c is_open g [] own_tags = refl
+rests_are K ts gs c is_open g (o ∷ os) own_tags =
+    let rest = rests_are K ts gs c is_open g os own_tags.1 in
     let left : Bool = still_marked (keep (hits K.order c [] ts) ts) g in
     elim (o.0 == g) as (λ b. (o.0 == g) ≡ b → ((b && has c o.1) || rests_on c os g) ≡ ((b || has g (numbers os)) && not left)) [
       | true ↦ λ is.
-          let fate : left ≡ not (has c o.1) = ap (still_marked (keep (hits K.order c [] ts) ts)) (sym (eqb-true o.0 g is)) ∙ fate_is K.order o.0 c (has c o.1) ts told.0.marked (told.0.own c is_open) in
+          let fate : left ≡ not (has c o.1) = ap (still_marked (keep (hits K.order c [] ts) ts)) (sym (eqb-true o.0 g is)) ∙ fate_is K.order o.0 c (has c o.1) ts own_tags.0.marked (own_tags.0.own c is_open) in
           ap (λ b. has c o.1 || b) rest ∙ ap (λ x. has c o.1 || (has g (numbers os) && not x)) fate ∙ absorbed (has c o.1) (has g (numbers os)) ∙ ap not (sym fate)
       | false ↦ λ _. rest
     ] refl
@@ -115,7 +115,7 @@ same_answers None None h = refl
 same_answers None (Some s) h = (h s).1 refl
 same_answers (Some s) b h = sym ((h s).0 refl)
 
-module _ {E V W F N : Type 0} (K : Kernel E V W F N) (start : FinMap K.order V) where
+module _ {E V W F N : Type 0} (K : System E V W F N) (start : FinMap K.order V) where
   abbrev pub status_of : List (Event N) → ℕ → Option Status
   status_of es g = status_by (list_any (is_commit g) es) (list_any (is_fail g) es) (in_entries K start g (record_of K start es)) (list_any (draws K g) es)
 

@@ -5,7 +5,7 @@ use Rattle.std.specs.Cmp.{IsTotalOrder}
 use Rattle.std.specs.FinMap.{FinMap, IsAntisymmetric}
 use Rattle.std.proofs.lemmas.List.Sums.{fold-append}
 use Rattle.sk_record.specs.Step.{perform}
-use Rattle.sk_record.specs.Run.{Kernel}
+use Rattle.sk_record.specs.Run.{System}
 use Rattle.sk_record.specs.Notes.{without}
 use Rattle.sk_record.specs.Trace.{Event, Taken, Commit, Fail, IsSound}
 use Rattle.sk_record.specs.Release.{IsClear, IsReleased}
@@ -53,10 +53,10 @@ module _ {W : Type 0} where
   fewer_texts g ((w, t ∷ tags) ∷ xs) = front_all (released (not_dropped g ((w, t ∷ tags) ∷ xs)))
 
 -- ---- the machine's
-module _ {E V W F N : Type 0} (K : Kernel E V W F N) where
+module _ {E V W F N : Type 0} (K : System E V W F N) where
   one_event : (m : Machine E V W) (e : Event N) (t : ℕ) → IsFront (released (m.texts t)) (released ((moved K m e).texts t))
   one_event m (Taken n) t =
-      elim (perform m.seen.look (K.act n)) as (λ o. IsFront (released (m.texts t)) (released ((took_by K m n o).texts t))) [
+      elim (perform m.state.look (K.act n)) as (λ o. IsFront (released (m.texts t)) (released ((took_by K m n o).texts t))) [
         | Ok f ↦ said_more (m.texts t) _
         | Err why ↦ front_same (released (m.texts t))
       ]
@@ -83,7 +83,7 @@ same_front P all (x ∷ out) held (y ∷ out2) held2 is is2 clear clear2 longest
     (λ z there. clear z (suc there.0, omega arith, there.2)) (λ z there. clear2 z (suc there.0, omega arith, there.2)) longest longest2 in
     λ i. first_or x (both i) ∷ rest i
 
-module _ {E V W F N : Type 0} (K : Kernel E V W F N) (start : FinMap K.order V) where
+module _ {E V W F N : Type 0} (K : System E V W F N) (start : FinMap K.order V) where
   pub one_release : (es : List (Event N)) (t : ℕ) (ws vs : List W) → IsReleased K start es t ws → IsReleased K start es t vs → ws ≡ vs
   one_release es t ws vs a b =
       a.texts

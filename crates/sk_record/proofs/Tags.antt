@@ -7,7 +7,7 @@ use Rattle.std.specs.Ordering.{eq_by_cmp}
 use Rattle.std.specs.Cmp.{IsTotalOrder}
 use Rattle.std.proofs.lemmas.Bool.{or_from, or_parts, or_left, true≢false, and_from, false_from_ne_true, true_from_ne_false}
 use Rattle.std.proofs.lemmas.List.Folds.{list_any-append}
-use Rattle.sk_record.specs.Trail.{Foot, is_in, hit, hits, dirt, dirtied, writes, written_value, value_after}
+use Rattle.sk_record.specs.Effects.{MarkedEffect, is_in, hit, hits, dirt, dirtied, writes, written_value, value_after}
 use Rattle.sk_record.specs.Notes.{Note, has, without, noted, last_tags, cut, carried, committed, rests, next_dirty, notes_of}
 use Rattle.sk_record.proofs.Later.{dirtied_other}
 use Rattle.sk_record.proofs.Values.{unwritten}
@@ -103,17 +103,17 @@ filter_none p q h (x ∷ xs) none =
 
 module _ {E V W : Type 0} {R : E → E → Ordering} (total : IsTotalOrder R) where
   -- an entity that a step writes: dirty before means that the step depends on the guess
-  hit_if : (g : ℕ) (dg : List E) (f : Foot E V W) (e : E) → is_in R (writes f) e ≡ true → is_in R dg e ≡ true → hit R g dg f ≡ true
+  hit_if : (g : ℕ) (dg : List E) (f : MarkedEffect E V W) (e : E) → is_in R (writes f) e ≡ true → is_in R dg e ≡ true → hit R g dg f ≡ true
   hit_if g dg f e here dirt = true_from_ne_false _ (λ no_hit. true≢false (sym here ∙ unwritten total g dg f e no_hit dirt))
 
   -- dirty after means the same
-  dirty_is_hit : (g : ℕ) (dg : List E) (f : Foot E V W) (e : E) → is_in R (writes f) e ≡ true → (b : Bool) → hit R g dg f ≡ b → is_in R (dirtied b f dg) e ≡ b
+  dirty_is_hit : (g : ℕ) (dg : List E) (f : MarkedEffect E V W) (e : E) → is_in R (writes f) e ≡ true → (b : Bool) → hit R g dg f ≡ b → is_in R (dirtied b f dg) e ≡ b
   dirty_is_hit g dg f e here true is = list_any-append (eq_by_cmp R e) (writes f) dg ∙ or_left _ _ here
   dirty_is_hit g dg f e here false is = false_from_ne_true _ (λ dirt. true≢false (sym (hit_if g dg f e here dirt) ∙ is))
 
   module _ (guesses : List ℕ) where
     -- the tags that the last note has are the guesses that have dirtied the entity
-    pub tags_are : (dirty : ℕ → List E) (ts : List (Foot E V W)) (e : E) (v : Option V)
+    pub tags_are : (dirty : ℕ → List E) (ts : List (MarkedEffect E V W)) (e : E) (v : Option V)
         → last_tags (filter (λ g. is_in R (dirty g) e) guesses) (notes_of R guesses dirty ts e v) ≡ filter (λ g. is_in R (dirt R g (dirty g) ts) e) guesses
     tags_are dirty [] e v = refl
     tags_are dirty (f ∷ ts) e v =
@@ -130,7 +130,7 @@ module _ {E V W : Type 0} {R : E → E → Ordering} (total : IsTotalOrder R) wh
         ∙ tags_are (next_dirty R guesses dirty f) ts e (written_value R f.written e v)
 
     -- the notes of an entity that a guess has dirtied all carry it
-    all_carry : (g : ℕ) → has g guesses ≡ true → (dirty : ℕ → List E) (ts : List (Foot E V W)) (e : E) (v : Option V) → is_in R (dirty g) e ≡ true → AllCarry g (notes_of R guesses dirty ts e v)
+    all_carry : (g : ℕ) → has g guesses ≡ true → (dirty : ℕ → List E) (ts : List (MarkedEffect E V W)) (e : E) (v : Option V) → is_in R (dirty g) e ≡ true → AllCarry g (notes_of R guesses dirty ts e v)
     all_carry g is_open dirty [] e v dirt = refl
     all_carry g is_open dirty (f ∷ ts) e v dirt =
         all_noted g (is_in R (writes f) e) (rests R guesses dirty f) v _
@@ -138,7 +138,7 @@ module _ {E V W : Type 0} {R : E → E → Ordering} (total : IsTotalOrder R) wh
         (all_carry g is_open (next_dirty R guesses dirty f) ts e _ (dirtied_more total (hit R g (dirty g) f) f (dirty g) e dirt))
 
     -- the notes that carry g are a suffix
-    pub suffix_is : (g : ℕ) → has g guesses ≡ true → (dirty : ℕ → List E) (ts : List (Foot E V W)) (e : E) (v : Option V) → AllCarry g (carried g (notes_of R guesses dirty ts e v))
+    pub suffix_is : (g : ℕ) → has g guesses ≡ true → (dirty : ℕ → List E) (ts : List (MarkedEffect E V W)) (e : E) (v : Option V) → AllCarry g (carried g (notes_of R guesses dirty ts e v))
     suffix_is g is_open dirty [] e v = refl
     suffix_is g is_open dirty (f ∷ ts) e v =
         carried_noted g (is_in R (writes f) e) (rests R guesses dirty f) v _
@@ -148,7 +148,7 @@ module _ {E V W : Type 0} {R : E → E → Ordering} (total : IsTotalOrder R) wh
         (suffix_is g is_open (next_dirty R guesses dirty f) ts e _)
 
     -- one more step
-    pub notes_more : (dirty : ℕ → List E) (ts : List (Foot E V W)) (f : Foot E V W) (e : E) (v : Option V)
+    pub notes_more : (dirty : ℕ → List E) (ts : List (MarkedEffect E V W)) (f : MarkedEffect E V W) (e : E) (v : Option V)
         → notes_of R guesses dirty (ts ++ f ∷ []) e v ≡ notes_of R guesses dirty ts e v ++ noted (is_in R (writes f) e) (rests R guesses (λ g. dirt R g (dirty g) ts) f) (value_after R ts e v) []
     notes_more dirty [] f e v = refl
     notes_more dirty (x ∷ ts) f e v =
@@ -156,14 +156,14 @@ module _ {E V W : Type 0} {R : E → E → Ordering} (total : IsTotalOrder R) wh
         ∙ noted_append (is_in R (writes x) e) (rests R guesses dirty x) v _ _
 
     -- a commit
-    pub commit_is : (g : ℕ) (dirty : ℕ → List E) (ts : List (Foot E V W)) (e : E) (v : Option V) → notes_of R (without g guesses) dirty ts e v ≡ committed g (notes_of R guesses dirty ts e v)
+    pub commit_is : (g : ℕ) (dirty : ℕ → List E) (ts : List (MarkedEffect E V W)) (e : E) (v : Option V) → notes_of R (without g guesses) dirty ts e v ≡ committed g (notes_of R guesses dirty ts e v)
     commit_is g dirty [] e v = refl
     commit_is g dirty (f ∷ ts) e v =
         (λ i. noted (is_in R (writes f) e) (filter_swap (λ h. hit R h (dirty h) f) (λ h. not (h == g)) guesses i) v (commit_is g (next_dirty R guesses dirty f) ts e (written_value R f.written e v) i))
         ∙ noted_committed g (is_in R (writes f) e) (rests R guesses dirty f) v _
 
     -- guesses on which nothing rests may be left out
-    pub fewer_guesses : (q : ℕ → Bool) (dirty : ℕ → List E) (ts : List (Foot E V W)) (e : E) (v : Option V)
+    pub fewer_guesses : (q : ℕ → Bool) (dirty : ℕ → List E) (ts : List (MarkedEffect E V W)) (e : E) (v : Option V)
         → ((h : ℕ) → q h ≡ false → list_any (λ b. b) (hits R h (dirty h) ts) ≡ false) → notes_of R (filter q guesses) dirty ts e v ≡ notes_of R guesses dirty ts e v
     fewer_guesses q dirty [] e v none = refl
     fewer_guesses q dirty (f ∷ ts) e v none =

@@ -6,14 +6,14 @@ use Rattle.std.specs.Cmp.{IsTotalOrder}
 use Rattle.std.specs.FinMap.{FinMap, get, IsAntisymmetric}
 use Rattle.std.specs.declared.cmp.Ordering.{Ordering}
 use Rattle.std.proofs.lemmas.Bool.{or_parts, or_left, or_cases, or_from, true≢false, eq-eqb, eqb-true}
-use Rattle.sk_record.specs.Trail.{Foot, is_in, hit, hits, dirt, dirtied, keep, writes, written_value}
-use Rattle.sk_record.specs.Run.{Kernel, trail}
+use Rattle.sk_record.specs.Effects.{MarkedEffect, is_in, hit, hits, dirt, dirtied, keep, writes, written_value}
+use Rattle.sk_record.specs.Run.{System, effects}
 use Rattle.sk_record.specs.Notes.{Note, has, without, noted, last_tags, carried, rests, next_dirty, notes_of}
 use Rattle.sk_record.specs.Trace.{Event, still_marked, Record, recorded, all_recorded, deps}
-use Rattle.sk_record.specs.Seen.{Open, Seen, numbers, still_open, not_struck, tags_at, IsTidy, IsGrowing, Owned, AllTold, Stands}
+use Rattle.sk_record.specs.UndoState.{Open, UndoState, numbers, still_open, not_struck, tags_at, IsTidy, IsGrowing, Owned, AllOwnTagsExact, Represents}
 use Rattle.sk_record.proofs.Tags.{suffix_is}
 use Rattle.sk_record.proofs.Machine.{inv_tags, has_filter}
-use Rattle.sk_record.proofs.Seen.{inv_of, and_both}
+use Rattle.sk_record.proofs.UndoStates.{inv_of, and_both}
 
 and_false : (b : Bool) → (b && false) ≡ false
 and_false true = refl
@@ -42,35 +42,35 @@ no_carrier g true [] v rest none all = all
 no_carrier g true (t ∷ tags) v rest none all = ap (λ x. cond x (record { tags = t ∷ tags; before = v } ∷ rest) (carried g rest)) none ∙ all
 
 module _ {E V W : Type 0} (R : E → E → Ordering) (guesses : List ℕ) where
-  notes_some : (dirty : ℕ → List E) (ts : List (Foot E V W)) (e : E) (v : Option V) → AllSome (notes_of R guesses dirty ts e v)
+  notes_some : (dirty : ℕ → List E) (ts : List (MarkedEffect E V W)) (e : E) (v : Option V) → AllSome (notes_of R guesses dirty ts e v)
   notes_some dirty [] e v = tt
   notes_some dirty (f ∷ fs) e v = noted_some (is_in R (writes f) e) (rests R guesses dirty f) v _ (notes_some (next_dirty R guesses dirty f) fs e (written_value R f.written e v))
 
-  strangers : (g : ℕ) → has g guesses ≡ false → (dirty : ℕ → List E) (ts : List (Foot E V W)) (e : E) (v : Option V) → carried g (notes_of R guesses dirty ts e v) ≡ []
+  strangers : (g : ℕ) → has g guesses ≡ false → (dirty : ℕ → List E) (ts : List (MarkedEffect E V W)) (e : E) (v : Option V) → carried g (notes_of R guesses dirty ts e v) ≡ []
   strangers g none dirty [] e v = refl
   strangers g none dirty (f ∷ fs) e v =
       no_carrier g (is_in R (writes f) e) (rests R guesses dirty f) v _
       (has_filter (λ g. hit R g (dirty g) f) g guesses ∙ ap (λ b. hit R g (dirty g) f && b) none ∙ and_false (hit R g (dirty g) f))
       (strangers g none (next_dirty R guesses dirty f) fs e (written_value R f.written e v))
 
-module _ {E V W F N : Type 0} (K : Kernel E V W F N) (total : IsTotalOrder K.order) (exact : IsAntisymmetric K.order) (start : FinMap K.order V) where
-  pub tags_are : (r : Record N) (a : Seen E V) → Stands K start r a → (e : E) → tags_at a e ≡ deps K start r e
+module _ {E V W F N : Type 0} (K : System E V W F N) (total : IsTotalOrder K.order) (exact : IsAntisymmetric K.order) (start : FinMap K.order V) where
+  pub tags_are : (r : Record N) (a : UndoState E V) → Represents K start r a → (e : E) → tags_at a e ≡ deps K start r e
   tags_are r a s e = inv_tags K total exact start r a (inv_of K total exact start r a s) e
 
-  pub tidy_of : (r : Record N) (a : Seen E V) → Stands K start r a → IsTidy a
+  pub tidy_of : (r : Record N) (a : UndoState E V) → Represents K start r a → IsTidy a
   tidy_of r a s = record {
-    clean = λ e none. s.logs e ∙ empty_log _ (notes_some K.order r.undecided (λ g. []) (trail K start r.entries) e (get start e)) (ap (last_tags []) (sym (s.logs e)) ∙ none);
+    clean = λ e none. s.logs e ∙ empty_log _ (notes_some K.order r.undecided (λ g. []) (effects K start r.entries) e (get start e)) (ap (last_tags []) (sym (s.logs e)) ∙ none);
     known = λ e g here.
         ap (has g) s.guesses
-        ∙ (and_both _ _ (sym (has_filter (λ g. is_in K.order (dirt K.order g [] (trail K start r.entries)) e) g r.undecided) ∙ ap (has g) (sym (tags_are r a s e)) ∙ here)).1;
+        ∙ (and_both _ _ (sym (has_filter (λ g. is_in K.order (dirt K.order g [] (effects K start r.entries)) e) g r.undecided) ∙ ap (has g) (sym (tags_are r a s e)) ∙ here)).1;
   }
 
-  pub grows_of : (r : Record N) (a : Seen E V) → Stands K start r a → (e : E) → IsGrowing (a.logs e)
+  pub grows_of : (r : Record N) (a : UndoState E V) → Represents K start r a → (e : E) → IsGrowing (a.logs e)
   grows_of r a s e g =
       ap (λ ns. list_all (λ n. has g n.tags) (carried g ns)) (s.logs e)
-      ∙ elim (has g r.undecided) as (λ b. has g r.undecided ≡ b → list_all (λ n. has g n.tags) (carried g (notes_of K.order r.undecided (λ g. []) (trail K start r.entries) e (get start e))) ≡ true) [
-        | true ↦ λ here. suffix_is total r.undecided g here (λ g. []) (trail K start r.entries) e (get start e)
-        | false ↦ λ none. ap (list_all (λ n. has g n.tags)) (strangers K.order r.undecided g none (λ g. []) (trail K start r.entries) e (get start e))
+      ∙ elim (has g r.undecided) as (λ b. has g r.undecided ≡ b → list_all (λ n. has g n.tags) (carried g (notes_of K.order r.undecided (λ g. []) (effects K start r.entries) e (get start e))) ≡ true) [
+        | true ↦ λ here. suffix_is total r.undecided g here (λ g. []) (effects K start r.entries) e (get start e)
+        | false ↦ λ none. ap (list_all (λ n. has g n.tags)) (strangers K.order r.undecided g none (λ g. []) (effects K start r.entries) e (get start e))
       ] refl
 
 pub any_keep : {A : Type 0} (p : A → Bool) (bs : List Bool) (xs : List A) → list_any p xs ≡ false → list_any p (keep bs xs) ≡ false
@@ -79,14 +79,14 @@ any_keep p (b ∷ bs) [] none = refl
 any_keep p (true ∷ bs) (x ∷ xs) none = any_keep p bs xs (or_parts _ _ none).1
 any_keep p (false ∷ bs) (x ∷ xs) none = let parts = or_parts _ _ none in or_from _ _ parts.0 (any_keep p bs xs parts.1)
 
-module _ {E V W F N : Type 0} (K : Kernel E V W F N) (start : FinMap K.order V) where
+module _ {E V W F N : Type 0} (K : System E V W F N) (start : FinMap K.order V) where
   pub recorded_more : (r : Record N) (es : List (Event N)) (e : Event N) → all_recorded K start r (es ++ e ∷ []) ≡ recorded K start (all_recorded K start r es) e
   recorded_more r [] e = refl
   recorded_more r (x ∷ es) e = recorded_more (recorded K start r x) es e
 
 -- ---- a decision makes the open guesses fewer
 module _ {E V W : Type 0} (R : E → E → Ordering) where
-  own_flag : (h : ℕ) (b : Bool) (dirty : List E) (ts : List (Foot E V W)) → still_marked ts h ≡ true → Owned h b (hits R h dirty ts) ts → b ≡ true
+  own_flag : (h : ℕ) (b : Bool) (dirty : List E) (ts : List (MarkedEffect E V W)) → still_marked ts h ≡ true → Owned h b (hits R h dirty ts) ts → b ≡ true
   own_flag h b dirty [] marked own = absurd (true≢false (sym marked))
   own_flag h b dirty (t ∷ ts) marked own =
       elim (or_cases _ _ marked) [
@@ -100,19 +100,19 @@ shorter p (x ∷ xs) =
     let rest = shorter p xs in
     elim (p x) as (λ b. length (cond b (x ∷ filter p xs) (filter p xs)) ≤ suc (length xs)) [ true ↦ omega arith | false ↦ omega arith ]
 
-pub fewer_struck : {E V W F N : Type 0} (K : Kernel E V W F N) (ts : List (Foot E V W)) (gs : List ℕ) (g : ℕ) → has g gs ≡ true → (os : List Open) → AllTold K ts gs os → has g (numbers os) ≡ true → length (not_struck g os) < length os
-fewer_struck K ts gs g is_open [] told here = absurd (true≢false (sym here))
-fewer_struck K ts gs g is_open (o ∷ os) told here =
+pub fewer_struck : {E V W F N : Type 0} (K : System E V W F N) (ts : List (MarkedEffect E V W)) (gs : List ℕ) (g : ℕ) → has g gs ≡ true → (os : List Open) → AllOwnTagsExact K ts gs os → has g (numbers os) ≡ true → length (not_struck g os) < length os
+fewer_struck K ts gs g is_open [] own_tags here = absurd (true≢false (sym here))
+fewer_struck K ts gs g is_open (o ∷ os) own_tags here =
     let short = shorter (λ o. not (has g o.1)) os in
     elim (has g o.1) as (λ b. has g o.1 ≡ b → length (cond (not b) (o ∷ not_struck g os) (not_struck g os)) < suc (length os)) [
       | true ↦ λ _. omega arith
       | false ↦ λ spared. elim (or_cases _ _ here) [
         | inl its ↦
             let same : o.0 ≡ g = eqb-true o.0 g its in
-            let own = told.0.own g is_open in
-            let flag = own_flag K.order g (has g o.1) [] ts (ap (still_marked ts) (sym same) ∙ told.0.marked) (subst (λ h. Owned h (has g o.1) (hits K.order g [] ts) ts) same own) in
+            let own = own_tags.0.own g is_open in
+            let flag = own_flag K.order g (has g o.1) [] ts (ap (still_marked ts) (sym same) ∙ own_tags.0.marked) (subst (λ h. Owned h (has g o.1) (hits K.order g [] ts) ts) same own) in
             absurd (true≢false (sym flag ∙ spared))
-        | inr later ↦ let less = fewer_struck K ts gs g is_open os told.1 later in omega arith
+        | inr later ↦ let less = fewer_struck K ts gs g is_open os own_tags.1 later in omega arith
       ]
     ] refl
 

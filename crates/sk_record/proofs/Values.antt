@@ -1,4 +1,4 @@
--- The value that an entity has after a run, read off its trail.
+-- The value that an entity has after a run, read off its effects.
 use Rattle.std.proofs.Common.{◌≡◌, ℕ, zero, suc, ◌<◌, Bool, true, false, cond, ◌||◌, List, [], ◌∷◌, ◌++◌, map, take, Option, Some, Result, Ok, Err, refl, sym, ◌∙◌, ap, subst, arith}
 use Rattle.std.specs.Prelude.{slice_get}
 use Rattle.std.specs.List.{list_any}
@@ -9,8 +9,8 @@ use Rattle.std.specs.FinMap.{FinMap, get, insert, get-insert}
 use Rattle.std.proofs.lemmas.Bool.{or_parts, or_left, or_right, true≢false, or_from, false_from_ne_true}
 use Rattle.std.proofs.lemmas.List.Folds.{list_any-append}
 use Rattle.sk_record.specs.Step.{Effect}
-use Rattle.sk_record.specs.Trail.{Foot, is_in, hit, hits, dirtied, keep, writes, touches, written_value, value_after}
-use Rattle.sk_record.specs.Run.{Kernel, put_all, outcome, after, run, foot, trail}
+use Rattle.sk_record.specs.Effects.{MarkedEffect, is_in, hit, hits, dirtied, keep, writes, touches, written_value, value_after}
+use Rattle.sk_record.specs.Run.{System, put_all, outcome, after, run, marked_effect, effects}
 
 module _ {E : Type 0} {R : E → E → Ordering} (total : IsTotalOrder R) where
   -- entities that compare alike are in the same lists
@@ -40,12 +40,12 @@ module _ {E V : Type 0} (R : E → E → Ordering) where
 
   module _ {W : Type 0} where
     -- the position is struck, and writes the entity
-    abbrev pub StruckWrite : List Bool → List (Foot E V W) → E → ℕ → Type 0
-    StruckWrite flags ts e i = (slice_get flags i ≡ Some true) × ((f : Foot E V W) × (slice_get ts i ≡ Some f) × (is_in R (writes f) e ≡ true))
+    abbrev pub StruckWrite : List Bool → List (MarkedEffect E V W) → E → ℕ → Type 0
+    StruckWrite flags ts e i = (slice_get flags i ≡ Some true) × ((f : MarkedEffect E V W) × (slice_get ts i ≡ Some f) × (is_in R (writes f) e ≡ true))
 
 module _ {E V W : Type 0} {R : E → E → Ordering} (total : IsTotalOrder R) where
   -- a step that does not depend on the guess writes no dirty entity
-  pub unwritten : (g : ℕ) (dirty : List E) (f : Foot E V W) (e : E) → hit R g dirty f ≡ false → is_in R dirty e ≡ true → is_in R (writes f) e ≡ false
+  pub unwritten : (g : ℕ) (dirty : List E) (f : MarkedEffect E V W) (e : E) → hit R g dirty f ≡ false → is_in R dirty e ≡ true → is_in R (writes f) e ≡ false
   unwritten g dirty f e is dirt =
       false_from_ne_true _ (λ here. true≢false (
       sym (shared total (touches f) dirty e (list_any-append (eq_by_cmp R e) (map (λ r. r.0) f.read) (writes f) ∙ or_right _ _ here) dirt)
@@ -53,7 +53,7 @@ module _ {E V W : Type 0} {R : E → E → Ordering} (total : IsTotalOrder R) wh
 
   module _ (g : ℕ) where
     -- no surviving step writes a dirty entity
-    pub frozen : (dirty : List E) (ts : List (Foot E V W)) (e : E) (v : Option V) → is_in R dirty e ≡ true → value_after R (keep (hits R g dirty ts) ts) e v ≡ v
+    pub frozen : (dirty : List E) (ts : List (MarkedEffect E V W)) (e : E) (v : Option V) → is_in R dirty e ≡ true → value_after R (keep (hits R g dirty ts) ts) e v ≡ v
     frozen dirty [] e v dirt = refl
     frozen dirty (f ∷ ts) e v dirt =
         elim (hit R g dirty f) as (λ b. hit R g dirty f ≡ b → value_after R (keep (b ∷ hits R g (dirtied b f dirty) ts) (f ∷ ts)) e v ≡ v) [
@@ -62,7 +62,7 @@ module _ {E V W : Type 0} {R : E → E → Ordering} (total : IsTotalOrder R) wh
         ] refl
 
     -- up to the first struck write of an entity, the surviving steps leave the value that all leave
-    pub value_at_first : (dirty : List E) (ts : List (Foot E V W)) (e : E) (v : Option V) (i : ℕ) → is_in R dirty e ≡ false
+    pub value_at_first : (dirty : List E) (ts : List (MarkedEffect E V W)) (e : E) (v : Option V) (i : ℕ) → is_in R dirty e ≡ false
         → StruckWrite R (hits R g dirty ts) ts e i → ((j : ℕ) → j < i → StruckWrite R (hits R g dirty ts) ts e j → ⊥)
         → value_after R (keep (hits R g dirty ts) ts) e v ≡ value_after R (take i ts) e v
     value_at_first dirty [] e v i clean at first = cc
@@ -70,7 +70,7 @@ module _ {E V W : Type 0} {R : E → E → Ordering} (total : IsTotalOrder R) wh
         elim (hit R g dirty f) as (λ b. StruckWrite R (b ∷ hits R g (dirtied b f dirty) ts) (f ∷ ts) e zero → value_after R (keep (b ∷ hits R g (dirtied b f dirty) ts) (f ∷ ts)) e v ≡ v) [
           | true ↦ λ at.
               let is : at.1.0 ≡ f = cc in
-              let P : Foot E V W → Type 0 = λ h. is_in R (writes h) e ≡ true in
+              let P : MarkedEffect E V W → Type 0 = λ h. is_in R (writes h) e ≡ true in
               frozen (writes f ++ dirty) ts e v (list_any-append (eq_by_cmp R e) (writes f) dirty ∙ or_left _ _ (subst P is at.1.2))
           | false ↦ λ at. cc
         ] at
@@ -87,7 +87,7 @@ module _ {E V W : Type 0} {R : E → E → Ordering} (total : IsTotalOrder R) wh
         ] refl at first
 
     -- and where no struck step writes the entity, they leave its last value
-    pub value_at_end : (dirty : List E) (ts : List (Foot E V W)) (e : E) (v : Option V) → is_in R dirty e ≡ false
+    pub value_at_end : (dirty : List E) (ts : List (MarkedEffect E V W)) (e : E) (v : Option V) → is_in R dirty e ≡ false
         → ((j : ℕ) → StruckWrite R (hits R g dirty ts) ts e j → ⊥)
         → value_after R (keep (hits R g dirty ts) ts) e v ≡ value_after R ts e v
     value_at_end dirty [] e v clean none = refl
@@ -101,19 +101,19 @@ module _ {E V W : Type 0} {R : E → E → Ordering} (total : IsTotalOrder R) wh
           | false ↦ λ none. value_at_end dirty ts e (written_value R f.written e v) clean (λ j. none (suc j))
         ] none
 
-module _ {E V W F N : Type 0} (K : Kernel E V W F N) (total : IsTotalOrder K.order) where
-  get_after : (o : Result (Effect E V W) F) (g : Option ℕ) (s : FinMap K.order V) (e : E) → get (after K o s) e ≡ written_value K.order (foot K g o).written e (get s e)
+module _ {E V W F N : Type 0} (K : System E V W F N) (total : IsTotalOrder K.order) where
+  get_after : (o : Result (Effect E V W) F) (g : Option ℕ) (s : FinMap K.order V) (e : E) → get (after K o s) e ≡ written_value K.order (marked_effect K g o).written e (get s e)
   get_after (Ok f) g s e = get-put_all K.order total f.written s e
   get_after (Err why) g s e = refl
 
-  -- the trail says each value
-  pub get-run : (s : FinMap K.order V) (ns : List N) (e : E) → get (run K s ns) e ≡ value_after K.order (trail K s ns) e (get s e)
+  -- the effects says each value
+  pub get-run : (s : FinMap K.order V) (ns : List N) (e : E) → get (run K s ns) e ≡ value_after K.order (effects K s ns) e (get s e)
   get-run s [] e = refl
   get-run s (n ∷ ns) e =
       get-run (after K (outcome K s n) s) ns e
-      ∙ ap (value_after K.order (trail K (after K (outcome K s n) s) ns) e) (get_after (outcome K s n) (K.mark n) s e)
+      ∙ ap (value_after K.order (effects K (after K (outcome K s n) s) ns) e) (get_after (outcome K s n) (K.mark n) s e)
 
-  pub trail-take : (i : ℕ) (s : FinMap K.order V) (ns : List N) → trail K s (take i ns) ≡ take i (trail K s ns)
-  trail-take zero s ns = refl
-  trail-take (suc i) s [] = refl
-  trail-take (suc i) s (n ∷ ns) = ap (λ fs. foot K (K.mark n) (outcome K s n) ∷ fs) (trail-take i (after K (outcome K s n) s) ns)
+  pub effects-take : (i : ℕ) (s : FinMap K.order V) (ns : List N) → effects K s (take i ns) ≡ take i (effects K s ns)
+  effects-take zero s ns = refl
+  effects-take (suc i) s [] = refl
+  effects-take (suc i) s (n ∷ ns) = ap (λ fs. marked_effect K (K.mark n) (outcome K s n) ∷ fs) (effects-take i (after K (outcome K s n) s) ns)

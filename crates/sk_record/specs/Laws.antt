@@ -3,19 +3,19 @@ use Rattle.std.specs.Prelude.{◌≡◌, ℕ, ◌<◌, true, false, List, [], �
 use Rattle.std.specs.List.{list_any, list_all, Contains}
 use Rattle.std.specs.FinMap.{FinMap, get}
 use Rattle.sk_record.specs.Step.{Effect}
-use Rattle.sk_record.specs.Trail.{Foot, IsMarked, Dep, writes, keep, place}
-use Rattle.sk_record.specs.Run.{Kernel, outcome, run, IsLegal, trail}
+use Rattle.sk_record.specs.Effects.{MarkedEffect, IsMarked, Dep, writes, keep, place}
+use Rattle.sk_record.specs.Run.{System, outcome, run, IsLegal, effects}
 use Rattle.sk_record.specs.Strike.{struck, strike}
 use Rattle.sk_record.specs.Notes.{has, without, unwound, cut, carried, committed, tags_along}
-use Rattle.sk_record.specs.Trace.{Event, Commit, Fail, Status, Undecided, IsDrawn, StatusIs, IsTagAt, IsSound, record_of, trail_of, undecided_of}
+use Rattle.sk_record.specs.Trace.{Event, Commit, Fail, Status, Undecided, IsDrawn, StatusIs, IsTagAt, IsSound, record_of, effects_of, undecided_of}
 use Rattle.sk_record.specs.Release.{IsReleased}
-use Rattle.sk_record.specs.Seen.{log_of}
+use Rattle.sk_record.specs.UndoState.{log_of}
 use Rattle.sk_record.specs.Machine.{machine_after, IsPlainRun}
 
-module _ {E V W F N : Type 0} (K : Kernel E V W F N) where
+module _ {E V W F N : Type 0} (K : System E V W F N) where
   -- the flags are those of the positions that chains of feeds lead to from g
   abbrev pub FlagsAreDep : Type 0
-  FlagsAreDep = (s : FinMap K.order V) (ns : List N) (g i : ℕ) → (slice_get (struck K s ns g) i ≡ Some true) ↔ Dep (trail K s ns) g i
+  FlagsAreDep = (s : FinMap K.order V) (ns : List N) (g i : ℕ) → (slice_get (struck K s ns g) i ≡ Some true) ↔ Dep (effects K s ns) g i
 
   -- a step that is accepted in s is accepted, with the same reads, writes and text, where all that it reads or writes is the same
   abbrev pub Footprint : Type 0
@@ -26,28 +26,28 @@ module _ {E V W F N : Type 0} (K : Kernel E V W F N) where
       → outcome K t n ≡ Ok f
 
 -- the position i is the first that depends on g and writes the entity
-pub record IsFirstStruckWrite {E V W : Type 0} (ts : List (Foot E V W)) (g : ℕ) (e : E) (i : ℕ) : Type 0 where
-  pub foot : Foot E V W
-  pub at_i : slice_get ts i ≡ Some foot
+pub record IsFirstStruckWrite {E V W : Type 0} (ts : List (MarkedEffect E V W)) (g : ℕ) (e : E) (i : ℕ) : Type 0 where
+  pub marked_effect : MarkedEffect E V W
+  pub at_i : slice_get ts i ≡ Some marked_effect
   pub depends : Dep ts g i
-  pub is_written : Contains (writes foot) e
-  pub none_before : (j : ℕ) (f : Foot E V W) → j < i → slice_get ts j ≡ Some f → Dep ts g j → Contains (writes f) e → ⊥
+  pub is_written : Contains (writes marked_effect) e
+  pub none_before : (j : ℕ) (f : MarkedEffect E V W) → j < i → slice_get ts j ≡ Some f → Dep ts g j → Contains (writes f) e → ⊥
 
 -- no position that depends on g writes the entity
-abbrev pub IsUnstruck : {E V W : Type 0} → List (Foot E V W) → ℕ → E → Type 0
-IsUnstruck {E} {V} {W} ts g e = (j : ℕ) (f : Foot E V W) → slice_get ts j ≡ Some f → Dep ts g j → Contains (writes f) e → ⊥
+abbrev pub IsUnstruck : {E V W : Type 0} → List (MarkedEffect E V W) → ℕ → E → Type 0
+IsUnstruck {E} {V} {W} ts g e = (j : ℕ) (f : MarkedEffect E V W) → slice_get ts j ≡ Some f → Dep ts g j → Contains (writes f) e → ⊥
 
-module _ {E V W F N : Type 0} (K : Kernel E V W F N) where
+module _ {E V W F N : Type 0} (K : System E V W F N) where
   -- what the struck run is
   pub record IsStruckRun (s : FinMap K.order V) (ns : List N) (g : ℕ) : Type 0 where
     -- no entry of it is refused
     pub legal : IsLegal K s (strike K s ns g)
     -- each surviving step reads the same values, writes the same and says the same
-    pub steps : trail K s (strike K s ns g) ≡ keep (struck K s ns g) (trail K s ns)
+    pub steps : effects K s (strike K s ns g) ≡ keep (struck K s ns g) (effects K s ns)
     -- an entity has the value that it had before its first struck write
-    pub values : (e : E) (i : ℕ) → IsFirstStruckWrite (trail K s ns) g e i → get (run K s (strike K s ns g)) e ≡ get (run K s (take i ns)) e
+    pub values : (e : E) (i : ℕ) → IsFirstStruckWrite (effects K s ns) g e i → get (run K s (strike K s ns g)) e ≡ get (run K s (take i ns)) e
     -- or its last value
-    pub others : (e : E) → IsUnstruck (trail K s ns) g e → get (run K s (strike K s ns g)) e ≡ get (run K s ns) e
+    pub others : (e : E) → IsUnstruck (effects K s ns) g e → get (run K s (strike K s ns g)) e ≡ get (run K s ns) e
 
   -- of a legal record the struck record is legal, and its run is the struck run
   abbrev pub StruckRun : Type 0
@@ -63,13 +63,13 @@ module _ {E V W F N : Type 0} (K : Kernel E V W F N) where
   abbrev pub LaterDep : Type 0
   LaterDep =
       (s : FinMap K.order V) (ns : List N) (g h k : ℕ) → IsLegal K s ns
-      → Dep (trail K s (strike K s ns g)) h k ↔ Dep (trail K s ns) h (place (struck K s ns g) k)
+      → Dep (effects K s (strike K s ns g)) h k ↔ Dep (effects K s ns) h (place (struck K s ns g) k)
 
   -- a guess whose own entry is struck takes with it only what is struck already
   abbrev pub StruckWithin : Type 0
   StruckWithin =
-      (s : FinMap K.order V) (ns : List N) (g h : ℕ) → ((j : ℕ) → IsMarked (trail K s ns) h j → Dep (trail K s ns) g j)
-      → (i : ℕ) → Dep (trail K s ns) h i → Dep (trail K s ns) g i
+      (s : FinMap K.order V) (ns : List N) (g h : ℕ) → ((j : ℕ) → IsMarked (effects K s ns) h j → Dep (effects K s ns) g j)
+      → (i : ℕ) → Dep (effects K s ns) h i → Dep (effects K s ns) g i
 
   -- each guess that was drawn has exactly one status, and no other number has one
   abbrev pub OneStatus : Type 0
@@ -81,27 +81,27 @@ module _ {E V W F N : Type 0} (K : Kernel E V W F N) where
   abbrev pub Survivors : Type 0
   Survivors =
       (start : FinMap K.order V) (es : List (Event N)) (c k : ℕ) → IsSound K start (es ++ Fail c ∷ [])
-      → (slice_get (trail_of K start (es ++ Fail c ∷ [])) k ≡ slice_get (trail_of K start es) (place (struck K start (record_of K start es) c) k))
+      → (slice_get (effects_of K start (es ++ Fail c ∷ [])) k ≡ slice_get (effects_of K start es) (place (struck K start (record_of K start es) c) k))
       × ((g : ℕ) → IsTagAt K start (es ++ Fail c ∷ []) k g ↔ IsTagAt K start es (place (struck K start (record_of K start es) c) k) g)
 
-  -- the tags that are computed along the trail are the tags of its positions
+  -- the tags that are computed along the effects are the tags of its positions
   abbrev pub TagsAlong : Type 0
   TagsAlong =
       (start : FinMap K.order V) (es : List (Event N)) (i : ℕ) (tags : List ℕ) → IsSound K start es
-      → slice_get (tags_along K.order (undecided_of K start es) (λ g. []) (trail_of K start es)) i ≡ Some tags
+      → slice_get (tags_along K.order (undecided_of K start es) (λ g. []) (effects_of K start es)) i ≡ Some tags
       → (g : ℕ) → (has g tags ≡ true) ↔ IsTagAt K start es i g
 
   -- the machine's log of an entity is the log of the record's run
   abbrev pub LogsAreRuns : Type 0
   LogsAreRuns =
       (start : FinMap K.order V) (es : List (Event N)) (e : E) → IsSound K start es
-      → (machine_after K start es).seen.logs e ≡ log_of K start (record_of K start es) (undecided_of K start es) e
+      → (machine_after K start es).state.logs e ≡ log_of K start (record_of K start es) (undecided_of K start es) e
 
   -- along a log the notes that carry a guess are a suffix: none before the first of them does, and all from it on do
   abbrev pub NotesAreSuffix : Type 0
   NotesAreSuffix =
       (start : FinMap K.order V) (es : List (Event N)) (e : E) (g : ℕ) → IsSound K start es
-      → let log = (machine_after K start es).seen.logs e in
+      → let log = (machine_after K start es).state.logs e in
       (log ≡ cut g log ++ carried g log)
       × (list_any (λ n. has g n.tags) (cut g log) ≡ false)
       × (list_all (λ n. has g n.tags) (carried g log) ≡ true)
@@ -111,8 +111,8 @@ module _ {E V W F N : Type 0} (K : Kernel E V W F N) where
   UnwindsToStruckRun =
       (start : FinMap K.order V) (es : List (Event N)) (g : ℕ) (e : E) → IsSound K start es → StatusIs K start es g Undecided
       → let m = machine_after K start es in
-      (unwound g (m.seen.logs e) (m.seen.look e) ≡ get (run K start (strike K start (record_of K start es) g)) e)
-      × (cut g (m.seen.logs e) ≡ log_of K start (strike K start (record_of K start es) g) (undecided_of K start (es ++ Fail g ∷ [])) e)
+      (unwound g (m.state.logs e) (m.state.look e) ≡ get (run K start (strike K start (record_of K start es) g)) e)
+      × (cut g (m.state.logs e) ≡ log_of K start (strike K start (record_of K start es) g) (undecided_of K start (es ++ Fail g ∷ [])) e)
 
   -- a commit keeps the value, and of the log what rests on other guesses
   abbrev pub CommitKeeps : Type 0
@@ -120,9 +120,9 @@ module _ {E V W F N : Type 0} (K : Kernel E V W F N) where
       (start : FinMap K.order V) (es : List (Event N)) (g : ℕ) (e : E) → IsSound K start es → StatusIs K start es g Undecided
       → let m = machine_after K start es in
       let after = machine_after K start (es ++ Commit g ∷ []) in
-      (after.seen.look e ≡ m.seen.look e)
-      × (after.seen.logs e ≡ committed g (m.seen.logs e))
-      × (after.seen.logs e ≡ log_of K start (record_of K start es) (without g (undecided_of K start es)) e)
+      (after.state.look e ≡ m.state.look e)
+      × (after.state.logs e ≡ committed g (m.state.logs e))
+      × (after.state.logs e ≡ log_of K start (record_of K start es) (without g (undecided_of K start es)) e)
 
   -- what was released stays released, first and in the same order, whatever comes later
   abbrev pub StaysReleased : Type 0

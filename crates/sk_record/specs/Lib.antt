@@ -1,10 +1,10 @@
 pub mod Step
 pub mod Run
-pub mod Trail
+pub mod Effects
 pub mod Strike
 pub mod Notes
 pub mod Trace
 pub mod Release
-pub mod Seen
+pub mod UndoState
 pub mod Machine
 pub mod Laws

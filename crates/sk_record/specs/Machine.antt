@@ -3,12 +3,12 @@ use Rattle.std.specs.Prelude.{◌≡◌, ℕ, Bool, true, ◌&&◌, ◌==◌, no
 use Rattle.std.specs.List.{filter, list_any, fold}
 use Rattle.std.specs.FinMap.{FinMap, get}
 use Rattle.sk_record.specs.Step.{Effect, perform}
-use Rattle.sk_record.specs.Trail.{is_in, writes, written_value}
-use Rattle.sk_record.specs.Run.{Kernel, foot, run, trail}
+use Rattle.sk_record.specs.Effects.{is_in, writes, written_value}
+use Rattle.sk_record.specs.Run.{System, marked_effect, run, effects}
 use Rattle.sk_record.specs.Notes.{has, without, noted, cut, unwound, committed, tags_along}
 use Rattle.sk_record.specs.Trace.{Event, Taken, Commit, Fail, Status, Undecided, Committed, Failed, Struck, StatusIs, IsTagOf, IsSound, record_of, Record, all_recorded, no_record}
 use Rattle.sk_record.specs.Release.{said, said_by, said_with, IsReleased}
-use Rattle.sk_record.specs.Seen.{Open, Seen, tags_at, step_tags, opened, still_open, not_struck, Took, Committed as CommittedSeen, Failed as FailedSeen, Stands}
+use Rattle.sk_record.specs.UndoState.{Open, UndoState, tags_at, step_tags, opened, still_open, not_struck, Took, Committed as CommittedState, Failed as FailedState, Represents}
 
 -- a text that was said, with the guesses that it rests on
 abbrev pub Tagged : Type 0 → Type 0
@@ -52,22 +52,22 @@ with_failure g os status = with_status g Failed (λ h. if rests_on g os h then S
 
 -- the value and the notes of each entity and the open guesses; the status of each guess; each terminal's texts in the order of saying
 pub record Machine (E V W : Type 0) : Type 0 where
-  pub seen : Seen E V
+  pub state : UndoState E V
   pub status : ℕ → Option Status
   pub texts : ℕ → List (Tagged W)
 
-module _ {E V W F N : Type 0} (K : Kernel E V W F N) where
+module _ {E V W F N : Type 0} (K : System E V W F N) where
   -- an accepted step: what it writes, a note for each entity written, the guess that it opens, and its text, all with the step's tags
   abbrev pub took_by : Machine E V W → N → Result (Effect E V W) F → Machine E V W
   took_by m n (Err why) = m
   took_by m n (Ok f) =
-      let left = foot K (K.mark n) (Ok f) in
-      let tags = step_tags m.seen left in
+      let left = marked_effect K (K.mark n) (Ok f) in
+      let tags = step_tags m.state left in
       record {
-        seen = record {
-          look = λ e. written_value K.order f.written e (m.seen.look e);
-          logs = λ e. m.seen.logs e ++ noted (is_in K.order (writes left) e) tags (m.seen.look e) [];
-          opens = m.seen.opens ++ opened (K.mark n) tags;
+        state = record {
+          look = λ e. written_value K.order f.written e (m.state.look e);
+          logs = λ e. m.state.logs e ++ noted (is_in K.order (writes left) e) tags (m.state.look e) [];
+          opens = m.state.opens ++ opened (K.mark n) tags;
         };
         status = with_drawn (K.mark n) m.status;
         texts = λ t. m.texts t ++ said_by K t f.said tags;
@@ -76,7 +76,7 @@ module _ {E V W F N : Type 0} (K : Kernel E V W F N) where
   -- a commit: its guess goes out of all tags
   abbrev pub committed_in_place : Machine E V W → ℕ → Machine E V W
   committed_in_place m g = record {
-    seen = record { look = m.seen.look; logs = λ e. committed g (m.seen.logs e); opens = still_open g m.seen.opens };
+    state = record { look = m.state.look; logs = λ e. committed g (m.state.logs e); opens = still_open g m.state.opens };
     status = with_status g Committed m.status;
     texts = λ t. lightened g (m.texts t);
   }
@@ -84,40 +84,40 @@ module _ {E V W F N : Type 0} (K : Kernel E V W F N) where
   -- a failure: each entity is unwound to before the first note that carries the guess, and what else carries it is dropped
   abbrev pub failed_in_place : Machine E V W → ℕ → Machine E V W
   failed_in_place m g = record {
-    seen = record { look = λ e. unwound g (m.seen.logs e) (m.seen.look e); logs = λ e. cut g (m.seen.logs e); opens = not_struck g m.seen.opens };
-    status = with_failure g m.seen.opens m.status;
+    state = record { look = λ e. unwound g (m.state.logs e) (m.state.look e); logs = λ e. cut g (m.state.logs e); opens = not_struck g m.state.opens };
+    status = with_failure g m.state.opens m.status;
     texts = λ t. not_dropped g (m.texts t);
   }
 
   -- the same as relations of parts: what an accepted step makes of the machine a
   pub record Takes (a : Machine E V W) (n : N) (b : Machine E V W) : Type 0 where
-    pub seen : Took K a.seen n b.seen
+    pub state : Took K a.state n b.state
     pub status : (g : ℕ) → b.status g ≡ with_drawn (K.mark n) a.status g
-    pub texts : (t : ℕ) → b.texts t ≡ a.texts t ++ said_by K t seen.effect.said (step_tags a.seen (foot K (K.mark n) (Ok seen.effect)))
+    pub texts : (t : ℕ) → b.texts t ≡ a.texts t ++ said_by K t state.effect.said (step_tags a.state (marked_effect K (K.mark n) (Ok state.effect)))
 
   -- the machine after an event; a refused step changes nothing
   abbrev pub moved : Machine E V W → Event N → Machine E V W
-  moved m (Taken n) = took_by m n (perform m.seen.look (K.act n))
+  moved m (Taken n) = took_by m n (perform m.state.look (K.act n))
   moved m (Commit g) = committed_in_place m g
   moved m (Fail g) = failed_in_place m g
 
 module _ {E V W : Type 0} where
   -- what the commit of c makes of it
   pub record Commits (a : Machine E V W) (c : ℕ) (b : Machine E V W) : Type 0 where
-    pub seen : CommittedSeen a.seen c b.seen
+    pub state : CommittedState a.state c b.state
     pub status : (g : ℕ) → b.status g ≡ with_status c Committed a.status g
     pub texts : (t : ℕ) → b.texts t ≡ lightened c (a.texts t)
 
   -- and what the failure of c makes of it
   pub record Fails (a : Machine E V W) (c : ℕ) (b : Machine E V W) : Type 0 where
-    pub seen : FailedSeen a.seen c b.seen
-    pub status : (g : ℕ) → b.status g ≡ with_failure c a.seen.opens a.status g
+    pub state : FailedState a.state c b.state
+    pub status : (g : ℕ) → b.status g ≡ with_failure c a.state.opens a.status g
     pub texts : (t : ℕ) → b.texts t ≡ not_dropped c (a.texts t)
 
-module _ {E V W F N : Type 0} (K : Kernel E V W F N) (start : FinMap K.order V) where
+module _ {E V W F N : Type 0} (K : System E V W F N) (start : FinMap K.order V) where
   -- the machine where nothing has happened yet
   abbrev pub machine_at_start : Machine E V W
-  machine_at_start = record { seen = record { look = get start; logs = λ e. []; opens = [] }; status = λ g. None; texts = λ t. [] }
+  machine_at_start = record { state = record { look = get start; logs = λ e. []; opens = [] }; status = λ g. None; texts = λ t. [] }
 
   -- the machine after a trace
   abbrev pub machine_after : List (Event N) → Machine E V W
@@ -126,9 +126,9 @@ module _ {E V W F N : Type 0} (K : Kernel E V W F N) (start : FinMap K.order V) 
   -- the machine is what the plain kernel makes of the trace's record
   pub record IsPlainRun (es : List (Event N)) (m : Machine E V W) : Type 0 where
     -- each entity has the value that it has in the run of the record
-    pub values : (e : E) → m.seen.look e ≡ get (run K start (record_of K start es)) e
+    pub values : (e : E) → m.state.look e ≡ get (run K start (record_of K start es)) e
     -- its tags are the undecided guesses of which some dependent position writes it
-    pub tags : (e : E) (g : ℕ) → (has g (tags_at m.seen e) ≡ true) ↔ IsTagOf K start es e g
+    pub tags : (e : E) (g : ℕ) → (has g (tags_at m.state e) ≡ true) ↔ IsTagOf K start es e g
     -- each guess has its status
     pub statuses : (g : ℕ) (s : Status) → (m.status g ≡ Some s) ↔ StatusIs K start es g s
     -- to each terminal it says what the record says to it
@@ -137,12 +137,12 @@ module _ {E V W F N : Type 0} (K : Kernel E V W F N) (start : FinMap K.order V) 
     pub releases : (t : ℕ) → IsReleased K start es t (released (m.texts t))
 
   -- the texts are those that the record says, each with the undecided guesses that its step rests on
-  abbrev pub TextsStand : Record N → (ℕ → List (Tagged W)) → Type 0
-  TextsStand r texts = (t : ℕ) → texts t ≡ said_with K t (tags_along K.order r.undecided (λ g. []) (trail K start r.entries)) (trail K start r.entries)
+  abbrev pub TextsRepresent : Record N → (ℕ → List (Tagged W)) → Type 0
+  TextsRepresent r texts = (t : ℕ) → texts t ≡ said_with K t (tags_along K.order r.undecided (λ g. []) (effects K start r.entries)) (effects K start r.entries)
 
   -- the trace is sound, and each part of the machine is as computed from it
-  pub record StandsFor (es : List (Event N)) (m : Machine E V W) : Type 0 where
+  pub record RepresentsTrace (es : List (Event N)) (m : Machine E V W) : Type 0 where
     pub sound : IsSound K start es
-    pub seen : Stands K start (all_recorded K start no_record es) m.seen
+    pub state : Represents K start (all_recorded K start no_record es) m.state
     pub statuses : (g : ℕ) (s : Status) → (m.status g ≡ Some s) ↔ StatusIs K start es g s
-    pub texts : TextsStand (all_recorded K start no_record es) m.texts
+    pub texts : TextsRepresent (all_recorded K start no_record es) m.texts

@@ -2,7 +2,7 @@
 use Rattle.std.specs.Prelude.{ℕ, Bool, true, false, not, ◌==◌, List, [], ◌∷◌, Option, if◌then◌else◌}
 use Rattle.std.specs.List.{filter, list_any}
 use Rattle.std.specs.declared.cmp.Ordering.{Ordering}
-use Rattle.sk_record.specs.Trail.{Foot, is_in, hit, dirtied, writes, written_value}
+use Rattle.sk_record.specs.Effects.{MarkedEffect, is_in, hit, dirtied, writes, written_value}
 
 -- what a write is undone by: the guesses that it rests on, and the value before it
 pub record Note (V : Type 0) : Type 0 where
@@ -51,20 +51,20 @@ module _ {V : Type 0} where
 
 module _ {E V W : Type 0} (R : E → E → Ordering) (guesses : List ℕ) where
   -- the open guesses that a step rests on, where dirty has for each guess the entities that it has dirtied
-  abbrev pub rests : (ℕ → List E) → Foot E V W → List ℕ
+  abbrev pub rests : (ℕ → List E) → MarkedEffect E V W → List ℕ
   rests dirty f = filter (λ g. hit R g (dirty g) f) guesses
 
   -- what each guess has dirtied after one more step
-  abbrev pub next_dirty : (ℕ → List E) → Foot E V W → ℕ → List E
+  abbrev pub next_dirty : (ℕ → List E) → MarkedEffect E V W → ℕ → List E
   next_dirty dirty f g = dirtied (hit R g (dirty g) f) f (dirty g)
 
   -- the notes of an entity that had the value v
-  abbrev pub notes_of : (ℕ → List E) → List (Foot E V W) → E → Option V → List (Note V)
+  abbrev pub notes_of : (ℕ → List E) → List (MarkedEffect E V W) → E → Option V → List (Note V)
   notes_of dirty [] e v = []
   notes_of dirty (f ∷ fs) e v =
       noted (is_in R (writes f) e) (rests dirty f) v (notes_of (next_dirty dirty f) fs e (written_value R f.written e v))
 
-  -- the open guesses that each step of a trail rests on
-  abbrev pub tags_along : (ℕ → List E) → List (Foot E V W) → List (List ℕ)
+  -- the open guesses that each step of a effects rests on
+  abbrev pub tags_along : (ℕ → List E) → List (MarkedEffect E V W) → List (List ℕ)
   tags_along dirty [] = []
   tags_along dirty (f ∷ fs) = rests dirty f ∷ tags_along (next_dirty dirty f) fs

@@ -2,23 +2,23 @@
 use Rattle.std.specs.Prelude.{◌≡◌, ℕ, suc, ◌==◌, List, [], ◌∷◌, ◌++◌, map, Option, Some, None, if◌then◌else◌}
 use Rattle.std.specs.List.{Contains}
 use Rattle.std.specs.FinMap.{FinMap}
-use Rattle.sk_record.specs.Trail.{Foot}
-use Rattle.sk_record.specs.Run.{Kernel}
-use Rattle.sk_record.specs.Trace.{Event, IsTagAt, trail_of}
+use Rattle.sk_record.specs.Effects.{MarkedEffect}
+use Rattle.sk_record.specs.Run.{System}
+use Rattle.sk_record.specs.Trace.{Event, IsTagAt, effects_of}
 
-module _ {E V W F N : Type 0} (K : Kernel E V W F N) where
+module _ {E V W F N : Type 0} (K : System E V W F N) where
   -- a step's text, labelled, where it goes to the terminal t
   abbrev pub said_by : {A : Type 0} → ℕ → Option W → A → List (W × A)
   said_by t None a = []
   said_by t (Some w) a = if K.goes_to w == t then (w, a) ∷ [] else []
 
-  -- the texts that a trail says to the terminal t, each with its position, where the trail's first position is i
-  abbrev pub said_from : ℕ → ℕ → List (Foot E V W) → List (W × ℕ)
+  -- the texts that a effects says to the terminal t, each with its position, where the effects's first position is i
+  abbrev pub said_from : ℕ → ℕ → List (MarkedEffect E V W) → List (W × ℕ)
   said_from t i [] = []
   said_from t i (f ∷ fs) = said_by t f.said i ++ said_from t (suc i) fs
 
-  -- the texts that a trail says to the terminal t, each with the label of its position
-  abbrev pub said_with : {A : Type 0} → ℕ → List A → List (Foot E V W) → List (W × A)
+  -- the texts that a effects says to the terminal t, each with the label of its position
+  abbrev pub said_with : {A : Type 0} → ℕ → List A → List (MarkedEffect E V W) → List (W × A)
   said_with t [] fs = []
   said_with t (a ∷ labels) [] = []
   said_with t (a ∷ labels) (f ∷ fs) = said_by t f.said a ++ said_with t labels fs
@@ -26,7 +26,7 @@ module _ {E V W F N : Type 0} (K : Kernel E V W F N) where
   module _ (start : FinMap K.order V) (es : List (Event N)) where
     -- the texts that the trace's record says to the terminal t, each with its position
     abbrev pub said : ℕ → List (W × ℕ)
-    said t = said_from t 0 (trail_of K start es)
+    said t = said_from t 0 (effects_of K start es)
 
     -- a position is clear: no undecided guess is among its tags
     abbrev pub IsClear : ℕ → Type 0

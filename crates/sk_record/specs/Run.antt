@@ -3,7 +3,7 @@ use Rattle.std.specs.Prelude.{ℕ, List, [], ◌∷◌, Option, None, Result, Ok
 use Rattle.std.specs.declared.cmp.Ordering.{Ordering}
 use Rattle.std.specs.FinMap.{FinMap, get, insert}
 use Rattle.sk_record.specs.Step.{Step, Effect, perform}
-use Rattle.sk_record.specs.Trail.{Foot}
+use Rattle.sk_record.specs.Effects.{MarkedEffect}
 
 -- the map after these writes
 abbrev pub put_all : {E V : Type 0} {R : E → E → Ordering} → List (E × V) → FinMap R V → FinMap R V
@@ -11,13 +11,13 @@ put_all [] s = s
 put_all (w ∷ ws) s = put_all ws (insert s w.0 w.1)
 
 -- a kernel: its entities' order, what an entry's step is, the guess that it is marked with, and the terminal that a text is said to
-pub record Kernel (E V W F N : Type 0) : Type 0 where
+pub record System (E V W F N : Type 0) : Type 0 where
   pub order : E → E → Ordering
   pub act : N → Step E V W F
   pub mark : N → Option ℕ
   pub goes_to : W → ℕ
 
-module _ {E V W F N : Type 0} (K : Kernel E V W F N) where
+module _ {E V W F N : Type 0} (K : System E V W F N) where
   -- what the step of an entry does in a state
   abbrev pub outcome : FinMap K.order V → N → Result (Effect E V W) F
   outcome s n = perform (get s) (K.act n)
@@ -38,11 +38,11 @@ module _ {E V W F N : Type 0} (K : Kernel E V W F N) where
   IsLegal s (n ∷ ns) = IsOk (outcome s n) × IsLegal (after (outcome s n) s) ns
 
   -- what the step at an entry left behind
-  abbrev pub foot : Option ℕ → Result (Effect E V W) F → Foot E V W
-  foot g (Ok f) = record { mark = g; read = f.read; written = f.written; said = f.said }
-  foot g (Err why) = record { mark = g; read = []; written = []; said = None }
+  abbrev pub marked_effect : Option ℕ → Result (Effect E V W) F → MarkedEffect E V W
+  marked_effect g (Ok f) = record { mark = g; read = f.read; written = f.written; said = f.said }
+  marked_effect g (Err why) = record { mark = g; read = []; written = []; said = None }
 
   -- what each step of a run left behind, in order
-  abbrev pub trail : FinMap K.order V → List N → List (Foot E V W)
-  trail s [] = []
-  trail s (n ∷ ns) = foot (K.mark n) (outcome s n) ∷ trail (after (outcome s n) s) ns
+  abbrev pub effects : FinMap K.order V → List N → List (MarkedEffect E V W)
+  effects s [] = []
+  effects s (n ∷ ns) = marked_effect (K.mark n) (outcome s n) ∷ effects (after (outcome s n) s) ns

@@ -2,8 +2,8 @@
 use Rattle.std.specs.Prelude.{◌≡◌, ℕ, ◌<◌, Bool, false, List, [], ◌∷◌, ◌++◌, Option, Some, None, slice_get}
 use Rattle.std.specs.List.{filter, list_any, fold, Contains}
 use Rattle.std.specs.FinMap.{FinMap}
-use Rattle.sk_record.specs.Trail.{Foot, Dep, is_in, is_marked, dirt, writes}
-use Rattle.sk_record.specs.Run.{Kernel, IsLegal, trail}
+use Rattle.sk_record.specs.Effects.{MarkedEffect, Dep, is_in, is_marked, dirt, writes}
+use Rattle.sk_record.specs.Run.{System, IsLegal, effects}
 use Rattle.sk_record.specs.Strike.{strike}
 use Rattle.sk_record.specs.Notes.{has, without}
 
@@ -20,7 +20,7 @@ pub data Status : Type 0 where
   Failed : Status
   Struck : Status
 
-module _ {E V W F N : Type 0} (K : Kernel E V W F N) where
+module _ {E V W F N : Type 0} (K : System E V W F N) where
   -- the record has the entry marked g
   abbrev pub HasEntry : List N → ℕ → Type 0
   HasEntry ns g = (n : N) × Contains ns n × (K.mark n ≡ Some g)
@@ -29,7 +29,7 @@ module _ {E V W F N : Type 0} (K : Kernel E V W F N) where
   abbrev pub IsDrawn : List (Event N) → ℕ → Type 0
   IsDrawn es g = (n : N) × Contains es (Taken n) × (K.mark n ≡ Some g)
 
-module _ {E V W F N : Type 0} (K : Kernel E V W F N) (start : FinMap K.order V) where
+module _ {E V W F N : Type 0} (K : System E V W F N) (start : FinMap K.order V) where
   -- the record after one more event: an entry is appended, a commit changes nothing, a failure strikes
   abbrev pub record_after : List N → Event N → List N
   record_after ns (Taken n) = ns ++ n ∷ []
@@ -40,9 +40,9 @@ module _ {E V W F N : Type 0} (K : Kernel E V W F N) (start : FinMap K.order V) 
   abbrev pub record_of : List (Event N) → List N
   record_of es = fold record_after [] es
 
-  -- the trail of the trace's record
-  abbrev pub trail_of : List (Event N) → List (Foot E V W)
-  trail_of es = trail K start (record_of es)
+  -- the effects of the trace's record
+  abbrev pub effects_of : List (Event N) → List (MarkedEffect E V W)
+  effects_of es = effects K start (record_of es)
 
   -- a guess is committed or failed where the trace has its decision; where it has none, it is undecided while the record has its entry, and struck from then on
   abbrev pub StatusIs : List (Event N) → ℕ → Status → Type 0
@@ -53,11 +53,11 @@ module _ {E V W F N : Type 0} (K : Kernel E V W F N) (start : FinMap K.order V) 
 
   -- the tags of a position: the undecided guesses that it depends on
   abbrev pub IsTagAt : List (Event N) → ℕ → ℕ → Type 0
-  IsTagAt es i g = StatusIs es g Undecided × Dep (trail_of es) g i
+  IsTagAt es i g = StatusIs es g Undecided × Dep (effects_of es) g i
 
   -- the tags of an entity: the undecided guesses of which some dependent position writes it
   abbrev pub IsTagOf : List (Event N) → E → ℕ → Type 0
-  IsTagOf es e g = StatusIs es g Undecided × ((i : ℕ) × (f : Foot E V W) × (slice_get (trail_of es) i ≡ Some f) × Dep (trail_of es) g i × Contains (writes f) e)
+  IsTagOf es e g = StatusIs es g Undecided × ((i : ℕ) × (f : MarkedEffect E V W) × (slice_get (effects_of es) i ≡ Some f) × Dep (effects_of es) g i × Contains (writes f) e)
 
   -- an event may come next: the number of a guess is above each one that was drawn before, and what is decided is undecided
   abbrev pub IsAllowed : List (Event N) → Event N → Type 0
@@ -77,8 +77,8 @@ abbrev pub marks : Option ℕ → List ℕ
 marks None = []
 marks (Some g) = g ∷ []
 
--- whether a step of the trail is marked h
-abbrev pub still_marked : {E V W : Type 0} → List (Foot E V W) → ℕ → Bool
+-- whether a step of the effects is marked h
+abbrev pub still_marked : {E V W : Type 0} → List (MarkedEffect E V W) → ℕ → Bool
 still_marked ts h = list_any (λ f. is_marked f.mark h) ts
 
 -- the entries of a trace's record, and the guesses that are undecided after it
@@ -89,13 +89,13 @@ pub record Record (N : Type 0) : Type 0 where
 abbrev pub no_record : {N : Type 0} → Record N
 no_record = record { entries = []; undecided = [] }
 
-module _ {E V W F N : Type 0} (K : Kernel E V W F N) (start : FinMap K.order V) where
+module _ {E V W F N : Type 0} (K : System E V W F N) (start : FinMap K.order V) where
   -- the record with its undecided guesses after one more event
   abbrev pub recorded : Record N → Event N → Record N
   recorded r (Taken n) = record { entries = r.entries ++ n ∷ []; undecided = r.undecided ++ marks (K.mark n) }
   recorded r (Commit g) = record { entries = r.entries; undecided = without g r.undecided }
   recorded r (Fail g) =
-      record { entries = strike K start r.entries g; undecided = filter (still_marked (trail K start (strike K start r.entries g))) r.undecided }
+      record { entries = strike K start r.entries g; undecided = filter (still_marked (effects K start (strike K start r.entries g))) r.undecided }
 
   -- and after these events
   abbrev pub all_recorded : Record N → List (Event N) → Record N
@@ -108,8 +108,8 @@ module _ {E V W F N : Type 0} (K : Kernel E V W F N) (start : FinMap K.order V) 
   -- the number of a guess is none of those that are undecided or in the record
   abbrev pub IsFresh : Record N → Option ℕ → Type 0
   IsFresh r None = Unit {0}
-  IsFresh r (Some g) = (has g r.undecided ≡ false) × (still_marked (trail K start r.entries) g ≡ false)
+  IsFresh r (Some g) = (has g r.undecided ≡ false) × (still_marked (effects K start r.entries) g ≡ false)
 
   -- the tags of an entity
   abbrev pub deps : Record N → E → List ℕ
-  deps r e = filter (λ g. is_in K.order (dirt K.order g [] (trail K start r.entries)) e) r.undecided
+  deps r e = filter (λ g. is_in K.order (dirt K.order g [] (effects K start r.entries)) e) r.undecided

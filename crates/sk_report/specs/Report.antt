@@ -4,20 +4,20 @@ use Rattle.std.specs.Ordering.{nat_cmp}
 use Rattle.std.specs.FinMap as map
 use Rattle.std.specs.BTreeSet.{insert_key}
 use Rattle.sk_ids.specs.declared.entity.Entity.{Entity}
-use Rattle.sk_store.specs.declared.stored.Stored.{Stored}
-use Rattle.sk_store.specs.declared.stored.Stored.TheVariants as stored
+use Rattle.sk_store.specs.declared.entity_state.EntityState.{EntityState}
+use Rattle.sk_store.specs.declared.entity_state.EntityState.TheVariants as stored
 use Rattle.sk_terminal.specs.Terminal.{released_of, waiting_of}
-use Rattle.sk_terminal.specs.declared.held.Held.{Held}
+use Rattle.sk_terminal.specs.declared.buffered_text.BufferedText.{BufferedText}
 use Rattle.sk_kernel.specs.Kernel.{KernelView, tags_at, undecided}
 use Rattle.sk_print.specs.Spelling.{spelled}
 use Rattle.sk_print.specs.Shown.{tags_text, process_text, value_text, entity_text}
 
 -- what an entity has, behind its name
-abbrev pub stored_text : Stored → List ℕ
+abbrev pub stored_text : EntityState → List ℕ
 stored_text (stored.Process p) = process_text p
 stored_text (stored.Value v) = value_text v
 
-abbrev pub line_with : Option Stored → List ℕ → List ℕ → List ℕ
+abbrev pub line_with : Option EntityState → List ℕ → List ℕ → List ℕ
 line_with None entity tags = []
 line_with (Some s) entity tags = entity ++ 32 ∷ stored_text s ++ codes " tags " ++ tags ++ 10 ∷ []
 
@@ -29,13 +29,13 @@ entity_line k e = line_with (map.get k.written.now e) (entity_text e) (tags_text
 abbrev pub texts_lines : List (List ℕ) → List ℕ
 texts_lines texts = flat_map (λ text. spelled text ++ 10 ∷ []) texts
 
-abbrev pub terminal_lines : ℕ → List Held → List ℕ
+abbrev pub terminal_lines : ℕ → List BufferedText → List ℕ
 terminal_lines number texts =
     codes "terminal " ++ decimal number ++ codes " released " ++ decimal (length (released_of texts)) ++ codes " waiting " ++ decimal (waiting_of texts)
     ++ 10 ∷ texts_lines (released_of texts)
 
 -- the lines of a terminal; without texts they are those of an empty one
-abbrev pub terminal_said : ℕ → Option (List Held) → List ℕ
+abbrev pub terminal_said : ℕ → Option (List BufferedText) → List ℕ
 terminal_said number None = codes "terminal " ++ decimal number ++ codes " released 0 waiting 0\n"
 terminal_said number (Some texts) = terminal_lines number texts
 
@@ -45,13 +45,13 @@ last_line k = codes "trace " ++ decimal (length k.trace) ++ codes " undecided " 
 -- ---- the whole
 
 -- the terminals of processes, by rising number, each once
-abbrev pub with_terminal : List ℕ → Option Stored → List ℕ
+abbrev pub with_terminal : List ℕ → Option EntityState → List ℕ
 with_terminal numbers (Some (stored.Process p)) = insert_key nat_cmp numbers p.terminal
 with_terminal numbers (Some (stored.Value v)) = numbers
 with_terminal numbers None = numbers
 
 -- these terminals, with those of the processes among the entities
-abbrev pub with_terminals : (Entity → Option Stored) → List ℕ → List Entity → List ℕ
+abbrev pub with_terminals : (Entity → Option EntityState) → List ℕ → List Entity → List ℕ
 with_terminals look numbers [] = numbers
 with_terminals look numbers (e ∷ es) = with_terminals look (with_terminal numbers (look e)) es
 

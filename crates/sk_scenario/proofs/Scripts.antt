@@ -7,7 +7,7 @@ use Rattle.std.proofs.lemmas.List.{append-nil}
 use Rattle.sk_words.specs.declared.fault.Fault.{Fault}
 use Rattle.sk_script.specs.Scripting.{script_from}
 use Rattle.sk_scenario.specs.Declarations.{Declared}
-use Rattle.sk_scenario.specs.Whole.{Begun, is_end, scenario_from, script_ends, script_unended}
+use Rattle.sk_scenario.specs.Scenario.{Begun, is_end, scenario_from, script_ends, script_unended}
 
 -- ---- lists
 

@@ -1,4 +1,4 @@
-pub mod Steps
+pub mod Calls
 pub mod Declarations
 pub mod Inputs
-pub mod Whole
+pub mod Scenario

@@ -2,7 +2,7 @@
 ghost use Rattle.std.specs.Prelude.{◌≡◌, ◌+◌, ◌<◌, ◌^◌, ◌∷◌, [], None, Some, MatchOption, length};
 ghost use Rattle.std.specs.Str.Lines.{lines};
 ghost use Rattle.sk_words.specs.Words.{words};
-ghost use Rattle.sk_scenario.specs.Steps.{first_of};
+ghost use Rattle.sk_scenario.specs.Calls.{first_of};
 
 use sk_words::{Fault, FaultKind, Lines, Words};
 

@@ -3,7 +3,7 @@ ghost use Rattle.std.specs.Prelude.{◌≡◌, Some, unwrap_or};
 ghost use Rattle.sk_words.specs.Words.{words};
 ghost use Rattle.sk_script.specs.Boot.{has_object};
 ghost use Rattle.sk_words.specs.Reading.{Leaves};
-ghost use Rattle.sk_scenario.specs.Steps.{first_of};
+ghost use Rattle.sk_scenario.specs.Calls.{first_of};
 ghost use Rattle.sk_scenario.specs.Declarations.{nothing_declared, script as script_added, boot_fault, file, copy, process, once, declares, new_script, declared_next, says_next, line_said, SaysNext};
 
 use crate::cursor::first_word;

@@ -7,9 +7,9 @@ pub mod declarations;
 pub mod input;
 pub mod inputs;
 pub mod scenario;
-pub mod step;
+pub mod call;
 
 pub use declarations::Declarations;
 pub use input::{Open, ReadFault, read_all};
 pub use scenario::{Scenario, Section};
-pub use step::{Step, Steps};
+pub use call::{Call, Calls};

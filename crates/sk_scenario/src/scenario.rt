@@ -4,12 +4,12 @@ ghost use Rattle.std.specs.List.{list_all};
 ghost use Rattle.sk_words.specs.Reading.{read_from};
 ghost use Rattle.sk_words.specs.Reading.{Leaves};
 ghost use Rattle.sk_scenario.specs.Declarations.{Declared};
-ghost use Rattle.sk_scenario.specs.Steps.{step_line, ReadsSteps};
-ghost use Rattle.sk_scenario.specs.Whole.{is_end, ended, goes_on, section_from, scenario_from, scenario_of, Says, SaysSection, Goes, GoesOn};
+ghost use Rattle.sk_scenario.specs.Calls.{step_line, ReadsSteps};
+ghost use Rattle.sk_scenario.specs.Scenario.{is_end, ended, goes_on, section_from, scenario_from, scenario_of, Says, SaysSection, Goes, GoesOn};
 
 use crate::cursor::Cursor;
 use crate::declarations::{Declarations, Heading, Said};
-use crate::step::Steps;
+use crate::call::Calls;
 use sk_ids::Name;
 use sk_script::Script;
 use sk_words::{Block, Fault, FaultKind, Words, none};
@@ -19,7 +19,7 @@ use std::alloc::Global;
 #[derive(Drop)]
 pub enum Section {
     /// The steps in order.
-    Steps(Steps),
+    Steps(Calls),
     /// Another section, whose lines are not looked at.
     Other,
 }
@@ -52,7 +52,7 @@ impl Scenario {
         }
         Ok(Scenario {
             declarations,
-            section: Section::Steps(Steps::new(alloc)),
+            section: Section::Steps(Calls::new(alloc)),
         })
     }
 }
@@ -170,11 +170,11 @@ fn section_of(alloc: Global, heading: Heading, cursor: &mut Cursor<'_>) -> Resul
 }
 
 /// The steps of all lines that are left, or the first fault.
-fn steps(alloc: Global, cursor: &mut Cursor<'_>) -> Result<Steps, Fault>
+fn steps(alloc: Global, cursor: &mut Cursor<'_>) -> Result<Calls, Fault>
     ensures steps { ReadsSteps result (read_from step_line [] (cursor.old.line + 1) cursor.old.lines) }
     ensures left { length cursor.new.lines ≤ length cursor.old.lines }
 {
-    let mut steps = Steps::new(alloc);
+    let mut steps = Calls::new(alloc);
     while let Some(line) = cursor.next() {
         if let Err(kind) = steps.line(line) {
             return Err(cursor.fault(kind));

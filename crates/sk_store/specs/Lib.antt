@@ -1,3 +1,3 @@
-pub mod Stored
+pub mod State
 pub mod Changed
 pub mod Start

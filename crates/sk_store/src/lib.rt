@@ -4,8 +4,8 @@
 pub mod look;
 pub mod start;
 pub mod store;
-pub mod stored;
+pub mod entity_state;
 
 pub use look::Look;
 pub use store::Store;
-pub use stored::Stored;
+pub use entity_state::EntityState;

@@ -2,7 +2,7 @@
 use Rattle.std.specs.Prelude.{◌≡◌, ℕ, true, false, List, [], ◌∷◌, ◌++◌}
 use Rattle.std.proofs.Common.{refl, ap}
 use Rattle.sk_ids.specs.Tags.{has}
-use Rattle.sk_terminal.specs.declared.held.Held.{Held}
+use Rattle.sk_terminal.specs.declared.buffered_text.BufferedText.{BufferedText}
 use Rattle.sk_terminal.specs.Terminal.{is_clear, released_of, without_guess, committed_of, left_of, Begins}
 use Rattle.sk_terminal.proofs.Views.{released-yes, released-no, no_tags}
 
@@ -12,13 +12,13 @@ begins_nothing more = (more, refl)
 begins_next : (t : List ℕ) (texts more : List (List ℕ)) → Begins texts more → Begins (t ∷ texts) (t ∷ more)
 begins_next t texts more h = (h.0, ap (λ (l : List (List ℕ)). t ∷ l) h.1)
 
-clear_without : (id : ℕ) (x : Held) → is_clear x ≡ true → is_clear (without_guess id x) ≡ true
+clear_without : (id : ℕ) (x : BufferedText) → is_clear x ≡ true → is_clear (without_guess id x) ≡ true
 clear_without id x h = rw (no_tags x.tags x.text h) refl
 
-rests_not : (id : ℕ) (x : Held) → is_clear x ≡ true → has id x.tags ≡ false
+rests_not : (id : ℕ) (x : BufferedText) → is_clear x ≡ true → has id x.tags ≡ false
 rests_not id x h = rw (no_tags x.tags x.text h) refl
 
-pub stays-said : (texts : List Held) (next : Held) → Begins (released_of texts) (released_of (texts ++ next ∷ []))
+pub stays-said : (texts : List BufferedText) (next : BufferedText) → Begins (released_of texts) (released_of (texts ++ next ∷ []))
 stays-said [] next = begins_nothing _
 stays-said (x ∷ xs) next =
     elim (is_clear x) as (λ b. is_clear x ≡ b → Begins (released_of (x ∷ xs)) (released_of (x ∷ (xs ++ next ∷ [])))) [
@@ -26,7 +26,7 @@ stays-said (x ∷ xs) next =
       | false ↦ λ h. rw (released-no x xs h) (begins_nothing _)
     ] refl
 
-pub stays-committed : (texts : List Held) (id : ℕ) → Begins (released_of texts) (released_of (committed_of id texts))
+pub stays-committed : (texts : List BufferedText) (id : ℕ) → Begins (released_of texts) (released_of (committed_of id texts))
 stays-committed [] id = begins_nothing _
 stays-committed (x ∷ xs) id =
     elim (is_clear x) as (λ b. is_clear x ≡ b → Begins (released_of (x ∷ xs)) (released_of (without_guess id x ∷ committed_of id xs))) [
@@ -34,7 +34,7 @@ stays-committed (x ∷ xs) id =
       | false ↦ λ h. rw (released-no x xs h) (begins_nothing _)
     ] refl
 
-pub stays-left : (texts : List Held) (id : ℕ) → Begins (released_of texts) (released_of (left_of id texts))
+pub stays-left : (texts : List BufferedText) (id : ℕ) → Begins (released_of texts) (released_of (left_of id texts))
 stays-left [] id = begins_nothing _
 stays-left (x ∷ xs) id =
     elim (is_clear x) as (λ b. is_clear x ≡ b → Begins (released_of (x ∷ xs)) (released_of (left_of id (x ∷ xs)))) [

@@ -4,8 +4,8 @@ ghost use Rattle.std.specs.Vec.{vec_capacity};
 ghost use Rattle.std.specs.List.{prefix_len};
 ghost use Rattle.sk_terminal.specs.Terminal.{is_clear, clear, released_of, waiting_of, committed_of, left_of};
 
-use crate::Held;
-use crate::held::is_clear;
+use crate::BufferedText;
+use crate::buffered_text::is_clear;
 use sk_ids::{GuessId, TagSet, Text};
 use std::alloc::{AllocError, Global};
 use std::marker::Model;
@@ -15,7 +15,7 @@ use std::marker::Model;
 #[derive(Drop)]
 pub struct Terminal {
     released: Vec<Text>,
-    waiting: Vec<Held>,
+    waiting: Vec<BufferedText>,
 }
 
 impl Model for Terminal {
@@ -23,9 +23,9 @@ impl Model for Terminal {
     ghost use Rattle.std.specs.Vec.{vec_capacity};
     ghost use Rattle.std.specs.List.{prefix_len};
     ghost use Rattle.sk_terminal.specs.Terminal.{is_clear, clear};
-    ghost use Rattle.sk_terminal.specs.declared.held.Held.{Held};
+    ghost use Rattle.sk_terminal.specs.declared.buffered_text.BufferedText.{BufferedText};
 
-    ghost Value = { List Held };
+    ghost Value = { List BufferedText };
 
     ghost view = { λ a. map clear a.released.items ++ a.waiting.items };
 
@@ -49,7 +49,7 @@ impl Terminal {
         ensures refused { OnErr result (self.new ≡ self.old) }
     {
         self.released.reserve(self.waiting.len() + 1)?;
-        self.waiting.push(Held { text, tags })?;
+        self.waiting.push(BufferedText { text, tags })?;
         release(&mut self.released, &mut self.waiting);
         Ok(())
     }
@@ -86,7 +86,7 @@ impl Terminal {
 }
 
 /// Releases the texts before the first that rests on a guess, into room that is there.
-fn release(released: &mut Vec<Text>, waiting: &mut Vec<Held>)
+fn release(released: &mut Vec<Text>, waiting: &mut Vec<BufferedText>)
     requires { length released.old.items + length waiting.old.items ≤ vec_capacity released.old }
     ensures texts { map clear released.new.items ++ waiting.new.items ≡ map clear released.old.items ++ waiting.old.items }
     ensures held { prefix_len is_clear waiting.new.items ≡ 0 }
@@ -98,14 +98,14 @@ fn release(released: &mut Vec<Text>, waiting: &mut Vec<Held>)
 }
 
 /// How many texts stand before the first that rests on a guess.
-fn clear_count(texts: &[Held]) -> usize
+fn clear_count(texts: &[BufferedText]) -> usize
     ensures { result ≡ prefix_len is_clear texts.now }
 {
     texts.iter().take_while(|held| is_clear(held)).count()
 }
 
 /// Appends the texts, into room that is there.
-fn append(released: &mut Vec<Text>, texts: &[Held])
+fn append(released: &mut Vec<Text>, texts: &[BufferedText])
     requires { length released.old.items + length texts.now ≤ vec_capacity released.old }
     ensures texts { released.new.items ≡ released.old.items ++ map (λ held. held.text) texts.now }
     ensures room { vec_capacity released.new ≡ vec_capacity released.old }
@@ -116,7 +116,7 @@ fn append(released: &mut Vec<Text>, texts: &[Held])
 }
 
 /// Drops the first texts.
-fn drop_front(texts: &mut Vec<Held>, count: usize)
+fn drop_front(texts: &mut Vec<BufferedText>, count: usize)
     requires { count ≤ length texts.old.items }
     ensures { texts.new.items ≡ drop count texts.old.items }
 {
@@ -124,7 +124,7 @@ fn drop_front(texts: &mut Vec<Held>, count: usize)
 }
 
 /// Takes a guess from every text.
-fn take_out(texts: &mut Vec<Held>, id: GuessId)
+fn take_out(texts: &mut Vec<BufferedText>, id: GuessId)
     ensures { texts.new.items ≡ committed_of id texts.old.items }
 {
     for held in texts.iter_mut() {
@@ -133,7 +133,7 @@ fn take_out(texts: &mut Vec<Held>, id: GuessId)
 }
 
 /// Throws away the texts that rest on a guess.
-fn throw_away(texts: &mut Vec<Held>, id: GuessId)
+fn throw_away(texts: &mut Vec<BufferedText>, id: GuessId)
     ensures texts { texts.new.items ≡ left_of id texts.old.items }
     ensures fewer { length texts.new.items ≤ length texts.old.items }
 {

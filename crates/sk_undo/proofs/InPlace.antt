@@ -7,24 +7,24 @@ use Rattle.sk_ids.proofs.Entities.{entity_total}
 use Rattle.sk_objects.specs.declared.value.Value.{Value}
 use Rattle.sk_changes.specs.declared.change.Change.{Change}
 use Rattle.sk_changes.specs.Changes.{value_after}
-use Rattle.sk_store.specs.Stored.{State}
+use Rattle.sk_store.specs.State.{State}
 use Rattle.sk_store.specs.Changed.{changed}
-use Rattle.sk_store.specs.declared.stored.Stored.{Stored}
-use Rattle.sk_store.specs.declared.stored.Stored.TheVariants as stored
+use Rattle.sk_store.specs.declared.entity_state.EntityState.{EntityState}
+use Rattle.sk_store.specs.declared.entity_state.EntityState.TheVariants as stored
 use Rattle.sk_store.proofs.Puts.{insert_twice, insert_back}
 use Rattle.sk_undo.specs.Journal.{CanChangeBack, changed_back}
 
 -- what was set is read
-pub reads : (s : State) (e : Entity) (x : Stored) → get (insert s e x) e ≡ Some x
+pub reads : (s : State) (e : Entity) (x : EntityState) → get (insert s e x) e ≡ Some x
 reads s e x = get-insert entity_total s e x e ∙ ap (λ b. cond b (Some x) (get s e)) ((eq_by_cmp_equiv entity_total).refl e)
 
 -- the value after its change stands where it was
-pub put_changed : (s : State) (e : Entity) (v : Value) (hole : Stored) (c : Change) → get s e ≡ Some (stored.Value v)
+pub put_changed : (s : State) (e : Entity) (v : Value) (hole : EntityState) (c : Change) → get s e ≡ Some (stored.Value v)
     → insert (insert s e hole) e (stored.Value (value_after v c)) ≡ insert s e (changed (get s e) c)
 put_changed s e v hole c at = insert_twice s e hole _ ∙ ap (λ o. insert s e (changed o c)) (sym at)
 
 -- and what was there stands again
-pub put_same : (s : State) (e : Entity) (v : Value) (hole : Stored) → get s e ≡ Some (stored.Value v) → insert (insert s e hole) e (stored.Value v) ≡ s
+pub put_same : (s : State) (e : Entity) (v : Value) (hole : EntityState) → get s e ≡ Some (stored.Value v) → insert (insert s e hole) e (stored.Value v) ≡ s
 put_same s e v hole at = insert_back s e (stored.Value v) hole at
 
 -- what may be taken back from a value may be taken back where the value stands
@@ -32,12 +32,12 @@ pub can_change_back : (s : State) (e : Entity) (w : Value) (can : Value → Type
 can_change_back s e w can h = subst (λ o. CanChangeBack o can) (sym (reads s e (stored.Value w))) h
 
 -- the value with its change taken back stands where it was
-pub put_undone : (s : State) (e : Entity) (v : Value) (hole : Stored) (back : Value → Value) → get s e ≡ Some (stored.Value v)
+pub put_undone : (s : State) (e : Entity) (v : Value) (hole : EntityState) (back : Value → Value) → get s e ≡ Some (stored.Value v)
     → insert (insert s e hole) e (stored.Value (back v)) ≡ changed_back (get s e) s e back
 put_undone s e v hole back at = insert_twice s e hole _ ∙ ap (λ o. changed_back o s e back) (sym at)
 
 -- a change, and then what takes it back, leave what was there
-pub changed_and_back : (s : State) (e : Entity) (v w : Value) (hole : Stored) (back : Value → Value) → get s e ≡ Some (stored.Value v) → back w ≡ v
+pub changed_and_back : (s : State) (e : Entity) (v w : Value) (hole : EntityState) (back : Value → Value) → get s e ≡ Some (stored.Value v) → back w ≡ v
     → changed_back (get (insert (insert s e hole) e (stored.Value w)) e) (insert (insert s e hole) e (stored.Value w)) e back ≡ s
 changed_and_back s e v w hole back at is =
     let t = insert (insert s e hole) e (stored.Value w) in

@@ -3,7 +3,7 @@ use Rattle.std.proofs.Common.{◌≡◌, Bool, true, false, cond, ◌||◌, List
 use Rattle.std.specs.Ordering.{eq_by_cmp}
 use Rattle.std.specs.Cmp.{Equal-is}
 use Rattle.std.specs.List.{list_any}
-use Rattle.sk_record.specs.Trail.{is_in}
+use Rattle.sk_record.specs.Effects.{is_in}
 use Rattle.std.specs.Option.{is_some, option_copied}
 use Rattle.std.specs.FinMap.{get, insert, remove, get-insert, get-remove, same_map}
 use Rattle.std.proofs.lemmas.Bool.{true≢false}
@@ -11,8 +11,8 @@ use Rattle.sk_ids.specs.declared.entity.Entity.{Entity}
 use Rattle.sk_ids.specs.Entity.{entity_cmp}
 use Rattle.sk_ids.proofs.Entities.{entity_total, entity_exact}
 use Rattle.sk_changes.proofs.GoingBack.{back_push, CanGoBack-push}
-use Rattle.sk_store.specs.Stored.{State}
-use Rattle.sk_store.specs.declared.stored.Stored.{Stored}
+use Rattle.sk_store.specs.State.{State}
+use Rattle.sk_store.specs.declared.entity_state.EntityState.{EntityState}
 use Rattle.sk_undo.specs.declared.journal.PutBack.{PutBack}
 use Rattle.sk_undo.specs.Journal.{NoteView, Written, undone_by, put_back_at, CanPutBack, CanBeUndone, before, CanGoBack, noted, puts}
 
@@ -25,7 +25,7 @@ abbrev pub seen : State → List NoteView → Bool → Written
 seen s ns noting = record { now = s; before = before s ns; entities = map (λ n. n.entity) ns; noting = noting }
 
 -- a write that is noted with what puts it back is what a write is
-pub seen_noted : (s : State) (ns : List NoteView) (noting : Bool) (e : Entity) (v : Stored) (u : PutBack) → (noting ≡ false → ns ≡ []) → put_back_at (insert s e v) e u ≡ s
+pub seen_noted : (s : State) (ns : List NoteView) (noting : Bool) (e : Entity) (v : EntityState) (u : PutBack) → (noting ≡ false → ns ≡ []) → put_back_at (insert s e v) e u ≡ s
     → seen (insert s e v) (noted noting ns (record { entity = e; undo = u })) noting ≡ puts (seen s ns noting) e v
 seen_noted s ns true e v u none back =
     let n : NoteView = record { entity = e; undo = u } in
@@ -44,7 +44,7 @@ seen_noted s ns false e v u none back =
       noting = false;
     }
 
-pub can_noted : (s : State) (ns : List NoteView) (noting : Bool) (e : Entity) (v : Stored) (u : PutBack) → (noting ≡ false → ns ≡ []) → CanPutBack (insert s e v) e u → put_back_at (insert s e v) e u ≡ s
+pub can_noted : (s : State) (ns : List NoteView) (noting : Bool) (e : Entity) (v : EntityState) (u : PutBack) → (noting ≡ false → ns ≡ []) → CanPutBack (insert s e v) e u → put_back_at (insert s e v) e u ≡ s
     → CanGoBack s ns → CanGoBack (insert s e v) (noted noting ns (record { entity = e; undo = u }))
 can_noted s ns true e v u none can back h = CanGoBack-push undone_by CanBeUndone (insert s e v) ns (record { entity = e; undo = u }) can (subst (λ t. CanGoBack t ns) (sym back) h)
 can_noted s ns false e v u none can back h = subst (CanGoBack (insert s e v)) (sym (none refl)) tt
@@ -53,18 +53,18 @@ pub none_noted : (ns : List NoteView) (noting : Bool) (n : NoteView) → (noting
 none_noted ns true n none is = absurd (true≢false is)
 none_noted ns false n none is = none is
 
-gone : (q e : Entity) (m : State) (v : Stored) → get m e ≡ None → (b : Bool) → eq_by_cmp entity_cmp q e ≡ b → cond b None (cond b (Some v) (get m q)) ≡ get m q
+gone : (q e : Entity) (m : State) (v : EntityState) → get m e ≡ None → (b : Bool) → eq_by_cmp entity_cmp q e ≡ b → cond b None (cond b (Some v) (get m q)) ≡ get m q
 gone q e m v absent true is = sym (ap (get m) (entity_exact q e ((Equal-is (entity_cmp q e)).0 is)) ∙ absent)
 gone q e m v absent false is = refl
 
 -- an entity that was absent is made absent again
-pub remove_back : (m : State) (e : Entity) (v : Stored) → get m e ≡ None → remove (insert m e v) e ≡ m
+pub remove_back : (m : State) (e : Entity) (v : EntityState) → get m e ≡ None → remove (insert m e v) e ≡ m
 remove_back m e v absent = same_map entity_total entity_exact _ _ (λ q.
     get-remove entity_total (insert m e v) e q
     ∙ ap (cond (eq_by_cmp entity_cmp q e) None) (get-insert entity_total m e v q)
     ∙ gone q e m v absent (eq_by_cmp entity_cmp q e) refl)
 
-module _ (s t : State) (ns ms : List NoteView) (noting : Bool) (e : Entity) (v : Stored) (u : PutBack) where
+module _ (s t : State) (ns ms : List NoteView) (noting : Bool) (e : Entity) (v : EntityState) (u : PutBack) where
   -- a write into a state, noted with what puts it back
   abbrev pub IsNotedWrite : Type 0
   IsNotedWrite = (t ≡ insert s e v) × (ms ≡ noted noting ns (record { entity = e; undo = u })) × (put_back_at (insert s e v) e u ≡ s) × (noting ≡ false → ns ≡ [])

@@ -8,10 +8,10 @@ use Rattle.sk_objects.specs.declared.value.Value.{Value}
 use Rattle.sk_objects.specs.declared.value.Value.TheVariants as values
 use Rattle.sk_changes.specs.Changes.{CanUndo, value_undone}
 use Rattle.sk_changes.specs.Back.{back, CanGoBack as InTurn}
-use Rattle.sk_store.specs.Stored.{State}
-use Rattle.sk_store.specs.declared.stored.Stored.{Stored}
-use Rattle.sk_store.specs.declared.stored.Stored.TheVariants as stored
-use Rattle.sk_store.specs.contracts.stored.Stored as stored_row
+use Rattle.sk_store.specs.State.{State}
+use Rattle.sk_store.specs.declared.entity_state.EntityState.{EntityState}
+use Rattle.sk_store.specs.declared.entity_state.EntityState.TheVariants as stored
+use Rattle.sk_store.specs.contracts.entity_state.EntityState as stored_row
 use Rattle.sk_undo.specs.declared.journal.PutBack.{PutBack}
 use Rattle.sk_undo.specs.declared.journal.PutBack.TheVariants.{Born, Was, Changed}
 use Rattle.sk_undo.specs.contracts.journal.PutBack as put_back
@@ -49,17 +49,17 @@ journal_code = code_by (Written × ℕ) (coded× written_code coded_ℕ) (λ j. 
 -- ---- putting back
 
 -- a value with a change taken back
-abbrev pub changed_back : Option Stored → State → Entity → (Value → Value) → State
+abbrev pub changed_back : Option EntityState → State → Entity → (Value → Value) → State
 changed_back (Some (stored.Value v)) s e back = map.insert s e (stored.Value (back v))
 changed_back (Some (stored.Process p)) s e back = s
 changed_back None s e back = s
 
 -- what stands for a value while it is taken out
-abbrev pub taken_out : Stored
+abbrev pub taken_out : EntityState
 taken_out = stored.Value (values.Exit None)
 
 -- it has a value of a kernel object
-abbrev pub HasValue : Option Stored → Type 0
+abbrev pub HasValue : Option EntityState → Type 0
 HasValue (Some (stored.Value v)) = Unit {0}
 HasValue (Some (stored.Process p)) = ⊥
 HasValue None = ⊥
@@ -74,7 +74,7 @@ abbrev pub undone_by : State → NoteView → State
 undone_by s n = put_back_at s n.entity n.undo
 
 -- what a change is taken back from is there
-abbrev pub CanChangeBack : Option Stored → (Value → Type 0) → Type 0
+abbrev pub CanChangeBack : Option EntityState → (Value → Type 0) → Type 0
 CanChangeBack (Some (stored.Value v)) can = can v
 CanChangeBack (Some (stored.Process p)) can = ⊥
 CanChangeBack None can = ⊥
@@ -103,7 +103,7 @@ noted false ns n = ns
 -- ---- writing
 
 -- after one write: since a mark it is noted, and else forgotten
-abbrev pub puts : Written → Entity → Stored → Written
+abbrev pub puts : Written → Entity → EntityState → Written
 puts w e v = record {
   now = map.insert w.now e v;
   before = if w.noting then w.before else map.insert w.now e v;
@@ -111,7 +111,7 @@ puts w e v = record {
   noting = w.noting;
 }
 
-abbrev pub puts_all : Written → List (Entity × Stored) → Written
+abbrev pub puts_all : Written → List (Entity × EntityState) → Written
 puts_all w [] = w
 puts_all w (x ∷ xs) = puts_all (puts w x.0 x.1) xs
 

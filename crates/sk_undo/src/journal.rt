@@ -1,17 +1,17 @@
 //! What entities have, and what puts the writes since a mark back.
 ghost use Rattle.std.specs.Prelude.{◌≡◌, ◌<◌, ◌≤◌, ◌+◌, [], OnOk, OnErr, IsSome, IfOk, Some, false, vec_len, vec_capacity};
 ghost use Rattle.std.specs.FinMap as map;
-ghost use Rattle.sk_record.specs.Trail.{is_in};
+ghost use Rattle.sk_record.specs.Effects.{is_in};
 ghost use Rattle.sk_ids.specs.Entity.{entity_cmp};
 ghost use Rattle.sk_ids.specs.declared.entity.Entity.TheVariants.{Obj};
 ghost use Rattle.sk_store.specs.Changed.{FitsAt, changed};
 ghost use Rattle.sk_undo.specs.Journal.{written_over, puts, marked, kept, taken_back, noted, before, CanGoBack, put_back_at, CanPutBack, HasValue, taken_out};
-ghost use Rattle.sk_store.specs.declared.stored.Stored.TheVariants as Stored;
+ghost use Rattle.sk_store.specs.declared.entity_state.EntityState.TheVariants as EntityState;
 
 use sk_changes::{Change, Invertible, Undo};
 use sk_ids::{Entity, ObjId};
 use sk_objects::Value;
-use sk_store::{Look, Store, Stored};
+use sk_store::{Look, Store, EntityState};
 use std::alloc::{AllocError, Global};
 use std::cmp::Ordering;
 use std::marker::Model;
@@ -21,7 +21,7 @@ use std::marker::Model;
 pub enum PutBack {
     /// The entity was absent.
     Born,
-    Was(Stored),
+    Was(EntityState),
     Changed(Undo),
 }
 
@@ -68,7 +68,7 @@ impl Look for Journal {
 
     ghost look = { λ j. map.get j.written.now };
 
-    fn value(&self, entity: Entity) -> Option<&Stored> {
+    fn value(&self, entity: Entity) -> Option<&EntityState> {
         self.store.value(entity)
     }
 }
@@ -90,12 +90,12 @@ fn put_back(store: &mut Store, entity: &Entity, undo: PutBack)
 /// Takes a value out of the store, where a placeholder stands until it is put back.
 fn take_value(store: &mut Store, entity: &Entity) -> Value
     requires { HasValue (map.get store.old entity.now) }
-    ensures old { map.get store.old entity.now ≡ Some (Stored.Value result) }
+    ensures old { map.get store.old entity.now ≡ Some (EntityState.Value result) }
     ensures new { store.new ≡ map.insert store.old entity.now taken_out }
 {
-    match store.replace(*entity, Stored::Value(Value::Exit(None))) {
-        Stored::Value(value) => value,
-        Stored::Process(_) => unreachable!(),
+    match store.replace(*entity, EntityState::Value(Value::Exit(None))) {
+        EntityState::Value(value) => value,
+        EntityState::Process(_) => unreachable!(),
     }
 }
 
@@ -106,7 +106,7 @@ fn change_back(store: &mut Store, entity: &Entity, undo: Undo)
 {
     let mut value = take_value(store, entity);
     value.undo(undo);
-    store.replace(*entity, Stored::Value(value));
+    store.replace(*entity, EntityState::Value(value));
 }
 
 /// Puts all writes back, the newest first. This takes no memory.
@@ -146,7 +146,7 @@ fn change_in(store: &mut Store, entity: &Entity, change: Change) -> Result<Undo,
 {
     let mut value = take_value(store, entity);
     let answer = value.apply(change);
-    store.replace(*entity, Stored::Value(value));
+    store.replace(*entity, EntityState::Value(value));
     match answer {
         Ok(undo) => Ok(undo),
         Err(_) => Err(AllocError),
@@ -199,7 +199,7 @@ impl Journal {
     }
 
     /// Sets what a present entity has, for which there is room. This takes no memory.
-    pub fn set(&mut self, entity: &Entity, stored: Stored)
+    pub fn set(&mut self, entity: &Entity, stored: EntityState)
         requires there { IsSome (map.get self.old.written.now entity.now) }
         requires room { 1 ≤ self.old.room }
         ensures written { self.new.written ≡ puts self.old.written entity.now stored }
@@ -209,7 +209,7 @@ impl Journal {
     }
 
     /// Sets what an entity has. Without memory nothing has changed.
-    pub fn put(&mut self, entity: &Entity, stored: Stored) -> Result<(), AllocError>
+    pub fn put(&mut self, entity: &Entity, stored: EntityState) -> Result<(), AllocError>
         requires { 1 ≤ self.old.room }
         ensures ok { OnOk result (self.new.written ≡ puts self.old.written entity.now stored) }
         ensures room { OnOk result (self.old.room ≤ self.new.room + 1) }

@@ -3,9 +3,9 @@ ghost use Rattle.std.specs.Prelude.{OnOk, []};
 ghost use Rattle.sk_play.specs.Plays.{declared_kernel, Answered, Reported};
 ghost use Rattle.sk_report.specs.Report.{report_text};
 
-use sk_play::{Game, write_answer};
+use sk_play::{Session, write_answer};
 use sk_report::{Stop, write_report};
-use sk_scenario::{Declarations, Step};
+use sk_scenario::{Declarations, Call};
 use std::alloc::Global;
 use std::io::Write;
 
@@ -14,36 +14,36 @@ use std::io::Write;
 pub fn play<W: Write>(
     alloc: Global,
     declarations: &Declarations,
-    steps: &[Step],
+    steps: &[Call],
     out: &mut W,
 ) -> Result<(), Stop>
     ensures { OnOk result (Reported report_text steps.now [] (declared_kernel declarations.now) (W.contents out.old) (W.contents out.new)) }
 {
-    let mut game = Game::new(alloc, declarations)?;
-    let reported = report_all(alloc, &mut game, steps, out);
-    game.end();
+    let mut session = Session::new(alloc, declarations)?;
+    let reported = report_all(alloc, &mut session, steps, out);
+    session.end();
     reported
 }
 
 /// Takes the steps in order, and writes a line for each answer and then the report.
 fn report_all<W: Write>(
     alloc: Global,
-    game: &mut Game,
-    steps: &[Step],
+    session: &mut Session,
+    steps: &[Call],
     out: &mut W,
 ) -> Result<(), Stop>
-    ensures { OnOk result (Reported report_text steps.now game.old.tokens.items game.old.kernel (W.contents out.old) (W.contents out.new)) }
+    ensures { OnOk result (Reported report_text steps.now session.old.tokens.items session.old.kernel (W.contents out.old) (W.contents out.new)) }
 {
-    take_all(game, steps, out)?;
-    write_report(alloc, game.kernel(), out)
+    take_all(session, steps, out)?;
+    write_report(alloc, session.kernel(), out)
 }
 
 /// Takes the steps in order, and writes a line for each answer.
-fn take_all<W: Write>(game: &mut Game, steps: &[Step], out: &mut W) -> Result<(), Stop>
-    ensures { OnOk result (Answered steps.now game.old.tokens.items game.old.kernel game.new.tokens.items game.new.kernel (W.contents out.old) (W.contents out.new)) }
+fn take_all<W: Write>(session: &mut Session, steps: &[Call], out: &mut W) -> Result<(), Stop>
+    ensures { OnOk result (Answered steps.now session.old.tokens.items session.old.kernel session.new.tokens.items session.new.kernel (W.contents out.old) (W.contents out.new)) }
 {
     for (place, step) in steps.iter().enumerate() {
-        let answer = game.take(step)?;
+        let answer = session.execute(step)?;
         write_answer(place + 1, &answer, out)?;
     }
     Ok(())

@@ -1,7 +1,7 @@
 //! The run of the program, from its words to its status.
 ghost use Rattle.std.specs.Prelude.{◌≤◌};
 ghost use Rattle.sk_command.specs.Status.{IsOfFile};
-ghost use Rattle.sk_scenario.specs.Whole.{scenario_of};
+ghost use Rattle.sk_scenario.specs.Scenario.{scenario_of};
 ghost use Rattle.speculate.specs.Run.{Ends};
 
 use crate::playing::play;

@@ -1,7 +1,7 @@
 -- Reading the steps: what the lines before said, with those that are left, is what all lines say.
 use Rattle.std.proofs.Common.{◌≡◌, ◌+◌, ◌≤◌, [], length}
 use Rattle.sk_words.specs.Reading.{read_from}
-use Rattle.sk_scenario.specs.Steps.{step_line}
+use Rattle.sk_scenario.specs.Calls.{step_line}
 use Rattle.sk_scenario.proofs.scenario.steps.Given as goal
 
 abbrev pub invariant-loop-line : goal.invariant-loop-line

@@ -2,7 +2,7 @@
 use Rattle.std.proofs.Common.{IsSome, sym, ◌∙◌, ap, subst}
 use Rattle.std.specs.FinMap.{get, insert}
 use Rattle.sk_changes.specs.Changes.{value_undone}
-use Rattle.sk_store.specs.declared.stored.Stored.TheVariants as stored
+use Rattle.sk_store.specs.declared.entity_state.EntityState.TheVariants as stored
 use Rattle.sk_store.proofs.Puts.{set_there}
 use Rattle.sk_undo.specs.Journal.{taken_out}
 use Rattle.sk_undo.proofs.InPlace.{put_undone}

@@ -2,7 +2,7 @@
 use Rattle.std.proofs.Common.{IsSome, sym, ◌∙◌, ap, subst}
 use Rattle.std.specs.FinMap.{get, insert}
 use Rattle.sk_changes.specs.Changes.{CanUndo, value_undone}
-use Rattle.sk_store.specs.declared.stored.Stored.TheVariants as stored
+use Rattle.sk_store.specs.declared.entity_state.EntityState.TheVariants as stored
 use Rattle.sk_store.proofs.Puts.{set_there}
 use Rattle.sk_undo.specs.Journal.{taken_out, CanChangeBack, changed_back}
 use Rattle.sk_undo.proofs.InPlace.{put_changed, put_same, can_change_back, changed_and_back}

@@ -1,5 +1,5 @@
--- The game begins without tokens, at the kernel that is declared.
+-- The session begins without tokens, at the kernel that is declared.
 use Rattle.speculate.proofs.playing.play.Goals as goal
 
 pub returns : goal.returns
-returns g c = rw (c.in_ok-game.ensures.kernel, c.in_ok-game.ensures.tokens) at c.report_all-reported.ensures
+returns g c = rw (c.in_ok-session.ensures.kernel, c.in_ok-session.ensures.tokens) at c.report_all-reported.ensures

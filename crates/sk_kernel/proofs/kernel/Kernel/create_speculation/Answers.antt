@@ -3,7 +3,7 @@ use Rattle.std.proofs.Common.{◌≡◌, None, true, subst, rules}
 use Rattle.sk_guesses.specs.Guesses.{next_of}
 use Rattle.std.specs.FinMap as map
 use Rattle.sk_plain.specs.Planned.{row_effect}
-use Rattle.sk_kernel.specs.Whole.{IsWhole}
+use Rattle.sk_kernel.specs.Invariant.{IsWhole}
 use Rattle.sk_kernel.proofs.Wholes.{drawn_whole, none_pending, noting_marked}
 use Rattle.sk_kernel.proofs.kernel.Kernel.create_speculation.Goals as goal
 

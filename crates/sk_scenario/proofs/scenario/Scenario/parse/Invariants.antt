@@ -1,6 +1,6 @@
 -- What the lines that are left say, behind what is declared so far, is what the whole text says.
 use Rattle.std.proofs.Common.{◌≡◌, ◌+◌, None, length}
-use Rattle.sk_scenario.specs.Whole.{scenario_from, scenario_of}
+use Rattle.sk_scenario.specs.Scenario.{scenario_from, scenario_of}
 use Rattle.sk_scenario.proofs.scenario.Scenario.parse.Given as goal
 
 abbrev pub invariant-loop-line : goal.invariant-loop-line

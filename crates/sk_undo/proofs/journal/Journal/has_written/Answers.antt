@@ -3,7 +3,7 @@ use Rattle.std.proofs.Common.{ap, ◌∙◌, rules, tests}
 use Rattle.std.specs.Ordering.{eq_by_cmp}
 use Rattle.std.proofs.lemmas.Iterator.{YieldsList-from_slice}
 use Rattle.std.proofs.lemmas.Iterator.Search.{any_from_yields_List}
-use Rattle.sk_record.specs.Trail.{is_in}
+use Rattle.sk_record.specs.Effects.{is_in}
 use Rattle.sk_ids.specs.Entity.{entity_cmp}
 use Rattle.sk_undo.specs.Journal.{NoteView}
 use Rattle.sk_undo.proofs.Notes.{is_in_notes}

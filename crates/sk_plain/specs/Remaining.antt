@@ -1,0 +1,46 @@
+-- What is left of a record when a guess fails, read from left to right.
+use Rattle.std.specs.Prelude.{◌≡◌, ℕ, Bool, ◌||◌, List, [], ◌∷◌, Option, Some, None, Result, Ok, Err}
+use Rattle.std.specs.List.{list_any}
+use Rattle.sk_record.specs.Effects.{is_in, is_marked, hits, keep}
+use Rattle.sk_record.specs.Step.{Effect}
+use Rattle.sk_record.specs.Run.{after, outcome, effects}
+use Rattle.sk_ids.specs.declared.entity.Entity.{Entity}
+use Rattle.sk_ids.specs.Entity.{entity_cmp}
+use Rattle.sk_store.specs.State.{State}
+use Rattle.sk_plain.specs.Entry.{EntryView}
+use Rattle.sk_plain.specs.Act.{Scripts, Saying, plain}
+use Rattle.sk_plain.specs.Planned.{read_by, written_by}
+use Rattle.sk_plain.specs.declared.plan.Action.{Action}
+use Rattle.sk_store.specs.declared.entity_state.EntityState.{EntityState}
+use Rattle.sk_plain.specs.declared.refusal.Refusal.{Refusal}
+use Rattle.sk_plain.specs.declared.refusal.Refusal.TheVariants.{NoProcess, Ended, Mismatch, NeedsReply, Blocked, TooMany, TraceFull, Memory}
+
+-- whether the planned step of an entry is the guess, or reads or writes what is dirty
+abbrev pub depends : ℕ → List Entity → EntryView → Action → Bool
+depends g dirty n action =
+    is_marked n.guess g || (list_any (is_in entity_cmp dirty) (read_by n.pid n.input action) || list_any (is_in entity_cmp dirty) (written_by n.pid action))
+
+-- of the entries to come, those that neither are marked g nor touch what is dirty or becomes so
+abbrev pub remaining : Scripts → ℕ → List Entity → State → List EntryView → List EntryView
+remaining scripts g dirty s ns = keep (hits entity_cmp g dirty (effects (plain scripts) s ns)) ns
+
+-- the refusal of a step, or the first of those after it
+abbrev pub first_refusal : Result (Effect Entity EntityState Saying) Refusal → Option Refusal → Option Refusal
+first_refusal (Ok f) later = later
+first_refusal (Err why) later = Some why
+
+-- the first refusal of a record's steps
+abbrev pub refusal_in : Scripts → State → List EntryView → Option Refusal
+refusal_in scripts s [] = None
+refusal_in scripts s (n ∷ ns) = first_refusal (outcome (plain scripts) s n) (refusal_in scripts (after (plain scripts) (outcome (plain scripts) s n) s) ns)
+
+-- why a record is not read to its end: want of memory, or the first refusal of its steps
+abbrev pub EndsBy : Option Refusal → Refusal → Type 0
+EndsBy first Memory = Unit {0}
+EndsBy first NoProcess = first ≡ Some NoProcess
+EndsBy first Ended = first ≡ Some Ended
+EndsBy first Mismatch = first ≡ Some Mismatch
+EndsBy first NeedsReply = first ≡ Some NeedsReply
+EndsBy first Blocked = first ≡ Some Blocked
+EndsBy first TooMany = first ≡ Some TooMany
+EndsBy first TraceFull = first ≡ Some TraceFull

@@ -1,0 +1,108 @@
+-- What a whole scenario says: its declarations, with the scripts between them, and the section below.
+use Rattle.std.specs.Prelude.{◌≡◌, ◌≢◌, ℕ, ◌+◌, ◌-◌, Bool, false, List, [], ◌∷◌, ◌++◌, drop, Option, Some, None, Result, Ok, Err, codes, bytes_eq, if◌then◌else◌}
+use Rattle.std.specs.Str.Lines.{lines}
+use Rattle.sk_words.specs.declared.fault.FaultKind.{FaultKind}
+use Rattle.sk_words.specs.declared.fault.FaultKind.TheVariants as kinds
+use Rattle.sk_words.specs.declared.fault.Fault.{Fault}
+use Rattle.sk_words.specs.Faults.{◌>>=◌}
+use Rattle.sk_words.specs.Words.{words}
+use Rattle.sk_words.specs.Operands.{none_of}
+use Rattle.sk_words.specs.Reading.{at, read_from}
+use Rattle.sk_script.specs.declared.instruction.Instruction.{Instruction}
+use Rattle.sk_script.specs.Scripting.{script_from}
+use Rattle.sk_scenario.specs.declared.declarations.Heading.{Heading}
+use Rattle.sk_scenario.specs.declared.declarations.Heading.TheVariants as headings
+use Rattle.sk_scenario.specs.declared.declarations.Said.{Said}
+use Rattle.sk_scenario.specs.declared.declarations.Said.TheVariants as says
+use Rattle.sk_scenario.specs.declared.scenario.Section.{Section}
+use Rattle.sk_scenario.specs.declared.scenario.Section.TheVariants as sections
+use Rattle.sk_scenario.specs.declared.scenario.Scenario.{Scenario}
+use Rattle.sk_scenario.specs.declared.call.Call.{Call}
+use Rattle.sk_scenario.specs.Declarations.{Declared, nothing_declared, script, line_said}
+use Rattle.sk_scenario.specs.Calls.{first_of, step_line}
+
+-- a script that is being read: its name, the number of its first line, and its lines so far
+pub record Begun : Type 0 where
+  pub name : List ℕ
+  pub first : ℕ
+  pub lines : List (List ℕ)
+
+-- whether the first word of a line is `end`
+abbrev pub is_end_of : List (List ℕ) → Bool
+is_end_of [] = false
+is_end_of (w ∷ ws) = bytes_eq w (codes "end")
+
+abbrev pub is_end : List ℕ → Bool
+is_end line = is_end_of (words line)
+
+-- what is declared with a script that ends with this line, behind whose first word nothing stands
+abbrev pub ended : Declared → List ℕ → List Instruction → List ℕ → Result Declared FaultKind
+ended d name instructions line = none_of (drop 1 (words line)) >>= λ u. script d name instructions
+
+-- what is said where a script's lines are sound
+abbrev pub with_script : Result (List Instruction) Fault → (List Instruction → Result Scenario Fault) → Result Scenario Fault
+with_script (Ok instructions) rest = rest instructions
+with_script (Err f) rest = Err f
+
+-- the line of this number ends the script
+abbrev pub script_ends : Declared → Begun → ℕ → List ℕ → (Declared → Result Scenario Fault) → Result Scenario Fault
+script_ends d b number line rest = with_script (script_from b.first b.lines) (λ is. at number (ended d b.name is line) rest)
+
+-- no line ends the script: that is a fault of the last line, behind any other
+abbrev pub script_unended : Begun → ℕ → Result Scenario Fault
+script_unended b last = with_script (script_from b.first b.lines) (λ is. Err (record { line = last; kind = kinds.Word }))
+
+abbrev pub with_steps : Declared → Result (List Call) Fault → Result Scenario Fault
+with_steps d (Ok steps) = Ok (record { declarations = d; section = sections.Steps steps })
+with_steps d (Err f) = Err f
+
+-- the section below a heading
+abbrev pub section_from : Declared → Heading → ℕ → List (List ℕ) → Result Scenario Fault
+section_from d headings.Steps first ls = with_steps d (read_from step_line [] first ls)
+section_from d headings.World first ls = Ok (record { declarations = d; section = sections.Other })
+section_from d headings.Trace first ls = Ok (record { declarations = d; section = sections.Other })
+
+-- what a line said, of which the next line has this number, and what the lines behind it say then
+abbrev pub goes_on : Said → Declared → ℕ → List (List ℕ) → (Option Begun → Result Scenario Fault) → Result Scenario Fault
+goes_on says.Declared d next ls rest = rest None
+goes_on (says.Script name) d next ls rest = rest (Some (record { name = name; first = next; lines = [] }))
+goes_on (says.Heading heading) d next ls rest = section_from d heading next ls
+
+-- the script that is being read, with one line more
+abbrev pub more : Begun → List ℕ → Begun
+more b line = record b { lines = b.lines ++ line ∷ [] }
+
+-- the lines in turn, the first of which has this number; without a section there are no steps
+abbrev pub scenario_from : Declared → Option Begun → ℕ → List (List ℕ) → Result Scenario Fault
+scenario_from d None number [] = Ok (record { declarations = d; section = sections.Steps [] })
+scenario_from d (Some b) number [] = script_unended b (number - 1)
+scenario_from d None number (l ∷ ls) = at number (line_said d (first_of (words l))) (λ x. goes_on x.0 x.1 (number + 1) ls (λ begun. scenario_from x.1 begun (number + 1) ls))
+scenario_from d (Some b) number (l ∷ ls) =
+    if is_end l then script_ends d b number l (λ e. scenario_from e None (number + 1) ls) else scenario_from d (Some (more b l)) (number + 1) ls
+
+-- the scenario of a text
+abbrev pub scenario_of : List ℕ → Result Scenario Fault
+scenario_of text = scenario_from nothing_declared None 1 (lines text)
+
+-- the scenario, or its first fault, unless memory ran out
+abbrev pub Says : Result Scenario Fault → Result Scenario Fault → Type 0
+Says (Ok s) said = said ≡ Ok s
+Says (Err f) said = f.kind ≢ kinds.Memory → said ≡ Err f
+
+-- ---- what functions answer, in these words
+
+-- what was said is what the rest says, or a fault, unless memory ran out
+abbrev pub Goes : Result (Unit {0}) Fault → Result Scenario Fault → Result Scenario Fault → Type 0
+Goes (Ok u) said rest = said ≡ rest
+Goes (Err f) said rest = f.kind ≢ kinds.Memory → said ≡ Err f
+
+-- the same where a section may end the scenario
+abbrev pub GoesOn : Result (Option Section) Fault → Result Scenario Fault → Declared → Result Scenario Fault → Type 0
+GoesOn (Ok None) said d rest = said ≡ rest
+GoesOn (Ok (Some section)) said d rest = said ≡ Ok (record { declarations = d; section = section })
+GoesOn (Err f) said d rest = f.kind ≢ kinds.Memory → said ≡ Err f
+
+-- a section, or a fault, unless memory ran out
+abbrev pub SaysSection : Result Section Fault → Result Scenario Fault → Declared → Type 0
+SaysSection (Ok section) said d = said ≡ Ok (record { declarations = d; section = section })
+SaysSection (Err f) said d = f.kind ≢ kinds.Memory → said ≡ Err f

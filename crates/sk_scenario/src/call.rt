@@ -1,0 +1,126 @@
+//! What the lines of a section of steps say.
+ghost use Rattle.std.specs.Prelude.{◌≡◌, []};
+ghost use Rattle.sk_words.specs.Operands.{one_of, positive};
+ghost use Rattle.sk_words.specs.Reading.{Leaves};
+ghost use Rattle.sk_scenario.specs.Calls.{entry, step, step_line, with_said};
+
+use crate::cursor::first_word;
+use crate::inputs::input;
+use sk_ids::{GuessId, Pid};
+use sk_script::Input;
+use sk_words::{FaultKind, Operand, Positive, Words, closed, next_word, one};
+use std::alloc::Global;
+use std::marker::Model;
+
+/// One call of the kernel.
+#[derive(Clone, Copy, Debug, PartialEq, Eq)]
+pub enum Call {
+    Step(Pid, Input),
+    Guess(Pid, Input),
+    Commit(GuessId),
+    Fail(GuessId),
+}
+
+/// A process and the input of its step.
+#[tactic(auto, unfolding(crate::specs::Calls::entry))]
+fn entry(words: &Words) -> Result<(Pid, Input), FaultKind>
+    ensures { result ≡ entry words.now }
+{
+    let mut words = closed(words)?;
+    let pid = next_word(&mut words)?;
+    let input = input(&words)?;
+    let pid = Operand::read(pid)?;
+    Ok((pid, input))
+}
+
+/// The guess that one word says.
+fn guess(words: &Words) -> Result<GuessId, FaultKind>
+    ensures { result ≡ one_of positive words.now }
+{
+    let number: Positive = one(words)?;
+    Ok(GuessId::new(number.get()))
+}
+
+/// The steps of a section, in order.
+#[derive(Drop)]
+pub struct Calls {
+    steps: Vec<Call>,
+}
+
+impl Model for Calls {
+    ghost use Rattle.std.specs.Prelude.{List};
+    ghost use Rattle.sk_scenario.specs.declared.call.Call.{Call};
+
+    ghost Value = { List Call };
+
+    ghost view = { λ s. s.steps.items };
+}
+
+impl Calls {
+    /// No step.
+    pub fn new(alloc: Global) -> Calls
+        ensures { result ≡ [] }
+    {
+        Calls {
+            steps: Vec::new(alloc),
+        }
+    }
+
+    /// The steps.
+    pub fn as_slice(&self) -> &[Call]
+        ensures { result.now ≡ self.now }
+    {
+        &self.steps
+    }
+
+    /// Adds what a line says.
+    pub fn line(&mut self, line: &[u8]) -> Result<(), FaultKind>
+        ensures { Leaves result (step_line self.old line.now) self.new }
+    {
+        match first_word(line) {
+            Some((first, words)) => self.add_in(first, &words),
+            None => Ok(()),
+        }
+    }
+
+    /// Adds what a line says whose first word these bytes are.
+    fn add_in(&mut self, word: &[u8], words: &Words) -> Result<(), FaultKind>
+        ensures { Leaves result (with_said self.old (step word.now words.now)) self.new }
+    {
+        match str::from_utf8(word) {
+            Ok(word) => self.add(word, words),
+            Err(_) => Err(FaultKind::Word),
+        }
+    }
+
+    /// Adds what a line says whose first word this is.
+    #[tactic(auto, unfolding(crate::specs::Calls::step))]
+    fn add(&mut self, word: &str, words: &Words) -> Result<(), FaultKind>
+        ensures { Leaves result (with_said self.old (step word.now words.now)) self.new }
+    {
+        match word {
+            "step" => {
+                let (pid, input) = entry(words)?;
+                self.steps.reserve(1)?;
+                self.steps.push_reserved(Call::Step(pid, input));
+            }
+            "guess" => {
+                let (pid, input) = entry(words)?;
+                self.steps.reserve(1)?;
+                self.steps.push_reserved(Call::Guess(pid, input));
+            }
+            "commit" => {
+                let id = guess(words)?;
+                self.steps.reserve(1)?;
+                self.steps.push_reserved(Call::Commit(id));
+            }
+            "fail" => {
+                let id = guess(words)?;
+                self.steps.reserve(1)?;
+                self.steps.push_reserved(Call::Fail(id));
+            }
+            _ => return Err(FaultKind::Word),
+        }
+        Ok(())
+    }
+}

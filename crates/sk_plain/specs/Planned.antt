@@ -6,7 +6,7 @@ use Rattle.sk_ids.specs.declared.entity.Entity.TheVariants.{Proc, Sig, Exit, Obj
 use Rattle.sk_objects.specs.declared.value.Value.TheVariants as values
 use Rattle.sk_script.specs.declared.instruction.Input.{Input}
 use Rattle.sk_script.specs.declared.instruction.Input.TheVariants as inputs
-use Rattle.sk_plain.specs.Act.{Steps, Saying}
+use Rattle.sk_plain.specs.Act.{StepTree, Saying}
 use Rattle.sk_store.specs.Changed.{changed, FitsAt}
 use Rattle.sk_store.specs.declared.entity_state.EntityState.{EntityState}
 use Rattle.sk_store.specs.declared.entity_state.EntityState.TheVariants as stored
@@ -62,7 +62,7 @@ rowed look pid (Ok plan) = Ok (row_effect look pid plan)
 rowed look pid (Err why) = Err why
 
 -- a plan is that of a row of the table, looked up here
-abbrev pub PlansRow : (Entity → Option EntityState) → ℕ → Steps → Result Plan Refusal → Type 0
+abbrev pub PlansRow : (Entity → Option EntityState) → ℕ → StepTree → Result Plan Refusal → Type 0
 PlansRow look pid row result = perform look row ≡ rowed look pid result
 
 -- the signals of the process are read by a step without input

@@ -2,6 +2,7 @@
 use Rattle.std.proofs.Common.{◌≡◌, ℕ, Bool, true, not, ◌&&◌, List, [], ◌∷◌, ◌++◌, Ok, Err, refl, sym, ◌∙◌, ap, subst}
 use Rattle.std.specs.Prelude.{◌↔◌, is_ok}
 use Rattle.std.specs.Cmp.{IsTotalOrder}
+use Rattle.std.specs.List.Sorted.{IsStrictlyIncreasing}
 use Rattle.std.specs.FinMap.{FinMap, get, IsAntisymmetric}
 use Rattle.std.proofs.lemmas.Bool.{false≢true}
 use Rattle.std.proofs.lemmas.List.Sums.{fold-append}
@@ -19,6 +20,7 @@ use Rattle.sk_record.proofs.UndoStates.{and_both, took, failed, committed_still,
 use Rattle.sk_record.proofs.Tidy.{recorded_more, tags_are}
 use Rattle.sk_record.proofs.Sound.{each_event, sound_first, sound_taken, sound_commit, sound_fail, entries_are, undecided_is, accepted_last, fresh_from, in_entries, marked_is}
 use Rattle.sk_record.proofs.Status.{status_taken, status_commit, status_fail, rests_are, none_yet}
+use Rattle.sk_record.proofs.Undecided.{undecided_rises}
 use Rattle.sk_record.proofs.Texts.{texts_took, texts_committed, texts_failed}
 use Rattle.sk_record.proofs.Released.{release_is, texts_are}
 use Rattle.sk_record.proofs.Struck.{struck_runs}
@@ -100,6 +102,8 @@ module _ {E V W F N : Type 0} (K : System E V W F N) (total : IsTotalOrder K.ord
     values = λ e. s.state.look e ∙ ap (λ ns. get (run K start ns) e) (entries_are K start es);
     tags = exact_tags es m s;
     statuses = s.statuses;
+    opens = s.state.guesses;
+    rising = subst IsStrictlyIncreasing (sym s.state.guesses) (undecided_rises K start es s.sound);
     texts = texts_are K total exact start es m.texts s.texts;
     releases = release_is K total exact start es s.sound m.texts s.texts;
   }

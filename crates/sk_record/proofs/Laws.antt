@@ -9,7 +9,7 @@ use Rattle.sk_record.specs.Strike.{struck, strike}
 use Rattle.sk_record.specs.Trace.{Commit, Fail, record_of, effects_of, all_recorded, no_record, undecided_of}
 use Rattle.sk_record.specs.UndoState.{log_of}
 use Rattle.sk_record.specs.Machine.{Machine, machine_after, machine_at_start, moved}
-use Rattle.sk_record.specs.Laws.{StruckWithin, OneStatus, Survivors, TagsAlong, LogsAreRuns, NotesAreSuffix, UnwindsToStruckRun, CommitKeeps, StaysReleased, Headline}
+use Rattle.sk_record.specs.Laws.{StruckWithin, OneStatus, UndecidedAre, Survivors, TagsAlong, LogsAreRuns, NotesAreSuffix, UnwindsToStruckRun, CommitKeeps, StaysReleased, Headline}
 use Rattle.sk_record.proofs.Chains.{slice_get-keep}
 use Rattle.sk_record.proofs.Machine.{unwound_run, cut_run}
 use Rattle.sk_record.proofs.UndoStates.{inv_of}
@@ -19,6 +19,7 @@ use Rattle.sk_record.proofs.Headline as machine
 use Rattle.sk_record.proofs.Tags.{carried_split, cut_none}
 use Rattle.sk_record.proofs.Kept as kept
 use Rattle.sk_record.proofs.Status as status
+use Rattle.sk_record.proofs.Undecided.{undecided_rises}
 use Rattle.sk_record.proofs.Released as released
 use Rattle.sk_record.proofs.Stays as stays
 pub use Rattle.sk_record.proofs.Struck.{flags, footprint, struck_runs, later, later_dep}
@@ -29,6 +30,9 @@ module _ {E V W F N : Type 0} (K : System E V W F N) (total : IsTotalOrder K.ord
 
   pub one_status : OneStatus K
   one_status start es g sound = status.one_status K start es sound g
+
+  pub undecided_are : UndecidedAre K
+  undecided_are start es sound = (undecided_is K start es sound, undecided_rises K start es sound)
 
   pub survivors : Survivors K
   survivors start es c k sound =

@@ -12,6 +12,7 @@ pub mod UndoStates
 pub mod Tidy
 pub mod Sound
 pub mod Status
+pub mod Undecided
 pub mod Texts
 pub mod Released
 pub mod Headline

@@ -1,30 +1,35 @@
 -- Lists of entities as sets, and writes to a map.
-use Rattle.std.proofs.Common.{◌≡◌, Bool, false, cond, List, [], ◌∷◌, ◌++◌, map, Some, refl, sym, ◌∙◌, ap}
+use Rattle.std.proofs.Common.{◌≡◌, Bool, false, cond, List, [], ◌∷◌, ◌++◌, map, Option, Some, None, refl, sym, ◌∙◌, ap}
 use Rattle.std.specs.List.{list_any}
 use Rattle.std.specs.declared.cmp.Ordering.{Ordering}
 use Rattle.std.specs.Ordering.{eq_by_cmp}
 use Rattle.std.specs.Cmp.{IsTotalOrder}
-use Rattle.std.specs.FinMap.{FinMap, get, insert, get-insert}
+use Rattle.std.specs.FinMap.{FinMap, get, get-insert, get-remove}
 use Rattle.std.proofs.lemmas.Bool.{or_parts}
 use Rattle.std.proofs.lemmas.List.Folds.{list_any-append}
 use Rattle.sk_record.specs.Effects.{is_in}
-use Rattle.sk_record.specs.Run.{put_all}
+use Rattle.sk_record.specs.Run.{put, put_all}
 
 -- the test of a joined list, where it fails
 pub none_of_both : {A : Type 0} (p : A → Bool) (xs ys : List A) → list_any p (xs ++ ys) ≡ false → (list_any p xs ≡ false) × (list_any p ys ≡ false)
 none_of_both p xs ys h = or_parts _ _ (sym (list_any-append p xs ys) ∙ h)
 
 module _ {E V : Type 0} {R : E → E → Ordering} (total : IsTotalOrder R) where
+  -- what is read after a write
+  pub get-put : (s : FinMap R V) (e : E) (o : Option V) (q : E) → get (put s e o) q ≡ cond (eq_by_cmp R q e) o (get s q)
+  get-put s e (Some v) q = get-insert total s e v q
+  get-put s e None q = get-remove total s e q
+
   -- writes leave every other entity
-  pub get-put_all_other : (ws : List (E × V)) (s : FinMap R V) (e : E) → is_in R (map (λ w. w.0) ws) e ≡ false → get (put_all ws s) e ≡ get s e
+  pub get-put_all_other : (ws : List (E × Option V)) (s : FinMap R V) (e : E) → is_in R (map (λ w. w.0) ws) e ≡ false → get (put_all ws s) e ≡ get s e
   get-put_all_other [] s e h = refl
   get-put_all_other (w ∷ ws) s e h =
       let parts = or_parts _ _ h in
-      get-put_all_other ws (insert s w.0 w.1) e parts.1 ∙ get-insert total s w.0 w.1 e ∙ ap (λ b. cond b (Some w.1) (get s e)) parts.0
+      get-put_all_other ws (put s w.0 w.1) e parts.1 ∙ get-put s w.0 w.1 e ∙ ap (λ b. cond b w.1 (get s e)) parts.0
 
   -- the same writes keep what is equal before them
-  pub get-put_all_same : (ws : List (E × V)) (s t : FinMap R V) (e : E) → get s e ≡ get t e → get (put_all ws s) e ≡ get (put_all ws t) e
+  pub get-put_all_same : (ws : List (E × Option V)) (s t : FinMap R V) (e : E) → get s e ≡ get t e → get (put_all ws s) e ≡ get (put_all ws t) e
   get-put_all_same [] s t e h = h
   get-put_all_same (w ∷ ws) s t e h =
-      get-put_all_same ws (insert s w.0 w.1) (insert t w.0 w.1) e
-      (get-insert total s w.0 w.1 e ∙ ap (cond (eq_by_cmp R e w.0) (Some w.1)) h ∙ sym (get-insert total t w.0 w.1 e))
+      get-put_all_same ws (put s w.0 w.1) (put t w.0 w.1) e
+      (get-put s w.0 w.1 e ∙ ap (cond (eq_by_cmp R e w.0) w.1) h ∙ sym (get-put t w.0 w.1 e))

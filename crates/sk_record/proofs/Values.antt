@@ -5,12 +5,13 @@ use Rattle.std.specs.List.{list_any}
 use Rattle.std.specs.declared.cmp.Ordering.{Ordering}
 use Rattle.std.specs.Ordering.{eq_by_cmp}
 use Rattle.std.specs.Cmp.{IsTotalOrder, eq_by_cmp_equiv}
-use Rattle.std.specs.FinMap.{FinMap, get, insert, get-insert}
+use Rattle.std.specs.FinMap.{FinMap, get}
+use Rattle.sk_record.proofs.Sets.{get-put}
 use Rattle.std.proofs.lemmas.Bool.{or_parts, or_left, or_right, true≢false, or_from, false_from_ne_true}
 use Rattle.std.proofs.lemmas.List.Folds.{list_any-append}
 use Rattle.sk_record.specs.Step.{Effect}
 use Rattle.sk_record.specs.Effects.{MarkedEffect, is_in, hit, hits, dirtied, keep, writes, touches, written_value, value_after}
-use Rattle.sk_record.specs.Run.{System, put_all, outcome, after, run, marked_effect, effects}
+use Rattle.sk_record.specs.Run.{System, put, put_all, outcome, after, run, marked_effect, effects}
 
 module _ {E : Type 0} {R : E → E → Ordering} (total : IsTotalOrder R) where
   -- entities that compare alike are in the same lists
@@ -28,15 +29,15 @@ module _ {E : Type 0} {R : E → E → Ordering} (total : IsTotalOrder R) where
       ] refl here
 
 module _ {E V : Type 0} (R : E → E → Ordering) where
-  pub written_other : (ws : List (E × V)) (e : E) (v : Option V) → is_in R (map (λ w. w.0) ws) e ≡ false → written_value R ws e v ≡ v
+  pub written_other : (ws : List (E × Option V)) (e : E) (v : Option V) → is_in R (map (λ w. w.0) ws) e ≡ false → written_value R ws e v ≡ v
   written_other [] e v none = refl
   written_other (w ∷ ws) e v none =
       let parts = or_parts _ _ none in
-      ap (λ b. written_value R ws e (cond b (Some w.1) v)) parts.0 ∙ written_other ws e v parts.1
+      ap (λ b. written_value R ws e (cond b w.1 v)) parts.0 ∙ written_other ws e v parts.1
 
-  pub get-put_all : IsTotalOrder R → (ws : List (E × V)) (s : FinMap R V) (e : E) → get (put_all ws s) e ≡ written_value R ws e (get s e)
+  pub get-put_all : IsTotalOrder R → (ws : List (E × Option V)) (s : FinMap R V) (e : E) → get (put_all ws s) e ≡ written_value R ws e (get s e)
   get-put_all total [] s e = refl
-  get-put_all total (w ∷ ws) s e = get-put_all total ws (insert s w.0 w.1) e ∙ ap (written_value R ws e) (get-insert total s w.0 w.1 e)
+  get-put_all total (w ∷ ws) s e = get-put_all total ws (put s w.0 w.1) e ∙ ap (written_value R ws e) (get-put total s w.0 w.1 e)
 
   module _ {W : Type 0} where
     -- the position is struck, and writes the entity

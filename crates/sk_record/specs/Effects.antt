@@ -8,7 +8,7 @@ use Rattle.std.specs.Ordering.{eq_by_cmp}
 pub record MarkedEffect (E V W : Type 0) : Type 0 where
   pub mark : Option ℕ
   pub read : List (E × Option V)
-  pub written : List (E × V)
+  pub written : List (E × Option V)
   pub said : Option W
 
 module _ {E V W : Type 0} where
@@ -88,9 +88,9 @@ module _ {E : Type 0} (R : E → E → Ordering) where
 
 module _ {E V : Type 0} (R : E → E → Ordering) where
   -- the entity's value after these writes
-  abbrev pub written_value : List (E × V) → E → Option V → Option V
+  abbrev pub written_value : List (E × Option V) → E → Option V → Option V
   written_value [] e v = v
-  written_value (w ∷ ws) e v = written_value ws e (if eq_by_cmp R e w.0 then Some w.1 else v)
+  written_value (w ∷ ws) e v = written_value ws e (if eq_by_cmp R e w.0 then w.1 else v)
 
   module _ {W : Type 0} where
     -- and after these steps

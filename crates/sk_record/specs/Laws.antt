@@ -1,6 +1,7 @@
 -- The laws, as statements. Positions, guesses and terminals are any numbers here: where a record has no such position, guess or text, both sides of a law say so.
 use Rattle.std.specs.Prelude.{◌≡◌, ℕ, ◌<◌, true, false, List, [], ◌∷◌, ◌++◌, map, take, Some, Ok, slice_get, ◌↔◌}
 use Rattle.std.specs.List.{list_any, list_all, Contains}
+use Rattle.std.specs.List.Sorted.{IsStrictlyIncreasing}
 use Rattle.std.specs.FinMap.{FinMap, get}
 use Rattle.sk_record.specs.Step.{Effect}
 use Rattle.sk_record.specs.Effects.{MarkedEffect, IsMarked, Dep, writes, keep, place}
@@ -76,6 +77,12 @@ module _ {E V W F N : Type 0} (K : System E V W F N) where
   OneStatus =
       (start : FinMap K.order V) (es : List (Event N)) (g : ℕ) → IsSound K start es
       → (IsDrawn K es g ↔ ((s : Status) × StatusIs K start es g s)) × ((s t : Status) → StatusIs K start es g s → StatusIs K start es g t → s ≡ t)
+
+  -- the undecided guesses that are computed along a trace are those by the definition, each once, by rising number
+  abbrev pub UndecidedAre : Type 0
+  UndecidedAre =
+      (start : FinMap K.order V) (es : List (Event N)) → IsSound K start es
+      → ((g : ℕ) → (has g (undecided_of K start es) ≡ true) ↔ StatusIs K start es g Undecided) × IsStrictlyIncreasing (undecided_of K start es)
 
   -- after a failure each position that is left has the reads, writes, text and tags that it had
   abbrev pub Survivors : Type 0

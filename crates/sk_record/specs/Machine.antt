@@ -1,14 +1,15 @@
 -- The machine: a kernel in place, which unions tags, keeps notes, commits and unwinds, runs no step again and has no record.
 use Rattle.std.specs.Prelude.{◌≡◌, ℕ, Bool, true, ◌&&◌, ◌==◌, not, List, [], ◌∷◌, ◌++◌, map, Option, Some, None, Result, Ok, Err, if◌then◌else◌, ◌↔◌}
 use Rattle.std.specs.List.{filter, list_any, fold}
+use Rattle.std.specs.List.Sorted.{IsStrictlyIncreasing}
 use Rattle.std.specs.FinMap.{FinMap, get}
 use Rattle.sk_record.specs.Step.{Effect, perform}
 use Rattle.sk_record.specs.Effects.{is_in, writes, written_value}
 use Rattle.sk_record.specs.Run.{System, marked_effect, run, effects}
 use Rattle.sk_record.specs.Notes.{has, without, noted, cut, unwound, committed, tags_along}
-use Rattle.sk_record.specs.Trace.{Event, Taken, Commit, Fail, Status, Undecided, Committed, Failed, Struck, StatusIs, IsTagOf, IsSound, record_of, Record, all_recorded, no_record}
+use Rattle.sk_record.specs.Trace.{Event, Taken, Commit, Fail, Status, Undecided, Committed, Failed, Struck, StatusIs, IsTagOf, IsSound, record_of, undecided_of, Record, all_recorded, no_record}
 use Rattle.sk_record.specs.Release.{said, said_by, said_with, IsReleased}
-use Rattle.sk_record.specs.UndoState.{Open, UndoState, tags_at, step_tags, opened, still_open, not_struck, Took, Committed as CommittedState, Failed as FailedState, Represents}
+use Rattle.sk_record.specs.UndoState.{Open, UndoState, numbers, tags_at, step_tags, opened, still_open, not_struck, Took, Committed as CommittedState, Failed as FailedState, Represents}
 
 -- a text that was said, with the guesses that it rests on
 abbrev pub Tagged : Type 0 → Type 0
@@ -131,6 +132,9 @@ module _ {E V W F N : Type 0} (K : System E V W F N) (start : FinMap K.order V) 
     pub tags : (e : E) (g : ℕ) → (has g (tags_at m.state e) ≡ true) ↔ IsTagOf K start es e g
     -- each guess has its status
     pub statuses : (g : ℕ) (s : Status) → (m.status g ≡ Some s) ↔ StatusIs K start es g s
+    -- its open guesses are the undecided ones, each once, by rising number
+    pub opens : numbers m.state.opens ≡ undecided_of K start es
+    pub rising : IsStrictlyIncreasing (numbers m.state.opens)
     -- to each terminal it says what the record says to it
     pub texts : (t : ℕ) → map (λ x. x.0) (m.texts t) ≡ map (λ x. x.0) (said K start es t)
     -- and has released the longest prefix of that which depends on no undecided guess

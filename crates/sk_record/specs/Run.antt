@@ -1,14 +1,19 @@
 -- The plain kernel: runs of entries over a finite map from entities to values.
-use Rattle.std.specs.Prelude.{ℕ, List, [], ◌∷◌, Option, None, Result, Ok, Err, IsOk}
+use Rattle.std.specs.Prelude.{ℕ, List, [], ◌∷◌, Option, Some, None, Result, Ok, Err, IsOk}
 use Rattle.std.specs.declared.cmp.Ordering.{Ordering}
-use Rattle.std.specs.FinMap.{FinMap, get, insert}
+use Rattle.std.specs.FinMap.{FinMap, get, insert, remove}
 use Rattle.sk_record.specs.Step.{Step, Effect, perform}
 use Rattle.sk_record.specs.Effects.{MarkedEffect}
 
+-- the map after one write, which sets what an entity has, or makes it absent
+abbrev pub put : {E V : Type 0} {R : E → E → Ordering} → FinMap R V → E → Option V → FinMap R V
+put s e (Some v) = insert s e v
+put s e None = remove s e
+
 -- the map after these writes
-abbrev pub put_all : {E V : Type 0} {R : E → E → Ordering} → List (E × V) → FinMap R V → FinMap R V
+abbrev pub put_all : {E V : Type 0} {R : E → E → Ordering} → List (E × Option V) → FinMap R V → FinMap R V
 put_all [] s = s
-put_all (w ∷ ws) s = put_all ws (insert s w.0 w.1)
+put_all (w ∷ ws) s = put_all ws (put s w.0 w.1)
 
 -- a kernel: its entities' order, what an entry's step is, the guess that it is marked with, and the terminal that a text is said to
 pub record System (E V W F N : Type 0) : Type 0 where

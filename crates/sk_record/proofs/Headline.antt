@@ -19,7 +19,7 @@ use Rattle.sk_record.proofs.Machine.{has_filter}
 use Rattle.sk_record.proofs.UndoStates.{and_both, took, failed, committed_still, begins}
 use Rattle.sk_record.proofs.Tidy.{recorded_more, tags_are}
 use Rattle.sk_record.proofs.Sound.{each_event, sound_first, sound_taken, sound_commit, sound_fail, entries_are, undecided_is, accepted_last, fresh_from, in_entries, marked_is}
-use Rattle.sk_record.proofs.Status.{status_taken, status_commit, status_fail, rests_are, none_yet}
+use Rattle.sk_record.proofs.Statuses.{status_taken, status_commit, status_fail, rests_are, none_yet}
 use Rattle.sk_record.proofs.Undecided.{undecided_rises}
 use Rattle.sk_record.proofs.Texts.{texts_took, texts_committed, texts_failed}
 use Rattle.sk_record.proofs.Released.{release_is, texts_are}

@@ -18,7 +18,7 @@ use Rattle.sk_record.proofs.Sound.{entries_are, record_more, sound_before, sound
 use Rattle.sk_record.proofs.Headline as machine
 use Rattle.sk_record.proofs.Tags.{carried_split, cut_none}
 use Rattle.sk_record.proofs.Kept as kept
-use Rattle.sk_record.proofs.Status as status
+use Rattle.sk_record.proofs.Statuses as status
 use Rattle.sk_record.proofs.Undecided.{undecided_rises}
 use Rattle.sk_record.proofs.Released as released
 use Rattle.sk_record.proofs.Stays as stays

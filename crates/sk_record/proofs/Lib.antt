@@ -11,7 +11,7 @@ pub mod Output
 pub mod UndoStates
 pub mod Tidy
 pub mod Sound
-pub mod Status
+pub mod Statuses
 pub mod Undecided
 pub mod Texts
 pub mod Released

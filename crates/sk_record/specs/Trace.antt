@@ -6,19 +6,14 @@ use Rattle.sk_record.specs.Effects.{MarkedEffect, Dep, is_in, is_marked, dirt, w
 use Rattle.sk_record.specs.Run.{System, IsLegal, effects}
 use Rattle.sk_record.specs.Strike.{strike}
 use Rattle.sk_record.specs.Notes.{has, without}
+pub use Rattle.sk_record.specs.declared.status.Status.{Status}
+pub use Rattle.sk_record.specs.declared.status.Status.TheVariants.{Undecided, Committed, Failed, Struck}
 
 -- what happens: the step of an entry, which is a guess where the entry is marked; the commit of a guess; its failure
 pub data Event (N : Type 0) : Type 0 where
   Taken : (entry : N) → Event N
   Commit : (guess : ℕ) → Event N
   Fail : (guess : ℕ) → Event N
-
--- what became of a guess
-pub data Status : Type 0 where
-  Undecided : Status
-  Committed : Status
-  Failed : Status
-  Struck : Status
 
 module _ {E V W F N : Type 0} (K : System E V W F N) where
   -- the record has the entry marked g

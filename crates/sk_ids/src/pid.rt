@@ -1,5 +1,6 @@
 //! Identifiers of processes, which are paths, and of objects.
-ghost use Rattle.std.specs.Prelude.{◌≡◌, ◌+◌, ◌*◌, ◌/◌, ◌%◌, ◌^◌, ◌<◌, ◌≤◌, ◌↔◌, IsSome, IfSome};
+ghost use Rattle.std.specs.Prelude.{◌≡◌, ℕ, ◌+◌, ◌*◌, ◌/◌, ◌%◌, ◌^◌, ◌<◌, ◌≤◌, ◌↔◌, Some, IsSome, IfSome};
+ghost use Rattle.sk_ids.specs.Pid.{IsPath, boot_pid, child_pid};
 
 use std::marker::Model;
 
@@ -25,8 +26,7 @@ impl Model for Pid {
 impl Pid {
     /// The boot process of this number, from 1 to 65,535.
     pub fn boot(number: u16) -> Option<Pid>
-        ensures some { IsSome result ↔ (0 < number) }
-        ensures value { IfSome result (λ p. p ≡ number) }
+        ensures { result ≡ boot_pid number }
     {
         if number == 0 {
             return None;
@@ -38,8 +38,7 @@ impl Pid {
 
     /// The process's child of this number; `None` for 0, and at level four.
     pub fn child(self, number: u16) -> Option<Pid>
-        ensures some { IsSome result ↔ ((self < 2 ^ 48) × (0 < number)) }
-        ensures value { IfSome result (λ p. p ≡ self * 65536 + number) }
+        ensures { result ≡ child_pid self number }
     {
         if number == 0 || self.path >= 1 << 48 {
             return None;
@@ -77,6 +76,14 @@ impl Pid {
         })
     }
 }
+
+/// No two boot processes have one identifier, nor two children, nor a boot process and a child.
+pub fn identifiers_differ()
+    ensures boots { (m n x : ℕ) → boot_pid m ≡ Some x → boot_pid n ≡ Some x → m ≡ n }
+    ensures children { (p q m n x : ℕ) → m < 65536 → n < 65536 →
+        child_pid p m ≡ Some x → child_pid q n ≡ Some x → (p ≡ q) × (m ≡ n) }
+    ensures apart { (p m n x : ℕ) → IsPath p → m < 65536 → boot_pid m ≡ Some x → child_pid p n ≡ Some x → ⊥ }
+{}
 
 /// An object, by its maker and the maker's count; the boot's objects have none.
 #[derive(Clone, Copy, Debug, PartialEq, Eq, PartialOrd, Ord)]

@@ -14,7 +14,7 @@ use Rattle.sk_record.proofs.UndoStates.{any_at}
 use Rattle.sk_record.proofs.Machine.{nil_right}
 use Rattle.sk_record.proofs.Tidy.{recorded_more}
 use Rattle.sk_record.proofs.Sound.{each_event, sound_before, undecided_is}
-use Rattle.sk_record.proofs.Status.{one_status}
+use Rattle.sk_record.proofs.Statuses.{one_status}
 
 -- each number is below all later ones
 abbrev Rises : List ℕ → Type 0

@@ -50,6 +50,12 @@ fn small_calls_of_processes(rt: HostRuntime) -> Result<(), Fail> {
     let first = Pid::boot(1).ok_or("boot")?;
     let third = first.child(3).ok_or("child")?;
     assert!(rt; third.path() == 65_539);
+    assert!(rt;
+        first
+            .child(65_535)
+            .is_some_and(|last| last.path() == 131_071)
+    );
+    assert!(rt; Pid::boot(0).is_none() && first.child(0).is_none());
     let mut deep = first;
     for _ in 0..3 {
         deep = deep.child(1).ok_or("deep")?;

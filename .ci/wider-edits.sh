@@ -2,7 +2,7 @@
 # The wider edits: wrong bodies, beside those of must-fail/, that the prover must refuse. They stand in a file of each
 # crate, crates/NAME/wider-edits, whose head tells the form; `rt ci` does not try them. Each becomes a file of
 # must-fail/ in a scratch copy of the tree, which takes what earlier checks left in out/ along, and there `rt must-fail`
-# tries those of one crate after the other. What it says of a crate comes as soon as that crate is done.
+# tries those of one crate after the other. What it says of a crate is printed as soon as that crate is done.
 #
 #   .ci/wider-edits.sh [CRATE..]
 #
@@ -38,8 +38,8 @@ parted() {
   ' "$1"
 }
 
-cp crates.txt "$scratch/" && mkdir "$scratch/crates" || exit 2
-[ ! -f HANDLES ] || cp HANDLES "$scratch/"
+tar --exclude=out -cf - crates crates.txt HANDLES | tar -C "$scratch" -xf - || exit 2
+rm -rf "$scratch"/crates/*/must-fail
 git init -q "$scratch" || exit 2
 wanted=("$@")
 if [ $# = 0 ]; then
@@ -51,9 +51,8 @@ for crate in "${wanted[@]}"; do
   table=crates/$crate/wider-edits
   [ -f "$table" ] || { echo "$crate has no wider-edits"; failed=$((failed + 1)); continue; }
   for name in $(below "$crate"); do
-    [ -d "$scratch/crates/$name" ] || cp -rp "crates/$name" "$scratch/crates/"
+    [ ! -d "crates/$name/out" ] || [ -d "$scratch/crates/$name/out" ] || cp -rp "crates/$name/out" "$scratch/crates/$name/"
   done
-  rm -rf "$scratch/crates/$crate/must-fail"
   parted "$table" "$scratch/crates/$crate/must-fail"
   count=$(grep -c '^name: ' "$table")
   lines=$(cd "$scratch" && rt must-fail "$crate" 2>&1)

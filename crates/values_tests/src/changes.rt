@@ -1,31 +1,41 @@
 //! The table of changes, each made and taken back, and many changes in turn.
 ghost use Rattle.std.specs.Prelude.{◌<◌};
 
-use crate::values::same;
+use crate::values::assert_same;
 use sk_changes::run::{apply_all, try_all, undo_all};
 use sk_changes::{Change, Invertible, NotApplied};
 use sk_ids::{Name, ObjId, Text};
 use sk_objects::{Content, Directory, File, Kind, Pipe, Signals, Value};
 use std::alloc::{AllocError, Global};
+use std::process::Abort;
 use std::test::Fail;
 
-/// Whether the change leaves what is wanted, or is unfit where nothing is wanted, and the value is
-/// then again, or still, as it was.
-fn leaves(value: &mut Value, change: Change, want: Option<&Value>) -> Result<bool, AllocError> {
+/// The change leaves what is wanted, or is unfit where nothing is wanted; the value is then again, or
+/// still, as it was.
+fn assert_leaves(
+    rt: &impl Abort,
+    value: &mut Value,
+    change: Change,
+    want: Option<&Value>,
+) -> Result<(), AllocError> {
     let before = value.copy()?;
-    let is_as_wanted = match value.apply(change) {
+    match value.apply(change) {
         Ok(undo) => {
-            let is_same = match want {
-                Some(want) => same(value, want),
-                None => false,
-            };
+            match want {
+                Some(want) => assert_same(rt, value, want),
+                None => panic!(rt; "the change fits"),
+            }
             value.undo(undo);
-            is_same
         }
-        Err(NotApplied::Unfit) => want.is_none(),
-        Err(NotApplied::Memory) => return Err(AllocError),
-    };
-    Ok(is_as_wanted && same(value, &before))
+        Err(why) => assert_unfit(rt, why, want),
+    }
+    assert_same(rt, value, &before);
+    Ok(())
+}
+
+fn assert_unfit(rt: &impl Abort, why: NotApplied, want: Option<&Value>) {
+    assert_eq!(rt; why, NotApplied::Unfit);
+    assert_eq!(rt; want.map(|want| want.kind()), None);
 }
 
 fn text(bytes: &[u8]) -> Text {
@@ -48,15 +58,16 @@ fn file(alloc: Global, bytes: Text) -> Result<Value, AllocError> {
 }
 
 fn file_row(
+    rt: &impl Abort,
     alloc: Global,
     first: &[u8],
     change: Change,
     want: Option<Text>,
-) -> Result<bool, AllocError> {
+) -> Result<(), AllocError> {
     let mut value = file(alloc, text(first))?;
     match want {
-        Some(bytes) => leaves(&mut value, change, Some(&file(alloc, bytes)?)),
-        None => leaves(&mut value, change, None),
+        Some(bytes) => assert_leaves(rt, &mut value, change, Some(&file(alloc, bytes)?)),
+        None => assert_leaves(rt, &mut value, change, None),
     }
 }
 
@@ -79,7 +90,7 @@ fn changes_table_of_files(rt: HostRuntime) -> Result<(), Fail> {
         (b"abcdef".as_slice(), Change::CutTo(32_769), None),
     ];
     for (first, change, want) in table {
-        assert!(rt; file_row(rt.alloc(), first, change, want)?);
+        file_row(&rt, rt.alloc(), first, change, want)?;
     }
     Ok(())
 }
@@ -97,7 +108,7 @@ fn sizes(alloc: Global, offset: u32, bytes: &[u8]) -> Result<Option<(u32, u32)>,
 
 #[test]
 fn longest_file(rt: HostRuntime) -> Result<(), Fail> {
-    assert!(rt; sizes(rt.alloc(), 32_766, b"ab")? == Some((32_768, 0)));
+    assert_eq!(rt; sizes(rt.alloc(), 32_766, b"ab")?, Some((32_768, 0)));
     Ok(())
 }
 
@@ -109,15 +120,18 @@ fn pipe(alloc: Global, bytes: Text, shut: bool) -> Result<Value, AllocError> {
 }
 
 fn pipe_row(
+    rt: &impl Abort,
     alloc: Global,
     shut: bool,
     change: Change,
     want: Option<(Text, bool)>,
-) -> Result<bool, AllocError> {
+) -> Result<(), AllocError> {
     let mut value = pipe(alloc, text(b"AB"), shut)?;
     match want {
-        Some((bytes, shut)) => leaves(&mut value, change, Some(&pipe(alloc, bytes, shut)?)),
-        None => leaves(&mut value, change, None),
+        Some((bytes, shut)) => {
+            assert_leaves(rt, &mut value, change, Some(&pipe(alloc, bytes, shut)?))
+        }
+        None => assert_leaves(rt, &mut value, change, None),
     }
 }
 
@@ -138,7 +152,7 @@ fn changes_table_of_pipes(rt: HostRuntime) -> Result<(), Fail> {
         (true, Change::Shut, None),
     ];
     for (shut, change, want) in table {
-        assert!(rt; pipe_row(rt.alloc(), shut, change, want)?);
+        pipe_row(&rt, rt.alloc(), shut, change, want)?;
     }
     Ok(())
 }
@@ -164,21 +178,19 @@ fn directory(alloc: Global, count: u8, with_last: bool) -> Result<Value, AllocEr
 }
 
 fn directory_row(
+    rt: &impl Abort,
     alloc: Global,
     count: u8,
     with_last: bool,
     change: Change,
     fits: bool,
-) -> Result<bool, AllocError> {
+) -> Result<(), AllocError> {
     let mut value = directory(alloc, count, with_last)?;
     if fits {
-        leaves(
-            &mut value,
-            change,
-            Some(&directory(alloc, count, !with_last)?),
-        )
+        let want = directory(alloc, count, !with_last)?;
+        assert_leaves(rt, &mut value, change, Some(&want))
     } else {
-        leaves(&mut value, change, None)
+        assert_leaves(rt, &mut value, change, None)
     }
 }
 
@@ -193,7 +205,7 @@ fn changes_table_of_directories(rt: HostRuntime) -> Result<(), Fail> {
         (63, false, Change::Unlink(last), false),
     ];
     for (count, with_last, change, fits) in table {
-        assert!(rt; directory_row(rt.alloc(), count, with_last, change, fits)?);
+        directory_row(&rt, rt.alloc(), count, with_last, change, fits)?;
     }
     Ok(())
 }
@@ -210,15 +222,16 @@ fn queue(alloc: Global, numbers: &[u8]) -> Result<Value, AllocError> {
 }
 
 fn queue_row(
+    rt: &impl Abort,
     alloc: Global,
     first: &[u8],
     change: Change,
     want: Option<&[u8]>,
-) -> Result<bool, AllocError> {
+) -> Result<(), AllocError> {
     let mut value = queue(alloc, first)?;
     match want {
-        Some(numbers) => leaves(&mut value, change, Some(&queue(alloc, numbers)?)),
-        None => leaves(&mut value, change, None),
+        Some(numbers) => assert_leaves(rt, &mut value, change, Some(&queue(alloc, numbers)?)),
+        None => assert_leaves(rt, &mut value, change, None),
     }
 }
 
@@ -235,12 +248,19 @@ fn changes_table_of_queues(rt: HostRuntime) -> Result<(), Fail> {
             Change::PushSignal(9),
             Some(b"\x05\x09".as_slice()),
         ),
+        (
+            &[7; 31],
+            Change::PushSignal(31),
+            Some(
+                b"\x07\x07\x07\x07\x07\x07\x07\x07\x07\x07\x07\x07\x07\x07\x07\x07\x07\x07\x07\x07\x07\x07\x07\x07\x07\x07\x07\x07\x07\x07\x07\x1f".as_slice(),
+            ),
+        ),
         (b"\x05\x09".as_slice(), Change::PushSignal(32), None),
         (b"".as_slice(), Change::TakeSignal, None),
         (&[7; 32], Change::PushSignal(1), None),
     ];
     for (first, change, want) in table {
-        assert!(rt; queue_row(rt.alloc(), first, change, want)?);
+        queue_row(&rt, rt.alloc(), first, change, want)?;
     }
     Ok(())
 }
@@ -250,36 +270,35 @@ fn content(version: u64, bytes: &[u8]) -> Option<Content> {
     Content::new(version, text(bytes))
 }
 
-fn exit_row(first: Option<u8>, fits: bool) -> Result<bool, AllocError> {
+fn exit_row(rt: &impl Abort, first: Option<u8>, fits: bool) -> Result<(), AllocError> {
     let mut value = Value::Exit(first);
     let want = Value::Exit(Some(3));
-    leaves(
-        &mut value,
-        Change::SetExit(3),
-        if fits { Some(&want) } else { None },
-    )
+    let want = if fits { Some(&want) } else { None };
+    assert_leaves(rt, &mut value, Change::SetExit(3), want)
 }
 
-fn copy_row(old: Content, new: Content) -> Result<bool, AllocError> {
+fn copy_row(rt: &impl Abort, old: Content, new: Content) -> Result<(), AllocError> {
     let want = Value::Copy(new);
-    leaves(&mut Value::Copy(old), Change::SetCopy(new), Some(&want))
+    let mut value = Value::Copy(old);
+    assert_leaves(rt, &mut value, Change::SetCopy(new), Some(&want))
 }
 
 #[test]
 fn changes_table_of_slots(rt: HostRuntime) -> Result<(), Fail> {
-    assert!(rt; exit_row(None, true)?);
-    assert!(rt; exit_row(Some(3), false)?);
+    exit_row(&rt, None, true)?;
+    exit_row(&rt, Some(3), false)?;
     let old = content(3, b"old").ok_or("old")?;
     let new = content(4, b"new").ok_or("new")?;
-    assert!(rt; copy_row(old, new)?);
+    copy_row(&rt, old, new)?;
+    copy_row(&rt, new, old)?;
     Ok(())
 }
 
 #[test]
 fn small_calls(rt: HostRuntime) -> Result<(), Fail> {
     let want = Some(text(b"abcdXYZ"));
-    assert!(rt; file_row(rt.alloc(), b"abcdef", write(4, b"XYZ"), want)?);
-    assert!(rt; pipe_row(rt.alloc(), false, write(4, b"XYZ"), None)?);
+    file_row(&rt, rt.alloc(), b"abcdef", write(4, b"XYZ"), want)?;
+    pipe_row(&rt, rt.alloc(), false, write(4, b"XYZ"), None)?;
     Ok(())
 }
 
@@ -297,38 +316,33 @@ fn eight_puts() -> [Change; 8] {
     ]
 }
 
-fn reads(value: &Value, letters: &[u8]) -> bool {
+/// The bytes of a pipe are blocks of 512 times each of these letters.
+fn assert_blocks(rt: &impl Abort, value: &Value, letters: &[u8]) {
     let mut offset = 0u64;
     for letter in letters {
-        let held = match value.bytes_at(offset, 512) {
-            Some(part) => part.as_slice() == [*letter; 512].as_slice(),
-            None => false,
-        };
-        if !held {
-            return false;
-        }
+        let block = [*letter; 512];
+        assert_eq!(rt; value.bytes_at(offset, 512), Text::new(block.as_slice()));
         offset = offset.wrapping_add(512);
     }
-    true
 }
 
-/// Whether a pipe of eight blocks is the same again once a turn of it is taken back.
-fn turns_back(alloc: Global, value: &mut Value) -> bool {
+/// A pipe of eight blocks is the same again once a turn of it is taken back.
+fn turns_back(rt: &impl Abort, alloc: Global, value: &mut Value) {
     let turn = [Change::Take(512), Change::Put(text(&[b'A'; 512]))];
     let mut undos = Vec::new(alloc);
-    let is_made = apply_all(value, &turn, &mut undos).is_ok();
-    let is_turned = is_made && reads(value, b"BCDEFGHA");
+    assert_eq!(rt; apply_all(value, &turn, &mut undos), Ok(()));
+    assert_blocks(rt, value, b"BCDEFGHA");
     undo_all(value, &mut undos);
-    is_turned && reads(value, b"ABCDEFGH")
+    assert_blocks(rt, value, b"ABCDEFGH");
 }
 
 #[test]
 fn pipe_order_restored(rt: HostRuntime) -> Result<(), Fail> {
     let mut value = Value::empty(rt.alloc(), Kind::Pipe)?;
     let mut undos = Vec::new(rt.alloc());
-    assert!(rt; apply_all(&mut value, &eight_puts(), &mut undos).is_ok());
-    assert!(rt; reads(&value, b"ABCDEFGH"));
-    assert!(rt; turns_back(rt.alloc(), &mut value));
+    assert_eq!(rt; apply_all(&mut value, &eight_puts(), &mut undos), Ok(()));
+    assert_blocks(&rt, &value, b"ABCDEFGH");
+    turns_back(&rt, rt.alloc(), &mut value);
     Ok(())
 }
 
@@ -425,34 +439,42 @@ fn fitting(alloc: Global, mut value: Value, changes: &[Change]) -> Result<Vec<Ch
     Ok(made)
 }
 
-/// Whether those of the changes that fit leave the value as it was, once they are taken back; they
-/// are then made for good.
-fn goes_back(alloc: Global, value: &mut Value, changes: &[Change]) -> Result<bool, AllocError> {
+/// Those of the changes that fit leave the value as it was, once they are taken back; they are then
+/// made for good.
+fn goes_back(
+    rt: &impl Abort,
+    alloc: Global,
+    value: &mut Value,
+    changes: &[Change],
+) -> Result<(), AllocError> {
     let before = value.copy()?;
     let made = fitting(alloc, value.copy()?, changes)?;
-    let tried = try_all(alloc, value, &made).is_ok();
-    let back = tried && same(value, &before);
+    assert_eq!(rt; try_all(alloc, value, &made), Ok(()));
+    assert_same(rt, value, &before);
     let mut undos = Vec::new(alloc);
-    let again = apply_all(value, &made, &mut undos).is_ok();
-    Ok(back && again)
+    assert_eq!(rt; apply_all(value, &made, &mut undos), Ok(()));
+    Ok(())
 }
 
-/// Whether forty times ten changes of a value of this kind are taken back.
-fn all_go_back(alloc: Global, draws: &mut Draws, kind: Kind) -> Result<bool, AllocError> {
+/// Forty times ten changes of a value of this kind are taken back.
+fn all_go_back(
+    rt: &impl Abort,
+    alloc: Global,
+    draws: &mut Draws,
+    kind: Kind,
+) -> Result<(), AllocError> {
     let mut value = Value::empty(alloc, kind)?;
     for _ in 0..40 {
-        if !goes_back(alloc, &mut value, &draws.ten())? {
-            return Ok(false);
-        }
+        goes_back(rt, alloc, &mut value, &draws.ten())?;
     }
-    Ok(true)
+    Ok(())
 }
 
 #[test]
 fn many_changes_and_back(rt: HostRuntime) -> Result<(), Fail> {
     let mut draws = Draws { state: 7 };
     for kind in [Kind::File, Kind::Dir, Kind::Pipe, Kind::Signals, Kind::Copy] {
-        assert!(rt; all_go_back(rt.alloc(), &mut draws, kind)?);
+        all_go_back(&rt, rt.alloc(), &mut draws, kind)?;
     }
     Ok(())
 }

@@ -1,6 +1,7 @@
 //! Tag sets, processes and entities.
 use sk_ids::{Entity, GuessId, Name, Pid, TagSet, Text};
 use std::alloc::{AllocError, Global};
+use std::cmp::Ordering;
 use std::test::Fail;
 
 fn set(alloc: Global, numbers: &[u64]) -> Result<TagSet, AllocError> {
@@ -22,26 +23,27 @@ fn without(alloc: Global, numbers: &[u64], number: u64) -> Result<TagSet, AllocE
     Ok(set)
 }
 
-/// Whether a set has just these guesses, in this order.
-fn is(set: Result<TagSet, AllocError>, numbers: &[u64]) -> Result<bool, AllocError> {
+/// The numbers of the guesses of a set, as they are listed, each of which it contains.
+fn numbers(alloc: Global, set: Result<TagSet, AllocError>) -> Result<Vec<u64>, AllocError> {
     let set = set?;
-    let ids = set.ids();
-    Ok(
-        ids.len() == numbers.len()
-            && ids
-                .iter()
-                .zip(numbers.iter())
-                .all(|(id, number)| id.number() == *number && set.contains(*id)),
-    )
+    let mut numbers = Vec::new(alloc);
+    for id in set.ids() {
+        if set.contains(*id) {
+            numbers.push(id.number())?;
+        }
+    }
+    Ok(numbers)
 }
 
 #[test]
 fn small_calls_of_tag_sets(rt: HostRuntime) -> Result<(), Fail> {
     let alloc = rt.alloc();
-    assert!(rt; is(union(alloc, &[1, 3], &[2, 3]), &[1, 2, 3])?);
-    assert!(rt; is(without(alloc, &[1, 2, 3], 2), &[1, 3])?);
-    let nine = [1, 2, 3, 4, 5, 6, 7, 8, 9];
-    assert!(rt; is(set(alloc, &[9, 8, 7, 6, 5, 4, 3, 2, 1]), &nine)?);
+    let united = numbers(alloc, union(alloc, &[1, 3], &[2, 3]))?;
+    assert_eq!(rt; united.as_slice(), [1, 2, 3].as_slice());
+    let less = numbers(alloc, without(alloc, &[1, 2, 3], 2))?;
+    assert_eq!(rt; less.as_slice(), [1, 3].as_slice());
+    let nine = numbers(alloc, set(alloc, &[9, 8, 7, 6, 5, 4, 3, 2, 1]))?;
+    assert_eq!(rt; nine.as_slice(), [1, 2, 3, 4, 5, 6, 7, 8, 9].as_slice());
     Ok(())
 }
 
@@ -49,19 +51,16 @@ fn small_calls_of_tag_sets(rt: HostRuntime) -> Result<(), Fail> {
 fn small_calls_of_processes(rt: HostRuntime) -> Result<(), Fail> {
     let first = Pid::boot(1).ok_or("boot")?;
     let third = first.child(3).ok_or("child")?;
-    assert!(rt; third.path() == 65_539);
-    assert!(rt;
-        first
-            .child(65_535)
-            .is_some_and(|last| last.path() == 131_071)
-    );
+    assert_eq!(rt; third.path(), 65_539);
+    let last = first.child(65_535).ok_or("last child")?;
+    assert_eq!(rt; last.path(), 131_071);
     assert!(rt; Pid::boot(0).is_none() && first.child(0).is_none());
     let mut deep = first;
     for _ in 0..3 {
         deep = deep.child(1).ok_or("deep")?;
     }
-    assert!(rt; deep.path() == 281_479_271_743_489);
-    assert!(rt; deep.child(1).is_none());
+    assert_eq!(rt; deep.path(), 281_479_271_743_489);
+    assert_eq!(rt; deep.child(1), None);
     Ok(())
 }
 
@@ -69,9 +68,9 @@ fn small_calls_of_processes(rt: HostRuntime) -> Result<(), Fail> {
 fn entities_by_kind(rt: HostRuntime) -> Result<(), Fail> {
     let pid = Pid::boot(7).ok_or("boot")?;
     let name = Name::new(b"/x").ok_or("name")?;
-    assert!(rt; Entity::Proc(pid) < Entity::Sig(pid));
-    assert!(rt; Entity::Exit(pid) < Entity::Copy(name));
-    assert!(rt; Name::new(b"a b").is_none());
-    assert!(rt; Text::new([7u8; 513].as_slice()).is_none());
+    assert_eq!(rt; Entity::Proc(pid).cmp(&Entity::Sig(pid)), Ordering::Less);
+    assert_eq!(rt; Entity::Exit(pid).cmp(&Entity::Copy(name)), Ordering::Less);
+    assert_eq!(rt; Name::new(b"a b"), None);
+    assert_eq!(rt; Text::new([7u8; 513].as_slice()), None);
     Ok(())
 }

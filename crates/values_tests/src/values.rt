@@ -1,39 +1,44 @@
 //! The readers on values of each kind, and the calls that take memory.
 use sk_ids::{Name, ObjId, Text};
-use sk_objects::{Content, Directory, File, Kind, Value};
+use sk_objects::{Content, Directory, File, Kind, Pipe, Value};
 use std::alloc::{AllocError, Global};
+use std::process::Abort;
 use std::test::Fail;
 
-/// Whether two values are of one kind and have the same contents.
-pub fn same(a: &Value, b: &Value) -> bool {
-    match (a, b) {
-        (Value::File(a), Value::File(b)) => a.as_slice() == b.as_slice(),
-        (Value::Dir(a), Value::Dir(b)) => a.as_slice() == b.as_slice(),
-        (Value::Pipe(a), Value::Pipe(b)) => {
-            a.as_slice() == b.as_slice() && a.is_shut() == b.is_shut()
+/// Both values are of one kind and have the same contents.
+pub fn assert_same(rt: &impl Abort, left: &Value, right: &Value) {
+    match (left, right) {
+        (Value::File(left), Value::File(right)) => {
+            assert_eq!(rt; left.as_slice(), right.as_slice())
         }
-        (Value::Signals(a), Value::Signals(b)) => a.as_slice() == b.as_slice(),
-        (Value::Exit(a), Value::Exit(b)) => a == b,
-        (Value::Copy(a), Value::Copy(b)) => a == b,
-        _ => false,
+        (Value::Dir(left), Value::Dir(right)) => {
+            assert_eq!(rt; left.as_slice(), right.as_slice())
+        }
+        (Value::Pipe(left), Value::Pipe(right)) => assert_same_pipes(rt, left, right),
+        (Value::Signals(left), Value::Signals(right)) => {
+            assert_eq!(rt; left.as_slice(), right.as_slice())
+        }
+        (Value::Exit(left), Value::Exit(right)) => assert_eq!(rt; *left, *right),
+        (Value::Copy(left), Value::Copy(right)) => assert_eq!(rt; *left, *right),
+        _ => assert_eq!(rt; left.kind(), right.kind()),
     }
 }
 
-/// Whether the first value of a kind is as the readers should tell it, and its copy is the same.
-fn starts_as(
+fn assert_same_pipes(rt: &impl Abort, left: &Pipe, right: &Pipe) {
+    assert_eq!(rt; left.as_slice(), right.as_slice());
+    assert_eq!(rt; left.is_shut(), right.is_shut());
+}
+
+/// What the readers tell of the first value of a kind, whose copy is the same.
+fn first_value(
+    rt: &impl Abort,
     alloc: Global,
     kind: Kind,
-    size: Option<u32>,
-    shut: Option<bool>,
-) -> Result<bool, AllocError> {
+) -> Result<(Kind, Option<u32>, Option<bool>), AllocError> {
     let value = Value::empty(alloc, kind)?;
     let copy = value.copy()?;
-    Ok(
-        value.kind() == kind
-            && value.size() == size
-            && value.is_shut() == shut
-            && same(&copy, &value),
-    )
+    assert_same(rt, &copy, &value);
+    Ok((value.kind(), value.size(), value.is_shut()))
 }
 
 #[test]
@@ -47,7 +52,7 @@ fn first_values(rt: HostRuntime) -> Result<(), Fail> {
         (Kind::Copy, Some(0), None),
     ];
     for (kind, size, shut) in table {
-        assert!(rt; starts_as(rt.alloc(), kind, size, shut)?);
+        assert_eq!(rt; first_value(&rt, rt.alloc(), kind)?, (kind, size, shut));
     }
     Ok(())
 }
@@ -59,21 +64,9 @@ fn written(alloc: Global) -> Result<File, AllocError> {
     Ok(file)
 }
 
-/// Whether the bytes of a value from a place on are these.
-fn reads(value: &Value, offset: u64, count: usize, want: &[u8]) -> bool {
-    match value.bytes_at(offset, count) {
-        Some(bytes) => bytes.as_slice() == want,
-        None => false,
-    }
-}
-
-fn reads_written(
-    alloc: Global,
-    offset: u64,
-    count: usize,
-    want: &[u8],
-) -> Result<bool, AllocError> {
-    Ok(reads(&Value::File(written(alloc)?), offset, count, want))
+/// What is read of the file from a place on.
+fn read_of_written(alloc: Global, offset: u64, count: usize) -> Result<Option<Text>, AllocError> {
+    Ok(Value::File(written(alloc)?).bytes_at(offset, count))
 }
 
 /// The number of bytes that one read of a file of 600 bytes gives.
@@ -93,9 +86,12 @@ fn bytes_of_a_file(rt: HostRuntime) -> Result<(), Fail> {
         (1_099_511_627_776, 4, b"".as_slice()),
     ];
     for (offset, count, want) in table {
-        assert!(rt; reads_written(rt.alloc(), offset, count, want)?);
+        assert_eq!(rt;
+            read_of_written(rt.alloc(), offset, count)?,
+            Text::new(want)
+        );
     }
-    assert!(rt; longest_read(rt.alloc())? == Some(512));
+    assert_eq!(rt; longest_read(rt.alloc())?, Some(512));
     Ok(())
 }
 
@@ -114,22 +110,24 @@ fn directory(alloc: Global, first: Name, later: Name) -> Result<Value, AllocErro
     Ok(Value::Dir(directory))
 }
 
-/// Whether a directory of these two names has them in this order.
-fn lists(alloc: Global, first: Name, later: Name) -> Result<bool, AllocError> {
+/// The names of a directory of these two names, in their order, and what the one that was put in first names.
+fn listed(alloc: Global, first: Name, later: Name) -> Result<Listed, AllocError> {
     let value = directory(alloc, first, later)?;
-    Ok(
-        value.name_at(0) == Some((first, object(7)))
-            && value.name_at(1) == Some((later, object(5)))
-            && value.name_at(2).is_none()
-            && value.look(&later) == Some(Some(object(5))),
-    )
+    let names = [value.name_at(0), value.name_at(1), value.name_at(2)];
+    Ok((names, value.look(&later)))
 }
+
+type Listed = ([Option<(Name, ObjId)>; 3], Option<Option<ObjId>>);
 
 #[test]
 fn names_by_rising_bytes(rt: HostRuntime) -> Result<(), Fail> {
     let first = Name::new(b"a/b").ok_or("first")?;
     let later = Name::new(b"b").ok_or("later")?;
-    assert!(rt; lists(rt.alloc(), first, later)?);
+    let names = [Some((first, object(7))), Some((later, object(5))), None];
+    assert_eq!(rt;
+        listed(rt.alloc(), first, later)?,
+        (names, Some(Some(object(5))))
+    );
     Ok(())
 }
 
@@ -141,8 +139,11 @@ fn version(number: u64) -> Option<Option<u64>> {
 #[test]
 fn slots(rt: HostRuntime) {
     let set = Value::Exit(Some(3));
-    assert!(rt; set.status() == Some(Some(3)) && set.signal_at(0).is_none());
-    let last = 9_223_372_036_854_775_807;
-    assert!(rt; version(last) == Some(Some(last)));
-    assert!(rt; version(last + 1).is_none());
+    assert_eq!(rt; set.status(), Some(Some(3)));
+    assert_eq!(rt; set.signal_at(0), None);
+    assert_eq!(rt;
+        version(9_223_372_036_854_775_807),
+        Some(Some(9_223_372_036_854_775_807))
+    );
+    assert_eq!(rt; version(9_223_372_036_854_775_808), None);
 }

@@ -1,25 +1,14 @@
 -- Changes of values of any kind: each as its kind has it.
-use Rattle.std.specs.Prelude.{Bool, ◌≤◌, length, All}
-use Rattle.sk_objects.specs.Directory.{IsRising}
-use Rattle.sk_objects.specs.Signals.{IsSignal}
+use Rattle.std.specs.Prelude.{Bool, false}
 use Rattle.sk_objects.specs.declared.value.Value.{Value}
 use Rattle.sk_objects.specs.declared.value.Value.TheVariants.{File, Dir, Pipe, Signals, Exit, Copy}
 use Rattle.sk_changes.specs.declared.change.Change.{Change}
 use Rattle.sk_changes.specs.declared.change.Undo.{Undo}
-use Rattle.sk_changes.specs.Files.{file_fits, file_after, file_undo, CanUndoFile, file_undone}
+use Rattle.sk_changes.specs.Files.{file_fits, file_grows, file_after, file_undo, CanUndoFile, file_undone}
 use Rattle.sk_changes.specs.Directories.{directory_fits, directory_after, directory_undo, CanUndoDirectory, directory_undone}
 use Rattle.sk_changes.specs.Pipes.{pipe_fits, pipe_after, pipe_undo, CanUndoPipe, pipe_undone}
 use Rattle.sk_changes.specs.Queues.{queue_fits, queue_after, queue_undo, CanUndoQueue, queue_undone}
 use Rattle.sk_changes.specs.Slots.{exit_fits, exit_after, exit_undo, CanUndoExit, exit_undone, copy_fits, copy_after, copy_undo, CanUndoCopy, copy_undone}
-
--- what holds of every value that there is
-abbrev pub IsValue : Value → Type 0
-IsValue (File f) = length f ≤ 32768
-IsValue (Dir d) = IsRising d × (length d ≤ 64)
-IsValue (Pipe p) = length p.bytes ≤ 4096
-IsValue (Signals s) = (length s ≤ 32) × All IsSignal s
-IsValue (Exit e) = Unit {0}
-IsValue (Copy c) = Unit {0}
 
 -- whether a change fits a value
 abbrev pub value_fits : Value → Change → Bool
@@ -29,6 +18,11 @@ value_fits (Pipe p) c = pipe_fits p c
 value_fits (Signals s) c = queue_fits s c
 value_fits (Exit e) c = exit_fits e c
 value_fits (Copy v) c = copy_fits v c
+
+-- whether a change that fits can want memory: only files grow
+abbrev pub value_grows : Value → Change → Bool
+value_grows (File f) c = file_grows f c
+value_grows _ c = false
 
 -- the value after a change that fits
 abbrev pub value_after : Value → Change → Value

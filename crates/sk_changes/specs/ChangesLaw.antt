@@ -9,7 +9,8 @@ use Rattle.sk_changes.specs.DirectoriesLaw.{directory_restores}
 use Rattle.sk_changes.specs.PipesLaw.{pipe_restores}
 use Rattle.sk_changes.specs.QueuesLaw.{queue_restores}
 use Rattle.sk_changes.specs.SlotsLaw.{exit_restores, copy_restores}
-use Rattle.sk_changes.specs.Changes.{IsValue, value_fits, value_after, value_undo, CanUndo, value_undone}
+use Rattle.sk_objects.specs.Value.{IsValue}
+use Rattle.sk_changes.specs.Changes.{value_fits, value_after, value_undo, CanUndo, value_undone}
 
 pub value_restores : (v : Value) (c : Change) → IsValue v → value_fits v c ≡ true → CanUndo (value_after v c) (value_undo v c) × (value_undone (value_after v c) (value_undo v c) ≡ v)
 value_restores (File f) c valid fits = let law = file_restores f c valid fits in (law.0, ap File law.1)

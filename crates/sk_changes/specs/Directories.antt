@@ -2,14 +2,15 @@
 use Rattle.std.specs.Prelude.{◌≡◌, ℕ, Bool, false, not, ◌&&◌, ◌<◌, nat_lt, Option, Some, None, is_some, List, length}
 use Rattle.sk_ids.specs.declared.pid.ObjId.{ObjId}
 use Rattle.sk_objects.specs.Directory.{Link as Entry, looked_up, linked, unlinked}
+use Rattle.sk_objects.specs.declared.directory.TheConstants.{DIRECTORY_LIMIT}
 use Rattle.sk_changes.specs.declared.change.Change.{Change}
 use Rattle.sk_changes.specs.declared.change.Change.TheVariants.{Link, Unlink}
 use Rattle.sk_changes.specs.declared.change.Undo.{Undo}
 use Rattle.sk_changes.specs.declared.change.Undo.TheVariants.{DropName, Relink, Reopen}
 
--- a name that is not there while there are under 64, or one that is there
+-- a name that is not there while there is room for one more, or one that is there
 abbrev pub directory_fits : List Entry → Change → Bool
-directory_fits d (Link name object) = not (is_some (looked_up d name)) && nat_lt (length d) 64
+directory_fits d (Link name object) = not (is_some (looked_up d name)) && nat_lt (length d) DIRECTORY_LIMIT
 directory_fits d (Unlink name) = is_some (looked_up d name)
 directory_fits d _ = false
 
@@ -32,7 +33,7 @@ directory_undo d _ = Reopen
 
 -- a name goes back only where it is not there and there is room
 abbrev pub CanUndoDirectory : List Entry → Undo → Type 0
-CanUndoDirectory d (Relink name object) = (looked_up d name ≡ None) × (length d < 64)
+CanUndoDirectory d (Relink name object) = (looked_up d name ≡ None) × (length d < DIRECTORY_LIMIT)
 CanUndoDirectory d _ = Unit {0}
 
 -- the directory after an undo

@@ -5,6 +5,7 @@ use Rattle.std.proofs.lemmas.Bool.{false≢true}
 use Rattle.sk_ids.specs.declared.pid.ObjId.{ObjId}
 use Rattle.sk_objects.specs.Directory.{Link as Entry, looked_up, linked, unlinked, IsRising}
 use Rattle.sk_objects.proofs.Links.{unlinked-linked, linked-unlinked, absent-unlinked, length-unlinked}
+use Rattle.sk_objects.specs.declared.directory.TheConstants.{DIRECTORY_LIMIT}
 use Rattle.sk_changes.specs.declared.change.Change.{Change}
 use Rattle.sk_changes.specs.declared.change.Change.TheVariants.{Link, Unlink}
 use Rattle.sk_changes.specs.Directories.{directory_fits, directory_after, directory_undo, CanUndoDirectory, directory_undone, relink}
@@ -13,12 +14,12 @@ link_back : (d : List Entry) (n : List ℕ) (o : ObjId) (r : Option ObjId) → l
 link_back d n o None e fits = unlinked-linked d n o e
 link_back d n o (Some u) e fits = absurd (false≢true (rw e at fits))
 
-unlink_back : (d : List Entry) (n : List ℕ) (r : Option ObjId) → looked_up d n ≡ r → IsRising d → length d ≤ 64 → is_some r ≡ true
+unlink_back : (d : List Entry) (n : List ℕ) (r : Option ObjId) → looked_up d n ≡ r → IsRising d → length d ≤ DIRECTORY_LIMIT → is_some r ≡ true
     → CanUndoDirectory (unlinked d n) (relink n r) × (directory_undone (unlinked d n) (relink n r) ≡ d)
 unlink_back d n (Some o) e up short fits = ((absent-unlinked d n, omega (arith, length-unlinked d n o up e)), linked-unlinked d n o up e)
 unlink_back d n None e up short fits = absurd (false≢true fits)
 
-pub directory_restores : (d : List Entry) (c : Change) → IsRising d × (length d ≤ 64) → directory_fits d c ≡ true → CanUndoDirectory (directory_after d c) (directory_undo d c) × (directory_undone (directory_after d c) (directory_undo d c) ≡ d)
+pub directory_restores : (d : List Entry) (c : Change) → IsRising d × (length d ≤ DIRECTORY_LIMIT) → directory_fits d c ≡ true → CanUndoDirectory (directory_after d c) (directory_undo d c) × (directory_undone (directory_after d c) (directory_undo d c) ≡ d)
 directory_restores d (Link n o) valid fits = (tt, link_back d n o (looked_up d n) refl fits)
 directory_restores d (Unlink n) valid fits = unlink_back d n (looked_up d n) refl valid.0 valid.1 fits
 directory_restores d _ valid fits = absurd (false≢true fits)

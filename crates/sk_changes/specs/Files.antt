@@ -1,16 +1,24 @@
 -- Changes of files.
-use Rattle.std.specs.Prelude.{ℕ, Bool, false, ◌&&◌, ◌≤◌, ◌+◌, nat_le, nat_lt, if◌then◌else◌, List, length, take}
+use Rattle.std.specs.Prelude.{ℕ, Bool, false, not, ◌==◌, ◌&&◌, ◌≤◌, ◌+◌, nat_le, nat_lt, if◌then◌else◌, List, length, take}
 use Rattle.sk_objects.specs.File.{written, cut, part, overwritten}
+use Rattle.sk_ids.specs.declared.text.TheConstants.{TEXT_LIMIT}
+use Rattle.sk_objects.specs.declared.file.TheConstants.{FILE_LIMIT}
 use Rattle.sk_changes.specs.declared.change.Change.{Change}
 use Rattle.sk_changes.specs.declared.change.Change.TheVariants.{WriteAt, CutTo}
 use Rattle.sk_changes.specs.declared.change.Undo.{Undo}
 use Rattle.sk_changes.specs.declared.change.Undo.TheVariants.{Unwrite, Uncut, Shorten, Reopen}
 
--- a write of 1 to 512 bytes that ends within the limit, or a length within it
+-- a write of some bytes, at most a text's, that ends within the limit, or a length within it
 abbrev pub file_fits : List ℕ → Change → Bool
-file_fits f (WriteAt at bytes) = nat_le 1 (length bytes) && (nat_le (length bytes) 512 && nat_le (at + length bytes) 32768)
-file_fits f (CutTo n) = nat_le n 32768
+file_fits f (WriteAt at bytes) = nat_le 1 (length bytes) && (nat_le (length bytes) TEXT_LIMIT && nat_le (at + length bytes) FILE_LIMIT)
+file_fits f (CutTo n) = nat_le n FILE_LIMIT
 file_fits f _ = false
+
+-- only bytes past the end, and the bytes that are kept to put a cut back, can want memory
+abbrev pub file_grows : List ℕ → Change → Bool
+file_grows f (WriteAt at bytes) = nat_lt (length f) (at + length bytes)
+file_grows f (CutTo n) = not (n == length f)
+file_grows f _ = false
 
 -- the file after a change
 abbrev pub file_after : List ℕ → Change → List ℕ

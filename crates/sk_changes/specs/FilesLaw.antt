@@ -4,6 +4,7 @@ use Rattle.std.proofs.Common.{arith, refl, ◌∙◌, inl, inr, append_assoc}
 use Rattle.std.proofs.lemmas.Bool.{false≢true, cases_lt, ltb-false}
 use Rattle.std.proofs.lemmas.List.{length-append, length-take, length-drop, length-replicate, take_at, take-append-drop, take-append-le, take_all, drop-append-le, drop_at, length-take-le, drop-drop, take-take}
 use Rattle.std.proofs.Math.ListN.{drop_of_length-le}
+use Rattle.sk_objects.specs.declared.file.TheConstants.{FILE_LIMIT}
 use Rattle.sk_changes.specs.declared.change.Change.{Change}
 use Rattle.sk_changes.specs.declared.change.Change.TheVariants.{WriteAt, CutTo}
 use Rattle.sk_objects.specs.File.{cut, overwritten, filled}
@@ -62,7 +63,7 @@ cut_back : (f : List ℕ) (n : ℕ) (b : Bool) → nat_lt n (length f) ≡ b →
 cut_back f n true e = rw e (tt, refl)
 cut_back f n false e = rw e (tt, longer f n (ltb-false n (length f) e))
 
-pub file_restores : (v : List ℕ) (c : Change) → length v ≤ 32768 → file_fits v c ≡ true → CanUndoFile (file_after v c) (file_undo v c) × (file_undone (file_after v c) (file_undo v c) ≡ v)
+pub file_restores : (v : List ℕ) (c : Change) → length v ≤ FILE_LIMIT → file_fits v c ≡ true → CanUndoFile (file_after v c) (file_undo v c) × (file_undone (file_after v c) (file_undo v c) ≡ v)
 file_restores v (WriteAt at bytes) _ fits =
     (simp (length-take, length-drop) (omega (arith, length_written v bytes at)), taken_back v bytes at)
 file_restores v (CutTo n) _ fits = cut_back v n (nat_lt n (length v)) refl

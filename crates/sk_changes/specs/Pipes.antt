@@ -1,15 +1,17 @@
 -- Changes of pipes.
 use Rattle.std.specs.Prelude.{Bool, true, false, not, ◌&&◌, ◌≤◌, ◌+◌, nat_le, ◌++◌, length, take, drop}
 use Rattle.sk_objects.specs.Pipe.{PipeView}
+use Rattle.sk_ids.specs.declared.text.TheConstants.{TEXT_LIMIT}
+use Rattle.sk_objects.specs.declared.pipe.TheConstants.{PIPE_LIMIT}
 use Rattle.sk_changes.specs.declared.change.Change.{Change}
 use Rattle.sk_changes.specs.declared.change.Change.TheVariants.{Put, Take, Shut}
 use Rattle.sk_changes.specs.declared.change.Undo.{Undo}
 use Rattle.sk_changes.specs.declared.change.Undo.TheVariants.{Unput, Untake, Reopen}
 
--- 1 to 512 bytes with room for them where it is not shut, 1 to 512 of those held, or not yet shut
+-- some bytes, at most a text's, with room for them where it is not shut; so many of those held; or not yet shut
 abbrev pub pipe_fits : PipeView → Change → Bool
-pipe_fits p (Put bytes) = not p.shut && (nat_le 1 (length bytes) && (nat_le (length bytes) 512 && nat_le (length p.bytes + length bytes) 4096))
-pipe_fits p (Take n) = nat_le 1 n && (nat_le n 512 && nat_le n (length p.bytes))
+pipe_fits p (Put bytes) = not p.shut && (nat_le 1 (length bytes) && (nat_le (length bytes) TEXT_LIMIT && nat_le (length p.bytes + length bytes) PIPE_LIMIT))
+pipe_fits p (Take n) = nat_le 1 n && (nat_le n TEXT_LIMIT && nat_le n (length p.bytes))
 pipe_fits p Shut = not p.shut
 pipe_fits p _ = false
 
@@ -28,7 +30,7 @@ pipe_undo p _ = Reopen
 
 -- bytes go back to the front only where there is room
 abbrev pub CanUndoPipe : PipeView → Undo → Type 0
-CanUndoPipe p (Untake bytes) = length p.bytes + length bytes ≤ 4096
+CanUndoPipe p (Untake bytes) = length p.bytes + length bytes ≤ PIPE_LIMIT
 CanUndoPipe p _ = Unit {0}
 
 -- the pipe after an undo

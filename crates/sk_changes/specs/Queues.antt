@@ -1,14 +1,15 @@
 -- Changes of queues of signals.
 use Rattle.std.specs.Prelude.{ℕ, Bool, false, ◌&&◌, ◌<◌, ◌-◌, nat_le, nat_lt, List, [], ◌∷◌, ◌++◌, length, take, drop, slice_index}
 use Rattle.sk_objects.specs.Signals.{IsSignal}
+use Rattle.sk_objects.specs.declared.signals.TheConstants.{SIGNALS_LIMIT, LAST_SIGNAL}
 use Rattle.sk_changes.specs.declared.change.Change.{Change}
 use Rattle.sk_changes.specs.declared.change.Change.TheVariants.{PushSignal, TakeSignal}
 use Rattle.sk_changes.specs.declared.change.Undo.{Undo}
 use Rattle.sk_changes.specs.declared.change.Undo.TheVariants.{Unpush, Requeue, Reopen}
 
--- a signal from 1 to 31 while there are under 32, or a queue that is not empty
+-- a signal's number while there is room for one more, or a queue that is not empty
 abbrev pub queue_fits : List ℕ → Change → Bool
-queue_fits s (PushSignal n) = nat_lt (length s) 32 && (nat_le 1 n && nat_le n 31)
+queue_fits s (PushSignal n) = nat_lt (length s) SIGNALS_LIMIT && (nat_le 1 n && nat_le n LAST_SIGNAL)
 queue_fits s TakeSignal = nat_lt 0 (length s)
 queue_fits s _ = false
 
@@ -26,7 +27,7 @@ queue_undo s _ = Reopen
 
 -- a signal goes back to the front only where there is room
 abbrev pub CanUndoQueue : List ℕ → Undo → Type 0
-CanUndoQueue s (Requeue n) = (length s < 32) × IsSignal n
+CanUndoQueue s (Requeue n) = (length s < SIGNALS_LIMIT) × IsSignal n
 CanUndoQueue s _ = Unit {0}
 
 -- the queue after an undo

@@ -92,6 +92,9 @@ pub trait Invertible {
     /// Whether a change fits.
     ghost fits: { Self → Change → Bool };
 
+    /// Whether a change that fits can want memory.
+    ghost grows: { Self → Change → Bool };
+
     /// The value after a change that fits.
     ghost applied: { Self → Change → Self };
 
@@ -104,13 +107,15 @@ pub trait Invertible {
     /// The value after that.
     ghost undone: { Self → Undo → Self };
 
-    /// Makes the change. After an `Err` nothing has changed.
+    /// Makes the change. After an `Err` nothing has changed. Want of memory is told only of a change
+    /// that fits and can want it.
     fn apply(&mut self, change: Change) -> Result<Undo, NotApplied>
         ensures known { valid self.old }
         ensures fit { OnOk result (fits self.old change ≡ true) }
         ensures ok { IfOk result (λ undo. (self.new ≡ applied self.old change) × (undo ≡ undo_of self.old change)) }
         ensures unfit { (result ≡ Err NotApplied.Unfit) ↔ (fits self.old change ≡ false) }
         ensures err { OnErr result (self.new ≡ self.old) }
+        ensures memory { result ≡ Err NotApplied.Memory → grows self.old change ≡ true }
         ensures back { IfOk result (λ undo. can_undo self.new undo × (undone self.new undo ≡ self.old)) };
 
     /// Takes back a change, which takes no memory.

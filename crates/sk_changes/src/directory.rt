@@ -1,6 +1,7 @@
 //! Changes of directories.
-ghost use Rattle.std.specs.Prelude.{◌≡◌, ◌≤◌, ◌<◌, length};
+ghost use Rattle.std.specs.Prelude.{false, ◌≡◌, ◌≤◌, ◌<◌, length};
 ghost use Rattle.sk_objects.specs.Directory.{IsRising};
+ghost use Rattle.sk_objects.specs.declared.directory.TheConstants.{DIRECTORY_LIMIT};
 ghost use Rattle.sk_changes.specs.Directories.{directory_fits, directory_after, directory_undo, CanUndoDirectory, directory_undone};
 
 use crate::{Change, Invertible, NotApplied, Undo};
@@ -8,9 +9,11 @@ use sk_objects::Directory;
 use sk_objects::directory::DIRECTORY_LIMIT;
 
 impl Invertible for Directory {
-    ghost valid = { λ d. IsRising d × (length d ≤ 64) };
+    ghost valid = { λ d. IsRising d × (length d ≤ DIRECTORY_LIMIT) };
 
     ghost fits = { directory_fits };
+
+    ghost grows = { λ v c. false };
 
     ghost applied = { directory_after };
 
@@ -52,6 +55,7 @@ impl Invertible for Directory {
         }
     }
 
+    ghost use Rattle.sk_objects.specs.declared.directory.TheConstants.{DIRECTORY_LIMIT};
     ghost use Rattle.sk_changes.specs.DirectoriesLaw.{directory_restores};
 
     ghost restores = { directory_restores };

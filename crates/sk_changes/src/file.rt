@@ -1,24 +1,28 @@
 //! Changes of files.
 ghost use Rattle.std.specs.Prelude.{◌<◌, ◌^◌, ◌&&◌, nat_le, ◌≡◌, ◌≤◌, ◌+◌, length};
-ghost use Rattle.sk_changes.specs.Files.{file_fits, file_after, file_undo, CanUndoFile, file_undone};
+ghost use Rattle.sk_ids.specs.declared.text.TheConstants.{TEXT_LIMIT};
+ghost use Rattle.sk_objects.specs.declared.file.TheConstants.{FILE_LIMIT};
+ghost use Rattle.sk_changes.specs.Files.{file_fits, file_grows, file_after, file_undo, CanUndoFile, file_undone};
 
 use crate::{Change, Invertible, NotApplied, Undo};
 use sk_objects::File;
 use sk_objects::file::FILE_LIMIT;
 
-/// Whether a write of so many bytes, at most 512, fits.
+/// Whether a write of so many bytes, at most a text's, fits.
 fn is_write(at: usize, count: usize) -> bool
     requires low { at < 2 ^ 32 }
-    requires short { count ≤ 512 }
-    ensures { result ≡ (nat_le 1 count && (nat_le count 512 && nat_le (at + count) 32768)) }
+    requires short { count ≤ TEXT_LIMIT }
+    ensures { result ≡ (nat_le 1 count && (nat_le count TEXT_LIMIT && nat_le (at + count) FILE_LIMIT)) }
 {
     count >= 1 && at + count <= FILE_LIMIT
 }
 
 impl Invertible for File {
-    ghost valid = { λ f. length f ≤ 32768 };
+    ghost valid = { λ f. length f ≤ FILE_LIMIT };
 
     ghost fits = { file_fits };
+
+    ghost grows = { file_grows };
 
     ghost applied = { file_after };
 
@@ -71,6 +75,8 @@ impl Invertible for File {
         }
     }
 
+    ghost use Rattle.sk_ids.specs.declared.text.TheConstants.{TEXT_LIMIT};
+    ghost use Rattle.sk_objects.specs.declared.file.TheConstants.{FILE_LIMIT};
     ghost use Rattle.sk_changes.specs.FilesLaw.{file_restores};
 
     ghost restores = { file_restores };

@@ -1,24 +1,29 @@
 //! Changes of pipes.
-ghost use Rattle.std.specs.Prelude.{◌≡◌, ◌≤◌, ◌+◌, ◌&&◌, not, nat_le, length};
+ghost use Rattle.std.specs.Prelude.{false, ◌≡◌, ◌≤◌, ◌+◌, ◌&&◌, not, nat_le, length};
+ghost use Rattle.sk_ids.specs.declared.text.TheConstants.{TEXT_LIMIT};
+ghost use Rattle.sk_objects.specs.declared.pipe.TheConstants.{PIPE_LIMIT};
 ghost use Rattle.sk_changes.specs.Pipes.{pipe_fits, pipe_after, pipe_undo, CanUndoPipe, pipe_undone};
 
 use crate::{Change, Invertible, NotApplied, Undo};
+use sk_ids::text::TEXT_LIMIT;
 use sk_objects::Pipe;
 use sk_objects::pipe::PIPE_LIMIT;
 
-/// Whether so many bytes, at most 512, may be put where so many are held.
+/// Whether so many bytes, at most a text's, may be put where so many are held.
 fn is_put(shut: bool, held: usize, count: usize) -> bool
-    requires held { held ≤ 4096 }
-    requires short { count ≤ 512 }
-    ensures { result ≡ (not shut && (nat_le 1 count && (nat_le count 512 && nat_le (held + count) 4096))) }
+    requires held { held ≤ PIPE_LIMIT }
+    requires short { count ≤ TEXT_LIMIT }
+    ensures { result ≡ (not shut && (nat_le 1 count && (nat_le count TEXT_LIMIT && nat_le (held + count) PIPE_LIMIT))) }
 {
     !shut && count >= 1 && held + count <= PIPE_LIMIT
 }
 
 impl Invertible for Pipe {
-    ghost valid = { λ p. length p.bytes ≤ 4096 };
+    ghost valid = { λ p. length p.bytes ≤ PIPE_LIMIT };
 
     ghost fits = { pipe_fits };
+
+    ghost grows = { λ v c. false };
 
     ghost applied = { pipe_after };
 
@@ -39,7 +44,7 @@ impl Invertible for Pipe {
                 Ok(Undo::Unput(held as u32))
             }
             Change::Take(count) => {
-                if count == 0 || count > 512 || count as usize > held {
+                if count == 0 || count as usize > TEXT_LIMIT || count as usize > held {
                     return Err(NotApplied::Unfit);
                 }
                 Ok(Undo::Untake(self.take(count as usize)))
@@ -64,6 +69,8 @@ impl Invertible for Pipe {
         }
     }
 
+    ghost use Rattle.sk_ids.specs.declared.text.TheConstants.{TEXT_LIMIT};
+    ghost use Rattle.sk_objects.specs.declared.pipe.TheConstants.{PIPE_LIMIT};
     ghost use Rattle.sk_changes.specs.PipesLaw.{pipe_restores};
 
     ghost restores = { pipe_restores };

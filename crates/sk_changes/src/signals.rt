@@ -1,16 +1,19 @@
 //! Changes of queues of signals.
-ghost use Rattle.std.specs.Prelude.{◌≡◌, ◌≤◌, length, All};
+ghost use Rattle.std.specs.Prelude.{false, ◌≡◌, ◌≤◌, length, All};
 ghost use Rattle.sk_objects.specs.Signals.{IsSignal};
+ghost use Rattle.sk_objects.specs.declared.signals.TheConstants.{SIGNALS_LIMIT};
 ghost use Rattle.sk_changes.specs.Queues.{queue_fits, queue_after, queue_undo, CanUndoQueue, queue_undone};
 
 use crate::{Change, Invertible, NotApplied, Undo};
 use sk_objects::Signals;
-use sk_objects::signals::SIGNALS_LIMIT;
+use sk_objects::signals::{LAST_SIGNAL, SIGNALS_LIMIT};
 
 impl Invertible for Signals {
-    ghost valid = { λ s. (length s ≤ 32) × All IsSignal s };
+    ghost valid = { λ s. (length s ≤ SIGNALS_LIMIT) × All IsSignal s };
 
     ghost fits = { queue_fits };
+
+    ghost grows = { λ v c. false };
 
     ghost applied = { queue_after };
 
@@ -24,7 +27,7 @@ impl Invertible for Signals {
         let len = self.len();
         match change {
             Change::PushSignal(signal) => {
-                if len >= SIGNALS_LIMIT || signal < 1 || signal > 31 {
+                if len >= SIGNALS_LIMIT || signal < 1 || signal > LAST_SIGNAL {
                     return Err(NotApplied::Unfit);
                 }
                 self.push(signal);
@@ -48,6 +51,7 @@ impl Invertible for Signals {
         }
     }
 
+    ghost use Rattle.sk_objects.specs.declared.signals.TheConstants.{SIGNALS_LIMIT};
     ghost use Rattle.sk_changes.specs.QueuesLaw.{queue_restores};
 
     ghost restores = { queue_restores };

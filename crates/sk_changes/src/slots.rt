@@ -1,15 +1,25 @@
 //! Changes of exit slots and of cached copies.
-ghost use Rattle.std.specs.Prelude.{◌≡◌};
+ghost use Rattle.std.specs.Prelude.{false, ◌≡◌};
+ghost use Rattle.sk_objects.specs.Value.{IsStatus, IsContent};
 ghost use Rattle.sk_changes.specs.Slots.{exit_fits, exit_after, exit_undo, CanUndoExit, exit_undone, copy_fits, copy_after, copy_undo, CanUndoCopy, copy_undone};
 
 use crate::{Change, Invertible, NotApplied, Undo};
 use sk_objects::Content;
 
+/// What holds of every exit slot, for proofs.
+fn known(slot: Option<u8>)
+    ensures { IsStatus slot }
+{
+    if let Some(_status) = slot {}
+}
+
 /// An exit slot.
 impl Invertible for Option<u8> {
-    ghost valid = { λ e. Unit {0} };
+    ghost valid = { IsStatus };
 
     ghost fits = { exit_fits };
+
+    ghost grows = { λ v c. false };
 
     ghost applied = { exit_after };
 
@@ -20,6 +30,7 @@ impl Invertible for Option<u8> {
     ghost undone = { exit_undone };
 
     fn apply(&mut self, change: Change) -> Result<Undo, NotApplied> {
+        known(*self);
         let Change::SetExit(status) = change else {
             return Err(NotApplied::Unfit);
         };
@@ -36,15 +47,18 @@ impl Invertible for Option<u8> {
         }
     }
 
+    ghost use Rattle.sk_objects.specs.Value.{IsStatus, IsContent};
     ghost use Rattle.sk_changes.specs.SlotsLaw.{exit_restores};
 
     ghost restores = { exit_restores };
 }
 
 impl Invertible for Content {
-    ghost valid = { λ c. Unit {0} };
+    ghost valid = { IsContent };
 
     ghost fits = { copy_fits };
+
+    ghost grows = { λ v c. false };
 
     ghost applied = { copy_after };
 
@@ -55,6 +69,7 @@ impl Invertible for Content {
     ghost undone = { copy_undone };
 
     fn apply(&mut self, change: Change) -> Result<Undo, NotApplied> {
+        self.known();
         let Change::SetCopy(content) = change else {
             return Err(NotApplied::Unfit);
         };
@@ -69,6 +84,7 @@ impl Invertible for Content {
         }
     }
 
+    ghost use Rattle.sk_objects.specs.Value.{IsStatus, IsContent};
     ghost use Rattle.sk_changes.specs.SlotsLaw.{copy_restores};
 
     ghost restores = { copy_restores };

@@ -1,6 +1,7 @@
 //! Changes of values of any kind.
 ghost use Rattle.std.specs.Prelude.{◌≡◌};
-ghost use Rattle.sk_changes.specs.Changes.{IsValue, value_fits, value_after, value_undo, CanUndo, value_undone};
+ghost use Rattle.sk_objects.specs.Value.{IsValue};
+ghost use Rattle.sk_changes.specs.Changes.{value_fits, value_grows, value_after, value_undo, CanUndo, value_undone};
 
 use crate::{Change, Invertible, NotApplied, Undo};
 use sk_objects::Value;
@@ -9,6 +10,8 @@ impl Invertible for Value {
     ghost valid = { IsValue };
 
     ghost fits = { value_fits };
+
+    ghost grows = { value_grows };
 
     ghost applied = { value_after };
 

@@ -1,9 +1,18 @@
 -- What an entity holds, and what its readers see of it.
-use Rattle.std.specs.Prelude.{ℕ, Bool, false, Option, Some, None, List, [], length, min, slice_get}
+use Rattle.std.specs.Prelude.{ℕ, ◌≤◌, Bool, false, Option, Some, None, List, [], length, min, slice_get, All}
 use Rattle.std.specs.Option.{option_map}
 use Rattle.sk_ids.specs.declared.pid.ObjId.{ObjId}
+use Rattle.sk_ids.specs.declared.text.TheConstants.{TEXT_LIMIT}
 use Rattle.sk_objects.specs.File.{part}
-use Rattle.sk_objects.specs.Directory.{Link, looked_up}
+use Rattle.sk_objects.specs.Content.{ContentView}
+use Rattle.sk_objects.specs.Directory.{Link, IsRising, looked_up}
+use Rattle.sk_objects.specs.Signals.{IsSignal}
+use Rattle.sk_objects.specs.declared.file.TheConstants.{FILE_LIMIT}
+use Rattle.sk_objects.specs.declared.directory.TheConstants.{DIRECTORY_LIMIT}
+use Rattle.sk_objects.specs.declared.pipe.TheConstants.{PIPE_LIMIT}
+use Rattle.sk_objects.specs.declared.signals.TheConstants.{SIGNALS_LIMIT}
+use Rattle.sk_objects.specs.declared.content.TheConstants.{LAST_VERSION}
+use Rattle.sk_objects.specs.declared.value.TheConstants.{LAST_STATUS}
 use Rattle.sk_objects.specs.declared.value.Kind.{Kind}
 use Rattle.sk_objects.specs.declared.value.Kind.TheVariants as kinds
 use Rattle.sk_objects.specs.declared.value.Value.{Value}
@@ -36,7 +45,7 @@ held_bytes _ = None
 
 -- up to so many of them from a place on, and at most 512
 abbrev pub bytes_from : Value → ℕ → ℕ → Option (List ℕ)
-bytes_from v offset count = option_map (λ held. part held offset (min count 512)) (held_bytes v)
+bytes_from v offset count = option_map (λ held. part held offset (min count TEXT_LIMIT)) (held_bytes v)
 
 -- their number
 abbrev pub size_of : Value → Option ℕ
@@ -71,3 +80,22 @@ status_of _ = None
 abbrev pub version_of : Value → Option ℕ
 version_of (Copy c) = Some c.version
 version_of _ = None
+
+-- ---- what holds of every value
+
+-- a status that is set is none above the last
+abbrev pub IsStatus : Option ℕ → Type 0
+IsStatus None = Unit {0}
+IsStatus (Some status) = status ≤ LAST_STATUS
+
+-- a version within its range, and a text's bytes
+abbrev pub IsContent : ContentView → Type 0
+IsContent c = (c.version ≤ LAST_VERSION) × (length c.bytes ≤ TEXT_LIMIT)
+
+abbrev pub IsValue : Value → Type 0
+IsValue (File f) = length f ≤ FILE_LIMIT
+IsValue (Dir d) = IsRising d × (length d ≤ DIRECTORY_LIMIT)
+IsValue (Pipe p) = length p.bytes ≤ PIPE_LIMIT
+IsValue (Signals s) = (length s ≤ SIGNALS_LIMIT) × All IsSignal s
+IsValue (Exit e) = IsStatus e
+IsValue (Copy c) = IsContent c

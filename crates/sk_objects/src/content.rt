@@ -1,12 +1,13 @@
 //! What a file of the server holds, and a cached copy of it.
 ghost use Rattle.std.specs.Prelude.{◌≡◌, ◌≤◌, ◌↔◌, IsSome, IfSome};
-ghost use Rattle.sk_objects.specs.Content.{LAST_VERSION};
+ghost use Rattle.sk_objects.specs.Value.{IsContent};
+ghost use Rattle.sk_objects.specs.declared.content.TheConstants.{LAST_VERSION};
 
 use sk_ids::Text;
 use std::marker::Model;
 
 /// The greatest version of a content, 2^63 - 1.
-pub const VERSION_LIMIT: u64 = 9_223_372_036_854_775_807;
+pub const LAST_VERSION: u64 = (1 << 63) - 1;
 
 /// A version, at most 2^63 - 1, and at most 512 bytes.
 #[derive(Clone, Copy, Debug, PartialEq, Eq)]
@@ -17,7 +18,8 @@ pub struct Content {
 
 impl Model for Content {
     ghost use Rattle.std.specs.Prelude.{◌≤◌};
-    ghost use Rattle.sk_objects.specs.Content.{ContentView, content_code, LAST_VERSION};
+    ghost use Rattle.sk_objects.specs.Content.{ContentView, content_code};
+    ghost use Rattle.sk_objects.specs.declared.content.TheConstants.{LAST_VERSION};
 
     ghost Value = { ContentView };
 
@@ -37,7 +39,7 @@ impl Content {
         ensures some { IsSome result ↔ (version ≤ LAST_VERSION) }
         ensures value { IfSome result (λ c. c ≡ record { version = version; bytes = bytes }) }
     {
-        if version > VERSION_LIMIT {
+        if version > LAST_VERSION {
             return None;
         }
         Some(Content { version, bytes })
@@ -49,6 +51,13 @@ impl Content {
         ensures limit { result ≤ LAST_VERSION }
     {
         self.version
+    }
+
+    /// What holds of every content, for proofs.
+    pub fn known(&self)
+        ensures { IsContent self.now }
+    {
+        let _ = self.bytes.len();
     }
 
     /// The bytes.

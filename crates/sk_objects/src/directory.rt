@@ -2,6 +2,7 @@
 ghost use Rattle.std.specs.Prelude.{◌≡◌, ◌≤◌, ◌<◌, [], length, IfOk, IfSome, IsSome, None};
 ghost use Rattle.std.specs.List.{count_by};
 ghost use Rattle.sk_objects.specs.Directory.{is_before, looked_up, linked, unlinked, IsRising};
+ghost use Rattle.sk_objects.specs.declared.directory.TheConstants.{DIRECTORY_LIMIT};
 
 use sk_ids::{Name, ObjId};
 use std::alloc::{AllocError, Global};
@@ -20,12 +21,13 @@ pub struct Directory {
 impl Model for Directory {
     ghost use Rattle.std.specs.Prelude.{List, ◌≤◌, vec_len, vec_capacity};
     ghost use Rattle.sk_objects.specs.Directory.{Link, IsRising};
+    ghost use Rattle.sk_objects.specs.declared.directory.TheConstants.{DIRECTORY_LIMIT};
 
     ghost Value = { List Link };
 
     ghost view = { λ d. d.links.items };
 
-    ghost invariant = { λ d. (vec_len d.links ≤ 64) × (64 ≤ vec_capacity d.links) × IsRising d.links.items };
+    ghost invariant = { λ d. (vec_len d.links ≤ DIRECTORY_LIMIT) × (DIRECTORY_LIMIT ≤ vec_capacity d.links) × IsRising d.links.items };
 }
 
 /// How many names come before this one.
@@ -57,7 +59,7 @@ impl Directory {
     /// The names with their objects, by rising bytes of the names.
     pub fn as_slice(&self) -> &[(Name, ObjId)]
         ensures value { result.now ≡ self.now }
-        ensures limit { length result.now ≤ 64 }
+        ensures limit { length result.now ≤ DIRECTORY_LIMIT }
         ensures rising { IsRising result.now }
     {
         self.links.as_slice()
@@ -66,7 +68,7 @@ impl Directory {
     /// The number of names.
     pub fn len(&self) -> usize
         ensures value { result ≡ length self.now }
-        ensures limit { result ≤ 64 }
+        ensures limit { result ≤ DIRECTORY_LIMIT }
         ensures rising { IsRising self.now }
     {
         self.links.len()
@@ -82,7 +84,7 @@ impl Directory {
 
     /// Links a name that is not linked, for which there must be room. This takes no memory.
     pub fn link(&mut self, name: Name, object: ObjId)
-        requires room { length self.old < 64 }
+        requires room { length self.old < DIRECTORY_LIMIT }
         requires absent { looked_up self.old name ≡ None }
         ensures { self.new ≡ linked self.old name object }
     {

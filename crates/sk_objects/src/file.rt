@@ -1,6 +1,8 @@
 //! Files.
-ghost use Rattle.std.specs.Prelude.{◌≡◌, ◌≤◌, ◌+◌, [], length, take, vec_len, IfOk, OnOk, OnErr};
+ghost use Rattle.std.specs.Prelude.{◌≡◌, ◌≤◌, ◌<◌, ◌+◌, [], length, take, vec_len, IfOk, OnOk, OnErr};
+ghost use Rattle.sk_ids.specs.declared.text.TheConstants.{TEXT_LIMIT};
 ghost use Rattle.sk_objects.specs.File.{overwritten, written, cut, part};
+ghost use Rattle.sk_objects.specs.declared.file.TheConstants.{FILE_LIMIT};
 
 use sk_ids::Text;
 use std::alloc::{AllocError, Global};
@@ -17,12 +19,13 @@ pub struct File {
 
 impl Model for File {
     ghost use Rattle.std.specs.Prelude.{ℕ, List, ◌≤◌, length};
+    ghost use Rattle.sk_objects.specs.declared.file.TheConstants.{FILE_LIMIT};
 
     ghost Value = { List ℕ };
 
     ghost view = { λ f. f.bytes.items };
 
-    ghost invariant = { λ f. length f.bytes.items ≤ 32768 };
+    ghost invariant = { λ f. length f.bytes.items ≤ FILE_LIMIT };
 }
 
 /// Writes over a part that is there.
@@ -33,17 +36,20 @@ fn place(cells: &mut [u8], at: usize, bytes: &[u8])
     cells[at..at + bytes.len()].copy_from_slice(bytes);
 }
 
-/// Writes bytes at a place, with zeros in a gap. Without memory nothing changes.
+/// Writes bytes at a place, with zeros in a gap. Only bytes past the end can want memory, and without
+/// memory nothing changes.
 fn write(cells: &mut Vec<u8>, at: usize, bytes: &[u8]) -> Result<(), AllocError>
-    requires end { at + length bytes.now ≤ 32768 }
-    requires short { vec_len cells.old ≤ 32768 }
-    ensures short { vec_len cells.new ≤ 32768 }
+    requires end { at + length bytes.now ≤ FILE_LIMIT }
+    requires short { vec_len cells.old ≤ FILE_LIMIT }
+    ensures short { vec_len cells.new ≤ FILE_LIMIT }
     ensures ok { OnOk result (cells.new.items ≡ written cells.old.items at bytes.now) }
     ensures err { OnErr result (cells.new.items ≡ cells.old.items) }
+    ensures grows { OnErr result (vec_len cells.old < at + length bytes.now) }
 {
     let end = at + bytes.len();
-    let len = cells.len();
-    cells.resize(end.max(len), 0)?;
+    if end > cells.len() {
+        cells.resize(end, 0)?;
+    }
     place(cells, at, bytes);
     Ok(())
 }
@@ -60,7 +66,7 @@ impl File {
 
     /// The file of these bytes, at most 32,768.
     pub fn from_slice(alloc: Global, bytes: &[u8]) -> Result<File, AllocError>
-        requires { length bytes.now ≤ 32768 }
+        requires { length bytes.now ≤ FILE_LIMIT }
         ensures { IfOk result (λ file. file ≡ bytes.now) }
     {
         let bytes = Vec::from_slice(alloc, bytes)?;
@@ -78,7 +84,7 @@ impl File {
     /// All the bytes.
     pub fn as_slice(&self) -> &[u8]
         ensures value { result.now ≡ self.now }
-        ensures limit { length result.now ≤ 32768 }
+        ensures limit { length result.now ≤ FILE_LIMIT }
     {
         self.bytes.as_slice()
     }
@@ -86,25 +92,27 @@ impl File {
     /// The number of bytes.
     pub fn len(&self) -> usize
         ensures value { result ≡ length self.now }
-        ensures limit { result ≤ 32768 }
+        ensures limit { result ≤ FILE_LIMIT }
     {
         self.bytes.len()
     }
 
     /// Up to `count` bytes, at most 512, from a place on; none past the end.
     pub fn part(&self, at: usize, count: usize) -> Text
-        requires { count ≤ 512 }
+        requires { count ≤ TEXT_LIMIT }
         ensures { result ≡ part self.now at count }
     {
         let rest = &self.bytes[at.min(self.bytes.len())..];
         Text::new(&rest[..count.min(rest.len())]).unwrap()
     }
 
-    /// Writes bytes at a place, with zeros in a gap. Without memory nothing changes.
+    /// Writes bytes at a place, with zeros in a gap. Only bytes past the end can want memory, and
+    /// without memory nothing changes.
     pub fn write_at(&mut self, at: usize, bytes: &[u8]) -> Result<(), AllocError>
-        requires { at + length bytes.now ≤ 32768 }
+        requires { at + length bytes.now ≤ FILE_LIMIT }
         ensures ok { OnOk result (self.new ≡ written self.old at bytes.now) }
         ensures err { OnErr result (self.new ≡ self.old) }
+        ensures grows { OnErr result (length self.old < at + length bytes.now) }
     {
         write(&mut self.bytes, at, bytes)
     }
@@ -117,12 +125,18 @@ impl File {
         place(&mut self.bytes, at, bytes);
     }
 
-    /// Keeps the first `len` bytes, or appends zeros up to `len`. Without memory nothing changes.
+    /// Keeps the first `len` bytes, or appends zeros up to `len`. Only zeros past the end can want
+    /// memory, and without memory nothing changes.
     pub fn cut_to(&mut self, len: usize) -> Result<(), AllocError>
-        requires { len ≤ 32768 }
+        requires { len ≤ FILE_LIMIT }
         ensures ok { OnOk result (self.new ≡ cut self.old len) }
         ensures err { OnErr result (self.new ≡ self.old) }
+        ensures grows { OnErr result (length self.old < len) }
     {
+        if len <= self.bytes.len() {
+            self.truncate(len);
+            return Ok(());
+        }
         self.bytes.resize(len, 0)
     }
 

@@ -1,6 +1,8 @@
 //! Pipes.
 ghost use Rattle.std.specs.Prelude.{◌≡◌, ◌≤◌, ◌+◌, ◌++◌, false, [], length, take, drop, vec_len, vec_capacity, IfOk};
+ghost use Rattle.sk_ids.specs.declared.text.TheConstants.{TEXT_LIMIT};
 ghost use Rattle.sk_objects.specs.Pipe.{PipeView};
+ghost use Rattle.sk_objects.specs.declared.pipe.TheConstants.{PIPE_LIMIT};
 
 use sk_ids::Text;
 use std::alloc::{AllocError, Global};
@@ -20,18 +22,19 @@ pub struct Pipe {
 impl Model for Pipe {
     ghost use Rattle.std.specs.Prelude.{◌≤◌, vec_len, vec_capacity};
     ghost use Rattle.sk_objects.specs.Pipe.{PipeView};
+    ghost use Rattle.sk_objects.specs.declared.pipe.TheConstants.{PIPE_LIMIT};
 
     ghost Value = { PipeView };
 
     ghost view = { λ p. record { bytes = p.bytes.items; shut = p.shut } };
 
-    ghost invariant = { λ p. (vec_len p.bytes ≤ 4096) × (4096 ≤ vec_capacity p.bytes) };
+    ghost invariant = { λ p. (vec_len p.bytes ≤ PIPE_LIMIT) × (PIPE_LIMIT ≤ vec_capacity p.bytes) };
 }
 
 /// Takes bytes from the front.
 fn take_front(held: &mut Vec<u8>, count: usize) -> Text
     requires held { count ≤ vec_len held.old }
-    requires short { count ≤ 512 }
+    requires short { count ≤ TEXT_LIMIT }
     ensures taken { result ≡ take count held.old.items }
     ensures items { held.new.items ≡ drop count held.old.items }
     ensures capacity { vec_capacity held.new ≡ vec_capacity held.old }
@@ -79,7 +82,7 @@ impl Pipe {
     /// All the bytes, the oldest first.
     pub fn as_slice(&self) -> &[u8]
         ensures value { result.now ≡ self.now.bytes }
-        ensures limit { length result.now ≤ 4096 }
+        ensures limit { length result.now ≤ PIPE_LIMIT }
     {
         self.bytes.as_slice()
     }
@@ -87,7 +90,7 @@ impl Pipe {
     /// The number of bytes.
     pub fn len(&self) -> usize
         ensures value { result ≡ length self.now.bytes }
-        ensures limit { result ≤ 4096 }
+        ensures limit { result ≤ PIPE_LIMIT }
     {
         self.bytes.len()
     }
@@ -101,7 +104,7 @@ impl Pipe {
 
     /// Appends bytes, for which there must be room. This takes no memory.
     pub fn put(&mut self, bytes: &[u8])
-        requires { length self.old.bytes + length bytes.now ≤ 4096 }
+        requires { length self.old.bytes + length bytes.now ≤ PIPE_LIMIT }
         ensures { self.new ≡ record self.old { bytes = self.old.bytes ++ bytes.now } }
     {
         self.bytes.extend_from_slice(bytes).unwrap();
@@ -110,7 +113,7 @@ impl Pipe {
     /// Takes out the `count` oldest bytes, at most 512 and at most those held.
     pub fn take(&mut self, count: usize) -> Text
         requires held { count ≤ length self.old.bytes }
-        requires short { count ≤ 512 }
+        requires short { count ≤ TEXT_LIMIT }
         ensures taken { result ≡ take count self.old.bytes }
         ensures left { self.new ≡ record self.old { bytes = drop count self.old.bytes } }
     {
@@ -119,7 +122,7 @@ impl Pipe {
 
     /// Puts bytes back at the front, for which there must be room. This takes no memory.
     pub fn put_back(&mut self, bytes: &[u8])
-        requires { length self.old.bytes + length bytes.now ≤ 4096 }
+        requires { length self.old.bytes + length bytes.now ≤ PIPE_LIMIT }
         ensures { self.new ≡ record self.old { bytes = bytes.now ++ self.old.bytes } }
     {
         put_front(&mut self.bytes, bytes);

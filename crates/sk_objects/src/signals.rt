@@ -1,12 +1,16 @@
 //! Queues of signals.
 ghost use Rattle.std.specs.Prelude.{◌≡◌, ◌≤◌, ◌<◌, ◌-◌, ◌++◌, ◌∷◌, ◌↔◌, [], length, take, drop, IfOk, IfSome, IsSome, All, slice_index};
 ghost use Rattle.sk_objects.specs.Signals.{IsSignal};
+ghost use Rattle.sk_objects.specs.declared.signals.TheConstants.{SIGNALS_LIMIT};
 
 use std::alloc::{AllocError, Global};
 use std::marker::Model;
 
 /// The greatest number of signals in a queue.
 pub const SIGNALS_LIMIT: usize = 32;
+
+/// The last number of a signal; the first is 1.
+pub const LAST_SIGNAL: u8 = 31;
 
 /// At most 32 signals, each from 1 to 31, in the order in which they came. The room for all of them
 /// is made with the queue.
@@ -18,12 +22,13 @@ pub struct Signals {
 impl Model for Signals {
     ghost use Rattle.std.specs.Prelude.{ℕ, List, ◌≤◌, All, vec_len, vec_capacity};
     ghost use Rattle.sk_objects.specs.Signals.{IsSignal};
+    ghost use Rattle.sk_objects.specs.declared.signals.TheConstants.{SIGNALS_LIMIT};
 
     ghost Value = { List ℕ };
 
     ghost view = { λ s. s.signals.items };
 
-    ghost invariant = { λ s. (vec_len s.signals ≤ 32) × (32 ≤ vec_capacity s.signals) × All IsSignal s.signals.items };
+    ghost invariant = { λ s. (vec_len s.signals ≤ SIGNALS_LIMIT) × (SIGNALS_LIMIT ≤ vec_capacity s.signals) × All IsSignal s.signals.items };
 }
 
 impl Signals {
@@ -48,7 +53,7 @@ impl Signals {
     /// The signals, the oldest first, each from 1 to 31.
     pub fn as_slice(&self) -> &[u8]
         ensures value { result.now ≡ self.now }
-        ensures limit { length result.now ≤ 32 }
+        ensures limit { length result.now ≤ SIGNALS_LIMIT }
         ensures signals { All IsSignal result.now }
     {
         self.signals.as_slice()
@@ -57,7 +62,7 @@ impl Signals {
     /// The number of signals.
     pub fn len(&self) -> usize
         ensures value { result ≡ length self.now }
-        ensures limit { result ≤ 32 }
+        ensures limit { result ≤ SIGNALS_LIMIT }
         ensures signals { All IsSignal self.now }
     {
         self.signals.len()
@@ -65,7 +70,7 @@ impl Signals {
 
     /// Puts a signal, from 1 to 31, at the back, for which there must be room. This takes no memory.
     pub fn push(&mut self, signal: u8)
-        requires room { length self.old < 32 }
+        requires room { length self.old < SIGNALS_LIMIT }
         requires signal { IsSignal signal }
         ensures { self.new ≡ self.old ++ signal ∷ [] }
     {
@@ -83,7 +88,7 @@ impl Signals {
 
     /// Puts a signal back at the front, for which there must be room. This takes no memory.
     pub fn put_back(&mut self, signal: u8)
-        requires room { length self.old < 32 }
+        requires room { length self.old < SIGNALS_LIMIT }
         requires signal { IsSignal signal }
         ensures { self.new ≡ signal ∷ self.old }
     {

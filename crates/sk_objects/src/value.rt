@@ -1,12 +1,18 @@
 //! What an entity holds.
 ghost use Rattle.std.specs.Prelude.{◌≡◌, ◌≤◌, min, IfOk, IfSome};
 ghost use Rattle.sk_objects.specs.Content.{LAST_VERSION};
+ghost use Rattle.sk_ids.specs.declared.text.TheConstants.{TEXT_LIMIT};
 ghost use Rattle.sk_objects.specs.File.{part as bytes_part};
+ghost use Rattle.sk_objects.specs.declared.file.TheConstants.{FILE_LIMIT};
 ghost use Rattle.sk_objects.specs.Value.{kind_of, empty_of, bytes_from, size_of, shut_of, look_in, link_at, queued_at, status_of, version_of};
 
 use crate::{Content, Directory, File, Pipe, Signals};
+use sk_ids::text::TEXT_LIMIT;
 use sk_ids::{Name, ObjId, Text};
 use std::alloc::{AllocError, Global};
+
+/// The greatest status of an exit slot.
+pub const LAST_STATUS: u8 = u8::MAX;
 
 /// What an entity other than a process holds.
 #[derive(Drop)]
@@ -38,10 +44,10 @@ pub enum Kind {
 
 /// Up to `count` bytes from a place on, and at most 512; none past the end.
 fn part(bytes: &[u8], offset: u64, count: usize) -> Text
-    ensures { result ≡ bytes_part bytes.now offset (min count 512) }
+    ensures { result ≡ bytes_part bytes.now offset (min count TEXT_LIMIT) }
 {
     let rest = &bytes[bytes.len().min(offset as usize)..];
-    Text::new(&rest[..count.min(512).min(rest.len())]).unwrap()
+    Text::new(&rest[..count.min(TEXT_LIMIT).min(rest.len())]).unwrap()
 }
 
 impl Value {
@@ -104,7 +110,7 @@ impl Value {
     /// The number of bytes of a file, a pipe or a copy; `None` for another kind.
     pub fn size(&self) -> Option<u32>
         ensures value { result ≡ size_of self.now }
-        ensures limit { IfSome result (λ size. size ≤ 32768) }
+        ensures limit { IfSome result (λ size. size ≤ FILE_LIMIT) }
     {
         match self {
             Value::File(file) => Some(file.len() as u32),

@@ -2,14 +2,12 @@
 use Rattle.std.proofs.Common.{◌≡◌, ℕ, ◌≤◌, Bool, true, false, eqb, List, [], ◌∷◌, Option, Some, None, refl, sym, ◌∙◌, ap}
 use Rattle.std.specs.Prelude.{◌≢◌, is_some}
 use Rattle.std.proofs.lemmas.Bool.{false≢true, true≢false, eqb-true, eq-eqb}
-use Rattle.sk_ids.specs.declared.entity.Entity.{Entity}
-use Rattle.sk_store.specs.declared.entity_state.EntityState.{EntityState}
 use Rattle.sk_guesses.specs.Guesses.{GuessesView, status_of, with_status, drawn, next_of, is_undecided}
 use Rattle.sk_guesses.specs.declared.status.Status.{Status}
 use Rattle.sk_guesses.specs.declared.status.Status.TheVariants.{Undecided}
 use Rattle.sk_guesses.proofs.Statuses.{status-drawn_next, status-drawn, status-with_status, status-with_status_other}
 use Rattle.sk_kernel.specs.Open.{OpenView}
-use Rattle.sk_undo.specs.Journal.{Written, written_over, puts, puts_all, marked}
+use Rattle.sk_undo.specs.Journal.{Written, written_over}
 use Rattle.sk_kernel.specs.Invariant.{IsWhole, IsTheUndecided}
 
 by_test : (q n : ℕ) (b : Bool) → eqb q n ≡ b → (q ≢ n → ⊥) → q ≡ n
@@ -40,23 +38,15 @@ decided_whole g h p w v room left id s whole was decided is empty = record {
   place = tt;
 }
 
-pub drawn_whole : (g h : GuessesView) (o : OpenView) (w v : Written) (room left : ℕ) → IsWhole g None w room → h ≡ drawn g → o.id ≡ next_of g → v.noting ≡ true → 1 ≤ left → IsWhole h (Some o) v left
-drawn_whole g h o w v room left whole is number noting place = record {
+pub drawn_whole : (g h : GuessesView) (o : OpenView) (w v : Written) (room left : ℕ) → IsWhole g None w room → h ≡ drawn g → o.id ≡ next_of g → 1 ≤ left → IsWhole h (Some o) v left
+drawn_whole g h o w v room left whole is number place = record {
   undecided = (
     ap (λ f. status_of f o.id) is ∙ ap (status_of (drawn g)) number ∙ status-drawn_next g,
     λ q there. by_test q o.id (eqb q o.id) refl (λ other. whole.undecided q (sym (status-drawn g q (λ same. other (same ∙ sym number))) ∙ ap (λ f. status_of f q) (sym is) ∙ there)),
   );
-  notes = noting;
+  notes = tt;
   place = place;
 }
-
--- writes are noted as long as they were
-noting-puts_all : (w : Written) (ws : List (Entity × EntityState)) → (puts_all w ws).noting ≡ w.noting
-noting-puts_all w [] = refl
-noting-puts_all w (x ∷ xs) = noting-puts_all (puts w x.0 x.1) xs
-
-pub noting_marked : (w v : Written) (ws : List (Entity × EntityState)) → v ≡ puts_all (marked w) ws → v.noting ≡ true
-noting_marked w v ws is = ap (λ u. u.noting) is ∙ noting-puts_all (marked w) ws
 
 pub none_pending : (p : Option OpenView) → is_some p ≡ false → p ≡ None
 none_pending None h = refl

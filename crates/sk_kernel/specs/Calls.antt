@@ -1,5 +1,5 @@
 -- What the kernel's calls answer.
-use Rattle.std.specs.Prelude.{◌≡◌, ℕ, Option, Some, None, IsSome, Result, Ok, Err}
+use Rattle.std.specs.Prelude.{◌≡◌, ℕ, Option, Some, None, Result, Ok, Err}
 use Rattle.sk_guesses.specs.Token.{Token}
 use Rattle.sk_guesses.specs.Guesses.{next_of}
 use Rattle.sk_guesses.specs.Calls.{redeemed}
@@ -11,7 +11,6 @@ use Rattle.sk_plain.specs.declared.refusal.Refusal.{Refusal}
 use Rattle.sk_plain.specs.declared.refusal.Refusal.TheVariants.{NoProcess, Ended, Mismatch, NeedsReply, Blocked, TooMany, TraceFull, Memory}
 use Rattle.std.specs.FinMap as map
 use Rattle.sk_record.specs.Step.{perform}
-use Rattle.sk_ids.specs.declared.entity.Entity.TheVariants.{Proc}
 use Rattle.sk_script.specs.declared.instruction.Input.{Input}
 use Rattle.sk_plain.specs.Act.{act}
 use Rattle.sk_plain.specs.Planned.{effect_of, CanDo, said_by}
@@ -56,7 +55,7 @@ abbrev pub PlansGuess : KernelView → ℕ → Input → Result Plan Refusal →
 PlansGuess k pid input (Ok plan) =
     let does = perform (map.get k.written.now) (act k.scripts pid input) in
     (does ≡ Ok (effect_of (map.get k.written.now) pid input plan)) × (guess_misfits input does ≡ None)
-    × CanDo (map.get k.written.now) plan.action × IsSome (map.get k.written.now (Proc pid)) × (said_by plan ≡ None)
+    × CanDo (map.get k.written.now) plan.beside × (said_by plan ≡ None)
 PlansGuess k pid input (Err why) = (guess_misfits input (perform (map.get k.written.now) (act k.scripts pid input)) ≡ Some why) × (cause why ≡ Some why)
 
 -- a commit of a token: it is spent where its guess is undecided or struck, and comes back where it is a stranger
@@ -65,9 +64,9 @@ CommitPost (Ok outcomes.Done) token old new = (redeemed old.guesses token ≡ Ok
 CommitPost (Ok outcomes.Gone) token old new = (redeemed old.guesses token ≡ Ok (redeemed_as.Struck token.id)) × (new ≡ old)
 CommitPost (Err stranger) token old new = (redeemed old.guesses token ≡ Err token) × (stranger.guess ≡ token) × (new ≡ old)
 
--- a failure of a token
+-- a failure of a token, which takes no memory
 abbrev pub FailPost : Result Outcome FailRefusal → Token → KernelView → KernelView → Type 0
 FailPost (Ok outcomes.Done) token old new = (redeemed old.guesses token ≡ Ok (redeemed_as.Undecided token.id)) × IsFailed old token.id new
 FailPost (Ok outcomes.Gone) token old new = (redeemed old.guesses token ≡ Ok (redeemed_as.Struck token.id)) × (new ≡ old)
 FailPost (Err (refusals.Stranger guess)) token old new = (redeemed old.guesses token ≡ Err token) × (guess ≡ token) × (new ≡ old)
-FailPost (Err (refusals.Memory guess)) token old new = (guess ≡ token) × (new ≡ old)
+FailPost (Err (refusals.Memory guess)) token old new = ⊥

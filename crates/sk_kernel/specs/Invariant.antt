@@ -1,5 +1,5 @@
 -- What holds of the parts of a kernel between its calls.
-use Rattle.std.specs.Prelude.{◌≡◌, ℕ, ◌≤◌, true, Option, Some, None}
+use Rattle.std.specs.Prelude.{◌≡◌, ℕ, ◌≤◌, Option, Some, None}
 use Rattle.sk_guesses.specs.Guesses.{GuessesView, status_of}
 use Rattle.sk_guesses.specs.declared.status.Status.TheVariants.{Undecided}
 use Rattle.sk_kernel.specs.Open.{OpenView}
@@ -10,10 +10,10 @@ abbrev pub IsTheUndecided : GuessesView → Option OpenView → Type 0
 IsTheUndecided g None = (id : ℕ) → status_of g id ≡ Some Undecided → ⊥
 IsTheUndecided g (Some o) = (status_of g o.id ≡ Some Undecided) × ((id : ℕ) → status_of g id ≡ Some Undecided → id ≡ o.id)
 
--- writes are noted while a guess is pending, and with none there is nothing to put back
+-- with no guess pending there is nothing to put back
 abbrev pub NotesFor : Option OpenView → Written → Type 0
 NotesFor None w = w ≡ written_over w.now
-NotesFor (Some o) w = w.noting ≡ true
+NotesFor (Some o) w = Unit {0}
 
 -- a place of the trace is kept for the decision
 abbrev pub KeepsPlace : Option OpenView → ℕ → Type 0

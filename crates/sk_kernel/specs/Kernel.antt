@@ -22,14 +22,14 @@ use Rattle.sk_store.specs.Start.{start_of}
 use Rattle.sk_plain.specs.Entry.{EntryView}
 use Rattle.sk_plain.specs.Trace.{event_code}
 use Rattle.sk_plain.specs.Act.{plain, Saying}
-use Rattle.sk_plain.specs.Planned.{refusal_of}
+use Rattle.sk_plain.specs.Planned.{refusal_of, wrote_all}
 use Rattle.sk_store.specs.declared.entity_state.EntityState.{EntityState}
 use Rattle.sk_plain.specs.declared.trace.Event.{Event}
 use Rattle.sk_plain.specs.declared.trace.Event.TheVariants as events
 use Rattle.sk_plain.specs.declared.refusal.Refusal.{Refusal}
 use Rattle.sk_plain.specs.declared.refusal.Refusal.TheVariants.{NoProcess, Ended, Mismatch, Blocked, TooMany, TraceFull}
 use Rattle.sk_kernel.specs.Open.{OpenView, open_code}
-use Rattle.sk_undo.specs.Journal.{Written, written_code, state_code, puts_all, marked, kept, taken_back, written_over}
+use Rattle.sk_undo.specs.Journal.{Written, written_code, state_code, wrote, kept, rolled_back, written_over}
 use Rattle.sk_terminal.specs.Terminals.{TerminalMap, terminals_code, texts_at, said_to}
 
 pub record KernelView : Type 0 where
@@ -42,7 +42,7 @@ pub record KernelView : Type 0 where
   -- the kernel's number, and the status of each guess that was drawn
   pub guesses : GuessesView
   pub pending : Option OpenView
-  -- what entities have, and had before the pending guess, and which were written since
+  -- what entities have, and had before each write since the pending guess was made
   pub written : Written
   -- the texts of each terminal, with the guesses that they rest on
   pub texts : TerminalMap
@@ -136,11 +136,16 @@ abbrev pub texts_after : TerminalMap → List ℕ → Option Saying → Terminal
 texts_after texts tags None = texts
 texts_after texts tags (Some s) = said_to texts s.to (record { text = s.text; tags = tags })
 
+-- with no guess pending what was written stays
+abbrev pub settled : Option OpenView → Written → Written
+settled None w = kept w
+settled (Some o) w = w
+
 -- the writes and the text of an accepted step; a refused one leaves everything
 abbrev pub done : KernelView → Event → Result (Effect Entity EntityState Saying) Refusal → KernelView
 done k event (Ok f) = record k {
   trace = k.trace ++ event ∷ [];
-  written = puts_all k.written f.written;
+  written = settled k.pending (wrote_all wrote f.written k.written);
   texts = texts_after k.texts (pending_tags k.pending) f.said;
 }
 done k event (Err why) = k
@@ -153,7 +158,6 @@ abbrev pub guessing : KernelView → ℕ → KernelView
 guessing k pid = record k {
   guesses = drawn k.guesses;
   pending = Some (record { id = next_of k.guesses; pid = pid });
-  written = marked k.written;
 }
 
 abbrev pub guessed : KernelView → EntryView → KernelView
@@ -179,4 +183,4 @@ IsCommitted old id new = Decided old (events.Commit id) id Committed (kept old.w
 
 -- a failure: what was written since the guess is put back, and texts that rest on it are thrown away
 abbrev pub IsFailed : KernelView → ℕ → KernelView → Type 0
-IsFailed old id new = Decided old (events.Fail id) id Failed (taken_back old.written) (left_of id) new
+IsFailed old id new = Decided old (events.Fail id) id Failed (rolled_back old.written) (left_of id) new

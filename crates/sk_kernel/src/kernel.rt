@@ -9,7 +9,7 @@ ghost use Rattle.sk_kernel.specs.Kernel.{booted, tags_at, undecided, room, pendi
 ghost use Rattle.sk_kernel.specs.Calls.{Shows, StepPost, GuessPost, PlansGuess, CommitPost, FailPost};
 
 use crate::open::Open;
-use crate::taken::{guess_with, perform};
+use crate::perform::{perform, perform_guess};
 use sk_guesses::{Guess, Guesses, Redeemed};
 use sk_ids::{Entity, Pid, TagSet};
 use sk_plain::{Entry, Event, Plan, Refusal, Trace, View, plan_step};
@@ -63,9 +63,9 @@ impl Model for Kernel {
 
     ghost coded = { kernel_code };
 
-    ghost view = { λ k. record { scripts = k.scripts; start = k.start; limit = k.limit; trace = k.trace.events; guesses = k.guesses; pending = k.pending; written = k.journal.written; texts = k.terminals } };
+    ghost view = { λ k. record { scripts = k.scripts; start = k.start; limit = k.limit; trace = k.trace.events; guesses = k.guesses; pending = k.pending; written = k.journal; texts = k.terminals } };
 
-    ghost invariant = { λ k. IsWhole k.guesses k.pending k.journal.written k.trace.room × (k.untagged ≡ []) };
+    ghost invariant = { λ k. IsWhole k.guesses k.pending k.journal k.trace.room × (k.untagged ≡ []) };
 }
 
 /// The tags of a text that is said while this guess is open, which take no memory.
@@ -183,17 +183,11 @@ impl Kernel {
             return Err(Refusal::Memory);
         }
         let tags = pending_tags(self.alloc, &self.pending);
-        if perform(
-            &mut self.journal,
-            &mut self.terminals,
-            self.alloc,
-            pid,
-            &plan,
-            tags,
-        )
-        .is_err()
-        {
+        if perform(&mut self.journal, &mut self.terminals, pid, &plan, tags).is_err() {
             return Err(Refusal::Memory);
+        }
+        if self.pending.is_none() {
+            self.journal.commit();
         }
         self.trace.push(Event::Step(Entry {
             pid,
@@ -236,7 +230,7 @@ impl Kernel {
         if self.trace.reserve(2).is_err() {
             return Err(Refusal::Memory);
         }
-        let Some(guess) = guess_with(
+        let Some(guess) = perform_guess(
             &mut self.journal,
             &mut self.terminals,
             &mut self.guesses,
@@ -268,7 +262,7 @@ impl Kernel {
             Redeemed::Undecided(id) => {
                 self.guesses.commit(id);
                 self.pending = None;
-                self.journal.keep();
+                self.journal.commit();
                 self.terminals.commit(id);
                 self.trace.push(Event::Commit(id));
                 Ok(Outcome::Done)
@@ -289,7 +283,7 @@ impl Kernel {
             Redeemed::Undecided(id) => {
                 self.guesses.fail(id);
                 self.pending = None;
-                self.journal.take_back();
+                self.journal.rollback();
                 self.terminals.drop_of(id);
                 self.trace.push(Event::Fail(id));
                 Ok(Outcome::Done)

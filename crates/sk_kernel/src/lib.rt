@@ -5,6 +5,6 @@
 mod kernel;
 pub mod laws;
 mod open;
-mod taken;
+mod perform;
 
 pub use kernel::{FailRefusal, Kernel, Outcome, Stranger};

@@ -1,5 +1,5 @@
 -- One planned step of a record, read from left to right: whether it depends on the guess, and what is left after it. From the plan's reads and writes.
-use Rattle.std.proofs.Common.{◌≡◌, ℕ, Bool, true, false, cond, ◌||◌, List, [], ◌∷◌, ◌++◌, map, Option, Some, Result, Ok, Err, IsOk, refl, sym, ◌∙◌, ap, subst}
+use Rattle.std.proofs.Common.{◌≡◌, ℕ, Bool, true, false, cond, ◌||◌, List, [], ◌∷◌, ◌++◌, map, Option, Some, None, Result, Ok, Err, IsOk, refl, sym, ◌∙◌, ap, subst}
 use Rattle.std.specs.Prelude.{OnOk}
 use Rattle.std.specs.List.{list_any}
 use Rattle.std.specs.FinMap.{get}
@@ -7,7 +7,7 @@ use Rattle.std.proofs.lemmas.List.{append_assoc}
 use Rattle.std.proofs.lemmas.List.Folds.{list_any-append}
 use Rattle.sk_record.specs.Step.{Effect}
 use Rattle.sk_record.specs.Effects.{is_in, is_marked, dirtied, hit, hits, keep}
-use Rattle.sk_record.specs.Run.{IsLegal, after, marked_effect, outcome, put_all, run, effects}
+use Rattle.sk_record.specs.Run.{IsLegal, after, marked_effect, outcome, put, put_all, run, effects}
 use Rattle.sk_ids.specs.declared.entity.Entity.{Entity}
 use Rattle.sk_ids.specs.declared.entity.Entity.TheVariants.{Proc}
 use Rattle.sk_ids.specs.Entity.{entity_cmp}
@@ -15,27 +15,34 @@ use Rattle.sk_store.specs.State.{State}
 use Rattle.sk_plain.specs.Entry.{EntryView}
 use Rattle.sk_plain.specs.Act.{Scripts, Saying, plain}
 use Rattle.sk_plain.specs.Remaining.{depends, remaining, first_refusal, refusal_in, EndsBy}
-use Rattle.sk_plain.specs.Planned.{also_written, effect_of, read_by, written_by}
+use Rattle.sk_plain.specs.Planned.{written_beside, gone_in, writes_of, wrote_all, effect_of, read_by, written_by}
 use Rattle.sk_store.specs.declared.entity_state.EntityState.{EntityState}
 use Rattle.sk_store.specs.declared.entity_state.EntityState.TheVariants as stored
 use Rattle.sk_plain.specs.declared.refusal.Refusal.{Refusal}
 use Rattle.sk_plain.specs.declared.refusal.Refusal.TheVariants.{NoProcess, Ended, Mismatch, NeedsReply, Blocked, TooMany, TraceFull, Memory}
 use Rattle.sk_plain.specs.declared.plan.Plan.{Plan}
-use Rattle.sk_plain.specs.declared.plan.Action.{Action}
-use Rattle.sk_plain.specs.declared.plan.Action.TheVariants.{Alone, Says, Looks, Makes, Changes, Ends, Caches}
+use Rattle.sk_plain.specs.declared.plan.Beside.{Beside}
+use Rattle.sk_plain.specs.declared.plan.Beside.TheVariants.{Nothing, Says, One, Birth, Gone}
+use Rattle.sk_script.specs.declared.process.Process.{Process}
 
 asked : {A B : Type 0} (look : A → B) (es : List A) → map (λ (r : A × B). r.0) (map (λ e. (e, look e)) es) ≡ es
 asked look [] = refl
 asked look (e ∷ es) = ap (λ rest. e ∷ rest) (asked look es)
 
-changed_are : (look : Entity → Option EntityState) (pid : ℕ) (a : Action) (v : EntityState) → map (λ (w : Entity × EntityState). w.0) (also_written look pid a ++ (Proc pid, v) ∷ []) ≡ written_by pid a
-changed_are look pid Alone v = refl
-changed_are look pid (Says text) v = refl
-changed_are look pid (Looks e) v = refl
-changed_are look pid (Makes o) v = refl
-changed_are look pid (Changes o change) v = refl
-changed_are look pid (Ends status) v = refl
-changed_are look pid (Caches name content) v = refl
+changed_by : (look : Entity → Option EntityState) (p : Process) (pid : ℕ) (v : Option EntityState) (b : Beside) → map (λ (w : Entity × Option EntityState). w.0) (written_beside look p b ++ (Proc pid, v) ∷ map (λ e. (e, None)) (gone_in b)) ≡ written_by pid b
+changed_by look p pid v Nothing = refl
+changed_by look p pid v Says = refl
+changed_by look p pid v (One e becomes) = refl
+changed_by look p pid v (Birth c) = refl
+changed_by look p pid v (Gone e) = refl
+
+changed_are : (look : Entity → Option EntityState) (pid : ℕ) (plan : Plan) → map (λ (w : Entity × Option EntityState). w.0) (writes_of look pid plan) ≡ written_by pid plan.beside
+changed_are look pid plan = changed_by look plan.process pid (Some (stored.Process plan.process)) plan.beside
+
+-- writes one after another are those of a finite map
+pub wrote_are : (ws : List (Entity × Option EntityState)) (s : State) → wrote_all put ws s ≡ put_all ws s
+wrote_are [] s = refl
+wrote_are (w ∷ ws) s = wrote_are ws (put s w.0 w.1)
 
 -- what holds where three others do
 pub on_all : {A F P Q R S : Type 0} (r : Result A F) → OnOk r P → OnOk r Q → OnOk r R → (P → Q → R → S) → OnOk r S
@@ -48,19 +55,19 @@ module _ (scripts : Scripts) (g : ℕ) (n : EntryView) (plan : Plan) (look : Ent
   planned_effect = effect_of look n.pid n.input plan
 
   -- the step depends on the guess where its plan does
-  hit_is : (dirty : List Entity) → hit entity_cmp g dirty (marked_effect (plain scripts) n.guess (Ok planned_effect)) ≡ depends g dirty n plan.action
+  hit_is : (dirty : List Entity) → hit entity_cmp g dirty (marked_effect (plain scripts) n.guess (Ok planned_effect)) ≡ depends g dirty n plan
   hit_is dirty = ap (λ b. is_marked n.guess g || b)
-      (list_any-append (is_in entity_cmp dirty) (map (λ (r : Entity × Option EntityState). r.0) planned_effect.read) (map (λ (w : Entity × EntityState). w.0) planned_effect.written)
-      ∙ ap (λ es. list_any (is_in entity_cmp dirty) es || list_any (is_in entity_cmp dirty) (map (λ (w : Entity × EntityState). w.0) planned_effect.written)) (asked look (read_by n.pid n.input plan.action))
-      ∙ ap (λ es. list_any (is_in entity_cmp dirty) (read_by n.pid n.input plan.action) || list_any (is_in entity_cmp dirty) es) (changed_are look n.pid plan.action (stored.Process plan.process)))
+      (list_any-append (is_in entity_cmp dirty) (map (λ (r : Entity × Option EntityState). r.0) planned_effect.read) (map (λ (w : Entity × Option EntityState). w.0) planned_effect.written)
+      ∙ ap (λ es. list_any (is_in entity_cmp dirty) es || list_any (is_in entity_cmp dirty) (map (λ (w : Entity × Option EntityState). w.0) planned_effect.written)) (asked look (read_by n.pid n.input plan.looks))
+      ∙ ap (λ es. list_any (is_in entity_cmp dirty) (read_by n.pid n.input plan.looks) || list_any (is_in entity_cmp dirty) es) (changed_are look n.pid plan))
 
   -- what is left of the entry and the rest, by whether the step depends on the guess
   step_left : (t : State) (dirty more : List Entity) (kept before rest : List EntryView) (b : Bool)
-      → more ≡ cond b (written_by n.pid plan.action ++ dirty) dirty → kept ≡ cond b before (before ++ n ∷ [])
+      → more ≡ cond b (written_by n.pid plan.beside ++ dirty) dirty → kept ≡ cond b before (before ++ n ∷ [])
       → kept ++ remaining scripts g more t rest ≡ before ++ keep (b ∷ hits entity_cmp g (dirtied b (marked_effect (plain scripts) n.guess (Ok planned_effect)) dirty) (effects (plain scripts) t rest)) (n ∷ rest)
   step_left t dirty more kept before rest true are is =
       ap (λ (k : List EntryView). k ++ remaining scripts g more t rest) is
-      ∙ ap (λ (m : List Entity). before ++ remaining scripts g m t rest) (are ∙ ap (λ (ws : List Entity). ws ++ dirty) (sym (changed_are look n.pid plan.action (stored.Process plan.process))))
+      ∙ ap (λ (m : List Entity). before ++ remaining scripts g m t rest) (are ∙ ap (λ (ws : List Entity). ws ++ dirty) (sym (changed_are look n.pid plan)))
   step_left t dirty more kept before rest false are is =
       ap (λ (k : List EntryView). k ++ remaining scripts g more t rest) is
       ∙ append_assoc before (n ∷ []) (remaining scripts g more t rest)
@@ -69,12 +76,12 @@ module _ (scripts : Scripts) (g : ℕ) (n : EntryView) (plan : Plan) (look : Ent
 module _ (scripts : Scripts) (n : EntryView) (plan : Plan) (s t : State) (accepted : outcome (plain scripts) s n ≡ Ok (effect_of (get s) n.pid n.input plan)) (taken : t ≡ put_all (effect_of (get s) n.pid n.input plan).written s) (rest : List EntryView) where
   -- what is kept with what the rest will leave
   pub kept_on : (g : ℕ) (dirty more : List Entity) (kept before : List EntryView)
-      → more ≡ cond (depends g dirty n plan.action) (written_by n.pid plan.action ++ dirty) dirty
-      → kept ≡ cond (depends g dirty n plan.action) before (before ++ n ∷ [])
+      → more ≡ cond (depends g dirty n plan) (written_by n.pid plan.beside ++ dirty) dirty
+      → kept ≡ cond (depends g dirty n plan) before (before ++ n ∷ [])
       → kept ++ remaining scripts g more t rest ≡ before ++ remaining scripts g dirty s (n ∷ rest)
   kept_on g dirty more kept before are is =
       let left_behind = marked_effect (plain scripts) n.guess (Ok (effect_of (get s) n.pid n.input plan)) in
-      step_left scripts g n plan (get s) t dirty more kept before rest (depends g dirty n plan.action) are is
+      step_left scripts g n plan (get s) t dirty more kept before rest (depends g dirty n plan) are is
       ∙ ap (λ b. before ++ keep (b ∷ hits entity_cmp g (dirtied b left_behind dirty) (effects (plain scripts) t rest)) (n ∷ rest)) (sym (hit_is scripts g n plan (get s) dirty))
       ∙ ap (λ (u : State). before ++ keep (hits entity_cmp g dirty (left_behind ∷ effects (plain scripts) u rest)) (n ∷ rest)) taken
       ∙ ap (λ o. before ++ keep (hits entity_cmp g dirty (marked_effect (plain scripts) n.guess o ∷ effects (plain scripts) (after (plain scripts) o s) rest)) (n ∷ rest)) (sym accepted)

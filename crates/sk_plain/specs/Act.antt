@@ -1,6 +1,7 @@
 -- What a step does, as a tree: one function a row of the table of instructions.
-use Rattle.std.specs.Prelude.{ℕ, ◌+◌, pos, negsuc, neg_ℤ, true, List, [], ◌∷◌, length, Option, Some, None, slice_get, slice_set, if◌then◌else◌, nat_lt, nat_le, ◌==◌}
+use Rattle.std.specs.Prelude.{ℕ, ◌+◌, pos, negsuc, neg_ℤ, true, false, List, [], ◌∷◌, length, Option, Some, None, slice_get, slice_set, if◌then◌else◌, nat_lt, nat_le, ◌==◌, ◌&&◌, ◌*◌}
 use Rattle.std.specs.FinMap.{get}
+use Rattle.std.specs.List.{list_any}
 use Rattle.sk_record.specs.Step.{Step, Ask, Refuse, Done}
 use Rattle.sk_record.specs.Run.{System}
 use Rattle.sk_ids.specs.declared.pid.ObjId.{ObjId}
@@ -8,9 +9,14 @@ use Rattle.sk_ids.specs.declared.entity.Entity.{Entity}
 use Rattle.sk_ids.specs.declared.entity.Entity.TheVariants.{Proc, Sig, Exit, Obj, Copy}
 use Rattle.sk_ids.specs.Entity.{entity_cmp}
 use Rattle.sk_objects.specs.Content.{ContentView}
+use Rattle.sk_objects.specs.Content.{LAST_VERSION}
+use Rattle.sk_objects.specs.Pipe.{PipeView}
+use Rattle.sk_objects.specs.Value.{empty_of}
+use Rattle.sk_objects.specs.declared.value.Kind.{Kind}
+use Rattle.sk_objects.specs.declared.value.Kind.TheVariants as kinds
 use Rattle.sk_objects.specs.declared.value.Value.{Value}
 use Rattle.sk_objects.specs.declared.value.Value.TheVariants as values
-use Rattle.sk_changes.specs.declared.change.Change.TheVariants.{WriteAt, CutTo}
+use Rattle.sk_changes.specs.declared.change.Change.TheVariants.{WriteAt, CutTo, PushSignal, TakeSignal, SetCopy, Shut}
 use Rattle.sk_changes.specs.Changes.{value_after}
 use Rattle.sk_script.specs.declared.register.Val.{Val}
 use Rattle.sk_script.specs.declared.register.Val.TheVariants as vals
@@ -27,7 +33,7 @@ use Rattle.sk_store.specs.declared.entity_state.EntityState.TheVariants as store
 use Rattle.sk_plain.specs.declared.refusal.Refusal.{Refusal}
 use Rattle.sk_plain.specs.declared.refusal.Refusal.TheVariants.{NoProcess, Ended, Mismatch, NeedsReply}
 use Rattle.sk_plain.specs.declared.refusal.Errno.{Errno}
-use Rattle.sk_plain.specs.declared.refusal.Errno.TheVariants.{BadObject, IsDirectory, Invalid, TooBig, NoSpace}
+use Rattle.sk_plain.specs.declared.refusal.Errno.TheVariants.{Absent, BadObject, Again, IsDirectory, Invalid, TooBig, NoSpace}
 use Rattle.sk_plain.specs.declared.trace.Entry.{Entry}
 
 -- a text that is said, and the terminal that it goes to
@@ -68,15 +74,15 @@ fetched p c = record p { place = p.place + 1; buffer = c.bytes; registers = slic
 
 -- nothing but the process is written
 abbrev pub alone : ℕ → Process → StepTree
-alone pid p = Done ((Proc pid, stored.Process p) ∷ []) None
+alone pid p = Done ((Proc pid, Some (stored.Process p)) ∷ []) None
 
 -- one entity is written beside it
 abbrev pub with_write : ℕ → Entity → Value → Process → StepTree
-with_write pid e v p = Done ((e, stored.Value v) ∷ (Proc pid, stored.Process p) ∷ []) None
+with_write pid e v p = Done ((e, Some (stored.Value v)) ∷ (Proc pid, Some (stored.Process p)) ∷ []) None
 
 -- a text is said
 abbrev pub said : ℕ → Process → StepTree
-said pid p = Done ((Proc pid, stored.Process (moved p)) ∷ []) (Some (record { to = p.terminal; text = p.buffer }))
+said pid p = Done ((Proc pid, Some (stored.Process (moved p))) ∷ []) (Some (record { to = p.terminal; text = p.buffer }))
 
 -- the object that a process makes next
 abbrev pub next_object : ℕ → Process → ObjId
@@ -86,11 +92,11 @@ next_object pid p = record { maker = Some pid; count = p.objects + 1 }
 abbrev pub maker_of : ℕ → Process → ℕ → Process
 maker_of pid p r = record p { place = p.place + 1; objects = p.objects + 1; registers = slice_set p.registers r (vals.Obj (next_object pid p)) }
 
--- a new file, unless the counter of objects is at its last value
-abbrev pub file_made : ℕ → Process → ℕ → StepTree
-file_made pid p r =
+-- a new object of a kind, unless the counter of objects is at its last value
+abbrev pub made : ℕ → Process → ℕ → Kind → StepTree
+made pid p r kind =
     if nat_lt p.objects 4294967295
-    then with_write pid (Obj (next_object pid p)) (values.File []) (maker_of pid p r)
+    then with_write pid (Obj (next_object pid p)) (empty_of kind) (maker_of pid p r)
     else alone pid (failed p NoSpace)
 
 -- the object that a value is
@@ -154,6 +160,73 @@ status_of (vals.Who q) = 255
 abbrev pub ended_with : ℕ → Process → ℕ → StepTree
 ended_with pid p status = with_write pid (Exit pid) (values.Exit (Some status)) (record p { ended = true })
 
+-- the process that a value is
+abbrev pub who_in : Val → Option ℕ
+who_in (vals.Who q) = Some q
+who_in (vals.Num n) = None
+who_in (vals.Obj o) = None
+
+-- the signal that a value is, from 1 to 31
+abbrev pub signal_in : Val → Option ℕ
+signal_in (vals.Num (pos n)) = if nat_le 1 n && nat_le n 31 then Some n else None
+signal_in (vals.Num (negsuc n)) = None
+signal_in (vals.Obj o) = None
+signal_in (vals.Who q) = None
+
+-- a signal at the back of a process's queue
+abbrev pub signalled : ℕ → Process → ℕ → ℕ → Option EntityState → StepTree
+signalled pid p who n (Some (stored.Value (values.Signals queue))) =
+    if nat_lt (length queue) 32
+    then with_write pid (Sig who) (value_after (values.Signals queue) (PushSignal n)) (answered p 0)
+    else alone pid (failed p Again)
+signalled pid p who n (Some (stored.Value (values.File bytes))) = alone pid (failed p Absent)
+signalled pid p who n (Some (stored.Value (values.Dir names))) = alone pid (failed p Absent)
+signalled pid p who n (Some (stored.Value (values.Pipe held))) = alone pid (failed p Absent)
+signalled pid p who n (Some (stored.Value (values.Exit status))) = alone pid (failed p Absent)
+signalled pid p who n (Some (stored.Value (values.Copy content))) = alone pid (failed p Absent)
+signalled pid p who n (Some (stored.Process q)) = alone pid (failed p Absent)
+signalled pid p who n None = alone pid (failed p Absent)
+
+-- a row that is about a pipe
+abbrev pub on_pipe : ℕ → Process → (PipeView → StepTree) → Option EntityState → StepTree
+on_pipe pid p row (Some (stored.Value (values.Pipe held))) = row held
+on_pipe pid p row (Some (stored.Value (values.File bytes))) = alone pid (failed p Invalid)
+on_pipe pid p row (Some (stored.Value (values.Dir names))) = alone pid (failed p Invalid)
+on_pipe pid p row (Some (stored.Value (values.Signals queue))) = alone pid (failed p BadObject)
+on_pipe pid p row (Some (stored.Value (values.Exit status))) = alone pid (failed p BadObject)
+on_pipe pid p row (Some (stored.Value (values.Copy content))) = alone pid (failed p BadObject)
+on_pipe pid p row (Some (stored.Process q)) = alone pid (failed p BadObject)
+on_pipe pid p row None = alone pid (failed p BadObject)
+
+-- `shut rP`
+abbrev pub shut : ℕ → Process → Option ObjId → StepTree
+shut pid p object = on_object pid p (λ o. on_pipe pid p (λ held. if held.shut then alone pid (answered p 0) else with_write pid (Obj o) (value_after (values.Pipe held) Shut) (answered p 0))) object
+
+-- `kill rW rN`
+abbrev pub kill : ℕ → Process → Option ℕ → Option ℕ → StepTree
+kill pid p (Some who) (Some n) = Ask (Sig who) (signalled pid p who n)
+kill pid p (Some who) None = alone pid (failed p Invalid)
+kill pid p None n = alone pid (failed p Invalid)
+
+-- the child that a process makes next
+abbrev pub next_child : ℕ → Process → ℕ
+next_child pid p = pid * 65536 + (p.children + 1)
+
+-- the process after it made that child
+abbrev pub parent_of : ℕ → Process → ℕ → Process
+parent_of pid p r = record p { place = p.place + 1; children = p.children + 1; registers = slice_set p.registers r (vals.Who (next_child pid p)) }
+
+-- a child stands at a place of its own, and has made nothing
+abbrev pub forked : Process → ℕ → ℕ → Process
+forked p child place = record p { pid = child; place = place; children = 0; objects = 0; saved = None; ended = false }
+
+-- `fork rA L`; at level four, or after the last child, there is none
+abbrev pub fork : ℕ → Process → ℕ → ℕ → StepTree
+fork pid p r place =
+    if nat_lt pid 281474976710656 && nat_lt p.children 65535
+    then Done ((Proc (next_child pid p), Some (stored.Process (forked p (next_child pid p) place))) ∷ (Sig (next_child pid p), Some (stored.Value (values.Signals []))) ∷ (Exit (next_child pid p), Some (stored.Value (values.Exit None))) ∷ (Proc pid, Some (stored.Process (parent_of pid p r))) ∷ []) None
+    else alone pid (failed p Again)
+
 -- `write rF rO`
 abbrev pub write : ℕ → Process → Option ObjId → Option ℕ → StepTree
 write pid p file at = on_object pid p (λ o. on_file pid p (λ bytes. on_number pid p (written_at pid p o bytes) at)) file
@@ -167,10 +240,16 @@ abbrev pub does : ℕ → Process → Option Instruction → StepTree
 does pid p (Some (does_.Set r n)) = alone pid (given p r (vals.Num n))
 does pid p (Some (does_.Text t)) = alone pid (record p { place = p.place + 1; buffer = t })
 does pid p (Some does_.Say) = said pid p
-does pid p (Some (does_.MakeFile r)) = file_made pid p r
+does pid p (Some (does_.MakeFile r)) = made pid p r kinds.File
+does pid p (Some (does_.MakePipe r)) = made pid p r kinds.Pipe
+does pid p (Some (does_.MakeDir r)) = made pid p r kinds.Dir
+does pid p (Some (does_.Shut r)) = shut pid p (object_in (held p.registers r))
 does pid p (Some (does_.Write f at)) = write pid p (object_in (held p.registers f)) (number_in (held p.registers at))
 does pid p (Some (does_.Cut f n)) = cut pid p (object_in (held p.registers f)) (number_in (held p.registers n))
 does pid p (Some (does_.Fetch name)) = Refuse NeedsReply
+does pid p (Some (does_.Store name)) = Refuse NeedsReply
+does pid p (Some (does_.Fork r place)) = fork pid p r place
+does pid p (Some (does_.Kill w n)) = kill pid p (who_in (held p.registers w)) (signal_in (held p.registers n))
 does pid p (Some (does_.Exit r)) = ended_with pid p (status_of (held p.registers r))
 does pid p None = ended_with pid p 0
 
@@ -185,27 +264,30 @@ from_copy pid p (Some (stored.Value (values.Exit status))) = Refuse Mismatch
 from_copy pid p (Some (stored.Process q)) = Refuse Mismatch
 from_copy pid p None = Refuse Mismatch
 
--- the name that an instruction fetches
-abbrev pub name_fetched : Option Instruction → Option (List ℕ)
-name_fetched (Some (does_.Fetch name)) = Some name
-name_fetched (Some (does_.Set r n)) = None
-name_fetched (Some (does_.Text t)) = None
-name_fetched (Some does_.Say) = None
-name_fetched (Some (does_.MakeFile r)) = None
-name_fetched (Some (does_.Write f at)) = None
-name_fetched (Some (does_.Cut f n)) = None
-name_fetched (Some (does_.Exit r)) = None
-name_fetched None = None
+-- a store over the cached copy, whose version is not the last, or over none
+abbrev pub over_copy : ℕ → Process → List ℕ → Option EntityState → StepTree
+over_copy pid p name None = with_write pid (Copy name) (values.Copy (record { version = 1; bytes = p.buffer })) (answered p 1)
+over_copy pid p name (Some (stored.Value (values.Copy content))) =
+    if nat_lt content.version LAST_VERSION
+    then with_write pid (Copy name) (value_after (values.Copy content) (SetCopy (record { version = content.version + 1; bytes = p.buffer }))) (answered p (content.version + 1))
+    else Refuse Mismatch
+over_copy pid p name (Some (stored.Value (values.File bytes))) = Refuse Mismatch
+over_copy pid p name (Some (stored.Value (values.Dir names))) = Refuse Mismatch
+over_copy pid p name (Some (stored.Value (values.Pipe held))) = Refuse Mismatch
+over_copy pid p name (Some (stored.Value (values.Signals queue))) = Refuse Mismatch
+over_copy pid p name (Some (stored.Value (values.Exit status))) = Refuse Mismatch
+over_copy pid p name (Some (stored.Process q)) = Refuse Mismatch
 
 -- a reply that the cached copy is good
-abbrev pub good : ℕ → Process → Option (List ℕ) → StepTree
-good pid p (Some name) = Ask (Copy name) (from_copy pid p)
-good pid p None = Refuse Mismatch
+abbrev pub good : ℕ → Process → Option Instruction → StepTree
+good pid p (Some (does_.Fetch name)) = Ask (Copy name) (from_copy pid p)
+good pid p (Some (does_.Store name)) = Ask (Copy name) (over_copy pid p name)
+good pid p _ = Refuse Mismatch
 
 -- a reply with the server's content
-abbrev pub fresh : ℕ → Process → ContentView → Option (List ℕ) → StepTree
-fresh pid p content (Some name) = with_write pid (Copy name) (values.Copy content) (fetched p content)
-fresh pid p content None = Refuse Mismatch
+abbrev pub fresh : ℕ → Process → ContentView → Option Instruction → StepTree
+fresh pid p content (Some (does_.Fetch name)) = with_write pid (Copy name) (values.Copy content) (fetched p content)
+fresh pid p content _ = Refuse Mismatch
 
 -- ---- what a process does next
 
@@ -213,11 +295,33 @@ abbrev pub instruction_of : Option (List Instruction) → ℕ → Option Instruc
 instruction_of (Some script) place = slice_get script place
 instruction_of None place = None
 
--- a step without input reads the process's signals too; no instruction sends a signal yet, so none is due
+-- a process at its handler, with the signal in r6 and the place that it comes back to
+abbrev pub handling : Process → ℕ → ℕ → Process
+handling p signal handler = record p { place = handler; saved = Some p.place; registers = slice_set p.registers 6 (vals.Num (pos signal)) }
+
+-- the front signal goes to the handler, where one is set and no place is saved
+abbrev pub handled : ℕ → Process → Option Instruction → List ℕ → Option ℕ → Option ℕ → StepTree
+handled pid p i (n ∷ ns) (Some handler) None = with_write pid (Sig pid) (value_after (values.Signals (n ∷ ns)) TakeSignal) (handling p n handler)
+handled pid p i (n ∷ ns) (Some handler) (Some place) = does pid p i
+handled pid p i (n ∷ ns) None saved = does pid p i
+handled pid p i [] handler saved = does pid p i
+
+-- what a process with these signals does next: signal 9 ends it
+abbrev pub with_signals : ℕ → Process → Option Instruction → Option EntityState → StepTree
+with_signals pid p i (Some (stored.Value (values.Signals queue))) = if list_any (λ n. n == 9) queue then ended_with pid p 137 else handled pid p i queue p.handler p.saved
+with_signals pid p i (Some (stored.Value (values.File bytes))) = does pid p i
+with_signals pid p i (Some (stored.Value (values.Dir names))) = does pid p i
+with_signals pid p i (Some (stored.Value (values.Pipe held))) = does pid p i
+with_signals pid p i (Some (stored.Value (values.Exit status))) = does pid p i
+with_signals pid p i (Some (stored.Value (values.Copy content))) = does pid p i
+with_signals pid p i (Some (stored.Process q)) = does pid p i
+with_signals pid p i None = does pid p i
+
+-- a step without input looks at the process's signals first
 abbrev pub with_input : ℕ → Process → Option Instruction → Input → StepTree
-with_input pid p i inputs.None = Ask (Sig pid) (λ queue. does pid p i)
-with_input pid p i inputs.Good = good pid p (name_fetched i)
-with_input pid p i (inputs.Fresh content) = fresh pid p content (name_fetched i)
+with_input pid p i inputs.None = Ask (Sig pid) (with_signals pid p i)
+with_input pid p i inputs.Good = good pid p i
+with_input pid p i (inputs.Fresh content) = fresh pid p content i
 with_input pid p i (inputs.Stale content) = Refuse Mismatch
 
 abbrev pub goes_on : Scripts → ℕ → Input → Option EntityState → StepTree

@@ -3,13 +3,18 @@ use Rattle.std.specs.Prelude.{refl}
 use Rattle.std.specs.Coded.{Coded, code_by, coded×}
 use Rattle.sk_script.specs.declared.process.Process.{Process}
 use Rattle.sk_script.specs.contracts.process.Process as process
-use Rattle.sk_plain.specs.declared.plan.Action.{Action}
-use Rattle.sk_plain.specs.contracts.plan.Action as action
+use Rattle.sk_plain.specs.declared.plan.Looks.{Looks}
+use Rattle.sk_plain.specs.contracts.plan.Looks as looks
+use Rattle.sk_plain.specs.declared.plan.Beside.{Beside}
+use Rattle.sk_plain.specs.contracts.plan.Beside as beside
 
--- the process as it becomes, and what is done beside
+-- the process as it becomes, what else is looked at, and what else is done
 pub record PlanView : Type 0 where
   pub process : Process
-  pub action : Action
+  pub looks : Looks
+  pub beside : Beside
 
 abbrev pub plan_code : Coded PlanView
-plan_code = code_by (Process × Action) (coded× process.the_row.coded action.the_row.coded) (λ p. (p.process, p.action)) (λ p. record { process = p.0; action = p.1 }) (λ _. refl)
+plan_code =
+    code_by (Process × (Looks × Beside)) (coded× process.the_row.coded (coded× looks.the_row.coded beside.the_row.coded))
+    (λ p. (p.process, (p.looks, p.beside))) (λ p. record { process = p.0; looks = p.1.0; beside = p.1.1 }) (λ _. refl)

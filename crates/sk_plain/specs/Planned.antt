@@ -1,9 +1,11 @@
 -- What a plan stands for: the step's reads, writes and text.
-use Rattle.std.specs.Prelude.{◌≡◌, ℕ, List, [], ◌∷◌, ◌++◌, map, Option, Some, None, Result, Ok, Err}
+use Rattle.std.specs.Prelude.{◌≡◌, ◌<◌, ℕ, List, [], ◌∷◌, ◌++◌, map, false, Option, Some, None, Result, Ok, Err}
 use Rattle.sk_record.specs.Step.{Effect, perform}
 use Rattle.sk_ids.specs.declared.entity.Entity.{Entity}
 use Rattle.sk_ids.specs.declared.entity.Entity.TheVariants.{Proc, Sig, Exit, Obj, Copy}
+use Rattle.sk_objects.specs.Value.{empty_of}
 use Rattle.sk_objects.specs.declared.value.Value.TheVariants as values
+use Rattle.sk_script.specs.declared.process.Process.{Process}
 use Rattle.sk_script.specs.declared.instruction.Input.{Input}
 use Rattle.sk_script.specs.declared.instruction.Input.TheVariants as inputs
 use Rattle.sk_plain.specs.Act.{StepTree, Saying}
@@ -13,49 +15,74 @@ use Rattle.sk_store.specs.declared.entity_state.EntityState.TheVariants as store
 use Rattle.sk_plain.specs.declared.refusal.Refusal.{Refusal}
 use Rattle.sk_plain.specs.declared.refusal.Refusal.TheVariants.{NoProcess, Ended, Mismatch, NeedsReply, Blocked, TooMany, TraceFull, Memory}
 use Rattle.sk_plain.specs.declared.plan.Plan.{Plan}
-use Rattle.sk_plain.specs.declared.plan.Action.{Action}
-use Rattle.sk_plain.specs.declared.plan.Action.TheVariants.{Alone, Says, Looks, Makes, Changes, Ends, Caches}
+use Rattle.sk_plain.specs.declared.plan.Child.{Child}
+use Rattle.sk_plain.specs.declared.plan.Looks.{Looks}
+use Rattle.sk_plain.specs.declared.plan.Looks.TheVariants.{Nowhere, At, AtBoth}
+use Rattle.sk_plain.specs.declared.plan.Becomes.{Becomes}
+use Rattle.sk_plain.specs.declared.plan.Becomes.TheVariants.{Empty, Exited, Cached, Changed}
+use Rattle.sk_plain.specs.declared.plan.Beside.{Beside}
+use Rattle.sk_plain.specs.declared.plan.Beside.TheVariants.{Nothing, Says, One, Birth, Gone}
 
--- the entity beside the process that is looked at
-abbrev pub also_read : Action → List Entity
-also_read Alone = []
-also_read (Says text) = []
-also_read (Looks e) = e ∷ []
-also_read (Makes o) = []
-also_read (Changes o change) = Obj o ∷ []
-also_read (Ends status) = []
-also_read (Caches name content) = []
+-- the entities that are looked at, in their order
+abbrev pub looked_at : Looks → List Entity
+looked_at Nowhere = []
+looked_at (At e) = e ∷ []
+looked_at (AtBoth d e) = d ∷ e ∷ []
 
--- the entity beside the process that is written
-abbrev pub also_written : (Entity → Option EntityState) → ℕ → Action → List (Entity × EntityState)
-also_written look pid Alone = []
-also_written look pid (Says text) = []
-also_written look pid (Looks e) = []
-also_written look pid (Makes o) = (Obj o, stored.Value (values.File [])) ∷ []
-also_written look pid (Changes o change) = (Obj o, changed (look (Obj o)) change) ∷ []
-also_written look pid (Ends status) = (Exit pid, stored.Value (values.Exit (Some status))) ∷ []
-also_written look pid (Caches name content) = (Copy name, stored.Value (values.Copy content)) ∷ []
+-- what an entity has after it became that
+abbrev pub value_of : Option EntityState → Becomes → EntityState
+value_of now (Empty kind) = stored.Value (empty_of kind)
+value_of now (Exited status) = stored.Value (values.Exit (Some status))
+value_of now (Cached content) = stored.Value (values.Copy content)
+value_of now (Changed change) = changed now change
 
--- the text that is said, to the process's terminal
-abbrev pub said_in : ℕ → Action → Option Saying
-said_in terminal Alone = None
-said_in terminal (Says text) = Some (record { to = terminal; text = text })
-said_in terminal (Looks e) = None
-said_in terminal (Makes o) = None
-said_in terminal (Changes o change) = None
-said_in terminal (Ends status) = None
-said_in terminal (Caches name content) = None
+-- a child of a process
+abbrev pub child_of : Process → Child → Process
+child_of p c = record p { pid = c.pid; place = c.place; registers = c.registers; children = 0; objects = 0; saved = None; ended = false }
+
+-- what is written beside the process
+abbrev pub written_beside : (Entity → Option EntityState) → Process → Beside → List (Entity × Option EntityState)
+written_beside look p Nothing = []
+written_beside look p Says = []
+written_beside look p (One e becomes) = (e, Some (value_of (look e) becomes)) ∷ []
+written_beside look p (Gone e) = []
+written_beside look p (Birth c) =
+    (Proc c.pid, Some (stored.Process (child_of p c))) ∷ (Sig c.pid, Some (stored.Value (values.Signals []))) ∷ (Exit c.pid, Some (stored.Value (values.Exit None))) ∷ []
+
+-- what is made absent, after the process is written
+abbrev pub gone_in : Beside → List Entity
+gone_in Nothing = []
+gone_in Says = []
+gone_in (One e becomes) = []
+gone_in (Birth c) = []
+gone_in (Gone e) = e ∷ []
+
+-- the text that is said: the process's buffer, to its terminal
+abbrev pub said_in : Process → Beside → Option Saying
+said_in p Nothing = None
+said_in p Says = Some (record { to = p.terminal; text = p.buffer })
+said_in p (One e becomes) = None
+said_in p (Birth c) = None
+said_in p (Gone e) = None
 
 abbrev pub said_by : Plan → Option Saying
-said_by plan = said_in plan.process.terminal plan.action
+said_by plan = said_in plan.process plan.beside
+
+-- all that a plan writes
+abbrev pub writes_of : (Entity → Option EntityState) → ℕ → Plan → List (Entity × Option EntityState)
+writes_of look pid plan = written_beside look plan.process plan.beside ++ (Proc pid, Some (stored.Process plan.process)) ∷ map (λ e. (e, None)) (gone_in plan.beside)
+
+-- what a plan does after these reads
+abbrev pub effect_after : List Entity → (Entity → Option EntityState) → ℕ → Plan → Effect Entity EntityState Saying
+effect_after reads look pid plan = record {
+  read = map (λ e. (e, look e)) (reads ++ looked_at plan.looks);
+  written = writes_of look pid plan;
+  said = said_by plan;
+}
 
 -- what a plan does, but for what every step reads
 abbrev pub row_effect : (Entity → Option EntityState) → ℕ → Plan → Effect Entity EntityState Saying
-row_effect look pid plan = record {
-  read = map (λ e. (e, look e)) (also_read plan.action);
-  written = also_written look pid plan.action ++ (Proc pid, stored.Process plan.process) ∷ [];
-  said = said_by plan;
-}
+row_effect look pid plan = effect_after [] look pid plan
 
 abbrev pub rowed : (Entity → Option EntityState) → ℕ → Result Plan Refusal → Result (Effect Entity EntityState Saying) Refusal
 rowed look pid (Ok plan) = Ok (row_effect look pid plan)
@@ -74,11 +101,7 @@ signals_read pid (inputs.Stale content) = []
 
 -- what a plan does once the process was looked at
 abbrev pub step_effect : (Entity → Option EntityState) → ℕ → Input → Plan → Effect Entity EntityState Saying
-step_effect look pid input plan = record {
-  read = map (λ e. (e, look e)) (signals_read pid input ++ also_read plan.action);
-  written = also_written look pid plan.action ++ (Proc pid, stored.Process plan.process) ∷ [];
-  said = said_by plan;
-}
+step_effect look pid input plan = effect_after (signals_read pid input) look pid plan
 
 abbrev pub step_planned : (Entity → Option EntityState) → ℕ → Input → Result Plan Refusal → Result (Effect Entity EntityState Saying) Refusal
 step_planned look pid input (Ok plan) = Ok (step_effect look pid input plan)
@@ -86,25 +109,40 @@ step_planned look pid input (Err why) = Err why
 
 -- the whole step
 abbrev pub effect_of : (Entity → Option EntityState) → ℕ → Input → Plan → Effect Entity EntityState Saying
-effect_of look pid input plan = record {
-  read = map (λ e. (e, look e)) (Proc pid ∷ signals_read pid input ++ also_read plan.action);
-  written = also_written look pid plan.action ++ (Proc pid, stored.Process plan.process) ∷ [];
-  said = said_by plan;
-}
+effect_of look pid input plan = effect_after (Proc pid ∷ signals_read pid input) look pid plan
 
 abbrev pub planned : (Entity → Option EntityState) → ℕ → Input → Result Plan Refusal → Result (Effect Entity EntityState Saying) Refusal
 planned look pid input (Ok plan) = Ok (effect_of look pid input plan)
 planned look pid input (Err why) = Err why
 
--- what a plan changes in place is there, and the change fits it
-abbrev pub CanDo : (Entity → Option EntityState) → Action → Type 0
-CanDo look Alone = Unit {0}
-CanDo look (Says text) = Unit {0}
-CanDo look (Looks e) = Unit {0}
-CanDo look (Makes o) = Unit {0}
-CanDo look (Changes o change) = FitsAt (look (Obj o)) change
-CanDo look (Ends status) = Unit {0}
-CanDo look (Caches name content) = Unit {0}
+-- a change that is planned fits what is there
+abbrev pub CanBecome : Option EntityState → Becomes → Type 0
+CanBecome now (Empty kind) = Unit {0}
+CanBecome now (Exited status) = Unit {0}
+CanBecome now (Cached content) = Unit {0}
+CanBecome now (Changed change) = FitsAt now change
+
+abbrev pub CanDo : (Entity → Option EntityState) → Beside → Type 0
+CanDo look Nothing = Unit {0}
+CanDo look Says = Unit {0}
+CanDo look (One e becomes) = CanBecome (look e) becomes
+CanDo look (Birth c) = Unit {0}
+CanDo look (Gone e) = Unit {0}
+
+abbrev pub IsNoProcess : Entity → Type 0
+IsNoProcess (Proc p) = ⊥
+IsNoProcess (Sig p) = Unit {0}
+IsNoProcess (Exit p) = Unit {0}
+IsNoProcess (Obj o) = Unit {0}
+IsNoProcess (Copy n) = Unit {0}
+
+-- what is written beside a process is not the process
+abbrev pub IsBeside : ℕ → Beside → Type 0
+IsBeside pid Nothing = Unit {0}
+IsBeside pid Says = Unit {0}
+IsBeside pid (One e becomes) = IsNoProcess e
+IsBeside pid (Birth c) = pid < c.pid
+IsBeside pid (Gone e) = IsNoProcess e
 
 -- a refusal that a step of the plain kernel can have
 abbrev pub IsPlainRefusal : Refusal → Type 0
@@ -130,19 +168,22 @@ refusal_of (Ok f) = None
 refusal_of (Err why) = Some why
 
 -- the entities that a plan reads
-abbrev pub read_by : ℕ → Input → Action → List Entity
-read_by pid input action = Proc pid ∷ signals_read pid input ++ also_read action
+abbrev pub read_by : ℕ → Input → Looks → List Entity
+read_by pid input looks = (Proc pid ∷ signals_read pid input) ++ looked_at looks
 
--- the entity beside the process that is written
-abbrev pub also_changed : ℕ → Action → List Entity
-also_changed pid Alone = []
-also_changed pid (Says text) = []
-also_changed pid (Looks e) = []
-also_changed pid (Makes o) = Obj o ∷ []
-also_changed pid (Changes o change) = Obj o ∷ []
-also_changed pid (Ends status) = Exit pid ∷ []
-also_changed pid (Caches name content) = Copy name ∷ []
+-- the entities beside the process that are written
+abbrev pub also_changed : Beside → List Entity
+also_changed Nothing = []
+also_changed Says = []
+also_changed (One e becomes) = e ∷ []
+also_changed (Gone e) = []
+also_changed (Birth c) = Proc c.pid ∷ Sig c.pid ∷ Exit c.pid ∷ []
 
 -- the entities that a plan writes
-abbrev pub written_by : ℕ → Action → List Entity
-written_by pid action = also_changed pid action ++ Proc pid ∷ []
+abbrev pub written_by : ℕ → Beside → List Entity
+written_by pid beside = also_changed beside ++ Proc pid ∷ gone_in beside
+
+-- a state after these writes, in their order
+abbrev pub wrote_all : {S : Type 0} → (S → Entity → Option EntityState → S) → List (Entity × Option EntityState) → S → S
+wrote_all wrote [] s = s
+wrote_all wrote (w ∷ ws) s = wrote_all wrote ws (wrote s w.0 w.1)

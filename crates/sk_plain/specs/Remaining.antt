@@ -10,15 +10,15 @@ use Rattle.sk_store.specs.State.{State}
 use Rattle.sk_plain.specs.Entry.{EntryView}
 use Rattle.sk_plain.specs.Act.{Scripts, Saying, plain}
 use Rattle.sk_plain.specs.Planned.{read_by, written_by}
-use Rattle.sk_plain.specs.declared.plan.Action.{Action}
+use Rattle.sk_plain.specs.declared.plan.Plan.{Plan}
 use Rattle.sk_store.specs.declared.entity_state.EntityState.{EntityState}
 use Rattle.sk_plain.specs.declared.refusal.Refusal.{Refusal}
 use Rattle.sk_plain.specs.declared.refusal.Refusal.TheVariants.{NoProcess, Ended, Mismatch, NeedsReply, Blocked, TooMany, TraceFull, Memory}
 
 -- whether the planned step of an entry is the guess, or reads or writes what is dirty
-abbrev pub depends : ℕ → List Entity → EntryView → Action → Bool
-depends g dirty n action =
-    is_marked n.guess g || (list_any (is_in entity_cmp dirty) (read_by n.pid n.input action) || list_any (is_in entity_cmp dirty) (written_by n.pid action))
+abbrev pub depends : ℕ → List Entity → EntryView → Plan → Bool
+depends g dirty n plan =
+    is_marked n.guess g || (list_any (is_in entity_cmp dirty) (read_by n.pid n.input plan.looks) || list_any (is_in entity_cmp dirty) (written_by n.pid plan.beside))
 
 -- of the entries to come, those that neither are marked g nor touch what is dirty or becomes so
 abbrev pub remaining : Scripts → ℕ → List Entity → State → List EntryView → List EntryView

@@ -1,74 +1,135 @@
-//! Doing what was planned, in place.
-ghost use Rattle.std.specs.Prelude.{◌≡◌, IsSome, OnOk, OnErr};
-ghost use Rattle.std.specs.FinMap as map;
-ghost use Rattle.sk_record.specs.Run.{put_all};
-ghost use Rattle.sk_ids.specs.declared.entity.Entity.{Entity};
-ghost use Rattle.sk_ids.specs.declared.entity.Entity.TheVariants.{Proc, Obj};
-ghost use Rattle.sk_store.specs.Changed.{FitsAt, changed};
-ghost use Rattle.sk_plain.specs.Planned.{CanDo, also_written, row_effect};
+//! Doing what was planned, in place. Nothing here knows of instructions.
+ghost use Rattle.std.specs.Prelude.{◌≡◌, OnOk, OnErr, IfOk, Some, None, []};
+ghost use Rattle.sk_ids.specs.declared.entity.Entity.TheVariants.{Proc, Sig, Exit};
+ghost use Rattle.sk_store.specs.declared.entity_state.EntityState.TheVariants as stored;
+ghost use Rattle.sk_objects.specs.declared.value.Value.TheVariants as values;
+ghost use Rattle.sk_plain.specs.Planned.{CanBecome, CanDo, value_of, child_of, writes_of, wrote_all};
 
-use crate::{Action, Plan};
-use sk_changes::{Change, Invertible, NotApplied};
-use sk_ids::{Entity, ObjId, Pid};
-use sk_objects::{File, Value};
-use sk_store::{Store, EntityState};
+use crate::{Becomes, Beside, Child, Plan};
+use sk_ids::{Entity, Pid};
+use sk_objects::{Kind, Value};
+use sk_script::Process;
+use sk_store::{Keeper, EntityState};
 use std::alloc::AllocError;
 
-/// Changes the value of an object. A refused growth changes nothing.
-#[tactic(auto, using(sk_store::proofs::Puts::puts))]
-fn change_value(store: &mut Store, object: &ObjId, change: &Change) -> Result<(), AllocError>
-    requires { FitsAt (map.get store.old (Obj object.now)) change.now }
-    ensures ok { OnOk result (store.new ≡ map.insert store.old (Obj object.now) (changed (map.get store.old (Obj object.now)) change.now)) }
-    ensures err { OnErr result (store.new ≡ store.old) }
+/// An entity becomes this. Without memory nothing has changed.
+fn write_one<K: Keeper>(
+    keeper: &mut K,
+    entity: Entity,
+    becomes: &Becomes,
+) -> Result<K::Back, AllocError>
+    requires { CanBecome (K.look keeper.old entity) becomes.now }
+    ensures ok { OnOk result (keeper.new ≡ K.wrote keeper.old entity (Some (value_of (K.look keeper.old entity) becomes.now))) }
+    ensures can { IfOk result (λ back. K.can_take_back keeper.new back) }
+    ensures back { IfOk result (λ back. K.taken_back keeper.new back ≡ keeper.old) }
+    ensures err { OnErr result (keeper.new ≡ keeper.old) }
 {
-    // The value is taken out, changed, and put back.
-    let taken = store.replace(Entity::Obj(*object), EntityState::Value(Value::Exit(None)));
-    let EntityState::Value(mut value) = taken else {
-        unreachable!();
-    };
-    let outcome = value.apply(*change);
-    store.replace(Entity::Obj(*object), EntityState::Value(value));
-    match outcome {
-        Ok(_) => Ok(()),
-        Err(NotApplied::Memory) => Err(AllocError),
-        Err(NotApplied::Unfit) => unreachable!(),
+    match becomes {
+        Becomes::Empty(kind) => {
+            let value = Value::empty(keeper.memory(), *kind)?;
+            keeper.write(entity, EntityState::Value(value))
+        }
+        Becomes::Exited(status) => {
+            keeper.write(entity, EntityState::Value(Value::Exit(Some(*status))))
+        }
+        Becomes::Cached(content) => keeper.write(entity, EntityState::Value(Value::Copy(*content))),
+        Becomes::Changed(change) => keeper.change(entity, *change),
     }
 }
 
-/// Writes what a step writes beside its process, and leaves all that is there. A refused growth
-/// changes nothing.
-#[tactic(auto, using(sk_store::proofs::Puts::puts))]
-fn write_beside(store: &mut Store, pid: Pid, action: &Action) -> Result<(), AllocError>
-    requires { CanDo (map.get store.old) action.now }
-    ensures ok { OnOk result (store.new ≡ put_all (also_written (map.get store.old) pid action.now) store.old) }
-    ensures there { OnOk result ((e : Entity) → IsSome (map.get store.old e) → IsSome (map.get store.new e)) }
-    ensures err { OnErr result (store.new ≡ store.old) }
+/// The last write of each step.
+fn write_process<K: Keeper>(keeper: &mut K, pid: Pid, process: &Process) -> Result<(), AllocError>
+    ensures ok { OnOk result (keeper.new ≡ K.wrote keeper.old (Proc pid) (Some (stored.Process process.now))) }
+    ensures err { OnErr result (keeper.new ≡ keeper.old) }
 {
-    match action {
-        Action::Alone | Action::Says(_) | Action::Looks(_) => Ok(()),
-        Action::Makes(object) => {
-            let file = File::new(store.alloc());
-            store.put(Entity::Obj(*object), EntityState::Value(Value::File(file)))
-        }
-        Action::Changes(object, change) => change_value(store, object, change),
-        Action::Ends(status) => {
-            let status = Value::Exit(Some(*status));
-            store.put(Entity::Exit(pid), EntityState::Value(status))
-        }
-        Action::Caches(name, content) => {
-            store.put(Entity::Copy(*name), EntityState::Value(Value::Copy(*content)))
-        }
+    keeper.write(Entity::Proc(pid), EntityState::Process(*process))?;
+    Ok(())
+}
+
+/// A child's exit slot, and then its parent.
+fn bear_slot<K: Keeper>(
+    keeper: &mut K,
+    child: &Child,
+    pid: Pid,
+    process: &Process,
+) -> Result<(), AllocError>
+    ensures ok { OnOk result (keeper.new ≡ K.wrote (K.wrote keeper.old (Exit child.now.pid) (Some (stored.Value (values.Exit None)))) (Proc pid) (Some (stored.Process process.now))) }
+    ensures err { OnErr result (keeper.new ≡ keeper.old) }
+{
+    let back = keeper.write(Entity::Exit(child.pid), EntityState::Value(Value::Exit(None)))?;
+    if write_process(keeper, pid, process).is_err() {
+        keeper.take_back(back);
+        return Err(AllocError);
+    }
+    Ok(())
+}
+
+/// A child's queue of signals, and then the rest.
+fn bear_queue<K: Keeper>(
+    keeper: &mut K,
+    child: &Child,
+    pid: Pid,
+    process: &Process,
+) -> Result<(), AllocError>
+    ensures ok { OnOk result (keeper.new ≡ K.wrote (K.wrote (K.wrote keeper.old (Sig child.now.pid) (Some (stored.Value (values.Signals [])))) (Exit child.now.pid) (Some (stored.Value (values.Exit None)))) (Proc pid) (Some (stored.Process process.now))) }
+    ensures err { OnErr result (keeper.new ≡ keeper.old) }
+{
+    let queue = Value::empty(keeper.memory(), Kind::Signals)?;
+    let back = keeper.write(Entity::Sig(child.pid), EntityState::Value(queue))?;
+    if bear_slot(keeper, child, pid, process).is_err() {
+        keeper.take_back(back);
+        return Err(AllocError);
+    }
+    Ok(())
+}
+
+/// A child of a process.
+fn child_of(process: &Process, child: &Child) -> Process
+    ensures { result ≡ child_of process.now child.now }
+{
+    Process {
+        pid: child.pid,
+        place: child.place,
+        registers: child.registers,
+        children: 0,
+        objects: 0,
+        saved: None,
+        ended: false,
+        ..*process
     }
 }
 
-/// Does what was planned for the next step of a process. A refused growth changes nothing.
-pub fn apply_plan(store: &mut Store, pid: Pid, plan: &Plan) -> Result<(), AllocError>
-    requires there { IsSome (map.get store.old (Proc pid)) }
-    requires can { CanDo (map.get store.old) plan.now.action }
-    ensures ok { OnOk result (store.new ≡ put_all (row_effect (map.get store.old) pid plan.now).written store.old) }
-    ensures err { OnErr result (store.new ≡ store.old) }
+/// Writes what was planned for the next step of a process. Without memory nothing has changed.
+pub fn apply_plan<K: Keeper>(keeper: &mut K, pid: Pid, plan: &Plan) -> Result<(), AllocError>
+    requires { CanDo (K.look keeper.old) plan.now.beside }
+    ensures ok { OnOk result (keeper.new ≡ wrote_all K.wrote (writes_of (K.look keeper.old) pid plan.now) keeper.old) }
+    ensures err { OnErr result (keeper.new ≡ keeper.old) }
 {
-    write_beside(store, pid, &plan.action)?;
-    store.replace(Entity::Proc(pid), EntityState::Process(plan.process));
+    let process = &plan.process;
+    match &plan.beside {
+        Beside::Nothing | Beside::Says => return write_process(keeper, pid, process),
+        Beside::One(entity, becomes) => {
+            let back = write_one(keeper, *entity, becomes)?;
+            if write_process(keeper, pid, process).is_err() {
+                keeper.take_back(back);
+                return Err(AllocError);
+            }
+        }
+        Beside::Gone(entity) => {
+            let back = keeper.write(Entity::Proc(pid), EntityState::Process(*process))?;
+            if keeper.remove(*entity).is_err() {
+                keeper.take_back(back);
+                return Err(AllocError);
+            }
+        }
+        Beside::Birth(child) => {
+            let first = EntityState::Process(child_of(process, child));
+            let back = keeper.write(Entity::Proc(child.pid), first)?;
+            if bear_queue(keeper, child, pid, process).is_err() {
+                keeper.take_back(back);
+                return Err(AllocError);
+            }
+        }
+    }
     Ok(())
 }

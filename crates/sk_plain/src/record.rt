@@ -5,17 +5,16 @@ ghost use Rattle.std.specs.FinMap as map;
 ghost use Rattle.sk_record.specs.Effects.{is_in, is_marked};
 ghost use Rattle.sk_record.specs.Run.{IsLegal, run, put_all};
 ghost use Rattle.sk_record.specs.Strike.{strike};
-ghost use Rattle.sk_ids.specs.declared.entity.Entity.TheVariants.{Proc};
 ghost use Rattle.sk_ids.specs.Entity.{entity_cmp};
 ghost use Rattle.sk_plain.specs.Entry.{EntryView};
 ghost use Rattle.sk_plain.specs.Act.{plain};
-ghost use Rattle.sk_plain.specs.Planned.{CanDo, row_effect, read_by, written_by};
+ghost use Rattle.sk_plain.specs.Planned.{CanDo, writes_of, written_by};
 ghost use Rattle.sk_plain.specs.declared.refusal.Refusal.TheVariants.{Memory};
 ghost use Rattle.sk_plain.specs.Remaining.{depends, remaining, refusal_in, EndsBy};
 
-use crate::{Action, Entry, Plan, Refusal, apply_plan, plan_step};
+use crate::{Entry, Plan, Refusal, apply_plan, plan_step};
 use sk_ids::{Entity, GuessId, Pid};
-use sk_script::{Input, Scripts};
+use sk_script::Scripts;
 use sk_store::Store;
 use std::alloc::{AllocError, Global};
 use std::cmp::Ordering;
@@ -29,53 +28,22 @@ fn is_dirty(dirty: &[Entity], entity: Entity) -> bool
         .any(|other| entity.cmp(other) == Ordering::Equal)
 }
 
-/// Whether a step reads something dirty.
-fn reads_dirty(dirty: &[Entity], pid: Pid, input: &Input, action: &Action) -> bool
-    ensures { result ≡ list_any (is_in entity_cmp dirty.now) (read_by pid input.now action.now) }
+/// Whether some entity is dirty.
+fn touches(dirty: &[Entity], entities: &[Entity]) -> bool
+    ensures { result ≡ list_any (is_in entity_cmp dirty.now) entities.now }
 {
-    if is_dirty(dirty, Entity::Proc(pid)) {
-        return true;
-    }
-    if matches!(input, Input::None) && is_dirty(dirty, Entity::Sig(pid)) {
-        return true;
-    }
-    match action {
-        Action::Looks(entity) => is_dirty(dirty, *entity),
-        Action::Changes(object, _) => is_dirty(dirty, Entity::Obj(*object)),
-        Action::Alone
-        | Action::Says(_)
-        | Action::Makes(_)
-        | Action::Ends(_)
-        | Action::Caches(_, _) => false,
-    }
+    entities.iter().any(|entity| is_dirty(dirty, *entity))
 }
 
-/// Whether a step writes something dirty.
-fn writes_dirty(dirty: &[Entity], pid: Pid, action: &Action) -> bool
-    ensures { result ≡ list_any (is_in entity_cmp dirty.now) (written_by pid action.now) }
+/// Adds entities to what is dirty.
+fn mark(dirty: &mut Vec<Entity>, entities: &[Entity]) -> Result<(), AllocError>
+    ensures { OnOk result (dirty.new.items ≡ entities.now ++ dirty.old.items) }
 {
-    let beside = match action {
-        Action::Alone | Action::Says(_) | Action::Looks(_) => false,
-        Action::Makes(object) => is_dirty(dirty, Entity::Obj(*object)),
-        Action::Changes(object, _) => is_dirty(dirty, Entity::Obj(*object)),
-        Action::Ends(_) => is_dirty(dirty, Entity::Exit(pid)),
-        Action::Caches(name, _) => is_dirty(dirty, Entity::Copy(*name)),
+    let Some((entity, more)) = entities.split_first() else {
+        return Ok(());
     };
-    beside || is_dirty(dirty, Entity::Proc(pid))
-}
-
-/// Adds what a step writes.
-fn mark(dirty: &mut Vec<Entity>, pid: Pid, action: &Action) -> Result<(), AllocError>
-    ensures { OnOk result (dirty.new.items ≡ written_by pid action.now ++ dirty.old.items) }
-{
-    dirty.insert(0, Entity::Proc(pid))?;
-    match action {
-        Action::Alone | Action::Says(_) | Action::Looks(_) => {}
-        Action::Makes(object) => dirty.insert(0, Entity::Obj(*object))?,
-        Action::Changes(object, _) => dirty.insert(0, Entity::Obj(*object))?,
-        Action::Ends(_) => dirty.insert(0, Entity::Exit(pid))?,
-        Action::Caches(name, _) => dirty.insert(0, Entity::Copy(*name))?,
-    }
+    mark(dirty, more)?;
+    dirty.insert(0, *entity)?;
     Ok(())
 }
 
@@ -90,12 +58,15 @@ fn is_guess(entry: &Entry, guess: GuessId) -> bool
 }
 
 /// Whether a planned step depends on the guess.
-fn depends(dirty: &[Entity], guess: GuessId, entry: &Entry, action: &Action) -> bool
-    ensures { result ≡ depends guess dirty.now entry.now action.now }
+fn depends(dirty: &[Entity], guess: GuessId, entry: &Entry, plan: &Plan) -> bool
+    ensures { result ≡ depends guess dirty.now entry.now plan.now }
 {
-    is_guess(entry, guess)
-        || reads_dirty(dirty, entry.pid, &entry.input, action)
-        || writes_dirty(dirty, entry.pid, action)
+    if is_guess(entry, guess) {
+        return true;
+    }
+    let read = plan.reads(entry.pid, &entry.input);
+    let written = plan.writes(entry.pid);
+    touches(dirty, read.as_slice()) || touches(dirty, written.as_slice())
 }
 
 /// Takes a planned step, and keeps its entry or adds what it writes to what is dirty.
@@ -107,16 +78,16 @@ fn take(
     entry: &Entry,
     plan: &Plan,
 ) -> Result<(), Refusal>
-    requires there { IsSome (map.get store.old (Proc entry.now.pid)) }
-    requires can { CanDo (map.get store.old) plan.now.action }
-    ensures store { OnOk result (store.new ≡ put_all (row_effect (map.get store.old) entry.now.pid plan.now).written store.old) }
-    ensures dirty { OnOk result (dirty.new.items ≡ (if depends guess dirty.old.items entry.now plan.now.action then written_by entry.now.pid plan.now.action ++ dirty.old.items else dirty.old.items)) }
+    requires { CanDo (map.get store.old) plan.now.beside }
+    ensures store { OnOk result (store.new ≡ put_all (writes_of (map.get store.old) entry.now.pid plan.now) store.old) }
+    ensures dirty { OnOk result (dirty.new.items ≡ (if depends guess dirty.old.items entry.now plan.now then written_by entry.now.pid plan.now.beside ++ dirty.old.items else dirty.old.items)) }
     ensures memory { IfErr result (λ why. why ≡ Memory) }
-    ensures kept { OnOk result (kept.new.items ≡ (if depends guess dirty.old.items entry.now plan.now.action then kept.old.items else kept.old.items ++ entry.now ∷ [])) }
+    ensures kept { OnOk result (kept.new.items ≡ (if depends guess dirty.old.items entry.now plan.now then kept.old.items else kept.old.items ++ entry.now ∷ [])) }
 {
     apply_plan(store, entry.pid, plan)?;
-    if depends(dirty, guess, entry, &plan.action) {
-        mark(dirty, entry.pid, &plan.action)?;
+    if depends(dirty, guess, entry, plan) {
+        let written = plan.writes(entry.pid);
+        mark(dirty, written.as_slice())?;
     } else {
         kept.push(*entry)?;
     }

@@ -69,8 +69,12 @@ impl<T: Drop> From<AllocFailed<T>> for Refusal {
 /// The error numbers that instructions leave in r0, negated. They are those of Linux.
 #[derive(Clone, Copy, Debug, PartialEq, Eq)]
 pub enum Errno {
+    /// 3, ESRCH: no such process
+    Absent,
     /// 9, EBADF: no object
     BadObject,
+    /// 11, EAGAIN
+    Again,
     /// 21, EISDIR
     IsDirectory,
     /// 22, EINVAL
@@ -87,7 +91,9 @@ impl Errno {
         ensures { result ≡ neg_ℤ (pos (error_number self)) }
     {
         match self {
+            Errno::Absent => -3,
             Errno::BadObject => -9,
+            Errno::Again => -11,
             Errno::IsDirectory => -21,
             Errno::Invalid => -22,
             Errno::TooBig => -27,

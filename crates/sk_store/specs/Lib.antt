@@ -1,3 +1,4 @@
 pub mod State
 pub mod Changed
 pub mod Start
+pub mod Back

@@ -1,11 +1,15 @@
 //! What all entities have: the map that kernels stand on, and its content when a kernel starts.
 #![tactic(auto)]
 
+pub mod back;
+pub mod keeper;
 pub mod look;
 pub mod start;
 pub mod store;
 pub mod entity_state;
 
+pub use back::{Back, PutBack};
+pub use keeper::Keeper;
 pub use look::Look;
 pub use store::Store;
 pub use entity_state::EntityState;

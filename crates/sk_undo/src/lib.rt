@@ -1,4 +1,4 @@
-//! What entities have, with what puts the writes since a mark back.
+//! What entities have, with what puts writes back.
 #![tactic(auto)]
 
 pub mod journal;

@@ -10,6 +10,6 @@ pub invariant_of-self : goal.invariant_of-self
 invariant_of-self c =
     let was : status_of c.self.inside.guesses c.in-Undecided.id ≡ Some Undecided = search rules in (
       decided_whole _ _ _ _ _ _ _ c.in-Undecided.id Committed c.self.invariant.0 was refl c.commit.ensures
-          (subst (λ (w : Written). w ≡ written_over w.now) (sym c.keep.ensures) refl),
+          (subst (λ (w : Written). w ≡ written_over w.now) (sym c.commit-in-Undecided.ensures) refl),
       c.self.invariant.1,
     )

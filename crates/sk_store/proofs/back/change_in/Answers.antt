@@ -4,9 +4,9 @@ use Rattle.std.specs.FinMap.{get, insert}
 use Rattle.sk_changes.specs.Changes.{CanUndo, value_undone}
 use Rattle.sk_store.specs.declared.entity_state.EntityState.TheVariants as stored
 use Rattle.sk_store.proofs.Puts.{set_there}
-use Rattle.sk_undo.specs.Journal.{taken_out, CanChangeBack, changed_back}
-use Rattle.sk_undo.proofs.InPlace.{put_changed, put_same, can_change_back, changed_and_back}
-use Rattle.sk_undo.proofs.journal.change_in.Goals as goal
+use Rattle.sk_store.specs.Back.{taken_out, CanChangeBack, changed_back}
+use Rattle.sk_store.proofs.InPlace.{put_changed, put_same, can_change_back, changed_and_back}
+use Rattle.sk_store.proofs.back.change_in.Goals as goal
 
 pub replace-requires : goal.replace-requires
 replace-requires c = subst (λ s. IsSome (get s c.args.entity.now)) (sym c.take_value-value.ensures.new) (set_there c.args.store.now c.args.entity.now taken_out)

@@ -1,9 +1,14 @@
 -- A value that is taken out of the store, changed and put in again: from what a finite map reads after its writes.
-use Rattle.std.proofs.Common.{◌≡◌, cond, Some, sym, ◌∙◌, ap, subst}
-use Rattle.std.specs.FinMap.{get, insert, get-insert}
+use Rattle.std.proofs.Common.{◌≡◌, Bool, true, false, cond, Option, Some, None, Bor, refl, sym, ◌∙◌, ap, subst}
+use Rattle.std.specs.Ordering.{eq_by_cmp}
+use Rattle.std.specs.Cmp.{Equal-is}
+use Rattle.std.specs.Option.{is_some, option_copied}
+use Rattle.std.proofs.lemmas.Bool.{true≢false}
+use Rattle.sk_ids.specs.Entity.{entity_cmp}
+use Rattle.std.specs.FinMap.{get, insert, remove, get-insert, get-remove, same_map}
 use Rattle.std.specs.Cmp.{eq_by_cmp_equiv}
 use Rattle.sk_ids.specs.declared.entity.Entity.{Entity}
-use Rattle.sk_ids.proofs.Entities.{entity_total}
+use Rattle.sk_ids.proofs.Entities.{entity_total, entity_exact}
 use Rattle.sk_objects.specs.declared.value.Value.{Value}
 use Rattle.sk_changes.specs.declared.change.Change.{Change}
 use Rattle.sk_changes.specs.Changes.{value_after}
@@ -12,7 +17,7 @@ use Rattle.sk_store.specs.Changed.{changed}
 use Rattle.sk_store.specs.declared.entity_state.EntityState.{EntityState}
 use Rattle.sk_store.specs.declared.entity_state.EntityState.TheVariants as stored
 use Rattle.sk_store.proofs.Puts.{insert_twice, insert_back}
-use Rattle.sk_undo.specs.Journal.{CanChangeBack, changed_back}
+use Rattle.sk_store.specs.Back.{CanChangeBack, changed_back}
 
 -- what was set is read
 pub reads : (s : State) (e : Entity) (x : EntityState) → get (insert s e x) e ≡ Some x
@@ -45,3 +50,19 @@ changed_and_back s e v w hole back at is =
     ∙ insert_twice (insert s e hole) e (stored.Value w) (stored.Value (back w))
     ∙ ap (λ x. insert (insert s e hole) e (stored.Value x)) is
     ∙ put_same s e v hole at
+
+gone : (q e : Entity) (m : State) (v : EntityState) → get m e ≡ None → (b : Bool) → eq_by_cmp entity_cmp q e ≡ b → cond b None (cond b (Some v) (get m q)) ≡ get m q
+gone q e m v absent true is = sym (ap (get m) (entity_exact q e ((Equal-is (entity_cmp q e)).0 is)) ∙ absent)
+gone q e m v absent false is = refl
+
+-- an entity that was absent is made absent again
+pub remove_back : (m : State) (e : Entity) (v : EntityState) → get m e ≡ None → remove (insert m e v) e ≡ m
+remove_back m e v absent = same_map entity_total entity_exact _ _ (λ q.
+    get-remove entity_total (insert m e v) e q
+    ∙ ap (cond (eq_by_cmp entity_cmp q e) None) (get-insert entity_total m e v q)
+    ∙ gone q e m v absent (eq_by_cmp entity_cmp q e) refl)
+
+-- what is absent shows nothing
+pub none_seen : {X : Type 0} (o : Option (Bor X)) → is_some o ≡ false → option_copied o ≡ None
+none_seen None is = refl
+none_seen (Some x) is = absurd (true≢false is)

@@ -1,0 +1,53 @@
+//! Writing to what entities have.
+use crate::{Look, EntityState};
+use sk_changes::Change;
+use sk_ids::Entity;
+use std::alloc::{AllocError, Global};
+
+/// What performs the writes of a step, each of which can be taken back until the next one.
+pub trait Keeper: Look {
+    ghost use Rattle.std.specs.Prelude.{◌≡◌, OnOk, OnErr, IfOk, Option, Some, None};
+    ghost use Rattle.sk_ids.specs.declared.entity.Entity.{Entity};
+    ghost use Rattle.sk_store.specs.declared.entity_state.EntityState.{EntityState};
+    ghost use Rattle.sk_store.specs.Changed.{FitsAt, changed};
+
+    /// What takes one write back.
+    type Back: Drop;
+
+    /// After one write, which sets what an entity has or makes it absent.
+    ghost wrote: { Self → Entity → Option EntityState → Self };
+
+    /// Whether a write can be taken back now.
+    ghost can_take_back: { Self → Self.Back → Type 0 };
+
+    /// After that.
+    ghost taken_back: { Self → Self.Back → Self };
+
+    /// What it takes its memory from.
+    fn memory(&self) -> Global;
+
+    /// Sets what an entity has. Without memory nothing has changed.
+    fn write(&mut self, entity: Entity, stored: EntityState) -> Result<Self::Back, AllocError>
+        ensures ok { OnOk result (self.new ≡ wrote self.old entity (Some stored)) }
+        ensures can { IfOk result (λ back. can_take_back self.new back) }
+        ensures back { IfOk result (λ back. taken_back self.new back ≡ self.old) }
+        ensures err { OnErr result (self.new ≡ self.old) };
+
+    /// Changes the value of an entity. Without memory nothing has changed.
+    fn change(&mut self, entity: Entity, change: Change) -> Result<Self::Back, AllocError>
+        requires { FitsAt (Self.look self.old entity) change }
+        ensures ok { OnOk result (self.new ≡ wrote self.old entity (Some (changed (Self.look self.old entity) change))) }
+        ensures can { IfOk result (λ back. can_take_back self.new back) }
+        ensures back { IfOk result (λ back. taken_back self.new back ≡ self.old) }
+        ensures err { OnErr result (self.new ≡ self.old) };
+
+    /// Makes an entity absent, as the last write of a step. Without memory nothing has changed.
+    fn remove(&mut self, entity: Entity) -> Result<(), AllocError>
+        ensures ok { OnOk result (self.new ≡ wrote self.old entity None) }
+        ensures err { OnErr result (self.new ≡ self.old) };
+
+    /// Takes the newest write back, which takes no memory.
+    fn take_back(&mut self, back: Self::Back)
+        requires { can_take_back self.old back }
+        ensures { self.new ≡ taken_back self.old back };
+}

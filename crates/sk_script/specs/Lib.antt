@@ -1,5 +1,6 @@
 pub mod Registers
 pub mod Process
+pub mod Private
 pub mod Script
 pub mod Scripts
 pub mod Boot

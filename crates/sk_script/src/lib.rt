@@ -4,6 +4,7 @@
 pub mod boot;
 pub mod instruction;
 pub mod parse;
+pub mod private;
 pub mod process;
 pub mod register;
 pub mod script;

@@ -110,12 +110,20 @@ impl Registers {
         self.cells[register.number as usize]
     }
 
+    /// Puts a value into a register.
+    pub fn set(&mut self, register: Register, val: Val)
+        ensures { self.new ≡ slice_set self.old register val }
+    {
+        let place = usize::from(register.number);
+        self.cells[place] = val;
+    }
+
     /// The registers with another value in one of them.
     pub fn with(self, register: Register, val: Val) -> Registers
         ensures { result ≡ slice_set self register val }
     {
-        let mut cells = self.cells;
-        cells[register.number as usize] = val;
-        Registers { cells }
+        let mut registers = self;
+        registers.set(register, val);
+        registers
     }
 }

@@ -1,5 +1,6 @@
 //! Scripts.
 ghost use Rattle.std.specs.Prelude.{◌≡◌, ◌≤◌, ◌↔◌, [], IsTrue, length, IfOk, slice_get};
+ghost use Rattle.std.specs.Option.{option_copied};
 ghost use Rattle.sk_script.specs.Script.{INSTRUCTIONS};
 
 use crate::Instruction;
@@ -41,6 +42,13 @@ impl Script {
         ensures { result ≡ slice_get self.now place }
     {
         self.instructions.get(place as usize).copied()
+    }
+
+    /// The instruction at a place, from 0 on, where it stands; `None` past the last one.
+    pub fn get(&self, place: u32) -> Option<&Instruction>
+        ensures { option_copied result ≡ slice_get self.now place }
+    {
+        self.instructions.get(place as usize)
     }
 
     /// The number of instructions, at most 4,096.

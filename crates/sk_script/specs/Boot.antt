@@ -1,5 +1,5 @@
 -- What a kernel starts from.
-use Rattle.std.specs.Prelude.{◌≡◌, ℕ, Bool, List, [], ◌∷◌, ◌++◌, Option, Some, None, is_some, Result, Ok, Err, refl, ◌==◌, bytes_eq, if◌then◌else◌}
+use Rattle.std.specs.Prelude.{◌≡◌, ◌≢◌, ◌<◌, ◌≤◌, ℕ, Bool, true, List, length, All, AllPairs, [], ◌∷◌, ◌++◌, Option, Some, None, is_some, Result, Ok, Err, refl, ◌==◌, bytes_eq, if◌then◌else◌}
 use Rattle.std.specs.List.{list_any}
 use Rattle.std.specs.FinMap as map
 use Rattle.std.specs.Coded.{Coded, code_by, coded×, coded_ℕ, coded_list}
@@ -45,6 +45,16 @@ has_copy b name = list_any (λ c. bytes_eq c.0 name) b.copies
 
 abbrev pub has_process : BootView → ℕ → Bool
 has_process b number = list_any (λ p. p.number == number) b.processes
+
+-- What holds of every boot: it has at most 64 objects, no two objects or copies have one name, and no two processes
+-- one number. Each process and its terminal have a number from 1 on, and its script is there.
+pub record IsBoot (b : BootView) : Type 0 where
+  pub few : length b.objects ≤ BOOT_OBJECTS
+  pub objects_differ : AllPairs (λ o q. o.name ≢ q.name) b.objects
+  pub copies_differ : AllPairs (λ c d. c.0 ≢ d.0) b.copies
+  pub processes_differ : AllPairs (λ p q. p.number ≢ q.number) b.processes
+  pub processes_numbered : All (λ p. (0 < p.number) × (0 < p.terminal)) b.processes
+  pub scripts_there : All (λ p. has_script b p.script ≡ true) b.processes
 
 -- ---- what is there after a declaration
 

@@ -1,7 +1,7 @@
 //! What a kernel starts from.
 ghost use Rattle.std.specs.Prelude.{◌≡◌, ◌≤◌, ◌<◌, length, []};
 ghost use Rattle.std.specs.FinMap as map;
-ghost use Rattle.sk_script.specs.Boot.{BootView, Declares, with_script, with_object, with_copy, with_process, script_fault, object_fault, copy_fault, process_fault, has_object, has_copy, has_process, BOOT_OBJECTS};
+ghost use Rattle.sk_script.specs.Boot.{BootView, Declares, with_script, with_object, with_copy, with_process, script_fault, object_fault, copy_fault, process_fault, has_object, has_copy, has_process, BOOT_OBJECTS, IsBoot};
 ghost use Rattle.sk_script.specs.declared.boot.BootObject.{BootObject};
 ghost use Rattle.sk_script.specs.declared.boot.BootProcess.{BootProcess};
 ghost use Rattle.sk_script.specs.declared.boot.ObjectKind.TheVariants.{Dir};
@@ -88,13 +88,15 @@ pub struct Boot {
 }
 
 impl Model for Boot {
-    ghost use Rattle.sk_script.specs.Boot.{BootView, boot_code};
+    ghost use Rattle.sk_script.specs.Boot.{BootView, boot_code, IsBoot};
 
     ghost Value = { BootView };
 
     ghost coded = { boot_code };
 
     ghost view = { λ b. record { scripts = b.scripts; objects = b.objects.items; copies = b.copies.items; processes = b.processes.items } };
+
+    ghost invariant = { λ b. IsBoot (record { scripts = b.scripts; objects = b.objects.items; copies = b.copies.items; processes = b.processes.items }) };
 }
 
 impl Boot {
@@ -173,28 +175,32 @@ impl Boot {
 
     /// The scripts.
     pub fn scripts(&self) -> &Scripts
-        ensures { result.now ≡ self.now.scripts }
+        ensures value { result.now ≡ self.now.scripts }
+        ensures limits { IsBoot self.now }
     {
         &self.scripts
     }
 
     /// The objects in the order of their declaration.
     pub fn objects(&self) -> &[BootObject]
-        ensures { result.now ≡ self.now.objects }
+        ensures value { result.now ≡ self.now.objects }
+        ensures limits { IsBoot self.now }
     {
         &self.objects
     }
 
     /// The cached copies in the order of their declaration.
     pub fn copies(&self) -> &[(Name, Content)]
-        ensures { result.now ≡ self.now.copies }
+        ensures value { result.now ≡ self.now.copies }
+        ensures limits { IsBoot self.now }
     {
         &self.copies
     }
 
     /// The processes in the order of their declaration.
     pub fn processes(&self) -> &[BootProcess]
-        ensures { result.now ≡ self.now.processes }
+        ensures value { result.now ≡ self.now.processes }
+        ensures limits { IsBoot self.now }
     {
         &self.processes
     }

@@ -1,10 +1,9 @@
--- A word that is none of the table is unknown: from the words it was compared with.
-use Rattle.std.proofs.Common.{rules, refl}
-use Rattle.sk_script.specs.Instructions.{instruction, instruction_rules}
-use Rattle.sk_words.specs.Tables.{unknown}
+-- A word that is none of this table is looked for in the next: from the words it was compared with.
+use Rattle.std.proofs.Common.{rules}
+use Rattle.sk_script.specs.Instructions.{instruction, value_rules, place_instruction}
 use Rattle.sk_words.proofs.Unknown.{skipped}
 use Rattle.sk_script.proofs.parse.table.instruction_of.Goals as goal
 
 pub returns-in_default : goal.returns-in_default
 unfolding instruction
-returns-in_default c = rw (skipped (instruction_rules c.args._labels.now) unknown c.args.word.now (search rules)) refl
+returns-in_default c = rw (skipped value_rules (place_instruction c.args.labels.now c.args.word.now) c.args.word.now (search rules)) c.place_instruction.ensures

@@ -1,0 +1,85 @@
+-- Each declaration keeps what holds of every boot.
+use Rattle.std.proofs.Common.{◌≡◌, ◌≢◌, ◌<◌, ◌≤◌, ◌==◌, ◌++◌, ℕ, Bool, true, false, cond, List, [], ◌∷◌, length, get_or, Option, Some, is_some, refl, sym, ap, ◌∙◌, arith, length-append}
+use Rattle.std.specs.Prelude.{bytes_eq, All, AllPairs}
+use Rattle.std.specs.List.{list_any}
+use Rattle.std.specs.FinMap as map
+use Rattle.std.specs.FinMap.{get-insert}
+use Rattle.std.specs.Ordering.{eq_by_cmp}
+use Rattle.std.specs.Cmp.Lexicographic.{nat_list_cmp_total}
+use Rattle.std.proofs.lemmas.Bool.{false≢true}
+use Rattle.std.proofs.lemmas.Bool.Decides.{Decides-eqb}
+use Rattle.std.proofs.lemmas.List.Elements.{All-nil, All-push, All-weaker}
+use Rattle.std.proofs.lemmas.List.Folds.{list_any_at}
+use Rattle.std.proofs.lemmas.List.Quantifiers.{all_pairs_push}
+use Rattle.std.proofs.lemmas.Slice.Eq.{bytes_eq-Decides}
+use Rattle.sk_objects.specs.Content.{ContentView}
+use Rattle.sk_script.specs.Scripts.{ScriptMap, name_order}
+use Rattle.sk_script.specs.declared.instruction.Instruction.{Instruction}
+use Rattle.sk_script.specs.declared.boot.ObjectKind.{ObjectKind}
+use Rattle.sk_script.specs.declared.boot.BootObject.{BootObject}
+use Rattle.sk_script.specs.declared.boot.BootProcess.{BootProcess}
+use Rattle.sk_script.specs.Boot.{BootView, IsBoot, has_script, has_object, has_copy, has_process, with_script, with_object, with_copy, with_process}
+
+-- where no element passes a test, none does
+none_passes : {X : Type 0} (p : X → Bool) (xs : List X) → list_any p xs ≡ false → (k : ℕ) (d : X) → k < length xs → p (get_or xs k d) ≡ true → ⊥
+none_passes p xs none k d below passes = false≢true (sym none ∙ list_any_at p xs k d below passes)
+
+pub empty_boot : IsBoot (record { scripts = map.empty; objects = []; copies = []; processes = [] })
+empty_boot = record {
+  few = omega arith;
+  objects_differ = λ i j d before below. absurd (omega arith);
+  copies_differ = λ i j d before below. absurd (omega arith);
+  processes_differ = λ i j d before below. absurd (omega arith);
+  processes_numbered = All-nil _;
+  scripts_there = All-nil _;
+}
+
+there_still : (found : Bool) (script : List Instruction) (before : Option (List Instruction)) → is_some before ≡ true → is_some (cond found (Some script) before) ≡ true
+there_still true script before h = refl
+there_still false script before h = h
+
+script_kept : (scripts : ScriptMap) (name other : List ℕ) (script : List Instruction) → is_some (map.get scripts other) ≡ true → is_some (map.get (map.insert scripts name script) other) ≡ true
+script_kept scripts name other script h = rw (get-insert nat_list_cmp_total scripts name script other) (there_still (eq_by_cmp name_order other name) script (map.get scripts other) h)
+
+pub script_declared : (b : BootView) (name : List ℕ) (script : List Instruction) → IsBoot b → IsBoot (with_script b name script)
+script_declared b name script h = record {
+  few = h.few;
+  objects_differ = h.objects_differ;
+  copies_differ = h.copies_differ;
+  processes_differ = h.processes_differ;
+  processes_numbered = h.processes_numbered;
+  scripts_there = All-weaker (λ (p : BootProcess). has_script b p.script ≡ true) (λ (p : BootProcess). has_script (with_script b name script) p.script ≡ true) (λ p here. script_kept b.scripts name p.script script here) b.processes h.scripts_there;
+}
+
+pub object_declared : (b : BootView) (name : List ℕ) (kind : ObjectKind) (bytes : List ℕ) → IsBoot b → length b.objects < 64 → has_object b name ≡ false → IsBoot (with_object b name kind bytes)
+object_declared b name kind bytes h room new = record {
+  few = omega (arith, length-append {A = BootObject}, room);
+  objects_differ = all_pairs_push (λ (o : BootObject) (q : BootObject). o.name ≢ q.name) b.objects (record { name = name; kind = kind; bytes = bytes }) h.objects_differ
+      (λ k d below same. none_passes (λ (o : BootObject). bytes_eq o.name name) b.objects new k d below ((bytes_eq-Decides _ name).1 same));
+  copies_differ = h.copies_differ;
+  processes_differ = h.processes_differ;
+  processes_numbered = h.processes_numbered;
+  scripts_there = h.scripts_there;
+}
+
+pub copy_declared : (b : BootView) (name : List ℕ) (content : ContentView) → IsBoot b → has_copy b name ≡ false → IsBoot (with_copy b name content)
+copy_declared b name content h new = record {
+  few = h.few;
+  objects_differ = h.objects_differ;
+  copies_differ = all_pairs_push (λ (c : List ℕ × ContentView) (d : List ℕ × ContentView). c.0 ≢ d.0) b.copies (name, content) h.copies_differ
+      (λ k d below same. none_passes (λ (c : List ℕ × ContentView). bytes_eq c.0 name) b.copies new k d below ((bytes_eq-Decides _ name).1 same));
+  processes_differ = h.processes_differ;
+  processes_numbered = h.processes_numbered;
+  scripts_there = h.scripts_there;
+}
+
+pub process_declared : (b : BootView) (number : ℕ) (script : List ℕ) (terminal : ℕ) → IsBoot b → 0 < number → 0 < terminal → has_process b number ≡ false → has_script b script ≡ true → IsBoot (with_process b number script terminal)
+process_declared b number script terminal h from_one screen new there = record {
+  few = h.few;
+  objects_differ = h.objects_differ;
+  copies_differ = h.copies_differ;
+  processes_differ = all_pairs_push (λ (p : BootProcess) (q : BootProcess). p.number ≢ q.number) b.processes (record { number = number; script = script; terminal = terminal }) h.processes_differ
+      (λ k d below same. none_passes (λ (p : BootProcess). p.number == number) b.processes new k d below ((Decides-eqb _ number).1 same));
+  processes_numbered = All-push (λ (p : BootProcess). (0 < p.number) × (0 < p.terminal)) b.processes (record { number = number; script = script; terminal = terminal }) h.processes_numbered (from_one, screen);
+  scripts_there = All-push (λ (p : BootProcess). has_script b p.script ≡ true) b.processes (record { number = number; script = script; terminal = terminal }) h.scripts_there there;
+}

@@ -1,5 +1,5 @@
 //! Identifiers of processes, which are paths, and of objects.
-ghost use Rattle.std.specs.Prelude.{◌≡◌, ℕ, ◌+◌, ◌*◌, ◌/◌, ◌%◌, ◌^◌, ◌<◌, ◌≤◌, ◌↔◌, Some, IsSome, IfSome};
+ghost use Rattle.std.specs.Prelude.{◌≡◌, ℕ, ◌+◌, ◌*◌, ◌/◌, ◌%◌, ◌<◌, ◌≤◌, ◌↔◌, Some, IsSome, IfSome};
 ghost use Rattle.sk_ids.specs.Pid.{IsPath, boot_pid, child_pid};
 
 use std::marker::Model;

@@ -5,7 +5,7 @@ use Rattle.std.specs.Int.{w64}
 use Rattle.std.proofs.lemmas.Bool.{false≢true}
 use Rattle.std.proofs.lemmas.Bool.Decides.{Decides-ltb}
 use Rattle.std.proofs.lemmas.Int.{to_z-of_z}
-use Rattle.sk_script.specs.Private.{fits, fitting}
+use Rattle.sk_script.specs.Private.{fits}
 use Rattle.sk_script.proofs.private.sum.Goals as goal
 
 decided : (b : Bool) (P : Type 0) (z : ℤ) (r : Option ℤ) → Decides b P → SomeIff r P z → r ≡ (if b then Some z else None)

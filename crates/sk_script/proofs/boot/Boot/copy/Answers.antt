@@ -1,5 +1,5 @@
 -- One copy more keeps what holds of every boot.
-use Rattle.std.proofs.Common.{◌≡◌, Bool, false, sym, ap, ◌∙◌}
+use Rattle.std.proofs.Common.{◌≡◌, false, sym, ap, ◌∙◌}
 use Rattle.sk_script.specs.Boot.{BootView, has_copy}
 use Rattle.sk_script.proofs.Boots.{copy_declared}
 use Rattle.sk_script.proofs.boot.Boot.copy.Goals as goal

@@ -1,5 +1,4 @@
 -- One script more keeps what holds of every boot.
-use Rattle.std.proofs.Common.{◌≡◌}
 use Rattle.sk_script.specs.Boot.{BootView}
 use Rattle.sk_script.proofs.Boots.{script_declared}
 use Rattle.sk_script.proofs.boot.Boot.script.Goals as goal

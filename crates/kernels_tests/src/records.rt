@@ -1,7 +1,7 @@
 //! Records, stores and steps, and what a failure leaves of a record.
 use sk_ids::{Entity, GuessId, Name, ObjId, Pid, Text};
 use sk_objects::Content;
-use sk_plain::{Entry, Errno, Event, Refusal, Trace, apply_plan, plan_step, strike};
+use sk_plain::{Entry, Errno, Event, Refusal, Trace, apply_plan, plan_step, strike_guess};
 use sk_script::boot::BOOT_OBJECT_LIMIT;
 use sk_script::{Boot, Input, ObjectKind, ROOT, Register, Script, Val};
 use sk_store::{Look, Store, EntityState};
@@ -63,7 +63,7 @@ fn entries_of(alloc: Global, record: &[Did]) -> Result<Vec<Entry>, Fail> {
 /// What is left of a record when its guess fails.
 fn left(alloc: Global, boot: &Boot, entries: &[Entry]) -> Result<Vec<Entry>, Fail> {
     let mut store = Store::start(alloc, boot)?;
-    Ok(strike(alloc, &mut store, boot.scripts(), entries, GuessId::new(1))?)
+    Ok(strike_guess(alloc, &mut store, boot.scripts(), entries, GuessId::new(1))?)
 }
 
 /// Whether this is left of a record of two processes with these scripts, when its guess fails.

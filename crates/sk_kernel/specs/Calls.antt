@@ -4,7 +4,6 @@ use Rattle.sk_guesses.specs.Token.{Token}
 use Rattle.sk_guesses.specs.Guesses.{next_of}
 use Rattle.sk_guesses.specs.Calls.{redeemed}
 use Rattle.sk_guesses.specs.declared.guess.Redeemed.TheVariants as redeemed_as
-use Rattle.sk_plain.specs.View.{IsView}
 use Rattle.sk_store.specs.declared.entity_state.EntityState.{EntityState}
 use Rattle.sk_plain.specs.declared.view.View.{View}
 use Rattle.sk_plain.specs.declared.refusal.Refusal.{Refusal}
@@ -12,6 +11,7 @@ use Rattle.sk_plain.specs.declared.refusal.Refusal.TheVariants.{NoProcess, Ended
 use Rattle.std.specs.FinMap as map
 use Rattle.sk_record.specs.Step.{perform}
 use Rattle.sk_script.specs.declared.instruction.Input.{Input}
+use Rattle.sk_plain.specs.Refusal.{cause}
 use Rattle.sk_plain.specs.Act.{act}
 use Rattle.sk_plain.specs.Planned.{effect_of, CanDo, said_by}
 use Rattle.sk_plain.specs.declared.plan.Plan.{Plan}
@@ -21,24 +21,6 @@ use Rattle.sk_kernel.specs.declared.kernel.Outcome.TheVariants as outcomes
 use Rattle.sk_kernel.specs.declared.kernel.Stranger.{Stranger}
 use Rattle.sk_kernel.specs.declared.kernel.FailRefusal.{FailRefusal}
 use Rattle.sk_kernel.specs.declared.kernel.FailRefusal.TheVariants as refusals
-
--- an entity's view shows what it has, and there is none where it is absent
-abbrev pub Shows : Option EntityState → Option View → Type 0
-Shows None None = Unit {0}
-Shows None (Some v) = ⊥
-Shows (Some s) None = ⊥
-Shows (Some s) (Some v) = IsView s v
-
--- the cause that a refusal tells; want of memory is told only where there is no other
-abbrev pub cause : Refusal → Option Refusal
-cause NoProcess = Some NoProcess
-cause Ended = Some Ended
-cause Mismatch = Some Mismatch
-cause NeedsReply = Some NeedsReply
-cause Blocked = Some Blocked
-cause TooMany = Some TooMany
-cause TraceFull = Some TraceFull
-cause Memory = None
 
 -- a step is taken where no cause stands against it; a refusal tells the first cause, and changes nothing
 abbrev pub StepPost : Result (Unit {0}) Refusal → Option Refusal → KernelView → KernelView → KernelView → Type 0

@@ -6,7 +6,8 @@ ghost use Rattle.std.specs.Option.{option_copied};
 ghost use Rattle.sk_ids.specs.Entity.{entity_cmp};
 ghost use Rattle.sk_guesses.specs.Guesses.{next_of};
 ghost use Rattle.sk_kernel.specs.Kernel.{booted, tags_at, undecided, room, pending_tags, others_wait, step_refused, stepped, guess_refused, guessed};
-ghost use Rattle.sk_kernel.specs.Calls.{Shows, StepPost, GuessPost, PlansGuess, CommitPost, FailPost};
+ghost use Rattle.sk_plain.specs.View.{Shows};
+ghost use Rattle.sk_kernel.specs.Calls.{StepPost, GuessPost, PlansGuess, CommitPost, FailPost};
 
 use crate::open::Open;
 use crate::perform::{perform, perform_guess};

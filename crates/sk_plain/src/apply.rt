@@ -9,7 +9,7 @@ use crate::{Becomes, Beside, Child, Plan};
 use sk_ids::{Entity, Pid};
 use sk_objects::{Kind, Value};
 use sk_script::Process;
-use sk_store::{Keeper, EntityState};
+use sk_store::{EntityState, Keeper};
 use std::alloc::AllocError;
 
 /// An entity becomes this. Without memory nothing has changed.
@@ -56,7 +56,10 @@ fn bear_slot<K: Keeper>(
     ensures ok { OnOk result (keeper.new ≡ K.wrote (K.wrote keeper.old (Exit child.now.pid) (Some (stored.Value (values.Exit None)))) (Proc pid) (Some (stored.Process process.now))) }
     ensures err { OnErr result (keeper.new ≡ keeper.old) }
 {
-    let back = keeper.write(Entity::Exit(child.pid), EntityState::Value(Value::Exit(None)))?;
+    let back = keeper.write(
+        Entity::Exit(child.pid),
+        EntityState::Value(Value::Exit(None)),
+    )?;
     if write_process(keeper, pid, process).is_err() {
         keeper.take_back(back);
         return Err(AllocError);

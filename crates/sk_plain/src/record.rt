@@ -48,7 +48,7 @@ fn mark(dirty: &mut Vec<Entity>, entities: &[Entity]) -> Result<(), AllocError>
 }
 
 /// Whether an entry made this guess.
-fn is_guess(entry: &Entry, guess: GuessId) -> bool
+pub(crate) fn is_guess(entry: &Entry, guess: GuessId) -> bool
     ensures { result ≡ is_marked entry.now.guess guess }
 {
     match entry.guess {
@@ -115,7 +115,7 @@ fn one_entry(
 
 /// Takes a record's steps in a store, and answers the record without what depends on a guess. The
 /// first refusal of a step is told, or want of memory; the steps before are taken then.
-pub fn strike(
+pub fn strike_guess(
     alloc: Global,
     store: &mut Store,
     scripts: &Scripts,

@@ -69,12 +69,20 @@ impl<T: Drop> From<AllocFailed<T>> for Refusal {
 /// The error numbers that instructions leave in r0, negated. They are those of Linux.
 #[derive(Clone, Copy, Debug, PartialEq, Eq)]
 pub enum Errno {
+    /// 2, ENOENT: the name is not linked
+    NotLinked,
     /// 3, ESRCH: no such process
-    Absent,
+    NoSuchProcess,
     /// 9, EBADF: no object
     BadObject,
-    /// 11, EAGAIN
+    /// 10, ECHILD: no child
+    NoChild,
+    /// 11, EAGAIN: a limit that may pass
     Again,
+    /// 17, EEXIST: the name is linked
+    Exists,
+    /// 20, ENOTDIR
+    NotDirectory,
     /// 21, EISDIR
     IsDirectory,
     /// 22, EINVAL
@@ -83,6 +91,10 @@ pub enum Errno {
     TooBig,
     /// 28, ENOSPC
     NoSpace,
+    /// 32, EPIPE: the pipe is shut
+    BrokenPipe,
+    /// 116, ESTALE: the server has another content
+    StaleCopy,
 }
 
 impl Errno {
@@ -91,13 +103,19 @@ impl Errno {
         ensures { result ≡ neg_ℤ (pos (error_number self)) }
     {
         match self {
-            Errno::Absent => -3,
+            Errno::NotLinked => -2,
+            Errno::NoSuchProcess => -3,
             Errno::BadObject => -9,
+            Errno::NoChild => -10,
             Errno::Again => -11,
+            Errno::Exists => -17,
+            Errno::NotDirectory => -20,
             Errno::IsDirectory => -21,
             Errno::Invalid => -22,
             Errno::TooBig => -27,
             Errno::NoSpace => -28,
+            Errno::BrokenPipe => -32,
+            Errno::StaleCopy => -116,
         }
     }
 }

@@ -1,0 +1,93 @@
+-- The rows of the table on new objects and on files.
+use Rattle.std.specs.Prelude.{ℕ, ◌+◌, ◌==◌, nat_lt, nat_le, List, length, Option, Some, None, slice_set, if◌then◌else◌}
+use Rattle.sk_ids.specs.declared.pid.ObjId.{ObjId}
+use Rattle.sk_ids.specs.declared.entity.Entity.TheVariants.{Obj}
+use Rattle.sk_ids.specs.declared.text.TheConstants.{TEXT_LIMIT}
+use Rattle.sk_objects.specs.File.{part}
+use Rattle.sk_objects.specs.declared.file.TheConstants.{FILE_LIMIT}
+use Rattle.sk_objects.specs.Value.{empty_of}
+use Rattle.sk_objects.specs.declared.value.Kind.{Kind}
+use Rattle.sk_objects.specs.declared.value.Value.TheVariants as values
+use Rattle.sk_changes.specs.declared.change.Change.TheVariants.{WriteAt, CutTo}
+use Rattle.sk_changes.specs.Changes.{value_after}
+use Rattle.sk_script.specs.declared.register.Val.TheVariants as vals
+use Rattle.sk_script.specs.declared.process.Process.{Process}
+use Rattle.sk_store.specs.declared.entity_state.EntityState.{EntityState}
+use Rattle.sk_store.specs.declared.entity_state.EntityState.TheVariants as stored
+use Rattle.sk_plain.specs.declared.refusal.Errno.TheVariants.{BadObject, IsDirectory, Invalid, TooBig, NoSpace}
+use Rattle.sk_plain.specs.Rows.{StepTree, answered, failed, filled, alone, with_write, on_object, on_number}
+
+-- the last value of the counter of objects
+abbrev pub LAST_OBJECT : ℕ
+LAST_OBJECT = 4294967295
+
+-- ---- `mkfile rA`, `mkdir rA`, `mkpipe rA`
+
+-- the object that a process makes next
+abbrev pub next_object : ℕ → Process → ObjId
+next_object pid p = record { maker = Some pid; count = p.objects + 1 }
+
+-- the process after it made that object
+abbrev pub maker_of : ℕ → Process → ℕ → Process
+maker_of pid p r = record p {
+  place = p.place + 1;
+  objects = p.objects + 1;
+  registers = slice_set p.registers r (vals.Obj (next_object pid p));
+}
+
+-- a new object of a kind, unless the counter of objects is at its last value
+abbrev pub made : ℕ → Process → ℕ → Kind → StepTree
+made pid p r kind =
+    if nat_lt p.objects LAST_OBJECT
+    then with_write pid (Obj (next_object pid p)) (empty_of kind) (maker_of pid p r)
+    else alone pid (failed p NoSpace)
+
+-- ---- files
+
+-- a row that is about the bytes of a file: the error 9 where there is no object, 21 at a directory, 22 at a pipe
+abbrev pub on_file : ℕ → Process → (List ℕ → StepTree) → Option EntityState → StepTree
+on_file pid p row (Some (stored.Value (values.File bytes))) = row bytes
+on_file pid p row (Some (stored.Value (values.Dir links))) = alone pid (failed p IsDirectory)
+on_file pid p row (Some (stored.Value (values.Pipe held))) = alone pid (failed p Invalid)
+on_file pid p row (Some (stored.Value (values.Signals queue))) = alone pid (failed p BadObject)
+on_file pid p row (Some (stored.Value (values.Exit status))) = alone pid (failed p BadObject)
+on_file pid p row (Some (stored.Value (values.Copy content))) = alone pid (failed p BadObject)
+on_file pid p row (Some (stored.Process q)) = alone pid (failed p BadObject)
+on_file pid p row None = alone pid (failed p BadObject)
+
+-- `size rF`
+abbrev pub size : ℕ → Process → Option ObjId → StepTree
+size pid p file = on_object pid p (λ o. on_file pid p (λ bytes. alone pid (answered p (length bytes)))) file
+
+-- the bytes of a file from a place on, as many as a text holds
+abbrev pub bytes_read : Process → List ℕ → ℕ → Process
+bytes_read p bytes at = filled p (part bytes at TEXT_LIMIT) (length (part bytes at TEXT_LIMIT))
+
+-- `read rF rO`
+abbrev pub read : ℕ → Process → Option ObjId → Option ℕ → StepTree
+read pid p file at =
+    on_object pid p (λ o. on_file pid p (λ bytes. on_number pid p (λ n. alone pid (bytes_read p bytes n)) at)) file
+
+-- the buffer written at a place of a file; an empty buffer changes nothing
+abbrev pub written_at : ℕ → Process → ObjId → List ℕ → ℕ → StepTree
+written_at pid p o bytes at =
+    if nat_le (at + length p.buffer) FILE_LIMIT
+    then (if length p.buffer == 0 then alone pid (answered p 0)
+    else with_write pid (Obj o) (value_after (values.File bytes) (WriteAt at p.buffer)) (answered p (length p.buffer)))
+    else alone pid (failed p TooBig)
+
+-- `write rF rO`
+abbrev pub write : ℕ → Process → Option ObjId → Option ℕ → StepTree
+write pid p file at = on_object pid p (λ o. on_file pid p (λ bytes. on_number pid p (written_at pid p o bytes) at)) file
+
+-- a file cut to a size; its own size changes nothing
+abbrev pub cut_to : ℕ → Process → ObjId → List ℕ → ℕ → StepTree
+cut_to pid p o bytes n =
+    if nat_le n FILE_LIMIT
+    then (if n == length bytes then alone pid (answered p 0)
+    else with_write pid (Obj o) (value_after (values.File bytes) (CutTo n)) (answered p 0))
+    else alone pid (failed p TooBig)
+
+-- `cut rF rN`
+abbrev pub cut : ℕ → Process → Option ObjId → Option ℕ → StepTree
+cut pid p file n = on_object pid p (λ o. on_file pid p (λ bytes. on_number pid p (cut_to pid p o bytes) n)) file

@@ -1,0 +1,69 @@
+-- The rows of the table on pipes.
+use Rattle.std.specs.Prelude.{ℕ, ◌+◌, ◌==◌, nat_le, Bool, true, false, [], length, take, Option, Some, None, min, if◌then◌else◌}
+use Rattle.sk_record.specs.Step.{Refuse}
+use Rattle.sk_ids.specs.declared.pid.ObjId.{ObjId}
+use Rattle.sk_ids.specs.declared.entity.Entity.TheVariants.{Obj}
+use Rattle.sk_objects.specs.Pipe.{PipeView}
+use Rattle.sk_objects.specs.declared.pipe.TheConstants.{PIPE_LIMIT}
+use Rattle.sk_objects.specs.declared.value.Value.TheVariants as values
+use Rattle.sk_changes.specs.declared.change.Change.TheVariants.{Put, Take, Shut}
+use Rattle.sk_changes.specs.Changes.{value_after}
+use Rattle.sk_script.specs.declared.process.Process.{Process}
+use Rattle.sk_store.specs.declared.entity_state.EntityState.{EntityState}
+use Rattle.sk_store.specs.declared.entity_state.EntityState.TheVariants as stored
+use Rattle.sk_plain.specs.declared.refusal.Refusal.TheVariants.{Blocked}
+use Rattle.sk_plain.specs.declared.refusal.Errno.TheVariants.{BadObject, Invalid, BrokenPipe}
+use Rattle.sk_plain.specs.Rows.{StepTree, answered, failed, filled, alone, with_write, on_object, on_number}
+
+-- a row that is about a pipe: the error 9 where there is no object, 22 at another object
+abbrev pub on_pipe : ℕ → Process → (PipeView → StepTree) → Option EntityState → StepTree
+on_pipe pid p row (Some (stored.Value (values.Pipe held))) = row held
+on_pipe pid p row (Some (stored.Value (values.File bytes))) = alone pid (failed p Invalid)
+on_pipe pid p row (Some (stored.Value (values.Dir links))) = alone pid (failed p Invalid)
+on_pipe pid p row (Some (stored.Value (values.Signals queue))) = alone pid (failed p BadObject)
+on_pipe pid p row (Some (stored.Value (values.Exit status))) = alone pid (failed p BadObject)
+on_pipe pid p row (Some (stored.Value (values.Copy content))) = alone pid (failed p BadObject)
+on_pipe pid p row (Some (stored.Process q)) = alone pid (failed p BadObject)
+on_pipe pid p row None = alone pid (failed p BadObject)
+
+-- the buffer appended, where the pipe is not shut; it waits where the buffer does not fit, and an empty one changes nothing
+abbrev pub put_in : ℕ → Process → ObjId → PipeView → StepTree
+put_in pid p o held =
+    if held.shut then alone pid (failed p BrokenPipe)
+    else if length p.buffer == 0 then alone pid (answered p 0)
+    else if nat_le (length held.bytes + length p.buffer) PIPE_LIMIT
+    then with_write pid (Obj o) (value_after (values.Pipe held) (Put p.buffer)) (answered p (length p.buffer))
+    else Refuse Blocked
+
+-- `put rP`
+abbrev pub put : ℕ → Process → Option ObjId → StepTree
+put pid p pipe = on_object pid p (λ o. on_pipe pid p (put_in pid p o)) pipe
+
+-- at an empty pipe there is nothing to take: it waits unless the pipe is shut
+abbrev pub take_none : ℕ → Process → Bool → StepTree
+take_none pid p true = alone pid (filled p [] 0)
+take_none pid p false = Refuse Blocked
+
+-- the first bytes are in the buffer and no longer in the pipe
+abbrev pub taken : ℕ → Process → ObjId → PipeView → ℕ → StepTree
+taken pid p o held count =
+    with_write pid (Obj o) (value_after (values.Pipe held) (Take count)) (filled p (take count held.bytes) count)
+
+-- the first n bytes, or all that there are
+abbrev pub take_from : ℕ → Process → ObjId → PipeView → ℕ → StepTree
+take_from pid p o held n =
+    if length held.bytes == 0 then take_none pid p held.shut else taken pid p o held (min n (length held.bytes))
+
+-- `take rP rN`
+abbrev pub take_out : ℕ → Process → Option ObjId → Option ℕ → StepTree
+take_out pid p pipe n = on_object pid p (λ o. on_pipe pid p (λ held. on_number pid p (take_from pid p o held) n)) pipe
+
+-- a pipe is shut; one that is shut stays so
+abbrev pub shut_one : ℕ → Process → ObjId → PipeView → StepTree
+shut_one pid p o held =
+    if held.shut then alone pid (answered p 0)
+    else with_write pid (Obj o) (value_after (values.Pipe held) Shut) (answered p 0)
+
+-- `shut rP`
+abbrev pub shut : ℕ → Process → Option ObjId → StepTree
+shut pid p pipe = on_object pid p (λ o. on_pipe pid p (shut_one pid p o)) pipe

@@ -1,0 +1,62 @@
+-- The plain kernel as it is seen: what entities have, and the texts that were said.
+use Rattle.std.specs.Prelude.{◌≡◌, ℕ, List, [], Option, Some, None, Result, Ok, Err, refl}
+use Rattle.std.specs.Coded.{Coded, code_by, coded×}
+use Rattle.std.specs.Option.{option_map}
+use Rattle.std.specs.FinMap as map
+use Rattle.sk_record.specs.Step.{Effect, perform}
+use Rattle.sk_record.specs.Run.{put_all}
+use Rattle.sk_ids.specs.declared.entity.Entity.{Entity}
+use Rattle.sk_ids.specs.contracts.entity.Entity as entity
+use Rattle.sk_terminal.specs.Terminal.{released_of}
+use Rattle.sk_terminal.specs.Terminals.{TerminalMap, terminals_code, texts_at, said_to}
+use Rattle.sk_script.specs.Scripts.{ScriptMap, script_map_code}
+use Rattle.sk_script.specs.Boot.{BootView}
+use Rattle.sk_script.specs.declared.instruction.Input.{Input}
+use Rattle.sk_store.specs.State.{State}
+use Rattle.sk_store.specs.Start.{start_of}
+use Rattle.sk_store.specs.declared.entity_state.EntityState.{EntityState}
+use Rattle.sk_store.specs.contracts.entity_state.EntityState as stored_row
+use Rattle.sk_plain.specs.declared.refusal.Refusal.{Refusal}
+use Rattle.sk_plain.specs.Refusal.{cause}
+use Rattle.sk_plain.specs.Act.{act, Saying}
+use Rattle.sk_plain.specs.Planned.{refusal_of}
+
+-- the scripts that it was booted with, what entities have, and the texts of each terminal, of which none rests on a guess
+pub record PlainView : Type 0 where
+  pub scripts : ScriptMap
+  pub state : State
+  pub texts : TerminalMap
+
+abbrev pub state_code : Coded State
+state_code = map.code entity.the_row.coded stored_row.the_row.coded
+
+abbrev pub plain_code : Coded PlainView
+plain_code =
+    code_by (ScriptMap × (State × TerminalMap)) (coded× script_map_code (coded× state_code terminals_code))
+    (λ k. (k.scripts, (k.state, k.texts))) (λ p. record { scripts = p.0; state = p.1.0; texts = p.1.1 }) (λ _. refl)
+
+-- at its start
+abbrev pub plain_start : BootView → PlainView
+plain_start boot = record { scripts = boot.scripts; state = start_of boot; texts = map.empty }
+
+-- the texts said to a terminal so far
+abbrev pub texts_said : PlainView → ℕ → List (List ℕ)
+texts_said k t = released_of (texts_at k.texts t)
+
+-- what the next step of a process does with an input
+abbrev pub step_of : PlainView → ℕ → Input → Result (Effect Entity EntityState Saying) Refusal
+step_of k pid input = perform (map.get k.state) (act k.scripts pid input)
+
+-- after an accepted step
+abbrev pub with_said : TerminalMap → Option Saying → TerminalMap
+with_said texts None = texts
+with_said texts (Some s) = said_to texts s.to (record { text = s.text; tags = [] })
+
+abbrev pub stepped : PlainView → Effect Entity EntityState Saying → PlainView
+stepped k f = record k { state = put_all f.written k.state; texts = with_said k.texts f.said }
+
+-- a step is taken where it is accepted, and answers its text; a refusal tells the first cause, or want of memory where there is none, and nothing has changed
+abbrev pub Steps : Result (Option (List ℕ)) Refusal → Result (Effect Entity EntityState Saying) Refusal → PlainView → PlainView → Type 0
+Steps (Ok text) (Ok f) old new = (text ≡ option_map (λ s. s.text) f.said) × (new ≡ stepped old f)
+Steps (Ok text) (Err why) old new = ⊥
+Steps (Err refusal) does old new = (refusal_of does ≡ cause refusal) × (new ≡ old)

@@ -1,0 +1,64 @@
+-- The rows of the table on replies of the server.
+use Rattle.std.specs.Prelude.{ℕ, ◌+◌, nat_lt, List, Option, Some, None, if◌then◌else◌}
+use Rattle.sk_record.specs.Step.{Ask, Refuse}
+use Rattle.sk_ids.specs.declared.entity.Entity.TheVariants.{Copy}
+use Rattle.sk_objects.specs.Content.{ContentView}
+use Rattle.sk_objects.specs.declared.content.TheConstants.{LAST_VERSION}
+use Rattle.sk_objects.specs.declared.value.Value.TheVariants as values
+use Rattle.sk_changes.specs.declared.change.Change.TheVariants.{SetCopy}
+use Rattle.sk_changes.specs.Changes.{value_after}
+use Rattle.sk_script.specs.declared.process.Process.{Process}
+use Rattle.sk_script.specs.declared.instruction.Instruction.{Instruction}
+use Rattle.sk_script.specs.declared.instruction.Instruction.TheVariants.{Fetch, Store}
+use Rattle.sk_store.specs.declared.entity_state.EntityState.{EntityState}
+use Rattle.sk_store.specs.declared.entity_state.EntityState.TheVariants as stored
+use Rattle.sk_plain.specs.declared.refusal.Refusal.TheVariants.{Mismatch}
+use Rattle.sk_plain.specs.declared.refusal.Errno.TheVariants.{StaleCopy}
+use Rattle.sk_plain.specs.Rows.{StepTree, answered, failed, filled, alone, with_write}
+
+-- the process after a fetch of this content
+abbrev pub fetched : Process → ContentView → Process
+fetched p c = filled p c.bytes c.version
+
+-- `fetch NAME` with Good: from the cached copy, which has to be there
+abbrev pub from_copy : ℕ → Process → Option EntityState → StepTree
+from_copy pid p (Some (stored.Value (values.Copy content))) = alone pid (fetched p content)
+from_copy pid p (Some (stored.Value (values.File bytes))) = Refuse Mismatch
+from_copy pid p (Some (stored.Value (values.Dir links))) = Refuse Mismatch
+from_copy pid p (Some (stored.Value (values.Pipe held))) = Refuse Mismatch
+from_copy pid p (Some (stored.Value (values.Signals queue))) = Refuse Mismatch
+from_copy pid p (Some (stored.Value (values.Exit status))) = Refuse Mismatch
+from_copy pid p (Some (stored.Process q)) = Refuse Mismatch
+from_copy pid p None = Refuse Mismatch
+
+-- `store NAME` with Good: over the cached copy, whose version is not the last, or over none
+abbrev pub over_copy : ℕ → Process → List ℕ → Option EntityState → StepTree
+over_copy pid p name None = with_write pid (Copy name) (values.Copy (record { version = 1; bytes = p.buffer })) (answered p 1)
+over_copy pid p name (Some (stored.Value (values.Copy content))) =
+    if nat_lt content.version LAST_VERSION
+    then with_write pid (Copy name)
+    (value_after (values.Copy content) (SetCopy (record { version = content.version + 1; bytes = p.buffer })))
+    (answered p (content.version + 1))
+    else Refuse Mismatch
+over_copy pid p name (Some (stored.Value (values.File bytes))) = Refuse Mismatch
+over_copy pid p name (Some (stored.Value (values.Dir links))) = Refuse Mismatch
+over_copy pid p name (Some (stored.Value (values.Pipe held))) = Refuse Mismatch
+over_copy pid p name (Some (stored.Value (values.Signals queue))) = Refuse Mismatch
+over_copy pid p name (Some (stored.Value (values.Exit status))) = Refuse Mismatch
+over_copy pid p name (Some (stored.Process q)) = Refuse Mismatch
+
+-- with Good
+abbrev pub good : ℕ → Process → Option Instruction → StepTree
+good pid p (Some (Fetch name)) = Ask (Copy name) (from_copy pid p)
+good pid p (Some (Store name)) = Ask (Copy name) (over_copy pid p name)
+good pid p _ = Refuse Mismatch
+
+-- with Fresh: the copy becomes the server's content
+abbrev pub fresh : ℕ → Process → ContentView → Option Instruction → StepTree
+fresh pid p content (Some (Fetch name)) = with_write pid (Copy name) (values.Copy content) (fetched p content)
+fresh pid p content _ = Refuse Mismatch
+
+-- with Stale: the copy becomes the server's content, and the buffer stays
+abbrev pub stale : ℕ → Process → ContentView → Option Instruction → StepTree
+stale pid p content (Some (Store name)) = with_write pid (Copy name) (values.Copy content) (failed p StaleCopy)
+stale pid p content _ = Refuse Mismatch

@@ -1,0 +1,89 @@
+-- What the rows of the table of instructions are made of: what becomes of a process, what a register's value stands for, and what is written.
+use Rattle.std.specs.Prelude.{ℕ, ◌+◌, ◌&&◌, pos, negsuc, neg_ℤ, nat_le, List, [], ◌∷◌, Option, Some, None, slice_set, if◌then◌else◌}
+use Rattle.sk_record.specs.Step.{Step, Ask, Done}
+use Rattle.sk_ids.specs.declared.pid.ObjId.{ObjId}
+use Rattle.sk_ids.specs.declared.entity.Entity.{Entity}
+use Rattle.sk_ids.specs.declared.entity.Entity.TheVariants.{Proc, Obj}
+use Rattle.sk_objects.specs.declared.value.Value.{Value}
+use Rattle.sk_script.specs.declared.register.Val.{Val}
+use Rattle.sk_script.specs.declared.register.Val.TheVariants as vals
+use Rattle.sk_script.specs.declared.process.Process.{Process}
+use Rattle.sk_script.specs.Private.{given}
+use Rattle.sk_store.specs.declared.entity_state.EntityState.{EntityState}
+use Rattle.sk_store.specs.declared.entity_state.EntityState.TheVariants as stored
+use Rattle.sk_plain.specs.Refusal.{error_number}
+use Rattle.sk_plain.specs.declared.refusal.Refusal.{Refusal}
+use Rattle.sk_plain.specs.declared.refusal.Errno.{Errno}
+use Rattle.sk_plain.specs.declared.refusal.Errno.TheVariants.{BadObject, Invalid}
+
+-- a text that is said, and the terminal that it goes to
+pub record Saying : Type 0 where
+  pub to : ℕ
+  pub text : List ℕ
+
+abbrev pub StepTree : Type 0
+StepTree = Step Entity EntityState Saying Refusal
+
+-- ---- what becomes of the process
+
+-- it moves on to the next instruction and has a number in r0
+abbrev pub answered : Process → ℕ → Process
+answered p n = given p 0 (vals.Num (pos n))
+
+-- and has an error in r0
+abbrev pub failed : Process → Errno → Process
+failed p e = given p 0 (vals.Num (neg_ℤ (pos (error_number e))))
+
+-- and has a text in its buffer and a number in r0
+abbrev pub filled : Process → List ℕ → ℕ → Process
+filled p text n = record p { place = p.place + 1; buffer = text; registers = slice_set p.registers 0 (vals.Num (pos n)) }
+
+-- ---- what a register's value stands for
+
+-- an object
+abbrev pub object_in : Val → Option ObjId
+object_in (vals.Obj o) = Some o
+object_in (vals.Num n) = None
+object_in (vals.Who q) = None
+
+-- a number from 0 on
+abbrev pub number_in : Val → Option ℕ
+number_in (vals.Num (pos n)) = Some n
+number_in (vals.Num (negsuc n)) = None
+number_in (vals.Obj o) = None
+number_in (vals.Who q) = None
+
+-- a number from 1 up to a greatest one
+abbrev pub number_to : ℕ → Val → Option ℕ
+number_to greatest (vals.Num (pos n)) = if nat_le 1 n && nat_le n greatest then Some n else None
+number_to greatest (vals.Num (negsuc n)) = None
+number_to greatest (vals.Obj o) = None
+number_to greatest (vals.Who q) = None
+
+-- a process
+abbrev pub who_in : Val → Option ℕ
+who_in (vals.Who q) = Some q
+who_in (vals.Num n) = None
+who_in (vals.Obj o) = None
+
+-- ---- what is written
+
+-- nothing but the process is written
+abbrev pub alone : ℕ → Process → StepTree
+alone pid p = Done ((Proc pid, Some (stored.Process p)) ∷ []) None
+
+-- one entity is written beside it
+abbrev pub with_write : ℕ → Entity → Value → Process → StepTree
+with_write pid e v p = Done ((e, Some (stored.Value v)) ∷ (Proc pid, Some (stored.Process p)) ∷ []) None
+
+-- ---- what a row asks first
+
+-- a row that looks at an object: the error 9 where the register holds none
+abbrev pub on_object : ℕ → Process → (ObjId → Option EntityState → StepTree) → Option ObjId → StepTree
+on_object pid p row (Some o) = Ask (Obj o) (row o)
+on_object pid p row None = alone pid (failed p BadObject)
+
+-- a row that takes a number: the error 22 where the register holds none that will do
+abbrev pub on_number : ℕ → Process → (ℕ → StepTree) → Option ℕ → StepTree
+on_number pid p row (Some n) = row n
+on_number pid p row None = alone pid (failed p Invalid)

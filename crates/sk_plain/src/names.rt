@@ -1,0 +1,152 @@
+//! What the instructions on directories will do.
+ghost use Rattle.std.specs.Prelude.{◌≡◌, ◌+◌, ◌<◌, ◌^◌, Some, Ok};
+ghost use Rattle.sk_record.specs.Step.{Ask};
+ghost use Rattle.sk_ids.specs.declared.entity.Entity.TheVariants.{Obj};
+ghost use Rattle.sk_objects.specs.Directory.{looked_up};
+ghost use Rattle.sk_objects.specs.declared.value.Value.TheVariants as values;
+ghost use Rattle.sk_store.specs.declared.entity_state.EntityState.TheVariants as stored;
+ghost use Rattle.sk_script.specs.Registers.{held};
+ghost use Rattle.sk_plain.specs.Rows.{object_in};
+ghost use Rattle.sk_plain.specs.Names.{look as look_row, link_to, link as link_row, unlink_from, unlink as unlink_row};
+ghost use Rattle.sk_plain.specs.Planned.{PlansRow, CanDo, IsBeside};
+
+use crate::shapes::{alone, answered, changed, failed, given, looked};
+use crate::values::object_at;
+use crate::{Becomes, Errno, Plan};
+use sk_changes::Change;
+use sk_ids::{Entity, Name, ObjId, Pid};
+use sk_objects::directory::DIRECTORY_LIMIT;
+use sk_objects::{Directory, Value};
+use sk_script::{Process, Register, Val};
+use sk_store::{EntityState, Look};
+
+/// `look rA rD NAME`
+pub(crate) fn look<S: Look>(
+    store: &S,
+    pid: Pid,
+    process: &Process,
+    register: Register,
+    directory: Register,
+    name: &Name,
+) -> Plan
+    requires { process.now.place + 1 < 2 ^ 32 }
+    ensures plans { PlansRow (S.look store.now) pid (look_row pid process.now register (object_in (held process.now.registers directory)) name.now) (Ok result) }
+    ensures can { CanDo (S.look store.now) result.beside }
+    ensures apart { IsBeside pid result.beside }
+{
+    let held = object_at(process, directory);
+    let Some(object) = &held else {
+        return alone(failed(process, Errno::BadObject));
+    };
+    let error = match store.value(Entity::Obj(*object)) {
+        Some(EntityState::Value(Value::Dir(directory))) => match directory.look(name) {
+            Some(found) => {
+                let process_after = given(process, register, Val::Obj(found));
+                return looked(process_after, Entity::Obj(*object));
+            }
+            None => Errno::NotLinked,
+        },
+        Some(EntityState::Value(Value::File(_))) | Some(EntityState::Value(Value::Pipe(_))) => {
+            Errno::NotDirectory
+        }
+        _ => Errno::BadObject,
+    };
+    looked(failed(process, error), Entity::Obj(*object))
+}
+
+/// A name linked in a directory.
+fn link_to<S: Look>(
+    _store: &S,
+    pid: Pid,
+    process: &Process,
+    at: &ObjId,
+    directory: &Directory,
+    name: &Name,
+    object: &ObjId,
+) -> Plan
+    requires place { process.now.place + 1 < 2 ^ 32 }
+    requires there { S.look _store.now (Obj at.now) ≡ Some (stored.Value (values.Dir directory.now)) }
+    ensures plans { PlansRow (S.look _store.now) pid (Ask (Obj at.now) (λ v. link_to pid process.now at.now directory.now name.now object.now (looked_up directory.now name.now))) (Ok result) }
+    ensures can { CanDo (S.look _store.now) result.beside }
+    ensures apart { IsBeside pid result.beside }
+{
+    if directory.look(name).is_some() {
+        return looked(failed(process, Errno::Exists), Entity::Obj(*at));
+    }
+    if directory.len() >= DIRECTORY_LIMIT {
+        return looked(failed(process, Errno::NoSpace), Entity::Obj(*at));
+    }
+    changed(
+        answered(process, 0),
+        &Entity::Obj(*at),
+        Becomes::Changed(Change::Link(*name, *object)),
+    )
+}
+
+/// `link rD NAME rA`
+pub(crate) fn link<S: Look>(
+    store: &S,
+    pid: Pid,
+    process: &Process,
+    directory: Register,
+    name: &Name,
+    object: Register,
+) -> Plan
+    requires { process.now.place + 1 < 2 ^ 32 }
+    ensures plans { PlansRow (S.look store.now) pid (link_row pid process.now (object_in (held process.now.registers directory)) name.now (object_in (held process.now.registers object))) (Ok result) }
+    ensures can { CanDo (S.look store.now) result.beside }
+    ensures apart { IsBeside pid result.beside }
+{
+    let Some(at) = object_at(process, directory) else {
+        return alone(failed(process, Errno::BadObject));
+    };
+    let Some(object) = object_at(process, object) else {
+        return looked(failed(process, Errno::BadObject), Entity::Obj(at));
+    };
+    let error = match store.value(Entity::Obj(at)) {
+        Some(EntityState::Value(Value::Dir(directory))) => {
+            return link_to(store, pid, process, &at, directory, name, &object);
+        }
+        Some(EntityState::Value(Value::File(_))) | Some(EntityState::Value(Value::Pipe(_))) => {
+            Errno::NotDirectory
+        }
+        _ => Errno::BadObject,
+    };
+    looked(failed(process, error), Entity::Obj(at))
+}
+
+/// `unlink rD NAME`
+pub(crate) fn unlink<S: Look>(
+    store: &S,
+    pid: Pid,
+    process: &Process,
+    directory: Register,
+    name: &Name,
+) -> Plan
+    requires { process.now.place + 1 < 2 ^ 32 }
+    ensures plans { PlansRow (S.look store.now) pid (unlink_row pid process.now (object_in (held process.now.registers directory)) name.now) (Ok result) }
+    ensures can { CanDo (S.look store.now) result.beside }
+    ensures apart { IsBeside pid result.beside }
+{
+    let held = object_at(process, directory);
+    let Some(at) = &held else {
+        return alone(failed(process, Errno::BadObject));
+    };
+    let error = match store.value(Entity::Obj(*at)) {
+        Some(EntityState::Value(Value::Dir(directory))) => {
+            if directory.look(name).is_some() {
+                return changed(
+                    answered(process, 0),
+                    &Entity::Obj(*at),
+                    Becomes::Changed(Change::Unlink(*name)),
+                );
+            }
+            Errno::NotLinked
+        }
+        Some(EntityState::Value(Value::File(_))) | Some(EntityState::Value(Value::Pipe(_))) => {
+            Errno::NotDirectory
+        }
+        _ => Errno::BadObject,
+    };
+    looked(failed(process, error), Entity::Obj(*at))
+}

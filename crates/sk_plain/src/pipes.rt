@@ -1,0 +1,181 @@
+//! What the instructions on pipes will do.
+ghost use Rattle.std.specs.Prelude.{◌≡◌, ◌+◌, ◌<◌, ◌≤◌, ◌^◌, Some, Ok, IfOk, IfErr};
+ghost use Rattle.sk_record.specs.Step.{Ask};
+ghost use Rattle.sk_ids.specs.declared.entity.Entity.TheVariants.{Obj};
+ghost use Rattle.sk_objects.specs.declared.value.Value.TheVariants as values;
+ghost use Rattle.sk_store.specs.declared.entity_state.EntityState.TheVariants as stored;
+ghost use Rattle.sk_script.specs.Registers.{held};
+ghost use Rattle.sk_plain.specs.Rows.{object_in, number_to};
+ghost use Rattle.sk_ids.specs.declared.text.TheConstants.{TEXT_LIMIT};
+ghost use Rattle.sk_plain.specs.Pipes.{put_in, put as put_row, take_from, take_out as take_row, shut as shut_row};
+ghost use Rattle.sk_plain.specs.Planned.{PlansRow, CanDo, IsBeside, IsPlainRefusal};
+
+use crate::shapes::{alone, answered, changed, failed, filled, looked};
+use crate::values::{number_up_to, object_at};
+use crate::{Becomes, Errno, Plan, Refusal};
+use sk_changes::Change;
+use sk_ids::{Entity, ObjId, Pid, Text};
+use sk_objects::pipe::PIPE_LIMIT;
+use sk_objects::{Pipe, Value};
+use sk_script::{Process, Register};
+use sk_store::{EntityState, Look};
+
+/// The greatest number of bytes that are taken at once.
+const TAKE_LIMIT: u16 = 512;
+
+/// The buffer appended to a pipe.
+fn put_in<S: Look>(
+    _store: &S,
+    pid: Pid,
+    process: &Process,
+    object: &ObjId,
+    pipe: &Pipe,
+) -> Result<Plan, Refusal>
+    requires place { process.now.place + 1 < 2 ^ 32 }
+    requires there { S.look _store.now (Obj object.now) ≡ Some (stored.Value (values.Pipe pipe.now)) }
+    ensures plans { PlansRow (S.look _store.now) pid (Ask (Obj object.now) (λ v. put_in pid process.now object.now pipe.now)) result }
+    ensures can { IfOk result (λ plan. CanDo (S.look _store.now) plan.beside) }
+    ensures apart { IfOk result (λ plan. IsBeside pid plan.beside) }
+    ensures named { IfErr result IsPlainRefusal }
+{
+    if pipe.is_shut() {
+        return Ok(looked(failed(process, Errno::BrokenPipe), Entity::Obj(*object)));
+    }
+    let len = process.buffer.len();
+    let process_after = answered(process, len as u64);
+    if len == 0 {
+        return Ok(looked(process_after, Entity::Obj(*object)));
+    }
+    if pipe.len() + len > PIPE_LIMIT {
+        return Err(Refusal::Blocked);
+    }
+    Ok(changed(
+        process_after,
+        &Entity::Obj(*object),
+        Becomes::Changed(Change::Put(process.buffer)),
+    ))
+}
+
+/// `put rP`
+pub(crate) fn put<S: Look>(
+    store: &S,
+    pid: Pid,
+    process: &Process,
+    pipe: Register,
+) -> Result<Plan, Refusal>
+    requires { process.now.place + 1 < 2 ^ 32 }
+    ensures plans { PlansRow (S.look store.now) pid (put_row pid process.now (object_in (held process.now.registers pipe))) result }
+    ensures can { IfOk result (λ plan. CanDo (S.look store.now) plan.beside) }
+    ensures apart { IfOk result (λ plan. IsBeside pid plan.beside) }
+    ensures named { IfErr result IsPlainRefusal }
+{
+    let Some(object) = object_at(process, pipe) else {
+        return Ok(alone(failed(process, Errno::BadObject)));
+    };
+    let error = match store.value(Entity::Obj(object)) {
+        Some(EntityState::Value(Value::Pipe(pipe))) => {
+            return put_in(store, pid, process, &object, pipe);
+        }
+        Some(EntityState::Value(Value::File(_))) | Some(EntityState::Value(Value::Dir(_))) => {
+            Errno::Invalid
+        }
+        _ => Errno::BadObject,
+    };
+    Ok(looked(failed(process, error), Entity::Obj(object)))
+}
+
+/// The first bytes of a pipe taken out, at most so many.
+fn take_from<S: Look>(
+    _store: &S,
+    pid: Pid,
+    process: &Process,
+    object: &ObjId,
+    pipe: &Pipe,
+    most: u16,
+) -> Result<Plan, Refusal>
+    requires place { process.now.place + 1 < 2 ^ 32 }
+    requires there { S.look _store.now (Obj object.now) ≡ Some (stored.Value (values.Pipe pipe.now)) }
+    requires most { (1 ≤ most) × (most ≤ 512) }
+    ensures plans { PlansRow (S.look _store.now) pid (Ask (Obj object.now) (λ v. take_from pid process.now object.now pipe.now most)) result }
+    ensures can { IfOk result (λ plan. CanDo (S.look _store.now) plan.beside) }
+    ensures apart { IfOk result (λ plan. IsBeside pid plan.beside) }
+    ensures named { IfErr result IsPlainRefusal }
+{
+    let bytes = pipe.as_slice();
+    if bytes.len() == 0 {
+        if !pipe.is_shut() {
+            return Err(Refusal::Blocked);
+        }
+        return Ok(looked(filled(process, Text::empty(), 0), Entity::Obj(*object)));
+    }
+    let count = (most as usize).min(bytes.len());
+    let text = Text::new(&bytes[..count]).unwrap();
+    Ok(changed(
+        filled(process, text, count as u64),
+        &Entity::Obj(*object),
+        Becomes::Changed(Change::Take(count as u32)),
+    ))
+}
+
+/// `take rP rN`
+pub(crate) fn take<S: Look>(
+    store: &S,
+    pid: Pid,
+    process: &Process,
+    pipe: Register,
+    most: Register,
+) -> Result<Plan, Refusal>
+    requires { process.now.place + 1 < 2 ^ 32 }
+    ensures plans { PlansRow (S.look store.now) pid (take_row pid process.now (object_in (held process.now.registers pipe)) (number_to TEXT_LIMIT (held process.now.registers most))) result }
+    ensures can { IfOk result (λ plan. CanDo (S.look store.now) plan.beside) }
+    ensures apart { IfOk result (λ plan. IsBeside pid plan.beside) }
+    ensures named { IfErr result IsPlainRefusal }
+{
+    let Some(object) = object_at(process, pipe) else {
+        return Ok(alone(failed(process, Errno::BadObject)));
+    };
+    let error = match store.value(Entity::Obj(object)) {
+        Some(EntityState::Value(Value::Pipe(pipe))) => {
+            match number_up_to(process, most, TAKE_LIMIT) {
+                Some(most) => return take_from(store, pid, process, &object, pipe, most),
+                None => Errno::Invalid,
+            }
+        }
+        Some(EntityState::Value(Value::File(_))) | Some(EntityState::Value(Value::Dir(_))) => {
+            Errno::Invalid
+        }
+        _ => Errno::BadObject,
+    };
+    Ok(looked(failed(process, error), Entity::Obj(object)))
+}
+
+/// `shut rP`
+pub(crate) fn shut<S: Look>(store: &S, pid: Pid, process: &Process, pipe: Register) -> Plan
+    requires { process.now.place + 1 < 2 ^ 32 }
+    ensures plans { PlansRow (S.look store.now) pid (shut_row pid process.now (object_in (held process.now.registers pipe))) (Ok result) }
+    ensures can { CanDo (S.look store.now) result.beside }
+    ensures apart { IsBeside pid result.beside }
+{
+    let held = object_at(process, pipe);
+    let Some(object) = &held else {
+        return alone(failed(process, Errno::BadObject));
+    };
+    let error = match store.value(Entity::Obj(*object)) {
+        Some(EntityState::Value(Value::Pipe(pipe))) => {
+            let process_after = answered(process, 0);
+            if pipe.is_shut() {
+                return looked(process_after, Entity::Obj(*object));
+            }
+            return changed(
+                process_after,
+                &Entity::Obj(*object),
+                Becomes::Changed(Change::Shut),
+            );
+        }
+        Some(EntityState::Value(Value::File(_))) | Some(EntityState::Value(Value::Dir(_))) => {
+            Errno::Invalid
+        }
+        _ => Errno::BadObject,
+    };
+    looked(failed(process, error), Entity::Obj(*object))
+}

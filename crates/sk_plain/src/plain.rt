@@ -1,0 +1,100 @@
+//! The plain kernel: it takes steps, and knows no guesses.
+ghost use Rattle.std.specs.Prelude.{◌≡◌, IfOk};
+ghost use Rattle.std.specs.List.Sorted.{IsStrictlySortedBy};
+ghost use Rattle.std.specs.FinMap as map;
+ghost use Rattle.sk_ids.specs.Entity.{entity_cmp};
+ghost use Rattle.sk_plain.specs.View.{Shows};
+ghost use Rattle.sk_plain.specs.Plain.{plain_start, texts_said, step_of, Steps};
+
+use crate::{Beside, Refusal, View, apply_plan, plan_step};
+use sk_ids::{Entity, Pid, TagSet, Text};
+use sk_script::{Boot, Input, Scripts};
+use sk_store::{EntityState, Keeper, Look, Store};
+use sk_terminal::Terminals;
+use std::alloc::{AllocError, Global};
+use std::marker::Model;
+
+/// A kernel without guesses. No text that it keeps rests on one.
+#[derive(Drop)]
+pub struct Plain {
+    scripts: Scripts,
+    store: Store,
+    texts: Terminals,
+}
+
+impl Model for Plain {
+    ghost use Rattle.sk_plain.specs.Plain.{PlainView, plain_code};
+
+    ghost Value = { PlainView };
+
+    ghost coded = { plain_code };
+
+    ghost view = { λ k. record { scripts = k.scripts; state = k.store; texts = k.texts } };
+}
+
+impl Plain {
+    /// The kernel at the start of a boot.
+    pub fn boot(alloc: Global, boot: &Boot) -> Result<Plain, AllocError>
+        ensures { IfOk result (λ plain. plain ≡ plain_start boot.now) }
+    {
+        Ok(Plain {
+            scripts: boot.scripts().copy()?,
+            store: Store::start(alloc, boot)?,
+            texts: Terminals::new(alloc),
+        })
+    }
+
+    /// Takes the next step of a process with an input, and answers the text that it says. After a
+    /// refusal nothing has changed.
+    pub fn step(&mut self, pid: Pid, input: &Input) -> Result<Option<Text>, Refusal>
+        ensures { Steps result (step_of self.old pid input.now) self.old self.new }
+    {
+        let plan = plan_step(&self.store, &self.scripts, pid, input)?;
+        let Beside::Says = plan.beside else {
+            apply_plan(&mut self.store, pid, &plan)?;
+            return Ok(None);
+        };
+        let process = &plan.process;
+        let back = self
+            .store
+            .write(Entity::Proc(pid), EntityState::Process(*process))?;
+        let tags = TagSet::new(self.store.memory());
+        if self
+            .texts
+            .say(process.terminal, process.buffer, tags)
+            .is_err()
+        {
+            self.store.take_back(back);
+            return Err(Refusal::Memory);
+        }
+        Ok(Some(process.buffer))
+    }
+
+    /// What an entity has; `None` where it is absent.
+    pub fn value(&self, entity: &Entity) -> Option<View<'_>>
+        ensures { Shows (map.get self.now.state entity.now) result }
+    {
+        match self.store.value(*entity) {
+            Some(stored) => Some(View::of(stored)),
+            None => None,
+        }
+    }
+
+    /// The texts said to a terminal so far.
+    pub fn said(&self, terminal: u16) -> &[Text]
+        ensures { result.now ≡ texts_said self.now terminal }
+    {
+        match self.texts.get(terminal) {
+            Some(terminal) => terminal.released(),
+            None => &[],
+        }
+    }
+
+    /// The entities that are present, each once, by rising order.
+    pub fn entities(&self) -> Result<Vec<Entity>, AllocError>
+        ensures present { IfOk result (λ entities. entities.items ≡ map.keys self.now.state) }
+        ensures rising { IfOk result (λ entities. IsStrictlySortedBy entity_cmp entities.items) }
+    {
+        self.store.entities()
+    }
+}

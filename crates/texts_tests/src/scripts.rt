@@ -3,7 +3,6 @@ use sk_ids::{Name, ObjId, Pid, Text};
 use sk_objects::Content;
 use sk_print::{Literal, Shown};
 use sk_scenario::inputs;
-use sk_script::boot::BOOT_OBJECT_LIMIT;
 use sk_script::{
     Boot, BootFault, Input, Instruction, ObjectKind, ROOT, Register, Script, Scripts, Val,
 };
@@ -13,30 +12,26 @@ use std::alloc::{AllocError, Global};
 use std::fmt;
 use std::test::Fail;
 
-/// Whether a script's first fault is of this kind, and in this line.
-fn has_fault(alloc: Global, text: &[u8], line: u64, kind: FaultKind) -> bool {
+/// The first fault of a script, its line and its kind; none where it is well.
+fn fault(alloc: Global, text: &[u8]) -> Option<(u64, FaultKind)> {
     match Script::parse(alloc, text) {
-        Ok(_) => false,
-        Err(fault) => fault.line == line && fault.kind == kind,
+        Ok(_) => None,
+        Err(fault) => Some((fault.line, fault.kind)),
     }
-}
-
-fn has_none(alloc: Global, text: &[u8]) -> bool {
-    Script::parse(alloc, text).is_ok()
 }
 
 #[test]
 fn script_faults(rt: HostRuntime) {
-    let rows: [(&[u8], u64, FaultKind); 4] = [
-        (b"sett r1 1", 1, Word),
-        (b"set r8 1", 1, Malformed),
-        (b"text \"ab", 1, Malformed),
-        (b"say\nset", 2, Word),
+    let rows: [(&[u8], Option<(u64, FaultKind)>); 5] = [
+        (b"sett r1 1", Some((1, Word))),
+        (b"set r8 1", Some((1, Malformed))),
+        (b"text \"ab", Some((1, Malformed))),
+        (b"say\nset", Some((2, Word))),
+        (b"", None),
     ];
-    for (text, line, kind) in rows {
-        assert!(rt; has_fault(rt.alloc(), text, line, kind));
+    for (text, want) in rows {
+        assert_eq!(rt; fault(rt.alloc(), text), want);
     }
-    assert!(rt; has_none(rt.alloc(), b""));
 }
 
 /// So many lines `say`, and these lines.
@@ -52,70 +47,66 @@ fn long_script(alloc: Global, count: usize, last: &[u8]) -> Result<Vec<u8>, Allo
 #[test]
 fn longest_script(rt: HostRuntime) -> Result<(), Fail> {
     let longest = long_script(rt.alloc(), 4_096, b"")?;
-    assert!(rt; has_none(rt.alloc(), &longest));
+    assert_eq!(rt; fault(rt.alloc(), &longest), None);
     let longer = long_script(rt.alloc(), 4_096, b"# 4,097\nsay\nset\n")?;
-    assert!(rt; has_fault(rt.alloc(), &longer, 4_098, TooLong));
+    assert_eq!(rt; fault(rt.alloc(), &longer), Some((4_098, TooLong)));
     Ok(())
 }
 
 #[test]
 fn fault_is_printed(rt: HostRuntime) -> Result<(), Fail> {
-    let line = 2;
-    assert!(rt; shows(rt.alloc(), Fault { line, kind: Word }, "line 2: Word")?);
+    let fault = Fault {
+        line: 2,
+        kind: Word,
+    };
+    assert_eq!(rt; printed(rt.alloc(), fault)?.as_str(), "line 2: Word");
     Ok(())
 }
 
 #[test]
 fn fault_order(rt: HostRuntime) {
-    let rows: [(&[u8], u64, FaultKind); 13] = [
-        (b"set r1 1\nset r8 1", 2, Malformed),
-        (b"sat \"a", 1, Word),
-        (b"set \"a", 1, Malformed),
-        (b"set r8", 1, Word),
-        (b"set r1 1 2", 1, Word),
-        (b"set r1 +1", 1, Malformed),
-        (b"set r1 9223372036854775808", 1, Malformed),
-        (b"text \"a\"b", 1, Malformed),
-        (b"text \"\\q\"", 1, Malformed),
-        (b"text \"\xff\"", 1, Malformed),
-        (b"\xff", 1, Word),
-        (b"say\nend", 2, Word),
-        (b"fetch a:b", 1, Malformed),
+    let rows: [(&[u8], Option<(u64, FaultKind)>); 15] = [
+        (b"set r1 1\nset r8 1", Some((2, Malformed))),
+        (b"sat \"a", Some((1, Word))),
+        (b"set \"a", Some((1, Malformed))),
+        (b"set r8", Some((1, Word))),
+        (b"set r1 1 2", Some((1, Word))),
+        (b"set r1 +1", Some((1, Malformed))),
+        (b"set r1 9223372036854775808", Some((1, Malformed))),
+        (b"text \"a\"b", Some((1, Malformed))),
+        (b"text \"\\q\"", Some((1, Malformed))),
+        (b"text \"\xff\"", Some((1, Malformed))),
+        (b"\xff", Some((1, Word))),
+        (b"say\nend", Some((2, Word))),
+        (b"fetch a:b", Some((1, Malformed))),
+        (b"set r1 -9223372036854775808", None),
+        (b"# \xff", None),
     ];
-    for (text, line, kind) in rows {
-        assert!(rt; has_fault(rt.alloc(), text, line, kind));
-    }
-    let fine: [&[u8]; 2] = [b"set r1 -9223372036854775808", b"# \xff"];
-    for text in fine {
-        assert!(rt; has_none(rt.alloc(), text));
+    for (text, want) in rows {
+        assert_eq!(rt; fault(rt.alloc(), text), want);
     }
 }
 
 #[test]
 fn labels(rt: HostRuntime) {
-    let rows: [(&[u8], u64, FaultKind); 6] = [
-        (b"a:\nsay\na:", 3, Label),
-        (b"a: b", 1, Word),
-        (b"a: \"b", 1, Malformed),
-        (b"a: b\na:", 1, Word),
-        (b"a.b:", 1, Word),
-        (b":", 1, Word),
+    let rows: [(&[u8], Option<(u64, FaultKind)>); 7] = [
+        (b"a:\nsay\na:", Some((3, Label))),
+        (b"a: b", Some((1, Word))),
+        (b"a: \"b", Some((1, Malformed))),
+        (b"a: b\na:", Some((1, Word))),
+        (b"a.b:", Some((1, Word))),
+        (b":", Some((1, Word))),
+        (b"a:\nsay\nb_2:", None),
     ];
-    for (text, line, kind) in rows {
-        assert!(rt; has_fault(rt.alloc(), text, line, kind));
+    for (text, want) in rows {
+        assert_eq!(rt; fault(rt.alloc(), text), want);
     }
-    assert!(rt; has_none(rt.alloc(), b"a:\nsay\nb_2:"));
 }
 
-/// Whether a script, and its copy, has just these instructions.
-fn has_just(script: &Script, instructions: &[Instruction]) -> Result<bool, AllocError> {
+/// The first four instructions of a script's copy, and how many it has.
+fn first_four(script: &Script) -> Result<([Option<Instruction>; 4], u32), AllocError> {
     let copy = script.copy()?;
-    for (place, one) in (0u32..).zip(instructions.iter()) {
-        if script.at(place) != Some(*one) || copy.at(place) != Some(*one) {
-            return Ok(false);
-        }
-    }
-    Ok(copy.len() as usize == instructions.len())
+    Ok(([0, 1, 2, 3].map(|place| copy.at(place)), copy.len()))
 }
 
 #[test]
@@ -125,72 +116,105 @@ fn reads_scripts(rt: HostRuntime) -> Result<(), Fail> {
     let literal = Text::new(b"a J\n\"").ok_or("text")?;
     let file = Name::new(b"/x").ok_or("name")?;
     let want = [
-        Instruction::Set(one, -12),
-        Instruction::Text(literal),
-        Instruction::Fetch(file),
+        Some(Instruction::Set(one, -12)),
+        Some(Instruction::Text(literal)),
+        Some(Instruction::Fetch(file)),
+        None,
     ];
     let script = Script::parse(rt.alloc(), text)?;
-    assert!(rt; has_just(&script, &want)?);
+    assert_eq!(rt; first_four(&script)?, (want, 3));
     Ok(())
+}
+
+/// The length of a script that was read, or its first fault.
+fn length(parsed: Result<Script, Fault>) -> Result<u32, Fault> {
+    match parsed {
+        Ok(script) => Ok(script.len()),
+        Err(fault) => Err(fault),
+    }
 }
 
 #[test]
 fn reads_part_of_a_text(rt: HostRuntime) {
     let mut lines = Lines::of(b"script a\nsay\nset r9 1\nend\n");
     let _ = lines.next();
-    let one = Script::parse_lines(rt.alloc(), &Block::first(&lines, 1), 2);
-    assert!(rt; one.is_ok_and(|script| script.len() == 1));
-    let two = Script::parse_lines(rt.alloc(), &Block::first(&lines, 2), 2);
-    assert!(rt; two.is_err_and(|fault| fault.line == 3 && fault.kind == Malformed));
+    let one = length(Script::parse_lines(rt.alloc(), &Block::first(&lines, 1), 2));
+    assert_eq!(rt; one, Ok(1));
+    let kind = Malformed;
+    let two = length(Script::parse_lines(rt.alloc(), &Block::first(&lines, 2), 2));
+    assert_eq!(rt; two, Err(Fault { line: 3, kind }));
 }
 
-fn takes_one_script(alloc: Global, boot: &mut Boot, name: Name) -> Result<bool, Fail> {
+/// What a boot answers to a script, and to its copy under the same name.
+fn two_scripts(alloc: Global, boot: &mut Boot, name: Name) -> Result<[Answer; 2], Fail> {
     let script = Script::parse(alloc, b"say")?;
     let copy = script.copy()?;
-    let is_taken = boot.script(name, script).is_ok();
-    Ok(is_taken && boot.script(name, copy) == Err(BootFault::Duplicate))
+    let first = boot.script(name, script);
+    Ok([first, boot.script(name, copy)])
 }
 
-fn takes_one_process(boot: &mut Boot, main: &Name, other: &Name) -> bool {
-    boot.process(1, main, 2).is_ok()
-        && boot.process(1, other, 1) == Err(BootFault::Duplicate)
-        && boot.process(2, other, 1) == Err(BootFault::NoScript)
-        && boot.processes().len() == 1
+type Answer = Result<(), BootFault>;
+
+/// What it answers to three processes, and how many it then has.
+fn three_processes(boot: &mut Boot, main: &Name, other: &Name) -> ([Answer; 3], usize) {
+    let first = boot.process(1, main, 2);
+    let second = boot.process(1, other, 1);
+    let third = boot.process(2, other, 1);
+    ([first, second, third], boot.processes().len())
 }
 
-fn takes_one_object(boot: &mut Boot, name: Name) -> bool {
-    let has_room = boot.objects().is_empty();
-    has_room
-        && boot.object(name, ObjectKind::File, b"a").is_ok()
-        && boot.objects().len() < BOOT_OBJECT_LIMIT
-        && boot.object(name, ObjectKind::Dir, b"") == Err(BootFault::Duplicate)
-        && boot.objects().len() == 1
+/// What it answers to two objects of one name, where there is room, and how many it then has.
+fn two_objects(boot: &mut Boot, name: Name) -> ([Option<Answer>; 2], usize) {
+    let first = if boot.objects().len() < 64 {
+        Some(boot.object(name, ObjectKind::File, b"a"))
+    } else {
+        None
+    };
+    let second = if boot.objects().len() < 64 {
+        Some(boot.object(name, ObjectKind::Dir, b""))
+    } else {
+        None
+    };
+    ([first, second], boot.objects().len())
 }
 
-fn takes_one_copy(boot: &mut Boot, name: Name, content: Content) -> bool {
-    boot.copy(name, content).is_ok()
-        && boot.copy(name, content) == Err(BootFault::Duplicate)
-        && boot.copies().len() == 1
+/// What it answers to two copies of one name, and how many it then has.
+fn two_copies(boot: &mut Boot, name: Name, content: Content) -> ([Answer; 2], usize) {
+    let first = boot.copy(name, content);
+    let second = boot.copy(name, content);
+    ([first, second], boot.copies().len())
 }
 
-/// Whether a copy of the scripts has the one and not the other.
-fn has_one(scripts: &Scripts, name: &Name, other: &Name) -> Result<bool, AllocError> {
+/// Whether a copy of the scripts has these.
+fn has(scripts: &Scripts, names: [&Name; 2]) -> Result<[bool; 2], AllocError> {
     let scripts = scripts.copy()?;
-    Ok(scripts.get(name).is_some() && scripts.get(other).is_none())
+    Ok([
+        scripts.get(names[0]).is_some(),
+        scripts.get(names[1]).is_some(),
+    ])
 }
 
 #[test]
 fn boot_refusals(rt: HostRuntime) -> Result<(), Fail> {
+    use BootFault::{Duplicate, NoScript};
     let main = Name::new(b"main").ok_or("name")?;
     let other = Name::new(b"other").ok_or("name")?;
     let content = Content::new(3, Text::empty()).ok_or("content")?;
     let mut boot = Boot::new(rt.alloc());
-    assert!(rt; boot.process(1, &main, 1) == Err(BootFault::NoScript));
-    assert!(rt; takes_one_script(rt.alloc(), &mut boot, main)?);
-    assert!(rt; takes_one_process(&mut boot, &main, &other));
-    assert!(rt; takes_one_object(&mut boot, main));
-    assert!(rt; takes_one_copy(&mut boot, main, content));
-    assert!(rt; has_one(boot.scripts(), &main, &other)?);
+    assert_eq!(rt; boot.process(1, &main, 1), Err(NoScript));
+    assert_eq!(rt;
+        two_scripts(rt.alloc(), &mut boot, main)?,
+        [Ok(()), Err(Duplicate)]
+    );
+    let processes = [Ok(()), Err(Duplicate), Err(NoScript)];
+    assert_eq!(rt; three_processes(&mut boot, &main, &other), (processes, 1));
+    let objects = [Some(Ok(())), Some(Err(Duplicate))];
+    assert_eq!(rt; two_objects(&mut boot, main), (objects, 1));
+    assert_eq!(rt;
+        two_copies(&mut boot, main, content),
+        ([Ok(()), Err(Duplicate)], 1)
+    );
+    assert_eq!(rt; has(boot.scripts(), [&main, &other])?, [true, false]);
     Ok(())
 }
 
@@ -209,14 +233,14 @@ fn inputs_of_words(rt: HostRuntime) -> Result<(), Fail> {
         (b"bad 3", Err(Word)),
     ];
     for (text, want) in rows {
-        assert!(rt; inputs::input(&Words::of(text)) == want);
+        assert_eq!(rt; inputs::input(&Words::of(text)), want);
     }
     Ok(())
 }
 
-/// Whether a thing is printed so.
-fn shows<T: fmt::Display + Drop>(alloc: Global, thing: T, want: &str) -> Result<bool, AllocError> {
-    Ok(format!(in alloc; "{thing}")?.as_str() == want)
+/// What is printed of a thing.
+fn printed<T: fmt::Display + Drop>(alloc: Global, thing: T) -> Result<String, AllocError> {
+    format!(in alloc; "{thing}")
 }
 
 #[test]
@@ -225,12 +249,16 @@ fn prints(rt: HostRuntime) -> Result<(), Fail> {
     let deep: Pid = Operand::read(b"1.3.05.65535").map_err(|_| "pid")?;
     let child = Pid::boot(1).ok_or("boot")?.child(3).ok_or("child")?;
     let maker = Some(child);
-    assert!(rt; shows(alloc, Shown(deep), "1.3.5.65535")?);
-    assert!(rt; shows(alloc, Shown(ObjId { maker, count: 2 }), "1.3:2")?);
-    assert!(rt; shows(alloc, Shown(Val::Obj(ROOT)), "0:1")?);
-    assert!(rt; shows(alloc, Shown(Val::Who(child)), "@1.3")?);
-    assert!(rt; shows(alloc, Shown(Val::Num(-2)), "-2")?);
-    assert!(rt; shows(alloc, Literal(b"a\"\\\n\x7f"), "\"a\\\"\\\\\\n\\x7f\"")?);
+    assert_eq!(rt; printed(alloc, Shown(deep))?.as_str(), "1.3.5.65535");
+    assert_eq!(rt;
+        printed(alloc, Shown(ObjId { maker, count: 2 }))?.as_str(),
+        "1.3:2"
+    );
+    assert_eq!(rt; printed(alloc, Shown(Val::Obj(ROOT)))?.as_str(), "0:1");
+    assert_eq!(rt; printed(alloc, Shown(Val::Who(child)))?.as_str(), "@1.3");
+    assert_eq!(rt; printed(alloc, Shown(Val::Num(-2)))?.as_str(), "-2");
+    let literal = printed(alloc, Literal(b"a\"\\\n\x7f"))?;
+    assert_eq!(rt; literal.as_str(), "\"a\\\"\\\\\\n\\x7f\"");
     Ok(())
 }
 
@@ -239,6 +267,6 @@ fn faulty_processes(rt: HostRuntime) {
     let rows: [&[u8]; 4] = [b"1.0", b"1.1.1.1.1", b"65536", b"1."];
     for text in rows {
         let said: Result<Pid, FaultKind> = Operand::read(text);
-        assert!(rt; said.is_err());
+        assert_eq!(rt; said, Err(Malformed));
     }
 }

@@ -25,19 +25,20 @@ fn say(alloc: Global, terminal: &mut Terminal, text: u8, on: &[u64]) -> Result<(
     terminal.say(Text::new([text].as_slice()).unwrap_or(Text::empty()), tags)
 }
 
-/// Whether these one-letter texts are released, and so many wait.
-fn shows(terminal: &Terminal, texts: &[u8], waiting: usize) -> bool {
-    let released = terminal.released();
-    released.len() == texts.len()
-        && released
-            .iter()
-            .zip(texts.iter())
-            .all(|(text, letter)| text.as_slice() == [*letter].as_slice())
-        && terminal.waiting() == waiting
+/// The released one-letter texts as one, and how many wait.
+type Shown = (Text, usize);
+
+fn shown(alloc: Global, terminal: &Terminal) -> Result<Shown, AllocError> {
+    let mut letters = Vec::new(alloc);
+    for text in terminal.released() {
+        letters.extend_from_slice(text.as_slice())?;
+    }
+    Ok((one_text(&letters), terminal.waiting()))
 }
 
-/// What is released and how many texts wait, after a decision.
-type Shows<'a> = (Decision, &'a [u8], usize);
+fn one_text(bytes: &[u8]) -> Text {
+    Text::new(bytes).unwrap_or(Text::empty())
+}
 
 /// Texts `a` to `e`, those of `b`, `d` and `e` on guesses 1, 1 and 2, and 2.
 fn says_five(alloc: Global, terminal: &mut Terminal) -> Result<(), AllocError> {
@@ -54,35 +55,40 @@ fn says_five(alloc: Global, terminal: &mut Terminal) -> Result<(), AllocError> {
     Ok(())
 }
 
-/// Whether a terminal shows what it should after this decision.
-fn shows_after(terminal: &mut Terminal, after: Shows) -> bool {
-    let (decision, texts, waiting) = after;
-    decide(terminal, decision);
-    shows(terminal, texts, waiting)
-}
-
-/// Whether it shows what it should at first, and after each of two decisions.
-fn shows_both(alloc: Global, first: Shows, second: Shows) -> Result<bool, AllocError> {
+/// What a terminal shows at first, and after each of two decisions.
+fn shown_after(alloc: Global, first: Decision, second: Decision) -> Result<[Shown; 3], AllocError> {
     let mut terminal = Terminal::new(alloc);
     says_five(alloc, &mut terminal)?;
-    let at_first = shows(&terminal, b"a", 4);
-    Ok(at_first && shows_after(&mut terminal, first) && shows_after(&mut terminal, second))
+    let at_first = shown(alloc, &terminal)?;
+    decide(&mut terminal, first);
+    let after_one = shown(alloc, &terminal)?;
+    decide(&mut terminal, second);
+    Ok([at_first, after_one, shown(alloc, &terminal)?])
 }
 
 #[test]
 fn released_after_two_decisions(rt: HostRuntime) -> Result<(), Fail> {
     use Decision::{Commit, Fail};
-    let rows: [(Shows, Shows); 7] = [
-        ((Commit(1), b"abc", 2), (Commit(2), b"abcde", 0)),
-        ((Commit(1), b"abc", 2), (Fail(2), b"abc", 0)),
-        ((Fail(1), b"ac", 1), (Commit(2), b"ace", 0)),
-        ((Fail(2), b"a", 2), (Commit(1), b"abc", 0)),
-        ((Fail(2), b"a", 2), (Fail(1), b"ac", 0)),
-        ((Commit(2), b"a", 4), (Commit(1), b"abcde", 0)),
-        ((Commit(3), b"a", 4), (Fail(3), b"a", 4)),
+    let rows: [(Decision, &[u8], usize, Decision, &[u8], usize); 7] = [
+        (Commit(1), b"abc", 2, Commit(2), b"abcde", 0),
+        (Commit(1), b"abc", 2, Fail(2), b"abc", 0),
+        (Fail(1), b"ac", 1, Commit(2), b"ace", 0),
+        (Fail(2), b"a", 2, Commit(1), b"abc", 0),
+        (Fail(2), b"a", 2, Fail(1), b"ac", 0),
+        (Commit(2), b"a", 4, Commit(1), b"abcde", 0),
+        (Commit(3), b"a", 4, Fail(3), b"a", 4),
     ];
-    for (first, second) in rows {
-        assert!(rt; shows_both(rt.alloc(), first, second)?);
+    for (first, texts, waiting, second, later_texts, later_waiting) in rows {
+        let want = [
+            (one_text(b"a"), 4),
+            (one_text(texts), waiting),
+            (one_text(later_texts), later_waiting),
+        ];
+        assert_eq!(rt;
+            shown_after(rt.alloc(), first, second)?,
+            want,
+            "{first:?}, {second:?}"
+        );
     }
     Ok(())
 }

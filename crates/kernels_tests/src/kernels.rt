@@ -141,6 +141,6 @@ fn tokens_of_two_kernels(rt: HostRuntime) -> Result<(), Fail> {
     let pid = Pid::boot(1).ok_or("pid")?;
     let boot = one_process(rt.alloc())?;
     let told = with_both(rt.alloc(), &boot, pid)?;
-    assert!(rt; told == (true, Outcome::Done, Outcome::Done));
+    assert_eq!(rt; told, (true, Outcome::Done, Outcome::Done));
     Ok(())
 }

@@ -1,11 +1,11 @@
 //! Records, stores and steps, and what a failure leaves of a record.
 use sk_ids::{Entity, GuessId, Name, ObjId, Pid, Text};
 use sk_objects::Content;
-use sk_plain::{Entry, Errno, Event, Refusal, Trace, apply_plan, plan_step, strike_guess};
-use sk_script::boot::BOOT_OBJECT_LIMIT;
+use sk_plain::{Entry, Event, Refusal, Trace, apply_plan, plan_step, strike_guess};
 use sk_script::{Boot, Input, ObjectKind, ROOT, Register, Script, Val};
-use sk_store::{Look, Store, EntityState};
+use sk_store::{EntityState, Look, Store};
 use std::alloc::{AllocError, Global};
+use std::process::Abort;
 use std::test::Fail;
 
 fn name(bytes: &[u8]) -> Result<Name, Fail> {
@@ -66,13 +66,20 @@ fn left(alloc: Global, boot: &Boot, entries: &[Entry]) -> Result<Vec<Entry>, Fai
     Ok(strike_guess(alloc, &mut store, boot.scripts(), entries, GuessId::new(1))?)
 }
 
-/// Whether this is left of a record of two processes with these scripts, when its guess fails.
-fn leaves(alloc: Global, scripts: [&[u8]; 2], record: &[Did], want: &[Did]) -> Result<bool, Fail> {
+/// This is left of a record of two processes with these scripts, when its guess fails.
+fn assert_left(
+    rt: &impl Abort,
+    alloc: Global,
+    scripts: [&[u8]; 2],
+    record: &[Did],
+    want: &[Did],
+) -> Result<(), Fail> {
     let boot = two_processes(alloc, scripts)?;
     let entries = entries_of(alloc, record)?;
     let kept = left(alloc, &boot, &entries)?;
     let want = entries_of(alloc, want)?;
-    Ok(kept.as_slice() == want.as_slice())
+    assert_eq!(rt; kept.as_slice(), want.as_slice());
+    Ok(())
 }
 
 #[test]
@@ -93,8 +100,7 @@ fn dependence_through_files(rt: HostRuntime) -> Result<(), Fail> {
         Did::Steps(2),
     ];
     let want = [Did::Steps(1), Did::Steps(2)];
-    assert!(rt; leaves(rt.alloc(), scripts, &record, &want)?);
-    Ok(())
+    assert_left(&rt, rt.alloc(), scripts, &record, &want)
 }
 
 #[test]
@@ -114,8 +120,7 @@ fn independent_process_survives(rt: HostRuntime) -> Result<(), Fail> {
     ];
     let two = Did::Steps(2);
     let want = [Did::Steps(1), two, two, two, two];
-    assert!(rt; leaves(rt.alloc(), scripts, &record, &want)?);
-    Ok(())
+    assert_left(&rt, rt.alloc(), scripts, &record, &want)
 }
 
 #[test]
@@ -123,8 +128,7 @@ fn writer_before_the_guess(rt: HostRuntime) -> Result<(), Fail> {
     let scripts: [&[u8]; 2] = [b"fetch /x\nfetch /y\n", b"fetch /y\nfetch /y\n"];
     let two = Did::Fresh(2);
     let record = [two, Did::Guesses(1), Did::Good(1), two];
-    assert!(rt; leaves(rt.alloc(), scripts, &record, &[two, two])?);
-    Ok(())
+    assert_left(&rt, rt.alloc(), scripts, &record, &[two, two])
 }
 
 /// Takes so many steps of a process, each without input.
@@ -159,26 +163,14 @@ fn answer(alloc: Global, lines: &[u8], count: usize) -> Result<Option<i64>, Fail
 #[test]
 fn errors_of_steps(rt: HostRuntime) -> Result<(), Fail> {
     let rows: [(&[u8], usize, i64); 10] = [
-        (b"write r0 r1\n", 1, Errno::BadObject.answer()),
-        (b"write r7 r1\n", 1, Errno::IsDirectory.answer()),
-        (b"cut r1 r1\n", 1, Errno::BadObject.answer()),
-        (b"cut r7 r1\n", 1, Errno::IsDirectory.answer()),
-        (b"mkfile r1\nwrite r1 r7\n", 2, Errno::Invalid.answer()),
-        (
-            b"mkfile r1\nset r2 -1\ncut r1 r2\n",
-            3,
-            Errno::Invalid.answer(),
-        ),
-        (
-            b"mkfile r1\nset r2 32769\nwrite r1 r2\n",
-            3,
-            Errno::TooBig.answer(),
-        ),
-        (
-            b"mkfile r1\nset r2 32769\ncut r1 r2\n",
-            3,
-            Errno::TooBig.answer(),
-        ),
+        (b"write r0 r1\n", 1, -9),
+        (b"write r7 r1\n", 1, -21),
+        (b"cut r1 r1\n", 1, -9),
+        (b"cut r7 r1\n", 1, -21),
+        (b"mkfile r1\nwrite r1 r7\n", 2, -22),
+        (b"mkfile r1\nset r2 -1\ncut r1 r2\n", 3, -22),
+        (b"mkfile r1\nset r2 32769\nwrite r1 r2\n", 3, -27),
+        (b"mkfile r1\nset r2 32769\ncut r1 r2\n", 3, -27),
         (
             b"mkfile r1\ntext \"abc\"\nset r2 32765\nwrite r1 r2\n",
             4,
@@ -187,30 +179,20 @@ fn errors_of_steps(rt: HostRuntime) -> Result<(), Fail> {
         (b"mkfile r1\nset r2 32768\ncut r1 r2\n", 3, 0),
     ];
     for (lines, count, want) in rows {
-        assert!(rt; answer(rt.alloc(), lines, count)? == Some(want));
+        assert_eq!(rt; answer(rt.alloc(), lines, count)?, Some(want));
     }
     Ok(())
 }
 
-/// Whether a step is refused for this cause.
-fn refuses(store: &Store, boot: &Boot, pid: Pid, input: Input, want: Refusal) -> bool {
-    plan_step(store, boot.scripts(), pid, &input).is_err_and(|why| why == want)
+/// Why a step of a process is refused.
+fn refusal(store: &Store, boot: &Boot, number: u16, input: Input) -> Option<Refusal> {
+    match plan_step(store, boot.scripts(), Pid::boot(number)?, &input) {
+        Ok(_) => None,
+        Err(why) => Some(why),
+    }
 }
 
-/// Whether the first cause is told, where process 1 is at a fetch, process 2 at its end and no other
-/// there.
-fn tells_first(store: &Store, boot: &Boot, content: Content) -> bool {
-    let [one, two, three] = [1, 2, 3].map(|number| Pid::boot(number));
-    let (Some(one), Some(two), Some(three)) = (one, two, three) else {
-        return false;
-    };
-    refuses(store, boot, three, Input::None, Refusal::NoProcess)
-        && refuses(store, boot, two, Input::Good, Refusal::Ended)
-        && refuses(store, boot, one, Input::Good, Refusal::Mismatch)
-        && refuses(store, boot, one, Input::Stale(content), Refusal::Mismatch)
-        && refuses(store, boot, one, Input::None, Refusal::NeedsReply)
-}
-
+/// The first cause is told, where process 1 is at a fetch, process 2 at its end and no other there.
 #[test]
 fn first_cause_is_told(rt: HostRuntime) -> Result<(), Fail> {
     let two = Pid::boot(2).ok_or("pid")?;
@@ -218,7 +200,16 @@ fn first_cause_is_told(rt: HostRuntime) -> Result<(), Fail> {
     let boot = two_processes(rt.alloc(), [b"fetch /z\n", b""])?;
     let mut store = Store::start(rt.alloc(), &boot)?;
     steps(&mut store, &boot, two, 1)?;
-    assert!(rt; tells_first(&store, &boot, content));
+    let rows = [
+        (3, Input::None, Refusal::NoProcess),
+        (2, Input::Good, Refusal::Ended),
+        (1, Input::Good, Refusal::Mismatch),
+        (1, Input::Stale(content), Refusal::Mismatch),
+        (1, Input::None, Refusal::NeedsReply),
+    ];
+    for (number, input, want) in rows {
+        assert_eq!(rt; refusal(&store, &boot, number, input), Some(want));
+    }
     Ok(())
 }
 
@@ -229,45 +220,40 @@ fn boot_object(count: u32) -> ObjId {
 
 /// Declares a file and a pipe, where there is room.
 fn declares_both(boot: &mut Boot, file: Name, pipe: Name) -> Result<(), Fail> {
-    if boot.objects().len() >= BOOT_OBJECT_LIMIT {
+    if boot.objects().len() >= 64 {
         return Err("room".into());
     }
     boot.object(file, ObjectKind::File, b"f0")?;
-    if boot.objects().len() >= BOOT_OBJECT_LIMIT {
+    if boot.objects().len() >= 64 {
         return Err("room".into());
     }
     Ok(boot.object(pipe, ObjectKind::Pipe, b"ab")?)
 }
 
-/// Whether the root of a store names these two objects, in this order of numbers.
-fn names_both(store: &Store, first: &Name, second: &Name) -> bool {
+/// What a store has under a name of its root; none where it is absent, or there is no root.
+fn named(store: &Store, name: &Name) -> Option<ObjId> {
     match store.value(Entity::Obj(ROOT)) {
-        Some(EntityState::Value(root)) => {
-            root.look(first) == Some(Some(boot_object(2)))
-                && root.look(second) == Some(Some(boot_object(3)))
-        }
-        _ => false,
+        Some(EntityState::Value(root)) => root.look(name).flatten(),
+        _ => None,
     }
 }
 
-/// Whether what starts from a boot has so many entities and names these two objects.
-fn starts_with(
-    alloc: Global,
-    boot: &Boot,
-    count: usize,
-    first: &Name,
-    second: &Name,
-) -> Result<bool, Fail> {
+/// How many entities start from a boot, and what these two names stand for.
+fn started(alloc: Global, boot: &Boot, names: [&Name; 2]) -> Result<Started, Fail> {
     let store = Store::start(alloc, boot)?.copy()?;
-    Ok(store.entities()?.len() == count && names_both(&store, first, second))
+    let found = [named(&store, names[0]), named(&store, names[1])];
+    Ok((store.entities()?.len(), found))
 }
+
+type Started = (usize, [Option<ObjId>; 2]);
 
 #[test]
 fn starts_with_what_is_declared(rt: HostRuntime) -> Result<(), Fail> {
     let (file, pipe) = (name(b"f")?, name(b"p")?);
     let mut boot = two_processes(rt.alloc(), [b"say\n", b""])?;
     declares_both(&mut boot, file, pipe)?;
-    assert!(rt; starts_with(rt.alloc(), &boot, 11, &file, &pipe)?);
+    let found = [Some(boot_object(2)), Some(boot_object(3))];
+    assert_eq!(rt; started(rt.alloc(), &boot, [&file, &pipe])?, (11, found));
     Ok(())
 }
 
@@ -285,6 +271,6 @@ fn keeps_events(rt: HostRuntime) -> Result<(), Fail> {
     let step = entry_of(Did::Steps(1))?;
     let trace = two_events(rt.alloc(), step)?;
     let want = [Event::Step(step), Event::Commit(GuessId::new(1))];
-    assert!(rt; trace.events() == want.as_slice());
+    assert_eq!(rt; trace.events(), want.as_slice());
     Ok(())
 }

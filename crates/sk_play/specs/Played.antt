@@ -1,6 +1,6 @@
 -- The line of an answer.
 use Rattle.std.specs.Prelude.{ℕ, List, [], ◌∷◌, ◌++◌, codes, decimal}
-use Rattle.sk_print.specs.Refusals.{refusal_words}
+use Rattle.sk_plain.specs.RefusalText.{refusal_words}
 use Rattle.sk_play.specs.declared.answer.Answer.{Answer}
 use Rattle.sk_play.specs.declared.answer.Answer.TheVariants as answers
 

@@ -4,8 +4,7 @@ ghost use Rattle.std.specs.Io.KnownBytes.{Appends};
 ghost use Rattle.sk_play.specs.Played.{answer_text, answer_line};
 
 use sk_ids::GuessId;
-use sk_plain::Refusal;
-use sk_print::Shown;
+use sk_plain::{PrintedRefusal, Refusal};
 use std::io::Write;
 use std::{fmt, io};
 
@@ -35,7 +34,7 @@ impl fmt::Display for Answer {
             Answer::Gone => write!(f, "gone"),
             Answer::NoToken => write!(f, "no token"),
             Answer::Refused(refusal) => {
-                let refusal = Shown(*refusal);
+                let refusal = PrintedRefusal(*refusal);
                 write!(f, "refused {refusal}")
             }
         }

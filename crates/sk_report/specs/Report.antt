@@ -9,8 +9,8 @@ use Rattle.sk_store.specs.declared.entity_state.EntityState.TheVariants as store
 use Rattle.sk_terminal.specs.Terminal.{released_of, waiting_of}
 use Rattle.sk_terminal.specs.declared.buffered_text.BufferedText.{BufferedText}
 use Rattle.sk_kernel.specs.Kernel.{KernelView, tags_at, undecided}
-use Rattle.sk_print.specs.Spelling.{spelled}
-use Rattle.sk_print.specs.Shown.{tags_text, process_text, value_text, entity_text}
+use Rattle.sk_words.specs.Spelling.{spelled}
+use Rattle.sk_report.specs.Printed.{tags_text, process_text, value_text, entity_text}
 
 -- what an entity has, behind its name
 abbrev pub stored_text : EntityState → List ℕ

@@ -1,8 +1,11 @@
-//! The report of a kernel: its terminals, its entities and the last line.
+//! The report of a kernel: its terminals, its entities and the last line, and how entities and what they
+//! have are printed.
 #![tactic(auto)]
 
+pub mod printed;
 pub mod report;
 pub mod stop;
 
+pub use printed::{PrintedEntity, PrintedProcess, PrintedTags, PrintedValue};
 pub use report::write_report;
 pub use stop::Stop;

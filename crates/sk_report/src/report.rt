@@ -4,11 +4,11 @@ ghost use Rattle.std.specs.FinMap as map;
 ghost use Rattle.std.specs.Io.KnownBytes.{Appends};
 ghost use Rattle.sk_report.specs.Report.{entity_line, texts_lines, terminal_said, last_line, with_terminals, terminals_text, entities_text, report_text};
 
-use crate::Stop;
+use crate::{PrintedEntity, PrintedProcess, PrintedTags, PrintedValue, Stop};
 use sk_ids::{Entity, Text};
 use sk_kernel::Kernel;
 use sk_plain::View;
-use sk_print::{Literal, ShownEntity, ShownProcess, ShownTags, ShownValue};
+use sk_script::words::Literal;
 use std::alloc::{AllocError, Global};
 use std::collections::BTreeSet;
 use std::io;
@@ -111,16 +111,16 @@ fn write_texts<W: Write>(texts: &[Text], out: &mut W) -> io::Result<()>
 fn write_entity<W: Write>(kernel: &Kernel, entity: &Entity, out: &mut W) -> io::Result<()>
     ensures { OnOk result (Appends (W.contents out.old) (W.contents out.new) (entity_line kernel.now entity.now)) }
 {
-    let shown = ShownEntity(*entity);
-    let tags = ShownTags(kernel.tags_of(entity));
+    let printed = PrintedEntity(*entity);
+    let tags = PrintedTags(kernel.tags_of(entity));
     match kernel.value(entity) {
         Some(View::Process(process)) => {
-            let process = ShownProcess(process);
-            writeln!(out, "{shown} {process} tags {tags}")
+            let process = PrintedProcess(process);
+            writeln!(out, "{printed} {process} tags {tags}")
         }
         Some(View::Value(value)) => {
-            let value = ShownValue(value);
-            writeln!(out, "{shown} {value} tags {tags}")
+            let value = PrintedValue(value);
+            writeln!(out, "{printed} {value} tags {tags}")
         }
         None => Ok(()),
     }

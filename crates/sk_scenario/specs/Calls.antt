@@ -1,21 +1,14 @@
 -- What the lines of a section of steps say.
-use Rattle.std.specs.Prelude.{◌≡◌, ◌≢◌, ℕ, List, [], ◌∷◌, ◌++◌, Option, Some, None, Result, Ok, Err, codes, slice_index, ◌==◌, if◌then◌else◌}
+use Rattle.std.specs.Prelude.{ℕ, List, [], ◌∷◌, ◌++◌, Option, Some, None, Result, Ok, Err, codes}
 use Rattle.sk_words.specs.declared.fault.FaultKind.{FaultKind}
-use Rattle.sk_words.specs.declared.fault.FaultKind.TheVariants as kinds
-use Rattle.sk_words.specs.declared.fault.Fault.{Fault}
 use Rattle.sk_script.specs.declared.instruction.Input.{Input}
 use Rattle.sk_words.specs.Faults.{◌>>=◌}
-use Rattle.sk_words.specs.Words.{words}
+use Rattle.sk_words.specs.Words.{words, first_of}
 use Rattle.sk_words.specs.Operands.{closed, next_word, one_of, pid, positive}
-use Rattle.sk_scenario.specs.Inputs.{input}
+use Rattle.sk_script.specs.StepInput.{input}
 use Rattle.sk_words.specs.Tables.{Rule, rule_in, unknown}
 use Rattle.sk_scenario.specs.declared.call.Call.{Call}
 use Rattle.sk_scenario.specs.declared.call.Call.TheVariants as steps
-
--- the first word of a line and the words behind it; none where the line is ignored
-abbrev pub first_of : List (List ℕ) → Option (List ℕ × List (List ℕ))
-first_of [] = None
-first_of (w ∷ ws) = if slice_index w 0 == 35 then None else Some (w, ws)
 
 -- a process and an input, whose count of words is told before a malformed process
 unfoldable pub entry : Rule (ℕ × Input)
@@ -50,8 +43,3 @@ with_line before (Some x) = with_said before (step x.0 x.1)
 -- the steps so far, with that of a line
 abbrev pub step_line : List Call → List ℕ → Result (List Call) FaultKind
 step_line before line = with_line before (first_of (words line))
-
--- the steps, or the first fault, unless memory ran out
-abbrev pub ReadsSteps : Result (List Call) Fault → Result (List Call) Fault → Type 0
-ReadsSteps (Ok s) said = said ≡ Ok s
-ReadsSteps (Err f) said = f.kind ≢ kinds.Memory → said ≡ Err f

@@ -1,5 +1,5 @@
 -- What the declarations of a scenario say.
-use Rattle.std.specs.Prelude.{◌≡◌, ◌≢◌, ℕ, List, [], ◌∷◌, Option, Some, None, Result, Ok, Err, refl, codes, length, nat_lt, if◌then◌else◌}
+use Rattle.std.specs.Prelude.{◌≡◌, ℕ, List, [], ◌∷◌, Option, Some, None, Result, Ok, Err, refl, codes, length, nat_lt, if◌then◌else◌}
 use Rattle.std.specs.Coded.{Coded, code_by, coded×, coded_ℕ, coded_option}
 use Rattle.std.specs.FinMap as map
 use Rattle.sk_objects.specs.Content.{ContentView}
@@ -7,12 +7,14 @@ use Rattle.sk_script.specs.declared.instruction.Instruction.{Instruction}
 use Rattle.sk_script.specs.Boot.{BootView, boot_code, BOOT_OBJECTS, has_script, has_object, has_copy, has_process, with_script, with_object, with_copy, with_process}
 use Rattle.sk_script.specs.declared.boot.BootFault.{BootFault}
 use Rattle.sk_script.specs.declared.boot.BootFault.TheVariants as boot_faults
-use Rattle.sk_script.specs.declared.boot.ObjectKind.TheVariants.{File}
+use Rattle.sk_script.specs.declared.boot.ObjectKind.{ObjectKind}
+use Rattle.sk_script.specs.declared.boot.ObjectKind.TheVariants.{File, Dir, Pipe}
 use Rattle.sk_words.specs.declared.fault.FaultKind.{FaultKind}
 use Rattle.sk_words.specs.declared.fault.FaultKind.TheVariants as kinds
 use Rattle.sk_words.specs.Faults.{◌>>=◌}
 use Rattle.sk_words.specs.Literals.{literal}
 use Rattle.sk_words.specs.Operands.{name, natural, index, short, none_of, one_of, two_of, three_of}
+use Rattle.sk_words.specs.Reading.{TellsKind}
 use Rattle.sk_words.specs.Tables.{Rule, rule_in, unknown}
 use Rattle.sk_scenario.specs.declared.declarations.Heading.{Heading}
 use Rattle.sk_scenario.specs.declared.declarations.Heading.TheVariants as headings
@@ -40,10 +42,10 @@ boot_fault boot_faults.Memory = kinds.Memory
 
 -- ---- the declarations, after each operand is read
 
-abbrev pub file : Declared → List ℕ × List ℕ → Result Declared FaultKind
-file d x =
+abbrev pub object : Declared → ObjectKind → List ℕ × List ℕ → Result Declared FaultKind
+object d kind x =
     if has_object d.boot x.0 then Err kinds.Label
-    else if nat_lt (length d.boot.objects) BOOT_OBJECTS then Ok (record d { boot = with_object d.boot x.0 File x.1 })
+    else if nat_lt (length d.boot.objects) BOOT_OBJECTS then Ok (record d { boot = with_object d.boot x.0 kind x.1 })
     else Err kinds.TooLong
 
 abbrev pub content_of : ℕ → List ℕ → ContentView
@@ -65,7 +67,9 @@ once (Some before) new = Err kinds.Label
 
 abbrev pub declaration_rules : Declared → List (List ℕ × Rule Declared)
 declaration_rules d =
-    (codes "file", λ ws. two_of name literal ws >>= file d) ∷
+    (codes "file", λ ws. two_of name literal ws >>= object d File) ∷
+    (codes "pipe", λ ws. two_of name literal ws >>= object d Pipe) ∷
+    (codes "dir", λ ws. one_of name ws >>= λ n. object d Dir (n, [])) ∷
     (codes "copy", λ ws. three_of name natural literal ws >>= copy d) ∷
     (codes "process", λ ws. three_of index name index ws >>= process d) ∷
     (codes "limit", λ ws. one_of short ws >>= λ n. once d.limit (record d { limit = Some n })) ∷
@@ -114,7 +118,7 @@ abbrev pub line_said : Declared → Option (List ℕ × List (List ℕ)) → Res
 line_said d None = Ok (says.Declared, d)
 line_said d (Some x) = says_next d x.0 x.1
 
--- a function answers what is said, and leaves what is declared then, unless memory ran out
-abbrev pub SaysNext : Result Said FaultKind → Result (Said × Declared) FaultKind → Declared → Type 0
-SaysNext (Ok s) said new = said ≡ Ok (s, new)
-SaysNext (Err e) said new = e ≢ kinds.Memory → said ≡ Err e
+-- a function answers what is said, and leaves what is declared then, or a kind is told and nothing has changed
+abbrev pub SaysNext : Result Said FaultKind → Result (Said × Declared) FaultKind → Declared → Declared → Type 0
+SaysNext (Ok s) said old new = said ≡ Ok (s, new)
+SaysNext (Err e) said old new = TellsKind e said × (new ≡ old)

@@ -1,4 +1,3 @@
 pub mod Calls
 pub mod Declarations
-pub mod Inputs
 pub mod Scenario

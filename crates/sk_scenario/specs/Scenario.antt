@@ -1,15 +1,15 @@
 -- What a whole scenario says: its declarations, with the scripts between them, and the section below.
-use Rattle.std.specs.Prelude.{◌≡◌, ◌≢◌, ℕ, ◌+◌, ◌-◌, Bool, false, List, [], ◌∷◌, ◌++◌, drop, Option, Some, None, Result, Ok, Err, codes, bytes_eq, if◌then◌else◌}
+use Rattle.std.specs.Prelude.{◌≡◌, ℕ, ◌+◌, ◌-◌, Bool, false, List, [], ◌∷◌, ◌++◌, drop, Option, Some, None, Result, Ok, Err, codes, bytes_eq, if◌then◌else◌}
 use Rattle.std.specs.Str.Lines.{lines}
 use Rattle.sk_words.specs.declared.fault.FaultKind.{FaultKind}
 use Rattle.sk_words.specs.declared.fault.FaultKind.TheVariants as kinds
 use Rattle.sk_words.specs.declared.fault.Fault.{Fault}
 use Rattle.sk_words.specs.Faults.{◌>>=◌}
-use Rattle.sk_words.specs.Words.{words}
+use Rattle.sk_words.specs.Words.{words, first_of}
 use Rattle.sk_words.specs.Operands.{none_of}
 use Rattle.sk_words.specs.Reading.{at, read_from}
 use Rattle.sk_script.specs.declared.instruction.Instruction.{Instruction}
-use Rattle.sk_script.specs.Scripting.{script_from}
+use Rattle.sk_script.specs.Scripting.{script_from, TellsScript}
 use Rattle.sk_scenario.specs.declared.declarations.Heading.{Heading}
 use Rattle.sk_scenario.specs.declared.declarations.Heading.TheVariants as headings
 use Rattle.sk_scenario.specs.declared.declarations.Said.{Said}
@@ -19,7 +19,7 @@ use Rattle.sk_scenario.specs.declared.scenario.Section.TheVariants as sections
 use Rattle.sk_scenario.specs.declared.scenario.Scenario.{Scenario}
 use Rattle.sk_scenario.specs.declared.call.Call.{Call}
 use Rattle.sk_scenario.specs.Declarations.{Declared, nothing_declared, script, line_said}
-use Rattle.sk_scenario.specs.Calls.{first_of, step_line}
+use Rattle.sk_scenario.specs.Calls.{step_line}
 
 -- a script that is being read: its name, the number of its first line, and its lines so far
 pub record Begun : Type 0 where
@@ -84,25 +84,25 @@ scenario_from d (Some b) number (l ∷ ls) =
 abbrev pub scenario_of : List ℕ → Result Scenario Fault
 scenario_of text = scenario_from nothing_declared None 1 (lines text)
 
--- the scenario, or its first fault, unless memory ran out
-abbrev pub Says : Result Scenario Fault → Result Scenario Fault → Type 0
-Says (Ok s) said = said ≡ Ok s
-Says (Err f) said = f.kind ≢ kinds.Memory → said ≡ Err f
+-- the scenario, or the fault that is told of it, whose last line has this number
+abbrev pub Says : Result Scenario Fault → Result Scenario Fault → ℕ → Type 0
+Says (Ok s) said last = said ≡ Ok s
+Says (Err f) said last = TellsScript last f said
 
 -- ---- what functions answer, in these words
 
--- what was said is what the rest says, or a fault, unless memory ran out
-abbrev pub Goes : Result (Unit {0}) Fault → Result Scenario Fault → Result Scenario Fault → Type 0
-Goes (Ok u) said rest = said ≡ rest
-Goes (Err f) said rest = f.kind ≢ kinds.Memory → said ≡ Err f
+-- what was said is what the rest says, or a fault is told of it
+abbrev pub Goes : Result (Unit {0}) Fault → Result Scenario Fault → Result Scenario Fault → ℕ → Type 0
+Goes (Ok u) said rest last = said ≡ rest
+Goes (Err f) said rest last = TellsScript last f said
 
 -- the same where a section may end the scenario
-abbrev pub GoesOn : Result (Option Section) Fault → Result Scenario Fault → Declared → Result Scenario Fault → Type 0
-GoesOn (Ok None) said d rest = said ≡ rest
-GoesOn (Ok (Some section)) said d rest = said ≡ Ok (record { declarations = d; section = section })
-GoesOn (Err f) said d rest = f.kind ≢ kinds.Memory → said ≡ Err f
+abbrev pub GoesOn : Result (Option Section) Fault → Result Scenario Fault → Declared → Result Scenario Fault → ℕ → Type 0
+GoesOn (Ok None) said d rest last = said ≡ rest
+GoesOn (Ok (Some section)) said d rest last = said ≡ Ok (record { declarations = d; section = section })
+GoesOn (Err f) said d rest last = TellsScript last f said
 
--- a section, or a fault, unless memory ran out
-abbrev pub SaysSection : Result Section Fault → Result Scenario Fault → Declared → Type 0
-SaysSection (Ok section) said d = said ≡ Ok (record { declarations = d; section = section })
-SaysSection (Err f) said d = f.kind ≢ kinds.Memory → said ≡ Err f
+-- a section, or a fault is told
+abbrev pub SaysSection : Result Section Fault → Result Scenario Fault → Declared → ℕ → Type 0
+SaysSection (Ok section) said d last = said ≡ Ok (record { declarations = d; section = section })
+SaysSection (Err f) said d last = TellsScript last f said

@@ -4,11 +4,10 @@ ghost use Rattle.sk_words.specs.Operands.{one_of, positive};
 ghost use Rattle.sk_words.specs.Reading.{Leaves};
 ghost use Rattle.sk_scenario.specs.Calls.{entry, step, step_line, with_said};
 
-use crate::cursor::first_word;
-use crate::inputs::input;
 use sk_ids::{GuessId, Pid};
 use sk_script::Input;
-use sk_words::{FaultKind, Operand, Positive, Words, closed, next_word, one};
+use sk_script::step_input::input;
+use sk_words::{FaultKind, Operand, Positive, Reader, Words, closed, first_word, next_word, one};
 use std::alloc::Global;
 use std::marker::Model;
 
@@ -73,19 +72,9 @@ impl Calls {
         &self.steps
     }
 
-    /// Adds what a line says.
-    pub fn line(&mut self, line: &[u8]) -> Result<(), FaultKind>
-        ensures { Leaves result (step_line self.old line.now) self.new }
-    {
-        match first_word(line) {
-            Some((first, words)) => self.add_in(first, &words),
-            None => Ok(()),
-        }
-    }
-
     /// Adds what a line says whose first word these bytes are.
     fn add_in(&mut self, word: &[u8], words: &Words) -> Result<(), FaultKind>
-        ensures { Leaves result (with_said self.old (step word.now words.now)) self.new }
+        ensures { Leaves result (with_said self.old (step word.now words.now)) self.old self.new }
     {
         match str::from_utf8(word) {
             Ok(word) => self.add(word, words),
@@ -96,7 +85,7 @@ impl Calls {
     /// Adds what a line says whose first word this is.
     #[tactic(auto, unfolding(crate::specs::Calls::step))]
     fn add(&mut self, word: &str, words: &Words) -> Result<(), FaultKind>
-        ensures { Leaves result (with_said self.old (step word.now words.now)) self.new }
+        ensures { Leaves result (with_said self.old (step word.now words.now)) self.old self.new }
     {
         match word {
             "step" => {
@@ -122,5 +111,19 @@ impl Calls {
             _ => return Err(FaultKind::Word),
         }
         Ok(())
+    }
+}
+
+impl Reader for Calls {
+    ghost use Rattle.sk_scenario.specs.Calls.{step_line};
+
+    ghost said = { step_line };
+
+    /// Adds what a line says.
+    fn line(&mut self, line: &[u8]) -> Result<(), FaultKind> {
+        match first_word(line) {
+            Some((first, words)) => self.add_in(first, &words),
+            None => Ok(()),
+        }
     }
 }

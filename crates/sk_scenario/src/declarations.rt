@@ -1,17 +1,16 @@
 //! What the declarations of a scenario say.
-ghost use Rattle.std.specs.Prelude.{◌≡◌, Some, unwrap_or};
-ghost use Rattle.sk_words.specs.Words.{words};
+ghost use Rattle.std.specs.Prelude.{◌≡◌, [], Some, unwrap_or};
+ghost use Rattle.sk_words.specs.Words.{words, first_of};
 ghost use Rattle.sk_script.specs.Boot.{has_object};
+ghost use Rattle.sk_script.specs.declared.boot.ObjectKind.TheVariants.{Dir};
 ghost use Rattle.sk_words.specs.Reading.{Leaves};
-ghost use Rattle.sk_scenario.specs.Calls.{first_of};
-ghost use Rattle.sk_scenario.specs.Declarations.{nothing_declared, script as script_added, boot_fault, file, copy, process, once, declares, new_script, declared_next, says_next, line_said, SaysNext};
+ghost use Rattle.sk_scenario.specs.Declarations.{nothing_declared, script as script_added, boot_fault, object, copy, process, once, declares, new_script, declared_next, says_next, line_said, SaysNext};
 
-use crate::cursor::first_word;
 use sk_ids::{Name, Text};
 use sk_objects::Content;
 use sk_script::boot::BOOT_OBJECT_LIMIT;
 use sk_script::{Boot, BootFault, ObjectKind, Script};
-use sk_words::{FaultKind, Index, Natural, Words, none, one, three, two};
+use sk_words::{FaultKind, Index, Natural, Words, first_word, none, one, three, two};
 use std::alloc::Global;
 use std::marker::Model;
 
@@ -103,14 +102,14 @@ impl Declarations {
 
     /// Declares a script.
     pub fn script(&mut self, name: Name, script: Script) -> Result<(), FaultKind>
-        ensures { Leaves result (script_added self.old name script) self.new }
+        ensures { Leaves result (script_added self.old name script) self.old self.new }
     {
         self.boot.script(name, script).map_err(kind_of)
     }
 
     /// Declares what a line says.
     pub fn line(&mut self, line: &[u8]) -> Result<Said, FaultKind>
-        ensures { SaysNext result (line_said self.old (first_of (words line.now))) self.new }
+        ensures { SaysNext result (line_said self.old (first_of (words line.now))) self.old self.new }
     {
         match first_word(line) {
             Some((first, words)) => self.said_in(first, &words),
@@ -120,7 +119,7 @@ impl Declarations {
 
     /// Declares what a line says whose first word these bytes are.
     fn said_in(&mut self, word: &[u8], words: &Words) -> Result<Said, FaultKind>
-        ensures { SaysNext result (says_next self.old word.now words.now) self.new }
+        ensures { SaysNext result (says_next self.old word.now words.now) self.old self.new }
     {
         match str::from_utf8(word) {
             Ok(word) => self.said(word, words),
@@ -131,7 +130,7 @@ impl Declarations {
     /// Declares what a line says whose first word this is.
     #[tactic(auto, unfolding(crate::specs::Declarations::says_next))]
     fn said(&mut self, word: &str, words: &Words) -> Result<Said, FaultKind>
-        ensures { SaysNext result (says_next self.old word.now words.now) self.new }
+        ensures { SaysNext result (says_next self.old word.now words.now) self.old self.new }
     {
         match word {
             "script" => Ok(Said::Script(self.new_script(words)?)),
@@ -153,7 +152,7 @@ impl Declarations {
 
     /// Declares what a line says that begins neither a script nor a section.
     fn declared(&mut self, word: &str, words: &Words) -> Result<Said, FaultKind>
-        ensures { SaysNext result (declared_next self.old word.now words.now) self.new }
+        ensures { SaysNext result (declared_next self.old word.now words.now) self.old self.new }
     {
         self.declare(word, words)?;
         Ok(Said::Declared)
@@ -173,12 +172,20 @@ impl Declarations {
     /// Declares what a line says whose first word this is.
     #[tactic(auto, unfolding(crate::specs::Declarations::declares))]
     fn declare(&mut self, word: &str, words: &Words) -> Result<(), FaultKind>
-        ensures { Leaves result (declares self.old word.now words.now) self.new }
+        ensures { Leaves result (declares self.old word.now words.now) self.old self.new }
     {
         match word {
             "file" => {
                 let (name, bytes) = two(words)?;
-                self.file(name, bytes)
+                self.object(name, ObjectKind::File, bytes)
+            }
+            "pipe" => {
+                let (name, bytes) = two(words)?;
+                self.object(name, ObjectKind::Pipe, bytes)
+            }
+            "dir" => {
+                let name = one(words)?;
+                self.object(name, ObjectKind::Dir, Text::empty())
             }
             "copy" => {
                 let (name, version, bytes) = three(words)?;
@@ -209,8 +216,10 @@ impl Declarations {
             .any(|object| object.name == *name)
     }
 
-    fn file(&mut self, name: Name, bytes: Text) -> Result<(), FaultKind>
-        ensures { Leaves result (file self.old (name, bytes)) self.new }
+    /// Declares the next boot object, which begins with these bytes; a directory has none.
+    fn object(&mut self, name: Name, kind: ObjectKind, bytes: Text) -> Result<(), FaultKind>
+        requires { kind ≡ Dir → bytes ≡ [] }
+        ensures { Leaves result (object self.old kind (name, bytes)) self.old self.new }
     {
         if self.has_object(&name) {
             return Err(FaultKind::Label);
@@ -218,21 +227,21 @@ impl Declarations {
         if self.boot.objects().len() < BOOT_OBJECT_LIMIT {
             return self
                 .boot
-                .object(name, ObjectKind::File, bytes.as_slice())
+                .object(name, kind, bytes.as_slice())
                 .map_err(kind_of);
         }
         Err(FaultKind::TooLong)
     }
 
     fn copy(&mut self, name: Name, version: Natural, bytes: Text) -> Result<(), FaultKind>
-        ensures { Leaves result (copy self.old (name, version, bytes)) self.new }
+        ensures { Leaves result (copy self.old (name, version, bytes)) self.old self.new }
     {
         let content = Content::new(version.get(), bytes).unwrap();
         self.boot.copy(name, content).map_err(kind_of)
     }
 
     fn process(&mut self, number: Index, script: Name, terminal: Index) -> Result<(), FaultKind>
-        ensures { Leaves result (process self.old (number, script, terminal)) self.new }
+        ensures { Leaves result (process self.old (number, script, terminal)) self.old self.new }
     {
         self.boot
             .process(number.get(), &script, terminal.get())
@@ -240,7 +249,7 @@ impl Declarations {
     }
 
     fn trace_limit(&mut self, limit: u32) -> Result<(), FaultKind>
-        ensures { Leaves result (once self.old.limit (record self.old { limit = Some limit })) self.new }
+        ensures { Leaves result (once self.old.limit (record self.old { limit = Some limit })) self.old self.new }
     {
         if self.limit.is_some() {
             return Err(FaultKind::Label);
@@ -250,7 +259,7 @@ impl Declarations {
     }
 
     fn kernel_number(&mut self, number: Natural) -> Result<(), FaultKind>
-        ensures { Leaves result (once self.old.number (record self.old { number = Some number })) self.new }
+        ensures { Leaves result (once self.old.number (record self.old { number = Some number })) self.old self.new }
     {
         if self.number.is_some() {
             return Err(FaultKind::Label);

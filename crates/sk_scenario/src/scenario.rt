@@ -1,18 +1,17 @@
 //! Reading a scenario.
 ghost use Rattle.std.specs.Prelude.{◌≡◌, ◌≤◌, ◌+◌, ◌++◌, ◌∷◌, [], None, Some, MatchOption, true, not, length};
+ghost use Rattle.std.specs.Str.Lines.{lines};
+ghost use Rattle.sk_words.specs.Lines.{last_line};
 ghost use Rattle.std.specs.List.{list_all};
-ghost use Rattle.sk_words.specs.Reading.{read_from};
 ghost use Rattle.sk_words.specs.Reading.{Leaves};
 ghost use Rattle.sk_scenario.specs.Declarations.{Declared};
-ghost use Rattle.sk_scenario.specs.Calls.{step_line, ReadsSteps};
 ghost use Rattle.sk_scenario.specs.Scenario.{is_end, ended, goes_on, section_from, scenario_from, scenario_of, Says, SaysSection, Goes, GoesOn};
 
-use crate::cursor::Cursor;
-use crate::declarations::{Declarations, Heading, Said};
 use crate::call::Calls;
+use crate::declarations::{Declarations, Heading, Said};
 use sk_ids::Name;
 use sk_script::Script;
-use sk_words::{Block, Fault, FaultKind, Words, none};
+use sk_words::{Cursor, Fault, FaultKind, Words, none, read};
 use std::alloc::Global;
 
 /// The section below the declarations.
@@ -34,7 +33,7 @@ pub struct Scenario {
 impl Scenario {
     /// The scenario that a text says, or its first faulty line.
     pub fn parse(alloc: Global, text: &[u8]) -> Result<Scenario, Fault>
-        ensures { Says result (scenario_of text.now) }
+        ensures { Says result (scenario_of text.now) (length (lines text.now)) }
     {
         let mut declarations = Declarations::new(alloc);
         let mut cursor = Cursor::of(text);
@@ -65,7 +64,8 @@ fn go_on(
     cursor: &mut Cursor<'_>,
 ) -> Result<Option<Section>, Fault>
     ensures left { length cursor.new.lines ≤ length cursor.old.lines }
-    ensures said { GoesOn result (goes_on said declarations.old (cursor.old.line + 1) cursor.old.lines (λ begun. scenario_from declarations.old begun (cursor.old.line + 1) cursor.old.lines)) declarations.new (scenario_from declarations.new None (cursor.new.line + 1) cursor.new.lines) }
+    ensures last { last_line cursor.new ≡ last_line cursor.old }
+    ensures said { GoesOn result (goes_on said declarations.old (cursor.old.line + 1) cursor.old.lines (λ begun. scenario_from declarations.old begun (cursor.old.line + 1) cursor.old.lines)) declarations.new (scenario_from declarations.new None (cursor.new.line + 1) cursor.new.lines) (last_line cursor.old) }
 {
     match said {
         Said::Declared => Ok(None),
@@ -80,7 +80,7 @@ fn go_on(
 /// The lines of a script, and the line that ends it, if there is one.
 #[derive(Drop)]
 struct ScriptLines<'a> {
-    lines: Block<'a>,
+    lines: Cursor<'a>,
     end: Option<&'a [u8]>,
 }
 
@@ -96,23 +96,24 @@ fn is_end(line: &[u8]) -> bool
 
 /// Takes a script's lines, up to the first whose first word is `end`.
 fn take_script<'a>(cursor: &mut Cursor<'a>) -> ScriptLines<'a>
-    ensures none { list_all (λ line. not (is_end line)) result.lines ≡ true }
-    ensures end { MatchOption result.end (cursor.old.lines ≡ result.lines × cursor.new.lines ≡ []) (λ line. (cursor.old.lines ≡ result.lines ++ line.now ∷ cursor.new.lines) × (is_end line.now ≡ true)) }
-    ensures line { MatchOption result.end (cursor.new.line ≡ cursor.old.line + length result.lines) (λ line. cursor.new.line ≡ cursor.old.line + length result.lines + 1) }
+    ensures first { result.lines.line ≡ cursor.old.line }
+    ensures none { list_all (λ line. not (is_end line)) result.lines.lines ≡ true }
+    ensures end { MatchOption result.end (cursor.old.lines ≡ result.lines.lines × cursor.new.lines ≡ []) (λ line. (cursor.old.lines ≡ result.lines.lines ++ line.now ∷ cursor.new.lines) × (is_end line.now ≡ true)) }
+    ensures line { MatchOption result.end (cursor.new.line ≡ cursor.old.line + length result.lines.lines) (λ line. cursor.new.line ≡ cursor.old.line + length result.lines.lines + 1) }
 {
-    let lines = cursor.left();
+    let lines = cursor.again();
     let mut count = 0;
     while let Some(line) = cursor.next() {
         if is_end(line) {
             return ScriptLines {
-                lines: Block::first(&lines, count),
+                lines: lines.first(count),
                 end: Some(line),
             };
         }
         count += 1;
     }
     ScriptLines {
-        lines: Block::first(&lines, count),
+        lines: lines.first(count),
         end: None,
     }
 }
@@ -126,14 +127,11 @@ fn script(
     cursor: &mut Cursor<'_>,
 ) -> Result<(), Fault>
     ensures left { length cursor.new.lines ≤ length cursor.old.lines }
-    ensures goes { Goes result (scenario_from declarations.old (Some (record { name = name; first = cursor.old.line + 1; lines = [] })) (cursor.old.line + 1) cursor.old.lines) (scenario_from declarations.new None (cursor.new.line + 1) cursor.new.lines) }
+    ensures last { last_line cursor.new ≡ last_line cursor.old }
+    ensures goes { Goes result (scenario_from declarations.old (Some (record { name = name; first = cursor.old.line + 1; lines = [] })) (cursor.old.line + 1) cursor.old.lines) (scenario_from declarations.new None (cursor.new.line + 1) cursor.new.lines) (last_line cursor.old) }
 {
-    let first = cursor.line() + 1;
     let taken = take_script(cursor);
-    let script = match Script::parse_lines(alloc, &taken.lines, first) {
-        Ok(script) => script,
-        Err(fault) => return Err(fault),
-    };
+    let script = Script::parse_lines(alloc, &taken.lines)?;
     match taken.end {
         None => Err(cursor.fault(FaultKind::Word)),
         Some(end) => match ended(declarations, name, script, end) {
@@ -150,7 +148,7 @@ fn ended(
     script: Script,
     end: &[u8],
 ) -> Result<(), FaultKind>
-    ensures { Leaves result (ended declarations.old name script end.now) declarations.new }
+    ensures { Leaves result (ended declarations.old name script end.now) declarations.old declarations.new }
 {
     let mut words = Words::of(end);
     words.next();
@@ -159,26 +157,11 @@ fn ended(
 }
 
 /// The section below a heading.
-fn section_of(alloc: Global, heading: Heading, cursor: &mut Cursor<'_>) -> Result<Section, Fault>
-    ensures left { length cursor.new.lines ≤ length cursor.old.lines }
-    ensures said { (d : Declared) → SaysSection result (section_from d heading (cursor.old.line + 1) cursor.old.lines) d }
+fn section_of(alloc: Global, heading: Heading, lines: &Cursor) -> Result<Section, Fault>
+    ensures { (d : Declared) → SaysSection result (section_from d heading (lines.now.line + 1) lines.now.lines) d (last_line lines.now) }
 {
     match heading {
-        Heading::Steps => Ok(Section::Steps(steps(alloc, cursor)?)),
+        Heading::Steps => Ok(Section::Steps(read(Calls::new(alloc), lines)?)),
         Heading::World | Heading::Trace => Ok(Section::Other),
     }
-}
-
-/// The steps of all lines that are left, or the first fault.
-fn steps(alloc: Global, cursor: &mut Cursor<'_>) -> Result<Calls, Fault>
-    ensures steps { ReadsSteps result (read_from step_line [] (cursor.old.line + 1) cursor.old.lines) }
-    ensures left { length cursor.new.lines ≤ length cursor.old.lines }
-{
-    let mut steps = Calls::new(alloc);
-    while let Some(line) = cursor.next() {
-        if let Err(kind) = steps.line(line) {
-            return Err(cursor.fault(kind));
-        }
-    }
-    Ok(steps)
 }

@@ -1,2 +1,3 @@
 pub mod Boots
 pub mod Marks
+pub mod Told

@@ -6,3 +6,4 @@ pub mod Scripts
 pub mod Boot
 pub mod Instructions
 pub mod Scripting
+pub mod StepInput

@@ -1,5 +1,5 @@
 -- What a script says: its instructions in order, or its first fault and the line where it stands.
-use Rattle.std.specs.Prelude.{◌≡◌, ◌≢◌, ℕ, ◌+◌, ◌-◌, min, List, [], ◌∷◌, ◌++◌, Option, Some, None, Result, Ok, Err, length, take, slice_index, ◌==◌, if◌then◌else◌, refl}
+use Rattle.std.specs.Prelude.{◌≡◌, ◌≤◌, ◌⊎◌, ℕ, ◌+◌, ◌-◌, min, List, [], ◌∷◌, ◌++◌, Option, Some, None, Result, Ok, Err, length, take, slice_index, ◌==◌, if◌then◌else◌, refl}
 use Rattle.std.specs.Str.Lines as text
 use Rattle.std.specs.Coded.{Coded, code_by, coded×, coded_ℕ, coded_list}
 use Rattle.sk_words.specs.declared.fault.FaultKind.{FaultKind}
@@ -121,10 +121,17 @@ script_of bytes = script_from 1 (text.lines bytes)
 
 -- ---- what functions answer, in these words
 
--- the script, or its first fault, unless memory ran out
-abbrev pub Parses : Result (List Instruction) Fault → Result (List Instruction) Fault → Type 0
-Parses (Ok s) said = said ≡ Ok s
-Parses (Err f) said = f.kind ≢ kinds.Memory → said ≡ Err f
+-- The fault that is told of a script of which this is said, whose last line has this number: the first fault, or want
+-- of memory at a line before which none has a fault. All labels are collected before the first line is read, so
+-- that this line may have a fault of its own.
+abbrev pub TellsScript : {S : Type 0} → ℕ → Fault → Result S Fault → Type 0
+TellsScript last f (Ok s) = (f.kind ≡ kinds.Memory) × (f.line ≤ last)
+TellsScript last f (Err g) = (f ≡ g) ⊎ ((f.kind ≡ kinds.Memory) × (f.line ≤ g.line))
+
+-- the script, or the fault that is told of it
+abbrev pub Parses : Result (List Instruction) Fault → Result (List Instruction) Fault → ℕ → Type 0
+Parses (Ok s) said last = said ≡ Ok s
+Parses (Err f) said last = TellsScript last f said
 
 abbrev pub seen : code.Line → Line
 seen cases.Ignored = Ignored

@@ -9,6 +9,7 @@ pub mod process;
 pub mod register;
 pub mod script;
 pub mod scripts;
+pub mod step_input;
 
 pub use boot::{Boot, BootFault, BootObject, BootProcess, ObjectKind};
 pub use instruction::{Input, Instruction};
@@ -16,3 +17,4 @@ pub use process::{Process, ROOT};
 pub use register::{Register, Registers, Val};
 pub use script::Script;
 pub use scripts::Scripts;
+pub use sk_words as words;

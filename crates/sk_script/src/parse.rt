@@ -1,7 +1,8 @@
 //! Reading a script.
-ghost use Rattle.std.specs.Prelude.{◌≡◌, ◌≤◌, ◌<◌, ◌+◌, ◌^◌, length, IfOk};
+ghost use Rattle.std.specs.Prelude.{◌≡◌, ◌≤◌, ◌<◌, ◌+◌, ◌^◌, length, IfOk, OnErr};
 ghost use Rattle.std.specs.Str.Lines.{lines};
 ghost use Rattle.sk_words.specs.Words.{words};
+ghost use Rattle.sk_words.specs.Lines.{last_line};
 ghost use Rattle.sk_script.specs.Instructions.{instruction};
 ghost use Rattle.sk_script.specs.Script.{INSTRUCTIONS};
 ghost use Rattle.sk_words.specs.Reading.{Leaves};
@@ -14,7 +15,7 @@ use crate::parse::labels::Labels;
 use crate::parse::table::instruction_of;
 use crate::script::SCRIPT_LIMIT;
 use crate::{Instruction, Script};
-use sk_words::{Block, Fault, FaultKind, Label, Operand, Reader, Words, none, read};
+use sk_words::{Cursor, Fault, FaultKind, Label, Operand, Reader, Words, none, read};
 use std::alloc::{AllocError, Global};
 use std::marker::Model;
 
@@ -70,8 +71,9 @@ fn mark(labels: &mut Labels, place: u32, line: &[u8]) -> Result<u32, AllocError>
 }
 
 /// The labels of a script, each with its place.
-fn labels_of(alloc: Global, lines: &Block) -> Result<Labels, AllocError>
-    ensures { IfOk result (λ labels. labels ≡ labels_from 0 lines.now) }
+fn labels_of(alloc: Global, lines: &Cursor) -> Result<Labels, AllocError>
+    ensures labels { IfOk result (λ labels. labels ≡ labels_from 0 lines.now.lines) }
+    ensures some { OnErr result (0 < length lines.now.lines) }
 {
     let mut labels = Labels::new(alloc);
     let mut place = 0;
@@ -117,7 +119,7 @@ impl Model for Reading {
 impl Reading {
     #[tactic(auto, unfolding(crate::specs::Scripting::added))]
     fn add(&mut self, line: Line) -> Result<(), FaultKind>
-        ensures { Leaves result (added self.old (seen line.entry)) self.new }
+        ensures { Leaves result (added self.old (seen line.entry)) self.old self.new }
     {
         match line {
             Line::Ignored => {}
@@ -154,28 +156,27 @@ impl Reader for Reading {
 impl Script {
     /// The script that a text says, or its first faulty line, from 1 on, with what is wrong there.
     pub fn parse(alloc: Global, text: &[u8]) -> Result<Script, Fault>
-        ensures { Parses result (script_of text.now) }
+        ensures { Parses result (script_of text.now) (length (lines text.now)) }
     {
-        Script::parse_lines(alloc, &Block::whole(text), 1)
+        Script::parse_lines(alloc, &Cursor::of(text))
     }
 
-    /// The script that these lines say, the first of which has this number, or its first faulty line.
-    pub fn parse_lines(alloc: Global, lines: &Block, first: u64) -> Result<Script, Fault>
-        requires { first + length lines.now < 2 ^ 64 }
-        ensures { Parses result (script_from first lines.now) }
+    /// The script that these lines say, or their first faulty line.
+    pub fn parse_lines(alloc: Global, lines: &Cursor) -> Result<Script, Fault>
+        ensures { Parses result (script_from (lines.now.line + 1) lines.now.lines) (last_line lines.now) }
     {
         let Ok(all) = labels_of(alloc, lines) else {
             return Err(Fault {
-                line: first,
+                line: lines.line() + 1,
                 kind: FaultKind::Memory,
             });
         };
-        let mut reading = Reading {
+        let opening = Reading {
             all,
             declared: Labels::new(alloc),
             instructions: Vec::new(alloc),
         };
-        read(&mut reading, lines, first)?;
+        let reading = read(opening, lines)?;
         Ok(Script::of(reading.instructions))
     }
 }

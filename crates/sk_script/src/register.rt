@@ -1,10 +1,11 @@
-//! Registers, and what they hold.
+//! Registers, what they hold, and how that is printed.
 ghost use Rattle.std.specs.Prelude.{◌≡◌, ◌↔◌, ◌<◌, IsSome, IfSome, replicate, slice_set};
 ghost use Rattle.sk_script.specs.Registers.{held};
 ghost use Rattle.sk_script.specs.declared.register.Val.{Val};
 
 use sk_ids::{ObjId, Pid};
-use sk_words::{FaultKind, Operand};
+use sk_words::{FaultKind, Operand, Printed};
+use std::fmt;
 use std::marker::Model;
 
 /// What a register holds: a number, an object or a process.
@@ -13,6 +14,28 @@ pub enum Val {
     Num(i64),
     Obj(ObjId),
     Who(Pid),
+}
+
+/// A number as such, an object, or a process behind `@`.
+impl fmt::Display for Val {
+    ghost use Rattle.std.specs.Prelude.{Some};
+    ghost use Rattle.sk_script.specs.Registers.{val_word};
+
+    ghost output = { λ v. Some (val_word v) };
+
+    fn fmt<W: fmt::Write>(&self, f: &mut fmt::Formatter<W>) -> fmt::Result {
+        match self {
+            Val::Num(number) => write!(f, "{number}"),
+            Val::Obj(object) => {
+                let object = Printed(*object);
+                write!(f, "{object}")
+            }
+            Val::Who(pid) => {
+                let pid = Printed(*pid);
+                write!(f, "@{pid}")
+            }
+        }
+    }
 }
 
 /// How many registers a process has.

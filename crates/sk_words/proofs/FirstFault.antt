@@ -1,8 +1,8 @@
 -- The fault that is told of some lines is that of their first faulty line: by the lines in turn.
-use Rattle.std.proofs.Common.{◌≡◌, ◌↔◌, ℕ, ◌+◌, List, [], ◌∷◌, ◌++◌, length, Result, Ok, Err, refl, sym, ap, ◌∙◌, arith}
+use Rattle.std.proofs.Common.{◌≡◌, ◌↔◌, ◌≤◌, inl, inr, ℕ, ◌+◌, List, [], ◌∷◌, ◌++◌, length, Result, Ok, Err, refl, sym, ap, ◌∙◌, arith}
 use Rattle.sk_words.specs.declared.fault.FaultKind.{FaultKind}
 use Rattle.sk_words.specs.declared.fault.Fault.{Fault}
-use Rattle.sk_words.specs.Reading.{at, read_from, IsFirstFault}
+use Rattle.sk_words.specs.Reading.{at, read_from, IsFirstFault, TellsKind, Tells}
 
 abbrev kind_in : {S : Type 0} → FaultKind → Result S Fault → FaultKind
 kind_in k (Ok s) = k
@@ -60,3 +60,22 @@ first_is_told line s first (b ∷ bs) faulty behind t f sound fault number =
 
 pub fault_is_first : {S : Type 0} (line : S → List ℕ → Result S FaultKind) (s : S) (first : ℕ) (ls : List (List ℕ)) (f : Fault) → (read_from line s first ls ≡ Err f) ↔ IsFirstFault line s first ls f
 fault_is_first line s first ls f = (told_is_first line s first ls f, λ r. rw r.cut (first_is_told line s first r.before r.faulty r.behind r.state f r.sound r.fault r.number))
+
+-- no fault is before the first line
+pub fault_is_behind : {S : Type 0} (line : S → List ℕ → Result S FaultKind) (s : S) (first : ℕ) (ls : List (List ℕ)) (f : Fault) → read_from line s first ls ≡ Err f → first ≤ f.line
+fault_is_behind line s first ls f h = omega (arith, (told_is_first line s first ls f h).number)
+
+abbrev pub fault_at : ℕ → FaultKind → Fault
+fault_at n k = record { line = n; kind = k }
+
+-- what is told of the first line that is left is told of all of them
+pub told_here : {S : Type 0} (line : S → List ℕ → Result S FaultKind) (s : S) (n last : ℕ) (l : List ℕ) (ls : List (List ℕ)) (k : FaultKind) → n ≤ last → TellsKind k (line s l) → Tells last (fault_at n k) (read_from line s n (l ∷ ls))
+told_here line s n last l ls k within =
+    elim (line s l) as (λ said. TellsKind k said → Tells last (fault_at n k) (at n said (λ t. read_from line t (n + 1) ls))) [
+      | Err e ↦ λ h. inl (ap (fault_at n) h)
+      | Ok t ↦ λ h.
+          elim (read_from line t (n + 1) ls) as (λ r. read_from line t (n + 1) ls ≡ r → Tells last (fault_at n k) r) [
+            | Ok u ↦ λ e. (h, within)
+            | Err g ↦ λ e. inr (h, omega (arith, fault_is_behind line t (n + 1) ls g e))
+          ] refl
+    ]

@@ -5,3 +5,4 @@ pub mod Operands
 pub mod Literals
 pub mod Reading
 pub mod Tables
+pub mod Spelling

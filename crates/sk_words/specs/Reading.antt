@@ -1,5 +1,5 @@
 -- Reading a text line by line: what is known after all lines, or the first fault with the number of its line.
-use Rattle.std.specs.Prelude.{◌≡◌, ◌≢◌, ℕ, ◌+◌, List, [], ◌∷◌, ◌++◌, length, Result, Ok, Err}
+use Rattle.std.specs.Prelude.{◌≡◌, ◌<◌, ◌≤◌, ◌⊎◌, ℕ, ◌+◌, List, [], ◌∷◌, ◌++◌, length, Result, Ok, Err}
 use Rattle.sk_words.specs.declared.fault.FaultKind.{FaultKind}
 use Rattle.sk_words.specs.declared.fault.FaultKind.TheVariants as kinds
 use Rattle.sk_words.specs.declared.fault.Fault.{Fault}
@@ -14,15 +14,27 @@ abbrev pub read_from : {S : Type 0} → (S → List ℕ → Result S FaultKind) 
 read_from line s number [] = Ok s
 read_from line s number (l ∷ ls) = at number (line s l) (λ t. read_from line t (number + 1) ls)
 
--- what a line left, or its fault, unless memory ran out
-abbrev pub Leaves : {S : Type 0} → Result (Unit {0}) FaultKind → Result S FaultKind → S → Type 0
-Leaves (Ok u) said new = said ≡ Ok new
-Leaves (Err e) said new = e ≢ kinds.Memory → said ≡ Err e
+-- The kind that is told of a line of which this is said: that of its fault. Want of memory is told only of a line
+-- that has no fault.
+abbrev pub TellsKind : {S : Type 0} → FaultKind → Result S FaultKind → Type 0
+TellsKind e (Ok s) = e ≡ kinds.Memory
+TellsKind e (Err k) = e ≡ k
 
--- what all lines left, or the first fault, unless memory ran out
-abbrev pub ReadsAll : {S : Type 0} → Result (Unit {0}) Fault → Result S Fault → S → Type 0
-ReadsAll (Ok u) said new = said ≡ Ok new
-ReadsAll (Err f) said new = f.kind ≢ kinds.Memory → said ≡ Err f
+-- a line leaves what it says, or its kind is told and nothing has changed
+abbrev pub Leaves : {S : Type 0} → Result (Unit {0}) FaultKind → Result S FaultKind → S → S → Type 0
+Leaves (Ok u) said old new = said ≡ Ok new
+Leaves (Err e) said old new = TellsKind e said × (new ≡ old)
+
+-- The fault that is told of lines of which this is said, the last of them having this number: the first fault, or
+-- want of memory at a line that is before the first that has a fault.
+abbrev pub Tells : {S : Type 0} → ℕ → Fault → Result S Fault → Type 0
+Tells last f (Ok s) = (f.kind ≡ kinds.Memory) × (f.line ≤ last)
+Tells last f (Err g) = (f ≡ g) ⊎ ((f.kind ≡ kinds.Memory) × (f.line < g.line))
+
+-- what is read of lines is what they say, or the fault is told
+abbrev pub Reads : {S : Type 0} → Result S Fault → Result S Fault → ℕ → Type 0
+Reads (Ok s) said last = said ≡ Ok s
+Reads (Err f) said last = Tells last f said
 
 -- The first line that has a fault: there is none before it, and it has this one.
 pub record IsFirstFault {S : Type 0} (line : S → List ℕ → Result S FaultKind) (s : S) (first : ℕ) (ls : List (List ℕ)) (f : Fault) : Type 0 where

@@ -1,5 +1,5 @@
 -- How a line is cut into words.
-use Rattle.std.specs.Prelude.{ℕ, Bool, true, false, List, [], ◌∷◌, ◌==◌, ◌||◌, if◌then◌else◌}
+use Rattle.std.specs.Prelude.{ℕ, Bool, true, false, List, [], ◌∷◌, ◌==◌, ◌||◌, if◌then◌else◌, Option, Some, None, slice_index}
 use Rattle.std.specs.List.{onto_first}
 use Rattle.sk_words.specs.declared.line.Place.{Place}
 use Rattle.sk_words.specs.declared.line.Place.TheVariants.{Between, Word, Literal, Escape}
@@ -36,3 +36,8 @@ is_open_from Escape (b ∷ bs) = is_open_from Literal bs
 
 abbrev pub is_open : List ℕ → Bool
 is_open word = is_open_from Between word
+
+-- the first word of a line and the words behind it; none where the line has no word, or its first begins with #
+abbrev pub first_of : List (List ℕ) → Option (List ℕ × List (List ℕ))
+first_of [] = None
+first_of (w ∷ ws) = if slice_index w 0 == 35 then None else Some (w, ws)

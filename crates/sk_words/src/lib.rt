@@ -1,17 +1,22 @@
-//! Words of all text forms: lines and their words, and what words say.
+//! What all text forms share: lines and their words, what words say, the reader of lines, and how
+//! literals and identifiers are printed.
 #![tactic(auto)]
 
+pub mod cursor;
 pub mod fault;
 pub mod line;
 pub mod literal;
 pub mod operands;
 pub mod reader;
+pub mod spelling;
 pub mod text;
 pub mod values;
 
+pub use cursor::Cursor;
 pub use fault::{Fault, FaultKind};
-pub use line::Words;
+pub use line::{Words, first_word};
 pub use operands::{Operand, closed, next_word, no_more, none, one, three, two};
 pub use reader::{Reader, read};
-pub use text::{Block, Lines};
+pub use spelling::{Literal, Printed};
+pub use text::Lines;
 pub use values::{Index, Label, Natural, Positive};

@@ -1,13 +1,13 @@
 //! The words of a line.
-ghost use Rattle.std.specs.Prelude.{◌≡◌, List, [], ◌∷◌, ◌≢◌, ℕ, length, drop, ◌≤◌, ◌<◌, MatchOption, take, slice_index, false};
+ghost use Rattle.std.specs.Prelude.{◌≡◌, List, [], ◌∷◌, ◌≢◌, ℕ, length, drop, ◌≤◌, ◌<◌, MatchOption, Some, None, take, slice_index, false};
 ghost use Rattle.std.specs.List.{onto_first, list_any};
-ghost use Rattle.sk_words.specs.Words.{words, words_from, is_open, is_open_from, is_blank};
+ghost use Rattle.sk_words.specs.Words.{words, words_from, is_open, is_open_from, is_blank, first_of};
 ghost use Rattle.sk_words.specs.declared.line.Place.TheVariants.{Between, Word, Literal, Escape};
 
 use std::marker::Model;
 
-/// Where in a line a byte stands: between two words, in a word, in a literal, or behind a backslash
-/// in one.
+/// The reader's state within a line: between two words, in a word, in a literal, or behind a
+/// backslash in one.
 #[derive(Clone, Copy, Debug, PartialEq, Eq)]
 enum Place {
     Between,
@@ -52,7 +52,7 @@ fn trimmed(line: &[u8]) -> &[u8]
     rest
 }
 
-/// Where the byte behind this one in a word stands.
+/// The reader's state after this byte of a word.
 fn behind(place: Place, byte: u8) -> Place
     requires inside { place ≢ Between }
     requires no_end { place ≡ Word → is_blank byte ≡ false }
@@ -134,6 +134,18 @@ impl<'a> Words<'a> {
         }
         false
     }
+}
+
+/// The first word of a line and the words behind it; `None` where the line is empty or a comment.
+pub fn first_word(line: &[u8]) -> Option<(&[u8], Words<'_>)>
+    ensures { MatchOption result (first_of (words line.now) ≡ None) (λ x. first_of (words line.now) ≡ Some (x.0.now, x.1)) }
+{
+    let mut words = Words::of(line);
+    let first = words.next()?;
+    if let [b'#', ..] = first {
+        return None;
+    }
+    Some((first, words))
 }
 
 fn is_open(word: &[u8]) -> bool

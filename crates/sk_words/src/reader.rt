@@ -1,37 +1,37 @@
 //! Reading a text line by line.
-ghost use Rattle.std.specs.Prelude.{◌≡◌, ◌↔◌, ◌+◌, ◌<◌, ◌^◌, ℕ, List, Err, length};
-ghost use Rattle.sk_words.specs.Reading.{read_from, ReadsAll, IsFirstFault};
+ghost use Rattle.std.specs.Prelude.{◌≡◌, ◌↔◌, ◌+◌, ℕ, List, Err};
+ghost use Rattle.sk_words.specs.Lines.{last_line};
+ghost use Rattle.sk_words.specs.Reading.{read_from, Reads, IsFirstFault};
 ghost use Rattle.sk_words.specs.declared.fault.Fault.{Fault};
 
-use crate::{Block, Fault, FaultKind};
+use crate::{Cursor, Fault, FaultKind};
 
 /// What is known of a text so far, which each line adds to.
-pub trait Reader: Sized {
+pub trait Reader: Sized + Drop {
     ghost use Rattle.std.specs.Prelude.{List, ℕ, Result};
     ghost use Rattle.sk_words.specs.declared.fault.FaultKind.{FaultKind};
+    ghost use Rattle.sk_words.specs.Lines.{last_line};
     ghost use Rattle.sk_words.specs.Reading.{Leaves};
 
     ghost said: { Self → List ℕ → Result Self FaultKind };
 
-    /// Takes in one line, or says what is wrong with it.
+    /// Takes in one line, or says what is wrong with it; nothing has changed then.
     fn line(&mut self, line: &[u8]) -> Result<(), FaultKind>
-        ensures { Leaves result (said self.old line.now) self.new };
+        ensures { Leaves result (said self.old line.now) self.old self.new };
 }
 
-/// Reads lines up to the first that has a fault. The first line has this number.
-pub fn read<R: Reader>(reader: &mut R, lines: &Block, first: u64) -> Result<(), Fault>
-    requires { first + length lines.now < 2 ^ 64 }
-    ensures { ReadsAll result (read_from R.said reader.old first lines.now) reader.new }
+/// Takes in lines up to the first that has a fault.
+pub fn read<R: Reader>(reader: R, lines: &Cursor) -> Result<R, Fault>
+    ensures { Reads result (read_from R.said reader (lines.now.line + 1) lines.now.lines) (last_line lines.now) }
 {
+    let mut reader = reader;
     let mut lines = lines.again();
-    let mut number = first;
     while let Some(line) = lines.next() {
         if let Err(kind) = reader.line(line) {
-            return Err(Fault { line: number, kind });
+            return Err(lines.fault(kind));
         }
-        number += 1;
     }
-    Ok(())
+    Ok(reader)
 }
 
 /// The fault that is told of a text is that of its first faulty line, and one is told exactly where

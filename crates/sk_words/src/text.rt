@@ -79,9 +79,9 @@ pub(crate) fn cut(text: &[u8], separator: u8) -> Option<(&[u8], &[u8])>
     None
 }
 
-/// The lines of a block: what is left of a text, or that many lines of it.
+/// The lines that are left of a text, or so many of them at most.
 #[derive(Drop)]
-pub struct Block<'a> {
+pub(crate) struct Block<'a> {
     lines: Lines<'a>,
     left: Option<u64>,
 }
@@ -97,7 +97,7 @@ impl<'a> Model for Block<'a> {
 
 impl<'a> Block<'a> {
     /// All lines of a text.
-    pub fn whole(text: &'a [u8]) -> Block<'a>
+    pub(crate) fn whole(text: &'a [u8]) -> Block<'a>
         ensures { result ≡ lines text.now }
     {
         Block {
@@ -106,18 +106,22 @@ impl<'a> Block<'a> {
         }
     }
 
-    /// The first lines, so many or all that are left.
-    pub fn first(lines: &Lines<'a>, count: u64) -> Block<'a>
-        ensures { result ≡ take count lines.now }
+    /// The first of these lines, so many or all that are left.
+    pub(crate) fn first(&self, count: u64) -> Block<'a>
+        ensures { result ≡ take count self.now }
     {
+        let left = match self.left {
+            None => count,
+            Some(left) => left.min(count),
+        };
         Block {
-            lines: lines.again(),
-            left: Some(count),
+            lines: self.lines.again(),
+            left: Some(left),
         }
     }
 
     /// The same lines again.
-    pub fn again(&self) -> Block<'a>
+    pub(crate) fn again(&self) -> Block<'a>
         ensures { result ≡ self.now }
     {
         Block {
@@ -127,7 +131,7 @@ impl<'a> Block<'a> {
     }
 
     /// The next line, which is then no longer among them; `None` where none is left.
-    pub fn next(&mut self) -> Option<&'a [u8]>
+    pub(crate) fn next(&mut self) -> Option<&'a [u8]>
         ensures { MatchOption result (self.old ≡ [] × self.new ≡ []) (λ line. self.old ≡ line.now ∷ self.new) }
     {
         match self.left {

@@ -1,13 +1,12 @@
 //! Scripts, inputs and boots, and the faults of their texts.
 use sk_ids::{Name, ObjId, Pid, Text};
 use sk_objects::Content;
-use sk_print::{Literal, Shown};
-use sk_scenario::inputs;
+use sk_script::step_input::input;
 use sk_script::{
     Boot, BootFault, Input, Instruction, ObjectKind, ROOT, Register, Script, Scripts, Val,
 };
 use sk_words::FaultKind::{Label, Operand as Malformed, TooLong, Word};
-use sk_words::{Block, Fault, FaultKind, Lines, Operand, Words};
+use sk_words::{Cursor, Fault, FaultKind, Literal, Operand, Printed, Words};
 use std::alloc::{AllocError, Global};
 use std::fmt;
 use std::test::Fail;
@@ -136,12 +135,12 @@ fn length(parsed: Result<Script, Fault>) -> Result<u32, Fault> {
 
 #[test]
 fn reads_part_of_a_text(rt: HostRuntime) {
-    let mut lines = Lines::of(b"script a\nsay\nset r9 1\nend\n");
+    let mut lines = Cursor::of(b"script a\nsay\nset r9 1\nend\n");
     let _ = lines.next();
-    let one = length(Script::parse_lines(rt.alloc(), &Block::first(&lines, 1), 2));
+    let one = length(Script::parse_lines(rt.alloc(), &lines.first(1)));
     assert_eq!(rt; one, Ok(1));
     let kind = Malformed;
-    let two = length(Script::parse_lines(rt.alloc(), &Block::first(&lines, 2), 2));
+    let two = length(Script::parse_lines(rt.alloc(), &lines.first(2)));
     assert_eq!(rt; two, Err(Fault { line: 3, kind }));
 }
 
@@ -233,7 +232,7 @@ fn inputs_of_words(rt: HostRuntime) -> Result<(), Fail> {
         (b"bad 3", Err(Word)),
     ];
     for (text, want) in rows {
-        assert_eq!(rt; inputs::input(&Words::of(text)), want);
+        assert_eq!(rt; input(&Words::of(text)), want);
     }
     Ok(())
 }
@@ -249,14 +248,14 @@ fn prints(rt: HostRuntime) -> Result<(), Fail> {
     let deep: Pid = Operand::read(b"1.3.05.65535").map_err(|_| "pid")?;
     let child = Pid::boot(1).ok_or("boot")?.child(3).ok_or("child")?;
     let maker = Some(child);
-    assert_eq!(rt; printed(alloc, Shown(deep))?.as_str(), "1.3.5.65535");
+    assert_eq!(rt; printed(alloc, Printed(deep))?.as_str(), "1.3.5.65535");
     assert_eq!(rt;
-        printed(alloc, Shown(ObjId { maker, count: 2 }))?.as_str(),
+        printed(alloc, Printed(ObjId { maker, count: 2 }))?.as_str(),
         "1.3:2"
     );
-    assert_eq!(rt; printed(alloc, Shown(Val::Obj(ROOT)))?.as_str(), "0:1");
-    assert_eq!(rt; printed(alloc, Shown(Val::Who(child)))?.as_str(), "@1.3");
-    assert_eq!(rt; printed(alloc, Shown(Val::Num(-2)))?.as_str(), "-2");
+    assert_eq!(rt; printed(alloc, Val::Obj(ROOT))?.as_str(), "0:1");
+    assert_eq!(rt; printed(alloc, Val::Who(child))?.as_str(), "@1.3");
+    assert_eq!(rt; printed(alloc, Val::Num(-2))?.as_str(), "-2");
     let literal = printed(alloc, Literal(b"a\"\\\n\x7f"))?;
     assert_eq!(rt; literal.as_str(), "\"a\\\"\\\\\\n\\x7f\"");
     Ok(())

@@ -1,5 +1,5 @@
 //! The labels of a script.
-ghost use Rattle.std.specs.Prelude.{◌≡◌, [], ◌++◌, ◌∷◌, OnOk};
+ghost use Rattle.std.specs.Prelude.{◌≡◌, [], ◌++◌, ◌∷◌, OnOk, OnErr};
 ghost use Rattle.sk_script.specs.Instructions.{place_of};
 
 use sk_words::{FaultKind, Label};
@@ -37,7 +37,8 @@ impl Labels {
     }
 
     pub(crate) fn add(&mut self, name: Label, place: u32) -> Result<(), AllocError>
-        ensures { OnOk result (self.new ≡ self.old ++ (name, place) ∷ []) }
+        ensures ok { OnOk result (self.new ≡ self.old ++ (name, place) ∷ []) }
+        ensures err { OnErr result (self.new ≡ self.old) }
     {
         self.marks.push(Mark { name, place })?;
         Ok(())

@@ -1,43 +1,57 @@
 -- The script's lines are read, and then the line that ends it, or none does.
-use Rattle.std.proofs.Common.{arith, ◌≡◌, ◌+◌, ◌-◌, length, refl, ◌∙◌}
-use Rattle.sk_scenario.proofs.Scripts.{cut_none, cut_end, faulty}
+use Rattle.std.proofs.Common.{arith, ◌≡◌, ◌≤◌, ◌+◌, ◌-◌, ◌∷◌, ◌++◌, length, refl, inl, ◌∙◌}
+use Rattle.std.proofs.lemmas.List.{length-append}
+use Rattle.std.proofs.lemmas.Result.{err_from_is_err_and}
+use Rattle.sk_words.specs.Lines.{last_line}
+use Rattle.sk_scenario.proofs.Scripts.{cut_none, cut_end}
+use Rattle.sk_scenario.proofs.Told.{within_all, script_told, end_told}
 use Rattle.sk_scenario.proofs.scenario.script.Goals as goal
 
-pub returns-in-Err-clause-goes : goal.returns-in-Err-clause-goes
-returns-in-Err-clause-goes c sound =
+pub returns-in_err-script-clause-goes : goal.returns-in_err-script-clause-goes
+returns-in_err-script-clause-goes c =
     let taken = c.take_script-taken in
-    let said = rw c.line-first.ensures.value at (c.in-Err.ensures sound) in
-    faulty taken.result.end (λ line. line.now) c.args.declarations.now c.args.name (c.args.cursor.now.line + 1) taken.result.lines taken.new.cursor.lines c.args.cursor.now.lines _ taken.ensures.none taken.ensures.end said
+    let n = c.args.cursor.now.line + 1 in
+    let ls = taken.result.lines.lines in
+    let p = err_from_is_err_and c.from_residual.result c.from_residual.ensures.1 in
+    let whole = within_all taken.result.end (λ line. line.now) ls taken.new.cursor.lines c.args.cursor.now.lines taken.ensures.end in
+    let last : last_line taken.result.lines ≡ c.args.cursor.now.line + 1 + length taken.result.lines.lines - 1 = omega (arith, taken.ensures.first) in
+    let within : c.args.cursor.now.line + 1 + length taken.result.lines.lines - 1 ≤ last_line c.args.cursor.now = omega (arith, whole) in
+    let told = rw taken.ensures.first at (rw last at c.in_err-script.ensures) in
+    rw (p.1, p.2) (script_told taken.result.end (λ line. line.now) c.args.declarations.now c.args.name n (last_line c.args.cursor.now) ls taken.new.cursor.lines c.args.cursor.now.lines c.in_err-script.field-0.0 taken.ensures.none taken.ensures.end within told)
 
 pub returns-in-None-clause-goes : goal.returns-in-None-clause-goes
-returns-in-None-clause-goes c sound =
+returns-in-None-clause-goes c =
     let taken = c.take_script-taken in
     let n = c.args.cursor.now.line + 1 in
+    let ls = taken.result.lines.lines in
     let cut = rw c.in-None.is at taken.ensures.end in
     let line = rw c.in-None.is at taken.ensures.line in
-    let said = rw c.line-first.ensures.value at c.in-Ok.ensures in
-    let last : n + length taken.result.lines - 1 ≡ taken.new.cursor.line = omega (arith, line) in
-    cut_none c.args.declarations.now c.args.name n taken.result.lines c.args.cursor.now.lines taken.ensures.none cut.0 ∙ rw (last, said, c.fault.ensures) refl
+    let said = rw taken.ensures.first at c.in_ok-script.ensures in
+    let last : c.args.cursor.now.line + 1 + length taken.result.lines.lines - 1 ≡ taken.new.cursor.line = omega (arith, line) in
+    rw (cut_none c.args.declarations.now c.args.name n ls c.args.cursor.now.lines taken.ensures.none cut.0, said, c.fault.ensures, last) (inl refl)
 
-pub returns-in-Ok-ended-clause-goes : goal.returns-in-Ok-ended-clause-goes
-returns-in-Ok-ended-clause-goes c =
+pub returns-in-Ok-clause-goes : goal.returns-in-Ok-clause-goes
+returns-in-Ok-clause-goes c =
     let taken = c.take_script-taken in
     let n = c.args.cursor.now.line + 1 in
+    let ls = taken.result.lines.lines in
     let cut = rw c.in-Some.is at taken.ensures.end in
     let line = rw c.in-Some.is at taken.ensures.line in
-    let said = rw c.line-first.ensures.value at c.in-Ok.ensures in
-    let place : n + length taken.result.lines ≡ taken.new.cursor.line = omega (arith, line) in
-    cut_end c.args.declarations.now c.args.name n taken.result.lines c.in-Some.end.now taken.new.cursor.lines c.args.cursor.now.lines taken.ensures.none cut.0 cut.1
-    ∙ rw (place, said, c.in-Ok-ended.ensures) refl
+    let said = rw taken.ensures.first at c.in_ok-script.ensures in
+    let place : c.args.cursor.now.line + 1 + length taken.result.lines.lines ≡ taken.new.cursor.line = omega (arith, line) in
+    cut_end c.args.declarations.now c.args.name n ls c.in-Some.end.now taken.new.cursor.lines c.args.cursor.now.lines taken.ensures.none cut.0 cut.1
+    ∙ rw (place, said, c.in-Ok.ensures) refl
 
-pub returns-in-Err-ended-clause-goes : goal.returns-in-Err-ended-clause-goes
-returns-in-Err-ended-clause-goes c sound =
+pub returns-in-Err-clause-goes : goal.returns-in-Err-clause-goes
+returns-in-Err-clause-goes c =
     let taken = c.take_script-taken in
     let n = c.args.cursor.now.line + 1 in
+    let ls = taken.result.lines.lines in
     let cut = rw c.in-Some.is at taken.ensures.end in
     let line = rw c.in-Some.is at taken.ensures.line in
-    let said = rw c.line-first.ensures.value at c.in-Ok.ensures in
-    let place : n + length taken.result.lines ≡ taken.new.cursor.line = omega (arith, line) in
-    let fault = c.in-Err-ended.ensures (rw c.fault-in-Err-ended.ensures at sound) in
-    cut_end c.args.declarations.now c.args.name n taken.result.lines c.in-Some.end.now taken.new.cursor.lines c.args.cursor.now.lines taken.ensures.none cut.0 cut.1
-    ∙ rw (place, said, fault, c.fault-in-Err-ended.ensures) refl
+    let said = rw taken.ensures.first at c.in_ok-script.ensures in
+    let place : c.args.cursor.now.line + 1 + length taken.result.lines.lines ≡ taken.new.cursor.line = omega (arith, line) in
+    let some : length c.args.cursor.now.lines ≡ length (taken.result.lines.lines ++ c.in-Some.end.now ∷ taken.new.cursor.lines) = rw cut.0 refl in
+    let within : c.args.cursor.now.line + 1 + length taken.result.lines.lines ≤ last_line c.args.cursor.now = omega (arith, some, length-append taken.result.lines.lines (c.in-Some.end.now ∷ taken.new.cursor.lines)) in
+    let told = end_told c.args.declarations.now c.args.name n (last_line c.args.cursor.now) ls c.in-Some.end.now taken.new.cursor.lines c.args.cursor.now.lines _ c.in-Err.kind taken.ensures.none cut.0 cut.1 said within c.in-Err.ensures.0 in
+    rw (c.fault-in-Err.ensures, ← place) told

@@ -12,9 +12,10 @@ loop-line-preserved c =
     let no : is_end line ≡ false = search rules in
     let sum = rw c.in-Some.ensures.lines at before.within in
     record {
+      first = before.first;
       lines = before.lines;
       counted = omega (arith, before.counted, c.in-Some.ensures.line);
       within = omega (arith, sum);
-      left = rw add-one (drop_next c.loop-line.count c.left-lines.result line c.next.new.self.lines at);
-      none = rw (add-one, take_next c.loop-line.count c.left-lines.result line c.next.new.self.lines at) (all_more (λ l. not (is_end l)) (take c.loop-line.count c.left-lines.result) line before.none (rw no refl));
+      left = rw add-one (drop_next c.loop-line.count c.again-lines.result.lines line c.next.new.self.lines at);
+      none = rw (add-one, take_next c.loop-line.count c.again-lines.result.lines line c.next.new.self.lines at) (all_more (λ l. not (is_end l)) (take c.loop-line.count c.again-lines.result.lines) line before.none (rw no refl));
     }

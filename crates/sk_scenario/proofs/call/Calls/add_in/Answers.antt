@@ -6,4 +6,4 @@ use Rattle.sk_scenario.proofs.call.Calls.add_in.Goals as goal
 
 pub returns-in-Err : goal.returns-in-Err
 unfolding step
-returns-in-Err c = λ more. rw (skipped step_rules unknown c.args.word.now (no_text step_rules c.args.word.now refl c.in-Err.ensures.cases.0)) refl
+returns-in-Err c = (rw (skipped step_rules unknown c.args.word.now (no_text step_rules c.args.word.now refl c.in-Err.ensures.cases.0)) refl, refl)

@@ -1,9 +1,0 @@
--- What stands before the loop's place is written.
-use Rattle.std.proofs.Common.{take, ◌∷◌}
-use Rattle.std.specs.Prelude.{flat_map}
-use Rattle.std.specs.Fmt.{HasWritten, IsPlainFormatter}
-use Rattle.sk_print.specs.Shown.{link_text}
-use Rattle.sk_print.proofs.shown.MoreLinksDisplay.fmt.Given as goal
-
-abbrev pub invariant-loop-name : goal.invariant-loop-name
-invariant-loop-name g l = IsPlainFormatter l.fn.f → HasWritten g.W.Write.write_str_gives l.fn.f (flat_map (λ link. 32 ∷ link_text link) (take l.name-index l.name-items)) l.f

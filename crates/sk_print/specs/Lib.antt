@@ -1,3 +1,0 @@
-pub mod Spelling
-pub mod Shown
-pub mod Refusals

@@ -1,0 +1,79 @@
+-- How entities and what they have are printed.
+use Rattle.std.specs.Prelude.{ℕ, Bool, List, [], ◌∷◌, ◌++◌, flat_map, codes, decimal, length, Option, Some, None, if◌then◌else◌}
+use Rattle.sk_ids.specs.declared.entity.Entity.{Entity}
+use Rattle.sk_ids.specs.declared.entity.Entity.TheVariants as entity
+use Rattle.sk_objects.specs.Directory.{Link}
+use Rattle.sk_objects.specs.declared.value.Value.{Value}
+use Rattle.sk_objects.specs.declared.value.Value.TheVariants as value
+use Rattle.sk_script.specs.declared.process.Process.{Process}
+use Rattle.sk_script.specs.declared.register.Val.{Val}
+use Rattle.sk_script.specs.Registers.{held, val_word}
+use Rattle.sk_words.specs.Spelling.{spelled, pid_word, object_word}
+
+-- what is missing
+abbrev pub dash : List ℕ
+dash = codes "-"
+
+-- items with a separator between them, or a dash
+abbrev pub joined : {A : Type 0} → ℕ → (A → List ℕ) → List A → List ℕ
+joined separator spelling [] = dash
+joined separator spelling (first ∷ others) = spelling first ++ flat_map (λ other. separator ∷ spelling other) others
+
+-- guesses by rising number
+abbrev pub tags_text : List ℕ → List ℕ
+tags_text ids = joined 44 decimal ids
+
+-- signals from the front
+abbrev pub signals_text : List ℕ → List ℕ
+signals_text signals = joined 44 decimal signals
+
+-- a name and its object
+abbrev pub link_text : Link → List ℕ
+link_text link = link.0 ++ 61 ∷ object_word link.1
+
+-- the links of a directory
+abbrev pub links_text : List Link → List ℕ
+links_text links = joined 32 link_text links
+
+-- a number that may be missing
+abbrev pub option_text : Option ℕ → List ℕ
+option_text None = dash
+option_text (Some number) = decimal number
+
+-- the eight registers
+unfoldable pub registers_text : List Val → List ℕ
+registers_text vals = joined 32 (λ number. val_word (held vals number)) (0 ∷ 1 ∷ 2 ∷ 3 ∷ 4 ∷ 5 ∷ 6 ∷ 7 ∷ [])
+
+abbrev pub yes_or_no : Bool → List ℕ
+yes_or_no b = if b then codes "yes" else codes "no"
+
+-- where a process stands, and what it holds
+unfoldable pub held_text : Process → List ℕ
+held_text p = codes "at " ++ decimal p.place ++ codes " regs " ++ registers_text p.registers ++ codes " buf " ++ spelled p.buffer
+
+-- what it has made, its handler, and whether it has ended
+unfoldable pub made_text : Process → List ℕ
+made_text p =
+    codes "kids " ++ decimal p.children ++ codes " objs " ++ decimal p.objects ++ codes " handler " ++ option_text p.handler
+    ++ codes " saved " ++ option_text p.saved ++ codes " ended " ++ yes_or_no p.ended
+
+-- a process, behind its identifier
+abbrev pub process_text : Process → List ℕ
+process_text p = held_text p ++ 32 ∷ made_text p
+
+-- a value, behind its entity
+abbrev pub value_text : Value → List ℕ
+value_text (value.File bytes) = codes "file " ++ decimal (length bytes) ++ 32 ∷ spelled bytes
+value_text (value.Dir links) = codes "dir " ++ links_text links
+value_text (value.Pipe pipe) = codes "pipe " ++ (if pipe.shut then codes "shut " else codes "open ") ++ spelled pipe.bytes
+value_text (value.Signals signals) = signals_text signals
+value_text (value.Exit status) = option_text status
+value_text (value.Copy content) = decimal content.version ++ 32 ∷ spelled content.bytes
+
+-- an entity
+abbrev pub entity_text : Entity → List ℕ
+entity_text (entity.Proc pid) = codes "proc " ++ pid_word pid
+entity_text (entity.Sig pid) = codes "sig " ++ pid_word pid
+entity_text (entity.Exit pid) = codes "exit " ++ pid_word pid
+entity_text (entity.Obj id) = codes "obj " ++ object_word id
+entity_text (entity.Copy name) = codes "copy " ++ name

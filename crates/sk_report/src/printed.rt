@@ -1,0 +1,283 @@
+//! How entities and what they have are printed.
+ghost use Rattle.std.specs.Prelude.{◌≡◌, ◌<◌, ◌∷◌, Some, flat_map, decimal, slice_index};
+ghost use Rattle.sk_report.specs.Printed.{tags_text, signals_text, links_text, link_text, option_text, registers_text, held_text, made_text, yes_or_no, process_text, value_text, entity_text};
+ghost use Rattle.sk_script.specs.Registers.{held};
+
+use sk_ids::{Entity, GuessId, Name, ObjId, TagSet};
+use sk_objects::{Directory, Signals, Value};
+use sk_script::words::{Literal, Printed};
+use sk_script::{Process, Register, Registers, Val};
+use std::fmt;
+
+/// Guesses, each behind a comma.
+#[derive(Drop)]
+struct MoreTags<'a>(&'a [GuessId]);
+
+impl fmt::Display for MoreTags<'_> {
+    ghost output = { λ s. Some (flat_map (λ id. 44 ∷ decimal id) s.0.now) };
+
+    fn fmt<W: fmt::Write>(&self, f: &mut fmt::Formatter<W>) -> fmt::Result {
+        for id in self.0 {
+            let number = id.number();
+            write!(f, ",{number}")?;
+        }
+        Ok(())
+    }
+}
+
+/// Guesses by rising number, joined by `,`; `-` where there is none.
+#[derive(Drop)]
+pub struct PrintedTags<'a>(pub &'a TagSet);
+
+impl fmt::Display for PrintedTags<'_> {
+    ghost output = { λ s. Some (tags_text s.0.now) };
+
+    fn fmt<W: fmt::Write>(&self, f: &mut fmt::Formatter<W>) -> fmt::Result {
+        match self.0.ids() {
+            [] => write!(f, "-"),
+            [first, others @ ..] => {
+                let first = first.number();
+                let others = MoreTags(others);
+                write!(f, "{first}{others}")
+            }
+        }
+    }
+}
+
+/// Signals, each behind a comma.
+#[derive(Drop)]
+struct MoreSignals<'a>(&'a [u8]);
+
+impl fmt::Display for MoreSignals<'_> {
+    ghost output = { λ s. Some (flat_map (λ signal. 44 ∷ decimal signal) s.0.now) };
+
+    fn fmt<W: fmt::Write>(&self, f: &mut fmt::Formatter<W>) -> fmt::Result {
+        for signal in self.0 {
+            write!(f, ",{signal}")?;
+        }
+        Ok(())
+    }
+}
+
+/// Signals from the front, joined by `,`; `-` where there is none.
+#[derive(Drop)]
+struct PrintedSignals<'a>(&'a Signals);
+
+impl fmt::Display for PrintedSignals<'_> {
+    ghost output = { λ s. Some (signals_text s.0.now) };
+
+    fn fmt<W: fmt::Write>(&self, f: &mut fmt::Formatter<W>) -> fmt::Result {
+        match self.0.as_slice() {
+            [] => write!(f, "-"),
+            [first, others @ ..] => {
+                let others = MoreSignals(others);
+                write!(f, "{first}{others}")
+            }
+        }
+    }
+}
+
+/// A name and its object.
+#[derive(Clone, Copy)]
+struct PrintedLink(Name, ObjId);
+
+impl fmt::Display for PrintedLink {
+    ghost output = { λ s. Some (link_text (s.0, s.1)) };
+
+    fn fmt<W: fmt::Write>(&self, f: &mut fmt::Formatter<W>) -> fmt::Result {
+        let name = Printed(self.0);
+        let object = Printed(self.1);
+        write!(f, "{name}={object}")
+    }
+}
+
+/// Links, each behind a space.
+#[derive(Drop)]
+struct MoreLinks<'a>(&'a [(Name, ObjId)]);
+
+impl fmt::Display for MoreLinks<'_> {
+    ghost output = { λ s. Some (flat_map (λ link. 32 ∷ link_text link) s.0.now) };
+
+    fn fmt<W: fmt::Write>(&self, f: &mut fmt::Formatter<W>) -> fmt::Result {
+        for (name, object) in self.0 {
+            let link = PrintedLink(*name, *object);
+            write!(f, " {link}")?;
+        }
+        Ok(())
+    }
+}
+
+/// The links of a directory by rising bytes; `-` where there is none.
+#[derive(Drop)]
+struct PrintedLinks<'a>(&'a Directory);
+
+impl fmt::Display for PrintedLinks<'_> {
+    ghost output = { λ s. Some (links_text s.0.now) };
+
+    fn fmt<W: fmt::Write>(&self, f: &mut fmt::Formatter<W>) -> fmt::Result {
+        match self.0.as_slice() {
+            [] => write!(f, "-"),
+            [(name, object), others @ ..] => {
+                let first = PrintedLink(*name, *object);
+                let others = MoreLinks(others);
+                write!(f, "{first}{others}")
+            }
+        }
+    }
+}
+
+/// A number, or `-`.
+#[derive(Clone, Copy)]
+struct PrintedOption(Option<u32>);
+
+impl fmt::Display for PrintedOption {
+    ghost output = { λ s. Some (option_text s.0) };
+
+    fn fmt<W: fmt::Write>(&self, f: &mut fmt::Formatter<W>) -> fmt::Result {
+        match self.0 {
+            Some(number) => write!(f, "{number}"),
+            None => write!(f, "-"),
+        }
+    }
+}
+
+/// The eight registers, with single spaces between.
+#[derive(Clone, Copy)]
+struct PrintedRegisters(Registers);
+
+/// A register's value.
+fn value_of(registers: &Registers, number: u8) -> Val
+    requires { number < 8 }
+    ensures { result ≡ held registers.now number }
+{
+    registers.get(Register::new(number).unwrap())
+}
+
+impl fmt::Display for PrintedRegisters {
+    ghost output = { λ s. Some (registers_text s.0) };
+
+    #[tactic(auto, unfolding(crate::specs::Printed::registers_text))]
+    fn fmt<W: fmt::Write>(&self, f: &mut fmt::Formatter<W>) -> fmt::Result {
+        let r0 = value_of(&self.0, 0);
+        let r1 = value_of(&self.0, 1);
+        let r2 = value_of(&self.0, 2);
+        let r3 = value_of(&self.0, 3);
+        let r4 = value_of(&self.0, 4);
+        let r5 = value_of(&self.0, 5);
+        let r6 = value_of(&self.0, 6);
+        let r7 = value_of(&self.0, 7);
+        write!(f, "{r0} {r1} {r2} {r3} {r4} {r5} {r6} {r7}")
+    }
+}
+
+fn yes_or_no(yes: bool) -> &'static str
+    ensures { result.now ≡ yes_or_no yes }
+{
+    if yes { "yes" } else { "no" }
+}
+
+/// Where a process stands, and what it holds.
+#[derive(Clone, Copy)]
+struct PrintedHeld<'a>(&'a Process);
+
+impl fmt::Display for PrintedHeld<'_> {
+    ghost output = { λ s. Some (held_text s.0.now) };
+
+    #[tactic(auto, unfolding(crate::specs::Printed::held_text))]
+    fn fmt<W: fmt::Write>(&self, f: &mut fmt::Formatter<W>) -> fmt::Result {
+        let process = self.0;
+        let place = process.place;
+        let registers = PrintedRegisters(process.registers);
+        let buffer = Literal(process.buffer.as_slice());
+        write!(f, "at {place} regs {registers} buf {buffer}")
+    }
+}
+
+/// What a process has made, its handler, and whether it has ended.
+#[derive(Clone, Copy)]
+struct PrintedMade<'a>(&'a Process);
+
+impl fmt::Display for PrintedMade<'_> {
+    ghost output = { λ s. Some (made_text s.0.now) };
+
+    #[tactic(auto, unfolding(crate::specs::Printed::made_text))]
+    fn fmt<W: fmt::Write>(&self, f: &mut fmt::Formatter<W>) -> fmt::Result {
+        let process = self.0;
+        let children = process.children;
+        let objects = process.objects;
+        let handler = PrintedOption(process.handler);
+        let saved = PrintedOption(process.saved);
+        let ended = yes_or_no(process.ended);
+        write!(
+            f,
+            "kids {children} objs {objects} handler {handler} saved {saved} ended {ended}"
+        )
+    }
+}
+
+/// A process, behind its identifier.
+#[derive(Clone, Copy)]
+pub struct PrintedProcess<'a>(pub &'a Process);
+
+impl fmt::Display for PrintedProcess<'_> {
+    ghost output = { λ s. Some (process_text s.0.now) };
+
+    fn fmt<W: fmt::Write>(&self, f: &mut fmt::Formatter<W>) -> fmt::Result {
+        let held = PrintedHeld(self.0);
+        let made = PrintedMade(self.0);
+        write!(f, "{held} {made}")
+    }
+}
+
+/// A value, behind its entity.
+#[derive(Drop)]
+pub struct PrintedValue<'a>(pub &'a Value);
+
+impl fmt::Display for PrintedValue<'_> {
+    ghost output = { λ s. Some (value_text s.0.now) };
+
+    fn fmt<W: fmt::Write>(&self, f: &mut fmt::Formatter<W>) -> fmt::Result {
+        match self.0 {
+            Value::File(file) => {
+                let size = file.len();
+                let bytes = Literal(file.as_slice());
+                write!(f, "file {size} {bytes}")
+            }
+            Value::Dir(directory) => {
+                let links = PrintedLinks(directory);
+                write!(f, "dir {links}")
+            }
+            Value::Pipe(pipe) => {
+                let state = if pipe.is_shut() { "shut" } else { "open" };
+                let bytes = Literal(pipe.as_slice());
+                write!(f, "pipe {state} {bytes}")
+            }
+            Value::Signals(signals) => write!(f, "{}", PrintedSignals(signals)),
+            Value::Exit(status) => write!(f, "{}", PrintedOption(status.map(u32::from))),
+            Value::Copy(content) => {
+                let version = content.version();
+                let bytes = content.bytes();
+                let bytes = Literal(bytes.as_slice());
+                write!(f, "{version} {bytes}")
+            }
+        }
+    }
+}
+
+/// An entity.
+#[derive(Clone, Copy)]
+pub struct PrintedEntity(pub Entity);
+
+impl fmt::Display for PrintedEntity {
+    ghost output = { λ s. Some (entity_text s.0) };
+
+    fn fmt<W: fmt::Write>(&self, f: &mut fmt::Formatter<W>) -> fmt::Result {
+        match self.0 {
+            Entity::Proc(pid) => write!(f, "proc {}", Printed(pid)),
+            Entity::Sig(pid) => write!(f, "sig {}", Printed(pid)),
+            Entity::Exit(pid) => write!(f, "exit {}", Printed(pid)),
+            Entity::Obj(id) => write!(f, "obj {}", Printed(id)),
+            Entity::Copy(name) => write!(f, "copy {}", Printed(name)),
+        }
+    }
+}

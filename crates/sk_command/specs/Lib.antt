@@ -1,1 +1,3 @@
-pub mod Status
+pub mod CommandLine
+pub mod Ends
+pub mod ReadAll

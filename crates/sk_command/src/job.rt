@@ -1,9 +1,14 @@
 //! What the words of the command line ask for.
-ghost use Rattle.std.specs.Prelude.{IfErr};
+ghost use Rattle.std.specs.Prelude.{◌≡◌, false, [], map, option_map, IfOk, IfErr, OnOk, string_bytes};
+ghost use Rattle.clap.specs.Kinds.{HasKind};
+ghost use Rattle.clap.specs.Simple.{app_of, subcommand_rows_of};
 ghost use Rattle.clap.specs.Values.{kind_of};
-ghost use Rattle.sk_command.specs.Status.{EndsFor, IsOfWords};
+ghost use Rattle.clap.specs.Walk.{rule_of};
+ghost use Rattle.clap.specs.declared.builder.command.Command.TheViews.{out-Command as fields_of};
+ghost use Rattle.sk_command.specs.CommandLine.{command_line, play_command, file_rule, file_found, file_of, faults_of, job_file};
+ghost use Rattle.sk_command.specs.Ends.{EndsFor, EndsWithHelp};
 
-use crate::status::{DONE, TROUBLE, USAGE, flushed};
+use crate::end::End;
 use clap::error::ErrorKind;
 use clap::{Arg, ArgAction, ArgMatches, Command, Error};
 use std::alloc::{AllocError, Global};
@@ -13,6 +18,17 @@ use std::io::Write;
 #[derive(Clone, Copy, Debug, PartialEq, Eq)]
 pub enum Job<'a> {
     Play { file: &'a str },
+}
+
+impl<'a> Job<'a> {
+    /// The name of the input.
+    pub fn file(self) -> &'a str
+        ensures { result.now ≡ job_file self }
+    {
+        match self {
+            Job::Play { file } => file,
+        }
+    }
 }
 
 const PLAY_HELP: &str = "Runs the steps of a scenario and prints each answer, and then the report.";
@@ -34,7 +50,10 @@ INPUT is none, good, fresh V LIT or stale V LIT.
 Status: 0 done; 1 a fault in the file; 2 a fault in the words;
 3 want of memory, or a read or write that failed.";
 
-fn file_arg<'a>(alloc: Global) -> Arg<'a> {
+fn file_arg<'a>(alloc: Global) -> Arg<'a>
+    ensures rule { rule_of result ≡ file_rule }
+    ensures local { result.global ≡ false }
+{
     Arg::new(alloc, "FILE")
         .required(true)
         .action(ArgAction::Set)
@@ -42,14 +61,19 @@ fn file_arg<'a>(alloc: Global) -> Arg<'a> {
         .help("The scenario's file, or - for standard input")
 }
 
-fn play<'a>(alloc: Global) -> Result<Command<'a>, AllocError> {
+fn play<'a>(alloc: Global) -> Result<Command<'a>, AllocError>
+    ensures app { IfOk result (λ command. app_of command ≡ play_command) }
+    ensures local { IfOk result (λ command. (fields_of command).has_globals ≡ false) }
+{
     Command::new(alloc, "play")
         .about(PLAY_HELP)
         .after_help(FORMS)
         .arg(file_arg(alloc))
 }
 
-fn command<'a>(alloc: Global) -> Result<Command<'a>, AllocError> {
+fn command<'a>(alloc: Global) -> Result<Command<'a>, AllocError>
+    ensures { IfOk result (λ command. app_of command ≡ command_line) }
+{
     Command::new(alloc, "speculate")
         .about("A kernel that runs ahead on guesses, and takes back what a wrong one touched.")
         .after_help(FORMS)
@@ -58,51 +82,56 @@ fn command<'a>(alloc: Global) -> Result<Command<'a>, AllocError> {
         .subcommand(play(alloc)?)
 }
 
-fn job_of<'a>(matches: &ArgMatches<'a>) -> Option<Job<'a>> {
+/// The job that a parse found, if there is one.
+fn job_of<'a>(matches: &ArgMatches<'a>) -> Option<Job<'a>>
+    ensures { option_map job_file result ≡ file_found (subcommand_rows_of matches.now) }
+{
     let (_, inner) = matches.subcommand()?;
     let file = inner.get_str("FILE")?;
     Some(Job::Play { file })
 }
 
-/// Reads the program's words, of which the first is its own name. `None` where they name no job.
-fn parse<'a>(alloc: Global, words: &'a [String]) -> Result<Option<Job<'a>>, Error> {
-    let matches = command(alloc)?.try_get_matches_from(words)?;
-    Ok(job_of(&matches))
+/// What the program's words ask for, of which the first is its own name; `None` where they name no file.
+/// Where they are faulty, or want help, the error says so.
+pub fn asked<'a>(alloc: Global, words: &'a [String]) -> Result<Option<Job<'a>>, Error>
+    ensures faultless { OnOk result (faults_of (map string_bytes words.now) ≡ []) }
+    ensures job { IfOk result (λ job. option_map job_file job
+        ≡ file_of (map string_bytes words.now)) }
+    ensures err { IfErr result (HasKind (faults_of (map string_bytes words.now))) }
+{
+    let parser = command(alloc)?;
+    match parser.try_get_matches_from(words) {
+        Ok(matches) => Ok(job_of(&matches)),
+        Err(error) => Err(error),
+    }
 }
 
 /// Writes what the command line's reader has to say: help to the output, a fault to the error writer.
-fn explain<W: Write, E: Write>(error: &Error, out: &mut W, err: &mut E) -> u8
-    ensures told { EndsFor (kind_of error.now) result }
-    ensures words { IsOfWords result }
+pub fn explain<W: Write, E: Write>(alloc: Global, error: &Error, out: &mut W, err: &mut E) -> End
+    ensures { EndsFor (kind_of error.now) result (W.contents out.old) (W.contents out.new) }
 {
     match error.kind() {
-        ErrorKind::OutOfMemory => TROUBLE,
-        ErrorKind::DisplayHelp | ErrorKind::DisplayVersion => {
-            if write!(out, "{error}").is_err() {
-                return TROUBLE;
-            }
-            flushed(out, DONE)
-        }
+        ErrorKind::OutOfMemory => End::Trouble,
+        ErrorKind::DisplayHelp | ErrorKind::DisplayVersion => print_help(alloc, error, out),
         _ => {
             let _ = write!(err, "{error}");
-            USAGE
+            End::Usage
         }
     }
 }
 
-/// What the program's words ask for, of which the first is its own name; or the status with which the
-/// run ends for them, once help is written, or what is wrong with them.
-pub fn asked<'a, W: Write, E: Write>(
-    alloc: Global,
-    words: &'a [String],
-    out: &mut W,
-    err: &mut E,
-) -> Result<Job<'a>, u8>
-    ensures { IfErr result (λ status. IsOfWords status) }
+/// Prints the help.
+fn print_help<W: Write>(alloc: Global, error: &Error, out: &mut W) -> End
+    ensures { EndsWithHelp result (W.contents out.old) (W.contents out.new) }
 {
-    match parse(alloc, words) {
-        Ok(Some(job)) => Ok(job),
-        Ok(None) => Err(USAGE),
-        Err(error) => Err(explain(&error, out, err)),
+    let Ok(help) = format!(in alloc; "{error}") else {
+        return End::Trouble;
+    };
+    let Ok(()) = out.write_all(help.as_bytes()) else {
+        return End::OutputRefused;
+    };
+    match out.flush() {
+        Ok(()) => End::Done,
+        Err(_) => End::OutputRefused,
     }
 }

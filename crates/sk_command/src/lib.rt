@@ -1,7 +1,8 @@
-//! The command line of `speculate`: what its words ask for, the input that they name, and the statuses and messages
-//! of a run.
+//! The command line of `speculate`: what its words ask for, the input that they name, and how a run
+//! ends.
 #![tactic(auto)]
 
-pub mod input;
+pub mod end;
 pub mod job;
-pub mod status;
+pub mod open_input;
+pub mod read_all;

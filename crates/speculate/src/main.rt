@@ -7,9 +7,9 @@ pub mod program;
 mod tests;
 
 use crate::program::run;
-use sk_command::status::{TROUBLE, USAGE};
-use sk_scenario::Open;
-use std::io::{BufWriter, ErrorKind, Read, Write};
+use sk_command::end::End;
+use sk_command::open_input::Open;
+use std::io::{ErrorKind, Read, Write};
 use std::process::ExitCode;
 use std::rt::Files;
 use std::{env, fs, io};
@@ -48,31 +48,33 @@ impl<R: Files + Input> Open for System<'_, R> {
     }
 }
 
-/// The status of words that can't be had.
-fn status_without_words(rt: &HostRuntime, error: &io::Error) -> u8 {
+/// How the run ends where its words can't be had.
+fn end_without_words(rt: &HostRuntime, error: &io::Error) -> End {
     if error.kind() != ErrorKind::InvalidData {
-        return TROUBLE;
+        return End::Trouble;
     }
     let _ = writeln!(rt.stderr(), "error: a word is not UTF-8");
-    USAGE
+    End::Usage
 }
 
-/// Runs the program. What a refused write left over is not written again.
-fn status_of(rt: &HostRuntime, words: &[String]) -> Result<u8, io::Error> {
-    let mut out = BufWriter::new(rt.alloc(), rt.stdout())?;
+fn end_of(rt: &HostRuntime) -> End {
+    let words = match env::args(rt) {
+        Ok(words) => words.collect::<Vec<String>>(rt.alloc()),
+        Err(error) => return end_without_words(rt, &error),
+    };
+    let Ok(words) = words else {
+        return End::Trouble;
+    };
     let system = System { rt };
-    let status = run(rt.alloc(), words, &system, &mut out, &mut rt.stderr());
-    let _left = out.into_parts();
-    Ok(status)
+    run(
+        rt.alloc(),
+        &words,
+        &system,
+        &mut rt.stdout(),
+        &mut rt.stderr(),
+    )
 }
 
 fn main(rt: HostRuntime) -> ExitCode {
-    let words = match env::args(&rt) {
-        Ok(words) => words.collect::<Vec<String>>(rt.alloc()),
-        Err(error) => return ExitCode::from(status_without_words(&rt, &error)),
-    };
-    let Ok(words) = words else {
-        return ExitCode::from(TROUBLE);
-    };
-    ExitCode::from(status_of(&rt, &words).unwrap_or(TROUBLE))
+    ExitCode::from(end_of(&rt).status())
 }

@@ -5,7 +5,7 @@ ghost use Rattle.sk_report.specs.Report.{report_text};
 
 use sk_play::{Session, write_answer};
 use sk_report::{Stop, write_report};
-use sk_scenario::{Declarations, Call};
+use sk_scenario::{Call, Declarations};
 use std::alloc::Global;
 use std::io::Write;
 

@@ -1,18 +1,43 @@
-//! The program, run on inputs and outputs that fail, which a stored run can't have.
+//! The program, run on inputs and outputs that are known or fail, which a stored run can't have.
 
+use crate::playing::play;
 use crate::program::run;
-use sk_command::status::TROUBLE;
-use sk_scenario::Open;
+use sk_command::end::End;
+use sk_command::open_input::Open;
+use sk_command::read_all::{INPUT_LIMIT, READ_LIMIT, ReadFault, read_all};
+use sk_report::Stop;
+use sk_scenario::{Scenario, Section};
 use std::alloc::{AllocError, Global};
 use std::io;
 use std::io::{ErrorKind, Read, Write};
 use std::test::*;
 
-/// What an input gives.
+// ---- inputs
+
+/// An input in memory, whatever its name.
+struct Known<'a> {
+    bytes: &'a [u8],
+}
+
+impl<'a> Open for Known<'a> {
+    ghost use Rattle.std.specs.Prelude.{Some};
+
+    type Reader = &'a [u8];
+
+    ghost bytes_of = { λ inputs _. Some inputs.bytes.now };
+
+    fn open(&self, _name: &str) -> io::Result<&'a [u8]> {
+        Ok(self.bytes)
+    }
+}
+
+/// What a read gives.
 #[derive(Clone, Copy)]
 enum Gives<'a> {
     /// These bytes, one a read.
     Bytes(&'a [u8]),
+    /// An interruption, and then these bytes, one a read.
+    InterruptedThen(&'a [u8]),
     /// These bytes, and then a failure.
     ThenFails(&'a [u8]),
     /// Interruptions without end.
@@ -48,6 +73,10 @@ impl<'a> Read for Source<'a> {
                 self.gives = Gives::Bytes(rest);
                 Ok(1)
             }
+            Gives::InterruptedThen(bytes) => {
+                self.gives = Gives::Bytes(bytes);
+                Err(io::Error::from(ErrorKind::Interrupted))
+            }
             Gives::ThenFails([first, rest @ ..]) => {
                 buf[0] = *first;
                 self.gives = Gives::ThenFails(rest);
@@ -59,6 +88,24 @@ impl<'a> Read for Source<'a> {
         }
     }
 }
+
+/// Blanks, one a read.
+struct Blanks {
+    left: usize,
+}
+
+impl Read for Blanks {
+    fn read(&mut self, buf: &mut [u8]) -> io::Result<usize> {
+        if buf.is_empty() || self.left == 0 {
+            return Ok(0);
+        }
+        buf[0] = b' ';
+        self.left -= 1;
+        Ok(1)
+    }
+}
+
+// ---- outputs
 
 /// Takes so many bytes and refuses the rest; counts the refusals.
 #[derive(Drop)]
@@ -94,27 +141,63 @@ impl Write for Paper {
     }
 }
 
-/// What a run wrote, and its status.
+/// Refuses the first write, and takes all later ones.
+#[derive(Drop)]
+struct RefusesOnce {
+    text: Vec<u8>,
+    refused: bool,
+}
+
+impl Write for RefusesOnce {
+    fn write(&mut self, buf: &[u8]) -> io::Result<usize> {
+        if !self.refused {
+            self.refused = true;
+            return Err(io::Error::from(ErrorKind::Other));
+        }
+        self.text.extend_from_slice(buf)?;
+        Ok(buf.len())
+    }
+
+    fn flush(&mut self) -> io::Result<()> {
+        Ok(())
+    }
+}
+
+// ---- runs
+
+fn words_of(alloc: Global, words: &[&str]) -> Result<Vec<String>, AllocError> {
+    let mut all = vec![in alloc; String::from_str(alloc, "speculate")?]?;
+    for word in words {
+        all.push(String::from_str(alloc, word)?)?;
+    }
+    Ok(all)
+}
+
+/// How a run ended, and what it wrote.
 #[derive(Drop)]
 struct Ran {
-    status: u8,
-    out: Paper,
-    err: Paper,
+    end: End,
+    out: Vec<u8>,
+    err: Vec<u8>,
 }
 
-/// The run of `play -` on an input, with so much room for its output.
-fn played(alloc: Global, gives: Gives, room: usize) -> Result<Ran, AllocError> {
-    let mut words = Vec::new(alloc);
-    for word in ["speculate", "play", "-"] {
-        words.push(String::from_str(alloc, word)?)?;
-    }
-    let mut out = Paper::new(alloc, room);
-    let mut err = Paper::new(alloc, usize::MAX);
-    let status = run(alloc, &words, &gives, &mut out, &mut err);
-    Ok(Ran { status, out, err })
+fn ran<O: Open>(alloc: Global, words: &[&str], inputs: &O) -> Result<Ran, AllocError> {
+    let words = words_of(alloc, words)?;
+    let mut out = Vec::new(alloc);
+    let mut err = Vec::new(alloc);
+    let end = run(alloc, &words, inputs, &mut out, &mut err);
+    Ok(Ran { end, out, err })
 }
 
-const FIRST_GUESS_COMMITS: &[u8] = b"script main
+/// Compares what a run came to with what is wanted.
+fn check(rt: &HostRuntime, ran: &Ran, status: u8, out: &str, err: &str) -> Result<(), Fail> {
+    assert_eq!(rt; str::from_utf8(&ran.err), Ok(err));
+    assert_eq!(rt; str::from_utf8(&ran.out), Ok(out));
+    assert_eq!(rt; ran.end.status(), status);
+    Ok(())
+}
+
+const FIRST_GUESS_COMMITS: &str = "script main
 text \"a\"
 say
 fetch /x
@@ -132,7 +215,7 @@ step 1 none
 commit 1
 ";
 
-const REPORT: &[u8] = b"1 stepped
+const REPORT: &str = "1 stepped
 2 stepped
 3 guess 1
 4 stepped
@@ -149,36 +232,177 @@ copy /x 3 \"old\" tags -
 trace 6 undecided 0
 ";
 
-/// Whether a run told that its input can't be read, and wrote nothing else.
-fn is_unreadable(ran: &Ran) -> bool {
-    ran.status == TROUBLE
-        && ran.out.text.is_empty()
-        && ran.err.text.as_slice() == b"speculate: cannot read -\n".as_slice()
+#[test]
+fn known_inputs(rt: HostRuntime) -> Result<(), Fail> {
+    let alloc = rt.alloc();
+    for (text, status, out, err) in [
+        (FIRST_GUESS_COMMITS, 0, REPORT, ""),
+        ("", 0, "obj 0:1 dir - tags -\ntrace 0 undecided 0\n", ""),
+        ("prosess 1 main 1\n", 1, "", "speculate: line 1: Word\n"),
+        (
+            "# a comment\ncopy /x 3 old\n",
+            1,
+            "",
+            "speculate: line 2: Operand\n",
+        ),
+        (
+            "limit 1\n\nlimit 2\nsteps\n",
+            1,
+            "",
+            "speculate: line 3: Label\n",
+        ),
+        ("world\n", 1, "", "speculate: wrong section\n"),
+    ] {
+        let inputs = Known {
+            bytes: text.as_bytes(),
+        };
+        check(&rt, &ran(alloc, &["play", "-"], &inputs)?, status, out, err)?;
+    }
+    Ok(())
+}
+
+#[test]
+fn too_long_script(rt: HostRuntime) -> Result<(), Fail> {
+    let alloc = rt.alloc();
+    let mut text = String::from_str(alloc, "script main\n")?;
+    for _ in 0..4097 {
+        text.push_str("say\n")?;
+    }
+    text.push_str("end\n")?;
+    let inputs = Known {
+        bytes: text.as_bytes(),
+    };
+    let ran = ran(alloc, &["play", "-"], &inputs)?;
+    check(&rt, &ran, 1, "", "speculate: line 4098: TooLong\n")
+}
+
+const NO_SUBCOMMAND: &str = "error: 'speculate' requires a subcommand but one was not provided
+  [subcommands: play]
+
+Usage: speculate <COMMAND>
+
+For more information, try '--help'.
+";
+
+const NO_FILE: &str = "error: the following required arguments were not provided:
+  <FILE>
+
+Usage: speculate play <FILE>
+
+For more information, try '--help'.
+";
+
+const SECOND_FILE: &str = "error: unexpected argument 'b' found
+
+Usage: speculate play <FILE>
+
+For more information, try '--help'.
+";
+
+#[test]
+fn faulty_words(rt: HostRuntime) -> Result<(), Fail> {
+    let alloc = rt.alloc();
+    let inputs = Known {
+        bytes: FIRST_GUESS_COMMITS.as_bytes(),
+    };
+    check(&rt, &ran(alloc, &[], &inputs)?, 2, "", NO_SUBCOMMAND)?;
+    check(&rt, &ran(alloc, &["play"], &inputs)?, 2, "", NO_FILE)?;
+    check(
+        &rt,
+        &ran(alloc, &["play", "a", "b"], &inputs)?,
+        2,
+        "",
+        SECOND_FILE,
+    )
+}
+
+#[test]
+fn help(rt: HostRuntime) -> Result<(), Fail> {
+    let alloc = rt.alloc();
+    let inputs = Known { bytes: b"" };
+    for words in [["--help"].as_slice(), ["play", "-h"].as_slice()] {
+        let ran = ran(alloc, words, &inputs)?;
+        assert!(rt;
+            ran.out.starts_with(b"A kernel that runs") || ran.out.starts_with(b"Runs the steps")
+        );
+        assert_eq!(rt; str::from_utf8(&ran.err), Ok(""));
+        assert_eq!(rt; ran.end.status(), 0);
+    }
+    Ok(())
 }
 
 #[test]
 fn inputs_that_cannot_be_read(rt: HostRuntime) -> Result<(), Fail> {
     let alloc = rt.alloc();
     for gives in [Gives::ThenFails(b"steps\n"), Gives::Interruptions] {
-        assert!(rt; is_unreadable(&played(alloc, gives, usize::MAX)?));
+        let ran = ran(alloc, &["play", "-"], &gives)?;
+        check(&rt, &ran, 3, "", "speculate: cannot read -\n")?;
+    }
+    let ran = ran(alloc, &["play", "gone"], &Gives::Bytes(b""))?;
+    check(&rt, &ran, 3, "", "speculate: cannot read gone\n")
+}
+
+#[test]
+fn a_read_is_tried_again(rt: HostRuntime) -> Result<(), Fail> {
+    let gives = Gives::InterruptedThen(FIRST_GUESS_COMMITS.as_bytes());
+    check(
+        &rt,
+        &ran(rt.alloc(), &["play", "-"], &gives)?,
+        0,
+        REPORT,
+        "",
+    )
+}
+
+#[test]
+fn as_many_reads_as_there_may_be(rt: HostRuntime) -> Result<(), Fail> {
+    let alloc = rt.alloc();
+    assert_eq!(rt; INPUT_LIMIT, 67_108_864);
+    assert_eq!(rt; READ_LIMIT, 67_108_865);
+    let longest = read_all(alloc, &mut Blanks { left: 67_108_864 });
+    assert_eq!(rt; longest.map(|text| text.len()), Ok(67_108_864));
+    let longer = read_all(alloc, &mut Blanks { left: 67_108_865 });
+    assert_eq!(rt; longer.map(|text| text.len()), Err(ReadFault::TooLong));
+    Ok(())
+}
+
+// ---- refused writes
+
+#[test]
+fn every_refused_write_ends_the_run(rt: HostRuntime) -> Result<(), Fail> {
+    let alloc = rt.alloc();
+    let Ok(scenario) = Scenario::parse(alloc, FIRST_GUESS_COMMITS.as_bytes()) else {
+        return Err(Fail);
+    };
+    let Section::Steps(steps) = &scenario.section else {
+        return Err(Fail);
+    };
+    for room in 0..REPORT.len() {
+        let mut out = Paper::new(alloc, room);
+        let played = play(alloc, &scenario.declarations, steps.as_slice(), &mut out);
+        assert_eq!(rt; played, Err(Stop::Output), "room {room}");
+        assert_eq!(rt; out.refused, 1, "room {room}");
+        assert!(rt; REPORT.as_bytes().starts_with(&out.text));
     }
     Ok(())
 }
 
-/// Whether a run ended at its first refused write, of which it said nothing.
-fn stops_at_once(ran: &Ran) -> bool {
-    ran.status == TROUBLE
-        && ran.out.refused == 1
-        && REPORT.starts_with(&ran.out.text)
-        && ran.err.text.is_empty()
-}
-
 #[test]
-fn refused_writes(rt: HostRuntime) -> Result<(), Fail> {
+fn nothing_is_written_after_a_refusal(rt: HostRuntime) -> Result<(), Fail> {
     let alloc = rt.alloc();
-    for room in 0..REPORT.len() {
-        let ran = played(alloc, Gives::Bytes(FIRST_GUESS_COMMITS), room)?;
-        assert!(rt; stops_at_once(&ran));
+    let inputs = Known {
+        bytes: FIRST_GUESS_COMMITS.as_bytes(),
+    };
+    for words in [["play", "-"].as_slice(), ["--help"].as_slice()] {
+        let mut out = RefusesOnce {
+            text: Vec::new(alloc),
+            refused: false,
+        };
+        let mut err = Vec::new(alloc);
+        let end = run(alloc, &words_of(alloc, words)?, &inputs, &mut out, &mut err);
+        assert_eq!(rt; end, End::OutputRefused);
+        assert_eq!(rt; str::from_utf8(&out.text), Ok(""));
+        assert_eq!(rt; str::from_utf8(&err), Ok(""));
     }
     Ok(())
 }

@@ -1,0 +1,49 @@
+-- How a run ends, and what its output holds then.
+use Rattle.std.specs.Prelude.{◌≡◌, ℕ, List, [], ⊤, Option}
+use Rattle.std.specs.Io.KnownBytes.{Appends, Keeps}
+use Rattle.clap.specs.declared.error.kind.ErrorKind.{ErrorKind}
+use Rattle.clap.specs.declared.error.kind.ErrorKind.TheVariants.{DisplayHelp, DisplayVersion, OutOfMemory}
+use Rattle.sk_words.specs.declared.fault.FaultKind.{FaultKind}
+use Rattle.sk_words.specs.declared.fault.FaultKind.TheVariants.{Word, Operand, Label, TooLong, Memory}
+use Rattle.sk_command.specs.declared.end.End.{End}
+use Rattle.sk_command.specs.declared.end.End.TheVariants as ends
+
+-- the status of the program
+abbrev pub status_of : End → ℕ
+status_of ends.Done = 0
+status_of ends.Fault = 1
+status_of ends.Usage = 2
+status_of ends.Trouble = 3
+status_of ends.OutputRefused = 3
+
+-- how a run ends that finds a fault in its file
+abbrev pub fault_end : FaultKind → End
+fault_end Word = ends.Fault
+fault_end Operand = ends.Fault
+fault_end Label = ends.Fault
+fault_end TooLong = ends.Fault
+fault_end Memory = ends.Trouble
+
+-- this end with nothing left in the buffer, unless the output refused a write
+abbrev pub IsFlushed : End → End → List ℕ → Type 0
+IsFlushed end ends.OutputRefused buffer = ⊤
+IsFlushed end result buffer = (result ≡ end) × (buffer ≡ [])
+
+-- ends so, and the output is as it was
+abbrev pub EndsUnwritten : End → End → Option (List ℕ) → Option (List ℕ) → Type 0
+EndsUnwritten wanted end old new = (end ≡ wanted) × Keeps old new
+
+-- ends with the help on the output, unless memory ran out or a write was refused
+abbrev pub EndsWithHelp : End → Option (List ℕ) → Option (List ℕ) → Type 0
+EndsWithHelp ends.Done old new = (help : List ℕ) × Appends old new help
+EndsWithHelp ends.Fault old new = ⊥
+EndsWithHelp ends.Usage old new = ⊥
+EndsWithHelp ends.Trouble old new = Keeps old new
+EndsWithHelp ends.OutputRefused old new = ⊤
+
+-- ends as the reader of the command line has it: help was asked for, memory ran out, or the words are faulty
+abbrev pub EndsFor : ErrorKind → End → Option (List ℕ) → Option (List ℕ) → Type 0
+EndsFor DisplayHelp end old new = EndsWithHelp end old new
+EndsFor DisplayVersion end old new = EndsWithHelp end old new
+EndsFor OutOfMemory end old new = EndsUnwritten ends.Trouble end old new
+EndsFor kind end old new = EndsUnwritten ends.Usage end old new

@@ -1,0 +1,78 @@
+//! How a run ends, and the messages that go with it.
+ghost use Rattle.std.specs.Prelude.{◌≡◌};
+ghost use Rattle.std.specs.Io.KnownBytes.{Keeps};
+ghost use Rattle.std.specs.Io.Buffered.{writer_buffer, writer_contents};
+ghost use Rattle.sk_command.specs.Ends.{status_of, fault_end, IsFlushed};
+
+use crate::read_all::ReadFault;
+use sk_words::{Fault, FaultKind};
+use std::io::{BufWriter, Write};
+
+/// How a run ends.
+#[derive(Clone, Copy, Debug, PartialEq, Eq)]
+pub enum End {
+    /// The job is done, or the help is printed.
+    Done,
+    /// The file has a fault.
+    Fault,
+    /// The words have a fault.
+    Usage,
+    /// Want of memory, or an input that can't be read.
+    Trouble,
+    /// The output refused a write; nothing more is written to it.
+    OutputRefused,
+}
+
+impl End {
+    /// The status of the program.
+    pub fn status(self) -> u8
+        ensures { result ≡ status_of self }
+    {
+        match self {
+            End::Done => 0,
+            End::Fault => 1,
+            End::Usage => 2,
+            End::Trouble | End::OutputRefused => 3,
+        }
+    }
+}
+
+/// This end, once all output is written; `OutputRefused` where that is refused.
+pub fn flushed<W: Write + Drop>(out: &mut BufWriter<W>, end: End) -> End
+    ensures end { IsFlushed end result (writer_buffer out.new) }
+    ensures kept { Keeps (writer_contents W.contents out.old) (writer_contents W.contents out.new) }
+{
+    match out.flush() {
+        Ok(()) => end,
+        Err(_) => End::OutputRefused,
+    }
+}
+
+/// Tells a fault of the file.
+pub fn tell_fault<E: Write>(fault: &Fault, err: &mut E) -> End
+    ensures { result ≡ fault_end fault.now.kind }
+{
+    let _ = writeln!(err, "speculate: {fault}");
+    match fault.kind {
+        FaultKind::Memory => End::Trouble,
+        _ => End::Fault,
+    }
+}
+
+/// Tells that a section is not what the command takes.
+pub fn tell_wrong_section<E: Write>(err: &mut E) -> End
+    ensures { result ≡ End.Fault }
+{
+    let _ = writeln!(err, "speculate: wrong section");
+    End::Fault
+}
+
+/// Tells that an input can't be read; of want of memory nothing is told.
+pub fn tell_unread<E: Write>(fault: ReadFault, file: &str, err: &mut E) -> End
+    ensures { result ≡ End.Trouble }
+{
+    if fault != ReadFault::Memory {
+        let _ = writeln!(err, "speculate: cannot read {file}");
+    }
+    End::Trouble
+}

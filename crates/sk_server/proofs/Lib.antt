@@ -1,0 +1,3 @@
+mod Ordered
+mod Remembered
+mod Judged

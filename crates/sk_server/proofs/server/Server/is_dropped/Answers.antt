@@ -1,0 +1,19 @@
+-- The request rests on one of those that are remembered, where it can and does rest on one of all.
+use Rattle.std.proofs.Common.{◌≡◌, ℕ, nat_le, ◌&&◌, ap, sym, ◌∙◌, rules, tests}
+use Rattle.std.specs.List.{list_any}
+use Rattle.std.proofs.lemmas.Iterator.{YieldsList-from_slice}
+use Rattle.std.proofs.lemmas.Iterator.Search.{any_from_yields_List}
+use Rattle.sk_ids.specs.Tags.{has}
+use Rattle.sk_server.specs.Server.{is_dropped, remembered}
+use Rattle.sk_server.proofs.Remembered.{any_left}
+use Rattle.sk_server.proofs.server.Server.is_dropped.Goals as goal
+
+pub returns : goal.returns
+returns c =
+    let q = c.args.request.now in
+    let found : c.any.result ≡ list_any (λ (g : ℕ). nat_le q.settled g && has g q.rests) c.self.inside.refused.items =
+        any_from_yields_List (λ (g : ℕ). nat_le q.settled g && has g q.rests) _ _ c.any.result c.any.ensures.ran
+        (YieldsList-from_slice c.self.inside.refused.items cc) (λ x b f k. search (rules, tests)) in
+    found
+    ∙ sym (any_left (λ (g : ℕ). nat_le q.settled g) (λ g. has g q.rests) c.self.inside.refused.items)
+    ∙ ap (λ s. is_dropped q (remembered q s.refused)) c.self.view_is

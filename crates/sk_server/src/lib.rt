@@ -1,0 +1,11 @@
+//! The server of remote files: it answers requests in order, and drops what rests on a guess that it refused.
+#![tactic(auto)]
+
+mod files;
+pub mod reply;
+pub mod request;
+pub mod server;
+
+pub use reply::{Answer, Reply};
+pub use request::{Ask, Request};
+pub use server::{EditRefusal, LAST_REQUEST, Server, ServerRefusal};

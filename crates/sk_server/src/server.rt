@@ -1,0 +1,245 @@
+//! The server of remote files.
+ghost use Rattle.std.specs.Prelude.{◌≡◌, ◌<◌, ◌++◌, nat_le, IfOk, OnOk, OnErr, is_some, true, vec_len, vec_capacity};
+ghost use Rattle.std.specs.Option.{option_copied};
+ghost use Rattle.std.specs.List.Sorted.{IsStrictlySortedBy};
+ghost use Rattle.std.specs.FinMap as map;
+ghost use Rattle.sk_server.specs.Files.{name_order};
+ghost use Rattle.sk_server.specs.Server.{new_server, is_in_turn, remembered, is_dropped, judged, answer_to, answered, refused_by, listed, adds};
+ghost use Rattle.sk_server.specs.Calls.{Answers, Edits};
+
+use crate::files::Files;
+use crate::{Answer, Ask, Reply, Request};
+use sk_ids::{GuessId, Name, Text};
+use sk_objects::Content;
+use std::alloc::{AllocError, Global};
+use std::marker::Model;
+use thiserror::Error;
+
+/// The greatest number of a request, 2^63 - 1.
+pub const LAST_REQUEST: u64 = (1 << 63) - 1;
+
+/// Why a request was not answered, in the order in which the causes are tried.
+#[derive(Clone, Copy, Debug, PartialEq, Eq, Error)]
+pub enum ServerRefusal {
+    #[error("request {expected} is next")]
+    OutOfTurn { expected: u64 },
+    #[error("out of memory")]
+    Memory,
+}
+
+/// Why a file was not edited, in the order in which the causes are tried.
+#[derive(Clone, Copy, Debug, PartialEq, Eq, Error)]
+pub enum EditRefusal {
+    /// The version that the file has.
+    #[error("the file has version {0}")]
+    Version(u64),
+    #[error("out of memory")]
+    Memory,
+}
+
+/// A server of files. It answers requests by rising number, and remembers the guesses that it
+/// refused as long as a request can rest on them.
+#[derive(Drop)]
+pub struct Server {
+    files: Files,
+    next: u64,
+    refused: Vec<GuessId>,
+}
+
+impl Model for Server {
+    ghost use Rattle.sk_server.specs.Server.{ServerView, server_code};
+
+    ghost Value = { ServerView };
+
+    ghost coded = { server_code };
+
+    ghost view = { λ a. record { files = a.files; next = a.next; refused = a.refused.items } };
+}
+
+impl Server {
+    /// A server without files, whose first request has number 1. This takes no memory.
+    pub fn new(alloc: Global) -> Server
+        ensures { result ≡ new_server }
+    {
+        Server {
+            files: Files::new(alloc),
+            next: 1,
+            refused: Vec::new(alloc),
+        }
+    }
+
+    /// The file of a name; `None` where it was never stored. This takes no memory.
+    pub fn file(&self, name: &Name) -> Option<&Content>
+        ensures { option_copied result ≡ map.get self.now.files name.now }
+    {
+        self.files.get(name)
+    }
+
+    /// The names of the files that were stored, by rising bytes, each once.
+    pub fn names(&self) -> Result<Vec<Name>, AllocError>
+        ensures names { IfOk result (λ all. all.items ≡ map.keys self.now.files) }
+        ensures rising { IfOk result (λ all. IsStrictlySortedBy name_order all.items) }
+    {
+        self.files.names()
+    }
+
+    /// The number of the next request.
+    pub fn next(&self) -> u64
+        ensures { result ≡ self.now.next }
+    {
+        self.next
+    }
+
+    /// Sets a file before the first request. Without memory everything is as it was.
+    pub fn seed(&mut self, name: Name, content: Content) -> Result<(), AllocError>
+        requires { self.old.next ≡ 1 }
+        ensures ok { OnOk result (self.new ≡ record self.old { files = map.insert self.old.files name content }) }
+        ensures err { OnErr result (self.new ≡ self.old) }
+        ensures absent { OnErr result (map.get self.old.files name ≡ None) }
+    {
+        self.files.put(name, content)
+    }
+
+    /// Answers the next request, or hands it back. Refusals: `OutOfTurn` where another number is next
+    /// or the number is above 2^63 - 1; `Memory` where there is no room for a new file or for a
+    /// refused guess. After a refusal everything is as it was.
+    pub fn answer(&mut self, request: Request) -> Result<Reply, (Request, ServerRefusal)>
+        ensures { Answers self.old request result self.new }
+    {
+        if !self.is_in_turn(&request) {
+            let expected = self.next;
+            return Err((request, ServerRefusal::OutOfTurn { expected }));
+        }
+        let reply = Reply {
+            number: request.number,
+            answer: self.answer_to(&request),
+        };
+        match self.take(&request, &reply.answer) {
+            Ok(()) => Ok(reply),
+            Err(_) => Err((request, ServerRefusal::Memory)),
+        }
+    }
+
+    /// Writes a file as another client does, and answers its new version. Refusals: `Version` where
+    /// the file has another version than is expected, or the last one; `Memory` where there is no room
+    /// for a new file. After a refusal everything is as it was.
+    pub fn edit(&mut self, name: Name, expected: u64, bytes: Text) -> Result<u64, EditRefusal>
+        ensures { Edits self.old name expected bytes result self.new }
+    {
+        if !self.files.is_fitting(&name, expected) {
+            let actual = self.files.content(&name).version();
+            return Err(EditRefusal::Version(actual));
+        }
+        match self.files.write(name, expected, bytes) {
+            Ok(()) => Ok(expected + 1),
+            Err(_) => Err(EditRefusal::Memory),
+        }
+    }
+
+    fn is_in_turn(&self, request: &Request) -> bool
+        ensures { result ≡ is_in_turn self.now request.now }
+    {
+        request.number == self.next && request.number <= LAST_REQUEST
+    }
+
+    /// Whether a request rests on a guess that was refused and that it can still rest on.
+    fn is_dropped(&self, request: &Request) -> bool
+        ensures { result ≡ is_dropped request.now (remembered request.now self.now.refused) }
+    {
+        self.refused
+            .iter()
+            .any(|guess| is_open(*guess, request.settled) && request.rests.contains(*guess))
+    }
+
+    /// The answer where nothing refused is rested on.
+    fn judge(&self, ask: &Ask) -> Answer
+        ensures { result ≡ judged self.now.files ask.now }
+    {
+        match ask {
+            Ask::Get(name) => Answer::Copy(self.files.content(name)),
+            Ask::Check(name, version) => {
+                let content = self.files.content(name);
+                if content.version() == *version {
+                    return Answer::Yes;
+                }
+                Answer::No(content)
+            }
+            Ask::Store(name, expected, _) => {
+                if self.files.is_fitting(name, *expected) {
+                    return Answer::Yes;
+                }
+                Answer::No(self.files.content(name))
+            }
+        }
+    }
+
+    fn answer_to(&self, request: &Request) -> Answer
+        ensures { result ≡ answer_to self.now request.now }
+    {
+        if self.is_dropped(request) {
+            return Answer::Dropped;
+        }
+        self.judge(&request.ask)
+    }
+
+    /// Does what the answer to a request says. Without memory everything is as it was.
+    #[tactic(auto, using(crate::proofs::Judged::takes))]
+    fn take(&mut self, request: &Request, answer: &Answer) -> Result<(), AllocError>
+        requires turn { is_in_turn self.old request.now ≡ true }
+        requires answer { answer.now ≡ answer_to self.old request.now }
+        ensures ok { OnOk result (self.new ≡ answered self.old request.now answer.now) }
+        ensures err { OnErr result (self.new ≡ self.old) }
+        ensures added { OnErr result (adds self.old request.now answer.now ≡ true) }
+    {
+        make_room(&mut self.refused, request, answer)?;
+        self.files.take(&request.ask, answer)?;
+        remember(&mut self.refused, request, answer);
+        self.next += 1;
+        Ok(())
+    }
+}
+
+/// Whether a guess is not below the first that may be undecided.
+fn is_open(guess: GuessId, settled: GuessId) -> bool
+    ensures { result ≡ nat_le settled guess }
+{
+    settled.number() <= guess.number()
+}
+
+/// The guess that an answer refuses.
+fn refused_by(guess: Option<GuessId>, answer: &Answer) -> Option<GuessId>
+    ensures { result ≡ refused_by guess answer.now }
+{
+    match answer {
+        Answer::No(_) | Answer::Dropped => guess,
+        Answer::Yes | Answer::Copy(_) => None,
+    }
+}
+
+/// Makes room for the guess that the answer refuses, if there is one.
+fn make_room(
+    refused: &mut Vec<GuessId>,
+    request: &Request,
+    answer: &Answer,
+) -> Result<(), AllocError>
+    ensures items { refused.new.items ≡ refused.old.items }
+    ensures room { OnOk result (is_some (refused_by request.now.guess answer.now) ≡ true → vec_len refused.new < vec_capacity refused.new) }
+    ensures wanted { OnErr result (is_some (refused_by request.now.guess answer.now) ≡ true) }
+{
+    if refused_by(request.guess, answer).is_some() {
+        refused.reserve(1)?;
+    }
+    Ok(())
+}
+
+/// Forgets the refused guesses on which no request can rest from this one on, and remembers the guess
+/// that the answer refuses, for which there is room.
+fn remember(refused: &mut Vec<GuessId>, request: &Request, answer: &Answer)
+    requires { is_some (refused_by request.now.guess answer.now) ≡ true → vec_len refused.old < vec_capacity refused.old }
+    ensures { refused.new.items ≡ remembered request.now refused.old.items ++ listed (refused_by request.now.guess answer.now) }
+{
+    refused.retain(|guess| is_open(*guess, request.settled));
+    if let Some(guess) = refused_by(request.guess, answer) {
+        refused.push_reserved(guess);
+    }
+}

@@ -1,0 +1,13 @@
+pub mod Each
+pub mod TraceFacts
+pub mod Invariant
+pub mod Records
+pub mod Queues
+pub mod KernelEvents
+pub mod RequestEvents
+pub mod Worlds
+pub mod First
+pub mod PlaceFacts
+pub mod RequestFacts
+pub mod Labels
+pub mod Example

@@ -1,0 +1,199 @@
+-- What the instruction table has to say, what holds where a world begins, and the laws.
+use Rattle.std.specs.Prelude.{length, ◌≡◌, ℕ, zero, suc, ◌≤◌, ◌<◌, true, List, [], ◌∷◌, ◌++◌, map, Option, Some, None, Result, Ok, ◌⊎◌, slice_get}
+use Rattle.std.specs.List.{Contains}
+use Rattle.std.specs.Cmp.{IsTotalOrder}
+use Rattle.std.specs.FinMap.{FinMap, get, IsAntisymmetric}
+use Rattle.sk_record.specs.Step.{Effect}
+use Rattle.sk_record.specs.Effects.{MarkedEffect}
+use Rattle.sk_record.specs.Run.{System, outcome, run, effects, IsLegal}
+use Rattle.sk_record.specs.Trace.{Event, Commit, IsDrawn, IsSound, record_of}
+use Rattle.sk_world.specs.Requests.{Content, Input, Nothing, Good, Fresh, Stale, Ask, Get, Check, Store, Answer, Yes, Request, Cause, Before, For, Entry, Served, name_of}
+use Rattle.sk_world.specs.Server.{Change, all_changed, AllFit, accepted}
+use Rattle.sk_world.specs.World.{Written, Next, Due, Fetches, Stores, Table, World, WorldEvent, kernel, own, state, undecided, pending, served, places, world_after, or_zero}
+
+-- parts of two lists, side by side
+abbrev pub paired : {A B : Type 0} → List A → List B → List (A × B)
+paired [] ys = []
+paired (x ∷ xs) [] = []
+paired (x ∷ xs) (y ∷ ys) = (x, y) ∷ paired xs ys
+
+-- a request with the change that it is the store of
+abbrev pub StoreOf : Type 0 → Type 0 → Type 0 → Type 0
+StoreOf P M D = Request P M D × Change M D
+
+abbrev pub store_if : {P M D : Type 0} → Change M D → Option (Request P M D) → List (StoreOf P M D) → List (StoreOf P M D)
+store_if c None rest = rest
+store_if c (Some q) rest = (q, c) ∷ rest
+
+module _ {P M D : Type 0} where
+  -- the stores among the changes
+  abbrev pub stores_of : List (Written P M D) → List (StoreOf P M D)
+  stores_of [] = []
+  stores_of (x ∷ xs) = store_if x.0 x.1 (stores_of xs)
+
+  -- the stores that the answers accept
+  abbrev pub accepted_of : List (Served P M D) → List (StoreOf P M D)
+  accepted_of [] = []
+  accepted_of (x ∷ xs) = map (λ c. (x.0, c)) (accepted x.0.ask x.1) ++ accepted_of xs
+
+-- a request's step is due: from its guess on, or from its reply on where it was asked
+abbrev pub IsDueStep : {P M D : Type 0} → World P M D → Request P M D → Type 0
+IsDueStep w q = ((g : ℕ) × (q.guess ≡ Some g)) ⊎ Contains w.given (q, Yes)
+
+module _ {E V W F P M D : Type 0} (S : Table E V W F P M D) where
+  -- what a fetch or store with Good writes: a store sets the copy
+  abbrev pub Sets : Ask M D → Input D → List (E × Option V) → Type 0
+  Sets (Store m v b) Good ws = Contains ws (S.copy m, Some (S.content (suc v, b)))
+  Sets ask x ws = Unit {0}
+
+  -- an entity is the process or the copy
+  abbrev pub IsEither : P → M → E → Type 0
+  IsEither p m e = (e ≡ S.proc p) ⊎ (e ≡ S.copy m)
+
+  -- the step of a fetch or store with an input: it is accepted, and touches its process and its copy alone
+  pub record Takes (s : FinMap S.order V) (p : P) (ask : Ask M D) (x : Input D) : Type 0 where
+    pub effect : Effect E V W
+    pub accepted : outcome (kernel S) s (own p x) ≡ Ok effect
+    pub reads : (e : E) → Contains (map (λ r. r.0) effect.read) e → IsEither p (name_of ask) e
+    pub writes : (e : E) → Contains (map (λ w. w.0) effect.written) e → IsEither p (name_of ask) e
+    pub sets : Sets ask x effect.written
+
+  module _ (start : FinMap S.order V) where
+    -- the instruction table, as far as the laws need it
+    pub record IsTable : Type 0 where
+      pub a_process : P
+      pub a_name : M
+      pub total : IsTotalOrder S.order
+      pub exact : IsAntisymmetric S.order
+      pub same_process : (p : P) → S.same_process p p ≡ true
+      pub same_name : (m : M) → S.same_name m m ≡ true
+      pub apart : (p : P) (m : M) → S.proc p ≡ S.copy m → ⊥
+      pub processes : (p q : P) → S.proc p ≡ S.proc q → p ≡ q
+      pub copies : (m n : M) → S.copy m ≡ S.copy n → m ≡ n
+      -- a process is written by its own steps, or at its birth: said of the states that legal records lead to
+      pub own_process :
+          (ns : List (Entry P M D)) (p q : P) (x : Input D) (f : Effect E V W) → IsLegal (kernel S) start ns
+          → outcome (kernel S) (run (kernel S) start ns) (own q x) ≡ Ok f
+          → Contains (map (λ w. w.0) f.written) (S.proc p)
+          → (q ≡ p) ⊎ (get (run (kernel S) start ns) (S.proc p) ≡ None)
+      -- a copy is written by fetches and stores of its name; where a signal is due, this is said of steps without input alone
+      pub own_copy :
+          (s : FinMap S.order V) (m : M) (q : P) (x : Input D) (f : Effect E V W)
+          → (S.next s q ≡ Due → x ≡ Nothing) → outcome (kernel S) s (own q x) ≡ Ok f
+          → Contains (map (λ w. w.0) f.written) (S.copy m)
+          → (S.next s q ≡ Fetches m) ⊎ ((b : D) × (S.next s q ≡ Stores m b))
+      -- a process that has a fetch or a store next is there
+      pub fetch_there :
+          (s : FinMap S.order V) (p : P) (m : M) → S.next s p ≡ Fetches m → get s (S.proc p) ≡ None → ⊥
+      pub store_there :
+          (s : FinMap S.order V) (p : P) (m : M) (b : D) → S.next s p ≡ Stores m b → get s (S.proc p) ≡ None → ⊥
+      -- a fetch takes a fresh copy, and the cached one; a store sets the copy, or takes the server's
+      pub fetch_fresh :
+          (s : FinMap S.order V) (p : P) (m : M) (c : Content D) → S.next s p ≡ Fetches m
+          → Takes s p (Get m) (Fresh c)
+      pub fetch_good :
+          (s : FinMap S.order V) (p : P) (m : M) (v : ℕ) → S.next s p ≡ Fetches m → S.cached s m ≡ Some v
+          → Takes s p (Check m v) Good
+      pub store_good :
+          (s : FinMap S.order V) (p : P) (m : M) (b : D) (v : ℕ) → S.next s p ≡ Stores m b
+          → or_zero (S.cached s m) ≡ v → v < S.last → Takes s p (Store m v b) Good
+      pub store_stale :
+          (s : FinMap S.order V) (p : P) (m : M) (b : D) (v : ℕ) (c : Content D) → S.next s p ≡ Stores m b
+          → Takes s p (Store m v b) (Stale c)
+
+    -- where a world begins: the kernel's trace is sound and nothing is undecided, no request was made, nothing was answered
+    pub record IsFirst (w : World P M D) : Type 0 where
+      pub sound : IsSound (kernel S) start w.trace
+      pub drawn : (g : ℕ) → IsDrawn (kernel S) w.trace g → g ≤ w.drawn
+      pub decided : undecided S start w.trace ≡ []
+      pub before : (n : Entry P M D) → Contains (record_of (kernel S) start w.trace) n → n.cause ≡ Before
+      pub waiting : w.waiting ≡ []
+      pub taken : w.taken ≡ []
+      pub given : w.given ≡ []
+      pub refused : w.server.refused ≡ []
+      pub changes : w.changes ≡ []
+      pub kept : (p : P) → w.kept p ≡ None
+      pub room : length w.trace ≤ S.limit
+
+    -- the entries of the record, each with what its step did
+    abbrev pub record_now : World P M D → List (Entry P M D × MarkedEffect E V W)
+    record_now w =
+        let entries = record_of (kernel S) start w.trace in
+        paired entries (effects (kernel S) start entries)
+
+    -- a step of the record that was taken for this request, with Good, and sets what the request says
+    pub record Stands (w : World P M D) (q : Request P M D) : Type 0 where
+      pub entry : Entry P M D
+      pub marked_effect : MarkedEffect E V W
+      pub there : Contains (record_now w) (entry, marked_effect)
+      pub cause : entry.cause ≡ For q
+      pub input : entry.input ≡ Good
+      pub sets : Sets q.ask Good marked_effect.written
+
+    -- the step of each store that the server accepted stands in the record, from when it is due on, after every
+    -- longer list of events
+    abbrev pub AcceptedStand : Type 0
+    AcceptedStand =
+        (first : World P M D) → IsFirst first → (es later : List (WorldEvent P M D))
+        → let w = world_after S start first es in
+        (q : Request P M D) (m : M) (v : ℕ) (b : D) → Contains (served w) (q, Yes) → q.ask ≡ Store m v b
+        → IsDueStep w q → Stands (world_after S start w later) q
+
+    -- and it stood there since the guess, where it was made with one
+    abbrev pub AcceptedStood : Type 0
+    AcceptedStood =
+        (first : World P M D) → IsFirst first → (es later : List (WorldEvent P M D))
+        → let w = world_after S start first es in
+        (q : Request P M D) (m : M) (v : ℕ) (b : D) (g : ℕ) → Contains (map (λ x. x.0) (served w) ++ w.waiting) q
+        → Contains (served (world_after S start w later)) (q, Yes) → q.ask ≡ Store m v b → q.guess ≡ Some g
+        → Stands w q
+
+    -- the server's files are the plain server's after the foreign edits and just the stores that it accepted, in its
+    -- order; each fits where it comes
+    pub record AreFiles (first w : World P M D) : Type 0 where
+      pub files : w.server.files ≡ all_changed S.same_name S.last first.server.files (map (λ c. c.0) w.changes)
+      pub fit : AllFit S.same_name S.last first.server.files (map (λ c. c.0) w.changes)
+      pub stores : stores_of w.changes ≡ accepted_of (served w)
+
+    abbrev pub FilesAreChanged : Type 0
+    FilesAreChanged =
+        (first : World P M D) → IsFirst first → (es : List (WorldEvent P M D))
+        → AreFiles first (world_after S start first es)
+
+    -- the trace keeps its limit, with a place for the decision of each undecided guess and for the step of each
+    -- request that was asked
+    abbrev pub PlacesAreKept : Type 0
+    PlacesAreKept =
+        (first : World P M D) → IsFirst first → (es : List (WorldEvent P M D))
+        → let w = world_after S start first es in
+        places S start w.trace (pending w) ≤ S.limit
+
+    -- steps with Good that count: they were asked, or their guess committed
+    abbrev pub Counts : World P M D → Entry P M D → Type 0
+    Counts w n = (n.guess ≡ None) ⊎ ((g : ℕ) × (n.guess ≡ Some g) × Contains w.trace (Commit g))
+
+    -- the steps that count since the world began and the accepted requests whose reply was given, one for one
+    pub record AreReplied (w : World P M D) : Type 0 where
+      -- each such step is one request's, which was accepted and has its reply
+      pub steps :
+          (n : Entry P M D) → Contains (record_of (kernel S) start w.trace) n → n.input ≡ Good → Counts w n
+          → (n.cause ≡ Before) ⊎ ((q : Request P M D) × (n.cause ≡ For q) × Contains w.given (q, Yes))
+      -- each accepted store that has its reply has such a step
+      pub replies :
+          (q : Request P M D) (m : M) (v : ℕ) (b : D) → Contains w.given (q, Yes) → q.ask ≡ Store m v b
+          → (s : Stands w q) × Counts w s.entry
+      -- no two steps are one request's
+      pub step_once :
+          (i j : ℕ) (n o : Entry P M D) (q r : Request P M D)
+          → slice_get (record_of (kernel S) start w.trace) i ≡ Some n
+          → slice_get (record_of (kernel S) start w.trace) j ≡ Some o
+          → n.cause ≡ For q → o.cause ≡ For r → q.number ≡ r.number → i ≡ j
+      -- and no request has two replies
+      pub reply_once :
+          (i j : ℕ) (x y : Served P M D) → slice_get w.given i ≡ Some x → slice_get w.given j ≡ Some y
+          → x.0.number ≡ y.0.number → i ≡ j
+
+    abbrev pub StoresAreReplied : Type 0
+    StoresAreReplied =
+        (first : World P M D) → IsFirst first → (es : List (WorldEvent P M D))
+        → AreReplied (world_after S start first es)

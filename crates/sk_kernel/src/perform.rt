@@ -33,7 +33,10 @@ pub fn perform(
     };
     let process = &plan.process;
     let back = journal.write(Entity::Proc(pid), EntityState::Process(*process))?;
-    if terminals.say(process.terminal, process.buffer, tags).is_err() {
+    if terminals
+        .say(process.terminal, process.buffer, tags)
+        .is_err()
+    {
         journal.take_back(back);
         return Err(AllocError);
     }

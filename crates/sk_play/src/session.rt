@@ -5,14 +5,14 @@ ghost use Rattle.sk_play.specs.Session.{all_taken, is_held, id_at, outcome_told,
 ghost use Rattle.sk_play.specs.Plays.{declared_kernel};
 ghost use Rattle.sk_guesses.specs.Guesses.{next_of};
 ghost use Rattle.sk_kernel.specs.Kernel.{step_refused, stepped, guess_refused, guessed};
-ghost use Rattle.sk_kernel.specs.Calls.{cause};
+ghost use Rattle.sk_plain.specs.Refusal.{cause};
 
 use crate::answer::Answer;
 use sk_guesses::Guess;
 use sk_ids::{GuessId, Pid};
 use sk_kernel::{FailRefusal, Kernel, Outcome};
 use sk_plain::Refusal;
-use sk_scenario::{Declarations, Call};
+use sk_scenario::{Call, Declarations};
 use sk_script::Input;
 use std::alloc::{AllocError, Global};
 

@@ -5,7 +5,7 @@ ghost use Rattle.sk_store.specs.Changed.{FitsAt, changed};
 ghost use Rattle.sk_store.specs.Back.{taken_back, CanTakeBack, put_back_at, CanPutBack, HasValue, taken_out};
 ghost use Rattle.sk_store.specs.declared.entity_state.EntityState.TheVariants as EntityState;
 
-use crate::{Keeper, Look, Store, EntityState};
+use crate::{EntityState, Keeper, Look, Store};
 use sk_changes::{Change, Invertible, Undo};
 use sk_ids::Entity;
 use sk_objects::Value;

@@ -1,5 +1,5 @@
 //! Writing to what entities have.
-use crate::{Look, EntityState};
+use crate::{EntityState, Look};
 use sk_changes::Change;
 use sk_ids::Entity;
 use std::alloc::{AllocError, Global};

@@ -2,14 +2,14 @@
 #![tactic(auto)]
 
 pub mod back;
+pub mod entity_state;
 pub mod keeper;
 pub mod look;
 pub mod start;
 pub mod store;
-pub mod entity_state;
 
 pub use back::{Back, PutBack};
+pub use entity_state::EntityState;
 pub use keeper::Keeper;
 pub use look::Look;
 pub use store::Store;
-pub use entity_state::EntityState;

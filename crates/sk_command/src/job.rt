@@ -23,7 +23,7 @@ pub enum Job<'a> {
 impl<'a> Job<'a> {
     /// The name of the input.
     pub fn file(self) -> &'a str
-        ensures { result.now ≡ job_file self }
+        ensures { result.now ≡ job_file self.entry }
     {
         match self {
             Job::Play { file } => file,
@@ -35,7 +35,9 @@ const PLAY_HELP: &str = "Runs the steps of a scenario and prints each answer, an
 
 const FORMS: &str = "A scenario is a text of lines. First come the declarations:
   script NAME .. end    a script, an instruction or label per line
-  file NAME LIT         the next boot file
+  file NAME LIT         the next boot object: a file with these bytes
+  pipe NAME LIT         a pipe with these bytes
+  dir NAME              an empty directory
   copy NAME V LIT       a cached copy of a remote file and its version
   process N SCRIPT T    a boot process, its script and its terminal
   limit N               the trace limit, 1000000 where none is given

@@ -146,9 +146,8 @@ impl Server {
     fn is_dropped(&self, request: &Request) -> bool
         ensures { result ≡ is_dropped request.now (remembered request.now self.now.refused) }
     {
-        self.refused
-            .iter()
-            .any(|guess| is_open(*guess, request.settled) && request.rests.contains(*guess))
+        self.refused.iter().any(|guess| is_open(*guess, request.settled)
+            && request.rests.contains(*guess))
     }
 
     /// The answer where nothing refused is rested on.

@@ -15,35 +15,25 @@ ghost use Rattle.sk_world.specs.Laws.{FilesAreChanged, StoresAreReplied, PlacesA
 /// from its reply on where it was asked. The server's files are the plain server's after the foreign edits and just those
 /// stores, in its order.
 pub fn stores()
-    ensures stands {
-        (S : Table ℕ ℕ ℕ ℕ ℕ ℕ ℕ) (start : FinMap S.order ℕ)
-        → IsTable S start → AcceptedStand S start
-    }
-    ensures stood {
-        (S : Table ℕ ℕ ℕ ℕ ℕ ℕ ℕ) (start : FinMap S.order ℕ)
-        → IsTable S start → AcceptedStood S start
-    }
-    ensures files {
-        (S : Table ℕ ℕ ℕ ℕ ℕ ℕ ℕ) (start : FinMap S.order ℕ)
-        → IsTable S start → FilesAreChanged S start
-    }
+    ensures stands { (S : Table ℕ ℕ ℕ ℕ ℕ ℕ ℕ) (start : FinMap S.order ℕ)
+        → IsTable S start → AcceptedStand S start }
+    ensures stood { (S : Table ℕ ℕ ℕ ℕ ℕ ℕ ℕ) (start : FinMap S.order ℕ)
+        → IsTable S start → AcceptedStood S start }
+    ensures files { (S : Table ℕ ℕ ℕ ℕ ℕ ℕ ℕ) (start : FinMap S.order ℕ)
+        → IsTable S start → FilesAreChanged S start }
 {}
 
 /// The steps with Good that were asked or whose guess committed, and the accepted requests whose reply was given, are one
 /// for one.
 pub fn replied()
-    ensures {
-        (S : Table ℕ ℕ ℕ ℕ ℕ ℕ ℕ) (start : FinMap S.order ℕ)
-        → IsTable S start → StoresAreReplied S start
-    }
+    ensures { (S : Table ℕ ℕ ℕ ℕ ℕ ℕ ℕ) (start : FinMap S.order ℕ)
+        → IsTable S start → StoresAreReplied S start }
 {}
 
 /// The trace keeps its limit, with a place for each decision to come and for the step of each request that was asked.
 pub fn places()
-    ensures {
-        (S : Table ℕ ℕ ℕ ℕ ℕ ℕ ℕ) (start : FinMap S.order ℕ)
-        → IsTable S start → PlacesAreKept S start
-    }
+    ensures { (S : Table ℕ ℕ ℕ ℕ ℕ ℕ ℕ) (start : FinMap S.order ℕ)
+        → IsTable S start → PlacesAreKept S start }
 {}
 
 /// The premises can be met: by a table of two instructions, and a world where nothing has happened.

@@ -1,7 +1,7 @@
 -- What reading a file and then its text comes to.
-use Rattle.std.proofs.Common.{◌≡◌, ◌≢◌, ◌≤◌, ◌++◌, ◌∙◌, inr, ap, ℕ, List, [], length, Option, Some, None, Result, Ok, Err, refl, sym, subst, append-nil}
+use Rattle.std.proofs.Common.{◌≡◌, ◌≢◌, ◌≤◌, inr, ℕ, List, [], length, Option, Some, None, Result, Ok, Err, sym, subst}
 use Rattle.std.specs.Prelude.{IfSome}
-use Rattle.std.specs.Io.KnownBytes.{Appends, Keeps, append_known}
+use Rattle.std.specs.Io.KnownBytes.{Keeps}
 use Rattle.sk_words.specs.declared.fault.Fault.{Fault}
 use Rattle.sk_words.specs.declared.fault.FaultKind.{FaultKind}
 use Rattle.sk_words.specs.declared.fault.FaultKind.TheVariants.{Word, Operand, Label, TooLong, Memory}
@@ -44,20 +44,6 @@ pub was_read : (known : Option (List ℕ)) (text : List ℕ) (end : End) (old ne
     → EndsFile known end old new
 was_read None text end old new same short h = text_no_usage text end old new h
 was_read (Some bytes) text end old new same short h = inr (subst (λ xs. length xs ≤ INPUT_LIMIT) same short, subst (λ xs. EndsText xs end old new) same h)
-
--- what a buffer was given is on its writer, once it is empty
-unbuffered : (a b : Option (List ℕ)) (left bs : List ℕ) → left ≡ [] → Appends (append_known a []) (append_known b left) bs → Appends a b bs
-unbuffered None b left bs none h = tt
-unbuffered (Some x) None left bs none h = absurd h
-unbuffered (Some x) (Some y) left bs none h = sym (append-nil y) ∙ ap (λ l. y ++ l) (sym none) ∙ h ∙ ap (λ l. l ++ bs) (append-nil x)
-
-pub played_out : (d : Declared) (steps : List Call) (end : End) (a b : Option (List ℕ)) (left : List ℕ) → (end ≡ ends.Done → left ≡ [])
-    → EndsPlayed d steps end (append_known a []) (append_known b left) → EndsPlayed d steps end a b
-played_out d steps ends.Done a b left none h = (h.0, h.1, h.2, h.3, unbuffered a b left _ (none refl) h.4)
-played_out d steps ends.Fault a b left none h = h
-played_out d steps ends.Usage a b left none h = h
-played_out d steps ends.Trouble a b left none h = tt
-played_out d steps ends.OutputRefused a b left none h = tt
 
 done_no_fault : ends.Fault ≡ ends.Done → ⊥
 done_no_fault e = absurd cc

@@ -9,7 +9,7 @@ mod tests;
 use crate::program::run;
 use sk_command::end::End;
 use sk_command::open_input::Open;
-use std::io::{ErrorKind, Read, Write};
+use std::io::{BufWriter, ErrorKind, Read, Write};
 use std::process::ExitCode;
 use std::rt::Files;
 use std::{env, fs, io};
@@ -65,14 +65,14 @@ fn end_of(rt: &HostRuntime) -> End {
     let Ok(words) = words else {
         return End::Trouble;
     };
+    let Ok(mut out) = BufWriter::new(rt.alloc(), rt.stdout()) else {
+        return End::Trouble;
+    };
     let system = System { rt };
-    run(
-        rt.alloc(),
-        &words,
-        &system,
-        &mut rt.stdout(),
-        &mut rt.stderr(),
-    )
+    let end = run(rt.alloc(), &words, &system, &mut out, &mut rt.stderr());
+    // What a refused write left over is not written again.
+    let _left = out.into_parts();
+    end
 }
 
 fn main(rt: HostRuntime) -> ExitCode {

@@ -11,5 +11,5 @@ pub returns-clause-keys : goal.returns-clause-keys
 returns-clause-keys c =
     let all : IfOk c.collect.result (λ found. found.items ≡ keys c.self.inside.contents) = search rules in
     let same : keys c.self.inside.contents ≡ fin.keys c.args.self.now =
-        ap (map (λ e. e.0)) (sym (entries_view nat_list_cmp_total c.self.inside.contents.entries c.keys.ensures.ordered)) ∙ ap fin.keys c.self.view_is in
+    ap (map (λ e. e.0)) (sym (entries_view nat_list_cmp_total c.self.inside.contents.entries c.keys.ensures.ordered)) ∙ ap fin.keys c.self.view_is in
     rw (← same) all

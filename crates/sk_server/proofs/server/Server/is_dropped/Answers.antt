@@ -12,8 +12,8 @@ pub returns : goal.returns
 returns c =
     let q = c.args.request.now in
     let found : c.any.result ≡ list_any (λ (g : ℕ). nat_le q.settled g && has g q.rests) c.self.inside.refused.items =
-        any_from_yields_List (λ (g : ℕ). nat_le q.settled g && has g q.rests) _ _ c.any.result c.any.ensures.ran
-        (YieldsList-from_slice c.self.inside.refused.items cc) (λ x b f k. search (rules, tests)) in
+    any_from_yields_List (λ (g : ℕ). nat_le q.settled g && has g q.rests) _ _ c.any.result c.any.ensures.ran
+    (YieldsList-from_slice c.self.inside.refused.items cc) (λ x b f k. search (rules, tests)) in
     found
     ∙ sym (any_left (λ (g : ℕ). nat_le q.settled g) (λ g. has g q.rests) c.self.inside.refused.items)
     ∙ ap (λ s. is_dropped q (remembered q s.refused)) c.self.view_is

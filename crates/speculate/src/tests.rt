@@ -10,11 +10,13 @@ use sk_scenario::{Scenario, Section};
 use std::alloc::{AllocError, Global};
 use std::io;
 use std::io::{ErrorKind, Read, Write};
+use std::process::Abort;
 use std::test::*;
 
 // ---- inputs
 
 /// An input in memory, whatever its name.
+#[derive(Drop)]
 struct Known<'a> {
     bytes: &'a [u8],
 }
@@ -90,6 +92,7 @@ impl<'a> Read for Source<'a> {
 }
 
 /// Blanks, one a read.
+#[derive(Drop)]
 struct Blanks {
     left: usize,
 }
@@ -181,7 +184,7 @@ struct Ran {
     err: Vec<u8>,
 }
 
-fn ran<O: Open>(alloc: Global, words: &[&str], inputs: &O) -> Result<Ran, AllocError> {
+fn run_known<O: Open>(alloc: Global, words: &[&str], inputs: &O) -> Result<Ran, AllocError> {
     let words = words_of(alloc, words)?;
     let mut out = Vec::new(alloc);
     let mut err = Vec::new(alloc);
@@ -190,7 +193,7 @@ fn ran<O: Open>(alloc: Global, words: &[&str], inputs: &O) -> Result<Ran, AllocE
 }
 
 /// Compares what a run came to with what is wanted.
-fn check(rt: &HostRuntime, ran: &Ran, status: u8, out: &str, err: &str) -> Result<(), Fail> {
+fn check(rt: &impl Abort, ran: &Ran, status: u8, out: &str, err: &str) -> Result<(), Fail> {
     assert_eq!(rt; str::from_utf8(&ran.err), Ok(err));
     assert_eq!(rt; str::from_utf8(&ran.out), Ok(out));
     assert_eq!(rt; ran.end.status(), status);
@@ -256,7 +259,13 @@ fn known_inputs(rt: HostRuntime) -> Result<(), Fail> {
         let inputs = Known {
             bytes: text.as_bytes(),
         };
-        check(&rt, &ran(alloc, &["play", "-"], &inputs)?, status, out, err)?;
+        check(
+            &rt,
+            &run_known(alloc, &["play", "-"], &inputs)?,
+            status,
+            out,
+            err,
+        )?;
     }
     Ok(())
 }
@@ -272,7 +281,7 @@ fn too_long_script(rt: HostRuntime) -> Result<(), Fail> {
     let inputs = Known {
         bytes: text.as_bytes(),
     };
-    let ran = ran(alloc, &["play", "-"], &inputs)?;
+    let ran = run_known(alloc, &["play", "-"], &inputs)?;
     check(&rt, &ran, 1, "", "speculate: line 4098: TooLong\n")
 }
 
@@ -305,11 +314,11 @@ fn faulty_words(rt: HostRuntime) -> Result<(), Fail> {
     let inputs = Known {
         bytes: FIRST_GUESS_COMMITS.as_bytes(),
     };
-    check(&rt, &ran(alloc, &[], &inputs)?, 2, "", NO_SUBCOMMAND)?;
-    check(&rt, &ran(alloc, &["play"], &inputs)?, 2, "", NO_FILE)?;
+    check(&rt, &run_known(alloc, &[], &inputs)?, 2, "", NO_SUBCOMMAND)?;
+    check(&rt, &run_known(alloc, &["play"], &inputs)?, 2, "", NO_FILE)?;
     check(
         &rt,
-        &ran(alloc, &["play", "a", "b"], &inputs)?,
+        &run_known(alloc, &["play", "a", "b"], &inputs)?,
         2,
         "",
         SECOND_FILE,
@@ -321,7 +330,7 @@ fn help(rt: HostRuntime) -> Result<(), Fail> {
     let alloc = rt.alloc();
     let inputs = Known { bytes: b"" };
     for words in [["--help"].as_slice(), ["play", "-h"].as_slice()] {
-        let ran = ran(alloc, words, &inputs)?;
+        let ran = run_known(alloc, words, &inputs)?;
         assert!(rt;
             ran.out.starts_with(b"A kernel that runs") || ran.out.starts_with(b"Runs the steps")
         );
@@ -335,10 +344,10 @@ fn help(rt: HostRuntime) -> Result<(), Fail> {
 fn inputs_that_cannot_be_read(rt: HostRuntime) -> Result<(), Fail> {
     let alloc = rt.alloc();
     for gives in [Gives::ThenFails(b"steps\n"), Gives::Interruptions] {
-        let ran = ran(alloc, &["play", "-"], &gives)?;
+        let ran = run_known(alloc, &["play", "-"], &gives)?;
         check(&rt, &ran, 3, "", "speculate: cannot read -\n")?;
     }
-    let ran = ran(alloc, &["play", "gone"], &Gives::Bytes(b""))?;
+    let ran = run_known(alloc, &["play", "gone"], &Gives::Bytes(b""))?;
     check(&rt, &ran, 3, "", "speculate: cannot read gone\n")
 }
 
@@ -347,7 +356,7 @@ fn a_read_is_tried_again(rt: HostRuntime) -> Result<(), Fail> {
     let gives = Gives::InterruptedThen(FIRST_GUESS_COMMITS.as_bytes());
     check(
         &rt,
-        &ran(rt.alloc(), &["play", "-"], &gives)?,
+        &run_known(rt.alloc(), &["play", "-"], &gives)?,
         0,
         REPORT,
         "",
@@ -372,10 +381,10 @@ fn as_many_reads_as_there_may_be(rt: HostRuntime) -> Result<(), Fail> {
 fn every_refused_write_ends_the_run(rt: HostRuntime) -> Result<(), Fail> {
     let alloc = rt.alloc();
     let Ok(scenario) = Scenario::parse(alloc, FIRST_GUESS_COMMITS.as_bytes()) else {
-        return Err(Fail);
+        return Err(Fail::from("no scenario of steps"));
     };
     let Section::Steps(steps) = &scenario.section else {
-        return Err(Fail);
+        return Err(Fail::from("no scenario of steps"));
     };
     for room in 0..REPORT.len() {
         let mut out = Paper::new(alloc, room);

@@ -11,7 +11,7 @@ use Rattle.std.proofs.lemmas.List.Folds.{list_any-append}
 use Rattle.std.proofs.lemmas.List.Sorted.{list_any-IsPermutation}
 use Rattle.std.proofs.lemmas.List.Kept.{Contains-dedup_nat, Contains-from_dedup}
 use Rattle.std.proofs.lemmas.Bool.{eqb-true, eq-eqb}
-use Rattle.sk_ids.specs.Tags.{has}
+use Rattle.sk_record.specs.Notes.{has}
 
 pub rising_none : IsStrictlySortedBy nat_cmp []
 rising_none = sorted_from_strictly_increasing [] (λ k h. absurd (omega arith))

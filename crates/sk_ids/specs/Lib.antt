@@ -4,4 +4,4 @@ pub mod PaddedLemma
 pub mod Name
 pub mod NameLemma
 pub mod Entity
-pub mod Tags
+pub mod Guess

@@ -2,7 +2,7 @@
 ghost use Rattle.std.specs.Prelude.{◌≡◌, ◌||◌, ◌∷◌, ℕ, IfOk, []};
 ghost use Rattle.std.specs.Ordering.{nat_cmp};
 ghost use Rattle.std.specs.List.Sorted.{IsStrictlySortedBy};
-ghost use Rattle.sk_ids.specs.Tags.{has, without};
+ghost use Rattle.sk_record.specs.Notes.{has, without};
 
 use crate::GuessId;
 use smallvec::SmallVec;

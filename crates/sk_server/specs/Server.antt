@@ -3,7 +3,7 @@ use Rattle.std.specs.Prelude.{ℕ, ◌+◌, ◌==◌, ◌&&◌, nat_le, Bool, tr
 use Rattle.std.specs.List.{filter, list_any}
 use Rattle.std.specs.Coded.{Coded, code_by, coded×, coded_ℕ, coded_list}
 use Rattle.std.specs.FinMap as map
-use Rattle.sk_ids.specs.Tags.{has}
+use Rattle.sk_record.specs.Notes.{has}
 use Rattle.sk_server.specs.Files.{FileMap, file_map_code, file_of, is_fitting, written}
 use Rattle.sk_server.specs.declared.server.TheConstants.{LAST_REQUEST}
 use Rattle.sk_server.specs.declared.request.Ask.{Ask}

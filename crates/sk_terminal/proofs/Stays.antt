@@ -1,7 +1,7 @@
 -- What was released stays released: by recursion over the texts, at one that is clear and one that is not.
 use Rattle.std.specs.Prelude.{◌≡◌, ℕ, true, false, List, [], ◌∷◌, ◌++◌}
 use Rattle.std.proofs.Common.{refl, ap}
-use Rattle.sk_ids.specs.Tags.{has}
+use Rattle.sk_record.specs.Notes.{has}
 use Rattle.sk_terminal.specs.declared.buffered_text.BufferedText.{BufferedText}
 use Rattle.sk_terminal.specs.Terminal.{is_clear, released_of, without_guess, committed_of, left_of, Begins}
 use Rattle.sk_terminal.proofs.Views.{released-yes, released-no, no_tags}

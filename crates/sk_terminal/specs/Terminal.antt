@@ -1,7 +1,7 @@
 -- The texts said to a terminal and not thrown away, each with the undecided guesses that it rests on.
 use Rattle.std.specs.Prelude.{◌≡◌, ℕ, Bool, not, ◌==◌, ◌-◌, List, [], ◌++◌, length, map}
 use Rattle.std.specs.List.{filter, take_while}
-use Rattle.sk_ids.specs.Tags.{has, without}
+use Rattle.sk_record.specs.Notes.{has, without}
 use Rattle.sk_terminal.specs.declared.buffered_text.BufferedText.{BufferedText}
 
 -- it rests on no guess

@@ -5,7 +5,7 @@ use Rattle.std.specs.List.{dedup, refill}
 use Rattle.std.specs.List.Sorted.{IsPermutation}
 use Rattle.std.proofs.lemmas.List.Kept.{IsStrictlySortedBy-dedup}
 use Rattle.std.proofs.lemmas.List.{take_at}
-use Rattle.sk_ids.specs.Tags.{has}
+use Rattle.sk_record.specs.Notes.{has}
 use Rattle.sk_ids.proofs.GuessSets.{has-dedup}
 use Rattle.sk_ids.proofs.tags.TagSet.union.Goals as goal
 

@@ -3,7 +3,7 @@ use Rattle.std.proofs.Common.{◌≡◌, eqb, not, ◌∙◌, ap, rules}
 use Rattle.std.specs.Ordering.{nat_cmp}
 use Rattle.std.specs.List.{filter}
 use Rattle.std.proofs.lemmas.List.Kept.{IsStrictlySortedBy-filter}
-use Rattle.sk_ids.specs.Tags.{without}
+use Rattle.sk_record.specs.Notes.{without}
 use Rattle.sk_ids.proofs.GuessSets.{filtered_in_turn}
 use Rattle.sk_ids.proofs.tags.TagSet.without.Goals as goal
 

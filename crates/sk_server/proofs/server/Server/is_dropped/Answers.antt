@@ -3,7 +3,7 @@ use Rattle.std.proofs.Common.{◌≡◌, ℕ, nat_le, ◌&&◌, ap, sym, ◌∙�
 use Rattle.std.specs.List.{list_any}
 use Rattle.std.proofs.lemmas.Iterator.{YieldsList-from_slice}
 use Rattle.std.proofs.lemmas.Iterator.Search.{any_from_yields_List}
-use Rattle.sk_ids.specs.Tags.{has}
+use Rattle.sk_record.specs.Notes.{has}
 use Rattle.sk_server.specs.Server.{is_dropped, remembered}
 use Rattle.sk_server.proofs.Remembered.{any_left}
 use Rattle.sk_server.proofs.server.Server.is_dropped.Goals as goal

@@ -1,5 +1,5 @@
 -- Tables of first words, each with what the words behind it say.
-use Rattle.std.specs.Prelude.{List, [], ◌∷◌, ℕ, Result, Err, bytes_eq, if◌then◌else◌}
+use Rattle.std.specs.Prelude.{List, [], ◌∷◌, ◌++◌, ℕ, Option, Some, None, Result, Ok, Err, bytes_eq, if◌then◌else◌}
 use Rattle.sk_words.specs.declared.fault.FaultKind.{FaultKind}
 use Rattle.sk_words.specs.declared.fault.FaultKind.TheVariants as kinds
 
@@ -19,3 +19,14 @@ unknown ws = Err kinds.Word
 abbrev pub by_first : {A : Type 0} → (List ℕ → Rule A) → Rule A
 by_first rule [] = Err kinds.Word
 by_first rule (w ∷ ws) = rule w ws
+
+-- ---- a list to which each line adds what the rule of its first word says
+
+abbrev pub with_said : {A : Type 0} → List A → Result A FaultKind → Result (List A) FaultKind
+with_said before (Ok a) = Ok (before ++ a ∷ [])
+with_said before (Err e) = Err e
+
+-- a line is seen as its first word and the words behind it; none adds nothing
+abbrev pub with_line : {A : Type 0} → (List ℕ → Rule A) → List A → Option (List ℕ × List (List ℕ)) → Result (List A) FaultKind
+with_line rule before None = Ok before
+with_line rule before (Some x) = with_said before (rule x.0 x.1)

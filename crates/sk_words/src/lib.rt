@@ -19,4 +19,4 @@ pub use operands::{Operand, closed, next_word, no_more, none, one, three, two};
 pub use reader::{Reader, read};
 pub use spelling::{Literal, Printed};
 pub use text::Lines;
-pub use values::{Index, Label, Natural, Positive};
+pub use values::{Index, Label, Natural};

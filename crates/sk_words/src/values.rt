@@ -5,7 +5,7 @@ ghost use Rattle.sk_words.specs.Operands.{integer, is_label_byte, index, child, 
 
 use crate::text::cut;
 use crate::{FaultKind, Operand};
-use sk_ids::{Name, Pid};
+use sk_ids::{GuessId, Name, Pid};
 use std::marker::Model;
 
 impl Operand for i64 {
@@ -69,43 +69,17 @@ impl Operand for Natural {
     }
 }
 
-/// A number from 1 to 2^63 - 1.
-#[derive(Clone, Copy, Debug, PartialEq, Eq)]
-pub struct Positive(u64);
-
-impl Model for Positive {
-    ghost use Rattle.std.specs.Prelude.{ℕ, ◌≤◌};
-
-    ghost Value = { ℕ };
-
-    ghost view = { λ n. n.0 };
-
-    ghost invariant = { λ n. (1 ≤ n.0) × (n.0 ≤ 9223372036854775807) };
-
-    ghost inverse = { λ n. record { 0 = n } };
-}
-
-impl Positive {
-    pub fn get(self) -> u64
-        ensures value { result ≡ self }
-        ensures least { 1 ≤ result }
-        ensures limit { result ≤ 9223372036854775807 }
-    {
-        self.0
-    }
-}
-
-impl Operand for Positive {
+impl Operand for GuessId {
     ghost use Rattle.sk_words.specs.Operands.{positive};
 
     ghost said = { positive };
 
-    fn read(word: &[u8]) -> Result<Positive, FaultKind> {
+    fn read(word: &[u8]) -> Result<GuessId, FaultKind> {
         let number: i64 = Operand::read(word)?;
         if number < 1 {
             return Err(FaultKind::Operand);
         }
-        Ok(Positive(number as u64))
+        GuessId::new(number as u64).ok_or(FaultKind::Operand)
     }
 }
 

@@ -50,7 +50,8 @@ impl Pid {
 
     /// The whole path as one number, in base 65,536.
     pub fn path(self) -> u64
-        ensures { result ≡ self }
+        ensures value { result ≡ self }
+        ensures path { IsPath result }
     {
         self.path
     }

@@ -1,0 +1,5 @@
+pub mod Entry
+pub mod Event
+pub mod Trace
+pub mod Lines
+pub mod Text

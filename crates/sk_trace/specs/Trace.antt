@@ -1,0 +1,15 @@
+-- What happened, and how many more events there is room for.
+use Rattle.std.specs.Prelude.{ℕ, List, refl}
+use Rattle.std.specs.Coded.{Coded, code_by, coded×, coded_ℕ, coded_list}
+use Rattle.sk_trace.specs.declared.event.Event.{Event}
+use Rattle.sk_trace.specs.contracts.event.Event as event
+
+pub record TraceView : Type 0 where
+  pub events : List Event
+  pub room : ℕ
+
+abbrev pub event_code : Coded Event
+event_code = event.the_row.coded
+
+abbrev pub trace_code : Coded TraceView
+trace_code = code_by (List Event × ℕ) (coded× (coded_list event_code) coded_ℕ) (λ t. (t.events, t.room)) (λ p. record { events = p.0; room = p.1 }) (λ _. refl)

@@ -1,0 +1,10 @@
+//! Traces: what happened in a kernel, event by event, and its text.
+#![tactic(auto)]
+
+pub mod event;
+pub mod line;
+pub mod print;
+pub mod trace;
+
+pub use event::{Entry, Event};
+pub use trace::Trace;

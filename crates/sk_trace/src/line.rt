@@ -1,0 +1,131 @@
+//! What the lines of a trace say.
+ghost use Rattle.std.specs.Prelude.{◌≡◌, [], All};
+ghost use Rattle.sk_words.specs.Reading.{Leaves};
+ghost use Rattle.sk_words.specs.Tables.{with_said};
+ghost use Rattle.sk_trace.specs.Event.{IsEvent};
+ghost use Rattle.sk_trace.specs.Lines.{step, numbered_step, event};
+
+use crate::Event;
+use crate::trace::add;
+use sk_ids::{GuessId, Pid};
+use sk_script::Input;
+use sk_script::step_input::input;
+use sk_words::{FaultKind, Operand, Reader, Words, closed, first_word, next_word, one};
+use std::alloc::Global;
+use std::marker::Model;
+
+/// A process and the input of its step.
+#[tactic(auto, unfolding(crate::specs::Lines::step))]
+pub fn step(words: &Words) -> Result<(Pid, Input), FaultKind>
+    ensures { result ≡ step words.now }
+{
+    let mut words = closed(words)?;
+    let pid = next_word(&mut words)?;
+    let input = input(&words)?;
+    let pid = Operand::read(pid)?;
+    Ok((pid, input))
+}
+
+/// The number of a guess, and the process and the input of its step.
+#[tactic(auto, unfolding(crate::specs::Lines::numbered_step))]
+fn numbered_step(words: &Words) -> Result<(GuessId, Pid, Input), FaultKind>
+    ensures { result ≡ numbered_step words.now }
+{
+    let mut words = closed(words)?;
+    let id = next_word(&mut words)?;
+    let (pid, input) = step(&words)?;
+    let id = Operand::read(id)?;
+    Ok((id, pid, input))
+}
+
+/// The events that lines said, in order.
+#[derive(Drop)]
+pub struct Events {
+    events: Vec<Event>,
+}
+
+impl Model for Events {
+    ghost use Rattle.std.specs.Prelude.{List, All};
+    ghost use Rattle.sk_trace.specs.declared.event.Event.{Event};
+    ghost use Rattle.sk_trace.specs.Event.{IsEvent};
+
+    ghost Value = { List Event };
+
+    ghost view = { λ e. e.events.items };
+
+    ghost invariant = { λ e. All IsEvent e.events.items };
+}
+
+impl Events {
+    /// No event.
+    pub fn new(alloc: Global) -> Events
+        ensures { result ≡ [] }
+    {
+        Events {
+            events: Vec::new(alloc),
+        }
+    }
+
+    /// All of them.
+    pub fn into_vec(self) -> Vec<Event>
+        ensures value { result.items ≡ self }
+        ensures limits { All IsEvent result.items }
+    {
+        self.events
+    }
+
+    /// Adds what a line says whose first word these bytes are.
+    fn add_in(&mut self, word: &[u8], words: &Words) -> Result<(), FaultKind>
+        ensures { Leaves result (with_said self.old (event word.now words.now)) self.old self.new }
+    {
+        match str::from_utf8(word) {
+            Ok(word) => self.add(word, words),
+            Err(_) => Err(FaultKind::Word),
+        }
+    }
+
+    /// Adds what a line says whose first word this is.
+    #[tactic(auto, unfolding(crate::specs::Lines::event))]
+    fn add(&mut self, word: &str, words: &Words) -> Result<(), FaultKind>
+        ensures { Leaves result (with_said self.old (event word.now words.now)) self.old self.new }
+    {
+        match word {
+            "step" => {
+                let (pid, input) = step(words)?;
+                self.events.reserve(1)?;
+                add(&mut self.events, &Event::Step { pid, input });
+            }
+            "guess" => {
+                let (id, pid, input) = numbered_step(words)?;
+                self.events.reserve(1)?;
+                add(&mut self.events, &Event::Guess { id, pid, input });
+            }
+            "commit" => {
+                let id = one(words)?;
+                self.events.reserve(1)?;
+                add(&mut self.events, &Event::Commit(id));
+            }
+            "fail" => {
+                let id = one(words)?;
+                self.events.reserve(1)?;
+                add(&mut self.events, &Event::Fail(id));
+            }
+            _ => return Err(FaultKind::Word),
+        }
+        Ok(())
+    }
+}
+
+impl Reader for Events {
+    ghost use Rattle.sk_trace.specs.Lines.{event_line};
+
+    ghost said = { event_line };
+
+    /// Adds what a line says.
+    fn line(&mut self, line: &[u8]) -> Result<(), FaultKind> {
+        match first_word(line) {
+            Some((first, words)) => self.add_in(first, &words),
+            None => Ok(()),
+        }
+    }
+}

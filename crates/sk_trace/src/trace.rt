@@ -1,0 +1,122 @@
+//! All that happened in a kernel, in order.
+ghost use Rattle.std.specs.Prelude.{◌≡◌, ◌<◌, ◌+◌, ◌≤◌, ◌∷◌, ◌++◌, [], All, OnOk, IfOk, length, vec_len, vec_capacity};
+ghost use Rattle.std.specs.Str.Lines.{lines};
+ghost use Rattle.sk_words.specs.Lines.{last_line};
+ghost use Rattle.sk_trace.specs.Event.{IsEvent};
+ghost use Rattle.sk_trace.specs.Lines.{trace_from, trace_of, Says};
+ghost use Rattle.sk_trace.specs.Text.{trace_text};
+
+use crate::Event;
+use crate::line::Events;
+use sk_words::{Cursor, Fault, read};
+use std::alloc::{AllocError, Global};
+use std::fmt::Write;
+use std::marker::Model;
+
+/// What happened, in order, which contracts see as a list with room for so many more events.
+#[derive(Drop)]
+pub struct Trace {
+    events: Vec<Event>,
+}
+
+impl Model for Trace {
+    ghost use Rattle.std.specs.Prelude.{◌-◌, All, vec_len, vec_capacity};
+    ghost use Rattle.sk_trace.specs.Event.{IsEvent};
+    ghost use Rattle.sk_trace.specs.Trace.{TraceView, trace_code};
+
+    ghost Value = { TraceView };
+
+    ghost coded = { trace_code };
+
+    ghost view = { λ t. record { events = t.events.items; room = vec_capacity t.events - vec_len t.events } };
+
+    ghost invariant = { λ t. All IsEvent t.events.items };
+}
+
+/// Adds an event, for which there is room. Each variant is made anew, since the prover does not follow
+/// an event that is moved as a whole.
+pub(crate) fn add(events: &mut Vec<Event>, event: &Event)
+    requires { vec_len events.old < vec_capacity events.old }
+    ensures items { events.new.items ≡ events.old.items ++ event.now ∷ [] }
+    ensures capacity { vec_capacity events.new ≡ vec_capacity events.old }
+    ensures limits { IsEvent event.now }
+{
+    event.known();
+    match *event {
+        Event::Step { pid, input } => events.push_reserved(Event::Step { pid, input }),
+        Event::Guess { id, pid, input } => events.push_reserved(Event::Guess { id, pid, input }),
+        Event::Commit(id) => events.push_reserved(Event::Commit(id)),
+        Event::Fail(id) => events.push_reserved(Event::Fail(id)),
+    }
+}
+
+impl Trace {
+    /// The trace of nothing.
+    pub fn new(alloc: Global) -> Trace
+        ensures { result.events ≡ [] }
+    {
+        Trace {
+            events: Vec::new(alloc),
+        }
+    }
+
+    /// The trace that a text says, or its first faulty line.
+    pub fn parse(alloc: Global, text: &[u8]) -> Result<Trace, Fault>
+        ensures { Says result (trace_of text.now) (length (lines text.now)) }
+    {
+        Trace::read(alloc, &Cursor::of(text))
+    }
+
+    /// The trace that the lines left of a text say, or the first of them that is faulty.
+    pub fn read(alloc: Global, lines: &Cursor) -> Result<Trace, Fault>
+        ensures { Says result (trace_from (lines.now.line + 1) lines.now.lines) (last_line lines.now) }
+    {
+        let events = read(Events::new(alloc), lines)?;
+        Ok(Trace {
+            events: events.into_vec(),
+        })
+    }
+
+    /// The events, the oldest first.
+    pub fn events(&self) -> &[Event]
+        ensures { result.now ≡ self.now.events }
+    {
+        self.events.as_slice()
+    }
+
+    /// Its text: a line for each event.
+    pub fn print(&self, alloc: Global) -> Result<Vec<u8>, AllocError>
+        ensures { IfOk result (λ bytes. bytes.items ≡ trace_text self.now.events) }
+    {
+        let mut text = String::new(alloc);
+        for event in &self.events {
+            writeln!(text, "{event}")?;
+        }
+        Ok(text.into_bytes())
+    }
+
+    /// What holds of every trace, for proofs.
+    pub fn known(&self)
+        ensures { All IsEvent self.now.events }
+    {
+        let _events = &self.events;
+    }
+
+    /// Makes room for so many more events. The events stay.
+    pub fn reserve(&mut self, more: usize) -> Result<(), AllocError>
+        ensures events { self.new.events ≡ self.old.events }
+        ensures room { OnOk result (more ≤ self.new.room) }
+        ensures kept { self.old.room ≤ self.new.room }
+    {
+        self.events.reserve(more)
+    }
+
+    /// Adds an event, for which there is room.
+    pub fn push(&mut self, event: Event)
+        requires { 0 < self.old.room }
+        ensures events { self.new.events ≡ self.old.events ++ event ∷ [] }
+        ensures room { self.new.room + 1 ≡ self.old.room }
+    {
+        add(&mut self.events, &event);
+    }
+}

@@ -6,3 +6,9 @@ pub mod Names
 pub mod Taken
 pub mod Unknown
 pub mod FirstFault
+pub mod WordsAgain
+pub mod LiteralAgain
+pub mod NumberAgain
+pub mod PidAgain
+pub mod LinesAgain
+pub mod ItemsAgain

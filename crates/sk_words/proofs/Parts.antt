@@ -1,9 +1,9 @@
 -- How the parts of a text come apart at its front, for the loop that looks for a separator: from the definition of
 -- parts, byte by byte.
-use Rattle.std.proofs.Common.{◌≡◌, ℕ, zero, suc, ◌+◌, ◌-◌, ◌<◌, ◌≤◌, List, [], ◌∷◌, true, false, eqb, length, take, drop, get_or, refl, ap, ◌∙◌, arith, add-one, drop-cons}
+use Rattle.std.proofs.Common.{◌≡◌, ℕ, zero, suc, ◌+◌, ◌-◌, ◌<◌, ◌≤◌, List, [], ◌∷◌, ◌++◌, true, false, eqb, length, take, drop, get_or, refl, ap, ◌∙◌, arith, add-one, drop-cons}
 use Rattle.std.proofs.lemmas.Grind.{take_at_read}
-use Rattle.std.proofs.lemmas.Bool.{ne_eqb, eq-eqb}
-use Rattle.std.specs.List.{onto_first}
+use Rattle.std.proofs.lemmas.Bool.{ne_eqb, eq-eqb, or_parts}
+use Rattle.std.specs.List.{onto_first, list_any}
 use Rattle.std.specs.Str.Lines.{lines, lines_of_parts, strip_carriage_return}
 use Rattle.sk_words.specs.Lines.{parts}
 use Rattle.sk_words.proofs.Cut.{onto, onto_more, onto_whole}
@@ -72,3 +72,17 @@ lines_short (b ∷ bs) =
       | true ↦ λ e. rw (e, p.is) (omega (arith, rest))
       | false ↦ λ e. rw (e, p.is) (longer b p.first p.others (length bs) rest)
     ] refl
+
+-- ---- a part ends where a separator stands behind it, or the text
+
+pub cut_at : (s : ℕ) (part rest : List ℕ) → list_any (λ b. eqb b s) part ≡ false → parts s (part ++ s ∷ rest) ≡ part ∷ parts s rest
+cut_at s [] rest h = rw (eq-eqb s s refl) refl
+cut_at s (b ∷ bs) rest h =
+    let p = or_parts (eqb b s) (list_any (λ c. eqb c s) bs) h in
+    rw (p.0, cut_at s bs rest p.1) refl
+
+pub uncut : (s : ℕ) (part : List ℕ) → list_any (λ b. eqb b s) part ≡ false → parts s part ≡ part ∷ []
+uncut s [] h = refl
+uncut s (b ∷ bs) h =
+    let p = or_parts (eqb b s) (list_any (λ c. eqb c s) bs) h in
+    rw (p.0, uncut s bs p.1) refl

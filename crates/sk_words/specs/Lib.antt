@@ -6,3 +6,4 @@ pub mod Literals
 pub mod Reading
 pub mod Tables
 pub mod Spelling
+pub mod Printed

@@ -4,6 +4,7 @@
 
 pub mod cursor;
 pub mod fault;
+pub mod laws;
 pub mod line;
 pub mod literal;
 pub mod operands;

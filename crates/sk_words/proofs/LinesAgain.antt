@@ -1,0 +1,27 @@
+-- Printed lines are cut again: line by line.
+use Rattle.std.proofs.Common.{◌≡◌, ℕ, List, [], ◌∷◌, ◌++◌, map, refl, sym, ap, ◌∙◌, append_assoc}
+use Rattle.std.specs.Prelude.{flat_map}
+use Rattle.std.specs.List.{AllByRecursion}
+use Rattle.std.specs.Str.Lines.{lines, strip_carriage_return}
+use Rattle.std.proofs.lemmas.List.Folds.{flat_map-map}
+use Rattle.sk_words.specs.Printed.{IsLine, lined}
+use Rattle.sk_words.proofs.Parts.{next_line, cut_at}
+
+-- its one carriage return is not at the end
+kept : (l : List ℕ) → IsLine l → strip_carriage_return l ≡ l
+kept l h = rw h.no_return refl
+
+pub lines_again : (ls : List (List ℕ)) → AllByRecursion IsLine ls → lines (lined ls) ≡ ls
+lines_again [] h = refl
+lines_again (l ∷ ls) h =
+    ap lines (append_assoc l (10 ∷ []) (lined ls))
+    ∙ next_line (l ++ 10 ∷ lined ls) l (lined ls) (cut_at 10 l (lined ls) h.0.no_feed)
+    ∙ ap (λ (x : List ℕ). x ∷ lines (lined ls)) (kept l h.0)
+    ∙ ap (λ (x : List (List ℕ)). l ∷ x) (lines_again ls h.1)
+
+all_mapped : {A : Type 0} (line_of : A → List ℕ) (xs : List A) → AllByRecursion (λ x. IsLine (line_of x)) xs → AllByRecursion IsLine (map line_of xs)
+all_mapped line_of [] h = tt
+all_mapped line_of (x ∷ xs) h = (h.0, all_mapped line_of xs h.1)
+
+pub printed_lines : {A : Type 0} (line_of : A → List ℕ) (xs : List A) → AllByRecursion (λ x. IsLine (line_of x)) xs → lines (flat_map (λ x. line_of x ++ 10 ∷ []) xs) ≡ map line_of xs
+printed_lines line_of xs h = ap lines (sym (flat_map-map (λ l. l ++ 10 ∷ []) line_of xs)) ∙ lines_again (map line_of xs) (all_mapped line_of xs h)

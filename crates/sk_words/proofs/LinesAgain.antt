@@ -7,7 +7,7 @@ use Rattle.std.proofs.lemmas.List.Folds.{flat_map-map}
 use Rattle.sk_words.specs.Printed.{IsLine, lined}
 use Rattle.sk_words.proofs.Parts.{next_line, cut_at}
 
--- its one carriage return is not at the end
+-- no carriage return is taken off it
 kept : (l : List ℕ) → IsLine l → strip_carriage_return l ≡ l
 kept l h = rw h.no_return refl
 

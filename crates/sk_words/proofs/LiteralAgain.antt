@@ -15,7 +15,7 @@ use Rattle.sk_words.proofs.Cut.{onto}
 
 -- ---- hexadecimal digits
 
--- a byte that a literal shows as itself
+-- a quote or a backslash
 abbrev is_set_apart : ℕ → Bool
 is_set_apart b = eqb b 34 || eqb b 92
 
@@ -105,6 +105,7 @@ abbrev text_or_none : Result (List ℕ) FaultKind → List ℕ
 text_or_none (Ok t) = t
 text_or_none (Err e) = []
 
+-- what is behind the opening quote
 abbrev tail : List ℕ → List ℕ
 tail [] = []
 tail (b ∷ bs) = bs
@@ -112,7 +113,7 @@ tail (b ∷ bs) = bs
 pub literal_once : (t u : List ℕ) → AreBytes t → AreBytes u → spelled t ≡ spelled u → t ≡ u
 literal_once t u h k same = ap text_or_none (sym (text_says t h) ∙ ap (λ (s : List ℕ). text_from Plain (tail s)) same ∙ text_says u k)
 
--- ---- it stays within the literal
+-- ---- no byte of it ends the literal
 
 onto_append : (xs ys : List ℕ) (ws : List (List ℕ)) → onto (xs ++ ys) ws ≡ onto xs (onto ys ws)
 onto_append [] ys ws = refl

@@ -36,6 +36,7 @@ are_digits n lt = digits_decimal own n lt
 pub no_dot : (n : ℕ) → n < 2 ^ 64 → list_any (λ b. eqb b 46) (decimal n) ≡ false
 no_dot n lt = (decimal_digits (decimal n) (are_digits n lt)).no_dot
 
+-- digits make a bare word where there are any
 some_bare : (w : List ℕ) → 0 < length w → list_all (ltb 34) w ≡ true → is_bare_word w ≡ true
 some_bare [] some h = absurd (omega arith)
 some_bare (b ∷ bs) some h = h

@@ -1,8 +1,9 @@
 -- What happens in a kernel.
-use Rattle.std.specs.Prelude.{ℕ, ◌<◌, List, slice_index, Option, Some, None}
+use Rattle.std.specs.Prelude.{Option, Some, None}
 use Rattle.sk_ids.specs.Pid.{IsPath}
 use Rattle.sk_ids.specs.Guess.{IsGuessNumber}
 use Rattle.sk_objects.specs.Value.{IsContent}
+use Rattle.sk_words.specs.Printed.{AreBytes}
 use Rattle.sk_script.specs.declared.instruction.Input.{Input}
 use Rattle.sk_script.specs.declared.instruction.Input.TheVariants as inputs
 use Rattle.sk_trace.specs.Entry.{EntryView}
@@ -17,9 +18,6 @@ entry_of (events.Commit id) = None
 entry_of (events.Fail id) = None
 
 -- ---- what holds of every event
-
-abbrev pub AreBytes : List ℕ → Type 0
-AreBytes text = (i : ℕ) → slice_index text i < 256
 
 abbrev pub IsInput : Input → Type 0
 IsInput inputs.None = Unit {0}

@@ -1,6 +1,7 @@
 //! What happens in a kernel: steps, guesses and their decisions.
 ghost use Rattle.std.specs.Prelude.{◌≡◌};
-ghost use Rattle.sk_trace.specs.Event.{entry_of, IsInput, IsEvent, AreBytes};
+ghost use Rattle.sk_words.specs.Printed.{AreBytes};
+ghost use Rattle.sk_trace.specs.Event.{entry_of, IsInput, IsEvent};
 
 use sk_ids::{GuessId, Pid};
 use sk_script::Input;

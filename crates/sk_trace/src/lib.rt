@@ -2,6 +2,7 @@
 #![tactic(auto)]
 
 pub mod event;
+pub mod laws;
 pub mod line;
 pub mod print;
 pub mod trace;

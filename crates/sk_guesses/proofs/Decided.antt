@@ -3,8 +3,8 @@ use Rattle.std.specs.Prelude.{◌≡◌, ℕ, ◌+◌, ◌-◌, ◌==◌, Bool, 
 use Rattle.std.proofs.Common.{arith}
 use Rattle.std.proofs.lemmas.Option.{slice_get_within, get_or_from_slice_get}
 use Rattle.std.proofs.lemmas.List.Sums.{sum_by-set}
-use Rattle.sk_guesses.specs.declared.status.Status.{Status}
-use Rattle.sk_guesses.specs.declared.status.Status.TheVariants.{Undecided}
+use Rattle.sk_record.specs.declared.status.Status.{Status}
+use Rattle.sk_record.specs.declared.status.Status.TheVariants.{Undecided}
 use Rattle.sk_guesses.specs.Guesses.{GuessesView, is_undecided, undecided_of, status_of}
 
 undecided-set : (statuses : List Status) (i : ℕ) (s : Status) → slice_get statuses i ≡ Some Undecided → is_undecided s ≡ false → undecided_of (slice_set statuses i s) + 1 ≡ undecided_of statuses
@@ -18,6 +18,6 @@ other : (b : Bool) (o : Option Status) (s : Status) → (if b then None else o) 
 other true o s is = cc
 other false o s is = is
 
-pub undecided-with_status : (v w : GuessesView) (id n : ℕ) (s : Status) → w ≡ v → n ≡ id → status_of v id ≡ Some Undecided → is_undecided s ≡ false → undecided_of (slice_set w.statuses (n - 1) s) + 1 ≡ undecided_of w.statuses
-undecided-with_status v w id n s same number was becomes =
+pub undecided-decided : (v w : GuessesView) (id n : ℕ) (s : Status) → w ≡ v → n ≡ id → status_of v id ≡ Some Undecided → is_undecided s ≡ false → undecided_of (slice_set w.statuses (n - 1) s) + 1 ≡ undecided_of w.statuses
+undecided-decided v w id n s same number was becomes =
     rw (same, number) (undecided-set v.statuses (id - 1) s (other (id == 0) (slice_get v.statuses (id - 1)) Undecided was) becomes)

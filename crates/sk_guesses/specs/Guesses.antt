@@ -1,7 +1,9 @@
 -- The guesses that a kernel drew, and what became of each.
-use Rattle.std.specs.Prelude.{ℕ, Bool, true, false, ◌+◌, ◌-◌, ◌^◌, ◌==◌, ◌||◌, nat_le, if◌then◌else◌, List, [], ◌∷◌, ◌++◌, length, slice_get, slice_set, count_by, Option, None}
-use Rattle.sk_guesses.specs.declared.status.Status.{Status}
-use Rattle.sk_guesses.specs.declared.status.Status.TheVariants.{Undecided, Committed, Failed, Struck}
+use Rattle.std.specs.Prelude.{ℕ, Bool, true, false, ◌+◌, ◌-◌, ◌==◌, ◌||◌, nat_le, nat_lt, if◌then◌else◌, List, [], ◌∷◌, ◌++◌, length, slice_get, slice_set, count_by, Option, None}
+use Rattle.sk_record.specs.declared.status.Status.{Status}
+use Rattle.sk_record.specs.declared.status.Status.TheVariants.{Undecided, Committed, Failed, Struck}
+use Rattle.sk_ids.specs.declared.guess.TheConstants.{LAST_GUESS}
+use Rattle.sk_guesses.specs.declared.guesses.TheConstants.{GUESS_LIMIT}
 
 -- the kernel's number, and the status of guess 1, of guess 2, and so on
 pub record GuessesView : Type 0 where
@@ -27,17 +29,17 @@ undecided_of statuses = count_by is_undecided statuses
 abbrev pub next_of : GuessesView → ℕ
 next_of v = length v.statuses + 1
 
--- 64 guesses are undecided, or the last number, 2^63 - 1, is drawn
+-- as many guesses are undecided as may be, or the last number is drawn
 abbrev pub is_full : GuessesView → Bool
-is_full v = nat_le 64 (undecided_of v.statuses) || nat_le (2 ^ 63) (next_of v)
+is_full v = nat_le GUESS_LIMIT (undecided_of v.statuses) || nat_lt LAST_GUESS (next_of v)
 
 -- the status of a guess, where it was drawn
 abbrev pub status_of : GuessesView → ℕ → Option Status
 status_of v id = if id == 0 then None else slice_get v.statuses (id - 1)
 
 -- one guess with another status
-abbrev pub with_status : GuessesView → ℕ → Status → GuessesView
-with_status v id status = record v { statuses = slice_set v.statuses (id - 1) status }
+abbrev pub decided : GuessesView → ℕ → Status → GuessesView
+decided v id status = record v { statuses = slice_set v.statuses (id - 1) status }
 
 -- one guess more, undecided
 abbrev pub drawn : GuessesView → GuessesView

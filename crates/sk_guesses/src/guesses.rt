@@ -1,7 +1,9 @@
 //! The guesses that a kernel drew.
-ghost use Rattle.std.specs.Prelude.{◌≡◌, ◌<◌, ◌≤◌, ◌^◌, Some, false};
-ghost use Rattle.sk_guesses.specs.declared.status.Status.TheVariants.{Undecided, Committed, Failed, Struck};
-ghost use Rattle.sk_guesses.specs.Guesses.{opened, next_of, undecided_of, is_full, is_undecided, status_of, with_status};
+ghost use Rattle.std.specs.Prelude.{◌≡◌, ◌≤◌, ◌+◌, Some, IfSome, false, not, is_some};
+ghost use Rattle.sk_record.specs.declared.status.Status.TheVariants.{Undecided, Committed, Failed, Struck};
+ghost use Rattle.sk_ids.specs.declared.guess.TheConstants.{LAST_GUESS};
+ghost use Rattle.sk_guesses.specs.declared.guesses.TheConstants.{GUESS_LIMIT};
+ghost use Rattle.sk_guesses.specs.Guesses.{opened, next_of, undecided_of, is_full, is_undecided, status_of, decided};
 ghost use Rattle.sk_guesses.specs.Calls.{Draws, redeemed};
 
 use crate::{Guess, Redeemed, Status};
@@ -12,9 +14,6 @@ use thiserror::Error;
 
 /// The greatest number of undecided guesses.
 pub const GUESS_LIMIT: usize = 64;
-
-/// The last number of a guess.
-pub const LAST_NUMBER: u64 = (1 << 63) - 1;
 
 /// Why no guess was drawn.
 #[derive(Debug, Drop, PartialEq, Eq, Error)]
@@ -35,14 +34,16 @@ pub struct Guesses {
 }
 
 impl Model for Guesses {
-    ghost use Rattle.std.specs.Prelude.{◌≡◌, ◌<◌, ◌≤◌, ◌^◌, length};
+    ghost use Rattle.std.specs.Prelude.{◌≡◌, ◌≤◌, length};
+    ghost use Rattle.sk_ids.specs.declared.guess.TheConstants.{LAST_GUESS};
+    ghost use Rattle.sk_guesses.specs.declared.guesses.TheConstants.{GUESS_LIMIT};
     ghost use Rattle.sk_guesses.specs.Guesses.{GuessesView, undecided_of};
 
     ghost Value = { GuessesView };
 
     ghost view = { λ a. record { kernel = a.kernel; statuses = a.statuses.items } };
 
-    ghost invariant = { λ a. (a.undecided ≡ undecided_of a.statuses.items) × (a.undecided ≤ 64) × (length a.statuses.items < 2 ^ 63) };
+    ghost invariant = { λ a. (a.undecided ≡ undecided_of a.statuses.items) × (a.undecided ≤ GUESS_LIMIT) × (length a.statuses.items ≤ LAST_GUESS) };
 }
 
 impl Guesses {
@@ -64,18 +65,18 @@ impl Guesses {
         self.kernel
     }
 
-    /// The number of the guess that is drawn next, up to 2^63.
+    /// The number of the guess that is drawn next; one above the last where all are drawn.
     pub fn next(&self) -> u64
         ensures value { result ≡ next_of self.now }
-        ensures limit { result ≤ 2 ^ 63 }
+        ensures limit { result ≤ LAST_GUESS + 1 }
     {
         self.statuses.len() as u64 + 1
     }
 
-    /// How many guesses are undecided, up to 64.
+    /// How many guesses are undecided.
     pub fn undecided(&self) -> usize
         ensures value { result ≡ undecided_of self.now.statuses }
-        ensures limit { result ≤ 64 }
+        ensures limit { result ≤ GUESS_LIMIT }
     {
         self.undecided
     }
@@ -84,25 +85,34 @@ impl Guesses {
     pub fn is_full(&self) -> bool
         ensures { result ≡ is_full self.now }
     {
-        self.undecided >= GUESS_LIMIT || self.next() > LAST_NUMBER
+        self.free().is_none()
+    }
+
+    /// The guess that `draw` would draw; `None` where it would answer `TooMany`.
+    fn free(&self) -> Option<GuessId>
+        ensures some { is_some result ≡ not (is_full self.now) }
+        ensures value { IfSome result (λ id. id ≡ next_of self.now) }
+    {
+        if self.undecided >= GUESS_LIMIT {
+            return None;
+        }
+        GuessId::new(self.next())
     }
 
     /// What became of a guess; `None` where it was never drawn.
     pub fn status(&self, id: GuessId) -> Option<Status>
         ensures { result ≡ status_of self.now id }
     {
-        let place = id.number().checked_sub(1)?;
-        self.statuses.get(place as usize).copied()
+        self.statuses.get((id.number() - 1) as usize).copied()
     }
 
     /// Draws the next number, whose guess is undecided. After a refusal everything is as it was.
     pub fn draw(&mut self) -> Result<Guess, DrawRefusal>
         ensures { Draws self.old self.new result }
     {
-        if self.is_full() {
+        let Some(id) = self.free() else {
             return Err(DrawRefusal::TooMany);
-        }
-        let id = GuessId::new(self.next());
+        };
         if self.statuses.push(Status::Undecided).is_err() {
             return Err(DrawRefusal::Memory);
         }
@@ -128,7 +138,7 @@ impl Guesses {
     /// Commits an undecided guess.
     pub fn commit(&mut self, id: GuessId)
         requires { status_of self.old id ≡ Some Undecided }
-        ensures { self.new ≡ with_status self.old id Committed }
+        ensures { self.new ≡ decided self.old id Committed }
     {
         self.decide(id, Status::Committed);
     }
@@ -136,7 +146,7 @@ impl Guesses {
     /// Fails an undecided guess.
     pub fn fail(&mut self, id: GuessId)
         requires { status_of self.old id ≡ Some Undecided }
-        ensures { self.new ≡ with_status self.old id Failed }
+        ensures { self.new ≡ decided self.old id Failed }
     {
         self.decide(id, Status::Failed);
     }
@@ -144,7 +154,7 @@ impl Guesses {
     /// Strikes an undecided guess, whose step another's failure took away.
     pub fn strike(&mut self, id: GuessId)
         requires { status_of self.old id ≡ Some Undecided }
-        ensures { self.new ≡ with_status self.old id Struck }
+        ensures { self.new ≡ decided self.old id Struck }
     {
         self.decide(id, Status::Struck);
     }
@@ -152,7 +162,7 @@ impl Guesses {
     fn decide(&mut self, id: GuessId, status: Status)
         requires was { status_of self.old id ≡ Some Undecided }
         requires becomes { is_undecided status ≡ false }
-        ensures { self.new ≡ with_status self.old id status }
+        ensures { self.new ≡ decided self.old id status }
     {
         let place = (id.number() - 1) as usize;
         self.statuses[place] = status;

@@ -1,19 +1,18 @@
 //! Laws of statuses. Each is the contract of a function that does nothing.
-ghost use Rattle.std.specs.Prelude.{◌≡◌, ◌≢◌, ◌+◌, ℕ, false, Some};
-ghost use Rattle.sk_guesses.specs.Guesses.{GuessesView, drawn, next_of, status_of, with_status, is_undecided, undecided_of};
-ghost use Rattle.sk_guesses.specs.declared.status.Status.{Status};
-ghost use Rattle.sk_guesses.specs.declared.status.Status.TheVariants.{Undecided};
+ghost use Rattle.std.specs.Prelude.{◌≡◌, ◌+◌, ℕ, false, Some};
+ghost use Rattle.sk_record.specs.Machine.{with_status, with_drawn};
+ghost use Rattle.sk_record.specs.declared.status.Status.{Status};
+ghost use Rattle.sk_record.specs.declared.status.Status.TheVariants.{Undecided};
+ghost use Rattle.sk_guesses.specs.Guesses.{GuessesView, drawn, next_of, status_of, decided, is_undecided, undecided_of};
 
-/// A draw makes the next guess undecided, and leaves every other status.
-pub fn status_after_draw()
-    ensures next { (v : GuessesView) → status_of (drawn v) (next_of v) ≡ Some Undecided }
-    ensures others { (v : GuessesView) (id : ℕ) → id ≢ next_of v → status_of (drawn v) id ≡ status_of v id }
+/// After a draw the next guess is undecided, and every other status is as before.
+pub fn statuses_after_draw()
+    ensures statuses { (v : GuessesView) (id : ℕ) → status_of (drawn v) id ≡ with_drawn (Some (next_of v)) (status_of v) id }
     ensures count { (v : GuessesView) → undecided_of (drawn v).statuses ≡ undecided_of v.statuses + 1 }
 {}
 
-/// A decision sets the status of its guess, and leaves every other.
-pub fn status_after_decision()
-    ensures decided { (v : GuessesView) (id : ℕ) (s : Status) → status_of v id ≡ Some Undecided → status_of (with_status v id s) id ≡ Some s }
-    ensures others { (v : GuessesView) (id other : ℕ) (s : Status) → status_of v id ≡ Some Undecided → other ≢ id → status_of (with_status v id s) other ≡ status_of v other }
-    ensures count { (v : GuessesView) (id : ℕ) (s : Status) → status_of v id ≡ Some Undecided → is_undecided s ≡ false → undecided_of (with_status v id s).statuses + 1 ≡ undecided_of v.statuses }
+/// A guess that was drawn has the status that it is given, and every other status is as before.
+pub fn statuses_after_decision()
+    ensures statuses { (v : GuessesView) (id : ℕ) (was s : Status) → status_of v id ≡ Some was → (other : ℕ) → status_of (decided v id s) other ≡ with_status id s (status_of v) other }
+    ensures count { (v : GuessesView) (id : ℕ) (s : Status) → status_of v id ≡ Some Undecided → is_undecided s ≡ false → undecided_of (decided v id s).statuses + 1 ≡ undecided_of v.statuses }
 {}

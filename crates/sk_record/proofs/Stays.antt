@@ -8,15 +8,11 @@ use Rattle.sk_record.specs.Step.{perform}
 use Rattle.sk_record.specs.Run.{System}
 use Rattle.sk_record.specs.Notes.{without}
 use Rattle.sk_record.specs.Trace.{Event, Taken, Commit, Fail, IsSound}
-use Rattle.sk_record.specs.Release.{IsClear, IsReleased}
+use Rattle.sk_record.specs.Release.{IsClear, IsReleased, IsFront}
 use Rattle.sk_record.specs.Machine.{Machine, Tagged, released, released_if, lightened, not_dropped, moved, took_by, machine_after, machine_at_start}
 use Rattle.sk_record.proofs.Machine.{nil_right}
 use Rattle.sk_record.proofs.Sound.{sound_before, tail_of, first_or}
 use Rattle.sk_record.proofs.Headline.{headline}
-
--- the first list is a front part of the second
-abbrev pub IsFront : {A : Type 0} → List A → List A → Type 0
-IsFront xs ys = (rest : List _) × (ys ≡ xs ++ rest)
 
 front_same : {A : Type 0} (xs : List A) → IsFront xs xs
 front_same xs = ([], sym (nil_right xs))
@@ -31,7 +27,7 @@ front_on : {A : Type 0} (xs ys zs : List A) → IsFront xs ys → IsFront ys zs 
 front_on xs ys zs f h = (f.0 ++ h.0, h.1 ∙ ap (λ ys. ys ++ h.0) f.1 ∙ append_assoc xs f.0 h.0)
 
 module _ {W : Type 0} where
-  said_more : (xs ys : List (Tagged W)) → IsFront (released xs) (released (xs ++ ys))
+  pub said_more : (xs ys : List (Tagged W)) → IsFront (released xs) (released (xs ++ ys))
   said_more [] ys = front_all (released ys)
   said_more (x ∷ xs) ys =
       elim x.1 as (λ tags. IsFront (released_if tags x.0 (released xs)) (released_if tags x.0 (released (xs ++ ys)))) [
@@ -39,7 +35,7 @@ module _ {W : Type 0} where
         | t ∷ tags ↦ front_all []
       ]
 
-  fewer_tags : (g : ℕ) (xs : List (Tagged W)) → IsFront (released xs) (released (lightened g xs))
+  pub fewer_tags : (g : ℕ) (xs : List (Tagged W)) → IsFront (released xs) (released (lightened g xs))
   fewer_tags g [] = front_all []
   fewer_tags g (x ∷ xs) =
       elim x.1 as (λ tags. IsFront (released_if tags x.0 (released xs)) (released_if (without g tags) x.0 (released (lightened g xs)))) [
@@ -47,7 +43,7 @@ module _ {W : Type 0} where
         | t ∷ tags ↦ front_all (released_if (without g (t ∷ tags)) x.0 (released (lightened g xs)))
       ]
 
-  fewer_texts : (g : ℕ) (xs : List (Tagged W)) → IsFront (released xs) (released (not_dropped g xs))
+  pub fewer_texts : (g : ℕ) (xs : List (Tagged W)) → IsFront (released xs) (released (not_dropped g xs))
   fewer_texts g [] = front_all []
   fewer_texts g ((w, []) ∷ xs) = front_cons w (released xs) (released (not_dropped g xs)) (fewer_texts g xs)
   fewer_texts g ((w, t ∷ tags) ∷ xs) = front_all (released (not_dropped g ((w, t ∷ tags) ∷ xs)))
@@ -91,7 +87,7 @@ module _ {E V W F N : Type 0} (K : System E V W F N) (start : FinMap K.order V) 
       ∙ sym b.texts
 
   pub stays_released : IsTotalOrder K.order → IsAntisymmetric K.order → (es more : List (Event N)) → IsSound K start (es ++ more) → (t : ℕ) (ws vs : List W)
-      → IsReleased K start es t ws → IsReleased K start (es ++ more) t vs → (rest : List W) × (vs ≡ ws ++ rest)
+      → IsReleased K start es t ws → IsReleased K start (es ++ more) t vs → IsFront ws vs
   stays_released total exact es more sound t ws vs a b =
       let m = machine_after K start es in
       let was : ws ≡ released (m.texts t) = one_release es t ws _ a ((headline K total exact start es (sound_before K start es more sound)).releases t) in

@@ -9,7 +9,7 @@ use Rattle.sk_record.specs.Run.{System, outcome, run, IsLegal, effects}
 use Rattle.sk_record.specs.Strike.{struck, strike}
 use Rattle.sk_record.specs.Notes.{has, without, unwound, cut, carried, committed, tags_along}
 use Rattle.sk_record.specs.Trace.{Event, Commit, Fail, Status, Undecided, IsDrawn, StatusIs, IsTagAt, IsSound, record_of, effects_of, undecided_of}
-use Rattle.sk_record.specs.Release.{IsReleased}
+use Rattle.sk_record.specs.Release.{IsReleased, IsFront}
 use Rattle.sk_record.specs.UndoState.{log_of}
 use Rattle.sk_record.specs.Machine.{machine_after, IsPlainRun}
 
@@ -135,7 +135,7 @@ module _ {E V W F N : Type 0} (K : System E V W F N) where
   abbrev pub StaysReleased : Type 0
   StaysReleased =
       (start : FinMap K.order V) (es later : List (Event N)) (t : ℕ) (before after : List W) → IsSound K start (es ++ later)
-      → IsReleased K start es t before → IsReleased K start (es ++ later) t after → (rest : List W) × (after ≡ before ++ rest)
+      → IsReleased K start es t before → IsReleased K start (es ++ later) t after → IsFront before after
 
   -- after every sound trace the machine, which runs no step again, is what the plain kernel makes of the trace's record
   abbrev pub Headline : Type 0

@@ -6,6 +6,10 @@ use Rattle.sk_record.specs.Effects.{MarkedEffect}
 use Rattle.sk_record.specs.Run.{System}
 use Rattle.sk_record.specs.Trace.{Event, IsTagAt, effects_of}
 
+-- the first list is a front part of the second
+abbrev pub IsFront : {A : Type 0} → List A → List A → Type 0
+IsFront xs ys = (rest : List _) × (ys ≡ xs ++ rest)
+
 module _ {E V W F N : Type 0} (K : System E V W F N) where
   -- a step's text, labelled, where it goes to the terminal t
   abbrev pub said_by : {A : Type 0} → ℕ → Option W → A → List (W × A)

@@ -1,62 +1,56 @@
 -- A terminal as its released texts and its waiting ones, against the one list of all: by recursion over the released ones.
-use Rattle.std.specs.Prelude.{◌≡◌, ℕ, suc, ◌+◌, true, false, List, [], ◌∷◌, ◌++◌, length, map, take, drop}
-use Rattle.std.proofs.Common.{arith, refl, ap, sym, ◌∙◌, zero-add, append_assoc}
-use Rattle.std.specs.List.{take_while, prefix_len}
-use Rattle.std.proofs.lemmas.List.{map-append, take-append-drop}
-use Rattle.std.proofs.lemmas.List.Sums.{take_while-cons}
-use Rattle.sk_terminal.specs.declared.buffered_text.BufferedText.{BufferedText}
-use Rattle.sk_terminal.specs.Terminal.{is_clear, clear, released_of, waiting_of, committed_of, left_of}
+use Rattle.std.specs.Prelude.{◌≡◌, ℕ, suc, ◌+◌, ◌==◌, false, List, [], ◌∷◌, ◌++◌, length, map, take, drop}
+use Rattle.std.proofs.Common.{arith, refl, ap, sym, zero-add, append_assoc}
+use Rattle.std.specs.List.{prefix_len}
+use Rattle.std.proofs.lemmas.Bool.{ne_eqb}
+use Rattle.std.proofs.lemmas.List.{map-append}
+use Rattle.sk_record.specs.Machine.{released, lightened, not_dropped}
+use Rattle.sk_terminal.specs.Terminal.{TaggedText, is_clear, clear, waiting_of}
 
-pub released-yes : (x : BufferedText) (xs : List BufferedText) → is_clear x ≡ true → released_of (x ∷ xs) ≡ x.text ∷ released_of xs
-released-yes x xs h = rw (take_while-cons is_clear x xs, h) refl
+-- the released texts are those before the first that rests on a guess
+pub prefix-released : (xs : List TaggedText) → prefix_len is_clear xs ≡ length (released xs)
+prefix-released [] = refl
+prefix-released ((w, []) ∷ xs) = omega (arith, prefix-released xs)
+prefix-released ((w, t ∷ tags) ∷ xs) =
+    let rests : (suc (length tags) == 0) ≡ false = ne_eqb (suc (length tags)) 0 (λ e. omega (arith, e)) in
+    rw rests refl
 
-pub released-no : (x : BufferedText) (xs : List BufferedText) → is_clear x ≡ false → released_of (x ∷ xs) ≡ []
-released-no x xs h = rw (take_while-cons is_clear x xs, h) refl
+pub released-clear : (rs : List (List ℕ)) (ws : List TaggedText) → released ws ≡ [] → released (map clear rs ++ ws) ≡ rs
+released-clear [] ws h = h
+released-clear (r ∷ rs) ws h = ap (λ (l : List (List ℕ)). r ∷ l) (released-clear rs ws h)
 
-pub released-clear : (rs : List (List ℕ)) (ws : List BufferedText) → prefix_len is_clear ws ≡ 0 → released_of (map clear rs ++ ws) ≡ rs
-released-clear [] ws h = rw h refl
-released-clear (r ∷ rs) ws h = released-yes (clear r) (map clear rs ++ ws) refl ∙ ap (λ (l : List (List ℕ)). r ∷ l) (released-clear rs ws h)
-
-length-clear : (rs : List (List ℕ)) (ws : List BufferedText) → length (map clear rs ++ ws) ≡ length rs + length ws
+length-clear : (rs : List (List ℕ)) (ws : List TaggedText) → length (map clear rs ++ ws) ≡ length rs + length ws
 length-clear [] ws = sym (zero-add (length ws))
 length-clear (r ∷ rs) ws = omega (arith, length-clear rs ws)
 
-pub waiting-clear : (rs : List (List ℕ)) (ws : List BufferedText) → prefix_len is_clear ws ≡ 0 → waiting_of (map clear rs ++ ws) ≡ length ws
+pub waiting-clear : (rs : List (List ℕ)) (ws : List TaggedText) → released ws ≡ [] → waiting_of (map clear rs ++ ws) ≡ length ws
 waiting-clear rs ws h = rw (released-clear rs ws h) (omega (arith, length-clear rs ws))
 
-pub committed-clear : (id : ℕ) (rs : List (List ℕ)) (ws : List BufferedText) → committed_of id (map clear rs ++ ws) ≡ map clear rs ++ committed_of id ws
-committed-clear id [] ws = refl
-committed-clear id (r ∷ rs) ws = ap (λ (l : List BufferedText). clear r ∷ l) (committed-clear id rs ws)
+pub lightened-clear : (id : ℕ) (rs : List (List ℕ)) (ws : List TaggedText) → lightened id (map clear rs ++ ws) ≡ map clear rs ++ lightened id ws
+lightened-clear id [] ws = refl
+lightened-clear id (r ∷ rs) ws = ap (λ (l : List TaggedText). clear r ∷ l) (lightened-clear id rs ws)
 
-pub left-clear : (id : ℕ) (rs : List (List ℕ)) (ws : List BufferedText) → left_of id (map clear rs ++ ws) ≡ map clear rs ++ left_of id ws
-left-clear id [] ws = refl
-left-clear id (r ∷ rs) ws = ap (λ (l : List BufferedText). clear r ∷ l) (left-clear id rs ws)
+pub not_dropped-clear : (id : ℕ) (rs : List (List ℕ)) (ws : List TaggedText) → not_dropped id (map clear rs ++ ws) ≡ map clear rs ++ not_dropped id ws
+not_dropped-clear id [] ws = refl
+not_dropped-clear id (r ∷ rs) ws = ap (λ (l : List TaggedText). clear r ∷ l) (not_dropped-clear id rs ws)
 
-pub no_tags : (tags : List ℕ) (text : List ℕ) → is_clear (record { text = text; tags = tags }) ≡ true → tags ≡ []
-no_tags [] text h = refl
-no_tags (t ∷ ts) text h = grind arith
+-- the released texts, and what follows them
+again : (ws : List TaggedText) → map clear (released ws) ++ drop (length (released ws)) ws ≡ ws
+again [] = refl
+again ((w, []) ∷ xs) = ap (λ (l : List TaggedText). clear w ∷ l) (again xs)
+again ((w, t ∷ tags) ∷ xs) = refl
 
-clear_again : (x : BufferedText) → is_clear x ≡ true → clear x.text ≡ x
-clear_again x h = ap (λ (tags : List ℕ). let made : BufferedText = record { text = x.text; tags = tags } in made) (sym (no_tags x.tags x.text h))
+-- what follows them begins with a text that rests on a guess
+pub released-rest : (ws : List TaggedText) → released (drop (length (released ws)) ws) ≡ []
+released-rest [] = refl
+released-rest ((w, []) ∷ xs) = released-rest xs
+released-rest ((w, t ∷ tags) ∷ xs) = refl
 
--- the released texts are those of the prefix
-pub prefix-again : (ws : List BufferedText) → map clear (released_of ws) ≡ take (prefix_len is_clear ws) ws
-prefix-again [] = refl
-prefix-again (x ∷ xs) =
-    elim (is_clear x) as (λ b. is_clear x ≡ b → map clear (released_of (x ∷ xs)) ≡ take_while is_clear (x ∷ xs)) [
-      | true ↦ λ h. rw (take_while-cons is_clear x xs, h) (rw (clear_again x h) (ap (λ (l : List BufferedText). x ∷ l) (prefix-again xs)))
-      | false ↦ λ h. rw (take_while-cons is_clear x xs, h) refl
-    ] refl
+pub released-parts : (rs : List (List ℕ)) (ws : List TaggedText) → map clear (rs ++ released ws) ++ drop (length (released ws)) ws ≡ map clear rs ++ ws
+released-parts rs ws = rw (map-append, append_assoc, again ws) refl
 
--- what follows the prefix begins with a text that rests on a guess
-pub prefix-rest : (ws : List BufferedText) → prefix_len is_clear (drop (prefix_len is_clear ws) ws) ≡ 0
-prefix-rest [] = refl
-prefix-rest (x ∷ xs) =
-    elim (is_clear x) as (λ b. is_clear x ≡ b → prefix_len is_clear (drop (prefix_len is_clear (x ∷ xs)) (x ∷ xs)) ≡ 0) [
-      | true ↦ λ h. let one_more : 1 + prefix_len is_clear xs ≡ suc (prefix_len is_clear xs) = omega arith in rw (h, one_more) (prefix-rest xs)
-      | false ↦ λ h. rw (h, h) refl
-    ] refl
-
--- the prefix, and what follows it
-pub prefix-parts : (rs : List (List ℕ)) (ws : List BufferedText) → map clear (rs ++ released_of ws) ++ drop (prefix_len is_clear ws) ws ≡ map clear rs ++ ws
-prefix-parts rs ws = rw (map-append, prefix-again ws, append_assoc, take-append-drop) refl
+-- their texts are those of the prefix
+pub released-taken : (ws : List TaggedText) → map (λ (said : TaggedText). said.0) (take (length (released ws)) ws) ≡ released ws
+released-taken [] = refl
+released-taken ((w, []) ∷ xs) = ap (λ (l : List (List ℕ)). w ∷ l) (released-taken xs)
+released-taken ((w, t ∷ tags) ∷ xs) = refl

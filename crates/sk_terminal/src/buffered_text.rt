@@ -1,19 +1,59 @@
 //! A text that was said.
 ghost use Rattle.std.specs.Prelude.{◌≡◌};
+ghost use Rattle.sk_record.specs.Notes.{has, without};
 ghost use Rattle.sk_terminal.specs.Terminal.{is_clear};
 
-use sk_ids::{TagSet, Text};
+use sk_ids::{GuessId, TagSet, Text};
+use std::marker::Model;
 
-/// A text with the undecided guesses that it rests on.
+/// A text with the undecided guesses that it rests on; contracts see the two as a pair.
 #[derive(Drop)]
-pub struct BufferedText {
-    pub text: Text,
-    pub tags: TagSet,
+pub(crate) struct BufferedText {
+    text: Text,
+    tags: TagSet,
 }
 
-/// Whether it rests on no guess.
-pub(crate) fn is_clear(held: &BufferedText) -> bool
-    ensures { result ≡ is_clear held.now }
-{
-    held.tags.ids().is_empty()
+impl Model for BufferedText {
+    ghost use Rattle.sk_terminal.specs.Terminal.{TaggedText};
+
+    ghost Value = { TaggedText };
+
+    ghost view = { λ a. (a.text, a.tags) };
+}
+
+impl BufferedText {
+    /// A text that rests on these guesses.
+    pub(crate) fn new(text: Text, tags: TagSet) -> BufferedText
+        ensures { result ≡ (text, tags) }
+    {
+        BufferedText { text, tags }
+    }
+
+    /// What was said.
+    pub(crate) fn text(&self) -> Text
+        ensures { result ≡ self.now.0 }
+    {
+        self.text
+    }
+
+    /// Whether it rests on no guess.
+    pub(crate) fn is_clear(&self) -> bool
+        ensures { result ≡ is_clear self.now }
+    {
+        self.tags.ids().is_empty()
+    }
+
+    /// Whether it rests on a guess.
+    pub(crate) fn rests_on(&self, id: GuessId) -> bool
+        ensures { result ≡ has id self.now.1 }
+    {
+        self.tags.contains(id)
+    }
+
+    /// Takes a guess from what it rests on. This takes no memory.
+    pub(crate) fn without(&mut self, id: GuessId)
+        ensures { self.new ≡ (self.old.0, without id self.old.1) }
+    {
+        self.tags.without(id);
+    }
 }

@@ -1,11 +1,10 @@
 //! The texts said to a terminal, released once they rest on no undecided guess.
 #![tactic(auto)]
 
-pub mod buffered_text;
+mod buffered_text;
 pub mod laws;
 pub mod terminal;
 pub mod terminals;
 
-pub use buffered_text::BufferedText;
 pub use terminal::Terminal;
 pub use terminals::Terminals;

@@ -3,7 +3,7 @@ ghost use Rattle.std.specs.Prelude.{◌≡◌, ℕ, OnOk, OnErr, OnSome};
 ghost use Rattle.std.specs.Option.{option_copied, option_copied_mut, option_map};
 ghost use Rattle.std.specs.Borrow.{LendsSo, sem};
 ghost use Rattle.std.specs.FinMap as map;
-ghost use Rattle.sk_terminal.specs.Terminal.{committed_of, left_of};
+ghost use Rattle.sk_record.specs.Machine.{lightened, not_dropped};
 ghost use Rattle.sk_terminal.specs.contracts.terminal.Terminal.{the_row as terminal_row};
 ghost use Rattle.sk_terminal.specs.Terminals.{texts_at, said_to};
 ghost use Rattle.sk_terminal.specs.contracts.terminals.Terminals.{the_row as terminals_row};
@@ -67,7 +67,7 @@ impl Terminals {
 
     /// Says a text to a terminal. Without memory everything is as it was.
     pub fn say(&mut self, number: u16, text: Text, tags: TagSet) -> Result<(), AllocError>
-        ensures ok { OnOk result (self.new ≡ said_to self.old number (record { text = text; tags = tags })) }
+        ensures ok { OnOk result (self.new ≡ said_to self.old number (text, tags)) }
         ensures err { OnErr result (self.new ≡ self.old) }
     {
         if let Some(terminal) = self.get_mut(number) {
@@ -80,8 +80,8 @@ impl Terminals {
 
     /// A guess is committed: no text rests on it any more. This takes no memory.
     pub fn commit(&mut self, id: GuessId)
-        ensures terminals { (t : ℕ) → map.get self.new t ≡ option_map (committed_of id) (map.get self.old t) }
-        ensures texts { (t : ℕ) → texts_at self.new t ≡ committed_of id (texts_at self.old t) }
+        ensures terminals { (t : ℕ) → map.get self.new t ≡ option_map (lightened id) (map.get self.old t) }
+        ensures texts { (t : ℕ) → texts_at self.new t ≡ lightened id (texts_at self.old t) }
     {
         self.terminals.retain(|_number, terminal: &mut Terminal| {
             terminal.commit(id);
@@ -91,8 +91,8 @@ impl Terminals {
 
     /// Throws away the texts that rest on a guess. This takes no memory.
     pub fn drop_of(&mut self, id: GuessId)
-        ensures terminals { (t : ℕ) → map.get self.new t ≡ option_map (left_of id) (map.get self.old t) }
-        ensures texts { (t : ℕ) → texts_at self.new t ≡ left_of id (texts_at self.old t) }
+        ensures terminals { (t : ℕ) → map.get self.new t ≡ option_map (not_dropped id) (map.get self.old t) }
+        ensures texts { (t : ℕ) → texts_at self.new t ≡ not_dropped id (texts_at self.old t) }
     {
         self.terminals.retain(|_number, terminal: &mut Terminal| {
             terminal.drop_of(id);

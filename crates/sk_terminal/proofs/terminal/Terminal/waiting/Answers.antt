@@ -6,4 +6,4 @@ use Rattle.sk_terminal.proofs.terminal.Terminal.waiting.Goals as goal
 pub returns : goal.returns
 returns c =
     let count : c.len.result ≡ length c.self.inside.waiting.items = search rules in
-    rw (← c.self.view_is) (count ∙ sym (waiting-clear c.self.inside.released.items c.self.inside.waiting.items c.self.invariant.0))
+    rw (← c.self.view_is) (count ∙ sym (waiting-clear c.self.inside.out.items c.self.inside.waiting.items c.self.invariant.0))

@@ -2,15 +2,15 @@
 use Rattle.std.proofs.Common.{ap, ◌∙◌, refl, rules, []}
 use Rattle.std.specs.Option.{option_map, unwrap_or}
 use Rattle.std.specs.FinMap as map
-use Rattle.sk_terminal.specs.Terminal.{committed_of}
+use Rattle.sk_record.specs.Machine.{lightened}
 use Rattle.sk_terminal.proofs.TerminalMaps.{changed, changed_texts}
 use Rattle.sk_terminal.proofs.terminals.Terminals.commit.Goals as goal
 
 pub returns-clause-terminals : goal.returns-clause-terminals
 returns-clause-terminals c t =
-    changed _ _ (committed_of c.args.id) (λ t v b w f' step. search rules) c.self.inside.terminals.entries c.retain.new.self.entries c.retain.ensures.filtered t
-    ∙ ap (λ m. option_map (committed_of c.args.id) (map.get m t)) c.self.view_is
+    changed _ _ (lightened c.args.id) (λ t v b w f' step. search rules) c.self.inside.terminals.entries c.retain.new.self.entries c.retain.ensures.filtered t
+    ∙ ap (λ m. option_map (lightened c.args.id) (map.get m t)) c.self.view_is
 
 pub returns-clause-texts : goal.returns-clause-texts
 returns-clause-texts c t =
-    ap (λ texts. unwrap_or texts []) (returns-clause-terminals c t) ∙ changed_texts (committed_of c.args.id) refl (map.get c.args.self.now t)
+    ap (λ texts. unwrap_or texts []) (returns-clause-terminals c t) ∙ changed_texts (lightened c.args.id) refl (map.get c.args.self.now t)

@@ -2,3 +2,4 @@ pub mod Cells
 pub mod GuessSets
 pub mod Entities
 pub mod Views
+pub mod Ordered

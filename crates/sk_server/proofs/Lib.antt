@@ -1,3 +1,2 @@
-mod Ordered
 mod Remembered
 mod Judged

@@ -4,7 +4,7 @@ use Rattle.std.specs.Prelude.{IfOk, map}
 use Rattle.std.specs.BTreeMap.{keys}
 use Rattle.std.specs.Cmp.Lexicographic.{nat_list_cmp_total}
 use Rattle.std.specs.FinMap as fin
-use Rattle.sk_server.proofs.Ordered.{entries_view}
+use Rattle.sk_ids.proofs.Ordered.{entries_view}
 use Rattle.sk_server.proofs.files.Files.names.Goals as goal
 
 pub returns-clause-keys : goal.returns-clause-keys

@@ -4,7 +4,7 @@ use sk_objects::Content;
 use sk_plain::{Entry, Event, Refusal, Trace, apply_plan, plan_step, strike_guess};
 use sk_script::{Boot, Input, ObjectKind, ROOT, Register, Script, Val};
 use sk_store::{EntityState, Look, Store};
-use std::alloc::{AllocError, Global};
+use std::alloc::Global;
 use std::process::Abort;
 use std::test::Fail;
 
@@ -41,12 +41,16 @@ enum Did {
     Guesses(u16),
 }
 
+fn first_guess() -> Result<GuessId, Fail> {
+    Ok(GuessId::new(1).ok_or("guess")?)
+}
+
 fn entry_of(did: Did) -> Result<Entry, Fail> {
     let (number, input, guess) = match did {
         Did::Steps(number) => (number, Input::None, None),
         Did::Good(number) => (number, Input::Good, None),
         Did::Fresh(number) => (number, Input::Fresh(content(2)?), None),
-        Did::Guesses(number) => (number, Input::Good, Some(GuessId::new(1))),
+        Did::Guesses(number) => (number, Input::Good, Some(first_guess()?)),
     };
     let pid = Pid::boot(number).ok_or("pid")?;
     Ok(Entry { pid, input, guess })
@@ -63,7 +67,8 @@ fn entries_of(alloc: Global, record: &[Did]) -> Result<Vec<Entry>, Fail> {
 /// What is left of a record when its guess fails.
 fn left(alloc: Global, boot: &Boot, entries: &[Entry]) -> Result<Vec<Entry>, Fail> {
     let mut store = Store::start(alloc, boot)?;
-    Ok(strike_guess(alloc, &mut store, boot.scripts(), entries, GuessId::new(1))?)
+    let guess = first_guess()?;
+    Ok(strike_guess(alloc, &mut store, boot.scripts(), entries, guess)?)
 }
 
 /// This is left of a record of two processes with these scripts, when its guess fails.
@@ -258,11 +263,11 @@ fn starts_with_what_is_declared(rt: HostRuntime) -> Result<(), Fail> {
 }
 
 /// A trace of a step and a commit.
-fn two_events(alloc: Global, step: Entry) -> Result<Trace, AllocError> {
+fn two_events(alloc: Global, step: Entry) -> Result<Trace, Fail> {
     let mut trace = Trace::new(alloc);
     trace.reserve(2)?;
     trace.push(Event::Step(step));
-    trace.push(Event::Commit(GuessId::new(1)));
+    trace.push(Event::Commit(first_guess()?));
     Ok(trace)
 }
 
@@ -270,7 +275,7 @@ fn two_events(alloc: Global, step: Entry) -> Result<Trace, AllocError> {
 fn keeps_events(rt: HostRuntime) -> Result<(), Fail> {
     let step = entry_of(Did::Steps(1))?;
     let trace = two_events(rt.alloc(), step)?;
-    let want = [Event::Step(step), Event::Commit(GuessId::new(1))];
+    let want = [Event::Step(step), Event::Commit(first_guess()?)];
     assert_eq!(rt; trace.events(), want.as_slice());
     Ok(())
 }

@@ -10,19 +10,25 @@ enum Decision {
     Fail(u64),
 }
 
-fn decide(terminal: &mut Terminal, decision: Decision) {
-    match decision {
-        Decision::Commit(number) => terminal.commit(GuessId::new(number)),
-        Decision::Fail(number) => terminal.drop_of(GuessId::new(number)),
-    }
+fn guess(number: u64) -> Result<GuessId, Fail> {
+    Ok(GuessId::new(number).ok_or("guess")?)
 }
 
-fn say(alloc: Global, terminal: &mut Terminal, text: u8, on: &[u64]) -> Result<(), AllocError> {
+fn decide(terminal: &mut Terminal, decision: Decision) -> Result<(), Fail> {
+    match decision {
+        Decision::Commit(number) => terminal.commit(guess(number)?),
+        Decision::Fail(number) => terminal.drop_of(guess(number)?),
+    }
+    Ok(())
+}
+
+fn say(alloc: Global, terminal: &mut Terminal, text: u8, on: &[u64]) -> Result<(), Fail> {
     let mut tags = TagSet::new(alloc);
     for number in on {
-        tags = tags.union(&TagSet::of(alloc, GuessId::new(*number)))?;
+        tags = tags.union(&TagSet::of(alloc, guess(*number)?))?;
     }
-    terminal.say(Text::new([text].as_slice()).unwrap_or(Text::empty()), tags)
+    terminal.say(Text::new([text].as_slice()).unwrap_or(Text::empty()), tags)?;
+    Ok(())
 }
 
 /// The released one-letter texts as one, and how many wait.
@@ -41,7 +47,7 @@ fn one_text(bytes: &[u8]) -> Text {
 }
 
 /// Texts `a` to `e`, those of `b`, `d` and `e` on guesses 1, 1 and 2, and 2.
-fn says_five(alloc: Global, terminal: &mut Terminal) -> Result<(), AllocError> {
+fn says_five(alloc: Global, terminal: &mut Terminal) -> Result<(), Fail> {
     let says: [(u8, &[u64]); 5] = [
         (b'a', &[]),
         (b'b', &[1]),
@@ -56,13 +62,13 @@ fn says_five(alloc: Global, terminal: &mut Terminal) -> Result<(), AllocError> {
 }
 
 /// What a terminal shows at first, and after each of two decisions.
-fn shown_after(alloc: Global, first: Decision, second: Decision) -> Result<[Shown; 3], AllocError> {
+fn shown_after(alloc: Global, first: Decision, second: Decision) -> Result<[Shown; 3], Fail> {
     let mut terminal = Terminal::new(alloc);
     says_five(alloc, &mut terminal)?;
     let at_first = shown(alloc, &terminal)?;
-    decide(&mut terminal, first);
+    decide(&mut terminal, first)?;
     let after_one = shown(alloc, &terminal)?;
-    decide(&mut terminal, second);
+    decide(&mut terminal, second)?;
     Ok([at_first, after_one, shown(alloc, &terminal)?])
 }
 

@@ -1,30 +1,34 @@
 //! Tag sets, processes and entities.
 use sk_ids::{Entity, GuessId, Name, Pid, TagSet, Text};
-use std::alloc::{AllocError, Global};
+use std::alloc::Global;
 use std::cmp::Ordering;
 use std::test::Fail;
 
-fn set(alloc: Global, numbers: &[u64]) -> Result<TagSet, AllocError> {
+fn guess(number: u64) -> Result<GuessId, Fail> {
+    Ok(GuessId::new(number).ok_or("guess")?)
+}
+
+fn set(alloc: Global, numbers: &[u64]) -> Result<TagSet, Fail> {
     let mut all = TagSet::new(alloc);
     for number in numbers {
-        all = all.union(&TagSet::of(alloc, GuessId::new(*number)))?;
+        all = all.union(&TagSet::of(alloc, guess(*number)?))?;
     }
     Ok(all)
 }
 
-fn union(alloc: Global, one: &[u64], other: &[u64]) -> Result<TagSet, AllocError> {
+fn union(alloc: Global, one: &[u64], other: &[u64]) -> Result<TagSet, Fail> {
     let one = set(alloc, one)?;
-    one.union(&set(alloc, other)?)
+    Ok(one.union(&set(alloc, other)?)?)
 }
 
-fn without(alloc: Global, numbers: &[u64], number: u64) -> Result<TagSet, AllocError> {
+fn without(alloc: Global, numbers: &[u64], number: u64) -> Result<TagSet, Fail> {
     let mut set = set(alloc, numbers)?;
-    set.without(GuessId::new(number));
+    set.without(guess(number)?);
     Ok(set)
 }
 
 /// The numbers of the guesses of a set, as they are listed, each of which it contains.
-fn numbers(alloc: Global, set: Result<TagSet, AllocError>) -> Result<Vec<u64>, AllocError> {
+fn numbers(alloc: Global, set: Result<TagSet, Fail>) -> Result<Vec<u64>, Fail> {
     let set = set?;
     let mut numbers = Vec::new(alloc);
     for id in set.ids() {
@@ -44,6 +48,16 @@ fn small_calls_of_tag_sets(rt: HostRuntime) -> Result<(), Fail> {
     assert_eq!(rt; less.as_slice(), [1, 3].as_slice());
     let nine = numbers(alloc, set(alloc, &[9, 8, 7, 6, 5, 4, 3, 2, 1]))?;
     assert_eq!(rt; nine.as_slice(), [1, 2, 3, 4, 5, 6, 7, 8, 9].as_slice());
+    Ok(())
+}
+
+#[test]
+fn limits_of_guess_numbers(rt: HostRuntime) -> Result<(), Fail> {
+    let last = 9_223_372_036_854_775_807;
+    assert_eq!(rt; guess(1)?.number(), 1);
+    assert_eq!(rt; guess(last)?.number(), last);
+    assert_eq!(rt; GuessId::new(0), None);
+    assert_eq!(rt; GuessId::new(last + 1), None);
     Ok(())
 }
 

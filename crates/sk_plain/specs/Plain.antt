@@ -7,7 +7,7 @@ use Rattle.sk_record.specs.Step.{Effect, perform}
 use Rattle.sk_record.specs.Run.{put_all}
 use Rattle.sk_ids.specs.declared.entity.Entity.{Entity}
 use Rattle.sk_ids.specs.contracts.entity.Entity as entity
-use Rattle.sk_terminal.specs.Terminal.{released_of}
+use Rattle.sk_record.specs.Machine.{released}
 use Rattle.sk_terminal.specs.Terminals.{TerminalMap, terminals_code, texts_at, said_to}
 use Rattle.sk_script.specs.Scripts.{ScriptMap, script_map_code}
 use Rattle.sk_script.specs.Boot.{BootView}
@@ -41,7 +41,7 @@ plain_start boot = record { scripts = boot.scripts; state = start_of boot; texts
 
 -- the texts said to a terminal so far
 abbrev pub texts_said : PlainView → ℕ → List (List ℕ)
-texts_said k t = released_of (texts_at k.texts t)
+texts_said k t = released (texts_at k.texts t)
 
 -- what the next step of a process does with an input
 abbrev pub step_of : PlainView → ℕ → Input → Result (Effect Entity EntityState Saying) Refusal
@@ -50,7 +50,7 @@ step_of k pid input = perform (map.get k.state) (act k.scripts pid input)
 -- after an accepted step
 abbrev pub with_said : TerminalMap → Option Saying → TerminalMap
 with_said texts None = texts
-with_said texts (Some s) = said_to texts s.to (record { text = s.text; tags = [] })
+with_said texts (Some s) = said_to texts s.to (s.text, [])
 
 abbrev pub stepped : PlainView → Effect Entity EntityState Saying → PlainView
 stepped k f = record k { state = put_all f.written k.state; texts = with_said k.texts f.said }

@@ -168,6 +168,15 @@ fn long_script(alloc: Global, count: usize, last: &[u8]) -> Result<Vec<u8>, Allo
 }
 
 #[test]
+fn longest_script(rt: HostRuntime) -> Result<(), Fail> {
+    let longest = long_script(rt.alloc(), 4_096, b"")?;
+    assert_eq!(rt; Script::parse(rt.alloc(), &longest)?.len(), 4_096);
+    let longer = long_script(rt.alloc(), 4_096, b"# 4,097\nsay\nset\n")?;
+    assert!(rt; has_fault(rt.alloc(), &longer, 4_098, TooLong));
+    Ok(())
+}
+
+#[test]
 fn label_at_the_end_of_the_longest_script(rt: HostRuntime) -> Result<(), Fail> {
     let longest = long_script(rt.alloc(), 4_095, b"jump end\nend:\n")?;
     let script = Script::parse(rt.alloc(), &longest)?;

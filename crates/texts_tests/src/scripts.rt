@@ -5,7 +5,7 @@ use sk_script::step_input::input;
 use sk_script::{
     Boot, BootFault, Input, Instruction, ObjectKind, ROOT, Register, Script, Scripts, Val,
 };
-use sk_words::FaultKind::{Label, Operand as Malformed, TooLong, Word};
+use sk_words::FaultKind::{Label, Operand as Malformed, Word};
 use sk_words::{Cursor, Fault, FaultKind, Literal, Operand, Printed, Words};
 use std::alloc::{AllocError, Global};
 use std::fmt;
@@ -31,25 +31,6 @@ fn script_faults(rt: HostRuntime) {
     for (text, want) in rows {
         assert_eq!(rt; fault(rt.alloc(), text), want);
     }
-}
-
-/// So many lines `say`, and these lines.
-fn long_script(alloc: Global, count: usize, last: &[u8]) -> Result<Vec<u8>, AllocError> {
-    let mut text = Vec::new(alloc);
-    for _ in 0..count {
-        text.extend_from_slice(b"say\n")?;
-    }
-    text.extend_from_slice(last)?;
-    Ok(text)
-}
-
-#[test]
-fn longest_script(rt: HostRuntime) -> Result<(), Fail> {
-    let longest = long_script(rt.alloc(), 4_096, b"")?;
-    assert_eq!(rt; fault(rt.alloc(), &longest), None);
-    let longer = long_script(rt.alloc(), 4_096, b"# 4,097\nsay\nset\n")?;
-    assert_eq!(rt; fault(rt.alloc(), &longer), Some((4_098, TooLong)));
-    Ok(())
 }
 
 #[test]

@@ -1,45 +1,26 @@
 -- What the lines of a section of steps say.
-use Rattle.std.specs.Prelude.{ℕ, List, [], ◌∷◌, ◌++◌, Option, Some, None, Result, Ok, Err, codes}
+use Rattle.std.specs.Prelude.{ℕ, List, [], ◌∷◌, Result, Ok, codes}
 use Rattle.sk_words.specs.declared.fault.FaultKind.{FaultKind}
-use Rattle.sk_script.specs.declared.instruction.Input.{Input}
 use Rattle.sk_words.specs.Faults.{◌>>=◌}
 use Rattle.sk_words.specs.Words.{words, first_of}
-use Rattle.sk_words.specs.Operands.{closed, next_word, one_of, pid, positive}
-use Rattle.sk_script.specs.StepInput.{input}
-use Rattle.sk_words.specs.Tables.{Rule, rule_in, unknown}
+use Rattle.sk_words.specs.Operands.{one_of, positive}
+use Rattle.sk_words.specs.Tables.{Rule, rule_in, unknown, with_line}
+use Rattle.sk_trace.specs.Lines.{step}
 use Rattle.sk_scenario.specs.declared.call.Call.{Call}
-use Rattle.sk_scenario.specs.declared.call.Call.TheVariants as steps
-
--- a process and an input, whose count of words is told before a malformed process
-unfoldable pub entry : Rule (ℕ × Input)
-entry ws = do
-  cs ← closed ws
-  p ← next_word cs
-  i ← input p.1
-  who ← pid p.0
-  Ok (who, i)
+use Rattle.sk_scenario.specs.declared.call.Call.TheVariants as calls
 
 abbrev pub step_rules : List (List ℕ × Rule Call)
 step_rules =
-    (codes "step", λ ws. entry ws >>= λ x. Ok (steps.Step x.0 x.1)) ∷
-    (codes "guess", λ ws. entry ws >>= λ x. Ok (steps.Guess x.0 x.1)) ∷
-    (codes "commit", λ ws. one_of positive ws >>= λ x. Ok (steps.Commit x)) ∷
-    (codes "fail", λ ws. one_of positive ws >>= λ x. Ok (steps.Fail x)) ∷
+    (codes "step", λ ws. step ws >>= λ x. Ok (calls.Step x.0 x.1)) ∷
+    (codes "guess", λ ws. step ws >>= λ x. Ok (calls.Guess x.0 x.1)) ∷
+    (codes "commit", λ ws. one_of positive ws >>= λ x. Ok (calls.Commit x)) ∷
+    (codes "fail", λ ws. one_of positive ws >>= λ x. Ok (calls.Fail x)) ∷
     []
 
 -- what a line says whose first word this is
-unfoldable pub step : List ℕ → Rule Call
-step word ws = rule_in step_rules unknown word ws
-
--- the steps so far, with one more
-abbrev pub with_said : List Call → Result Call FaultKind → Result (List Call) FaultKind
-with_said before (Ok s) = Ok (before ++ s ∷ [])
-with_said before (Err e) = Err e
-
-abbrev pub with_line : List Call → Option (List ℕ × List (List ℕ)) → Result (List Call) FaultKind
-with_line before None = Ok before
-with_line before (Some x) = with_said before (step x.0 x.1)
+unfoldable pub call : List ℕ → Rule Call
+call word ws = rule_in step_rules unknown word ws
 
 -- the steps so far, with that of a line
 abbrev pub step_line : List Call → List ℕ → Result (List Call) FaultKind
-step_line before line = with_line before (first_of (words line))
+step_line before line = with_line call before (first_of (words line))

@@ -1,13 +1,13 @@
 //! What the lines of a section of steps say.
 ghost use Rattle.std.specs.Prelude.{◌≡◌, []};
-ghost use Rattle.sk_words.specs.Operands.{one_of, positive};
 ghost use Rattle.sk_words.specs.Reading.{Leaves};
-ghost use Rattle.sk_scenario.specs.Calls.{entry, step, step_line, with_said};
+ghost use Rattle.sk_words.specs.Tables.{with_said};
+ghost use Rattle.sk_scenario.specs.Calls.{call};
 
 use sk_ids::{GuessId, Pid};
 use sk_script::Input;
-use sk_script::step_input::input;
-use sk_words::{FaultKind, Operand, Positive, Reader, Words, closed, first_word, next_word, one};
+use sk_trace::line::step;
+use sk_words::{FaultKind, Reader, Words, first_word, one};
 use std::alloc::Global;
 use std::marker::Model;
 
@@ -18,26 +18,6 @@ pub enum Call {
     Guess(Pid, Input),
     Commit(GuessId),
     Fail(GuessId),
-}
-
-/// A process and the input of its step.
-#[tactic(auto, unfolding(crate::specs::Calls::entry))]
-fn entry(words: &Words) -> Result<(Pid, Input), FaultKind>
-    ensures { result ≡ entry words.now }
-{
-    let mut words = closed(words)?;
-    let pid = next_word(&mut words)?;
-    let input = input(&words)?;
-    let pid = Operand::read(pid)?;
-    Ok((pid, input))
-}
-
-/// The guess that one word says.
-fn guess(words: &Words) -> Result<GuessId, FaultKind>
-    ensures { result ≡ one_of positive words.now }
-{
-    let number: Positive = one(words)?;
-    Ok(GuessId::new(number.get()))
 }
 
 /// The steps of a section, in order.
@@ -74,7 +54,7 @@ impl Calls {
 
     /// Adds what a line says whose first word these bytes are.
     fn add_in(&mut self, word: &[u8], words: &Words) -> Result<(), FaultKind>
-        ensures { Leaves result (with_said self.old (step word.now words.now)) self.old self.new }
+        ensures { Leaves result (with_said self.old (call word.now words.now)) self.old self.new }
     {
         match str::from_utf8(word) {
             Ok(word) => self.add(word, words),
@@ -83,28 +63,28 @@ impl Calls {
     }
 
     /// Adds what a line says whose first word this is.
-    #[tactic(auto, unfolding(crate::specs::Calls::step))]
+    #[tactic(auto, unfolding(crate::specs::Calls::call))]
     fn add(&mut self, word: &str, words: &Words) -> Result<(), FaultKind>
-        ensures { Leaves result (with_said self.old (step word.now words.now)) self.old self.new }
+        ensures { Leaves result (with_said self.old (call word.now words.now)) self.old self.new }
     {
         match word {
             "step" => {
-                let (pid, input) = entry(words)?;
+                let (pid, input) = step(words)?;
                 self.steps.reserve(1)?;
                 self.steps.push_reserved(Call::Step(pid, input));
             }
             "guess" => {
-                let (pid, input) = entry(words)?;
+                let (pid, input) = step(words)?;
                 self.steps.reserve(1)?;
                 self.steps.push_reserved(Call::Guess(pid, input));
             }
             "commit" => {
-                let id = guess(words)?;
+                let id = one(words)?;
                 self.steps.reserve(1)?;
                 self.steps.push_reserved(Call::Commit(id));
             }
             "fail" => {
-                let id = guess(words)?;
+                let id = one(words)?;
                 self.steps.reserve(1)?;
                 self.steps.push_reserved(Call::Fail(id));
             }

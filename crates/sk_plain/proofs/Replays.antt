@@ -13,9 +13,9 @@ use Rattle.sk_record.proofs.Sound.{sound_first, sound_taken, sound_commit, sound
 use Rattle.sk_record.proofs.Tidy.{recorded_more}
 use Rattle.sk_ids.proofs.Entities.{entity_total, entity_exact}
 use Rattle.sk_store.specs.State.{State}
-use Rattle.sk_plain.specs.Entry.{EntryView}
+use Rattle.sk_trace.specs.Entry.{EntryView}
 use Rattle.sk_plain.specs.Act.{Scripts, plain}
-use Rattle.sk_plain.specs.declared.trace.Event.{Event}
+use Rattle.sk_trace.specs.declared.event.Event.{Event}
 use Rattle.sk_plain.specs.declared.replay.Replay.{Replay}
 use Rattle.sk_plain.specs.declared.replay.Fault.{Fault}
 use Rattle.sk_plain.specs.declared.replay.Fault.TheVariants as faults

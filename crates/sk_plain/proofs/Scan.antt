@@ -12,7 +12,7 @@ use Rattle.sk_ids.specs.declared.entity.Entity.{Entity}
 use Rattle.sk_ids.specs.declared.entity.Entity.TheVariants.{Proc}
 use Rattle.sk_ids.specs.Entity.{entity_cmp}
 use Rattle.sk_store.specs.State.{State}
-use Rattle.sk_plain.specs.Entry.{EntryView}
+use Rattle.sk_trace.specs.Entry.{EntryView}
 use Rattle.sk_plain.specs.Act.{Scripts, Saying, plain}
 use Rattle.sk_plain.specs.Remaining.{depends, remaining, first_refusal, refusal_in, EndsBy}
 use Rattle.sk_plain.specs.Planned.{written_beside, gone_in, writes_of, wrote_all, effect_of, read_by, written_by}

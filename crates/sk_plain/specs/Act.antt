@@ -25,7 +25,7 @@ use Rattle.sk_store.specs.declared.entity_state.EntityState.{EntityState}
 use Rattle.sk_store.specs.declared.entity_state.EntityState.TheVariants as stored
 use Rattle.sk_plain.specs.declared.refusal.Refusal.{Refusal}
 use Rattle.sk_plain.specs.declared.refusal.Refusal.TheVariants.{NoProcess, Ended, NeedsReply}
-use Rattle.sk_plain.specs.declared.trace.Entry.{Entry}
+use Rattle.sk_trace.specs.declared.event.Entry.{Entry}
 use Rattle.sk_plain.specs.Rows.{object_in, number_in, number_to, who_in, alone, with_write}
 use Rattle.sk_plain.specs.Files.{made, size, read, write, cut}
 use Rattle.sk_plain.specs.Names.{look, link, unlink}

@@ -7,7 +7,7 @@ use Rattle.sk_record.specs.Run.{after, outcome, effects}
 use Rattle.sk_ids.specs.declared.entity.Entity.{Entity}
 use Rattle.sk_ids.specs.Entity.{entity_cmp}
 use Rattle.sk_store.specs.State.{State}
-use Rattle.sk_plain.specs.Entry.{EntryView}
+use Rattle.sk_trace.specs.Entry.{EntryView}
 use Rattle.sk_plain.specs.Act.{Scripts, Saying, plain}
 use Rattle.sk_plain.specs.Planned.{read_by, written_by}
 use Rattle.sk_plain.specs.declared.plan.Plan.{Plan}

@@ -7,10 +7,10 @@ use Rattle.sk_record.specs.Notes.{has, without}
 use Rattle.sk_record.specs.Strike.{strike}
 use Rattle.sk_record.specs.Trace.{Event as Happens, Taken, Commit, Fail, IsDrawn, IsAllowed, IsSound, marks, record_of, undecided_of}
 use Rattle.sk_store.specs.State.{State}
-use Rattle.sk_plain.specs.Entry.{EntryView}
+use Rattle.sk_trace.specs.Entry.{EntryView}
 use Rattle.sk_plain.specs.Act.{Scripts, plain}
-use Rattle.sk_plain.specs.declared.trace.Event.{Event}
-use Rattle.sk_plain.specs.declared.trace.Event.TheVariants as events
+use Rattle.sk_trace.specs.declared.event.Event.{Event}
+use Rattle.sk_trace.specs.declared.event.Event.TheVariants as events
 use Rattle.sk_plain.specs.declared.replay.Replay.{Replay}
 use Rattle.sk_plain.specs.declared.replay.Fault.{Fault}
 use Rattle.sk_plain.specs.declared.replay.Fault.TheVariants as faults
@@ -19,8 +19,8 @@ use Rattle.sk_plain.specs.declared.replay.TraceFault.TheVariants.{Refused, Unkno
 
 -- an event as the laws of traces have it: steps and guesses take an entry
 abbrev pub image : Event → Happens EntryView
-image (events.Step n) = Taken n
-image (events.Guess n) = Taken n
+image (events.Step pid input) = Taken (record { pid = pid; input = input; guess = None })
+image (events.Guess id pid input) = Taken (record { pid = pid; input = input; guess = Some id })
 image (events.Commit id) = Commit id
 image (events.Fail id) = Fail id
 

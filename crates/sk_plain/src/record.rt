@@ -6,7 +6,7 @@ ghost use Rattle.sk_record.specs.Effects.{is_in, is_marked};
 ghost use Rattle.sk_record.specs.Run.{IsLegal, run, put_all};
 ghost use Rattle.sk_record.specs.Strike.{strike};
 ghost use Rattle.sk_ids.specs.Entity.{entity_cmp};
-ghost use Rattle.sk_plain.specs.Entry.{EntryView};
+ghost use Rattle.sk_trace.specs.Entry.{EntryView};
 ghost use Rattle.sk_plain.specs.Act.{plain};
 ghost use Rattle.sk_plain.specs.Planned.{CanDo, writes_of, written_by};
 ghost use Rattle.sk_plain.specs.declared.refusal.Refusal.TheVariants.{Memory};

@@ -5,7 +5,7 @@ ghost use Rattle.sk_record.specs.Run.{run};
 ghost use Rattle.sk_record.specs.Strike.{strike};
 ghost use Rattle.sk_record.specs.Trace.{Event as Happens, IsSound, record_of};
 ghost use Rattle.sk_store.specs.Start.{start_of};
-ghost use Rattle.sk_plain.specs.Entry.{EntryView};
+ghost use Rattle.sk_trace.specs.Entry.{EntryView};
 ghost use Rattle.sk_plain.specs.Act.{plain};
 ghost use Rattle.sk_plain.specs.Replay.{image, is_above, is_made, IsReplay, HasTaken, StepFault, HasCommitted, HasFailed, DecisionFault, Goes, FaultIn, Replays};
 
@@ -199,10 +199,17 @@ fn take_event(
 ) -> Result<(), Fault>
     ensures { (es : List (Happens EntryView)) → IsReplay scripts.now es replay.old → Goes scripts.now es (image event.now) replay.old replay.new result }
 {
-    match event {
-        Event::Step(entry) | Event::Guess(entry) => take_entry(replay, scripts, entry),
-        Event::Commit(id) => commit(replay, *id),
-        Event::Fail(id) => fail(alloc, replay, scripts, *id),
+    match *event {
+        Event::Step { pid, input } => {
+            let guess = None;
+            take_entry(replay, scripts, &Entry { pid, input, guess })
+        }
+        Event::Guess { id, pid, input } => {
+            let guess = Some(id);
+            take_entry(replay, scripts, &Entry { pid, input, guess })
+        }
+        Event::Commit(id) => commit(replay, id),
+        Event::Fail(id) => fail(alloc, replay, scripts, id),
     }
 }
 

@@ -1,5 +1,6 @@
 -- Each event goes on, or has its fault, as its own call says.
-use Rattle.std.proofs.Common.{inl, inr}
+use Rattle.std.specs.Prelude.{Some, None}
+use Rattle.sk_trace.specs.Entry.{EntryView}
 use Rattle.sk_plain.proofs.Replays.{taken_goes, commit_goes, fail_goes}
 use Rattle.sk_plain.proofs.replay.take_event.Goals as goal
 
@@ -13,8 +14,10 @@ returns-in-Fail c = λ es r.
 
 pub returns-in-Step : goal.returns-in-Step
 returns-in-Step c = λ es r.
-    let goes = taken_goes c.args.scripts.now es c.args.replay.now c.take_entry.new.replay r c.in-Step.entry c.take_entry.result c.take_entry.ensures.ok c.take_entry.ensures.err in
-    elim c.in-Step.is [
-      | inl is ↦ rw is goes
-      | inr is ↦ rw is goes
-    ]
+    let n : EntryView = record { pid = c.in-Step.pid; input = c.in-Step.input; guess = None } in
+    rw c.in-Step.is (taken_goes c.args.scripts.now es c.args.replay.now c.take_entry.new.replay r n c.take_entry.result c.take_entry.ensures.ok c.take_entry.ensures.err)
+
+pub returns-in-Guess : goal.returns-in-Guess
+returns-in-Guess c = λ es r.
+    let n : EntryView = record { pid = c.in-Guess.pid; input = c.in-Guess.input; guess = Some c.in-Guess.id } in
+    rw c.in-Guess.is (taken_goes c.args.scripts.now es c.args.replay.now c.take_entry-in-Guess.new.replay r n c.take_entry-in-Guess.result c.take_entry-in-Guess.ensures.ok c.take_entry-in-Guess.ensures.err)

@@ -263,10 +263,10 @@ fn starts_with_what_is_declared(rt: HostRuntime) -> Result<(), Fail> {
 }
 
 /// A trace of a step and a commit.
-fn two_events(alloc: Global, step: Entry) -> Result<Trace, Fail> {
+fn two_events(alloc: Global, pid: Pid, input: Input) -> Result<Trace, Fail> {
     let mut trace = Trace::new(alloc);
     trace.reserve(2)?;
-    trace.push(Event::Step(step));
+    trace.push(Event::Step { pid, input });
     trace.push(Event::Commit(first_guess()?));
     Ok(trace)
 }
@@ -274,8 +274,11 @@ fn two_events(alloc: Global, step: Entry) -> Result<Trace, Fail> {
 #[test]
 fn keeps_events(rt: HostRuntime) -> Result<(), Fail> {
     let step = entry_of(Did::Steps(1))?;
-    let trace = two_events(rt.alloc(), step)?;
-    let want = [Event::Step(step), Event::Commit(first_guess()?)];
+    let (pid, input) = (step.pid, step.input);
+    let trace = two_events(rt.alloc(), pid, input)?;
+    let want = [Event::Step { pid, input }, Event::Commit(first_guess()?)];
     assert_eq!(rt; trace.events(), want.as_slice());
+    let entries = [want[0].entry(), want[1].entry()];
+    assert_eq!(rt; entries, [Some(step), None]);
     Ok(())
 }

@@ -8,10 +8,10 @@ use Rattle.sk_record.specs.Effects.{is_in}
 use Rattle.sk_ids.specs.Entity.{entity_cmp}
 use Rattle.sk_ids.specs.declared.entity.Entity.{Entity}
 use Rattle.sk_ids.proofs.Entities.{entity_total}
-use Rattle.sk_plain.specs.Entry.{EntryView}
+use Rattle.sk_trace.specs.Entry.{EntryView}
 use Rattle.sk_plain.specs.Act.{Saying}
 use Rattle.sk_store.specs.declared.entity_state.EntityState.{EntityState}
-use Rattle.sk_plain.specs.declared.trace.Event.TheVariants as events
+use Rattle.sk_trace.specs.declared.event.Event.TheVariants as events
 use Rattle.sk_kernel.specs.Open.{OpenView}
 use Rattle.sk_undo.specs.Journal.{Written, wrote}
 use Rattle.sk_plain.specs.Planned.{wrote_all}
@@ -53,14 +53,14 @@ tags_settled (Some o) w e = refl
 pub value_stays : (k : KernelView) (n : EntryView) (f : Effect Entity EntityState Saying) (e : Entity) → effect_at k n ≡ Ok f → is_in entity_cmp (map (λ w. w.0) f.written) e ≡ false
     → get (stepped k n).written.now e ≡ get k.written.now e
 value_stays k n f e is out =
-    ap (λ r. get (done k (events.Step n) r).written.now e) is
+    ap (λ r. get (done k (events.Step n.pid n.input) r).written.now e) is
     ∙ now_settled k.pending (wrote_all wrote f.written k.written) e
     ∙ get-wrote_all k.written f.written e out
 
 pub tags_stay : (k : KernelView) (n : EntryView) (f : Effect Entity EntityState Saying) (e : Entity) → effect_at k n ≡ Ok f → is_in entity_cmp (map (λ w. w.0) f.written) e ≡ false
     → tags_at (stepped k n) e ≡ tags_at k e
 tags_stay k n f e is out =
-    ap (λ r. tags_at (done k (events.Step n) r) e) is
+    ap (λ r. tags_at (done k (events.Step n.pid n.input) r) e) is
     ∙ tags_settled k.pending (wrote_all wrote f.written k.written) e
     ∙ ap (λ b. cond b (pending_tags k.pending) []) (is_in-wrote_all k.written f.written e out)
 

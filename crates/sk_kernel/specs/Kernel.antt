@@ -19,13 +19,13 @@ use Rattle.sk_script.specs.declared.instruction.Input.{Input}
 use Rattle.sk_script.specs.declared.instruction.Input.TheVariants as inputs
 use Rattle.sk_store.specs.State.{State}
 use Rattle.sk_store.specs.Start.{start_of}
-use Rattle.sk_plain.specs.Entry.{EntryView}
-use Rattle.sk_plain.specs.Trace.{event_code}
+use Rattle.sk_trace.specs.Entry.{EntryView}
+use Rattle.sk_trace.specs.Trace.{event_code}
 use Rattle.sk_plain.specs.Act.{plain, Saying}
 use Rattle.sk_plain.specs.Planned.{refusal_of, wrote_all}
 use Rattle.sk_store.specs.declared.entity_state.EntityState.{EntityState}
-use Rattle.sk_plain.specs.declared.trace.Event.{Event}
-use Rattle.sk_plain.specs.declared.trace.Event.TheVariants as events
+use Rattle.sk_trace.specs.declared.event.Event.{Event}
+use Rattle.sk_trace.specs.declared.event.Event.TheVariants as events
 use Rattle.sk_plain.specs.declared.refusal.Refusal.{Refusal}
 use Rattle.sk_plain.specs.declared.refusal.Refusal.TheVariants.{NoProcess, Ended, Mismatch, Blocked, TooMany, TraceFull}
 use Rattle.sk_kernel.specs.Open.{OpenView, open_code}
@@ -151,7 +151,7 @@ done k event (Ok f) = record k {
 done k event (Err why) = k
 
 abbrev pub stepped : KernelView → EntryView → KernelView
-stepped k n = done k (events.Step n) (effect_at k n)
+stepped k n = done k (events.Step n.pid n.input) (effect_at k n)
 
 -- the kernel with the guess that it draws next, made by a process
 abbrev pub guessing : KernelView → ℕ → KernelView
@@ -161,7 +161,7 @@ guessing k pid = record k {
 }
 
 abbrev pub guessed : KernelView → EntryView → KernelView
-guessed k n = done (guessing k n.pid) (events.Guess n) (effect_at k n)
+guessed k n = done (guessing k n.pid) (events.Guess (next_of k.guesses) n.pid n.input) (effect_at k n)
 
 -- ---- what a decision leaves
 

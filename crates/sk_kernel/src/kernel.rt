@@ -13,7 +13,7 @@ use crate::open::Open;
 use crate::perform::{perform, perform_guess};
 use sk_guesses::{Guess, Guesses, Redeemed};
 use sk_ids::{Entity, Pid, TagSet};
-use sk_plain::{Entry, Event, Plan, Refusal, Trace, View, plan_step};
+use sk_plain::{Event, Plan, Refusal, Trace, View, plan_step};
 use sk_script::{Boot, Input, Scripts};
 use sk_store::{Look, Store};
 use sk_terminal::{Terminal, Terminals};
@@ -190,11 +190,7 @@ impl Kernel {
         if self.pending.is_none() {
             self.journal.commit();
         }
-        self.trace.push(Event::Step(Entry {
-            pid,
-            input,
-            guess: None,
-        }));
+        self.trace.push(Event::Step { pid, input });
         Ok(())
     }
 
@@ -242,11 +238,8 @@ impl Kernel {
             return Err(Refusal::Memory);
         };
         self.pending = Some(Open::new(self.alloc, guess.id(), pid));
-        self.trace.push(Event::Guess(Entry {
-            pid,
-            input,
-            guess: Some(guess.id()),
-        }));
+        let id = guess.id();
+        self.trace.push(Event::Guess { id, pid, input });
         Ok(guess)
     }
 

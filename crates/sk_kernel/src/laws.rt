@@ -5,7 +5,7 @@ ghost use Rattle.sk_record.specs.Effects.{is_in};
 ghost use Rattle.sk_record.specs.Step.{Effect};
 ghost use Rattle.sk_ids.specs.Entity.{entity_cmp};
 ghost use Rattle.sk_ids.specs.declared.entity.Entity.{Entity};
-ghost use Rattle.sk_plain.specs.Entry.{EntryView};
+ghost use Rattle.sk_trace.specs.Entry.{EntryView};
 ghost use Rattle.sk_plain.specs.Act.{Saying};
 ghost use Rattle.sk_store.specs.declared.entity_state.EntityState.{EntityState};
 ghost use Rattle.sk_kernel.specs.Kernel.{KernelView, effect_at, stepped, tags_at, IsCommitted, IsFailed};

@@ -2,15 +2,15 @@
 use Rattle.std.proofs.Common.{◌≡◌, ◌==◌, true, false, List, [], ◌∷◌, ◌++◌, refl, Option, Some, None, Result, Ok, Err}
 use Rattle.std.specs.Prelude.{is_ok}
 use Rattle.sk_guesses.specs.Token.{Token}
-use Rattle.sk_guesses.specs.Guesses.{GuessesView, drawn, status_of}
+use Rattle.sk_guesses.specs.Guesses.{GuessesView, next_of, drawn, status_of}
 use Rattle.sk_guesses.specs.Calls.{redeemed, redeemed_at}
 use Rattle.sk_guesses.specs.declared.guess.Redeemed.TheVariants as redeemed_as
 use Rattle.sk_guesses.specs.declared.status.Status.{Status}
 use Rattle.sk_guesses.specs.declared.status.Status.TheVariants.{Undecided, Committed, Failed, Struck}
 use Rattle.sk_plain.specs.declared.refusal.Refusal.{Refusal}
-use Rattle.sk_plain.specs.Entry.{EntryView}
-use Rattle.sk_plain.specs.declared.trace.Event.{Event}
-use Rattle.sk_plain.specs.declared.trace.Event.TheVariants as events
+use Rattle.sk_trace.specs.Entry.{EntryView}
+use Rattle.sk_trace.specs.declared.event.Event.{Event}
+use Rattle.sk_trace.specs.declared.event.Event.TheVariants as events
 use Rattle.sk_kernel.specs.Kernel.{KernelView, done, effect_at, stepped, guessing, guessed}
 use Rattle.sk_kernel.specs.Calls.{StepPost, GuessPost, CommitPost, FailPost}
 use Rattle.sk_kernel.specs.declared.kernel.Outcome.{Outcome}
@@ -27,10 +27,10 @@ done_guesses k event (Ok f) = refl
 done_guesses k event (Err why) = refl
 
 pub guessed_guesses : (k : KernelView) (n : EntryView) → (guessed k n).guesses ≡ drawn k.guesses
-guessed_guesses k n = done_guesses (guessing k n.pid) (events.Guess n) (effect_at k n)
+guessed_guesses k n = done_guesses (guessing k n.pid) (events.Guess (next_of k.guesses) n.pid n.input) (effect_at k n)
 
 pub steps_keep : (result : Result (Unit {0}) Refusal) (refused : Option Refusal) (old new : KernelView) (n : EntryView) (ts : List Token) → StepPost result refused old (stepped old n) new → all_taken old.guesses ts ≡ true → all_taken new.guesses ts ≡ true
-steps_keep (Ok u) refused old new n ts h held = rw (h.1, done_guesses old (events.Step n) (effect_at old n)) held
+steps_keep (Ok u) refused old new n ts h held = rw (h.1, done_guesses old (events.Step n.pid n.input) (effect_at old n)) held
 steps_keep (Err why) refused old new n ts h held = rw h.1 held
 
 pub commits_keep : (result : Result Outcome Stranger) (t : Token) (old new : KernelView) (others : List Token) → CommitPost result t old new → Out old.guesses t others → all_taken new.guesses others ≡ true

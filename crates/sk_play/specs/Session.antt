@@ -6,7 +6,7 @@ use Rattle.sk_guesses.specs.Guesses.{GuessesView, next_of, status_of}
 use Rattle.sk_guesses.specs.declared.status.Status.TheVariants.{Undecided, Struck}
 use Rattle.sk_guesses.specs.Calls.{redeemed}
 use Rattle.sk_plain.specs.declared.refusal.Refusal.{Refusal}
-use Rattle.sk_plain.specs.Entry.{EntryView}
+use Rattle.sk_trace.specs.Entry.{EntryView}
 use Rattle.sk_script.specs.declared.instruction.Input.{Input}
 use Rattle.sk_scenario.specs.declared.call.Call.{Call}
 use Rattle.sk_scenario.specs.declared.call.Call.TheVariants as calls

@@ -7,7 +7,7 @@ use Rattle.sk_record.specs.declared.status.Status.{Status}
 use Rattle.sk_record.specs.declared.status.Status.TheVariants.{Undecided}
 use Rattle.sk_guesses.specs.Guesses.{GuessesView, drawn, next_of, status_of, decided}
 
-get-push : (xs : List Status) (s : Status) → slice_get (xs ++ s ∷ []) (length xs) ≡ Some s
+pub get-push : (xs : List Status) (s : Status) → slice_get (xs ++ s ∷ []) (length xs) ≡ Some s
 get-push [] s = refl
 get-push (x ∷ xs) s = get-push xs s
 
@@ -54,7 +54,7 @@ decided-same v id was s is =
     let some = some_number v id was is in
     rw (status-at (decided v id s) id some) (get-set v.statuses (id - 1) s was (rw (status-at v id some) at is))
 
-decided-other : (v : GuessesView) (id other : ℕ) (s : Status) → 0 < id → other ≢ id → status_of (decided v id s) other ≡ status_of v other
+pub decided-other : (v : GuessesView) (id other : ℕ) (s : Status) → 0 < id → other ≢ id → status_of (decided v id s) other ≡ status_of v other
 decided-other v id zero s some h = refl
 decided-other v id (suc i) s some h =
     let later : 0 < suc i = omega arith in

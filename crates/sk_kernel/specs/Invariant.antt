@@ -1,7 +1,7 @@
 -- What holds of the parts of a kernel between its calls.
 use Rattle.std.specs.Prelude.{◌≡◌, ℕ, ◌≤◌, Option, Some, None}
 use Rattle.sk_guesses.specs.Guesses.{GuessesView, status_of}
-use Rattle.sk_guesses.specs.declared.status.Status.TheVariants.{Undecided}
+use Rattle.sk_record.specs.declared.status.Status.TheVariants.{Undecided}
 use Rattle.sk_kernel.specs.Open.{OpenView}
 use Rattle.sk_undo.specs.Journal.{Written, written_over}
 

@@ -7,12 +7,12 @@ use Rattle.sk_record.specs.Effects.{is_in}
 use Rattle.sk_record.specs.Run.{outcome}
 use Rattle.sk_ids.specs.Entity.{entity_cmp}
 use Rattle.sk_ids.specs.declared.entity.Entity.{Entity}
-use Rattle.sk_guesses.specs.Guesses.{GuessesView, undecided_of, is_full, opened, next_of, drawn, with_status}
-use Rattle.sk_guesses.specs.declared.status.Status.{Status}
-use Rattle.sk_guesses.specs.declared.status.Status.TheVariants.{Committed, Failed}
-use Rattle.sk_guesses.specs.contracts.status.Status as status
-use Rattle.sk_terminal.specs.Terminal.{committed_of, left_of}
-use Rattle.sk_terminal.specs.declared.buffered_text.BufferedText.{BufferedText}
+use Rattle.sk_guesses.specs.Guesses.{GuessesView, undecided_of, is_full, opened, next_of, drawn, decided}
+use Rattle.sk_record.specs.declared.status.Status.{Status}
+use Rattle.sk_record.specs.declared.status.Status.TheVariants.{Committed, Failed}
+use Rattle.sk_record.specs.contracts.status.Status as status
+use Rattle.sk_record.specs.Machine.{lightened, not_dropped}
+use Rattle.sk_terminal.specs.Terminal.{TaggedText}
 use Rattle.sk_script.specs.Scripts.{ScriptMap, script_map_code}
 use Rattle.sk_script.specs.Boot.{BootView}
 use Rattle.sk_script.specs.declared.instruction.Input.{Input}
@@ -134,7 +134,7 @@ guess_refused k n =
 -- a text rests on the pending guess
 abbrev pub texts_after : TerminalMap → List ℕ → Option Saying → TerminalMap
 texts_after texts tags None = texts
-texts_after texts tags (Some s) = said_to texts s.to (record { text = s.text; tags = tags })
+texts_after texts tags (Some s) = said_to texts s.to (s.text, tags)
 
 -- with no guess pending what was written stays
 abbrev pub settled : Option OpenView → Written → Written
@@ -166,12 +166,12 @@ guessed k n = done (guessing k n.pid) (events.Guess (next_of k.guesses) n.pid n.
 -- ---- what a decision leaves
 
 -- the guess is decided, and this is what becomes of the texts and of what was written
-pub record Decided (old : KernelView) (event : Event) (id : ℕ) (status : Status) (left : Written) (keep : List BufferedText → List BufferedText) (new : KernelView) : Type 0 where
+pub record Decided (old : KernelView) (event : Event) (id : ℕ) (status : Status) (left : Written) (keep : List TaggedText → List TaggedText) (new : KernelView) : Type 0 where
   pub scripts : new.scripts ≡ old.scripts
   pub start : new.start ≡ old.start
   pub limit : new.limit ≡ old.limit
   pub trace : new.trace ≡ old.trace ++ event ∷ []
-  pub guesses : new.guesses ≡ with_status old.guesses id status
+  pub guesses : new.guesses ≡ decided old.guesses id status
   pub pending : new.pending ≡ None
   pub was_pending : pending_tags old.pending ≡ id ∷ []
   pub written : new.written ≡ left
@@ -179,8 +179,8 @@ pub record Decided (old : KernelView) (event : Event) (id : ℕ) (status : Statu
 
 -- a commit: what was written stays, and texts no longer rest on the guess
 abbrev pub IsCommitted : KernelView → ℕ → KernelView → Type 0
-IsCommitted old id new = Decided old (events.Commit id) id Committed (kept old.written) (committed_of id) new
+IsCommitted old id new = Decided old (events.Commit id) id Committed (kept old.written) (lightened id) new
 
 -- a failure: what was written since the guess is put back, and texts that rest on it are thrown away
 abbrev pub IsFailed : KernelView → ℕ → KernelView → Type 0
-IsFailed old id new = Decided old (events.Fail id) id Failed (rolled_back old.written) (left_of id) new
+IsFailed old id new = Decided old (events.Fail id) id Failed (rolled_back old.written) (not_dropped id) new

@@ -61,6 +61,19 @@ module _ {E V W F N : Type 0} (K : System E V W F N) where
   moved_by : (P : ℕ → Type 0) (i k : ℕ) (A : Type 0) → A ↔ P (i + suc k) → A ↔ P (suc i + k)
   moved_by P i k A h = subst (λ n. A ↔ P n) (omega arith) h
 
+  -- a step that says nothing to the terminal is passed over
+  passed_over : (P : ℕ → Type 0) (t i : ℕ) (label : List ℕ) (labels : List (List ℕ)) (f : MarkedEffect E V W) (ts : List (MarkedEffect E V W))
+      → (said_by K t f.said i ≡ []) × (said_by K t f.said label ≡ [])
+      → Split P (said_from K t (suc i) ts) (said_with K t labels ts) → Split P (said_from K t i (f ∷ ts)) (said_with K t (label ∷ labels) (f ∷ ts))
+  passed_over P t i label labels f ts none rest = record {
+    out = rest.out;
+    held = rest.held;
+    split = ap (λ xs. xs ++ said_from K t (suc i) ts) none.0 ∙ rest.split;
+    texts = ap (λ xs. released (xs ++ said_with K t labels ts)) none.1 ∙ rest.texts;
+    clear = rest.clear;
+    longest = rest.longest;
+  }
+
   front : (P : ℕ → Type 0) (t i : ℕ) (labels : List (List ℕ)) (ts : List (MarkedEffect E V W)) → length labels ≡ length ts
       → ((k : ℕ) (tags : List ℕ) → slice_get labels k ≡ Some tags → (tags ≡ []) ↔ P (i + k))
       → Split P (said_from K t i ts) (said_with K t labels ts)
@@ -70,14 +83,7 @@ module _ {E V W F N : Type 0} (K : System E V W F N) where
   front P t i ([] ∷ labels) (f ∷ ts) long clear =
       let rest = front P t (suc i) labels ts (omega arith) (λ k tags at. moved_by P i k (tags ≡ []) (clear (suc k) tags at)) in
       elim (one_or_none t f.said i []) [
-        | inl none ↦ record {
-          out = rest.out;
-          held = rest.held;
-          split = ap (λ xs. xs ++ said_from K t (suc i) ts) none.0 ∙ rest.split;
-          texts = ap (λ xs. released (xs ++ said_with K t labels ts)) none.1 ∙ rest.texts;
-          clear = rest.clear;
-          longest = rest.longest;
-        }
+        | inl none ↦ passed_over P t i [] labels f ts none rest
         | inr one ↦ record {
           out = (one.0, i) ∷ rest.out;
           held = rest.held;
@@ -94,14 +100,7 @@ module _ {E V W F N : Type 0} (K : System E V W F N) where
       elim (one_or_none t f.said i (x ∷ tags)) [
         | inl none ↦
             let rest = front P t (suc i) labels ts (omega arith) (λ k tags at. moved_by P i k (tags ≡ []) (clear (suc k) tags at)) in
-            record {
-              out = rest.out;
-              held = rest.held;
-              split = ap (λ xs. xs ++ said_from K t (suc i) ts) none.0 ∙ rest.split;
-              texts = ap (λ xs. released (xs ++ said_with K t labels ts)) none.1 ∙ rest.texts;
-              clear = rest.clear;
-              longest = rest.longest;
-            }
+            passed_over P t i (x ∷ tags) labels f ts none rest
         | inr one ↦ record {
           out = [];
           held = (one.0, i) ∷ said_from K t (suc i) ts;

@@ -1,7 +1,7 @@
 -- With the pending guess committed none is undecided, and nothing is left to put back.
 use Rattle.std.proofs.Common.{◌≡◌, Some, refl, sym, subst, rules}
 use Rattle.sk_guesses.specs.Guesses.{status_of}
-use Rattle.sk_guesses.specs.declared.status.Status.TheVariants.{Undecided, Committed}
+use Rattle.sk_record.specs.declared.status.Status.TheVariants.{Undecided, Committed}
 use Rattle.sk_undo.specs.Journal.{Written, written_over}
 use Rattle.sk_kernel.proofs.Wholes.{decided_whole}
 use Rattle.sk_kernel.proofs.kernel.Kernel.commit_speculation.Goals as goal

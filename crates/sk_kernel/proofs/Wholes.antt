@@ -1,6 +1,6 @@
 -- A decision and a draw keep what holds of a kernel's parts: from what they do to statuses.
 use Rattle.std.proofs.Common.{◌≡◌, ℕ, ◌≤◌, ◌==◌, cond, Bool, true, false, Option, Some, None, refl, sym, ◌∙◌, ap}
-use Rattle.std.specs.Prelude.{◌≢◌, is_some}
+use Rattle.std.specs.Prelude.{is_some}
 use Rattle.std.proofs.lemmas.Bool.{false≢true, true≢false, eqb-true, eq-eqb}
 use Rattle.sk_record.specs.Machine.{with_drawn}
 use Rattle.sk_guesses.specs.Guesses.{GuessesView, status_of, decided, drawn, next_of, is_undecided}

@@ -1,14 +1,15 @@
 -- What becomes of held tokens when a guess is drawn or decided, or a token is taken out: from the definitions of a
 -- guess's status and of what a token redeems.
-use Rattle.std.proofs.Common.{◌≡◌, ℕ, zero, suc, ◌+◌, ◌-◌, ◌<◌, Bool, true, false, not, ◌&&◌, ◌||◌, ◌==◌, List, [], ◌∷◌, ◌++◌, length, get_or, refl, sym, ap, ◌∙◌, arith, subst, Some}
-use Rattle.std.specs.Prelude.{is_ok, slice_get, slice_set}
+use Rattle.std.proofs.Common.{◌≡◌, ℕ, zero, suc, ◌+◌, ◌-◌, ◌<◌, Bool, true, false, not, ◌&&◌, ◌==◌, List, [], ◌∷◌, ◌++◌, length, get_or, refl, sym, ap, ◌∙◌, arith, subst, Some}
+use Rattle.std.specs.Prelude.{is_ok, slice_get}
 use Rattle.std.specs.List.{list_all, remove}
 use Rattle.std.proofs.lemmas.Bool.{ne_eqb, eq-eqb}
 use Rattle.sk_guesses.specs.Token.{Token}
-use Rattle.sk_guesses.specs.Guesses.{GuessesView, status_of, with_status, drawn, next_of}
+use Rattle.sk_guesses.specs.Guesses.{GuessesView, decided, drawn, next_of}
 use Rattle.sk_guesses.specs.Calls.{redeemed, redeemed_at}
-use Rattle.sk_guesses.specs.declared.status.Status.{Status}
-use Rattle.sk_guesses.specs.declared.status.Status.TheVariants.{Undecided}
+use Rattle.sk_guesses.proofs.Statuses.{get-push, decided-other}
+use Rattle.sk_record.specs.declared.status.Status.{Status}
+use Rattle.sk_record.specs.declared.status.Status.TheVariants.{Undecided}
 use Rattle.sk_play.specs.Session.{none_of, all_taken, id_at, is_held, without_token}
 
 both : (a b : Bool) → (a && b) ≡ true → (a ≡ true) × (b ≡ true)
@@ -20,11 +21,6 @@ pair : (a b : Bool) → a ≡ true → b ≡ true → (a && b) ≡ true
 pair true true e f = refl
 pair true false e f = absurd cc
 pair false b e f = absurd cc
-
-swapped : (a b c : Bool) → (a || (b || c)) ≡ (b || (a || c))
-swapped true true c = refl
-swapped true false c = refl
-swapped false b c = refl
 
 -- ---- taking a token out
 
@@ -78,32 +74,22 @@ taken_out g (suc i) (t ∷ ts) d lt h =
 
 -- ---- a guess is decided
 
-set_other : {A : Type 0} (xs : List A) (i j : ℕ) (x : A) → (j ≡ i → ⊥) → slice_get (slice_set xs i x) j ≡ slice_get xs j
-set_other [] i j x n = refl
-set_other (y ∷ ys) zero zero x n = absurd (n refl)
-set_other (y ∷ ys) zero (suc j) x n = refl
-set_other (y ∷ ys) (suc i) zero x n = refl
-set_other (y ∷ ys) (suc i) (suc j) x n = set_other ys i j x (λ e. n (ap suc e))
+some : (n : ℕ) → (n ≡ 0 → ⊥) → 0 < n
+some zero h = absurd (h refl)
+some (suc n) h = omega arith
 
-other_status : (g : GuessesView) (id j : ℕ) (s : Status) → (j ≡ id → ⊥) → (id ≡ 0 → ⊥) → status_of (with_status g id s) j ≡ status_of g j
-other_status g id zero s n nz = refl
-other_status g zero (suc j) s n nz = absurd (nz refl)
-other_status g (suc i) (suc j) s n nz =
-    let e : (suc j == 0) ≡ false = ne_eqb (suc j) 0 (λ z. omega arith) in
-    rw e (set_other g.statuses (suc i - 1) (suc j - 1) s (λ same. n (omega (arith, same))))
+takes_other : (g : GuessesView) (id : ℕ) (s : Status) (t : Token) → (t.id ≡ id → ⊥) → (id ≡ 0 → ⊥) → is_ok (redeemed g t) ≡ true → is_ok (redeemed (decided g id s) t) ≡ true
+takes_other g id s t n nz h = rw (decided-other g id t.id s (some id nz) n) h
 
-takes_other : (g : GuessesView) (id : ℕ) (s : Status) (t : Token) → (t.id ≡ id → ⊥) → (id ≡ 0 → ⊥) → is_ok (redeemed g t) ≡ true → is_ok (redeemed (with_status g id s) t) ≡ true
-takes_other g id s t n nz h = rw (other_status g id t.id s n nz) h
-
-pub decided : (g : GuessesView) (id : ℕ) (s : Status) (ts : List Token) → (id ≡ 0 → ⊥) → none_of id ts ≡ true → all_taken g ts ≡ true → all_taken (with_status g id s) ts ≡ true
-decided g id s [] nz n h = refl
-decided g id s (t ∷ ts) nz n h =
+pub decided_held : (g : GuessesView) (id : ℕ) (s : Status) (ts : List Token) → (id ≡ 0 → ⊥) → none_of id ts ≡ true → all_taken g ts ≡ true → all_taken (decided g id s) ts ≡ true
+decided_held g id s [] nz n h = refl
+decided_held g id s (t ∷ ts) nz n h =
     let b = both (is_ok (redeemed g t)) (none_of t.id ts && all_taken g ts) h in
     let c = both (none_of t.id ts) (all_taken g ts) b.1 in
     let m = both (not (t.id == id)) (none_of id ts) n in
-    pair (is_ok (redeemed (with_status g id s) t)) (none_of t.id ts && all_taken (with_status g id s) ts)
+    pair (is_ok (redeemed (decided g id s) t)) (none_of t.id ts && all_taken (decided g id s) ts)
     (takes_other g id s t (not_same t.id id m.0) nz b.0)
-    (pair (none_of t.id ts) (all_taken (with_status g id s) ts) c.0 (decided g id s ts nz m.1 c.1))
+    (pair (none_of t.id ts) (all_taken (decided g id s) ts) c.0 (decided_held g id s ts nz m.1 c.1))
 
 -- guesses are numbered from 1
 pub numbered : (g : GuessesView) (t : Token) → is_ok (redeemed g t) ≡ true → t.id ≡ 0 → ⊥
@@ -124,10 +110,6 @@ within : (ss : List Status) (t : Token) (i : ℕ) → is_ok (redeemed_at (slice_
 within [] t i h = absurd cc
 within (s ∷ ss) t zero h = omega arith
 within (s ∷ ss) t (suc i) h = omega (arith, within ss t i h)
-
-at_end : (ss : List Status) (x : Status) → slice_get (ss ++ x ∷ []) (length ss) ≡ Some x
-at_end [] x = refl
-at_end (s ∷ ss) x = at_end ss x
 
 -- a token that is taken is of this kernel, and of a guess that was drawn
 record Taken (g : GuessesView) (t : Token) : Type 0 where
@@ -156,7 +138,7 @@ takes_new : (g : GuessesView) → is_ok (redeemed (drawn g) (drawn_token g)) ≡
 takes_new g =
     let some : (length g.statuses + 1 == 0) ≡ false = ne_eqb (length g.statuses + 1) 0 (λ z. omega arith) in
     let last : length g.statuses + 1 - 1 ≡ length g.statuses = omega arith in
-    rw (eq-eqb g.kernel g.kernel refl, some, last, at_end g.statuses Undecided) refl
+    rw (eq-eqb g.kernel g.kernel refl, some, last, get-push g.statuses Undecided) refl
 
 none_more : (id : ℕ) (ts : List Token) (t : Token) → none_of id ts ≡ true → not (t.id == id) ≡ true → none_of id (ts ++ t ∷ []) ≡ true
 none_more id [] t h n = rw n refl
@@ -181,16 +163,7 @@ drawn_held g (t ∷ ts) h =
     (none_more t.id ts (drawn_token g) c.0 (new_apart g t k))
     (drawn_held g ts c.1))
 
--- ---- a token is put back
-
-pub put_back : (g : GuessesView) (t : Token) (others : List Token) → is_ok (redeemed g t) ≡ true → none_of t.id others ≡ true → all_taken g others ≡ true → all_taken g (others ++ t ∷ []) ≡ true
-put_back g t [] takes apart h = rw takes refl
-put_back g t (u ∷ us) takes apart h =
-    let b = both (is_ok (redeemed g u)) (none_of u.id us && all_taken g us) h in
-    let c = both (none_of u.id us) (all_taken g us) b.1 in
-    let m = both (not (u.id == t.id)) (none_of t.id us) apart in
-    pair (is_ok (redeemed g u)) (none_of u.id (us ++ t ∷ []) && all_taken g (us ++ t ∷ [])) b.0
-    (pair (none_of u.id (us ++ t ∷ [])) (all_taken g (us ++ t ∷ [])) (none_more u.id us t c.0 (turned u.id t.id m.0)) (put_back g t us takes m.1 c.1))
+-- ---- the token at a place
 
 pub out_of : (g : GuessesView) (i : ℕ) (ts : List Token) (t : Token) (others : List Token) → i < length ts → t ≡ get_or ts i t → others ≡ remove ts i → all_taken g ts ≡ true → Out g t others
 out_of g i ts t others lt e s h = rw s (subst (λ x. Out g x (remove ts i)) (sym e) (taken_out g i ts t lt h))
@@ -234,18 +207,3 @@ removed_without g (t ∷ ts) (suc i) id h at =
     let b = both (is_ok (redeemed g t)) (none_of t.id ts && all_taken g ts) h in
     let c = both (none_of t.id ts) (all_taken g ts) b.1 in
     rw (same_id ts i id t.id c.0 at) (ap (λ us. t ∷ us) (removed_without g ts i id c.1 at))
-
--- ---- a token that is put back is held again
-
-held_end : (id : ℕ) (ts : List Token) (t : Token) → is_held id (ts ++ t ∷ []) ≡ is_held id (t ∷ ts)
-held_end id [] t = refl
-held_end id (u ∷ us) t = rw (held_end id us t) (swapped (u.id == id) (t.id == id) (is_held id us))
-
-held_at : (id : ℕ) (ts : List Token) (i : ℕ) (d : Token) → i < length ts → is_held id (get_or ts i d ∷ remove ts i) ≡ is_held id ts
-held_at id [] i d lt = absurd (omega arith)
-held_at id (t ∷ ts) zero d lt = refl
-held_at id (t ∷ ts) (suc i) d lt =
-    swapped ((get_or ts i d).id == id) (t.id == id) (is_held id (remove ts i)) ∙ ap (λ b. (t.id == id) || b) (held_at id ts i d (omega arith))
-
-pub held_back : (id : ℕ) (ts : List Token) (i : ℕ) (t : Token) (others : List Token) → i < length ts → t ≡ get_or ts i t → others ≡ remove ts i → is_held id (others ++ t ∷ []) ≡ is_held id ts
-held_back id ts i t others lt e s = held_end id others t ∙ rw s (subst (λ u. is_held id (u ∷ remove ts i) ≡ is_held id ts) (sym e) (held_at id ts i t lt))

@@ -5,8 +5,8 @@ use Rattle.sk_guesses.specs.Token.{Token}
 use Rattle.sk_guesses.specs.Guesses.{GuessesView, next_of, drawn, status_of}
 use Rattle.sk_guesses.specs.Calls.{redeemed, redeemed_at}
 use Rattle.sk_guesses.specs.declared.guess.Redeemed.TheVariants as redeemed_as
-use Rattle.sk_guesses.specs.declared.status.Status.{Status}
-use Rattle.sk_guesses.specs.declared.status.Status.TheVariants.{Undecided, Committed, Failed, Struck}
+use Rattle.sk_record.specs.declared.status.Status.{Status}
+use Rattle.sk_record.specs.declared.status.Status.TheVariants.{Undecided, Committed, Failed, Struck}
 use Rattle.sk_plain.specs.declared.refusal.Refusal.{Refusal}
 use Rattle.sk_trace.specs.Entry.{EntryView}
 use Rattle.sk_trace.specs.declared.event.Event.{Event}
@@ -19,7 +19,7 @@ use Rattle.sk_kernel.specs.declared.kernel.Stranger.{Stranger}
 use Rattle.sk_kernel.specs.declared.kernel.FailRefusal.{FailRefusal}
 use Rattle.sk_kernel.specs.declared.kernel.FailRefusal.TheVariants as refusals
 use Rattle.sk_play.specs.Session.{all_taken, outcome_told, CommitTold, FailTold}
-use Rattle.sk_play.proofs.Held.{Out, decided, numbered, drawn_held}
+use Rattle.sk_play.proofs.Held.{Out, decided_held, numbered, drawn_held}
 
 -- what a step does leaves the guesses
 done_guesses : (k : KernelView) (event : Event) (does : _) → (done k event does).guesses ≡ k.guesses
@@ -34,7 +34,7 @@ steps_keep (Ok u) refused old new n ts h held = rw (h.1, done_guesses old (event
 steps_keep (Err why) refused old new n ts h held = rw h.1 held
 
 pub commits_keep : (result : Result Outcome Stranger) (t : Token) (old new : KernelView) (others : List Token) → CommitPost result t old new → Out old.guesses t others → all_taken new.guesses others ≡ true
-commits_keep (Ok outcomes.Done) t old new others h o = rw h.1.guesses (decided old.guesses t.id Committed others (numbered old.guesses t o.takes) o.apart o.rest)
+commits_keep (Ok outcomes.Done) t old new others h o = rw h.1.guesses (decided_held old.guesses t.id Committed others (numbered old.guesses t o.takes) o.apart o.rest)
 commits_keep (Ok outcomes.Gone) t old new others h o = rw h.1 o.rest
 commits_keep (Err s) t old new others h o = rw h.2 o.rest
 
@@ -43,26 +43,15 @@ no_stranger (Ok x) s t old new h e takes = absurd cc
 no_stranger (Err x) s t old new h e takes = let bad : false ≡ true = rw h.0 at takes in absurd cc
 
 pub fails_keep : (result : Result Outcome FailRefusal) (t : Token) (old new : KernelView) (others : List Token) → FailPost result t old new → Out old.guesses t others → all_taken new.guesses others ≡ true
-fails_keep (Ok outcomes.Done) t old new others h o = rw h.1.guesses (decided old.guesses t.id Failed others (numbered old.guesses t o.takes) o.apart o.rest)
+fails_keep (Ok outcomes.Done) t old new others h o = rw h.1.guesses (decided_held old.guesses t.id Failed others (numbered old.guesses t o.takes) o.apart o.rest)
 fails_keep (Ok outcomes.Gone) t old new others h o = rw h.1 o.rest
 fails_keep (Err (refusals.Stranger s)) t old new others h o = rw h.2 o.rest
 fails_keep (Err (refusals.Memory s)) t old new others h o = absurd h
 
-pub no_stranger_fails : (result : Result Outcome FailRefusal) (s : Token) (t : Token) (old new : KernelView) → FailPost result t old new → result ≡ Err (refusals.Stranger s) → is_ok (redeemed old.guesses t) ≡ true → ⊥
-no_stranger_fails (Ok x) s t old new h e takes = absurd cc
-no_stranger_fails (Err (refusals.Stranger x)) s t old new h e takes = let bad : false ≡ true = rw h.0 at takes in absurd cc
-no_stranger_fails (Err (refusals.Memory x)) s t old new h e takes = absurd cc
-
-pub fails_back : (result : Result Outcome FailRefusal) (s : Token) (t : Token) (old new : KernelView) (others : List Token) → FailPost result t old new → result ≡ Err (refusals.Memory s) → Out old.guesses t others → all_taken new.guesses (others ++ s ∷ []) ≡ true
-fails_back (Ok x) s t old new others h e o = absurd cc
-fails_back (Err (refusals.Stranger x)) s t old new others h e o = absurd cc
-fails_back (Err (refusals.Memory x)) s t old new others h e o = absurd h
-
--- the token that comes back is the one that was handed in
-pub memory_back : (result : Result Outcome FailRefusal) (s : Token) (t : Token) (old new : KernelView) → FailPost result t old new → result ≡ Err (refusals.Memory s) → s ≡ t
-memory_back (Ok x) s t old new h e = absurd cc
-memory_back (Err (refusals.Stranger x)) s t old new h e = absurd cc
-memory_back (Err (refusals.Memory x)) s t old new h e = absurd h
+pub no_refusal : (result : Result Outcome FailRefusal) (why : FailRefusal) (t : Token) (old new : KernelView) → FailPost result t old new → result ≡ Err why → is_ok (redeemed old.guesses t) ≡ true → ⊥
+no_refusal (Ok x) why t old new h e takes = absurd cc
+no_refusal (Err (refusals.Stranger x)) why t old new h e takes = let bad : false ≡ true = rw h.0 at takes in absurd cc
+no_refusal (Err (refusals.Memory x)) why t old new h e takes = h
 
 pub draws_keep : (result : Result Token Refusal) (s : Token) (refused : Option Refusal) (old after new : KernelView) (ts : List Token) → GuessPost result refused old after new → after.guesses ≡ drawn old.guesses → result ≡ Ok s → all_taken old.guesses ts ≡ true → all_taken new.guesses (ts ++ s ∷ []) ≡ true
 draws_keep (Err x) s refused old after new ts h a e held = absurd cc

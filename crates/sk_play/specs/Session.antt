@@ -3,7 +3,7 @@ use Rattle.std.specs.Prelude.{◌≡◌, Option, Some, None, ℕ, zero, suc, Boo
 use Rattle.std.specs.List.{list_all, list_any}
 use Rattle.sk_guesses.specs.Token.{Token}
 use Rattle.sk_guesses.specs.Guesses.{GuessesView, next_of, status_of}
-use Rattle.sk_guesses.specs.declared.status.Status.TheVariants.{Undecided, Struck}
+use Rattle.sk_record.specs.declared.status.Status.TheVariants.{Undecided, Struck}
 use Rattle.sk_guesses.specs.Calls.{redeemed}
 use Rattle.sk_plain.specs.declared.refusal.Refusal.{Refusal}
 use Rattle.sk_trace.specs.Entry.{EntryView}
@@ -73,23 +73,20 @@ abbrev pub outcome_told : Outcome → Answer
 outcome_told outcomes.Done = answers.Done
 outcome_told outcomes.Gone = answers.Gone
 
--- a commit: the guess of a held token is decided, or was struck before; without a token nothing changes
-abbrev pub CommitTold : Answer → Bool → ℕ → KernelView → KernelView → Type 0
-CommitTold answers.Done held id old new = (held ≡ true) × (status_of old.guesses id ≡ Some Undecided) × IsCommitted old id new
-CommitTold answers.Gone held id old new = (held ≡ true) × (status_of old.guesses id ≡ Some Struck) × (new ≡ old)
-CommitTold answers.NoToken held id old new = (held ≡ false) × (new ≡ old)
-CommitTold answers.Stepped held id old new = ⊥
-CommitTold (answers.Guessed other) held id old new = ⊥
-CommitTold (answers.Refused why) held id old new = ⊥
+-- a decision: the guess of a held token is decided, or was struck before; without a token nothing changes
+abbrev pub DecisionTold : (KernelView → ℕ → KernelView → Type 0) → Answer → Bool → ℕ → KernelView → KernelView → Type 0
+DecisionTold IsDecided answers.Done held id old new = (held ≡ true) × (status_of old.guesses id ≡ Some Undecided) × IsDecided old id new
+DecisionTold IsDecided answers.Gone held id old new = (held ≡ true) × (status_of old.guesses id ≡ Some Struck) × (new ≡ old)
+DecisionTold IsDecided answers.NoToken held id old new = (held ≡ false) × (new ≡ old)
+DecisionTold IsDecided answers.Stepped held id old new = ⊥
+DecisionTold IsDecided (answers.Guessed other) held id old new = ⊥
+DecisionTold IsDecided (answers.Refused why) held id old new = ⊥
 
--- the same for a failure
+abbrev pub CommitTold : Answer → Bool → ℕ → KernelView → KernelView → Type 0
+CommitTold answer held id old new = DecisionTold IsCommitted answer held id old new
+
 abbrev pub FailTold : Answer → Bool → ℕ → KernelView → KernelView → Type 0
-FailTold answers.Done held id old new = (held ≡ true) × (status_of old.guesses id ≡ Some Undecided) × IsFailed old id new
-FailTold answers.Gone held id old new = (held ≡ true) × (status_of old.guesses id ≡ Some Struck) × (new ≡ old)
-FailTold answers.NoToken held id old new = (held ≡ false) × (new ≡ old)
-FailTold answers.Stepped held id old new = ⊥
-FailTold (answers.Guessed other) held id old new = ⊥
-FailTold (answers.Refused why) held id old new = ⊥
+FailTold answer held id old new = DecisionTold IsFailed answer held id old new
 
 abbrev pub entry : ℕ → Input → Option ℕ → EntryView
 entry pid input guess = record { pid = pid; input = input; guess = guess }
@@ -109,7 +106,3 @@ tokens_after answer (calls.Step pid input) kernel ts = ts
 tokens_after answer (calls.Guess pid input) kernel ts = with_guess answer kernel ts
 tokens_after answer (calls.Commit id) kernel ts = without_token id ts
 tokens_after answer (calls.Fail id) kernel ts = without_token id ts
-
--- the same guesses have tokens
-abbrev pub HoldsTheSame : List Token → List Token → Type 0
-HoldsTheSame old new = (id : ℕ) → is_held id new ≡ is_held id old

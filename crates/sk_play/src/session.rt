@@ -1,7 +1,7 @@
 //! A kernel at play, with the tokens of its guesses.
-ghost use Rattle.std.specs.Prelude.{MatchResult, IfOk, OnOk, OnErr, [], None, Some, ◌≡◌, ◌+◌, ◌<◌, IfSome, true, vec_len, is_some};
+ghost use Rattle.std.specs.Prelude.{MatchResult, IfOk, OnErr, [], None, Some, ◌≡◌, ◌+◌, ◌<◌, IfSome, true, vec_len, is_some};
 ghost use Rattle.std.specs.List.{remove};
-ghost use Rattle.sk_play.specs.Session.{all_taken, is_held, id_at, outcome_told, entry, without_token, with_guess, tokens_after, HoldsTheSame, AnswerMatches, StepTold, GuessTold, CommitTold, FailTold};
+ghost use Rattle.sk_play.specs.Session.{all_taken, is_held, id_at, outcome_told, entry, without_token, with_guess, tokens_after, AnswerMatches, StepTold, GuessTold, CommitTold, FailTold};
 ghost use Rattle.sk_play.specs.Plays.{declared_kernel};
 ghost use Rattle.sk_guesses.specs.Guesses.{next_of};
 ghost use Rattle.sk_kernel.specs.Kernel.{step_refused, stepped, guess_refused, guessed};
@@ -10,7 +10,7 @@ ghost use Rattle.sk_plain.specs.Refusal.{cause};
 use crate::answer::Answer;
 use sk_guesses::Guess;
 use sk_ids::{GuessId, Pid};
-use sk_kernel::{FailRefusal, Kernel, Outcome};
+use sk_kernel::{Kernel, Outcome};
 use sk_plain::Refusal;
 use sk_scenario::{Call, Declarations};
 use sk_script::Input;
@@ -51,14 +51,14 @@ impl Session {
     /// Makes the call that a step says. Without memory nothing changes.
     pub fn execute(&mut self, step: &Call) -> Result<Answer, AllocError>
         ensures tokens { IfOk result (λ answer. self.new.tokens.items ≡ tokens_after answer step.now self.old.kernel.guesses.kernel self.old.tokens.items) }
-        ensures held { OnErr result (HoldsTheSame self.old.tokens.items self.new.tokens.items) }
+        ensures held { OnErr result (self.new.tokens.items ≡ self.old.tokens.items) }
         ensures told { MatchResult result (λ answer. AnswerMatches answer step.now self.old.tokens.items self.old.kernel self.new.kernel) (λ _. self.new.kernel ≡ self.old.kernel) }
     {
         match step {
             Call::Step(pid, input) => self.step(*pid, *input),
             Call::Guess(pid, input) => self.guess(*pid, *input),
             Call::Commit(id) => Ok(self.commit(*id)),
-            Call::Fail(id) => self.fail(*id),
+            Call::Fail(id) => Ok(self.fail(*id)),
         }
     }
 
@@ -112,35 +112,26 @@ impl Session {
         }
     }
 
-    fn fail(&mut self, id: GuessId) -> Result<Answer, AllocError>
-        ensures tokens { OnOk result (self.new.tokens.items ≡ without_token id self.old.tokens.items) }
-        ensures held { OnErr result (HoldsTheSame self.old.tokens.items self.new.tokens.items) }
-        ensures told { MatchResult result (λ answer. FailTold answer (is_held id self.old.tokens.items) id self.old.kernel self.new.kernel) (λ _. self.new.kernel ≡ self.old.kernel) }
+    fn fail(&mut self, id: GuessId) -> Answer
+        ensures tokens { self.new.tokens.items ≡ without_token id self.old.tokens.items }
+        ensures told { FailTold result (is_held id self.old.tokens.items) id self.old.kernel self.new.kernel }
     {
         match self.place_of(id) {
             Some(place) => self.fail_at(place),
-            None => Ok(Answer::NoToken),
+            None => Answer::NoToken,
         }
     }
 
     /// Fails the guess of a token.
-    fn fail_at(&mut self, place: usize) -> Result<Answer, AllocError>
+    fn fail_at(&mut self, place: usize) -> Answer
         requires { place < vec_len self.old.tokens }
-        ensures tokens { OnOk result (self.new.tokens.items ≡ remove self.old.tokens.items place) }
-        ensures held { OnErr result (HoldsTheSame self.old.tokens.items self.new.tokens.items) }
-        ensures told { IfSome (id_at self.old.tokens.items place) (λ id. MatchResult result (λ answer. FailTold answer true id self.old.kernel self.new.kernel) (λ _. self.new.kernel ≡ self.old.kernel)) }
+        ensures tokens { self.new.tokens.items ≡ remove self.old.tokens.items place }
+        ensures told { IfSome (id_at self.old.tokens.items place) (λ id. FailTold result true id self.old.kernel self.new.kernel) }
     {
         let token = self.tokens.remove(place);
-        let refusal = match self.kernel.fail_speculation(token) {
-            Ok(outcome) => return Ok(answer_of(outcome)),
-            Err(refusal) => refusal,
-        };
-        match refusal {
-            FailRefusal::Memory(token) => {
-                self.tokens.push_reserved(token);
-                Err(AllocError)
-            }
-            FailRefusal::Stranger(_token) => unreachable!(),
+        match self.kernel.fail_speculation(token) {
+            Ok(outcome) => answer_of(outcome),
+            Err(_refusal) => unreachable!(),
         }
     }
 

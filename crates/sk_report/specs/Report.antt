@@ -6,8 +6,8 @@ use Rattle.std.specs.BTreeSet.{insert_key}
 use Rattle.sk_ids.specs.declared.entity.Entity.{Entity}
 use Rattle.sk_store.specs.declared.entity_state.EntityState.{EntityState}
 use Rattle.sk_store.specs.declared.entity_state.EntityState.TheVariants as stored
-use Rattle.sk_terminal.specs.Terminal.{released_of, waiting_of}
-use Rattle.sk_terminal.specs.declared.buffered_text.BufferedText.{BufferedText}
+use Rattle.sk_record.specs.Machine.{released}
+use Rattle.sk_terminal.specs.Terminal.{TaggedText, waiting_of}
 use Rattle.sk_kernel.specs.Kernel.{KernelView, tags_at, undecided}
 use Rattle.sk_words.specs.Spelling.{spelled}
 use Rattle.sk_report.specs.Printed.{tags_text, process_text, value_text, entity_text}
@@ -29,13 +29,13 @@ entity_line k e = line_with (map.get k.written.now e) (entity_text e) (tags_text
 abbrev pub texts_lines : List (List ℕ) → List ℕ
 texts_lines texts = flat_map (λ text. spelled text ++ 10 ∷ []) texts
 
-abbrev pub terminal_lines : ℕ → List BufferedText → List ℕ
+abbrev pub terminal_lines : ℕ → List TaggedText → List ℕ
 terminal_lines number texts =
-    codes "terminal " ++ decimal number ++ codes " released " ++ decimal (length (released_of texts)) ++ codes " waiting " ++ decimal (waiting_of texts)
-    ++ 10 ∷ texts_lines (released_of texts)
+    codes "terminal " ++ decimal number ++ codes " released " ++ decimal (length (released texts)) ++ codes " waiting " ++ decimal (waiting_of texts)
+    ++ 10 ∷ texts_lines (released texts)
 
 -- the lines of a terminal; without texts they are those of an empty one
-abbrev pub terminal_said : ℕ → Option (List BufferedText) → List ℕ
+abbrev pub terminal_said : ℕ → Option (List TaggedText) → List ℕ
 terminal_said number None = codes "terminal " ++ decimal number ++ codes " released 0 waiting 0\n"
 terminal_said number (Some texts) = terminal_lines number texts
 

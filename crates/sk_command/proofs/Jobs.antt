@@ -1,11 +1,14 @@
 -- What clap says of our command line.
-use Rattle.std.proofs.Common.{◌≡◌, List, [], true, codes, option_map, Option, Some, None, refl, sym, ap}
-use Rattle.std.specs.Prelude.{unwrap_or}
+use Rattle.std.proofs.Common.{◌≡◌, List, true, codes, option_map, Option, Some, None, refl, ap, sym, ◌∙◌}
+use Rattle.std.specs.Prelude.{option_and_then, unwrap_or}
 use Rattle.clap.specs.Faults.{is_simple_and_free}
-use Rattle.clap.specs.Simple.{is_simple}
+use Rattle.clap.specs.Matches.{subcommand_name_of}
+use Rattle.clap.specs.Simple.{is_simple, subcommand_rows_of}
 use Rattle.clap.specs.Walk.{Row, Text, first_of}
+use Rattle.clap.specs.declared.parser.matches.ArgMatches.{ArgMatches}
+use Rattle.clap.specs.declared.parser.matches.ArgMatches.TheViews.{out-ArgMatches}
 use Rattle.clap.proofs.OnLiterals.{clap_on_literals}
-use Rattle.sk_command.specs.CommandLine.{command_line, file_found}
+use Rattle.sk_command.specs.CommandLine.{command_line, wish_for, wish_found}
 
 -- clap's facts are exact for it
 pub is_known : is_simple_and_free command_line ≡ true
@@ -16,7 +19,19 @@ pub is_plain : is_simple command_line ≡ true
 unfolding clap_on_literals
 is_plain = refl
 
--- the file of a command that was found, from its rows
-pub file_in_rows : (found : Option (Text × List Row)) (rows : List Row) → Some rows ≡ option_map (λ p. p.1) found → file_found found ≡ first_of (codes "FILE") rows
-file_in_rows None rows e = absurd cc
-file_in_rows (Some command) rows e = ap (λ rs. first_of (codes "FILE") (unwrap_or rs [])) (sym e)
+mapped_twice : {A B C : Type 0} (f : A → B) (g : B → C) (x : Option A) → option_map g (option_map f x) ≡ option_map (λ a. g (f a)) x
+mapped_twice f g None = refl
+mapped_twice f g (Some a) = refl
+
+-- the name of the command that was found
+pub name_in_rows : (m : ArgMatches) (name : Text) → Some name ≡ subcommand_name_of m → Some name ≡ option_map (λ p. p.0) (subcommand_rows_of m)
+name_in_rows m name e = e ∙ sym (mapped_twice _ (λ p. p.0) (out-ArgMatches m).subcommand)
+
+-- what a command that was found asks for, from its name and its rows
+pub wish_in_rows : (found : Option (Text × List Row)) (name : Text) (rows : List Row) → Some name ≡ option_map (λ p. p.0) found → Some rows ≡ option_map (λ p. p.1) found
+    → wish_found found ≡ option_and_then (wish_for name rows) (first_of (codes "FILE") rows)
+wish_in_rows None name rows n e = absurd cc
+wish_in_rows (Some command) name rows n e =
+    let same_name : name ≡ command.0 = ap (λ o. unwrap_or o name) n in
+    let same_rows : rows ≡ command.1 = ap (λ o. unwrap_or o rows) e in
+    rw (same_name, same_rows) refl

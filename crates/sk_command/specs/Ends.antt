@@ -24,10 +24,21 @@ fault_end Label = ends.Fault
 fault_end TooLong = ends.Fault
 fault_end Memory = ends.Trouble
 
--- this end with nothing left in the buffer, unless the output refused a write
-abbrev pub IsFlushed : End → End → List ℕ → Type 0
-IsFlushed end ends.OutputRefused buffer = ⊤
-IsFlushed end result buffer = (result ≡ end) × (buffer ≡ [])
+-- all is written and nothing is left in the buffer, or the output refused a write
+abbrev pub IsWritten : End → List ℕ → Type 0
+IsWritten ends.Done buffer = buffer ≡ []
+IsWritten ends.Fault buffer = ⊥
+IsWritten ends.Usage buffer = ⊥
+IsWritten ends.Trouble buffer = ⊥
+IsWritten ends.OutputRefused buffer = ⊤
+
+-- a run that ends well leaves nothing in the buffer
+abbrev pub IsFlushed : End → List ℕ → Type 0
+IsFlushed ends.Done buffer = buffer ≡ []
+IsFlushed ends.Fault buffer = ⊤
+IsFlushed ends.Usage buffer = ⊤
+IsFlushed ends.Trouble buffer = ⊤
+IsFlushed ends.OutputRefused buffer = ⊤
 
 -- ends so, and the output is as it was
 abbrev pub EndsUnwritten : End → End → Option (List ℕ) → Option (List ℕ) → Type 0

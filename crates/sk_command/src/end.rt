@@ -2,7 +2,7 @@
 ghost use Rattle.std.specs.Prelude.{◌≡◌};
 ghost use Rattle.std.specs.Io.KnownBytes.{Keeps};
 ghost use Rattle.std.specs.Io.Buffered.{writer_buffer, writer_contents};
-ghost use Rattle.sk_command.specs.Ends.{status_of, fault_end, IsFlushed};
+ghost use Rattle.sk_command.specs.Ends.{status_of, fault_end, IsWritten};
 
 use crate::read_all::ReadFault;
 use sk_words::{Fault, FaultKind};
@@ -37,13 +37,13 @@ impl End {
     }
 }
 
-/// This end, once all output is written; `OutputRefused` where that is refused.
-pub fn flushed<W: Write + Drop>(out: &mut BufWriter<W>, end: End) -> End
-    ensures end { IsFlushed end result (writer_buffer out.new) }
+/// Writes out what the output buffers.
+pub fn flushed<W: Write + Drop>(out: &mut BufWriter<W>) -> End
+    ensures end { IsWritten result (writer_buffer out.new) }
     ensures kept { Keeps (writer_contents W.contents out.old) (writer_contents W.contents out.new) }
 {
     match out.flush() {
-        Ok(()) => end,
+        Ok(()) => End::Done,
         Err(_) => End::OutputRefused,
     }
 }
@@ -64,6 +64,14 @@ pub fn tell_wrong_section<E: Write>(err: &mut E) -> End
     ensures { result ≡ End.Fault }
 {
     let _ = writeln!(err, "speculate: wrong section");
+    End::Fault
+}
+
+/// Tells the number of a trace's entry that can't stand there.
+pub fn tell_entry<E: Write>(number: usize, err: &mut E) -> End
+    ensures { result ≡ End.Fault }
+{
+    let _ = writeln!(err, "speculate: trace entry {number} refused");
     End::Fault
 }
 

@@ -1,37 +1,45 @@
 //! What the words of the command line ask for.
 ghost use Rattle.std.specs.Prelude.{◌≡◌, false, [], map, option_map, IfOk, IfErr, OnOk, string_bytes};
+ghost use Rattle.std.specs.Io.Buffered.{writer_buffer, writer_contents};
 ghost use Rattle.clap.specs.Kinds.{HasKind};
+ghost use Rattle.clap.specs.Matches.{found_of};
 ghost use Rattle.clap.specs.Simple.{app_of, subcommand_rows_of};
 ghost use Rattle.clap.specs.Values.{kind_of};
-ghost use Rattle.clap.specs.Walk.{rule_of};
+ghost use Rattle.clap.specs.Walk.{rows_of, rule_of};
 ghost use Rattle.clap.specs.declared.builder.command.Command.TheViews.{out-Command as fields_of};
-ghost use Rattle.sk_command.specs.CommandLine.{command_line, play_command, file_rule, file_found, file_of, faults_of, job_file};
-ghost use Rattle.sk_command.specs.Ends.{EndsFor, EndsWithHelp};
+ghost use Rattle.sk_command.specs.CommandLine.{command_line, play_command, plain_command, file_rule, trace_rule, has_flag, wish_of, wish_found, wished, faults_of, wish_file};
+ghost use Rattle.sk_command.specs.Ends.{EndsFor, EndsWithHelp, IsFlushed};
 
-use crate::end::End;
+use crate::end::{End, flushed};
 use clap::error::ErrorKind;
 use clap::{Arg, ArgAction, ArgMatches, Command, Error};
 use std::alloc::{AllocError, Global};
-use std::io::Write;
+use std::io::{BufWriter, Write};
 
 /// What the words ask for, with the name of the input; `-` is standard input.
 #[derive(Clone, Copy, Debug, PartialEq, Eq)]
 pub enum Job<'a> {
-    Play { file: &'a str },
+    /// The steps of a scenario are played; its trace is printed where that is wanted.
+    Play { file: &'a str, trace: bool },
+    /// What a trace leaves is run without guesses.
+    Plain { file: &'a str },
 }
 
 impl<'a> Job<'a> {
     /// The name of the input.
     pub fn file(self) -> &'a str
-        ensures { result.now ≡ job_file self.entry }
+        ensures { result.now ≡ wish_file (wish_of self.entry) }
     {
         match self {
-            Job::Play { file } => file,
+            Job::Play { file, .. } | Job::Plain { file } => file,
         }
     }
 }
 
 const PLAY_HELP: &str = "Runs the steps of a scenario and prints each answer, and then the report.";
+
+const PLAIN_HELP: &str =
+    "Strikes a trace, runs what it leaves without guesses and prints the report.";
 
 const FORMS: &str = "A scenario is a text of lines. First come the declarations:
   script NAME .. end    a script, an instruction or label per line
@@ -42,9 +50,14 @@ const FORMS: &str = "A scenario is a text of lines. First come the declarations:
   process N SCRIPT T    a boot process, its script and its terminal
   limit N               the trace limit, 1000000 where none is given
   number N              the kernel's number, 1 where none is given
-Then comes the line `steps`, and below it an event per line:
+For `play` then comes the line `steps`, and below it an event per line:
   step PID INPUT        the process takes a step
   guess PID INPUT       the process takes a step on a guessed input
+  commit G              the guess was right
+  fail G                the guess was wrong
+For `plain` then comes the line `trace`, and below it what happened:
+  step PID INPUT        the process took a step
+  guess G PID INPUT     the process took a step on a guessed input
   commit G              the guess was right
   fail G                the guess was wrong
 INPUT is none, good, fresh V LIT or stale V LIT.
@@ -63,12 +76,33 @@ fn file_arg<'a>(alloc: Global) -> Arg<'a>
         .help("The scenario's file, or - for standard input")
 }
 
+fn trace_arg<'a>(alloc: Global) -> Arg<'a>
+    ensures rule { rule_of result ≡ trace_rule }
+    ensures local { result.global ≡ false }
+{
+    Arg::new(alloc, "trace")
+        .long("trace")
+        .action(ArgAction::SetTrue)
+        .help("Prints the trace behind the report")
+}
+
 fn play<'a>(alloc: Global) -> Result<Command<'a>, AllocError>
     ensures app { IfOk result (λ command. app_of command ≡ play_command) }
     ensures local { IfOk result (λ command. (fields_of command).has_globals ≡ false) }
 {
     Command::new(alloc, "play")
         .about(PLAY_HELP)
+        .after_help(FORMS)
+        .arg(file_arg(alloc))?
+        .arg(trace_arg(alloc))
+}
+
+fn plain<'a>(alloc: Global) -> Result<Command<'a>, AllocError>
+    ensures app { IfOk result (λ command. app_of command ≡ plain_command) }
+    ensures local { IfOk result (λ command. (fields_of command).has_globals ≡ false) }
+{
+    Command::new(alloc, "plain")
+        .about(PLAIN_HELP)
         .after_help(FORMS)
         .arg(file_arg(alloc))
 }
@@ -81,24 +115,42 @@ fn command<'a>(alloc: Global) -> Result<Command<'a>, AllocError>
         .after_help(FORMS)
         .subcommand_required(true)
         .disable_help_subcommand(true)
-        .subcommand(play(alloc)?)
+        .subcommand(play(alloc)?)?
+        .subcommand(plain(alloc)?)
+}
+
+/// Whether a command has this flag among its words.
+fn has_flag(words: &ArgMatches, flag: &str) -> bool
+    ensures { result ≡ has_flag flag.now (rows_of (found_of words.now)) }
+{
+    match words.get_str(flag) {
+        Some(value) => value == "true",
+        None => false,
+    }
 }
 
 /// The job that a parse found, if there is one.
 fn job_of<'a>(matches: &ArgMatches<'a>) -> Option<Job<'a>>
-    ensures { option_map job_file result ≡ file_found (subcommand_rows_of matches.now) }
+    ensures { option_map wish_of result ≡ wish_found (subcommand_rows_of matches.now) }
 {
-    let (_, inner) = matches.subcommand()?;
-    let file = inner.get_str("FILE")?;
-    Some(Job::Play { file })
+    let (command, words) = matches.subcommand()?;
+    let file = words.get_str("FILE")?;
+    match command {
+        "play" => Some(Job::Play {
+            file,
+            trace: has_flag(words, "trace"),
+        }),
+        "plain" => Some(Job::Plain { file }),
+        _ => None,
+    }
 }
 
 /// What the program's words ask for, of which the first is its own name; `None` where they name no file.
 /// Where they are faulty, or want help, the error says so.
 pub fn asked<'a>(alloc: Global, words: &'a [String]) -> Result<Option<Job<'a>>, Error>
     ensures faultless { OnOk result (faults_of (map string_bytes words.now) ≡ []) }
-    ensures job { IfOk result (λ job. option_map job_file job
-        ≡ file_of (map string_bytes words.now)) }
+    ensures job { IfOk result (λ job. option_map wish_of job
+        ≡ wished (map string_bytes words.now)) }
     ensures err { IfErr result (HasKind (faults_of (map string_bytes words.now))) }
 {
     let parser = command(alloc)?;
@@ -109,8 +161,15 @@ pub fn asked<'a>(alloc: Global, words: &'a [String]) -> Result<Option<Job<'a>>, 
 }
 
 /// Writes what the command line's reader has to say: help to the output, a fault to the error writer.
-pub fn explain<W: Write, E: Write>(alloc: Global, error: &Error, out: &mut W, err: &mut E) -> End
-    ensures { EndsFor (kind_of error.now) result (W.contents out.old) (W.contents out.new) }
+pub fn explain<W: Write + Drop, E: Write>(
+    alloc: Global,
+    error: &Error,
+    out: &mut BufWriter<W>,
+    err: &mut E,
+) -> End
+    ensures end { EndsFor (kind_of error.now) result
+        (writer_contents W.contents out.old) (writer_contents W.contents out.new) }
+    ensures flushed { IsFlushed result (writer_buffer out.new) }
 {
     match error.kind() {
         ErrorKind::OutOfMemory => End::Trouble,
@@ -123,17 +182,16 @@ pub fn explain<W: Write, E: Write>(alloc: Global, error: &Error, out: &mut W, er
 }
 
 /// Prints the help.
-fn print_help<W: Write>(alloc: Global, error: &Error, out: &mut W) -> End
-    ensures { EndsWithHelp result (W.contents out.old) (W.contents out.new) }
+fn print_help<W: Write + Drop>(alloc: Global, error: &Error, out: &mut BufWriter<W>) -> End
+    ensures end { EndsWithHelp result
+        (writer_contents W.contents out.old) (writer_contents W.contents out.new) }
+    ensures flushed { IsFlushed result (writer_buffer out.new) }
 {
     let Ok(help) = format!(in alloc; "{error}") else {
         return End::Trouble;
     };
-    let Ok(()) = out.write_all(help.as_bytes()) else {
-        return End::OutputRefused;
-    };
-    match out.flush() {
-        Ok(()) => End::Done,
+    match out.write_all(help.as_bytes()) {
+        Ok(()) => flushed(out),
         Err(_) => End::OutputRefused,
     }
 }

@@ -3,7 +3,7 @@ use Rattle.std.proofs.Common.{ap, subst, ◌∙◌, ◌≡◌, [], map, string_b
 use Rattle.clap.specs.Faults.{fault_of, is_simple_and_free}
 use Rattle.clap.specs.Kinds.{HasKind}
 use Rattle.clap.specs.Simple.{App, is_simple, subcommand_of}
-use Rattle.sk_command.specs.CommandLine.{file_found}
+use Rattle.sk_command.specs.CommandLine.{wish_found}
 use Rattle.sk_command.proofs.Jobs.{is_plain, is_known}
 use Rattle.sk_command.proofs.job.asked.Goals as goal
 
@@ -21,4 +21,4 @@ pub returns-in-Ok-clause-job : goal.returns-in-Ok-clause-job
 returns-in-Ok-clause-job c =
     let app = c.in_ok-parser.ensures in
     let rows = (c.in-Ok.ensures.matches (ap is_simple app ∙ is_plain)).1 in
-    c.job_of.ensures ∙ ap file_found (rows ∙ ap (λ a. subcommand_of a (map string_bytes c.args.words.now)) app)
+    c.job_of.ensures ∙ ap wish_found (rows ∙ ap (λ a. subcommand_of a (map string_bytes c.args.words.now)) app)

@@ -1,20 +1,35 @@
--- The file is the value of FILE among the rows of the command that was found.
-use Rattle.std.proofs.Common.{codes, sym, ◌∙◌}
+-- The name and the rows of the command that was found say what is asked for.
+use Rattle.std.proofs.Common.{codes, ◌∙◌, refl}
 use Rattle.clap.specs.Matches.{found_of}
 use Rattle.clap.specs.Simple.{subcommand_rows_of}
 use Rattle.clap.specs.Walk.{rows_of}
 use Rattle.clap.proofs.WalkLemmas.{first_value-rows}
-use Rattle.sk_command.proofs.Jobs.{file_in_rows}
+use Rattle.sk_command.proofs.Jobs.{name_in_rows, wish_in_rows}
 use Rattle.sk_command.proofs.job.job_of.Goals as goal
 
 pub returns-in_err-file : goal.returns-in_err-file
 returns-in_err-file c =
-    let found = found_of c.in_ok-inner.inner.now in
+    let found = found_of c.in_ok-command.words.now in
     let file = c.in_err-file.ensures ∙ first_value-rows found (codes "FILE") in
-    rw c.from_residual-in_err-file.ensures (file ∙ sym (file_in_rows (subcommand_rows_of c.args.matches.now) (rows_of found) c.in_ok-inner.ensures.rows))
+    let matches = c.args.matches.now in
+    let command = c.in_ok-command.command.now in
+    let wish = wish_in_rows (subcommand_rows_of matches) command (rows_of found) (name_in_rows matches command c.in_ok-command.ensures.name) c.in_ok-command.ensures.rows in
+    rw (c.from_residual-in_err-file.ensures, wish, ← file) refl
 
-pub returns : goal.returns
-returns c =
-    let found = found_of c.in_ok-inner.inner.now in
+pub returns-in-play : goal.returns-in-play
+returns-in-play c =
+    let found = found_of c.in_ok-command.words.now in
     let file = c.in_ok-file.ensures ∙ first_value-rows found (codes "FILE") in
-    file ∙ sym (file_in_rows (subcommand_rows_of c.args.matches.now) (rows_of found) c.in_ok-inner.ensures.rows)
+    let matches = c.args.matches.now in
+    let command = c.in_ok-command.command.now in
+    let wish = wish_in_rows (subcommand_rows_of matches) command (rows_of found) (name_in_rows matches command c.in_ok-command.ensures.name) c.in_ok-command.ensures.rows in
+    rw (wish, ← file, c.in-play.is, c.has_flag.ensures) refl
+
+pub returns-in-plain : goal.returns-in-plain
+returns-in-plain c =
+    let found = found_of c.in_ok-command.words.now in
+    let file = c.in_ok-file.ensures ∙ first_value-rows found (codes "FILE") in
+    let matches = c.args.matches.now in
+    let command = c.in_ok-command.command.now in
+    let wish = wish_in_rows (subcommand_rows_of matches) command (rows_of found) (name_in_rows matches command c.in_ok-command.ensures.name) c.in_ok-command.ensures.rows in
+    rw (wish, ← file, c.in-plain.is) refl

@@ -5,6 +5,8 @@ use Rattle.sk_ids.specs.declared.entity.Entity.TheVariants as entity
 use Rattle.sk_objects.specs.Directory.{Link}
 use Rattle.sk_objects.specs.declared.value.Value.{Value}
 use Rattle.sk_objects.specs.declared.value.Value.TheVariants as value
+use Rattle.sk_plain.specs.declared.view.View.{View}
+use Rattle.sk_plain.specs.declared.view.View.TheVariants as views
 use Rattle.sk_script.specs.declared.process.Process.{Process}
 use Rattle.sk_script.specs.declared.register.Val.{Val}
 use Rattle.sk_script.specs.Registers.{held, val_word}
@@ -69,6 +71,11 @@ value_text (value.Pipe pipe) = codes "pipe " ++ (if pipe.shut then codes "shut "
 value_text (value.Signals signals) = signals_text signals
 value_text (value.Exit status) = option_text status
 value_text (value.Copy content) = decimal content.version ++ 32 ∷ spelled content.bytes
+
+-- what an entity has, behind its name, as a kernel shows it
+abbrev pub view_text : View → List ℕ
+view_text (views.Process p) = process_text p.now
+view_text (views.Value v) = value_text v.now
 
 -- an entity
 abbrev pub entity_text : Entity → List ℕ

@@ -1,4 +1,4 @@
--- The report of a kernel.
+-- The report of a kernel, and that of a plain kernel.
 use Rattle.std.specs.Prelude.{ℕ, List, [], ◌∷◌, ◌++◌, flat_map, codes, decimal, length, Option, Some, None}
 use Rattle.std.specs.Ordering.{nat_cmp}
 use Rattle.std.specs.FinMap as map
@@ -8,6 +8,7 @@ use Rattle.sk_store.specs.declared.entity_state.EntityState.{EntityState}
 use Rattle.sk_store.specs.declared.entity_state.EntityState.TheVariants as stored
 use Rattle.sk_record.specs.Machine.{released}
 use Rattle.sk_terminal.specs.Terminal.{TaggedText, waiting_of}
+use Rattle.sk_plain.specs.Plain.{PlainView, texts_said}
 use Rattle.sk_kernel.specs.Kernel.{KernelView, tags_at, undecided}
 use Rattle.sk_words.specs.Spelling.{spelled}
 use Rattle.sk_report.specs.Printed.{tags_text, process_text, value_text, entity_text}
@@ -17,13 +18,18 @@ abbrev pub stored_text : EntityState → List ℕ
 stored_text (stored.Process p) = process_text p
 stored_text (stored.Value v) = value_text v
 
-abbrev pub line_with : Option EntityState → List ℕ → List ℕ → List ℕ
-line_with None entity tags = []
-line_with (Some s) entity tags = entity ++ 32 ∷ stored_text s ++ codes " tags " ++ tags ++ 10 ∷ []
+-- the line of an entity with what stands at its end, none where it is absent
+abbrev pub line_with : Option EntityState → Entity → List ℕ → List ℕ
+line_with None e end = []
+line_with (Some s) e end = entity_text e ++ 32 ∷ stored_text s ++ end ++ 10 ∷ []
 
--- the line of an entity, none where it is absent
+-- an entity with its tags
 abbrev pub entity_line : KernelView → Entity → List ℕ
-entity_line k e = line_with (map.get k.written.now e) (entity_text e) (tags_text (tags_at k e))
+entity_line k e = line_with (map.get k.written.now e) e (codes " tags " ++ tags_text (tags_at k e))
+
+-- an entity of a plain kernel
+abbrev pub plain_entity_line : PlainView → Entity → List ℕ
+plain_entity_line k e = line_with (map.get k.state e) e []
 
 -- the released texts, a literal a line
 abbrev pub texts_lines : List (List ℕ) → List ℕ
@@ -39,8 +45,17 @@ abbrev pub terminal_said : ℕ → Option (List TaggedText) → List ℕ
 terminal_said number None = codes "terminal " ++ decimal number ++ codes " released 0 waiting 0\n"
 terminal_said number (Some texts) = terminal_lines number texts
 
+-- the lines of a terminal of a plain kernel, to which all that was said is out
+abbrev pub plain_terminal_said : PlainView → ℕ → List ℕ
+plain_terminal_said k number =
+    codes "terminal " ++ decimal number ++ codes " said " ++ decimal (length (texts_said k number)) ++ 10 ∷ texts_lines (texts_said k number)
+
 abbrev pub last_line : KernelView → List ℕ
 last_line k = codes "trace " ++ decimal (length k.trace) ++ codes " undecided " ++ decimal (undecided k) ++ 10 ∷ []
+
+-- the number of steps that were run
+abbrev pub steps_line : ℕ → List ℕ
+steps_line steps = codes "steps " ++ decimal steps ++ 10 ∷ []
 
 -- ---- the whole
 
@@ -55,13 +70,14 @@ abbrev pub with_terminals : (Entity → Option EntityState) → List ℕ → Lis
 with_terminals look numbers [] = numbers
 with_terminals look numbers (e ∷ es) = with_terminals look (with_terminal numbers (look e)) es
 
-abbrev pub terminals_text : KernelView → List ℕ → List ℕ
-terminals_text k numbers = flat_map (λ n. terminal_said n (map.get k.texts n)) numbers
+-- the lines of the terminals of all processes among these entities, and then those of the entities
+abbrev pub body_text : (Entity → Option EntityState) → (ℕ → List ℕ) → (Entity → List ℕ) → List Entity → List ℕ
+body_text look terminal entity es = flat_map terminal (with_terminals look [] es) ++ flat_map entity es
 
-abbrev pub entities_text : KernelView → List Entity → List ℕ
-entities_text k es = flat_map (λ e. entity_line k e) es
-
--- the terminals of all processes, the entities that are present by their order, and the last line
+-- the terminals, the entities that are present by their order, and the last line
 abbrev pub report_text : KernelView → List ℕ
-report_text k =
-    terminals_text k (with_terminals (map.get k.written.now) [] (map.keys k.written.now)) ++ entities_text k (map.keys k.written.now) ++ last_line k
+report_text k = body_text (map.get k.written.now) (λ n. terminal_said n (map.get k.texts n)) (entity_line k) (map.keys k.written.now) ++ last_line k
+
+-- the same of a plain kernel that has run so many steps
+abbrev pub plain_report_text : PlainView → ℕ → List ℕ
+plain_report_text k steps = body_text (map.get k.state) (plain_terminal_said k) (plain_entity_line k) (map.keys k.state) ++ steps_line steps

@@ -5,7 +5,9 @@
 pub mod printed;
 pub mod report;
 pub mod stop;
+pub mod subject;
 
-pub use printed::{PrintedEntity, PrintedProcess, PrintedTags, PrintedValue};
-pub use report::write_report;
+pub use printed::{PrintedEntity, PrintedProcess, PrintedTags, PrintedValue, PrintedView};
+pub use report::{write_plain_report, write_report};
 pub use stop::Stop;
+pub use subject::Subject;

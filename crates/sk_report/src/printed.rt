@@ -1,10 +1,11 @@
 //! How entities and what they have are printed.
 ghost use Rattle.std.specs.Prelude.{◌≡◌, ◌<◌, ◌∷◌, Some, flat_map, decimal, slice_index};
-ghost use Rattle.sk_report.specs.Printed.{tags_text, signals_text, links_text, link_text, option_text, registers_text, held_text, made_text, yes_or_no, process_text, value_text, entity_text};
+ghost use Rattle.sk_report.specs.Printed.{tags_text, signals_text, links_text, link_text, option_text, registers_text, held_text, made_text, yes_or_no, process_text, value_text, view_text, entity_text};
 ghost use Rattle.sk_script.specs.Registers.{held};
 
 use sk_ids::{Entity, GuessId, Name, ObjId, TagSet};
 use sk_objects::{Directory, Signals, Value};
+use sk_plain::View;
 use sk_script::words::{Literal, Printed};
 use sk_script::{Process, Register, Registers, Val};
 use std::fmt;
@@ -260,6 +261,21 @@ impl fmt::Display for PrintedValue<'_> {
                 let bytes = Literal(bytes.as_slice());
                 write!(f, "{version} {bytes}")
             }
+        }
+    }
+}
+
+/// What a kernel shows of an entity, behind its name.
+#[derive(Clone, Copy)]
+pub struct PrintedView<'a>(pub View<'a>);
+
+impl fmt::Display for PrintedView<'_> {
+    ghost output = { λ s. Some (view_text s.0) };
+
+    fn fmt<W: fmt::Write>(&self, f: &mut fmt::Formatter<W>) -> fmt::Result {
+        match self.0 {
+            View::Process(process) => write!(f, "{}", PrintedProcess(process)),
+            View::Value(value) => write!(f, "{}", PrintedValue(value)),
         }
     }
 }

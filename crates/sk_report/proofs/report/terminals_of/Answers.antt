@@ -1,14 +1,13 @@
 -- No entity is left, so the set has the terminals of all; what is collected are its keys.
 use Rattle.std.proofs.Common.{rules, arith, ◌≡◌, ◌≤◌, [], length, List, IfOk, sym, ◌∙◌}
 use Rattle.std.proofs.lemmas.List.{at_drop_all}
-use Rattle.std.specs.FinMap as map
 use Rattle.sk_ids.specs.declared.entity.Entity.{Entity}
 use Rattle.sk_report.specs.Report.{with_terminals}
 use Rattle.sk_report.proofs.report.terminals_of.Goals as goal
 
 pub returns : goal.returns
-returns c =
-    let look = map.get c.args.kernel.now.written.now in
+returns g c =
+    let look = g.S.Subject.look c.args.subject.now in
     let entities = c.args.entities.now in
     let numbers = c.loop-entity.numbers.keys in
     let none_left = c.loop-entity-test.false in

@@ -2,7 +2,7 @@
 use Rattle.std.proofs.Common.{take}
 use Rattle.std.specs.Io.KnownBytes.{Appends}
 use Rattle.sk_report.specs.Report.{texts_lines}
-use Rattle.sk_report.proofs.report.write_texts.Given as goal
+use Rattle.sk_report.proofs.subject.write_texts.Given as goal
 
 abbrev pub invariant-loop-text : goal.invariant-loop-text
 invariant-loop-text g l = Appends (g.W.Write.contents l.fn.out) (g.W.Write.contents l.out) (texts_lines (take l.text-index l.texts))

@@ -1,0 +1,125 @@
+//! The kernels of which a report is written.
+ghost use Rattle.std.specs.Prelude.{OnOk};
+ghost use Rattle.std.specs.Io.KnownBytes.{Appends};
+ghost use Rattle.std.specs.FinMap as map;
+ghost use Rattle.sk_report.specs.Report.{terminal_said, texts_lines, entity_line, plain_terminal_said, plain_entity_line};
+
+use crate::{PrintedEntity, PrintedTags, PrintedView};
+use sk_ids::{Entity, Text};
+use sk_kernel::Kernel;
+use sk_plain::{Plain, View};
+use sk_script::words::Literal;
+use std::io;
+use std::io::Write;
+
+/// A kernel of which a report is written.
+pub trait Subject {
+    ghost use Rattle.std.specs.Prelude.{ℕ, List, Option, OnOk};
+    ghost use Rattle.std.specs.Io.KnownBytes.{Appends};
+    ghost use Rattle.sk_ids.specs.declared.entity.Entity.{Entity};
+    ghost use Rattle.sk_store.specs.declared.entity_state.EntityState.{EntityState};
+    ghost use Rattle.sk_plain.specs.View.{Shows};
+
+    /// What each entity has.
+    ghost look: { Self → Entity → Option EntityState };
+
+    /// The lines of a terminal.
+    ghost terminal_lines: { Self → ℕ → List ℕ };
+
+    /// The line of an entity.
+    ghost line_of: { Self → Entity → List ℕ };
+
+    /// What an entity has; `None` where it is absent.
+    fn show(&self, entity: &Entity) -> Option<View<'_>>
+        ensures { Shows (look self.now entity.now) result };
+
+    /// Writes how many texts a terminal has, and those that are out.
+    fn write_terminal<W: Write>(&self, number: u16, out: &mut W) -> io::Result<()>
+        ensures { OnOk result (Appends (W.contents out.old) (W.contents out.new)
+            (terminal_lines self.now number)) };
+
+    /// Writes an entity and what it has.
+    fn write_entity<W: Write>(&self, entity: &Entity, out: &mut W) -> io::Result<()>
+        ensures { OnOk result (Appends (W.contents out.old) (W.contents out.new)
+            (line_of self.now entity.now)) };
+}
+
+impl Subject for Kernel {
+    ghost look = { λ k. map.get k.written.now };
+
+    ghost terminal_lines = { λ k number. terminal_said number (map.get k.texts number) };
+
+    ghost line_of = { entity_line };
+
+    fn show(&self, entity: &Entity) -> Option<View<'_>> {
+        self.value(entity)
+    }
+
+    fn write_terminal<W: Write>(&self, number: u16, out: &mut W) -> io::Result<()> {
+        match self.terminal(number) {
+            Some(terminal) => {
+                let released = terminal.released().len();
+                let waiting = terminal.waiting();
+                writeln!(
+                    out,
+                    "terminal {number} released {released} waiting {waiting}"
+                )?;
+                write_texts(terminal.released(), out)
+            }
+            None => writeln!(out, "terminal {number} released 0 waiting 0"),
+        }
+    }
+
+    fn write_entity<W: Write>(&self, entity: &Entity, out: &mut W) -> io::Result<()> {
+        match self.value(entity) {
+            Some(view) => {
+                let tags = PrintedTags(self.tags_of(entity));
+                let entity = PrintedEntity(*entity);
+                let view = PrintedView(view);
+                writeln!(out, "{entity} {view} tags {tags}")
+            }
+            None => Ok(()),
+        }
+    }
+}
+
+impl Subject for Plain {
+    ghost look = { λ k. map.get k.state };
+
+    ghost terminal_lines = { plain_terminal_said };
+
+    ghost line_of = { plain_entity_line };
+
+    fn show(&self, entity: &Entity) -> Option<View<'_>> {
+        self.value(entity)
+    }
+
+    fn write_terminal<W: Write>(&self, number: u16, out: &mut W) -> io::Result<()> {
+        let texts = self.said(number);
+        let said = texts.len();
+        writeln!(out, "terminal {number} said {said}")?;
+        write_texts(texts, out)
+    }
+
+    fn write_entity<W: Write>(&self, entity: &Entity, out: &mut W) -> io::Result<()> {
+        match self.value(entity) {
+            Some(view) => {
+                let entity = PrintedEntity(*entity);
+                let view = PrintedView(view);
+                writeln!(out, "{entity} {view}")
+            }
+            None => Ok(()),
+        }
+    }
+}
+
+/// Writes texts, a literal a line.
+fn write_texts<W: Write>(texts: &[Text], out: &mut W) -> io::Result<()>
+    ensures { OnOk result (Appends (W.contents out.old) (W.contents out.new) (texts_lines texts.now)) }
+{
+    for text in texts {
+        let literal = Literal(text.as_slice());
+        writeln!(out, "{literal}")?;
+    }
+    Ok(())
+}

@@ -1,6 +1,6 @@
 -- What is told of the lines that are left is told of the scenario: from where its first fault can stand.
-use Rattle.std.proofs.Common.{◌≡◌, ◌<◌, ◌≤◌, inl, inr, ℕ, ◌+◌, ◌-◌, Bool, true, false, not, List, [], ◌∷◌, ◌++◌, length, Option, Some, None, Result, Ok, Err, refl, ap, arith}
-use Rattle.std.specs.Prelude.{◌⊎◌, MatchOption, if◌then◌else◌}
+use Rattle.std.proofs.Common.{◌≡◌, ◌<◌, ◌≤◌, inl, inr, ℕ, ◌+◌, ◌-◌, true, false, not, List, [], ◌∷◌, ◌++◌, length, Option, Some, None, Result, Ok, Err, refl, ap, arith}
+use Rattle.std.specs.Prelude.{MatchOption, if◌then◌else◌}
 use Rattle.std.specs.List.{list_all}
 use Rattle.std.proofs.lemmas.List.{length-append}
 use Rattle.sk_words.specs.declared.fault.FaultKind.{FaultKind}
@@ -16,11 +16,10 @@ use Rattle.sk_scenario.specs.declared.declarations.Heading.{Heading}
 use Rattle.sk_scenario.specs.declared.declarations.Heading.TheVariants as headings
 use Rattle.sk_scenario.specs.declared.declarations.Said.{Said}
 use Rattle.sk_scenario.specs.declared.declarations.Said.TheVariants as says
-use Rattle.sk_scenario.specs.declared.scenario.Scenario.{Scenario}
-use Rattle.sk_scenario.specs.declared.call.Call.{Call}
+use Rattle.sk_trace.specs.Lines.{event_line, trace_from}
 use Rattle.sk_scenario.specs.Calls.{step_line}
 use Rattle.sk_scenario.specs.Declarations.{Declared, line_said}
-use Rattle.sk_scenario.specs.Scenario.{Begun, is_end, ended, more, with_script, with_steps, section_from, goes_on, scenario_from, script_ends, script_unended}
+use Rattle.sk_scenario.specs.Scenario.{Begun, is_end, ended, more, with_script, with_section, SectionView, Steps, Trace, section_from, goes_on, scenario_from, script_ends}
 use Rattle.sk_scenario.proofs.Scripts.{begun, cut_none, cut_end, faulty}
 
 -- ---- where the first fault of a scenario can stand
@@ -29,14 +28,14 @@ abbrev line_in : {S : Type 0} → Result S Fault → ℕ
 line_in (Ok s) = 0
 line_in (Err f) = f.line
 
-err_of_steps : (d : Declared) (said : Result (List Call) Fault) (g : Fault) → with_steps d said ≡ Err g → said ≡ Err g
-err_of_steps d (Ok s) g e = absurd cc
-err_of_steps d (Err f) g e = cc
+err_of_section : {A : Type 0} (d : Declared) (section : A → SectionView) (said : Result A Fault) (g : Fault) → with_section d section said ≡ Err g → said ≡ Err g
+err_of_section d section (Ok s) g e = absurd cc
+err_of_section d section (Err f) g e = cc
 
 pub section_is_behind : (d : Declared) (h : Heading) (first : ℕ) (ls : List (List ℕ)) (g : Fault) → section_from d h first ls ≡ Err g → first ≤ g.line
-section_is_behind d headings.Steps first ls g e = fault_is_behind step_line [] first ls g (err_of_steps d (read_from step_line [] first ls) g e)
+section_is_behind d headings.Steps first ls g e = fault_is_behind step_line [] first ls g (err_of_section d Steps (read_from step_line [] first ls) g e)
 section_is_behind d headings.World first ls g e = absurd cc
-section_is_behind d headings.Trace first ls g e = absurd cc
+section_is_behind d headings.Trace first ls g e = fault_is_behind event_line [] first ls g (err_of_section d Trace (trace_from first ls) g e)
 
 -- what is begun, and the lines that are left, are behind this line
 abbrev Low : Option Begun → ℕ → ℕ → Type 0
@@ -103,11 +102,11 @@ pub line_told : (d : Declared) (n last : ℕ) (l : List ℕ) (ls : List (List �
 line_told d n last l ls k within h =
     told_at n last k (line_said d (first_of (words l))) (λ x. goes_on x.0 x.1 (n + 1) ls (λ b. scenario_from x.1 b (n + 1) ls)) within h (λ x g e. rest_is_behind x.0 x.1 n ls g e)
 
--- of the steps
-pub steps_told : (d : Declared) (last : ℕ) (f : Fault) (said : Result (List Call) Fault) → Tells last f said → TellsScript last f (with_steps d said)
-steps_told d last f (Ok s) h = h
-steps_told d last f (Err g) (inl same) = inl same
-steps_told d last f (Err g) (inr m) = inr (m.0, omega (arith, m.1))
+-- of the lines of a section
+pub section_told : {A : Type 0} (d : Declared) (section : A → SectionView) (last : ℕ) (f : Fault) (said : Result A Fault) → Tells last f said → TellsScript last f (with_section d section said)
+section_told d section last f (Ok s) h = h
+section_told d section last f (Err g) (inl same) = inl same
+section_told d section last f (Err g) (inr m) = inr (m.0, omega (arith, m.1))
 
 -- of the line that ends a script without a fault
 pub end_told : (d : Declared) (name : List ℕ) (n last : ℕ) (ls : List (List ℕ)) (line : List ℕ) (rest all : List (List ℕ)) (is : List Instruction) (k : FaultKind) → list_all (λ l. not (is_end l)) ls ≡ true → all ≡ ls ++ line ∷ rest → is_end line ≡ true

@@ -20,6 +20,27 @@ use Rattle.sk_scenario.specs.declared.scenario.Scenario.{Scenario}
 use Rattle.sk_scenario.specs.declared.call.Call.{Call}
 use Rattle.sk_scenario.specs.Declarations.{Declared, nothing_declared, script, line_said}
 use Rattle.sk_scenario.specs.Calls.{step_line}
+use Rattle.sk_trace.specs.declared.event.Event.{Event}
+use Rattle.sk_trace.specs.Lines.{trace_from}
+
+-- what a section says: the calls to make, or what happened; of a world nothing is looked at
+pub data SectionView : Type 0 where
+  Steps : List Call → SectionView
+  World : SectionView
+  Trace : List Event → SectionView
+
+-- what a scenario says
+pub record ScenarioView : Type 0 where
+  pub declarations : Declared
+  pub section : SectionView
+
+abbrev pub section_view : Section → SectionView
+section_view (sections.Steps steps) = Steps steps
+section_view sections.World = World
+section_view (sections.Trace trace) = Trace trace.events
+
+abbrev pub scenario_view : Scenario → ScenarioView
+scenario_view s = record { declarations = s.declarations; section = section_view s.section }
 
 -- a script that is being read: its name, the number of its first line, and its lines so far
 pub record Begun : Type 0 where
@@ -40,30 +61,31 @@ abbrev pub ended : Declared → List ℕ → List Instruction → List ℕ → R
 ended d name instructions line = none_of (drop 1 (words line)) >>= λ u. script d name instructions
 
 -- what is said where a script's lines are sound
-abbrev pub with_script : Result (List Instruction) Fault → (List Instruction → Result Scenario Fault) → Result Scenario Fault
+abbrev pub with_script : Result (List Instruction) Fault → (List Instruction → Result ScenarioView Fault) → Result ScenarioView Fault
 with_script (Ok instructions) rest = rest instructions
 with_script (Err f) rest = Err f
 
 -- the line of this number ends the script
-abbrev pub script_ends : Declared → Begun → ℕ → List ℕ → (Declared → Result Scenario Fault) → Result Scenario Fault
+abbrev pub script_ends : Declared → Begun → ℕ → List ℕ → (Declared → Result ScenarioView Fault) → Result ScenarioView Fault
 script_ends d b number line rest = with_script (script_from b.first b.lines) (λ is. at number (ended d b.name is line) rest)
 
 -- no line ends the script: that is a fault of the last line, behind any other
-abbrev pub script_unended : Begun → ℕ → Result Scenario Fault
+abbrev pub script_unended : Begun → ℕ → Result ScenarioView Fault
 script_unended b last = with_script (script_from b.first b.lines) (λ is. Err (record { line = last; kind = kinds.Word }))
 
-abbrev pub with_steps : Declared → Result (List Call) Fault → Result Scenario Fault
-with_steps d (Ok steps) = Ok (record { declarations = d; section = sections.Steps steps })
-with_steps d (Err f) = Err f
+-- the declarations with a section, where its lines are sound
+abbrev pub with_section : {A : Type 0} → Declared → (A → SectionView) → Result A Fault → Result ScenarioView Fault
+with_section d section (Ok said) = Ok (record { declarations = d; section = section said })
+with_section d section (Err f) = Err f
 
 -- the section below a heading
-abbrev pub section_from : Declared → Heading → ℕ → List (List ℕ) → Result Scenario Fault
-section_from d headings.Steps first ls = with_steps d (read_from step_line [] first ls)
-section_from d headings.World first ls = Ok (record { declarations = d; section = sections.Other })
-section_from d headings.Trace first ls = Ok (record { declarations = d; section = sections.Other })
+abbrev pub section_from : Declared → Heading → ℕ → List (List ℕ) → Result ScenarioView Fault
+section_from d headings.Steps first ls = with_section d Steps (read_from step_line [] first ls)
+section_from d headings.World first ls = Ok (record { declarations = d; section = World })
+section_from d headings.Trace first ls = with_section d Trace (trace_from first ls)
 
 -- what a line said, of which the next line has this number, and what the lines behind it say then
-abbrev pub goes_on : Said → Declared → ℕ → List (List ℕ) → (Option Begun → Result Scenario Fault) → Result Scenario Fault
+abbrev pub goes_on : Said → Declared → ℕ → List (List ℕ) → (Option Begun → Result ScenarioView Fault) → Result ScenarioView Fault
 goes_on says.Declared d next ls rest = rest None
 goes_on (says.Script name) d next ls rest = rest (Some (record { name = name; first = next; lines = [] }))
 goes_on (says.Heading heading) d next ls rest = section_from d heading next ls
@@ -73,36 +95,36 @@ abbrev pub more : Begun → List ℕ → Begun
 more b line = record b { lines = b.lines ++ line ∷ [] }
 
 -- the lines in turn, the first of which has this number; without a section there are no steps
-abbrev pub scenario_from : Declared → Option Begun → ℕ → List (List ℕ) → Result Scenario Fault
-scenario_from d None number [] = Ok (record { declarations = d; section = sections.Steps [] })
+abbrev pub scenario_from : Declared → Option Begun → ℕ → List (List ℕ) → Result ScenarioView Fault
+scenario_from d None number [] = Ok (record { declarations = d; section = Steps [] })
 scenario_from d (Some b) number [] = script_unended b (number - 1)
 scenario_from d None number (l ∷ ls) = at number (line_said d (first_of (words l))) (λ x. goes_on x.0 x.1 (number + 1) ls (λ begun. scenario_from x.1 begun (number + 1) ls))
 scenario_from d (Some b) number (l ∷ ls) =
     if is_end l then script_ends d b number l (λ e. scenario_from e None (number + 1) ls) else scenario_from d (Some (more b l)) (number + 1) ls
 
 -- the scenario of a text
-abbrev pub scenario_of : List ℕ → Result Scenario Fault
+abbrev pub scenario_of : List ℕ → Result ScenarioView Fault
 scenario_of text = scenario_from nothing_declared None 1 (lines text)
 
 -- the scenario, or the fault that is told of it, whose last line has this number
-abbrev pub Says : Result Scenario Fault → Result Scenario Fault → ℕ → Type 0
-Says (Ok s) said last = said ≡ Ok s
+abbrev pub Says : Result Scenario Fault → Result ScenarioView Fault → ℕ → Type 0
+Says (Ok s) said last = said ≡ Ok (scenario_view s)
 Says (Err f) said last = TellsScript last f said
 
 -- ---- what functions answer, in these words
 
 -- what was said is what the rest says, or a fault is told of it
-abbrev pub Goes : Result (Unit {0}) Fault → Result Scenario Fault → Result Scenario Fault → ℕ → Type 0
+abbrev pub Goes : Result (Unit {0}) Fault → Result ScenarioView Fault → Result ScenarioView Fault → ℕ → Type 0
 Goes (Ok u) said rest last = said ≡ rest
 Goes (Err f) said rest last = TellsScript last f said
 
 -- the same where a section may end the scenario
-abbrev pub GoesOn : Result (Option Section) Fault → Result Scenario Fault → Declared → Result Scenario Fault → ℕ → Type 0
+abbrev pub GoesOn : Result (Option Section) Fault → Result ScenarioView Fault → Declared → Result ScenarioView Fault → ℕ → Type 0
 GoesOn (Ok None) said d rest last = said ≡ rest
-GoesOn (Ok (Some section)) said d rest last = said ≡ Ok (record { declarations = d; section = section })
+GoesOn (Ok (Some section)) said d rest last = said ≡ Ok (record { declarations = d; section = section_view section })
 GoesOn (Err f) said d rest last = TellsScript last f said
 
 -- a section, or a fault is told
-abbrev pub SaysSection : Result Section Fault → Result Scenario Fault → Declared → ℕ → Type 0
-SaysSection (Ok section) said d last = said ≡ Ok (record { declarations = d; section = section })
+abbrev pub SaysSection : Result Section Fault → Result ScenarioView Fault → Declared → ℕ → Type 0
+SaysSection (Ok section) said d last = said ≡ Ok (record { declarations = d; section = section_view section })
 SaysSection (Err f) said d last = TellsScript last f said

@@ -11,6 +11,7 @@ use crate::call::Calls;
 use crate::declarations::{Declarations, Heading, Said};
 use sk_ids::Name;
 use sk_script::Script;
+use sk_trace::Trace;
 use sk_words::{Cursor, Fault, FaultKind, Words, none, read};
 use std::alloc::Global;
 
@@ -19,8 +20,10 @@ use std::alloc::Global;
 pub enum Section {
     /// The steps in order.
     Steps(Calls),
-    /// Another section, whose lines are not looked at.
-    Other,
+    /// A world, whose lines are not looked at.
+    World,
+    /// What happened.
+    Trace(Trace),
 }
 
 /// What a kernel starts from, and what happens then.
@@ -162,6 +165,7 @@ fn section_of(alloc: Global, heading: Heading, lines: &Cursor) -> Result<Section
 {
     match heading {
         Heading::Steps => Ok(Section::Steps(read(Calls::new(alloc), lines)?)),
-        Heading::World | Heading::Trace => Ok(Section::Other),
+        Heading::World => Ok(Section::World),
+        Heading::Trace => Ok(Section::Trace(Trace::read(alloc, lines)?)),
     }
 }

@@ -1,41 +1,67 @@
 //! Playing a scenario.
 ghost use Rattle.std.specs.Prelude.{OnOk, []};
+ghost use Rattle.std.specs.Io.KnownBytes.{Appends};
 ghost use Rattle.sk_play.specs.Plays.{declared_kernel, Answered, Reported};
-ghost use Rattle.sk_report.specs.Report.{report_text};
+ghost use Rattle.speculate.specs.Run.{played_text};
 
+use sk_kernel::Kernel;
 use sk_play::{Session, write_answer};
 use sk_report::{Stop, write_report};
 use sk_scenario::{Call, Declarations};
 use std::alloc::Global;
 use std::io::Write;
 
-/// Takes the steps in order, and writes a line for each answer and then the report. The tokens that are
-/// left are spent by commits, of which nothing is written.
+/// Takes the steps in order, and writes a line for each answer, the report, and the trace where that is
+/// wanted. The tokens that are left are spent by commits, of which nothing is written.
 pub fn play<W: Write>(
     alloc: Global,
     declarations: &Declarations,
     steps: &[Call],
+    trace: bool,
     out: &mut W,
 ) -> Result<(), Stop>
-    ensures { OnOk result (Reported report_text steps.now [] (declared_kernel declarations.now) (W.contents out.old) (W.contents out.new)) }
+    ensures { OnOk result (Reported (played_text trace) steps.now [] (declared_kernel declarations.now)
+        (W.contents out.old) (W.contents out.new)) }
 {
     let mut session = Session::new(alloc, declarations)?;
-    let reported = report_all(alloc, &mut session, steps, out);
+    let reported = report_all(alloc, &mut session, steps, trace, out);
     session.end();
     reported
 }
 
-/// Takes the steps in order, and writes a line for each answer and then the report.
+/// Takes the steps in order, and writes a line for each answer, the report, and the trace where that is
+/// wanted.
 fn report_all<W: Write>(
     alloc: Global,
     session: &mut Session,
     steps: &[Call],
+    trace: bool,
     out: &mut W,
 ) -> Result<(), Stop>
-    ensures { OnOk result (Reported report_text steps.now session.old.tokens.items session.old.kernel (W.contents out.old) (W.contents out.new)) }
+    ensures { OnOk result (Reported (played_text trace) steps.now session.old.tokens.items session.old.kernel
+        (W.contents out.old) (W.contents out.new)) }
 {
     take_all(session, steps, out)?;
-    write_report(alloc, session.kernel(), out)
+    write_played(alloc, session.kernel(), trace, out)
+}
+
+/// Writes the report of a kernel, and its trace where that is wanted.
+fn write_played<W: Write>(
+    alloc: Global,
+    kernel: &Kernel,
+    trace: bool,
+    out: &mut W,
+) -> Result<(), Stop>
+    ensures { OnOk result (Appends (W.contents out.old) (W.contents out.new)
+        (played_text trace kernel.now)) }
+{
+    write_report(alloc, kernel, out)?;
+    if trace {
+        let text = kernel.trace().print(alloc)?;
+        out.write_all(b"trace\n")?;
+        out.write_all(&text)?;
+    }
+    Ok(())
 }
 
 /// Takes the steps in order, and writes a line for each answer.

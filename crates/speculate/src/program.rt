@@ -1,31 +1,35 @@
 //! The run of the program, from its words to its end.
-ghost use Rattle.std.specs.Prelude.{◌≡◌, [], map, string_bytes};
-ghost use Rattle.std.specs.Io.KnownBytes.{Keeps};
+ghost use Rattle.std.specs.Prelude.{◌≡◌, map, string_bytes};
+ghost use Rattle.std.specs.Io.Buffered.{writer_buffer, writer_contents};
+ghost use Rattle.sk_command.specs.CommandLine.{wish_of};
 ghost use Rattle.sk_command.specs.Ends.{IsFlushed};
-ghost use Rattle.sk_command.specs.declared.end.End.TheVariants.{Done};
-ghost use Rattle.speculate.specs.Run.{EndsPlayed, EndsRead, EndsText, EndsWords};
+ghost use Rattle.speculate.specs.Run.{EndsPlain, EndsPlayed, EndsRead, EndsText, EndsWords};
 
 use crate::playing::play;
-use sk_command::end::{End, tell_fault, tell_wrong_section};
-use sk_command::job::{asked, explain};
+use crate::striking::{Unrun, run_left};
+use sk_command::end::{End, flushed, tell_entry, tell_fault, tell_wrong_section};
+use sk_command::job::{Job, asked, explain};
 use sk_command::open_input::{Open, input};
 use sk_report::Stop;
 use sk_scenario::{Call, Declarations, Scenario, Section};
+use sk_script::Boot;
+use sk_trace::Trace;
 use sk_words::Fault;
 use std::alloc::Global;
-use std::io::Write;
+use std::io::{BufWriter, Write};
 
 /// Runs the program on its words, of which the first is its own name. After a refused write of the
 /// output nothing more is written to it.
-pub fn run<O: Open, W: Write, E: Write>(
+pub fn run<O: Open, W: Write + Drop, E: Write>(
     alloc: Global,
     words: &[String],
     inputs: &O,
-    out: &mut W,
+    out: &mut BufWriter<W>,
     err: &mut E,
 ) -> End
-    ensures { EndsWords (map string_bytes words.now) (O.bytes_of inputs.now) result
-        (W.contents out.old) (W.contents out.new) }
+    ensures end { EndsWords (map string_bytes words.now) (O.bytes_of inputs.now) result
+        (writer_contents W.contents out.old) (writer_contents W.contents out.new) }
+    ensures flushed { IsFlushed result (writer_buffer out.new) }
 {
     let job = match asked(alloc, words) {
         Ok(Some(job)) => job,
@@ -33,26 +37,37 @@ pub fn run<O: Open, W: Write, E: Write>(
         Err(error) => return explain(alloc, &error, out, err),
     };
     match input(alloc, inputs, job.file(), err) {
-        Ok(text) => run_text(alloc, &text, out, err),
+        Ok(text) => run_text(alloc, job, &text, out, err),
         Err(end) => end,
     }
 }
 
-/// Plays a scenario's text, or tells its first fault.
-pub fn run_text<W: Write, E: Write>(alloc: Global, text: &[u8], out: &mut W, err: &mut E) -> End
-    ensures { EndsText text.now result (W.contents out.old) (W.contents out.new) }
-{
-    run_scenario(alloc, Scenario::parse(alloc, text), out, err)
-}
-
-/// Plays what was read, or tells its fault.
-fn run_scenario<W: Write, E: Write>(
+/// Does a job with a scenario's text, or tells its first fault.
+pub fn run_text<W: Write + Drop, E: Write>(
     alloc: Global,
-    read: Result<Scenario, Fault>,
-    out: &mut W,
+    job: Job,
+    text: &[u8],
+    out: &mut BufWriter<W>,
     err: &mut E,
 ) -> End
-    ensures { EndsRead read result (W.contents out.old) (W.contents out.new) }
+    ensures end { EndsText (wish_of job.entry) text.now result
+        (writer_contents W.contents out.old) (writer_contents W.contents out.new) }
+    ensures flushed { IsFlushed result (writer_buffer out.new) }
+{
+    run_read(alloc, job, Scenario::parse(alloc, text), out, err)
+}
+
+/// Does a job with what was read, or tells its fault.
+fn run_read<W: Write + Drop, E: Write>(
+    alloc: Global,
+    job: Job,
+    read: Result<Scenario, Fault>,
+    out: &mut BufWriter<W>,
+    err: &mut E,
+) -> End
+    ensures end { EndsRead (wish_of job.entry) read result
+        (writer_contents W.contents out.old) (writer_contents W.contents out.new) }
+    ensures flushed { IsFlushed result (writer_buffer out.new) }
 {
     let Scenario {
         declarations,
@@ -61,23 +76,31 @@ fn run_scenario<W: Write, E: Write>(
         Ok(scenario) => scenario,
         Err(fault) => return tell_fault(&fault, err),
     };
-    match section {
-        Section::Steps(steps) => play_flushed(alloc, &declarations, steps.as_slice(), out),
-        Section::Other => tell_wrong_section(err),
+    match (job, section) {
+        (Job::Play { trace, .. }, Section::Steps(steps)) => {
+            run_steps(alloc, &declarations, steps.as_slice(), trace, out)
+        }
+        (Job::Plain { .. }, Section::Trace(trace)) => {
+            run_trace(alloc, declarations.boot(), &trace, out, err)
+        }
+        _ => tell_wrong_section(err),
     }
 }
 
-/// Plays steps, and writes out what the output may buffer.
-fn play_flushed<W: Write>(
+/// Plays steps, and writes out what the output buffers.
+fn run_steps<W: Write + Drop>(
     alloc: Global,
     declarations: &Declarations,
     steps: &[Call],
-    out: &mut W,
+    trace: bool,
+    out: &mut BufWriter<W>,
 ) -> End
-    ensures { EndsPlayed declarations.now steps.now result (W.contents out.old) (W.contents out.new) }
+    ensures end { EndsPlayed trace declarations.now steps.now result
+        (writer_contents W.contents out.old) (writer_contents W.contents out.new) }
+    ensures flushed { IsFlushed result (writer_buffer out.new) }
 {
-    match play(alloc, declarations, steps, out) {
-        Ok(()) => written(out),
+    match play(alloc, declarations, steps, trace, out) {
+        Ok(()) => flushed(out),
         Err(Stop::Memory) => {
             let _ = out.flush();
             End::Trouble
@@ -86,14 +109,26 @@ fn play_flushed<W: Write>(
     }
 }
 
-/// Writes out what the output may buffer.
-fn written<W: Write>(out: &mut W) -> End
-    ensures end { IsFlushed Done result [] }
-    ensures kept { Keeps (W.contents out.old) (W.contents out.new) }
+/// Runs what a trace leaves on the plain kernel, and writes out what the output buffers; or tells its
+/// first faulty entry.
+fn run_trace<W: Write + Drop, E: Write>(
+    alloc: Global,
+    boot: &Boot,
+    trace: &Trace,
+    out: &mut BufWriter<W>,
+    err: &mut E,
+) -> End
+    ensures end { EndsPlain boot.now trace.now.events result
+        (writer_contents W.contents out.old) (writer_contents W.contents out.new) }
+    ensures flushed { IsFlushed result (writer_buffer out.new) }
 {
-    if out.flush().is_err() {
-        End::OutputRefused
-    } else {
-        End::Done
+    match run_left(alloc, boot, trace, out) {
+        Ok(()) => flushed(out),
+        Err(Unrun::Entry(number)) => tell_entry(number, err),
+        Err(Unrun::Memory) => {
+            let _ = out.flush();
+            End::Trouble
+        }
+        Err(Unrun::Output) => End::OutputRefused,
     }
 }

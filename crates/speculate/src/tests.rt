@@ -2,6 +2,7 @@
 
 use crate::playing::play;
 use crate::program::run;
+use crate::striking::{Unrun, run_left};
 use sk_command::end::End;
 use sk_command::open_input::Open;
 use sk_command::read_all::{INPUT_LIMIT, READ_LIMIT, ReadFault, read_all};
@@ -9,7 +10,7 @@ use sk_report::Stop;
 use sk_scenario::{Scenario, Section};
 use std::alloc::{AllocError, Global};
 use std::io;
-use std::io::{ErrorKind, Read, Write};
+use std::io::{BufWriter, ErrorKind, Read, Write};
 use std::process::Abort;
 use std::test::*;
 
@@ -184,11 +185,12 @@ struct Ran {
     err: Vec<u8>,
 }
 
-fn run_known<O: Open>(alloc: Global, words: &[&str], inputs: &O) -> Result<Ran, AllocError> {
+fn run_known<O: Open>(alloc: Global, words: &[&str], inputs: &O) -> io::Result<Ran> {
     let words = words_of(alloc, words)?;
-    let mut out = Vec::new(alloc);
+    let mut out = BufWriter::new(alloc, Vec::new(alloc))?;
     let mut err = Vec::new(alloc);
     let end = run(alloc, &words, inputs, &mut out, &mut err);
+    let (out, _unwritten) = out.into_parts();
     Ok(Ran { end, out, err })
 }
 
@@ -255,6 +257,8 @@ fn known_inputs(rt: HostRuntime) -> Result<(), Fail> {
             "speculate: line 3: Label\n",
         ),
         ("world\n", 1, "", "speculate: wrong section\n"),
+        ("trace\n", 1, "", "speculate: wrong section\n"),
+        ("trace\ncommit 0\n", 1, "", "speculate: line 2: Operand\n"),
     ] {
         let inputs = Known {
             bytes: text.as_bytes(),
@@ -268,6 +272,86 @@ fn known_inputs(rt: HostRuntime) -> Result<(), Fail> {
         )?;
     }
     Ok(())
+}
+
+const TRACE: &str = "trace
+step 1 none
+step 1 none
+guess 1 1 good
+step 1 none
+step 1 none
+commit 1
+";
+
+const FIRST_GUESS_FAILED: &str = "script main
+text \"a\"
+say
+fetch /x
+text \"b\"
+say
+end
+copy /x 3 \"old\"
+process 1 main 1
+trace
+step 1 none
+step 1 none
+guess 1 1 good
+step 1 none
+step 1 none
+fail 1
+";
+
+const PLAIN_REPORT: &str = "terminal 1 said 1
+\"a\"
+proc 1 at 2 regs 0 0 0 0 0 0 0 0:1 buf \"a\" kids 0 objs 0 handler - saved - ended no
+sig 1 -
+exit 1 -
+obj 0:1 dir -
+copy /x 3 \"old\"
+steps 2
+";
+
+#[test]
+fn trace_text(rt: HostRuntime) -> Result<(), Fail> {
+    let alloc = rt.alloc();
+    for (text, status, out, err) in [
+        (FIRST_GUESS_FAILED, 0, PLAIN_REPORT, ""),
+        ("trace\n", 0, "obj 0:1 dir -\nsteps 0\n", ""),
+        (
+            "trace\ncommit 1\n",
+            1,
+            "",
+            "speculate: trace entry 1 refused\n",
+        ),
+        (
+            "trace\nstep 9 none\n",
+            1,
+            "",
+            "speculate: trace entry 1 refused\n",
+        ),
+        ("trace\nstep 9\n", 1, "", "speculate: line 2: Word\n"),
+        ("steps\n", 1, "", "speculate: wrong section\n"),
+        ("world\n", 1, "", "speculate: wrong section\n"),
+    ] {
+        let inputs = Known {
+            bytes: text.as_bytes(),
+        };
+        let ran = run_known(alloc, &["plain", "-"], &inputs)?;
+        check(&rt, &ran, status, out, err)?;
+    }
+    Ok(())
+}
+
+#[test]
+fn play_with_its_trace(rt: HostRuntime) -> Result<(), Fail> {
+    let alloc = rt.alloc();
+    let mut out = String::from_str(alloc, REPORT)?;
+    out.push_str(TRACE)?;
+    let inputs = Known {
+        bytes: FIRST_GUESS_COMMITS.as_bytes(),
+    };
+    let ran = run_known(alloc, &["play", "--trace", "-"], &inputs)?;
+    check(&rt, &ran, 0, &out, "")
 }
 
 #[test]
@@ -286,7 +370,7 @@ fn too_long_script(rt: HostRuntime) -> Result<(), Fail> {
 }
 
 const NO_SUBCOMMAND: &str = "error: 'speculate' requires a subcommand but one was not provided
-  [subcommands: play]
+  [subcommands: play, plain]
 
 Usage: speculate <COMMAND>
 
@@ -303,7 +387,7 @@ For more information, try '--help'.
 
 const SECOND_FILE: &str = "error: unexpected argument 'b' found
 
-Usage: speculate play <FILE>
+Usage: speculate play [OPTIONS] <FILE>
 
 For more information, try '--help'.
 ";
@@ -329,11 +413,13 @@ fn faulty_words(rt: HostRuntime) -> Result<(), Fail> {
 fn help(rt: HostRuntime) -> Result<(), Fail> {
     let alloc = rt.alloc();
     let inputs = Known { bytes: b"" };
-    for words in [["--help"].as_slice(), ["play", "-h"].as_slice()] {
+    for (words, begins) in [
+        (["--help"].as_slice(), "A kernel that runs"),
+        (["play", "-h"].as_slice(), "Runs the steps"),
+        (["plain", "-h"].as_slice(), "Strikes a trace"),
+    ] {
         let ran = run_known(alloc, words, &inputs)?;
-        assert!(rt;
-            ran.out.starts_with(b"A kernel that runs") || ran.out.starts_with(b"Runs the steps")
-        );
+        assert!(rt; ran.out.starts_with(begins.as_bytes()));
         assert_eq!(rt; str::from_utf8(&ran.err), Ok(""));
         assert_eq!(rt; ran.end.status(), 0);
     }
@@ -378,20 +464,49 @@ fn as_many_reads_as_there_may_be(rt: HostRuntime) -> Result<(), Fail> {
 // ---- refused writes
 
 #[test]
-fn every_refused_write_ends_the_run(rt: HostRuntime) -> Result<(), Fail> {
+fn every_refused_write_ends_the_play(rt: HostRuntime) -> Result<(), Fail> {
     let alloc = rt.alloc();
     let Ok(scenario) = Scenario::parse(alloc, FIRST_GUESS_COMMITS.as_bytes()) else {
-        return Err(Fail::from("no scenario of steps"));
+        return Err(Fail::from("no scenario"));
     };
     let Section::Steps(steps) = &scenario.section else {
         return Err(Fail::from("no scenario of steps"));
     };
-    for room in 0..REPORT.len() {
+    let mut whole = String::from_str(alloc, REPORT)?;
+    whole.push_str(TRACE)?;
+    for (trace, text) in [(false, REPORT), (true, whole.as_str())] {
+        for room in 0..text.len() {
+            let mut out = Paper::new(alloc, room);
+            let played = play(
+                alloc,
+                &scenario.declarations,
+                steps.as_slice(),
+                trace,
+                &mut out,
+            );
+            assert_eq!(rt; played, Err(Stop::Output), "room {room}");
+            assert_eq!(rt; out.refused, 1, "room {room}");
+            assert!(rt; text.as_bytes().starts_with(&out.text));
+        }
+    }
+    Ok(())
+}
+
+#[test]
+fn every_refused_write_ends_the_plain_run(rt: HostRuntime) -> Result<(), Fail> {
+    let alloc = rt.alloc();
+    let Ok(scenario) = Scenario::parse(alloc, FIRST_GUESS_FAILED.as_bytes()) else {
+        return Err(Fail::from("no scenario"));
+    };
+    let Section::Trace(trace) = &scenario.section else {
+        return Err(Fail::from("no scenario of a trace"));
+    };
+    for room in 0..PLAIN_REPORT.len() {
         let mut out = Paper::new(alloc, room);
-        let played = play(alloc, &scenario.declarations, steps.as_slice(), &mut out);
-        assert_eq!(rt; played, Err(Stop::Output), "room {room}");
+        let ran = run_left(alloc, scenario.declarations.boot(), trace, &mut out);
+        assert_eq!(rt; ran, Err(Unrun::Output), "room {room}");
         assert_eq!(rt; out.refused, 1, "room {room}");
-        assert!(rt; REPORT.as_bytes().starts_with(&out.text));
+        assert!(rt; PLAIN_REPORT.as_bytes().starts_with(&out.text));
     }
     Ok(())
 }
@@ -399,16 +514,23 @@ fn every_refused_write_ends_the_run(rt: HostRuntime) -> Result<(), Fail> {
 #[test]
 fn nothing_is_written_after_a_refusal(rt: HostRuntime) -> Result<(), Fail> {
     let alloc = rt.alloc();
-    let inputs = Known {
-        bytes: FIRST_GUESS_COMMITS.as_bytes(),
-    };
-    for words in [["play", "-"].as_slice(), ["--help"].as_slice()] {
-        let mut out = RefusesOnce {
+    for (words, text) in [
+        (["play", "-"].as_slice(), FIRST_GUESS_COMMITS),
+        (["play", "--trace", "-"].as_slice(), FIRST_GUESS_COMMITS),
+        (["plain", "-"].as_slice(), FIRST_GUESS_FAILED),
+        (["--help"].as_slice(), ""),
+    ] {
+        let inputs = Known {
+            bytes: text.as_bytes(),
+        };
+        let refuses = RefusesOnce {
             text: Vec::new(alloc),
             refused: false,
         };
+        let mut out = BufWriter::new(alloc, refuses)?;
         let mut err = Vec::new(alloc);
         let end = run(alloc, &words_of(alloc, words)?, &inputs, &mut out, &mut err);
+        let (out, _unwritten) = out.into_parts();
         assert_eq!(rt; end, End::OutputRefused);
         assert_eq!(rt; str::from_utf8(&out.text), Ok(""));
         assert_eq!(rt; str::from_utf8(&err), Ok(""));

@@ -17,7 +17,7 @@ use Rattle.sk_script.specs.Scripts.{ScriptMap, script_map_code}
 use Rattle.sk_script.specs.Boot.{BootView}
 use Rattle.sk_script.specs.declared.instruction.Input.{Input}
 use Rattle.sk_script.specs.declared.instruction.Input.TheVariants as inputs
-use Rattle.sk_store.specs.State.{State}
+use Rattle.sk_store.specs.State.{State, state_code}
 use Rattle.sk_store.specs.Start.{start_of}
 use Rattle.sk_trace.specs.Entry.{EntryView}
 use Rattle.sk_trace.specs.Trace.{event_code}
@@ -29,7 +29,7 @@ use Rattle.sk_trace.specs.declared.event.Event.TheVariants as events
 use Rattle.sk_plain.specs.declared.refusal.Refusal.{Refusal}
 use Rattle.sk_plain.specs.declared.refusal.Refusal.TheVariants.{NoProcess, Ended, Mismatch, Blocked, TooMany, TraceFull}
 use Rattle.sk_kernel.specs.Open.{OpenView, open_code}
-use Rattle.sk_undo.specs.Journal.{Written, written_code, state_code, wrote, kept, rolled_back, written_over}
+use Rattle.sk_undo.specs.Journal.{Written, written_code, wrote, kept, rolled_back, written_over}
 use Rattle.sk_terminal.specs.Terminals.{TerminalMap, terminals_code, texts_at, said_to}
 
 pub record KernelView : Type 0 where

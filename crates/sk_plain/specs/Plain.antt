@@ -6,16 +6,14 @@ use Rattle.std.specs.FinMap as map
 use Rattle.sk_record.specs.Step.{Effect, perform}
 use Rattle.sk_record.specs.Run.{put_all}
 use Rattle.sk_ids.specs.declared.entity.Entity.{Entity}
-use Rattle.sk_ids.specs.contracts.entity.Entity as entity
 use Rattle.sk_record.specs.Machine.{released}
 use Rattle.sk_terminal.specs.Terminals.{TerminalMap, terminals_code, texts_at, said_to}
 use Rattle.sk_script.specs.Scripts.{ScriptMap, script_map_code}
 use Rattle.sk_script.specs.Boot.{BootView}
 use Rattle.sk_script.specs.declared.instruction.Input.{Input}
-use Rattle.sk_store.specs.State.{State}
+use Rattle.sk_store.specs.State.{State, state_code}
 use Rattle.sk_store.specs.Start.{start_of}
 use Rattle.sk_store.specs.declared.entity_state.EntityState.{EntityState}
-use Rattle.sk_store.specs.contracts.entity_state.EntityState as stored_row
 use Rattle.sk_plain.specs.declared.refusal.Refusal.{Refusal}
 use Rattle.sk_plain.specs.Refusal.{cause}
 use Rattle.sk_plain.specs.Act.{act, Saying}
@@ -26,9 +24,6 @@ pub record PlainView : Type 0 where
   pub scripts : ScriptMap
   pub state : State
   pub texts : TerminalMap
-
-abbrev pub state_code : Coded State
-state_code = map.code entity.the_row.coded stored_row.the_row.coded
 
 abbrev pub plain_code : Coded PlainView
 plain_code =

@@ -13,7 +13,8 @@ use Rattle.std.proofs.lemmas.List.Folds.{list_any_at}
 use Rattle.std.proofs.lemmas.List.Quantifiers.{all_pairs_push}
 use Rattle.std.proofs.lemmas.Slice.Eq.{bytes_eq-Decides}
 use Rattle.sk_objects.specs.Content.{ContentView}
-use Rattle.sk_script.specs.Scripts.{ScriptMap, name_order}
+use Rattle.sk_ids.specs.Name.{name_order}
+use Rattle.sk_script.specs.Scripts.{ScriptMap}
 use Rattle.sk_script.specs.declared.instruction.Instruction.{Instruction}
 use Rattle.sk_script.specs.declared.boot.ObjectKind.{ObjectKind}
 use Rattle.sk_script.specs.declared.boot.BootObject.{BootObject}

@@ -1,5 +1,5 @@
 -- What an answer tells of the request.
-use Rattle.std.proofs.Common.{◌≡◌, Bool, true, false, Some, None, is_some, if◌then◌else◌, refl, sym, ap, ◌∙◌}
+use Rattle.std.proofs.Common.{◌≡◌, Bool, true, false, is_some, if◌then◌else◌, sym, ap, ◌∙◌}
 use Rattle.sk_server.specs.Server.{ServerView, remembered, is_dropped, judged, answer_to, refused_by, is_new_file, adds}
 use Rattle.sk_server.specs.declared.request.Request.{Request}
 use Rattle.sk_server.specs.declared.reply.Answer.{Answer}

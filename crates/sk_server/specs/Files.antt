@@ -1,17 +1,11 @@
 -- The files of a server.
 use Rattle.std.specs.Prelude.{ℕ, ◌+◌, ◌==◌, ◌&&◌, nat_lt, Bool, List, []}
-use Rattle.std.specs.declared.cmp.Ordering.{Ordering}
-use Rattle.std.specs.Ordering.{nat_cmp}
 use Rattle.std.specs.Option.{unwrap_or}
-use Rattle.std.specs.Cmp.Lexicographic.{slice_cmp}
 use Rattle.std.specs.Coded.{Coded, coded_ℕ, coded_list}
 use Rattle.std.specs.FinMap as map
+use Rattle.sk_ids.specs.Name.{name_order}
 use Rattle.sk_objects.specs.Content.{ContentView, content_code}
 use Rattle.sk_objects.specs.declared.content.TheConstants.{LAST_VERSION}
-
--- names are ordered by their bytes
-abbrev pub name_order : List ℕ → List ℕ → Ordering
-name_order = slice_cmp nat_cmp
 
 -- the files that were stored, by name
 abbrev pub FileMap : Type 0

@@ -3,7 +3,8 @@ ghost use Rattle.std.specs.Prelude.{◌≡◌, ◌<◌, IfOk, OnOk, OnErr, None,
 ghost use Rattle.std.specs.Option.{option_copied};
 ghost use Rattle.std.specs.List.Sorted.{IsStrictlySortedBy};
 ghost use Rattle.std.specs.FinMap as map;
-ghost use Rattle.sk_server.specs.Files.{name_order, file_of, is_fitting, written};
+ghost use Rattle.sk_ids.specs.Name.{name_order};
+ghost use Rattle.sk_server.specs.Files.{file_of, is_fitting, written};
 ghost use Rattle.sk_server.specs.Server.{judged, files_after, is_new_file};
 ghost use Rattle.sk_server.specs.declared.reply.Answer.TheVariants.{Yes};
 

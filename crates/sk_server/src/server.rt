@@ -3,7 +3,7 @@ ghost use Rattle.std.specs.Prelude.{◌≡◌, ◌<◌, ◌++◌, nat_le, IfOk, 
 ghost use Rattle.std.specs.Option.{option_copied};
 ghost use Rattle.std.specs.List.Sorted.{IsStrictlySortedBy};
 ghost use Rattle.std.specs.FinMap as map;
-ghost use Rattle.sk_server.specs.Files.{name_order};
+ghost use Rattle.sk_ids.specs.Name.{name_order};
 ghost use Rattle.sk_server.specs.Server.{new_server, is_in_turn, remembered, is_dropped, judged, answer_to, answered, refused_by, listed, adds};
 ghost use Rattle.sk_server.specs.Calls.{Answers, Edits};
 

@@ -1,23 +1,18 @@
 -- What entities have, with what puts the writes that are kept back.
 use Rattle.std.specs.Prelude.{List, [], ◌∷◌, Option, refl}
 use Rattle.std.specs.Coded.{Coded, code_by, coded×, coded_list}
-use Rattle.std.specs.FinMap as map
 use Rattle.sk_record.specs.Run.{put}
 use Rattle.sk_ids.specs.declared.entity.Entity.{Entity}
 use Rattle.sk_ids.specs.contracts.entity.Entity as entity
-use Rattle.sk_store.specs.State.{State}
+use Rattle.sk_store.specs.State.{State, state_code}
 use Rattle.sk_store.specs.Back.{BackView, CanTakeBack, taken_back as store_back}
 use Rattle.sk_store.specs.declared.entity_state.EntityState.{EntityState}
-use Rattle.sk_store.specs.contracts.entity_state.EntityState as stored_row
 
 -- what entities have; and of each write that can be put back, the newest first, the state before it and its entity
 pub record Written : Type 0 where
   pub now : State
   pub history : List State
   pub entities : List Entity
-
-abbrev pub state_code : Coded State
-state_code = map.code entity.the_row.coded stored_row.the_row.coded
 
 abbrev pub written_code : Coded Written
 written_code =

@@ -1,5 +1,5 @@
 -- The keys of the map rise, so they are those of the finite map that its entries make.
-use Rattle.std.proofs.Common.{◌≡◌, List, ap, sym, ◌∙◌, rules}
+use Rattle.std.proofs.Common.{◌≡◌, ap, sym, ◌∙◌, rules}
 use Rattle.std.specs.Prelude.{IfOk, map}
 use Rattle.std.specs.BTreeMap.{keys}
 use Rattle.std.specs.Cmp.Lexicographic.{nat_list_cmp_total}

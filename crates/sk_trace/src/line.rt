@@ -40,7 +40,7 @@ fn numbered_step(words: &Words) -> Result<(GuessId, Pid, Input), FaultKind>
 
 /// The events that lines said, in order.
 #[derive(Drop)]
-pub struct Events {
+pub(crate) struct Events {
     events: Vec<Event>,
 }
 
@@ -58,7 +58,7 @@ impl Model for Events {
 
 impl Events {
     /// No event.
-    pub fn new(alloc: Global) -> Events
+    pub(crate) fn new(alloc: Global) -> Events
         ensures { result ≡ [] }
     {
         Events {
@@ -67,7 +67,7 @@ impl Events {
     }
 
     /// All of them.
-    pub fn into_vec(self) -> Vec<Event>
+    pub(crate) fn into_vec(self) -> Vec<Event>
         ensures value { result.items ≡ self }
         ensures limits { All IsEvent result.items }
     {

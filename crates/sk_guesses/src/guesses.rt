@@ -3,8 +3,8 @@ ghost use Rattle.std.specs.Prelude.{◌≡◌, ◌≤◌, ◌+◌, Some, IfSome,
 ghost use Rattle.sk_record.specs.declared.status.Status.TheVariants.{Undecided, Committed, Failed, Struck};
 ghost use Rattle.sk_ids.specs.declared.guess.TheConstants.{LAST_GUESS};
 ghost use Rattle.sk_guesses.specs.declared.guesses.TheConstants.{GUESS_LIMIT};
-ghost use Rattle.sk_guesses.specs.Guesses.{opened, next_of, undecided_of, is_full, is_undecided, status_of, decided};
-ghost use Rattle.sk_guesses.specs.Calls.{Draws, redeemed};
+ghost use Rattle.sk_guesses.specs.Guesses.{GuessesView, drawn, opened, next_of, undecided_of, is_full, is_undecided, status_of, decided};
+ghost use Rattle.sk_guesses.specs.Calls.{Draws, IsLastDraw, redeemed};
 
 use crate::{Guess, Redeemed, Status};
 use sk_ids::GuessId;
@@ -118,6 +118,16 @@ impl Guesses {
         }
         self.undecided += 1;
         Ok(Guess::new(self.kernel, id))
+    }
+
+    /// Takes back the last draw, as if it had not been made. This takes no memory.
+    pub fn undraw(&mut self, guess: Guess)
+        requires { IsLastDraw self.old guess }
+        ensures { (before : GuessesView) → self.old ≡ drawn before → self.new ≡ before }
+    {
+        let _id = guess.spent();
+        self.statuses.pop();
+        self.undecided -= 1;
     }
 
     /// Takes a token in, or hands it back where it is another kernel's, or its guess is neither

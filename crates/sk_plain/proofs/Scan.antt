@@ -25,7 +25,7 @@ use Rattle.sk_plain.specs.declared.plan.Beside.{Beside}
 use Rattle.sk_plain.specs.declared.plan.Beside.TheVariants.{Nothing, Says, One, Birth, Gone}
 use Rattle.sk_script.specs.declared.process.Process.{Process}
 
-asked : {A B : Type 0} (look : A → B) (es : List A) → map (λ (r : A × B). r.0) (map (λ e. (e, look e)) es) ≡ es
+pub asked : {A B : Type 0} (look : A → B) (es : List A) → map (λ (r : A × B). r.0) (map (λ e. (e, look e)) es) ≡ es
 asked look [] = refl
 asked look (e ∷ es) = ap (λ rest. e ∷ rest) (asked look es)
 
@@ -36,7 +36,7 @@ changed_by look p pid v (One e becomes) = refl
 changed_by look p pid v (Birth c) = refl
 changed_by look p pid v (Gone e) = refl
 
-changed_are : (look : Entity → Option EntityState) (pid : ℕ) (plan : Plan) → map (λ (w : Entity × Option EntityState). w.0) (writes_of look pid plan) ≡ written_by pid plan.beside
+pub changed_are : (look : Entity → Option EntityState) (pid : ℕ) (plan : Plan) → map (λ (w : Entity × Option EntityState). w.0) (writes_of look pid plan) ≡ written_by pid plan.beside
 changed_are look pid plan = changed_by look plan.process pid (Some (stored.Process plan.process)) plan.beside
 
 -- writes one after another are those of a finite map

@@ -15,6 +15,7 @@ pub mod Statuses
 pub mod Undecided
 pub mod Texts
 pub mod Released
+pub mod Rising
 pub mod Headline
 pub mod Kept
 pub mod Stays

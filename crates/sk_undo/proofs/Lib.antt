@@ -1,1 +1,7 @@
 pub mod Notes
+pub mod SeenNotes
+pub mod Maps
+pub mod Commits
+pub mod Passes
+pub mod Opening
+pub mod Growing

@@ -1,0 +1,145 @@
+-- What the parts become, as the machine of records has it: after a step, a commit and a failure.
+use Rattle.std.proofs.Common.{◌≡◌, ℕ, Bool, true, false, cond, not, eqb, List, [], ◌∷◌, ◌++◌, map, Option, Some, None, Result, Ok, Err, refl, sym, ◌∙◌, ap, subst}
+use Rattle.std.specs.Prelude.{◌==◌}
+use Rattle.std.specs.List.{filter}
+use Rattle.std.specs.Option.{unwrap_or}
+use Rattle.std.specs.Ordering.{eq_by_cmp, nat_cmp}
+use Rattle.std.specs.FinMap as fin
+use Rattle.std.specs.Cmp.{Equal-is, eq_by_cmp_equiv}
+use Rattle.std.proofs.lemmas.Bool.{eqb-true, eq-eqb, true≢false}
+use Rattle.std.proofs.lemmas.Cmp.{nat_cmp_total}
+use Rattle.std.proofs.lemmas.List.{append-nil}
+use Rattle.sk_record.specs.Step.{Effect, perform}
+use Rattle.sk_record.specs.Notes.{has, without}
+use Rattle.sk_record.specs.Run.{System, marked_effect}
+use Rattle.sk_record.specs.UndoState.{Took, step_tags, still_open, not_struck}
+use Rattle.sk_record.specs.Machine.{Tagged, Takes, Commits, Fails, lightened, not_dropped, with_drawn, with_status, with_failure}
+use Rattle.sk_record.specs.Release.{said_by}
+use Rattle.sk_record.specs.declared.status.Status.TheVariants.{Undecided, Committed}
+use Rattle.sk_guesses.specs.Guesses.{status_of, drawn, next_of}
+use Rattle.sk_guesses.proofs.Statuses.{status-drawn}
+use Rattle.sk_script.specs.declared.instruction.Input.{Input}
+use Rattle.sk_terminal.specs.Terminal.{TaggedText}
+use Rattle.sk_terminal.specs.Terminals.{TerminalMap, texts_at, said_to}
+use Rattle.sk_undo.specs.Logs.{look_at}
+use Rattle.sk_undo.specs.Decisions.{Lightened, Unwound}
+use Rattle.sk_trace.specs.Entry.{EntryView}
+use Rattle.sk_plain.specs.Act.{Scripts, Saying, act, plain}
+use Rattle.sk_plain.specs.Planned.{effect_of}
+use Rattle.sk_plain.specs.Planned.{said_by as said_in_plan}
+use Rattle.sk_plain.specs.declared.plan.Plan.{Plan}
+use Rattle.sk_machine.specs.Parts.{Parts, machine_of, undo_state_of, planned_effect, said_at}
+use Rattle.sk_machine.specs.Performed.{texts_after}
+
+-- ---- texts
+
+either : (a b : Bool) → (a ≡ true → b ≡ true) → (b ≡ true → a ≡ true) → a ≡ b
+either true b f g = sym (f refl)
+either false true f g = g refl
+either false false f g = refl
+
+said_more : (t : ℕ) (xs : List TaggedText) (x : TaggedText) → said_at t (xs ++ x ∷ []) ≡ said_at t xs ++ (record { to = t; text = x.0 }, x.1) ∷ []
+said_more t [] x = refl
+said_more t (y ∷ xs) x = ap (λ ys. (record { to = t; text = y.0 }, y.1) ∷ ys) (said_more t xs x)
+
+pick : (b : Bool) (xs : List TaggedText) (o : Option (List TaggedText)) → unwrap_or (cond b (Some xs) o) [] ≡ cond b xs (unwrap_or o [])
+pick true xs o = refl
+pick false xs o = refl
+
+tied : (t k : ℕ) → eq_by_cmp nat_cmp t k ≡ (k == t)
+tied t k = either (eq_by_cmp nat_cmp t k) (k == t)
+    (λ is. eq-eqb k t (sym (fin.nat_cmp-IsAntisymmetric t k ((Equal-is (nat_cmp t k)).0 is))))
+    (λ is. ap (eq_by_cmp nat_cmp t) (eqb-true k t is) ∙ (eq_by_cmp_equiv nat_cmp_total).refl t)
+
+texts_said : (m : TerminalMap) (k : ℕ) (x : TaggedText) (t : ℕ) → texts_at (said_to m k x) t ≡ cond (eq_by_cmp nat_cmp t k) (texts_at m k ++ x ∷ []) (texts_at m t)
+texts_said m k x t =
+    ap (λ o. unwrap_or o []) (fin.get-insert nat_cmp_total m k (texts_at m k ++ x ∷ []) t)
+    ∙ pick (eq_by_cmp nat_cmp t k) (texts_at m k ++ x ∷ []) (fin.get m t)
+
+said_after : (scripts : Scripts) (m : TerminalMap) (tags : List ℕ) (said : Option Saying) (t : ℕ)
+    → said_at t (texts_at (texts_after m tags said) t) ≡ said_at t (texts_at m t) ++ said_by (plain scripts) t said tags
+said_after scripts m tags None t = sym (append-nil (said_at t (texts_at m t)))
+said_after scripts m tags (Some s) t =
+    let there : s.to ≡ t → said_at t (texts_at m s.to ++ (s.text, tags) ∷ []) ≡ said_at t (texts_at m t) ++ (s, tags) ∷ [] = λ is.
+    said_more t (texts_at m s.to) (s.text, tags) ∙ (λ i. said_at t (texts_at m (is i)) ++ (record { to = sym is i; text = s.text }, tags) ∷ []) in
+    ap (said_at t) (texts_said m s.to (s.text, tags) t)
+    ∙ ap (λ b. said_at t (cond b (texts_at m s.to ++ (s.text, tags) ∷ []) (texts_at m t))) (tied t s.to)
+    ∙ elim (s.to == t) as (λ b. (s.to == t) ≡ b → said_at t (cond b (texts_at m s.to ++ (s.text, tags) ∷ []) (texts_at m t)) ≡ said_at t (texts_at m t) ++ cond b ((s, tags) ∷ []) []) [
+      | true ↦ λ is. there (eqb-true s.to t is)
+      | false ↦ λ apart. sym (append-nil (said_at t (texts_at m t)))
+    ] refl
+
+-- the texts after the commit of a guess
+said_lightened : (t g : ℕ) (xs : List TaggedText) → said_at t (lightened g xs) ≡ lightened g (said_at t xs)
+said_lightened t g [] = refl
+said_lightened t g (x ∷ xs) = ap (λ ys. (record { to = t; text = x.0 }, without g x.1) ∷ ys) (said_lightened t g xs)
+
+-- and after its failure
+said_left : (t g : ℕ) (xs : List TaggedText) → said_at t (not_dropped g xs) ≡ not_dropped g (said_at t xs)
+said_left t g [] = refl
+said_left t g (x ∷ xs) =
+    elim (not (has g x.1)) as (λ b. said_at t (cond b (x ∷ not_dropped g xs) (not_dropped g xs)) ≡ cond b ((record { to = t; text = x.0 }, x.1) ∷ not_dropped g (said_at t xs)) (not_dropped g (said_at t xs))) [
+      | true ↦ ap (λ ys. (record { to = t; text = x.0 }, x.1) ∷ ys) (said_left t g xs)
+      | false ↦ said_left t g xs
+    ]
+
+-- ---- the parts
+
+abbrev ok_or : {A F : Type 0} → A → Result A F → A
+ok_or x (Ok y) = y
+ok_or x (Err why) = x
+
+effect_same : {E V W F : Type 0} (f g : Effect E V W) (r : Result (Effect E V W) F) → r ≡ Ok f → r ≡ Ok g → f ≡ g
+effect_same f g r is also = ap (ok_or f) (sym is ∙ also)
+
+-- a step, with the status of its guess and its text
+pub takes_of : (scripts : Scripts) (a b : Parts) (n : EntryView) (plan : Plan)
+    → perform (look_at a.slots) (act scripts n.pid n.input) ≡ Ok (effect_of (look_at a.slots) n.pid n.input plan)
+    → Took (plain scripts) (undo_state_of a) n (undo_state_of b)
+    → ((g : ℕ) → status_of b.guesses g ≡ with_drawn n.guess (status_of a.guesses) g)
+    → b.texts ≡ texts_after a.texts (step_tags (undo_state_of a) (planned_effect a n plan)) (said_in_plan plan)
+    → Takes (plain scripts) (machine_of a) n (machine_of b)
+takes_of scripts a b n plan accepted took status texts =
+    let same = effect_same (effect_of (look_at a.slots) n.pid n.input plan) took.effect (perform (look_at a.slots) (act scripts n.pid n.input)) accepted took.accepted in
+    record {
+      state = took;
+      status = status;
+      texts = λ t.
+          ap (λ m. said_at t (texts_at m t)) texts
+          ∙ said_after scripts a.texts (step_tags (undo_state_of a) (planned_effect a n plan)) (said_in_plan plan) t
+          ∙ ap (λ f. said_at t (texts_at a.texts t) ++ said_by (plain scripts) t f.said (step_tags (undo_state_of a) (marked_effect (plain scripts) n.guess (Ok f)))) same;
+    }
+
+-- a guess, whose number is the next
+pub takes_guess : (scripts : Scripts) (a b : Parts) (pid : ℕ) (input : Input) (id : ℕ) (plan : Plan)
+    → id ≡ next_of a.guesses
+    → perform (look_at a.slots) (act scripts pid input) ≡ Ok (effect_of (look_at a.slots) pid input plan)
+    → Took (plain scripts) (undo_state_of a) (record { pid = pid; input = input; guess = Some id }) (undo_state_of b)
+    → b.texts ≡ texts_after a.texts (step_tags (undo_state_of a) (planned_effect a (record { pid = pid; input = input; guess = Some id }) plan)) (said_in_plan plan)
+    → b.guesses ≡ drawn a.guesses
+    → Takes (plain scripts) (machine_of a) (record { pid = pid; input = input; guess = Some (next_of a.guesses) }) (machine_of b)
+takes_guess scripts a b pid input id plan number accepted took texts guesses =
+    subst (λ k. Takes (plain scripts) (machine_of a) (record { pid = pid; input = input; guess = Some k }) (machine_of b)) number
+    (takes_of scripts a b (record { pid = pid; input = input; guess = Some id }) plan accepted took
+    (λ g. ap (λ v. status_of v g) guesses ∙ status-drawn a.guesses g ∙ ap (λ k. with_drawn (Some k) (status_of a.guesses) g) (sym number))
+    texts)
+
+pub commits_of : (a b : Parts) (g : ℕ) → Lightened a.slots g b.slots → b.opens ≡ still_open g a.opens
+    → ((h : ℕ) → status_of b.guesses h ≡ with_status g Committed (status_of a.guesses) h)
+    → ((t : ℕ) → texts_at b.texts t ≡ lightened g (texts_at a.texts t))
+    → Commits (machine_of a) g (machine_of b)
+commits_of a b g did opens status texts = record {
+  state = record { look = did.look; logs = did.logs; opens = opens };
+  status = status;
+  texts = λ t. ap (said_at t) (texts t) ∙ said_lightened t g (texts_at a.texts t);
+}
+
+pub fails_of : (a b : Parts) (g : ℕ) → Unwound a.slots g b.slots → b.opens ≡ not_struck g a.opens
+    → ((h : ℕ) → status_of b.guesses h ≡ with_failure g a.opens (status_of a.guesses) h)
+    → ((t : ℕ) → texts_at b.texts t ≡ not_dropped g (texts_at a.texts t))
+    → Fails (machine_of a) g (machine_of b)
+fails_of a b g did opens status texts = record {
+  state = record { look = did.look; logs = did.logs; opens = opens };
+  status = status;
+  texts = λ t. ap (said_at t) (texts t) ∙ said_left t g (texts_at a.texts t);
+}

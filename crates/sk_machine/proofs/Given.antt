@@ -1,0 +1,21 @@
+-- What holds of a result where other things do.
+use Rattle.std.proofs.Common.{◌≡◌, true, false, Result, Ok, Err, sym}
+use Rattle.std.specs.Result.{is_err}
+use Rattle.std.proofs.lemmas.Bool.{true≢false}
+use Rattle.std.specs.Prelude.{IfOk, OnOk, OnErr}
+
+pub if_ok : {A F : Type 0} {P Q R : A → Type 0} (r : Result A F) → IfOk r P → IfOk r Q → ((x : A) → P x → Q x → R x) → IfOk r R
+if_ok (Ok x) p q f = f x p q
+if_ok (Err why) p q f = tt
+
+pub on_ok : {A F P Q R : Type 0} (r : Result A F) → OnOk r P → OnOk r Q → (P → Q → R) → OnOk r R
+on_ok (Ok x) p q f = f p q
+on_ok (Err why) p q f = tt
+
+pub from_ok : {A F P : Type 0} (r : Result A F) → false ≡ is_err r → OnOk r P → P
+from_ok (Ok x) is p = p
+from_ok (Err why) is p = absurd (true≢false (sym is))
+
+pub from_err : {A F P : Type 0} (r : Result A F) → true ≡ is_err r → OnErr r P → P
+from_err (Ok x) is p = absurd (true≢false is)
+from_err (Err why) is p = p

@@ -1,0 +1,9 @@
+pub mod Given
+pub mod Writes
+pub mod Joins
+pub mod Tags
+pub mod Opens
+pub mod Noted
+pub mod Struck
+pub mod Becomes
+pub mod Count

@@ -1,0 +1,7 @@
+use Rattle.std.proofs.Common.{◌≡◌, ℕ, ◌||◌, take}
+use Rattle.sk_record.specs.Notes.{has}
+use Rattle.sk_machine.specs.Parts.{any_rests}
+use Rattle.sk_machine.proofs.machine.Machine.add_tags.Given as goal
+
+abbrev pub invariant-loop-entity : goal.invariant-loop-entity
+invariant-loop-entity l = (g : ℕ) → has g l.all ≡ (has g l.fn.tags || any_rests l.fn.self g (take l.entity-index l.entities))

@@ -1,0 +1,62 @@
+-- What a kernel keeps beside its trace, and the machine of records that it is.
+use Rattle.std.specs.Prelude.{ℕ, Bool, List, map, refl}
+use Rattle.std.specs.List.{list_any}
+use Rattle.sk_record.specs.Notes.{has}
+use Rattle.std.specs.Coded.{Coded, code_by, coded×, coded_ℕ, coded_list}
+use Rattle.sk_record.specs.Effects.{MarkedEffect}
+use Rattle.sk_record.specs.Machine.{Machine, Tagged}
+use Rattle.sk_record.specs.UndoState.{Open, UndoState, tags_at}
+use Rattle.sk_record.specs.declared.status.Status.{Status}
+use Rattle.sk_record.specs.contracts.status.Status as status
+use Rattle.sk_ids.specs.declared.entity.Entity.{Entity}
+use Rattle.sk_guesses.specs.Guesses.{GuessesView, status_of}
+use Rattle.sk_terminal.specs.Terminal.{TaggedText}
+use Rattle.sk_terminal.specs.Terminals.{TerminalMap, terminals_code, texts_at}
+use Rattle.sk_store.specs.declared.entity_state.EntityState.{EntityState}
+use Rattle.sk_undo.specs.Logs.{SlotMap, slot_map_code, look_at}
+use Rattle.sk_undo.specs.Decisions.{undo_state}
+use Rattle.sk_trace.specs.Entry.{EntryView}
+use Rattle.sk_plain.specs.Act.{Saying}
+use Rattle.sk_plain.specs.Planned.{effect_of}
+use Rattle.sk_plain.specs.declared.plan.Plan.{Plan}
+
+-- what each entity has with its notes, the open guesses with the tags of their own steps, the status of each guess, and
+-- each terminal's texts
+pub record Parts : Type 0 where
+  pub slots : SlotMap
+  pub opens : List Open
+  pub guesses : GuessesView
+  pub texts : TerminalMap
+
+abbrev pub open_code : Coded Open
+open_code = coded× coded_ℕ (coded_list coded_ℕ)
+
+abbrev pub guesses_code : Coded GuessesView
+guesses_code = code_by (ℕ × List Status) (coded× coded_ℕ (coded_list status.the_row.coded)) (λ g. (g.kernel, g.statuses)) (λ p. record { kernel = p.0; statuses = p.1 }) (λ _. refl)
+
+abbrev pub parts_code : Coded Parts
+parts_code =
+    code_by (SlotMap × (List Open × (GuessesView × TerminalMap))) (coded× slot_map_code (coded× (coded_list open_code) (coded× guesses_code terminals_code)))
+    (λ m. (m.slots, (m.opens, (m.guesses, m.texts)))) (λ p. record { slots = p.0; opens = p.1.0; guesses = p.1.1.0; texts = p.1.1.1 }) (λ _. refl)
+
+-- what entities have, their logs, and the open guesses
+abbrev pub undo_state_of : Parts → UndoState Entity EntityState
+undo_state_of m = undo_state m.slots m.opens
+
+-- the texts of a terminal, each with where it was said
+abbrev pub said_at : ℕ → List TaggedText → List (Tagged Saying)
+said_at t texts = map (λ x. (record { to = t; text = x.0 }, x.1)) texts
+
+-- the machine of records that these parts are
+abbrev pub machine_of : Parts → Machine Entity EntityState Saying
+machine_of m = record { state = undo_state_of m; status = status_of m.guesses; texts = λ t. said_at t (texts_at m.texts t) }
+
+-- what the planned step of an entry does
+abbrev pub planned_effect : Parts → EntryView → Plan → MarkedEffect Entity EntityState Saying
+planned_effect m n plan =
+    let f = effect_of (look_at m.slots) n.pid n.input plan in
+    record { mark = n.guess; read = f.read; written = f.written; said = f.said }
+
+-- whether one of these entities rests on a guess
+abbrev pub any_rests : Parts → ℕ → List Entity → Bool
+any_rests m g es = list_any (λ e. has g (tags_at (undo_state_of m) e)) es

@@ -1,0 +1,372 @@
+//! Values in place with their undo logs, the open guesses, statuses and texts.
+ghost use Rattle.std.specs.Prelude.{◌≡◌, ◌++◌, ◌||◌, ◌&&◌, ◌==◌, if◌then◌else◌, ℕ, length, true, false, IfOk, OnOk, OnErr, Ok, Some, None};
+ghost use Rattle.std.specs.List.Sorted.{IsStrictlySortedBy};
+ghost use Rattle.std.specs.Ordering.{nat_cmp};
+ghost use Rattle.sk_record.specs.Notes.{has};
+ghost use Rattle.sk_record.specs.Step.{perform};
+ghost use Rattle.sk_record.specs.Trace.{marks};
+ghost use Rattle.sk_record.specs.Effects.{is_in, is_marked};
+ghost use Rattle.sk_record.specs.UndoState.{IsTidy, Took, numbers, step_tags, still_open, not_struck, tags_at};
+ghost use Rattle.sk_record.specs.Machine.{Takes, Commits, Fails, with_failure};
+ghost use Rattle.sk_record.specs.declared.status.Status.TheVariants.{Undecided, Committed, Struck};
+ghost use Rattle.std.specs.Option.{option_copied};
+ghost use Rattle.std.specs.FinMap as map;
+ghost use Rattle.sk_guesses.specs.Calls.{redeemed};
+ghost use Rattle.sk_guesses.specs.Guesses.{decided, drawn, is_full, next_of, status_of};
+ghost use Rattle.sk_undo.specs.Decisions.{AllGrow, AllRest};
+ghost use Rattle.sk_machine.specs.Noted.{AllNoted, AreIn, AreListedFor, IsAtStart};
+ghost use Rattle.sk_ids.specs.Entity.{entity_cmp};
+ghost use Rattle.sk_ids.specs.declared.entity.Entity.{Entity};
+ghost use Rattle.sk_store.specs.Start.{start_of};
+ghost use Rattle.sk_undo.specs.Logs.{look_at};
+ghost use Rattle.sk_plain.specs.Act.{act, plain};
+ghost use Rattle.sk_plain.specs.Planned.{CanDo, IsBeside, effect_of, said_by};
+ghost use Rattle.sk_machine.specs.Parts.{any_rests, machine_of, planned_effect, undo_state_of};
+ghost use Rattle.sk_machine.specs.Performed.{is_struck, texts_after, with_struck};
+
+use crate::Open;
+use crate::perform::perform;
+use sk_guesses::{Guess, Guesses, Redeemed, Status};
+use sk_ids::{Entity, GuessId, Pid, TagSet};
+use sk_plain::Plan;
+use sk_script::{Boot, Input, Scripts};
+use sk_store::{EntityState, Look, Store};
+use sk_terminal::{Terminal, Terminals};
+use sk_undo::Logs;
+use std::alloc::{AllocError, Global};
+use std::marker::Model;
+
+/// What a kernel keeps beside its trace.
+#[derive(Drop)]
+pub struct Machine {
+    alloc: Global,
+    logs: Logs,
+    noted: Vec<Entity>,
+    opens: Vec<Open>,
+    guesses: Guesses,
+    terminals: Terminals,
+    untagged: TagSet,
+}
+
+impl Model for Machine {
+    ghost use Rattle.std.specs.Prelude.{◌≡◌, []};
+    ghost use Rattle.sk_machine.specs.Noted.{AllNoted};
+    ghost use Rattle.sk_machine.specs.Parts.{Parts, parts_code};
+
+    ghost Value = { Parts };
+
+    ghost coded = { parts_code };
+
+    ghost view = { λ m. record { slots = m.logs.slots; opens = m.opens.items; guesses = m.guesses; texts = m.terminals } };
+
+    ghost invariant = { λ m. AllNoted m.logs.slots m.noted.items × (m.untagged ≡ []) };
+}
+
+impl Look for Machine {
+    ghost use Rattle.sk_undo.specs.Logs.{look_at};
+
+    ghost look = { λ m. look_at m.slots };
+
+    fn value(&self, entity: Entity) -> Option<&EntityState> {
+        self.logs.value(entity)
+    }
+}
+
+/// Lists what a step with these tags writes; without tags nothing will be noted of it.
+fn list(noted: &mut Vec<Entity>, tags: &TagSet, entities: &[Entity]) -> Result<(), AllocError>
+    ensures kept { AreIn noted.new.items noted.old.items }
+    ensures listed { OnOk result (AreListedFor tags.now noted.new.items entities.now) }
+{
+    if tags.ids().is_empty() {
+        return Ok(());
+    }
+    noted.extend_from_slice(entities)
+}
+
+/// Keeps the entities of which something is noted.
+fn keep_noted(noted: &mut Vec<Entity>, logs: &Logs)
+    requires { AllNoted logs.now.slots noted.old.items }
+    ensures { AllNoted logs.now.slots noted.new.items }
+{
+    noted.retain(|entity: &Entity| logs.is_noted(*entity));
+}
+
+/// Takes a guess out of the open ones, and out of what the others rest on.
+fn close(opens: &mut Vec<Open>, id: GuessId)
+    ensures { opens.new.items ≡ still_open id opens.old.items }
+{
+    opens.retain_mut(|open: &mut Open| {
+        open.tags.without(id);
+        open.id != id
+    });
+}
+
+/// Takes the guesses out of the open ones whose own steps rest on a failed one.
+fn close_struck(opens: &mut Vec<Open>, id: GuessId)
+    ensures { opens.new.items ≡ not_struck id opens.old.items }
+{
+    opens.retain(|open: &Open| !open.tags.contains(id));
+}
+
+/// Strikes an open guess, if its own step rests on a failed one and it is another.
+fn strike_one(guesses: &mut Guesses, one: &Open, id: GuessId)
+    requires { is_struck id one.now ≡ true → status_of guesses.old one.now.0 ≡ Some Undecided }
+    ensures statuses { (g : ℕ) → status_of guesses.new g ≡ (if (one.now.0 == g) && is_struck id one.now then Some Struck else status_of guesses.old g) }
+    ensures kernel { guesses.new.kernel ≡ guesses.old.kernel }
+    ensures drawn { length guesses.new.statuses ≡ length guesses.old.statuses }
+{
+    if one.id != id && one.tags.contains(id) {
+        guesses.strike(one.id);
+    }
+}
+
+/// Strikes the open guesses whose own steps rest on a failed one, but for that one.
+fn strike_open(guesses: &mut Guesses, opens: &[Open], id: GuessId)
+    requires opens { (g : ℕ) → has g (numbers opens.now) ≡ true → (g == id) ≡ false → status_of guesses.old g ≡ Some Undecided }
+    requires rising { IsStrictlySortedBy nat_cmp (numbers opens.now) }
+    ensures statuses { (g : ℕ) → status_of guesses.new g ≡ with_struck id opens.now (status_of guesses.old) g }
+    ensures kernel { guesses.new.kernel ≡ guesses.old.kernel }
+    ensures drawn { length guesses.new.statuses ≡ length guesses.old.statuses }
+{
+    for open in opens {
+        strike_one(guesses, open, id);
+    }
+}
+
+/// A guess has failed, and the open guesses whose own steps rest on it are struck.
+fn strike_all(guesses: &mut Guesses, opens: &[Open], id: GuessId)
+    requires opens { (g : ℕ) → has g (numbers opens.now) ≡ true → status_of guesses.old g ≡ Some Undecided }
+    requires undecided { status_of guesses.old id ≡ Some Undecided }
+    requires rising { IsStrictlySortedBy nat_cmp (numbers opens.now) }
+    ensures statuses { (g : ℕ) → status_of guesses.new g ≡ with_failure id opens.now (status_of guesses.old) g }
+    ensures kernel { guesses.new.kernel ≡ guesses.old.kernel }
+    ensures drawn { length guesses.new.statuses ≡ length guesses.old.statuses }
+{
+    guesses.fail(id);
+    strike_open(guesses, opens, id);
+}
+
+impl Machine {
+    /// What a boot starts from: nothing is noted, no guess drawn, no text said.
+    pub fn boot(alloc: Global, number: u64, boot: &Boot) -> Result<Machine, AllocError>
+        ensures { IfOk result (λ machine. IsAtStart number (start_of boot.now) machine) }
+    {
+        let store = Store::start(alloc, boot)?;
+        Ok(Machine {
+            alloc,
+            logs: Logs::open(store)?,
+            noted: Vec::new(alloc),
+            opens: Vec::new(alloc),
+            guesses: Guesses::new(alloc, number),
+            terminals: Terminals::new(alloc),
+            untagged: TagSet::new(alloc),
+        })
+    }
+
+    /// Adds to a set the guesses that these entities rest on.
+    fn add_tags(&self, tags: TagSet, entities: &[Entity]) -> Result<TagSet, AllocError>
+        ensures members { IfOk result (λ all. (g : ℕ) → has g all ≡ (has g tags || any_rests self.now g entities.now)) }
+        ensures rising { IfOk result (λ all. IsStrictlySortedBy nat_cmp all) }
+    {
+        let mut all = tags;
+        for entity in entities {
+            if let Some(more) = self.logs.tags(*entity) {
+                all = all.union(more)?;
+            }
+        }
+        let _rising = all.ids();
+        Ok(all)
+    }
+
+    /// The set of a step's own guess.
+    fn own_tags(&self, own: &Option<GuessId>) -> TagSet
+        ensures { (g : ℕ) → has g result ≡ is_marked own.now g }
+    {
+        match own {
+            Some(id) => TagSet::of(self.alloc, *id),
+            None => TagSet::new(self.alloc),
+        }
+    }
+
+    /// The guesses that a planned step rests on: those of all that it touches, and its own.
+    fn step_tags(
+        &self,
+        pid: Pid,
+        input: &Input,
+        plan: &Plan,
+        own: &Option<GuessId>,
+    ) -> Result<TagSet, AllocError>
+        requires tidy { IsTidy (undo_state_of self.now) }
+        requires rising { IsStrictlySortedBy nat_cmp (numbers self.now.opens ++ marks own.now) }
+        ensures { IfOk result (λ tags. tags ≡ step_tags (undo_state_of self.now) (planned_effect self.now (record { pid = pid; input = input.now; guess = own.now }) plan.now)) }
+    {
+        let own = self.own_tags(own);
+        let read = self.add_tags(own, plan.reads(pid, input).as_slice())?;
+        self.add_tags(read, plan.writes(pid).as_slice())
+    }
+
+    /// Takes a planned step, but for the status of its guess. Without memory nothing has changed.
+    fn take(
+        &mut self,
+        scripts: &Scripts,
+        pid: Pid,
+        input: &Input,
+        plan: &Plan,
+        own: &Option<GuessId>,
+    ) -> Result<(), AllocError>
+        requires accepted { perform (look_at self.old.slots) (act scripts.now pid input.now) ≡ Ok (effect_of (look_at self.old.slots) pid input.now plan.now) }
+        requires can { CanDo (look_at self.old.slots) plan.now.beside }
+        requires beside { IsBeside pid plan.now.beside }
+        requires tidy { IsTidy (undo_state_of self.old) }
+        requires rising { IsStrictlySortedBy nat_cmp (numbers self.old.opens ++ marks own.now) }
+        ensures took { OnOk result (Took (plain scripts.now) (undo_state_of self.old) (record { pid = pid; input = input.now; guess = own.now }) (undo_state_of self.new)) }
+        ensures says { OnOk result (self.new.texts ≡ texts_after self.old.texts (step_tags (undo_state_of self.old) (planned_effect self.old (record { pid = pid; input = input.now; guess = own.now }) plan.now)) (said_by plan.now)) }
+        ensures guesses { self.new.guesses ≡ self.old.guesses }
+        ensures err { OnErr result (self.new ≡ self.old) }
+    {
+        let tags = self.step_tags(pid, input, plan, own)?;
+        list(&mut self.noted, &tags, plan.writes(pid).as_slice())?;
+        let Some(id) = own else {
+            return perform(&mut self.logs, &mut self.terminals, pid, plan, tags);
+        };
+        let own_tags = tags.copy()?;
+        self.opens.reserve(1)?;
+        perform(&mut self.logs, &mut self.terminals, pid, plan, tags)?;
+        self.opens.push_reserved(Open {
+            id: *id,
+            tags: own_tags,
+        });
+        Ok(())
+    }
+
+    /// Takes a planned step that is no guess. Without memory nothing has changed.
+    pub fn take_step(
+        &mut self,
+        scripts: &Scripts,
+        pid: Pid,
+        input: &Input,
+        plan: &Plan,
+    ) -> Result<(), AllocError>
+        requires accepted { perform (look_at self.old.slots) (act scripts.now pid input.now) ≡ Ok (effect_of (look_at self.old.slots) pid input.now plan.now) }
+        requires can { CanDo (look_at self.old.slots) plan.now.beside }
+        requires beside { IsBeside pid plan.now.beside }
+        requires tidy { IsTidy (undo_state_of self.old) }
+        requires rising { IsStrictlySortedBy nat_cmp (numbers self.old.opens) }
+        ensures ok { OnOk result (Takes (plain scripts.now) (machine_of self.old) (record { pid = pid; input = input.now; guess = None }) (machine_of self.new)) }
+        ensures guesses { self.new.guesses ≡ self.old.guesses }
+        ensures err { OnErr result (self.new ≡ self.old) }
+    {
+        self.take(scripts, pid, input, plan, &None)
+    }
+
+    /// Draws the next guess and takes its planned step. Without memory nothing has changed.
+    pub fn take_guess(
+        &mut self,
+        scripts: &Scripts,
+        pid: Pid,
+        input: &Input,
+        plan: &Plan,
+    ) -> Result<Guess, AllocError>
+        requires accepted { perform (look_at self.old.slots) (act scripts.now pid input.now) ≡ Ok (effect_of (look_at self.old.slots) pid input.now plan.now) }
+        requires can { CanDo (look_at self.old.slots) plan.now.beside }
+        requires beside { IsBeside pid plan.now.beside }
+        requires tidy { IsTidy (undo_state_of self.old) }
+        requires rising { IsStrictlySortedBy nat_cmp (numbers self.old.opens ++ marks (Some (next_of self.old.guesses))) }
+        requires free { is_full self.old.guesses ≡ false }
+        ensures token { IfOk result (λ guess. guess ≡ record { kernel = self.old.guesses.kernel; id = next_of self.old.guesses }) }
+        ensures ok { OnOk result (Takes (plain scripts.now) (machine_of self.old) (record { pid = pid; input = input.now; guess = Some (next_of self.old.guesses) }) (machine_of self.new)) }
+        ensures guesses { OnOk result (self.new.guesses ≡ drawn self.old.guesses) }
+        ensures err { OnErr result (self.new ≡ self.old) }
+    {
+        let Ok(guess) = self.guesses.draw() else {
+            return Err(AllocError);
+        };
+        if self
+            .take(scripts, pid, input, plan, &Some(guess.id()))
+            .is_err()
+        {
+            self.guesses.undraw(guess);
+            return Err(AllocError);
+        }
+        Ok(guess)
+    }
+
+    /// Commits an undecided guess: nothing rests on it any more. This takes no memory.
+    pub fn commit(&mut self, id: GuessId)
+        requires grow { AllGrow self.old.slots }
+        requires rest { AllRest self.old.slots }
+        requires undecided { status_of self.old.guesses id ≡ Some Undecided }
+        ensures commits { Commits (machine_of self.old) id (machine_of self.new) }
+        ensures guesses { self.new.guesses ≡ decided self.old.guesses id Committed }
+    {
+        self.logs.commit(id, &self.noted);
+        keep_noted(&mut self.noted, &self.logs);
+        close(&mut self.opens, id);
+        self.guesses.commit(id);
+        self.terminals.commit(id);
+    }
+
+    /// Fails an undecided guess: what rests on it is taken back in place, and the open guesses whose
+    /// steps do are struck. This takes no memory.
+    pub fn fail(&mut self, id: GuessId)
+        requires grow { AllGrow self.old.slots }
+        requires opens { (g : ℕ) → has g (numbers self.old.opens) ≡ true → status_of self.old.guesses g ≡ Some Undecided }
+        requires undecided { status_of self.old.guesses id ≡ Some Undecided }
+        requires rising { IsStrictlySortedBy nat_cmp (numbers self.old.opens) }
+        ensures fails { Fails (machine_of self.old) id (machine_of self.new) }
+        ensures kernel { self.new.guesses.kernel ≡ self.old.guesses.kernel }
+        ensures drawn { length self.new.guesses.statuses ≡ length self.old.guesses.statuses }
+    {
+        self.logs.unwind(id, &self.noted);
+        keep_noted(&mut self.noted, &self.logs);
+        strike_all(&mut self.guesses, &self.opens, id);
+        close_struck(&mut self.opens, id);
+        self.terminals.drop_of(id);
+    }
+
+    /// The undecided guesses that an entity rests on.
+    pub fn tags_of(&self, entity: &Entity) -> &TagSet
+        ensures { result.now ≡ tags_at (undo_state_of self.now) entity.now }
+    {
+        match self.logs.tags(*entity) {
+            Some(tags) => tags,
+            None => &self.untagged,
+        }
+    }
+
+    /// What became of a guess; `None` where it was never drawn.
+    pub fn status(&self, id: GuessId) -> Option<Status>
+        ensures { result ≡ status_of self.now.guesses id }
+    {
+        self.guesses.status(id)
+    }
+
+    /// The texts of a terminal; `None` where none was said.
+    pub fn terminal(&self, number: u16) -> Option<&Terminal>
+        ensures { option_copied result ≡ map.get self.now.texts number }
+    {
+        self.terminals.get(number)
+    }
+
+    /// How many guesses are open.
+    pub fn open_count(&self) -> usize
+        ensures { result ≡ length self.now.opens }
+    {
+        self.opens.len()
+    }
+
+    /// Whether no guess can be drawn.
+    pub fn is_full(&self) -> bool
+        ensures { result ≡ is_full self.now.guesses }
+    {
+        self.guesses.is_full()
+    }
+
+    /// Takes a token in, or hands it back where it is another kernel's, or its guess is neither
+    /// undecided nor struck.
+    pub fn redeem(&self, guess: Guess) -> Result<Redeemed, Guess>
+        ensures { result ≡ redeemed self.now.guesses guess }
+    {
+        self.guesses.redeem(guess)
+    }
+}

@@ -1,0 +1,69 @@
+-- What the kernel's calls answer.
+use Rattle.std.specs.Prelude.{◌≡◌, ℕ, List, [], map, Option, Some, None, Result, Ok, Err}
+use Rattle.sk_record.specs.declared.status.Status.TheVariants.{Undecided, Struck}
+use Rattle.sk_record.specs.Machine.{released}
+use Rattle.sk_record.specs.Release.{IsReleased}
+use Rattle.sk_guesses.specs.Token.{Token}
+use Rattle.sk_terminal.specs.Terminal.{TaggedText}
+use Rattle.sk_machine.specs.Parts.{said_at}
+use Rattle.sk_script.specs.declared.instruction.Input.{Input}
+use Rattle.sk_trace.specs.declared.event.Event.{Event}
+use Rattle.sk_trace.specs.declared.event.Event.TheVariants as events
+use Rattle.sk_record.specs.Step.{perform}
+use Rattle.sk_ids.specs.declared.entity.Entity.{Entity}
+use Rattle.sk_script.specs.Scripts.{ScriptMap}
+use Rattle.sk_store.specs.declared.entity_state.EntityState.{EntityState}
+use Rattle.sk_plain.specs.Act.{plain, act}
+use Rattle.sk_plain.specs.Planned.{effect_of, CanDo, IsBeside}
+use Rattle.sk_plain.specs.declared.plan.Plan.{Plan}
+use Rattle.sk_plain.specs.Refusal.{cause}
+use Rattle.sk_plain.specs.declared.refusal.Refusal.{Refusal}
+use Rattle.sk_multi.specs.Kernel.{KernelView, HasStatus, events_of, texts_at, next_guess, with_event, guess_misfits}
+use Rattle.sk_multi.specs.declared.kernel.Outcome.{Outcome}
+use Rattle.sk_multi.specs.declared.kernel.Outcome.TheVariants as outcomes
+use Rattle.sk_multi.specs.declared.kernel.Stranger.{Stranger}
+use Rattle.sk_multi.specs.declared.kernel.FailRefusal.{FailRefusal}
+use Rattle.sk_multi.specs.declared.kernel.FailRefusal.TheVariants as refusals
+
+-- a step is taken where no cause stands against it, and one event is appended; a refusal tells the first cause, and changes nothing
+abbrev pub StepPost : Result (Unit {0}) Refusal → Option Refusal → Event → KernelView → KernelView → Type 0
+StepPost (Ok u) refused event old new = (refused ≡ None) × (new ≡ with_event old event)
+StepPost (Err why) refused event old new = (refused ≡ cause why) × (new ≡ old)
+
+-- the same for a guess, whose token is of this kernel and of the next number
+abbrev pub GuessPost : Result Token Refusal → Option Refusal → ℕ → Input → KernelView → KernelView → Type 0
+GuessPost (Ok token) refused pid input old new =
+    (refused ≡ None) × (token ≡ record { kernel = old.number; id = next_guess old }) × (new ≡ with_event old (events.Guess (next_guess old) pid input))
+GuessPost (Err why) refused pid input old new = (refused ≡ cause why) × (new ≡ old)
+
+-- the plan of a guess with an input, or why it does not fit
+abbrev pub PlansGuess : (Entity → Option EntityState) → ScriptMap → ℕ → Input → Result Plan Refusal → Type 0
+PlansGuess look scripts pid input (Ok plan) =
+    (perform look (act scripts pid input) ≡ Ok (effect_of look pid input plan)) × (guess_misfits input (perform look (act scripts pid input)) ≡ None)
+    × CanDo look plan.beside × IsBeside pid plan.beside
+PlansGuess look scripts pid input (Err why) = (guess_misfits input (perform look (act scripts pid input)) ≡ Some why) × (cause why ≡ Some why)
+
+-- a token that is another kernel's, or whose guess is decided
+abbrev pub IsStranger : KernelView → Token → Type 0
+IsStranger k token = token.kernel ≡ k.number → (HasStatus k token.id Undecided → ⊥) × (HasStatus k token.id Struck → ⊥)
+
+-- a decision of a token that is no stranger: its guess is undecided, and one event is appended, or it is struck, and nothing changes
+abbrev pub DecisionPost : Outcome → Token → Event → KernelView → KernelView → Type 0
+DecisionPost outcomes.Done token event old new = (token.kernel ≡ old.number) × HasStatus old token.id Undecided × (new ≡ with_event old event)
+DecisionPost outcomes.Gone token event old new = (token.kernel ≡ old.number) × HasStatus old token.id Struck × (new ≡ old)
+
+-- a commit, where a stranger comes back
+abbrev pub CommitPost : Result Outcome Stranger → Token → KernelView → KernelView → Type 0
+CommitPost (Ok outcome) token old new = DecisionPost outcome token (events.Commit token.id) old new
+CommitPost (Err stranger) token old new = IsStranger old token × (stranger.guess ≡ token) × (new ≡ old)
+
+-- a failure, which takes no memory
+abbrev pub FailPost : Result Outcome FailRefusal → Token → KernelView → KernelView → Type 0
+FailPost (Ok outcome) token old new = DecisionPost outcome token (events.Fail token.id) old new
+FailPost (Err (refusals.Stranger guess)) token old new = IsStranger old token × (guess ≡ token) × (new ≡ old)
+FailPost (Err (refusals.Memory guess)) token old new = ⊥
+
+-- the texts of a terminal: those said to it, with what they depend on, of which the longest prefix that depends on no undecided guess is released
+pub record ShowsTerminal (k : KernelView) (t : ℕ) (texts : List TaggedText) : Type 0 where
+  pub said : said_at t texts ≡ texts_at k t
+  pub released : IsReleased (plain k.scripts) k.start (events_of k) t (released (said_at t texts))

@@ -1,0 +1,147 @@
+-- The kernel as its callers see it: its number, what it was booted with, its trace limit, and what was done. All else follows by definition.
+use Rattle.std.specs.Prelude.{◌≡◌, ℕ, ◌+◌, ◌-◌, ◌||◌, nat_le, nat_lt, List, [], ◌∷◌, ◌++◌, map, length, Option, Some, None, Result, Ok, Err, refl, if◌then◌else◌}
+use Rattle.std.specs.Coded.{Coded, code_by, coded×, coded_ℕ, coded_list}
+use Rattle.std.specs.List.{fold}
+use Rattle.std.specs.FinMap as map
+use Rattle.sk_record.specs.Step.{Effect}
+use Rattle.sk_record.specs.Run.{run, outcome, effects}
+use Rattle.sk_record.specs.Notes.{tags_along}
+use Rattle.sk_record.specs.Trace.{Event as Happens, StatusIs, IsTagOf, record_of, undecided_of, all_recorded, no_record, deps}
+use Rattle.sk_record.specs.Machine.{Tagged}
+use Rattle.sk_record.specs.declared.status.Status.{Status}
+use Rattle.sk_record.specs.Release.{said_with}
+use Rattle.sk_ids.specs.declared.entity.Entity.{Entity}
+use Rattle.sk_ids.specs.contracts.entity.Entity as entity
+use Rattle.sk_ids.specs.declared.guess.TheConstants.{LAST_GUESS}
+use Rattle.sk_guesses.specs.declared.guesses.TheConstants.{GUESS_LIMIT}
+use Rattle.sk_script.specs.Scripts.{ScriptMap, script_map_code}
+use Rattle.sk_script.specs.Boot.{BootView}
+use Rattle.sk_script.specs.declared.instruction.Input.{Input}
+use Rattle.sk_script.specs.declared.instruction.Input.TheVariants as inputs
+use Rattle.sk_store.specs.State.{State}
+use Rattle.sk_store.specs.Start.{start_of}
+use Rattle.sk_store.specs.declared.entity_state.EntityState.{EntityState}
+use Rattle.sk_store.specs.contracts.entity_state.EntityState as stored_row
+use Rattle.sk_trace.specs.Entry.{EntryView}
+use Rattle.sk_trace.specs.Trace.{event_code}
+use Rattle.sk_trace.specs.declared.event.Event.{Event}
+use Rattle.sk_trace.specs.declared.event.Event.TheVariants as events
+use Rattle.sk_plain.specs.Act.{plain, Saying}
+use Rattle.sk_plain.specs.Planned.{refusal_of}
+use Rattle.sk_plain.specs.Replay.{image}
+use Rattle.sk_plain.specs.declared.refusal.Refusal.{Refusal}
+use Rattle.sk_plain.specs.declared.refusal.Refusal.TheVariants.{NoProcess, Ended, Mismatch, TooMany, TraceFull}
+
+pub record KernelView : Type 0 where
+  pub number : ℕ
+  -- what it was booted with
+  pub scripts : ScriptMap
+  pub start : State
+  -- the most events that its trace may have
+  pub limit : ℕ
+  pub trace : List Event
+
+abbrev pub state_code : Coded State
+state_code = map.code entity.the_row.coded stored_row.the_row.coded
+
+abbrev pub kernel_code : Coded KernelView
+kernel_code =
+    code_by (ℕ × (ScriptMap × (State × (ℕ × List Event)))) (coded× coded_ℕ (coded× script_map_code (coded× state_code (coded× coded_ℕ (coded_list event_code)))))
+    (λ k. (k.number, (k.scripts, (k.start, (k.limit, k.trace))))) (λ p. record { number = p.0; scripts = p.1.0; start = p.1.1.0; limit = p.1.1.1.0; trace = p.1.1.1.1 }) (λ _. refl)
+
+-- at its start
+abbrev pub booted : ℕ → BootView → ℕ → KernelView
+booted number boot limit = record { number = number; scripts = boot.scripts; start = start_of boot; limit = limit; trace = [] }
+
+-- ---- what there is to see, by the definitions on the trace
+
+-- the trace as the laws of traces have it
+abbrev pub events_of : KernelView → List (Happens EntryView)
+events_of k = map image k.trace
+
+-- the steps that depend on no failed guess
+abbrev pub record_at : KernelView → List EntryView
+record_at k = record_of (plain k.scripts) k.start (events_of k)
+
+-- what entities have: the run of these steps
+abbrev pub state_at : KernelView → State
+state_at k = run (plain k.scripts) k.start (record_at k)
+
+-- the undecided guesses, by rising number
+abbrev pub undecided_at : KernelView → List ℕ
+undecided_at k = undecided_of (plain k.scripts) k.start (events_of k)
+
+-- a guess has this status
+abbrev pub HasStatus : KernelView → ℕ → Status → Type 0
+HasStatus k id s = StatusIs (plain k.scripts) k.start (events_of k) id s
+
+-- an entity depends on an undecided guess
+abbrev pub RestsOn : KernelView → Entity → ℕ → Type 0
+RestsOn k e id = IsTagOf (plain k.scripts) k.start (events_of k) e id
+
+-- the same, computed: the undecided guesses that an entity depends on, by rising number
+abbrev pub tags_at : KernelView → Entity → List ℕ
+tags_at k e = deps (plain k.scripts) k.start (all_recorded (plain k.scripts) k.start no_record (events_of k)) e
+
+-- the texts said to a terminal by the steps that count, each with the undecided guesses that it depends on
+abbrev pub texts_at : KernelView → ℕ → List (Tagged Saying)
+texts_at k t =
+    let ran = effects (plain k.scripts) k.start (record_at k) in
+    said_with (plain k.scripts) t (tags_along (plain k.scripts).order (undecided_at k) (λ g. []) ran) ran
+
+-- the places of the trace that are free, one kept for the decision of each undecided guess
+abbrev pub room : KernelView → ℕ
+room k = k.limit - length k.trace - length (undecided_at k)
+
+-- the number of the last guess, 0 before the first
+abbrev pub number_after : ℕ → Event → ℕ
+number_after last (events.Step pid input) = last
+number_after last (events.Guess id pid input) = id
+number_after last (events.Commit id) = last
+number_after last (events.Fail id) = last
+
+abbrev pub last_guess : List Event → ℕ
+last_guess es = fold number_after 0 es
+
+abbrev pub next_guess : KernelView → ℕ
+next_guess k = last_guess k.trace + 1
+
+-- ---- why a step is refused: the first cause, want of memory aside
+
+abbrev pub or_else : Option Refusal → Option Refusal → Option Refusal
+or_else (Some why) later = Some why
+or_else None later = later
+
+-- what the plain kernel does at this entry
+abbrev pub effect_at : KernelView → EntryView → Result (Effect Entity EntityState Saying) Refusal
+effect_at k n = outcome (plain k.scripts) (state_at k) n
+
+abbrev pub trace_full : KernelView → ℕ → Option Refusal
+trace_full k places = if nat_lt (room k) places then Some TraceFull else None
+
+abbrev pub step_refused : KernelView → EntryView → Option Refusal
+step_refused k n = or_else (refusal_of (effect_at k n)) (trace_full k 1)
+
+-- a guess needs an input
+abbrev pub misfit : Result (Effect Entity EntityState Saying) Refusal → Refusal
+misfit (Err NoProcess) = NoProcess
+misfit (Err Ended) = Ended
+misfit _ = Mismatch
+
+abbrev pub guess_misfits : Input → Result (Effect Entity EntityState Saying) Refusal → Option Refusal
+guess_misfits inputs.None does = Some (misfit does)
+guess_misfits inputs.Good does = refusal_of does
+guess_misfits (inputs.Fresh content) does = refusal_of does
+guess_misfits (inputs.Stale content) does = refusal_of does
+
+-- as many guesses are undecided as may be, or no number is left
+abbrev pub too_many : KernelView → Option Refusal
+too_many k = if nat_le GUESS_LIMIT (length (undecided_at k)) || nat_lt LAST_GUESS (next_guess k) then Some TooMany else None
+
+abbrev pub guess_refused : KernelView → EntryView → Option Refusal
+guess_refused k n = or_else (guess_misfits n.input (effect_at k n)) (or_else (too_many k) (trace_full k 2))
+
+-- ---- what a call leaves
+
+abbrev pub with_event : KernelView → Event → KernelView
+with_event k e = record k { trace = k.trace ++ e ∷ [] }

@@ -1,0 +1,238 @@
+//! The speculative kernel.
+ghost use Rattle.std.specs.Prelude.{◌≡◌, ◌↔◌, ℕ, true, length, IfOk, MatchOption, None, Some, []};
+ghost use Rattle.std.specs.FinMap as map;
+ghost use Rattle.sk_record.specs.Notes.{has};
+ghost use Rattle.sk_plain.specs.View.{Shows};
+ghost use Rattle.sk_trace.specs.declared.event.Event.TheVariants as events;
+ghost use Rattle.sk_multi.specs.Kernel.{booted, state_at, undecided_at, tags_at, texts_at, room, next_guess, step_refused, guess_refused, HasStatus, RestsOn};
+ghost use Rattle.sk_multi.specs.Calls.{StepPost, GuessPost, CommitPost, FailPost, ShowsTerminal, PlansGuess};
+ghost use Rattle.sk_record.specs.declared.status.Status.{Status};
+ghost use Rattle.sk_undo.specs.Logs.{look_at};
+
+use sk_guesses::{Guess, Redeemed, Status};
+use sk_ids::{Entity, GuessId, Pid, TagSet};
+use sk_machine::Machine;
+use sk_plain::{Event, Plan, Refusal, Trace, View, plan_step};
+use sk_script::{Boot, Input, Scripts};
+use sk_store::{Look, Store};
+use sk_terminal::Terminal;
+use std::alloc::{AllocError, Global};
+use std::marker::Model;
+
+/// What a decision came to.
+#[derive(Clone, Copy, Debug, PartialEq, Eq)]
+pub enum Outcome {
+    Done,
+    /// The guess was struck by another's failure: nothing is left to decide.
+    Gone,
+}
+
+/// A token that is not this kernel's, or whose guess is decided; it comes back.
+pub struct Stranger {
+    pub guess: Guess,
+}
+
+/// Why a failure was not taken; the token comes back, and nothing has changed.
+pub enum FailRefusal {
+    Stranger(Guess),
+    /// This never comes.
+    Memory(Guess),
+}
+
+/// A kernel whose processes go on from guessed replies. Contracts see its number, what it was booted
+/// with, its trace limit and its trace, from which all else follows by definition.
+#[derive(Drop)]
+pub struct Kernel {
+    scripts: Scripts,
+    start: Store,
+    limit: u32,
+    trace: Trace,
+    machine: Machine,
+}
+
+impl Model for Kernel {
+    ghost use Rattle.sk_multi.specs.Kernel.{KernelView, kernel_code};
+    ghost use Rattle.sk_multi.specs.Invariant.{IsWhole};
+
+    ghost Value = { KernelView };
+
+    ghost coded = { kernel_code };
+
+    ghost view = { λ k. record { number = k.machine.guesses.kernel; scripts = k.scripts; start = k.start; limit = k.limit; trace = k.trace.events } };
+
+    ghost invariant = { λ k. IsWhole (record { number = k.machine.guesses.kernel; scripts = k.scripts; start = k.start; limit = k.limit; trace = k.trace.events }) k.machine k.trace.room };
+}
+
+/// What a guess with an input will do, or why it is refused.
+fn plan_guess(
+    machine: &Machine,
+    scripts: &Scripts,
+    pid: Pid,
+    input: &Input,
+) -> Result<Plan, Refusal>
+    ensures { PlansGuess (look_at machine.now.slots) scripts.now pid input.now result }
+{
+    let planned = plan_step(machine, scripts, pid, input);
+    if let Input::None = input {
+        return Err(match planned {
+            Err(Refusal::NoProcess) => Refusal::NoProcess,
+            Err(Refusal::Ended) => Refusal::Ended,
+            _ => Refusal::Mismatch,
+        });
+    }
+    planned
+}
+
+impl Kernel {
+    /// A kernel of this number and trace limit, as it is booted. It keeps a copy of the start.
+    pub fn boot(alloc: Global, number: u64, boot: &Boot, limit: u32) -> Result<Kernel, AllocError>
+        ensures { IfOk result (λ kernel. kernel ≡ booted number boot.now limit) }
+    {
+        let scripts = boot.scripts().copy()?;
+        let start = Store::start(alloc, boot)?;
+        let machine = Machine::boot(alloc, number, boot)?;
+        Ok(Kernel {
+            scripts,
+            start,
+            limit,
+            trace: Trace::new(alloc),
+            machine,
+        })
+    }
+
+    /// What an entity has; `None` where it is absent.
+    pub fn value(&self, entity: &Entity) -> Option<View<'_>>
+        ensures { Shows (map.get (state_at self.now) entity.now) result }
+    {
+        match self.machine.value(*entity) {
+            Some(stored) => Some(View::of(stored)),
+            None => None,
+        }
+    }
+
+    /// The undecided guesses that an entity rests on.
+    pub fn tags_of(&self, entity: &Entity) -> &TagSet
+        ensures computed { result.now ≡ tags_at self.now entity.now }
+        ensures exact { (id : ℕ) → (has id result.now ≡ true) ↔ RestsOn self.now entity.now id }
+    {
+        self.machine.tags_of(entity)
+    }
+
+    /// What became of a guess; `None` where it was never drawn.
+    pub fn status(&self, id: GuessId) -> Option<Status>
+        ensures { (s : Status) → (result ≡ Some s) ↔ HasStatus self.now id s }
+    {
+        self.machine.status(id)
+    }
+
+    /// The texts of a terminal; `None` where none was said that counts.
+    pub fn terminal(&self, number: u16) -> Option<&Terminal>
+        ensures { MatchOption result (texts_at self.now number ≡ []) (λ terminal. ShowsTerminal self.now number terminal.now) }
+    {
+        self.machine.terminal(number)
+    }
+
+    /// All that was done, in order.
+    pub fn trace(&self) -> &Trace
+        ensures { result.now.events ≡ self.now.trace }
+    {
+        &self.trace
+    }
+
+    /// How many guesses are undecided.
+    pub fn undecided(&self) -> usize
+        ensures { result ≡ length (undecided_at self.now) }
+    {
+        self.machine.open_count()
+    }
+
+    /// The places of the trace that are free, with one kept for the decision of each undecided guess.
+    pub fn room(&self) -> usize
+        ensures { result ≡ room self.now }
+    {
+        (self.limit as usize)
+            .saturating_sub(self.trace.events().len())
+            .saturating_sub(self.machine.open_count())
+    }
+
+    /// Takes a step of a process with an input. After a refusal the kernel is as it was.
+    pub fn step(&mut self, pid: Pid, input: Input) -> Result<(), Refusal>
+        ensures { StepPost result (step_refused self.old (record { pid = pid; input = input; guess = None })) (events.Step pid input) self.old self.new }
+    {
+        let plan = plan_step(&self.machine, &self.scripts, pid, &input)?;
+        if self.room() < 1 {
+            return Err(Refusal::TraceFull);
+        }
+        if self.trace.reserve(self.machine.open_count() + 1).is_err() {
+            return Err(Refusal::Memory);
+        }
+        if self
+            .machine
+            .take_step(&self.scripts, pid, &input, &plan)
+            .is_err()
+        {
+            return Err(Refusal::Memory);
+        }
+        self.trace.push(Event::Step { pid, input });
+        Ok(())
+    }
+
+    /// Draws the next guess and takes its step with the guessed input. After a refusal the kernel is
+    /// as it was.
+    pub fn create_speculation(&mut self, pid: Pid, input: Input) -> Result<Guess, Refusal>
+        ensures { GuessPost result (guess_refused self.old (record { pid = pid; input = input; guess = Some (next_guess self.old) })) pid input self.old self.new }
+    {
+        let plan = plan_guess(&self.machine, &self.scripts, pid, &input)?;
+        if self.machine.is_full() {
+            return Err(Refusal::TooMany);
+        }
+        if self.room() < 2 {
+            return Err(Refusal::TraceFull);
+        }
+        if self.trace.reserve(self.machine.open_count() + 2).is_err() {
+            return Err(Refusal::Memory);
+        }
+        let Ok(guess) = self.machine.take_guess(&self.scripts, pid, &input, &plan) else {
+            return Err(Refusal::Memory);
+        };
+        let id = guess.id();
+        self.trace.push(Event::Guess { id, pid, input });
+        Ok(guess)
+    }
+
+    /// Commits a guess: nothing rests on it any more. This takes no memory.
+    pub fn commit_speculation(&mut self, guess: Guess) -> Result<Outcome, Stranger>
+        ensures { CommitPost result guess self.old self.new }
+    {
+        let redeemed = match self.machine.redeem(guess) {
+            Ok(redeemed) => redeemed,
+            Err(guess) => return Err(Stranger { guess }),
+        };
+        match redeemed {
+            Redeemed::Struck(_gone) => Ok(Outcome::Gone),
+            Redeemed::Undecided(id) => {
+                self.machine.commit(id);
+                self.trace.push(Event::Commit(id));
+                Ok(Outcome::Done)
+            }
+        }
+    }
+
+    /// Fails a guess: what rests on it is taken back, in place and without memory.
+    pub fn fail_speculation(&mut self, guess: Guess) -> Result<Outcome, FailRefusal>
+        ensures { FailPost result guess self.old self.new }
+    {
+        let redeemed = match self.machine.redeem(guess) {
+            Ok(redeemed) => redeemed,
+            Err(guess) => return Err(FailRefusal::Stranger(guess)),
+        };
+        match redeemed {
+            Redeemed::Struck(_gone) => Ok(Outcome::Gone),
+            Redeemed::Undecided(id) => {
+                self.machine.fail(id);
+                self.trace.push(Event::Fail(id));
+                Ok(Outcome::Done)
+            }
+        }
+    }
+}

@@ -1,0 +1,104 @@
+-- Writes to the map of slots, and what takes them back.
+use Rattle.std.proofs.Common.{◌≡◌, ℕ, List, [], ◌∷◌, Bool, true, false, cond, Option, Some, None, refl, sym, ◌∙◌, ap, subst}
+use Rattle.std.specs.Ordering.{eq_by_cmp}
+use Rattle.std.specs.Cmp.{eq_by_cmp_equiv, Equal-is}
+use Rattle.std.specs.FinMap.{get, insert, remove, get-insert, get-remove, same_map}
+use Rattle.std.proofs.lemmas.Bool.{true≢false}
+use Rattle.sk_ids.specs.declared.entity.Entity.{Entity}
+use Rattle.sk_undo.specs.Log.{is_empty}
+use Rattle.sk_undo.specs.Slot.{SlotView, slot_of, slot_wrote, is_bare, slot_back, CanGoBackOnce}
+use Rattle.sk_undo.specs.Logs.{SlotMap, slot_in, placed, slots_wrote, CanUndoLast}
+use Rattle.sk_undo.specs.Decisions.{ChangedAt}
+use Rattle.sk_undo.specs.declared.slot.UndoWrite.{UndoWrite}
+use Rattle.sk_ids.specs.Entity.{entity_cmp}
+use Rattle.sk_ids.proofs.Entities.{entity_total, entity_exact}
+
+at_same : (m : SlotMap) (e : Entity) (v : SlotView) → get (insert m e v) e ≡ Some v
+at_same m e v = get-insert entity_total m e v e ∙ ap (λ b. cond b (Some v) (get m e)) ((eq_by_cmp_equiv entity_total).refl e)
+
+back : (q e : Entity) (m : SlotMap) (v w : SlotView) → get m e ≡ Some v → (b : Bool) → eq_by_cmp entity_cmp q e ≡ b → cond b (Some v) (cond b (Some w) (get m q)) ≡ get m q
+back q e m v w here true is = sym (ap (get m) (entity_exact q e ((Equal-is (entity_cmp q e)).0 is)) ∙ here)
+back q e m v w here false is = refl
+
+-- and what was there can be put back
+pub insert_back : (m : SlotMap) (e : Entity) (v w : SlotView) → get m e ≡ Some v → insert (insert m e w) e v ≡ m
+insert_back m e v w here = same_map entity_total entity_exact _ _ (λ q.
+    get-insert entity_total (insert m e w) e v q
+    ∙ ap (cond (eq_by_cmp entity_cmp q e) (Some v)) (get-insert entity_total m e w q)
+    ∙ back q e m v w here (eq_by_cmp entity_cmp q e) refl)
+
+-- the slot that is there, put again
+kept : (q e : Entity) (m : SlotMap) (s : SlotView) → get m e ≡ Some s → (b : Bool) → eq_by_cmp entity_cmp q e ≡ b → cond b (Some s) (get m q) ≡ get m q
+kept q e m s here true is = sym (ap (get m) (entity_exact q e ((Equal-is (entity_cmp q e)).0 is)) ∙ here)
+kept q e m s here false is = refl
+
+pub insert_same : (m : SlotMap) (e : Entity) (s : SlotView) → get m e ≡ Some s → insert m e s ≡ m
+insert_same m e s here = same_map entity_total entity_exact _ _ (λ q. get-insert entity_total m e s q ∙ kept q e m s here (eq_by_cmp entity_cmp q e) refl)
+
+gone : (q e : Entity) (m : SlotMap) (v : SlotView) → get m e ≡ None → (b : Bool) → eq_by_cmp entity_cmp q e ≡ b → cond b None (cond b (Some v) (get m q)) ≡ get m q
+gone q e m v absent true is = sym (ap (get m) (entity_exact q e ((Equal-is (entity_cmp q e)).0 is)) ∙ absent)
+gone q e m v absent false is = refl
+
+-- an entity that had no slot has none again
+pub remove_back : (m : SlotMap) (e : Entity) (v : SlotView) → get m e ≡ None → remove (insert m e v) e ≡ m
+remove_back m e v absent = same_map entity_total entity_exact _ _ (λ q.
+    get-remove entity_total (insert m e v) e q
+    ∙ ap (cond (eq_by_cmp entity_cmp q e) None) (get-insert entity_total m e v q)
+    ∙ gone q e m v absent (eq_by_cmp entity_cmp q e) refl)
+
+-- what may be taken back from a slot may be taken back where the slot stands
+pub can_again : (m : SlotMap) (e : Entity) (w : SlotView) (back : Option UndoWrite) → CanGoBackOnce w back → CanUndoLast (get (insert m e w) e) back
+can_again m e w back h = subst (λ o. CanUndoLast o back) (sym (at_same m e w)) h
+
+-- and leaves the slot that was there
+pub back_again : (m : SlotMap) (e : Entity) (s w : SlotView) (back : Option UndoWrite) → get m e ≡ Some s → slot_back w back ≡ s
+    → insert (insert m e w) e (slot_back (slot_in (get (insert m e w) e)) back) ≡ m
+back_again m e s w back here is =
+    ap (λ o. insert (insert m e w) e (slot_back (slot_in o) back)) (at_same m e w)
+    ∙ ap (insert (insert m e w) e) is ∙ insert_back m e s w here
+
+-- the slot that is there, changed
+pub given : (m : SlotMap) (e : Entity) (s w : SlotView) (f : SlotView → SlotView) → Some s ≡ get m e → w ≡ f s → insert m e w ≡ insert m e (f (slot_in (get m e)))
+given m e s w f here is = ap (insert m e) (is ∙ ap (λ o. f (slot_in o)) here)
+
+-- ---- a slot placed
+absent : (q e : Entity) (m : SlotMap) → get m e ≡ None → (b : Bool) → eq_by_cmp entity_cmp q e ≡ b → cond b None (get m q) ≡ get m q
+absent q e m none true is = sym (ap (get m) (entity_exact q e ((Equal-is (entity_cmp q e)).0 is)) ∙ none)
+absent q e m none false is = refl
+
+-- of an entity without a slot and without anything to place
+pub placed_none : (m : SlotMap) (e : Entity) → get m e ≡ None → m ≡ placed m e (slot_of None)
+placed_none m e none = sym (same_map entity_total entity_exact _ _ (λ q. get-remove entity_total m e q ∙ absent q e m none (eq_by_cmp entity_cmp q e) refl))
+
+-- also by a write that isn't noted
+untouched : (tags : List ℕ) (o : Option SlotView) → o ≡ None → is_empty tags ≡ true → slot_of None ≡ slot_wrote tags (slot_in o) None
+untouched [] o none empty = ap (λ o. slot_wrote [] (slot_in o) None) (sym none)
+untouched (t ∷ tags) o none empty = absurd (true≢false (sym empty))
+
+pub placed_untouched : (m : SlotMap) (e : Entity) (tags : List ℕ) → get m e ≡ None → is_empty tags ≡ true → m ≡ slots_wrote tags m e None
+placed_untouched m e tags none empty = placed_none m e none ∙ ap (placed m e) (untouched tags (get m e) none empty)
+
+twice : (b : Bool) (v : SlotView) (o : Option SlotView) → cond b None (cond b (Some v) o) ≡ cond b None o
+twice true v o = refl
+twice false v o = refl
+
+-- of one that is bare
+pub placed_gone : (m : SlotMap) (e : Entity) (w : SlotView) → is_bare w ≡ true → remove (insert m e w) e ≡ placed m e w
+placed_gone m e w bare =
+    same_map entity_total entity_exact _ _ (λ q.
+    get-remove entity_total (insert m e w) e q
+    ∙ ap (cond (eq_by_cmp entity_cmp q e) None) (get-insert entity_total m e w q)
+    ∙ twice (eq_by_cmp entity_cmp q e) w (get m q)
+    ∙ sym (get-remove entity_total m e q))
+    ∙ ap (λ b. cond b (remove m e) (insert m e w)) (sym bare)
+
+-- and of one that isn't
+pub placed_full : (m : SlotMap) (e : Entity) (w : SlotView) → is_bare w ≡ false → insert m e w ≡ placed m e w
+placed_full m e w full = ap (λ b. cond b (remove m e) (insert m e w)) (sym full)
+
+-- a slot changed in place, and taken out where it is bare
+pub changed_slot : (C : SlotView → SlotView → Type 0) (m n : SlotMap) (e : Entity) (s w : SlotView) → get m e ≡ Some s → C s w → n ≡ placed m e w → ChangedAt C m e n
+changed_slot C m n e s w here did is = record { slot = w; changed = subst (λ o. C (slot_in o) w) (sym here) did; all = is }
+
+pub changed_none : (C : SlotView → SlotView → Type 0) (m n : SlotMap) (e : Entity) → get m e ≡ None → C (slot_of None) (slot_of None) → n ≡ m → ChangedAt C m e n
+changed_none C m n e none did is = record { slot = slot_of None; changed = subst (λ o. C (slot_in o) (slot_of None)) (sym none) did; all = is ∙ placed_none m e none }

@@ -1,0 +1,113 @@
+-- What a store has, moved over into slots.
+use Rattle.std.proofs.Common.{◌≡◌, ◌≤◌, ℕ, length, drop, true, false, cond, ◌||◌, List, [], ◌∷◌, Option, Some, None, IsSome, refl, sym, ◌∙◌, ap, subst}
+use Rattle.std.specs.Prelude.{reverse, is_some}
+use Rattle.std.specs.Option.{option_map}
+use Rattle.std.specs.List.{AllByRecursion}
+use Rattle.std.specs.List.Sorted.{IsStrictlySortedBy}
+use Rattle.std.specs.Ordering.{eq_by_cmp}
+use Rattle.std.specs.declared.cmp.Ordering.TheVariants.{Less}
+use Rattle.std.specs.Cmp.{eq_by_cmp_equiv, Equal-is}
+use Rattle.std.specs.FinMap as map
+use Rattle.std.proofs.lemmas.Bool.{true≢false, or_left, or_right}
+use Rattle.std.proofs.lemmas.Map.Keys.{sorted_head, sorted_tail}
+use Rattle.std.proofs.lemmas.List.{drop_all}
+use Rattle.sk_ids.specs.Entity.{entity_cmp}
+use Rattle.sk_ids.specs.declared.entity.Entity.{Entity}
+use Rattle.sk_ids.proofs.Entities.{entity_total, entity_exact}
+use Rattle.sk_record.specs.Effects.{is_in}
+use Rattle.sk_store.specs.State.{State}
+use Rattle.sk_store.specs.declared.entity_state.EntityState.{EntityState}
+use Rattle.sk_undo.specs.Slot.{SlotView, slot_of, is_bare}
+use Rattle.sk_undo.specs.Logs.{SlotMap, slot_in, look_at, log_at}
+use Rattle.sk_undo.specs.Decisions.{NoneBare}
+
+-- a slot of which nothing is noted
+abbrev pub holding : EntityState → SlotView
+holding v = slot_of (Some v)
+
+-- where these are left
+pub record Opening (start : State) (rest : List Entity) (store : State) (slots : SlotMap) : Type 0 where
+  pub rising : IsStrictlySortedBy entity_cmp rest
+  pub present : (q : Entity) → is_in entity_cmp rest q ≡ true → IsSome (map.get start q)
+  pub left : (q : Entity) → is_in entity_cmp rest q ≡ true → map.get store q ≡ map.get start q
+  pub done : (q : Entity) → is_in entity_cmp rest q ≡ false → map.get slots q ≡ option_map holding (map.get start q)
+
+absent_is : (o : Option EntityState) → is_some o ≡ false → o ≡ None
+absent_is None h = refl
+absent_is (Some x) h = absurd (true≢false h)
+
+pub opening_from : (start : State) (es : List Entity) → IsStrictlySortedBy entity_cmp es → ((q : Entity) → is_in entity_cmp es q ≡ is_some (map.get start q)) → Opening start es start map.empty
+opening_from start es rising all = record {
+  rising = rising;
+  present = λ q there. sym (all q) ∙ there;
+  left = λ q there. refl;
+  done = λ q out. map.get-empty entity_cmp q ∙ ap (option_map holding) (sym (absent_is (map.get start q) (sym (all q) ∙ out)));
+}
+
+out_after : (e : Entity) (rest : List Entity) → AllByRecursion (λ y. entity_cmp e y ≡ Less) rest → is_in entity_cmp rest e ≡ false
+out_after e [] h = refl
+out_after e (y ∷ rest) h = rw h.0 (out_after e rest h.1)
+
+self_in : (e : Entity) → eq_by_cmp entity_cmp e e ≡ true
+self_in e = (eq_by_cmp_equiv entity_total).refl e
+
+held : (o : Option EntityState) → IsSome o → Some (slot_of o) ≡ option_map holding o
+held (Some v) h = refl
+held None h = absurd (true≢false (sym h))
+
+by_place : (q e : Entity) (P : Type 0) → (eq_by_cmp entity_cmp q e ≡ true → P) → (eq_by_cmp entity_cmp q e ≡ false → P) → P
+by_place q e P here apart = elim (eq_by_cmp entity_cmp q e) as (λ b. eq_by_cmp entity_cmp q e ≡ b → P) [ true ↦ here | false ↦ apart ] refl
+
+module _ (start store store' : State) (slots slots' : SlotMap) (e : Entity) (rest : List Entity) (so : Opening start (e ∷ rest) store slots) where
+  pub first_there : IsSome (map.get store e)
+  first_there = subst IsSome (sym (so.left e (or_left _ _ (self_in e)))) (so.present e (or_left _ _ (self_in e)))
+
+  apart_from : (q : Entity) → is_in entity_cmp rest q ≡ true → eq_by_cmp entity_cmp q e ≡ false
+  apart_from q there = by_place q e (eq_by_cmp entity_cmp q e ≡ false)
+      (λ is. absurd (true≢false (sym (ap (is_in entity_cmp rest) (sym (entity_exact q e ((Equal-is (entity_cmp q e)).0 is))) ∙ there) ∙ out_after e rest (sorted_head entity_cmp e rest so.rising))))
+      (λ is. is)
+
+  pub opening_more : slots' ≡ map.insert slots e (slot_of (map.get store e))
+      → ((q : Entity) → eq_by_cmp entity_cmp q e ≡ false → map.get store' q ≡ map.get store q) → Opening start rest store' slots'
+  opening_more is others = record {
+    rising = sorted_tail entity_cmp e rest so.rising;
+    present = λ q there. so.present q (or_right _ _ there);
+    left = λ q there. others q (apart_from q there) ∙ so.left q (or_right _ _ there);
+    done = λ q out.
+        ap (λ m. map.get m q) is ∙ map.get-insert entity_total slots e (slot_of (map.get store e)) q
+        ∙ by_place q e (cond (eq_by_cmp entity_cmp q e) (Some (slot_of (map.get store e))) (map.get slots q) ≡ option_map holding (map.get start q))
+        (λ same.
+        ap (λ b. cond b (Some (slot_of (map.get store e))) (map.get slots q)) same
+        ∙ ap (λ o. Some (slot_of o)) (so.left e (or_left _ _ (self_in e)))
+        ∙ held (map.get start e) (so.present e (or_left _ _ (self_in e)))
+        ∙ ap (λ x. option_map holding (map.get start x)) (sym (entity_exact q e ((Equal-is (entity_cmp q e)).0 same))))
+        (λ apart.
+        ap (λ b. cond b (Some (slot_of (map.get store e))) (map.get slots q)) apart
+        ∙ so.done q (ap (λ b. b || is_in entity_cmp rest q) apart ∙ out));
+  }
+
+-- ---- at the end
+pub opening_at_end : (es : List Entity) (i : ℕ) (start store : State) (slots : SlotMap) → length es ≤ i → Opening start (drop i es) store slots → Opening start [] store slots
+opening_at_end es i start store slots past so = subst (λ es. Opening start es store slots) (drop_all i es past) so
+
+shown : (o : Option EntityState) → (slot_in (option_map holding o)).now ≡ o
+shown None = refl
+shown (Some v) = refl
+
+clean : (o : Option EntityState) → reverse (slot_in (option_map holding o)).log ≡ []
+clean None = refl
+clean (Some v) = refl
+
+full : (o : Option EntityState) (s : SlotView) → option_map holding o ≡ Some s → is_bare s ≡ false
+full None s no_way = absurd (true≢false (sym (ap is_some no_way)))
+full (Some v) s is = sym (ap (λ o. is_bare (slot_in o)) is)
+
+module _ (start store : State) (slots : SlotMap) (so : Opening start [] store slots) where
+  pub values_moved : (q : Entity) → look_at slots q ≡ map.get start q
+  values_moved q = ap (λ o. (slot_in o).now) (so.done q refl) ∙ shown (map.get start q)
+
+  pub nothing_noted : (q : Entity) → log_at slots q ≡ []
+  nothing_noted q = ap (λ o. reverse (slot_in o).log) (so.done q refl) ∙ clean (map.get start q)
+
+  pub none_bare : NoneBare slots
+  none_bare q s there = full (map.get start q) s (sym (so.done q refl) ∙ there)

@@ -1,0 +1,178 @@
+-- What a pass over the listed entities leaves of the slots.
+use Rattle.std.proofs.Common.{◌≡◌, ℕ, ◌+◌, ◌<◌, length, drop, get_or, Bool, true, false, cond, ◌||◌, ◌&&◌, List, [], ◌∷◌, Option, Some, None, refl, sym, ◌∙◌, ap, subst}
+use Rattle.std.specs.Prelude.{reverse, is_none, is_some}
+use Rattle.std.specs.Ordering.{eq_by_cmp}
+use Rattle.std.specs.Cmp.{Equal-is}
+use Rattle.std.specs.FinMap as map
+use Rattle.std.proofs.lemmas.Bool.{true≢false}
+use Rattle.std.proofs.Math.Seq.{drop-cons}
+use Rattle.std.proofs.Math.Numerals.{suc-eq-add-one}
+use Rattle.sk_ids.specs.Entity.{entity_cmp}
+use Rattle.sk_ids.specs.declared.entity.Entity.{Entity}
+use Rattle.sk_ids.proofs.Entities.{entity_total, entity_exact}
+use Rattle.sk_record.specs.Effects.{is_in}
+use Rattle.sk_record.specs.Notes.{Note, has, cut, unwound, committed}
+use Rattle.sk_record.specs.UndoState.{IsGrowing}
+use Rattle.sk_store.specs.declared.entity_state.EntityState.{EntityState}
+use Rattle.sk_undo.specs.Log.{is_empty, carries}
+use Rattle.sk_undo.specs.Slot.{SlotView, slot_of, is_bare}
+use Rattle.sk_undo.specs.Logs.{SlotMap, slot_in, placed, look_at, log_at}
+use Rattle.sk_undo.specs.Decisions.{SlotUnwound, SlotCommitted, ChangedAt, Unwound, Lightened, AreListed, AllRest, AllGrow, NoneBare}
+use Rattle.sk_undo.proofs.SeenNotes.{none_is, none_off, grow_cut}
+use Rattle.sk_undo.proofs.Commits.{committed_free, committed_twice, grow_commit}
+
+-- ---- the slot of one entity
+absent_is : (v : Option EntityState) → is_none v ≡ true → v ≡ None
+absent_is None h = refl
+absent_is (Some x) h = absurd (true≢false (sym h))
+
+and_parts : (a b : Bool) → (a && b) ≡ true → (a ≡ true) × (b ≡ true)
+and_parts true b h = (refl, h)
+and_parts false b h = absurd (true≢false (sym h))
+
+bare_is : (s : SlotView) → is_bare s ≡ true → slot_of None ≡ s
+bare_is s h =
+    let both = and_parts (is_none s.now) (is_empty s.log) h in
+    let now = sym (absent_is s.now both.0) in
+    let log = sym (none_is s.log both.1) in
+    λ i. record { now = now i; log = log i }
+
+pick : (b : Bool) (o p : Option SlotView) → slot_in (cond b o p) ≡ cond b (slot_in o) (slot_in p)
+pick true o p = refl
+pick false o p = refl
+
+-- what each entity has then
+pub placed_at : (m : SlotMap) (e : Entity) (s : SlotView) (q : Entity) → slot_in (map.get (placed m e s) q) ≡ cond (eq_by_cmp entity_cmp q e) s (slot_in (map.get m q))
+placed_at m e s q =
+    elim (is_bare s) as (λ b. is_bare s ≡ b → slot_in (map.get (cond b (map.remove m e) (map.insert m e s)) q) ≡ cond (eq_by_cmp entity_cmp q e) s (slot_in (map.get m q))) [
+      | true ↦ λ bare.
+          ap slot_in (map.get-remove entity_total m e q) ∙ pick (eq_by_cmp entity_cmp q e) None (map.get m q)
+          ∙ ap (λ t. cond (eq_by_cmp entity_cmp q e) t (slot_in (map.get m q))) (bare_is s bare)
+      | false ↦ λ _. ap slot_in (map.get-insert entity_total m e s q) ∙ pick (eq_by_cmp entity_cmp q e) (Some s) (map.get m q)
+    ] refl
+
+pub placed_bare : (m : SlotMap) (e : Entity) (s : SlotView) → NoneBare m → NoneBare (placed m e s)
+placed_bare m e s none q t =
+    elim (is_bare s) as (λ b. is_bare s ≡ b → map.get (cond b (map.remove m e) (map.insert m e s)) q ≡ Some t → is_bare t ≡ false) [
+      | true ↦ λ _ there. elim (eq_by_cmp entity_cmp q e) as (λ here. cond here None (map.get m q) ≡ Some t → is_bare t ≡ false) [
+        | true ↦ λ no_way. absurd (true≢false (sym (ap is_some no_way)))
+        | false ↦ λ there. none q t there
+      ] (sym (map.get-remove entity_total m e q) ∙ there)
+      | false ↦ λ full there. elim (eq_by_cmp entity_cmp q e) as (λ here. cond here (Some s) (map.get m q) ≡ Some t → is_bare t ≡ false) [
+        | true ↦ λ is. sym (ap (λ o. is_bare (slot_in o)) is) ∙ full
+        | false ↦ λ there. none q t there
+      ] (sym (map.get-insert entity_total m e s q) ∙ there)
+    ] refl
+
+-- the changed slot where it is, and the others as they were
+module _ {C : SlotView → SlotView → Type 0} {old new : SlotMap} {e : Entity} (h : ChangedAt C old e new) (q : Entity) where
+  pub there : eq_by_cmp entity_cmp q e ≡ true → C (slot_in (map.get old q)) (slot_in (map.get new q))
+  there is =
+      let slot : slot_in (map.get new q) ≡ h.slot = ap (λ m. slot_in (map.get m q)) h.all ∙ placed_at old e h.slot q ∙ ap (λ b. cond b h.slot (slot_in (map.get old q))) is in
+      subst (λ w. C (slot_in (map.get old q)) w) (sym slot)
+      (subst (λ x. C (slot_in (map.get old x)) h.slot) (sym (entity_exact q e ((Equal-is (entity_cmp q e)).0 is))) h.changed)
+
+  pub elsewhere : eq_by_cmp entity_cmp q e ≡ false → slot_in (map.get old q) ≡ slot_in (map.get new q)
+  elsewhere is = sym (ap (λ m. slot_in (map.get m q)) h.all ∙ placed_at old e h.slot q ∙ ap (λ b. cond b h.slot (slot_in (map.get old q))) is)
+
+-- a proof for an entity, where it is the changed one and where it is not
+by_place : (q e : Entity) (P : Type 0) → (eq_by_cmp entity_cmp q e ≡ true → P) → (eq_by_cmp entity_cmp q e ≡ false → P) → P
+by_place q e P here apart = elim (eq_by_cmp entity_cmp q e) as (λ b. eq_by_cmp entity_cmp q e ≡ b → P) [ true ↦ here | false ↦ apart ] refl
+
+-- ---- the list that is left
+pub next_of : (es : List Entity) (i : ℕ) (e : Entity) → i < length es → e ≡ get_or es i e → drop i es ≡ e ∷ drop (i + 1) es
+next_of es i e within is = drop-cons es i e within ∙ (λ k. sym is k ∷ drop (suc-eq-add-one i k) es)
+
+-- ---- a failure, where these are left
+pub record Unwinding (g : ℕ) (old now : SlotMap) (rest : List Entity) : Type 0 where
+  pub look : (q : Entity) → unwound g (log_at now q) (look_at now q) ≡ unwound g (log_at old q) (look_at old q)
+  pub logs : (q : Entity) → cut g (log_at now q) ≡ cut g (log_at old q)
+  pub listed : AreListed g now rest
+  pub grow : AllGrow now
+  pub bare : NoneBare old → NoneBare now
+
+carries_cut : (g : ℕ) (log : List (Note EntityState)) → carries g (cut g log) ≡ false
+carries_cut g [] = refl
+carries_cut g (n ∷ ns) =
+    elim (has g n.tags) as (λ b. has g n.tags ≡ b → carries g (cond b [] (n ∷ cut g ns)) ≡ false) [
+      | true ↦ λ _. refl
+      | false ↦ λ is. ap (λ b. b || carries g (cut g ns)) is ∙ carries_cut g ns
+    ] refl
+
+pub unwinding_from : (g : ℕ) (old : SlotMap) (es : List Entity) → AreListed g old es → AllGrow old → Unwinding g old old es
+unwinding_from g old es listed grows = record { look = λ q. refl; logs = λ q. refl; listed = listed; grow = grows; bare = λ h. h }
+
+module _ (g : ℕ) (old now new : SlotMap) (e : Entity) (rest : List Entity) (so : Unwinding g old now (e ∷ rest)) (h : ChangedAt (SlotUnwound g) now e new) where
+  left_at : (q : Entity) → carries g (log_at new q) ≡ true → is_in entity_cmp rest q ≡ true
+  left_at q here = by_place q e (is_in entity_cmp rest q ≡ true)
+      (λ is. absurd (true≢false (sym here ∙ ap (carries g) ((there h q is).log (so.grow q)) ∙ carries_cut g (log_at now q))))
+      (λ is. sym (ap (λ b. b || is_in entity_cmp rest q) is) ∙ so.listed q (ap (λ (s : SlotView). carries g (reverse s.log)) (elsewhere h q is) ∙ here))
+
+  pub unwinding_more : Unwinding g old new rest
+  unwinding_more = record {
+    look = λ q. by_place q e (unwound g (log_at new q) (look_at new q) ≡ unwound g (log_at old q) (look_at old q))
+        (λ is.
+        let slot = there h q is in
+        ap (λ log. unwound g log (look_at new q)) (slot.log (so.grow q))
+        ∙ (none_off g (cut g (log_at now q)) (look_at new q) (carries_cut g (log_at now q))).0
+        ∙ slot.now (so.grow q) ∙ so.look q)
+        (λ is. ap (λ (s : SlotView). unwound g (reverse s.log) s.now) (sym (elsewhere h q is)) ∙ so.look q);
+    logs = λ q. by_place q e (cut g (log_at new q) ≡ cut g (log_at old q))
+        (λ is. ap (cut g) ((there h q is).log (so.grow q)) ∙ (none_off g (cut g (log_at now q)) None (carries_cut g (log_at now q))).1 ∙ so.logs q)
+        (λ is. ap (λ (s : SlotView). cut g (reverse s.log)) (sym (elsewhere h q is)) ∙ so.logs q);
+    listed = left_at;
+    grow = λ q. by_place q e (IsGrowing (log_at new q))
+        (λ is. subst IsGrowing (sym ((there h q is).log (so.grow q))) (grow_cut g (log_at now q) (so.grow q)))
+        (λ is. subst (λ (s : SlotView). IsGrowing (reverse s.log)) (elsewhere h q is) (so.grow q));
+    bare = λ none. subst NoneBare (sym h.all) (placed_bare now e h.slot (so.bare none));
+  }
+
+no_more : (g : ℕ) (log : List (Note EntityState)) → (carries g log ≡ true → false ≡ true) → carries g log ≡ false
+no_more g log h = elim (carries g log) as (λ b. (b ≡ true → false ≡ true) → b ≡ false) [ true ↦ λ h. absurd (true≢false (sym (h refl))) | false ↦ λ _. refl ] h
+
+pub all_unwound : (g : ℕ) (old now : SlotMap) → Unwinding g old now [] → Unwound old g now
+all_unwound g old now so =
+    let off = λ (q : Entity). none_off g (log_at now q) (look_at now q) (no_more g (log_at now q) (so.listed q)) in
+    record { look = λ q. sym (off q).0 ∙ so.look q; logs = λ q. sym (off q).1 ∙ so.logs q }
+
+-- ---- a commit, where these are left
+pub record Committing (g : ℕ) (old now : SlotMap) (rest : List Entity) : Type 0 where
+  pub look : (q : Entity) → look_at now q ≡ look_at old q
+  pub logs : (q : Entity) → committed g (log_at now q) ≡ committed g (log_at old q)
+  pub grow : AllGrow now
+  pub done : (q : Entity) → is_in entity_cmp rest q ≡ false → committed g (log_at now q) ≡ log_at now q
+  pub bare : NoneBare old → NoneBare now
+
+unlisted : (b c : Bool) → (b ≡ true → c ≡ true) → c ≡ false → b ≡ false
+unlisted true c h is = absurd (true≢false (sym (h refl) ∙ is))
+unlisted false c h is = refl
+
+pub committing_from : (g : ℕ) (old : SlotMap) (es : List Entity) → AreListed g old es → AllRest old → AllGrow old → Committing g old old es
+committing_from g old es listed rests grows = record {
+  look = λ q. refl;
+  logs = λ q. refl;
+  grow = grows;
+  done = λ q is. committed_free g (log_at old q) (unlisted _ _ (listed q) is) (rests q);
+  bare = λ h. h;
+}
+
+module _ (g : ℕ) (old now new : SlotMap) (e : Entity) (rest : List Entity) (so : Committing g old now (e ∷ rest)) (h : ChangedAt (SlotCommitted g) now e new) where
+  pub committing_more : Committing g old new rest
+  committing_more = record {
+    look = λ q. by_place q e (look_at new q ≡ look_at old q)
+        (λ is. (there h q is).now ∙ so.look q)
+        (λ is. ap (λ (s : SlotView). s.now) (sym (elsewhere h q is)) ∙ so.look q);
+    logs = λ q. by_place q e (committed g (log_at new q) ≡ committed g (log_at old q))
+        (λ is. ap (committed g) ((there h q is).log (so.grow q)) ∙ committed_twice g (log_at now q) ∙ so.logs q)
+        (λ is. ap (λ (s : SlotView). committed g (reverse s.log)) (sym (elsewhere h q is)) ∙ so.logs q);
+    grow = λ q. by_place q e (IsGrowing (log_at new q))
+        (λ is. subst IsGrowing (sym ((there h q is).log (so.grow q))) (grow_commit g (log_at now q) (so.grow q)))
+        (λ is. subst (λ (s : SlotView). IsGrowing (reverse s.log)) (elsewhere h q is) (so.grow q));
+    done = λ q out. by_place q e (committed g (log_at new q) ≡ log_at new q)
+        (λ is. let log = (there h q is).log (so.grow q) in ap (committed g) log ∙ committed_twice g (log_at now q) ∙ sym log)
+        (λ is. subst (λ (s : SlotView). committed g (reverse s.log) ≡ reverse s.log) (elsewhere h q is) (so.done q (ap (λ b. b || is_in entity_cmp rest q) is ∙ out)));
+    bare = λ none. subst NoneBare (sym h.all) (placed_bare now e h.slot (so.bare none));
+  }
+
+pub all_committed : (g : ℕ) (old now : SlotMap) → Committing g old now [] → Lightened old g now
+all_committed g old now so = record { look = so.look; logs = λ q. sym (so.done q refl) ∙ so.logs q }

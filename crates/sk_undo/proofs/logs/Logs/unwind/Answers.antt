@@ -1,0 +1,7 @@
+use Rattle.std.proofs.Common.{subst, sym}
+use Rattle.sk_undo.specs.Logs.{LogsView}
+use Rattle.sk_undo.specs.Decisions.{NoneBare}
+use Rattle.sk_undo.proofs.logs.Logs.unwind.Goals as goal
+
+pub returns-clause-bare : goal.returns-clause-bare
+returns-clause-bare c none = c.unwind.ensures.bare (subst (λ (l : LogsView). NoneBare l.slots) (sym c.self.view_is) none)

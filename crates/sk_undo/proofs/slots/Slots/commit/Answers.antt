@@ -1,0 +1,13 @@
+use Rattle.std.proofs.Common.{◌+◌, drop, subst}
+use Rattle.sk_undo.proofs.Passes.{Committing, next_of, committing_from, committing_more}
+use Rattle.sk_undo.proofs.slots.Slots.commit.Goals as goal
+
+pub loop-entity-init : goal.loop-entity-init
+loop-entity-init c = committing_from c.args.guess c.args.self.now c.args.entities.now c.requires.listed c.requires.rest c.requires.grow
+
+pub loop-entity-preserved : goal.loop-entity-preserved
+loop-entity-preserved c =
+    let es = c.args.entities.now in
+    let i = c.loop-entity.entity-index in
+    committing_more c.args.guess c.args.self.now c.loop-entity.self c.commit_at.new.self c.entity-item.result (drop (i + 1) es)
+    (subst (Committing c.args.guess c.args.self.now c.loop-entity.self) (next_of es i c.entity-item.result c.loop-entity-test.true c.entity-item.is) c.loop-entity.invariant) c.commit_at.ensures

@@ -1,0 +1,59 @@
+-- What a decision leaves, entity by entity.
+use Rattle.std.specs.Prelude.{◌≡◌, ℕ, true, false, not, List, Some, reverse}
+use Rattle.std.specs.List.{list_all}
+use Rattle.std.specs.FinMap as map
+use Rattle.sk_ids.specs.Entity.{entity_cmp}
+use Rattle.sk_ids.specs.declared.entity.Entity.{Entity}
+use Rattle.sk_record.specs.Effects.{is_in}
+use Rattle.sk_record.specs.Notes.{cut, unwound, committed}
+use Rattle.sk_record.specs.UndoState.{Open, UndoState, IsGrowing}
+use Rattle.sk_store.specs.declared.entity_state.EntityState.{EntityState}
+use Rattle.sk_undo.specs.Log.{is_empty, carries}
+use Rattle.sk_undo.specs.Slot.{SlotView, is_bare}
+use Rattle.sk_undo.specs.Logs.{SlotMap, slot_in, placed, look_at, log_at}
+
+-- a slot of which the notes that rest on a guess are taken back, with those after them
+pub record SlotUnwound (g : ℕ) (old new : SlotView) : Type 0 where
+  pub now : IsGrowing (reverse old.log) → new.now ≡ unwound g (reverse old.log) old.now
+  pub log : IsGrowing (reverse old.log) → reverse new.log ≡ cut g (reverse old.log)
+
+-- a slot with a guess out of all notes, and without each note that then has no tags
+pub record SlotCommitted (g : ℕ) (old new : SlotView) : Type 0 where
+  pub now : new.now ≡ old.now
+  pub log : IsGrowing (reverse old.log) → reverse new.log ≡ committed g (reverse old.log)
+
+-- the slot of one entity is changed so
+pub record ChangedAt (Changed : SlotView → SlotView → Type 0) (old : SlotMap) (e : Entity) (new : SlotMap) : Type 0 where
+  pub slot : SlotView
+  pub changed : Changed (slot_in (map.get old e)) slot
+  pub all : new ≡ placed old e slot
+
+-- the notes that rest on a guess taken back, with those after them
+pub record Unwound (old : SlotMap) (g : ℕ) (new : SlotMap) : Type 0 where
+  pub look : (e : Entity) → look_at new e ≡ unwound g (log_at old e) (look_at old e)
+  pub logs : (e : Entity) → log_at new e ≡ cut g (log_at old e)
+
+-- a guess out of all notes, and each note that then has no tags
+pub record Lightened (old : SlotMap) (g : ℕ) (new : SlotMap) : Type 0 where
+  pub look : (e : Entity) → look_at new e ≡ look_at old e
+  pub logs : (e : Entity) → log_at new e ≡ committed g (log_at old e)
+
+-- each entity is listed of which a note rests on the guess
+abbrev pub AreListed : ℕ → SlotMap → List Entity → Type 0
+AreListed g m es = (e : Entity) → carries g (log_at m e) ≡ true → is_in entity_cmp es e ≡ true
+
+-- each note rests on some guess
+abbrev pub AllRest : SlotMap → Type 0
+AllRest m = (e : Entity) → list_all (λ n. not (is_empty n.tags)) (log_at m e) ≡ true
+
+-- what a note rests on the later notes of its log rest on too
+abbrev pub AllGrow : SlotMap → Type 0
+AllGrow m = (e : Entity) → IsGrowing (log_at m e)
+
+-- no slot is bare
+abbrev pub NoneBare : SlotMap → Type 0
+NoneBare m = (e : Entity) (s : SlotView) → map.get m e ≡ Some s → is_bare s ≡ false
+
+-- values and logs, as a machine with these open guesses has them
+abbrev pub undo_state : SlotMap → List Open → UndoState Entity EntityState
+undo_state m opens = record { look = look_at m; logs = log_at m; opens = opens }

@@ -1,0 +1,85 @@
+-- The writes of one value, seen as the value before each.
+use Rattle.std.specs.Prelude.{◌≡◌, ◌<◌, ℕ, Bool, true, false, List, [], ◌∷◌, reverse, Option, if◌then◌else◌}
+use Rattle.std.specs.List.{list_any, list_all}
+use Rattle.std.specs.declared.vec.Vec.{Vec}
+use Rattle.std.specs.Vec.{vec_len, vec_capacity}
+use Rattle.sk_record.specs.Notes.{Note, has, without}
+use Rattle.sk_undo.specs.declared.log.Note.{Note as RawNote}
+
+-- whether nothing is in the list
+abbrev pub is_empty : {A : Type 0} → List A → Bool
+is_empty [] = true
+is_empty (x ∷ xs) = false
+
+-- without the newest, which is the first
+abbrev pub less : {A : Type 0} → List A → List A
+less [] = []
+less (n ∷ ns) = ns
+
+abbrev pub HasNote : {A : Type 0} → List A → Type 0
+HasNote [] = ⊥
+HasNote (n ∷ ns) = Unit {0}
+
+-- all of the tags are among these
+abbrev pub Covers : List ℕ → List ℕ → Type 0
+Covers these tags = (g : ℕ) → has g tags ≡ true → has g these ≡ true
+
+-- there is room for one more
+abbrev pub HasRoom : {X Z : Type 0} → Vec X Z → Type 0
+HasRoom v = vec_len v < vec_capacity v
+
+module _ {U V : Type 0} (undone : U → Option V → Option V) where
+  -- the notes, the newest first, with what was there before each
+  abbrev pub seen : Option V → List (RawNote U) → List (Note V)
+  seen now [] = []
+  seen now (n ∷ ns) = record { tags = n.tags; before = undone n.undo now } ∷ seen (undone n.undo now) ns
+
+  -- the same from notes in the order of the writes, and in that order
+  abbrev pub log_of : Option V → List (RawNote U) → List (Note V)
+  log_of now ns = reverse (seen now (reverse ns))
+
+module _ {U V : Type 0} (fits : U → Option V → Type 0) (undone : U → Option V → Option V) where
+  -- each can be undone in its turn, the newest first
+  abbrev pub CanGoBack : Option V → List (RawNote U) → Type 0
+  CanGoBack now [] = Unit {0}
+  CanGoBack now (n ∷ ns) = fits n.undo now × CanGoBack (undone n.undo now) ns
+
+module _ {V : Type 0} where
+  -- whether a note rests on the guess
+  abbrev pub carries : ℕ → List (Note V) → Bool
+  carries g log = list_any (λ n. has g n.tags) log
+
+  -- what was there before the newest note
+  abbrev pub before_last : Option V → List (Note V) → Option V
+  before_last now [] = now
+  before_last now (n ∷ ns) = n.before
+
+module _ {U : Type 0} where
+  -- whether the newest note rests on the guess
+  abbrev pub rests_last : ℕ → List (RawNote U) → Bool
+  rests_last g [] = false
+  rests_last g (n ∷ ns) = has g n.tags
+
+  -- its tags
+  abbrev pub newest_tags : List (RawNote U) → List ℕ
+  newest_tags [] = []
+  newest_tags (n ∷ ns) = n.tags
+
+  -- from the first note on that rests on the guess
+  abbrev pub from_first : ℕ → List (RawNote U) → List (RawNote U)
+  from_first g [] = []
+  from_first g (n ∷ ns) = if has g n.tags then n ∷ ns else from_first g ns
+
+  -- what a note rests on the later notes rest on too
+  abbrev pub Grows : List (RawNote U) → Type 0
+  Grows ns = (g : ℕ) → list_all (λ n. has g n.tags) (from_first g ns) ≡ true
+
+  -- the notes with a guess taken out of all tags
+  abbrev pub lightened : ℕ → List (RawNote U) → List (RawNote U)
+  lightened g [] = []
+  lightened g (n ∷ ns) = record { tags = without g n.tags; undo = n.undo } ∷ lightened g ns
+
+  -- the notes from the first on that has tags
+  abbrev pub dropped : List (RawNote U) → List (RawNote U)
+  dropped [] = []
+  dropped (n ∷ ns) = if is_empty n.tags then dropped ns else n ∷ ns

@@ -1,0 +1,171 @@
+//! What performs the writes of steps, and notes what takes them back with the guesses that they rest on.
+ghost use Rattle.std.specs.Prelude.{◌≡◌, [], not, IfOk};
+ghost use Rattle.std.specs.FinMap as map;
+ghost use Rattle.sk_ids.specs.declared.entity.Entity.{Entity};
+ghost use Rattle.sk_undo.specs.Logs.{look_at, log_at};
+ghost use Rattle.std.specs.Option.{option_copied, unwrap_or};
+ghost use Rattle.sk_record.specs.Notes.{last_tags};
+ghost use Rattle.sk_undo.specs.Log.{is_empty};
+ghost use Rattle.sk_undo.specs.Decisions.{Unwound, Lightened, AreListed, AllRest, AllGrow, NoneBare};
+
+use crate::{Slots, TakeBack};
+use sk_changes::Change;
+use sk_ids::{Entity, GuessId, TagSet};
+use sk_store::{EntityState, Keeper, Look, Store};
+use std::alloc::{AllocError, Global};
+use std::marker::Model;
+
+/// An entity that was written, and what takes that back.
+#[derive(Drop)]
+pub struct Back {
+    entity: Entity,
+    how: TakeBack,
+}
+
+impl Model for Back {
+    ghost use Rattle.sk_undo.specs.Logs.{BackView, back_code};
+
+    ghost Value = { BackView };
+
+    ghost coded = { back_code };
+
+    ghost view = { λ n. record { entity = n.entity; how = n.how } };
+}
+
+/// The slots, and the tags of the step that is performed.
+#[derive(Drop)]
+pub struct Logs {
+    slots: Slots,
+    tags: TagSet,
+}
+
+impl Model for Logs {
+    ghost use Rattle.sk_undo.specs.Logs.{LogsView, logs_code};
+
+    ghost Value = { LogsView };
+
+    ghost coded = { logs_code };
+
+    ghost view = { λ l. record { slots = l.slots; tags = l.tags } };
+}
+
+impl Logs {
+    /// No entity has anything.
+    pub fn new(alloc: Global) -> Logs
+        ensures { result ≡ record { slots = map.empty; tags = [] } }
+    {
+        Logs {
+            slots: Slots::new(alloc),
+            tags: TagSet::new(alloc),
+        }
+    }
+
+    /// What a store has, with nothing noted.
+    pub fn open(store: Store) -> Result<Logs, AllocError>
+        ensures values { IfOk result (λ logs. (e : Entity) → look_at logs.slots e ≡ map.get store e) }
+        ensures logs { IfOk result (λ logs. (e : Entity) → log_at logs.slots e ≡ []) }
+        ensures bare { IfOk result (λ logs. NoneBare logs.slots) }
+        ensures tags { IfOk result (λ logs. logs.tags ≡ []) }
+    {
+        let alloc = store.alloc();
+        let slots = Slots::open(store)?;
+        Ok(Logs {
+            slots,
+            tags: TagSet::new(alloc),
+        })
+    }
+
+    /// The tags of an entity; `None` is as none.
+    pub fn tags(&self, entity: Entity) -> Option<&TagSet>
+        ensures { unwrap_or (option_copied result) [] ≡ last_tags [] (log_at self.now.slots entity) }
+    {
+        self.slots.tags(entity)
+    }
+
+    /// Whether something is noted of an entity.
+    #[tactic(auto, using(crate::proofs::SeenNotes::none_reverse))]
+    pub fn is_noted(&self, entity: Entity) -> bool
+        ensures { result ≡ not (is_empty (log_at self.now.slots entity)) }
+    {
+        self.slots.is_noted(entity)
+    }
+
+    /// The tags of the next step.
+    pub fn set_tags(&mut self, tags: TagSet)
+        ensures { self.new ≡ record { slots = self.old.slots; tags = tags } }
+    {
+        self.tags = tags;
+    }
+
+    /// Takes back what rests on a guess, at the entities of which a note does, in place and without
+    /// memory.
+    pub fn unwind(&mut self, guess: GuessId, entities: &[Entity])
+        requires listed { AreListed guess self.old.slots entities.now }
+        requires grow { AllGrow self.old.slots }
+        ensures slots { Unwound self.old.slots guess self.new.slots }
+        ensures bare { NoneBare self.old.slots → NoneBare self.new.slots }
+        ensures tags { self.new.tags ≡ self.old.tags }
+    {
+        self.slots.unwind(guess, entities);
+    }
+
+    /// Takes a guess out of all notes, at the entities of which a note rests on it, without memory.
+    pub fn commit(&mut self, guess: GuessId, entities: &[Entity])
+        requires listed { AreListed guess self.old.slots entities.now }
+        requires rest { AllRest self.old.slots }
+        requires grow { AllGrow self.old.slots }
+        ensures slots { Lightened self.old.slots guess self.new.slots }
+        ensures bare { NoneBare self.old.slots → NoneBare self.new.slots }
+        ensures tags { self.new.tags ≡ self.old.tags }
+    {
+        self.slots.commit(guess, entities);
+    }
+}
+
+impl Look for Logs {
+    ghost use Rattle.sk_undo.specs.Logs.{look_at};
+
+    ghost look = { λ l. look_at l.slots };
+
+    fn value(&self, entity: Entity) -> Option<&EntityState> {
+        self.slots.value(entity)
+    }
+}
+
+impl Keeper for Logs {
+    ghost use Rattle.sk_undo.specs.Logs.{wrote, can_take_back, taken_back};
+
+    type Back = Back;
+
+    ghost wrote = { wrote };
+
+    ghost can_take_back = { can_take_back };
+
+    ghost taken_back = { taken_back };
+
+    fn memory(&self) -> Global {
+        self.slots.alloc()
+    }
+
+    fn write(&mut self, entity: Entity, stored: EntityState) -> Result<Back, AllocError> {
+        let tags = self.tags.copy()?;
+        let how = self.slots.set(&entity, tags, stored)?;
+        Ok(Back { entity, how })
+    }
+
+    fn change(&mut self, entity: Entity, change: Change) -> Result<Back, AllocError> {
+        let tags = self.tags.copy()?;
+        let how = self.slots.change(&entity, tags, change)?;
+        Ok(Back { entity, how })
+    }
+
+    fn remove(&mut self, entity: Entity) -> Result<(), AllocError> {
+        let tags = self.tags.copy()?;
+        self.slots.clear(&entity, tags)
+    }
+
+    fn take_back(&mut self, back: Back) {
+        let Back { entity, how } = back;
+        self.slots.take_back(&entity, how);
+    }
+}

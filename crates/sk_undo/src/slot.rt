@@ -1,0 +1,233 @@
+//! What an entity has, with its undo log.
+ghost use Rattle.std.specs.Prelude.{◌≡◌, [], OnOk, OnErr, IfOk, Some, None, is_none, true, not, ◌&&◌, reverse};
+ghost use Rattle.std.specs.Option.{option_copied};
+ghost use Rattle.sk_record.specs.Notes.{last_tags, unwound, cut, committed};
+ghost use Rattle.sk_record.specs.UndoState.{IsGrowing};
+ghost use Rattle.sk_store.specs.Changed.{FitsAt, changed};
+ghost use Rattle.sk_undo.specs.Log.{is_empty, seen};
+ghost use Rattle.sk_undo.specs.Slot.{undone, Fits, is_bare, slot_of, slot_wrote, slot_back, CanGoBackOnce};
+
+use crate::{Log, Undoing};
+use sk_changes::{Change, Invertible, Undo};
+use sk_ids::{GuessId, TagSet};
+use sk_store::EntityState;
+use std::alloc::{AllocError, Global};
+use std::marker::Model;
+
+/// What undoes a write.
+#[derive(Drop)]
+pub enum UndoWrite {
+    /// What was there, if anything.
+    Was(Option<EntityState>),
+    Changed(Undo),
+}
+
+impl Undoing for UndoWrite {
+    ghost use Rattle.sk_undo.specs.Slot.{Fits, undone};
+
+    type Of = EntityState;
+
+    ghost fits = { Fits };
+
+    ghost undone = { undone };
+
+    fn undo(self, value: &mut Option<EntityState>) {
+        match self {
+            UndoWrite::Was(before) => *value = before,
+            UndoWrite::Changed(undo) => {
+                if let Some(EntityState::Value(inner)) = value {
+                    inner.undo(undo);
+                }
+            }
+        }
+    }
+}
+
+/// What an entity has, and the writes that can be undone.
+#[derive(Drop)]
+pub struct Slot {
+    value: Option<EntityState>,
+    log: Log<UndoWrite>,
+}
+
+impl Model for Slot {
+    ghost use Rattle.std.specs.Prelude.{reverse};
+    ghost use Rattle.sk_undo.specs.Log.{seen, CanGoBack};
+    ghost use Rattle.sk_undo.specs.Slot.{SlotView, slot_code, Fits, undone};
+
+    ghost Value = { SlotView };
+
+    ghost coded = { slot_code };
+
+    ghost view = { λ s. record { now = s.value; log = seen undone s.value (reverse s.log.notes.items) } };
+
+    ghost invariant = { λ s. CanGoBack Fits undone s.value (reverse s.log.notes.items) };
+}
+
+/// Whether nothing is noted.
+fn is_unnoted(value: &Option<EntityState>, log: &Log<UndoWrite>) -> bool
+    ensures seen { result ≡ is_empty (seen undone value.now (reverse log.now.notes.items)) }
+    ensures none { result ≡ true → log.now.notes.items ≡ [] }
+{
+    log.is_empty()
+}
+
+/// Whether a write is not noted. One without tags is noted where there are older notes, which
+/// would be undone to something else after it.
+fn is_loose(tags: &TagSet, value: &Option<EntityState>, log: &Log<UndoWrite>) -> bool
+    ensures seen { result ≡ (is_empty tags.now && is_empty (seen undone value.now (reverse log.now.notes.items))) }
+    ensures none { result ≡ true → log.now.notes.items ≡ [] }
+{
+    tags.ids().is_empty() && is_unnoted(value, log)
+}
+
+/// Whether there is neither a value nor a note.
+fn is_bare(value: &Option<EntityState>, log: &Log<UndoWrite>) -> bool
+    ensures { result ≡ (is_none value.now && is_empty (seen undone value.now (reverse log.now.notes.items))) }
+{
+    value.is_none() && is_unnoted(value, log)
+}
+
+/// Changes a value in place. Without memory nothing has changed.
+fn change_in(value: &mut Option<EntityState>, change: Change) -> Result<Undo, AllocError>
+    requires { FitsAt value.old change }
+    ensures ok { OnOk result (value.new ≡ Some (changed value.old change)) }
+    ensures can { IfOk result (λ undo. Fits (UndoWrite.Changed undo) value.new) }
+    ensures back { IfOk result (λ undo. undone (UndoWrite.Changed undo) value.new ≡ value.old) }
+    ensures err { OnErr result (value.new ≡ value.old) }
+{
+    match std::mem::replace(value, None) {
+        Some(EntityState::Value(mut inner)) => {
+            let answer = inner.apply(change);
+            *value = Some(EntityState::Value(inner));
+            match answer {
+                Ok(undo) => Ok(undo),
+                Err(_) => Err(AllocError),
+            }
+        }
+        _ => unreachable!(),
+    }
+}
+
+/// The tags of the newest note.
+#[tactic(auto, using(crate::proofs::SeenNotes::tags_seen))]
+fn tags_in<'a>(value: &Option<EntityState>, log: &'a Log<UndoWrite>) -> &'a TagSet
+    ensures { result.now ≡ last_tags [] (reverse (seen undone value.now (reverse log.now.notes.items))) }
+{
+    log.tags()
+}
+
+impl Slot {
+    /// The slot of an entity that has this, of which nothing is noted.
+    pub fn new(alloc: Global, value: Option<EntityState>) -> Slot
+        ensures { result ≡ slot_of value }
+    {
+        Slot {
+            value,
+            log: Log::new(alloc),
+        }
+    }
+
+    pub fn value(&self) -> Option<&EntityState>
+        ensures { option_copied result ≡ self.now.now }
+    {
+        self.value.as_ref()
+    }
+
+    /// Whether something is noted of it.
+    pub fn is_noted(&self) -> bool
+        ensures { result ≡ not (is_empty self.now.log) }
+    {
+        !is_unnoted(&self.value, &self.log)
+    }
+
+    /// Sets what is there, and answers what takes it back where that is not noted.
+    pub fn set(
+        &mut self,
+        tags: TagSet,
+        value: Option<EntityState>,
+    ) -> Result<Option<UndoWrite>, AllocError>
+        ensures ok { OnOk result (self.new ≡ slot_wrote tags self.old value) }
+        ensures can { IfOk result (λ back. CanGoBackOnce self.new back) }
+        ensures back { IfOk result (λ back. slot_back self.new back ≡ self.old) }
+        ensures err { OnErr result (self.new ≡ self.old) }
+    {
+        if is_loose(&tags, &self.value, &self.log) {
+            let before = std::mem::replace(&mut self.value, value);
+            return Ok(Some(UndoWrite::Was(before)));
+        }
+        self.log.reserve()?;
+        let before = std::mem::replace(&mut self.value, value);
+        let undo = UndoWrite::Was(before);
+        self.log.note_reserved(tags, undo);
+        Ok(None)
+    }
+
+    /// Makes the entity absent.
+    pub fn clear(&mut self, tags: TagSet) -> Result<(), AllocError>
+        ensures ok { OnOk result (self.new ≡ slot_wrote tags self.old None) }
+        ensures err { OnErr result (self.new ≡ self.old) }
+    {
+        self.set(tags, None)?;
+        Ok(())
+    }
+
+    /// Changes what is there, and answers what takes it back where that is not noted.
+    pub fn change(&mut self, tags: TagSet, change: Change) -> Result<Option<UndoWrite>, AllocError>
+        requires { FitsAt self.old.now change }
+        ensures ok { OnOk result (self.new ≡ slot_wrote tags self.old (Some (changed self.old.now change))) }
+        ensures can { IfOk result (λ back. CanGoBackOnce self.new back) }
+        ensures back { IfOk result (λ back. slot_back self.new back ≡ self.old) }
+        ensures err { OnErr result (self.new ≡ self.old) }
+    {
+        if is_loose(&tags, &self.value, &self.log) {
+            let undo = change_in(&mut self.value, change)?;
+            return Ok(Some(UndoWrite::Changed(undo)));
+        }
+        self.log.reserve()?;
+        let undo = UndoWrite::Changed(change_in(&mut self.value, change)?);
+        self.log.note_reserved(tags, undo);
+        Ok(None)
+    }
+
+    /// Takes the newest write back, which takes no memory.
+    pub fn take_back(&mut self, back: Option<UndoWrite>)
+        requires { CanGoBackOnce self.old back }
+        ensures { self.new ≡ slot_back self.old back }
+    {
+        match back {
+            Some(undo) => undo.undo(&mut self.value),
+            None => self.log.undo_last(&mut self.value),
+        }
+    }
+
+    /// The tags of the newest note.
+    pub fn tags(&self) -> &TagSet
+        ensures { result.now ≡ last_tags [] (reverse self.now.log) }
+    {
+        tags_in(&self.value, &self.log)
+    }
+
+    /// Whether there is neither a value nor a note.
+    pub fn is_bare(&self) -> bool
+        ensures { result ≡ is_bare self.now }
+    {
+        is_bare(&self.value, &self.log)
+    }
+
+    /// Takes back what rests on the guess, in place and without memory.
+    pub fn unwind(&mut self, guess: GuessId)
+        ensures now { IsGrowing (reverse self.old.log) → self.new.now ≡ unwound guess (reverse self.old.log) self.old.now }
+        ensures log { IsGrowing (reverse self.old.log) → reverse self.new.log ≡ cut guess (reverse self.old.log) }
+    {
+        self.log.unwind(&mut self.value, guess);
+    }
+
+    /// Takes a guess out of all notes, and drops those that then rest on nothing. It takes no memory.
+    pub fn commit(&mut self, guess: GuessId)
+        ensures now { self.new.now ≡ self.old.now }
+        ensures log { IsGrowing (reverse self.old.log) → reverse self.new.log ≡ committed guess (reverse self.old.log) }
+    {
+        self.log.commit(guess);
+    }
+}

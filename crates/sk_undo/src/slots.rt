@@ -1,0 +1,285 @@
+//! All entities with their undo logs, in one map.
+ghost use Rattle.std.specs.Prelude.{◌≡◌, [], false, not, OnOk, OnErr, IfOk, OnSome, IsSome, Some, None};
+ghost use Rattle.std.specs.Option.{option_copied, option_copied_mut, unwrap_or};
+ghost use Rattle.std.specs.FinMap as map;
+ghost use Rattle.std.specs.Borrow.{LendsSo, sem};
+ghost use Rattle.std.specs.Ordering.{eq_by_cmp};
+ghost use Rattle.sk_ids.specs.Entity.{entity_cmp};
+ghost use Rattle.sk_ids.specs.declared.entity.Entity.{Entity};
+ghost use Rattle.sk_record.specs.Notes.{last_tags};
+ghost use Rattle.sk_store.specs.Changed.{FitsAt, changed};
+ghost use Rattle.sk_undo.specs.Log.{is_empty};
+ghost use Rattle.sk_undo.specs.Slot.{slot_of, slot_wrote};
+ghost use Rattle.sk_undo.specs.Logs.{look_at, log_at, slot_in, slots_wrote, slots_back, CanTakeBack};
+ghost use Rattle.sk_undo.specs.Decisions.{ChangedAt, SlotUnwound, SlotCommitted, Unwound, Lightened, AreListed, AllRest, AllGrow, NoneBare};
+ghost use Rattle.sk_undo.specs.contracts.slots.Slots.{the_row as slots_row};
+ghost use Rattle.sk_undo.specs.contracts.slot.Slot.{the_row as slot_row};
+
+use crate::{Slot, UndoWrite};
+use sk_changes::Change;
+use sk_ids::{Entity, GuessId, TagSet};
+use sk_objects::Value;
+use sk_store::{EntityState, Store};
+use std::alloc::{AllocError, Global};
+use std::collections::BTreeMap;
+use std::marker::Model;
+
+/// What takes a write back, at its entity.
+#[derive(Drop)]
+pub enum TakeBack {
+    /// The entity had no slot.
+    DropSlot,
+    UndoLast(Option<UndoWrite>),
+}
+
+/// The slots of entities. One without a slot is absent, and nothing is noted of it.
+#[derive(Drop)]
+pub struct Slots {
+    alloc: Global,
+    slots: BTreeMap<Entity, Slot>,
+}
+
+impl Model for Slots {
+    ghost use Rattle.std.specs.FinMap as map;
+    ghost use Rattle.sk_undo.specs.Logs.{SlotMap, slot_map_code};
+
+    ghost Value = { SlotMap };
+
+    ghost coded = { slot_map_code };
+
+    ghost view = { λ a. map.from_entries a.slots.entries };
+}
+
+/// The slot of an entity that had none.
+fn born(alloc: Global, tags: TagSet, value: Option<EntityState>) -> Result<Slot, AllocError>
+    ensures { IfOk result (λ slot. slot ≡ slot_wrote tags (slot_of None) value) }
+{
+    let mut slot = Slot::new(alloc, None);
+    slot.set(tags, value)?;
+    Ok(slot)
+}
+
+/// Moves what an entity has out of the store, into a slot of which nothing is noted.
+fn move_over(store: &mut Store, slots: &mut Slots, entity: &Entity) -> Result<(), AllocError>
+    requires { IsSome (map.get store.old entity.now) }
+    ensures here { OnOk result (slots.new ≡ map.insert slots.old entity.now (slot_of (map.get store.old entity.now))) }
+    ensures others { (e : Entity) → eq_by_cmp entity_cmp e entity.now ≡ false → map.get store.new e ≡ map.get store.old e }
+{
+    let alloc = slots.alloc();
+    let hole = EntityState::Value(Value::Exit(None));
+    let value = store.replace(*entity, hole);
+    slots.put(*entity, Slot::new(alloc, Some(value)))
+}
+
+impl Slots {
+    pub fn new(alloc: Global) -> Slots
+        ensures { result ≡ map.empty }
+    {
+        Slots {
+            alloc,
+            slots: BTreeMap::new(alloc),
+        }
+    }
+
+    pub fn alloc(&self) -> Global {
+        self.alloc
+    }
+
+    /// What a store has, with nothing noted.
+    pub fn open(mut store: Store) -> Result<Slots, AllocError>
+        ensures values { IfOk result (λ slots. (e : Entity) → look_at slots e ≡ map.get store e) }
+        ensures logs { IfOk result (λ slots. (e : Entity) → log_at slots e ≡ []) }
+        ensures bare { IfOk result (λ slots. NoneBare slots) }
+    {
+        let mut slots = Slots::new(store.alloc());
+        let entities = store.entities()?;
+        for entity in &entities {
+            move_over(&mut store, &mut slots, entity)?;
+        }
+        Ok(slots)
+    }
+
+    fn slot(&self, entity: Entity) -> Option<&Slot>
+        ensures { option_copied result ≡ map.get self.now entity }
+    {
+        self.slots.get(&entity)
+    }
+
+    pub fn value(&self, entity: Entity) -> Option<&EntityState>
+        ensures { option_copied result ≡ look_at self.now entity }
+    {
+        match self.slot(entity) {
+            Some(slot) => slot.value(),
+            None => None,
+        }
+    }
+
+    /// Whether something is noted of an entity.
+    pub fn is_noted(&self, entity: Entity) -> bool
+        ensures { result ≡ not (is_empty (slot_in (map.get self.now entity)).log) }
+    {
+        match self.slot(entity) {
+            Some(slot) => slot.is_noted(),
+            None => false,
+        }
+    }
+
+    /// The tags of an entity, where it has a slot.
+    pub fn tags(&self, entity: Entity) -> Option<&TagSet>
+        ensures { unwrap_or (option_copied result) [] ≡ last_tags [] (log_at self.now entity) }
+    {
+        match self.slot(entity) {
+            Some(slot) => Some(slot.tags()),
+            None => None,
+        }
+    }
+
+    fn slot_mut(&mut self, entity: &Entity) -> Option<&mut Slot>
+        ensures* writes_back { sem 𝓛 (LendsSo slots_row slot_row self.entry result (λ n w. OnSome result (n ≡ map.insert self.old entity.now w)) (λ n. n ≡ self.old)) }
+        ensures value { option_copied_mut result ≡ map.get self.old entity.now }
+    {
+        self.slots.get_mut(entity)
+    }
+
+    fn put(&mut self, entity: Entity, slot: Slot) -> Result<(), AllocError>
+        ensures ok { OnOk result (self.new ≡ map.insert self.old entity slot) }
+        ensures err { OnErr result (self.new ≡ self.old) }
+    {
+        self.slots.insert(entity, slot)?;
+        Ok(())
+    }
+
+    fn remove(&mut self, entity: &Entity)
+        ensures { self.new ≡ map.remove self.old entity.now }
+    {
+        self.slots.remove(entity);
+    }
+
+    /// Sets what an entity has. Without memory nothing has changed.
+    pub fn set(
+        &mut self,
+        entity: &Entity,
+        tags: TagSet,
+        value: EntityState,
+    ) -> Result<TakeBack, AllocError>
+        ensures ok { OnOk result (self.new ≡ slots_wrote tags self.old entity.now (Some value)) }
+        ensures can { IfOk result (λ how. CanTakeBack self.new entity.now how) }
+        ensures back { IfOk result (λ how. slots_back self.new entity.now how ≡ self.old) }
+        ensures err { OnErr result (self.new ≡ self.old) }
+    {
+        if let Some(slot) = self.slot_mut(entity) {
+            let back = slot.set(tags, Some(value))?;
+            return Ok(TakeBack::UndoLast(back));
+        }
+        let slot = born(self.alloc, tags, Some(value))?;
+        self.put(*entity, slot)?;
+        Ok(TakeBack::DropSlot)
+    }
+
+    /// Makes an entity absent. Without memory nothing has changed.
+    pub fn clear(&mut self, entity: &Entity, tags: TagSet) -> Result<(), AllocError>
+        ensures ok { OnOk result (self.new ≡ slots_wrote tags self.old entity.now None) }
+        ensures err { OnErr result (self.new ≡ self.old) }
+    {
+        if let Some(slot) = self.slot_mut(entity) {
+            slot.clear(tags)?;
+            if slot.is_bare() {
+                self.remove(entity);
+            }
+            return Ok(());
+        }
+        if tags.ids().is_empty() {
+            return Ok(());
+        }
+        let slot = born(self.alloc, tags, None)?;
+        self.put(*entity, slot)
+    }
+
+    /// Changes the value of an entity. Without memory nothing has changed.
+    pub fn change(
+        &mut self,
+        entity: &Entity,
+        tags: TagSet,
+        change: Change,
+    ) -> Result<TakeBack, AllocError>
+        requires { FitsAt (look_at self.old entity.now) change }
+        ensures ok { OnOk result (self.new ≡ slots_wrote tags self.old entity.now (Some (changed (look_at self.old entity.now) change))) }
+        ensures can { IfOk result (λ how. CanTakeBack self.new entity.now how) }
+        ensures back { IfOk result (λ how. slots_back self.new entity.now how ≡ self.old) }
+        ensures err { OnErr result (self.new ≡ self.old) }
+    {
+        match self.slot_mut(entity) {
+            Some(slot) => {
+                let back = slot.change(tags, change)?;
+                Ok(TakeBack::UndoLast(back))
+            }
+            None => unreachable!(),
+        }
+    }
+
+    /// Takes the newest write back, which takes no memory.
+    pub fn take_back(&mut self, entity: &Entity, how: TakeBack)
+        requires { CanTakeBack self.old entity.now how }
+        ensures { self.new ≡ slots_back self.old entity.now how }
+    {
+        match how {
+            TakeBack::DropSlot => self.remove(entity),
+            TakeBack::UndoLast(back) => match self.slot_mut(entity) {
+                Some(slot) => slot.take_back(back),
+                None => unreachable!(),
+            },
+        }
+    }
+
+    /// Takes back what rests on a guess at one entity, in place and without memory.
+    fn unwind_at(&mut self, entity: &Entity, guess: GuessId)
+        ensures { ChangedAt (SlotUnwound guess) self.old entity.now self.new }
+    {
+        let Some(slot) = self.slot_mut(entity) else {
+            return;
+        };
+        slot.unwind(guess);
+        if slot.is_bare() {
+            self.remove(entity);
+        }
+    }
+
+    /// Takes back what rests on a guess, at the entities of which a note does, in place and without
+    /// memory.
+    pub fn unwind(&mut self, guess: GuessId, entities: &[Entity])
+        requires listed { AreListed guess self.old entities.now }
+        requires grow { AllGrow self.old }
+        ensures slots { Unwound self.old guess self.new }
+        ensures bare { NoneBare self.old → NoneBare self.new }
+    {
+        for entity in entities {
+            self.unwind_at(entity, guess);
+        }
+    }
+
+    /// Takes a guess out of the notes of one entity, without memory.
+    fn commit_at(&mut self, entity: &Entity, guess: GuessId)
+        ensures { ChangedAt (SlotCommitted guess) self.old entity.now self.new }
+    {
+        let Some(slot) = self.slot_mut(entity) else {
+            return;
+        };
+        slot.commit(guess);
+        if slot.is_bare() {
+            self.remove(entity);
+        }
+    }
+
+    /// Takes a guess out of all notes, at the entities of which a note rests on it, without memory.
+    pub fn commit(&mut self, guess: GuessId, entities: &[Entity])
+        requires listed { AreListed guess self.old entities.now }
+        requires rest { AllRest self.old }
+        requires grow { AllGrow self.old }
+        ensures slots { Lightened self.old guess self.new }
+        ensures bare { NoneBare self.old → NoneBare self.new }
+    {
+        for entity in entities {
+            self.commit_at(entity, guess);
+        }
+    }
+}

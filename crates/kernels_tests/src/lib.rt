@@ -6,4 +6,6 @@ mod ample;
 #[cfg(test)]
 mod kernels;
 #[cfg(test)]
+mod logs;
+#[cfg(test)]
 mod records;

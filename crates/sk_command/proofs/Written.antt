@@ -1,5 +1,5 @@
 -- An output that is written out.
-use Rattle.std.proofs.Common.{ℕ, List, Option}
+use Rattle.std.proofs.Common.{◌≡◌, ℕ, List, Option, IfSome}
 use Rattle.std.specs.Io.KnownBytes.{Appends, Keeps}
 use Rattle.std.proofs.KnownBytes.{Appends-kept}
 use Rattle.sk_command.specs.declared.end.End.{End}
@@ -15,9 +15,9 @@ written_is_flushed ends.Trouble buffer h = tt
 written_is_flushed ends.OutputRefused buffer h = tt
 
 -- help that is written out
-pub help_written : (end : End) (buffer help : List ℕ) (old mid new : Option (List ℕ)) → IsWritten end buffer → Appends old mid help → Keeps mid new → EndsWithHelp end old new
-help_written ends.Done buffer help old mid new h appends kept = (help, Appends-kept old mid new help appends kept)
-help_written ends.Fault buffer help old mid new h appends kept = h
-help_written ends.Usage buffer help old mid new h appends kept = h
-help_written ends.Trouble buffer help old mid new h appends kept = absurd h
-help_written ends.OutputRefused buffer help old mid new h appends kept = tt
+pub help_written : (text : Option (List ℕ)) (end : End) (buffer help : List ℕ) (old mid new : Option (List ℕ)) → IfSome text (λ known. help ≡ known) → IsWritten end buffer → Appends old mid help → Keeps mid new → EndsWithHelp text end old new
+help_written text ends.Done buffer help old mid new known h appends kept = (help, known, Appends-kept old mid new help appends kept)
+help_written text ends.Fault buffer help old mid new known h appends kept = h
+help_written text ends.Usage buffer help old mid new known h appends kept = h
+help_written text ends.Trouble buffer help old mid new known h appends kept = absurd h
+help_written text ends.OutputRefused buffer help old mid new known h appends kept = tt

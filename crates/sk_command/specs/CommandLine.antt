@@ -27,27 +27,37 @@ play_command = with_rule (with_rule (new_app (codes "play")) file_rule) trace_ru
 abbrev pub plain_command : App
 plain_command = with_rule (new_app (codes "plain")) file_rule
 
+abbrev pub replay_command : App
+replay_command = with_rule (new_app (codes "replay")) file_rule
+
 -- one command has to be named, and no other word is one
 abbrev pub wants_command : Shape → Shape
 wants_command s = record s { subcommand_required = true; disable_help_subcommand = true }
 
+-- before it has its commands
+abbrev pub bare_command_line : App
+bare_command_line = on_top wants_command (new_app (codes "speculate"))
+
 abbrev pub command_line : App
-command_line = with_subcommand (with_subcommand (on_top wants_command (new_app (codes "speculate"))) play_command.top) plain_command.top
+command_line = with_subcommand (with_subcommand (with_subcommand bare_command_line play_command.top) plain_command.top) replay_command.top
 
 -- ---- what words ask for
 
--- to play the scenario of a file, with its trace or without, or to run plainly what the trace of a file leaves
+-- to play the scenario of a file, with its trace or without, to run plainly what the trace of a file leaves, or to replay that trace
 pub data Wish : Type 0 where
   Play : Text → Bool → Wish
   Plain : Text → Wish
+  Replay : Text → Wish
 
 abbrev pub wish_file : Wish → Text
 wish_file (Play file trace) = file
 wish_file (Plain file) = file
+wish_file (Replay file) = file
 
 abbrev pub wish_of : Job → Wish
 wish_of (jobs.Play file trace) = Play file.now trace
 wish_of (jobs.Plain file) = Plain file.now
+wish_of (jobs.Replay file) = Replay file.now
 
 -- whether a command was found with this flag
 abbrev pub has_flag : Text → List Row → Bool
@@ -57,7 +67,8 @@ has_flag flag rows = option_map_or (λ value. bytes_eq value (codes "true")) (fi
 abbrev pub wish_for : Text → List Row → Text → Option Wish
 wish_for command rows file =
     if bytes_eq command (codes "play") then Some (Play file (has_flag (codes "trace") rows))
-    else if bytes_eq command (codes "plain") then Some (Plain file) else None
+    else if bytes_eq command (codes "plain") then Some (Plain file)
+    else if bytes_eq command (codes "replay") then Some (Replay file) else None
 
 -- what a command that was found with its words asks for, which name a file
 abbrev pub wish_found : Option (Text × List Row) → Option Wish

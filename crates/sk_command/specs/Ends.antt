@@ -1,5 +1,5 @@
 -- How a run ends, and what its output holds then.
-use Rattle.std.specs.Prelude.{◌≡◌, ℕ, List, [], ⊤, Option}
+use Rattle.std.specs.Prelude.{◌≡◌, ℕ, List, [], ⊤, Option, None, IfSome}
 use Rattle.std.specs.Io.KnownBytes.{Appends, Keeps}
 use Rattle.clap.specs.declared.error.kind.ErrorKind.{ErrorKind}
 use Rattle.clap.specs.declared.error.kind.ErrorKind.TheVariants.{DisplayHelp, DisplayVersion, OutOfMemory}
@@ -44,17 +44,18 @@ IsFlushed ends.OutputRefused buffer = ⊤
 abbrev pub EndsUnwritten : End → End → Option (List ℕ) → Option (List ℕ) → Type 0
 EndsUnwritten wanted end old new = (end ≡ wanted) × Keeps old new
 
--- ends with the help on the output, unless memory ran out or a write was refused
-abbrev pub EndsWithHelp : End → Option (List ℕ) → Option (List ℕ) → Type 0
-EndsWithHelp ends.Done old new = (help : List ℕ) × Appends old new help
-EndsWithHelp ends.Fault old new = ⊥
-EndsWithHelp ends.Usage old new = ⊥
-EndsWithHelp ends.Trouble old new = Keeps old new
-EndsWithHelp ends.OutputRefused old new = ⊤
+-- ends with the help on the output, which is this text where it is known, unless memory ran out or a write was refused
+abbrev pub EndsWithHelp : Option (List ℕ) → End → Option (List ℕ) → Option (List ℕ) → Type 0
+EndsWithHelp text ends.Done old new = (help : List ℕ) × IfSome text (λ known. help ≡ known) × Appends old new help
+EndsWithHelp text ends.Fault old new = ⊥
+EndsWithHelp text ends.Usage old new = ⊥
+EndsWithHelp text ends.Trouble old new = Keeps old new
+EndsWithHelp text ends.OutputRefused old new = ⊤
 
--- ends as the reader of the command line has it: help was asked for, memory ran out, or the words are faulty
+-- Ends as the reader of the command line has it: help was asked for, memory ran out, or the words are faulty. The
+-- reader does not say what its help is.
 abbrev pub EndsFor : ErrorKind → End → Option (List ℕ) → Option (List ℕ) → Type 0
-EndsFor DisplayHelp end old new = EndsWithHelp end old new
-EndsFor DisplayVersion end old new = EndsWithHelp end old new
+EndsFor DisplayHelp end old new = EndsWithHelp None end old new
+EndsFor DisplayVersion end old new = EndsWithHelp None end old new
 EndsFor OutOfMemory end old new = EndsUnwritten ends.Trouble end old new
 EndsFor kind end old new = EndsUnwritten ends.Usage end old new

@@ -4,6 +4,7 @@ ghost use Rattle.std.specs.Io.KnownBytes.{Keeps};
 ghost use Rattle.std.specs.Io.Buffered.{writer_buffer, writer_contents};
 ghost use Rattle.sk_command.specs.Ends.{status_of, fault_end, IsWritten};
 
+use crate::message::{Message, write_message};
 use crate::read_all::ReadFault;
 use sk_words::{Fault, FaultKind};
 use std::io::{BufWriter, Write};
@@ -52,8 +53,9 @@ pub fn flushed<W: Write + Drop>(out: &mut BufWriter<W>) -> End
 pub fn tell_fault<E: Write>(fault: &Fault, err: &mut E) -> End
     ensures { result ≡ fault_end fault.now.kind }
 {
-    let _ = writeln!(err, "speculate: {fault}");
-    match fault.kind {
+    let Fault { line, kind } = *fault;
+    let _ = write_message(&Message::Fault { line, kind }, err);
+    match kind {
         FaultKind::Memory => End::Trouble,
         _ => End::Fault,
     }
@@ -63,7 +65,7 @@ pub fn tell_fault<E: Write>(fault: &Fault, err: &mut E) -> End
 pub fn tell_wrong_section<E: Write>(err: &mut E) -> End
     ensures { result ≡ End.Fault }
 {
-    let _ = writeln!(err, "speculate: wrong section");
+    let _ = write_message(&Message::WrongSection, err);
     End::Fault
 }
 
@@ -71,7 +73,7 @@ pub fn tell_wrong_section<E: Write>(err: &mut E) -> End
 pub fn tell_entry<E: Write>(number: usize, err: &mut E) -> End
     ensures { result ≡ End.Fault }
 {
-    let _ = writeln!(err, "speculate: trace entry {number} refused");
+    let _ = write_message(&Message::Entry(number), err);
     End::Fault
 }
 
@@ -80,7 +82,7 @@ pub fn tell_unread<E: Write>(fault: ReadFault, file: &str, err: &mut E) -> End
     ensures { result ≡ End.Trouble }
 {
     if fault != ReadFault::Memory {
-        let _ = writeln!(err, "speculate: cannot read {file}");
+        let _ = write_message(&Message::Unread(file), err);
     }
     End::Trouble
 }

@@ -7,13 +7,14 @@ ghost use Rattle.clap.specs.Simple.{app_of, subcommand_rows_of};
 ghost use Rattle.clap.specs.Values.{kind_of};
 ghost use Rattle.clap.specs.Walk.{rows_of, rule_of};
 ghost use Rattle.clap.specs.declared.builder.command.Command.TheViews.{out-Command as fields_of};
-ghost use Rattle.sk_command.specs.CommandLine.{command_line, play_command, plain_command, file_rule, trace_rule, has_flag, wish_of, wish_found, wished, faults_of, wish_file};
+ghost use Rattle.sk_command.specs.CommandLine.{bare_command_line, command_line, play_command, plain_command, replay_command, file_rule, trace_rule, has_flag, wish_of, wish_found, wished, faults_of, wish_file};
 ghost use Rattle.sk_command.specs.Ends.{EndsFor, EndsWithHelp, IsFlushed};
 
 use crate::end::{End, flushed};
 use clap::error::ErrorKind;
 use clap::{Arg, ArgAction, ArgMatches, Command, Error};
 use std::alloc::{AllocError, Global};
+use std::fmt;
 use std::io::{BufWriter, Write};
 
 /// What the words ask for, with the name of the input; `-` is standard input.
@@ -23,6 +24,8 @@ pub enum Job<'a> {
     Play { file: &'a str, trace: bool },
     /// What a trace leaves is run without guesses.
     Plain { file: &'a str },
+    /// A trace is taken anew by a kernel.
+    Replay { file: &'a str },
 }
 
 impl<'a> Job<'a> {
@@ -31,7 +34,7 @@ impl<'a> Job<'a> {
         ensures { result.now ≡ wish_file (wish_of self.entry) }
     {
         match self {
-            Job::Play { file, .. } | Job::Plain { file } => file,
+            Job::Play { file, .. } | Job::Plain { file } | Job::Replay { file } => file,
         }
     }
 }
@@ -40,6 +43,8 @@ const PLAY_HELP: &str = "Runs the steps of a scenario and prints each answer, an
 
 const PLAIN_HELP: &str =
     "Strikes a trace, runs what it leaves without guesses and prints the report.";
+
+const REPLAY_HELP: &str = "Takes the events of a trace anew and prints the report.";
 
 const FORMS: &str = "A scenario is a text of lines. First come the declarations:
   script NAME .. end    a script, an instruction or label per line
@@ -55,7 +60,7 @@ For `play` then comes the line `steps`, and below it an event per line:
   guess PID INPUT       the process takes a step on a guessed input
   commit G              the guess was right
   fail G                the guess was wrong
-For `plain` then comes the line `trace`, and below it what happened:
+For `plain` and `replay` then comes the line `trace`, and below it what happened:
   step PID INPUT        the process took a step
   guess G PID INPUT     the process took a step on a guessed input
   commit G              the guess was right
@@ -107,16 +112,34 @@ fn plain<'a>(alloc: Global) -> Result<Command<'a>, AllocError>
         .arg(file_arg(alloc))
 }
 
-fn command<'a>(alloc: Global) -> Result<Command<'a>, AllocError>
-    ensures { IfOk result (λ command. app_of command ≡ command_line) }
+fn replay<'a>(alloc: Global) -> Result<Command<'a>, AllocError>
+    ensures app { IfOk result (λ command. app_of command ≡ replay_command) }
+    ensures local { IfOk result (λ command. (fields_of command).has_globals ≡ false) }
+{
+    Command::new(alloc, "replay")
+        .about(REPLAY_HELP)
+        .after_help(FORMS)
+        .arg(file_arg(alloc))
+}
+
+/// The command line without its commands, one of which has to be named.
+fn without_commands<'a>(alloc: Global) -> Command<'a>
+    ensures { app_of result ≡ bare_command_line }
 {
     Command::new(alloc, "speculate")
         .about("A kernel that runs ahead on guesses, and takes back what a wrong one touched.")
         .after_help(FORMS)
         .subcommand_required(true)
         .disable_help_subcommand(true)
+}
+
+fn command<'a>(alloc: Global) -> Result<Command<'a>, AllocError>
+    ensures { IfOk result (λ command. app_of command ≡ command_line) }
+{
+    without_commands(alloc)
         .subcommand(play(alloc)?)?
-        .subcommand(plain(alloc)?)
+        .subcommand(plain(alloc)?)?
+        .subcommand(replay(alloc)?)
 }
 
 /// Whether a command has this flag among its words.
@@ -141,6 +164,7 @@ fn job_of<'a>(matches: &ArgMatches<'a>) -> Option<Job<'a>>
             trace: has_flag(words, "trace"),
         }),
         "plain" => Some(Job::Plain { file }),
+        "replay" => Some(Job::Replay { file }),
         _ => None,
     }
 }
@@ -182,15 +206,19 @@ pub fn explain<W: Write + Drop, E: Write>(
 }
 
 /// Prints the help.
-fn print_help<W: Write + Drop>(alloc: Global, error: &Error, out: &mut BufWriter<W>) -> End
-    ensures end { EndsWithHelp result
+fn print_help<H: fmt::Display, W: Write + Drop>(
+    alloc: Global,
+    help: &H,
+    out: &mut BufWriter<W>,
+) -> End
+    ensures end { EndsWithHelp (H.output help.now) result
         (writer_contents W.contents out.old) (writer_contents W.contents out.new) }
     ensures flushed { IsFlushed result (writer_buffer out.new) }
 {
-    let Ok(help) = format!(in alloc; "{error}") else {
+    let Ok(text) = format!(in alloc; "{help}") else {
         return End::Trouble;
     };
-    match out.write_all(help.as_bytes()) {
+    match out.write_all(text.as_bytes()) {
         Ok(()) => flushed(out),
         Err(_) => End::OutputRefused,
     }

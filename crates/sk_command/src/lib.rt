@@ -4,5 +4,6 @@
 
 pub mod end;
 pub mod job;
+pub mod message;
 pub mod open_input;
 pub mod read_all;

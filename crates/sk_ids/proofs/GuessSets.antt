@@ -1,7 +1,7 @@
 -- Lists of guesses that rise: what a filter, and a sort without repeats, leave of them.
 use Rattle.std.proofs.Common.{◌≡◌, ℕ, Bool, true, false, ◌||◌, eqb, List, [], ◌∷◌, ◌++◌, arith, refl, sym, ◌∙◌, subst}
 use Rattle.std.specs.Ordering.{nat_cmp}
-use Rattle.std.specs.Cmp.{nat_eq_equiv}
+use Rattle.std.specs.Cmp.{both_ways, nat_eq_equiv}
 use Rattle.std.specs.List.{list_any, filter, dedup}
 use Rattle.std.specs.List.Retain.{RetainsInTurn}
 use Rattle.std.specs.List.Sorted.{IsStrictlySortedBy, IsPermutation}
@@ -28,19 +28,14 @@ filtered_in_turn R test s h (x ∷ xs) ys (b, t, y, step, zs, later, is) =
     let rest : zs ≡ filter test xs = filtered_in_turn R test s h xs zs (subst (λ u. RetainsInTurn R u xs zs) says.1 later) in
     is ∙ rw (says.0, says.2, rest)
 
-either_way : (a b : Bool) → (a ≡ true → b ≡ true) → (b ≡ true → a ≡ true) → a ≡ b
-either_way true b f g = sym (f refl)
-either_way false true f g = g refl
-either_way false false f g = refl
-
 -- a list without repeats has the same members
 any_deduped : (q : ℕ) (xs : List ℕ) → list_any (eqb q) (dedup eqb xs) ≡ list_any (eqb q) xs
-any_deduped q xs = either_way _ _
+any_deduped q xs = both_ways _ _
     (λ e. list_any-from_Contains nat_eq_equiv q xs (Contains-from_dedup eqb xs q (Contains-from_any eqb-true q (dedup eqb xs) e)))
     (λ e. list_any-from_Contains nat_eq_equiv q (dedup eqb xs) (Contains-dedup_nat xs q (Contains-from_any eqb-true q xs e)))
 
 same_test : (x q : ℕ) → eqb x q ≡ eqb q x
-same_test x q = either_way _ _ (λ e. eq-eqb q x (sym (eqb-true x q e))) (λ e. eq-eqb x q (sym (eqb-true q x e)))
+same_test x q = both_ways _ _ (λ e. eq-eqb q x (sym (eqb-true x q e))) (λ e. eq-eqb x q (sym (eqb-true q x e)))
 
 turned : (q : ℕ) (xs : List ℕ) → has q xs ≡ list_any (eqb q) xs
 turned q [] = refl

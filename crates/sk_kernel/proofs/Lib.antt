@@ -1,2 +1,8 @@
-pub mod Wholes
+pub mod Keys
+pub mod Clear
+pub mod Numbers
 pub mod Unwritten
+pub mod Whole
+pub mod Tokens
+pub mod Refusals
+pub mod Lawful

@@ -1,73 +1,72 @@
--- What is not written stays, and what was decided leaves no tags: from what writes do to look-ups and to the list of what was written.
-use Rattle.std.proofs.Common.{◌≡◌, Bool, true, false, cond, ◌||◌, List, [], ◌∷◌, map, Option, Some, None, Ok, refl, sym, ◌∙◌, ap}
-use Rattle.std.specs.Ordering.{eq_by_cmp}
-use Rattle.std.specs.FinMap.{get}
-use Rattle.std.proofs.lemmas.Bool.{or_parts}
+-- What an accepted step does not write keeps its value and its tags; and a failed guess is no tag.
+use Rattle.std.proofs.Common.{◌≡◌, ℕ, false, List, [], ◌∷◌, ◌++◌, map, Ok, refl, sym, ◌∙◌, ap}
+use Rattle.std.specs.Cmp.{IsTotalOrder}
+use Rattle.std.specs.FinMap.{FinMap, get, IsAntisymmetric}
+use Rattle.std.proofs.lemmas.Bool.{false_from_ne_true}
+use Rattle.std.proofs.lemmas.List.{append-nil}
+use Rattle.std.proofs.lemmas.List.Elements.{Contains-push}
 use Rattle.sk_record.specs.Step.{Effect}
 use Rattle.sk_record.specs.Effects.{is_in}
-use Rattle.sk_ids.specs.Entity.{entity_cmp}
-use Rattle.sk_ids.specs.declared.entity.Entity.{Entity}
-use Rattle.sk_ids.proofs.Entities.{entity_total}
-use Rattle.sk_trace.specs.Entry.{EntryView}
-use Rattle.sk_plain.specs.Act.{Saying}
-use Rattle.sk_store.specs.declared.entity_state.EntityState.{EntityState}
-use Rattle.sk_trace.specs.declared.event.Event.TheVariants as events
-use Rattle.sk_kernel.specs.Open.{OpenView}
-use Rattle.sk_undo.specs.Journal.{Written, wrote}
-use Rattle.sk_plain.specs.Planned.{wrote_all}
-use Rattle.sk_record.specs.Run.{put}
-use Rattle.sk_record.proofs.Sets.{get-put}
-use Rattle.sk_kernel.specs.Kernel.{KernelView, effect_at, done, settled, stepped, tags_at, pending_tags}
+use Rattle.sk_record.specs.Run.{System, marked_effect, outcome, run}
+use Rattle.sk_record.specs.Notes.{has, noted, last_tags}
+use Rattle.sk_record.specs.declared.status.Status.TheVariants.{Undecided}
+use Rattle.sk_record.specs.Trace.{Event, Taken, Fail, StatusIs, IsTagOf, IsAllowed, IsSound, record_of, all_recorded, no_record, deps}
+use Rattle.sk_record.specs.UndoState.{step_tags, tags_at}
+use Rattle.sk_record.specs.Machine.{Machine, RepresentsTrace, took_by, machine_after}
+use Rattle.sk_record.proofs.Headline.{same_outcome, stands_taken, machine_stands, plain_run}
+use Rattle.sk_record.proofs.Sound.{sound_fail}
+use Rattle.sk_record.proofs.Tidy.{tags_are}
+use Rattle.sk_record.proofs.Values.{written_other}
 
-abbrev Writes : Type 0
-Writes = List (Entity × Option EntityState)
+module _ {E V W F N : Type 0} (K : System E V W F N) (total : IsTotalOrder K.order) (exact : IsAntisymmetric K.order) (start : FinMap K.order V) where
+  -- the tags of an entity, computed on the trace
+  abbrev computed : List (Event N) → E → List ℕ
+  computed es e = deps K start (all_recorded K start no_record es) e
 
--- the look-up of what is not written
-pub get-wrote_all : (w : Written) (ws : Writes) (e : Entity) → is_in entity_cmp (map (λ x. x.0) ws) e ≡ false → get (wrote_all wrote ws w).now e ≡ get w.now e
-get-wrote_all w [] e out = refl
-get-wrote_all w (x ∷ xs) e out =
-    let parts = or_parts _ _ out in
-    get-wrote_all (wrote w x.0 x.1) xs e parts.1
-    ∙ get-put entity_total w.now x.0 x.1 e
-    ∙ ap (λ b. cond b x.1 (get w.now e)) parts.0
+  computed_are : (es : List (Event N)) (m : Machine E V W) → RepresentsTrace K start es m → (e : E) → tags_at m.state e ≡ computed es e
+  computed_are es m stands e = tags_are K total exact start (all_recorded K start no_record es) m.state stands.state e
 
--- and whether it was written
-pub is_in-wrote_all : (w : Written) (ws : Writes) (e : Entity) → is_in entity_cmp (map (λ x. x.0) ws) e ≡ false → is_in entity_cmp (wrote_all wrote ws w).entities e ≡ is_in entity_cmp w.entities e
-is_in-wrote_all w [] e out = refl
-is_in-wrote_all w (x ∷ xs) e out =
-    let parts = or_parts _ _ out in
-    is_in-wrote_all (wrote w x.0 x.1) xs e parts.1 ∙ ap (λ b. b || is_in entity_cmp w.entities e) parts.0
+  module _ (es : List (Event N)) (n : N) (f : Effect E V W) (sound : IsSound K start es) (allowed : IsAllowed K start es (Taken n))
+      (accepted : outcome K (run K start (record_of K start es)) n ≡ Ok f) where
+    abbrev before : Machine E V W
+    before = machine_after K start es
 
-now_settled : (p : Option OpenView) (w : Written) (e : Entity) → get (settled p w).now e ≡ get w.now e
-now_settled None w e = refl
-now_settled (Some o) w e = refl
+    abbrev after : Machine E V W
+    after = took_by K before n (Ok f)
 
-none_either_way : (b : Bool) → cond b (pending_tags None) [] ≡ []
-none_either_way true = refl
-none_either_way false = refl
+    stands : RepresentsTrace K start es before
+    stands = machine_stands K total exact start es sound
 
-tags_settled : (p : Option OpenView) (w : Written) (e : Entity) → cond (is_in entity_cmp (settled p w).entities e) (pending_tags p) [] ≡ cond (is_in entity_cmp w.entities e) (pending_tags p) []
-tags_settled None w e = sym (none_either_way (is_in entity_cmp w.entities e))
-tags_settled (Some o) w e = refl
+    taken : RepresentsTrace K start (es ++ Taken n ∷ []) after
+    taken = stands_taken K total exact start es before n after stands allowed
+        (record {
+          state = record { effect = f; accepted = same_outcome K total exact start es before stands n ∙ accepted; look = λ e. refl; logs = λ e. refl; opens = refl };
+          status = λ g. refl;
+          texts = λ t. refl;
+        })
 
-pub value_stays : (k : KernelView) (n : EntryView) (f : Effect Entity EntityState Saying) (e : Entity) → effect_at k n ≡ Ok f → is_in entity_cmp (map (λ w. w.0) f.written) e ≡ false
-    → get (stepped k n).written.now e ≡ get k.written.now e
-value_stays k n f e is out =
-    ap (λ r. get (done k (events.Step n.pid n.input) r).written.now e) is
-    ∙ now_settled k.pending (wrote_all wrote f.written k.written) e
-    ∙ get-wrote_all k.written f.written e out
+    pub value_stays : (e : E) → is_in K.order (map (λ w. w.0) f.written) e ≡ false
+        → get (run K start (record_of K start (es ++ Taken n ∷ []))) e ≡ get (run K start (record_of K start es)) e
+    value_stays e out =
+        sym ((plain_run K total exact start (es ++ Taken n ∷ []) after taken).values e)
+        ∙ written_other K.order f.written e (before.state.look e) out
+        ∙ (plain_run K total exact start es before stands).values e
 
-pub tags_stay : (k : KernelView) (n : EntryView) (f : Effect Entity EntityState Saying) (e : Entity) → effect_at k n ≡ Ok f → is_in entity_cmp (map (λ w. w.0) f.written) e ≡ false
-    → tags_at (stepped k n) e ≡ tags_at k e
-tags_stay k n f e is out =
-    ap (λ r. tags_at (done k (events.Step n.pid n.input) r) e) is
-    ∙ tags_settled k.pending (wrote_all wrote f.written k.written) e
-    ∙ ap (λ b. cond b (pending_tags k.pending) []) (is_in-wrote_all k.written f.written e out)
+    pub tags_stay : (e : E) → is_in K.order (map (λ w. w.0) f.written) e ≡ false → computed (es ++ Taken n ∷ []) e ≡ computed es e
+    tags_stay e out =
+        sym (computed_are (es ++ Taken n ∷ []) after taken e)
+        ∙ ap (λ b. last_tags [] (before.state.logs e ++ noted b (step_tags before.state (marked_effect K (K.mark n) (Ok f))) (before.state.look e) [])) out
+        ∙ ap (last_tags []) (append-nil (before.state.logs e))
+        ∙ computed_are es before stands e
 
-none_tagged : (b : Bool) (p : Option OpenView) → p ≡ None → cond b (pending_tags p) [] ≡ []
-none_tagged true p is = ap pending_tags is
-none_tagged false p is = refl
+  module _ (es : List (Event N)) (g : ℕ) where
+    -- a guess that has failed is not undecided
+    pub none_rests : (e : E) → IsTagOf K start (es ++ Fail g ∷ []) e g → ⊥
+    none_rests e is = is.0.1 (Contains-push es (Fail g))
 
--- with no guess pending nothing is tagged
-pub untagged : (k : KernelView) (e : Entity) → k.pending ≡ None → tags_at k e ≡ []
-untagged k e is = none_tagged (is_in entity_cmp k.written.entities e) k.pending is
+    pub none_tagged : IsSound K start es → StatusIs K start es g Undecided → (e : E) → has g (computed (es ++ Fail g ∷ []) e) ≡ false
+    none_tagged sound undecided e =
+        let after = es ++ Fail g ∷ [] in
+        let stands_after = machine_stands K total exact start after (sound_fail K start total exact es g sound undecided) in
+        let m = machine_after K start after in
+        false_from_ne_true (has g (computed after e)) (λ here. none_rests e (((plain_run K total exact start after m stands_after).tags e g).0 (ap (has g) (computed_are after m stands_after e) ∙ here)))

@@ -1,54 +1,80 @@
 -- What the kernel's calls answer.
-use Rattle.std.specs.Prelude.{◌≡◌, ℕ, Option, Some, None, Result, Ok, Err}
+use Rattle.std.specs.Prelude.{◌≡◌, ℕ, ◌<◌, List, map, Option, Some, None, Result, Ok, Err}
+use Rattle.sk_record.specs.declared.status.Status.TheVariants.{Undecided, Struck}
+use Rattle.sk_record.specs.Machine.{released}
+use Rattle.sk_record.specs.Trace.{IsDrawn}
+use Rattle.sk_record.specs.Release.{IsReleased}
 use Rattle.sk_guesses.specs.Token.{Token}
-use Rattle.sk_guesses.specs.Guesses.{next_of}
-use Rattle.sk_guesses.specs.Calls.{redeemed}
-use Rattle.sk_guesses.specs.declared.guess.Redeemed.TheVariants as redeemed_as
-use Rattle.sk_store.specs.declared.entity_state.EntityState.{EntityState}
-use Rattle.sk_plain.specs.declared.view.View.{View}
-use Rattle.sk_plain.specs.declared.refusal.Refusal.{Refusal}
-use Rattle.sk_plain.specs.declared.refusal.Refusal.TheVariants.{NoProcess, Ended, Mismatch, NeedsReply, Blocked, TooMany, TraceFull, Memory}
-use Rattle.std.specs.FinMap as map
-use Rattle.sk_record.specs.Step.{perform}
+use Rattle.sk_terminal.specs.Terminal.{TaggedText}
+use Rattle.sk_machine.specs.Parts.{said_at}
 use Rattle.sk_script.specs.declared.instruction.Input.{Input}
-use Rattle.sk_plain.specs.Refusal.{cause}
-use Rattle.sk_plain.specs.Act.{act}
-use Rattle.sk_plain.specs.Planned.{effect_of, CanDo, said_by}
+use Rattle.sk_trace.specs.declared.event.Event.{Event}
+use Rattle.sk_trace.specs.declared.event.Event.TheVariants as events
+use Rattle.sk_record.specs.Step.{perform}
+use Rattle.sk_ids.specs.declared.entity.Entity.{Entity}
+use Rattle.sk_script.specs.Scripts.{ScriptMap}
+use Rattle.sk_store.specs.declared.entity_state.EntityState.{EntityState}
+use Rattle.sk_plain.specs.Act.{plain, act}
+use Rattle.sk_plain.specs.Planned.{effect_of, CanDo, IsBeside}
 use Rattle.sk_plain.specs.declared.plan.Plan.{Plan}
-use Rattle.sk_kernel.specs.Kernel.{KernelView, guess_misfits, IsCommitted, IsFailed}
+use Rattle.sk_plain.specs.Refusal.{cause}
+use Rattle.sk_plain.specs.declared.refusal.Refusal.{Refusal}
+use Rattle.sk_kernel.specs.Kernel.{KernelView, HasStatus, events_of, texts_at, next_guess, with_event, guess_misfits}
 use Rattle.sk_kernel.specs.declared.kernel.Outcome.{Outcome}
 use Rattle.sk_kernel.specs.declared.kernel.Outcome.TheVariants as outcomes
 use Rattle.sk_kernel.specs.declared.kernel.Stranger.{Stranger}
 use Rattle.sk_kernel.specs.declared.kernel.FailRefusal.{FailRefusal}
 use Rattle.sk_kernel.specs.declared.kernel.FailRefusal.TheVariants as refusals
 
--- a step is taken where no cause stands against it; a refusal tells the first cause, and changes nothing
-abbrev pub StepPost : Result (Unit {0}) Refusal → Option Refusal → KernelView → KernelView → KernelView → Type 0
-StepPost (Ok u) refused old after new = (refused ≡ None) × (new ≡ after)
-StepPost (Err why) refused old after new = (refused ≡ cause why) × (new ≡ old)
+-- a step is taken where no cause stands against it, and one event is appended; a refusal tells the first cause, and changes nothing
+abbrev pub StepPost : Result (Unit {0}) Refusal → Option Refusal → Event → KernelView → KernelView → Type 0
+StepPost (Ok u) refused event old new = (refused ≡ None) × (new ≡ with_event old event)
+StepPost (Err why) refused event old new = (refused ≡ cause why) × (new ≡ old)
+
+-- the number of the guess that is drawn is above each that was drawn before, and the guess is undecided
+pub record IsNew (old new : KernelView) : Type 0 where
+  pub above : (h : ℕ) → IsDrawn (plain old.scripts) (events_of old) h → h < next_guess old
+  pub undecided : HasStatus new (next_guess old) Undecided
 
 -- the same for a guess, whose token is of this kernel and of the next number
-abbrev pub GuessPost : Result Token Refusal → Option Refusal → KernelView → KernelView → KernelView → Type 0
-GuessPost (Ok token) refused old after new = (refused ≡ None) × (token ≡ record { kernel = old.guesses.kernel; id = next_of old.guesses }) × (new ≡ after)
-GuessPost (Err why) refused old after new = (refused ≡ cause why) × (new ≡ old)
+abbrev pub GuessPost : Result Token Refusal → Option Refusal → ℕ → Input → KernelView → KernelView → Type 0
+GuessPost (Ok token) refused pid input old new =
+    (refused ≡ None) × (token ≡ record { kernel = old.number; id = next_guess old }) × (new ≡ with_event old (events.Guess (next_guess old) pid input)) × IsNew old new
+GuessPost (Err why) refused pid input old new = (refused ≡ cause why) × (new ≡ old)
 
 -- the plan of a guess with an input, or why it does not fit
-abbrev pub PlansGuess : KernelView → ℕ → Input → Result Plan Refusal → Type 0
-PlansGuess k pid input (Ok plan) =
-    let does = perform (map.get k.written.now) (act k.scripts pid input) in
-    (does ≡ Ok (effect_of (map.get k.written.now) pid input plan)) × (guess_misfits input does ≡ None)
-    × CanDo (map.get k.written.now) plan.beside × (said_by plan ≡ None)
-PlansGuess k pid input (Err why) = (guess_misfits input (perform (map.get k.written.now) (act k.scripts pid input)) ≡ Some why) × (cause why ≡ Some why)
+abbrev pub PlansGuess : (Entity → Option EntityState) → ScriptMap → ℕ → Input → Result Plan Refusal → Type 0
+PlansGuess look scripts pid input (Ok plan) =
+    (perform look (act scripts pid input) ≡ Ok (effect_of look pid input plan)) × (guess_misfits input (perform look (act scripts pid input)) ≡ None)
+    × CanDo look plan.beside × IsBeside pid plan.beside
+PlansGuess look scripts pid input (Err why) = (guess_misfits input (perform look (act scripts pid input)) ≡ Some why) × (cause why ≡ Some why)
 
--- a commit of a token: it is spent where its guess is undecided or struck, and comes back where it is a stranger
+-- a token that is another kernel's, or whose guess is decided
+abbrev pub IsStranger : KernelView → Token → Type 0
+IsStranger k token = token.kernel ≡ k.number → (HasStatus k token.id Undecided → ⊥) × (HasStatus k token.id Struck → ⊥)
+
+-- a decision of a token that is no stranger: its guess is undecided, and one event is appended, or it is struck, and nothing changes
+abbrev pub DecisionPost : Outcome → Token → Event → KernelView → KernelView → Type 0
+DecisionPost outcomes.Done token event old new = (token.kernel ≡ old.number) × HasStatus old token.id Undecided × (new ≡ with_event old event)
+DecisionPost outcomes.Gone token event old new = (token.kernel ≡ old.number) × HasStatus old token.id Struck × (new ≡ old)
+
+-- a commit, where a stranger comes back
 abbrev pub CommitPost : Result Outcome Stranger → Token → KernelView → KernelView → Type 0
-CommitPost (Ok outcomes.Done) token old new = (redeemed old.guesses token ≡ Ok (redeemed_as.Undecided token.id)) × IsCommitted old token.id new
-CommitPost (Ok outcomes.Gone) token old new = (redeemed old.guesses token ≡ Ok (redeemed_as.Struck token.id)) × (new ≡ old)
-CommitPost (Err stranger) token old new = (redeemed old.guesses token ≡ Err token) × (stranger.guess ≡ token) × (new ≡ old)
+CommitPost (Ok outcome) token old new = DecisionPost outcome token (events.Commit token.id) old new
+CommitPost (Err stranger) token old new = IsStranger old token × (stranger.guess ≡ token) × (new ≡ old)
 
--- a failure of a token, which takes no memory
+-- a failure, which takes no memory
 abbrev pub FailPost : Result Outcome FailRefusal → Token → KernelView → KernelView → Type 0
-FailPost (Ok outcomes.Done) token old new = (redeemed old.guesses token ≡ Ok (redeemed_as.Undecided token.id)) × IsFailed old token.id new
-FailPost (Ok outcomes.Gone) token old new = (redeemed old.guesses token ≡ Ok (redeemed_as.Struck token.id)) × (new ≡ old)
-FailPost (Err (refusals.Stranger guess)) token old new = (redeemed old.guesses token ≡ Err token) × (guess ≡ token) × (new ≡ old)
+FailPost (Ok outcome) token old new = DecisionPost outcome token (events.Fail token.id) old new
+FailPost (Err (refusals.Stranger guess)) token old new = IsStranger old token × (guess ≡ token) × (new ≡ old)
 FailPost (Err (refusals.Memory guess)) token old new = ⊥
+
+-- the texts of a terminal: those said to it, with what they depend on, of which the longest prefix that depends on no undecided guess is released
+pub record ShowsTerminal (k : KernelView) (t : ℕ) (texts : List TaggedText) : Type 0 where
+  pub said : said_at t texts ≡ texts_at k t
+  pub released : IsReleased (plain k.scripts) k.start (events_of k) t (released (said_at t texts))
+
+-- the texts that a shut kernel leaves for a terminal: all that was said to it by the steps that count, and all of it is released
+pub record LeavesTexts (k : KernelView) (t : ℕ) (texts : List (List ℕ)) : Type 0 where
+  pub all : map (λ text. record { to = t; text = text }) texts ≡ map (λ said. said.0) (texts_at k t)
+  pub released : IsReleased (plain k.scripts) k.start (events_of k) t (map (λ text. record { to = t; text = text }) texts)

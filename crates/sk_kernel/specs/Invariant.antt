@@ -1,26 +1,14 @@
 -- What holds of the parts of a kernel between its calls.
-use Rattle.std.specs.Prelude.{◌≡◌, ℕ, ◌≤◌, Option, Some, None}
-use Rattle.sk_guesses.specs.Guesses.{GuessesView, status_of}
-use Rattle.sk_record.specs.declared.status.Status.TheVariants.{Undecided}
-use Rattle.sk_kernel.specs.Open.{OpenView}
-use Rattle.sk_undo.specs.Journal.{Written, written_over}
+use Rattle.std.specs.Prelude.{◌≡◌, ℕ, ◌≤◌, length}
+use Rattle.sk_record.specs.Machine.{RepresentsTrace}
+use Rattle.sk_machine.specs.Parts.{Parts, machine_of}
+use Rattle.sk_plain.specs.Act.{plain}
+use Rattle.sk_kernel.specs.Kernel.{KernelView, events_of, last_guess}
 
--- the pending guess is the one that is undecided
-abbrev pub IsTheUndecided : GuessesView → Option OpenView → Type 0
-IsTheUndecided g None = (id : ℕ) → status_of g id ≡ Some Undecided → ⊥
-IsTheUndecided g (Some o) = (status_of g o.id ≡ Some Undecided) × ((id : ℕ) → status_of g id ≡ Some Undecided → id ≡ o.id)
-
--- with no guess pending there is nothing to put back
-abbrev pub NotesFor : Option OpenView → Written → Type 0
-NotesFor None w = w ≡ written_over w.now
-NotesFor (Some o) w = Unit {0}
-
--- a place of the trace is kept for the decision
-abbrev pub KeepsPlace : Option OpenView → ℕ → Type 0
-KeepsPlace None room = Unit {0}
-KeepsPlace (Some o) room = 1 ≤ room
-
-pub record IsWhole (guesses : GuessesView) (pending : Option OpenView) (written : Written) (room : ℕ) : Type 0 where
-  pub undecided : IsTheUndecided guesses pending
-  pub notes : NotesFor pending written
-  pub place : KeepsPlace pending room
+pub record IsWhole (k : KernelView) (m : Parts) (room : ℕ) : Type 0 where
+  -- values, logs, open guesses, statuses and texts are what the trace comes to
+  pub stands : RepresentsTrace (plain k.scripts) k.start (events_of k) (machine_of m)
+  pub number : m.guesses.kernel ≡ k.number
+  pub drawn : length m.guesses.statuses ≡ last_guess k.trace
+  -- a place of the trace is kept for the decision of each open guess
+  pub place : length m.opens ≤ room

@@ -1,4 +1,4 @@
-pub mod Open
 pub mod Kernel
-pub mod Invariant
 pub mod Calls
+pub mod Invariant
+pub mod Laws

@@ -1,23 +1,25 @@
 //! The speculative kernel.
-ghost use Rattle.std.specs.Prelude.{◌≡◌, IfOk, None, Some, is_some};
-ghost use Rattle.std.specs.List.Sorted.{IsStrictlySortedBy};
+ghost use Rattle.std.specs.Prelude.{◌≡◌, ◌↔◌, ℕ, true, length, IfOk, MatchOption, None, Some, []};
 ghost use Rattle.std.specs.FinMap as map;
-ghost use Rattle.std.specs.Option.{option_copied};
+ghost use Rattle.std.specs.List.Sorted.{IsStrictlySortedBy};
 ghost use Rattle.sk_ids.specs.Entity.{entity_cmp};
-ghost use Rattle.sk_guesses.specs.Guesses.{next_of};
-ghost use Rattle.sk_kernel.specs.Kernel.{booted, tags_at, undecided, room, pending_tags, others_wait, step_refused, stepped, guess_refused, guessed};
+ghost use Rattle.sk_record.specs.Notes.{has};
 ghost use Rattle.sk_plain.specs.View.{Shows};
-ghost use Rattle.sk_kernel.specs.Calls.{StepPost, GuessPost, PlansGuess, CommitPost, FailPost};
+ghost use Rattle.sk_trace.specs.declared.event.Event.TheVariants as events;
+ghost use Rattle.sk_kernel.specs.Kernel.{booted, state_at, undecided_at, tags_at, texts_at, room, next_guess, step_refused, guess_refused, HasStatus, RestsOn};
+ghost use Rattle.sk_kernel.specs.Laws.{HasSoundTrace};
+ghost use Rattle.sk_kernel.specs.Calls.{StepPost, GuessPost, CommitPost, FailPost, ShowsTerminal, LeavesTexts, PlansGuess};
+ghost use Rattle.sk_record.specs.declared.status.Status.{Status};
+ghost use Rattle.sk_undo.specs.Logs.{look_at};
+ghost use Rattle.sk_terminal.specs.Terminals.{released_at};
 
-use crate::open::Open;
-use crate::perform::{perform, perform_guess};
-use sk_guesses::{Guess, Guesses, Redeemed};
-use sk_ids::{Entity, Pid, TagSet};
+use sk_guesses::{Guess, Redeemed, Status};
+use sk_ids::{Entity, GuessId, Pid, TagSet};
+use sk_machine::Machine;
 use sk_plain::{Event, Plan, Refusal, Trace, View, plan_step};
 use sk_script::{Boot, Input, Scripts};
 use sk_store::{Look, Store};
-use sk_terminal::{Terminal, Terminals};
-use sk_undo::Journal;
+use sk_terminal::{Terminal, Texts};
 use std::alloc::{AllocError, Global};
 use std::marker::Model;
 
@@ -37,26 +39,22 @@ pub struct Stranger {
 /// Why a failure was not taken; the token comes back, and nothing has changed.
 pub enum FailRefusal {
     Stranger(Guess),
+    /// This never comes.
     Memory(Guess),
 }
 
-/// A kernel whose processes go on from guessed replies. It keeps what it needs to take a guess back.
+/// A kernel whose processes go on from guessed replies. Contracts see its number, what it was booted
+/// with, its trace limit and its trace, from which all else follows by definition.
 #[derive(Drop)]
 pub struct Kernel {
-    alloc: Global,
     scripts: Scripts,
     start: Store,
     limit: u32,
     trace: Trace,
-    guesses: Guesses,
-    pending: Option<Open>,
-    journal: Journal,
-    terminals: Terminals,
-    untagged: TagSet,
+    machine: Machine,
 }
 
 impl Model for Kernel {
-    ghost use Rattle.std.specs.Prelude.{◌≡◌, []};
     ghost use Rattle.sk_kernel.specs.Kernel.{KernelView, kernel_code};
     ghost use Rattle.sk_kernel.specs.Invariant.{IsWhole};
 
@@ -64,19 +62,29 @@ impl Model for Kernel {
 
     ghost coded = { kernel_code };
 
-    ghost view = { λ k. record { scripts = k.scripts; start = k.start; limit = k.limit; trace = k.trace.events; guesses = k.guesses; pending = k.pending; written = k.journal; texts = k.terminals } };
+    ghost view = { λ k. record { number = k.machine.guesses.kernel; scripts = k.scripts; start = k.start; limit = k.limit; trace = k.trace.events } };
 
-    ghost invariant = { λ k. IsWhole k.guesses k.pending k.journal k.trace.room × (k.untagged ≡ []) };
+    ghost invariant = { λ k. IsWhole (record { number = k.machine.guesses.kernel; scripts = k.scripts; start = k.start; limit = k.limit; trace = k.trace.events }) k.machine k.trace.room };
 }
 
-/// The tags of a text that is said while this guess is open, which take no memory.
-fn pending_tags(alloc: Global, pending: &Option<Open>) -> TagSet
-    ensures { result ≡ pending_tags pending.now }
+/// What a guess with an input will do, or why it is refused.
+fn plan_guess(
+    machine: &Machine,
+    scripts: &Scripts,
+    pid: Pid,
+    input: &Input,
+) -> Result<Plan, Refusal>
+    ensures { PlansGuess (look_at machine.now.slots) scripts.now pid input.now result }
 {
-    match pending {
-        Some(open) => TagSet::of(alloc, open.id()),
-        None => TagSet::new(alloc),
+    let planned = plan_step(machine, scripts, pid, input);
+    if let Input::None = input {
+        return Err(match planned {
+            Err(Refusal::NoProcess) => Refusal::NoProcess,
+            Err(Refusal::Ended) => Refusal::Ended,
+            _ => Refusal::Mismatch,
+        });
     }
+    planned
 }
 
 impl Kernel {
@@ -86,202 +94,168 @@ impl Kernel {
     {
         let scripts = boot.scripts().copy()?;
         let start = Store::start(alloc, boot)?;
-        let now = start.copy()?;
+        let machine = Machine::boot(alloc, number, boot)?;
         Ok(Kernel {
-            alloc,
             scripts,
             start,
             limit,
             trace: Trace::new(alloc),
-            guesses: Guesses::new(alloc, number),
-            pending: None,
-            journal: Journal::new(alloc, now),
-            terminals: Terminals::new(alloc),
-            untagged: TagSet::new(alloc),
+            machine,
         })
     }
 
     /// What an entity has; `None` where it is absent.
     pub fn value(&self, entity: &Entity) -> Option<View<'_>>
-        ensures { Shows (map.get self.now.written.now entity.now) result }
+        ensures { Shows (map.get (state_at self.now) entity.now) result }
     {
-        match self.journal.value(*entity) {
+        match self.machine.value(*entity) {
             Some(stored) => Some(View::of(stored)),
             None => None,
         }
     }
 
-    /// The undecided guesses that an entity's value rests on.
+    /// The undecided guesses that an entity rests on.
     pub fn tags_of(&self, entity: &Entity) -> &TagSet
-        ensures { result.now ≡ tags_at self.now entity.now }
+        ensures computed { result.now ≡ tags_at self.now entity.now }
+        ensures exact { (id : ℕ) → (has id result.now ≡ true) ↔ RestsOn self.now entity.now id }
     {
-        match &self.pending {
-            Some(open) if self.journal.has_written(entity) => open.tags(),
-            _ => &self.untagged,
-        }
+        self.machine.tags_of(entity)
     }
 
-    /// The texts of a terminal; `None` where none was said.
+    /// What became of a guess; `None` where it was never drawn.
+    pub fn status(&self, id: GuessId) -> Option<Status>
+        ensures { (s : Status) → (result ≡ Some s) ↔ HasStatus self.now id s }
+    {
+        self.machine.status(id)
+    }
+
+    /// The texts of a terminal; `None` where none was said that counts.
     pub fn terminal(&self, number: u16) -> Option<&Terminal>
-        ensures { option_copied result ≡ map.get self.now.texts number }
+        ensures { MatchOption result (texts_at self.now number ≡ []) (λ terminal. ShowsTerminal self.now number terminal.now) }
     {
-        self.terminals.get(number)
+        self.machine.terminal(number)
     }
 
-    /// All that was done, in order.
+    /// All that was done, in order: a sound trace.
     pub fn trace(&self) -> &Trace
-        ensures { result.now.events ≡ self.now.trace }
+        ensures events { result.now.events ≡ self.now.trace }
+        ensures sound { HasSoundTrace self.now }
     {
         &self.trace
     }
 
-    /// How many guesses are undecided.
-    pub fn undecided(&self) -> usize
-        ensures { result ≡ undecided self.now }
-    {
-        self.guesses.undecided()
-    }
-
     /// The entities that are present, each once, by rising order.
     pub fn entities(&self) -> Result<Vec<Entity>, AllocError>
-        ensures present { IfOk result (λ entities. entities.items ≡ map.keys self.now.written.now) }
+        ensures present { IfOk result (λ entities. entities.items ≡ map.keys (state_at self.now)) }
         ensures rising { IfOk result (λ entities. IsStrictlySortedBy entity_cmp entities.items) }
     {
-        self.journal.store().entities()
+        self.machine.entities()
     }
 
-    /// The places of the trace that are free, with one kept for each decision.
-    fn room(&self) -> usize
+    /// How many guesses are undecided.
+    pub fn undecided(&self) -> usize
+        ensures { result ≡ length (undecided_at self.now) }
+    {
+        self.machine.open_count()
+    }
+
+    /// The places of the trace that are free, with one kept for the decision of each undecided guess.
+    pub fn room(&self) -> usize
         ensures { result ≡ room self.now }
     {
         (self.limit as usize)
             .saturating_sub(self.trace.events().len())
-            .saturating_sub(self.guesses.undecided())
-    }
-
-    /// Whether a process waits for another's guess.
-    fn waits(&self, pid: Pid) -> bool
-        ensures { result ≡ is_some (others_wait self.now.pending pid) }
-    {
-        match &self.pending {
-            Some(open) => open.pid() != pid,
-            None => false,
-        }
+            .saturating_sub(self.machine.open_count())
     }
 
     /// Takes a step of a process with an input. After a refusal the kernel is as it was.
     pub fn step(&mut self, pid: Pid, input: Input) -> Result<(), Refusal>
-        ensures { StepPost result (step_refused self.old (record { pid = pid; input = input; guess = None })) self.old (stepped self.old (record { pid = pid; input = input; guess = None })) self.new }
+        ensures { StepPost result (step_refused self.old (record { pid = pid; input = input; guess = None })) (events.Step pid input) self.old self.new }
     {
-        let plan = plan_step(&self.journal, &self.scripts, pid, &input)?;
-        if self.waits(pid) {
-            return Err(Refusal::Blocked);
-        }
+        let plan = plan_step(&self.machine, &self.scripts, pid, &input)?;
         if self.room() < 1 {
             return Err(Refusal::TraceFull);
         }
-        if self.trace.reserve(2).is_err() {
+        if self.trace.reserve(self.machine.open_count() + 1).is_err() {
             return Err(Refusal::Memory);
         }
-        let tags = pending_tags(self.alloc, &self.pending);
-        if perform(&mut self.journal, &mut self.terminals, pid, &plan, tags).is_err() {
+        if self
+            .machine
+            .take_step(&self.scripts, pid, &input, &plan)
+            .is_err()
+        {
             return Err(Refusal::Memory);
-        }
-        if self.pending.is_none() {
-            self.journal.commit();
         }
         self.trace.push(Event::Step { pid, input });
         Ok(())
     }
 
-    /// What a guess with an input will do, or why it is refused.
-    fn plan_guess(&self, pid: Pid, input: &Input) -> Result<Plan, Refusal>
-        ensures { PlansGuess self.now pid input.now result }
-    {
-        let planned = plan_step(&self.journal, &self.scripts, pid, input);
-        if let Input::None = input {
-            return Err(match planned {
-                Err(Refusal::NoProcess) => Refusal::NoProcess,
-                Err(Refusal::Ended) => Refusal::Ended,
-                _ => Refusal::Mismatch,
-            });
-        }
-        planned
-    }
-
     /// Draws the next guess and takes its step with the guessed input. After a refusal the kernel is
-    /// as it was. All growths are made here, those of the decision among them.
+    /// as it was.
     pub fn create_speculation(&mut self, pid: Pid, input: Input) -> Result<Guess, Refusal>
-        ensures { GuessPost result (guess_refused self.old (record { pid = pid; input = input; guess = Some (next_of self.old.guesses) })) self.old (guessed self.old (record { pid = pid; input = input; guess = Some (next_of self.old.guesses) })) self.new }
+        ensures { GuessPost result (guess_refused self.old (record { pid = pid; input = input; guess = Some (next_guess self.old) })) pid input self.old self.new }
     {
-        let plan = self.plan_guess(pid, &input)?;
-        if self.waits(pid) {
-            return Err(Refusal::Blocked);
-        }
-        if self.pending.is_some() || self.guesses.is_full() {
+        let plan = plan_guess(&self.machine, &self.scripts, pid, &input)?;
+        if self.machine.is_full() {
             return Err(Refusal::TooMany);
         }
         if self.room() < 2 {
             return Err(Refusal::TraceFull);
         }
-        if self.trace.reserve(2).is_err() {
+        if self.trace.reserve(self.machine.open_count() + 2).is_err() {
             return Err(Refusal::Memory);
         }
-        let Some(guess) = perform_guess(
-            &mut self.journal,
-            &mut self.terminals,
-            &mut self.guesses,
-            self.alloc,
-            pid,
-            &plan,
-        ) else {
+        let Ok(guess) = self.machine.take_guess(&self.scripts, pid, &input, &plan) else {
             return Err(Refusal::Memory);
         };
-        self.pending = Some(Open::new(self.alloc, guess.id(), pid));
         let id = guess.id();
         self.trace.push(Event::Guess { id, pid, input });
         Ok(guess)
     }
 
-    /// Commits a guess. This takes no memory.
+    /// Commits a guess: nothing rests on it any more. This takes no memory.
     pub fn commit_speculation(&mut self, guess: Guess) -> Result<Outcome, Stranger>
         ensures { CommitPost result guess self.old self.new }
     {
-        let redeemed = match self.guesses.redeem(guess) {
+        let redeemed = match self.machine.redeem(guess) {
             Ok(redeemed) => redeemed,
             Err(guess) => return Err(Stranger { guess }),
         };
         match redeemed {
-            Redeemed::Struck(_) => Ok(Outcome::Gone),
+            Redeemed::Struck(_gone) => Ok(Outcome::Gone),
             Redeemed::Undecided(id) => {
-                self.guesses.commit(id);
-                self.pending = None;
-                self.journal.commit();
-                self.terminals.commit(id);
+                self.machine.commit(id);
                 self.trace.push(Event::Commit(id));
                 Ok(Outcome::Done)
             }
         }
     }
 
-    /// Fails a guess: what was done since it is taken back, in place.
+    /// Fails a guess: what rests on it is taken back, in place and without memory.
     pub fn fail_speculation(&mut self, guess: Guess) -> Result<Outcome, FailRefusal>
         ensures { FailPost result guess self.old self.new }
     {
-        let redeemed = match self.guesses.redeem(guess) {
+        let redeemed = match self.machine.redeem(guess) {
             Ok(redeemed) => redeemed,
             Err(guess) => return Err(FailRefusal::Stranger(guess)),
         };
         match redeemed {
-            Redeemed::Struck(_gone) => Ok(Outcome::Gone),
+            Redeemed::Struck(_struck) => Ok(Outcome::Gone),
             Redeemed::Undecided(id) => {
-                self.guesses.fail(id);
-                self.pending = None;
-                self.journal.rollback();
-                self.terminals.drop_of(id);
+                self.machine.fail(id);
                 self.trace.push(Event::Fail(id));
                 Ok(Outcome::Done)
             }
         }
+    }
+
+    /// Ends a kernel of which no guess is undecided: its trace, and what its terminals have released. This
+    /// takes no memory.
+    pub fn shut(self) -> (Trace, Texts)
+        requires { undecided_at self ≡ [] }
+        ensures trace { result.0.events ≡ self.trace }
+        ensures texts { (t : ℕ) → LeavesTexts self t (released_at result.1 t) }
+    {
+        (self.trace, self.machine.into_texts())
     }
 }

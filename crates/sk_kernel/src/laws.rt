@@ -1,23 +1,26 @@
-//! What the kernel's definitions come to. Each law is the contract of a function that does nothing.
-ghost use Rattle.std.specs.Prelude.{◌≡◌, ℕ, List, [], map, false, Ok};
-ghost use Rattle.std.specs.FinMap as map;
-ghost use Rattle.sk_record.specs.Effects.{is_in};
-ghost use Rattle.sk_record.specs.Step.{Effect};
-ghost use Rattle.sk_ids.specs.Entity.{entity_cmp};
+//! What the definitions of kernels come to. Each law is the contract of a function that does nothing.
+ghost use Rattle.std.specs.Prelude.{◌≡◌, ◌<◌, ℕ, false, None, Some};
+ghost use Rattle.sk_record.specs.Notes.{has};
+ghost use Rattle.sk_record.specs.declared.status.Status.TheVariants.{Undecided};
 ghost use Rattle.sk_ids.specs.declared.entity.Entity.{Entity};
-ghost use Rattle.sk_trace.specs.Entry.{EntryView};
-ghost use Rattle.sk_plain.specs.Act.{Saying};
-ghost use Rattle.sk_store.specs.declared.entity_state.EntityState.{EntityState};
-ghost use Rattle.sk_kernel.specs.Kernel.{KernelView, effect_at, stepped, tags_at, IsCommitted, IsFailed};
+ghost use Rattle.sk_script.specs.declared.instruction.Input.{Input};
+ghost use Rattle.sk_trace.specs.declared.event.Event.TheVariants as events;
+ghost use Rattle.sk_kernel.specs.Kernel.{KernelView, HasStatus, RestsOn, next_guess, tags_at, with_event};
+ghost use Rattle.sk_kernel.specs.Laws.{HasSoundTrace, WasDrawn, KeepsUnwritten};
 
-/// An entity that an accepted step does not write keeps its value and its tags.
-pub fn unwritten()
-    ensures value { (k : KernelView) (n : EntryView) (f : Effect Entity EntityState Saying) (e : Entity) → effect_at k n ≡ Ok f → is_in entity_cmp (map (λ w. w.0) f.written) e ≡ false → map.get (stepped k n).written.now e ≡ map.get k.written.now e }
-    ensures tags { (k : KernelView) (n : EntryView) (f : Effect Entity EntityState Saying) (e : Entity) → effect_at k n ≡ Ok f → is_in entity_cmp (map (λ w. w.0) f.written) e ≡ false → tags_at (stepped k n) e ≡ tags_at k e }
+/// The number of the next guess is above that of each guess that was made.
+pub fn numbers()
+    ensures { (k : KernelView) (id : ℕ) → HasSoundTrace k → WasDrawn k id → id < next_guess k }
 {}
 
-/// After a decision no entity rests on a guess.
-pub fn decided()
-    ensures committed { (k : KernelView) (id : ℕ) (new : KernelView) (e : Entity) → IsCommitted k id new → tags_at new e ≡ [] }
-    ensures failed { (k : KernelView) (id : ℕ) (new : KernelView) (e : Entity) → IsFailed k id new → tags_at new e ≡ [] }
+/// What an accepted step or guess does not write keeps its value and its tags.
+pub fn unwritten()
+    ensures step { (k : KernelView) (pid : ℕ) (input : Input) → HasSoundTrace k → KeepsUnwritten k (record { pid = pid; input = input; guess = None }) (with_event k (events.Step pid input)) }
+    ensures guess { (k : KernelView) (pid : ℕ) (input : Input) → HasSoundTrace k → KeepsUnwritten k (record { pid = pid; input = input; guess = Some (next_guess k) }) (with_event k (events.Guess (next_guess k) pid input)) }
+{}
+
+/// After the failure of a guess nothing rests on it.
+pub fn failed()
+    ensures rests { (k : KernelView) (id : ℕ) (e : Entity) → RestsOn (with_event k (events.Fail id)) e id → ⊥ }
+    ensures tags { (k : KernelView) (id : ℕ) (e : Entity) → HasSoundTrace k → HasStatus k id Undecided → has id (tags_at (with_event k (events.Fail id)) e) ≡ false }
 {}

@@ -1,10 +1,7 @@
-//! The speculative kernel: processes go on from guessed replies, and what a guess that failed did is
-//! taken back.
+//! The kernel of many speculations, for one thread.
 #![tactic(auto)]
 
-mod kernel;
+pub mod kernel;
 pub mod laws;
-mod open;
-mod perform;
 
 pub use kernel::{FailRefusal, Kernel, Outcome, Stranger};

@@ -1,26 +1,21 @@
 -- What the parts become, as the machine of records has it: after a step, a commit and a failure.
-use Rattle.std.proofs.Common.{◌≡◌, ℕ, Bool, true, false, cond, not, eqb, List, [], ◌∷◌, ◌++◌, map, Option, Some, None, Result, Ok, Err, refl, sym, ◌∙◌, ap, subst}
+use Rattle.std.proofs.Common.{◌≡◌, ℕ, true, false, cond, not, List, [], ◌∷◌, ◌++◌, Option, Some, None, Result, Ok, Err, refl, sym, ◌∙◌, ap, subst}
 use Rattle.std.specs.Prelude.{◌==◌}
-use Rattle.std.specs.List.{filter}
-use Rattle.std.specs.Option.{unwrap_or}
-use Rattle.std.specs.Ordering.{eq_by_cmp, nat_cmp}
-use Rattle.std.specs.FinMap as fin
-use Rattle.std.specs.Cmp.{Equal-is, eq_by_cmp_equiv}
-use Rattle.std.proofs.lemmas.Bool.{eqb-true, eq-eqb, true≢false}
-use Rattle.std.proofs.lemmas.Cmp.{nat_cmp_total}
+use Rattle.std.proofs.lemmas.Bool.{eqb-true}
 use Rattle.std.proofs.lemmas.List.{append-nil}
 use Rattle.sk_record.specs.Step.{Effect, perform}
 use Rattle.sk_record.specs.Notes.{has, without}
-use Rattle.sk_record.specs.Run.{System, marked_effect}
+use Rattle.sk_record.specs.Run.{marked_effect}
 use Rattle.sk_record.specs.UndoState.{Took, step_tags, still_open, not_struck}
-use Rattle.sk_record.specs.Machine.{Tagged, Takes, Commits, Fails, lightened, not_dropped, with_drawn, with_status, with_failure}
+use Rattle.sk_record.specs.Machine.{Takes, Commits, Fails, lightened, not_dropped, with_drawn, with_status, with_failure}
 use Rattle.sk_record.specs.Release.{said_by}
-use Rattle.sk_record.specs.declared.status.Status.TheVariants.{Undecided, Committed}
+use Rattle.sk_record.specs.declared.status.Status.TheVariants.{Committed}
 use Rattle.sk_guesses.specs.Guesses.{status_of, drawn, next_of}
 use Rattle.sk_guesses.proofs.Statuses.{status-drawn}
 use Rattle.sk_script.specs.declared.instruction.Input.{Input}
 use Rattle.sk_terminal.specs.Terminal.{TaggedText}
-use Rattle.sk_terminal.specs.Terminals.{TerminalMap, texts_at, said_to}
+use Rattle.sk_terminal.specs.Terminals.{TerminalMap, texts_at}
+use Rattle.sk_terminal.proofs.SaidTo.{texts_said}
 use Rattle.sk_undo.specs.Logs.{look_at}
 use Rattle.sk_undo.specs.Decisions.{Lightened, Unwound}
 use Rattle.sk_trace.specs.Entry.{EntryView}
@@ -33,40 +28,18 @@ use Rattle.sk_machine.specs.Performed.{texts_after}
 
 -- ---- texts
 
-either : (a b : Bool) → (a ≡ true → b ≡ true) → (b ≡ true → a ≡ true) → a ≡ b
-either true b f g = sym (f refl)
-either false true f g = g refl
-either false false f g = refl
-
 said_more : (t : ℕ) (xs : List TaggedText) (x : TaggedText) → said_at t (xs ++ x ∷ []) ≡ said_at t xs ++ (record { to = t; text = x.0 }, x.1) ∷ []
 said_more t [] x = refl
 said_more t (y ∷ xs) x = ap (λ ys. (record { to = t; text = y.0 }, y.1) ∷ ys) (said_more t xs x)
-
-pick : (b : Bool) (xs : List TaggedText) (o : Option (List TaggedText)) → unwrap_or (cond b (Some xs) o) [] ≡ cond b xs (unwrap_or o [])
-pick true xs o = refl
-pick false xs o = refl
-
-tied : (t k : ℕ) → eq_by_cmp nat_cmp t k ≡ (k == t)
-tied t k = either (eq_by_cmp nat_cmp t k) (k == t)
-    (λ is. eq-eqb k t (sym (fin.nat_cmp-IsAntisymmetric t k ((Equal-is (nat_cmp t k)).0 is))))
-    (λ is. ap (eq_by_cmp nat_cmp t) (eqb-true k t is) ∙ (eq_by_cmp_equiv nat_cmp_total).refl t)
-
-texts_said : (m : TerminalMap) (k : ℕ) (x : TaggedText) (t : ℕ) → texts_at (said_to m k x) t ≡ cond (eq_by_cmp nat_cmp t k) (texts_at m k ++ x ∷ []) (texts_at m t)
-texts_said m k x t =
-    ap (λ o. unwrap_or o []) (fin.get-insert nat_cmp_total m k (texts_at m k ++ x ∷ []) t)
-    ∙ pick (eq_by_cmp nat_cmp t k) (texts_at m k ++ x ∷ []) (fin.get m t)
 
 said_after : (scripts : Scripts) (m : TerminalMap) (tags : List ℕ) (said : Option Saying) (t : ℕ)
     → said_at t (texts_at (texts_after m tags said) t) ≡ said_at t (texts_at m t) ++ said_by (plain scripts) t said tags
 said_after scripts m tags None t = sym (append-nil (said_at t (texts_at m t)))
 said_after scripts m tags (Some s) t =
-    let there : s.to ≡ t → said_at t (texts_at m s.to ++ (s.text, tags) ∷ []) ≡ said_at t (texts_at m t) ++ (s, tags) ∷ [] = λ is.
-    said_more t (texts_at m s.to) (s.text, tags) ∙ (λ i. said_at t (texts_at m (is i)) ++ (record { to = sym is i; text = s.text }, tags) ∷ []) in
     ap (said_at t) (texts_said m s.to (s.text, tags) t)
-    ∙ ap (λ b. said_at t (cond b (texts_at m s.to ++ (s.text, tags) ∷ []) (texts_at m t))) (tied t s.to)
-    ∙ elim (s.to == t) as (λ b. (s.to == t) ≡ b → said_at t (cond b (texts_at m s.to ++ (s.text, tags) ∷ []) (texts_at m t)) ≡ said_at t (texts_at m t) ++ cond b ((s, tags) ∷ []) []) [
-      | true ↦ λ is. there (eqb-true s.to t is)
-      | false ↦ λ apart. sym (append-nil (said_at t (texts_at m t)))
+    ∙ elim (s.to == t) as (λ b. (s.to == t) ≡ b → said_at t (texts_at m t ++ cond b ((s.text, tags) ∷ []) []) ≡ said_at t (texts_at m t) ++ cond b ((s, tags) ∷ []) []) [
+      | true ↦ λ is. said_more t (texts_at m t) (s.text, tags) ∙ (λ i. said_at t (texts_at m t) ++ (record { to = sym (eqb-true s.to t is) i; text = s.text }, tags) ∷ [])
+      | false ↦ λ apart. ap (said_at t) (append-nil (texts_at m t)) ∙ sym (append-nil (said_at t (texts_at m t)))
     ] refl
 
 -- the texts after the commit of a guess

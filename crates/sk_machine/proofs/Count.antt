@@ -1,9 +1,9 @@
 -- As many guesses are undecided as a rising list of them has.
-use Rattle.std.proofs.Common.{◌≡◌, ℕ, zero, suc, ◌<◌, ◌≤◌, ◌-◌, ◌+◌, length, Bool, true, false, cond, ◌||◌, List, [], ◌∷◌, Option, Some, None, inl, inr, refl, sym, ◌∙◌, ap, subst, arith}
-use Rattle.std.specs.Prelude.{◌==◌, ◌↔◌, count_by, slice_get}
+use Rattle.std.proofs.Common.{◌≡◌, ℕ, zero, suc, ◌<◌, ◌-◌, ◌+◌, length, true, false, cond, List, [], ◌∷◌, Some, inl, inr, refl, sym, ◌∙◌, ap, subst, arith}
+use Rattle.std.specs.Prelude.{◌==◌, ◌↔◌, slice_get}
 use Rattle.std.specs.Ordering.{nat_cmp}
 use Rattle.std.specs.declared.cmp.Ordering.TheVariants.{Less}
-use Rattle.std.specs.Cmp.{nat_cmp_is}
+use Rattle.std.specs.Cmp.{both_ways, nat_cmp_is}
 use Rattle.std.specs.List.{AllByRecursion}
 use Rattle.std.specs.List.Sorted.{IsStrictlySortedBy}
 use Rattle.std.proofs.lemmas.List.Recursion.{is_count_by}
@@ -97,11 +97,6 @@ at_place v k =
 status_at : (v : GuessesView) (k : ℕ) → status_of v (k + 1) ≡ slice_get v.statuses k
 status_at v k = let one : k + 1 ≡ suc k = omega arith in ap (status_of v) one ∙ at_place v k
 
-either_way : (a b : Bool) → (a ≡ true → b ≡ true) → (b ≡ true → a ≡ true) → a ≡ b
-either_way true b f g = sym (f refl)
-either_way false true f g = g refl
-either_way false false f g = refl
-
 no_zeroth : (v : GuessesView) → status_of v 0 ≡ Some Undecided → ⊥
 no_zeroth v is = cc
 
@@ -119,4 +114,4 @@ module _ (v : GuessesView) (gs : List ℕ) (all : (g : ℕ) → (has g gs ≡ tr
 pub count_of : (v : GuessesView) (gs : List ℕ) → IsStrictlySortedBy nat_cmp gs → ((g : ℕ) → (has g gs ≡ true) ↔ (status_of v g ≡ Some Undecided)) → undecided_of v.statuses ≡ length gs
 count_of v gs up all =
     counted v.statuses
-    ∙ ap length (sym (same_rising gs (numbered 1 v.statuses) up (rises 1 v.statuses) (λ g. either_way (has g gs) (has g (numbered 1 v.statuses)) (to v gs all g) (from v gs all g))))
+    ∙ ap length (sym (same_rising gs (numbered 1 v.statuses) up (rises 1 v.statuses) (λ g. both_ways (has g gs) (has g (numbered 1 v.statuses)) (to v gs all g) (from v gs all g))))

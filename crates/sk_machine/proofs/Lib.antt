@@ -3,7 +3,7 @@ pub mod Writes
 pub mod Joins
 pub mod Tags
 pub mod Opens
-pub mod Noted
+pub mod Listed
 pub mod Struck
 pub mod Becomes
 pub mod Count

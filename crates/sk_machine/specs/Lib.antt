@@ -1,3 +1,4 @@
 pub mod Parts
 pub mod Noted
 pub mod Performed
+pub mod Dependents

@@ -2,6 +2,7 @@
 //! with their undo logs, the open guesses, the status of each guess, and the texts of the terminals.
 #![tactic(auto)]
 
+mod dependents;
 pub mod machine;
 pub mod open;
 pub mod perform;

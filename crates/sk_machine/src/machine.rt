@@ -1,5 +1,5 @@
 //! Values in place with their undo logs, the open guesses, statuses and texts.
-ghost use Rattle.std.specs.Prelude.{◌≡◌, ◌++◌, ◌||◌, ◌&&◌, ◌==◌, if◌then◌else◌, ℕ, length, true, false, IfOk, OnOk, OnErr, Ok, Some, None};
+ghost use Rattle.std.specs.Prelude.{◌≡◌, ◌++◌, ◌||◌, ◌&&◌, ◌==◌, if◌then◌else◌, ℕ, length, true, false, is_some, IfOk, OnOk, OnErr, Ok, Some, None};
 ghost use Rattle.std.specs.List.Sorted.{IsStrictlySortedBy};
 ghost use Rattle.std.specs.Ordering.{nat_cmp};
 ghost use Rattle.sk_record.specs.Notes.{has};
@@ -14,7 +14,7 @@ ghost use Rattle.std.specs.FinMap as map;
 ghost use Rattle.sk_guesses.specs.Calls.{redeemed};
 ghost use Rattle.sk_guesses.specs.Guesses.{decided, drawn, is_full, next_of, status_of};
 ghost use Rattle.sk_undo.specs.Decisions.{AllGrow, AllRest};
-ghost use Rattle.sk_machine.specs.Noted.{AllNoted, AreIn, AreListedFor, IsAtStart};
+ghost use Rattle.sk_machine.specs.Noted.{IsAtStart};
 ghost use Rattle.sk_ids.specs.Entity.{entity_cmp};
 ghost use Rattle.sk_ids.specs.declared.entity.Entity.{Entity};
 ghost use Rattle.sk_store.specs.Start.{start_of};
@@ -25,13 +25,14 @@ ghost use Rattle.sk_machine.specs.Parts.{any_rests, machine_of, planned_effect, 
 ghost use Rattle.sk_machine.specs.Performed.{is_struck, texts_after, with_struck};
 
 use crate::Open;
+use crate::dependents::{Dependents, forget, list_all, listed_for};
 use crate::perform::perform;
 use sk_guesses::{Guess, Guesses, Redeemed, Status};
 use sk_ids::{Entity, GuessId, Pid, TagSet};
 use sk_plain::Plan;
 use sk_script::{Boot, Input, Scripts};
 use sk_store::{EntityState, Look, Store};
-use sk_terminal::{Terminal, Terminals};
+use sk_terminal::{Terminal, Terminals, Texts};
 use sk_undo::Logs;
 use std::alloc::{AllocError, Global};
 use std::marker::Model;
@@ -41,7 +42,7 @@ use std::marker::Model;
 pub struct Machine {
     alloc: Global,
     logs: Logs,
-    noted: Vec<Entity>,
+    dependents: Vec<Dependents>,
     opens: Vec<Open>,
     guesses: Guesses,
     terminals: Terminals,
@@ -50,7 +51,7 @@ pub struct Machine {
 
 impl Model for Machine {
     ghost use Rattle.std.specs.Prelude.{◌≡◌, []};
-    ghost use Rattle.sk_machine.specs.Noted.{AllNoted};
+    ghost use Rattle.sk_machine.specs.Dependents.{AllListed};
     ghost use Rattle.sk_machine.specs.Parts.{Parts, parts_code};
 
     ghost Value = { Parts };
@@ -59,7 +60,7 @@ impl Model for Machine {
 
     ghost view = { λ m. record { slots = m.logs.slots; opens = m.opens.items; guesses = m.guesses; texts = m.terminals } };
 
-    ghost invariant = { λ m. AllNoted m.logs.slots m.noted.items × (m.untagged ≡ []) };
+    ghost invariant = { λ m. AllListed m.logs.slots m.dependents.items × (m.untagged ≡ []) };
 }
 
 impl Look for Machine {
@@ -70,25 +71,6 @@ impl Look for Machine {
     fn value(&self, entity: Entity) -> Option<&EntityState> {
         self.logs.value(entity)
     }
-}
-
-/// Lists what a step with these tags writes; without tags nothing will be noted of it.
-fn list(noted: &mut Vec<Entity>, tags: &TagSet, entities: &[Entity]) -> Result<(), AllocError>
-    ensures kept { AreIn noted.new.items noted.old.items }
-    ensures listed { OnOk result (AreListedFor tags.now noted.new.items entities.now) }
-{
-    if tags.ids().is_empty() {
-        return Ok(());
-    }
-    noted.extend_from_slice(entities)
-}
-
-/// Keeps the entities of which something is noted.
-fn keep_noted(noted: &mut Vec<Entity>, logs: &Logs)
-    requires { AllNoted logs.now.slots noted.old.items }
-    ensures { AllNoted logs.now.slots noted.new.items }
-{
-    noted.retain(|entity: &Entity| logs.is_noted(*entity));
 }
 
 /// Takes a guess out of the open ones, and out of what the others rest on.
@@ -155,7 +137,7 @@ impl Machine {
         Ok(Machine {
             alloc,
             logs: Logs::open(store)?,
-            noted: Vec::new(alloc),
+            dependents: Vec::new(alloc),
             opens: Vec::new(alloc),
             guesses: Guesses::new(alloc, number),
             terminals: Terminals::new(alloc),
@@ -225,7 +207,14 @@ impl Machine {
         ensures err { OnErr result (self.new ≡ self.old) }
     {
         let tags = self.step_tags(pid, input, plan, own)?;
-        list(&mut self.noted, &tags, plan.writes(pid).as_slice())?;
+        let written = plan.writes(pid);
+        list_all(
+            self.alloc,
+            &mut self.dependents,
+            &self.logs,
+            &tags,
+            written.as_slice(),
+        )?;
         let Some(id) = own else {
             return perform(&mut self.logs, &mut self.terminals, pid, plan, tags);
         };
@@ -299,8 +288,8 @@ impl Machine {
         ensures commits { Commits (machine_of self.old) id (machine_of self.new) }
         ensures guesses { self.new.guesses ≡ decided self.old.guesses id Committed }
     {
-        self.logs.commit(id, &self.noted);
-        keep_noted(&mut self.noted, &self.logs);
+        self.logs.commit(id, listed_for(&self.dependents, id));
+        forget(&mut self.dependents, &self.logs, id);
         close(&mut self.opens, id);
         self.guesses.commit(id);
         self.terminals.commit(id);
@@ -317,11 +306,19 @@ impl Machine {
         ensures kernel { self.new.guesses.kernel ≡ self.old.guesses.kernel }
         ensures drawn { length self.new.guesses.statuses ≡ length self.old.guesses.statuses }
     {
-        self.logs.unwind(id, &self.noted);
-        keep_noted(&mut self.noted, &self.logs);
+        self.logs.unwind(id, listed_for(&self.dependents, id));
+        forget(&mut self.dependents, &self.logs, id);
         strike_all(&mut self.guesses, &self.opens, id);
         close_struck(&mut self.opens, id);
         self.terminals.drop_of(id);
+    }
+
+    /// The entities that are present, by their order, each once.
+    pub fn entities(&self) -> Result<Vec<Entity>, AllocError>
+        ensures rising { IfOk result (λ all. IsStrictlySortedBy entity_cmp all.items) }
+        ensures present { IfOk result (λ all. (e : Entity) → is_in entity_cmp all.items e ≡ is_some (look_at self.now.slots e)) }
+    {
+        self.logs.entities()
     }
 
     /// The undecided guesses that an entity rests on.
@@ -346,6 +343,13 @@ impl Machine {
         ensures { option_copied result ≡ map.get self.now.texts number }
     {
         self.terminals.get(number)
+    }
+
+    /// What the terminals have released. This takes no memory.
+    pub fn into_texts(self) -> Texts
+        ensures { result ≡ self.texts }
+    {
+        Texts::new(self.terminals)
     }
 
     /// How many guesses are open.

@@ -1,16 +1,20 @@
--- What becomes of held tokens when a guess is drawn or decided, or a token is taken out: from the definitions of a
--- guess's status and of what a token redeems.
-use Rattle.std.proofs.Common.{◌≡◌, ℕ, zero, suc, ◌+◌, ◌-◌, ◌<◌, Bool, true, false, not, ◌&&◌, ◌==◌, List, [], ◌∷◌, ◌++◌, length, get_or, refl, sym, ap, ◌∙◌, arith, subst, Some}
-use Rattle.std.specs.Prelude.{is_ok, slice_get}
-use Rattle.std.specs.List.{list_all, remove}
-use Rattle.std.proofs.lemmas.Bool.{ne_eqb, eq-eqb}
+-- What becomes of held tokens when one more event stands in the trace, or a token is taken out.
+use Rattle.std.proofs.Common.{◌≡◌, ℕ, zero, suc, ◌<◌, Bool, true, false, not, ◌&&◌, ◌||◌, ◌==◌, List, [], ◌∷◌, ◌++◌, map, length, get_or, refl, sym, ap, ◌∙◌, arith, subst, Some}
+use Rattle.std.specs.List.{Contains, list_all, list_any, remove}
+use Rattle.std.proofs.lemmas.Bool.{ne_eqb, eq-eqb, eqb-true, true≢false}
+use Rattle.std.proofs.lemmas.List.Folds.{list_any-append}
+use Rattle.sk_record.specs.Trace.{Event as Happens, Commit, Fail}
+use Rattle.sk_record.proofs.Sound.{draws, is_commit, is_fail, has_commit, has_fail, is_drawn}
 use Rattle.sk_guesses.specs.Token.{Token}
-use Rattle.sk_guesses.specs.Guesses.{GuessesView, decided, drawn, next_of}
-use Rattle.sk_guesses.specs.Calls.{redeemed, redeemed_at}
-use Rattle.sk_guesses.proofs.Statuses.{get-push, decided-other}
-use Rattle.sk_record.specs.declared.status.Status.{Status}
-use Rattle.sk_record.specs.declared.status.Status.TheVariants.{Undecided}
-use Rattle.sk_play.specs.Session.{none_of, all_taken, id_at, is_held, without_token}
+use Rattle.sk_script.specs.declared.instruction.Input.{Input}
+use Rattle.sk_trace.specs.Entry.{EntryView}
+use Rattle.sk_trace.specs.declared.event.Event.{Event}
+use Rattle.sk_trace.specs.declared.event.Event.TheVariants as events
+use Rattle.sk_plain.specs.Act.{plain}
+use Rattle.sk_plain.specs.Replay.{image}
+use Rattle.sk_kernel.specs.Kernel.{KernelView, events_of, next_guess, with_event}
+use Rattle.sk_kernel.specs.Calls.{IsNew, IsStranger}
+use Rattle.sk_play.specs.Session.{makes, commits, fails, is_unspent, all_unspent, none_of, id_at, is_held, without_token}
 
 both : (a b : Bool) → (a && b) ≡ true → (a ≡ true) × (b ≡ true)
 both true true e = (refl, refl)
@@ -48,97 +52,136 @@ not_same a b h e =
 turned : (a b : ℕ) → not (a == b) ≡ true → not (b == a) ≡ true
 turned a b h = rw (ne_eqb b a (λ e. not_same a b h (sym e))) refl
 
--- what is known of a token that is taken out, and of the others
-pub record Out (g : GuessesView) (t : Token) (others : List Token) : Type 0 where
-  pub takes : is_ok (redeemed g t) ≡ true
-  pub apart : none_of t.id others ≡ true
-  pub rest : all_taken g others ≡ true
+-- what is known of a token that is not spent
+pub record IsUnspent (k : KernelView) (t : Token) : Type 0 where
+  pub own : t.kernel ≡ k.number
+  pub made : list_any (makes t.id) k.trace ≡ true
+  pub uncommitted : list_any (commits t.id) k.trace ≡ false
+  pub unfailed : list_any (fails t.id) k.trace ≡ false
 
-pub taken_out : (g : GuessesView) (i : ℕ) (ts : List Token) (d : Token) → i < length ts → all_taken g ts ≡ true → Out g (get_or ts i d) (remove ts i)
-taken_out g i [] d lt h = absurd (omega arith)
-taken_out g zero (t ∷ ts) d lt h =
-    let b = both (is_ok (redeemed g t)) (none_of t.id ts && all_taken g ts) h in
-    let c = both (none_of t.id ts) (all_taken g ts) b.1 in
-    record { takes = b.0; apart = c.0; rest = c.1 }
-taken_out g (suc i) (t ∷ ts) d lt h =
-    let b = both (is_ok (redeemed g t)) (none_of t.id ts && all_taken g ts) h in
-    let c = both (none_of t.id ts) (all_taken g ts) b.1 in
-    let o = taken_out g i ts d (omega arith) c.1 in
-    let one = all_at (λ u. not (u.id == t.id)) i ts d (omega arith) c.0 in
+negated : (b : Bool) → not b ≡ true → b ≡ false
+negated true e = absurd cc
+negated false e = refl
+
+told : (k : KernelView) (t : Token) → is_unspent k t ≡ true → IsUnspent k t
+told k t h =
+    let a = both (t.kernel == k.number) _ h in
+    let b = both (list_any (makes t.id) k.trace) _ a.1 in
+    let c = both (not (list_any (commits t.id) k.trace)) _ b.1 in
+    record { own = eqb-true t.kernel k.number a.0; made = b.0; uncommitted = negated _ c.0; unfailed = negated _ c.1 }
+
+tested : (k : KernelView) (t : Token) → IsUnspent k t → is_unspent k t ≡ true
+tested k t u = rw (eq-eqb t.kernel k.number u.own, u.made, u.uncommitted, u.unfailed) refl
+
+pub record AllUnspent (k : KernelView) (t : Token) (ts : List Token) : Type 0 where
+  pub first : IsUnspent k t
+  pub apart : none_of t.id ts ≡ true
+  pub rest : all_unspent k ts ≡ true
+
+parts : (k : KernelView) (t : Token) (ts : List Token) → all_unspent k (t ∷ ts) ≡ true → AllUnspent k t ts
+parts k t ts h =
+    let a = both (is_unspent k t) _ h in
+    let b = both (none_of t.id ts) _ a.1 in
+    record { first = told k t a.0; apart = b.0; rest = b.1 }
+
+whole : (k : KernelView) (t : Token) (ts : List Token) → AllUnspent k t ts → all_unspent k (t ∷ ts) ≡ true
+whole k t ts a = rw (tested k t a.first, a.apart) a.rest
+
+-- what is known of a token that is taken out, and of the others
+pub record Out (k : KernelView) (t : Token) (others : List Token) : Type 0 where
+  pub unspent : IsUnspent k t
+  pub apart : none_of t.id others ≡ true
+  pub rest : all_unspent k others ≡ true
+
+pub taken_out : (k : KernelView) (i : ℕ) (ts : List Token) (d : Token) → i < length ts → all_unspent k ts ≡ true → Out k (get_or ts i d) (remove ts i)
+taken_out k i [] d lt h = absurd (omega arith)
+taken_out k zero (t ∷ ts) d lt h = let a = parts k t ts h in record { unspent = a.first; apart = a.apart; rest = a.rest }
+taken_out k (suc i) (t ∷ ts) d lt h =
+    let a = parts k t ts h in
+    let o = taken_out k i ts d (omega arith) a.rest in
+    let one = all_at (λ u. not (u.id == t.id)) i ts d (omega arith) a.apart in
     record {
-      takes = o.takes;
+      unspent = o.unspent;
       apart = pair (not (t.id == (get_or ts i d).id)) (none_of (get_or ts i d).id (remove ts i)) (turned (get_or ts i d).id t.id one) o.apart;
-      rest = pair (is_ok (redeemed g t)) (none_of t.id (remove ts i) && all_taken g (remove ts i)) b.0
-          (pair (none_of t.id (remove ts i)) (all_taken g (remove ts i)) (all_but (λ u. not (u.id == t.id)) i ts c.0) o.rest);
+      rest = whole k t (remove ts i) (record { first = a.first; apart = all_but (λ u. not (u.id == t.id)) i ts a.apart; rest = o.rest });
     }
 
--- ---- a guess is decided
+-- ---- one event more
 
-some : (n : ℕ) → (n ≡ 0 → ⊥) → 0 < n
-some zero h = absurd (h refl)
-some (suc n) h = omega arith
+-- the event decides no guess of these tokens
+abbrev pub DecidesNone : Event → List Token → Type 0
+DecidesNone (events.Step pid input) ts = Unit {0}
+DecidesNone (events.Guess id pid input) ts = Unit {0}
+DecidesNone (events.Commit id) ts = none_of id ts ≡ true
+DecidesNone (events.Fail id) ts = none_of id ts ≡ true
 
-takes_other : (g : GuessesView) (id : ℕ) (s : Status) (t : Token) → (t.id ≡ id → ⊥) → (id ≡ 0 → ⊥) → is_ok (redeemed g t) ≡ true → is_ok (redeemed (decided g id s) t) ≡ true
-takes_other g id s t n nz h = rw (decided-other g id t.id s (some id nz) n) h
+more : (p : Event → Bool) (es : List Event) (e : Event) → list_any p es ≡ false → p e ≡ false → list_any p (es ++ e ∷ []) ≡ false
+more p es e none last = list_any-append p es (e ∷ []) ∙ (λ i. none i || (last i || false))
 
-pub decided_held : (g : GuessesView) (id : ℕ) (s : Status) (ts : List Token) → (id ≡ 0 → ⊥) → none_of id ts ≡ true → all_taken g ts ≡ true → all_taken (decided g id s) ts ≡ true
-decided_held g id s [] nz n h = refl
-decided_held g id s (t ∷ ts) nz n h =
-    let b = both (is_ok (redeemed g t)) (none_of t.id ts && all_taken g ts) h in
-    let c = both (none_of t.id ts) (all_taken g ts) b.1 in
-    let m = both (not (t.id == id)) (none_of id ts) n in
-    pair (is_ok (redeemed (decided g id s) t)) (none_of t.id ts && all_taken (decided g id s) ts)
-    (takes_other g id s t (not_same t.id id m.0) nz b.0)
-    (pair (none_of t.id ts) (all_taken (decided g id s) ts) c.0 (decided_held g id s ts nz m.1 c.1))
+still : (p : Event → Bool) (es : List Event) (e : Event) → list_any p es ≡ true → list_any p (es ++ e ∷ []) ≡ true
+still p es e some = list_any-append p es (e ∷ []) ∙ ap (λ b. b || list_any p (e ∷ [])) some
 
--- guesses are numbered from 1
-pub numbered : (g : GuessesView) (t : Token) → is_ok (redeemed g t) ≡ true → t.id ≡ 0 → ⊥
-numbered g t h e =
-    elim (t.kernel == g.kernel) as (λ b. (t.kernel == g.kernel) ≡ b → ⊥) [
-      | true ↦ λ k. let bad : false ≡ true = rw (k, e) at h in absurd cc
-      | false ↦ λ k. let bad : false ≡ true = rw k at h in absurd cc
-    ] refl
+-- the event is no decision of this guess
+commits_other : (e : Event) (ts : List Token) (t : Token) → DecidesNone e (t ∷ ts) → commits t.id e ≡ false
+commits_other (events.Step pid input) ts t none = refl
+commits_other (events.Guess h pid input) ts t none = refl
+commits_other (events.Commit h) ts t none = ne_eqb h t.id (λ e. not_same t.id h (both (not (t.id == h)) (none_of h ts) none).0 (sym e))
+commits_other (events.Fail h) ts t none = refl
+
+fails_other : (e : Event) (ts : List Token) (t : Token) → DecidesNone e (t ∷ ts) → fails t.id e ≡ false
+fails_other (events.Step pid input) ts t none = refl
+fails_other (events.Guess h pid input) ts t none = refl
+fails_other (events.Commit h) ts t none = refl
+fails_other (events.Fail h) ts t none = ne_eqb h t.id (λ e. not_same t.id h (both (not (t.id == h)) (none_of h ts) none).0 (sym e))
+
+fewer : (e : Event) (t : Token) (ts : List Token) → DecidesNone e (t ∷ ts) → DecidesNone e ts
+fewer (events.Step pid input) t ts none = none
+fewer (events.Guess id pid input) t ts none = none
+fewer (events.Commit id) t ts none = (both (not (t.id == id)) (none_of id ts) none).1
+fewer (events.Fail id) t ts none = (both (not (t.id == id)) (none_of id ts) none).1
+
+still_unspent : (k : KernelView) (e : Event) (t : Token) (ts : List Token) → DecidesNone e (t ∷ ts) → IsUnspent k t → IsUnspent (with_event k e) t
+still_unspent k e t ts none u = record {
+  own = u.own;
+  made = still (makes t.id) k.trace e u.made;
+  uncommitted = more (commits t.id) k.trace e u.uncommitted (commits_other e ts t none);
+  unfailed = more (fails t.id) k.trace e u.unfailed (fails_other e ts t none);
+}
+
+pub more_unspent : (k : KernelView) (e : Event) (ts : List Token) → DecidesNone e ts → all_unspent k ts ≡ true → all_unspent (with_event k e) ts ≡ true
+more_unspent k e [] none u = refl
+more_unspent k e (t ∷ ts) none u =
+    let a = parts k t ts u in
+    whole (with_event k e) t ts (record { first = still_unspent k e t ts none a.first; apart = a.apart; rest = more_unspent k e ts (fewer e t ts none) a.rest })
+
+-- ---- the tests as the definitions on traces have them
+mapped : (p : Event → Bool) (q : Happens EntryView → Bool) → ((e : Event) → p e ≡ q (image e)) → (es : List Event) → list_any p es ≡ list_any q (map image es)
+mapped p q same [] = refl
+mapped p q same (e ∷ es) = λ i. same e i || mapped p q same es i
+
+makes_is : (k : KernelView) (id : ℕ) (e : Event) → makes id e ≡ draws (plain k.scripts) id (image e)
+makes_is k id (events.Step pid input) = refl
+makes_is k id (events.Guess g pid input) = refl
+makes_is k id (events.Commit g) = refl
+makes_is k id (events.Fail g) = refl
+
+commits_is : (id : ℕ) (e : Event) → commits id e ≡ is_commit id (image e)
+commits_is id (events.Step pid input) = refl
+commits_is id (events.Guess g pid input) = refl
+commits_is id (events.Commit g) = refl
+commits_is id (events.Fail g) = refl
+
+fails_is : (id : ℕ) (e : Event) → fails id e ≡ is_fail id (image e)
+fails_is id (events.Step pid input) = refl
+fails_is id (events.Guess g pid input) = refl
+fails_is id (events.Commit g) = refl
+fails_is id (events.Fail g) = refl
+
+never : (b : Bool) → (b ≡ true → ⊥) → b ≡ false
+never true h = absurd (h refl)
+never false h = refl
 
 -- ---- a guess is drawn
-
-more : (ss : List Status) (x : Status) (t : Token) (i : ℕ) → is_ok (redeemed_at (slice_get ss i) t) ≡ true → is_ok (redeemed_at (slice_get (ss ++ x ∷ []) i) t) ≡ true
-more [] x t i h = absurd cc
-more (s ∷ ss) x t zero h = h
-more (s ∷ ss) x t (suc i) h = more ss x t i h
-
-within : (ss : List Status) (t : Token) (i : ℕ) → is_ok (redeemed_at (slice_get ss i) t) ≡ true → i < length ss
-within [] t i h = absurd cc
-within (s ∷ ss) t zero h = omega arith
-within (s ∷ ss) t (suc i) h = omega (arith, within ss t i h)
-
--- a token that is taken is of this kernel, and of a guess that was drawn
-record Taken (g : GuessesView) (t : Token) : Type 0 where
-  kernel : (t.kernel == g.kernel) ≡ true
-  some : (t.id == 0) ≡ false
-  there : is_ok (redeemed_at (slice_get g.statuses (t.id - 1)) t) ≡ true
-
-taken : (g : GuessesView) (t : Token) → is_ok (redeemed g t) ≡ true → Taken g t
-taken g t h =
-    elim (t.kernel == g.kernel) as (λ b. (t.kernel == g.kernel) ≡ b → Taken g t) [
-      | true ↦ λ k. elim (t.id == 0) as (λ b. (t.id == 0) ≡ b → Taken g t) [
-        | true ↦ λ z. let bad : false ≡ true = rw (k, z) at h in absurd cc
-        | false ↦ λ z. record { kernel = k; some = z; there = rw (k, z) at h }
-      ] refl
-      | false ↦ λ k. let bad : false ≡ true = rw k at h in absurd cc
-    ] refl
-
-takes_drawn : (g : GuessesView) (t : Token) → Taken g t → is_ok (redeemed (drawn g) t) ≡ true
-takes_drawn g t k = rw (k.kernel, k.some) (more g.statuses Undecided t (t.id - 1) k.there)
-
--- the token of the guess that is drawn next
-abbrev pub drawn_token : GuessesView → Token
-drawn_token g = record { kernel = g.kernel; id = next_of g }
-
-takes_new : (g : GuessesView) → is_ok (redeemed (drawn g) (drawn_token g)) ≡ true
-takes_new g =
-    let some : (length g.statuses + 1 == 0) ≡ false = ne_eqb (length g.statuses + 1) 0 (λ z. omega arith) in
-    let last : length g.statuses + 1 - 1 ≡ length g.statuses = omega arith in
-    rw (eq-eqb g.kernel g.kernel refl, some, last, get-push g.statuses Undecided) refl
 
 none_more : (id : ℕ) (ts : List Token) (t : Token) → none_of id ts ≡ true → not (t.id == id) ≡ true → none_of id (ts ++ t ∷ []) ≡ true
 none_more id [] t h n = rw n refl
@@ -146,27 +189,57 @@ none_more id (u ∷ us) t h n =
     let b = both (not (u.id == id)) (none_of id us) h in
     pair (not (u.id == id)) (none_of id (us ++ t ∷ [])) b.0 (none_more id us t b.1 n)
 
-new_apart : (g : GuessesView) (t : Token) → Taken g t → not (next_of g == t.id) ≡ true
-new_apart g t k =
-    let lt : t.id - 1 < length g.statuses = within g.statuses t (t.id - 1) k.there in
-    rw (ne_eqb (length g.statuses + 1) t.id (λ e. omega (arith, lt, e))) refl
+-- the token of the guess that is drawn next
+abbrev pub drawn_token : KernelView → Token
+drawn_token k = record { kernel = k.number; id = next_guess k }
 
-pub drawn_held : (g : GuessesView) (ts : List Token) → all_taken g ts ≡ true → all_taken (drawn g) (ts ++ drawn_token g ∷ []) ≡ true
-drawn_held g [] h = rw (takes_new g) refl
-drawn_held g (t ∷ ts) h =
-    let b = both (is_ok (redeemed g t)) (none_of t.id ts && all_taken g ts) h in
-    let c = both (none_of t.id ts) (all_taken g ts) b.1 in
-    let k = taken g t b.0 in
-    pair (is_ok (redeemed (drawn g) t)) (none_of t.id (ts ++ drawn_token g ∷ []) && all_taken (drawn g) (ts ++ drawn_token g ∷ []))
-    (takes_drawn g t k)
-    (pair (none_of t.id (ts ++ drawn_token g ∷ [])) (all_taken (drawn g) (ts ++ drawn_token g ∷ []))
-    (none_more t.id ts (drawn_token g) c.0 (new_apart g t k))
-    (drawn_held g ts c.1))
+apart_from_new : (k new : KernelView) (t : Token) → IsNew k new → IsUnspent k t → not (next_guess k == t.id) ≡ true
+apart_from_new k new t fresh u =
+    let drawn = (is_drawn (plain k.scripts) (events_of k) t.id).0 (sym (mapped (makes t.id) (draws (plain k.scripts) t.id) (makes_is k t.id) k.trace) ∙ u.made) in
+    let less = fresh.above t.id drawn in
+    rw (ne_eqb (next_guess k) t.id (λ e. omega (arith, less, e))) refl
+
+with_new : (k new : KernelView) (ts : List Token) → IsNew k new → all_unspent k ts ≡ true → all_unspent new ts ≡ true → IsUnspent new (drawn_token k) → all_unspent new (ts ++ drawn_token k ∷ []) ≡ true
+with_new k new [] fresh old kept u = whole new (drawn_token k) [] (record { first = u; apart = refl; rest = refl })
+with_new k new (t ∷ ts) fresh old kept u =
+    let a = parts k t ts old in
+    let b = parts new t ts kept in
+    whole new t (ts ++ drawn_token k ∷ []) (record {
+      first = b.first;
+      apart = none_more t.id ts (drawn_token k) b.apart (apart_from_new k new t fresh a.first);
+      rest = with_new k new ts fresh a.rest b.rest u;
+    })
+
+pub drawn_unspent : (k : KernelView) (pid : ℕ) (input : Input) (ts : List Token) → IsNew k (with_event k (events.Guess (next_guess k) pid input)) → all_unspent k ts ≡ true
+    → all_unspent (with_event k (events.Guess (next_guess k) pid input)) (ts ++ drawn_token k ∷ []) ≡ true
+drawn_unspent k pid input ts fresh u =
+    let e : Event = events.Guess (next_guess k) pid input in
+    let id = next_guess k in
+    let new = with_event k e in
+    with_new k new ts fresh u (more_unspent k e ts tt u) (record {
+      own = refl;
+      made = list_any-append (makes id) k.trace (e ∷ []) ∙ or_last (list_any (makes id) k.trace) (id == id) (eq-eqb id id refl);
+      uncommitted = never _ (λ some. fresh.undecided.0 ((has_commit (events_of new) id).0 (sym (mapped (commits id) (is_commit id) (commits_is id) new.trace) ∙ some)));
+      unfailed = never _ (λ some. fresh.undecided.1 ((has_fail (events_of new) id).0 (sym (mapped (fails id) (is_fail id) (fails_is id) new.trace) ∙ some)));
+    }) where
+      or_last : (a b : Bool) → b ≡ true → (a || (b || false)) ≡ true
+      or_last true b is = refl
+      or_last false true is = refl
+      or_last false false is = absurd cc
+
+-- ---- a token that is not spent is no stranger
+pub no_stranger : (k : KernelView) (t : Token) → IsUnspent k t → IsStranger k t → ⊥
+no_stranger k t u stranger =
+    let neither = stranger u.own in
+    let drawn = (is_drawn (plain k.scripts) (events_of k) t.id).0 (sym (mapped (makes t.id) (draws (plain k.scripts) t.id) (makes_is k t.id) k.trace) ∙ u.made) in
+    let uncommitted : ¬ (Contains (events_of k) (Commit t.id)) = λ there. true≢false (sym ((has_commit (events_of k) t.id).1 there) ∙ sym (mapped (commits t.id) (is_commit t.id) (commits_is t.id) k.trace) ∙ u.uncommitted) in
+    let unfailed : ¬ (Contains (events_of k) (Fail t.id)) = λ there. true≢false (sym ((has_fail (events_of k) t.id).1 there) ∙ sym (mapped (fails t.id) (is_fail t.id) (fails_is t.id) k.trace) ∙ u.unfailed) in
+    neither.1 (drawn, uncommitted, unfailed, λ there. neither.0 (uncommitted, unfailed, there))
 
 -- ---- the token at a place
 
-pub out_of : (g : GuessesView) (i : ℕ) (ts : List Token) (t : Token) (others : List Token) → i < length ts → t ≡ get_or ts i t → others ≡ remove ts i → all_taken g ts ≡ true → Out g t others
-out_of g i ts t others lt e s h = rw s (subst (λ x. Out g x (remove ts i)) (sym e) (taken_out g i ts t lt h))
+pub out_of : (k : KernelView) (i : ℕ) (ts : List Token) (t : Token) (others : List Token) → i < length ts → t ≡ get_or ts i t → others ≡ remove ts i → all_unspent k ts ≡ true → Out k t others
+out_of k i ts t others lt e s h = rw s (subst (λ x. Out k x (remove ts i)) (sym e) (taken_out k i ts t lt h))
 
 -- ---- the guess of the token at a place
 
@@ -198,12 +271,9 @@ same_id (u ∷ ts) zero id t n at =
 same_id (u ∷ ts) (suc i) id t n at = same_id ts i id t (both (not (u.id == t)) (none_of t ts) n).1 at
 
 -- the token at a place is the only one of its guess
-pub removed_without : (g : GuessesView) (ts : List Token) (i id : ℕ) → all_taken g ts ≡ true → id_at ts i ≡ Some id → remove ts i ≡ without_token id ts
-removed_without g [] i id h at = absurd cc
-removed_without g (t ∷ ts) zero id h at =
+pub removed_without : (k : KernelView) (ts : List Token) (i id : ℕ) → all_unspent k ts ≡ true → id_at ts i ≡ Some id → remove ts i ≡ without_token id ts
+removed_without k [] i id h at = absurd cc
+removed_without k (t ∷ ts) zero id h at =
     let is : t.id ≡ id = cc in
     rw (eq-eqb t.id id is) refl
-removed_without g (t ∷ ts) (suc i) id h at =
-    let b = both (is_ok (redeemed g t)) (none_of t.id ts && all_taken g ts) h in
-    let c = both (none_of t.id ts) (all_taken g ts) b.1 in
-    rw (same_id ts i id t.id c.0 at) (ap (λ us. t ∷ us) (removed_without g ts i id c.1 at))
+removed_without k (t ∷ ts) (suc i) id h at = let a = parts k t ts h in rw (same_id ts i id t.id a.apart at) (ap (λ us. t ∷ us) (removed_without k ts i id a.rest at))

@@ -1,3 +1,4 @@
 pub mod Held
 pub mod Settled
 pub mod Turns
+pub mod Replayed

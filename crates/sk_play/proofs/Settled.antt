@@ -1,108 +1,72 @@
--- The kernel takes each held token, also behind each of its calls: from what the calls answer.
-use Rattle.std.proofs.Common.{◌≡◌, ◌==◌, true, false, List, [], ◌∷◌, ◌++◌, refl, Option, Some, None, Result, Ok, Err}
-use Rattle.std.specs.Prelude.{is_ok}
+-- No held token is spent, also behind each of the kernel's calls: from what the calls answer.
+use Rattle.std.proofs.Common.{◌≡◌, ℕ, true, List, [], ◌∷◌, ◌++◌, refl, sym, ◌∙◌, subst, Option, Result, Ok, Err}
 use Rattle.sk_guesses.specs.Token.{Token}
-use Rattle.sk_guesses.specs.Guesses.{GuessesView, next_of, drawn, status_of}
-use Rattle.sk_guesses.specs.Calls.{redeemed, redeemed_at}
-use Rattle.sk_guesses.specs.declared.guess.Redeemed.TheVariants as redeemed_as
-use Rattle.sk_record.specs.declared.status.Status.{Status}
-use Rattle.sk_record.specs.declared.status.Status.TheVariants.{Undecided, Committed, Failed, Struck}
 use Rattle.sk_plain.specs.declared.refusal.Refusal.{Refusal}
-use Rattle.sk_trace.specs.Entry.{EntryView}
+use Rattle.sk_script.specs.declared.instruction.Input.{Input}
 use Rattle.sk_trace.specs.declared.event.Event.{Event}
 use Rattle.sk_trace.specs.declared.event.Event.TheVariants as events
-use Rattle.sk_kernel.specs.Kernel.{KernelView, done, effect_at, stepped, guessing, guessed}
-use Rattle.sk_kernel.specs.Calls.{StepPost, GuessPost, CommitPost, FailPost}
+use Rattle.sk_kernel.specs.Kernel.{KernelView, next_guess, with_event}
+use Rattle.sk_kernel.specs.Calls.{IsNew, StepPost, GuessPost, DecisionPost, CommitPost, FailPost}
 use Rattle.sk_kernel.specs.declared.kernel.Outcome.{Outcome}
 use Rattle.sk_kernel.specs.declared.kernel.Outcome.TheVariants as outcomes
 use Rattle.sk_kernel.specs.declared.kernel.Stranger.{Stranger}
 use Rattle.sk_kernel.specs.declared.kernel.FailRefusal.{FailRefusal}
 use Rattle.sk_kernel.specs.declared.kernel.FailRefusal.TheVariants as refusals
-use Rattle.sk_play.specs.Session.{all_taken, outcome_told, CommitTold, FailTold}
-use Rattle.sk_play.proofs.Held.{Out, decided_held, numbered, drawn_held}
+use Rattle.sk_play.specs.Session.{all_unspent, outcome_told, DecisionTold}
+use Rattle.sk_play.proofs.Held.{IsUnspent, Out, DecidesNone, more_unspent, drawn_unspent, no_stranger}
 
--- what a step does leaves the guesses
-done_guesses : (k : KernelView) (event : Event) (does : _) → (done k event does).guesses ≡ k.guesses
-done_guesses k event (Ok f) = refl
-done_guesses k event (Err why) = refl
+pub steps_keep : (result : Result (Unit {0}) Refusal) (refused : Option Refusal) (pid : ℕ) (input : Input) (old new : KernelView) (ts : List Token)
+    → StepPost result refused (events.Step pid input) old new → all_unspent old ts ≡ true → all_unspent new ts ≡ true
+steps_keep (Ok u) refused pid input old new ts h held = subst (λ (k : KernelView). all_unspent k ts ≡ true) (sym h.1) (more_unspent old (events.Step pid input) ts tt held)
+steps_keep (Err why) refused pid input old new ts h held = subst (λ (k : KernelView). all_unspent k ts ≡ true) (sym h.1) held
 
-pub guessed_guesses : (k : KernelView) (n : EntryView) → (guessed k n).guesses ≡ drawn k.guesses
-guessed_guesses k n = done_guesses (guessing k n.pid) (events.Guess (next_of k.guesses) n.pid n.input) (effect_at k n)
-
-pub steps_keep : (result : Result (Unit {0}) Refusal) (refused : Option Refusal) (old new : KernelView) (n : EntryView) (ts : List Token) → StepPost result refused old (stepped old n) new → all_taken old.guesses ts ≡ true → all_taken new.guesses ts ≡ true
-steps_keep (Ok u) refused old new n ts h held = rw (h.1, done_guesses old (events.Step n.pid n.input) (effect_at old n)) held
-steps_keep (Err why) refused old new n ts h held = rw h.1 held
-
-pub commits_keep : (result : Result Outcome Stranger) (t : Token) (old new : KernelView) (others : List Token) → CommitPost result t old new → Out old.guesses t others → all_taken new.guesses others ≡ true
-commits_keep (Ok outcomes.Done) t old new others h o = rw h.1.guesses (decided_held old.guesses t.id Committed others (numbered old.guesses t o.takes) o.apart o.rest)
-commits_keep (Ok outcomes.Gone) t old new others h o = rw h.1 o.rest
-commits_keep (Err s) t old new others h o = rw h.2 o.rest
-
-pub no_stranger : (result : Result Outcome Stranger) (s : Stranger) (t : Token) (old new : KernelView) → CommitPost result t old new → result ≡ Err s → is_ok (redeemed old.guesses t) ≡ true → ⊥
-no_stranger (Ok x) s t old new h e takes = absurd cc
-no_stranger (Err x) s t old new h e takes = let bad : false ≡ true = rw h.0 at takes in absurd cc
-
-pub fails_keep : (result : Result Outcome FailRefusal) (t : Token) (old new : KernelView) (others : List Token) → FailPost result t old new → Out old.guesses t others → all_taken new.guesses others ≡ true
-fails_keep (Ok outcomes.Done) t old new others h o = rw h.1.guesses (decided_held old.guesses t.id Failed others (numbered old.guesses t o.takes) o.apart o.rest)
-fails_keep (Ok outcomes.Gone) t old new others h o = rw h.1 o.rest
-fails_keep (Err (refusals.Stranger s)) t old new others h o = rw h.2 o.rest
-fails_keep (Err (refusals.Memory s)) t old new others h o = absurd h
-
-pub no_refusal : (result : Result Outcome FailRefusal) (why : FailRefusal) (t : Token) (old new : KernelView) → FailPost result t old new → result ≡ Err why → is_ok (redeemed old.guesses t) ≡ true → ⊥
-no_refusal (Ok x) why t old new h e takes = absurd cc
-no_refusal (Err (refusals.Stranger x)) why t old new h e takes = let bad : false ≡ true = rw h.0 at takes in absurd cc
-no_refusal (Err (refusals.Memory x)) why t old new h e takes = h
-
-pub draws_keep : (result : Result Token Refusal) (s : Token) (refused : Option Refusal) (old after new : KernelView) (ts : List Token) → GuessPost result refused old after new → after.guesses ≡ drawn old.guesses → result ≡ Ok s → all_taken old.guesses ts ≡ true → all_taken new.guesses (ts ++ s ∷ []) ≡ true
-draws_keep (Err x) s refused old after new ts h a e held = absurd cc
-draws_keep (Ok x) s refused old after new ts h a e held =
+pub draws_keep : (result : Result Token Refusal) (s : Token) (refused : Option Refusal) (pid : ℕ) (input : Input) (old new : KernelView) (ts : List Token)
+    → GuessPost result refused pid input old new → result ≡ Ok s → all_unspent old ts ≡ true → all_unspent new (ts ++ s ∷ []) ≡ true
+draws_keep (Err x) s refused pid input old new ts h e held = absurd cc
+draws_keep (Ok x) s refused pid input old new ts h e held =
     let same : s ≡ x = cc in
-    rw (same, h.1, h.2, a) (drawn_held old.guesses ts held)
+    let fresh : IsNew old (with_event old (events.Guess (next_guess old) pid input)) = subst (λ (k : KernelView). IsNew old k) h.2 h.3 in
+    subst (λ (k : KernelView). all_unspent k (ts ++ s ∷ []) ≡ true) (sym h.2)
+    (subst (λ t. all_unspent (with_event old (events.Guess (next_guess old) pid input)) (ts ++ t ∷ []) ≡ true) (sym (same ∙ h.1)) (drawn_unspent old pid input ts fresh held))
+
+-- a decision of a token leaves the others
+decisions_keep : (o : Outcome) (t : Token) (e : Event) (old new : KernelView) (others : List Token) → DecidesNone e others → DecisionPost o t e old new → all_unspent old others ≡ true → all_unspent new others ≡ true
+decisions_keep outcomes.Done t e old new others none h held = subst (λ (k : KernelView). all_unspent k others ≡ true) (sym h.2) (more_unspent old e others none held)
+decisions_keep outcomes.Gone t e old new others none h held = subst (λ (k : KernelView). all_unspent k others ≡ true) (sym h.2) held
+
+pub commits_keep : (result : Result Outcome Stranger) (t : Token) (old new : KernelView) (others : List Token) → CommitPost result t old new → Out old t others → all_unspent new others ≡ true
+commits_keep (Ok o) t old new others h out = decisions_keep o t (events.Commit t.id) old new others out.apart h out.rest
+commits_keep (Err s) t old new others h out = subst (λ (k : KernelView). all_unspent k others ≡ true) (sym h.2) out.rest
+
+pub fails_keep : (result : Result Outcome FailRefusal) (t : Token) (old new : KernelView) (others : List Token) → FailPost result t old new → Out old t others → all_unspent new others ≡ true
+fails_keep (Ok o) t old new others h out = decisions_keep o t (events.Fail t.id) old new others out.apart h out.rest
+fails_keep (Err (refusals.Stranger s)) t old new others h out = subst (λ (k : KernelView). all_unspent k others ≡ true) (sym h.2) out.rest
+fails_keep (Err (refusals.Memory s)) t old new others h out = absurd h
+
+-- and is not refused
+pub commit_taken : (result : Result Outcome Stranger) (s : Stranger) (t : Token) (old new : KernelView) → CommitPost result t old new → result ≡ Err s → IsUnspent old t → ⊥
+commit_taken (Ok x) s t old new h e unspent = absurd cc
+commit_taken (Err x) s t old new h e unspent = no_stranger old t unspent h.0
+
+pub fail_taken : (result : Result Outcome FailRefusal) (why : FailRefusal) (t : Token) (old new : KernelView) → FailPost result t old new → result ≡ Err why → IsUnspent old t → ⊥
+fail_taken (Ok x) why t old new h e unspent = absurd cc
+fail_taken (Err (refusals.Stranger x)) why t old new h e unspent = no_stranger old t unspent h.0
+fail_taken (Err (refusals.Memory x)) why t old new h e unspent = h
 
 -- ---- what a decision is told as
 
-undecided_at : (s : Option Status) (t : Token) → redeemed_at s t ≡ Ok (redeemed_as.Undecided t.id) → s ≡ Some Undecided
-undecided_at None t h = absurd cc
-undecided_at (Some Undecided) t h = refl
-undecided_at (Some Committed) t h = absurd cc
-undecided_at (Some Failed) t h = absurd cc
-undecided_at (Some Struck) t h = absurd cc
+decision_told : (o : Outcome) (t : Token) (e : Event) (old new : KernelView) → DecisionPost o t e old new → DecisionTold (outcome_told o) e true t.id old new
+decision_told outcomes.Done t e old new h = (refl, h.1, h.2)
+decision_told outcomes.Gone t e old new h = (refl, h.1, h.2)
 
-struck_at : (s : Option Status) (t : Token) → redeemed_at s t ≡ Ok (redeemed_as.Struck t.id) → s ≡ Some Struck
-struck_at None t h = absurd cc
-struck_at (Some Undecided) t h = absurd cc
-struck_at (Some Committed) t h = absurd cc
-struck_at (Some Failed) t h = absurd cc
-struck_at (Some Struck) t h = refl
-
-undecided : (g : GuessesView) (t : Token) → redeemed g t ≡ Ok (redeemed_as.Undecided t.id) → status_of g t.id ≡ Some Undecided
-undecided g t h =
-    elim (t.kernel == g.kernel) as (λ b. (t.kernel == g.kernel) ≡ b → status_of g t.id ≡ Some Undecided) [
-      | true ↦ λ k. undecided_at (status_of g t.id) t (rw k at h)
-      | false ↦ λ k. let bad : Err t ≡ Ok (redeemed_as.Undecided t.id) = rw k at h in absurd cc
-    ] refl
-
-struck : (g : GuessesView) (t : Token) → redeemed g t ≡ Ok (redeemed_as.Struck t.id) → status_of g t.id ≡ Some Struck
-struck g t h =
-    elim (t.kernel == g.kernel) as (λ b. (t.kernel == g.kernel) ≡ b → status_of g t.id ≡ Some Struck) [
-      | true ↦ λ k. struck_at (status_of g t.id) t (rw k at h)
-      | false ↦ λ k. let bad : Err t ≡ Ok (redeemed_as.Struck t.id) = rw k at h in absurd cc
-    ] refl
-
-pub commit_told : (result : Result Outcome Stranger) (o : Outcome) (t : Token) (old new : KernelView) → CommitPost result t old new → result ≡ Ok o → CommitTold (outcome_told o) true t.id old new
-commit_told (Ok outcomes.Done) o t old new h e =
-    let same : o ≡ outcomes.Done = cc in
-    rw same (refl, undecided old.guesses t h.0, h.1)
-commit_told (Ok outcomes.Gone) o t old new h e =
-    let same : o ≡ outcomes.Gone = cc in
-    rw same (refl, struck old.guesses t h.0, h.1)
+pub commit_told : (result : Result Outcome Stranger) (o : Outcome) (t : Token) (old new : KernelView) → CommitPost result t old new → result ≡ Ok o → DecisionTold (outcome_told o) (events.Commit t.id) true t.id old new
+commit_told (Ok x) o t old new h e =
+    let same : o ≡ x = cc in
+    rw same (decision_told x t (events.Commit t.id) old new h)
 commit_told (Err s) o t old new h e = absurd cc
 
-pub fail_told : (result : Result Outcome FailRefusal) (o : Outcome) (t : Token) (old new : KernelView) → FailPost result t old new → result ≡ Ok o → FailTold (outcome_told o) true t.id old new
-fail_told (Ok outcomes.Done) o t old new h e =
-    let same : o ≡ outcomes.Done = cc in
-    rw same (refl, undecided old.guesses t h.0, h.1)
-fail_told (Ok outcomes.Gone) o t old new h e =
-    let same : o ≡ outcomes.Gone = cc in
-    rw same (refl, struck old.guesses t h.0, h.1)
+pub fail_told : (result : Result Outcome FailRefusal) (o : Outcome) (t : Token) (old new : KernelView) → FailPost result t old new → result ≡ Ok o → DecisionTold (outcome_told o) (events.Fail t.id) true t.id old new
+fail_told (Ok x) o t old new h e =
+    let same : o ≡ x = cc in
+    rw same (decision_told x t (events.Fail t.id) old new h)
 fail_told (Err s) o t old new h e = absurd cc

@@ -13,17 +13,17 @@ use Rattle.sk_play.specs.Played.{answer_line}
 use Rattle.sk_play.specs.Plays.{Plays, answer_lines, Reported}
 
 pub plays_more : (ss : List Call) (bs : List Answer) (s : Call) (a : Answer) (ts us : List Token) (k mid last : KernelView) → Plays ss bs ts k us mid → AnswerMatches a s us mid last
-    → Plays (ss ++ s ∷ []) (bs ++ a ∷ []) ts k (tokens_after a s mid.guesses.kernel us) last
+    → Plays (ss ++ s ∷ []) (bs ++ a ∷ []) ts k (tokens_after a s mid.number us) last
 plays_more [] [] s a ts us k mid last p told = rw (← p.0, ← p.1) (last, told, (refl, refl))
 plays_more [] (b ∷ bs) s a ts us k mid last p told = absurd p
 plays_more (x ∷ ss) [] s a ts us k mid last p told = absurd p
-plays_more (x ∷ ss) (b ∷ bs) s a ts us k mid last p told = (p.0, p.1, plays_more ss bs s a (tokens_after b x k.guesses.kernel ts) us p.0 mid last p.2 told)
+plays_more (x ∷ ss) (b ∷ bs) s a ts us k mid last p told = (p.0, p.1, plays_more ss bs s a (tokens_after b x k.number ts) us p.0 mid last p.2 told)
 
 pub one_each : (ss : List Call) (bs : List Answer) (ts us : List Token) (k last : KernelView) → Plays ss bs ts k us last → length bs ≡ length ss
 one_each [] [] ts us k last p = refl
 one_each [] (b ∷ bs) ts us k last p = absurd p
 one_each (x ∷ ss) [] ts us k last p = absurd p
-one_each (x ∷ ss) (b ∷ bs) ts us k last p = ap suc (one_each ss bs (tokens_after b x k.guesses.kernel ts) us p.0 last p.2)
+one_each (x ∷ ss) (b ∷ bs) ts us k last p = ap suc (one_each ss bs (tokens_after b x k.number ts) us p.0 last p.2)
 
 pub lines_more : (n : ℕ) (bs : List Answer) (a : Answer) → answer_lines n (bs ++ a ∷ []) ≡ answer_lines n bs ++ answer_line (n + length bs) a
 lines_more n [] a =

@@ -1,3 +1,4 @@
 pub mod Played
 pub mod Session
 pub mod Plays
+pub mod Replays

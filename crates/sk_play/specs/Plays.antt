@@ -19,7 +19,7 @@ Plays [] [] tokens kernel left last = (left ≡ tokens) × (last ≡ kernel)
 Plays [] (a ∷ answers) tokens kernel left last = ⊥
 Plays (s ∷ steps) [] tokens kernel left last = ⊥
 Plays (s ∷ steps) (a ∷ answers) tokens kernel left last =
-    (next : KernelView) × AnswerMatches a s tokens kernel next × Plays steps answers (tokens_after a s kernel.guesses.kernel tokens) next left last
+    (next : KernelView) × AnswerMatches a s tokens kernel next × Plays steps answers (tokens_after a s kernel.number tokens) next left last
 
 -- a line for each answer, numbered from here
 abbrev pub answer_lines : ℕ → List Answer → List ℕ

@@ -1,49 +1,72 @@
 -- The tokens that a run holds.
-use Rattle.std.specs.Prelude.{◌≡◌, Option, Some, None, ℕ, zero, suc, Bool, true, false, not, ◌&&◌, ◌==◌, List, [], ◌∷◌, ◌++◌, is_ok, if◌then◌else◌}
+use Rattle.std.specs.Prelude.{◌≡◌, Option, Some, None, ℕ, zero, suc, Bool, true, false, not, ◌&&◌, ◌==◌, List, [], ◌∷◌, ◌++◌, if◌then◌else◌}
 use Rattle.std.specs.List.{list_all, list_any}
 use Rattle.sk_guesses.specs.Token.{Token}
-use Rattle.sk_guesses.specs.Guesses.{GuessesView, next_of, status_of}
 use Rattle.sk_record.specs.declared.status.Status.TheVariants.{Undecided, Struck}
-use Rattle.sk_guesses.specs.Calls.{redeemed}
 use Rattle.sk_plain.specs.declared.refusal.Refusal.{Refusal}
 use Rattle.sk_trace.specs.Entry.{EntryView}
+use Rattle.sk_trace.specs.declared.event.Event.{Event}
+use Rattle.sk_trace.specs.declared.event.Event.TheVariants as events
 use Rattle.sk_script.specs.declared.instruction.Input.{Input}
 use Rattle.sk_scenario.specs.declared.call.Call.{Call}
 use Rattle.sk_scenario.specs.declared.call.Call.TheVariants as calls
-use Rattle.sk_kernel.specs.Kernel.{KernelView, step_refused, stepped, guess_refused, guessed, IsCommitted, IsFailed}
+use Rattle.sk_kernel.specs.Kernel.{KernelView, HasStatus, next_guess, with_event, step_refused, guess_refused}
 use Rattle.sk_kernel.specs.declared.kernel.Outcome.{Outcome}
 use Rattle.sk_kernel.specs.declared.kernel.Outcome.TheVariants as outcomes
 use Rattle.sk_play.specs.declared.answer.Answer.{Answer}
 use Rattle.sk_play.specs.declared.answer.Answer.TheVariants as answers
 
+-- whether an event makes a guess, whether it commits it, and whether it fails it
+abbrev pub makes : ℕ → Event → Bool
+makes id (events.Step pid input) = false
+makes id (events.Guess g pid input) = g == id
+makes id (events.Commit g) = false
+makes id (events.Fail g) = false
+
+abbrev pub commits : ℕ → Event → Bool
+commits id (events.Step pid input) = false
+commits id (events.Guess g pid input) = false
+commits id (events.Commit g) = g == id
+commits id (events.Fail g) = false
+
+abbrev pub fails : ℕ → Event → Bool
+fails id (events.Step pid input) = false
+fails id (events.Guess g pid input) = false
+fails id (events.Commit g) = false
+fails id (events.Fail g) = g == id
+
+-- whether a token is not spent: it is the kernel's own, and the trace has its guess and no decision of it
+abbrev pub is_unspent : KernelView → Token → Bool
+is_unspent k t = (t.kernel == k.number) && (list_any (makes t.id) k.trace && (not (list_any (commits t.id) k.trace) && not (list_any (fails t.id) k.trace)))
+
 -- whether no token is that of this guess
 abbrev pub none_of : ℕ → List Token → Bool
 none_of id tokens = list_all (λ t. not (t.id == id)) tokens
 
--- whether a kernel with these guesses takes each token, and no two are of one guess
-abbrev pub all_taken : GuessesView → List Token → Bool
-all_taken g [] = true
-all_taken g (t ∷ ts) = is_ok (redeemed g t) && (none_of t.id ts && all_taken g ts)
+-- whether no token is spent, and no two are of one guess
+abbrev pub all_unspent : KernelView → List Token → Bool
+all_unspent k [] = true
+all_unspent k (t ∷ ts) = is_unspent k t && (none_of t.id ts && all_unspent k ts)
 
 -- ---- what the run answers, in terms of the kernel's calls
 
 -- a step: it is taken, or the first cause that stands against it is told and nothing changes
-abbrev pub StepTold : Answer → Option Refusal → KernelView → KernelView → KernelView → Type 0
-StepTold answers.Stepped refused old after new = (refused ≡ None) × (new ≡ after)
-StepTold (answers.Refused why) refused old after new = (refused ≡ Some why) × (new ≡ old)
-StepTold (answers.Guessed id) refused old after new = ⊥
-StepTold answers.Done refused old after new = ⊥
-StepTold answers.Gone refused old after new = ⊥
-StepTold answers.NoToken refused old after new = ⊥
+abbrev pub StepTold : Answer → Option Refusal → Event → KernelView → KernelView → Type 0
+StepTold answers.Stepped refused event old new = (refused ≡ None) × (new ≡ with_event old event)
+StepTold (answers.Refused why) refused event old new = (refused ≡ Some why) × (new ≡ old)
+StepTold (answers.Guessed id) refused event old new = ⊥
+StepTold answers.Done refused event old new = ⊥
+StepTold answers.Gone refused event old new = ⊥
+StepTold answers.NoToken refused event old new = ⊥
 
 -- the same for a guess, whose number is the next one
-abbrev pub GuessTold : Answer → Option Refusal → KernelView → KernelView → KernelView → Type 0
-GuessTold (answers.Guessed id) refused old after new = (refused ≡ None) × (id ≡ next_of old.guesses) × (new ≡ after)
-GuessTold (answers.Refused why) refused old after new = (refused ≡ Some why) × (new ≡ old)
-GuessTold answers.Stepped refused old after new = ⊥
-GuessTold answers.Done refused old after new = ⊥
-GuessTold answers.Gone refused old after new = ⊥
-GuessTold answers.NoToken refused old after new = ⊥
+abbrev pub GuessTold : Answer → Option Refusal → Event → KernelView → KernelView → Type 0
+GuessTold (answers.Guessed id) refused event old new = (refused ≡ None) × (id ≡ next_guess old) × (new ≡ with_event old event)
+GuessTold (answers.Refused why) refused event old new = (refused ≡ Some why) × (new ≡ old)
+GuessTold answers.Stepped refused event old new = ⊥
+GuessTold answers.Done refused event old new = ⊥
+GuessTold answers.Gone refused event old new = ⊥
+GuessTold answers.NoToken refused event old new = ⊥
 
 -- whether some token is that of this guess
 abbrev pub is_held : ℕ → List Token → Bool
@@ -74,31 +97,24 @@ outcome_told outcomes.Done = answers.Done
 outcome_told outcomes.Gone = answers.Gone
 
 -- a decision: the guess of a held token is decided, or was struck before; without a token nothing changes
-abbrev pub DecisionTold : (KernelView → ℕ → KernelView → Type 0) → Answer → Bool → ℕ → KernelView → KernelView → Type 0
-DecisionTold IsDecided answers.Done held id old new = (held ≡ true) × (status_of old.guesses id ≡ Some Undecided) × IsDecided old id new
-DecisionTold IsDecided answers.Gone held id old new = (held ≡ true) × (status_of old.guesses id ≡ Some Struck) × (new ≡ old)
-DecisionTold IsDecided answers.NoToken held id old new = (held ≡ false) × (new ≡ old)
-DecisionTold IsDecided answers.Stepped held id old new = ⊥
-DecisionTold IsDecided (answers.Guessed other) held id old new = ⊥
-DecisionTold IsDecided (answers.Refused why) held id old new = ⊥
-
-abbrev pub CommitTold : Answer → Bool → ℕ → KernelView → KernelView → Type 0
-CommitTold answer held id old new = DecisionTold IsCommitted answer held id old new
-
-abbrev pub FailTold : Answer → Bool → ℕ → KernelView → KernelView → Type 0
-FailTold answer held id old new = DecisionTold IsFailed answer held id old new
+abbrev pub DecisionTold : Answer → Event → Bool → ℕ → KernelView → KernelView → Type 0
+DecisionTold answers.Done event held id old new = (held ≡ true) × HasStatus old id Undecided × (new ≡ with_event old event)
+DecisionTold answers.Gone event held id old new = (held ≡ true) × HasStatus old id Struck × (new ≡ old)
+DecisionTold answers.NoToken event held id old new = (held ≡ false) × (new ≡ old)
+DecisionTold answers.Stepped event held id old new = ⊥
+DecisionTold (answers.Guessed other) event held id old new = ⊥
+DecisionTold (answers.Refused why) event held id old new = ⊥
 
 abbrev pub entry : ℕ → Input → Option ℕ → EntryView
 entry pid input guess = record { pid = pid; input = input; guess = guess }
 
 -- what is answered to one step of a scenario, and what it leaves
 abbrev pub AnswerMatches : Answer → Call → List Token → KernelView → KernelView → Type 0
-AnswerMatches answer (calls.Step pid input) tokens old new =
-    StepTold answer (step_refused old (entry pid input None)) old (stepped old (entry pid input None)) new
+AnswerMatches answer (calls.Step pid input) tokens old new = StepTold answer (step_refused old (entry pid input None)) (events.Step pid input) old new
 AnswerMatches answer (calls.Guess pid input) tokens old new =
-    GuessTold answer (guess_refused old (entry pid input (Some (next_of old.guesses)))) old (guessed old (entry pid input (Some (next_of old.guesses)))) new
-AnswerMatches answer (calls.Commit id) tokens old new = CommitTold answer (is_held id tokens) id old new
-AnswerMatches answer (calls.Fail id) tokens old new = FailTold answer (is_held id tokens) id old new
+    GuessTold answer (guess_refused old (entry pid input (Some (next_guess old)))) (events.Guess (next_guess old) pid input) old new
+AnswerMatches answer (calls.Commit id) tokens old new = DecisionTold answer (events.Commit id) (is_held id tokens) id old new
+AnswerMatches answer (calls.Fail id) tokens old new = DecisionTold answer (events.Fail id) (is_held id tokens) id old new
 
 -- the tokens that are held after a step of a scenario: a guess gives one, and a decision spends one
 abbrev pub tokens_after : Answer → Call → ℕ → List Token → List Token

@@ -2,7 +2,9 @@
 #![tactic(auto)]
 
 pub mod answer;
+pub mod replaying;
 pub mod session;
 
 pub use answer::{Answer, write_answer};
+pub use replaying::{Unreplayed, replay};
 pub use session::Session;

@@ -1,10 +1,10 @@
 //! A kernel at play, with the tokens of its guesses.
 ghost use Rattle.std.specs.Prelude.{MatchResult, IfOk, OnErr, [], None, Some, ◌≡◌, ◌+◌, ◌<◌, IfSome, true, vec_len, is_some};
 ghost use Rattle.std.specs.List.{remove};
-ghost use Rattle.sk_play.specs.Session.{all_taken, is_held, id_at, outcome_told, entry, without_token, with_guess, tokens_after, AnswerMatches, StepTold, GuessTold, CommitTold, FailTold};
+ghost use Rattle.sk_play.specs.Session.{all_unspent, is_held, id_at, outcome_told, entry, without_token, with_guess, tokens_after, AnswerMatches, StepTold, GuessTold, DecisionTold};
 ghost use Rattle.sk_play.specs.Plays.{declared_kernel};
-ghost use Rattle.sk_guesses.specs.Guesses.{next_of};
-ghost use Rattle.sk_kernel.specs.Kernel.{step_refused, stepped, guess_refused, guessed};
+ghost use Rattle.sk_kernel.specs.Kernel.{step_refused, guess_refused, next_guess};
+ghost use Rattle.sk_trace.specs.declared.event.Event.TheVariants as events;
 ghost use Rattle.sk_plain.specs.Refusal.{cause};
 
 use crate::answer::Answer;
@@ -20,7 +20,7 @@ use std::alloc::{AllocError, Global};
 pub struct Session {
     kernel: Kernel,
     tokens: Vec<Guess>,
-    ghost held: { all_taken kernel.guesses tokens.items ≡ true },
+    ghost held: { all_unspent kernel tokens.items ≡ true },
 }
 
 impl Session {
@@ -50,7 +50,7 @@ impl Session {
 
     /// Makes the call that a step says. Without memory nothing changes.
     pub fn execute(&mut self, step: &Call) -> Result<Answer, AllocError>
-        ensures tokens { IfOk result (λ answer. self.new.tokens.items ≡ tokens_after answer step.now self.old.kernel.guesses.kernel self.old.tokens.items) }
+        ensures tokens { IfOk result (λ answer. self.new.tokens.items ≡ tokens_after answer step.now self.old.kernel.number self.old.tokens.items) }
         ensures held { OnErr result (self.new.tokens.items ≡ self.old.tokens.items) }
         ensures told { MatchResult result (λ answer. AnswerMatches answer step.now self.old.tokens.items self.old.kernel self.new.kernel) (λ _. self.new.kernel ≡ self.old.kernel) }
     {
@@ -64,7 +64,7 @@ impl Session {
 
     fn step(&mut self, pid: Pid, input: Input) -> Result<Answer, AllocError>
         ensures tokens { self.new.tokens.items ≡ self.old.tokens.items }
-        ensures told { MatchResult result (λ answer. StepTold answer (step_refused self.old.kernel (entry pid input None)) self.old.kernel (stepped self.old.kernel (entry pid input None)) self.new.kernel) (λ _. self.new.kernel ≡ self.old.kernel) }
+        ensures told { MatchResult result (λ answer. StepTold answer (step_refused self.old.kernel (entry pid input None)) (events.Step pid input) self.old.kernel self.new.kernel) (λ _. self.new.kernel ≡ self.old.kernel) }
     {
         match self.kernel.step(pid, input) {
             Ok(()) => Ok(Answer::Stepped),
@@ -73,9 +73,9 @@ impl Session {
     }
 
     fn guess(&mut self, pid: Pid, input: Input) -> Result<Answer, AllocError>
-        ensures tokens { IfOk result (λ answer. self.new.tokens.items ≡ with_guess answer self.old.kernel.guesses.kernel self.old.tokens.items) }
+        ensures tokens { IfOk result (λ answer. self.new.tokens.items ≡ with_guess answer self.old.kernel.number self.old.tokens.items) }
         ensures held { OnErr result (self.new.tokens.items ≡ self.old.tokens.items) }
-        ensures told { MatchResult result (λ answer. GuessTold answer (guess_refused self.old.kernel (entry pid input (Some (next_of self.old.kernel.guesses)))) self.old.kernel (guessed self.old.kernel (entry pid input (Some (next_of self.old.kernel.guesses)))) self.new.kernel) (λ _. self.new.kernel ≡ self.old.kernel) }
+        ensures told { MatchResult result (λ answer. GuessTold answer (guess_refused self.old.kernel (entry pid input (Some (next_guess self.old.kernel)))) (events.Guess (next_guess self.old.kernel) pid input) self.old.kernel self.new.kernel) (λ _. self.new.kernel ≡ self.old.kernel) }
     {
         self.tokens.reserve(1)?;
         match self.kernel.create_speculation(pid, input) {
@@ -90,7 +90,7 @@ impl Session {
 
     fn commit(&mut self, id: GuessId) -> Answer
         ensures tokens { self.new.tokens.items ≡ without_token id self.old.tokens.items }
-        ensures told { CommitTold result (is_held id self.old.tokens.items) id self.old.kernel self.new.kernel }
+        ensures told { DecisionTold result (events.Commit id) (is_held id self.old.tokens.items) id self.old.kernel self.new.kernel }
     {
         match self.place_of(id) {
             Some(place) => self.commit_at(place),
@@ -103,7 +103,7 @@ impl Session {
         requires { place < vec_len self.old.tokens }
         ensures less { vec_len self.new.tokens + 1 ≡ vec_len self.old.tokens }
         ensures tokens { self.new.tokens.items ≡ remove self.old.tokens.items place }
-        ensures told { IfSome (id_at self.old.tokens.items place) (λ id. CommitTold result true id self.old.kernel self.new.kernel) }
+        ensures told { IfSome (id_at self.old.tokens.items place) (λ id. DecisionTold result (events.Commit id) true id self.old.kernel self.new.kernel) }
     {
         let token = self.tokens.remove(place);
         match self.kernel.commit_speculation(token) {
@@ -114,7 +114,7 @@ impl Session {
 
     fn fail(&mut self, id: GuessId) -> Answer
         ensures tokens { self.new.tokens.items ≡ without_token id self.old.tokens.items }
-        ensures told { FailTold result (is_held id self.old.tokens.items) id self.old.kernel self.new.kernel }
+        ensures told { DecisionTold result (events.Fail id) (is_held id self.old.tokens.items) id self.old.kernel self.new.kernel }
     {
         match self.place_of(id) {
             Some(place) => self.fail_at(place),
@@ -126,7 +126,7 @@ impl Session {
     fn fail_at(&mut self, place: usize) -> Answer
         requires { place < vec_len self.old.tokens }
         ensures tokens { self.new.tokens.items ≡ remove self.old.tokens.items place }
-        ensures told { IfSome (id_at self.old.tokens.items place) (λ id. FailTold result true id self.old.kernel self.new.kernel) }
+        ensures told { IfSome (id_at self.old.tokens.items place) (λ id. DecisionTold result (events.Fail id) true id self.old.kernel self.new.kernel) }
     {
         let token = self.tokens.remove(place);
         match self.kernel.fail_speculation(token) {

@@ -1,10 +1,10 @@
 -- Lists of guesses that rise and have the same members are the same. So what a step's footprint rests on, put together as a set, is the step's tags.
-use Rattle.std.proofs.Common.{◌≡◌, ℕ, ◌<◌, Bool, true, false, ◌&&◌, ◌||◌, eqb, ltb, List, [], ◌∷◌, ◌++◌, Option, Some, None, inl, inr, refl, sym, ◌∙◌, ap, subst, arith}
+use Rattle.std.proofs.Common.{◌≡◌, ℕ, ◌<◌, true, false, ◌&&◌, eqb, ltb, List, [], ◌∷◌, ◌++◌, Option, Some, None, inl, inr, refl, sym, ◌∙◌, subst, arith}
 use Rattle.std.specs.Prelude.{◌==◌}
 use Rattle.std.specs.Ordering.{nat_cmp}
 use Rattle.std.specs.declared.cmp.Ordering.TheVariants.{Less, Equal, Greater}
-use Rattle.std.specs.Cmp.{nat_cmp_is}
-use Rattle.std.specs.List.{AllByRecursion, list_any, filter}
+use Rattle.std.specs.Cmp.{both_ways, nat_cmp_is}
+use Rattle.std.specs.List.{AllByRecursion, list_any}
 use Rattle.std.specs.List.Sorted.{IsStrictlySortedBy}
 use Rattle.std.proofs.lemmas.Bool.{or_cases, or_left, or_right, true≢false, eq-eqb, eqb-true, eqb-false, ltb-true, ltb-false}
 use Rattle.std.proofs.lemmas.List.Folds.{list_any-append}
@@ -38,11 +38,6 @@ above x (y ∷ ys) g all here =
       | inr later ↦ above x ys g all.1 later
     ]
 
-either_way : (a b : Bool) → (a ≡ true → b ≡ true) → (b ≡ true → a ≡ true) → a ≡ b
-either_way true b f g = sym (f refl)
-either_way false true f g = g refl
-either_way false false f g = refl
-
 -- the first of two rising lists with the same members is the same
 first_same : (x y : ℕ) (xs ys : List ℕ) → AllByRecursion (λ z. nat_cmp x z ≡ Less) xs → AllByRecursion (λ z. nat_cmp y z ≡ Less) ys
     → has x (y ∷ ys) ≡ true → has y (x ∷ xs) ≡ true → x ≡ y
@@ -71,7 +66,7 @@ same_rising [] (y ∷ ys) s t h = absurd (true≢false (sym (itself y ys) ∙ sy
 same_rising (x ∷ xs) [] s t h = absurd (true≢false (sym (itself x xs) ∙ h x))
 same_rising (x ∷ xs) (y ∷ ys) s t h =
     let same = first_same x y xs ys s.0 t.0 (sym (h x) ∙ itself x xs) (h y ∙ itself y ys) in
-    let rest = same_rising xs ys s.1 t.1 (λ g. either_way _ _
+    let rest = same_rising xs ys s.1 t.1 (λ g. both_ways _ _
     (rest_within x y xs ys same s.0 h g)
     (rest_within y x ys xs (sym same) t.0 (λ k. sym (h k)) g)) in
     (λ i. same i ∷ rest i)

@@ -2,7 +2,7 @@
 use Rattle.std.proofs.Common.{◌≡◌, ℕ, suc, ◌<◌, Bool, true, false, not, ◌&&◌, ◌||◌, List, [], ◌∷◌, ◌++◌, Option, Some, None, Ok, Err, IsOk, inl, inr, refl, sym, ◌∙◌, ap, subst, arith, append_assoc}
 use Rattle.std.specs.Prelude.{◌==◌, ◌⊎◌, ◌↔◌}
 use Rattle.std.specs.List.{list_any, fold, Contains}
-use Rattle.std.specs.Cmp.{IsTotalOrder}
+use Rattle.std.specs.Cmp.{both_ways, IsTotalOrder}
 use Rattle.std.specs.FinMap.{FinMap, IsAntisymmetric}
 use Rattle.std.proofs.lemmas.Bool.{or_parts, or_cases, or_from, true≢false, eq-eqb, eqb-true, true_from_ne_false, false_from_ne_true}
 use Rattle.std.proofs.lemmas.List.Folds.{list_any-append}
@@ -184,13 +184,8 @@ apart_other true false true apart none = none refl
 apart_other true false false apart none = refl
 apart_other false f x apart none = refl
 
-pub either_way : (a b : Bool) → (a ≡ true → b ≡ true) → (b ≡ true → a ≡ true) → a ≡ b
-either_way true b f g = sym (f refl)
-either_way false true f g = g refl
-either_way false false f g = refl
-
 pub eqb_turned : (a b : ℕ) → (a == b) ≡ (b == a)
-eqb_turned a b = either_way (a == b) (b == a) (λ is. ap (λ x. b == x) (eqb-true a b is) ∙ eq-eqb b b refl) (λ is. ap (λ x. a == x) (eqb-true b a is) ∙ eq-eqb a a refl)
+eqb_turned a b = both_ways (a == b) (b == a) (λ is. ap (λ x. b == x) (eqb-true a b is) ∙ eq-eqb b b refl) (λ is. ap (λ x. a == x) (eqb-true b a is) ∙ eq-eqb a a refl)
 
 pub or_no : (b : Bool) → (b || false) ≡ b
 or_no true = refl

@@ -1,7 +1,7 @@
 -- The report of a kernel, and that of a plain kernel.
-use Rattle.std.specs.Prelude.{ℕ, List, [], ◌∷◌, ◌++◌, flat_map, codes, decimal, length, Option, Some, None}
+use Rattle.std.specs.Prelude.{ℕ, List, [], ◌∷◌, ◌++◌, map, flat_map, codes, decimal, length, Option, Some, None}
 use Rattle.std.specs.Ordering.{nat_cmp}
-use Rattle.std.specs.FinMap as map
+use Rattle.std.specs.FinMap as finmap
 use Rattle.std.specs.BTreeSet.{insert_key}
 use Rattle.sk_ids.specs.declared.entity.Entity.{Entity}
 use Rattle.sk_store.specs.declared.entity_state.EntityState.{EntityState}
@@ -9,7 +9,7 @@ use Rattle.sk_store.specs.declared.entity_state.EntityState.TheVariants as store
 use Rattle.sk_record.specs.Machine.{released}
 use Rattle.sk_terminal.specs.Terminal.{TaggedText, waiting_of}
 use Rattle.sk_plain.specs.Plain.{PlainView, texts_said}
-use Rattle.sk_kernel.specs.Kernel.{KernelView, tags_at, undecided}
+use Rattle.sk_kernel.specs.Kernel.{KernelView, state_at, tags_at, texts_at, undecided_at}
 use Rattle.sk_words.specs.Spelling.{spelled}
 use Rattle.sk_report.specs.Printed.{tags_text, process_text, value_text, entity_text}
 
@@ -25,25 +25,29 @@ line_with (Some s) e end = entity_text e ++ 32 ∷ stored_text s ++ end ++ 10 �
 
 -- an entity with its tags
 abbrev pub entity_line : KernelView → Entity → List ℕ
-entity_line k e = line_with (map.get k.written.now e) e (codes " tags " ++ tags_text (tags_at k e))
+entity_line k e = line_with (finmap.get (state_at k) e) e (codes " tags " ++ tags_text (tags_at k e))
 
 -- an entity of a plain kernel
 abbrev pub plain_entity_line : PlainView → Entity → List ℕ
-plain_entity_line k e = line_with (map.get k.state e) e []
+plain_entity_line k e = line_with (finmap.get k.state e) e []
 
 -- the released texts, a literal a line
 abbrev pub texts_lines : List (List ℕ) → List ℕ
 texts_lines texts = flat_map (λ text. spelled text ++ 10 ∷ []) texts
 
-abbrev pub terminal_lines : ℕ → List TaggedText → List ℕ
-terminal_lines number texts =
-    codes "terminal " ++ decimal number ++ codes " released " ++ decimal (length (released texts)) ++ codes " waiting " ++ decimal (waiting_of texts)
-    ++ 10 ∷ texts_lines (released texts)
+-- the line of a terminal with so many texts released and so many that wait
+abbrev pub counts_line : ℕ → ℕ → ℕ → List ℕ
+counts_line number out waiting = codes "terminal " ++ decimal number ++ codes " released " ++ decimal out ++ codes " waiting " ++ decimal waiting ++ 10 ∷ []
 
--- the lines of a terminal; without texts they are those of an empty one
-abbrev pub terminal_said : ℕ → Option (List TaggedText) → List ℕ
-terminal_said number None = codes "terminal " ++ decimal number ++ codes " released 0 waiting 0\n"
-terminal_said number (Some texts) = terminal_lines number texts
+abbrev pub terminal_lines : ℕ → List TaggedText → List ℕ
+terminal_lines number texts = counts_line number (length (released texts)) (waiting_of texts) ++ texts_lines (released texts)
+
+-- what was said to a terminal, each text with the undecided guesses that it depends on
+abbrev pub said_there : KernelView → ℕ → List TaggedText
+said_there k number = map (λ s. (s.0.text, s.1)) (texts_at k number)
+
+abbrev pub terminal_said : KernelView → ℕ → List ℕ
+terminal_said k number = terminal_lines number (said_there k number)
 
 -- the lines of a terminal of a plain kernel, to which all that was said is out
 abbrev pub plain_terminal_said : PlainView → ℕ → List ℕ
@@ -51,7 +55,7 @@ plain_terminal_said k number =
     codes "terminal " ++ decimal number ++ codes " said " ++ decimal (length (texts_said k number)) ++ 10 ∷ texts_lines (texts_said k number)
 
 abbrev pub last_line : KernelView → List ℕ
-last_line k = codes "trace " ++ decimal (length k.trace) ++ codes " undecided " ++ decimal (undecided k) ++ 10 ∷ []
+last_line k = codes "trace " ++ decimal (length k.trace) ++ codes " undecided " ++ decimal (length (undecided_at k)) ++ 10 ∷ []
 
 -- the number of steps that were run
 abbrev pub steps_line : ℕ → List ℕ
@@ -76,8 +80,8 @@ body_text look terminal entity es = flat_map terminal (with_terminals look [] es
 
 -- the terminals, the entities that are present by their order, and the last line
 abbrev pub report_text : KernelView → List ℕ
-report_text k = body_text (map.get k.written.now) (λ n. terminal_said n (map.get k.texts n)) (entity_line k) (map.keys k.written.now) ++ last_line k
+report_text k = body_text (finmap.get (state_at k)) (terminal_said k) (entity_line k) (finmap.keys (state_at k)) ++ last_line k
 
 -- the same of a plain kernel that has run so many steps
 abbrev pub plain_report_text : PlainView → ℕ → List ℕ
-plain_report_text k steps = body_text (map.get k.state) (plain_terminal_said k) (plain_entity_line k) (map.keys k.state) ++ steps_line steps
+plain_report_text k steps = body_text (finmap.get k.state) (plain_terminal_said k) (plain_entity_line k) (finmap.keys k.state) ++ steps_line steps

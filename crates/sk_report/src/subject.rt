@@ -2,13 +2,15 @@
 ghost use Rattle.std.specs.Prelude.{OnOk};
 ghost use Rattle.std.specs.Io.KnownBytes.{Appends};
 ghost use Rattle.std.specs.FinMap as map;
-ghost use Rattle.sk_report.specs.Report.{terminal_said, texts_lines, entity_line, plain_terminal_said, plain_entity_line};
+ghost use Rattle.sk_kernel.specs.Kernel.{state_at};
+ghost use Rattle.sk_report.specs.Report.{counts_line, terminal_lines, terminal_said, texts_lines, entity_line, plain_terminal_said, plain_entity_line};
 
 use crate::{PrintedEntity, PrintedTags, PrintedView};
 use sk_ids::{Entity, Text};
 use sk_kernel::Kernel;
 use sk_plain::{Plain, View};
 use sk_script::words::Literal;
+use sk_terminal::Terminal;
 use std::io;
 use std::io::Write;
 
@@ -45,9 +47,9 @@ pub trait Subject {
 }
 
 impl Subject for Kernel {
-    ghost look = { λ k. map.get k.written.now };
+    ghost look = { λ k. map.get (state_at k) };
 
-    ghost terminal_lines = { λ k number. terminal_said number (map.get k.texts number) };
+    ghost terminal_lines = { terminal_said };
 
     ghost line_of = { entity_line };
 
@@ -57,16 +59,8 @@ impl Subject for Kernel {
 
     fn write_terminal<W: Write>(&self, number: u16, out: &mut W) -> io::Result<()> {
         match self.terminal(number) {
-            Some(terminal) => {
-                let released = terminal.released().len();
-                let waiting = terminal.waiting();
-                writeln!(
-                    out,
-                    "terminal {number} released {released} waiting {waiting}"
-                )?;
-                write_texts(terminal.released(), out)
-            }
-            None => writeln!(out, "terminal {number} released 0 waiting 0"),
+            Some(terminal) => write_shown(number, terminal, out),
+            None => write_counts(number, 0, 0, out),
         }
     }
 
@@ -111,6 +105,32 @@ impl Subject for Plain {
             None => Ok(()),
         }
     }
+}
+
+/// Writes how many texts a terminal has released and how many wait.
+fn write_counts<W: Write>(
+    number: u16,
+    released: usize,
+    waiting: usize,
+    out: &mut W,
+) -> io::Result<()>
+    ensures { OnOk result (Appends (W.contents out.old) (W.contents out.new)
+        (counts_line number released waiting)) }
+{
+    writeln!(
+        out,
+        "terminal {number} released {released} waiting {waiting}"
+    )
+}
+
+/// Writes the counts of a terminal, and its released texts.
+fn write_shown<W: Write>(number: u16, terminal: &Terminal, out: &mut W) -> io::Result<()>
+    ensures { OnOk result (Appends (W.contents out.old) (W.contents out.new)
+        (terminal_lines number terminal.now)) }
+{
+    let released = terminal.released();
+    write_counts(number, released.len(), terminal.waiting(), out)?;
+    write_texts(released, out)
 }
 
 /// Writes texts, a literal a line.

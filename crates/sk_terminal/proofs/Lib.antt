@@ -1,2 +1,4 @@
 pub mod Views
 pub mod TerminalMaps
+pub mod SaidTo
+mod HeldTexts

@@ -1,2 +1,3 @@
 pub mod Terminal
 pub mod Terminals
+pub mod Held

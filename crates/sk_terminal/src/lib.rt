@@ -5,6 +5,8 @@ mod buffered_text;
 pub mod laws;
 pub mod terminal;
 pub mod terminals;
+pub mod texts;
 
 pub use terminal::Terminal;
 pub use terminals::Terminals;
+pub use texts::Texts;

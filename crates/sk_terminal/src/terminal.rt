@@ -1,7 +1,9 @@
 //! The texts said to one terminal.
-ghost use Rattle.std.specs.Prelude.{◌≡◌, ◌+◌, ◌≤◌, ◌++◌, ◌∷◌, [], length, map, drop, OnOk, OnErr};
+ghost use Rattle.std.specs.Prelude.{◌≡◌, ◌+◌, ◌≤◌, ◌++◌, ◌∷◌, [], ℕ, true, false, not, length, map, take, drop, OnOk, OnErr};
 ghost use Rattle.std.specs.Vec.{vec_capacity};
-ghost use Rattle.std.specs.List.{prefix_len};
+ghost use Rattle.std.specs.List.{prefix_len, list_all, list_any, filter};
+ghost use Rattle.sk_record.specs.Notes.{has};
+ghost use Rattle.sk_terminal.specs.Held.{texts_of, AreBounded};
 ghost use Rattle.sk_record.specs.Machine.{released, lightened, not_dropped};
 ghost use Rattle.sk_terminal.specs.Terminal.{is_clear, clear, waiting_of};
 
@@ -15,7 +17,17 @@ use std::marker::Model;
 #[derive(Drop)]
 pub struct Terminal {
     out: Vec<Text>,
-    waiting: Vec<BufferedText>,
+    waiting: Vec<Held>,
+    /// At least each guess that a text rested on.
+    newest: u64,
+}
+
+/// A text that waits.
+#[derive(Drop)]
+pub(crate) struct Held {
+    said: BufferedText,
+    /// At least each guess that this text or one before it rests on.
+    newest: u64,
 }
 
 impl Model for Terminal {
@@ -23,12 +35,13 @@ impl Model for Terminal {
     ghost use Rattle.std.specs.Vec.{vec_capacity};
     ghost use Rattle.sk_record.specs.Machine.{released};
     ghost use Rattle.sk_terminal.specs.Terminal.{TaggedText, clear};
+    ghost use Rattle.sk_terminal.specs.Held.{texts_of, AreBounded};
 
     ghost Value = { List TaggedText };
 
-    ghost view = { λ a. map clear a.out.items ++ a.waiting.items };
+    ghost view = { λ a. map clear a.out.items ++ texts_of a.waiting.items };
 
-    ghost invariant = { λ a. (released a.waiting.items ≡ []) × (length a.out.items + length a.waiting.items ≤ vec_capacity a.out) };
+    ghost invariant = { λ a. (released (texts_of a.waiting.items) ≡ []) × (length a.out.items + length a.waiting.items ≤ vec_capacity a.out) × AreBounded 0 a.waiting.items a.newest };
 }
 
 impl Terminal {
@@ -39,6 +52,7 @@ impl Terminal {
         Terminal {
             out: Vec::new(alloc),
             waiting: Vec::new(alloc),
+            newest: 0,
         }
     }
 
@@ -48,12 +62,15 @@ impl Terminal {
         ensures refused { OnErr result (self.new ≡ self.old) }
     {
         self.out.reserve(self.waiting.len() + 1)?;
-        self.waiting.push(BufferedText::new(text, tags))?;
+        let newest = newest_of(self.newest, &tags);
+        let said = BufferedText::new(text, tags);
+        self.waiting.push(Held { said, newest })?;
+        self.newest = newest;
         release(&mut self.out, &mut self.waiting);
         Ok(())
     }
 
-    /// A guess is committed: no text rests on it any more.
+    /// A guess is committed: no text rests on it any more. This looks at the texts said since it was drawn.
     pub fn commit(&mut self, id: GuessId)
         ensures { self.new ≡ lightened id self.old }
     {
@@ -84,57 +101,123 @@ impl Terminal {
     }
 }
 
+/// The greatest of a number and the guesses of a set.
+fn newest_of(newest: u64, tags: &TagSet) -> u64
+    ensures above { newest ≤ result }
+    ensures tags { (g : ℕ) → has g tags.now ≡ true → g ≤ result }
+{
+    let mut greatest = newest;
+    for id in tags.ids() {
+        greatest = greatest.max(id.number());
+    }
+    greatest
+}
+
 /// Releases the texts before the first that rests on a guess, into room that is there.
-fn release(out: &mut Vec<Text>, waiting: &mut Vec<BufferedText>)
+fn release(out: &mut Vec<Text>, waiting: &mut Vec<Held>)
     requires { length out.old.items + length waiting.old.items ≤ vec_capacity out.old }
-    ensures texts { map clear out.new.items ++ waiting.new.items ≡ map clear out.old.items ++ waiting.old.items }
-    ensures held { released waiting.new.items ≡ [] }
+    ensures texts { map clear out.new.items ++ texts_of waiting.new.items ≡ map clear out.old.items ++ texts_of waiting.old.items }
+    ensures held { released (texts_of waiting.new.items) ≡ [] }
     ensures room { length out.new.items + length waiting.new.items ≤ vec_capacity out.new }
+    ensures bounds { (high : ℕ) → AreBounded 0 waiting.old.items high → AreBounded 0 waiting.new.items high }
 {
     let count = clear_count(waiting.as_slice());
-    append(out, &waiting[..count]);
-    drop_front(waiting, count);
+    if count > 0 {
+        append(out, &waiting[..count]);
+        drop_front(waiting, count);
+    }
 }
 
 /// How many texts stand before the first that rests on a guess.
-fn clear_count(texts: &[BufferedText]) -> usize
-    ensures { result ≡ prefix_len is_clear texts.now }
+fn clear_count(texts: &[Held]) -> usize
+    ensures { result ≡ prefix_len (λ h. is_clear h.said) texts.now }
 {
-    texts.iter().take_while(|said| said.is_clear()).count()
+    texts.iter().take_while(|held| is_clear_text(*held)).count()
+}
+
+fn is_clear_text(held: &Held) -> bool
+    ensures { result ≡ is_clear held.now.said }
+{
+    held.said.is_clear()
 }
 
 /// Appends the texts, into room that is there.
-fn append(out: &mut Vec<Text>, texts: &[BufferedText])
+fn append(out: &mut Vec<Text>, texts: &[Held])
     requires { length out.old.items + length texts.now ≤ vec_capacity out.old }
-    ensures texts { out.new.items ≡ out.old.items ++ map (λ said. said.0) texts.now }
+    ensures texts { out.new.items ≡ out.old.items ++ map (λ h. h.said.0) texts.now }
     ensures room { vec_capacity out.new ≡ vec_capacity out.old }
 {
-    for said in texts {
-        out.push_reserved(said.text());
+    for held in texts {
+        out.push_reserved(held.said.text());
     }
 }
 
 /// Drops the first texts.
-fn drop_front(texts: &mut Vec<BufferedText>, count: usize)
+fn drop_front(texts: &mut Vec<Held>, count: usize)
     requires { count ≤ length texts.old.items }
     ensures { texts.new.items ≡ drop count texts.old.items }
 {
     texts.drain(..count);
 }
 
-/// Takes a guess from every text.
-fn take_out(texts: &mut Vec<BufferedText>, id: GuessId)
-    ensures { texts.new.items ≡ lightened id texts.old.items }
+/// Takes a guess from the texts that may rest on it.
+fn take_out(texts: &mut Vec<Held>, id: GuessId)
+    ensures texts { (high : ℕ) → AreBounded 0 texts.old.items high → texts_of texts.new.items ≡ lightened id (texts_of texts.old.items) }
+    ensures bounds { (high : ℕ) → AreBounded 0 texts.old.items high → AreBounded 0 texts.new.items high }
+    ensures as_many { length texts.new.items ≡ length texts.old.items }
 {
-    for said in texts.iter_mut() {
-        said.without(id);
+    let mut before = texts.as_slice().len();
+    while before > 0 && texts[before - 1].newest >= id.number() {
+        before -= 1;
+        texts[before].said.without(id);
     }
 }
 
-/// Throws away the texts that rest on a guess.
-fn throw_away(texts: &mut Vec<BufferedText>, id: GuessId)
-    ensures texts { texts.new.items ≡ not_dropped id texts.old.items }
+/// Where the texts begin that stand last and rest on a guess.
+fn resting_from(texts: &[Held], id: GuessId) -> usize
+    ensures within { result ≤ length texts.now }
+    ensures rest { list_all (λ h. has id h.said.1) (drop result texts.now) ≡ true }
+{
+    let mut from = texts.len();
+    while from > 0 && texts[from - 1].said.rests_on(id) {
+        from -= 1;
+    }
+    from
+}
+
+/// Whether a text before this place may rest on a guess.
+fn may_rest_before(texts: &[Held], place: usize, id: GuessId) -> bool
+    requires { place ≤ length texts.now }
+    ensures { (high : ℕ) → AreBounded 0 texts.now high → result ≡ false → list_any (λ h. has id h.said.1) (take place texts.now) ≡ false }
+{
+    if place == 0 {
+        return false;
+    }
+    if texts[place - 1].newest < id.number() {
+        return false;
+    }
+    true
+}
+
+/// Throws away the texts that rest on a guess. Those that stand last go at once, without a look at those
+/// that were said before it was drawn.
+fn throw_away(texts: &mut Vec<Held>, id: GuessId)
+    ensures texts { (high : ℕ) → AreBounded 0 texts.old.items high → texts_of texts.new.items ≡ not_dropped id (texts_of texts.old.items) }
+    ensures bounds { (high : ℕ) → AreBounded 0 texts.old.items high → AreBounded 0 texts.new.items high }
     ensures fewer { length texts.new.items ≤ length texts.old.items }
 {
-    texts.retain(|said| !said.rests_on(id));
+    let from = resting_from(texts.as_slice(), id);
+    if may_rest_before(texts.as_slice(), from, id) {
+        drop_resting(texts, id);
+        return;
+    }
+    texts.truncate(from);
+}
+
+/// Drops the texts that rest on a guess, one by one.
+fn drop_resting(texts: &mut Vec<Held>, id: GuessId)
+    ensures texts { texts.new.items ≡ filter (λ h. not (has id h.said.1)) texts.old.items }
+    ensures fewer { length texts.new.items ≤ length texts.old.items }
+{
+    texts.retain(|held| !held.said.rests_on(id));
 }

@@ -1,5 +1,5 @@
 //! All that happened in a kernel, in order.
-ghost use Rattle.std.specs.Prelude.{◌≡◌, ◌<◌, ◌+◌, ◌≤◌, ◌∷◌, ◌++◌, [], All, OnOk, IfOk, length, vec_len, vec_capacity};
+ghost use Rattle.std.specs.Prelude.{◌≡◌, ◌<◌, ◌+◌, ◌≤◌, ◌∷◌, ◌++◌, [], All, OnOk, OnErr, IfOk, length, vec_len, vec_capacity};
 ghost use Rattle.std.specs.Str.Lines.{lines};
 ghost use Rattle.sk_words.specs.Lines.{last_line};
 ghost use Rattle.sk_trace.specs.Event.{IsEvent};
@@ -102,11 +102,13 @@ impl Trace {
         let _events = &self.events;
     }
 
-    /// Makes room for so many more events. The events stay.
+    /// Makes room for so many more events, which only fails where there is less. The events stay.
     pub fn reserve(&mut self, more: usize) -> Result<(), AllocError>
         ensures events { self.new.events ≡ self.old.events }
         ensures room { OnOk result (more ≤ self.new.room) }
         ensures kept { self.old.room ≤ self.new.room }
+        ensures full { OnErr result (self.old.room < more) }
+        ensures err { OnErr result (self.new.room ≡ self.old.room) }
     {
         self.events.reserve(more)
     }

@@ -1,8 +1,7 @@
 -- What a commit leaves of a log.
-use Rattle.std.proofs.Common.{◌≡◌, ℕ, Bool, true, false, cond, not, ◌&&◌, ◌||◌, List, [], ◌∷◌, ◌++◌, Option, refl, sym, ◌∙◌, ap, subst}
+use Rattle.std.proofs.Common.{◌≡◌, ℕ, true, false, cond, not, ◌&&◌, List, [], ◌∷◌, ◌++◌, Option, refl, sym, ◌∙◌, ap, subst}
 use Rattle.std.specs.Prelude.{◌==◌, reverse}
 use Rattle.std.specs.List.{list_all}
-use Rattle.std.specs.List.Retain.{RetainsInTurn}
 use Rattle.std.proofs.lemmas.Bool.{true≢false, or_left, or_parts, eq-eqb}
 use Rattle.std.proofs.lemmas.Grind.{reverse_onto}
 use Rattle.std.proofs.lemmas.List.{reverse-reverse}
@@ -18,7 +17,7 @@ use Rattle.sk_undo.proofs.SeenNotes.{AllSeen, grow_head, grow_tail}
 has_without : (g : ℕ) (tags : List ℕ) → has g (without g tags) ≡ false
 has_without g tags = has_filter (λ t. not (t == g)) g tags ∙ ap (λ b. not b && has g tags) (eq-eqb g g refl)
 
-without_free : (g : ℕ) (tags : List ℕ) → has g tags ≡ false → without g tags ≡ tags
+pub without_free : (g : ℕ) (tags : List ℕ) → has g tags ≡ false → without g tags ≡ tags
 without_free g [] none = refl
 without_free g (t ∷ tags) none =
     let parts = or_parts _ _ none in
@@ -86,41 +85,17 @@ module _ {V : Type 0} where
   pub grow_commit : (g : ℕ) (ns : List (Note V)) → IsGrowing ns → IsGrowing (committed g ns)
   grow_commit g ns grows h = carried_commit g h ns grows
 
--- ---- notes that are there, and `retain_mut` with a closure that knows whether a note was kept
+-- ---- notes that are there
 module _ {U : Type 0} where
   light_more : (g : ℕ) (xs : List (RawNote U)) (n : RawNote U) → lightened g (xs ++ n ∷ []) ≡ lightened g xs ++ record { tags = without g n.tags; undo = n.undo } ∷ []
   light_more g [] n = refl
   light_more g (x ∷ xs) n = ap (λ ys. record { tags = without g x.tags; undo = x.undo } ∷ ys) (light_more g xs n)
 
-  light_reverse : (g : ℕ) (xs : List (RawNote U)) → reverse (lightened g xs) ≡ lightened g (reverse xs)
+  pub light_reverse : (g : ℕ) (xs : List (RawNote U)) → reverse (lightened g xs) ≡ lightened g (reverse xs)
   light_reverse g [] = refl
   light_reverse g (n ∷ ns) =
       let m : RawNote U = record { tags = without g n.tags; undo = n.undo } in
       reverse_onto (lightened g ns) m [] ∙ ap (λ ys. ys ++ m ∷ []) (light_reverse g ns) ∙ sym (light_more g (reverse ns) n) ∙ ap (lightened g) (sym (reverse_onto ns n []))
-
-  abbrev from : Bool → List (RawNote U) → List (RawNote U)
-  from true ns = ns
-  from false ns = dropped ns
-
-  one_more : (k : Bool) (n : RawNote U) (ns : List (RawNote U))
-      → cond (k || not (is_empty n.tags)) (n ∷ from (k || not (is_empty n.tags)) ns) (from (k || not (is_empty n.tags)) ns) ≡ from k (n ∷ ns)
-  one_more true n ns = refl
-  one_more false n ns = elim (is_empty n.tags) as (λ e. cond (not e) (n ∷ from (not e) ns) (from (not e) ns) ≡ cond e (dropped ns) (n ∷ ns)) [ true ↦ refl | false ↦ refl ]
-
-  from_none : (k : Bool) → [] ≡ from k []
-  from_none true = refl
-  from_none false = refl
-
-  pub turned_notes : {S : Type 0} (keeps : S → Bool) (of : S → ℕ) (R : S → RawNote U → Bool → S → RawNote U → Type 0) (g : ℕ)
-      → ((s : S) (x : RawNote U) (b : Bool) (t : S) (y : RawNote U) → R s x b t y → of s ≡ g
-      → (y ≡ record { tags = without g x.tags; undo = x.undo }) × (b ≡ (keeps s || not (is_empty (without g x.tags)))) × (keeps t ≡ b) × (of t ≡ g))
-      → (s : S) (xs ys : List (RawNote U)) → of s ≡ g → RetainsInTurn R s xs ys → ys ≡ from (keeps s) (lightened g xs)
-  turned_notes keeps of R g h s [] ys is_g told = told ∙ from_none (keeps s)
-  turned_notes keeps of R g h s (x ∷ xs) ys is_g (b, t, y, step, zs, later, is) =
-      let n : RawNote U = record { tags = without g x.tags; undo = x.undo } in
-      let says = h s x b t y step is_g in
-      let rest : zs ≡ from (keeps s || not (is_empty n.tags)) (lightened g xs) = turned_notes keeps of R g h t xs zs says.3 later ∙ ap (λ k. from k (lightened g xs)) (says.2 ∙ says.1) in
-      is ∙ (λ i. cond (says.1 i) (says.0 i ∷ rest i) (rest i)) ∙ one_more (keeps s) n (lightened g xs)
 
 -- ---- what is left can still be undone
 module _ {U V : Type 0} (fits : U → Option V → Type 0) (undone : U → Option V → Option V) where
@@ -128,20 +103,13 @@ module _ {U V : Type 0} (fits : U → Option V → Type 0) (undone : U → Optio
   undone_all v [] zs can = tt
   undone_all v (n ∷ ns) zs can = (can.0, undone_all (undone n.undo v) ns zs can.1)
 
-  light_can : (g : ℕ) (v : Option V) (ns : List (RawNote U)) → CanGoBack fits undone v ns → CanGoBack fits undone v (lightened g ns)
-  light_can g v [] can = tt
-  light_can g v (n ∷ ns) can = (can.0, light_can g (undone n.undo v) ns can.1)
-
-  dropped_can : (v : Option V) (xs : List (RawNote U)) → CanGoBack fits undone v (reverse xs) → CanGoBack fits undone v (reverse (dropped xs))
+  pub dropped_can : (v : Option V) (xs : List (RawNote U)) → CanGoBack fits undone v (reverse xs) → CanGoBack fits undone v (reverse (dropped xs))
   dropped_can v [] can = can
   dropped_can v (n ∷ ns) can =
       elim (is_empty n.tags) as (λ b. CanGoBack fits undone v (reverse (cond b (dropped ns) (n ∷ ns)))) [
         | true ↦ dropped_can v ns (undone_all v (reverse ns) (n ∷ []) (subst (CanGoBack fits undone v) (reverse_onto ns n []) can))
         | false ↦ can
       ]
-
-  pub commit_can : (g : ℕ) (v : Option V) (xs : List (RawNote U)) → CanGoBack fits undone v (reverse xs) → CanGoBack fits undone v (reverse (dropped (lightened g xs)))
-  commit_can g v xs can = dropped_can v (lightened g xs) (subst (CanGoBack fits undone v) (sym (light_reverse g xs)) (light_can g v (reverse xs) can))
 
 -- ---- and is seen as a commit leaves it
 module _ {U V : Type 0} (undone : U → Option V → Option V) where

@@ -33,15 +33,15 @@ module _ {U V : Type 0} (undone : U → Option V → Option V) where
 
 -- ---- one more note
 module _ {U : Type 0} where
-  abbrev AllRest : ℕ → List (RawNote U) → Type 0
+  abbrev pub AllRest : ℕ → List (RawNote U) → Type 0
   AllRest g ns = list_all (λ n. has g n.tags) ns ≡ true
 
   -- the tags of the last note, or these
-  abbrev last_on : List ℕ → List (RawNote U) → List ℕ
+  abbrev pub last_on : List ℕ → List (RawNote U) → List ℕ
   last_on tags [] = tags
   last_on tags (n ∷ ns) = last_on n.tags ns
 
-  abbrev newest_or : List ℕ → List (RawNote U) → List ℕ
+  abbrev pub newest_or : List ℕ → List (RawNote U) → List ℕ
   newest_or tags [] = tags
   newest_or tags (n ∷ ns) = n.tags
 
@@ -49,15 +49,15 @@ module _ {U : Type 0} where
   newest_onto tags [] x = refl
   newest_onto tags (r ∷ rs) x = refl
 
-  newest_last : (tags : List ℕ) (ns : List (RawNote U)) → newest_or tags (reverse ns) ≡ last_on tags ns
+  pub newest_last : (tags : List ℕ) (ns : List (RawNote U)) → newest_or tags (reverse ns) ≡ last_on tags ns
   newest_last tags [] = refl
   newest_last tags (x ∷ ns) = ap (newest_or tags) (reverse_onto ns x []) ∙ newest_onto tags (reverse ns) x ∙ newest_last x.tags ns
 
-  newest_is : (rs : List (RawNote U)) → newest_tags rs ≡ newest_or [] rs
+  pub newest_is : (rs : List (RawNote U)) → newest_tags rs ≡ newest_or [] rs
   newest_is [] = refl
   newest_is (r ∷ rs) = refl
 
-  last_rests : (g : ℕ) (tags : List ℕ) (ns : List (RawNote U)) → AllRest g ns → has g tags ≡ true → has g (last_on tags ns) ≡ true
+  pub last_rests : (g : ℕ) (tags : List ℕ) (ns : List (RawNote U)) → AllRest g ns → has g tags ≡ true → has g (last_on tags ns) ≡ true
   last_rests g tags [] all here = here
   last_rests g tags (n ∷ ns) all here = let both = and_both _ _ all in last_rests g n.tags ns both.1 both.0
 

@@ -5,3 +5,5 @@ pub mod Commits
 pub mod Passes
 pub mod Opening
 pub mod Growing
+pub mod Present
+mod NewestNotes

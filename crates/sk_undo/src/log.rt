@@ -1,9 +1,10 @@
 //! The writes of one value, each with the guesses that it rests on and with what undoes it.
-ghost use Rattle.std.specs.Prelude.{◌≡◌, ◌+◌, ◌++◌, ◌∷◌, [], OnOk, OnErr, IsOk, reverse};
+ghost use Rattle.std.specs.Prelude.{◌≡◌, ◌≤◌, ◌+◌, ◌++◌, ◌∷◌, [], false, length, take, drop, Option, OnOk, OnErr, IsOk, reverse};
 ghost use Rattle.std.specs.Vec.{vec_len};
+ghost use Rattle.std.specs.List.{prefix_len};
 ghost use Rattle.sk_record.specs.Notes.{unwound, cut};
 ghost use Rattle.sk_record.specs.UndoState.{IsGrowing};
-ghost use Rattle.sk_undo.specs.Log.{is_empty, seen, log_of, CanGoBack, HasNote, HasRoom, before_last, less, rests_last, newest_tags, lightened, dropped};
+ghost use Rattle.sk_undo.specs.Log.{is_empty, seen, log_of, CanGoBack, HasNote, HasRoom, before_last, less, rests_last, newest_tags, lightened, dropped, Grows};
 
 use sk_ids::{GuessId, TagSet};
 use std::alloc::{AllocError, Global};
@@ -42,16 +43,49 @@ pub struct Log<U> {
     ghost none: { no_tags ≡ [] },
 }
 
-/// Takes a guess out of all tags, and drops the oldest notes up to the first that then has any.
-fn lighten<U: Undoing>(notes: &mut Vec<Note<U>>, guess: GuessId)
-    ensures { notes.new.items ≡ dropped (lightened guess notes.old.items) }
+/// Takes a guess out of the tags of the newest notes, back to the first that does not rest on it, and
+/// answers how many notes stand up to that one.
+fn lighten<U: Undoing>(notes: &mut Vec<Note<U>>, guess: GuessId) -> usize
+    ensures notes { notes.new.items ≡ take result notes.old.items ++ lightened guess (drop result notes.old.items) }
+    ensures before { rests_last guess (reverse (take result notes.old.items)) ≡ false }
 {
-    let mut keeps = false;
-    notes.retain_mut(|note: &mut Note<U>| {
-        note.tags.without(guess);
-        keeps = keeps || !note.tags.ids().is_empty();
-        keeps
-    });
+    let mut before = notes.as_slice().len();
+    while before > 0 && notes[before - 1].tags.contains(guess) {
+        before -= 1;
+        notes[before].tags.without(guess);
+    }
+    before
+}
+
+/// How many of the oldest notes stand before the first that has tags.
+fn bare_count<U: Undoing>(notes: &[Note<U>]) -> usize
+    ensures { result ≡ prefix_len (λ n. is_empty n.tags) notes.now }
+{
+    notes.iter().take_while(|note| is_bare(*note)).count()
+}
+
+fn is_bare<U: Undoing>(note: &Note<U>) -> bool
+    ensures { result ≡ is_empty note.now.tags }
+{
+    note.tags.ids().is_empty()
+}
+
+/// Drops the oldest notes, up to the first that has tags.
+fn drop_bare<U: Undoing>(notes: &mut Vec<Note<U>>)
+    ensures { notes.new.items ≡ dropped notes.old.items }
+{
+    let bare = bare_count(notes.as_slice());
+    if bare > 0 {
+        drop_front(notes, bare);
+    }
+}
+
+/// Drops the oldest notes.
+fn drop_front<U: Undoing>(notes: &mut Vec<Note<U>>, count: usize)
+    requires { count ≤ length notes.old.items }
+    ensures { notes.new.items ≡ drop count notes.old.items }
+{
+    notes.drain(..count);
 }
 
 impl<U: Undoing> Log<U> {
@@ -136,11 +170,14 @@ impl<U: Undoing> Log<U> {
         }
     }
 
-    /// Takes a guess out of all notes, and drops those that then rest on nothing: they are the
-    /// oldest, where each note rests on what those before it rest on. It takes no memory.
+    /// Takes a guess out of all notes, and drops those that then rest on nothing. The first are the
+    /// newest, and the others the oldest, where each note rests on what those before it rest on. It takes
+    /// no memory, and looks at the notes alone that rest on the guess.
     pub fn commit(&mut self, guess: GuessId)
-        ensures { self.new.notes.items ≡ dropped (lightened guess self.old.notes.items) }
+        ensures notes { Grows self.old.notes.items → self.new.notes.items ≡ dropped (lightened guess self.old.notes.items) }
+        ensures can { (now : Option U.Of) → CanGoBack U.fits U.undone now (reverse self.old.notes.items) → CanGoBack U.fits U.undone now (reverse self.new.notes.items) }
     {
         lighten(&mut self.notes, guess);
+        drop_bare(&mut self.notes);
     }
 }

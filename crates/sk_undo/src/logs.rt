@@ -1,9 +1,12 @@
 //! What performs the writes of steps, and notes what takes them back with the guesses that they rest on.
-ghost use Rattle.std.specs.Prelude.{◌≡◌, [], not, IfOk};
+ghost use Rattle.std.specs.Prelude.{◌≡◌, [], not, is_some, IfOk};
 ghost use Rattle.std.specs.FinMap as map;
+ghost use Rattle.std.specs.List.Sorted.{IsStrictlySortedBy};
+ghost use Rattle.sk_ids.specs.Entity.{entity_cmp};
 ghost use Rattle.sk_ids.specs.declared.entity.Entity.{Entity};
 ghost use Rattle.sk_undo.specs.Logs.{look_at, log_at};
 ghost use Rattle.std.specs.Option.{option_copied, unwrap_or};
+ghost use Rattle.sk_record.specs.Effects.{is_in};
 ghost use Rattle.sk_record.specs.Notes.{last_tags};
 ghost use Rattle.sk_undo.specs.Log.{is_empty};
 ghost use Rattle.sk_undo.specs.Decisions.{Unwound, Lightened, AreListed, AllRest, AllGrow, NoneBare};
@@ -80,6 +83,14 @@ impl Logs {
         ensures { unwrap_or (option_copied result) [] ≡ last_tags [] (log_at self.now.slots entity) }
     {
         self.slots.tags(entity)
+    }
+
+    /// The entities that are present, by their order, each once.
+    pub fn entities(&self) -> Result<Vec<Entity>, AllocError>
+        ensures rising { IfOk result (λ all. IsStrictlySortedBy entity_cmp all.items) }
+        ensures present { IfOk result (λ all. (e : Entity) → is_in entity_cmp all.items e ≡ is_some (look_at self.now.slots e)) }
+    {
+        self.slots.entities()
     }
 
     /// Whether something is noted of an entity.

@@ -1,11 +1,13 @@
 //! All entities with their undo logs, in one map.
-ghost use Rattle.std.specs.Prelude.{◌≡◌, [], false, not, OnOk, OnErr, IfOk, OnSome, IsSome, Some, None};
+ghost use Rattle.std.specs.Prelude.{◌≡◌, [], false, not, OnOk, OnErr, IfOk, OnSome, IsSome, Some, None, is_some};
 ghost use Rattle.std.specs.Option.{option_copied, option_copied_mut, unwrap_or};
 ghost use Rattle.std.specs.FinMap as map;
+ghost use Rattle.std.specs.List.Sorted.{IsStrictlySortedBy};
 ghost use Rattle.std.specs.Borrow.{LendsSo, sem};
 ghost use Rattle.std.specs.Ordering.{eq_by_cmp};
 ghost use Rattle.sk_ids.specs.Entity.{entity_cmp};
 ghost use Rattle.sk_ids.specs.declared.entity.Entity.{Entity};
+ghost use Rattle.sk_record.specs.Effects.{is_in};
 ghost use Rattle.sk_record.specs.Notes.{last_tags};
 ghost use Rattle.sk_store.specs.Changed.{FitsAt, changed};
 ghost use Rattle.sk_undo.specs.Log.{is_empty};
@@ -132,6 +134,16 @@ impl Slots {
             Some(slot) => Some(slot.tags()),
             None => None,
         }
+    }
+
+    /// The entities that are present, by their order, each once.
+    pub fn entities(&self) -> Result<Vec<Entity>, AllocError>
+        ensures rising { IfOk result (λ all. IsStrictlySortedBy entity_cmp all.items) }
+        ensures present { IfOk result (λ all. (e : Entity) → is_in entity_cmp all.items e ≡ is_some (look_at self.now e)) }
+    {
+        let mut all: Vec<Entity> = self.slots.keys().copied().collect(self.alloc)?;
+        all.retain(|entity: &Entity| self.value(*entity).is_some());
+        Ok(all)
     }
 
     fn slot_mut(&mut self, entity: &Entity) -> Option<&mut Slot>

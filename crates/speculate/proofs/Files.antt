@@ -14,13 +14,14 @@ use Rattle.sk_scenario.specs.declared.call.Call.{Call}
 use Rattle.sk_scenario.specs.declared.scenario.Scenario.{Scenario}
 use Rattle.sk_command.specs.declared.end.End.{End}
 use Rattle.sk_command.specs.declared.end.End.TheVariants as ends
-use Rattle.sk_command.specs.CommandLine.{Wish, Play, Plain}
+use Rattle.sk_command.specs.CommandLine.{Wish, Play, Plain, Replay}
 use Rattle.sk_command.specs.Ends.{IsWritten, fault_end}
 use Rattle.sk_command.specs.ReadAll.{INPUT_LIMIT}
 use Rattle.sk_play.proofs.Turns.{reported_kept}
 use Rattle.sk_play.specs.Plays.{Reported, declared_kernel}
 use Rattle.speculate.specs.Plainly.{IsRunPlainly}
-use Rattle.speculate.specs.Run.{played_text, EndsFile, EndsInSection, EndsPlain, EndsPlayed, EndsRead, EndsText}
+use Rattle.speculate.specs.Replayed.{IsReplayed}
+use Rattle.speculate.specs.Run.{played_text, EndsFile, EndsInSection, EndsPlain, EndsPlayed, EndsReplayed, EndsRead, EndsText}
 
 -- a text never ends a run as faulty words do
 fault_no_usage : (kind : FaultKind) → fault_end kind ≢ ends.Usage
@@ -37,6 +38,9 @@ section_no_usage (Play file trace) d (Trace es) old new h = absurd cc
 section_no_usage (Plain file) d (Steps steps) old new h = absurd cc
 section_no_usage (Plain file) d World old new h = absurd cc
 section_no_usage (Plain file) d (Trace es) old new h = h
+section_no_usage (Replay file) d (Steps steps) old new h = absurd cc
+section_no_usage (Replay file) d World old new h = absurd cc
+section_no_usage (Replay file) d (Trace es) old new h = h
 
 read_no_usage : (wish : Wish) (read : Result Scenario Fault) (old new : Option (List ℕ)) → EndsRead wish read ends.Usage old new → ⊥
 read_no_usage wish (Ok s) old new h = section_no_usage wish s.declarations (section_view s.section) old new h
@@ -71,3 +75,12 @@ plain_out boot es ends.Fault buffer old mid new written run kept = absurd writte
 plain_out boot es ends.Usage buffer old mid new written run kept = written
 plain_out boot es ends.Trouble buffer old mid new written run kept = tt
 plain_out boot es ends.OutputRefused buffer old mid new written run kept = tt
+
+-- a trace that happened again
+pub replayed_out : (d : Declared) (es : List Event) (end : End) (buffer : List ℕ) (old mid new : Option (List ℕ)) → IsWritten end buffer
+    → IsReplayed [] (declared_kernel d) es old mid → Keeps mid new → EndsReplayed d es end old new
+replayed_out d es ends.Done buffer old mid new written run kept = (run.0, run.1, run.2, Appends-kept old mid new _ run.3 kept)
+replayed_out d es ends.Fault buffer old mid new written run kept = absurd written
+replayed_out d es ends.Usage buffer old mid new written run kept = written
+replayed_out d es ends.Trouble buffer old mid new written run kept = tt
+replayed_out d es ends.OutputRefused buffer old mid new written run kept = tt

@@ -15,10 +15,11 @@ use Rattle.sk_play.specs.Plays.{Reported, declared_kernel}
 use Rattle.sk_report.specs.Report.{report_text}
 use Rattle.sk_command.specs.declared.end.End.{End}
 use Rattle.sk_command.specs.declared.end.End.TheVariants as ends
-use Rattle.sk_command.specs.CommandLine.{Wish, Play, Plain, wish_file, Asks, EndsWithoutJob}
+use Rattle.sk_command.specs.CommandLine.{Wish, Play, Plain, Replay, wish_file, Asks, EndsWithoutJob}
 use Rattle.sk_command.specs.Ends.{EndsUnwritten, fault_end}
 use Rattle.sk_command.specs.ReadAll.{INPUT_LIMIT}
 use Rattle.speculate.specs.Plainly.{IsRunPlainly, IsFaulty}
+use Rattle.speculate.specs.Replayed.{IsReplayed, IsUnreplayed}
 
 -- what is printed of the kernel that the steps leave: its report, and then its trace where that is wanted
 abbrev pub played_text : Bool → KernelView → List ℕ
@@ -43,6 +44,15 @@ EndsPlain boot es ends.Usage old new = ⊥
 EndsPlain boot es ends.Trouble old new = ⊤
 EndsPlain boot es ends.OutputRefused old new = ⊤
 
+-- a trace is replayed: where the run ends well, all of it happens again and the output has the report; of one that does not the output has
+-- nothing; else memory ran out or a write was refused
+abbrev pub EndsReplayed : Declared → List Event → End → Option (List ℕ) → Option (List ℕ) → Type 0
+EndsReplayed d es ends.Done old new = IsReplayed [] (declared_kernel d) es old new
+EndsReplayed d es ends.Fault old new = IsUnreplayed d es × Keeps old new
+EndsReplayed d es ends.Usage old new = ⊥
+EndsReplayed d es ends.Trouble old new = ⊤
+EndsReplayed d es ends.OutputRefused old new = ⊤
+
 -- what is wished is done with the section below the declarations; a section that it doesn't take is a fault of the file
 abbrev pub EndsInSection : Wish → Declared → SectionView → End → Option (List ℕ) → Option (List ℕ) → Type 0
 EndsInSection (Play file trace) d (Steps steps) end old new = EndsPlayed trace d steps end old new
@@ -51,6 +61,9 @@ EndsInSection (Play file trace) d (Trace es) end old new = EndsUnwritten ends.Fa
 EndsInSection (Plain file) d (Steps steps) end old new = EndsUnwritten ends.Fault end old new
 EndsInSection (Plain file) d World end old new = EndsUnwritten ends.Fault end old new
 EndsInSection (Plain file) d (Trace es) end old new = EndsPlain d.boot es end old new
+EndsInSection (Replay file) d (Steps steps) end old new = EndsUnwritten ends.Fault end old new
+EndsInSection (Replay file) d World end old new = EndsUnwritten ends.Fault end old new
+EndsInSection (Replay file) d (Trace es) end old new = EndsReplayed d es end old new
 
 -- what reading a text gave is run, or is a fault of which nothing is on the output
 abbrev pub EndsRead : Wish → Result Scenario Fault → End → Option (List ℕ) → Option (List ℕ) → Type 0

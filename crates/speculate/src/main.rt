@@ -3,6 +3,7 @@
 
 pub mod playing;
 pub mod program;
+pub mod replaying;
 pub mod striking;
 #[cfg(test)]
 mod tests;

@@ -3,9 +3,10 @@ ghost use Rattle.std.specs.Prelude.{◌≡◌, map, string_bytes};
 ghost use Rattle.std.specs.Io.Buffered.{writer_buffer, writer_contents};
 ghost use Rattle.sk_command.specs.CommandLine.{wish_of};
 ghost use Rattle.sk_command.specs.Ends.{IsFlushed};
-ghost use Rattle.speculate.specs.Run.{EndsPlain, EndsPlayed, EndsRead, EndsText, EndsWords};
+ghost use Rattle.speculate.specs.Run.{EndsPlain, EndsPlayed, EndsReplayed, EndsRead, EndsText, EndsWords};
 
 use crate::playing::play;
+use crate::replaying::replay_all;
 use crate::striking::{Unrun, run_left};
 use sk_command::end::{End, flushed, tell_entry, tell_fault, tell_wrong_section};
 use sk_command::job::{Job, asked, explain};
@@ -83,6 +84,9 @@ fn run_read<W: Write + Drop, E: Write>(
         (Job::Plain { .. }, Section::Trace(trace)) => {
             run_trace(alloc, declarations.boot(), &trace, out, err)
         }
+        (Job::Replay { .. }, Section::Trace(trace)) => {
+            run_replay(alloc, &declarations, &trace, out, err)
+        }
         _ => tell_wrong_section(err),
     }
 }
@@ -123,6 +127,30 @@ fn run_trace<W: Write + Drop, E: Write>(
     ensures flushed { IsFlushed result (writer_buffer out.new) }
 {
     match run_left(alloc, boot, trace, out) {
+        Ok(()) => flushed(out),
+        Err(Unrun::Entry(number)) => tell_entry(number, err),
+        Err(Unrun::Memory) => {
+            let _ = out.flush();
+            End::Trouble
+        }
+        Err(Unrun::Output) => End::OutputRefused,
+    }
+}
+
+/// Replays a trace, and writes out what the output buffers; or tells its first entry that does not
+/// happen again.
+fn run_replay<W: Write + Drop, E: Write>(
+    alloc: Global,
+    declarations: &Declarations,
+    trace: &Trace,
+    out: &mut BufWriter<W>,
+    err: &mut E,
+) -> End
+    ensures end { EndsReplayed declarations.now trace.now.events result
+        (writer_contents W.contents out.old) (writer_contents W.contents out.new) }
+    ensures flushed { IsFlushed result (writer_buffer out.new) }
+{
+    match replay_all(alloc, declarations, trace, out) {
         Ok(()) => flushed(out),
         Err(Unrun::Entry(number)) => tell_entry(number, err),
         Err(Unrun::Memory) => {

@@ -47,7 +47,7 @@ impl From<AllocError> for Unrun {
 }
 
 /// The same of writing a report.
-fn unrun_by(stop: Stop) -> Unrun
+pub fn unrun_by(stop: Stop) -> Unrun
     ensures { result ≡ unrun_by stop }
 {
     match stop {

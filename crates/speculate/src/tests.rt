@@ -370,7 +370,7 @@ fn too_long_script(rt: HostRuntime) -> Result<(), Fail> {
 }
 
 const NO_SUBCOMMAND: &str = "error: 'speculate' requires a subcommand but one was not provided
-  [subcommands: play, plain]
+  [subcommands: play, plain, replay]
 
 Usage: speculate <COMMAND>
 

@@ -33,3 +33,12 @@ returns-in-plain c =
     let command = c.in_ok-command.command.now in
     let wish = wish_in_rows (subcommand_rows_of matches) command (rows_of found) (name_in_rows matches command c.in_ok-command.ensures.name) c.in_ok-command.ensures.rows in
     rw (wish, ← file, c.in-plain.is) refl
+
+pub returns-in-replay : goal.returns-in-replay
+returns-in-replay c =
+    let found = found_of c.in_ok-command.words.now in
+    let file = c.in_ok-file.ensures ∙ first_value-rows found (codes "FILE") in
+    let matches = c.args.matches.now in
+    let command = c.in_ok-command.command.now in
+    let wish = wish_in_rows (subcommand_rows_of matches) command (rows_of found) (name_in_rows matches command c.in_ok-command.ensures.name) c.in_ok-command.ensures.rows in
+    rw (wish, ← file, c.in-replay.is) refl

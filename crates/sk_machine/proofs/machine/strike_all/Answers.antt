@@ -1,5 +1,5 @@
 -- The failure and the strikes together, and what is undecided still in between.
-use Rattle.std.proofs.Common.{◌≡◌, ap, ◌∙◌}
+use Rattle.std.proofs.Common.{ap, ◌∙◌}
 use Rattle.sk_record.specs.declared.status.Status.TheVariants.{Undecided, Failed}
 use Rattle.sk_guesses.specs.Guesses.{status_of}
 use Rattle.sk_guesses.proofs.Statuses.{status-decided}

@@ -1,6 +1,5 @@
 -- One open guess more is struck, or is left.
-use Rattle.std.proofs.Common.{◌≡◌, ◌<◌, length, ℕ, List, Option, Some, true, false, subst, sym, ap, ◌∙◌, cond, ◌&&◌}
-use Rattle.std.specs.Prelude.{◌==◌, slice_index_or}
+use Rattle.std.proofs.Common.{◌≡◌, Some, true, subst, sym, ap, ◌∙◌, cond}
 use Rattle.sk_record.specs.UndoState.{Open}
 use Rattle.sk_record.specs.declared.status.Status.TheVariants.{Undecided, Struck}
 use Rattle.sk_guesses.specs.Guesses.{status_of}

@@ -1,8 +1,8 @@
 -- The texts gone over are appended.
 use Rattle.std.proofs.Common.{◌≡◌, ◌+◌, ◌++◌, length, map, take}
 use Rattle.std.specs.Vec.{vec_capacity}
-use Rattle.sk_terminal.specs.Terminal.{TaggedText}
+use Rattle.sk_terminal.specs.declared.terminal.Held.{Held}
 use Rattle.sk_terminal.proofs.terminal.append.Given as goal
 
-abbrev pub invariant-loop-said : goal.invariant-loop-said
-invariant-loop-said l = (l.out.items ≡ l.fn.out.items ++ map (λ (said : TaggedText). said.0) (take l.said-index l.texts)) × (length l.out.items ≡ length l.fn.out.items + l.said-index) × (vec_capacity l.out ≡ vec_capacity l.fn.out)
+abbrev pub invariant-loop-held : goal.invariant-loop-held
+invariant-loop-held l = (l.out.items ≡ l.fn.out.items ++ map (λ (h : Held). h.said.0) (take l.held-index l.texts)) × (length l.out.items ≡ length l.fn.out.items + l.held-index) × (vec_capacity l.out ≡ vec_capacity l.fn.out)

@@ -1,10 +1,72 @@
--- One text more is without the guess: from std's lemma on a loop that writes over each element.
-use Rattle.std.proofs.Common.{rules, ◌<◌, length}
-use Rattle.std.proofs.lemmas.List.Edits.{map_over_more}
-use Rattle.sk_record.specs.Notes.{without}
+-- One text more is without the guess, down to one that was said before it was drawn.
+use Rattle.std.proofs.Common.{◌≡◌, ◌-◌, ◌<◌, ℕ, suc, List, length, take, slice_set, false, sym, ◌∙◌, ap, subst, arith}
+use Rattle.std.proofs.lemmas.List.{length-set}
+use Rattle.std.specs.List.{list_any}
+use Rattle.sk_terminal.specs.Terminal.{TaggedText}
+use Rattle.sk_terminal.specs.Held.{texts_of, AreBounded}
+use Rattle.sk_terminal.specs.declared.terminal.Held.{Held}
+use Rattle.sk_terminal.proofs.HeldTexts.{rests, from_before, place_before, free_before, lightened_texts, lightened_bounds}
 use Rattle.sk_terminal.proofs.terminal.take_out.Goals as goal
 
-pub loop-said-preserved : goal.loop-said-preserved
-loop-said-preserved c =
-    let inside : c.loop-said.said-index < length c.args.texts.now.items = search rules in
-    rw (c.without.ensures, ← c.said-item.is) (map_over_more (λ x. (x.0, without c.args.id x.1)) c.args.texts.now.items c.loop-said.said-items c.loop-said.said-index c.said-item.result inside c.loop-said.invariant c.said-item.is)
+pub loop-before-preserved : goal.loop-before-preserved
+loop-before-preserved c =
+    let hs = c.args.texts.now.items in
+    let j = c.loop-before.before - 1 in
+    let some = c.loop-before-test.true in
+    let within = c.loop-before.invariant.1 in
+    let next : c.loop-before.before ≡ suc j = omega arith in
+    let lt : j < length hs = omega arith in (
+      ap (λ (s : TaggedText). slice_set c.loop-before.texts.items j (record { said = s; newest = c.index_mut.result.now.newest })) c.without.ensures
+          ∙ from_before c.args.id c.loop-before.before j hs c.loop-before.texts.items c.index_mut.result.now next lt c.loop-before.invariant.0 c.index_mut.ensures.value,
+      omega arith,
+      length-set c.loop-before.texts.items j _ ∙ c.loop-before.invariant.2,
+    )
+
+pub returns-else-index-number-clause-texts : goal.returns-else-index-number-clause-texts
+returns-else-index-number-clause-texts c high b =
+    let hs = c.args.texts.now.items in
+    let i = c.loop-before.before in
+    let j = i - 1 in
+    let some = c.loop-before-test.true in
+    let within = c.loop-before.invariant.1 in
+    let next : i ≡ suc j = omega arith in
+    let lt : j < length hs = omega arith in
+    let there = place_before c.args.id i j hs c.loop-before.texts.items c.index.result.now next lt c.loop-before.invariant.0 c.index.ensures in
+    let number = c.number.ensures.value in
+    let below = c.if-index-number.false in
+    let less : c.index.result.now.newest < c.args.id = subst (λ n. c.index.result.now.newest < n) number below in
+    let none = free_before c.args.id 0 high i j hs c.index.result.now b next lt there less in
+    ap texts_of c.loop-before.invariant.0 ∙ lightened_texts c.args.id i hs none
+
+pub returns-else-index-number-clause-bounds : goal.returns-else-index-number-clause-bounds
+returns-else-index-number-clause-bounds c high b =
+    let hs = c.args.texts.now.items in
+    let i = c.loop-before.before in
+    let j = i - 1 in
+    let some = c.loop-before-test.true in
+    let within = c.loop-before.invariant.1 in
+    let next : i ≡ suc j = omega arith in
+    let lt : j < length hs = omega arith in
+    let there = place_before c.args.id i j hs c.loop-before.texts.items c.index.result.now next lt c.loop-before.invariant.0 c.index.ensures in
+    let number = c.number.ensures.value in
+    let below = c.if-index-number.false in
+    let less : c.index.result.now.newest < c.args.id = subst (λ n. c.index.result.now.newest < n) number below in
+    let none = free_before c.args.id 0 high i j hs c.index.result.now b next lt there less in
+    subst (λ (xs : List Held). AreBounded 0 xs high) (sym c.loop-before.invariant.0) (lightened_bounds c.args.id i 0 high hs none b)
+
+none_there : (id n : ℕ) (hs : List Held) → n ≡ 0 → list_any (rests id) (take n hs) ≡ false
+none_there id n hs zero_is = ap (λ k. list_any (rests id) (take k hs)) zero_is
+
+pub returns-after-loop-before-clause-texts : goal.returns-after-loop-before-clause-texts
+returns-after-loop-before-clause-texts c high b =
+    let hs = c.args.texts.now.items in
+    let past = c.loop-before-test.false in
+    let zero_is : c.loop-before.before ≡ 0 = omega arith in
+    ap texts_of c.loop-before.invariant.0 ∙ lightened_texts c.args.id c.loop-before.before hs (none_there c.args.id c.loop-before.before hs zero_is)
+
+pub returns-after-loop-before-clause-bounds : goal.returns-after-loop-before-clause-bounds
+returns-after-loop-before-clause-bounds c high b =
+    let hs = c.args.texts.now.items in
+    let past = c.loop-before-test.false in
+    let zero_is : c.loop-before.before ≡ 0 = omega arith in
+    subst (λ (xs : List Held). AreBounded 0 xs high) (sym c.loop-before.invariant.0) (lightened_bounds c.args.id c.loop-before.before 0 high hs (none_there c.args.id c.loop-before.before hs zero_is) b)

@@ -1,6 +1,39 @@
-use Rattle.std.proofs.Common.{refl, rules}
-use Rattle.sk_undo.proofs.Commits.{turned_notes}
+-- One note more is without the guess.
+use Rattle.std.proofs.Common.{◌≡◌, ◌-◌, ◌<◌, suc, length, refl, sym, ◌∙◌, ap, arith, slice_set}
+use Rattle.std.proofs.lemmas.List.{length-set}
+use Rattle.sk_undo.proofs.NewestNotes.{from_end, from_before, stops_there, lightened_from}
 use Rattle.sk_undo.proofs.log.lighten.Goals as goal
 
-pub returns : goal.returns
-returns g c = turned_notes (λ s. s.1.now) (λ s. s.0.now) _ c.args.guess (λ s x b t y step is. search (rules, is)) _ _ _ refl c.retain_mut.ensures.filtered
+pub loop-before-init : goal.loop-before-init
+loop-before-init g c =
+    let ns = c.args.notes.now.items in
+    let long : length c.as_slice-before.result.now ≡ length ns = ap length c.as_slice-before.ensures.value in (
+      from_end c.args.guess ns ∙ ap (λ k. lightened_from c.args.guess k ns) (sym long),
+      omega arith,
+      refl,
+    )
+
+pub loop-before-preserved : goal.loop-before-preserved
+loop-before-preserved g c =
+    let ns = c.args.notes.now.items in
+    let j = c.loop-before.before - 1 in
+    let some = c.loop-before-test.true in
+    let within = c.loop-before.invariant.1 in
+    let next : c.loop-before.before ≡ suc j = omega arith in
+    let lt : j < length ns = omega arith in
+    let item = c.index_mut.ensures.value in (
+      ap (λ tags. slice_set c.loop-before.notes.items j (record { tags = tags; undo = c.index_mut.result.now.undo })) c.without.ensures
+          ∙ from_before c.args.guess c.loop-before.before j ns c.loop-before.notes.items c.index_mut.result.now next lt c.loop-before.invariant.0 item,
+      omega arith,
+      length-set c.loop-before.notes.items j _ ∙ c.loop-before.invariant.2,
+    )
+
+pub returns-else-contains-clause-before : goal.returns-else-contains-clause-before
+returns-else-contains-clause-before g c =
+    let ns = c.args.notes.now.items in
+    let j = c.loop-before.before - 1 in
+    let some = c.loop-before-test.true in
+    let within = c.loop-before.invariant.1 in
+    let next : c.loop-before.before ≡ suc j = omega arith in
+    let lt : j < length ns = omega arith in
+    stops_there c.args.guess c.loop-before.before j ns c.loop-before.notes.items c.index.result.now next lt c.loop-before.invariant.0 c.index.ensures (sym c.if-contains.ensures)

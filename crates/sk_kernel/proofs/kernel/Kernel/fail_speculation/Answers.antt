@@ -1,15 +1,42 @@
--- With the pending guess failed none is undecided, and nothing is left to put back.
-use Rattle.std.proofs.Common.{◌≡◌, Some, refl, sym, subst, rules}
-use Rattle.sk_guesses.specs.Guesses.{status_of}
-use Rattle.sk_record.specs.declared.status.Status.TheVariants.{Undecided, Failed}
-use Rattle.sk_undo.specs.Journal.{Written, written_over}
-use Rattle.sk_kernel.proofs.Wholes.{decided_whole}
+-- The token says what its guess is; a failure is the machine's, with one event more.
+use Rattle.std.proofs.Common.{Ok, [], refl, sym, ◌∙◌, ap}
+use Rattle.sk_trace.specs.declared.event.Event.TheVariants as events
+use Rattle.sk_kernel.specs.contracts.kernel.Kernel.{the_view}
+use Rattle.sk_kernel.proofs.Whole.{grows, open_undecided, opens_rise}
+use Rattle.sk_kernel.proofs.Tokens.{token_undecided, stranger_back, nothing_left, decided_by, kept_place, failed_whole}
 use Rattle.sk_kernel.proofs.kernel.Kernel.fail_speculation.Goals as goal
+
+pub returns-in-Err : goal.returns-in-Err
+returns-in-Err c =
+    let told = stranger_back (the_view c.self.inside) c.self.inside.machine c.self.inside.trace.room c.self.invariant c.args.guess c.args.self.now c.self.view_is c.in-Err.guess (sym c.redeem.ensures ∙ c.in-Err.is) in
+    (told.0, told.1, refl)
+
+pub fail-requires-clause-opens : goal.fail-requires-clause-opens
+fail-requires-clause-opens c = λ g. (open_undecided (the_view c.self.inside) c.self.inside.machine c.self.invariant.stands g).0
+
+pub fail-requires-clause-rising : goal.fail-requires-clause-rising
+fail-requires-clause-rising c = opens_rise (the_view c.self.inside) c.self.inside.machine c.self.invariant.stands
+
+pub fail-requires-clause-grow : goal.fail-requires-clause-grow
+fail-requires-clause-grow c = grows (the_view c.self.inside) c.self.inside.machine c.self.invariant.stands
+
+pub push-requires : goal.push-requires
+push-requires c =
+    kept_place (the_view c.self.inside) c.self.inside.machine c.self.inside.machine c.self.inside.trace.room 0 c.in-Undecided.id [] c.self.invariant
+    (token_undecided (the_view c.self.inside) c.self.inside.machine c.self.inside.trace.room c.self.invariant c.args.guess c.in-Undecided.id (sym c.redeem.ensures ∙ c.in-Ok.is ∙ ap Ok c.in-Undecided.is))
 
 pub invariant_of-self : goal.invariant_of-self
 invariant_of-self c =
-    let was : status_of c.self.inside.guesses c.in-Undecided.id ≡ Some Undecided = search rules in (
-      decided_whole _ _ _ _ _ _ _ c.in-Undecided.id Failed c.self.invariant.0 was refl c.fail.ensures
-          (subst (λ (w : Written). w ≡ written_over w.now) (sym c.rollback.ensures) refl),
-      c.self.invariant.1,
-    )
+    failed_whole (the_view c.self.inside) c.self.inside.machine c.fail.new.self c.self.inside.trace.room c.push.new.self.room c.in-Undecided.id c.push.new.self.events c.self.invariant
+    (token_undecided (the_view c.self.inside) c.self.inside.machine c.self.inside.trace.room c.self.invariant c.args.guess c.in-Undecided.id (sym c.redeem.ensures ∙ c.in-Ok.is ∙ ap Ok c.in-Undecided.is))
+    c.fail.ensures.fails c.fail.ensures.drawn c.push.ensures.events c.push.ensures.room
+
+pub returns-in-Struck : goal.returns-in-Struck
+returns-in-Struck c =
+    nothing_left (the_view c.self.inside) c.self.inside.machine c.self.inside.trace.room c.self.invariant c.args.guess c.args.self.now c.self.view_is c.in-Struck._struck (events.Fail c.args.guess.id)
+    (sym c.redeem.ensures ∙ c.in-Ok.is ∙ ap Ok c.in-Struck.is)
+
+pub returns-in-Undecided : goal.returns-in-Undecided
+returns-in-Undecided c =
+    decided_by (the_view c.self.inside) c.self.inside.machine c.self.inside.trace.room c.self.invariant c.args.guess c.args.self.now c.self.view_is c.in-Undecided.id events.Fail _ (sym c.redeem.ensures ∙ c.in-Ok.is ∙ ap Ok c.in-Undecided.is)
+    (λ i. record { number = c.fail.ensures.kernel i; scripts = c.self.inside.scripts; start = c.self.inside.start; limit = c.self.inside.limit; trace = c.push.ensures.events i })

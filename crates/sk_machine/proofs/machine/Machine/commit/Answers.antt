@@ -1,10 +1,12 @@
 -- A commit of each part is the machine's.
-use Rattle.std.proofs.Common.{◌≡◌, Some, ap, ◌∙◌, subst}
+use Rattle.std.proofs.Common.{◌≡◌, Some, ap, ◌∙◌, subst, sym}
 use Rattle.sk_record.specs.Machine.{Commits}
 use Rattle.sk_record.specs.declared.status.Status.TheVariants.{Undecided, Committed}
 use Rattle.sk_guesses.specs.Guesses.{status_of}
 use Rattle.sk_guesses.proofs.Statuses.{status-decided}
 use Rattle.sk_machine.specs.Parts.{Parts, machine_of}
+use Rattle.sk_machine.proofs.Listed.{committed_listed, committed_grows}
+use Rattle.sk_undo.specs.Decisions.{AllGrow}
 use Rattle.sk_machine.proofs.Becomes.{commits_of}
 use Rattle.sk_machine.proofs.machine.Machine.commit.Goals as goal
 
@@ -17,3 +19,9 @@ returns-clause-commits c =
     (commits_of a b c.args.id c.commit.ensures.slots c.close.ensures
     (λ h. ap (λ g. status_of g h) c.commit-2.ensures ∙ status-decided a.guesses c.args.id Undecided Committed undecided h)
     c.commit-3.ensures.texts)
+
+pub forget-requires-clause-listed : goal.forget-requires-clause-listed
+forget-requires-clause-listed c = committed_listed c.args.id c.self.inside.logs.slots c.commit.new.self.slots c.self.inside.dependents.items c.self.invariant.0 c.commit.ensures.slots
+
+pub forget-requires-clause-grow : goal.forget-requires-clause-grow
+forget-requires-clause-grow c = committed_grows c.args.id c.self.inside.logs.slots c.commit.new.self.slots (subst (λ (p : Parts). AllGrow p.slots) (sym c.self.view_is) c.requires.grow) c.commit.ensures.slots

@@ -1,5 +1,5 @@
 -- The tags of what is read and of what is written, with the step's own, are the step's tags.
-use Rattle.std.proofs.Common.{◌≡◌, ◌||◌, ◌∙◌}
+use Rattle.std.proofs.Common.{◌||◌, ◌∙◌}
 use Rattle.sk_trace.specs.Entry.{EntryView}
 use Rattle.sk_machine.specs.Parts.{any_rests}
 use Rattle.sk_machine.proofs.Given.{if_ok}

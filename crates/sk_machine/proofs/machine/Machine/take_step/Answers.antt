@@ -1,5 +1,5 @@
 -- A step that is no guess leaves every status.
-use Rattle.std.proofs.Common.{◌≡◌, None, ap}
+use Rattle.std.proofs.Common.{None, ap}
 use Rattle.sk_guesses.specs.Guesses.{status_of}
 use Rattle.sk_trace.specs.Entry.{EntryView}
 use Rattle.sk_machine.proofs.Given.{on_ok}

@@ -1,20 +1,20 @@
 use Rattle.std.proofs.Common.{rules, ◌≡◌, true}
-use Rattle.sk_play.specs.Session.{all_taken}
+use Rattle.sk_play.specs.Session.{all_unspent}
 use Rattle.sk_play.proofs.Held.{out_of, id_at_of}
-use Rattle.sk_play.proofs.Settled.{fails_keep, fail_told, no_refusal}
+use Rattle.sk_play.proofs.Settled.{fails_keep, fail_told, fail_taken}
 use Rattle.sk_play.proofs.session.Session.fail_at.Goals as goal
 
 pub invariant_of-self : goal.invariant_of-self
 invariant_of-self c =
-    let held : all_taken c.args.self.now.kernel.guesses c.args.self.now.tokens.items ≡ true = search rules in
-    let o = out_of c.args.self.now.kernel.guesses c.args.place c.args.self.now.tokens.items c.remove-token.result c.remove-token.new.self.items (search rules) c.remove-token.ensures.value c.remove-token.ensures.items held in
+    let held : all_unspent c.args.self.now.kernel c.args.self.now.tokens.items ≡ true = search rules in
+    let o = out_of c.args.self.now.kernel c.args.place c.args.self.now.tokens.items c.remove-token.result c.remove-token.new.self.items (search rules) c.remove-token.ensures.value c.remove-token.ensures.items held in
     record { held = fails_keep c.fail_speculation.result c.remove-token.result c.args.self.now.kernel c.fail_speculation.new.self c.remove-token.new.self.items c.fail_speculation.ensures o }
 
 pub unreachable-requires : goal.unreachable-requires
 unreachable-requires c =
-    let held : all_taken c.args.self.now.kernel.guesses c.args.self.now.tokens.items ≡ true = search rules in
-    let o = out_of c.args.self.now.kernel.guesses c.args.place c.args.self.now.tokens.items c.remove-token.result c.remove-token.new.self.items (search rules) c.remove-token.ensures.value c.remove-token.ensures.items held in
-    no_refusal c.fail_speculation.result c.in-Err._refusal c.remove-token.result c.args.self.now.kernel c.fail_speculation.new.self c.fail_speculation.ensures c.in-Err.is o.takes
+    let held : all_unspent c.args.self.now.kernel c.args.self.now.tokens.items ≡ true = search rules in
+    let o = out_of c.args.self.now.kernel c.args.place c.args.self.now.tokens.items c.remove-token.result c.remove-token.new.self.items (search rules) c.remove-token.ensures.value c.remove-token.ensures.items held in
+    fail_taken c.fail_speculation.result c.in-Err._refusal c.remove-token.result c.args.self.now.kernel c.fail_speculation.new.self c.fail_speculation.ensures c.in-Err.is o.unspent
 
 pub returns-clause-told : goal.returns-clause-told
 returns-clause-told c =

@@ -1,7 +1,12 @@
 -- The released texts rest on nothing and stay: from the view, and what `take_out` and `release` say.
-use Rattle.std.proofs.Common.{sym}
+use Rattle.std.proofs.Common.{◌++◌, map, sym, ◌∙◌, ap}
+use Rattle.sk_record.specs.Machine.{lightened}
+use Rattle.sk_terminal.specs.Terminal.{clear}
+use Rattle.sk_terminal.specs.Held.{texts_of}
 use Rattle.sk_terminal.proofs.Views.{lightened-clear}
 use Rattle.sk_terminal.proofs.terminal.Terminal.commit.Goals as goal
 
 pub returns : goal.returns
-returns c = rw (c.release.ensures.texts, c.take_out.ensures, ← c.self.view_is) (sym (lightened-clear c.args.id c.self.inside.out.items c.self.inside.waiting.items))
+returns c =
+    c.release.ensures.texts ∙ ap (λ ws. map clear c.self.inside.out.items ++ ws) (c.take_out.ensures.texts c.self.inside.newest c.self.invariant.2)
+    ∙ sym (lightened-clear c.args.id c.self.inside.out.items (texts_of c.self.inside.waiting.items)) ∙ ap (lightened c.args.id) c.self.view_is

@@ -1,26 +1,23 @@
 use Rattle.std.proofs.Common.{None, ap, subst, sym, ◌∙◌}
-use Rattle.std.specs.Prelude.{reverse}
 use Rattle.sk_record.specs.UndoState.{IsGrowing}
-use Rattle.sk_undo.specs.Log.{log_of, CanGoBack}
-use Rattle.sk_undo.proofs.Commits.{commit_seen, commit_can, grow_commit}
+use Rattle.sk_undo.specs.Log.{log_of}
+use Rattle.sk_undo.proofs.Commits.{commit_seen, grow_commit}
 use Rattle.sk_undo.proofs.Growing.{grows_seen, grows_there}
 use Rattle.sk_undo.proofs.growing_log.GrowingLog.commit.Goals as goal
 
 pub returns-clause-log : goal.returns-clause-log
 returns-clause-log g c now =
     let undone = g.U.Undoing.undone in
-    ap (log_of undone now) c.commit.ensures
+    ap (log_of undone now) (c.commit.ensures.notes c.args.self.now.grows)
     ∙ commit_seen undone c.args.guess c.args.self.now.log.notes.items now (grows_seen undone now c.args.self.now.log.notes.items c.args.self.now.grows)
 
 pub returns-clause-can : goal.returns-clause-can
-returns-clause-can g c now can =
-    subst (λ ns. CanGoBack g.U.Undoing.fits g.U.Undoing.undone now (reverse ns)) (sym c.commit.ensures)
-    (commit_can g.U.Undoing.fits g.U.Undoing.undone c.args.guess now c.args.self.now.log.notes.items can)
+returns-clause-can g c now can = c.commit.ensures.can now can
 
 pub invariant_of-self : goal.invariant_of-self
 invariant_of-self g c =
     let undone = g.U.Undoing.undone in
     let old = c.args.self.now.log.notes.items in
     let grows = grows_seen undone None old c.args.self.now.grows in
-    let whole = ap (log_of undone None) c.commit.ensures ∙ commit_seen undone c.args.guess old None grows in
+    let whole = ap (log_of undone None) (c.commit.ensures.notes c.args.self.now.grows) ∙ commit_seen undone c.args.guess old None grows in
     record { grows = grows_there undone None c.commit.new.self.notes.items (subst IsGrowing (sym whole) (grow_commit c.args.guess (log_of undone None old) grows)) }

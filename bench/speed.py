@@ -1,0 +1,282 @@
+#!/usr/bin/env python3
+"""Measures what the kernel's calls cost, on generated scenarios, and prints the ratios.
+
+    bench/speed.py [--program PATH] [--only WORD] [--seconds]
+
+PATH is the program `speculate`, as `rt run` leaves it: `crates/speculate/out/speculate` where none is
+given. Costs are instructions, counted by valgrind's cachegrind, and so the same at each run; with
+`--seconds` they are the processor's seconds, the best of five runs. Reading the scenario and printing the answers is
+taken off: the first is what `speculate plain` does of the same file before it refuses the section, the
+second what an event costs for which the run holds no token. What stands left and right of a ratio is
+named in its row. The status is 1 where a ratio is over its limit.
+"""
+import argparse
+import functools
+import os
+import re
+import resource
+import subprocess
+import sys
+import tempfile
+
+TOP = os.path.dirname(os.path.dirname(os.path.abspath(__file__)))
+OPEN = 63
+LOOSE = 1.25
+
+
+def spent():
+    """The processor's seconds of all programs run so far, so that other work counts little."""
+    used = resource.getrusage(resource.RUSAGE_CHILDREN)
+    return used.ru_utime + used.ru_stime
+
+
+class Meter:
+    """What a run of the program costs."""
+
+    def __init__(self, program, seconds):
+        self.program = program
+        self.seconds = seconds
+        self.known = {}
+
+    def run(self, command, text):
+        key = (command, text)
+        if key not in self.known:
+            with tempfile.NamedTemporaryFile("w", suffix=".scenario") as file:
+                file.write(text)
+                file.flush()
+                words = [self.program, command, file.name]
+                self.known[key] = self.timed(words) if self.seconds else self.counted(words)
+        return self.known[key]
+
+    def counted(self, words):
+        tool = ["valgrind", "--tool=cachegrind", "--cache-sim=no", "--cachegrind-out-file=/dev/null"]
+        ran = subprocess.run(tool + words, stdout=subprocess.DEVNULL, stderr=subprocess.PIPE, text=True)
+        found = re.search(r"I\s+refs:\s+([\d,]+)", ran.stderr)
+        if not found:
+            sys.exit("no count of instructions:\n" + ran.stderr)
+        return int(found.group(1).replace(",", ""))
+
+    def timed(self, words):
+        best = float("inf")
+        for _ in range(5):
+            begin = spent()
+            subprocess.run(words, stdout=subprocess.DEVNULL, stderr=subprocess.DEVNULL)
+            best = min(best, spent() - begin)
+        return best
+
+    def played(self, text):
+        """A play, without the reading of its scenario."""
+        return self.run("play", text) - self.run("plain", text)
+
+    @functools.cached_property
+    def printing(self):
+        """The answer to one event for which nothing is done."""
+        idle = lambda count: scenario(["set r0 1"], ["commit 9"] * count)
+        return (self.played(idle(2000)) - self.played(idle(1000))) / 1000
+
+    def each(self, make, few, many, lines):
+        """One round of the `lines` events that `make` repeats, between `few` and `many` rounds."""
+        rounds = (self.played(make(many)) - self.played(make(few))) / (many - few)
+        return rounds - lines * self.printing
+
+
+def script(name, instructions):
+    return [f"script {name}"] + instructions + ["end"]
+
+
+def looping(instructions, times):
+    """The instructions over and over, with few jumps."""
+    return ["again:"] + instructions * times + ["jump again"]
+
+
+def scenario(first, events, others=(), objects=(), before=()):
+    """Process 1 runs the script `first` at terminal 1; `others` are further scripts with the processes and
+    terminals that run them."""
+    lines = ["limit 10000000", "copy /x 3 \"old\""] + list(objects) + script("first", first) + ["process 1 first 1"]
+    for name, instructions, runners in others:
+        lines += script(name, instructions) + [f"process {process} {name} {terminal}" for process, terminal in runners]
+    return "\n".join(lines + ["steps"] + list(before) + list(events)) + "\n"
+
+
+GUESSING = ["again:", "fetch /x", "jump again"]
+FETCHING = looping(["fetch /x"], 64)
+FILES = ['file f "0123456789"', "dir d"]
+
+
+def kinds():
+    """Steps of one kind: the instructions before them, and those that are repeated."""
+    return [
+        ("private", [], ["set r0 1"]),
+        ("say", ['text "a line of output"'], ["say"]),
+        ("read", ["look r1 r7 f", "set r2 0"], ["read r1 r2"]),
+        ("write", ["look r1 r7 f", "set r2 0", 'text "abcdefgh"'], ["write r1 r2"]),
+        ("make a file", [], ["mkfile r1"]),
+        ("fork", ["jump start", "child:", "exit r0", "start:"], ["fork r1 child"]),
+        ("look in a directory", [], ["look r1 r7 f"]),
+        ("link and unlink", ["look r1 r7 f", "look r2 r7 d"], ["link r2 n r1", "unlink r2 n"]),
+    ]
+
+
+def steps(before, body, count, guesses, guesser, drawn=OPEN):
+    """`count` steps of process 1, where a process has taken so many guesses, or as many steps."""
+    take = "guess" if guesses else "step"
+    body = body * (64 // len(body))
+    lead = ["step 1 none"] * (len(before) - sum(line.endswith(":") for line in before))
+    if guesser == 1:
+        first = ["fetch /x"] * drawn + before + looping(body, 1)
+        return scenario(first, ["step 1 none"] * count, objects=FILES, before=[f"{take} 1 good"] * drawn + lead)
+    first = before + looping(body, 1)
+    others = [("guesser", FETCHING, [(2, 2)])]
+    return scenario(first, ["step 1 none"] * count, others, FILES, [f"{take} 2 good"] * drawn + lead)
+
+
+def step_rows(meter):
+    """Steps of a process that rests on none of the open guesses, and of one that rests on all of them. What
+    the latter cost is with the share of the decisions that end the run, and has no limit."""
+    for guesser, drawn, whose in ((2, OPEN, "of others"), (1, 1, "its own"), (1, OPEN, "its own")):
+        for name, before, body in kinds():
+            cost = lambda guesses: meter.each(lambda n: steps(before, body, n, guesses, guesser, drawn), 600, 1200, 1)
+            limit = LOOSE if guesser == 2 else None
+            yield f"step, {name}: {drawn} open ({whose}) / none", cost(True), cost(False), limit
+
+
+def decided(body, count, decision, instruction):
+    """Rounds of process 1: a guess, `body` steps, and the decision of the guess."""
+    first = (["look r1 r7 f", "set r2 0", 'text "abcdefgh"'] if instruction.startswith("write") else [])
+    lead = ["step 1 none"] * len(first)
+    first = first + looping(["fetch /x"] + [instruction] * body, 1)
+    events = []
+    for number in range(1, count + 1):
+        events += ["guess 1 good"] + ["step 1 none"] * body + [f"{decision} {number}"]
+        events += ["step 1 none"] if decision == "commit" else []
+    return scenario(first, events, objects=FILES, before=lead)
+
+
+def decision_rows(meter):
+    for instruction, what in (("set r0 1", "private steps"), ("write r1 r2", "writes of one file")):
+        for decision in ("commit", "fail"):
+            costs = {}
+            for body in (10, 100, 1000):
+                few = max(1, 1000 // body)
+                lines = body + 2 + (decision == "commit")
+                costs[body] = meter.each(lambda n: decided(body, n, decision, instruction), few, 2 * few, lines) / body
+            for body in (100, 1000):
+                yield f"guess, {body} {what}, {decision}, a step / with 10", costs[body], costs[10], LOOSE
+
+
+def held_rounds(count, decision, held, amount):
+    """Small guesses of process 1, where a kernel holds much that does not rest on them."""
+    first = looping(["fetch /x"], 1) if decision == "commit" else ["fetch /x"]
+    turn = lambda number: ["guess 1 good", f"{decision} {number}"] + (["step 1 none"] if decision == "commit" else [])
+    others, before, drawn = [], [], 0
+    if held == "notes":
+        others, before, drawn = [("other", ["fetch /x"] + looping(["set r0 1"], 64), [(2, 2)])], ["guess 2 good"] + ["step 2 none"] * amount, 1
+    if held == "noted files":
+        others, before, drawn = [("other", ["fetch /x"] + looping(["mkfile r1"], 64), [(2, 2)])], ["guess 2 good"] + ["step 2 none"] * amount, 1
+    if held == "files":
+        others, before = [("other", looping(["mkfile r1"], 64), [(2, 2)])], ["step 2 none"] * amount
+    if held == "waiting texts":
+        others, before, drawn = [("other", ["fetch /x", 'text "a line of output"'] + looping(["say"], 64), [(2, 2)])], ["guess 2 good"] + ["step 2 none"] * (amount + 1), 1
+    if held == "waiting texts there":
+        others, before, drawn = [("other", ["fetch /x", 'text "a line of output"'] + looping(["say"], 64), [(2, 1)])], ["guess 2 good"] + ["step 2 none"] * (amount + 1), 1
+    if held == "terminals":
+        runners = [(2 + number, 2 + number) for number in range(amount)]
+        others = [("other", ['text "a line of output"', "say"], runners)]
+        before = [f"step {process} none" for process, _ in runners for _ in range(2)]
+    if held == "open guesses":
+        others, before, drawn = [("other", FETCHING, [(2, 2)])], ["guess 2 good"] * min(amount, 62), min(amount, 62)
+    events = [line for number in range(drawn + 1, drawn + count + 1) for line in turn(number)]
+    return scenario(first, events, others, before=before)
+
+
+def held_rows(meter):
+    for held in ("notes", "noted files", "files", "waiting texts", "waiting texts there", "terminals", "open guesses"):
+        for decision in ("commit", "fail"):
+            lines = 3 if decision == "commit" else 2
+            cost = lambda amount: meter.each(lambda n: held_rounds(n, decision, held, amount), 100, 200, lines)
+            amount = 62 if held == "open guesses" else 1000
+            yield f"guess and {decision}: {amount} {held} held / none", cost(amount), cost(0), LOOSE
+
+
+def nested(count, decision, kind):
+    """Under guess 1, which stays open: guesses of the same process, each with a step, decided one by one."""
+    lead = {"private steps": [], "writes": ["look r1 r7 f", "set r2 0", 'text "abcdefgh"'], "texts": ['text "a line of output"']}[kind]
+    step = {"private steps": "set r0 1", "writes": "write r1 r2", "texts": "say"}[kind]
+    first = lead + ["fetch /x"] + looping(["fetch /x", step], 32)
+    events = []
+    turns = 0
+    for number in range(2, count + 2):
+        events += ["guess 1 good", "step 1 none", f"{decision} {number}"]
+        turns += 1
+        if decision == "commit" and turns == 32:
+            turns = 0
+            events += ["step 1 none"]
+    return scenario(first, events, objects=FILES, before=["step 1 none"] * len(lead) + ["guess 1 good"])
+
+
+def doubled(meter, make, sizes):
+    """How the cost grows from the first to the second doubling: 1 where it is linear."""
+    small, middle, large = (meter.played(make(size)) for size in sizes)
+    return (large - middle) / 2, middle - small
+
+
+def nested_rows(meter):
+    for decision in ("commit", "fail"):
+        for kind in ("private steps", "writes", "texts"):
+            late, early = doubled(meter, lambda n: nested(n, decision, kind), (500, 1000, 2000))
+            yield f"nested guesses with {kind}, {decision}: 1,000 to 2,000 / twice 500 to 1,000", late, early, LOOSE
+
+
+def holding(count, decision, where):
+    """A terminal with `count` waiting texts, while as many guesses of another process are decided."""
+    first = ["fetch /x", 'text "a line of output"'] + looping(["say"], 64)
+    body = ["fetch /x"] if where == "elsewhere" else ["fetch /x", "say"]
+    other = (['text "another line"'] if where != "elsewhere" else []) + looping(body, 1)
+    terminal = 1 if where == "there" else 2
+    events = ["guess 1 good", "step 1 none"] + ["step 1 none"] * (count + count // 64)
+    if where != "elsewhere":
+        events += ["step 2 none"]
+    for number in range(2, count + 2):
+        events += ["guess 2 good"] + ["step 2 none"] * (len(body) - 1) + [f"{decision} {number}"]
+        events += ["step 2 none"] if decision == "commit" else []
+    return scenario(first, events, [("other", other, [(2, terminal)])])
+
+
+def text_rows(meter):
+    for decision in ("commit", "fail"):
+        for where, told in (("elsewhere", "say nothing"), ("another", "say elsewhere"), ("there", "say there")):
+            late, early = doubled(meter, lambda n: holding(n, decision, where), (1000, 2000, 4000))
+            yield f"held texts, as many guesses that {told}, {decision}: 2,000 to 4,000 / twice 1,000 to 2,000", late, early, LOOSE
+
+
+def shown(cost, seconds):
+    return f"{cost * 1e6:14,.2f}" if seconds else f"{cost:14,.0f}"
+
+
+def main():
+    words = argparse.ArgumentParser(description=__doc__, formatter_class=argparse.RawDescriptionHelpFormatter)
+    words.add_argument("--program", default=os.path.join(TOP, "crates/speculate/out/speculate"))
+    words.add_argument("--only", default="", help="the rows whose name has this word")
+    words.add_argument("--seconds", action="store_true", help="seconds in place of instructions")
+    words = words.parse_args()
+    if not os.access(words.program, os.X_OK):
+        sys.exit(f"{words.program}: no program; `(cd crates/speculate && rt run)` makes it")
+    meter = Meter(words.program, words.seconds)
+    unit = "microseconds" if words.seconds else "instructions"
+    print(f"{'ratio':>7} {'limit':>6} {unit + ' left':>20} {'right':>14}  what")
+    over = 0
+    for rows in (step_rows, decision_rows, held_rows, nested_rows, text_rows):
+        if words.only and words.only not in rows.__name__:
+            continue
+        for name, left, right, limit in rows(meter):
+            ratio = left / right
+            bad = limit is not None and ratio > limit
+            over += bad
+            mark = " OVER" if bad else ""
+            print(f"{ratio:7.3f} {limit if limit else '-':>6} {shown(left, words.seconds):>20} {shown(right, words.seconds)}  {name}{mark}", flush=True)
+    print(f"{over} over their limit")
+    return 1 if over else 0
+
+
+if __name__ == "__main__":
+    sys.exit(main())

@@ -1,0 +1,194 @@
+//! Random calls, and what each of them should be answered.
+use crate::reckoning::Reckoning;
+use crate::session::Answer;
+use rand_core::Rng;
+use rand_pcg::Pcg32;
+use sk_guesses::Status;
+use sk_ids::{Entity, GuessId, Pid, Text};
+use sk_objects::Content;
+use sk_plain::{Plan, Refusal, Trace, View, plan_step};
+use sk_scenario::Call;
+use sk_script::{Input, Scripts};
+
+/// How often a run decides its guesses: so many calls of 128.
+#[derive(Clone, Copy, Debug)]
+pub struct Habit {
+    pub commits: u32,
+    pub fails: u32,
+}
+
+/// Any of these.
+fn any_of<T: Copy>(rng: &mut Pcg32, all: &[T]) -> Option<T> {
+    let place = rng.next_u32() as usize % all.len().max(1);
+    all.get(place).copied()
+}
+
+/// A content of a small version and few bytes.
+fn content(rng: &mut Pcg32) -> Option<Content> {
+    let version = u64::from(rng.next_u32() % 9);
+    let bytes: [&[u8]; 4] = [b"", b"new", b"foreign", b"z"];
+    let bytes = Text::new(any_of(rng, &bytes)?)?;
+    Content::new(version, bytes)
+}
+
+/// An input other than none.
+fn reply(rng: &mut Pcg32) -> Input {
+    let content = content(rng);
+    match (rng.next_u32() % 8, content) {
+        (0, Some(content)) => Input::Stale(content),
+        (1, Some(content)) => Input::Fresh(content),
+        _ => Input::Good,
+    }
+}
+
+/// Whether a process has not ended.
+fn is_running(reckoning: &Reckoning, entity: &Entity) -> bool {
+    match reckoning.plain.value(entity) {
+        Some(View::Process(process)) => !process.ended,
+        _ => false,
+    }
+}
+
+/// A process among those that are present, or one that may be absent.
+fn process(rng: &mut Pcg32, reckoning: &Reckoning, present: &[Entity]) -> Option<Pid> {
+    if rng.next_u32() % 64 == 0 {
+        return Pid::boot((1 + rng.next_u32() % 4) as u16)?.child(1);
+    }
+    let count = present
+        .iter()
+        .take_while(|entity| matches!(entity, Entity::Proc(_)))
+        .count();
+    let processes = present.get(..count)?;
+    let first = any_of(rng, processes)?;
+    let second = any_of(rng, processes)?;
+    match if is_running(reckoning, &first) {
+        first
+    } else {
+        second
+    } {
+        Entity::Proc(pid) => Some(pid),
+        _ => None,
+    }
+}
+
+/// A step of a process, which is a guess wherever a random reply fits.
+fn step(rng: &mut Pcg32, reckoning: &Reckoning, scripts: &Scripts, pid: Pid) -> Call {
+    let input = reply(rng);
+    let fits = plan_step(&reckoning.store, scripts, pid, &input).is_ok();
+    match (fits, rng.next_u32() % 16) {
+        (true, 0) => Call::Step(pid, input),
+        (true, 1) | (false, 2) => Call::Step(pid, Input::None),
+        (true, _) | (false, 0) => Call::Guess(pid, input),
+        (false, 1) => Call::Step(pid, input),
+        (false, 3) => Call::Guess(pid, Input::None),
+        (false, _) => Call::Step(pid, Input::None),
+    }
+}
+
+/// Any guess: mostly one whose token is held, and seldom any that was drawn.
+fn decided(rng: &mut Pcg32, held: &[GuessId], drawn: u64) -> Option<GuessId> {
+    if rng.next_u32() % 16 == 0 {
+        return GuessId::new(1 + u64::from(rng.next_u32() % 16) % drawn.max(1));
+    }
+    any_of(rng, held)
+}
+
+/// The decision that a roll of 128 comes to, if any.
+fn decision(roll: u32, habit: Habit, id: GuessId) -> Option<Call> {
+    if roll < habit.commits {
+        return Some(Call::Commit(id));
+    }
+    if roll - habit.commits < habit.fails {
+        return Some(Call::Fail(id));
+    }
+    None
+}
+
+/// The next call of a run.
+pub fn call(
+    rng: &mut Pcg32,
+    habit: Habit,
+    reckoning: &Reckoning,
+    scripts: &Scripts,
+    present: &[Entity],
+    held: &[GuessId],
+    drawn: u64,
+) -> Option<Call> {
+    let roll = rng.next_u32() % 128;
+    if let Some(id) = decided(rng, held, drawn) {
+        let decision = decision(roll, habit, id);
+        if decision.is_some() {
+            return decision;
+        }
+    }
+    let pid = process(rng, reckoning, present)?;
+    Some(step(rng, reckoning, scripts, pid))
+}
+
+/// What a step is answered that the plain kernel plans so, where this much room is left.
+fn step_answer(planned: Result<Plan, Refusal>, room: usize) -> Answer {
+    match planned {
+        Err(refusal) => Answer::Refused(refusal),
+        Ok(_) if room < 1 => Answer::Refused(Refusal::TraceFull),
+        Ok(_) => Answer::Stepped,
+    }
+}
+
+/// The same of a guess.
+fn guess_answer(
+    planned: Result<Plan, Refusal>,
+    input: &Input,
+    undecided: usize,
+    room: usize,
+    next: GuessId,
+) -> Answer {
+    let planned = match (input, planned) {
+        (_, Err(Refusal::NoProcess)) => Err(Refusal::NoProcess),
+        (_, Err(Refusal::Ended)) => Err(Refusal::Ended),
+        (Input::None, _) => Err(Refusal::Mismatch),
+        (_, planned) => planned,
+    };
+    match planned {
+        Err(refusal) => Answer::Refused(refusal),
+        Ok(_) if undecided >= 64 => Answer::Refused(Refusal::TooMany),
+        Ok(_) if room < 2 => Answer::Refused(Refusal::TraceFull),
+        Ok(_) => Answer::Guessed(next),
+    }
+}
+
+/// What the decision of a guess is answered.
+fn decision_answer(status: Status, is_held: bool) -> Answer {
+    match (is_held, status) {
+        (true, Status::Undecided) => Answer::Done,
+        (true, Status::Struck) => Answer::Gone,
+        _ => Answer::NoToken,
+    }
+}
+
+/// What a call should be answered after this trace, where these tokens are held.
+pub fn answer(
+    call: &Call,
+    reckoning: &Reckoning,
+    scripts: &Scripts,
+    trace: &Trace,
+    limit: u32,
+    held: &[GuessId],
+    next: GuessId,
+) -> Answer {
+    let undecided = reckoning.undecided();
+    let room = (limit as usize)
+        .saturating_sub(trace.events().len())
+        .saturating_sub(undecided);
+    match call {
+        Call::Step(pid, input) => {
+            step_answer(plan_step(&reckoning.store, scripts, *pid, input), room)
+        }
+        Call::Guess(pid, input) => {
+            let planned = plan_step(&reckoning.store, scripts, *pid, input);
+            guess_answer(planned, input, undecided, room, next)
+        }
+        Call::Commit(id) | Call::Fail(id) => {
+            decision_answer(reckoning.status(trace, *id), held.contains(id))
+        }
+    }
+}

@@ -1,0 +1,58 @@
+//! What a run finds.
+use sk_plain::{Refusal, TraceFault};
+use sk_words::Fault;
+use std::alloc::{AllocError, AllocFailed};
+
+/// Why a run ends before its end: the kernel differs from the plain kernel, or the run itself went
+/// wrong.
+#[derive(Clone, Copy, Debug, PartialEq, Eq)]
+pub enum Finding {
+    /// A call is not answered as it should be.
+    Answer,
+    /// The trace is not what was answered so far.
+    Events,
+    /// Other entities are present.
+    Entities,
+    Value,
+    Tags,
+    Status,
+    Terminal,
+    Undecided,
+    Room,
+    /// The plain kernel does not take the trace.
+    Unsound,
+    Refused,
+    /// The random scenario is not well-formed.
+    Scenario,
+    Memory,
+}
+
+impl From<AllocError> for Finding {
+    fn from(_error: AllocError) -> Finding {
+        Finding::Memory
+    }
+}
+
+impl<T: Drop> From<AllocFailed<T>> for Finding {
+    fn from(_error: AllocFailed<T>) -> Finding {
+        Finding::Memory
+    }
+}
+
+impl From<TraceFault> for Finding {
+    fn from(_fault: TraceFault) -> Finding {
+        Finding::Unsound
+    }
+}
+
+impl From<Refusal> for Finding {
+    fn from(_refusal: Refusal) -> Finding {
+        Finding::Refused
+    }
+}
+
+impl From<Fault> for Finding {
+    fn from(_fault: Fault) -> Finding {
+        Finding::Scenario
+    }
+}

@@ -1,0 +1,182 @@
+//! Whether a kernel is what its trace comes to.
+use crate::finding::Finding;
+use crate::reckoning::Reckoning;
+use sk_ids::{Entity, GuessId, Text};
+use sk_kernel::Kernel;
+use sk_objects::Value;
+use sk_plain::{Trace, View};
+use std::alloc::AllocError;
+use std::collections::BTreeSet;
+
+/// Whether two values are the same.
+fn is_same_value(one: &Value, other: &Value) -> bool {
+    match (one, other) {
+        (Value::File(one), Value::File(other)) => one.as_slice() == other.as_slice(),
+        (Value::Dir(one), Value::Dir(other)) => one.as_slice() == other.as_slice(),
+        (Value::Pipe(one), Value::Pipe(other)) => {
+            one.is_shut() == other.is_shut() && one.as_slice() == other.as_slice()
+        }
+        (Value::Signals(one), Value::Signals(other)) => one.as_slice() == other.as_slice(),
+        (Value::Exit(one), Value::Exit(other)) => one == other,
+        (Value::Copy(one), Value::Copy(other)) => one == other,
+        _ => false,
+    }
+}
+
+/// Whether two entities have the same.
+fn is_same(one: Option<View>, other: Option<View>) -> bool {
+    match (one, other) {
+        (Some(View::Process(one)), Some(View::Process(other))) => one == other,
+        (Some(View::Value(one)), Some(View::Value(other))) => is_same_value(one, other),
+        (None, None) => true,
+        _ => false,
+    }
+}
+
+/// Compares the entities that are present, and notes them as seen.
+fn judge_present(
+    kernel: &Kernel,
+    reckoning: &Reckoning,
+    seen: &mut BTreeSet<Entity>,
+) -> Result<(), Finding> {
+    let present = kernel.entities()?;
+    if present != reckoning.plain.entities()? {
+        return Err(Finding::Entities);
+    }
+    for entity in &present {
+        seen.insert(*entity)?;
+    }
+    Ok(())
+}
+
+/// Compares what an entity has, and what it depends on.
+fn judge_entity(kernel: &Kernel, reckoning: &Reckoning, entity: &Entity) -> Result<(), Finding> {
+    if !is_same(kernel.value(entity), reckoning.plain.value(entity)) {
+        return Err(Finding::Value);
+    }
+    if !reckoning.has_tags(entity, kernel.tags_of(entity)) {
+        return Err(Finding::Tags);
+    }
+    Ok(())
+}
+
+/// Takes one text off the front, where it stands there.
+fn is_next(texts: &mut &[Text], text: &Text) -> bool {
+    match texts.split_first() {
+        Some((first, rest)) if *first == *text => {
+            *texts = rest;
+            true
+        }
+        _ => false,
+    }
+}
+
+/// Whether a terminal has released the texts before the first that depends on a guess, and how many
+/// others wait.
+fn is_shown(reckoning: &Reckoning, number: u16, released: &[Text], waiting: usize) -> bool {
+    let mut out = released;
+    let mut held = 0usize;
+    for said in reckoning.said() {
+        if said.terminal != number {
+            continue;
+        }
+        if held > 0 || said.is_held {
+            held = held.saturating_add(1);
+        } else if !is_next(&mut out, &said.text) {
+            return false;
+        }
+    }
+    out.is_empty() && held == waiting
+}
+
+/// Whether the plain kernel says the released texts first, and so many more.
+fn is_said(reckoning: &Reckoning, number: u16, released: &[Text], waiting: usize) -> bool {
+    let said = reckoning.plain.said(number);
+    said.starts_with(released) && said.len().saturating_sub(released.len()) == waiting
+}
+
+/// Compares the released texts of a terminal, and how many wait.
+fn judge_texts(
+    reckoning: &Reckoning,
+    number: u16,
+    released: &[Text],
+    waiting: usize,
+) -> Result<(), Finding> {
+    if !is_shown(reckoning, number, released, waiting) {
+        return Err(Finding::Terminal);
+    }
+    if !is_said(reckoning, number, released, waiting) {
+        return Err(Finding::Terminal);
+    }
+    Ok(())
+}
+
+fn judge_terminal(kernel: &Kernel, reckoning: &Reckoning, number: u16) -> Result<(), Finding> {
+    match kernel.terminal(number) {
+        Some(terminal) => {
+            judge_texts(reckoning, number, terminal.released(), terminal.waiting())
+        }
+        None => judge_texts(reckoning, number, &[], 0),
+    }
+}
+
+/// Compares what became of the guesses that were drawn, and of the next one.
+fn judge_statuses(
+    kernel: &Kernel,
+    reckoning: &Reckoning,
+    trace: &Trace,
+    drawn: u64,
+) -> Result<(), Finding> {
+    for number in 1..=drawn {
+        if let Some(id) = GuessId::new(number)
+            && kernel.status(id) != Some(reckoning.status(trace, id))
+        {
+            return Err(Finding::Status);
+        }
+    }
+    match GuessId::new(drawn.saturating_add(1)) {
+        Some(id) if kernel.status(id).is_some() => Err(Finding::Status),
+        _ => Ok(()),
+    }
+}
+
+/// Compares the trace, and what is counted.
+fn judge_counts(
+    kernel: &Kernel,
+    reckoning: &Reckoning,
+    trace: &Trace,
+    limit: u32,
+) -> Result<(), Finding> {
+    if kernel.trace().events() != trace.events() {
+        return Err(Finding::Events);
+    }
+    if kernel.undecided() != reckoning.undecided() {
+        return Err(Finding::Undecided);
+    }
+    let used = trace.events().len().saturating_add(reckoning.undecided());
+    if kernel.room() != (limit as usize).saturating_sub(used) {
+        return Err(Finding::Room);
+    }
+    Ok(())
+}
+
+/// Compares a kernel with what its trace comes to: its entities with those seen before, its
+/// terminals, the first few of which are looked at, its guesses and its counts.
+pub fn judge(
+    kernel: &Kernel,
+    reckoning: &Reckoning,
+    trace: &Trace,
+    limit: u32,
+    drawn: u64,
+    seen: &mut BTreeSet<Entity>,
+) -> Result<(), Finding> {
+    judge_counts(kernel, reckoning, trace, limit)?;
+    judge_present(kernel, reckoning, seen)?;
+    for entity in seen.iter() {
+        judge_entity(kernel, reckoning, entity)?;
+    }
+    for number in 0..=4 {
+        judge_terminal(kernel, reckoning, number)?;
+    }
+    judge_statuses(kernel, reckoning, trace, drawn)
+}

@@ -1,0 +1,17 @@
+//! Random runs of the kernel of many speculations, each judged after every call by the plain kernel.
+#![tactic(auto)]
+
+#[cfg(test)]
+mod calls;
+#[cfg(test)]
+mod finding;
+#[cfg(test)]
+mod judge;
+#[cfg(test)]
+mod reckoning;
+#[cfg(test)]
+mod runs;
+#[cfg(test)]
+mod scenarios;
+#[cfg(test)]
+mod session;

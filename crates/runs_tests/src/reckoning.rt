@@ -1,0 +1,176 @@
+//! What a trace comes to without the kernel that is tested: its struck record is run by the plain
+//! kernel, and what depends on each undecided guess is followed from step to step.
+use crate::finding::Finding;
+use sk_guesses::Status;
+use sk_ids::{Entity, GuessId, TagSet, Text};
+use sk_plain::{Entry, Event, Plain, Plan, Trace, apply_plan, plan_step, strike};
+use sk_script::{Boot, Scripts};
+use sk_store::Store;
+use std::alloc::{AllocError, Global};
+use std::collections::BTreeSet;
+
+/// The entities that depend on a guess: those that a dependent step wrote.
+#[derive(Drop)]
+struct Dirt {
+    guess: GuessId,
+    entities: BTreeSet<Entity>,
+}
+
+/// A text of the record, and whether its step depends on an undecided guess.
+#[derive(Drop)]
+pub struct Said {
+    pub terminal: u16,
+    pub text: Text,
+    pub is_held: bool,
+}
+
+/// What a trace comes to.
+#[derive(Drop)]
+pub struct Reckoning {
+    alloc: Global,
+    entries: Vec<Entry>,
+    /// The plain kernel after the struck record.
+    pub plain: Plain,
+    /// The same by the plans of the steps.
+    pub store: Store,
+    /// By rising number.
+    dirt: Vec<Dirt>,
+    said: Vec<Said>,
+}
+
+/// Whether a trace has the decision of a guess.
+fn is_decided(trace: &Trace, id: GuessId) -> bool {
+    trace.events().iter().any(|event| match event {
+        Event::Commit(other) | Event::Fail(other) => *other == id,
+        _ => false,
+    })
+}
+
+/// Whether one of these steps made the guess.
+fn is_made(entries: &[Entry], id: GuessId) -> bool {
+    entries.iter().any(|entry| entry.guess == Some(id))
+}
+
+/// Whether an entity of these is dirty.
+fn touches(dirt: &Dirt, entities: &[Entity]) -> bool {
+    entities.iter().any(|entity| dirt.entities.contains(entity))
+}
+
+/// Marks what a step writes, where it depends on the guess; says whether it does.
+fn follow_one(dirt: &mut Dirt, entry: &Entry, plan: &Plan) -> Result<bool, AllocError> {
+    let reads = plan.reads(entry.pid, &entry.input);
+    let writes = plan.writes(entry.pid);
+    let depends = entry.guess == Some(dirt.guess)
+        || touches(dirt, reads.as_slice())
+        || touches(dirt, writes.as_slice());
+    if depends {
+        for entity in writes.as_slice() {
+            dirt.entities.insert(*entity)?;
+        }
+    }
+    Ok(depends)
+}
+
+/// Marks what a step writes for each guess that it depends on; says whether there is one.
+fn follow(all: &mut Vec<Dirt>, entry: &Entry, plan: &Plan) -> Result<bool, AllocError> {
+    let mut is_held = false;
+    for dirt in all.iter_mut() {
+        let depends = follow_one(dirt, entry, plan)?;
+        is_held = is_held || depends;
+    }
+    Ok(is_held)
+}
+
+impl Reckoning {
+    /// What this trace comes to.
+    pub fn of(alloc: Global, boot: &Boot, trace: &Trace) -> Result<Reckoning, Finding> {
+        let entries = strike(alloc, boot, trace)?;
+        let mut reckoning = Reckoning {
+            alloc,
+            entries: Vec::new(alloc),
+            plain: Plain::boot(alloc, boot)?,
+            store: Store::start(alloc, boot)?,
+            dirt: Vec::new(alloc),
+            said: Vec::new(alloc),
+        };
+        for entry in &entries {
+            reckoning.open(trace, entry)?;
+            reckoning.take(boot.scripts(), entry)?;
+        }
+        reckoning.entries = entries;
+        Ok(reckoning)
+    }
+
+    /// Follows the guess of a step from now on, where it is undecided.
+    fn open(&mut self, trace: &Trace, entry: &Entry) -> Result<(), AllocError> {
+        if let Some(guess) = entry.guess
+            && !is_decided(trace, guess)
+        {
+            let entities = BTreeSet::new(self.alloc);
+            self.dirt.push(Dirt { guess, entities })?;
+        }
+        Ok(())
+    }
+
+    /// Takes a step.
+    fn take(&mut self, scripts: &Scripts, entry: &Entry) -> Result<(), Finding> {
+        let plan = plan_step(&self.store, scripts, entry.pid, &entry.input)?;
+        apply_plan(&mut self.store, entry.pid, &plan)?;
+        let is_held = follow(&mut self.dirt, entry, &plan)?;
+        let text = self.plain.step(entry.pid, &entry.input)?;
+        if let Some(text) = text {
+            let terminal = plan.process.terminal;
+            self.said.push(Said {
+                terminal,
+                text,
+                is_held,
+            })?;
+        }
+        Ok(())
+    }
+
+    /// The texts of the record.
+    pub fn said(&self) -> &[Said] {
+        &self.said
+    }
+
+    /// How many guesses are undecided.
+    pub fn undecided(&self) -> usize {
+        self.dirt.len()
+    }
+
+    /// Whether these are the undecided guesses that an entity depends on, by rising number.
+    pub fn has_tags(&self, entity: &Entity, tags: &TagSet) -> bool {
+        let mut left = tags.ids();
+        for dirt in &self.dirt {
+            if dirt.entities.contains(entity) {
+                let Some((first, rest)) = left.split_first() else {
+                    return false;
+                };
+                if *first != dirt.guess {
+                    return false;
+                }
+                left = rest;
+            }
+        }
+        left.is_empty()
+    }
+
+    /// What became of a guess that was drawn.
+    pub fn status(&self, trace: &Trace, id: GuessId) -> Status {
+        let committed = trace
+            .events()
+            .iter()
+            .any(|event| *event == Event::Commit(id));
+        if committed {
+            return Status::Committed;
+        }
+        if is_decided(trace, id) {
+            return Status::Failed;
+        }
+        if is_made(&self.entries, id) {
+            return Status::Undecided;
+        }
+        Status::Struck
+    }
+}

@@ -1,0 +1,262 @@
+//! The runs.
+use crate::calls::{Habit, answer, call};
+use crate::finding::Finding;
+use crate::judge::judge;
+use crate::reckoning::Reckoning;
+use crate::scenarios::{Kind, scenario};
+use crate::session::{Answer, Session};
+use rand_core::Rng;
+use rand_pcg::Pcg32;
+use sk_ids::{Entity, GuessId};
+use sk_plain::{Event, Trace};
+use sk_scenario::{Call, Declarations, Scenario};
+use std::alloc::{AllocError, Global};
+use std::collections::BTreeSet;
+use std::process::Abort;
+
+/// The number of the first run.
+const FIRST: u64 = 1;
+
+/// How many short runs of each manner there are.
+const RUNS: u64 = 1_250;
+
+/// How many long runs of each manner there are.
+const LONG_RUNS: u64 = 25;
+
+/// What a run has come to.
+#[derive(Drop)]
+struct Course {
+    trace: Trace,
+    /// The guesses whose tokens are not spent.
+    held: Vec<GuessId>,
+    drawn: u64,
+    seen: BTreeSet<Entity>,
+}
+
+impl Course {
+    fn new(alloc: Global) -> Course {
+        Course {
+            trace: Trace::new(alloc),
+            held: Vec::new(alloc),
+            drawn: 0,
+            seen: BTreeSet::new(alloc),
+        }
+    }
+
+    /// Notes what a call was answered.
+    fn note(&mut self, call: &Call, told: Answer) -> Result<(), AllocError> {
+        self.trace.reserve(1)?;
+        match call {
+            Call::Step(pid, input) => {
+                if told == Answer::Stepped {
+                    self.trace.push(Event::Step {
+                        pid: *pid,
+                        input: *input,
+                    });
+                }
+            }
+            Call::Guess(pid, input) => {
+                if let Answer::Guessed(id) = told {
+                    self.trace.push(Event::Guess {
+                        id,
+                        pid: *pid,
+                        input: *input,
+                    });
+                    self.held.push(id)?;
+                    self.drawn = id.number();
+                }
+            }
+            Call::Commit(id) => {
+                if told == Answer::Done {
+                    self.trace.push(Event::Commit(*id));
+                }
+                self.held.retain(|other| *other != *id);
+            }
+            Call::Fail(id) => {
+                if told == Answer::Done {
+                    self.trace.push(Event::Fail(*id));
+                }
+                self.held.retain(|other| *other != *id);
+            }
+        }
+        Ok(())
+    }
+}
+
+/// Makes a random call, and judges its answer and what it leaves.
+fn one_call(
+    rt: &impl Abort,
+    rng: &mut Pcg32,
+    habit: Habit,
+    declarations: &Declarations,
+    session: &mut Session,
+    course: &mut Course,
+    reckoning: &Reckoning,
+) -> Result<(), Finding> {
+    let scripts = declarations.boot().scripts();
+    let limit = declarations.limit();
+    let present = reckoning.plain.entities()?;
+    let Some(call) = call(
+        rng,
+        habit,
+        reckoning,
+        scripts,
+        &present,
+        &course.held,
+        course.drawn,
+    ) else {
+        return Ok(());
+    };
+    let next = GuessId::new(course.drawn.saturating_add(1)).unwrap_or_default();
+    let want = answer(
+        &call,
+        reckoning,
+        scripts,
+        &course.trace,
+        limit,
+        &course.held,
+        next,
+    );
+    let told = session.execute(rt, &call)?;
+    if told != want {
+        return Err(Finding::Answer);
+    }
+    course.note(&call, told)?;
+    Ok(())
+}
+
+/// Makes so many random calls.
+fn play(
+    rt: &impl Abort,
+    alloc: Global,
+    rng: &mut Pcg32,
+    habit: Habit,
+    declarations: &Declarations,
+    session: &mut Session,
+    calls: u32,
+) -> Result<(), Finding> {
+    let mut course = Course::new(alloc);
+    let mut reckoning = Reckoning::of(alloc, declarations.boot(), &course.trace)?;
+    for _ in 0..calls {
+        one_call(
+            rt,
+            rng,
+            habit,
+            declarations,
+            session,
+            &mut course,
+            &reckoning,
+        )?;
+        reckoning = Reckoning::of(alloc, declarations.boot(), &course.trace)?;
+        judge(
+            session.kernel(),
+            &reckoning,
+            &course.trace,
+            declarations.limit(),
+            course.drawn,
+            &mut course.seen,
+        )?;
+    }
+    Ok(())
+}
+
+/// What all runs of a kind have in common.
+#[derive(Clone, Copy, Debug)]
+struct Manner {
+    kind: Kind,
+    habit: Habit,
+    /// The fewest calls, and how many more there may be.
+    least: u32,
+    more: u32,
+}
+
+/// The run of a number.
+fn run(rt: &impl Abort, alloc: Global, number: u64, manner: Manner) -> Result<(), Finding> {
+    let mut rng = Pcg32::new(number, 1);
+    let text = scenario(alloc, &mut rng, manner.kind)?;
+    let scenario = Scenario::parse(alloc, &text)?;
+    let calls = manner
+        .least
+        .saturating_add(rng.next_u32() % manner.more.max(1));
+    let mut session = Session::new(alloc, &scenario.declarations)?;
+    let told = play(
+        rt,
+        alloc,
+        &mut rng,
+        manner.habit,
+        &scenario.declarations,
+        &mut session,
+        calls,
+    );
+    session.end(rt);
+    told
+}
+
+/// So many runs, in each of which the kernel is what its trace comes to after each call.
+fn runs(rt: &impl Abort, alloc: Global, count: u64, manner: Manner) {
+    for number in FIRST..FIRST.saturating_add(count) {
+        assert_eq!(rt;
+            run(rt, alloc, number, manner),
+            Ok(()),
+            "run {number}, {manner:?}"
+        );
+    }
+}
+
+/// Short runs with these habits.
+fn short(commits: u32, fails: u32) -> Manner {
+    Manner {
+        kind: Kind::Any,
+        habit: Habit { commits, fails },
+        least: 10,
+        more: 50,
+    }
+}
+
+#[test]
+fn as_many_commits_as_failures(rt: HostRuntime) {
+    runs(&rt, rt.alloc(), RUNS, short(10, 10));
+}
+
+#[test]
+fn few_decisions(rt: HostRuntime) {
+    runs(&rt, rt.alloc(), RUNS, short(4, 4));
+}
+
+#[test]
+fn mostly_failures(rt: HostRuntime) {
+    runs(&rt, rt.alloc(), RUNS, short(4, 20));
+}
+
+#[test]
+fn mostly_commits(rt: HostRuntime) {
+    runs(&rt, rt.alloc(), RUNS, short(20, 4));
+}
+
+#[test]
+fn long_runs(rt: HostRuntime) {
+    let manner = Manner {
+        kind: Kind::Any,
+        habit: Habit {
+            commits: 6,
+            fails: 6,
+        },
+        least: 200,
+        more: 100,
+    };
+    runs(&rt, rt.alloc(), LONG_RUNS, manner);
+}
+
+#[test]
+fn as_many_guesses_as_may_be(rt: HostRuntime) {
+    let manner = Manner {
+        kind: Kind::Guessing,
+        habit: Habit {
+            commits: 2,
+            fails: 1,
+        },
+        least: 150,
+        more: 100,
+    };
+    runs(&rt, rt.alloc(), LONG_RUNS, manner);
+}

@@ -1,0 +1,123 @@
+//! A kernel at play, with the tokens of its guesses.
+ghost use Rattle.std.specs.Prelude.{◌≡◌, ℕ, vec_len};
+
+use sk_guesses::Guess;
+use sk_ids::GuessId;
+use sk_kernel::{FailRefusal, Kernel, Outcome, Stranger};
+use sk_plain::Refusal;
+use sk_scenario::{Call, Declarations};
+use std::alloc::{AllocError, Global};
+use std::process::Abort;
+
+/// The answer to one call.
+#[derive(Clone, Copy, Debug, PartialEq, Eq)]
+pub enum Answer {
+    Stepped,
+    Guessed(GuessId),
+    Done,
+    Gone,
+    /// No token of that number is held.
+    NoToken,
+    Refused(Refusal),
+}
+
+/// A kernel and the tokens that are not spent.
+pub struct Session {
+    kernel: Kernel,
+    tokens: Vec<Guess>,
+}
+
+impl Session {
+    /// The kernel that a scenario declares, at its start.
+    pub fn new(alloc: Global, declarations: &Declarations) -> Result<Session, AllocError> {
+        let kernel = Kernel::boot(
+            alloc,
+            declarations.number(),
+            declarations.boot(),
+            declarations.limit(),
+        )?;
+        Ok(Session {
+            kernel,
+            tokens: Vec::new(alloc),
+        })
+    }
+
+    /// The kernel.
+    pub fn kernel(&self) -> &Kernel {
+        &self.kernel
+    }
+
+    /// Makes a call.
+    pub fn execute(&mut self, rt: &impl Abort, call: &Call) -> Result<Answer, AllocError> {
+        match call {
+            Call::Step(pid, input) => Ok(match self.kernel.step(*pid, *input) {
+                Ok(()) => Answer::Stepped,
+                Err(refusal) => Answer::Refused(refusal),
+            }),
+            Call::Guess(pid, input) => {
+                self.tokens.reserve(1)?;
+                Ok(match self.kernel.create_speculation(*pid, *input) {
+                    Ok(token) => {
+                        let id = token.id();
+                        self.tokens.push_reserved(token);
+                        Answer::Guessed(id)
+                    }
+                    Err(refusal) => Answer::Refused(refusal),
+                })
+            }
+            Call::Commit(id) => Ok(self.decide(rt, *id, false)),
+            Call::Fail(id) => Ok(self.decide(rt, *id, true)),
+        }
+    }
+
+    fn decide(&mut self, rt: &impl Abort, id: GuessId, fails: bool) -> Answer {
+        match self.tokens.iter().position(|token| token.id() == id) {
+            Some(place) if place < self.tokens.len() => {
+                let token = self.tokens.remove(place);
+                told(decided(rt, &mut self.kernel, token, fails))
+            }
+            _ => Answer::NoToken,
+        }
+    }
+
+    /// Spends the tokens that are left by commits.
+    fn spend(&mut self, rt: &impl Abort)
+        ensures { vec_len self.new.tokens ≡ 0 }
+    {
+        while !self.tokens.is_empty() {
+            let token = self.tokens.remove(0);
+            decided(rt, &mut self.kernel, token, false);
+        }
+    }
+
+    /// Spends the tokens that are left by commits, and ends.
+    pub fn end(self, rt: &impl Abort) {
+        let mut session = self;
+        session.spend(rt);
+        let Session { kernel: _, tokens } = session;
+        tokens.destroy_empty();
+    }
+}
+
+fn told(outcome: Outcome) -> Answer {
+    match outcome {
+        Outcome::Done => Answer::Done,
+        Outcome::Gone => Answer::Gone,
+    }
+}
+
+/// What the decision of a token comes to.
+fn decided(rt: &impl Abort, kernel: &mut Kernel, token: Guess, fails: bool) -> Outcome {
+    if fails {
+        match kernel.fail_speculation(token) {
+            Ok(outcome) => outcome,
+            Err(FailRefusal::Stranger(_guess)) => panic!(rt; "a stranger"),
+            Err(FailRefusal::Memory(_guess)) => panic!(rt; "want of memory"),
+        }
+    } else {
+        match kernel.commit_speculation(token) {
+            Ok(outcome) => outcome,
+            Err(Stranger { guess: _guess }) => panic!(rt; "a stranger"),
+        }
+    }
+}

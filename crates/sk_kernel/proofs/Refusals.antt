@@ -1,0 +1,68 @@
+-- Why a step or a guess is refused, or that it is not, from what the machine does at its entry.
+use Rattle.std.proofs.Common.{◌≡◌, ℕ, ◌<◌, ◌≤◌, Bool, true, false, cond, Option, Some, None, Result, Ok, Err, sym, ◌∙◌, ap, arith}
+use Rattle.std.specs.Prelude.{nat_lt}
+use Rattle.std.proofs.lemmas.Bool.{lt-ltb, le-ltb}
+use Rattle.sk_record.specs.Step.{Effect, perform}
+use Rattle.sk_ids.specs.declared.entity.Entity.{Entity}
+use Rattle.sk_guesses.specs.Guesses.{is_full}
+use Rattle.sk_store.specs.declared.entity_state.EntityState.{EntityState}
+use Rattle.sk_undo.specs.Logs.{look_at}
+use Rattle.sk_trace.specs.Entry.{EntryView}
+use Rattle.sk_plain.specs.Act.{act, Saying}
+use Rattle.sk_plain.specs.Planned.{refusal_of}
+use Rattle.sk_plain.specs.declared.refusal.Refusal.{Refusal}
+use Rattle.sk_plain.specs.declared.refusal.Refusal.TheVariants.{TooMany, TraceFull}
+use Rattle.sk_machine.specs.Parts.{Parts}
+use Rattle.sk_kernel.specs.Kernel.{KernelView, or_else, trace_full, room, step_refused, guess_misfits, too_many, guess_refused}
+use Rattle.sk_kernel.specs.Invariant.{IsWhole}
+use Rattle.sk_kernel.proofs.Whole.{same_effect}
+use Rattle.sk_kernel.proofs.Tokens.{full_is}
+
+short_of_room : (k : KernelView) (n r : ℕ) → r ≡ room k → r < n → trace_full k n ≡ Some TraceFull
+short_of_room k n r is less = let small : nat_lt (room k) n ≡ true = lt-ltb (room k) n (omega (arith, is, less)) in ap (λ b. cond b (Some TraceFull) None) small
+
+room_enough : (k : KernelView) (n r : ℕ) → r ≡ room k → n ≤ r → trace_full k n ≡ None
+room_enough k n r is least = let enough : nat_lt (room k) n ≡ false = le-ltb (room k) n (omega (arith, is, least)) in ap (λ b. cond b (Some TraceFull) None) enough
+
+module _ (k : KernelView) (m : Parts) (place : ℕ) (whole : IsWhole k m place) (n : EntryView) where
+  abbrev does : Result (Effect Entity EntityState Saying) Refusal
+  does = perform (look_at m.slots) (act k.scripts n.pid n.input)
+
+  abbrev no_place : ℕ → Option Refusal
+  no_place places = trace_full k places
+
+  -- ---- a step
+  step_by : (r : Result (Effect Entity EntityState Saying) Refusal) → does ≡ r → step_refused k n ≡ or_else (refusal_of r) (no_place 1)
+  step_by r is = ap (λ r. or_else (refusal_of r) (no_place 1)) (sym (same_effect k m whole.stands n) ∙ is)
+
+  pub step_misfits : (why : Refusal) → does ≡ Err why → step_refused k n ≡ Some why
+  step_misfits why is = step_by (Err why) is
+
+  pub step_without_room : (f : Effect Entity EntityState Saying) (r : ℕ) → does ≡ Ok f → r ≡ room k → r < 1 → step_refused k n ≡ Some TraceFull
+  step_without_room f r is has_room less = step_by (Ok f) is ∙ short_of_room k 1 r has_room less
+
+  pub step_free : (f : Effect Entity EntityState Saying) (r : ℕ) → does ≡ Ok f → r ≡ room k → 1 ≤ r → step_refused k n ≡ None
+  step_free f r is has_room least = step_by (Ok f) is ∙ room_enough k 1 r has_room least
+
+  -- ---- a guess
+  guess_by : (o : Option Refusal) → guess_misfits n.input does ≡ o → guess_refused k n ≡ or_else o (or_else (too_many k) (no_place 2))
+  guess_by o is = ap (λ o. or_else o (or_else (too_many k) (no_place 2))) (sym (ap (guess_misfits n.input) (same_effect k m whole.stands n)) ∙ is)
+
+  full_by : (b : Bool) → is_full m.guesses ≡ b → too_many k ≡ cond b (Some TooMany) None
+  full_by b is = full_is k m place whole ∙ ap (λ b. cond b (Some TooMany) None) is
+
+  pub guess_misfit : (why : Refusal) → guess_misfits n.input does ≡ Some why → guess_refused k n ≡ Some why
+  guess_misfit why is = guess_by (Some why) is
+
+  pub guess_too_many : guess_misfits n.input does ≡ None → is_full m.guesses ≡ true → guess_refused k n ≡ Some TooMany
+  guess_too_many fits full = guess_by None fits ∙ ap (λ o. or_else o (no_place 2)) (full_by true full)
+
+  module _ (fits : guess_misfits n.input does ≡ None) (free : is_full m.guesses ≡ false) (r : ℕ) (has_room : r ≡ room k) where
+    room_decides : guess_refused k n ≡ no_place 2
+    room_decides = guess_by None fits ∙ ap (λ o. or_else o (no_place 2)) (full_by false free)
+
+    pub guess_without_room : r < 2 → guess_refused k n ≡ Some TraceFull
+    guess_without_room less = room_decides ∙ short_of_room k 2 r has_room less
+
+    pub guess_free : 2 ≤ r → guess_refused k n ≡ None
+    guess_free least = room_decides ∙ room_enough k 2 r has_room least

@@ -1,0 +1,218 @@
+-- What a redeemed token says of its guess, and what stands after a decision and after a guess.
+use Rattle.std.proofs.Common.{◌≡◌, ℕ, suc, ◌<◌, ◌≤◌, ◌+◌, length, Bool, true, false, cond, not, ◌||◌, List, [], ◌∷◌, ◌++◌, map, Option, Some, None, Ok, Err, inl, inr, refl, sym, ◌∙◌, ap, subst, arith}
+use Rattle.std.specs.Prelude.{◌==◌, nat_le, nat_lt}
+use Rattle.std.specs.List.{filter}
+use Rattle.std.proofs.lemmas.Bool.{false_from_ne_true, true≢false, eqb-true, eq-eqb, or_cases, or_parts}
+use Rattle.std.proofs.lemmas.List.{length-set}
+use Rattle.std.proofs.lemmas.List.Sums.{fold-append}
+use Rattle.sk_record.specs.Notes.{has, without}
+use Rattle.sk_record.specs.UndoState.{Open, numbers}
+use Rattle.sk_record.specs.Machine.{RepresentsTrace, Takes, Commits, Fails, rests_on}
+use Rattle.sk_record.specs.declared.status.Status.{Status}
+use Rattle.sk_record.specs.declared.status.Status.TheVariants.{Undecided, Committed, Failed, Struck}
+use Rattle.sk_ids.specs.declared.guess.TheConstants.{LAST_GUESS}
+use Rattle.sk_guesses.specs.declared.guesses.TheConstants.{GUESS_LIMIT}
+use Rattle.sk_guesses.specs.Token.{Token}
+use Rattle.sk_guesses.specs.Guesses.{GuessesView, status_of, decided, drawn, next_of, is_full}
+use Rattle.sk_guesses.specs.Calls.{redeemed, redeemed_at}
+use Rattle.sk_guesses.specs.declared.guess.Redeemed.TheVariants as redeemed_as
+use Rattle.sk_script.specs.declared.instruction.Input.{Input}
+use Rattle.sk_trace.specs.declared.event.Event.{Event}
+use Rattle.sk_trace.specs.declared.event.Event.TheVariants as events
+use Rattle.sk_plain.specs.Act.{plain}
+use Rattle.sk_plain.specs.Replay.{image}
+use Rattle.sk_plain.specs.declared.refusal.Refusal.TheVariants.{TooMany}
+use Rattle.sk_machine.specs.Parts.{Parts, machine_of}
+use Rattle.sk_kernel.specs.Kernel.{KernelView, HasStatus, number_after, last_guess, next_guess, with_event, too_many}
+use Rattle.sk_kernel.specs.Calls.{IsNew, IsStranger, DecisionPost}
+use Rattle.sk_kernel.specs.declared.kernel.Outcome.TheVariants as outcomes
+use Rattle.sk_kernel.specs.Invariant.{IsWhole}
+use Rattle.sk_kernel.proofs.Whole.{status_is, open_undecided, undecided_counted, stands_committed, stands_failed, stands_guessed, drawn_below}
+
+-- ---- what a redeemed token says
+
+undecided_there : (o : Option Status) (t : Token) (id : ℕ) → redeemed_at o t ≡ Ok (redeemed_as.Undecided id) → (o ≡ Some Undecided) × (id ≡ t.id)
+undecided_there None t id is = cc
+undecided_there (Some Undecided) t id is = (refl, cc)
+undecided_there (Some Committed) t id is = cc
+undecided_there (Some Failed) t id is = cc
+undecided_there (Some Struck) t id is = cc
+
+struck_there : (o : Option Status) (t : Token) (id : ℕ) → redeemed_at o t ≡ Ok (redeemed_as.Struck id) → o ≡ Some Struck
+struck_there None t id is = cc
+struck_there (Some Undecided) t id is = cc
+struck_there (Some Committed) t id is = cc
+struck_there (Some Failed) t id is = cc
+struck_there (Some Struck) t id is = refl
+
+back_there : (o : Option Status) (t g : Token) → redeemed_at o t ≡ Err g → (g ≡ t) × (o ≡ Some Undecided → ⊥) × (o ≡ Some Struck → ⊥)
+back_there None t g is = (cc, (λ h. cc), λ h. cc)
+back_there (Some Undecided) t g is = cc
+back_there (Some Committed) t g is = (cc, (λ h. cc), λ h. cc)
+back_there (Some Failed) t g is = (cc, (λ h. cc), λ h. cc)
+back_there (Some Struck) t g is = cc
+
+undecided_told : (v : GuessesView) (t : Token) (id : ℕ) → redeemed v t ≡ Ok (redeemed_as.Undecided id) → (t.kernel ≡ v.kernel) × (status_of v t.id ≡ Some Undecided) × (id ≡ t.id)
+undecided_told v t id is =
+    elim (t.kernel == v.kernel) as (λ b. (t.kernel == v.kernel) ≡ b → cond b (redeemed_at (status_of v t.id) t) (Err t) ≡ Ok (redeemed_as.Undecided id) → (t.kernel ≡ v.kernel) × (status_of v t.id ≡ Some Undecided) × (id ≡ t.id)) [
+      | true ↦ λ same here. let there = undecided_there (status_of v t.id) t id here in (eqb-true t.kernel v.kernel same, there.0, there.1)
+      | false ↦ λ other here. cc
+    ] refl is
+
+struck_told : (v : GuessesView) (t : Token) (id : ℕ) → redeemed v t ≡ Ok (redeemed_as.Struck id) → (t.kernel ≡ v.kernel) × (status_of v t.id ≡ Some Struck)
+struck_told v t id is =
+    elim (t.kernel == v.kernel) as (λ b. (t.kernel == v.kernel) ≡ b → cond b (redeemed_at (status_of v t.id) t) (Err t) ≡ Ok (redeemed_as.Struck id) → (t.kernel ≡ v.kernel) × (status_of v t.id ≡ Some Struck)) [
+      | true ↦ λ same here. (eqb-true t.kernel v.kernel same, struck_there (status_of v t.id) t id here)
+      | false ↦ λ other here. cc
+    ] refl is
+
+back_told : (v : GuessesView) (t g : Token) → redeemed v t ≡ Err g → (g ≡ t) × (t.kernel ≡ v.kernel → (status_of v t.id ≡ Some Undecided → ⊥) × (status_of v t.id ≡ Some Struck → ⊥))
+back_told v t g is =
+    elim (t.kernel == v.kernel) as (λ b. (t.kernel == v.kernel) ≡ b → cond b (redeemed_at (status_of v t.id) t) (Err t) ≡ Err g → (g ≡ t) × (t.kernel ≡ v.kernel → (status_of v t.id ≡ Some Undecided → ⊥) × (status_of v t.id ≡ Some Struck → ⊥))) [
+      | true ↦ λ same here. let there = back_there (status_of v t.id) t g here in (there.0, λ _. (there.1, there.2))
+      | false ↦ λ other here. (cc, λ same. absurd (true≢false (sym (eq-eqb t.kernel v.kernel same) ∙ other)))
+    ] refl is
+
+module _ (k : KernelView) (m : Parts) (place : ℕ) (whole : IsWhole k m place) (t : Token) where
+  undecided_token : (id : ℕ) → redeemed m.guesses t ≡ Ok (redeemed_as.Undecided id) → (t.kernel ≡ k.number) × HasStatus k t.id Undecided × (id ≡ t.id)
+  undecided_token id is = let told = undecided_told m.guesses t id is in (told.0 ∙ whole.number, (status_is k m whole.stands t.id Undecided).0 told.1, told.2)
+
+  pub token_undecided : (id : ℕ) → redeemed m.guesses t ≡ Ok (redeemed_as.Undecided id) → HasStatus k id Undecided
+  token_undecided id is = let told = undecided_token id is in subst (λ g. HasStatus k g Undecided) (sym told.2) told.1
+
+  -- ---- what a decision answers, at the kernel of this view
+
+  module _ (self : KernelView) (same : k ≡ self) where
+    pub stranger_back : (g : Token) → redeemed m.guesses t ≡ Err g → IsStranger self t × (g ≡ t)
+    stranger_back g is =
+        let told = back_told m.guesses t g is in
+        let stranger : IsStranger k t = λ number. let none = told.1 (number ∙ sym whole.number) in
+        ((λ h. none.0 ((status_is k m whole.stands t.id Undecided).1 h)), λ h. none.1 ((status_is k m whole.stands t.id Struck).1 h)) in
+        (subst (λ (k : KernelView). IsStranger k t) same stranger, told.0)
+
+    pub nothing_left : (id : ℕ) (e : Event) → redeemed m.guesses t ≡ Ok (redeemed_as.Struck id) → DecisionPost outcomes.Gone t e self self
+    nothing_left id e is =
+        let told = struck_told m.guesses t id is in
+        subst (λ (k : KernelView). DecisionPost outcomes.Gone t e k k) same (told.0 ∙ whole.number, (status_is k m whole.stands t.id Struck).0 told.1, refl)
+
+    pub decided_by : (id : ℕ) (event : ℕ → Event) (new : KernelView) → redeemed m.guesses t ≡ Ok (redeemed_as.Undecided id) → new ≡ with_event k (event id)
+        → DecisionPost outcomes.Done t (event t.id) self new
+    decided_by id event new is left =
+        let told = undecided_token id is in
+        subst (λ (k : KernelView). DecisionPost outcomes.Done t (event t.id) k new) same (told.0, told.1, left ∙ ap (λ g. with_event k (event g)) told.2)
+
+-- ---- a decision leaves fewer open guesses
+
+shorter : {A : Type 0} (p : A → Bool) (xs : List A) → length (filter p xs) ≤ length xs
+shorter p [] = omega arith
+shorter p (x ∷ xs) =
+    let rest = shorter p xs in
+    elim (p x) as (λ b. length (cond b (x ∷ filter p xs) (filter p xs)) ≤ suc (length xs)) [ true ↦ omega (arith, rest) | false ↦ omega (arith, rest) ]
+
+fewer : (p : Open → Bool) (os : List Open) (g : ℕ) → has g (numbers os) ≡ true → has g (numbers (filter p os)) ≡ false → length (filter p os) + 1 ≤ length os
+fewer p [] g here gone = absurd (true≢false (sym here))
+fewer p (o ∷ os) g here gone =
+    let rest = shorter p os in
+    elim (p o) as (λ b. has g (numbers (cond b (o ∷ filter p os) (filter p os))) ≡ false → length (cond b (o ∷ filter p os) (filter p os)) + 1 ≤ suc (length os)) [
+      | true ↦ λ none. let parts = or_parts (o.0 == g) (has g (numbers (filter p os))) none in
+          elim (or_cases (o.0 == g) (has g (numbers os)) here) [
+            | inl is ↦ absurd (true≢false (sym is ∙ parts.0))
+            | inr later ↦ let less = fewer p os g later parts.1 in omega (arith, less)
+          ]
+      | false ↦ λ none. omega (arith, rest)
+    ] gone
+
+numbers_without : (g : ℕ) (os : List Open) → numbers (map (λ o. (o.0, without g o.1)) os) ≡ numbers os
+numbers_without g [] = refl
+numbers_without g (o ∷ os) = ap (λ ns. o.0 ∷ ns) (numbers_without g os)
+
+length_without : (g : ℕ) (os : List Open) → length {A = Open} (map (λ (o : Open). (o.0, without g o.1)) os) ≡ length os
+length_without g [] = refl
+length_without g (o ∷ os) = ap suc (length_without g os)
+
+module _ (k : KernelView) (m b : Parts) (place left : ℕ) (g : ℕ) (es : List Event) (whole : IsWhole k m place) (undecided : HasStatus k g Undecided) where
+  is_open : has g (numbers m.opens) ≡ true
+  is_open = (open_undecided k m whole.stands g).1 ((status_is k m whole.stands g Undecided).1 undecided)
+
+  some_open : (os : List Open) → has g (numbers os) ≡ true → 1 ≤ length os
+  some_open [] here = absurd (true≢false (sym here))
+  some_open (o ∷ os) here = omega arith
+
+  -- a place is kept for it
+  pub kept_place : 0 < place
+  kept_place = let some = some_open m.opens is_open in let room = whole.place in omega (arith, some, room)
+
+  pub committed_whole : Commits (machine_of m) g (machine_of b) → b.guesses ≡ decided m.guesses g Committed → es ≡ k.trace ++ events.Commit g ∷ [] → left + 1 ≡ place
+      → IsWhole (record { number = b.guesses.kernel; scripts = k.scripts; start = k.start; limit = k.limit; trace = es }) b left
+  committed_whole commits guesses trace room =
+      let stands = stands_committed k m whole.stands g b undecided commits in
+      let status : status_of b.guesses g ≡ Some Committed = commits.status g ∙ ap (λ x. cond x (Some Committed) (status_of m.guesses g)) (eq-eqb g g refl) in
+      let gone : has g (numbers b.opens) ≡ false = false_from_ne_true _ (λ here. let both : Some Committed ≡ Some Undecided = sym status ∙ (open_undecided (with_event k (events.Commit g)) b stands g).0 here in cc) in
+      let p : Open → Bool = λ o. not (o.0 == g) in
+      let same : numbers b.opens ≡ numbers (filter p m.opens) = ap numbers commits.state.opens ∙ numbers_without g (filter p m.opens) in
+      let less = fewer p m.opens g is_open (sym (ap (has g) same) ∙ gone) in
+      let long : length b.opens ≡ length (filter p m.opens) = ap length commits.state.opens ∙ length_without g (filter p m.opens) in
+      let enough = whole.place in
+      record {
+        stands = subst (λ (xs : List Event). RepresentsTrace (plain k.scripts) k.start (map image xs) (machine_of b)) (sym trace) stands;
+        number = refl;
+        drawn = ap (λ v. length v.statuses) guesses ∙ length-set m.guesses.statuses _ Committed ∙ whole.drawn ∙ sym (ap last_guess trace ∙ fold-append number_after 0 k.trace (events.Commit g ∷ []));
+        place = omega (arith, less, long, room, enough);
+      }
+
+  pub failed_whole : Fails (machine_of m) g (machine_of b) → length b.guesses.statuses ≡ length m.guesses.statuses → es ≡ k.trace ++ events.Fail g ∷ [] → left + 1 ≡ place
+      → IsWhole (record { number = b.guesses.kernel; scripts = k.scripts; start = k.start; limit = k.limit; trace = es }) b left
+  failed_whole fails drawn trace room =
+      let stands = stands_failed k m whole.stands g b undecided fails in
+      let status : status_of b.guesses g ≡ Some Failed = fails.status g ∙ ap (λ x. cond x (Some Failed) (cond (rests_on g m.opens g) (Some Struck) (status_of m.guesses g))) (eq-eqb g g refl) in
+      let gone : has g (numbers b.opens) ≡ false = false_from_ne_true _ (λ here. let both : Some Failed ≡ Some Undecided = sym status ∙ (open_undecided (with_event k (events.Fail g)) b stands g).0 here in cc) in
+      let p : Open → Bool = λ o. not (has g o.1) in
+      let less = fewer p m.opens g is_open (sym (ap (λ os. has g (numbers os)) fails.state.opens) ∙ gone) in
+      let long : length b.opens ≡ length (filter p m.opens) = ap length fails.state.opens in
+      let enough = whole.place in
+      record {
+        stands = subst (λ (xs : List Event). RepresentsTrace (plain k.scripts) k.start (map image xs) (machine_of b)) (sym trace) stands;
+        number = refl;
+        drawn = drawn ∙ whole.drawn ∙ sym (ap last_guess trace ∙ fold-append number_after 0 k.trace (events.Fail g ∷ []));
+        place = omega (arith, less, long, room, enough);
+      }
+
+-- ---- a guess
+
+length_more : {A : Type 0} (xs : List A) (x : A) → length (xs ++ x ∷ []) ≡ length xs + 1
+length_more [] x = refl
+length_more (y ∷ xs) x = let rest = length_more xs x in omega (arith, rest)
+
+module _ (k : KernelView) (m : Parts) (place : ℕ) (whole : IsWhole k m place) where
+  pub next_is : next_of m.guesses ≡ next_guess k
+  next_is = ap (λ n. n + 1) whole.drawn
+
+  -- its number is above each that was drawn, and it is undecided
+  pub guess_new : (b : Parts) (pid : ℕ) (input : Input) → Takes (plain k.scripts) (machine_of m) (record { pid = pid; input = input; guess = Some (next_of m.guesses) }) (machine_of b)
+      → IsNew k (with_event k (events.Guess (next_guess k) pid input))
+  guess_new b pid input takes =
+      let next = next_of m.guesses in
+      let status : status_of b.guesses next ≡ Some Undecided = takes.status next ∙ ap (λ x. cond x (Some Undecided) (status_of m.guesses next)) (eq-eqb next next refl) in
+      let undecided = (status_is (with_event k (events.Guess next pid input)) b (stands_guessed k m whole.stands pid input b takes) next Undecided).0 status in
+      record {
+        above = λ h drawn. subst (λ n. h < n) next_is (drawn_below k m whole.stands h drawn);
+        undecided = subst (λ n. HasStatus (with_event k (events.Guess n pid input)) n Undecided) next_is undecided;
+      }
+
+  pub full_is : too_many k ≡ cond (is_full m.guesses) (Some TooMany) None
+  full_is =
+      (λ i. cond (nat_le GUESS_LIMIT (sym (undecided_counted k m whole.stands) i) || nat_lt LAST_GUESS (sym next_is i)) (Some TooMany) None)
+
+  pub guessed_whole : (b : Parts) (left : ℕ) (pid : ℕ) (input : Input) (id : ℕ) (es : List Event)
+      → Takes (plain k.scripts) (machine_of m) (record { pid = pid; input = input; guess = Some (next_of m.guesses) }) (machine_of b)
+      → b.guesses ≡ drawn m.guesses → id ≡ next_of m.guesses → es ≡ k.trace ++ events.Guess id pid input ∷ [] → length m.opens + 1 ≤ left
+      → IsWhole (record { number = b.guesses.kernel; scripts = k.scripts; start = k.start; limit = k.limit; trace = es }) b left
+  guessed_whole b left pid input id es takes guesses number trace room =
+      let events_are : es ≡ k.trace ++ events.Guess (next_of m.guesses) pid input ∷ [] = trace ∙ ap (λ n. k.trace ++ events.Guess n pid input ∷ []) number in
+      let opens : length b.opens ≡ length m.opens + 1 = ap length takes.state.opens ∙ length_more m.opens _ in
+      record {
+        stands = subst (λ (xs : List Event). RepresentsTrace (plain k.scripts) k.start (map image xs) (machine_of b)) (sym events_are) (stands_guessed k m whole.stands pid input b takes);
+        number = refl;
+        drawn = ap (λ v. length v.statuses) guesses ∙ length_more m.guesses.statuses Undecided ∙ sym (ap last_guess events_are ∙ fold-append number_after 0 k.trace (events.Guess (next_of m.guesses) pid input ∷ []));
+        place = omega (arith, opens, room);
+      }

@@ -1,0 +1,266 @@
+-- What the parts of a kernel say of its trace.
+use Rattle.std.proofs.Common.{Bor, ◌≡◌, ℕ, zero, suc, ◌<◌, ◌≤◌, length, true, not, List, [], ◌∷◌, ◌++◌, map, Option, Some, None, refl, sym, ◌∙◌, ap, subst, arith}
+use Rattle.std.specs.Prelude.{◌↔◌, is_some, slice_get, MatchOption}
+use Rattle.std.specs.declared.cmp.Ordering.TheVariants.{Less}
+use Rattle.std.specs.Cmp.{nat_cmp_is}
+use Rattle.std.proofs.lemmas.Bool.{eq-eqb, or_left, or_right}
+use Rattle.std.specs.Ordering.{nat_cmp}
+use Rattle.std.specs.List.{AllByRecursion, list_all}
+use Rattle.std.specs.List.Sorted.{IsStrictlySortedBy}
+use Rattle.std.specs.FinMap as map
+use Rattle.std.proofs.lemmas.Map.Keys.{sorted_from_strictly_increasing}
+use Rattle.std.proofs.lemmas.List.Sums.{fold-append}
+use Rattle.sk_record.specs.Step.{perform}
+use Rattle.sk_record.specs.Run.{effects}
+use Rattle.sk_record.specs.Notes.{Note, has, tags_along}
+use Rattle.sk_record.specs.Release.{IsReleased, said_with}
+use Rattle.sk_record.specs.Trace.{IsDrawn, all_recorded, no_record}
+use Rattle.sk_record.specs.UndoState.{numbers, tags_at as tags_in, IsTidy, IsGrowing}
+use Rattle.sk_record.specs.declared.status.Status.{Status}
+use Rattle.sk_record.specs.declared.status.Status.TheVariants.{Undecided}
+use Rattle.sk_record.specs.Machine.{IsPlainRun, RepresentsTrace, Takes, Commits, Fails, released}
+use Rattle.sk_record.proofs.Headline as headline
+use Rattle.sk_record.proofs.Sound.{entries_are}
+use Rattle.sk_record.proofs.Statuses.{one_status}
+use Rattle.sk_record.proofs.Tidy.{AllSome, tidy_of, grows_of, rests_of, tags_are}
+use Rattle.sk_undo.specs.Log.{is_empty}
+use Rattle.sk_ids.specs.Entity.{entity_cmp}
+use Rattle.sk_ids.specs.declared.entity.Entity.{Entity}
+use Rattle.sk_record.specs.Effects.{is_in}
+use Rattle.sk_kernel.proofs.Keys.{keys_are}
+use Rattle.sk_ids.proofs.Entities.{entity_total, entity_exact}
+use Rattle.sk_guesses.specs.Guesses.{GuessesView, status_of, undecided_of as undecided_count, next_of}
+use Rattle.sk_store.specs.declared.entity_state.EntityState.{EntityState}
+use Rattle.sk_terminal.specs.Terminals.{texts_at as texts_in}
+use Rattle.sk_undo.specs.Logs.{look_at, log_at}
+use Rattle.sk_script.specs.declared.instruction.Input.{Input}
+use Rattle.sk_trace.specs.Entry.{EntryView}
+use Rattle.sk_trace.specs.declared.event.Event.{Event}
+use Rattle.sk_trace.specs.declared.event.Event.TheVariants as events
+use Rattle.sk_plain.specs.Act.{plain, act, Saying}
+use Rattle.sk_plain.specs.Replay.{image}
+use Rattle.sk_machine.specs.Parts.{Parts, machine_of, undo_state_of, said_at}
+use Rattle.sk_machine.proofs.Count.{at_place, count_of}
+use Rattle.sk_kernel.specs.Kernel.{KernelView, events_of, record_at, state_at, undecided_at, tags_at, texts_at, HasStatus, RestsOn, effect_at, number_after, last_guess, with_event, room}
+use Rattle.sk_kernel.specs.Calls.{ShowsTerminal, LeavesTexts}
+use Rattle.sk_kernel.proofs.Clear.{AllClear, all_clear, clear_released}
+use Rattle.sk_terminal.specs.Terminals.{released_at}
+use Rattle.sk_kernel.specs.Invariant.{IsWhole}
+use Rattle.sk_guesses.specs.Guesses.{opened}
+use Rattle.sk_record.specs.Machine.{machine_at_start}
+use Rattle.sk_script.specs.Boot.{BootView}
+use Rattle.sk_store.specs.State.{State}
+use Rattle.sk_store.specs.Start.{start_of}
+use Rattle.sk_machine.specs.Noted.{IsAtStart}
+use Rattle.sk_kernel.specs.Kernel.{booted}
+use Rattle.sk_plain.specs.Act.{Scripts}
+use Rattle.std.proofs.lemmas.List.{append-nil}
+use Rattle.sk_terminal.specs.Terminal.{TaggedText}
+use Rattle.std.specs.Option.{option_copied, unwrap_or}
+
+pub map_more : (es : List Event) (e : Event) → map image (es ++ e ∷ []) ≡ map image es ++ image e ∷ []
+map_more [] e = refl
+map_more (x ∷ es) e = ap (λ xs. image x ∷ xs) (map_more es e)
+
+some_tags : (tags : List ℕ) → (tags ≡ [] → ⊥) → not (is_empty tags) ≡ true
+some_tags [] some = absurd (some refl)
+some_tags (t ∷ tags) some = refl
+
+all_rest : (log : List (Note EntityState)) → AllSome log → list_all (λ n. not (is_empty n.tags)) log ≡ true
+all_rest [] all = refl
+all_rest (n ∷ ns) all = rw (some_tags n.tags all.0) (all_rest ns all.1)
+
+pub no_guess : (g : ℕ) → None ≡ Some g → ⊥
+no_guess g is = cc
+
+pub some_same : (x y : ℕ) → Some x ≡ Some y → x ≡ y
+some_same x y is = cc
+
+-- what has a status was drawn
+got_below : (ss : List Status) (i : ℕ) (s : Status) → slice_get ss i ≡ Some s → i < length ss
+got_below [] i s is = cc
+got_below (x ∷ ss) zero s is = omega arith
+got_below (x ∷ ss) (suc i) s is = let less = got_below ss i s is in omega (arith, less)
+
+status_below : (v : GuessesView) (g : ℕ) (s : Status) → status_of v g ≡ Some s → g < next_of v
+status_below v zero s is = omega arith
+status_below v (suc i) s is = let less = got_below v.statuses i s (sym (at_place v i) ∙ is) in omega (arith, less)
+
+-- a rising list with one number above all of its own
+all_below : (xs : List ℕ) (x y : ℕ) → AllByRecursion (λ z. nat_cmp x z ≡ Less) xs → nat_cmp x y ≡ Less → AllByRecursion (λ z. nat_cmp x z ≡ Less) (xs ++ y ∷ [])
+all_below [] x y all less = (less, tt)
+all_below (z ∷ xs) x y all less = (all.0, all_below xs x y all.1 less)
+
+more_rises : (xs : List ℕ) (y : ℕ) → IsStrictlySortedBy nat_cmp xs → ((x : ℕ) → has x xs ≡ true → x < y) → IsStrictlySortedBy nat_cmp (xs ++ y ∷ [])
+unfolding IsStrictlySortedBy
+more_rises [] y rises below = (tt, tt)
+more_rises (x ∷ xs) y rises below =
+    (all_below xs x y rises.0 (sym (nat_cmp_is x y Less (below x (or_left _ _ (eq-eqb x x refl))))), more_rises xs y rises.1 (λ z here. below z (or_right _ _ here)))
+
+-- what is released of the texts of a terminal
+released_said : (t : ℕ) (xs : List TaggedText) → released (said_at t xs) ≡ map (λ text. record { to = t; text = text }) (released xs)
+released_said t [] = refl
+released_said t ((text, []) ∷ xs) = ap (λ (ws : List Saying). record { to = t; text = text } ∷ ws) (released_said t xs)
+released_said t ((text, g ∷ tags) ∷ xs) = refl
+
+module _ (k : KernelView) (m : Parts) (stands : RepresentsTrace (plain k.scripts) k.start (events_of k) (machine_of m)) where
+  is_plain : IsPlainRun (plain k.scripts) k.start (events_of k) (machine_of m)
+  is_plain = headline.plain_run (plain k.scripts) entity_total entity_exact k.start (events_of k) (machine_of m) stands
+
+  -- ---- what there is to see
+  pub look_is : (e : Entity) → look_at m.slots e ≡ map.get (state_at k) e
+  look_is e = is_plain.values e
+
+  pub entities_are : (es : List Entity) → IsStrictlySortedBy entity_cmp es → ((e : Entity) → is_in entity_cmp es e ≡ is_some (look_at m.slots e)) → es ≡ map.keys (state_at k)
+  entities_are es rising present = keys_are entity_total entity_exact (state_at k) es rising (λ e. present e ∙ ap is_some (look_is e))
+
+  pub tags_computed : (e : Entity) → tags_in (undo_state_of m) e ≡ tags_at k e
+  tags_computed e = tags_are (plain k.scripts) entity_total entity_exact k.start (all_recorded (plain k.scripts) k.start no_record (events_of k)) (undo_state_of m) stands.state e
+
+  pub tags_exact : (e : Entity) (g : ℕ) → (has g (tags_in (undo_state_of m) e) ≡ true) ↔ RestsOn k e g
+  tags_exact e g = is_plain.tags e g
+
+  pub status_is : (g : ℕ) (s : Status) → (status_of m.guesses g ≡ Some s) ↔ HasStatus k g s
+  status_is g s = is_plain.statuses g s
+
+  pub opens_are : numbers m.opens ≡ undecided_at k
+  opens_are = is_plain.opens
+
+  length_map : {A B : Type 0} (f : A → B) (xs : List A) → length (map f xs) ≡ length xs
+  length_map f [] = refl
+  length_map f (x ∷ xs) = ap suc (length_map f xs)
+
+  pub open_count : length m.opens ≡ length (undecided_at k)
+  open_count = sym (length_map (λ o. o.0) m.opens) ∙ ap length opens_are
+
+  pub opens_rise : IsStrictlySortedBy nat_cmp (numbers m.opens)
+  opens_rise = sorted_from_strictly_increasing (numbers m.opens) is_plain.rising
+
+  -- an open guess is undecided, and an undecided one is open
+  pub open_undecided : (g : ℕ) → (has g (numbers m.opens) ≡ true) ↔ (status_of m.guesses g ≡ Some Undecided)
+  open_undecided g =
+      let open_is = headline.open_is (plain k.scripts) entity_total entity_exact k.start (events_of k) (machine_of m) stands g in
+      ((λ here. (status_is g Undecided).1 (open_is.0 here)), λ is. open_is.1 ((status_is g Undecided).0 is))
+
+  pub undecided_counted : undecided_count m.guesses.statuses ≡ length (undecided_at k)
+  undecided_counted = count_of m.guesses (numbers m.opens) opens_rise open_undecided ∙ ap length opens_are
+
+  pub texts_are : (t : ℕ) → said_at t (texts_in m.texts t) ≡ texts_at k t
+  texts_are t =
+      stands.texts t
+      ∙ ap (λ ns. let ran = effects (plain k.scripts) k.start ns in said_with (plain k.scripts) t (tags_along (plain k.scripts).order (undecided_at k) (λ g. []) ran) ran) (entries_are (plain k.scripts) k.start (events_of k))
+
+  pub releases : (t : ℕ) → IsReleased (plain k.scripts) k.start (events_of k) t (released (said_at t (texts_in m.texts t)))
+  releases t = is_plain.releases t
+
+  -- ---- what a step asks for
+  pub tidy : IsTidy (undo_state_of m)
+  tidy = tidy_of (plain k.scripts) entity_total entity_exact k.start (all_recorded (plain k.scripts) k.start no_record (events_of k)) (undo_state_of m) stands.state
+
+  pub grows : (e : Entity) → IsGrowing (log_at m.slots e)
+  grows e = grows_of (plain k.scripts) entity_total entity_exact k.start (all_recorded (plain k.scripts) k.start no_record (events_of k)) (undo_state_of m) stands.state e
+
+  pub rests : (e : Entity) → list_all (λ n. not (is_empty n.tags)) (log_at m.slots e) ≡ true
+  rests e = all_rest (log_at m.slots e) (rests_of (plain k.scripts) entity_total entity_exact k.start (all_recorded (plain k.scripts) k.start no_record (events_of k)) (undo_state_of m) stands.state e)
+
+  pub same_effect : (n : EntryView) → perform (look_at m.slots) (act k.scripts n.pid n.input) ≡ effect_at k n
+  same_effect n = headline.same_outcome (plain k.scripts) entity_total entity_exact k.start (events_of k) (machine_of m) stands n
+
+  -- ---- what stands after an event
+  pub stands_stepped : (pid : ℕ) (input : Input) (b : Parts) → Takes (plain k.scripts) (machine_of m) (record { pid = pid; input = input; guess = None }) (machine_of b)
+      → RepresentsTrace (plain k.scripts) k.start (events_of (with_event k (events.Step pid input))) (machine_of b)
+  stands_stepped pid input b takes =
+      let n : EntryView = record { pid = pid; input = input; guess = None } in
+      subst (λ es. RepresentsTrace (plain k.scripts) k.start es (machine_of b)) (sym (map_more k.trace (events.Step pid input)))
+      (headline.stands_taken (plain k.scripts) entity_total entity_exact k.start (events_of k) (machine_of m) n (machine_of b) stands (λ g h no_mark drawn. absurd (no_guess g no_mark)) takes)
+
+  pub stands_committed : (g : ℕ) (b : Parts) → HasStatus k g Undecided → Commits (machine_of m) g (machine_of b)
+      → RepresentsTrace (plain k.scripts) k.start (events_of (with_event k (events.Commit g))) (machine_of b)
+  stands_committed g b undecided commits =
+      subst (λ es. RepresentsTrace (plain k.scripts) k.start es (machine_of b)) (sym (map_more k.trace (events.Commit g)))
+      (headline.stands_committed (plain k.scripts) entity_total entity_exact k.start (events_of k) (machine_of m) g (machine_of b) stands undecided commits)
+
+  pub stands_failed : (g : ℕ) (b : Parts) → HasStatus k g Undecided → Fails (machine_of m) g (machine_of b)
+      → RepresentsTrace (plain k.scripts) k.start (events_of (with_event k (events.Fail g))) (machine_of b)
+  stands_failed g b undecided fails =
+      subst (λ es. RepresentsTrace (plain k.scripts) k.start es (machine_of b)) (sym (map_more k.trace (events.Fail g)))
+      (headline.stands_failed (plain k.scripts) entity_total entity_exact k.start (events_of k) (machine_of m) g (machine_of b) stands undecided fails)
+
+  -- every guess that was drawn has a number below the next
+  pub drawn_below : (h : ℕ) → IsDrawn (plain k.scripts) (events_of k) h → h < next_of m.guesses
+  drawn_below h drawn =
+      let has_status = (one_status (plain k.scripts) k.start (events_of k) stands.sound h).0.0 drawn in
+      status_below m.guesses h has_status.0 ((status_is h has_status.0).1 has_status.1)
+
+  pub stands_guessed : (pid : ℕ) (input : Input) (b : Parts) → Takes (plain k.scripts) (machine_of m) (record { pid = pid; input = input; guess = Some (next_of m.guesses) }) (machine_of b)
+      → RepresentsTrace (plain k.scripts) k.start (events_of (with_event k (events.Guess (next_of m.guesses) pid input))) (machine_of b)
+  stands_guessed pid input b takes =
+      let n : EntryView = record { pid = pid; input = input; guess = Some (next_of m.guesses) } in
+      subst (λ es. RepresentsTrace (plain k.scripts) k.start es (machine_of b)) (sym (map_more k.trace (events.Guess (next_of m.guesses) pid input)))
+      (headline.stands_taken (plain k.scripts) entity_total entity_exact k.start (events_of k) (machine_of m) n (machine_of b) stands
+      (λ g h mark drawn. let own = some_same (next_of m.guesses) g mark in let less = drawn_below h drawn in omega (arith, own, less)) takes)
+
+  -- with the next number they rise still
+  pub next_rises : IsStrictlySortedBy nat_cmp (numbers m.opens ++ next_of m.guesses ∷ [])
+  next_rises = more_rises (numbers m.opens) (next_of m.guesses) opens_rise (λ g here. status_below m.guesses g Undecided ((open_undecided g).0 here))
+
+  -- ---- what a terminal shows
+  pub terminal_shown : (t : ℕ) (r : Option (Bor (List TaggedText))) → option_copied r ≡ map.get m.texts t → MatchOption r (texts_at k t ≡ []) (λ x. ShowsTerminal k t x.now)
+  terminal_shown t None none = sym (texts_are t) ∙ ap (λ o. said_at t (unwrap_or o [])) (sym none)
+  terminal_shown t (Some x) some =
+      let here : texts_in m.texts t ≡ x.now = ap (λ o. unwrap_or o []) (sym some) in
+      record {
+        said = ap (said_at t) (sym here) ∙ texts_are t;
+        released = subst (λ xs. IsReleased (plain k.scripts) k.start (events_of k) t (released (said_at t xs))) here (releases t);
+      }
+
+  -- ---- what is left where nothing is undecided
+  pub texts_left : undecided_at k ≡ [] → (t : ℕ) → LeavesTexts k t (released_at m.texts t)
+  texts_left none t =
+      let ran = effects (plain k.scripts) k.start (record_at k) in
+      let clear : AllClear (texts_at k t) =
+      subst (λ gs. AllClear (said_with (plain k.scripts) t (tags_along (plain k.scripts).order gs (λ g. []) ran) ran)) (sym none) (all_clear (plain k.scripts) t (λ g. []) ran) in
+      let same = released_said t (texts_in m.texts t) in
+      record {
+        all = sym same ∙ ap released (texts_are t) ∙ clear_released (texts_at k t) clear;
+        released = subst (IsReleased (plain k.scripts) k.start (events_of k) t) same (releases t);
+      }
+
+-- what stands after a step
+pub stepped_whole : (k : KernelView) (m b : Parts) (place left : ℕ) (pid : ℕ) (input : Input) (es : List Event) → IsWhole k m place
+    → Takes (plain k.scripts) (machine_of m) (record { pid = pid; input = input; guess = None }) (machine_of b)
+    → b.guesses ≡ m.guesses → es ≡ k.trace ++ events.Step pid input ∷ [] → length b.opens ≤ left
+    → IsWhole (record { number = b.guesses.kernel; scripts = k.scripts; start = k.start; limit = k.limit; trace = es }) b left
+stepped_whole k m b place left pid input es whole takes same trace room = record {
+  stands = subst (λ (xs : List Event). RepresentsTrace (plain k.scripts) k.start (map image xs) (machine_of b)) (sym trace) (stands_stepped k m whole.stands pid input b takes);
+  number = refl;
+  drawn = ap (λ v. length v.statuses) same ∙ whole.drawn ∙ sym (ap last_guess trace ∙ fold-append number_after 0 k.trace (events.Step pid input ∷ []));
+  place = room;
+}
+
+-- a step that is no guess opens none
+pub no_more_opens : (scripts : Scripts) (a b : Parts) (pid : ℕ) (input : Input) → Takes (plain scripts) (machine_of a) (record { pid = pid; input = input; guess = None }) (machine_of b) → length b.opens ≡ length a.opens
+no_more_opens scripts a b pid input takes = ap length (takes.state.opens ∙ append-nil a.opens)
+
+-- ---- at the start
+
+none_drawn : (number g : ℕ) → status_of (opened number) g ≡ None
+none_drawn number zero = refl
+none_drawn number (suc i) = at_place (opened number) i
+
+pub started : (scripts : Scripts) (start : State) (number : ℕ) (m : Parts) → IsAtStart number start m → machine_of m ≡ machine_at_start (plain scripts) start
+started scripts start number m at = λ i. record {
+  state = record { look = λ e. at.look e i; logs = λ e. at.logs e i; opens = at.opens i };
+  status = λ g. (ap (λ v. status_of v g) at.guesses ∙ none_drawn number g) i;
+  texts = λ t. (ap (λ x. said_at t (texts_in x t)) at.texts ∙ ap (λ o. said_at t (unwrap_or o [])) (map.get-empty nat_cmp t)) i;
+}
+
+pub booted_whole : (number limit place : ℕ) (boot : BootView) (m : Parts) → IsAtStart number (start_of boot) m → IsWhole (booted number boot limit) m place
+booted_whole number limit place boot m at =
+    let none : length m.opens ≡ 0 = ap length at.opens in
+    record {
+      stands = subst (λ x. RepresentsTrace (plain boot.scripts) (start_of boot) [] x) (sym (started boot.scripts (start_of boot) number m at)) (headline.stands_first (plain boot.scripts) entity_total entity_exact (start_of boot));
+      number = ap (λ v. v.kernel) at.guesses;
+      drawn = ap (λ v. length v.statuses) at.guesses;
+      place = omega (arith, none);
+    }

@@ -1,3 +1,0 @@
-pub mod Kernel
-pub mod Calls
-pub mod Invariant

@@ -1,0 +1,7 @@
+-- The events before the loop's place happen.
+use Rattle.std.proofs.Common.{take}
+use Rattle.sk_play.specs.Replays.{Replays}
+use Rattle.sk_play.proofs.replaying.replay.Given as goal
+
+abbrev pub invariant-loop-place : goal.invariant-loop-place
+invariant-loop-place l = Replays (take l.place l.events) l.fn.session.tokens.items l.fn.session.kernel l.session.tokens.items l.session.kernel

@@ -1,0 +1,58 @@
+-- A trace that is replayed: each event is the call of a session, which is answered as the event tells.
+use Rattle.std.specs.Prelude.{◌≡◌, ℕ, ◌+◌, List, [], ◌∷◌, ◌++◌, map, length, Result, Ok, Err, ⊤}
+use Rattle.sk_guesses.specs.Token.{Token}
+use Rattle.sk_trace.specs.declared.event.Event.{Event}
+use Rattle.sk_trace.specs.declared.event.Event.TheVariants as events
+use Rattle.sk_scenario.specs.declared.call.Call.{Call}
+use Rattle.sk_scenario.specs.declared.call.Call.TheVariants as calls
+use Rattle.sk_kernel.specs.Kernel.{KernelView}
+use Rattle.sk_play.specs.declared.answer.Answer.{Answer}
+use Rattle.sk_play.specs.declared.answer.Answer.TheVariants as answers
+use Rattle.sk_play.specs.declared.replaying.Unreplayed.{Unreplayed}
+use Rattle.sk_play.specs.declared.replaying.Unreplayed.TheVariants as unreplayed
+use Rattle.sk_play.specs.Session.{AnswerMatches}
+use Rattle.sk_play.specs.Plays.{Plays}
+
+abbrev pub call_of : Event → Call
+call_of (events.Step pid input) = calls.Step pid input
+call_of (events.Guess id pid input) = calls.Guess pid input
+call_of (events.Commit id) = calls.Commit id
+call_of (events.Fail id) = calls.Fail id
+
+-- the answer that the event tells
+abbrev pub told_by : Event → Answer
+told_by (events.Step pid input) = answers.Stepped
+told_by (events.Guess id pid input) = answers.Guessed id
+told_by (events.Commit id) = answers.Done
+told_by (events.Fail id) = answers.Done
+
+-- the events happen in turn, from these tokens and this kernel on, which leaves those tokens and that kernel
+abbrev pub Replays : List Event → List Token → KernelView → List Token → KernelView → Type 0
+Replays es tokens kernel left last = Plays (map call_of es) (map told_by es) tokens kernel left last
+
+-- the entry at this place, from 1, is the first that does not: its call is answered otherwise
+pub record StopsAt (es : List Event) (tokens : List Token) (kernel : KernelView) (at : ℕ) : Type 0 where
+  pub before : List Event
+  pub event : Event
+  pub later : List Event
+  pub parts : es ≡ before ++ event ∷ later
+  pub place : at ≡ length before + 1
+  -- those before it happen
+  pub held : List Token
+  pub here : KernelView
+  pub replays : Replays before tokens kernel held here
+  -- and then its call is answered
+  pub answer : Answer
+  pub next : KernelView
+  pub answered : AnswerMatches answer (call_of event) held here next
+  pub other : ¬ (answer ≡ told_by event)
+
+-- the kernel with a trace
+abbrev pub replayed : KernelView → List Event → KernelView
+replayed k es = record k { trace = k.trace ++ es }
+
+-- all events happen, or the first that does not is told, or memory ran out
+abbrev pub ReplaysSo : Result (Unit {0}) Unreplayed → List Event → List Token → KernelView → List Token → KernelView → Type 0
+ReplaysSo (Ok u) es tokens kernel left last = Replays es tokens kernel left last × (last ≡ replayed kernel es)
+ReplaysSo (Err (unreplayed.Entry at)) es tokens kernel left last = StopsAt es tokens kernel at
+ReplaysSo (Err unreplayed.Memory) es tokens kernel left last = ⊤

@@ -1,0 +1,63 @@
+//! Replaying a trace on a session.
+ghost use Rattle.std.specs.Prelude.{◌≡◌};
+ghost use Rattle.sk_play.specs.Replays.{call_of, told_by, ReplaysSo};
+
+use crate::{Answer, Session};
+use sk_scenario::Call;
+use sk_trace::Event;
+use std::alloc::AllocError;
+
+/// Why a trace was not replayed to its end.
+#[derive(Clone, Copy, Debug, PartialEq, Eq)]
+pub enum Unreplayed {
+    /// The entry of this number, from 1, does not happen as the trace has it.
+    Entry(usize),
+    Memory,
+}
+
+impl From<AllocError> for Unreplayed {
+    ghost use Rattle.std.specs.Prelude.{◌≡◌};
+    ghost use Rattle.sk_play.specs.declared.replaying.Unreplayed.TheVariants.{Memory};
+
+    ghost from_gives = { λ _ why. why ≡ Memory };
+
+    fn from(_error: AllocError) -> Unreplayed {
+        Unreplayed::Memory
+    }
+}
+
+fn call_of(event: &Event) -> Call
+    ensures { result ≡ call_of event.now }
+{
+    match *event {
+        Event::Step { pid, input } => Call::Step(pid, input),
+        Event::Guess { pid, input, .. } => Call::Guess(pid, input),
+        Event::Commit(id) => Call::Commit(id),
+        Event::Fail(id) => Call::Fail(id),
+    }
+}
+
+/// The answer that an event tells.
+fn told_by(event: &Event) -> Answer
+    ensures { result ≡ told_by event.now }
+{
+    match *event {
+        Event::Step { .. } => Answer::Stepped,
+        Event::Guess { id, .. } => Answer::Guessed(id),
+        Event::Commit(_) | Event::Fail(_) => Answer::Done,
+    }
+}
+
+/// Makes the call of each event in order. It stops at the first that is answered otherwise than the
+/// trace has it: refused, gone, without a token, or with another guess.
+pub fn replay(session: &mut Session, events: &[Event]) -> Result<(), Unreplayed>
+    ensures { ReplaysSo result events.now session.old.tokens.items session.old.kernel session.new.tokens.items session.new.kernel }
+{
+    for (place, event) in events.iter().enumerate() {
+        let answer = session.execute(&call_of(event))?;
+        if answer != told_by(event) {
+            return Err(Unreplayed::Entry(place + 1));
+        }
+    }
+    Ok(())
+}

@@ -1,0 +1,203 @@
+-- Held texts after a pass back to those said before a guess was drawn.
+use Rattle.std.proofs.Common.{◌≡◌, ℕ, zero, suc, ◌<◌, ◌≤◌, ◌+◌, length, take, drop, Bool, true, false, cond, not, List, [], ◌∷◌, ◌++◌, map, refl, sym, ◌∙◌, ap, subst, arith}
+use Rattle.std.specs.Prelude.{◌==◌, slice_index_or, slice_set}
+use Rattle.std.specs.List.{list_any, list_all, filter, prefix_len}
+use Rattle.std.proofs.lemmas.Bool.{or_parts, or_from}
+use Rattle.std.proofs.lemmas.List.{take-append-drop}
+use Rattle.sk_record.specs.Notes.{has, without}
+use Rattle.sk_record.specs.Machine.{lightened, not_dropped}
+use Rattle.sk_record.proofs.Machine.{has_filter}
+use Rattle.sk_record.proofs.UndoStates.{and_both}
+use Rattle.sk_terminal.specs.Terminal.{TaggedText, is_clear}
+use Rattle.sk_terminal.specs.Held.{texts_of, AreBounded}
+use Rattle.sk_terminal.specs.declared.terminal.Held.{Held}
+
+-- ---- numbers
+pub bounded_more : (low high n : ℕ) (hs : List Held) (x : Held) → AreBounded low hs high → high ≤ n → x.newest ≡ n → ((g : ℕ) → has g x.said.1 ≡ true → g ≤ n) → AreBounded low (hs ++ x ∷ []) n
+bounded_more low high n [] x b le is tags = (omega arith, (λ g here. subst (λ k. g ≤ k) (sym is) (tags g here)), omega arith)
+bounded_more low high n (h ∷ hs) x b le is tags = (b.0, b.1, bounded_more h.newest high n hs x b.2 le is tags)
+
+pub bounded_low : (low less high : ℕ) (hs : List Held) → less ≤ low → AreBounded low hs high → AreBounded less hs high
+bounded_low low less high [] le b = omega arith
+bounded_low low less high (h ∷ hs) le b = (omega arith, b.1, b.2)
+
+pub bounded_drop : (low high k : ℕ) (hs : List Held) → AreBounded low hs high → AreBounded low (drop k hs) high
+bounded_drop low high zero hs b = b
+bounded_drop low high (suc k) [] b = b
+bounded_drop low high (suc k) (h ∷ hs) b = bounded_drop low high k hs (bounded_low h.newest low high hs b.0 b.2)
+
+bounded_end : (low high : ℕ) (hs : List Held) → AreBounded low hs high → low ≤ high
+bounded_end low high [] b = b
+bounded_end low high (h ∷ hs) b = let rest = bounded_end h.newest high hs b.2 in let first = b.0 in omega arith
+
+pub bounded_take : (low high k : ℕ) (hs : List Held) → AreBounded low hs high → AreBounded low (take k hs) high
+bounded_take low high zero hs b = bounded_end low high hs b
+bounded_take low high (suc k) [] b = b
+bounded_take low high (suc k) (h ∷ hs) b = (b.0, b.1, bounded_take h.newest high k hs b.2)
+
+pub bounded_filter : (p : Held → Bool) (low high : ℕ) (hs : List Held) → AreBounded low hs high → AreBounded low (filter p hs) high
+bounded_filter p low high [] b = b
+bounded_filter p low high (h ∷ hs) b =
+    let rest = bounded_filter p h.newest high hs b.2 in
+    elim (p h) as (λ k. AreBounded low (cond k (h ∷ filter p hs) (filter p hs)) high) [
+      | true ↦ (b.0, b.1, rest)
+      | false ↦ bounded_low h.newest low high (filter p hs) b.0 rest
+    ]
+
+-- ---- a guess taken out of the texts from one place on
+abbrev pub light : ℕ → Held → Held
+light g h = record { said = (h.said.0, without g h.said.1); newest = h.newest }
+
+abbrev pub light_from : ℕ → ℕ → List Held → List Held
+light_from g i hs = take i hs ++ map (light g) (drop i hs)
+
+pub from_end : (g : ℕ) (hs : List Held) → hs ≡ light_from g (length hs) hs
+from_end g [] = refl
+from_end g (h ∷ hs) = ap (λ xs. h ∷ xs) (from_end g hs)
+
+from_one : (g i : ℕ) (hs : List Held) (h : Held) → i < length hs → h ≡ slice_index_or (light_from g (suc i) hs) i h → slice_set (light_from g (suc i) hs) i (light g h) ≡ light_from g i hs
+from_one g i [] h lt is = absurd (omega arith)
+from_one g zero (x ∷ hs) h lt is = ap (λ y. light g y ∷ map (light g) hs) is
+from_one g (suc i) (x ∷ hs) h lt is = ap (λ xs. x ∷ xs) (from_one g i hs h (omega arith) is)
+
+pub from_before : (g i j : ℕ) (hs items : List Held) (h : Held) → i ≡ suc j → j < length hs → items ≡ light_from g i hs → h ≡ slice_index_or items j h → slice_set items j (light g h) ≡ light_from g j hs
+from_before g i j hs items h next lt whole is =
+    let all = whole ∙ ap (λ k. light_from g k hs) next in
+    ap (λ xs. slice_set xs j (light g h)) all ∙ from_one g j hs h lt (is ∙ ap (λ xs. slice_index_or xs j h) all)
+
+at_place : (g j : ℕ) (hs : List Held) (h : Held) → j < length hs → h ≡ slice_index_or (light_from g (suc j) hs) j h → h ≡ slice_index_or hs j h
+at_place g j [] h lt is = absurd (omega arith)
+at_place g zero (x ∷ hs) h lt is = is
+at_place g (suc j) (x ∷ hs) h lt is = at_place g j hs h (omega arith) is
+
+pub place_before : (g i j : ℕ) (hs items : List Held) (h : Held) → i ≡ suc j → j < length hs → items ≡ light_from g i hs → h ≡ slice_index_or items j h → h ≡ slice_index_or hs j h
+place_before g i j hs items h next lt whole is = at_place g j hs h lt (is ∙ ap (λ xs. slice_index_or xs j h) (whole ∙ ap (λ k. light_from g k hs) next))
+
+-- ---- the texts before one place, where its number is below the guess
+abbrev pub rests : ℕ → Held → Bool
+rests g h = has g h.said.1
+
+rises_to : (low high j : ℕ) (hs : List Held) (h : Held) → AreBounded low hs high → j < length hs → h ≡ slice_index_or hs j h → low ≤ h.newest
+rises_to low high j [] h b lt is = absurd (omega arith)
+rises_to low high zero (x ∷ hs) h b lt is = subst (λ (y : Held). low ≤ y.newest) (sym is) b.0
+rises_to low high (suc j) (x ∷ hs) h b lt is = let rest = rises_to x.newest high j hs h b.2 (omega arith) is in let first = b.0 in omega arith
+
+below : (g : ℕ) (x : Held) → ((k : ℕ) → has k x.said.1 ≡ true → k ≤ x.newest) → x.newest < g → rests g x ≡ false
+below g x bound lt = elim (has g x.said.1) as (λ b. has g x.said.1 ≡ b → b ≡ false) [
+  | true ↦ λ here. let le = bound g here in absurd (omega arith)
+  | false ↦ λ _. refl
+] refl
+
+free_to : (g low high j : ℕ) (hs : List Held) (h : Held) → AreBounded low hs high → j < length hs → h ≡ slice_index_or hs j h → h.newest < g → list_any (rests g) (take (suc j) hs) ≡ false
+free_to g low high j [] h b lt is less = absurd (omega arith)
+free_to g low high zero (x ∷ hs) h b lt is less = or_from _ _ (below g x b.1 (subst (λ (y : Held). y.newest < g) is less)) refl
+free_to g low high (suc j) (x ∷ hs) h b lt is less =
+    let up = rises_to x.newest high j hs h b.2 (omega arith) is in
+    or_from _ _ (below g x b.1 (omega arith)) (free_to g x.newest high j hs h b.2 (omega arith) is less)
+
+pub free_before : (g low high i j : ℕ) (hs : List Held) (h : Held) → AreBounded low hs high → i ≡ suc j → j < length hs → h ≡ slice_index_or hs j h → h.newest < g → list_any (rests g) (take i hs) ≡ false
+free_before g low high i j hs h b next lt is less = ap (λ k. list_any (rests g) (take k hs)) next ∙ free_to g low high j hs h b lt is less
+
+without_free : (g : ℕ) (tags : List ℕ) → has g tags ≡ false → without g tags ≡ tags
+without_free g [] none = refl
+without_free g (t ∷ tags) none =
+    let parts = or_parts _ _ none in
+    ap (λ b. cond (not b) (t ∷ without g tags) (without g tags)) parts.0 ∙ ap (λ ts. t ∷ ts) (without_free g tags parts.1)
+
+light_free : (g : ℕ) (hs : List Held) → list_any (rests g) hs ≡ false → map (light g) hs ≡ hs
+light_free g [] none = refl
+light_free g (h ∷ hs) none =
+    let parts = or_parts _ _ none in
+    let same = without_free g h.said.1 parts.0 in
+    let rest = light_free g hs parts.1 in
+    λ i. record { said = (h.said.0, same i); newest = h.newest } ∷ rest i
+
+light_append : (g : ℕ) (hs ks : List Held) → map (light g) (hs ++ ks) ≡ map (light g) hs ++ map (light g) ks
+light_append g [] ks = refl
+light_append g (h ∷ hs) ks = ap (λ xs. light g h ∷ xs) (light_append g hs ks)
+
+whole_light : (g i : ℕ) (hs : List Held) → list_any (rests g) (take i hs) ≡ false → light_from g i hs ≡ map (light g) hs
+whole_light g i hs none =
+    ap (λ xs. xs ++ map (light g) (drop i hs)) (sym (light_free g (take i hs) none)) ∙ sym (light_append g (take i hs) (drop i hs)) ∙ ap (map (light g)) (take-append-drop i hs)
+
+texts_light : (g : ℕ) (hs : List Held) → texts_of (map (light g) hs) ≡ lightened g (texts_of hs)
+texts_light g [] = refl
+texts_light g (h ∷ hs) = ap (λ xs. (h.said.0, without g h.said.1) ∷ xs) (texts_light g hs)
+
+has_left : (g c : ℕ) (tags : List ℕ) → has g (without c tags) ≡ true → has g tags ≡ true
+has_left g c tags here = (and_both (not (g == c)) (has g tags) (sym (has_filter (λ t. not (t == c)) g tags) ∙ here)).1
+
+bounded_light : (c low high : ℕ) (hs : List Held) → AreBounded low hs high → AreBounded low (map (light c) hs) high
+bounded_light c low high [] b = b
+bounded_light c low high (h ∷ hs) b = (b.0, (λ g here. b.1 g (has_left g c h.said.1 here)), bounded_light c h.newest high hs b.2)
+
+pub lightened_texts : (g i : ℕ) (hs : List Held) → list_any (rests g) (take i hs) ≡ false → texts_of (light_from g i hs) ≡ lightened g (texts_of hs)
+lightened_texts g i hs none = ap texts_of (whole_light g i hs none) ∙ texts_light g hs
+
+pub lightened_bounds : (g i low high : ℕ) (hs : List Held) → list_any (rests g) (take i hs) ≡ false → AreBounded low hs high → AreBounded low (light_from g i hs) high
+lightened_bounds g i low high hs none b = subst (λ xs. AreBounded low xs high) (sym (whole_light g i hs none)) (bounded_light g low high hs b)
+
+-- ---- texts thrown away
+drop_free : (g : ℕ) (hs : List Held) → list_any (rests g) hs ≡ false → texts_of hs ≡ not_dropped g (texts_of hs)
+drop_free g [] none = refl
+drop_free g (h ∷ hs) none =
+    let parts = or_parts _ _ none in
+    ap (λ xs. h.said ∷ xs) (drop_free g hs parts.1) ∙ sym (ap (λ b. cond (not b) (h.said ∷ not_dropped g (texts_of hs)) (not_dropped g (texts_of hs))) parts.0)
+
+drop_all_rest : (g : ℕ) (hs : List Held) → list_all (rests g) hs ≡ true → not_dropped g (texts_of hs) ≡ []
+drop_all_rest g [] all = refl
+drop_all_rest g (h ∷ hs) all =
+    let both = and_both _ _ all in
+    ap (λ b. cond (not b) (h.said ∷ not_dropped g (texts_of hs)) (not_dropped g (texts_of hs))) both.0 ∙ drop_all_rest g hs both.1
+
+dropped_more : (g : ℕ) (hs ks : List Held) → not_dropped g (texts_of (hs ++ ks)) ≡ not_dropped g (texts_of hs) ++ not_dropped g (texts_of ks)
+dropped_more g [] ks = refl
+dropped_more g (h ∷ hs) ks =
+    elim (has g h.said.1) as (λ b. cond (not b) (h.said ∷ not_dropped g (texts_of (hs ++ ks))) (not_dropped g (texts_of (hs ++ ks))) ≡ cond (not b) (h.said ∷ not_dropped g (texts_of hs)) (not_dropped g (texts_of hs)) ++ not_dropped g (texts_of ks)) [
+      | true ↦ dropped_more g hs ks
+      | false ↦ ap (λ xs. h.said ∷ xs) (dropped_more g hs ks)
+    ]
+
+none_after : (xs : List TaggedText) → xs ≡ xs ++ []
+none_after [] = refl
+none_after (x ∷ xs) = ap (λ ys. x ∷ ys) (none_after xs)
+
+pub taken_texts : (g i : ℕ) (hs : List Held) → list_all (rests g) (drop i hs) ≡ true → list_any (rests g) (take i hs) ≡ false → texts_of (take i hs) ≡ not_dropped g (texts_of hs)
+taken_texts g i hs all none =
+    drop_free g (take i hs) none ∙ none_after (not_dropped g (texts_of (take i hs))) ∙ ap (λ xs. not_dropped g (texts_of (take i hs)) ++ xs) (sym (drop_all_rest g (drop i hs) all))
+    ∙ sym (dropped_more g (take i hs) (drop i hs)) ∙ ap (λ xs. not_dropped g (texts_of xs)) (take-append-drop i hs)
+
+pub filtered_texts : (g : ℕ) (hs : List Held) → texts_of (filter (λ h. not (has g h.said.1)) hs) ≡ not_dropped g (texts_of hs)
+filtered_texts g [] = refl
+filtered_texts g (h ∷ hs) =
+    elim (has g h.said.1) as (λ b. texts_of (cond (not b) (h ∷ filter (λ h. not (has g h.said.1)) hs) (filter (λ h. not (has g h.said.1)) hs)) ≡ cond (not b) (h.said ∷ not_dropped g (texts_of hs)) (not_dropped g (texts_of hs))) [
+      | true ↦ filtered_texts g hs
+      | false ↦ ap (λ xs. h.said ∷ xs) (filtered_texts g hs)
+    ]
+
+-- ---- texts released
+pub prefix_texts : (hs : List Held) → prefix_len (λ h. is_clear h.said) hs ≡ prefix_len is_clear (texts_of hs)
+prefix_texts [] = refl
+prefix_texts (h ∷ hs) = ap (λ k. cond (is_clear h.said) (1 + k) 0) (prefix_texts hs)
+
+pub prefix_within : (hs : List Held) → prefix_len (λ h. is_clear h.said) hs ≤ length hs
+prefix_within [] = omega arith
+prefix_within (h ∷ hs) = elim (is_clear h.said) as (λ b. cond b (1 + prefix_len (λ h. is_clear h.said) hs) 0 ≤ length (h ∷ hs)) [ true ↦ omega (arith, prefix_within hs) | false ↦ omega arith ]
+
+pub texts_drop : (k : ℕ) (hs : List Held) → texts_of (drop k hs) ≡ drop k (texts_of hs)
+texts_drop zero hs = refl
+texts_drop (suc k) [] = refl
+texts_drop (suc k) (h ∷ hs) = texts_drop k hs
+
+pub texts_take : (k : ℕ) (hs : List Held) → map (λ (h : Held). h.said.0) (take k hs) ≡ map (λ (x : TaggedText). x.0) (take k (texts_of hs))
+texts_take zero hs = refl
+texts_take (suc k) [] = refl
+texts_take (suc k) (h ∷ hs) = ap (λ xs. h.said.0 ∷ xs) (texts_take k hs)
+
+pub texts_more : (hs : List Held) (h : Held) → texts_of (hs ++ h ∷ []) ≡ texts_of hs ++ h.said ∷ []
+texts_more [] h = refl
+texts_more (x ∷ hs) h = ap (λ xs. x.said ∷ xs) (texts_more hs h)
+
+pub texts_length : (hs : List Held) → length (texts_of hs) ≡ length hs
+texts_length [] = refl
+texts_length (h ∷ hs) = ap suc (texts_length hs)

@@ -1,0 +1,19 @@
+-- The new text's number is at least those before it.
+use Rattle.std.proofs.Common.{List, refl, sym, ◌∙◌, ap, subst}
+use Rattle.sk_record.specs.Notes.{has}
+use Rattle.sk_terminal.specs.Terminal.{TaggedText}
+use Rattle.sk_terminal.specs.Held.{AreBounded}
+use Rattle.sk_terminal.specs.declared.terminal.Held.{Held}
+use Rattle.sk_terminal.proofs.HeldTexts.{bounded_more}
+use Rattle.sk_terminal.proofs.terminal.Terminal.say.Goals as goal
+
+pub invariant_of-self-2 : goal.invariant_of-self-2
+invariant_of-self-2 c =
+    let n = c.newest_of-newest.result in
+    let x : Held = record { said = c.new-said.result; newest = n } in (
+      c.release.ensures.held,
+      c.release.ensures.room,
+      c.release.ensures.bounds n (subst (λ (xs : List Held). AreBounded 0 xs n) (sym c.in_ok-push.ensures.items)
+          (bounded_more 0 c.self.inside.newest n c.self.inside.waiting.items x c.self.invariant.2 c.newest_of-newest.ensures.above refl
+          (λ g here. c.newest_of-newest.ensures.tags g (sym (ap (λ (s : TaggedText). has g s.1) c.new-said.ensures) ∙ here)))),
+    )

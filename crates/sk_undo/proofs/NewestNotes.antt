@@ -1,0 +1,121 @@
+-- What a commit's pass from the newest note back leaves.
+use Rattle.std.proofs.Common.{◌≡◌, ℕ, zero, suc, ◌<◌, ◌≤◌, ◌+◌, length, take, drop, true, false, cond, ◌&&◌, List, [], ◌∷◌, ◌++◌, Option, refl, sym, ◌∙◌, ap, subst, arith}
+use Rattle.std.specs.Prelude.{reverse, slice_index_or, slice_set}
+use Rattle.std.specs.List.{list_all, prefix_len}
+use Rattle.std.proofs.lemmas.Bool.{true≢false}
+use Rattle.std.proofs.lemmas.List.{reverse-append, take-append-drop}
+use Rattle.sk_record.specs.Notes.{has, without}
+use Rattle.sk_record.proofs.UndoStates.{and_both}
+use Rattle.sk_undo.specs.declared.log.Note.{Note as RawNote}
+use Rattle.sk_undo.specs.Log.{is_empty, CanGoBack, rests_last, newest_tags, lightened, dropped, from_first, Grows}
+use Rattle.sk_undo.proofs.Commits.{without_free, light_reverse, dropped_can}
+use Rattle.sk_undo.proofs.Growing.{AllRest, last_on, last_rests, newest_last, newest_is}
+
+module _ {U : Type 0} where
+  -- the notes from one place on are without the guess
+  abbrev pub lightened_from : ℕ → ℕ → List (RawNote U) → List (RawNote U)
+  lightened_from g i ns = take i ns ++ lightened g (drop i ns)
+
+  pub from_end : (g : ℕ) (ns : List (RawNote U)) → ns ≡ lightened_from g (length ns) ns
+  from_end g [] = refl
+  from_end g (n ∷ ns) = ap (λ ys. n ∷ ys) (from_end g ns)
+
+  -- and the note before it
+  from_one : (g i : ℕ) (ns : List (RawNote U)) (n : RawNote U) → i < length ns → n ≡ slice_index_or (lightened_from g (suc i) ns) i n
+      → slice_set (lightened_from g (suc i) ns) i (record { tags = without g n.tags; undo = n.undo }) ≡ lightened_from g i ns
+  from_one g i [] n lt is = absurd (omega arith)
+  from_one g zero (x ∷ ns) n lt is = ap (λ (y : RawNote U). record { tags = without g y.tags; undo = y.undo } ∷ lightened g ns) is
+  from_one g (suc i) (x ∷ ns) n lt is = ap (λ ys. x ∷ ys) (from_one g i ns n (omega arith) is)
+
+  pub from_before : (g i j : ℕ) (ns items : List (RawNote U)) (n : RawNote U) → i ≡ suc j → j < length ns → items ≡ lightened_from g i ns → n ≡ slice_index_or items j n
+      → slice_set items j (record { tags = without g n.tags; undo = n.undo }) ≡ lightened_from g j ns
+  from_before g i j ns items n next lt whole is =
+      let all = whole ∙ ap (λ k. lightened_from g k ns) next in
+      ap (λ ys. slice_set ys j (record { tags = without g n.tags; undo = n.undo })) all
+      ∙ from_one g j ns n lt (is ∙ ap (λ ys. slice_index_or ys j n) all)
+
+  -- the newest note before one place is that of the notes there
+  at_place : (i j : ℕ) (g : ℕ) (ns : List (RawNote U)) (n : RawNote U) → j < length ns → n ≡ slice_index_or (lightened_from g (suc j) ns) j n → has g (last_on [] (take (suc j) ns)) ≡ has g n.tags
+  at_place i j g ns n lt is = go [] j ns n lt is where
+    go : (tags : List ℕ) (j : ℕ) (ns : List (RawNote U)) (n : RawNote U) → j < length ns → n ≡ slice_index_or (lightened_from g (suc j) ns) j n → has g (last_on tags (take (suc j) ns)) ≡ has g n.tags
+    go tags j [] n lt is = absurd (omega arith)
+    go tags zero (x ∷ ns) n lt is = ap (λ (y : RawNote U). has g y.tags) (sym is)
+    go tags (suc j) (x ∷ ns) n lt is = go x.tags j ns n (omega arith) is
+
+  rests_newest : (g : ℕ) (ns : List (RawNote U)) → rests_last g ns ≡ has g (newest_tags ns)
+  rests_newest g [] = refl
+  rests_newest g (n ∷ ns) = refl
+
+  rests_on_last : (g : ℕ) (ns : List (RawNote U)) → rests_last g (reverse ns) ≡ has g (last_on [] ns)
+  rests_on_last g ns = rests_newest g (reverse ns) ∙ ap (has g) (newest_is (reverse ns) ∙ newest_last [] ns)
+
+  pub stops_there : (g i j : ℕ) (ns items : List (RawNote U)) (n : RawNote U) → i ≡ suc j → j < length ns → items ≡ lightened_from g i ns → n ≡ slice_index_or items j n → has g n.tags ≡ false
+      → rests_last g (reverse (take i ns)) ≡ false
+  stops_there g i j ns items n next lt whole is none =
+      let all = whole ∙ ap (λ k. lightened_from g k ns) next in
+      ap (λ k. rests_last g (reverse (take k ns))) next ∙ rests_on_last g (take (suc j) ns) ∙ at_place i j g ns n lt (is ∙ ap (λ ys. slice_index_or ys j n) all) ∙ none
+
+  -- ---- where each note rests on what those before it rest on, the others don't rest on the guess
+  all_front : (g : ℕ) (xs ys : List (RawNote U)) → AllRest g (xs ++ ys) → AllRest g xs
+  all_front g [] ys all = refl
+  all_front g (x ∷ xs) ys all =
+      let both = and_both _ _ all in
+      ap (λ b. b && list_all (λ n. has g n.tags) xs) both.0 ∙ all_front g xs ys both.1
+
+  free_front : (g : ℕ) (tags : List ℕ) (xs ys : List (RawNote U)) → AllRest g (from_first g (xs ++ ys)) → has g (last_on tags xs) ≡ false → lightened g xs ≡ xs
+  free_front g tags [] ys all none = refl
+  free_front g tags (x ∷ xs) ys all none =
+      elim (has g x.tags) as (λ b. has g x.tags ≡ b → AllRest g (cond b (x ∷ xs ++ ys) (from_first g (xs ++ ys))) → lightened g (x ∷ xs) ≡ x ∷ xs) [
+        | true ↦ λ here all. absurd (true≢false (sym (last_rests g x.tags xs (all_front g xs ys (and_both _ _ all).1) here) ∙ none))
+        | false ↦ λ free all.
+            let same = without_free g x.tags free in
+            let rest = free_front g x.tags xs ys all none in
+            λ i. record { tags = same i; undo = x.undo } ∷ rest i
+      ] refl all
+
+  light_append : (g : ℕ) (xs ys : List (RawNote U)) → lightened g (xs ++ ys) ≡ lightened g xs ++ lightened g ys
+  light_append g [] ys = refl
+  light_append g (x ∷ xs) ys = ap (λ zs. record { tags = without g x.tags; undo = x.undo } ∷ zs) (light_append g xs ys)
+
+  pub whole_pass : (g i : ℕ) (ns : List (RawNote U)) → rests_last g (reverse (take i ns)) ≡ false → Grows ns → lightened_from g i ns ≡ lightened g ns
+  whole_pass g i ns none grows =
+      let parts = take-append-drop i ns in
+      let free = free_front g [] (take i ns) (drop i ns) (subst (λ ms. AllRest g (from_first g ms)) (sym parts) (grows g)) (sym (rests_on_last g (take i ns)) ∙ none) in
+      ap (λ xs. xs ++ lightened g (drop i ns)) (sym free) ∙ sym (light_append g (take i ns) (drop i ns)) ∙ ap (lightened g) parts
+
+  -- ---- the oldest notes
+  pub dropped_is : (ns : List (RawNote U)) → drop (prefix_len (λ n. is_empty n.tags) ns) ns ≡ dropped ns
+  dropped_is [] = refl
+  dropped_is (n ∷ ns) =
+      elim (is_empty n.tags) as (λ b. drop (cond b (1 + prefix_len (λ n. is_empty n.tags) ns) 0) (n ∷ ns) ≡ cond b (dropped ns) (n ∷ ns)) [
+        | true ↦ ap (λ k. drop k (n ∷ ns)) (let next : 1 + prefix_len (λ n. is_empty n.tags) ns ≡ suc (prefix_len (λ n. is_empty n.tags) ns) = omega arith in next) ∙ dropped_is ns
+        | false ↦ refl
+      ]
+
+  pub none_dropped : (ns : List (RawNote U)) (k : ℕ) → k ≡ prefix_len (λ n. is_empty n.tags) ns → k ≡ 0 → ns ≡ dropped ns
+  none_dropped ns k is none = ap (λ k. drop k ns) (sym none ∙ is) ∙ dropped_is ns
+
+  pub within_notes : (ns : List (RawNote U)) → prefix_len (λ n. is_empty n.tags) ns ≤ length ns
+  within_notes [] = omega arith
+  within_notes (n ∷ ns) =
+      elim (is_empty n.tags) as (λ b. cond b (1 + prefix_len (λ n. is_empty n.tags) ns) 0 ≤ length (n ∷ ns)) [
+        | true ↦ omega (arith, within_notes ns)
+        | false ↦ omega arith
+      ]
+
+-- ---- what is left can still be undone
+module _ {U V : Type 0} (fits : U → Option V → Type 0) (undone : U → Option V → Option V) where
+  light_front : (g : ℕ) (v : Option V) (ns zs : List (RawNote U)) → CanGoBack fits undone v (ns ++ zs) → CanGoBack fits undone v (lightened g ns ++ zs)
+  light_front g v [] zs can = can
+  light_front g v (n ∷ ns) zs can = (can.0, light_front g (undone n.undo v) ns zs can.1)
+
+  pass_can : (g i : ℕ) (v : Option V) (ns : List (RawNote U)) → CanGoBack fits undone v (reverse ns) → CanGoBack fits undone v (reverse (lightened_from g i ns))
+  pass_can g i v ns can =
+      let xs = take i ns in
+      let ys = drop i ns in
+      let parts : reverse ns ≡ reverse ys ++ reverse xs = ap reverse (sym (take-append-drop i ns)) ∙ reverse-append xs ys in
+      subst (CanGoBack fits undone v) (ap (λ zs. zs ++ reverse xs) (sym (light_reverse g ys)) ∙ sym (reverse-append xs (lightened g ys)))
+      (light_front g v (reverse ys) (reverse xs) (subst (CanGoBack fits undone v) parts can))
+
+  pub commit_can : (g i : ℕ) (v : Option V) (ns : List (RawNote U)) → CanGoBack fits undone v (reverse ns) → CanGoBack fits undone v (reverse (dropped (lightened_from g i ns)))
+  commit_can g i v ns can = dropped_can fits undone v (lightened_from g i ns) (pass_can g i v ns can)

@@ -203,10 +203,10 @@ fn runs(rt: &impl Abort, alloc: Global, count: u64, manner: Manner) {
     }
 }
 
-/// Short runs with these habits.
-fn short(commits: u32, fails: u32) -> Manner {
+/// Short runs of a kind with these habits.
+fn short(kind: Kind, commits: u32, fails: u32) -> Manner {
     Manner {
-        kind: Kind::Any,
+        kind,
         habit: Habit { commits, fails },
         least: 10,
         more: 50,
@@ -215,22 +215,42 @@ fn short(commits: u32, fails: u32) -> Manner {
 
 #[test]
 fn as_many_commits_as_failures(rt: HostRuntime) {
-    runs(&rt, rt.alloc(), RUNS, short(10, 10));
+    runs(&rt, rt.alloc(), RUNS, short(Kind::Any, 10, 10));
 }
 
 #[test]
 fn few_decisions(rt: HostRuntime) {
-    runs(&rt, rt.alloc(), RUNS, short(4, 4));
+    runs(&rt, rt.alloc(), RUNS, short(Kind::Any, 4, 4));
 }
 
 #[test]
 fn mostly_failures(rt: HostRuntime) {
-    runs(&rt, rt.alloc(), RUNS, short(4, 20));
+    runs(&rt, rt.alloc(), RUNS, short(Kind::Any, 4, 20));
 }
 
 #[test]
 fn mostly_commits(rt: HostRuntime) {
-    runs(&rt, rt.alloc(), RUNS, short(20, 4));
+    runs(&rt, rt.alloc(), RUNS, short(Kind::Any, 20, 4));
+}
+
+#[test]
+fn hardly_any_decisions(rt: HostRuntime) {
+    runs(&rt, rt.alloc(), RUNS, short(Kind::Any, 1, 1));
+}
+
+#[test]
+fn hardly_any_failures(rt: HostRuntime) {
+    runs(&rt, rt.alloc(), RUNS, short(Kind::Any, 12, 1));
+}
+
+#[test]
+fn hardly_any_commits(rt: HostRuntime) {
+    runs(&rt, rt.alloc(), RUNS, short(Kind::Any, 1, 12));
+}
+
+#[test]
+fn many_guesses(rt: HostRuntime) {
+    runs(&rt, rt.alloc(), RUNS, short(Kind::Guessing, 6, 6));
 }
 
 #[test]

@@ -1,5 +1,5 @@
 -- Lists of guesses that rise: what a filter, and a sort without repeats, leave of them.
-use Rattle.std.proofs.Common.{◌≡◌, ℕ, Bool, true, false, ◌||◌, eqb, List, [], ◌∷◌, ◌++◌, arith, refl, sym, ◌∙◌, subst}
+use Rattle.std.proofs.Common.{◌≡◌, ℕ, Bool, ◌||◌, eqb, List, [], ◌∷◌, ◌++◌, arith, refl, sym, ◌∙◌, subst}
 use Rattle.std.specs.Ordering.{nat_cmp}
 use Rattle.std.specs.Cmp.{both_ways, nat_eq_equiv}
 use Rattle.std.specs.List.{list_any, filter, dedup}

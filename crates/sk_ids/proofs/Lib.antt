@@ -3,3 +3,4 @@ pub mod GuessSets
 pub mod Entities
 pub mod Views
 pub mod Ordered
+pub mod Newest

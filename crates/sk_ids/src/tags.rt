@@ -1,5 +1,5 @@
 //! Sets of guesses.
-ghost use Rattle.std.specs.Prelude.{◌≡◌, ◌||◌, ◌∷◌, ℕ, IfOk, []};
+ghost use Rattle.std.specs.Prelude.{◌≡◌, ◌||◌, ◌∷◌, ℕ, IfOk, [], false};
 ghost use Rattle.std.specs.Ordering.{nat_cmp};
 ghost use Rattle.std.specs.List.Sorted.{IsStrictlySortedBy};
 ghost use Rattle.sk_record.specs.Notes.{has, without};
@@ -47,11 +47,22 @@ impl TagSet {
         TagSet { ids }
     }
 
+    /// Whether a guess of the set has at least this number. Most sets that are asked for a guess have only
+    /// older ones.
+    fn reaches(&self, id: GuessId) -> bool
+        ensures { result ≡ false → has id self.now ≡ false }
+    {
+        match self.ids.as_slice() {
+            [.., newest] => newest.number() >= id.number(),
+            [] => false,
+        }
+    }
+
     /// Whether a guess is in the set.
     pub fn contains(&self, id: GuessId) -> bool
         ensures { result ≡ has id self.now }
     {
-        self.ids.as_slice().contains(&id)
+        self.reaches(id) && self.ids.as_slice().contains(&id)
     }
 
     /// The guesses by rising number.
@@ -66,7 +77,9 @@ impl TagSet {
     pub fn without(&mut self, id: GuessId)
         ensures { self.new ≡ without id self.old }
     {
-        self.ids.retain(|other| *other != id);
+        if self.reaches(id) {
+            self.ids.retain(|other| *other != id);
+        }
     }
 
     /// A set of the same guesses.

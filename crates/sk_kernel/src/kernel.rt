@@ -4,6 +4,7 @@ ghost use Rattle.std.specs.FinMap as map;
 ghost use Rattle.std.specs.List.Sorted.{IsStrictlySortedBy};
 ghost use Rattle.sk_ids.specs.Entity.{entity_cmp};
 ghost use Rattle.sk_record.specs.Notes.{has};
+ghost use Rattle.sk_plain.specs.Next.{next_of};
 ghost use Rattle.sk_plain.specs.View.{Shows};
 ghost use Rattle.sk_trace.specs.declared.event.Event.TheVariants as events;
 ghost use Rattle.sk_kernel.specs.Kernel.{booted, state_at, undecided_at, tags_at, texts_at, room, next_guess, step_refused, guess_refused, HasStatus, RestsOn};
@@ -16,7 +17,7 @@ ghost use Rattle.sk_terminal.specs.Terminals.{released_at};
 use sk_guesses::{Guess, Redeemed, Status};
 use sk_ids::{Entity, GuessId, Pid, TagSet};
 use sk_machine::Machine;
-use sk_plain::{Event, Plan, Refusal, Trace, View, plan_step};
+use sk_plain::{Event, Next, Plan, Refusal, Trace, View, next_of, plan_step};
 use sk_script::{Boot, Input, Scripts};
 use sk_store::{Look, Store};
 use sk_terminal::{Terminal, Texts};
@@ -166,6 +167,13 @@ impl Kernel {
         (self.limit as usize)
             .saturating_sub(self.trace.events().len())
             .saturating_sub(self.machine.open_count())
+    }
+
+    /// What a process does next. Refused with `NoProcess` or `Ended`. This takes no memory.
+    pub fn next_of(&self, pid: Pid) -> Result<Next, Refusal>
+        ensures { result ≡ next_of (map.get (state_at self.now)) self.now.scripts pid }
+    {
+        next_of(&self.machine, &self.scripts, pid)
     }
 
     /// Takes a step of a process with an input. After a refusal the kernel is as it was.

@@ -70,7 +70,7 @@ played_out trace d steps ends.OutputRefused buffer old mid new written played ke
 -- a trace of which all that it leaves was run
 pub plain_out : (boot : BootView) (es : List Event) (end : End) (buffer : List ℕ) (old mid new : Option (List ℕ)) → IsWritten end buffer
     → IsRunPlainly boot es old mid → Keeps mid new → EndsPlain boot es end old new
-plain_out boot es ends.Done buffer old mid new written run kept = (run.0, Appends-kept old mid new _ run.1 kept)
+plain_out boot es ends.Done buffer old mid new written run kept = record { sound = run.sound; kernel = run.kernel; has_run = run.has_run; report = Appends-kept old mid new _ run.report kept }
 plain_out boot es ends.Fault buffer old mid new written run kept = absurd written
 plain_out boot es ends.Usage buffer old mid new written run kept = written
 plain_out boot es ends.Trouble buffer old mid new written run kept = tt

@@ -2,6 +2,8 @@
 use Rattle.std.specs.Prelude.{ℕ, List, [], ◌∷◌, length, map, Option, Result, Ok, Err, ⊤, IsOk, ◌⊎◌}
 use Rattle.std.specs.Io.KnownBytes.{Appends, Keeps}
 use Rattle.sk_record.specs.Step.{Effect}
+use Rattle.sk_record.specs.Run.{run, effects}
+use Rattle.sk_record.specs.Release.{said_from}
 use Rattle.sk_record.specs.Trace.{Event as Happens, IsSound, record_of}
 use Rattle.sk_ids.specs.declared.entity.Entity.{Entity}
 use Rattle.sk_store.specs.declared.entity_state.EntityState.{EntityState}
@@ -10,7 +12,7 @@ use Rattle.sk_script.specs.Boot.{BootView}
 use Rattle.sk_plain.specs.Act.{plain, Saying}
 use Rattle.sk_trace.specs.Entry.{EntryView}
 use Rattle.sk_trace.specs.declared.event.Event.{Event}
-use Rattle.sk_plain.specs.Plain.{PlainView, plain_start, step_of, stepped}
+use Rattle.sk_plain.specs.Plain.{PlainView, step_of, stepped, texts_said}
 use Rattle.sk_plain.specs.Replay.{image, FaultIn}
 use Rattle.sk_plain.specs.declared.refusal.Refusal.{Refusal}
 use Rattle.sk_plain.specs.declared.replay.TraceFault.{TraceFault}
@@ -43,13 +45,18 @@ happened es = map image es
 abbrev pub left_by : BootView → List Event → List EntryView
 left_by boot es = record_of (plain boot.scripts) (start_of boot) (happened es)
 
--- the report of the plain kernel that has run these entries from its start
-abbrev pub plain_text : BootView → List EntryView → List ℕ
-plain_text boot ns = plain_report_text (all_run (plain_start boot) ns) (length ns)
+-- the plain kernel has run just these entries from its start: values are their run, and each terminal was told what they say to it
+pub record HasRun (boot : BootView) (ns : List EntryView) (k : PlainView) : Type 0 where
+  pub scripts : k.scripts ≡ boot.scripts
+  pub state : k.state ≡ run (plain boot.scripts) (start_of boot) ns
+  pub texts : (t : ℕ) → texts_said k t ≡ map (λ x. x.0.text) (said_from (plain boot.scripts) t 0 (effects (plain boot.scripts) (start_of boot) ns))
 
--- the trace is sound, and what it leaves is run and reported
-abbrev pub IsRunPlainly : BootView → List Event → Option (List ℕ) → Option (List ℕ) → Type 0
-IsRunPlainly boot es old new = IsSound (plain boot.scripts) (start_of boot) (happened es) × Appends old new (plain_text boot (left_by boot es))
+-- the trace is sound, and a plain kernel that has run what it leaves is reported
+pub record IsRunPlainly (boot : BootView) (es : List Event) (old new : Option (List ℕ)) : Type 0 where
+  pub sound : IsSound (plain boot.scripts) (start_of boot) (happened es)
+  pub kernel : PlainView
+  pub has_run : HasRun boot (left_by boot es) kernel
+  pub report : Appends old new (plain_report_text kernel (length (left_by boot es)))
 
 -- the entry at this place, from 1, is the trace's first fault: the plain kernel refuses it, or it names a guess that can't stand there
 abbrev pub IsFaultyAt : BootView → List Event → ℕ → Type 0

@@ -1,5 +1,5 @@
--- A sound trace leaves a record of which no entry is refused.
-use Rattle.speculate.proofs.Plainly.{left_is_taken}
+-- A sound trace leaves a record of which no entry is refused, and what its steps come to is its run.
+use Rattle.speculate.proofs.Plainly.{left_is_taken, has_run}
 use Rattle.speculate.proofs.striking.run_left.Goals as goal
 
 pub run_entries-requires : goal.run_entries-requires

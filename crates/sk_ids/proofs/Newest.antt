@@ -1,0 +1,43 @@
+-- A list of numbers that rise has no number above its last, and is left as it is without one that it does not have.
+use Rattle.std.proofs.Common.{◌≡◌, ℕ, suc, ◌-◌, ◌<◌, ◌≤◌, true, false, not, cond, ◌||◌, eqb, nat_lt, List, [], ◌∷◌, length, slice_index_or, arith, refl, subst, sym, ap}
+use Rattle.std.specs.Ordering.{nat_cmp}
+use Rattle.std.specs.List.Sorted.{IsStrictlySortedBy}
+use Rattle.std.proofs.lemmas.Map.Keys.{IsStrictlyIncreasing-from_sorted}
+use Rattle.std.proofs.lemmas.List.Kept.{AllPairs-from_increasing}
+use Rattle.std.proofs.lemmas.Bool.{eqb-true, ltb-false, ltb-true}
+use Rattle.sk_record.specs.Notes.{has, without}
+
+other : (x g : ℕ) → x < g → eqb x g ≡ false
+other x g below = elim (eqb x g) as (λ b. eqb x g ≡ b → b ≡ false) [
+  | true ↦ λ is. (let same : x ≡ g = eqb-true x g is in absurd (omega (same, below, arith)))
+  | false ↦ λ _. refl
+] refl
+
+all_below : (g d : ℕ) (xs : List ℕ) → ((j : ℕ) → j < length xs → slice_index_or xs j d < g) → has g xs ≡ false
+all_below g d [] h = refl
+all_below g d (x ∷ xs) h =
+    let first : x < g = h 0 (omega arith) in
+    let others : has g xs ≡ false = all_below g d xs (λ j within. h (suc j) (omega (within, arith))) in
+    rw (other x g first, others) refl
+
+pub none_above : (g last : ℕ) (xs : List ℕ) → IsStrictlySortedBy nat_cmp xs → 1 ≤ length xs
+    → last ≡ slice_index_or xs (length xs - 1) last → last < g → has g xs ≡ false
+none_above g last xs rises some is above = all_below g last xs (λ j within.
+    elim (nat_lt j (length xs - 1)) as (λ b. nat_lt j (length xs - 1) ≡ b → slice_index_or xs j last < g) [
+      | true ↦ λ before.
+          let early : slice_index_or xs j last < slice_index_or xs (length xs - 1) last =
+          AllPairs-from_increasing xs (IsStrictlyIncreasing-from_sorted xs rises) j (length xs - 1) last (omega (ltb-true j (length xs - 1) before, arith)) (omega (some, arith)) in
+          omega (early, is, above, arith)
+      | false ↦ λ behind.
+          let late : length xs - 1 ≤ j = ltb-false j (length xs - 1) behind in
+          let here : j ≡ length xs - 1 = omega (late, within, some, arith) in
+          subst (λ n. slice_index_or xs n last < g) (sym here) (omega (is, above, arith))
+    ] refl)
+
+pub without_none : (g : ℕ) (xs : List ℕ) → has g xs ≡ false → without g xs ≡ xs
+without_none g [] none = refl
+without_none g (x ∷ xs) none =
+    elim (eqb x g) as (λ b. (b || has g xs) ≡ false → cond (not b) (x ∷ without g xs) (without g xs) ≡ x ∷ xs) [
+      | true ↦ λ is. cc
+      | false ↦ λ is. ap (λ ys. x ∷ ys) (without_none g xs is)
+    ] none

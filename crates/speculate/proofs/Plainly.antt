@@ -62,15 +62,15 @@ all_state k [] = refl
 all_state k (n ∷ ns) = all_state (after_step k (step_of k n.pid n.input)) ns ∙ run_after k (step_of k n.pid n.input) ns
 
 -- what entries say to a terminal
-said_of : ScriptMap → State → ℕ → ℕ → List EntryView → List (List ℕ)
-said_of scripts s t i ns = map (λ x. x.0.text) (said_from (plain scripts) t i (effects (plain scripts) s ns))
+abbrev said_of : ScriptMap → State → ℕ → ℕ → List EntryView → List (List ℕ)
+said_of scripts s t i ns = map (λ (x : Saying × ℕ). x.0.text) (said_from (plain scripts) t i (effects (plain scripts) s ns))
 
 one_said : (scripts : ScriptMap) (texts : TerminalMap) (said : Option Saying) (t i : ℕ)
-    → texts_at (with_said texts said) t ≡ texts_at texts t ++ map clear (map (λ x. x.0.text) (said_by (plain scripts) {A = ℕ} t said i))
+    → texts_at (with_said texts said) t ≡ texts_at texts t ++ map clear (map (λ (x : Saying × ℕ). x.0.text) (said_by (plain scripts) {A = ℕ} t said i))
 one_said scripts texts None t i = sym (append-nil (texts_at texts t))
 one_said scripts texts (Some s) t i =
     said_to_one.texts_said texts s.to (s.text, []) t
-    ∙ ap (λ more. texts_at texts t ++ more) (elim (s.to == t) as (λ b. cond b ((s.text, []) ∷ []) [] ≡ map clear (map (λ x. x.0.text) (cond b ((s, i) ∷ []) []))) [
+    ∙ ap (λ more. texts_at texts t ++ more) (elim (s.to == t) as (λ b. cond b ((s.text, []) ∷ []) [] ≡ map clear (map (λ (x : Saying × ℕ). x.0.text) (cond b ((s, i) ∷ []) []))) [
       | true ↦ refl
       | false ↦ refl
     ])
@@ -78,16 +78,16 @@ one_said scripts texts (Some s) t i =
 step_texts : (k : PlainView) (mark : Option ℕ) (does : Result (Effect Entity EntityState Saying) Refusal) (ns : List EntryView) (t i : ℕ)
     → texts_at (all_run (after_step k does) ns).texts t ≡ texts_at (after_step k does).texts t ++ map clear (said_of (after_step k does).scripts (after_step k does).state t (suc i) ns)
     → texts_at (all_run (after_step k does) ns).texts t
-    ≡ texts_at k.texts t ++ map clear (map (λ x. x.0.text) (said_from (plain k.scripts) t i (marked_effect (plain k.scripts) mark does ∷ effects (plain k.scripts) (after (plain k.scripts) does k.state) ns)))
+    ≡ texts_at k.texts t ++ map clear (map (λ (x : Saying × ℕ). x.0.text) (said_from (plain k.scripts) t i (marked_effect (plain k.scripts) mark does ∷ effects (plain k.scripts) (after (plain k.scripts) does k.state) ns)))
 step_texts k mark (Ok f) ns t i others =
     let more = said_from (plain k.scripts) t (suc i) (effects (plain k.scripts) (put_all f.written k.state) ns) in
     let now = said_by (plain k.scripts) {A = ℕ} t f.said i in
     others
-    ∙ ap (λ texts. texts ++ map clear (map (λ x. x.0.text) more)) (one_said k.scripts k.texts f.said t i)
-    ∙ append_assoc (texts_at k.texts t) (map clear (map (λ x. x.0.text) now)) (map clear (map (λ x. x.0.text) more))
+    ∙ ap (λ texts. texts ++ map clear (map (λ (x : Saying × ℕ). x.0.text) more)) (one_said k.scripts k.texts f.said t i)
+    ∙ append_assoc (texts_at k.texts t) (map clear (map (λ (x : Saying × ℕ). x.0.text) now)) (map clear (map (λ (x : Saying × ℕ). x.0.text) more))
     ∙ ap (λ both. texts_at k.texts t ++ both) (
-      sym (map-append clear (map (λ x. x.0.text) now) (map (λ x. x.0.text) more))
-      ∙ ap (map clear) (sym (map-append (λ x. x.0.text) now more))
+      sym (map-append clear (map (λ (x : Saying × ℕ). x.0.text) now) (map (λ (x : Saying × ℕ). x.0.text) more))
+      ∙ ap (map clear) (sym (map-append (λ (x : Saying × ℕ). x.0.text) now more))
     )
 step_texts k mark (Err why) ns t i others = others
 

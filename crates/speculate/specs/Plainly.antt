@@ -1,5 +1,5 @@
 -- What a trace leaves, run on the plain kernel.
-use Rattle.std.specs.Prelude.{ℕ, List, [], ◌∷◌, length, map, Option, Result, Ok, Err, ⊤, IsOk, ◌⊎◌}
+use Rattle.std.specs.Prelude.{◌≡◌, ℕ, List, [], ◌∷◌, length, map, Option, Result, Ok, Err, ⊤, IsOk, ◌⊎◌}
 use Rattle.std.specs.Io.KnownBytes.{Appends, Keeps}
 use Rattle.sk_record.specs.Step.{Effect}
 use Rattle.sk_record.specs.Run.{run, effects}
@@ -49,7 +49,7 @@ left_by boot es = record_of (plain boot.scripts) (start_of boot) (happened es)
 pub record HasRun (boot : BootView) (ns : List EntryView) (k : PlainView) : Type 0 where
   pub scripts : k.scripts ≡ boot.scripts
   pub state : k.state ≡ run (plain boot.scripts) (start_of boot) ns
-  pub texts : (t : ℕ) → texts_said k t ≡ map (λ x. x.0.text) (said_from (plain boot.scripts) t 0 (effects (plain boot.scripts) (start_of boot) ns))
+  pub texts : (t : ℕ) → texts_said k t ≡ map (λ (x : Saying × ℕ). x.0.text) (said_from (plain boot.scripts) t 0 (effects (plain boot.scripts) (start_of boot) ns))
 
 -- the trace is sound, and a plain kernel that has run what it leaves is reported
 pub record IsRunPlainly (boot : BootView) (es : List Event) (old new : Option (List ℕ)) : Type 0 where

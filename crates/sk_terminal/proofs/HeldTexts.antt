@@ -1,14 +1,15 @@
 -- Held texts after a pass back to those said before a guess was drawn.
-use Rattle.std.proofs.Common.{◌≡◌, ℕ, zero, suc, ◌<◌, ◌≤◌, ◌+◌, length, take, drop, Bool, true, false, cond, not, List, [], ◌∷◌, ◌++◌, map, refl, sym, ◌∙◌, ap, subst, arith}
+use Rattle.std.proofs.Common.{◌≡◌, ℕ, zero, suc, ◌<◌, ◌≤◌, ◌+◌, length, take, drop, Bool, true, false, cond, not, ◌&&◌, ◌||◌, List, [], ◌∷◌, ◌++◌, map, refl, sym, ◌∙◌, ap, subst, arith}
 use Rattle.std.specs.Prelude.{◌==◌, slice_index_or, slice_set}
 use Rattle.std.specs.List.{list_any, list_all, filter, prefix_len}
-use Rattle.std.proofs.lemmas.Bool.{or_parts, or_from}
+use Rattle.std.proofs.lemmas.Bool.{or_parts, or_from, or_left, or_right}
 use Rattle.std.proofs.lemmas.List.{take-append-drop}
+use Rattle.std.proofs.lemmas.List.Folds.{list_any-append}
 use Rattle.sk_record.specs.Notes.{has, without}
 use Rattle.sk_record.specs.Machine.{lightened, not_dropped}
 use Rattle.sk_record.proofs.Machine.{has_filter}
 use Rattle.sk_record.proofs.UndoStates.{and_both}
-use Rattle.sk_terminal.specs.Terminal.{TaggedText, is_clear}
+use Rattle.sk_terminal.specs.Terminal.{TaggedText, any_rests, is_clear}
 use Rattle.sk_terminal.specs.Held.{texts_of, AreBounded}
 use Rattle.sk_terminal.specs.declared.terminal.Held.{Held}
 
@@ -201,3 +202,35 @@ texts_more (x ∷ hs) h = ap (λ xs. x.said ∷ xs) (texts_more hs h)
 pub texts_length : (hs : List Held) → length (texts_of hs) ≡ length hs
 texts_length [] = refl
 texts_length (h ∷ hs) = ap suc (texts_length hs)
+
+-- ---- a look back for a text that rests on a guess
+abbrev pub is_free : ℕ → Held → Bool
+is_free g h = not (has g h.said.1)
+
+none_free : (g : ℕ) (hs : List Held) → list_all (is_free g) hs ≡ true → list_any (rests g) hs ≡ false
+none_free g [] all = refl
+none_free g (h ∷ hs) all =
+    let both = and_both _ _ all in
+    or_from _ _ (elim (has g h.said.1) as (λ b. not b ≡ true → b ≡ false) [ true ↦ λ no_more. sym no_more | false ↦ λ _. refl ] both.0) (none_free g hs both.1)
+
+pub none_rests : (g i : ℕ) (hs : List Held) → list_any (rests g) (take i hs) ≡ false → list_all (is_free g) (drop i hs) ≡ true → false ≡ list_any (rests g) hs
+none_rests g i hs before after =
+    sym (sym (ap (list_any (rests g)) (take-append-drop i hs)) ∙ list_any-append (rests g) (take i hs) (drop i hs) ∙ or_from _ _ before (none_free g (drop i hs) after))
+
+pub some_rests : (g j : ℕ) (hs : List Held) (h : Held) → j < length hs → h ≡ slice_index_or hs j h → has g h.said.1 ≡ true → true ≡ list_any (rests g) hs
+some_rests g j [] h lt is here = absurd (omega arith)
+some_rests g zero (x ∷ hs) h lt is here = sym (or_left _ _ (sym (ap (rests g) is) ∙ here))
+some_rests g (suc j) (x ∷ hs) h lt is here = sym (or_right _ _ (sym (some_rests g j hs h (omega arith) is here)))
+
+drop_next : (j : ℕ) (hs : List Held) (h : Held) → j < length hs → h ≡ slice_index_or hs j h → drop j hs ≡ h ∷ drop (suc j) hs
+drop_next j [] h lt is = absurd (omega arith)
+drop_next zero (x ∷ hs) h lt is = ap (λ y. y ∷ hs) (sym is)
+drop_next (suc j) (x ∷ hs) h lt is = drop_next j hs h (omega arith) is
+
+pub free_before_one : (g i j : ℕ) (hs : List Held) (h : Held) → i ≡ suc j → j < length hs → h ≡ slice_index_or hs j h → has g h.said.1 ≡ false → list_all (is_free g) (drop i hs) ≡ true → list_all (is_free g) (drop j hs) ≡ true
+free_before_one g i j hs h next lt is free after =
+    ap (list_all (is_free g)) (drop_next j hs h lt is) ∙ ap (λ b. not b && list_all (is_free g) (drop (suc j) hs)) free ∙ sym (ap (λ k. list_all (is_free g) (drop k hs)) next) ∙ after
+
+pub rests_texts : (g : ℕ) (hs : List Held) → list_any (rests g) hs ≡ any_rests g (texts_of hs)
+rests_texts g [] = refl
+rests_texts g (h ∷ hs) = ap (λ b. has g h.said.1 || b) (rests_texts g hs)

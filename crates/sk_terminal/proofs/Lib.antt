@@ -2,3 +2,5 @@ pub mod Views
 pub mod TerminalMaps
 pub mod SaidTo
 mod HeldTexts
+mod Listed
+mod Decided

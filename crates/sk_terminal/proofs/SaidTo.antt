@@ -10,7 +10,7 @@ use Rattle.std.proofs.lemmas.List.{append-nil}
 use Rattle.sk_terminal.specs.Terminal.{TaggedText}
 use Rattle.sk_terminal.specs.Terminals.{TerminalMap, texts_at, said_to}
 
-others : (t k : ℕ) → (k == t) ≡ false → eq_by_cmp nat_cmp t k ≡ false
+pub others : (t k : ℕ) → (k == t) ≡ false → eq_by_cmp nat_cmp t k ≡ false
 others t k apart = elim (eq_by_cmp nat_cmp t k) as (λ b. eq_by_cmp nat_cmp t k ≡ b → b ≡ false) [
   | true ↦ λ is. absurd (true≢false (sym (eq-eqb k t (sym (map.nat_cmp-IsAntisymmetric t k ((Equal-is (nat_cmp t k)).0 is)))) ∙ apart))
   | false ↦ λ _. refl

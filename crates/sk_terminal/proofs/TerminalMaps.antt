@@ -1,17 +1,18 @@
 -- What the map of terminals has at a number after a change: from the entries of the `BTreeMap`, whose keys rise.
-use Rattle.std.proofs.Common.{◌≡◌, ℕ, Bool, true, false, cond, List, [], Option, Some, None, refl, sym, ◌∙◌, ap}
+use Rattle.std.proofs.Common.{◌≡◌, ℕ, true, false, cond, List, [], Option, Some, None, refl, sym, ◌∙◌, ap}
 use Rattle.std.specs.Ordering.{nat_cmp, eq_by_cmp}
 use Rattle.std.specs.Option.{option_map, unwrap_or}
-use Rattle.std.specs.Cmp.{nat_cmp_total}
+use Rattle.std.specs.Cmp.{nat_cmp_total, eq_by_cmp_equiv}
 use Rattle.std.specs.BTreeMap.{BTreeMap, UpdatesBy, is_at}
 use Rattle.std.specs.Map.{lookup}
-use Rattle.std.specs.Map.Calls.{RetainsPairs}
 use Rattle.std.specs.FinMap as map
-use Rattle.std.proofs.lemmas.Map.Made.{map_same_pairs, lookup-map_values}
+use Rattle.std.proofs.lemmas.Bool.{eqb-true}
+use Rattle.std.specs.Prelude.{◌==◌}
 use Rattle.std.proofs.lemmas.Map.Views.{tells_apart}
 use Rattle.sk_ids.proofs.Views.{get_at, one_given}
 use Rattle.sk_terminal.specs.Terminal.{TaggedText}
 use Rattle.sk_terminal.specs.Terminals.{TerminalMap}
+use Rattle.sk_terminal.proofs.SaidTo.{others}
 
 pub got : (es : List (ℕ × List TaggedText)) (t : ℕ) → map.get (map.from_entries {R = nat_cmp} es) t ≡ lookup (is_at (nat_cmp t)) es
 got es t = get_at refl nat_cmp_total es t
@@ -30,14 +31,24 @@ put_same m t texts here = map.same_map nat_cmp_total map.nat_cmp-IsAntisymmetric
       | false ↦ λ _. refl
     ] refl)
 
--- after a `retain` that keeps every terminal, its texts changed
-pub changed : {F : Type 0} (T : F → ℕ → List TaggedText → Bool → List TaggedText → F → Type 0) (f : F) (change : List TaggedText → List TaggedText)
-    → ((t : ℕ) (v : List TaggedText) (b : Bool) (w : List TaggedText) (f' : F) → T f t v b w f' → (b ≡ true) × (w ≡ change v) × (f' ≡ f))
-    → (es kept : List (ℕ × List TaggedText)) → RetainsPairs T f es kept → (t : ℕ)
-    → map.get (map.from_entries {R = nat_cmp} kept) t ≡ option_map change (map.get (map.from_entries {R = nat_cmp} es) t)
-changed T f change step es kept retains t =
-    got kept t ∙ ap (lookup (is_at (nat_cmp t))) (map_same_pairs T change f step es kept retains)
-    ∙ lookup-map_values change (is_at (nat_cmp t)) es ∙ ap (option_map change) (sym (got es t))
+-- one terminal is changed, or there is none
+pub changed_at : (change : List TaggedText → List TaggedText) (m : TerminalMap) (k : ℕ) (v w : List TaggedText) → Some v ≡ map.get m k → w ≡ change v
+    → (t : ℕ) → map.get (map.insert m k w) t ≡ cond (k == t) (option_map change (map.get m t)) (map.get m t)
+changed_at change m k v w here is t =
+    map.get-insert nat_cmp_total m k w t
+    ∙ elim (k == t) as (λ b. (k == t) ≡ b → cond (eq_by_cmp nat_cmp t k) (Some w) (map.get m t) ≡ cond b (option_map change (map.get m t)) (map.get m t)) [
+      | true ↦ λ same_is.
+          let same : k ≡ t = eqb-true k t same_is in
+          ap (λ b. cond b (Some w) (map.get m t)) (ap (eq_by_cmp nat_cmp t) same ∙ (eq_by_cmp_equiv nat_cmp_total).refl t)
+          ∙ ap Some is ∙ ap (option_map change) (here ∙ ap (map.get m) same)
+      | false ↦ λ apart. ap (λ b. cond b (Some w) (map.get m t)) (others t k apart)
+    ] refl
+
+pub none_at : (change : List TaggedText → List TaggedText) (m : TerminalMap) (k : ℕ) → None ≡ map.get m k → (t : ℕ) → map.get m t ≡ cond (k == t) (option_map change (map.get m t)) (map.get m t)
+none_at change m k none t = elim (k == t) as (λ b. (k == t) ≡ b → map.get m t ≡ cond b (option_map change (map.get m t)) (map.get m t)) [
+  | true ↦ λ is. let gone : map.get m t ≡ None = sym (none ∙ ap (map.get m) (eqb-true k t is)) in gone ∙ sym (ap (option_map change) gone)
+  | false ↦ λ _. refl
+] refl
 
 -- a change of no texts gives none, so that it can be read where a terminal is absent
 pub changed_texts : (change : List TaggedText → List TaggedText) → change [] ≡ [] → (old : Option (List TaggedText)) → unwrap_or (option_map change old) [] ≡ change (unwrap_or old [])

@@ -5,7 +5,7 @@ use Rattle.std.specs.List.{prefix_len}
 use Rattle.std.proofs.lemmas.Bool.{ne_eqb}
 use Rattle.std.proofs.lemmas.List.{map-append}
 use Rattle.sk_record.specs.Machine.{released, lightened, not_dropped}
-use Rattle.sk_terminal.specs.Terminal.{TaggedText, is_clear, clear, waiting_of}
+use Rattle.sk_terminal.specs.Terminal.{TaggedText, any_rests, is_clear, clear, waiting_of}
 
 -- the released texts are those before the first that rests on a guess
 pub prefix-released : (xs : List TaggedText) → prefix_len is_clear xs ≡ length (released xs)
@@ -25,6 +25,10 @@ length-clear (r ∷ rs) ws = omega (arith, length-clear rs ws)
 
 pub waiting-clear : (rs : List (List ℕ)) (ws : List TaggedText) → released ws ≡ [] → waiting_of (map clear rs ++ ws) ≡ length ws
 waiting-clear rs ws h = rw (released-clear rs ws h) (omega (arith, length-clear rs ws))
+
+pub rests-clear : (id : ℕ) (rs : List (List ℕ)) (ws : List TaggedText) → any_rests id (map clear rs ++ ws) ≡ any_rests id ws
+rests-clear id [] ws = refl
+rests-clear id (r ∷ rs) ws = rests-clear id rs ws
 
 pub lightened-clear : (id : ℕ) (rs : List (List ℕ)) (ws : List TaggedText) → lightened id (map clear rs ++ ws) ≡ map clear rs ++ lightened id ws
 lightened-clear id [] ws = refl

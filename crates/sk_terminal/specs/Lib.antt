@@ -1,3 +1,4 @@
 pub mod Terminal
 pub mod Terminals
 pub mod Held
+pub mod Resting

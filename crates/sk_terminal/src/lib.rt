@@ -3,6 +3,8 @@
 
 mod buffered_text;
 pub mod laws;
+mod numbered;
+mod resting;
 pub mod terminal;
 pub mod terminals;
 pub mod texts;

@@ -5,7 +5,7 @@ ghost use Rattle.std.specs.List.{prefix_len, list_all, list_any, filter};
 ghost use Rattle.sk_record.specs.Notes.{has};
 ghost use Rattle.sk_terminal.specs.Held.{texts_of, AreBounded};
 ghost use Rattle.sk_record.specs.Machine.{released, lightened, not_dropped};
-ghost use Rattle.sk_terminal.specs.Terminal.{is_clear, clear, waiting_of};
+ghost use Rattle.sk_terminal.specs.Terminal.{any_rests, is_clear, clear, waiting_of};
 
 use crate::buffered_text::BufferedText;
 use sk_ids::{GuessId, TagSet, Text};
@@ -86,6 +86,13 @@ impl Terminal {
         release(&mut self.out, &mut self.waiting);
     }
 
+    /// Whether a text rests on a guess. This looks back to the texts said before the guess was drawn.
+    pub(crate) fn rests_on(&self, id: GuessId) -> bool
+        ensures { result ≡ any_rests id self.now }
+    {
+        any_rest_on(self.waiting.as_slice(), id)
+    }
+
     /// The texts released, in the order in which they were said.
     pub fn released(&self) -> &[Text]
         ensures { result.now ≡ released self.now }
@@ -158,6 +165,20 @@ fn drop_front(texts: &mut Vec<Held>, count: usize)
     ensures { texts.new.items ≡ drop count texts.old.items }
 {
     texts.drain(..count);
+}
+
+/// Whether one of the texts rests on a guess.
+fn any_rest_on(texts: &[Held], id: GuessId) -> bool
+    ensures { (high : ℕ) → AreBounded 0 texts.now high → result ≡ list_any (λ h. has id h.said.1) texts.now }
+{
+    let mut place = texts.len();
+    while place > 0 && texts[place - 1].newest >= id.number() {
+        place -= 1;
+        if texts[place].said.rests_on(id) {
+            return true;
+        }
+    }
+    false
 }
 
 /// Takes a guess from the texts that may rest on it.

@@ -6,7 +6,7 @@ use Rattle.std.specs.FinMap as map
 use Rattle.std.specs.Option.{option_copied_mut}
 use Rattle.std.specs.Borrow.{MutBor}
 use Rattle.sk_terminal.proofs.TerminalMaps.{got, given}
-use Rattle.sk_terminal.proofs.terminals.Terminals.get_mut.Goals as goal
+use Rattle.sk_terminal.proofs.numbered.Numbered.get_mut.Goals as goal
 
 on_lent : {X : Type 0} (P : Type 0) (r : Option (MutBor X)) (found : Option X) → option_copied_mut r ≡ found → (IsSome found → P) → OnSome r P
 on_lent P None found e f = tt

@@ -2,7 +2,7 @@
 use Rattle.std.proofs.Common.{ap, ◌∙◌}
 use Rattle.std.specs.FinMap as map
 use Rattle.sk_terminal.proofs.TerminalMaps.{given}
-use Rattle.sk_terminal.proofs.terminals.Terminals.put.Goals as goal
+use Rattle.sk_terminal.proofs.numbered.Numbered.put.Goals as goal
 
 pub returns-clause-ok : goal.returns-clause-ok
 returns-clause-ok c =

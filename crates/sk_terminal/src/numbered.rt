@@ -1,0 +1,128 @@
+//! The terminals by number.
+ghost use Rattle.std.specs.Prelude.{◌≡◌, ◌==◌, ℕ, OnOk, OnErr, OnSome, if◌then◌else◌};
+ghost use Rattle.std.specs.Option.{option_copied, option_copied_mut, option_map};
+ghost use Rattle.std.specs.Borrow.{LendsSo, sem};
+ghost use Rattle.std.specs.FinMap as map;
+ghost use Rattle.sk_record.specs.Machine.{lightened, not_dropped};
+ghost use Rattle.sk_record.specs.Notes.{has};
+ghost use Rattle.sk_terminal.specs.contracts.terminal.Terminal.{the_row as terminal_row};
+ghost use Rattle.sk_terminal.specs.Terminals.{said_to};
+ghost use Rattle.sk_terminal.specs.Resting.{rests_at};
+ghost use Rattle.sk_terminal.specs.contracts.numbered.Numbered.{the_row as numbered_row};
+
+use crate::Terminal;
+use sk_ids::{GuessId, TagSet, Text};
+use std::alloc::{AllocError, Global};
+use std::collections::BTreeMap;
+use std::marker::Model;
+
+/// The terminals that something was said to, by number.
+#[derive(Drop)]
+pub(crate) struct Numbered {
+    alloc: Global,
+    terminals: BTreeMap<u16, Terminal>,
+}
+
+impl Model for Numbered {
+    ghost use Rattle.std.specs.FinMap as map;
+    ghost use Rattle.sk_terminal.specs.Terminals.{TerminalMap, terminals_code};
+
+    ghost Value = { TerminalMap };
+
+    ghost coded = { terminals_code };
+
+    ghost view = { λ a. map.from_entries a.terminals.entries };
+}
+
+impl Numbered {
+    /// Nothing said yet.
+    pub(crate) fn new(alloc: Global) -> Numbered
+        ensures { result ≡ map.empty }
+    {
+        Numbered {
+            alloc,
+            terminals: BTreeMap::new(alloc),
+        }
+    }
+
+    /// A terminal; `None` where nothing was said to it.
+    pub(crate) fn get(&self, number: u16) -> Option<&Terminal>
+        ensures { option_copied result ≡ map.get self.now number }
+    {
+        self.terminals.get(&number)
+    }
+
+    fn get_mut(&mut self, number: u16) -> Option<&mut Terminal>
+        ensures* writes_back { sem 𝓛 (LendsSo numbered_row terminal_row self.entry result (λ n w. OnSome result (n ≡ map.insert self.old number w)) (λ n. n ≡ self.old)) }
+        ensures value { option_copied_mut result ≡ map.get self.old number }
+    {
+        self.terminals.get_mut(&number)
+    }
+
+    fn put(&mut self, number: u16, terminal: Terminal) -> Result<(), AllocError>
+        ensures ok { OnOk result (self.new ≡ map.insert self.old number terminal) }
+        ensures err { OnErr result (self.new ≡ self.old) }
+    {
+        self.terminals.insert(number, terminal)?;
+        Ok(())
+    }
+
+    /// Says a text to a terminal. Without memory everything is as it was.
+    pub(crate) fn say(&mut self, number: u16, text: Text, tags: TagSet) -> Result<(), AllocError>
+        ensures ok { OnOk result (self.new ≡ said_to self.old number (text, tags)) }
+        ensures err { OnErr result (self.new ≡ self.old) }
+    {
+        if let Some(terminal) = self.get_mut(number) {
+            return terminal.say(text, tags);
+        }
+        let mut terminal = Terminal::new(self.alloc);
+        terminal.say(text, tags)?;
+        self.put(number, terminal)
+    }
+
+    /// Whether a text of a terminal rests on a guess.
+    pub(crate) fn rests_on(&self, number: u16, id: GuessId) -> bool
+        ensures { result ≡ rests_at id self.now number }
+    {
+        match self.get(number) {
+            Some(terminal) => terminal.rests_on(id),
+            None => false,
+        }
+    }
+
+    /// A guess is committed at one terminal.
+    fn commit_at(&mut self, number: u16, id: GuessId)
+        ensures { (t : ℕ) → map.get self.new t ≡ (if number == t then option_map (lightened id) (map.get self.old t) else map.get self.old t) }
+    {
+        if let Some(terminal) = self.get_mut(number) {
+            terminal.commit(id);
+        }
+    }
+
+    /// A guess is committed at these terminals. This takes no memory.
+    pub(crate) fn commit(&mut self, numbers: &[u16], id: GuessId)
+        ensures { (t : ℕ) → map.get self.new t ≡ (if has t numbers.now then option_map (lightened id) (map.get self.old t) else map.get self.old t) }
+    {
+        for number in numbers {
+            self.commit_at(*number, id);
+        }
+    }
+
+    /// Throws away the texts of one terminal that rest on a guess.
+    fn drop_at(&mut self, number: u16, id: GuessId)
+        ensures { (t : ℕ) → map.get self.new t ≡ (if number == t then option_map (not_dropped id) (map.get self.old t) else map.get self.old t) }
+    {
+        if let Some(terminal) = self.get_mut(number) {
+            terminal.drop_of(id);
+        }
+    }
+
+    /// Throws away the texts of these terminals that rest on a guess. This takes no memory.
+    pub(crate) fn drop_of(&mut self, numbers: &[u16], id: GuessId)
+        ensures { (t : ℕ) → map.get self.new t ≡ (if has t numbers.now then option_map (not_dropped id) (map.get self.old t) else map.get self.old t) }
+    {
+        for number in numbers {
+            self.drop_at(*number, id);
+        }
+    }
+}

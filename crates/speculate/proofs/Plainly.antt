@@ -86,8 +86,8 @@ step_texts k mark (Ok f) ns t i others =
     ∙ ap (λ texts. texts ++ map clear (map (λ (x : Saying × ℕ). x.0.text) more)) (one_said k.scripts k.texts f.said t i)
     ∙ append_assoc (texts_at k.texts t) (map clear (map (λ (x : Saying × ℕ). x.0.text) now)) (map clear (map (λ (x : Saying × ℕ). x.0.text) more))
     ∙ ap (λ both. texts_at k.texts t ++ both) (
-      sym (map-append clear (map (λ (x : Saying × ℕ). x.0.text) now) (map (λ (x : Saying × ℕ). x.0.text) more))
-      ∙ ap (map clear) (sym (map-append (λ (x : Saying × ℕ). x.0.text) now more))
+    sym (map-append clear (map (λ (x : Saying × ℕ). x.0.text) now) (map (λ (x : Saying × ℕ). x.0.text) more))
+    ∙ ap (map clear) (sym (map-append (λ (x : Saying × ℕ). x.0.text) now more))
     )
 step_texts k mark (Err why) ns t i others = others
 

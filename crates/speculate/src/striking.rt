@@ -69,7 +69,10 @@ pub fn run_left<W: Write>(
     let entries = strike(alloc, boot, trace)?;
     let mut plain = Plain::boot(alloc, boot)?;
     run_entries(&mut plain, &entries)?;
-    write_plain_report(alloc, &plain, entries.len(), out).map_err(unrun_by)
+    match write_plain_report(alloc, &plain, entries.len(), out) {
+        Ok(()) => Ok(()),
+        Err(stop) => Err(unrun_by(stop)),
+    }
 }
 
 /// Takes the steps of entries, of which none is refused.

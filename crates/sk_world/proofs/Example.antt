@@ -7,6 +7,7 @@ use Rattle.std.specs.Ordering.{nat_cmp}
 use Rattle.std.proofs.lemmas.Bool.{eq-eqb, lt-ltb}
 use Rattle.std.proofs.lemmas.Cmp.{nat_cmp_total}
 use Rattle.sk_record.specs.Step.{Effect, Done, Refuse, perform, with_read}
+use Rattle.sk_record.specs.Run.{run}
 use Rattle.sk_record.specs.Trace.{Taken}
 use Rattle.sk_record.proofs.Sound.{sound_first}
 use Rattle.sk_world.specs.Requests.{Input, Nothing, Good, Fresh, Stale, Get, Check, Store}
@@ -184,7 +185,7 @@ example_is_table start = record {
   store_there = λ s p m b next none. (let v : None ≡ Some (place 1 m) = sym none ∙ (store_is (get s (proc p)) m b next).0 in cc);
   fetch_fresh = λ s p m c next. fetches_fresh s p m c next;
   fetch_good = λ s p m v next cached. fetches_good s p m v next cached;
-  store_good = λ s p m b v next cached lt. stores_good s p m b v next cached lt;
+  store_good = λ ns p m b v legal next cached lt. stores_good (run (kernel example) start ns) p m b v next cached lt;
   store_stale = λ s p m b v c next. stores_stale s p m b v c next;
 }
 

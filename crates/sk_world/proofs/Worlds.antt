@@ -296,13 +296,14 @@ module _ {E V W F P M D : Type 0} (S : Table E V W F P M D) (start : FinMap S.or
   stored_keeps w p m b (Some x) v has_kept next cached none free clear i = used_keeps w p x (i.1.answers p x has_kept) (λ due. (let both : Stores m b ≡ Due = sym next ∙ due in cc)) none clear i
   stored_keeps w p m b None (Some v) has_kept next cached none free clear i =
       let s = state S start w.trace in
+      let good = table.store_good (record_of (kernel S) start w.trace) p m b v (legal_of (kernel S) start w.trace i.0.sound) next (ap or_zero cached) in
       elim (nat_lt v S.last) as (λ t. nat_lt v S.last ≡ t → All (cond t (guessed S start w p (Store m v b)) (asked S start w p (Store m v b)))) [
-        | true ↦ λ is. guessed_keeps w p (Store m v b) (table.store_good s p m b v next (ap or_zero cached) (lt_of S start table v S.last is)) (λ due. (let both : Stores m b ≡ Due = sym next ∙ due in cc)) none clear i
-        | false ↦ λ _. asked_keeps w p (Store m v b) (λ lt. table.store_good s p m b v next (ap or_zero cached) lt, λ c. table.store_stale s p m b v c next) (table.store_there s p m b next) none free i
+        | true ↦ λ is. guessed_keeps w p (Store m v b) (good (lt_of S start table v S.last is)) (λ due. (let both : Stores m b ≡ Due = sym next ∙ due in cc)) none clear i
+        | false ↦ λ _. asked_keeps w p (Store m v b) (good, λ c. table.store_stale s p m b v c next) (table.store_there s p m b next) none free i
       ] refl
   stored_keeps w p m b None None has_kept next cached none free clear i =
       let s = state S start w.trace in
-      asked_keeps w p (Store m zero b) (λ lt. table.store_good s p m b zero next (ap or_zero cached) lt, λ c. table.store_stale s p m b zero c next) (table.store_there s p m b next) none free i
+      asked_keeps w p (Store m zero b) (table.store_good (record_of (kernel S) start w.trace) p m b zero (legal_of (kernel S) start w.trace i.0.sound) next (ap or_zero cached), λ c. table.store_stale s p m b zero c next) (table.store_there s p m b next) none free i
 
   other_keeps : (w : World P M D) (p : P) (kept : Option (Input D)) → w.kept p ≡ kept → S.next (state S start w.trace) p ≡ Else → asks_for S start w p ≡ false → ((m : M) → IsNext S start table w p m → asks_on S start w m ≡ false) → All w → All (other S start w p kept)
   other_keeps w p (Some x) has_kept next none clear i = used_keeps w p x (i.1.answers p x has_kept) (λ due. (let both : Else ≡ Due = sym next ∙ due in cc)) none clear i

@@ -87,7 +87,8 @@ module _ {E V W F P M D : Type 0} (S : Table E V W F P M D) where
           (s : FinMap S.order V) (p : P) (m : M) → S.next s p ≡ Fetches m → get s (S.proc p) ≡ None → ⊥
       pub store_there :
           (s : FinMap S.order V) (p : P) (m : M) (b : D) → S.next s p ≡ Stores m b → get s (S.proc p) ≡ None → ⊥
-      -- a fetch takes a fresh copy, and the cached one; a store sets the copy, or takes the server's
+      -- a fetch takes a fresh copy, and the cached one; a store sets the copy, or takes the server's: the first is said of
+      -- the states that legal records lead to, where a copy is none but a copy
       pub fetch_fresh :
           (s : FinMap S.order V) (p : P) (m : M) (c : Content D) → S.next s p ≡ Fetches m
           → Takes s p (Get m) (Fresh c)
@@ -95,8 +96,9 @@ module _ {E V W F P M D : Type 0} (S : Table E V W F P M D) where
           (s : FinMap S.order V) (p : P) (m : M) (v : ℕ) → S.next s p ≡ Fetches m → S.cached s m ≡ Some v
           → Takes s p (Check m v) Good
       pub store_good :
-          (s : FinMap S.order V) (p : P) (m : M) (b : D) (v : ℕ) → S.next s p ≡ Stores m b
-          → or_zero (S.cached s m) ≡ v → v < S.last → Takes s p (Store m v b) Good
+          (ns : List (Entry P M D)) (p : P) (m : M) (b : D) (v : ℕ) → IsLegal (kernel S) start ns
+          → let s = run (kernel S) start ns in
+          S.next s p ≡ Stores m b → or_zero (S.cached s m) ≡ v → v < S.last → Takes s p (Store m v b) Good
       pub store_stale :
           (s : FinMap S.order V) (p : P) (m : M) (b : D) (v : ℕ) (c : Content D) → S.next s p ≡ Stores m b
           → Takes s p (Store m v b) (Stale c)

@@ -79,7 +79,7 @@ fn row<S: Look>(
 }
 
 /// The process after a private instruction; `None` for another.
-fn private(process: &Process, instruction: &Instruction) -> Option<Process>
+pub(crate) fn private(process: &Process, instruction: &Instruction) -> Option<Process>
     requires { process.now.place + 1 < 2 ^ 32 }
     ensures { result ≡ private_step process.now instruction.now }
 {
@@ -186,7 +186,7 @@ fn with_input<S: Look>(
 }
 
 /// The instruction at a place of a script.
-fn instruction_at(scripts: &Scripts, name: &Name, place: u32) -> Option<Instruction>
+pub(crate) fn instruction_at(scripts: &Scripts, name: &Name, place: u32) -> Option<Instruction>
     ensures value { result ≡ instruction_of (map.get scripts.now name.now) place }
     ensures small { IsSome result → place + 1 < 2 ^ 32 }
 {

@@ -1,0 +1,109 @@
+//! What a process does next, told without a step.
+ghost use Rattle.std.specs.Prelude.{◌≡◌, ◌+◌, ◌<◌, ◌^◌, IsSome, Some};
+ghost use Rattle.sk_ids.specs.declared.entity.Entity.TheVariants.{Sig};
+ghost use Rattle.sk_plain.specs.Next.{takes_signal, is_due, is_private, waits, next_instruction, next_of};
+
+use crate::Refusal;
+use crate::processes::is_killed;
+use crate::step::{instruction_at, plan_step, private};
+use sk_ids::{Entity, Name, Pid};
+use sk_objects::{Signals, Value};
+use sk_script::{Input, Instruction, Process, Scripts};
+use sk_store::{EntityState, Look};
+
+/// What a process does next.
+#[derive(Clone, Copy)]
+pub enum Next {
+    /// A signal is due: a step without input is killed by it, or goes to the handler.
+    Signal,
+    Fetch(Name),
+    Store(Name),
+    /// A private instruction: it reads and writes the process alone.
+    Private,
+    /// A step without input would be blocked.
+    Waits,
+    /// Anything else.
+    Other,
+}
+
+/// Whether a step without input takes a signal of this queue.
+fn takes_signal(process: &Process, signals: &Signals) -> bool
+    ensures { result ≡ takes_signal process.now signals.now }
+{
+    let queue = signals.as_slice();
+    is_killed(queue) || !queue.is_empty() && process.handler.is_some() && process.saved.is_none()
+}
+
+/// Whether a signal is due.
+fn is_due<S: Look>(store: &S, pid: Pid, process: &Process) -> bool
+    ensures { result ≡ is_due process.now (S.look store.now (Sig pid)) }
+{
+    match store.value(Entity::Sig(pid)) {
+        Some(EntityState::Value(Value::Signals(signals))) => takes_signal(process, signals),
+        _ => false,
+    }
+}
+
+/// Whether the instruction is private.
+fn is_private(process: &Process, instruction: &Option<Instruction>) -> bool
+    requires { IsSome instruction.now → process.now.place + 1 < 2 ^ 32 }
+    ensures { result ≡ is_private process.now instruction.now }
+{
+    match instruction {
+        Some(instruction) => private(process, instruction).is_some(),
+        None => false,
+    }
+}
+
+/// Whether a step without input would be blocked.
+fn waits<S: Look>(store: &S, scripts: &Scripts, pid: Pid) -> bool
+    ensures { result ≡ waits (S.look store.now) scripts.now pid }
+{
+    matches!(
+        plan_step(store, scripts, pid, &Input::None),
+        Err(Refusal::Blocked)
+    )
+}
+
+/// What a process does next where no signal is due.
+fn next_instruction<S: Look>(
+    store: &S,
+    scripts: &Scripts,
+    pid: Pid,
+    process: &Process,
+    instruction: &Option<Instruction>,
+) -> Next
+    requires { IsSome instruction.now → process.now.place + 1 < 2 ^ 32 }
+    ensures { result ≡ next_instruction (S.look store.now) scripts.now pid process.now instruction.now }
+{
+    match instruction {
+        Some(Instruction::Fetch(name)) => return Next::Fetch(*name),
+        Some(Instruction::Store(name)) => return Next::Store(*name),
+        _ => {}
+    }
+    if is_private(process, instruction) {
+        return Next::Private;
+    }
+    if waits(store, scripts, pid) {
+        return Next::Waits;
+    }
+    Next::Other
+}
+
+/// What a process does next. Refused with `NoProcess` or `Ended`. This takes no memory.
+pub fn next_of<S: Look>(store: &S, scripts: &Scripts, pid: Pid) -> Result<Next, Refusal>
+    ensures { result ≡ next_of (S.look store.now) scripts.now pid }
+{
+    let process = match store.value(Entity::Proc(pid)) {
+        Some(EntityState::Process(process)) => process,
+        _ => return Err(Refusal::NoProcess),
+    };
+    if process.ended {
+        return Err(Refusal::Ended);
+    }
+    if is_due(store, pid, process) {
+        return Ok(Next::Signal);
+    }
+    let instruction = instruction_at(scripts, &process.script, process.place);
+    Ok(next_instruction(store, scripts, pid, process, &instruction))
+}

@@ -1,8 +1,8 @@
 -- Parts of two lists side by side, and membership.
-use Rattle.std.proofs.Common.{◌≡◌, ℕ, zero, suc, ◌≤◌, ◌<◌, Bool, true, false, cond, not, ◌&&◌, ◌||◌, List, [], ◌∷◌, ◌++◌, map, Option, Some, None, inl, inr, refl, sym, ◌∙◌, ap, subst, arith}
+use Rattle.std.proofs.Common.{◌≡◌, ℕ, Bool, true, false, cond, List, [], ◌∷◌, ◌++◌, inl, inr, refl, sym, ◌∙◌, ap, subst, arith}
 use Rattle.std.specs.Prelude.{◌⊎◌, ◌==◌}
-use Rattle.std.specs.List.{list_any, filter, Contains}
-use Rattle.std.proofs.lemmas.Bool.{or_parts, or_left, or_right, or_cases, or_from, true≢false, eq-eqb, eqb-true, cases_Bool}
+use Rattle.std.specs.List.{list_any, Contains}
+use Rattle.std.proofs.lemmas.Bool.{or_parts, or_left, or_right, or_cases, true≢false, eq-eqb, eqb-true, cases_Bool}
 use Rattle.std.proofs.lemmas.List.Elements.{Contains-push_cases, Contains-append_cases, Contains-append_left, Contains-append_right}
 use Rattle.sk_record.specs.Effects.{keep}
 use Rattle.sk_record.specs.Notes.{has}
@@ -51,6 +51,16 @@ cons_later y xs x h = Contains-append_right (y ∷ []) xs x h
 
 pub no_member : {A : Type 0} (x : A) → Contains [] x → ⊥
 no_member x h = let lt = h.1 in omega arith
+
+-- the facts of each pair
+pub each_at : {A B : Type 0} (X : A → B → Type 0) (xs : List A) (ys : List B) → Each X xs ys → (x : A) (y : B) → Contains (paired xs ys) (x, y) → X x y
+each_at X [] ys h x y there = absurd (no_member (x, y) there)
+each_at X (z ∷ xs) [] h x y there = absurd (no_member (x, y) there)
+each_at X (z ∷ xs) (w ∷ ys) h x y there =
+    elim (cons_cases (z, w) (paired xs ys) (x, y) there) [
+      | inl same ↦ subst (λ p. X p.0 p.1) same h.0
+      | inr later ↦ each_at X xs ys h.1 x y later
+    ]
 
 -- what is not flagged is kept
 pub survives : {A : Type 0} (X : A → Type 0) (bs : List Bool) (xs : List A) → Each (λ x b. b ≡ true → X x) xs bs → (x : A) → Contains xs x → Contains (keep bs xs) x ⊎ X x

@@ -1,18 +1,19 @@
 -- The example table meets the premises.
-use Rattle.std.proofs.Common.{◌≡◌, ℕ, zero, suc, ◌+◌, ◌≤◌, ◌<◌, Bool, true, false, cond, List, [], ◌∷◌, map, Option, Some, None, Result, Ok, Err, inl, inr, refl, sym, ◌∙◌, ap, subst, arith}
-use Rattle.std.specs.Prelude.{◌⊎◌, ◌==◌, nat_lt}
+use Rattle.std.proofs.Common.{◌≡◌, ℕ, zero, suc, ◌+◌, ◌<◌, true, false, cond, [], ◌∷◌, map, Option, Some, None, Result, Ok, Err, inl, inr, refl, sym, ◌∙◌, ap, subst, arith}
+use Rattle.std.specs.Prelude.{◌⊎◌, nat_lt}
 use Rattle.std.specs.List.{Contains}
 use Rattle.std.specs.FinMap.{FinMap, get, nat_cmp-IsAntisymmetric}
 use Rattle.std.specs.Ordering.{nat_cmp}
 use Rattle.std.proofs.lemmas.Bool.{eq-eqb, lt-ltb}
 use Rattle.std.proofs.lemmas.Cmp.{nat_cmp_total}
 use Rattle.sk_record.specs.Step.{Effect, Done, Refuse, perform, with_read}
+use Rattle.sk_record.specs.Run.{run}
 use Rattle.sk_record.specs.Trace.{Taken}
 use Rattle.sk_record.proofs.Sound.{sound_first}
 use Rattle.sk_world.specs.Requests.{Input, Nothing, Good, Fresh, Stale, Get, Check, Store}
-use Rattle.sk_world.specs.World.{kernel, Next, Halted, Due, Fetches, Stores, or_zero}
+use Rattle.sk_world.specs.World.{kernel, Fetches, Stores, or_zero}
 use Rattle.sk_world.specs.Laws.{Takes, IsTable, IsFirst, IsEither}
-use Rattle.sk_world.specs.Example.{Value, ExampleStep, proc, copy, version, fetch_good, fetch_step, store_good, store_step, step_of, step_at, next_of, next_at, example, begun}
+use Rattle.sk_world.specs.Example.{Value, proc, copy, version, fetch_good, store_good, step_of, step_at, next_of, next_at, example, begun}
 use Rattle.sk_world.proofs.Each.{cons_cases, no_member, cons_first, cons_later}
 
 abbrev Did : Type 0
@@ -129,7 +130,7 @@ module _ (s : FinMap nat_cmp Value) (p m : ℕ) where
             ∙ ap (λ c. with_read (proc p) (Some (place 0 m)) (with_read (copy m) c (perform (get s) (fetch_good p m c)))) c.1;
         reads = both p m;
         writes = one p m;
-        sets = tt;
+        sets = λ there. (let h : p + p ≡ suc (m + m) = only_one (proc p) (copy m) there in omega arith);
       }
 
   stores_good : (b v : ℕ) → next_at (get s (proc p)) ≡ Stores m b → or_zero (version (get s (copy m))) ≡ v → v < 100 → Takes example s p (Store m v b) Good
@@ -184,7 +185,7 @@ example_is_table start = record {
   store_there = λ s p m b next none. (let v : None ≡ Some (place 1 m) = sym none ∙ (store_is (get s (proc p)) m b next).0 in cc);
   fetch_fresh = λ s p m c next. fetches_fresh s p m c next;
   fetch_good = λ s p m v next cached. fetches_good s p m v next cached;
-  store_good = λ s p m b v next cached lt. stores_good s p m b v next cached lt;
+  store_good = λ ns p m b v legal next cached lt. stores_good (run (kernel example) start ns) p m b v next cached lt;
   store_stale = λ s p m b v c next. stores_stale s p m b v c next;
 }
 

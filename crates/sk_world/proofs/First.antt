@@ -1,28 +1,27 @@
 -- Where a world begins, and the laws.
-use Rattle.std.proofs.Common.{◌≡◌, ℕ, zero, suc, ◌≤◌, ◌<◌, length, Bool, true, false, cond, not, ◌&&◌, ◌||◌, List, [], ◌∷◌, ◌++◌, map, Option, Some, None, Result, Ok, Err, inl, inr, refl, sym, ◌∙◌, ap, subst, arith}
-use Rattle.std.specs.Prelude.{◌⊎◌, ◌==◌, slice_get}
-use Rattle.std.specs.List.{list_any, Contains}
-use Rattle.std.specs.FinMap.{FinMap, get}
+use Rattle.std.proofs.Common.{◌≡◌, ℕ, zero, suc, ◌≤◌, length, true, false, List, [], ◌∷◌, ◌++◌, map, Some, None, inl, inr, refl, sym, ◌∙◌, ap, subst, arith}
+use Rattle.std.specs.Prelude.{◌⊎◌, slice_get}
+use Rattle.std.specs.List.{Contains}
+use Rattle.std.specs.FinMap.{FinMap}
 use Rattle.std.proofs.lemmas.Bool.{true≢false}
 use Rattle.std.proofs.lemmas.List.Elements.{Contains-append_left}
 use Rattle.sk_record.specs.Effects.{MarkedEffect}
-use Rattle.sk_record.specs.Run.{System, outcome, after, marked_effect, run, effects}
-use Rattle.sk_record.specs.Strike.{struck}
+use Rattle.sk_record.specs.Run.{System, outcome, after, marked_effect, effects}
 use Rattle.sk_record.specs.Notes.{has}
-use Rattle.sk_record.specs.Trace.{Event, Fail, HasEntry, record_of, undecided_of}
+use Rattle.sk_record.specs.Trace.{record_of}
 use Rattle.sk_record.specs.declared.status.Status.TheVariants.{Committed, Failed}
 use Rattle.sk_record.proofs.Laws.{one_status}
-use Rattle.sk_world.specs.Requests.{Good, Ask, Get, Store, Answer, Yes, Dropped, Request, Cause, Before, For, Entry, Served}
+use Rattle.sk_world.specs.Requests.{Good, Get, Store, Yes, Request, Before, For, Entry, Served}
 use Rattle.sk_world.specs.Server.{all_changed, AllFit}
 use Rattle.sk_world.specs.World.{Table, World, WorldEvent, asked_count, kernel, undecided, pending, served, world_after}
-use Rattle.sk_world.specs.Laws.{Sets, IsTable, IsFirst, Stands, IsDueStep, AcceptedStand, AcceptedStood, PlacesAreKept, FilesAreChanged, StoresAreReplied, Counts, paired, stores_of, accepted_of}
-use Rattle.sk_world.proofs.Each.{Each, no_member, cons_first, cons_later, cons_cases}
+use Rattle.sk_world.specs.Laws.{IsTable, IsFirst, Stands, IsDueStep, AcceptedStand, AcceptedStood, PlacesAreKept, FilesAreChanged, StoresAreReplied, Counts, paired, stores_of, accepted_of}
+use Rattle.sk_world.proofs.Each.{Each, each_at, no_member, cons_first, cons_later, cons_cases}
 use Rattle.sk_world.proofs.TraceFacts.{entry_drawn}
 use Rattle.sk_world.proofs.Queues.{queue_le}
-use Rattle.sk_world.proofs.Invariant.{Allowed, Queue, Apart, HasStep, Invariant}
+use Rattle.sk_world.proofs.Invariant.{Queue, Apart, HasStep}
 use Rattle.sk_world.proofs.KernelEvents.{no_guess}
 use Rattle.sk_world.proofs.Worlds.{Holds, HasFacts, Filed, Room, All, all_keep}
-use Rattle.sk_world.proofs.RequestFacts.{RequestFacts, Numbers, Once, Rising, requests, in_map}
+use Rattle.sk_world.proofs.RequestFacts.{Numbers, Once, Rising, requests, in_map}
 
 each_all : {A B : Type 0} (X : A → B → Type 0) (xs : List A) (ys : List B) → ((x : A) (y : B) → Contains xs x → X x y) → Each X xs ys
 each_all X [] ys h = tt
@@ -275,6 +274,7 @@ module _ {E V W F P M D : Type 0} (S : Table E V W F P M D) (start : FinMap S.or
       let t = all.1 in
       record {
         steps = its_reply first is w all;
+        sets = λ n f q there cause good. each_at _ (record_of (kernel S) start w.trace) (effects (kernel S) start (record_of (kernel S) start w.trace)) all.0.entries.sets n f there q cause good;
         replies = λ q m v b there ask.
             let h = store_stands w all.0 q m v b (all.0.within (q, Yes) there) ask (inr there) in
             let o = t.owners.owner h.0 q h.1 h.2 in (

@@ -1,16 +1,16 @@
 -- What holds of a world after every list of events.
-use Rattle.std.proofs.Common.{◌≡◌, ℕ, zero, suc, ◌≤◌, ◌<◌, Bool, true, false, not, ◌&&◌, ◌||◌, List, [], ◌∷◌, ◌++◌, map, Option, Some, None}
-use Rattle.std.specs.Prelude.{◌⊎◌, ◌==◌}
-use Rattle.std.specs.List.{list_any, filter, Contains}
+use Rattle.std.proofs.Common.{◌≡◌, ℕ, suc, ◌≤◌, ◌<◌, Bool, true, false, not, ◌||◌, List, [], ◌∷◌, Option, Some, None}
+use Rattle.std.specs.Prelude.{◌⊎◌}
+use Rattle.std.specs.List.{Contains}
 use Rattle.std.specs.FinMap.{FinMap, get}
 use Rattle.sk_record.specs.Effects.{is_in, dirt}
 use Rattle.sk_record.specs.Run.{run, effects}
 use Rattle.sk_record.specs.Strike.{struck}
 use Rattle.sk_record.specs.Notes.{has}
 use Rattle.sk_record.specs.Trace.{Event, Fail, HasEntry, IsDrawn, IsSound, record_of, undecided_of}
-use Rattle.sk_world.specs.Requests.{Input, Good, Fresh, Stale, Content, Ask, Get, Check, Store, Answer, Yes, Dropped, Request, Cause, For, Entry, Served, name_of}
+use Rattle.sk_world.specs.Requests.{Good, Fresh, Stale, Content, Ask, Get, Check, Store, Yes, Dropped, Request, For, Entry, Served, name_of}
 use Rattle.sk_world.specs.Server.{is_accepted}
-use Rattle.sk_world.specs.World.{Table, kernel, own, is_lost}
+use Rattle.sk_world.specs.World.{Table, kernel, is_lost}
 use Rattle.sk_world.specs.Laws.{Takes, Sets}
 use Rattle.sk_world.proofs.Each.{Each}
 

@@ -1,29 +1,28 @@
 -- What holds of a world stays so: by a step, a commit, a failure, a new request, an answer.
-use Rattle.std.proofs.Common.{◌≡◌, ℕ, zero, suc, ◌≤◌, ◌<◌, Bool, true, false, cond, not, ◌&&◌, ◌||◌, List, [], ◌∷◌, ◌++◌, map, Option, Some, None, Ok, inl, inr, refl, sym, ◌∙◌, ap, subst, arith}
-use Rattle.std.specs.Prelude.{◌⊎◌, ◌==◌, is_ok}
-use Rattle.std.specs.List.{list_any, filter, Contains}
-use Rattle.std.specs.FinMap.{FinMap, get}
-use Rattle.std.proofs.lemmas.Bool.{or_parts, or_left, or_right, or_cases, or_from, true≢false, false_from_ne_true, true_from_ne_false, cases_Bool, eqb-true, cases_eq}
-use Rattle.std.proofs.lemmas.List.Elements.{Contains-push_cases, Contains-append_left, Contains-append_cases, Contains-push}
+use Rattle.std.proofs.Common.{◌≡◌, ℕ, ◌≤◌, true, false, not, ◌&&◌, List, [], ◌∷◌, ◌++◌, Option, Some, None, Ok, inl, inr, refl, sym, ◌∙◌, ap, subst}
+use Rattle.std.specs.Prelude.{is_ok}
+use Rattle.std.specs.List.{list_any, Contains}
+use Rattle.std.specs.FinMap.{FinMap}
+use Rattle.std.proofs.lemmas.Bool.{or_from, true≢false, false_from_ne_true, cases_Bool, eqb-true}
+use Rattle.std.proofs.lemmas.List.Elements.{Contains-push_cases, Contains-append_left}
 use Rattle.std.proofs.lemmas.List.Folds.{list_any-append}
 use Rattle.sk_record.specs.Step.{Effect}
-use Rattle.sk_record.specs.Effects.{MarkedEffect, is_in, is_marked, hit, dirt, touches}
-use Rattle.sk_record.specs.Run.{outcome, marked_effect, run, effects, IsLegal}
+use Rattle.sk_record.specs.Effects.{hit, dirt}
+use Rattle.sk_record.specs.Run.{outcome, marked_effect, run, effects}
 use Rattle.sk_record.specs.Strike.{struck, strike}
 use Rattle.sk_record.specs.Notes.{has}
-use Rattle.sk_record.specs.Trace.{Event, Taken, Commit, Fail, HasEntry, IsDrawn, IsSound, record_of, undecided_of, still_marked, no_record, all_recorded}
-use Rattle.sk_record.proofs.Machine.{own_dirt, has_filter}
+use Rattle.sk_record.specs.Trace.{Event, Taken, Commit, Fail, HasEntry, IsSound, record_of, undecided_of, no_record, all_recorded}
+use Rattle.sk_record.proofs.Machine.{own_dirt}
 use Rattle.sk_record.proofs.UndoStates.{and_both}
-use Rattle.sk_record.proofs.Sound.{record_more, sound_taken, sound_commit, sound_fail, drawn_more, undecided_is, has_entry, fresh_from, entries_are, has_commit}
-use Rattle.sk_world.specs.Requests.{Input, Good, Fresh, Stale, Content, Ask, Get, Check, Store, Answer, Yes, Dropped, Request, Cause, Own, For, Entry, Served, name_of}
-use Rattle.sk_world.specs.Server.{is_accepted, remembered}
-use Rattle.sk_world.specs.World.{Table, kernel, own, commits, is_lost}
-use Rattle.sk_world.specs.Laws.{Takes, Sets, IsTable, IsEither}
-use Rattle.sk_world.proofs.Each.{Each, survives, at_number, at_same, at_other, cons_first, cons_later}
-use Rattle.sk_world.proofs.TraceFacts.{has_mark, open_taken, open_stays, open_commit, open_fail, failed_shut, legal_of, entry_drawn, open_entry}
-use Rattle.sk_world.proofs.Records.{Quiet, entries_taken, entries_fewer, entries_failed, tags_of_step, ready_taken, ready_failed, lost_more, ready_kept, not_true}
-use Rattle.sk_world.proofs.Queues.{queue_le, queue_fewer, queue_push, Joins, remembers_fewer, remembers_push, still_remembered, apart_push}
-use Rattle.sk_world.proofs.Invariant.{counted, Allowed, RestsOnRefused, Waits, Queue, Remembers, IsServed, Apart, Entries, Guesses, Void, ReadyFor, tag_at, Ready, IsPending, HasStep, Invariant}
+use Rattle.sk_record.proofs.Sound.{record_more, sound_taken, sound_commit, sound_fail, drawn_more, undecided_is, fresh_from, entries_are, has_commit}
+use Rattle.sk_world.specs.Requests.{Good, Yes, Request, For, Entry, Served, name_of}
+use Rattle.sk_world.specs.World.{Table, kernel, commits, is_lost}
+use Rattle.sk_world.specs.Laws.{Sets, IsTable}
+use Rattle.sk_world.proofs.Each.{survives}
+use Rattle.sk_world.proofs.TraceFacts.{has_mark, open_taken, open_commit, open_fail, failed_shut, legal_of, entry_drawn, open_entry}
+use Rattle.sk_world.proofs.Records.{Quiet, entries_taken, entries_fewer, entries_failed, ready_taken, ready_failed, lost_more, ready_kept, not_true}
+use Rattle.sk_world.proofs.Queues.{queue_fewer, remembers_fewer}
+use Rattle.sk_world.proofs.Invariant.{Allowed, Entries, Guesses, tag_at, Ready, HasStep, Invariant}
 
 pub no_guess : (o : Option ℕ) (g : ℕ) → o ≡ None → o ≡ Some g → ⊥
 no_guess o g none some = let same : None ≡ Some g = sym none ∙ some in cc

@@ -1,13 +1,12 @@
 -- Labels change nothing.
-use Rattle.std.proofs.Common.{◌≡◌, ℕ, Bool, true, false, List, [], ◌∷◌, ◌++◌, map, Option, refl, sym, ◌∙◌, ap}
-use Rattle.std.specs.List.{filter, fold}
+use Rattle.std.proofs.Common.{◌≡◌, ℕ, Bool, true, false, List, [], ◌∷◌, ◌++◌, map, refl, sym, ◌∙◌, ap}
+use Rattle.std.specs.List.{filter}
 use Rattle.std.specs.FinMap.{FinMap}
 use Rattle.std.proofs.lemmas.List.{map-append}
 use Rattle.sk_record.specs.Effects.{keep, hits}
 use Rattle.sk_record.specs.Run.{System, outcome, after, marked_effect, run, effects}
 use Rattle.sk_record.specs.Strike.{struck, strike}
-use Rattle.sk_record.specs.Trace.{Event, Taken, Commit, Fail, record_after, record_of, undecided_of, Record, recorded, all_recorded, no_record, still_marked, marks}
-use Rattle.sk_record.specs.Notes.{without}
+use Rattle.sk_record.specs.Trace.{Event, Taken, Commit, Fail, record_of, Record, recorded, all_recorded, no_record, still_marked, marks}
 use Rattle.sk_record.proofs.Sound.{entries_are}
 use Rattle.sk_world.specs.Labels.{bare_event, labelled, IsBare}
 

@@ -1,15 +1,15 @@
 -- The requests that wait, and the refused guesses that the server remembers.
-use Rattle.std.proofs.Common.{◌≡◌, ℕ, zero, suc, ◌≤◌, ◌<◌, Bool, true, false, cond, not, ◌&&◌, ◌||◌, List, [], ◌∷◌, ◌++◌, map, Option, Some, None, inl, inr, refl, sym, ◌∙◌, ap, subst, arith}
+use Rattle.std.proofs.Common.{◌≡◌, ℕ, suc, ◌≤◌, ◌<◌, Bool, true, false, ◌&&◌, List, [], ◌∷◌, ◌++◌, Some, None, inl, inr, sym, ◌∙◌, ap, subst, arith}
 use Rattle.std.specs.Prelude.{◌⊎◌, ◌==◌, nat_le}
-use Rattle.std.specs.List.{list_any, filter, Contains}
-use Rattle.std.proofs.lemmas.Bool.{or_left, or_right, or_cases, true≢false, false_from_ne_true, true_from_ne_false, eqb-true, eq-eqb, le-leb}
+use Rattle.std.specs.List.{list_any, Contains}
+use Rattle.std.proofs.lemmas.Bool.{or_left, or_right, or_cases, true≢false, eqb-true, le-leb}
 use Rattle.std.proofs.lemmas.List.Elements.{Contains-push_cases}
 use Rattle.sk_record.specs.Notes.{has}
 use Rattle.sk_record.proofs.Machine.{has_filter}
 use Rattle.sk_world.specs.Requests.{Request, name_of}
 use Rattle.sk_world.specs.Server.{remembered, is_dropped}
 use Rattle.sk_world.proofs.Each.{cons_first, cons_later, no_member}
-use Rattle.sk_world.proofs.Invariant.{counted, Waits, Queue, Remembers, Apart}
+use Rattle.sk_world.proofs.Invariant.{counted, Queue, Remembers, Apart}
 
 pub any_of : (p : ℕ → Bool) (xs : List ℕ) (y : ℕ) → has y xs ≡ true → p y ≡ true → list_any p xs ≡ true
 any_of p [] y h is = absurd (true≢false (sym h))

@@ -1,28 +1,27 @@
 -- The record of a world through steps, commits and failures.
-use Rattle.std.proofs.Common.{◌≡◌, ℕ, zero, suc, ◌≤◌, ◌<◌, Bool, true, false, not, ◌&&◌, ◌||◌, List, [], ◌∷◌, ◌++◌, map, Option, Some, None, Ok, inl, inr, refl, sym, ◌∙◌, ap, subst, arith}
-use Rattle.std.specs.Prelude.{◌⊎◌, ◌==◌}
-use Rattle.std.specs.List.{list_any, filter, Contains}
+use Rattle.std.proofs.Common.{◌≡◌, ℕ, ◌<◌, Bool, true, false, not, ◌&&◌, ◌||◌, List, [], ◌∷◌, ◌++◌, map, Option, Some, Ok, inl, inr, refl, sym, ◌∙◌, ap, subst}
+use Rattle.std.specs.Prelude.{◌⊎◌}
+use Rattle.std.specs.List.{list_any, Contains}
 use Rattle.std.specs.FinMap.{FinMap, get}
-use Rattle.std.proofs.lemmas.Bool.{or_parts, or_left, or_right, or_cases, or_from, true≢false, false_from_ne_true, true_from_ne_false, cases_Bool, eqb-true}
-use Rattle.std.proofs.lemmas.List.Elements.{Contains-push_cases, Contains-append_left, Contains-append_cases, Contains-push}
+use Rattle.std.proofs.lemmas.Bool.{or_parts, or_left, or_right, or_cases, or_from, true≢false, false_from_ne_true}
+use Rattle.std.proofs.lemmas.List.Elements.{Contains-push_cases, Contains-append_cases}
 use Rattle.std.proofs.lemmas.List.Folds.{list_any-append}
 use Rattle.sk_record.specs.Step.{Effect}
-use Rattle.sk_record.specs.Effects.{MarkedEffect, is_in, is_marked, hit, dirt, touches}
+use Rattle.sk_record.specs.Effects.{is_in, hit, dirt, touches}
 use Rattle.sk_record.specs.Run.{outcome, marked_effect, run, effects, IsLegal}
 use Rattle.sk_record.specs.Strike.{struck, strike}
 use Rattle.sk_record.specs.Notes.{has}
-use Rattle.sk_record.specs.Trace.{Event, Taken, Commit, Fail, HasEntry, IsDrawn, IsSound, record_of, undecided_of, still_marked, no_record, all_recorded}
-use Rattle.sk_record.proofs.Chains.{in_from}
+use Rattle.sk_record.specs.Trace.{Event, undecided_of, still_marked}
 use Rattle.sk_record.proofs.Struck.{footprint}
-use Rattle.sk_record.proofs.Machine.{unmarked_hits, own_dirt}
+use Rattle.sk_record.proofs.Machine.{unmarked_hits}
 use Rattle.sk_record.proofs.UndoStates.{and_both}
 use Rattle.sk_record.proofs.Sound.{any_from, mark_is}
-use Rattle.sk_world.specs.Requests.{Input, Good, Fresh, Stale, Content, Ask, Get, Check, Store, Request, Cause, For, Entry, name_of}
+use Rattle.sk_world.specs.Requests.{Input, Good, Fresh, Stale, Ask, Get, Check, Store, Request, For, Entry, name_of}
 use Rattle.sk_world.specs.World.{Table, kernel, own, commits, is_lost}
 use Rattle.sk_world.specs.Laws.{Takes, Sets, IsTable, IsEither}
-use Rattle.sk_world.proofs.Each.{Each, each_map, each_none, survives, kept_was}
+use Rattle.sk_world.proofs.Each.{each_none, kept_was}
 use Rattle.sk_world.proofs.TraceFacts.{each_effects_more, each_hits_more, each_effects_left, each_hits_left, value_taken, dirt_taken, value_left, dirt_left}
-use Rattle.sk_world.proofs.Invariant.{Allowed, Entries, Ready, ReadyFor, tag_at, Void}
+use Rattle.sk_world.proofs.Invariant.{Allowed, Entries, Ready, ReadyFor, tag_at}
 
 pub not_true : (b : Bool) → not b ≡ true → b ≡ false
 not_true true h = absurd (true≢false (sym h))

@@ -1,27 +1,25 @@
 -- What holds of a world stays so: by a guess, by a question, by an answer of the server, by a reply that is given.
-use Rattle.std.proofs.Common.{◌≡◌, ℕ, zero, suc, ◌≤◌, ◌<◌, Bool, true, false, cond, not, ◌&&◌, ◌||◌, List, [], ◌∷◌, ◌++◌, map, Option, Some, None, Ok, inl, inr, refl, sym, ◌∙◌, ap, subst, arith}
+use Rattle.std.proofs.Common.{◌≡◌, ℕ, suc, ◌≤◌, ◌<◌, Bool, true, false, cond, not, ◌&&◌, List, [], ◌∷◌, ◌++◌, Some, None, Ok, inl, inr, refl, sym, ◌∙◌, ap, subst, arith}
 use Rattle.std.specs.Prelude.{◌⊎◌, ◌==◌, is_ok, nat_le}
-use Rattle.std.specs.List.{list_any, filter, Contains}
+use Rattle.std.specs.List.{Contains}
 use Rattle.std.specs.FinMap.{FinMap, get}
-use Rattle.std.proofs.lemmas.Bool.{or_parts, or_left, or_right, or_cases, or_from, true≢false, false_from_ne_true, true_from_ne_false, cases_Bool, eqb-true, cases_eq, leb-true, leb-false}
-use Rattle.std.proofs.lemmas.List.Elements.{Contains-push_cases, Contains-append_left, Contains-append_cases, Contains-push}
-use Rattle.sk_record.specs.Step.{Effect}
-use Rattle.sk_record.specs.Effects.{MarkedEffect, is_in, is_marked, hit, dirt, touches}
-use Rattle.sk_record.specs.Run.{outcome, marked_effect, run, effects, IsLegal}
+use Rattle.std.proofs.lemmas.Bool.{or_cases, true≢false, false_from_ne_true, cases_Bool, eqb-true, cases_eq, leb-true, leb-false}
+use Rattle.std.proofs.lemmas.List.Elements.{Contains-push_cases, Contains-append_left, Contains-push}
+use Rattle.sk_record.specs.Run.{outcome, run}
 use Rattle.sk_record.specs.Notes.{has}
-use Rattle.sk_record.specs.Trace.{Event, Taken, Commit, Fail, HasEntry, IsDrawn, IsSound, record_of, undecided_of, still_marked}
+use Rattle.sk_record.specs.Trace.{Event, Taken, Fail, HasEntry, IsSound, record_of, undecided_of}
 use Rattle.sk_record.proofs.Machine.{has_filter}
 use Rattle.sk_record.proofs.UndoStates.{and_both}
 use Rattle.sk_record.proofs.Sound.{record_more, sound_taken, drawn_more, has_entry}
-use Rattle.sk_world.specs.Requests.{Input, Good, Fresh, Stale, Content, Ask, Get, Check, Store, Answer, Yes, No, Copy, Dropped, Request, Cause, Own, For, Entry, Served, name_of}
+use Rattle.sk_world.specs.Requests.{Good, Store, Answer, Yes, Dropped, Request, For, Entry, Served, name_of}
 use Rattle.sk_world.specs.Server.{is_accepted, remembered}
-use Rattle.sk_world.specs.World.{Table, kernel, commits, is_lost, least, rests_of}
-use Rattle.sk_world.specs.Laws.{Takes, Sets, IsTable, IsEither}
-use Rattle.sk_world.proofs.Each.{Each, at_number, at_same, at_other, cons_first, cons_later}
-use Rattle.sk_world.proofs.TraceFacts.{open_taken, open_stays, entry_drawn, open_entry}
+use Rattle.sk_world.specs.World.{Table, kernel, least, rests_of}
+use Rattle.sk_world.specs.Laws.{Takes, Sets, IsTable}
+use Rattle.sk_world.proofs.Each.{at_number, at_same, at_other, cons_first, cons_later}
+use Rattle.sk_world.proofs.TraceFacts.{open_taken, entry_drawn, open_entry}
 use Rattle.sk_world.proofs.Records.{Quiet, entries_taken, tags_of_step, ready_taken, lost_more}
-use Rattle.sk_world.proofs.Queues.{queue_le, queue_push, Joins, remembers_push, still_remembered, apart_push}
-use Rattle.sk_world.proofs.Invariant.{counted, Allowed, RestsOnRefused, Waits, Queue, Remembers, IsServed, Apart, Entries, Guesses, Void, ReadyFor, tag_at, Ready, IsPending, HasStep, Invariant}
+use Rattle.sk_world.proofs.Queues.{queue_le, queue_push, remembers_push, still_remembered, apart_push}
+use Rattle.sk_world.proofs.Invariant.{counted, Queue, IsServed, Entries, Guesses, ReadyFor, tag_at, Ready, HasStep, Invariant}
 use Rattle.sk_world.proofs.KernelEvents.{no_guess, entry_more, step_more, new_clean}
 
 -- the least of some numbers

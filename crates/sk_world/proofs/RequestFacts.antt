@@ -1,17 +1,16 @@
 -- What holds of a world's requests beside the invariant: files, kept answers, request numbers, the request of each entry, and commits.
-use Rattle.std.proofs.Common.{◌≡◌, ℕ, zero, suc, ◌≤◌, ◌<◌, Bool, true, false, cond, not, ◌&&◌, ◌||◌, List, [], ◌∷◌, ◌++◌, map, Option, Some, None, Result, Ok, Err, IsTrue, inl, inr, refl, sym, ◌∙◌, ap, subst, arith, append_assoc}
-use Rattle.std.specs.Prelude.{◌⊎◌, ◌==◌}
-use Rattle.std.specs.List.{list_any, fold, Contains}
-use Rattle.std.specs.FinMap.{FinMap, get}
-use Rattle.std.proofs.lemmas.Bool.{true≢false}
-use Rattle.std.proofs.lemmas.List.Elements.{Contains-push_cases, Contains-append_left, Contains-append_right, Contains-append_cases, Contains-push}
+use Rattle.std.proofs.Common.{◌≡◌, ℕ, suc, ◌≤◌, ◌<◌, Bool, true, false, List, [], ◌∷◌, ◌++◌, map, Option, Some, None, IsTrue, inl, inr, refl, sym, ◌∙◌, ap, subst, arith, append_assoc}
+use Rattle.std.specs.Prelude.{◌⊎◌}
+use Rattle.std.specs.List.{Contains}
+use Rattle.std.specs.FinMap.{FinMap}
+use Rattle.std.proofs.lemmas.List.Elements.{Contains-push_cases, Contains-append_left, Contains-append_right, Contains-push}
 use Rattle.std.proofs.lemmas.List.Sums.{fold-append}
 use Rattle.sk_record.specs.Effects.{keep}
-use Rattle.sk_record.specs.Strike.{struck, strike}
+use Rattle.sk_record.specs.Strike.{struck}
 use Rattle.sk_record.specs.Trace.{Event, Taken, Commit, Fail, record_of}
 use Rattle.sk_record.proofs.Machine.{nil_right}
 use Rattle.sk_record.proofs.Sound.{record_more}
-use Rattle.sk_world.specs.Requests.{Content, Input, Good, Ask, Store, Answer, Yes, Request, Cause, Before, Own, For, Entry, Served}
+use Rattle.sk_world.specs.Requests.{Content, Input, Good, Answer, Yes, Request, Before, Own, For, Entry, Served}
 use Rattle.sk_world.specs.Server.{Change, is_fitting, changed, all_changed, AllFit, accepted}
 use Rattle.sk_world.specs.World.{Table, Written, World, kernel}
 use Rattle.sk_world.specs.Laws.{stores_of, store_if, accepted_of}

@@ -1,27 +1,26 @@
 -- What the events of a sound trace do to its record, its open guesses, tags and values, over any kernel.
-use Rattle.std.proofs.Common.{◌≡◌, ℕ, zero, suc, ◌≤◌, ◌<◌, Bool, true, false, cond, not, ◌&&◌, ◌||◌, List, [], ◌∷◌, ◌++◌, map, Option, Some, None, Result, Ok, Err, inl, inr, refl, sym, ◌∙◌, ap, subst, arith}
-use Rattle.std.specs.Prelude.{◌⊎◌, ◌↔◌, ◌==◌, slice_get}
-use Rattle.std.specs.List.{list_any, filter, Contains}
+use Rattle.std.proofs.Common.{◌≡◌, ℕ, Bool, true, false, not, List, [], ◌∷◌, ◌++◌, map, Option, Some, None, Ok, inl, inr, refl, sym, ◌∙◌, ap, subst}
+use Rattle.std.specs.Prelude.{◌⊎◌, ◌==◌, slice_get}
+use Rattle.std.specs.List.{Contains}
 use Rattle.std.specs.Cmp.{IsTotalOrder}
 use Rattle.std.specs.FinMap.{FinMap, get, IsAntisymmetric}
-use Rattle.std.proofs.lemmas.Bool.{or_parts, or_left, or_right, or_cases, or_from, true≢false, eq-eqb, eqb-true, cases_Bool, true_from_ne_false, false_from_ne_true}
-use Rattle.std.proofs.lemmas.List.Elements.{Contains-push_cases, Contains-append_left, Contains-push}
+use Rattle.std.proofs.lemmas.Bool.{or_left, or_cases, true≢false, eq-eqb, eqb-true, true_from_ne_false, false_from_ne_true}
+use Rattle.std.proofs.lemmas.List.Elements.{Contains-push}
 use Rattle.sk_record.specs.Step.{Effect}
-use Rattle.sk_record.specs.Effects.{MarkedEffect, Dep, is_in, hit, hits, dirt, dirtied, keep, place, writes, touches, is_marked}
-use Rattle.sk_record.specs.Run.{System, outcome, after, marked_effect, run, put_all, IsLegal, effects}
+use Rattle.sk_record.specs.Effects.{MarkedEffect, is_in, hit, hits, dirt, dirtied, place}
+use Rattle.sk_record.specs.Run.{System, outcome, after, marked_effect, run, IsLegal, effects}
 use Rattle.sk_record.specs.Strike.{struck, strike}
-use Rattle.sk_record.specs.Notes.{has, without}
-use Rattle.sk_record.specs.Trace.{Event, Taken, Commit, Fail, HasEntry, IsDrawn, StatusIs, IsSound, record_of, marks, still_marked, Record, no_record, all_recorded, undecided_of}
-use Rattle.sk_record.specs.declared.status.Status.TheVariants.{Undecided}
-use Rattle.sk_record.proofs.Chains.{slice_get-keep, in_from, from_in, dirt_is}
+use Rattle.sk_record.specs.Notes.{has}
+use Rattle.sk_record.specs.Trace.{Event, Taken, Commit, Fail, HasEntry, IsDrawn, IsSound, record_of, marks, still_marked, Record, no_record, all_recorded, undecided_of}
+use Rattle.sk_record.proofs.Chains.{slice_get-keep, in_from, dirt_is}
 use Rattle.sk_record.proofs.Sets.{get-put_all_other}
 use Rattle.sk_record.proofs.Later.{dirtied_other}
 use Rattle.sk_record.proofs.Struck.{struck_runs, later, later_dep}
 use Rattle.sk_record.proofs.Machine.{nil_right, has_filter}
 use Rattle.sk_record.proofs.UndoStates.{and_both}
 use Rattle.sk_record.proofs.Tidy.{recorded_more}
-use Rattle.sk_record.proofs.Sound.{record_more, undecided_is, tests, has_entry, is_drawn, marked_is}
-use Rattle.sk_world.proofs.Each.{Each, each_keep, has_from, has_left, has_right}
+use Rattle.sk_record.proofs.Sound.{undecided_is, tests, has_entry, is_drawn, marked_is}
+use Rattle.sk_world.proofs.Each.{Each, each_keep, has_from, has_left}
 
 pub mark_has : (m : Option ℕ) (y : ℕ) → has y (marks m) ≡ true → m ≡ Some y
 mark_has None y h = absurd (true≢false (sym h))

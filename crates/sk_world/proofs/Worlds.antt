@@ -1,27 +1,25 @@
 -- What holds of a world holds after every event.
-use Rattle.std.proofs.Common.{◌≡◌, ℕ, zero, suc, ◌+◌, ◌≤◌, ◌<◌, Bool, true, false, cond, not, ◌&&◌, ◌||◌, List, [], ◌∷◌, ◌++◌, map, Option, Some, None, Result, Ok, Err, inl, inr, refl, sym, ◌∙◌, ap, subst, arith, append_assoc}
+use Rattle.std.proofs.Common.{◌≡◌, ℕ, zero, suc, ◌+◌, ◌≤◌, ◌<◌, Bool, true, false, cond, not, ◌&&◌, List, [], ◌∷◌, ◌++◌, map, Option, Some, None, Ok, Err, inl, inr, refl, sym, ◌∙◌, ap, subst, arith, append_assoc}
 use Rattle.std.specs.Prelude.{◌⊎◌, ◌==◌, nat_lt}
-use Rattle.std.specs.List.{list_any, filter, fold, Contains}
+use Rattle.std.specs.List.{list_any, Contains}
 use Rattle.std.specs.FinMap.{FinMap, get}
-use Rattle.std.proofs.lemmas.Bool.{or_parts, or_left, or_right, or_cases, or_from, true≢false, false_from_ne_true, true_from_ne_false, cases_Bool, eqb-true, cases_eq, leb-true, leb-false, eq-eqb}
-use Rattle.std.proofs.lemmas.List.Elements.{Contains-push_cases, Contains-append_left, Contains-append_right, Contains-append_cases, Contains-push}
+use Rattle.std.proofs.lemmas.Bool.{true≢false, cases_Bool, cases_eq, leb-true, eq-eqb}
+use Rattle.std.proofs.lemmas.List.Elements.{Contains-append_right, Contains-push}
 use Rattle.sk_record.specs.Step.{Effect}
-use Rattle.sk_record.specs.Effects.{hit, dirt}
-use Rattle.sk_record.specs.Run.{outcome, marked_effect, run, effects, IsLegal}
+use Rattle.sk_record.specs.Run.{outcome, run, IsLegal}
 use Rattle.sk_record.specs.Notes.{has}
-use Rattle.sk_record.specs.Trace.{Event, Taken, Commit, Fail, HasEntry, IsSound, record_of, undecided_of, marks}
+use Rattle.sk_record.specs.Trace.{Event, Taken, Commit, Fail, IsSound, record_of, marks}
 use Rattle.sk_record.proofs.UndoStates.{and_both, any_at}
 use Rattle.sk_record.proofs.Sound.{undecided_is, has_commit, any_from, record_more, sound_fail}
-use Rattle.sk_record.proofs.Laws.{one_status}
-use Rattle.sk_world.specs.Requests.{Input, Nothing, Good, Fresh, Stale, Content, Ask, Get, Check, Store, Answer, Yes, No, Copy, Dropped, Request, Cause, Own, For, Entry, Served, name_of}
+use Rattle.sk_world.specs.Requests.{Input, Nothing, Good, Fresh, Stale, Content, Ask, Get, Check, Store, Answer, Yes, No, Copy, Dropped, Request, Entry, Served, name_of}
 use Rattle.sk_world.specs.Server.{Change, Server, AllFit, all_changed, is_accepted, refused_by, remembered, is_dropped, is_fitting, judged, answer_to, answered, accepted}
-use Rattle.sk_world.specs.World.{Table, Written, places, has_places, has_guess, has_number, asked_now, asked_too, asked_count, kept_for, answer_kept, Next, Halted, Due, Fetches, Stores, Else, World, WorldEvent, Turn, Serve, Reply, Edit, kernel, own, asked_entry, input_of, is_asked, commits, is_lost, is_void, least, rests_of, or_zero, state, undecided, pending, served, with_given, with_kept, with_trace, asks_for, asks_on, stepped_by, stepped, used_by, used, guess_request, guess_entry, guessed_by, guessed, ask_request, asked, fetched, stored, other, turned, serve, decided, stepped_for, given_to, reply, edited, event, world_after}
-use Rattle.sk_world.specs.Laws.{Takes, Sets, IsTable, IsEither}
-use Rattle.sk_world.proofs.Each.{at_number, at_same, at_other, cons_first, cons_later, has_left, has_right}
+use Rattle.sk_world.specs.World.{Table, places, has_places, has_guess, has_number, asked_now, asked_too, asked_count, kept_for, answer_kept, Next, Halted, Due, Fetches, Stores, Else, World, WorldEvent, Turn, Serve, Reply, Edit, kernel, own, asked_entry, input_of, is_asked, commits, is_lost, is_void, or_zero, state, undecided, pending, served, with_given, with_kept, with_trace, asks_for, asks_on, stepped_by, stepped, used_by, used, guess_request, guess_entry, guessed_by, guessed, ask_request, asked, fetched, stored, other, turned, serve, decided, stepped_for, given_to, reply, edited, event, world_after}
+use Rattle.sk_world.specs.Laws.{Takes, Sets, IsTable}
+use Rattle.sk_world.proofs.Each.{at_number, at_same, at_other, cons_first, has_left, has_right}
 use Rattle.sk_world.proofs.TraceFacts.{has_mark, legal_of}
 use Rattle.sk_world.proofs.Records.{Quiet, tags_of_step, not_true}
 use Rattle.sk_world.proofs.Queues.{any_of, queue_le, not_dropped}
-use Rattle.sk_world.proofs.Invariant.{counted, Allowed, RestsOnRefused, Queue, IsServed, Void, ReadyFor, Ready, HasStep, Invariant}
+use Rattle.sk_world.proofs.Invariant.{counted, ReadyFor, Ready, HasStep, Invariant}
 use Rattle.sk_world.proofs.KernelEvents.{no_guess, inv_plain, inv_commit, inv_fail}
 use Rattle.sk_world.proofs.RequestEvents.{inv_ask, inv_guess, inv_drop, inv_done, inv_answer}
 use Rattle.sk_world.proofs.PlaceFacts.{asked_le, asked_push, places_step, places_guess, places_commit, places_fail}
@@ -296,13 +294,14 @@ module _ {E V W F P M D : Type 0} (S : Table E V W F P M D) (start : FinMap S.or
   stored_keeps w p m b (Some x) v has_kept next cached none free clear i = used_keeps w p x (i.1.answers p x has_kept) (λ due. (let both : Stores m b ≡ Due = sym next ∙ due in cc)) none clear i
   stored_keeps w p m b None (Some v) has_kept next cached none free clear i =
       let s = state S start w.trace in
+      let good = table.store_good (record_of (kernel S) start w.trace) p m b v (legal_of (kernel S) start w.trace i.0.sound) next (ap or_zero cached) in
       elim (nat_lt v S.last) as (λ t. nat_lt v S.last ≡ t → All (cond t (guessed S start w p (Store m v b)) (asked S start w p (Store m v b)))) [
-        | true ↦ λ is. guessed_keeps w p (Store m v b) (table.store_good s p m b v next (ap or_zero cached) (lt_of S start table v S.last is)) (λ due. (let both : Stores m b ≡ Due = sym next ∙ due in cc)) none clear i
-        | false ↦ λ _. asked_keeps w p (Store m v b) (λ lt. table.store_good s p m b v next (ap or_zero cached) lt, λ c. table.store_stale s p m b v c next) (table.store_there s p m b next) none free i
+        | true ↦ λ is. guessed_keeps w p (Store m v b) (good (lt_of S start table v S.last is)) (λ due. (let both : Stores m b ≡ Due = sym next ∙ due in cc)) none clear i
+        | false ↦ λ _. asked_keeps w p (Store m v b) (good, λ c. table.store_stale s p m b v c next) (table.store_there s p m b next) none free i
       ] refl
   stored_keeps w p m b None None has_kept next cached none free clear i =
       let s = state S start w.trace in
-      asked_keeps w p (Store m zero b) (λ lt. table.store_good s p m b zero next (ap or_zero cached) lt, λ c. table.store_stale s p m b zero c next) (table.store_there s p m b next) none free i
+      asked_keeps w p (Store m zero b) (table.store_good (record_of (kernel S) start w.trace) p m b zero (legal_of (kernel S) start w.trace i.0.sound) next (ap or_zero cached), λ c. table.store_stale s p m b zero c next) (table.store_there s p m b next) none free i
 
   other_keeps : (w : World P M D) (p : P) (kept : Option (Input D)) → w.kept p ≡ kept → S.next (state S start w.trace) p ≡ Else → asks_for S start w p ≡ false → ((m : M) → IsNext S start table w p m → asks_on S start w m ≡ false) → All w → All (other S start w p kept)
   other_keeps w p (Some x) has_kept next none clear i = used_keeps w p x (i.1.answers p x has_kept) (λ due. (let both : Else ≡ Due = sym next ∙ due in cc)) none clear i

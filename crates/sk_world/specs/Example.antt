@@ -1,7 +1,7 @@
 -- A table of two instructions, which shows that the premises of the laws can be met: a process fetches a name, stores it,
 -- and halts.
-use Rattle.std.specs.Prelude.{ℕ, zero, suc, ◌+◌, ◌==◌, nat_lt, List, [], ◌∷◌, Option, Some, None, if◌then◌else◌}
-use Rattle.std.specs.FinMap.{FinMap, get}
+use Rattle.std.specs.Prelude.{ℕ, zero, suc, ◌+◌, ◌==◌, nat_lt, [], ◌∷◌, Option, Some, None, if◌then◌else◌}
+use Rattle.std.specs.FinMap.{get}
 use Rattle.std.specs.Ordering.{nat_cmp}
 use Rattle.sk_record.specs.Step.{Step, Ask, Refuse, Done}
 use Rattle.sk_world.specs.Requests.{Input, Nothing, Good, Fresh, Stale}

@@ -1,5 +1,5 @@
 -- Entries that carry more than a kernel looks at, as a cause.
-use Rattle.std.specs.Prelude.{◌≡◌, ℕ, List, map}
+use Rattle.std.specs.Prelude.{◌≡◌, List, map}
 use Rattle.std.specs.FinMap.{FinMap}
 use Rattle.sk_record.specs.Run.{System, run, effects}
 use Rattle.sk_record.specs.Trace.{Event, Taken, Commit, Fail, record_of, undecided_of}

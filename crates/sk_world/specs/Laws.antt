@@ -1,15 +1,15 @@
 -- What the instruction table has to say, what holds where a world begins, and the laws.
-use Rattle.std.specs.Prelude.{length, ◌≡◌, ℕ, zero, suc, ◌≤◌, ◌<◌, true, List, [], ◌∷◌, ◌++◌, map, Option, Some, None, Result, Ok, ◌⊎◌, slice_get}
+use Rattle.std.specs.Prelude.{length, ◌≡◌, ℕ, suc, ◌≤◌, ◌<◌, true, List, [], ◌∷◌, ◌++◌, map, Option, Some, None, Ok, ◌⊎◌, slice_get}
 use Rattle.std.specs.List.{Contains}
 use Rattle.std.specs.Cmp.{IsTotalOrder}
 use Rattle.std.specs.FinMap.{FinMap, get, IsAntisymmetric}
 use Rattle.sk_record.specs.Step.{Effect}
 use Rattle.sk_record.specs.Effects.{MarkedEffect}
-use Rattle.sk_record.specs.Run.{System, outcome, run, effects, IsLegal}
-use Rattle.sk_record.specs.Trace.{Event, Commit, IsDrawn, IsSound, record_of}
-use Rattle.sk_world.specs.Requests.{Content, Input, Nothing, Good, Fresh, Stale, Ask, Get, Check, Store, Answer, Yes, Request, Cause, Before, For, Entry, Served, name_of}
+use Rattle.sk_record.specs.Run.{outcome, run, effects, IsLegal}
+use Rattle.sk_record.specs.Trace.{Commit, IsDrawn, IsSound, record_of}
+use Rattle.sk_world.specs.Requests.{Content, Input, Nothing, Good, Fresh, Stale, Ask, Get, Check, Store, Yes, Request, Before, For, Entry, Served, name_of}
 use Rattle.sk_world.specs.Server.{Change, all_changed, AllFit, accepted}
-use Rattle.sk_world.specs.World.{Written, Next, Due, Fetches, Stores, Table, World, WorldEvent, kernel, own, state, undecided, pending, served, places, world_after, or_zero}
+use Rattle.sk_world.specs.World.{Written, Due, Fetches, Stores, Table, World, WorldEvent, kernel, own, undecided, pending, served, places, world_after, or_zero}
 
 -- parts of two lists, side by side
 abbrev pub paired : {A B : Type 0} → List A → List B → List (A × B)
@@ -41,9 +41,10 @@ abbrev pub IsDueStep : {P M D : Type 0} → World P M D → Request P M D → Ty
 IsDueStep w q = ((g : ℕ) × (q.guess ≡ Some g)) ⊎ Contains w.given (q, Yes)
 
 module _ {E V W F P M D : Type 0} (S : Table E V W F P M D) where
-  -- what a fetch or store with Good writes: a store sets the copy
+  -- what a fetch or store with Good writes: a store sets the copy, a fetch leaves it
   abbrev pub Sets : Ask M D → Input D → List (E × Option V) → Type 0
   Sets (Store m v b) Good ws = Contains ws (S.copy m, Some (S.content (suc v, b)))
+  Sets (Check m v) Good ws = Contains (map (λ w. w.0) ws) (S.copy m) → ⊥
   Sets ask x ws = Unit {0}
 
   -- an entity is the process or the copy
@@ -87,7 +88,8 @@ module _ {E V W F P M D : Type 0} (S : Table E V W F P M D) where
           (s : FinMap S.order V) (p : P) (m : M) → S.next s p ≡ Fetches m → get s (S.proc p) ≡ None → ⊥
       pub store_there :
           (s : FinMap S.order V) (p : P) (m : M) (b : D) → S.next s p ≡ Stores m b → get s (S.proc p) ≡ None → ⊥
-      -- a fetch takes a fresh copy, and the cached one; a store sets the copy, or takes the server's
+      -- a fetch takes a fresh copy, and the cached one; a store sets the copy, which is said of the states that legal
+      -- records lead to, or takes the server's
       pub fetch_fresh :
           (s : FinMap S.order V) (p : P) (m : M) (c : Content D) → S.next s p ≡ Fetches m
           → Takes s p (Get m) (Fresh c)
@@ -95,8 +97,9 @@ module _ {E V W F P M D : Type 0} (S : Table E V W F P M D) where
           (s : FinMap S.order V) (p : P) (m : M) (v : ℕ) → S.next s p ≡ Fetches m → S.cached s m ≡ Some v
           → Takes s p (Check m v) Good
       pub store_good :
-          (s : FinMap S.order V) (p : P) (m : M) (b : D) (v : ℕ) → S.next s p ≡ Stores m b
-          → or_zero (S.cached s m) ≡ v → v < S.last → Takes s p (Store m v b) Good
+          (ns : List (Entry P M D)) (p : P) (m : M) (b : D) (v : ℕ) → IsLegal (kernel S) start ns
+          → let s = run (kernel S) start ns in
+          S.next s p ≡ Stores m b → or_zero (S.cached s m) ≡ v → v < S.last → Takes s p (Store m v b) Good
       pub store_stale :
           (s : FinMap S.order V) (p : P) (m : M) (b : D) (v : ℕ) (c : Content D) → S.next s p ≡ Stores m b
           → Takes s p (Store m v b) (Stale c)
@@ -178,6 +181,10 @@ module _ {E V W F P M D : Type 0} (S : Table E V W F P M D) where
       pub steps :
           (n : Entry P M D) → Contains (record_of (kernel S) start w.trace) n → n.input ≡ Good → Counts w n
           → (n.cause ≡ Before) ⊎ ((q : Request P M D) × (n.cause ≡ For q) × Contains w.given (q, Yes))
+      -- it sets its copy just where its request is a store
+      pub sets :
+          (n : Entry P M D) (f : MarkedEffect E V W) (q : Request P M D) → Contains (record_now w) (n, f)
+          → n.cause ≡ For q → n.input ≡ Good → Sets q.ask Good f.written
       -- each accepted store that has its reply has such a step
       pub replies :
           (q : Request P M D) (m : M) (v : ℕ) (b : D) → Contains w.given (q, Yes) → q.ask ≡ Store m v b

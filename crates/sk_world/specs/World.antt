@@ -1,15 +1,14 @@
 -- The desk and the world: a kernel with a trace, its pending requests, a server, and the replies on their way.
-use Rattle.std.specs.Prelude.{length, ◌+◌, ◌≡◌, ℕ, zero, suc, Bool, true, false, ◌&&◌, ◌||◌, not, ◌==◌, nat_lt, nat_le, List, [], ◌∷◌, ◌++◌, map, Option, Some, None, Result, Ok, Err, if◌then◌else◌, ◌⊎◌}
-use Rattle.std.specs.List.{filter, list_any, fold, Contains}
-use Rattle.std.specs.Cmp.{IsTotalOrder}
+use Rattle.std.specs.Prelude.{length, ◌+◌, ℕ, zero, suc, Bool, true, false, ◌&&◌, ◌||◌, not, ◌==◌, nat_lt, nat_le, List, [], ◌∷◌, ◌++◌, map, Option, Some, None, Result, Ok, Err, if◌then◌else◌}
+use Rattle.std.specs.List.{filter, list_any, fold}
 use Rattle.std.specs.declared.cmp.Ordering.{Ordering}
-use Rattle.std.specs.FinMap.{FinMap, get, IsAntisymmetric}
-use Rattle.sk_record.specs.Step.{Step, Effect, perform}
+use Rattle.std.specs.FinMap.{FinMap}
+use Rattle.sk_record.specs.Step.{Step, Effect}
 use Rattle.sk_record.specs.Effects.{is_in, dirt}
 use Rattle.sk_record.specs.Run.{System, outcome, run, effects}
 use Rattle.sk_record.specs.Notes.{has}
 use Rattle.sk_record.specs.Trace.{Event, Taken, Commit, Fail, record_of, undecided_of}
-use Rattle.sk_world.specs.Requests.{Content, Input, Nothing, Good, Fresh, Stale, Ask, Get, Check, Store, Answer, Yes, No, Copy, Dropped, name_of, Request, Cause, Own, For, Entry, Served}
+use Rattle.sk_world.specs.Requests.{Content, Input, Nothing, Good, Fresh, Stale, Ask, Get, Check, Store, Answer, Yes, No, Copy, Dropped, name_of, Request, Own, For, Entry, Served}
 use Rattle.sk_world.specs.Server.{Change, Server, is_fitting, changed, accepted, answer_to, answered}
 
 -- what a process has next

@@ -24,7 +24,7 @@ pub fn stores()
 {}
 
 /// The steps with Good that were asked or whose guess committed, and the accepted requests whose reply was given, are one
-/// for one.
+/// for one. Such a step sets its copy just where its request is a store.
 pub fn replied()
     ensures { (S : Table ℕ ℕ ℕ ℕ ℕ ℕ ℕ) (start : FinMap S.order ℕ)
         → IsTable S start → StoresAreReplied S start }

@@ -1,0 +1,368 @@
+-- What every row of the table writes: the process, and beside it an entity that is no process, or a child and what it is born with.
+use Rattle.std.proofs.Common.{◌≡◌, ℕ, suc, ◌+◌, Bool, true, false, cond, ◌&&◌, List, [], ◌∷◌, map, Option, Some, None, inl, inr, refl, sym, ◌∙◌, subst, arith}
+use Rattle.std.specs.Prelude.{◌⊎◌, ◌==◌, nat_lt, nat_le, length, ℤ}
+use Rattle.std.specs.List.{Contains}
+use Rattle.std.specs.FinMap.{get}
+use Rattle.std.proofs.lemmas.Bool.{leb-true}
+use Rattle.sk_record.specs.Step.{Ask, Refuse, Done}
+use Rattle.sk_record.specs.Run.{put, put_all}
+use Rattle.sk_record.proofs.UndoStates.{and_both}
+use Rattle.sk_ids.specs.Pid.{boot_pid}
+use Rattle.sk_ids.specs.declared.text.TheConstants.{TEXT_LIMIT}
+use Rattle.sk_ids.specs.declared.pid.ObjId.{ObjId}
+use Rattle.sk_ids.specs.declared.entity.Entity.{Entity}
+use Rattle.sk_ids.specs.declared.entity.Entity.TheVariants.{Proc, Sig, Exit, Obj, Copy}
+use Rattle.sk_objects.specs.Content.{ContentView}
+use Rattle.sk_objects.specs.Directory.{Link, looked_up}
+use Rattle.sk_objects.specs.declared.signals.TheConstants.{LAST_SIGNAL}
+use Rattle.sk_objects.specs.declared.value.Kind.{Kind}
+use Rattle.sk_objects.specs.declared.value.Kind.TheVariants as kinds
+use Rattle.sk_objects.specs.Pipe.{PipeView}
+use Rattle.sk_objects.specs.declared.pipe.TheConstants.{PIPE_LIMIT}
+use Rattle.sk_objects.specs.declared.value.Value.{Value}
+use Rattle.sk_objects.specs.declared.value.Value.TheVariants as values
+use Rattle.sk_script.specs.declared.process.Process.{Process}
+use Rattle.sk_script.specs.declared.instruction.Instruction.{Instruction}
+use Rattle.sk_script.specs.declared.instruction.Instruction.TheVariants as does_
+use Rattle.sk_script.specs.declared.instruction.Input.{Input}
+use Rattle.sk_script.specs.declared.instruction.Input.TheVariants as inputs
+use Rattle.sk_script.specs.Registers.{held}
+use Rattle.sk_script.specs.Private.{at_place_if, number_given, process_given, sum_in, is_zero, is_negative, private_step}
+use Rattle.sk_store.specs.State.{State}
+use Rattle.sk_store.specs.declared.entity_state.EntityState.{EntityState}
+use Rattle.sk_store.specs.declared.entity_state.EntityState.TheVariants as stored
+use Rattle.sk_plain.specs.declared.refusal.Refusal.{Refusal}
+use Rattle.sk_plain.specs.declared.refusal.Errno.TheVariants.{Again}
+use Rattle.sk_plain.specs.Rows.{StepTree, Saying, object_in, number_in, number_to, who_in, failed, alone, with_write, on_object, on_number}
+use Rattle.sk_plain.specs.Files.{on_file, made, size, write, read, cut}
+use Rattle.sk_plain.specs.Names.{on_directory, named, look, link_to, linking, link, unlink_from, unlink}
+use Rattle.sk_plain.specs.Pipes.{on_pipe, put_in, put as pipe_put, take_none, take_out, shut}
+use Rattle.sk_plain.specs.Processes.{LEVEL_FOUR, LAST_CHILD, next_child, forked, parent_of, born, fork, signalled, kill, waited, wait, returned}
+use Rattle.sk_plain.specs.Replies.{from_copy, over_copy, good, fresh, stale}
+use Rattle.sk_plain.specs.Act.{row, private_or, does, handled, with_signals, with_input}
+use Rattle.sk_world.proofs.Each.{cons_cases, no_member}
+use Rattle.sk_client.proofs.Ends.{Ends}
+use Rattle.sk_client.proofs.Tidy.{elsewhere, IsTidy, IsPlace, IsNextChild, tidy_own, tidy_place, tidy_copy, tidy_birth}
+
+-- ---- what a step's writes keep, where it may write these copies
+
+pub record Keeps (can : List ℕ → Type 0) (pid : ℕ) (p : Process) (ws : List (Entity × Option EntityState)) : Type 0 where
+  pub processes : (c : ℕ) → Contains (map (λ w. w.0) ws) (Proc c) → (c ≡ pid) ⊎ IsNextChild pid p c
+  pub copies : (name : List ℕ) → Contains (map (λ w. w.0) ws) (Copy name) → can name
+  pub tidy : (s : State) → get s (Proc pid) ≡ Some (stored.Process p) → IsTidy s → IsTidy (put_all ws s)
+
+pub one_of_two : (a b x : Entity) → Contains (a ∷ b ∷ []) x → (a ≡ x) ⊎ (b ≡ x)
+one_of_two a b x h =
+    elim (cons_cases a (b ∷ []) x h) [
+      | inl is ↦ inl is
+      | inr more ↦ elim (cons_cases b [] x more) [ inl is ↦ inr is | inr none ↦ absurd (no_member x none) ]
+    ]
+
+pub only_one : (a x : Entity) → Contains (a ∷ []) x → a ≡ x
+only_one a x h = elim (cons_cases a [] x h) [ inl is ↦ is | inr none ↦ absurd (no_member x none) ]
+
+own_number : (pid c : ℕ) → Proc pid ≡ Proc c → c ≡ pid
+own_number pid c is = let same : pid ≡ c = cc in sym same
+
+module _ (can : List ℕ → Type 0) (pid : ℕ) (p : Process) where
+  pub Fine : StepTree → Type 0
+  Fine step = Ends (Keeps can pid p) step
+
+  pub ends_of : (step : StepTree) → Fine step → Ends (Keeps can pid p) step
+  unfolding Fine
+  ends_of step h = h
+
+  ask_fine : (e : Entity) (next : Option EntityState → StepTree) → ((v : Option EntityState) → Fine (next v)) → Fine (Ask e next)
+  unfolding Fine
+  ask_fine e next h = h
+
+  refuse_fine : (why : Refusal) → Fine (Refuse why)
+  unfolding Fine
+  refuse_fine why = tt
+
+  done_fine : (q : Process) (said : Option Saying) → q.children ≡ p.children → Fine (Done ((Proc pid, Some (stored.Process q)) ∷ []) said)
+  unfolding Fine
+  done_fine q said same = record {
+    processes = λ c is. inl (own_number pid c (only_one (Proc pid) (Proc c) is));
+    copies = λ name is. (let no_copy : Proc pid ≡ Copy name = only_one (Proc pid) (Copy name) is in cc);
+    tidy = λ s there h. tidy_own s pid p q there (omega arith) h;
+  }
+
+  alone_fine : (q : Process) → q.children ≡ p.children → Fine (alone pid q)
+  alone_fine q same = done_fine q None same
+
+  write_fine : (e : Entity) (v : Value) (q : Process) → IsPlace e → q.children ≡ p.children → Fine (with_write pid e v q)
+  unfolding Fine
+  write_fine e v q place same = record {
+    processes = λ c is. elim (one_of_two e (Proc pid) (Proc c) is) [ inl at ↦ absurd (subst IsPlace at place) | inr own ↦ inl (own_number pid c own) ];
+    copies = λ name is. elim (one_of_two e (Proc pid) (Copy name) is) [ inl at ↦ absurd (subst IsPlace at place) | inr own ↦ cc ];
+    tidy = λ s there h. tidy_own (put s e (Some (stored.Value v))) pid p q (elsewhere s e (Proc pid) (Some (stored.Value v)) (λ is. subst IsPlace (sym is) place) ∙ there) (omega arith)
+        (tidy_place s e (Some (stored.Value v)) place h);
+  }
+
+  copy_fine : (name : List ℕ) (c : ContentView) (q : Process) → can name → q.children ≡ p.children → Fine (with_write pid (Copy name) (values.Copy c) q)
+  unfolding Fine
+  copy_fine name c q may same = record {
+    processes = λ c is. elim (one_of_two (Copy name) (Proc pid) (Proc c) is) [ inl at ↦ cc | inr own ↦ inl (own_number pid c own) ];
+    copies = λ other is. elim (one_of_two (Copy name) (Proc pid) (Copy other) is) [ inl at ↦ (let one : name ≡ other = cc in subst can one may) | inr own ↦ cc ];
+    tidy = λ s there h. tidy_own (put s (Copy name) (Some (stored.Value (values.Copy c)))) pid p q (elsewhere s (Copy name) (Proc pid) (Some (stored.Value (values.Copy c))) (λ is. cc) ∙ there) (omega arith)
+        (tidy_copy s name c h);
+  }
+
+  born_fine : (child parent : Process) → IsNextChild pid p child.pid → parent.children ≡ p.children + 1 → Fine (born pid child parent)
+  unfolding Fine
+  born_fine child parent next count = record {
+    processes = λ c is. elim (cons_cases (Proc child.pid) (Sig child.pid ∷ Exit child.pid ∷ Proc pid ∷ []) (Proc c) is) [
+      | inl its ↦ inr (subst (IsNextChild pid p) (let one : child.pid ≡ c = cc in one) next)
+      | inr more ↦ elim (cons_cases (Sig child.pid) (Exit child.pid ∷ Proc pid ∷ []) (Proc c) more) [
+        | inl its ↦ cc
+        | inr rest ↦ elim (one_of_two (Exit child.pid) (Proc pid) (Proc c) rest) [ inl its ↦ cc | inr own ↦ inl (own_number pid c own) ]
+      ]
+    ];
+    copies = λ name is. elim (cons_cases (Proc child.pid) (Sig child.pid ∷ Exit child.pid ∷ Proc pid ∷ []) (Copy name) is) [
+      | inl its ↦ cc
+      | inr more ↦ elim (cons_cases (Sig child.pid) (Exit child.pid ∷ Proc pid ∷ []) (Copy name) more) [
+        | inl its ↦ cc
+        | inr rest ↦ elim (one_of_two (Exit child.pid) (Proc pid) (Copy name) rest) [ inl its ↦ cc | inr own ↦ cc ]
+      ]
+    ];
+    tidy = λ s there h. tidy_birth s pid p child parent there next count h;
+  }
+
+  if_fine : (a b : StepTree) (t : Bool) → Fine a → Fine b → Fine (cond t a b)
+  if_fine a b true h k = h
+  if_fine a b false h k = k
+
+  -- ---- what a row asks first
+
+  object_fine : (row : ObjId → Option EntityState → StepTree) (o : Option ObjId) → ((o : ObjId) (v : Option EntityState) → Fine (row o v)) → Fine (on_object pid p row o)
+  object_fine row (Some o) h = ask_fine (Obj o) (row o) (h o)
+  object_fine row None h = alone_fine _ refl
+
+  number_fine : (row : ℕ → StepTree) (n : Option ℕ) → ((n : ℕ) → Fine (row n)) → Fine (on_number pid p row n)
+  number_fine row (Some n) h = h n
+  number_fine row None h = alone_fine _ refl
+
+  file_fine : (row : List ℕ → StepTree) (v : Option EntityState) → ((bytes : List ℕ) → Fine (row bytes)) → Fine (on_file pid p row v)
+  file_fine row (Some (stored.Value (values.File bytes))) h = h bytes
+  file_fine row v h = alone_fine _ refl
+
+  directory_fine : (row : List Link → StepTree) (v : Option EntityState) → ((links : List Link) → Fine (row links)) → Fine (on_directory pid p row v)
+  directory_fine row (Some (stored.Value (values.Dir links))) h = h links
+  directory_fine row v h = alone_fine _ refl
+
+  pipe_fine : (row : PipeView → StepTree) (v : Option EntityState) → ((held : PipeView) → Fine (row held)) → Fine (on_pipe pid p row v)
+  pipe_fine row (Some (stored.Value (values.Pipe held))) h = h held
+  pipe_fine row v h = alone_fine _ refl
+
+  -- ---- files
+
+  made_fine : (r : ℕ) (kind : Kind) → Fine (made pid p r kind)
+  made_fine r kind = if_fine _ _ _ (write_fine _ _ _ tt refl) (alone_fine _ refl)
+
+  size_fine : (o : Option ObjId) → Fine (size pid p o)
+  size_fine o = object_fine _ o (λ o v. file_fine _ v (λ bytes. alone_fine _ refl))
+
+  write_row_fine : (o : Option ObjId) (n : Option ℕ) → Fine (write pid p o n)
+  write_row_fine o n = object_fine _ o (λ o v. file_fine _ v (λ bytes. number_fine _ n (λ n.
+      if_fine _ _ _ (if_fine _ _ _ (alone_fine _ refl) (write_fine _ _ _ tt refl)) (alone_fine _ refl))))
+
+  read_fine : (o : Option ObjId) (n : Option ℕ) → Fine (read pid p o n)
+  read_fine o n = object_fine _ o (λ o v. file_fine _ v (λ bytes. number_fine _ n (λ n. alone_fine _ refl)))
+
+  cut_fine : (o : Option ObjId) (n : Option ℕ) → Fine (cut pid p o n)
+  cut_fine o n = object_fine _ o (λ o v. file_fine _ v (λ bytes. number_fine _ n (λ n.
+      if_fine _ _ _ (if_fine _ _ _ (alone_fine _ refl) (write_fine _ _ _ tt refl)) (alone_fine _ refl))))
+
+  -- ---- directories
+
+  named_fine : (r : ℕ) (o : Option ObjId) → Fine (named pid p r o)
+  named_fine r (Some o) = alone_fine _ refl
+  named_fine r None = alone_fine _ refl
+
+  look_fine : (r : ℕ) (d : Option ObjId) (name : List ℕ) → Fine (look pid p r d name)
+  look_fine r d name = object_fine _ d (λ d v. directory_fine _ v (λ links. named_fine r (looked_up links name)))
+
+  link_to_fine : (d : ObjId) (links : List Link) (name : List ℕ) (object : ObjId) (linked : Option ObjId) → Fine (link_to pid p d links name object linked)
+  link_to_fine d links name object (Some linked) = alone_fine _ refl
+  link_to_fine d links name object None = if_fine _ _ _ (write_fine _ _ _ tt refl) (alone_fine _ refl)
+
+  linking_fine : (d : ObjId) (name : List ℕ) (object : Option ObjId) (v : Option EntityState) → Fine (linking pid p d name object v)
+  linking_fine d name (Some object) v = directory_fine _ v (λ links. link_to_fine d links name object (looked_up links name))
+  linking_fine d name None v = alone_fine _ refl
+
+  link_fine : (d : Option ObjId) (name : List ℕ) (object : Option ObjId) → Fine (link pid p d name object)
+  link_fine d name object = object_fine _ d (λ d v. linking_fine d name object v)
+
+  unlink_from_fine : (d : ObjId) (links : List Link) (name : List ℕ) (linked : Option ObjId) → Fine (unlink_from pid p d links name linked)
+  unlink_from_fine d links name (Some linked) = write_fine _ _ _ tt refl
+  unlink_from_fine d links name None = alone_fine _ refl
+
+  unlink_fine : (d : Option ObjId) (name : List ℕ) → Fine (unlink pid p d name)
+  unlink_fine d name = object_fine _ d (λ d v. directory_fine _ v (λ links. unlink_from_fine d links name (looked_up links name)))
+
+  -- ---- pipes
+
+  put_in_fine : (o : ObjId) (held : PipeView) → Fine (put_in pid p o held)
+  put_in_fine o held =
+      if_fine _ _ held.shut (alone_fine _ refl) (if_fine _ _ (length p.buffer == 0) (alone_fine _ refl)
+      (if_fine _ _ (nat_le (length held.bytes + length p.buffer) PIPE_LIMIT) (write_fine (Obj o) _ _ tt refl) (refuse_fine _)))
+
+  put_fine : (o : Option ObjId) → Fine (pipe_put pid p o)
+  put_fine o = object_fine _ o (λ o v. pipe_fine _ v (λ held. put_in_fine o held))
+
+  take_none_fine : (shut : Bool) → Fine (take_none pid p shut)
+  take_none_fine true = alone_fine _ refl
+  take_none_fine false = refuse_fine _
+
+  take_fine : (o : Option ObjId) (n : Option ℕ) → Fine (take_out pid p o n)
+  take_fine o n = object_fine _ o (λ o v. pipe_fine _ v (λ held. number_fine _ n (λ n. if_fine _ _ _ (take_none_fine held.shut) (write_fine _ _ _ tt refl))))
+
+  shut_fine : (o : Option ObjId) → Fine (shut pid p o)
+  shut_fine o = object_fine _ o (λ o v. pipe_fine _ v (λ held. if_fine _ _ _ (alone_fine _ refl) (write_fine _ _ _ tt refl)))
+
+  -- ---- processes
+
+  returned_same : (o : Option ℕ) → (returned p o).children ≡ p.children
+  returned_same (Some place) = refl
+  returned_same None = refl
+
+  signalled_fine : (who n : ℕ) (v : Option EntityState) → Fine (signalled pid p who n v)
+  signalled_fine who n (Some (stored.Value (values.Signals queue))) = if_fine _ _ _ (write_fine _ _ _ tt refl) (alone_fine _ refl)
+  signalled_fine who n v = alone_fine _ refl
+
+  kill_fine : (who n : Option ℕ) → Fine (kill pid p who n)
+  kill_fine (Some who) n = number_fine _ n (λ n. ask_fine _ _ (λ v. signalled_fine who n v))
+  kill_fine None n = alone_fine _ refl
+
+  fork_fine : (r place : ℕ) → Fine (fork pid p r place)
+  fork_fine r place =
+      elim (nat_lt pid LEVEL_FOUR && nat_lt p.children LAST_CHILD) as (λ t. (nat_lt pid LEVEL_FOUR && nat_lt p.children LAST_CHILD) ≡ t → Fine (cond t (born pid (forked p (next_child pid p) place) (parent_of pid p r)) (alone pid (failed p Again)))) [
+        | true ↦ λ is. born_fine (forked p (next_child pid p) place) (parent_of pid p r) (refl, leb-true (suc p.children) LAST_CHILD (and_both (nat_lt pid LEVEL_FOUR) (nat_lt p.children LAST_CHILD) is).1) refl
+        | false ↦ λ _. alone_fine _ refl
+      ] refl
+
+  waited_fine : (r : ℕ) (v : Option EntityState) → Fine (waited pid p r v)
+  waited_fine r (Some (stored.Value (values.Exit (Some status)))) = alone_fine _ refl
+  waited_fine r (Some (stored.Value (values.Exit None))) = refuse_fine _
+  waited_fine r v = alone_fine _ refl
+
+  wait_fine : (r : ℕ) (who : Option ℕ) → Fine (wait pid p r who)
+  wait_fine r (Some who) = if_fine _ _ _ (ask_fine _ _ (λ v. waited_fine r v)) (alone_fine _ refl)
+  wait_fine r None = alone_fine _ refl
+
+  -- ---- the table
+
+  row_fine : (i : Instruction) → Fine (row pid p i)
+  row_fine (does_.Handler place) = alone_fine _ refl
+  row_fine does_.Return = alone_fine _ (returned_same p.saved)
+  row_fine does_.Say = done_fine _ _ refl
+  row_fine (does_.MakeFile r) = made_fine r kinds.File
+  row_fine (does_.MakeDir r) = made_fine r kinds.Dir
+  row_fine (does_.MakePipe r) = made_fine r kinds.Pipe
+  row_fine (does_.Look r d name) = look_fine r (object_in (held p.registers d)) name
+  row_fine (does_.Link d name r) = link_fine (object_in (held p.registers d)) name (object_in (held p.registers r))
+  row_fine (does_.Unlink d name) = unlink_fine (object_in (held p.registers d)) name
+  row_fine (does_.Size f) = size_fine (object_in (held p.registers f))
+  row_fine (does_.Write f at) = write_row_fine (object_in (held p.registers f)) (number_in (held p.registers at))
+  row_fine (does_.Read f at) = read_fine (object_in (held p.registers f)) (number_in (held p.registers at))
+  row_fine (does_.Cut f n) = cut_fine (object_in (held p.registers f)) (number_in (held p.registers n))
+  row_fine (does_.Put q) = put_fine (object_in (held p.registers q))
+  row_fine (does_.Take q n) = take_fine (object_in (held p.registers q)) (number_to TEXT_LIMIT (held p.registers n))
+  row_fine (does_.Shut q) = shut_fine (object_in (held p.registers q))
+  row_fine (does_.Fork r place) = fork_fine r place
+  row_fine (does_.Wait r w) = wait_fine r (who_in (held p.registers w))
+  row_fine (does_.Kill w n) = kill_fine (who_in (held p.registers w)) (number_to LAST_SIGNAL (held p.registers n))
+  row_fine (does_.Exit r) = write_fine _ _ _ tt refl
+  row_fine (does_.Fetch name) = refuse_fine _
+  row_fine (does_.Store name) = refuse_fine _
+  row_fine i = alone_fine _ refl
+
+  -- a private instruction changes no count
+  abbrev IsKept : Option Process → Type 0
+  IsKept (Some q) = q.children ≡ p.children
+  IsKept None = Unit {0}
+
+  at_place_same : (t : Bool) (place : ℕ) → (at_place_if t p place).children ≡ p.children
+  at_place_same true place = refl
+  at_place_same false place = refl
+
+  number_same : (r : ℕ) (n : Option ℤ) → (number_given p r n).children ≡ p.children
+  number_same r (Some n) = refl
+  number_same r None = refl
+
+  process_same : (r : ℕ) (q : Option ℕ) → (process_given p r q).children ≡ p.children
+  process_same r (Some q) = refl
+  process_same r None = refl
+
+  private_same : (i : Instruction) → IsKept (private_step p i)
+  private_same (does_.Set r n) = refl
+  private_same (does_.Move to from) = refl
+  private_same (does_.Add to from) = number_same to (sum_in p to from)
+  private_same (does_.Text text) = refl
+  private_same (does_.Len r) = refl
+  private_same (does_.SelfPid r) = refl
+  private_same (does_.BootPid r n) = process_same r (boot_pid n)
+  private_same (does_.Jump place) = refl
+  private_same (does_.Zero r place) = at_place_same (is_zero (held p.registers r)) place
+  private_same (does_.Negative r place) = at_place_same (is_negative (held p.registers r)) place
+  private_same i = tt
+
+  private_fine : (o : Option Process) (other : StepTree) → IsKept o → Fine other → Fine (private_or pid o other)
+  private_fine (Some q) other same h = alone_fine q same
+  private_fine None other same h = h
+
+  does_fine : (i : Option Instruction) → Fine (does pid p i)
+  does_fine (Some i) = private_fine (private_step p i) (row pid p i) (private_same i) (row_fine i)
+  does_fine None = write_fine _ _ _ tt refl
+
+  handled_fine : (i : Option Instruction) (queue : List ℕ) (handler saved : Option ℕ) → Fine (handled pid p i queue handler saved)
+  handled_fine i (n ∷ ns) (Some handler) None = write_fine _ _ _ tt refl
+  handled_fine i (n ∷ ns) (Some handler) (Some place) = does_fine i
+  handled_fine i (n ∷ ns) None saved = does_fine i
+  handled_fine i [] handler saved = does_fine i
+
+  signals_fine : (i : Option Instruction) (v : Option EntityState) → Fine (with_signals pid p i v)
+  signals_fine i (Some (stored.Value (values.Signals queue))) = if_fine _ _ _ (write_fine _ _ _ tt refl) (handled_fine i queue p.handler p.saved)
+  signals_fine i v = does_fine i
+
+-- ---- steps with an input
+
+-- a fetch or a store of this name
+abbrev pub IsOf : Option Instruction → List ℕ → Type 0
+IsOf i name = (i ≡ Some (does_.Fetch name)) ⊎ (i ≡ Some (does_.Store name))
+
+-- the copies that a step with this input may write
+abbrev pub CanWrite : Input → Option Instruction → List ℕ → Type 0
+CanWrite inputs.None i name = ⊥
+CanWrite inputs.Good i name = IsOf i name
+CanWrite (inputs.Fresh c) i name = IsOf i name
+CanWrite (inputs.Stale c) i name = IsOf i name
+
+from_fine : (can : List ℕ → Type 0) (pid : ℕ) (p : Process) (v : Option EntityState) → Fine can pid p (from_copy pid p v)
+from_fine can pid p (Some (stored.Value (values.Copy c))) = alone_fine can pid p _ refl
+from_fine can pid p v = refuse_fine can pid p _
+
+over_fine : (can : List ℕ → Type 0) (pid : ℕ) (p : Process) (name : List ℕ) (v : Option EntityState) → can name → Fine can pid p (over_copy pid p name v)
+over_fine can pid p name None may = copy_fine can pid p name _ _ may refl
+over_fine can pid p name (Some (stored.Value (values.Copy c))) may = if_fine can pid p _ _ _ (copy_fine can pid p name _ _ may refl) (refuse_fine can pid p _)
+over_fine can pid p name v may = refuse_fine can pid p _
+
+good_fine : (pid : ℕ) (p : Process) (i : Option Instruction) → Fine (IsOf i) pid p (good pid p i)
+good_fine pid p (Some (does_.Fetch name)) = ask_fine _ _ _ _ _ (λ v. from_fine (IsOf (Some (does_.Fetch name))) pid p v)
+good_fine pid p (Some (does_.Store name)) = ask_fine _ _ _ _ _ (λ v. over_fine (IsOf (Some (does_.Store name))) pid p name v (inr refl))
+good_fine pid p i = refuse_fine _ _ _ _
+
+fresh_fine : (pid : ℕ) (p : Process) (c : ContentView) (i : Option Instruction) → Fine (IsOf i) pid p (fresh pid p c i)
+fresh_fine pid p c (Some (does_.Fetch name)) = copy_fine (IsOf (Some (does_.Fetch name))) pid p name c _ (inl refl) refl
+fresh_fine pid p c i = refuse_fine _ _ _ _
+
+stale_fine : (pid : ℕ) (p : Process) (c : ContentView) (i : Option Instruction) → Fine (IsOf i) pid p (stale pid p c i)
+stale_fine pid p c (Some (does_.Store name)) = copy_fine (IsOf (Some (does_.Store name))) pid p name c _ (inr refl) refl
+stale_fine pid p c i = refuse_fine _ _ _ _
+
+pub input_fine : (pid : ℕ) (p : Process) (i : Option Instruction) (x : Input) → Fine (CanWrite x i) pid p (with_input pid p i x)
+input_fine pid p i inputs.None = ask_fine _ _ _ _ _ (λ v. signals_fine (CanWrite inputs.None i) pid p i v)
+input_fine pid p i inputs.Good = good_fine pid p i
+input_fine pid p i (inputs.Fresh c) = fresh_fine pid p c i
+input_fine pid p i (inputs.Stale c) = stale_fine pid p c i

@@ -1,0 +1,70 @@
+//! What holds of a kernel with its desk and a server, after every list of turns, replies and foreign edits: the laws of
+//! worlds at the kernel's table of instructions. Each law is the contract of a function that does nothing.
+ghost use Rattle.std.specs.Prelude.{◌≡◌, ℕ, List};
+ghost use Rattle.sk_record.specs.Trace.{Event};
+ghost use Rattle.sk_script.specs.Boot.{BootView};
+ghost use Rattle.sk_store.specs.State.{State};
+ghost use Rattle.sk_store.specs.Start.{start_of};
+ghost use Rattle.sk_plain.specs.Act.{Scripts, plain};
+ghost use Rattle.sk_world.specs.Requests.{Content};
+ghost use Rattle.sk_world.specs.World.{kernel};
+ghost use Rattle.sk_world.specs.Labels.{labelled, IsBare};
+ghost use Rattle.sk_world.specs.Laws.{IsFirst, AcceptedStand, AcceptedStood};
+ghost use Rattle.sk_world.specs.Laws.{FilesAreChanged, StoresAreReplied, PlacesAreKept};
+ghost use Rattle.sk_client.specs.Table.{Bytes, Caused, table, bare, begun, IsNumbered};
+
+use sk_script::{Boot, BootProcess};
+
+/// The step of each store that the server accepted stands in the kernel's record ever after: from its guess on, or from
+/// its reply on where it was asked. The server's files are the plain server's after the foreign edits and just those
+/// stores, in its order.
+pub fn stores()
+    ensures stand { (boot : BootView) (limit : ℕ) → IsNumbered boot
+        → AcceptedStand (table boot.scripts limit) (start_of boot) }
+    ensures stood { (boot : BootView) (limit : ℕ) → IsNumbered boot
+        → AcceptedStood (table boot.scripts limit) (start_of boot) }
+    ensures files { (boot : BootView) (limit : ℕ) → IsNumbered boot
+        → FilesAreChanged (table boot.scripts limit) (start_of boot) }
+{}
+
+/// The steps with Good that were asked or whose guess committed, and the accepted requests whose reply was given, are one
+/// for one. Such a step sets its copy just where its request is a store.
+pub fn replied()
+    ensures { (boot : BootView) (limit : ℕ) → IsNumbered boot
+        → StoresAreReplied (table boot.scripts limit) (start_of boot) }
+{}
+
+/// The trace keeps its limit, with a place for each decision to come and for the step of each request that was asked.
+pub fn places()
+    ensures { (boot : BootView) (limit : ℕ) → IsNumbered boot
+        → PlacesAreKept (table boot.scripts limit) (start_of boot) }
+{}
+
+/// The kernel of a world is the plain kernel: at a trace whose entries are bare of their causes it has the same record,
+/// state, steps and undecided guesses.
+pub fn kernels()
+    ensures same { (scripts : Scripts) (limit : ℕ) → kernel (table scripts limit) ≡ labelled bare (plain scripts) }
+    ensures bare { (scripts : Scripts) (start : State) (es : List (Event Caused)) → IsBare bare (plain scripts) start es }
+{}
+
+/// A world of a kernel that was just booted is a first one, whatever files the server has.
+pub fn begins()
+    ensures { (boot : BootView) (limit : ℕ) (files : Bytes → Content Bytes)
+        → IsFirst (table boot.scripts limit) (start_of boot) (begun files) }
+{}
+
+/// The numbers of a boot's processes are as the laws ask.
+pub fn numbered(boot: &Boot)
+    ensures { IsNumbered boot.now }
+{
+    for process in boot.processes() {
+        number_of(process);
+    }
+}
+
+/// The number of a process.
+fn number_of(process: &BootProcess) -> u16
+    ensures value { result ≡ process.now.number }
+{
+    process.number
+}

@@ -1,0 +1,4 @@
+//! The client side: a desk that asks a server for the kernel's processes.
+#![tactic(auto)]
+
+pub mod laws;

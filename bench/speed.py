@@ -22,6 +22,8 @@ import tempfile
 TOP = os.path.dirname(os.path.dirname(os.path.abspath(__file__)))
 OPEN = 63
 LOOSE = 1.25
+# A decision looks at each other open guess, of which there are 63 at most.
+BESIDE_OPEN = 1.5
 
 
 def spent():
@@ -195,7 +197,8 @@ def held_rows(meter):
             lines = 3 if decision == "commit" else 2
             cost = lambda amount: meter.each(lambda n: held_rounds(n, decision, held, amount), 100, 200, lines)
             amount = 62 if held == "open guesses" else 1000
-            yield f"guess and {decision}: {amount} {held} held / none", cost(amount), cost(0), LOOSE
+            limit = BESIDE_OPEN if held == "open guesses" else LOOSE
+            yield f"guess and {decision}: {amount} {held} held / none", cost(amount), cost(0), limit
 
 
 def nested(count, decision, kind):

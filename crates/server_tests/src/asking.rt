@@ -60,7 +60,7 @@ pub fn request(alloc: Global, number: u64, ask: Ask, ground: Ground<'_>) -> Resu
     Ok(Request {
         number,
         rests,
-        settled: guess(ground.settled)?,
+        settled: ground.settled,
         guess: made_with,
         ask,
     })

@@ -7,3 +7,5 @@ mod ample;
 mod asking;
 #[cfg(test)]
 mod server;
+#[cfg(test)]
+mod turns;

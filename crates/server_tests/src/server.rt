@@ -1,254 +1,184 @@
 //! Each row of the server's table, requests out of turn, and edits.
-use crate::asking::{Ground, LOOSE, asked, content, name, request, text, with_file};
+ghost use Rattle.std.specs.Prelude.{◌≡◌, OnOk};
+
+use crate::asking::{Ground, LOOSE, content, name};
+use crate::turns::{Told, Turn, Wish, holds, starts};
+use sk_ids::Name;
 use sk_objects::content::LAST_VERSION;
-use sk_server::{Answer, Ask, EditRefusal, LAST_REQUEST, Server, ServerRefusal};
+use sk_server::{EditRefusal, LAST_REQUEST, Server};
+use std::alloc::Global;
 use std::test::Fail;
+
+/// A request that rests on these guesses, where all before the first guess are settled.
+fn resting(rests: &[u64], guess: Option<u64>) -> Ground<'_> {
+    Ground {
+        rests,
+        settled: 1,
+        guess,
+    }
+}
 
 #[test]
 fn get_copies(rt: HostRuntime) -> Result<(), Fail> {
-    let mut server = with_file(rt.alloc(), b"/x", content(3, b"old")?)?;
-    let get = |at: &[u8]| -> Result<Ask, Fail> { Ok(Ask::Get(name(at)?)) };
-    let there = asked(rt.alloc(), &mut server, get(b"/x")?, LOOSE)?;
-    assert_eq!(rt; there, Answer::Copy(content(3, b"old")?));
-    let absent = asked(rt.alloc(), &mut server, get(b"/y")?, LOOSE)?;
-    assert_eq!(rt; absent, Answer::Copy(content(0, b"")?));
-    assert_eq!(rt; server.file(&name(b"/y")?).is_none(), true);
-    assert_eq!(rt; server.next(), 3);
-    Ok(())
+    let turns = [
+        Turn::Asks(Wish::Get(b"/x"), LOOSE, Told::Copy(3, b"old")),
+        Turn::Asks(Wish::Get(b"/y"), LOOSE, Told::Copy(0, b"")),
+        Turn::Lacks(b"/y"),
+        Turn::Next(3),
+    ];
+    starts(&rt, rt.alloc(), 3, b"old", &turns)
 }
 
 #[test]
 fn check_compares_versions(rt: HostRuntime) -> Result<(), Fail> {
-    let mut server = with_file(rt.alloc(), b"/x", content(3, b"old")?)?;
-    let table = [
-        (3, Answer::Yes),
-        (2, Answer::No(content(3, b"old")?)),
-        (4, Answer::No(content(3, b"old")?)),
+    let turns = [
+        Turn::Asks(Wish::Check(b"/x", 3), LOOSE, Told::Yes),
+        Turn::Asks(Wish::Check(b"/x", 2), LOOSE, Told::No(3, b"old")),
+        Turn::Asks(Wish::Check(b"/x", 4), LOOSE, Told::No(3, b"old")),
+        Turn::Asks(Wish::Check(b"/y", 0), LOOSE, Told::Yes),
     ];
-    for (version, answer) in table {
-        let ask = Ask::Check(name(b"/x")?, version);
-        assert_eq!(rt; asked(rt.alloc(), &mut server, ask, LOOSE)?, answer);
-    }
-    let ask = Ask::Check(name(b"/y")?, 0);
-    assert_eq!(rt; asked(rt.alloc(), &mut server, ask, LOOSE)?, Answer::Yes);
-    Ok(())
+    starts(&rt, rt.alloc(), 3, b"old", &turns)
 }
 
 #[test]
 fn store_writes_where_the_version_fits(rt: HostRuntime) -> Result<(), Fail> {
-    let mut server = with_file(rt.alloc(), b"/x", content(3, b"old")?)?;
-    let store = |version: u64| -> Result<Ask, Fail> {
-        Ok(Ask::Store(name(b"/x")?, version, text(b"new")?))
-    };
-    let stale = asked(rt.alloc(), &mut server, store(2)?, LOOSE)?;
-    assert_eq!(rt; stale, Answer::No(content(3, b"old")?));
-    assert_eq!(rt;
-        server.file(&name(b"/x")?).copied(),
-        Some(content(3, b"old")?)
-    );
-    let fitting = asked(rt.alloc(), &mut server, store(3)?, LOOSE)?;
-    assert_eq!(rt; fitting, Answer::Yes);
-    assert_eq!(rt;
-        server.file(&name(b"/x")?).copied(),
-        Some(content(4, b"new")?)
-    );
-    let again = asked(rt.alloc(), &mut server, store(3)?, LOOSE)?;
-    assert_eq!(rt; again, Answer::No(content(4, b"new")?));
-    Ok(())
+    let turns = [
+        Turn::Asks(Wish::Store(b"/x", 2, b"new"), LOOSE, Told::No(3, b"old")),
+        Turn::Holds(b"/x", 3, b"old"),
+        Turn::Asks(Wish::Store(b"/x", 3, b"new"), LOOSE, Told::Yes),
+        Turn::Holds(b"/x", 4, b"new"),
+        Turn::Asks(Wish::Store(b"/x", 3, b"new"), LOOSE, Told::No(4, b"new")),
+    ];
+    starts(&rt, rt.alloc(), 3, b"old", &turns)
 }
 
 #[test]
 fn last_version_is_kept(rt: HostRuntime) -> Result<(), Fail> {
-    let last = content(LAST_VERSION, b"m")?;
-    let mut server = with_file(rt.alloc(), b"/x", last)?;
-    let ask = Ask::Store(name(b"/x")?, LAST_VERSION, text(b"n")?);
-    assert_eq!(rt;
-        asked(rt.alloc(), &mut server, ask, LOOSE)?,
-        Answer::No(last)
-    );
-    assert_eq!(rt;
-        server.edit(name(b"/x")?, LAST_VERSION, text(b"n")?),
-        Err(EditRefusal::Version(LAST_VERSION))
-    );
-    assert_eq!(rt; server.file(&name(b"/x")?).copied(), Some(last));
-    Ok(())
+    let store = Wish::Store(b"/x", LAST_VERSION, b"n");
+    let refusal = EditRefusal::Version(LAST_VERSION);
+    let turns = [
+        Turn::Asks(store, LOOSE, Told::No(LAST_VERSION, b"m")),
+        Turn::Edits(b"/x", LAST_VERSION, b"n", Err(refusal)),
+        Turn::Holds(b"/x", LAST_VERSION, b"m"),
+    ];
+    starts(&rt, rt.alloc(), LAST_VERSION, b"m", &turns)
 }
 
 #[test]
 fn stale_store_dropped(rt: HostRuntime) -> Result<(), Fail> {
-    let mut server = with_file(rt.alloc(), b"/x", content(3, b"old")?)?;
-    assert_eq!(rt; server.edit(name(b"/x")?, 3, text(b"foreign")?), Ok(4));
-    let foreign = content(4, b"foreign")?;
-    let check = asked(
-        rt.alloc(),
-        &mut server,
-        Ask::Check(name(b"/x")?, 3),
-        Ground {
-            rests: &[],
-            settled: 1,
-            guess: Some(1),
-        },
-    )?;
-    assert_eq!(rt; check, Answer::No(foreign));
-    let store = asked(
-        rt.alloc(),
-        &mut server,
-        Ask::Store(name(b"/x")?, 3, text(b"new")?),
-        Ground {
-            rests: &[1],
-            settled: 1,
-            guess: Some(2),
-        },
-    )?;
-    assert_eq!(rt; store, Answer::Dropped);
-    assert_eq!(rt; server.file(&name(b"/x")?).copied(), Some(foreign));
-    Ok(())
+    let check = Wish::Check(b"/x", 3);
+    let store = Wish::Store(b"/x", 3, b"new");
+    let turns = [
+        Turn::Edits(b"/x", 3, b"foreign", Ok(4)),
+        Turn::Asks(check, resting(&[], Some(1)), Told::No(4, b"foreign")),
+        Turn::Asks(store, resting(&[1], Some(2)), Told::Dropped),
+        Turn::Holds(b"/x", 4, b"foreign"),
+    ];
+    starts(&rt, rt.alloc(), 3, b"old", &turns)
 }
 
 #[test]
 fn dropped_guess_is_remembered(rt: HostRuntime) -> Result<(), Fail> {
-    let mut server = with_file(rt.alloc(), b"/x", content(3, b"old")?)?;
-    let table = [
-        (
-            Ask::Check(name(b"/x")?, 2),
-            &[][..],
-            Some(1),
-            Answer::No(content(3, b"old")?),
-        ),
-        (
-            Ask::Check(name(b"/x")?, 3),
-            &[1][..],
-            Some(2),
-            Answer::Dropped,
-        ),
-        (Ask::Get(name(b"/x")?), &[2][..], None, Answer::Dropped),
-        (
-            Ask::Store(name(b"/x")?, 3, text(b"n")?),
-            &[2][..],
-            None,
-            Answer::Dropped,
-        ),
-        (Ask::Check(name(b"/x")?, 3), &[3][..], Some(4), Answer::Yes),
-        (
-            Ask::Store(name(b"/x")?, 3, text(b"n")?),
-            &[4][..],
-            None,
-            Answer::Yes,
-        ),
+    let stale = Wish::Check(b"/x", 2);
+    let check = Wish::Check(b"/x", 3);
+    let store = Wish::Store(b"/x", 3, b"n");
+    let turns = [
+        Turn::Asks(stale, resting(&[], Some(1)), Told::No(3, b"old")),
+        Turn::Asks(check, resting(&[1], Some(2)), Told::Dropped),
+        Turn::Asks(Wish::Get(b"/x"), resting(&[2], None), Told::Dropped),
+        Turn::Asks(store, resting(&[2], None), Told::Dropped),
+        Turn::Asks(check, resting(&[3], Some(4)), Told::Yes),
+        Turn::Asks(store, resting(&[4], None), Told::Yes),
+        Turn::Holds(b"/x", 4, b"n"),
     ];
-    for (ask, rests, guess, answer) in table {
-        let ground = Ground {
-            rests,
-            settled: 1,
-            guess,
-        };
-        assert_eq!(rt; asked(rt.alloc(), &mut server, ask, ground)?, answer);
-    }
-    assert_eq!(rt;
-        server.file(&name(b"/x")?).copied(),
-        Some(content(4, b"n")?)
-    );
-    Ok(())
+    starts(&rt, rt.alloc(), 3, b"old", &turns)
 }
 
-#[test]
-fn settled_forgets(rt: HostRuntime) -> Result<(), Fail> {
+/// The guess 5 is refused, and then a store rests on it.
+fn refused(settled: u64, told: Told<'_>) -> [Turn<'_>; 2] {
     let refused = Ground {
         rests: &[],
         settled: 5,
         guess: Some(5),
     };
-    for (settled, answer) in [(5, Answer::Dropped), (6, Answer::Yes)] {
-        let mut server = with_file(rt.alloc(), b"/x", content(3, b"old")?)?;
-        let check = asked(
-            rt.alloc(),
-            &mut server,
-            Ask::Check(name(b"/x")?, 2),
-            refused,
-        )?;
-        assert_eq!(rt; check, Answer::No(content(3, b"old")?));
-        let store = Ask::Store(name(b"/x")?, 3, text(b"n")?);
-        let ground = Ground {
-            rests: &[5],
-            settled,
-            guess: None,
-        };
-        assert_eq!(rt; asked(rt.alloc(), &mut server, store, ground)?, answer);
-        if settled == 6 {
-            assert_eq!(rt;
-                server.file(&name(b"/x")?).copied(),
-                Some(content(4, b"n")?)
-            );
-            let later = Ground {
-                rests: &[5],
-                settled: 1,
-                guess: None,
-            };
-            let check = asked(rt.alloc(), &mut server, Ask::Check(name(b"/x")?, 4), later)?;
-            assert_eq!(rt; check, Answer::Yes);
-        }
-    }
-    Ok(())
+    let later = Ground {
+        rests: &[5],
+        settled,
+        guess: None,
+    };
+    [
+        Turn::Asks(Wish::Check(b"/x", 2), refused, Told::No(3, b"old")),
+        Turn::Asks(Wish::Store(b"/x", 3, b"n"), later, told),
+    ]
+}
+
+#[test]
+fn settled_forgets(rt: HostRuntime) -> Result<(), Fail> {
+    let [stale, dropped] = refused(5, Told::Dropped);
+    starts(&rt, rt.alloc(), 3, b"old", &[stale, dropped])?;
+    let [stale, stored] = refused(6, Told::Yes);
+    let check = Wish::Check(b"/x", 4);
+    let turns = [
+        stale,
+        stored,
+        Turn::Holds(b"/x", 4, b"n"),
+        Turn::Asks(check, resting(&[5], None), Told::Yes),
+    ];
+    starts(&rt, rt.alloc(), 3, b"old", &turns)
 }
 
 #[test]
 fn out_of_turn(rt: HostRuntime) -> Result<(), Fail> {
-    let mut server = with_file(rt.alloc(), b"/x", content(3, b"old")?)?;
-    for number in [5, 0, 2, LAST_REQUEST, u64::MAX] {
-        let early = request(rt.alloc(), number, Ask::Get(name(b"/x")?), LOOSE)?;
-        match server.answer(early) {
-            Ok(reply) => panic!(rt; "answered: {reply:?}"),
-            Err((back, refusal)) => {
-                assert_eq!(rt; refusal, ServerRefusal::OutOfTurn { expected: 1 });
-                assert_eq!(rt; back.number, number);
-            }
-        }
-    }
-    assert_eq!(rt; server.next(), 1);
-    let first = asked(rt.alloc(), &mut server, Ask::Get(name(b"/x")?), LOOSE)?;
-    assert_eq!(rt; first, Answer::Copy(content(3, b"old")?));
-    Ok(())
+    let turns = [
+        Turn::Early(5, 1),
+        Turn::Early(0, 1),
+        Turn::Early(2, 1),
+        Turn::Early(LAST_REQUEST, 1),
+        Turn::Early(u64::MAX, 1),
+        Turn::Next(1),
+        Turn::Asks(Wish::Get(b"/x"), LOOSE, Told::Copy(3, b"old")),
+    ];
+    starts(&rt, rt.alloc(), 3, b"old", &turns)
 }
 
 #[test]
 fn edits(rt: HostRuntime) -> Result<(), Fail> {
-    let mut server = with_file(rt.alloc(), b"/x", content(3, b"old")?)?;
-    assert_eq!(rt;
-        server.edit(name(b"/x")?, 2, text(b"n")?),
-        Err(EditRefusal::Version(3))
-    );
-    assert_eq!(rt; server.edit(name(b"/x")?, 3, text(b"n")?), Ok(4));
-    assert_eq!(rt;
-        server.edit(name(b"/y")?, 1, text(b"n")?),
-        Err(EditRefusal::Version(0))
-    );
-    assert_eq!(rt; server.edit(name(b"/y")?, 0, text(b"y")?), Ok(1));
-    assert_eq!(rt;
-        server.file(&name(b"/x")?).copied(),
-        Some(content(4, b"n")?)
-    );
-    assert_eq!(rt;
-        server.file(&name(b"/y")?).copied(),
-        Some(content(1, b"y")?)
-    );
-    Ok(())
+    let turns = [
+        Turn::Edits(b"/x", 2, b"n", Err(EditRefusal::Version(3))),
+        Turn::Edits(b"/x", 3, b"n", Ok(4)),
+        Turn::Edits(b"/y", 1, b"n", Err(EditRefusal::Version(0))),
+        Turn::Edits(b"/y", 0, b"y", Ok(1)),
+        Turn::Holds(b"/x", 4, b"n"),
+        Turn::Holds(b"/y", 1, b"y"),
+    ];
+    starts(&rt, rt.alloc(), 3, b"old", &turns)
+}
+
+/// Sets a file before the first request.
+fn seed(server: &mut Server, at: &[u8], version: u64, bytes: &[u8]) -> Result<(), Fail>
+    requires { server.old.next ≡ 1 }
+    ensures { OnOk result (server.new.next ≡ 1) }
+{
+    Ok(server.seed(name(at)?, content(version, bytes)?)?)
+}
+
+/// A server with the files `/b`, `/a` and `/c`, and `/a` once more.
+fn with_three_files(alloc: Global) -> Result<Server, Fail> {
+    let mut server = Server::new(alloc);
+    seed(&mut server, b"/b", 1, b"b")?;
+    seed(&mut server, b"/a", 1, b"a")?;
+    seed(&mut server, b"/c", 1, b"c")?;
+    seed(&mut server, b"/a", 2, b"again")?;
+    Ok(server)
+}
+
+fn three_names() -> Result<[Name; 3], Fail> {
+    Ok([name(b"/a")?, name(b"/b")?, name(b"/c")?])
 }
 
 #[test]
 fn names_rise(rt: HostRuntime) -> Result<(), Fail> {
-    let mut server = Server::new(rt.alloc());
-    server.seed(name(b"/b")?, content(1, b"b")?)?;
-    server.seed(name(b"/a")?, content(1, b"a")?)?;
-    server.seed(name(b"/c")?, content(1, b"c")?)?;
-    server.seed(name(b"/a")?, content(2, b"again")?)?;
-    let names = server.names()?;
-    assert_eq!(rt;
-        names.as_slice(),
-        &[name(b"/a")?, name(b"/b")?, name(b"/c")?][..]
-    );
-    assert_eq!(rt;
-        server.file(&name(b"/a")?).copied(),
-        Some(content(2, b"again")?)
-    );
-    Ok(())
+    let server = with_three_files(rt.alloc())?;
+    assert_eq!(rt; server.names()?.as_slice(), three_names()?.as_slice());
+    holds(&rt, &server, b"/a", 2, b"again")
 }

@@ -6,3 +6,4 @@ pub mod Whole
 pub mod Tokens
 pub mod Refusals
 pub mod Lawful
+pub mod Undecided

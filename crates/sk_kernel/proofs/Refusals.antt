@@ -13,7 +13,7 @@ use Rattle.sk_plain.specs.Planned.{refusal_of}
 use Rattle.sk_plain.specs.declared.refusal.Refusal.{Refusal}
 use Rattle.sk_plain.specs.declared.refusal.Refusal.TheVariants.{TooMany, TraceFull}
 use Rattle.sk_machine.specs.Parts.{Parts}
-use Rattle.sk_kernel.specs.Kernel.{KernelView, or_else, trace_full, room, step_refused, guess_misfits, too_many, guess_refused}
+use Rattle.sk_kernel.specs.Kernel.{KernelView, or_else, trace_full, room, effect_at, step_refused, guess_misfits, too_many, guess_refused}
 use Rattle.sk_kernel.specs.Invariant.{IsWhole}
 use Rattle.sk_kernel.proofs.Whole.{same_effect}
 use Rattle.sk_kernel.proofs.Tokens.{full_is}
@@ -44,12 +44,19 @@ module _ (k : KernelView) (m : Parts) (place : ℕ) (whole : IsWhole k m place) 
   pub step_free : (f : Effect Entity EntityState Saying) (r : ℕ) → does ≡ Ok f → r ≡ room k → 1 ≤ r → step_refused k n ≡ None
   step_free f r is has_room least = step_by (Ok f) is ∙ room_enough k 1 r has_room least
 
+  pub step_why : (r : Result (Effect Entity EntityState Saying) Refusal) → does ≡ r → refusal_of (effect_at k n) ≡ refusal_of r
+  step_why r is = ap refusal_of (sym (same_effect k m whole.stands n) ∙ is)
+
   -- ---- a guess
   guess_by : (o : Option Refusal) → guess_misfits n.input does ≡ o → guess_refused k n ≡ or_else o (or_else (too_many k) (no_place 2))
   guess_by o is = ap (λ o. or_else o (or_else (too_many k) (no_place 2))) (sym (ap (guess_misfits n.input) (same_effect k m whole.stands n)) ∙ is)
 
   full_by : (b : Bool) → is_full m.guesses ≡ b → too_many k ≡ cond b (Some TooMany) None
   full_by b is = full_is k m place whole ∙ ap (λ b. cond b (Some TooMany) None) is
+
+  pub guess_why : (o : Option Refusal) → guess_misfits n.input does ≡ o → (b : Bool) → is_full m.guesses ≡ b
+      → or_else (guess_misfits n.input (effect_at k n)) (too_many k) ≡ or_else o (cond b (Some TooMany) None)
+  guess_why o fits b full = (λ i. or_else ((ap (guess_misfits n.input) (sym (same_effect k m whole.stands n)) ∙ fits) i) (full_by b full i))
 
   pub guess_misfit : (why : Refusal) → guess_misfits n.input does ≡ Some why → guess_refused k n ≡ Some why
   guess_misfit why is = guess_by (Some why) is

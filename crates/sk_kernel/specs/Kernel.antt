@@ -1,5 +1,5 @@
 -- The kernel as its callers see it: its number, what it was booted with, its trace limit, and what was done. All else follows by definition.
-use Rattle.std.specs.Prelude.{ℕ, ◌+◌, ◌-◌, ◌||◌, nat_le, nat_lt, List, [], ◌∷◌, ◌++◌, map, length, Option, Some, None, Result, Err, refl, if◌then◌else◌}
+use Rattle.std.specs.Prelude.{ℕ, ◌+◌, ◌-◌, ◌||◌, nat_le, nat_lt, List, [], ◌∷◌, ◌++◌, map, length, get_or, Option, Some, None, Result, Err, refl, if◌then◌else◌}
 use Rattle.std.specs.Coded.{Coded, code_by, coded×, coded_ℕ, coded_list}
 use Rattle.std.specs.List.{fold}
 use Rattle.std.specs.FinMap as map
@@ -105,6 +105,10 @@ last_guess es = fold number_after 0 es
 
 abbrev pub next_guess : KernelView → ℕ
 next_guess k = last_guess k.trace + 1
+
+-- the oldest undecided guess, or the next one: every guess below is decided
+abbrev pub settled : KernelView → ℕ
+settled k = get_or (undecided_at k) 0 (next_guess k)
 
 -- ---- why a step is refused: the first cause, want of memory aside
 

@@ -1,13 +1,15 @@
 //! The speculative kernel.
-ghost use Rattle.std.specs.Prelude.{◌≡◌, ◌↔◌, ℕ, true, length, IfOk, MatchOption, None, Some, []};
+ghost use Rattle.std.specs.Prelude.{◌≡◌, ◌↔◌, ℕ, true, length, IfOk, IfSome, MatchOption, None, Some, []};
 ghost use Rattle.std.specs.FinMap as map;
 ghost use Rattle.std.specs.List.Sorted.{IsStrictlySortedBy};
 ghost use Rattle.sk_ids.specs.Entity.{entity_cmp};
 ghost use Rattle.sk_record.specs.Notes.{has};
 ghost use Rattle.sk_plain.specs.Next.{next_of};
+ghost use Rattle.sk_plain.specs.Planned.{refusal_of};
+ghost use Rattle.sk_plain.specs.Refusal.{cause};
 ghost use Rattle.sk_plain.specs.View.{Shows};
 ghost use Rattle.sk_trace.specs.declared.event.Event.TheVariants as events;
-ghost use Rattle.sk_kernel.specs.Kernel.{booted, state_at, undecided_at, tags_at, texts_at, room, next_guess, step_refused, guess_refused, HasStatus, RestsOn};
+ghost use Rattle.sk_kernel.specs.Kernel.{booted, state_at, undecided_at, tags_at, texts_at, room, next_guess, settled, effect_at, or_else, guess_misfits, too_many, step_refused, guess_refused, HasStatus, RestsOn};
 ghost use Rattle.sk_kernel.specs.Laws.{HasSoundTrace};
 ghost use Rattle.sk_kernel.specs.Calls.{StepPost, GuessPost, CommitPost, FailPost, ShowsTerminal, LeavesTexts, PlansGuess};
 ghost use Rattle.sk_record.specs.declared.status.Status.{Status};
@@ -167,6 +169,38 @@ impl Kernel {
         (self.limit as usize)
             .saturating_sub(self.trace.events().len())
             .saturating_sub(self.machine.open_count())
+    }
+
+    /// The number of the oldest undecided guess, or of the next one where none is undecided.
+    pub fn settled(&self) -> u64
+        ensures { result ≡ settled self.now }
+    {
+        self.machine.settled()
+    }
+
+    /// Why a step would be refused, the trace's limit and want of memory aside.
+    pub fn step_refusal(&self, pid: Pid, input: &Input) -> Option<Refusal>
+        ensures exact { result ≡ refusal_of (effect_at self.now (record { pid = pid; input = input.now; guess = None })) }
+        ensures told { IfSome result (λ why. cause why ≡ Some why) }
+    {
+        match plan_step(&self.machine, &self.scripts, pid, input) {
+            Ok(_) => None,
+            Err(why) => Some(why),
+        }
+    }
+
+    /// Why a guess would be refused, the trace's limit and want of memory aside.
+    pub fn guess_refusal(&self, pid: Pid, input: &Input) -> Option<Refusal>
+        ensures exact { result ≡ or_else (guess_misfits input.now (effect_at self.now (record { pid = pid; input = input.now; guess = Some (next_guess self.now) }))) (too_many self.now) }
+        ensures told { IfSome result (λ why. cause why ≡ Some why) }
+    {
+        if let Err(why) = plan_guess(&self.machine, &self.scripts, pid, input) {
+            return Some(why);
+        }
+        if self.machine.is_full() {
+            return Some(Refusal::TooMany);
+        }
+        None
     }
 
     /// What a process does next. Refused with `NoProcess` or `Ended`. This takes no memory.

@@ -1,5 +1,5 @@
 //! Values in place with their undo logs, the open guesses, statuses and texts.
-ghost use Rattle.std.specs.Prelude.{◌≡◌, ◌++◌, ◌||◌, ◌&&◌, ◌==◌, if◌then◌else◌, ℕ, length, true, false, is_some, IfOk, OnOk, OnErr, Ok, Some, None};
+ghost use Rattle.std.specs.Prelude.{◌≡◌, ◌++◌, ◌||◌, ◌&&◌, ◌==◌, if◌then◌else◌, ℕ, length, get_or, true, false, is_some, IfOk, OnOk, OnErr, Ok, Some, None};
 ghost use Rattle.std.specs.List.Sorted.{IsStrictlySortedBy};
 ghost use Rattle.std.specs.Ordering.{nat_cmp};
 ghost use Rattle.sk_record.specs.Notes.{has};
@@ -357,6 +357,16 @@ impl Machine {
         ensures { result ≡ length self.now.opens }
     {
         self.opens.len()
+    }
+
+    /// The number of the oldest open guess, or of the next one where none is open.
+    pub fn settled(&self) -> u64
+        ensures { result ≡ get_or (numbers self.now.opens) 0 (next_of self.now.guesses) }
+    {
+        match self.opens.first() {
+            Some(open) => open.id.number(),
+            None => self.guesses.next(),
+        }
     }
 
     /// Whether no guess can be drawn.

@@ -19,8 +19,8 @@ pub struct Request {
     pub number: u64,
     /// The undecided guesses of the client on which it rests, its own apart.
     pub rests: TagSet,
-    /// Every guess below this one is decided at the client.
-    pub settled: GuessId,
+    /// Every guess below this number is decided at the client.
+    pub settled: u64,
     /// The guess that is decided by the answer.
     pub guess: Option<GuessId>,
     pub ask: Ask,

@@ -199,10 +199,10 @@ impl Server {
 }
 
 /// Whether a guess is not below the first that may be undecided.
-fn is_open(guess: GuessId, settled: GuessId) -> bool
+fn is_open(guess: GuessId, settled: u64) -> bool
     ensures { result ≡ nat_le settled guess }
 {
-    settled.number() <= guess.number()
+    settled <= guess.number()
 }
 
 /// The guess that an answer refuses.

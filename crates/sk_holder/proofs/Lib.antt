@@ -1,0 +1,4 @@
+pub mod Held
+pub mod Settled
+pub mod Kept
+pub mod Decided

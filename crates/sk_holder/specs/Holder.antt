@@ -1,0 +1,53 @@
+-- A kernel with the tokens of its guesses, as its callers see it, and what its calls answer.
+use Rattle.std.specs.Prelude.{◌≡◌, ℕ, true, false, List, [], ◌∷◌, ◌++◌, ◌==◌, map, Option, Some, None, Result, Ok, Err, refl, if◌then◌else◌}
+use Rattle.std.specs.Coded.{Coded, code_by, coded×, coded_ℕ, coded_list}
+use Rattle.sk_record.specs.Notes.{has}
+use Rattle.sk_record.specs.declared.status.Status.TheVariants.{Undecided, Struck}
+use Rattle.sk_guesses.specs.Token.{Token}
+use Rattle.sk_script.specs.declared.instruction.Input.{Input}
+use Rattle.sk_trace.specs.declared.event.Event.{Event}
+use Rattle.sk_trace.specs.declared.event.Event.TheVariants as events
+use Rattle.sk_plain.specs.Refusal.{cause}
+use Rattle.sk_plain.specs.declared.refusal.Refusal.{Refusal}
+use Rattle.sk_kernel.specs.Kernel.{KernelView, HasStatus, kernel_code, next_guess, undecided_at, with_event}
+use Rattle.sk_kernel.specs.declared.kernel.Outcome.{Outcome}
+use Rattle.sk_kernel.specs.declared.kernel.Outcome.TheVariants as outcomes
+
+-- the kernel, and the guesses whose tokens are held, the oldest first
+pub record HolderView : Type 0 where
+  pub kernel : KernelView
+  pub held : List ℕ
+
+abbrev pub holder_code : Coded HolderView
+holder_code =
+    code_by (KernelView × List ℕ) (coded× kernel_code (coded_list coded_ℕ))
+    (λ h. (h.kernel, h.held)) (λ p. record { kernel = p.0; held = p.1 }) (λ _. refl)
+
+abbrev pub ids : List Token → List ℕ
+ids ts = map (λ t. t.id) ts
+
+-- the guesses but for the first of this number
+abbrev pub but : ℕ → List ℕ → List ℕ
+but id [] = []
+but id (g ∷ gs) = if g == id then gs else g ∷ but id gs
+
+-- a kernel of which no guess is undecided
+abbrev pub holding : KernelView → HolderView
+holding k = record { kernel = k; held = [] }
+
+-- a guess is made and its token held, or the first cause against it is told and nothing changes
+abbrev pub GuessesPost : Result ℕ Refusal → Option Refusal → ℕ → Input → HolderView → HolderView → Type 0
+GuessesPost (Ok id) refused pid input old new =
+    (refused ≡ None) × (id ≡ next_guess old.kernel)
+    × (new ≡ record { kernel = with_event old.kernel (events.Guess (next_guess old.kernel) pid input); held = old.held ++ next_guess old.kernel ∷ [] })
+GuessesPost (Err why) refused pid input old new = (refused ≡ cause why) × (new ≡ old)
+
+-- a guess is decided by its token: it was undecided, and the event happens, or it was struck, and the kernel stays; the token is spent
+abbrev pub DecidesPost : Option Outcome → Event → ℕ → HolderView → HolderView → Type 0
+DecidesPost None event id old new = (has id old.held ≡ false) × (new ≡ old)
+DecidesPost (Some outcomes.Done) event id old new =
+    (has id old.held ≡ true) × HasStatus old.kernel id Undecided × (has id (undecided_at old.kernel) ≡ true)
+    × (new ≡ record { kernel = with_event old.kernel event; held = but id old.held })
+DecidesPost (Some outcomes.Gone) event id old new =
+    (has id old.held ≡ true) × HasStatus old.kernel id Struck × (has id (undecided_at old.kernel) ≡ false)
+    × (new ≡ record { kernel = old.kernel; held = but id old.held })

@@ -1,0 +1,161 @@
+//! A kernel with the tokens of its guesses.
+ghost use Rattle.std.specs.Prelude.{◌≡◌, ℕ, [], None, Some, IfSome, is_some, slice_get};
+ghost use Rattle.sk_record.specs.Notes.{has};
+ghost use Rattle.sk_plain.specs.Refusal.{cause};
+ghost use Rattle.sk_kernel.specs.Kernel.{undecided_at, next_guess, step_refused, guess_refused};
+ghost use Rattle.sk_kernel.specs.Calls.{StepPost, LeavesTexts};
+ghost use Rattle.sk_terminal.specs.Terminals.{released_at};
+ghost use Rattle.sk_trace.specs.declared.event.Event.TheVariants as events;
+ghost use Rattle.sk_holder.specs.Holder.{holding, GuessesPost, DecidesPost};
+
+use sk_guesses::Guess;
+use sk_ids::{GuessId, Pid};
+use sk_kernel::{Kernel, Outcome};
+use sk_plain::{Refusal, Trace};
+use sk_script::Input;
+use sk_terminal::Texts;
+use std::alloc::Global;
+use std::marker::Model;
+
+/// A kernel with the tokens of its guesses, the oldest first. Contracts see the kernel and the guesses whose
+/// tokens it has: each of them is undecided or struck, and each undecided guess is one of them.
+pub struct Holder {
+    kernel: Kernel,
+    tokens: Vec<Guess>,
+}
+
+impl Model for Holder {
+    ghost use Rattle.sk_holder.specs.Holder.{HolderView, holder_code, ids};
+    ghost use Rattle.sk_holder.specs.Tokens.{IsHeld};
+
+    ghost Value = { HolderView };
+
+    ghost coded = { holder_code };
+
+    ghost view = { λ h. record { kernel = h.kernel; held = ids h.tokens.items } };
+
+    ghost invariant = { λ h. IsHeld h.kernel h.tokens.items };
+}
+
+impl Holder {
+    /// Takes a kernel of which no guess is undecided. This takes no memory.
+    pub fn new(alloc: Global, kernel: Kernel) -> Holder
+        requires { undecided_at kernel ≡ [] }
+        ensures { result ≡ holding kernel }
+    {
+        Holder {
+            kernel,
+            tokens: Vec::new(alloc),
+        }
+    }
+
+    /// The kernel.
+    pub fn kernel(&self) -> &Kernel
+        ensures { result.now ≡ self.now.kernel }
+    {
+        &self.kernel
+    }
+
+    /// The first cause against a guess for which there is no memory.
+    fn guess_refusal(&self, pid: Pid, input: &Input) -> Refusal
+        ensures { guess_refused self.now.kernel (record { pid = pid; input = input.now; guess = Some (next_guess self.now.kernel) }) ≡ cause result }
+    {
+        if let Some(why) = self.kernel.guess_refusal(pid, input) {
+            return why;
+        }
+        if self.kernel.room() < 2 {
+            return Refusal::TraceFull;
+        }
+        Refusal::Memory
+    }
+
+    /// The place of a guess's token.
+    fn place_of(&self, id: GuessId) -> Option<usize>
+        ensures there { IfSome result (λ place. slice_get self.now.held place ≡ Some id) }
+        ensures held { is_some result ≡ has id self.now.held }
+    {
+        for (place, token) in self.tokens.iter().enumerate() {
+            if token.id() == id {
+                return Some(place);
+            }
+        }
+        None
+    }
+
+    /// Takes a step, as the kernel does.
+    pub fn step(&mut self, pid: Pid, input: Input) -> Result<(), Refusal>
+        ensures kernel { StepPost result (step_refused self.old.kernel (record { pid = pid; input = input; guess = None })) (events.Step pid input) self.old.kernel self.new.kernel }
+        ensures held { self.new.held ≡ self.old.held }
+    {
+        self.kernel.step(pid, input)
+    }
+
+    /// Draws the next guess and takes its step, as the kernel does, and keeps its token.
+    pub fn guess(&mut self, pid: Pid, input: Input) -> Result<GuessId, Refusal>
+        ensures { GuessesPost result (guess_refused self.old.kernel (record { pid = pid; input = input; guess = Some (next_guess self.old.kernel) })) pid input self.old self.new }
+    {
+        if self.tokens.reserve(1).is_err() {
+            return Err(self.guess_refusal(pid, &input));
+        }
+        let token = self.kernel.create_speculation(pid, input)?;
+        let id = token.id();
+        self.tokens.push_reserved(token);
+        Ok(id)
+    }
+
+    /// Commits a guess, by its token; `None` where there is none. This takes no memory.
+    pub fn commit(&mut self, id: GuessId) -> Option<Outcome>
+        ensures { DecidesPost result (events.Commit id) id self.old self.new }
+    {
+        let place = self.place_of(id)?;
+        let _sound = self.kernel.trace();
+        let token = self.tokens.remove(place);
+        match self.kernel.commit_speculation(token) {
+            Ok(outcome) => Some(outcome),
+            Err(_stranger) => unreachable!(),
+        }
+    }
+
+    /// Fails a guess, by its token; `None` where there is none. This takes no memory.
+    pub fn fail(&mut self, id: GuessId) -> Option<Outcome>
+        ensures { DecidesPost result (events.Fail id) id self.old self.new }
+    {
+        let place = self.place_of(id)?;
+        let _sound = self.kernel.trace();
+        let token = self.tokens.remove(place);
+        match self.kernel.fail_speculation(token) {
+            Ok(outcome) => Some(outcome),
+            Err(_refusal) => unreachable!(),
+        }
+    }
+
+    /// Ends a kernel of which no guess is held: its trace, and what its terminals have released. This takes no
+    /// memory.
+    pub fn shut(self) -> (Trace, Texts)
+        requires { self.held ≡ [] }
+        ensures trace { result.0.events ≡ self.kernel.trace }
+        ensures texts { (t : ℕ) → LeavesTexts self.kernel t (released_at result.1 t) }
+    {
+        let Holder { kernel, tokens } = self;
+        tokens.destroy_empty();
+        kernel.shut()
+    }
+
+    /// Spends the tokens by commits, the oldest first.
+    fn spend(&mut self)
+        ensures { self.new.held ≡ [] }
+    {
+        while let Some(token) = self.tokens.first() {
+            let id = token.id();
+            self.commit(id);
+        }
+    }
+
+    /// Spends the tokens by commits, the oldest first, and ends. This takes no memory.
+    pub fn abandon(self) {
+        let mut holder = self;
+        holder.spend();
+        let Holder { kernel: _, tokens } = holder;
+        tokens.destroy_empty();
+    }
+}

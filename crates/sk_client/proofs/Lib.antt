@@ -6,3 +6,5 @@ pub mod Begins
 pub mod Turns
 pub mod Taken
 pub mod Table
+pub mod DeskFacts
+pub mod WorldFacts

@@ -1,1 +1,5 @@
 pub mod Table
+pub mod Desk
+pub mod DeskCalls
+pub mod DeskInvariant
+pub mod WorldView

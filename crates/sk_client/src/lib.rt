@@ -1,4 +1,12 @@
 //! The client side: a desk that asks a server for the kernel's processes.
 #![tactic(auto)]
 
+pub mod desk;
 pub mod laws;
+pub mod pending;
+pub mod rule;
+pub mod world;
+
+pub use desk::{Desk, Given, Pending, ReplyRefusal, Turn};
+pub use pending::{Kept, PendingRequest};
+pub use world::{Cause, World, WorldAnswer, WorldEvent, WorldStop};

@@ -1,0 +1,226 @@
+-- What the definitions of a desk come to.
+use Rattle.std.proofs.Common.{Bor, map, drop, get_or, ◌≡◌, ℕ, zero, suc, ◌+◌, ◌-◌, ◌<◌, ◌≤◌, Bool, true, false, not, ◌&&◌, ◌||◌, cond, List, [], ◌∷◌, ◌++◌, length, Option, Some, None, Result, Ok, Err, inl, inr, refl, sym, ◌∙◌, ap, arith}
+use Rattle.std.specs.Prelude.{◌↔◌, ◌==◌, nat_lt, IfOk}
+use Rattle.std.specs.declared.alloc.AllocError.{AllocError}
+use Rattle.std.specs.Ordering.{nat_cmp}
+use Rattle.std.specs.Cmp.{both_ways}
+use Rattle.std.specs.List.{filter, list_any}
+use Rattle.std.specs.List.Sorted.{IsStrictlySortedBy}
+use Rattle.std.proofs.lemmas.Bool.{true≢false, lt-ltb, le-ltb, ltb-false, or_cases}
+use Rattle.std.proofs.lemmas.List.{length-append, append_assoc, append-nil, drop_more}
+use Rattle.std.proofs.lemmas.List.Kept.{IsStrictlySortedBy-filter}
+use Rattle.std.proofs.lemmas.List.Elements.{filter-append}
+use Rattle.sk_record.specs.Notes.{has}
+use Rattle.sk_record.specs.Trace.{Event as Happens, marks}
+use Rattle.sk_record.specs.declared.status.Status.{Status}
+use Rattle.sk_record.specs.declared.status.Status.TheVariants.{Undecided, Committed, Failed, Struck}
+use Rattle.sk_record.proofs.Sound.{is_commit, has_commit}
+use Rattle.sk_record.proofs.Machine.{has_filter}
+use Rattle.sk_record.proofs.Rising.{same_rising}
+use Rattle.sk_script.specs.declared.instruction.Input.{Input}
+use Rattle.sk_script.specs.declared.instruction.Input.TheVariants as inputs
+use Rattle.sk_ids.specs.declared.entity.Entity.{Entity}
+use Rattle.sk_ids.specs.declared.entity.Entity.TheVariants.{Proc, Copy as CopyOf}
+use Rattle.sk_objects.specs.declared.value.Value.{Value}
+use Rattle.sk_store.specs.declared.entity_state.EntityState.{EntityState}
+use Rattle.sk_store.specs.declared.entity_state.EntityState.TheVariants as stored
+use Rattle.sk_trace.specs.Entry.{EntryView}
+use Rattle.sk_trace.specs.declared.event.Event.{Event}
+use Rattle.sk_trace.specs.declared.event.Event.TheVariants as events
+use Rattle.sk_plain.specs.Replay.{image}
+use Rattle.sk_plain.specs.View.{Shows}
+use Rattle.sk_plain.specs.declared.view.View.TheVariants as views
+use Rattle.sk_plain.specs.Planned.{refusal_of}
+use Rattle.sk_plain.specs.declared.refusal.Refusal.{Refusal}
+use Rattle.sk_plain.specs.declared.refusal.Refusal.TheVariants.{TraceFull}
+use Rattle.sk_kernel.specs.Kernel.{KernelView, HasStatus, events_of, tags_at, undecided_at, room, effect_at, or_else, trace_full, step_refused, guess_refused, guess_misfits, too_many, next_guess}
+use Rattle.sk_kernel.specs.Laws.{HasSoundTrace}
+use Rattle.sk_kernel.proofs.Undecided.{undecided_is, undecided_sorted}
+use Rattle.sk_client.specs.declared.pending.PendingRequest.{PendingRequest}
+use Rattle.sk_client.specs.declared.rule.Rule.TheVariants as rules
+use Rattle.sk_holder.specs.Tokens.{commits}
+use Rattle.sk_client.specs.Table.{buffer_of}
+use Rattle.sk_client.specs.declared.pending.Kept.{Kept}
+use Rattle.sk_client.specs.DeskInvariant.{guesses_of, IsTidy}
+use Rattle.sk_client.specs.Desk.{DeskView, pending, is_asked, asked_count, no_place, rule_refused, rests_of, is_lost, lost_by, guess_refused_at, no_number, kept_for, entry}
+
+-- ---- asked requests
+
+pub asked_more : (xs ys : List PendingRequest) → asked_count (xs ++ ys) ≡ asked_count xs + asked_count ys
+asked_more xs ys = ap length (filter-append is_asked xs ys) ∙ length-append (filter is_asked xs) (filter is_asked ys)
+
+-- ---- places of the trace
+
+module _ (d : DeskView) (free : ℕ) (is : free ≡ room d.kernel - asked_count (pending d)) where
+  pub short : (n : ℕ) → free < n → no_place d n ≡ Some TraceFull
+  short n less =
+      let small : nat_lt (room d.kernel - asked_count (pending d)) n ≡ true = lt-ltb (room d.kernel - asked_count (pending d)) n (omega (arith, is, less)) in
+      ap (λ b. cond b (Some TraceFull) None) small
+
+  pub enough : (n : ℕ) → n ≤ free → no_place d n ≡ None
+  enough n least =
+      let large : nat_lt (room d.kernel - asked_count (pending d)) n ≡ false = le-ltb (room d.kernel - asked_count (pending d)) n (omega (arith, is, least)) in
+      ap (λ b. cond b (Some TraceFull) None) large
+
+  -- with a place beside those that are kept, a step is refused as by the kernel
+  pub same_refusal : (pid : ℕ) (input : Input) → 1 ≤ free → step_refused d.kernel (entry pid input None) ≡ rule_refused d pid (rules.Steps input)
+  same_refusal pid input least =
+      let large : nat_lt (room d.kernel) 1 ≡ false = le-ltb (room d.kernel) 1 (omega (arith, is, least)) in
+      let kernels : trace_full d.kernel 1 ≡ None = ap (λ b. cond b (Some TraceFull) None) large in
+      ap (or_else (refusal_of (effect_at d.kernel (entry pid input None)))) (kernels ∙ sym (enough 1 least))
+
+-- ---- what a request rests on
+
+both : (a b : Bool) → (a && b) ≡ true → (a ≡ true) × (b ≡ true)
+both true b h = (refl, h)
+both false b h = absurd (true≢false (sym h))
+
+and_false : (b : Bool) → (b && false) ≡ false
+and_false true = refl
+and_false false = refl
+
+none_some : (s : Status) → None ≡ Some s → ⊥
+none_some s h = absurd cc
+
+module _ (k : KernelView) (sound : HasSoundTrace k) where
+  -- the tags of an entity are undecided
+  tags_undecided : (e : Entity) (g : ℕ) → has g (tags_at k e) ≡ true → has g (undecided_at k) ≡ true
+  tags_undecided e g here = (both (_) (has g (undecided_at k)) (sym (has_filter _ g (undecided_at k)) ∙ here)).1
+
+  pub rests_are : (pid : ℕ) (name : List ℕ) (all : List ℕ) → IsStrictlySortedBy nat_cmp all
+      → ((g : ℕ) → has g all ≡ (has g (tags_at k (Proc pid)) || has g (tags_at k (CopyOf name)))) → all ≡ rests_of k pid name
+  rests_are pid name all rising members =
+      let either : ℕ → Bool = λ g. has g (tags_at k (Proc pid)) || has g (tags_at k (CopyOf name)) in
+      let within : (g : ℕ) → either g ≡ true → has g (undecided_at k) ≡ true =
+      λ g here. elim (or_cases (has g (tags_at k (Proc pid))) (has g (tags_at k (CopyOf name))) here) [
+        | inl is ↦ tags_undecided (Proc pid) g is
+        | inr is ↦ tags_undecided (CopyOf name) g is
+      ] in
+      same_rising all (rests_of k pid name) rising (IsStrictlySortedBy-filter nat_cmp either (undecided_at k) (undecided_sorted k sound))
+      (λ g. members g ∙ both_ways (either g) (has g (rests_of k pid name))
+      (λ here. has_filter either g (undecided_at k) ∙ (λ i. here i && within g here i))
+      (λ here. (both (either g) (has g (undecided_at k)) (sym (has_filter either g (undecided_at k)) ∙ here)).0))
+
+  pub rests_found : (pid : ℕ) (name : List ℕ) (r : Result (List ℕ) AllocError) (a b : List ℕ) → a ≡ tags_at k (Proc pid) → b ≡ tags_at k (CopyOf name)
+      → IfOk r (λ all. (id : ℕ) → has id all ≡ (has id a || has id b)) → IfOk r (λ all. IsStrictlySortedBy nat_cmp all) → IfOk r (λ rests. rests ≡ rests_of k pid name)
+  rests_found pid name (Ok all) a b ea eb members rising = rests_are pid name all rising (λ g. members g ∙ (λ i. has g (ea i) || has g (eb i)))
+  rests_found pid name (Err why) a b ea eb members rising = tt
+
+  -- ---- guesses that are lost
+
+  mapped : (p : Event → Bool) (q : Happens EntryView → Bool) → ((e : Event) → p e ≡ q (image e)) → (es : List Event) → list_any p es ≡ list_any q (map image es)
+  mapped p q same [] = refl
+  mapped p q same (e ∷ es) = λ i. same e i || mapped p q same es i
+
+  commits_is : (id : ℕ) (e : Event) → commits id e ≡ is_commit id (image e)
+  commits_is id (events.Step pid input) = refl
+  commits_is id (events.Guess g pid input) = refl
+  commits_is id (events.Commit g) = refl
+  commits_is id (events.Fail g) = refl
+
+  committed_is : (g : ℕ) → list_any (commits g) k.trace ≡ list_any (is_commit g) (events_of k)
+  committed_is g = mapped (commits g) (is_commit g) (commits_is g) k.trace
+
+  never : (b : Bool) → (b ≡ true → ⊥) → b ≡ false
+  never true h = absurd (h refl)
+  never false h = refl
+
+  module _ (g : ℕ) (r : Option Status) (is : (s : Status) → (r ≡ Some s) ↔ HasStatus k g s) where
+    undecided_not_lost : r ≡ Some Undecided → is_lost k g ≡ false
+    undecided_not_lost here = ap (λ b. not b && not (list_any (commits g) k.trace)) ((undecided_is k sound g).1 ((is Undecided).0 here))
+
+    committed_not_lost : r ≡ Some Committed → is_lost k g ≡ false
+    committed_not_lost here =
+        let there : list_any (commits g) k.trace ≡ true = committed_is g ∙ (has_commit (events_of k) g).1 ((is Committed).0 here) in
+        ap (λ b. not (has g (undecided_at k)) && not b) there ∙ and_false (not (has g (undecided_at k)))
+
+    others_lost : (r ≡ Some Undecided → ⊥) → (r ≡ Some Committed → ⊥) → is_lost k g ≡ true
+    others_lost open_not commit_not =
+        let decided : has g (undecided_at k) ≡ false = never _ (λ here. open_not ((is Undecided).1 ((undecided_is k sound g).0 here))) in
+        let uncommitted : list_any (commits g) k.trace ≡ false = never _ (λ here. commit_not ((is Committed).1 ((has_commit (events_of k) g).0 (sym (committed_is g) ∙ here)))) in
+        (λ i. not (decided i) && not (uncommitted i))
+
+    lost_case : (q : Option Status) → r ≡ q → lost_by q ≡ is_lost k g
+    lost_case None e = sym (others_lost (λ o. none_some Undecided (sym e ∙ o)) (λ o. none_some Committed (sym e ∙ o)))
+    lost_case (Some Undecided) e = sym (undecided_not_lost e)
+    lost_case (Some Committed) e = sym (committed_not_lost e)
+    lost_case (Some Failed) e = sym (others_lost (λ o. let bad : Some Failed ≡ Some Undecided = sym e ∙ o in absurd cc) (λ o. let bad : Some Failed ≡ Some Committed = sym e ∙ o in absurd cc))
+    lost_case (Some Struck) e = sym (others_lost (λ o. let bad : Some Struck ≡ Some Undecided = sym e ∙ o in absurd cc) (λ o. let bad : Some Struck ≡ Some Committed = sym e ∙ o in absurd cc))
+
+    pub lost_is : lost_by r ≡ is_lost k g
+    lost_is = lost_case r refl
+
+-- ---- a process's buffer
+
+pub no_buffer : (s : Option EntityState) → Shows s None → buffer_of s ≡ []
+no_buffer None h = refl
+no_buffer (Some x) h = absurd h
+
+pub buffer_of_value : (s : Option EntityState) (v : Bor Value) → Shows s (Some (views.Value v)) → buffer_of s ≡ []
+buffer_of_value None v h = absurd h
+buffer_of_value (Some (stored.Value x)) v h = refl
+buffer_of_value (Some (stored.Process x)) v h = absurd h
+
+-- ---- the guesses of requests
+
+pub guesses_more : (xs ys : List PendingRequest) → guesses_of (xs ++ ys) ≡ guesses_of xs ++ guesses_of ys
+guesses_more [] ys = refl
+guesses_more (x ∷ xs) ys = ap (λ gs. marks x.guess ++ gs) (guesses_more xs ys) ∙ sym (append_assoc (marks x.guess) (guesses_of xs) (guesses_of ys))
+
+-- one request more
+pub one_more : (taken waiting : List PendingRequest) (q : PendingRequest) → guesses_of (taken ++ (waiting ++ q ∷ [])) ≡ guesses_of (taken ++ waiting) ++ marks q.guess
+one_more taken waiting q =
+    ap guesses_of (sym (append_assoc taken waiting (q ∷ []))) ∙ guesses_more (taken ++ waiting) (q ∷ []) ∙ ap (λ gs. guesses_of (taken ++ waiting) ++ gs) (append-nil (marks q.guess))
+
+-- the parts of a desk with one request more
+pub tidy_more : (tokens more : List ℕ) (taken waiting : List PendingRequest) (q : PendingRequest) (taken2 waiting2 : List PendingRequest) (r r2 n n2 m m2 : ℕ) → IsTidy tokens taken waiting r n m
+    → more ≡ tokens ++ marks q.guess → taken2 ≡ taken → waiting2 ≡ waiting ++ q ∷ [] → n2 ≡ n → length taken + length waiting < r2 → n + (length taken + length waiting) < m2 → IsTidy more taken2 waiting2 r2 n2 m2
+tidy_more tokens more taken waiting q taken2 waiting2 r r2 n n2 m m2 tidy is same_taken same_waiting same_n room answers =
+    let longer : length waiting2 ≡ length waiting + 1 = ap length same_waiting ∙ length-append waiting (q ∷ []) in
+    let as_long : length taken2 ≡ length taken = ap length same_taken in
+    record {
+      held = is ∙ ap (λ gs. gs ++ marks q.guess) tidy.held ∙ sym (one_more taken waiting q) ∙ (λ i. guesses_of (sym same_taken i ++ sym same_waiting i));
+      takes = omega (arith, longer, as_long, room);
+      keeps = omega (arith, longer, as_long, same_n, answers);
+    }
+
+pub no_more : (qs : List PendingRequest) → length qs ≤ 0 → qs ≡ []
+no_more [] h = refl
+no_more (q ∷ qs) h = absurd (omega (arith, h))
+
+-- ---- a guess that the desk does not refuse, the kernel does not refuse
+
+pub none_first : (a b : Option Refusal) → or_else a b ≡ None → a ≡ None
+none_first None b h = refl
+none_first (Some x) b h = absurd cc
+
+pub none_later : (a b : Option Refusal) → or_else a b ≡ None → b ≡ None
+none_later None b h = h
+none_later (Some x) b h = absurd cc
+
+none_cond : (b : Bool) → cond b (Some TraceFull) None ≡ None → b ≡ false
+none_cond true h = absurd cc
+none_cond false h = refl
+
+pub guess_free : (d : DeskView) (pid : ℕ) → guess_refused_at d pid ≡ None → guess_refused d.kernel (entry pid inputs.Good (Some (next_guess d.kernel))) ≡ None
+guess_free d pid h =
+    let misfit = guess_misfits inputs.Good (effect_at d.kernel (entry pid inputs.Good (Some (next_guess d.kernel)))) in
+    let one : misfit ≡ None = none_first misfit _ h in
+    let rest = none_later misfit (or_else (too_many d.kernel) (or_else (no_number d) (no_place d 2))) h in
+    let two : too_many d.kernel ≡ None = none_first (too_many d.kernel) _ rest in
+    let places : no_place d 2 ≡ None = none_later (no_number d) (no_place d 2) (none_later (too_many d.kernel) _ rest) in
+    let enough : nat_lt (room d.kernel - asked_count (pending d)) 2 ≡ false = none_cond _ places in
+    let least : 2 ≤ room d.kernel - asked_count (pending d) = ltb-false _ _ enough in
+    let large : nat_lt (room d.kernel) 2 ≡ false = le-ltb (room d.kernel) 2 (omega (arith, least)) in
+    let full : trace_full d.kernel 2 ≡ None = ap (λ b. cond b (Some TraceFull) None) large in
+    (λ i. or_else (one i) (or_else (two i) (full i)))
+
+-- ---- kept answers
+
+pub kept_later : (pid i : ℕ) (ks : List Kept) (k : Kept) → i < length ks → k ≡ get_or ks i k → (k.process == pid) ≡ false → kept_for pid (drop i ks) ≡ kept_for pid (drop (i + 1) ks)
+kept_later pid i ks k lt is other =
+    ap (kept_for pid) (drop_more ks i k lt ∙ ap (λ x. x ∷ drop (i + 1) ks) (sym is)) ∙ ap (λ b. cond b (Some k.input) (kept_for pid (drop (i + 1) ks))) other
+
+pub kept_here : (pid i : ℕ) (ks : List Kept) (k : Kept) → i < length ks → k ≡ get_or ks i k → (k.process == pid) ≡ true → kept_for pid (drop i ks) ≡ Some k.input
+kept_here pid i ks k lt is own =
+    ap (kept_for pid) (drop_more ks i k lt ∙ ap (λ x. x ∷ drop (i + 1) ks) (sym is)) ∙ ap (λ b. cond b (Some k.input) (kept_for pid (drop (i + 1) ks))) own

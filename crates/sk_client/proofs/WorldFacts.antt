@@ -1,0 +1,272 @@
+-- What holds of a world's parts, behind each of its events.
+use Rattle.std.proofs.Common.{◌≡◌, ℕ, ◌+◌, ◌<◌, ◌≤◌, Bool, true, false, not, ◌&&◌, cond, List, [], ◌∷◌, ◌++◌, length, Option, Some, None, Result, Ok, Err, refl, sym, ◌∙◌, ap, subst, arith}
+use Rattle.std.specs.Prelude.{◌==◌, nat_lt, nat_le, is_some}
+use Rattle.std.proofs.lemmas.Bool.{true≢false, eqb-true, eq-eqb, ltb-false, ltb-true, le-leb}
+use Rattle.std.proofs.lemmas.List.{length-append}
+use Rattle.sk_record.specs.Notes.{has}
+use Rattle.sk_objects.specs.declared.content.TheConstants.{LAST_VERSION}
+use Rattle.sk_script.specs.declared.instruction.Input.{Input}
+use Rattle.sk_script.specs.declared.instruction.Input.TheVariants as inputs
+use Rattle.sk_plain.specs.declared.refusal.Refusal.{Refusal}
+use Rattle.sk_plain.specs.declared.refusal.Refusal.TheVariants.{TooMany}
+use Rattle.sk_kernel.specs.Kernel.{or_else, undecided_at, effect_at, guess_misfits, too_many, next_guess}
+use Rattle.sk_server.specs.declared.request.Request.{Request}
+use Rattle.sk_server.specs.declared.request.Ask.{Ask}
+use Rattle.sk_server.specs.declared.request.Ask.TheVariants.{Get, Check, Store}
+use Rattle.sk_server.specs.declared.reply.Reply.{Reply}
+use Rattle.sk_server.specs.declared.reply.Answer.{Answer}
+use Rattle.sk_server.specs.declared.reply.Answer.TheVariants.{Yes, No, Copy, Dropped}
+use Rattle.sk_server.specs.declared.server.TheConstants.{LAST_REQUEST}
+use Rattle.sk_server.specs.declared.server.ServerRefusal.TheVariants as servers
+use Rattle.sk_server.specs.Files.{FileMap, file_of, is_fitting}
+use Rattle.sk_server.specs.Server.{ServerView, is_in_turn, is_dropped, remembered, judged, answer_to, answered}
+use Rattle.sk_server.specs.Calls.{Answers}
+use Rattle.sk_client.specs.declared.pending.PendingRequest.{PendingRequest}
+use Rattle.sk_client.specs.declared.rule.Rule.{Rule}
+use Rattle.sk_client.specs.declared.rule.Rule.TheVariants as rules
+use Rattle.sk_client.specs.declared.desk.Turn.{Turn}
+use Rattle.sk_client.specs.declared.desk.Given.{Given}
+use Rattle.sk_client.specs.declared.desk.ReplyRefusal.{ReplyRefusal}
+use Rattle.sk_client.specs.declared.desk.ReplyRefusal.TheVariants as refusals
+use Rattle.sk_client.specs.Desk.{DeskView, entry, sent, first_sent, first_taken, fits_ask, refused_by, reply_refused, no_number, no_place, guess_refused_at, rule, turned, request_of, with_request, given, given_to, answered as stepped_for, decided, input_of, is_void}
+use Rattle.sk_client.specs.DeskCalls.{ByRule, TurnPost, ReplyPost}
+use Rattle.sk_client.specs.declared.world.WorldAnswer.{WorldAnswer}
+use Rattle.sk_client.specs.declared.world.Cause.{Cause}
+use Rattle.sk_client.specs.WorldView.{Numbered, AreReplies, IsNext, IsJoined, reply_to, AnswersWith}
+use Rattle.sk_client.proofs.DeskFacts.{none_first, none_later}
+
+-- ---- one request more
+
+numbered_more : (n : ℕ) (qs : List PendingRequest) (q : PendingRequest) → Numbered n qs → q.number ≡ n + length qs → Numbered n (qs ++ q ∷ [])
+numbered_more n [] q h e = (omega (arith, e), tt)
+numbered_more n (x ∷ xs) q h e = (h.0, numbered_more (n + 1) xs q h.1 (omega (arith, e)))
+
+next_same : (s : ServerView) (b : Option Request) (d e : DeskView) → e.waiting ≡ d.waiting → e.next ≡ d.next → IsNext s b d → IsNext s b e
+next_same s None d e w n h = (subst (Numbered s.next) (sym w) h.0, n ∙ h.1 ∙ ap (λ (qs : List PendingRequest). s.next + length qs) (sym w))
+next_same s (Some b) d e w n h =
+    (h.0, h.1, subst (Numbered (s.next + 1)) (sym w) h.2, n ∙ h.3 ∙ ap (λ (qs : List PendingRequest). s.next + 1 + length qs) (sym w))
+
+longer : (qs : List PendingRequest) (q : PendingRequest) → length (qs ++ q ∷ []) ≡ length qs + 1
+longer qs q = length-append qs (q ∷ [])
+
+next_more : (s : ServerView) (b : Option Request) (d e : DeskView) (q : PendingRequest) → e.waiting ≡ d.waiting ++ q ∷ [] → e.next ≡ d.next + 1 → q.number ≡ d.next
+    → IsNext s b d → IsNext s b e
+next_more s None d e q w n is h =
+    let here = h.1 in
+    let count : length e.waiting ≡ length d.waiting + 1 = ap length w ∙ longer d.waiting q in
+    (subst (Numbered s.next) (sym w) (numbered_more s.next d.waiting q h.0 (is ∙ here)), omega (arith, n, here, count))
+next_more s (Some b) d e q w n is h =
+    let here = h.3 in
+    let count : length e.waiting ≡ length d.waiting + 1 = ap length w ∙ longer d.waiting q in
+    (h.0, h.1, subst (Numbered (s.next + 1)) (sym w) (numbered_more (s.next + 1) d.waiting q h.2 (is ∙ here)), omega (arith, n, here, count))
+
+-- ---- a turn
+
+some_number : (b : Bool) → cond b (Some TooMany) None ≡ None → b ≡ false
+some_number true h = absurd cc
+some_number false h = refl
+
+has_number : (d : DeskView) → no_number d ≡ None → d.next ≤ LAST_REQUEST
+has_number d h = ltb-false LAST_REQUEST d.next (some_number (nat_lt LAST_REQUEST d.next) h)
+
+guess_has_number : (d : DeskView) (pid : ℕ) → guess_refused_at d pid ≡ None → d.next ≤ LAST_REQUEST
+guess_has_number d pid h =
+    let misfit = guess_misfits inputs.Good (effect_at d.kernel (entry pid inputs.Good (Some (next_guess d.kernel)))) in
+    let rest = none_later misfit (or_else (too_many d.kernel) (or_else (no_number d) (no_place d 2))) h in
+    has_number d (none_first (no_number d) (no_place d 2) (none_later (too_many d.kernel) _ rest))
+
+module _ (s : ServerView) (rs : List Reply) (b : Option Request) (old new : DeskView) (pid : ℕ) (turn : Turn) (j : IsJoined old s rs b) where
+  request_more : (e : DeskView) (q : PendingRequest) → e.taken ≡ old.taken → e.waiting ≡ old.waiting ++ q ∷ [] → e.next ≡ old.next + 1 → q.number ≡ old.next → old.next ≤ LAST_REQUEST
+      → IsJoined e s rs b
+  request_more e q t w n is least = record {
+    replies = subst (AreReplies rs b) (sym t) j.replies;
+    next = next_more s b old e q w n is j.next;
+    last = omega (arith, n, least);
+  }
+
+  turned_joined : (r : Result Rule Refusal) → ByRule (Ok turn) old pid new r → IsJoined new s rs b
+  turned_joined (Err why) h = absurd (let bad : Ok turn ≡ Err why = h.0 in cc)
+  turned_joined (Ok (rules.Steps input)) h =
+      subst (λ (d : DeskView). IsJoined d s rs b) (sym h.2)
+      (record { replies = j.replies; next = next_same s b old (turned old pid (rules.Steps input)) refl refl j.next; last = j.last })
+  turned_joined (Ok (rules.Guesses ask)) h =
+      subst (λ (d : DeskView). IsJoined d s rs b) (sym h.2)
+      (request_more (turned old pid (rules.Guesses ask)) (request_of old pid ask (Some (next_guess old.kernel))) refl refl refl refl (guess_has_number old pid h.0))
+  turned_joined (Ok (rules.Asks ask)) h =
+      subst (λ (d : DeskView). IsJoined d s rs b) (sym h.2)
+      (request_more (turned old pid (rules.Asks ask)) (request_of old pid ask None) refl refl refl refl (has_number old (none_first (no_number old) (no_place old 1) h.0)))
+
+  pub turn_joined : TurnPost (Ok turn) old pid new → IsJoined new s rs b
+  turn_joined h = turned_joined (rule old pid) h
+
+-- a refused turn changes nothing
+by_back : (why : Refusal) (old new : DeskView) (pid : ℕ) (r : Result Rule Refusal) → ByRule (Err why) old pid new r → new ≡ old
+by_back why old new pid (Ok rule) h = h.1
+by_back why old new pid (Err x) h = h.1
+
+pub turn_back : (why : Refusal) (old new : DeskView) (pid : ℕ) → TurnPost (Err why) old pid new → new ≡ old
+turn_back why old new pid h = by_back why old new pid (rule old pid) h
+
+pub turn_any : (s : ServerView) (rs : List Reply) (b : Option Request) (old new : DeskView) (pid : ℕ) (result : Result Turn Refusal) → TurnPost result old pid new → IsJoined old s rs b
+    → IsJoined new s rs b
+turn_any s rs b old new pid (Ok turn) h j = turn_joined s rs b old new pid turn j h
+turn_any s rs b old new pid (Err why) h j = subst (λ (d : DeskView). IsJoined d s rs b) (sym (turn_back why old new pid h)) j
+
+-- ---- a request is taken
+
+replies_taken : (rs : List Reply) (qs : List PendingRequest) (q : PendingRequest) → AreReplies rs None qs → AreReplies rs (Some (sent q)) (qs ++ q ∷ [])
+replies_taken [] [] q h = refl
+replies_taken [] (x ∷ xs) q h = absurd h
+replies_taken (r ∷ rs) [] q h = absurd h
+replies_taken (r ∷ rs) (x ∷ xs) q h = (h.0, h.1, replies_taken rs xs q h.2)
+
+pub taken_joined : (s : ServerView) (rs : List Reply) (d e : DeskView) (q : PendingRequest) (qs : List PendingRequest) → d.waiting ≡ q ∷ qs → e ≡ first_taken d (q ∷ qs)
+    → IsJoined d s rs None → IsJoined e s rs (Some (sent q))
+taken_joined s rs d e q qs w is j =
+    let numbered : Numbered s.next (q ∷ qs) = subst (Numbered s.next) w j.next.0 in
+    let next : d.next ≡ s.next + length (q ∷ qs) = j.next.1 ∙ ap (λ (xs : List PendingRequest). s.next + length xs) w in
+    let last = j.last in
+    subst (λ (x : DeskView). IsJoined x s rs (Some (sent q))) (sym is) (record {
+      replies = replies_taken rs d.taken q j.replies;
+      next = (numbered.0, omega (arith, next, last), numbered.1, omega (arith, next));
+      last = last;
+    })
+
+take_next : (s : ServerView) (rs : List Reply) (d e : DeskView) (r : Option Request) (qs : List PendingRequest) → d.waiting ≡ qs → r ≡ first_sent qs → e ≡ first_taken d qs
+    → IsJoined d s rs None → IsJoined e s rs r
+take_next s rs d e r [] w is there j = subst (λ (x : DeskView). IsJoined x s rs r) (sym there) (subst (λ (o : Option Request). IsJoined d s rs o) (sym is) j)
+take_next s rs d e r (q ∷ qs) w is there j = subst (λ (o : Option Request). IsJoined e s rs o) (sym is) (taken_joined s rs d e q qs w there j)
+
+none_is : (o : Option Request) → is_some o ≡ false → o ≡ None
+none_is None h = refl
+none_is (Some q) h = absurd (true≢false h)
+
+pub take_joined : (s : ServerView) (rs : List Reply) (b : Option Request) (d e : DeskView) (r : Option Request) → is_some b ≡ false → r ≡ first_sent d.waiting → e ≡ first_taken d d.waiting
+    → IsJoined d s rs b → IsJoined e s rs r
+take_joined s rs b d e r none is there j = take_next s rs d e r d.waiting refl is there (subst (λ (o : Option Request). IsJoined d s rs o) (none_is b none) j)
+
+-- ---- the server's answer
+
+fits_dropped : (a : Ask) → fits_ask a Dropped ≡ true
+fits_dropped (Get name) = refl
+fits_dropped (Check name version) = refl
+fits_dropped (Store name version bytes) = refl
+
+not_last : (v : ℕ) → v < LAST_VERSION → not (v == LAST_VERSION) ≡ true
+not_last v less = elim (v == LAST_VERSION) as (λ b. (v == LAST_VERSION) ≡ b → not b ≡ true) [
+  | true ↦ λ e. let same : v ≡ LAST_VERSION = eqb-true v LAST_VERSION e in absurd (omega (arith, less, same))
+  | false ↦ λ e. refl
+] refl
+
+second : (a b : Bool) → (a && b) ≡ true → b ≡ true
+second true b h = h
+second false b h = absurd (true≢false (sym h))
+
+fits_judged : (files : FileMap) (a : Ask) → fits_ask a (judged files a) ≡ true
+fits_judged files (Get name) = refl
+fits_judged files (Check name version) = elim ((file_of files name).version == version) as (λ b. fits_ask (Check name version) (cond b Yes (No (file_of files name))) ≡ true) [
+  | true ↦ refl
+  | false ↦ refl
+]
+fits_judged files (Store name expected bytes) =
+    elim (is_fitting files name expected) as (λ b. is_fitting files name expected ≡ b → fits_ask (Store name expected bytes) (cond b Yes (No (file_of files name))) ≡ true) [
+      | true ↦ λ e. not_last expected (ltb-true expected LAST_VERSION (second _ (nat_lt expected LAST_VERSION) e))
+      | false ↦ λ e. refl
+    ] refl
+
+fits_answer : (s : ServerView) (q : Request) → fits_ask q.ask (answer_to s q) ≡ true
+fits_answer s q = elim (is_dropped q (remembered q s.refused)) as (λ b. fits_ask q.ask (cond b Dropped (judged s.files q.ask)) ≡ true) [
+  | true ↦ fits_dropped q.ask
+  | false ↦ fits_judged s.files q.ask
+]
+
+replies_more : (rs : List Reply) (b : Request) (qs : List PendingRequest) (r : Reply) → r.number ≡ b.number → fits_ask b.ask r.answer ≡ true → AreReplies rs (Some b) qs → AreReplies (rs ++ r ∷ []) None qs
+replies_more [] b [] r n f h = absurd h
+replies_more [] b (q ∷ []) r n f h =
+    (sym (n ∙ ap (λ (x : Request). x.number) h), subst (λ (x : Request). fits_ask x.ask r.answer ≡ true) h f, tt)
+replies_more [] b (q ∷ x ∷ xs) r n f h = absurd h
+replies_more (x ∷ xs) b [] r n f h = absurd h
+replies_more (x ∷ xs) b (q ∷ qs) r n f h = (h.0, h.1, replies_more xs b qs r n f h.2)
+
+pub answer_joined : (d : DeskView) (s t : ServerView) (rs all : List Reply) (b : Request) → all ≡ rs ++ reply_to s b ∷ [] → t ≡ answered s b (answer_to s b) → IsJoined d s rs (Some b) → IsJoined d t all None
+answer_joined d s t rs all b more is j =
+    let next = j.next.3 in
+    subst (λ (xs : List Reply). IsJoined d t xs None) (sym more) (subst (λ (x : ServerView). IsJoined d x (rs ++ reply_to s b ∷ []) None) (sym is) (record {
+      replies = replies_more rs b d.taken (reply_to s b) refl (fits_answer s b) j.replies;
+      next = (j.next.2, next);
+      last = j.last;
+    }))
+
+pub answer_any : (d : DeskView) (s t : ServerView) (rs all : List Reply) (b : Request) (o : Option Request) (result : Result WorldAnswer Cause) → AnswersWith result o s rs b t all
+    → IsJoined d s rs (Some b) → IsJoined d t all o
+answer_any d s t rs all b o (Ok told) h j = subst (λ (x : Option Request). IsJoined d t all x) (sym h.1) (answer_joined d s t rs all b h.3 h.2 j)
+answer_any d s t rs all b o (Err why) h j =
+    subst (λ (x : Option Request). IsJoined d t all x) (sym h.1) (subst (λ (x : ServerView). IsJoined d x all (Some b)) (sym h.2) (subst (λ (x : List Reply). IsJoined d s x (Some b)) (sym h.3) j))
+
+-- the request is in turn
+pub in_turn : (d : DeskView) (s : ServerView) (rs : List Reply) (b : Request) → IsJoined d s rs (Some b) → is_in_turn s b ≡ true
+in_turn d s rs b j =
+    let is = j.next.0 in
+    let least = j.next.1 in
+    (λ i. eq-eqb b.number s.next is i && le-leb b.number LAST_REQUEST (omega (arith, is, least)) i)
+
+-- ---- a reply
+
+abbrev pub Same : DeskView → DeskView → Type 0
+Same d e = (e.taken ≡ d.taken) × (e.waiting ≡ d.waiting) × (e.next ≡ d.next)
+
+stepped_same : (d : DeskView) (q : PendingRequest) (i : Option Input) → Same d (stepped_for d q i)
+stepped_same d q None = (refl, refl, refl)
+stepped_same d q (Some input) = (refl, refl, refl)
+
+given_same : (d : DeskView) (q : PendingRequest) (a : Answer) (g : Option ℕ) → Same d (given_to d q a g)
+given_same d q a (Some g) = elim (has g (undecided_at d.kernel)) as (λ b. Same d (cond b (decided d q g a) d)) [
+  | true ↦ (refl, refl, refl)
+  | false ↦ (refl, refl, refl)
+]
+given_same d q a None = elim (is_void d.kernel q) as (λ b. Same d (cond b d (stepped_for d q (input_of a)))) [
+  | true ↦ (refl, refl, refl)
+  | false ↦ stepped_same d q (input_of a)
+]
+
+-- what there is where a reply is on its way
+pub record Oldest (d : DeskView) (r : Reply) (rs : List Reply) (b : Option Request) : Type 0 where
+  pub request : PendingRequest
+  pub later : List PendingRequest
+  pub taken : d.taken ≡ request ∷ later
+  pub number : request.number ≡ r.number
+  pub fits : fits_ask request.ask r.answer ≡ true
+  pub replies : AreReplies rs b later
+
+oldest_of : (d : DeskView) (r : Reply) (rs : List Reply) (b : Option Request) (qs : List PendingRequest) → d.taken ≡ qs → AreReplies (r ∷ rs) b qs → Oldest d r rs b
+oldest_of d r rs b [] e h = absurd h
+oldest_of d r rs b (q ∷ qs) e h = record { request = q; later = qs; taken = e; number = h.0; fits = h.1; replies = h.2 }
+
+pub oldest : (d : DeskView) (s : ServerView) (r : Reply) (rs : List Reply) (b : Option Request) → IsJoined d s (r ∷ rs) b → Oldest d r rs b
+oldest d s r rs b j = oldest_of d r rs b d.taken refl j.replies
+
+pub fits_reply : (d : DeskView) (r : Reply) (rs : List Reply) (b : Option Request) → Oldest d r rs b → reply_refused d r d.taken ≡ None
+fits_reply d r rs b o =
+    ap (reply_refused d r) o.taken
+    ∙ (λ i. cond (not (eq-eqb o.request.number r.number o.number i)) (Some (refusals.OutOfTurn o.request.number)) (cond (o.fits i) None (Some refusals.WrongKind)))
+
+pub given_joined : (d e : DeskView) (s : ServerView) (r : Reply) (rs : List Reply) (b : Option Request) → e ≡ given d r d.taken → IsJoined d s (r ∷ rs) b → IsJoined e s rs b
+given_joined d e s r rs b is j =
+    let o = oldest d s r rs b j in
+    let same : Same (record d { taken = o.later }) (given d r (o.request ∷ o.later)) = given_same (record d { taken = o.later }) o.request r.answer o.request.guess in
+    let there : e ≡ given d r (o.request ∷ o.later) = is ∙ ap (given d r) o.taken in
+    let last = j.last in
+    subst (λ (x : DeskView). IsJoined x s rs b) (sym there) (record {
+      replies = subst (AreReplies rs b) (sym same.0) o.replies;
+      next = next_same s b d (given d r (o.request ∷ o.later)) same.1 same.2 j.next;
+      last = subst (λ n. n ≤ LAST_REQUEST + 1) (sym same.2) last;
+    })
+
+-- ---- the beginning
+
+pub begun_joined : (d : DeskView) (s : ServerView) → d.taken ≡ [] → d.waiting ≡ [] → d.next ≡ 1 → s.next ≡ 1 → IsJoined d s [] None
+begun_joined d s t w n is = record {
+  replies = subst (AreReplies [] None) (sym t) tt;
+  next = (subst (Numbered s.next) (sym w) tt, let count : length d.waiting ≡ 0 = ap length w in omega (arith, n, is, count));
+  last = omega (arith, n);
+}

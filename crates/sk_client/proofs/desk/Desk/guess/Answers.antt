@@ -1,0 +1,39 @@
+-- One request more, with its guess, and for which room was made; a guess that the desk does not refuse, the kernel does not refuse.
+use Rattle.std.proofs.Common.{◌≡◌, List, ◌∷◌, ◌++◌, [], length, ℕ, Some, refl, sym, ◌∙◌, ap, subst, deque_capacity}
+use Rattle.std.specs.Vec.{vec_capacity}
+use Rattle.sk_record.specs.Trace.{marks}
+use Rattle.sk_script.specs.declared.instruction.Input.TheVariants as inputs
+use Rattle.sk_plain.specs.Refusal.{cause}
+use Rattle.sk_kernel.specs.Kernel.{guess_refused, next_guess}
+use Rattle.sk_holder.specs.Holder.{HolderView}
+use Rattle.sk_client.specs.Desk.{DeskView, entry}
+use Rattle.sk_client.specs.declared.pending.PendingRequest.{PendingRequest}
+use Rattle.sk_client.proofs.DeskFacts.{tidy_more, guess_free}
+use Rattle.sk_client.proofs.desk.Desk.guess.Goals as goal
+
+pub invariant_of-self-2 : goal.invariant_of-self-2
+invariant_of-self-2 c =
+    let held : List ℕ = c.self.inside.holder.held in
+    let q : PendingRequest = c.with_guess.result in
+    let more = ap (λ (h : HolderView). h.held) c.in-Ok-guess.ensures.2 ∙ ap (λ (g : ℕ). held ++ g ∷ []) (sym c.in-Ok-guess.ensures.1) in
+    let made = ap (λ (r : PendingRequest). held ++ marks r.guess) c.with_guess.ensures in
+    tidy_more held c.guess.new.self.held c.self.inside.taken.items c.self.inside.waiting.items q c.make_room.new.taken.items c.push_back_reserved.new.self.items
+    (deque_capacity c.self.inside.taken) (deque_capacity c.make_room.new.taken) (length c.self.inside.kept.items) (length c.make_room.new.kept.items) (vec_capacity c.self.inside.kept) (vec_capacity c.make_room.new.kept)
+    c.self.invariant (more ∙ sym made) c.in-Ok-make_room.ensures.taken
+    (c.push_back_reserved.ensures.items ∙ ap (λ (qs : List PendingRequest). qs ++ q ∷ []) c.in-Ok-make_room.ensures.waiting)
+    (ap length c.in-Ok-make_room.ensures.kept) c.in-Ok-make_room.ensures.room.0 c.in-Ok-make_room.ensures.room.2
+
+pub returns-in-Err : goal.returns-in-Err
+returns-in-Err c =
+    let refused =
+    subst (λ (d : DeskView). guess_refused d.kernel (entry c.args.pid inputs.Good (Some (next_guess d.kernel))) ≡ cause c.in-Err.why) c.self.view_is c.in-Err.ensures.0 in (
+      sym c.in_default.ensures.refusal ∙ sym (guess_free c.args.self.now c.args.pid (sym c.in_default.ensures.refusal)) ∙ refused,
+      (λ i. record {
+        kernel = (c.in-Err.ensures.1 i).kernel;
+        taken = c.in-Ok-make_room.ensures.taken i;
+        waiting = c.in-Ok-make_room.ensures.waiting i;
+        next = c.self.inside.next;
+        kept = c.in-Ok-make_room.ensures.kept i;
+      })
+          ∙ c.self.view_is,
+    )

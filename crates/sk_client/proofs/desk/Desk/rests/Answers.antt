@@ -1,0 +1,16 @@
+-- The union of two rising sets of undecided guesses.
+use Rattle.std.proofs.Common.{◌∙◌, sym, ap, subst}
+use Rattle.sk_ids.specs.declared.entity.Entity.TheVariants.{Proc, Copy}
+use Rattle.sk_kernel.specs.Kernel.{KernelView, tags_at}
+use Rattle.sk_kernel.specs.Laws.{HasSoundTrace}
+use Rattle.sk_client.proofs.DeskFacts.{rests_found}
+use Rattle.sk_client.proofs.desk.Desk.rests.Goals as goal
+
+pub returns : goal.returns
+returns c =
+    let same = c.kernel-kernel.ensures in
+    let sound : HasSoundTrace c.args.self.now.kernel = subst (λ (k : KernelView). HasSoundTrace k) same c.trace-sound.ensures.sound in
+    rests_found c.args.self.now.kernel sound c.args.pid c.args.name.now c.union.result _ _
+    (c.tags_of-process.ensures.computed ∙ ap (λ (k : KernelView). tags_at k (Proc c.args.pid)) same)
+    (c.tags_of-copy.ensures.computed ∙ ap (λ (k : KernelView). tags_at k (Copy c.args.name.now)) same)
+    c.union.ensures.members c.union.ensures.rising

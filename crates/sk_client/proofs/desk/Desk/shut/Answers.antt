@@ -1,0 +1,18 @@
+-- The kernel's trace and texts are the desk's.
+use Rattle.std.proofs.Common.{◌≡◌, ◌∙◌, ap, subst, arith}
+use Rattle.sk_terminal.specs.Terminals.{released_at}
+use Rattle.sk_kernel.specs.Kernel.{KernelView}
+use Rattle.sk_kernel.specs.Calls.{LeavesTexts}
+use Rattle.sk_client.specs.Desk.{DeskView, pending}
+use Rattle.sk_client.proofs.DeskFacts.{no_more}
+use Rattle.sk_client.proofs.desk.Desk.shut.Goals as goal
+
+pub returns : goal.returns
+returns c =
+    let kernel = ap (λ (d : DeskView). d.kernel) c.self.view_is in
+    let counted = c.pending-count.ensures in
+    let none = c.if-count-gt0.false in (
+      no_more (pending c.args.self) (omega (arith, counted, none)),
+      c.shut.ensures.trace ∙ ap (λ (k : KernelView). k.trace) kernel,
+      λ t. subst (λ (k : KernelView). LeavesTexts k t (released_at c.shut.result.1 t)) kernel (c.shut.ensures.texts t),
+    )

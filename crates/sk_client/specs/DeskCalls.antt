@@ -1,0 +1,44 @@
+-- What the calls of a desk answer.
+use Rattle.std.specs.Prelude.{◌≡◌, ℕ, ◌<◌, true, length, [], Some, None, Result, Ok, Err}
+use Rattle.sk_plain.specs.Refusal.{cause}
+use Rattle.sk_plain.specs.declared.refusal.Refusal.{Refusal}
+use Rattle.sk_trace.specs.Trace.{TraceView}
+use Rattle.sk_terminal.specs.Terminals.{TerminalMap, released_at}
+use Rattle.sk_kernel.specs.Calls.{LeavesTexts}
+use Rattle.sk_server.specs.declared.reply.Reply.{Reply}
+use Rattle.sk_client.specs.declared.rule.Rule.{Rule}
+use Rattle.sk_client.specs.declared.desk.Turn.{Turn}
+use Rattle.sk_client.specs.declared.desk.Given.{Given}
+use Rattle.sk_client.specs.declared.desk.Pending.{Pending}
+use Rattle.sk_client.specs.declared.desk.ReplyRefusal.{ReplyRefusal}
+use Rattle.sk_client.specs.declared.desk.ReplyRefusal.TheVariants.{OutOfTurn, WrongKind, Memory}
+use Rattle.sk_client.specs.Desk.{DeskView, pending, rule, rule_refused, turn_answer, turned, reply_refused, given_answer, given, wants_memory}
+
+-- what a rule says is done, or the first cause against it is told, and nothing changes
+abbrev pub RulePost : Result Turn Refusal → DeskView → ℕ → Rule → DeskView → Type 0
+RulePost (Ok turn) old pid rule new = (rule_refused old pid rule ≡ None) × (turn ≡ turn_answer old rule) × (new ≡ turned old pid rule)
+RulePost (Err why) old pid rule new = (rule_refused old pid rule ≡ cause why) × (new ≡ old)
+
+-- a turn takes the first rule that applies; a process that is not there, has ended or is blocked takes none
+abbrev pub ByRule : Result Turn Refusal → DeskView → ℕ → DeskView → Result Rule Refusal → Type 0
+ByRule result old pid new (Ok rule) = RulePost result old pid rule new
+ByRule result old pid new (Err why) = (result ≡ Err why) × (new ≡ old)
+
+abbrev pub TurnPost : Result Turn Refusal → DeskView → ℕ → DeskView → Type 0
+TurnPost result old pid new = ByRule result old pid new (rule old pid)
+
+-- why a reply comes back; memory is wanted for a step alone
+abbrev pub HandsBack : ReplyRefusal → DeskView → Reply → Type 0
+HandsBack Memory d r = (reply_refused d r d.taken ≡ None) × (wants_memory d r d.taken ≡ true)
+HandsBack (OutOfTurn expected) d r = reply_refused d r d.taken ≡ Some (OutOfTurn expected)
+HandsBack WrongKind d r = reply_refused d r d.taken ≡ Some WrongKind
+
+-- a reply is given, or comes back, and nothing changes
+abbrev pub ReplyPost : Result Given (Reply × ReplyRefusal) → DeskView → Reply → DeskView → Type 0
+ReplyPost (Ok told) old r new = (reply_refused old r old.taken ≡ None) × (told ≡ given_answer old r old.taken) × (new ≡ given old r old.taken)
+ReplyPost (Err back) old r new = (back.0 ≡ r) × HandsBack back.1 old r × (new ≡ old)
+
+-- a desk ends where no request is pending: its trace, and what its terminals have released; else it comes back
+abbrev pub ShutPost : Result (TraceView × TerminalMap) (DeskView × Pending) → DeskView → Type 0
+ShutPost (Ok left) d = (pending d ≡ []) × (left.0.events ≡ d.kernel.trace) × ((t : ℕ) → LeavesTexts d.kernel t (released_at left.1 t))
+ShutPost (Err back) d = (0 < length (pending d)) × (back.0 ≡ d) × (back.1.0 ≡ length (pending d))

@@ -1,0 +1,630 @@
+//! The desk.
+ghost use Rattle.std.specs.Prelude.{◌≡◌, ◌+◌, ◌-◌, ◌<◌, ◌≤◌, [], nat_lt, length, OnOk, IfOk, IfSome, Some, None, vec_capacity};
+ghost use Rattle.std.specs.VecDeque.{deque_capacity};
+ghost use Rattle.sk_plain.specs.Refusal.{cause};
+ghost use Rattle.sk_kernel.specs.Kernel.{undecided_at, room};
+ghost use Rattle.sk_server.specs.declared.server.TheConstants.{LAST_REQUEST};
+ghost use Rattle.sk_client.specs.Desk.{opened, pending, asks_for, asks_on, asked_count, kept_for, forgotten, kept_after, answer_kept, cached, buffer, rule, rule_next, guess_refused_at, rests_of, request_of, first_sent, first_taken, first_guess, expected, fits_ask, reply_refused, is_lost, lost_by, is_void, given, given_answer, decision_answer, input_of};
+ghost use Rattle.sk_client.specs.DeskCalls.{TurnPost, RulePost, ReplyPost, ShutPost};
+
+use crate::pending::{Kept, PendingRequest, Waiting, name_of};
+use crate::rule::{Rule, fetch_rule, store_rule, unless_kept};
+use sk_guesses::Status;
+use sk_holder::Holder;
+use sk_ids::{Entity, GuessId, Name, Pid, TagSet, Text};
+use sk_kernel::{Kernel, Outcome};
+use sk_objects::Value;
+use sk_objects::content::LAST_VERSION;
+use sk_plain::{Next, Refusal, Trace, View};
+use sk_script::Input;
+use sk_server::{Answer, Ask, LAST_REQUEST, Reply, Request};
+use sk_terminal::Texts;
+use std::alloc::{AllocError, Global};
+use std::collections::VecDeque;
+use std::marker::Model;
+use thiserror::Error;
+
+/// What a turn did.
+#[derive(Clone, Copy, Debug, PartialEq, Eq)]
+pub enum Turn {
+    Stepped,
+    Guessed(GuessId),
+    /// No step: this request was made.
+    Asked(u64),
+}
+
+/// What a reply did.
+#[derive(Clone, Copy, Debug, PartialEq, Eq)]
+pub enum Given {
+    Committed(GuessId),
+    Failed(GuessId),
+    /// The guess was struck before.
+    Gone(GuessId),
+    /// The asked step of this request was taken.
+    Taken(u64),
+    /// Nothing is done for this request.
+    Forgotten(u64),
+}
+
+/// Why a reply came back, in the order in which the causes are tried.
+#[derive(Clone, Copy, Debug, PartialEq, Eq, Error)]
+pub enum ReplyRefusal {
+    #[error("the reply to request {expected} is next")]
+    OutOfTurn { expected: u64 },
+    #[error("the reply does not fit what was asked")]
+    WrongKind,
+    #[error("out of memory")]
+    Memory,
+}
+
+/// So many requests have no reply.
+#[derive(Clone, Copy, Debug, PartialEq, Eq, Error)]
+#[error("{0} requests have no reply")]
+pub struct Pending(pub usize);
+
+/// A client's desk: a kernel, its requests without a reply, and answers that are kept for processes that were
+/// taken back. It can't be dropped: `shut` or `abandon` it.
+pub struct Desk {
+    holder: Holder,
+    taken: VecDeque<PendingRequest>,
+    waiting: VecDeque<Waiting>,
+    next: u64,
+    kept: Vec<Kept>,
+}
+
+impl Model for Desk {
+    ghost use Rattle.std.specs.VecDeque.{deque_capacity};
+    ghost use Rattle.std.specs.Prelude.{length, vec_capacity};
+    ghost use Rattle.sk_client.specs.Desk.{DeskView, desk_code};
+    ghost use Rattle.sk_client.specs.DeskInvariant.{IsTidy};
+
+    ghost Value = { DeskView };
+
+    ghost coded = { desk_code };
+
+    ghost view = { λ d. record { kernel = d.holder.kernel; taken = d.taken.items; waiting = d.waiting.items; next = d.next; kept = d.kept.items } };
+
+    ghost invariant = { λ d. IsTidy d.holder.held d.taken.items d.waiting.items (deque_capacity d.taken) (length d.kept.items) (vec_capacity d.kept) };
+}
+
+/// Makes room for one more request, here and where it is taken, and for its answer.
+fn make_room(
+    taken: &mut VecDeque<PendingRequest>,
+    waiting: &mut VecDeque<Waiting>,
+    kept: &mut Vec<Kept>,
+) -> Result<(), AllocError>
+    ensures taken { taken.new.items ≡ taken.old.items }
+    ensures waiting { waiting.new.items ≡ waiting.old.items }
+    ensures kept { kept.new.items ≡ kept.old.items }
+    ensures less { (deque_capacity taken.old ≤ deque_capacity taken.new) × (vec_capacity kept.old ≤ vec_capacity kept.new) }
+    ensures room { OnOk result ((length taken.old.items + length waiting.old.items < deque_capacity taken.new) × (length waiting.old.items < deque_capacity waiting.new) × (length kept.old.items + (length taken.old.items + length waiting.old.items) < vec_capacity kept.new)) }
+{
+    let more = waiting.len() + 1;
+    waiting.reserve(1)?;
+    taken.reserve(more)?;
+    kept.reserve(taken.len() + more)?;
+    Ok(())
+}
+
+/// Whether one of the taken requests was asked for a process.
+fn taken_for(requests: &VecDeque<PendingRequest>, pid: Pid) -> bool
+    ensures { result ≡ asks_for pid requests.now.items }
+{
+    requests.iter().any(|request| request.asks_for(pid))
+}
+
+/// Whether one of the waiting requests was asked for a process.
+fn waiting_for(requests: &VecDeque<Waiting>, pid: Pid) -> bool
+    ensures { result ≡ asks_for pid requests.now.items }
+{
+    requests
+        .iter()
+        .any(|waiting| waiting.request().asks_for(pid))
+}
+
+/// Whether one of the taken requests was asked on a name.
+fn taken_on(requests: &VecDeque<PendingRequest>, name: &Name) -> bool
+    ensures { result ≡ asks_on name.now requests.now.items }
+{
+    requests.iter().any(|request| request.asks_on(name))
+}
+
+/// Whether one of the waiting requests was asked on a name.
+fn waiting_on(requests: &VecDeque<Waiting>, name: &Name) -> bool
+    ensures { result ≡ asks_on name.now requests.now.items }
+{
+    requests
+        .iter()
+        .any(|waiting| waiting.request().asks_on(name))
+}
+
+/// How many of the taken requests were asked.
+fn asked_taken(requests: &VecDeque<PendingRequest>) -> usize
+    ensures count { result ≡ asked_count requests.now.items }
+    ensures limit { result ≤ length requests.now.items }
+{
+    requests.iter().filter(|request| request.is_asked()).count()
+}
+
+/// How many of the waiting requests were asked.
+fn asked_waiting(requests: &VecDeque<Waiting>) -> usize
+    ensures count { result ≡ asked_count requests.now.items }
+    ensures limit { result ≤ length requests.now.items }
+{
+    requests
+        .iter()
+        .filter(|waiting| waiting.request().is_asked())
+        .count()
+}
+
+/// The answer that is kept for a process.
+fn kept_for(kept: &[Kept], pid: Pid) -> Option<Input>
+    ensures { result ≡ kept_for pid kept.now }
+{
+    for one in kept {
+        if one.process == pid {
+            return Some(one.input);
+        }
+    }
+    None
+}
+
+/// Whether a guess failed or was struck.
+fn is_lost(kernel: &Kernel, id: GuessId) -> bool
+    ensures { result ≡ is_lost kernel.now id }
+{
+    let _sound = kernel.trace();
+    lost_by(kernel.status(id))
+}
+
+/// Whether a guess of this status failed or was struck.
+fn lost_by(status: Option<Status>) -> bool
+    ensures { result ≡ lost_by status }
+{
+    !matches!(status, Some(Status::Undecided | Status::Committed))
+}
+
+/// Whether a request rests on a guess that failed or was struck.
+fn is_void(kernel: &Kernel, request: &PendingRequest) -> bool
+    ensures { result ≡ is_void kernel.now request.now }
+{
+    request.rests.ids().iter().any(|id| is_lost(kernel, *id))
+}
+
+/// Whether a reply is of a kind that fits what was asked.
+fn fits_ask(ask: &Ask, answer: &Answer) -> bool
+    ensures { result ≡ fits_ask ask.now answer.now }
+{
+    match (ask, answer) {
+        (Ask::Get(_), Answer::Copy(_) | Answer::Dropped) => true,
+        (Ask::Get(_), _) | (_, Answer::Copy(_)) => false,
+        (Ask::Store(_, version, _), Answer::Yes) => *version != LAST_VERSION,
+        _ => true,
+    }
+}
+
+/// What the step of an asked request is given.
+fn input_of(answer: &Answer) -> Option<Input>
+    ensures { result ≡ input_of answer.now }
+{
+    match answer {
+        Answer::Yes => Some(Input::Good),
+        Answer::No(content) => Some(Input::Stale(*content)),
+        Answer::Copy(content) => Some(Input::Fresh(*content)),
+        Answer::Dropped => None,
+    }
+}
+
+/// What the process gets of a refused guess.
+fn answer_kept(ask: &Ask, answer: &Answer) -> Option<Input>
+    ensures { result ≡ answer_kept ask.now answer.now }
+{
+    match (ask, answer) {
+        (Ask::Store(..), Answer::No(content)) => Some(Input::Stale(*content)),
+        (_, Answer::No(content)) => Some(Input::Fresh(*content)),
+        _ => None,
+    }
+}
+
+/// Forgets the kept answer of a process.
+fn forget(kept: &mut Vec<Kept>, pid: Pid)
+    ensures items { kept.new.items ≡ forgotten pid kept.old.items }
+    ensures fewer { length kept.new.items ≤ length kept.old.items }
+    ensures room { vec_capacity kept.new ≡ vec_capacity kept.old }
+{
+    kept.retain(|one: &Kept| one.process != pid);
+}
+
+/// Keeps an answer for a process, for which there is room.
+fn keep(kept: &mut Vec<Kept>, pid: Pid, answer: Option<Input>)
+    requires { length kept.old.items < vec_capacity kept.old }
+    ensures items { kept.new.items ≡ kept_after pid answer kept.old.items }
+    ensures fewer { length kept.new.items ≤ length kept.old.items + 1 }
+    ensures room { vec_capacity kept.new ≡ vec_capacity kept.old }
+{
+    if let Some(input) = answer {
+        forget(kept, pid);
+        kept.push_reserved(Kept {
+            process: pid,
+            input,
+        });
+    }
+}
+
+impl Desk {
+    /// Takes a kernel of which no guess is undecided. This takes no memory.
+    pub fn new(alloc: Global, kernel: Kernel) -> Desk
+        requires { undecided_at kernel ≡ [] }
+        ensures { result ≡ opened kernel }
+    {
+        Desk {
+            holder: Holder::new(alloc, kernel),
+            taken: VecDeque::new(alloc),
+            waiting: VecDeque::new(alloc),
+            next: 1,
+            kept: Vec::new(alloc),
+        }
+    }
+
+    /// The kernel.
+    pub fn kernel(&self) -> &Kernel
+        ensures { result.now ≡ self.now.kernel }
+    {
+        self.holder.kernel()
+    }
+
+    /// How many requests have no reply.
+    pub fn pending(&self) -> usize
+        ensures { result ≡ length (pending self.now) }
+    {
+        self.taken.len() + self.waiting.len()
+    }
+
+    /// Whether a process waits for a reply.
+    fn asks_for(&self, pid: Pid) -> bool
+        ensures { result ≡ asks_for pid (pending self.now) }
+    {
+        taken_for(&self.taken, pid) || waiting_for(&self.waiting, pid)
+    }
+
+    /// Whether a process waits for a reply on this name.
+    fn asks_on(&self, name: &Name) -> bool
+        ensures { result ≡ asks_on name.now (pending self.now) }
+    {
+        taken_on(&self.taken, name) || waiting_on(&self.waiting, name)
+    }
+
+    /// The places of the trace that are free, with one kept for the step of each asked request.
+    fn free_places(&self) -> usize
+        ensures { result ≡ room self.now.kernel - asked_count (pending self.now) }
+    {
+        let asked = asked_taken(&self.taken) + asked_waiting(&self.waiting);
+        self.kernel().room().saturating_sub(asked)
+    }
+
+    /// The version that is cached of a name.
+    fn cached(&self, name: &Name) -> Option<u64>
+        ensures { result ≡ cached self.now.kernel name.now }
+    {
+        match self.kernel().value(&Entity::Copy(*name)) {
+            Some(View::Value(Value::Copy(content))) => Some(content.version()),
+            _ => None,
+        }
+    }
+
+    /// The buffer of a process.
+    fn buffer(&self, pid: Pid) -> Text
+        ensures { result ≡ buffer self.now.kernel pid }
+    {
+        match self.kernel().value(&Entity::Proc(pid)) {
+            Some(View::Process(process)) => process.buffer,
+            Some(View::Value(_)) => Text::empty(),
+            None => Text::empty(),
+        }
+    }
+
+    /// The rule that a turn takes for what the process does next.
+    fn rule_next(&self, pid: Pid, next: Next) -> Result<Rule, Refusal>
+        ensures { result ≡ rule_next self.now pid next }
+    {
+        let rule = match next {
+            Next::Signal => return Ok(Rule::Steps(Input::None)),
+            Next::Fetch(name) => {
+                if self.asks_on(&name) {
+                    return Err(Refusal::Blocked);
+                }
+                fetch_rule(name, self.cached(&name))
+            }
+            Next::Store(name) => {
+                if self.asks_on(&name) {
+                    return Err(Refusal::Blocked);
+                }
+                store_rule(name, self.buffer(pid), self.cached(&name))
+            }
+            Next::Private | Next::Waits | Next::Other => Rule::Steps(Input::None),
+        };
+        Ok(unless_kept(kept_for(&self.kept, pid), rule))
+    }
+
+    /// The first rule that applies to a turn of a process.
+    fn rule(&self, pid: Pid) -> Result<Rule, Refusal>
+        ensures { result ≡ rule self.now pid }
+    {
+        let next = self.kernel().next_of(pid)?;
+        if self.asks_for(pid) {
+            return Err(Refusal::Blocked);
+        }
+        self.rule_next(pid, next)
+    }
+
+    /// Takes a turn of a process. Refusals: those of the kernel's step, with one place of the trace kept for
+    /// each asked request; `Blocked` where the process, or another one on the same name, waits for a reply;
+    /// `TooMany` where no request's number is left. After a refusal everything is as it was.
+    pub fn turn(&mut self, pid: Pid) -> Result<Turn, Refusal>
+        ensures { TurnPost result self.old pid self.new }
+    {
+        match self.rule(pid)? {
+            Rule::Steps(input) => self.take_step(pid, input),
+            Rule::Guesses(ask) => self.guess(pid, ask),
+            Rule::Asks(ask) => self.ask(pid, ask),
+        }
+    }
+
+    /// A step, which takes or forgets the kept answer of its process.
+    fn take_step(&mut self, pid: Pid, input: Input) -> Result<Turn, Refusal>
+        ensures { RulePost result self.old pid (Rule.Steps input) self.new }
+    {
+        if self.free_places() < 1 {
+            let why = self.kernel().step_refusal(pid, &input);
+            return Err(why.unwrap_or(Refusal::TraceFull));
+        }
+        if let Err(why) = self.holder.step(pid, input) {
+            return Err(why);
+        }
+        forget(&mut self.kept, pid);
+        Ok(Turn::Stepped)
+    }
+
+    /// The undecided guesses that a fetch or store of a name by the process depends on.
+    fn rests(&self, pid: Pid, name: &Name) -> Result<TagSet, AllocError>
+        ensures { IfOk result (λ rests. rests ≡ rests_of self.now.kernel pid name.now) }
+    {
+        let kernel = self.kernel();
+        let _sound = kernel.trace();
+        let process = kernel.tags_of(&Entity::Proc(pid));
+        let copy = kernel.tags_of(&Entity::Copy(*name));
+        process.union(copy)
+    }
+
+    /// The next request, as it is made without a guess.
+    fn draft(&self, pid: Pid, ask: Ask) -> Result<Waiting, AllocError>
+        ensures { IfOk result (λ waiting. waiting ≡ request_of self.now pid ask None) }
+    {
+        let rests = self.rests(pid, &name_of(&ask))?;
+        let again = rests.copy()?;
+        let request = PendingRequest {
+            number: self.next,
+            process: pid,
+            ask,
+            guess: None,
+            rests,
+            settled: self.kernel().settled(),
+        };
+        Ok(Waiting::new(request, again))
+    }
+
+    /// Whether no number is left for a request.
+    fn is_numbered_out(&self) -> bool
+        ensures { result ≡ nat_lt LAST_REQUEST self.now.next }
+    {
+        self.next > LAST_REQUEST
+    }
+
+    /// The first cause against a guess with `Good`.
+    fn guess_refusal(&self, pid: Pid) -> Option<Refusal>
+        ensures refusal { result ≡ guess_refused_at self.now pid }
+        ensures told { IfSome result (λ why. cause why ≡ Some why) }
+    {
+        if let Some(why) = self.kernel().guess_refusal(pid, &Input::Good) {
+            return Some(why);
+        }
+        if self.is_numbered_out() {
+            return Some(Refusal::TooMany);
+        }
+        if self.free_places() < 2 {
+            return Some(Refusal::TraceFull);
+        }
+        None
+    }
+
+    /// A step with a guess that the cached copy is good, and a request that asks whether it is.
+    fn guess(&mut self, pid: Pid, ask: Ask) -> Result<Turn, Refusal>
+        ensures { RulePost result self.old pid (Rule.Guesses ask) self.new }
+    {
+        if let Some(why) = self.guess_refusal(pid) {
+            return Err(why);
+        }
+        let Ok(draft) = self.draft(pid, ask) else {
+            return Err(Refusal::Memory);
+        };
+        let Ok(()) = make_room(&mut self.taken, &mut self.waiting, &mut self.kept) else {
+            return Err(Refusal::Memory);
+        };
+        let id = match self.holder.guess(pid, Input::Good) {
+            Ok(id) => id,
+            Err(why) => return Err(why),
+        };
+        self.waiting.push_back_reserved(draft.with_guess(id));
+        self.next += 1;
+        Ok(Turn::Guessed(id))
+    }
+
+    /// A request without a step.
+    fn ask(&mut self, pid: Pid, ask: Ask) -> Result<Turn, Refusal>
+        ensures { RulePost result self.old pid (Rule.Asks ask) self.new }
+    {
+        if self.is_numbered_out() {
+            return Err(Refusal::TooMany);
+        }
+        if self.free_places() < 1 {
+            return Err(Refusal::TraceFull);
+        }
+        let Ok(draft) = self.draft(pid, ask) else {
+            return Err(Refusal::Memory);
+        };
+        let Ok(()) = make_room(&mut self.taken, &mut self.waiting, &mut self.kept) else {
+            return Err(Refusal::Memory);
+        };
+        let number = self.next;
+        self.waiting.push_back_reserved(draft);
+        self.next += 1;
+        Ok(Turn::Asked(number))
+    }
+
+    /// Takes the oldest request that waits; `None` where none does. This takes no memory.
+    pub fn take_request(&mut self) -> Option<Request>
+        ensures request { result ≡ first_sent self.old.waiting }
+        ensures taken { self.new ≡ first_taken self.old self.old.waiting }
+    {
+        let (pending, sent) = self.waiting.pop_front()?.taken();
+        self.taken.push_back_reserved(pending);
+        Some(sent)
+    }
+
+    /// The number of the oldest request without a reply, or of the next one.
+    fn expected(&self) -> u64
+        ensures { result ≡ expected self.now self.now.waiting }
+    {
+        match self.waiting.front() {
+            Some(waiting) => waiting.request().number,
+            None => self.next,
+        }
+    }
+
+    /// Why a reply comes back, want of memory aside.
+    fn reply_refusal(&self, reply: &Reply) -> Option<ReplyRefusal>
+        ensures { result ≡ reply_refused self.now reply.now self.now.taken }
+    {
+        let Some(request) = self.taken.front() else {
+            let expected = self.expected();
+            return Some(ReplyRefusal::OutOfTurn { expected });
+        };
+        if request.number != reply.number {
+            let expected = request.number;
+            return Some(ReplyRefusal::OutOfTurn { expected });
+        }
+        if !fits_ask(&request.ask, &reply.answer) {
+            return Some(ReplyRefusal::WrongKind);
+        }
+        None
+    }
+
+    /// Gives the reply to the oldest request that was taken. Refusals: `OutOfTurn` where it has another
+    /// number, `WrongKind` where it does not fit what was asked, `Memory` where the asked step wants some.
+    /// After a refusal everything is as it was.
+    pub fn give_reply(&mut self, reply: Reply) -> Result<Given, (Reply, ReplyRefusal)>
+        ensures { ReplyPost result self.old reply self.new }
+    {
+        if let Some(why) = self.reply_refusal(&reply) {
+            return Err((reply, why));
+        }
+        match self.taken.front() {
+            Some(request) => match request.guess {
+                Some(id) => Ok(self.decide(id, &reply)),
+                None => self.answer(reply),
+            },
+            None => unreachable!(),
+        }
+    }
+
+    /// The guess of the oldest taken request is decided by the reply to it, or was struck before.
+    fn decide(&mut self, id: GuessId, reply: &Reply) -> Given
+        requires fits { reply_refused self.old reply.now self.old.taken ≡ None }
+        requires guess { first_guess self.old.taken ≡ Some id }
+        ensures told { result ≡ given_answer self.old reply.now self.old.taken }
+        ensures left { self.new ≡ given self.old reply.now self.old.taken }
+    {
+        let Some(request) = self.taken.pop_front() else {
+            unreachable!();
+        };
+        let outcome = match reply.answer {
+            Answer::Yes => self.holder.commit(id),
+            _ => self.holder.fail(id),
+        };
+        if let Some(Outcome::Done) = outcome {
+            keep(
+                &mut self.kept,
+                request.process,
+                answer_kept(&request.ask, &reply.answer),
+            );
+            return decided(id, &reply.answer);
+        }
+        Given::Gone(id)
+    }
+
+    /// The step of the oldest taken request, which was asked, is taken with the reply to it, if the reply still
+    /// counts.
+    fn answer(&mut self, reply: Reply) -> Result<Given, (Reply, ReplyRefusal)>
+        requires fits { reply_refused self.old reply self.old.taken ≡ None }
+        requires asked { first_guess self.old.taken ≡ None }
+        ensures { ReplyPost result self.old reply self.new }
+    {
+        let Some(request) = self.taken.front() else {
+            unreachable!();
+        };
+        let (number, process) = (request.number, request.process);
+        let input = match input_of(&reply.answer) {
+            Some(input) if !is_void(self.holder.kernel(), request) => input,
+            _ => {
+                self.taken.pop_front();
+                return Ok(Given::Forgotten(number));
+            }
+        };
+        if let Err(Refusal::Memory) = self.holder.step(process, input) {
+            return Err((reply, ReplyRefusal::Memory));
+        }
+        self.taken.pop_front();
+        Ok(Given::Taken(number))
+    }
+
+    /// Ends a desk of which no request is pending: its trace, and what its terminals have released. Refused
+    /// where requests are pending. This takes no memory.
+    pub fn shut(self) -> Result<(Trace, Texts), (Desk, Pending)>
+        ensures { ShutPost result self }
+    {
+        let count = self.pending();
+        if count > 0 {
+            return Err((self, Pending(count)));
+        }
+        let Desk {
+            holder,
+            taken: _,
+            waiting: _,
+            next: _,
+            kept: _,
+        } = self;
+        Ok(holder.shut())
+    }
+
+    /// Commits the guess of each pending request, the oldest first, and ends. This takes no memory.
+    pub fn abandon(self) {
+        let Desk {
+            holder,
+            taken: _,
+            waiting: _,
+            next: _,
+            kept: _,
+        } = self;
+        holder.abandon();
+    }
+}
+
+/// What a decision by this answer comes to.
+fn decided(id: GuessId, answer: &Answer) -> Given
+    ensures { result ≡ decision_answer id answer.now }
+{
+    match answer {
+        Answer::Yes => Given::Committed(id),
+        _ => Given::Failed(id),
+    }
+}

@@ -1,6 +1,4 @@
 //! Many guesses and many rounds, and how a desk ends. With ample memory no call is refused for want of it.
-ghost use Rattle.std.specs.Prelude.{◌≡◌, [], IfOk};
-
 use crate::asking::{Told, Wish};
 use crate::plays::{Came, Did, Far, Sent, gives, serves, takes, turns};
 use crate::start::{Start, kernel_of};

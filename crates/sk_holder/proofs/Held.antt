@@ -19,7 +19,7 @@ use Rattle.sk_kernel.specs.Calls.{IsNew, IsStranger}
 use Rattle.sk_holder.specs.Tokens.{makes, commits, fails, is_unspent, all_unspent, none_of, is_held}
 use Rattle.sk_holder.specs.Holder.{ids, but}
 
-both : (a b : Bool) → (a && b) ≡ true → (a ≡ true) × (b ≡ true)
+pub both : (a b : Bool) → (a && b) ≡ true → (a ≡ true) × (b ≡ true)
 both true true e = (refl, refl)
 both true false e = absurd cc
 both false b e = absurd cc
@@ -45,7 +45,7 @@ all_at p i [] d lt h = absurd (omega arith)
 all_at p zero (x ∷ xs) d lt h = (both (p x) (list_all p xs) h).0
 all_at p (suc i) (x ∷ xs) d lt h = all_at p i xs d (omega arith) (both (p x) (list_all p xs) h).1
 
-not_same : (a b : ℕ) → not (a == b) ≡ true → a ≡ b → ⊥
+pub not_same : (a b : ℕ) → not (a == b) ≡ true → a ≡ b → ⊥
 not_same a b h e =
     let bad : not (b == b) ≡ true = rw e at h in
     let same : (b == b) ≡ true = eq-eqb b b refl in
@@ -81,7 +81,7 @@ pub record AllUnspent (k : KernelView) (t : Token) (ts : List Token) : Type 0 wh
   pub apart : none_of t.id ts ≡ true
   pub rest : all_unspent k ts ≡ true
 
-parts : (k : KernelView) (t : Token) (ts : List Token) → all_unspent k (t ∷ ts) ≡ true → AllUnspent k t ts
+pub parts : (k : KernelView) (t : Token) (ts : List Token) → all_unspent k (t ∷ ts) ≡ true → AllUnspent k t ts
 parts k t ts h =
     let a = both (is_unspent k t) _ h in
     let b = both (none_of t.id ts) _ a.1 in

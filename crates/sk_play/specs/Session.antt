@@ -1,6 +1,5 @@
 -- The tokens that a run holds.
-use Rattle.std.specs.Prelude.{◌≡◌, Option, Some, None, ℕ, zero, suc, Bool, true, false, not, ◌&&◌, ◌==◌, List, [], ◌∷◌, ◌++◌, if◌then◌else◌}
-use Rattle.std.specs.List.{list_all, list_any}
+use Rattle.std.specs.Prelude.{◌≡◌, Option, Some, None, ℕ, zero, suc, Bool, true, false, ◌==◌, List, [], ◌∷◌, ◌++◌, if◌then◌else◌}
 use Rattle.sk_guesses.specs.Token.{Token}
 use Rattle.sk_record.specs.declared.status.Status.TheVariants.{Undecided, Struck}
 use Rattle.sk_plain.specs.declared.refusal.Refusal.{Refusal}
@@ -13,40 +12,9 @@ use Rattle.sk_scenario.specs.declared.call.Call.TheVariants as calls
 use Rattle.sk_kernel.specs.Kernel.{KernelView, HasStatus, next_guess, with_event, step_refused, guess_refused}
 use Rattle.sk_kernel.specs.declared.kernel.Outcome.{Outcome}
 use Rattle.sk_kernel.specs.declared.kernel.Outcome.TheVariants as outcomes
+use Rattle.sk_holder.specs.Tokens.{is_held}
 use Rattle.sk_play.specs.declared.answer.Answer.{Answer}
 use Rattle.sk_play.specs.declared.answer.Answer.TheVariants as answers
-
--- whether an event makes a guess, whether it commits it, and whether it fails it
-abbrev pub makes : ℕ → Event → Bool
-makes id (events.Step pid input) = false
-makes id (events.Guess g pid input) = g == id
-makes id (events.Commit g) = false
-makes id (events.Fail g) = false
-
-abbrev pub commits : ℕ → Event → Bool
-commits id (events.Step pid input) = false
-commits id (events.Guess g pid input) = false
-commits id (events.Commit g) = g == id
-commits id (events.Fail g) = false
-
-abbrev pub fails : ℕ → Event → Bool
-fails id (events.Step pid input) = false
-fails id (events.Guess g pid input) = false
-fails id (events.Commit g) = false
-fails id (events.Fail g) = g == id
-
--- whether a token is not spent: it is the kernel's own, and the trace has its guess and no decision of it
-abbrev pub is_unspent : KernelView → Token → Bool
-is_unspent k t = (t.kernel == k.number) && (list_any (makes t.id) k.trace && (not (list_any (commits t.id) k.trace) && not (list_any (fails t.id) k.trace)))
-
--- whether no token is that of this guess
-abbrev pub none_of : ℕ → List Token → Bool
-none_of id tokens = list_all (λ t. not (t.id == id)) tokens
-
--- whether no token is spent, and no two are of one guess
-abbrev pub all_unspent : KernelView → List Token → Bool
-all_unspent k [] = true
-all_unspent k (t ∷ ts) = is_unspent k t && (none_of t.id ts && all_unspent k ts)
 
 -- ---- what the run answers, in terms of the kernel's calls
 
@@ -67,10 +35,6 @@ GuessTold answers.Stepped refused event old new = ⊥
 GuessTold answers.Done refused event old new = ⊥
 GuessTold answers.Gone refused event old new = ⊥
 GuessTold answers.NoToken refused event old new = ⊥
-
--- whether some token is that of this guess
-abbrev pub is_held : ℕ → List Token → Bool
-is_held id tokens = list_any (λ t. t.id == id) tokens
 
 -- the guess of the token at a place
 abbrev pub id_at : List Token → ℕ → Option ℕ

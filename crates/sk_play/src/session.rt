@@ -1,7 +1,8 @@
 //! A kernel at play, with the tokens of its guesses.
 ghost use Rattle.std.specs.Prelude.{MatchResult, IfOk, OnErr, [], None, Some, ◌≡◌, ◌+◌, ◌<◌, IfSome, true, vec_len, is_some};
 ghost use Rattle.std.specs.List.{remove};
-ghost use Rattle.sk_play.specs.Session.{all_unspent, is_held, id_at, outcome_told, entry, without_token, with_guess, tokens_after, AnswerMatches, StepTold, GuessTold, DecisionTold};
+ghost use Rattle.sk_holder.specs.Tokens.{all_unspent, is_held};
+ghost use Rattle.sk_play.specs.Session.{id_at, outcome_told, entry, without_token, with_guess, tokens_after, AnswerMatches, StepTold, GuessTold, DecisionTold};
 ghost use Rattle.sk_play.specs.Plays.{declared_kernel};
 ghost use Rattle.sk_kernel.specs.Kernel.{step_refused, guess_refused, next_guess};
 ghost use Rattle.sk_trace.specs.declared.event.Event.TheVariants as events;

@@ -1,7 +1,9 @@
 use Rattle.std.proofs.Common.{rules, ◌≡◌, true}
-use Rattle.sk_play.specs.Session.{all_unspent}
-use Rattle.sk_play.proofs.Held.{out_of, id_at_of}
-use Rattle.sk_play.proofs.Settled.{commits_keep, commit_told, commit_taken}
+use Rattle.sk_holder.specs.Tokens.{all_unspent}
+use Rattle.sk_holder.proofs.Held.{out_of}
+use Rattle.sk_play.proofs.Held.{id_at_of}
+use Rattle.sk_holder.proofs.Settled.{commits_keep, commit_taken}
+use Rattle.sk_play.proofs.Settled.{commit_told}
 use Rattle.sk_play.proofs.session.Session.commit_at.Goals as goal
 
 pub invariant_of-self : goal.invariant_of-self

@@ -1,6 +1,6 @@
 -- The token at the place that was found is the only one of its guess; where none is found, none is taken out.
 use Rattle.std.proofs.Common.{rules, ◌≡◌, true, sym, ◌∙◌}
-use Rattle.sk_play.specs.Session.{all_unspent}
+use Rattle.sk_holder.specs.Tokens.{all_unspent}
 use Rattle.sk_play.proofs.Held.{none_without, removed_without}
 use Rattle.sk_play.proofs.session.Session.fail.Goals as goal
 

@@ -1,6 +1,6 @@
 use Rattle.std.proofs.Common.{rules, ◌≡◌, true}
-use Rattle.sk_play.specs.Session.{all_unspent}
-use Rattle.sk_play.proofs.Settled.{draws_keep}
+use Rattle.sk_holder.specs.Tokens.{all_unspent}
+use Rattle.sk_holder.proofs.Settled.{draws_keep}
 use Rattle.sk_play.proofs.session.Session.guess.Goals as goal
 
 pub invariant_of-self-in-Ok : goal.invariant_of-self-in-Ok

@@ -1,7 +1,7 @@
 -- A step decides no guess, so no held token is spent.
 use Rattle.std.proofs.Common.{rules, ◌≡◌, true}
-use Rattle.sk_play.specs.Session.{all_unspent}
-use Rattle.sk_play.proofs.Settled.{steps_keep}
+use Rattle.sk_holder.specs.Tokens.{all_unspent}
+use Rattle.sk_holder.proofs.Settled.{steps_keep}
 use Rattle.sk_play.proofs.session.Session.step.Goals as goal
 
 pub invariant_of-self : goal.invariant_of-self

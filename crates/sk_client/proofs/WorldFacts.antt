@@ -1,6 +1,6 @@
 -- What holds of a world's parts, behind each of its events.
 use Rattle.std.proofs.Common.{◌≡◌, ℕ, ◌+◌, ◌<◌, ◌≤◌, Bool, true, false, not, ◌&&◌, cond, List, [], ◌∷◌, ◌++◌, length, Option, Some, None, Result, Ok, Err, refl, sym, ◌∙◌, ap, subst, arith}
-use Rattle.std.specs.Prelude.{◌==◌, nat_lt, nat_le, is_some}
+use Rattle.std.specs.Prelude.{◌==◌, nat_lt, is_some}
 use Rattle.std.proofs.lemmas.Bool.{true≢false, eqb-true, eq-eqb, ltb-false, ltb-true, le-leb}
 use Rattle.std.proofs.lemmas.List.{length-append}
 use Rattle.sk_record.specs.Notes.{has}
@@ -15,21 +15,17 @@ use Rattle.sk_server.specs.declared.request.Ask.{Ask}
 use Rattle.sk_server.specs.declared.request.Ask.TheVariants.{Get, Check, Store}
 use Rattle.sk_server.specs.declared.reply.Reply.{Reply}
 use Rattle.sk_server.specs.declared.reply.Answer.{Answer}
-use Rattle.sk_server.specs.declared.reply.Answer.TheVariants.{Yes, No, Copy, Dropped}
+use Rattle.sk_server.specs.declared.reply.Answer.TheVariants.{Yes, No, Dropped}
 use Rattle.sk_server.specs.declared.server.TheConstants.{LAST_REQUEST}
-use Rattle.sk_server.specs.declared.server.ServerRefusal.TheVariants as servers
 use Rattle.sk_server.specs.Files.{FileMap, file_of, is_fitting}
 use Rattle.sk_server.specs.Server.{ServerView, is_in_turn, is_dropped, remembered, judged, answer_to, answered}
-use Rattle.sk_server.specs.Calls.{Answers}
 use Rattle.sk_client.specs.declared.pending.PendingRequest.{PendingRequest}
 use Rattle.sk_client.specs.declared.rule.Rule.{Rule}
 use Rattle.sk_client.specs.declared.rule.Rule.TheVariants as rules
 use Rattle.sk_client.specs.declared.desk.Turn.{Turn}
-use Rattle.sk_client.specs.declared.desk.Given.{Given}
-use Rattle.sk_client.specs.declared.desk.ReplyRefusal.{ReplyRefusal}
 use Rattle.sk_client.specs.declared.desk.ReplyRefusal.TheVariants as refusals
-use Rattle.sk_client.specs.Desk.{DeskView, entry, sent, first_sent, first_taken, fits_ask, refused_by, reply_refused, no_number, no_place, guess_refused_at, rule, turned, request_of, with_request, given, given_to, answered as stepped_for, decided, input_of, is_void}
-use Rattle.sk_client.specs.DeskCalls.{ByRule, TurnPost, ReplyPost}
+use Rattle.sk_client.specs.Desk.{DeskView, entry, sent, first_sent, first_taken, fits_ask, reply_refused, no_number, no_place, guess_refused_at, rule, turned, request_of, given, given_to, answered as stepped_for, decided, input_of, is_void}
+use Rattle.sk_client.specs.DeskCalls.{ByRule, TurnPost}
 use Rattle.sk_client.specs.declared.world.WorldAnswer.{WorldAnswer}
 use Rattle.sk_client.specs.declared.world.Cause.{Cause}
 use Rattle.sk_client.specs.WorldView.{Numbered, AreReplies, IsNext, IsJoined, reply_to, AnswersWith}

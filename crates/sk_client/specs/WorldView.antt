@@ -1,18 +1,14 @@
 -- A world as its callers see it: a desk, a server, and what is on its way between them; and what each event does.
 use Rattle.std.specs.Prelude.{◌≡◌, ℕ, ◌+◌, ◌≤◌, ◌⊎◌, true, length, List, [], ◌∷◌, ◌++◌, Option, Some, None, Result, Ok, Err, refl}
 use Rattle.std.specs.Coded.{Coded, code_by, coded×, coded_list, coded_option}
-use Rattle.sk_plain.specs.declared.refusal.Refusal.{Refusal}
 use Rattle.sk_server.specs.declared.request.Request.{Request}
 use Rattle.sk_server.specs.declared.reply.Reply.{Reply}
 use Rattle.sk_server.specs.contracts.request.Request as request_row
 use Rattle.sk_server.specs.contracts.reply.Reply as reply_row
 use Rattle.sk_server.specs.declared.server.TheConstants.{LAST_REQUEST}
-use Rattle.sk_server.specs.declared.server.EditRefusal.{EditRefusal}
-use Rattle.sk_server.specs.Server.{ServerView, server_code, answer_to, answered, adds}
+use Rattle.sk_server.specs.Server.{ServerView, server_code, answer_to, answered}
 use Rattle.sk_server.specs.Calls.{Edits}
 use Rattle.sk_client.specs.declared.pending.PendingRequest.{PendingRequest}
-use Rattle.sk_client.specs.declared.desk.Turn.{Turn}
-use Rattle.sk_client.specs.declared.desk.Given.{Given}
 use Rattle.sk_client.specs.declared.desk.ReplyRefusal.TheVariants as refusals
 use Rattle.sk_client.specs.declared.world.WorldEvent.{WorldEvent}
 use Rattle.sk_client.specs.declared.world.WorldEvent.TheVariants as events

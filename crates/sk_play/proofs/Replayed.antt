@@ -1,13 +1,11 @@
 -- One more event that happens, and what a replayed trace leaves.
-use Rattle.std.proofs.Common.{◌≡◌, ℕ, ◌<◌, ◌≤◌, ◌+◌, List, [], ◌∷◌, ◌++◌, map, take, drop, zero, suc, length, get_or, refl, sym, ap, ◌∙◌, subst, arith}
+use Rattle.std.proofs.Common.{◌≡◌, ℕ, ◌<◌, ◌+◌, List, [], ◌∷◌, ◌++◌, map, take, drop, zero, suc, length, get_or, refl, sym, ap, ◌∙◌, subst, arith}
 use Rattle.std.proofs.lemmas.List.{append-nil, append_assoc}
 use Rattle.sk_guesses.specs.Token.{Token}
 use Rattle.sk_trace.specs.declared.event.Event.{Event}
 use Rattle.sk_trace.specs.declared.event.Event.TheVariants as events
-use Rattle.sk_scenario.specs.declared.call.Call.{Call}
 use Rattle.sk_kernel.specs.Kernel.{KernelView, with_event}
 use Rattle.sk_play.specs.declared.answer.Answer.{Answer}
-use Rattle.sk_play.specs.declared.answer.Answer.TheVariants as answers
 use Rattle.sk_play.specs.Session.{AnswerMatches, tokens_after}
 use Rattle.sk_play.specs.Plays.{Plays}
 use Rattle.sk_play.specs.Replays.{Replays, StopsAt, call_of, told_by, replayed}

@@ -1,5 +1,5 @@
 -- A trace that is replayed: each event is the call of a session, which is answered as the event tells.
-use Rattle.std.specs.Prelude.{◌≡◌, ℕ, ◌+◌, List, [], ◌∷◌, ◌++◌, map, length, Result, Ok, Err, ⊤}
+use Rattle.std.specs.Prelude.{◌≡◌, ℕ, ◌+◌, List, ◌∷◌, ◌++◌, map, length, Result, Ok, Err, ⊤}
 use Rattle.sk_guesses.specs.Token.{Token}
 use Rattle.sk_trace.specs.declared.event.Event.{Event}
 use Rattle.sk_trace.specs.declared.event.Event.TheVariants as events

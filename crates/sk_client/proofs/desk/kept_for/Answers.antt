@@ -1,5 +1,5 @@
 -- What is left to look at has the answer.
-use Rattle.std.proofs.Common.{◌≡◌, ◌∙◌, sym, refl, ap}
+use Rattle.std.proofs.Common.{◌∙◌, sym, refl, ap}
 use Rattle.std.proofs.lemmas.List.{drop_all}
 use Rattle.sk_client.specs.Desk.{kept_for}
 use Rattle.sk_client.proofs.DeskFacts.{kept_later, kept_here}

@@ -1,8 +1,8 @@
 -- One event more happens, or is the first that does not; at the end all have happened.
-use Rattle.std.proofs.Common.{arith, rules, ◌≡◌, ◌+◌, ◌≤◌, ◌∷◌, [], ◌++◌, length, take, get_or, sym, ◌∙◌, ap, refl, subst, false, true}
+use Rattle.std.proofs.Common.{rules, ◌≡◌, ◌+◌, take, get_or, sym, ◌∙◌, refl, subst}
 use Rattle.std.proofs.lemmas.List.{take_more, take_all}
 use Rattle.sk_play.specs.Session.{AnswerMatches}
-use Rattle.sk_play.specs.Replays.{Replays, call_of, told_by}
+use Rattle.sk_play.specs.Replays.{Replays, told_by}
 use Rattle.sk_play.proofs.Replayed.{replays_more, stops_at, leaves}
 use Rattle.sk_play.proofs.replaying.replay.Goals as goal
 

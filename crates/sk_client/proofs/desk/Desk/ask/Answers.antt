@@ -1,5 +1,5 @@
 -- One request more, which has no guess, and for which room was made.
-use Rattle.std.proofs.Common.{◌≡◌, List, ◌∷◌, ◌++◌, [], length, ℕ, sym, ◌∙◌, ap, deque_capacity}
+use Rattle.std.proofs.Common.{List, ◌∷◌, ◌++◌, [], length, ℕ, sym, ◌∙◌, ap, deque_capacity}
 use Rattle.std.specs.Vec.{vec_capacity}
 use Rattle.std.proofs.lemmas.List.{append-nil}
 use Rattle.sk_record.specs.Trace.{marks}

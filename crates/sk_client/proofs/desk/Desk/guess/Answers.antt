@@ -1,5 +1,5 @@
 -- One request more, with its guess, and for which room was made; a guess that the desk does not refuse, the kernel does not refuse.
-use Rattle.std.proofs.Common.{◌≡◌, List, ◌∷◌, ◌++◌, [], length, ℕ, Some, refl, sym, ◌∙◌, ap, subst, deque_capacity}
+use Rattle.std.proofs.Common.{◌≡◌, List, ◌∷◌, ◌++◌, [], length, ℕ, Some, sym, ◌∙◌, ap, subst, deque_capacity}
 use Rattle.std.specs.Vec.{vec_capacity}
 use Rattle.sk_record.specs.Trace.{marks}
 use Rattle.sk_script.specs.declared.instruction.Input.TheVariants as inputs

@@ -1,5 +1,5 @@
 -- The union of two rising sets of undecided guesses.
-use Rattle.std.proofs.Common.{◌∙◌, sym, ap, subst}
+use Rattle.std.proofs.Common.{◌∙◌, ap, subst}
 use Rattle.sk_ids.specs.declared.entity.Entity.TheVariants.{Proc, Copy}
 use Rattle.sk_kernel.specs.Kernel.{KernelView, tags_at}
 use Rattle.sk_kernel.specs.Laws.{HasSoundTrace}

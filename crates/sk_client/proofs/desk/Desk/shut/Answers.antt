@@ -1,5 +1,5 @@
 -- The kernel's trace and texts are the desk's.
-use Rattle.std.proofs.Common.{◌≡◌, ◌∙◌, ap, subst, arith}
+use Rattle.std.proofs.Common.{◌∙◌, ap, subst, arith}
 use Rattle.sk_terminal.specs.Terminals.{released_at}
 use Rattle.sk_kernel.specs.Kernel.{KernelView}
 use Rattle.sk_kernel.specs.Calls.{LeavesTexts}

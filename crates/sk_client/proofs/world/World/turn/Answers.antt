@@ -1,5 +1,5 @@
 -- A turn adds at most one request, at the end; a refused one changes nothing.
-use Rattle.std.proofs.Common.{◌≡◌, Ok, Err, sym, ◌∙◌, ap, subst}
+use Rattle.std.proofs.Common.{Ok, Err, ◌∙◌, ap, subst}
 use Rattle.sk_client.specs.Desk.{DeskView}
 use Rattle.sk_client.specs.DeskCalls.{TurnPost}
 use Rattle.sk_client.specs.WorldView.{WorldView}

@@ -1,8 +1,8 @@
 //! Many guesses and many rounds, and how a desk ends. With ample memory no call is refused for want of it.
-use crate::asking::{Told, Wish};
+use crate::asking::{Told, Wish, pid};
 use crate::plays::{Came, Did, Far, Sent, gives, serves, takes, turns};
-use crate::start::{Start, kernel_of};
-use sk_client::Desk;
+use crate::start::{Start, kernel_of, server_of};
+use sk_client::{Desk, World, WorldEvent};
 use sk_plain::Refusal;
 use std::process::Abort;
 use std::test::Fail;
@@ -112,5 +112,28 @@ fn shut_with_pending(rt: HostRuntime) -> Result<(), Fail> {
         Err(fail) => Err(fail),
     };
     shuts(&rt, desk, 2);
+    done
+}
+
+/// A guess, its check, its commit and a step, 2,000 times.
+fn runs(rt: &impl Abort, world: &mut World) -> Result<(), Fail> {
+    let turn = WorldEvent::Turn(pid(1)?);
+    let round = [turn, WorldEvent::Serve, WorldEvent::Reply, turn];
+    for _ in 0..2_000 {
+        assert_eq!(rt; world.run(&round), Ok(()));
+    }
+    assert_eq!(rt; world.desk().pending(), 0);
+    assert_eq!(rt; world.desk().kernel().trace().events().len(), 6_000);
+    Ok(())
+}
+
+#[test]
+fn many_rounds_of_a_world(rt: HostRuntime) -> Result<(), Fail> {
+    let start = fetching(&[b"top:\nfetch /x\njump top\n"], 6_000);
+    let server = server_of(rt.alloc(), start)?;
+    let desk = Desk::new(rt.alloc(), kernel_of(rt.alloc(), start)?);
+    let mut world = World::new(rt.alloc(), desk, server);
+    let done = runs(&rt, &mut world);
+    world.abandon();
     done
 }

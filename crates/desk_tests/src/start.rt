@@ -58,7 +58,9 @@ pub fn kernel_of(alloc: Global, start: Start<'_>) -> Result<Kernel, Fail>
 }
 
 /// The server.
-pub fn server_of(alloc: Global, start: Start<'_>) -> Result<Server, Fail> {
+pub fn server_of(alloc: Global, start: Start<'_>) -> Result<Server, Fail>
+    ensures { IfOk result (λ server. server.next ≡ 1) }
+{
     let mut server = Server::new(alloc);
     if let Some((at, version, bytes)) = start.file {
         server.seed(name(at)?, content(version, bytes)?)?;

@@ -118,7 +118,7 @@ module _ (k : KernelView) (sound : HasSoundTrace k) where
   commits_is id (events.Commit g) = refl
   commits_is id (events.Fail g) = refl
 
-  committed_is : (g : ℕ) → list_any (commits g) k.trace ≡ list_any (is_commit g) (events_of k)
+  pub committed_is : (g : ℕ) → list_any (commits g) k.trace ≡ list_any (is_commit g) (events_of k)
   committed_is g = mapped (commits g) (is_commit g) (commits_is g) k.trace
 
   never : (b : Bool) → (b ≡ true → ⊥) → b ≡ false

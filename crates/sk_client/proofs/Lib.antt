@@ -8,3 +8,9 @@ pub mod Taken
 pub mod Table
 pub mod DeskFacts
 pub mod WorldFacts
+pub mod SeenFacts
+pub mod SeenTurn
+pub mod SeenServer
+pub mod SeenServe
+pub mod SeenReply
+pub mod Seen

@@ -3,3 +3,4 @@ pub mod Desk
 pub mod DeskCalls
 pub mod DeskInvariant
 pub mod WorldView
+pub mod LawWorld

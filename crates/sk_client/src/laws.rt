@@ -1,6 +1,6 @@
 //! What holds of a kernel with its desk and a server, after every list of turns, replies and foreign edits: the laws of
 //! worlds at the kernel's table of instructions. Each law is the contract of a function that does nothing.
-ghost use Rattle.std.specs.Prelude.{◌≡◌, ℕ, List};
+ghost use Rattle.std.specs.Prelude.{◌≡◌, ℕ, List, []};
 ghost use Rattle.sk_record.specs.Trace.{Event};
 ghost use Rattle.sk_script.specs.Boot.{BootView};
 ghost use Rattle.sk_store.specs.State.{State};
@@ -11,7 +11,13 @@ ghost use Rattle.sk_world.specs.World.{kernel};
 ghost use Rattle.sk_world.specs.Labels.{labelled, IsBare};
 ghost use Rattle.sk_world.specs.Laws.{IsFirst, AcceptedStand, AcceptedStood};
 ghost use Rattle.sk_world.specs.Laws.{FilesAreChanged, StoresAreReplied, PlacesAreKept};
+ghost use Rattle.sk_kernel.specs.Kernel.{booted};
+ghost use Rattle.sk_server.specs.Server.{ServerView};
 ghost use Rattle.sk_client.specs.Table.{Bytes, Caused, table, bare, begun, IsNumbered};
+ghost use Rattle.sk_client.specs.Desk.{opened};
+ghost use Rattle.sk_client.specs.LawWorld.{Leads, IsSeenAfter};
+ghost use Rattle.sk_client.specs.WorldView.{WorldView, joined};
+ghost use Rattle.sk_client.specs.declared.world.WorldEvent.{WorldEvent};
 
 use sk_script::{Boot, BootProcess};
 
@@ -51,6 +57,14 @@ pub fn kernels()
 pub fn begins()
     ensures { (boot : BootView) (limit : ℕ) (files : Bytes → Content Bytes)
         → IsFirst (table boot.scripts limit) (start_of boot) (begun files) }
+{}
+
+/// A world whose kernel was just booted, and whose server has answered nothing, is after any list of its events one of
+/// those that the other laws are about, seen from outside.
+pub fn worlds()
+    ensures { (number : ℕ) (boot : BootView) (limit : ℕ) (server : ServerView) → IsNumbered boot → server.next ≡ 1 → server.refused ≡ []
+        → (es : List WorldEvent) (last : WorldView) → Leads (joined (opened (booted number boot limit)) server) es last
+        → IsSeenAfter boot limit server last }
 {}
 
 /// The numbers of a boot's processes are as the laws ask.

@@ -1,0 +1,314 @@
+-- Whatever happens in a world, it is seen like one of those that the laws are about.
+use Rattle.std.proofs.Common.{◌≡◌, ℕ, ◌≤◌, true, false, cond, List, [], ◌∷◌, ◌++◌, Option, Some, None, Result, Ok, Err, refl, sym, ◌∙◌, ap, subst}
+use Rattle.std.proofs.lemmas.List.Sums.{fold-append}
+use Rattle.sk_record.proofs.Sound.{sound_first}
+use Rattle.sk_script.specs.Boot.{BootView}
+use Rattle.sk_script.specs.Scripts.{ScriptMap}
+use Rattle.sk_store.specs.State.{State}
+use Rattle.sk_store.specs.Start.{start_of}
+use Rattle.sk_plain.specs.Act.{plain}
+use Rattle.sk_plain.specs.declared.refusal.Refusal.{Refusal}
+use Rattle.sk_kernel.specs.Kernel.{KernelView, booted, step_refused, undecided_at}
+use Rattle.sk_record.specs.Notes.{has}
+use Rattle.sk_script.specs.declared.instruction.Input.{Input}
+use Rattle.sk_server.specs.Files.{file_of, is_fitting, written}
+use Rattle.sk_server.specs.Server.{ServerView}
+use Rattle.sk_server.specs.Calls.{Edits}
+use Rattle.sk_server.specs.declared.request.Request.{Request as Sent}
+use Rattle.sk_server.specs.declared.reply.Answer.{Answer}
+use Rattle.sk_server.specs.declared.reply.Reply.{Reply}
+use Rattle.sk_world.specs.Server.{Change}
+use Rattle.sk_world.specs.World.{World, WorldEvent as LawEvent, Turn, Serve, Reply as Replies, Edit, pending as law_pending, places, edited, event, world_after}
+use Rattle.sk_world.proofs.First.{places_are_kept}
+use Rattle.sk_client.specs.Table.{Bytes, table, begun, IsNumbered}
+use Rattle.sk_client.specs.Desk.{DeskView, opened, entry, decided, input_of, answered, given_to, given, is_void, stepped, turned}
+use Rattle.sk_client.specs.DeskCalls.{ByRule, TurnPost, ReplyPost}
+use Rattle.sk_client.specs.LawWorld.{law_content, IsSeenAfter, Leads}
+use Rattle.sk_client.specs.WorldView.{WorldView, joined, taken_by, taken_from, served, Serves, Replies as RepliesSo, Turns, EditsFile, EventPost, IsNext, IsJoined}
+use Rattle.sk_client.specs.declared.pending.PendingRequest.{PendingRequest}
+use Rattle.sk_client.specs.declared.rule.Rule.{Rule}
+use Rattle.sk_client.specs.declared.rule.Rule.TheVariants as rules
+use Rattle.sk_client.specs.declared.desk.Turn.{Turn as Told}
+use Rattle.sk_client.specs.declared.desk.Given.{Given}
+use Rattle.sk_client.specs.declared.world.WorldEvent.{WorldEvent}
+use Rattle.sk_client.specs.declared.world.WorldEvent.TheVariants as events
+use Rattle.sk_client.specs.declared.world.WorldAnswer.{WorldAnswer}
+use Rattle.sk_client.specs.declared.world.WorldAnswer.TheVariants as answers
+use Rattle.sk_client.specs.declared.world.Cause.{Cause}
+use Rattle.sk_client.specs.declared.world.Cause.TheVariants as causes
+use Rattle.sk_client.proofs.Table.{is_table, begins}
+use Rattle.sk_client.proofs.WorldFacts.{turn_joined, taken_joined, answer_joined, oldest, given_joined, begun_joined}
+use Rattle.sk_client.proofs.SeenFacts.{Fits}
+use Rattle.sk_client.proofs.SeenServer.{fitting_seen, changed_seen}
+use Rattle.sk_client.proofs.SeenTurn.{turn_fits}
+use Rattle.sk_client.proofs.SeenServe.{last_of, taken_fits, serve_fits}
+use Rattle.sk_client.proofs.SeenReply.{reply_fits}
+
+-- ---- the kernel keeps its scripts, its start and its limit
+
+pub record SameBoot (k l : KernelView) : Type 0 where
+  pub scripts : l.scripts ≡ k.scripts
+  pub start : l.start ≡ k.start
+  pub limit : l.limit ≡ k.limit
+
+same_boot : (k : KernelView) → SameBoot k k
+same_boot k = record { scripts = refl; start = refl; limit = refl }
+
+turned_boot : (d : DeskView) (p : ℕ) (rule : Rule) → SameBoot d.kernel (turned d p rule).kernel
+turned_boot d p (rules.Steps input) = record { scripts = refl; start = refl; limit = refl }
+turned_boot d p (rules.Guesses ask) = record { scripts = refl; start = refl; limit = refl }
+turned_boot d p (rules.Asks ask) = record { scripts = refl; start = refl; limit = refl }
+
+ruled_boot : (turn : Told) (old new : DeskView) (p : ℕ) (r : Result Rule Refusal) → ByRule (Ok turn) old p new r → SameBoot old.kernel new.kernel
+ruled_boot turn old new p (Ok rule) h = subst (λ (d : DeskView). SameBoot old.kernel d.kernel) (sym h.2) (turned_boot old p rule)
+ruled_boot turn old new p (Err why) h = absurd (let bad : Ok turn ≡ Err why = h.0 in cc)
+
+stepped_boot : (k : KernelView) (p : ℕ) (input : Input) (refused : Option Refusal) → SameBoot k (stepped k p input refused)
+stepped_boot k p input None = record { scripts = refl; start = refl; limit = refl }
+stepped_boot k p input (Some why) = same_boot k
+
+answered_boot : (d : DeskView) (q : PendingRequest) (input : Option Input) → SameBoot d.kernel (answered d q input).kernel
+answered_boot d q None = same_boot d.kernel
+answered_boot d q (Some input) = stepped_boot d.kernel q.process input (step_refused d.kernel (entry q.process input None))
+
+given_boot : (d : DeskView) (q : PendingRequest) (a : Answer) (g : Option ℕ) → SameBoot d.kernel (given_to d q a g).kernel
+given_boot d q a (Some g) = elim (has g (undecided_at d.kernel)) as (λ b. SameBoot d.kernel (cond b (decided d q g a) d).kernel) [
+  | true ↦ record { scripts = refl; start = refl; limit = refl }
+  | false ↦ same_boot d.kernel
+]
+given_boot d q a None = elim (is_void d.kernel q) as (λ b. SameBoot d.kernel (cond b d (answered d q (input_of a))).kernel) [
+  | true ↦ same_boot d.kernel
+  | false ↦ answered_boot d q (input_of a)
+]
+
+replied_boot : (d : DeskView) (r : Reply) (qs : List PendingRequest) → SameBoot d.kernel (given d r qs).kernel
+replied_boot d r [] = same_boot d.kernel
+replied_boot d r (q ∷ qs) = given_boot (record d { taken = qs }) q r.answer q.guess
+
+boot_more : (k l m : KernelView) → SameBoot k l → SameBoot l m → SameBoot k m
+boot_more k l m a b = record { scripts = b.scripts ∙ a.scripts; start = b.start ∙ a.start; limit = b.limit ∙ a.limit }
+
+-- such kernels make the same of a list of events
+after_same : (k l : KernelView) → SameBoot k l → (w : World ℕ Bytes Bytes) (es : List (LawEvent ℕ Bytes Bytes))
+    → world_after (table l.scripts l.limit) l.start w es ≡ world_after (table k.scripts k.limit) k.start w es
+after_same k l same w es = λ i. world_after (table (same.scripts i) (same.limit i)) (same.start i) w es
+
+-- the server's next request is the same after an edit
+edited_next : (s : ServerView) (b : Option Sent) (d : DeskView) (name : Bytes) (version : ℕ) (bytes : Bytes) → IsNext s b d → IsNext (record s { files = written s.files name version bytes }) b d
+edited_next s None d name version bytes h = h
+edited_next s (Some b) d name version bytes h = h
+
+-- ---- one event
+
+-- what an event of the laws, or none, makes of a world that fits
+pub record Onward (w : World ℕ Bytes Bytes) (v new : WorldView) : Type 0 where
+  pub event_of : List (LawEvent ℕ Bytes Bytes)
+  pub fits : Fits (world_after (table v.desk.kernel.scripts v.desk.kernel.limit) v.desk.kernel.start w event_of) new
+  pub joined : IsJoined new.desk new.server new.replies new.back
+  pub boot : SameBoot v.desk.kernel new.desk.kernel
+
+module _ (w : World ℕ Bytes Bytes) (v : WorldView) (f : Fits w v) (j : IsJoined v.desk v.server v.replies v.back) where
+  same : (new : WorldView) → new ≡ v → Onward w v new
+  same new is = subst (λ (x : WorldView). Onward w v x) (sym is) (record { event_of = []; fits = f; joined = j; boot = same_boot v.desk.kernel })
+
+  -- ---- a turn
+
+  turned_on : (turn : Told) (p : ℕ) (new : WorldView) → TurnPost (Ok turn) v.desk p new.desk → new ≡ record v { desk = new.desk } → Onward w v new
+  turned_on turn p new h is =
+      subst (λ (x : WorldView). Onward w v x) (sym is) (record {
+        event_of = Turn p ∷ [];
+        fits = turn_fits w v f p turn new.desk h;
+        joined = turn_joined v.server v.replies v.back v.desk new.desk p turn j h;
+        boot = ruled_boot turn v.desk new.desk p _ h;
+      })
+
+  turns : (told : Result WorldAnswer Cause) (p : ℕ) (new : WorldView) → Turns told v p new → Onward w v new
+  turns (Ok (answers.Turn turn)) p new h = turned_on turn p new h.0 h.1
+  turns (Ok (answers.Served reply)) p new h = absurd h
+  turns (Ok (answers.Given told)) p new h = absurd h
+  turns (Ok (answers.Edited version)) p new h = absurd h
+  turns (Err (causes.Turn why)) p new h = same new h.1
+  turns (Err causes.Idle) p new h = absurd h
+  turns (Err (causes.Edit why)) p new h = absurd h
+  turns (Err causes.Memory) p new h = absurd h
+
+  -- ---- an edit
+
+  abbrev change : Bytes → ℕ → Bytes → Change Bytes Bytes
+  change name version bytes = record { name = name; version = version; bytes = bytes }
+
+  edit_fits : (name : Bytes) (version : ℕ) (bytes : Bytes) → is_fitting v.server.files name version ≡ true
+      → Fits (event (table v.desk.kernel.scripts v.desk.kernel.limit) v.desk.kernel.start w (Edit (change name version bytes))) (record v { server = record v.server { files = written v.server.files name version bytes } })
+  edit_fits name version bytes fits =
+      subst (λ b. Fits (edited (table v.desk.kernel.scripts v.desk.kernel.limit) v.desk.kernel.start w (change name version bytes) b) (record v { server = record v.server { files = written v.server.files name version bytes } }))
+      (sym (fitting_seen w.server.files v.server.files name version bytes f.seen.files ∙ fits))
+      (record {
+        seen = record {
+          trace = f.seen.trace;
+          drawn = f.seen.drawn;
+          next = f.seen.next;
+          kept = f.seen.kept;
+          taken = f.seen.taken;
+          waiting = f.seen.waiting;
+          files = changed_seen w.server.files v.server.files name version bytes f.seen.files fits;
+          refused = f.seen.refused;
+        };
+        sound = f.sound;
+        kinds = f.kinds;
+      })
+
+  edited_on : (name : Bytes) (expected : ℕ) (bytes : Bytes) (version : ℕ) (new : WorldView) → Edits v.server name expected bytes (Ok version) new.server → new ≡ record v { server = new.server } → Onward w v new
+  edited_on name expected bytes version new h is =
+      subst (λ (x : WorldView). Onward w v x) (sym (is ∙ ap (λ (s : ServerView). record v { server = s }) h.2)) (record {
+        event_of = Edit (change name expected bytes) ∷ [];
+        fits = edit_fits name expected bytes h.0;
+        joined = record { replies = j.replies; next = edited_next v.server v.back v.desk name expected bytes j.next; last = j.last };
+        boot = same_boot v.desk.kernel;
+      })
+
+  edits : (told : Result WorldAnswer Cause) (name : Bytes) (expected : ℕ) (bytes : Bytes) (new : WorldView) → EditsFile told v name expected bytes new → Onward w v new
+  edits (Ok (answers.Turn turn)) name expected bytes new h = absurd h
+  edits (Ok (answers.Served reply)) name expected bytes new h = absurd h
+  edits (Ok (answers.Given told)) name expected bytes new h = absurd h
+  edits (Ok (answers.Edited version)) name expected bytes new h = edited_on name expected bytes version new h.0 h.1
+  edits (Err (causes.Turn why)) name expected bytes new h = absurd h
+  edits (Err causes.Idle) name expected bytes new h = absurd h
+  edits (Err (causes.Edit why)) name expected bytes new h = same new h.1
+  edits (Err causes.Memory) name expected bytes new h = absurd h
+
+  -- ---- a request is taken
+
+  took : (qs : List PendingRequest) → v.desk.waiting ≡ qs → IsJoined v.desk v.server v.replies None → v.back ≡ None
+      → IsJoined (taken_from v qs).desk (taken_from v qs).server (taken_from v qs).replies (taken_from v qs).back × SameBoot v.desk.kernel (taken_from v qs).desk.kernel
+  took [] is before none = (j, same_boot v.desk.kernel)
+  took (q ∷ qs) is before none = (taken_joined v.server v.replies v.desk (record v.desk { taken = v.desk.taken ++ q ∷ []; waiting = qs }) q qs is refl before, record { scripts = refl; start = refl; limit = refl })
+
+  took_any : (b : Option Sent) → v.back ≡ b → IsJoined (taken_by v b).desk (taken_by v b).server (taken_by v b).replies (taken_by v b).back × SameBoot v.desk.kernel (taken_by v b).desk.kernel
+  took_any (Some q) is = (j, same_boot v.desk.kernel)
+  took_any None is = took v.desk.waiting refl (subst (λ (o : Option Sent). IsJoined v.desk v.server v.replies o) is j) is
+
+-- ---- the server answers
+
+module _ (w : World ℕ Bytes Bytes) (v : WorldView) (f : Fits w v) (j : IsJoined v.desk v.server v.replies v.back) where
+  answered_on : (b : Sent) → v.back ≡ Some b → Onward w v (served v b)
+  answered_on b is =
+      let before : IsJoined v.desk v.server v.replies (Some b) = subst (λ (o : Option Sent). IsJoined v.desk v.server v.replies o) is j in
+      record {
+        event_of = Serve ∷ [];
+        fits = serve_fits w v f b (last_of v.desk.taken v.replies b before.replies);
+        joined = answer_joined v.desk v.server (served v b).server v.replies (served v b).replies b refl refl before;
+        boot = same_boot v.desk.kernel;
+      }
+
+  serves : (told : Result WorldAnswer Cause) (new : WorldView) (b : Option Sent) → v.back ≡ b → Serves told v new b → Onward w v new
+  serves told new None is h = same w v f j new h.1
+  serves (Ok x) new (Some b) is h = subst (λ (x : WorldView). Onward w v x) (sym h.1) (answered_on b is)
+  serves (Err why) new (Some b) is h = same w v f j new h.1
+
+-- ---- a reply is given
+
+module _ (w : World ℕ Bytes Bytes) (v : WorldView) (f : Fits w v) (j : IsJoined v.desk v.server v.replies v.back)
+    (placed : places (table v.desk.kernel.scripts v.desk.kernel.limit) v.desk.kernel.start w.trace (law_pending w) ≤ v.desk.kernel.limit) where
+  given_on : (told : Given) (new : WorldView) (r : Reply) (rs : List Reply) → v.replies ≡ r ∷ rs → ReplyPost (Ok told) v.desk r new.desk → new ≡ record v { desk = new.desk; replies = rs } → Onward w v new
+  given_on told new r rs is h same =
+      let before : IsJoined v.desk v.server (r ∷ rs) v.back = subst (λ (xs : List Reply). IsJoined v.desk v.server xs v.back) is j in
+      subst (λ (x : WorldView). Onward w v x) (sym same) (record {
+        event_of = Replies ∷ [];
+        fits = reply_fits w v f r rs is (oldest v.desk v.server r rs v.back before) placed new.desk h.2;
+        joined = given_joined v.desk new.desk v.server r rs v.back h.2 before;
+        boot = subst (λ (d : DeskView). SameBoot v.desk.kernel d.kernel) (sym h.2) (replied_boot v.desk r v.desk.taken);
+      })
+
+  replies : (told : Result WorldAnswer Cause) (new : WorldView) (rs : List Reply) → v.replies ≡ rs → RepliesSo told v new rs → Onward w v new
+  replies told new [] is h = same w v f j new h.1
+  replies (Ok (answers.Given told)) new (r ∷ rs) is h = given_on told new r rs is h.0 h.1
+  replies (Ok (answers.Turn turn)) new (r ∷ rs) is h = absurd h
+  replies (Ok (answers.Served reply)) new (r ∷ rs) is h = absurd h
+  replies (Ok (answers.Edited version)) new (r ∷ rs) is h = absurd h
+  replies (Err why) new (r ∷ rs) is h = same w v f j new h.2
+
+  onward : (told : Result WorldAnswer Cause) (e : WorldEvent) (new : WorldView) → EventPost told v e new → Onward w v new
+  onward told (events.Turn p) new h = turns w v f j told p new h
+  onward told events.Serve new h =
+      let t = taken_by v v.back in
+      let took = took_any w v f j v.back refl in
+      let on : Onward w t new = serves w t (taken_fits w v f j) took.0 told new t.back refl h in
+      record {
+        event_of = on.event_of;
+        fits = subst (λ (x : World ℕ Bytes Bytes). Fits x new) (after_same v.desk.kernel t.desk.kernel took.1 w on.event_of) on.fits;
+        joined = on.joined;
+        boot = boot_more v.desk.kernel t.desk.kernel new.desk.kernel took.1 on.boot;
+      }
+  onward told events.Reply new h = replies told new v.replies refl h
+  onward told (events.Edit name expected bytes) new h = edits w v f j told name expected bytes new h
+
+-- ---- all events
+
+module _ (boot : BootView) (limit : ℕ) (numbered : IsNumbered boot) (server : ServerView) where
+  abbrev first : World ℕ Bytes Bytes
+  first = begun (λ name. law_content (file_of server.files name))
+
+  -- a kernel of that boot, in a world that some list of the laws' events leads to
+  pub record Reached (v : WorldView) : Type 0 where
+    pub events_before : List (LawEvent ℕ Bytes Bytes)
+    pub fits : Fits (world_after (table boot.scripts limit) (start_of boot) (begun (λ name. law_content (file_of server.files name))) events_before) v
+    pub joined : IsJoined v.desk v.server v.replies v.back
+    pub scripts : v.desk.kernel.scripts ≡ boot.scripts
+    pub start : v.desk.kernel.start ≡ start_of boot
+    pub limit_is : v.desk.kernel.limit ≡ limit
+
+  after : List (LawEvent ℕ Bytes Bytes) → World ℕ Bytes Bytes
+  after es = world_after (table boot.scripts limit) (start_of boot) first es
+
+  one_event : (v : WorldView) → Reached v → (told : Result WorldAnswer Cause) (e : WorldEvent) (new : WorldView) → EventPost told v e new → Reached new
+  one_event v r told e new h =
+      let w = world_after (table boot.scripts limit) (start_of boot) first r.events_before in
+      let K = v.desk.kernel in
+      let kept = places_are_kept (table boot.scripts limit) (start_of boot) (is_table boot.scripts limit boot numbered) first (begins boot limit (λ name. law_content (file_of server.files name))) r.events_before in
+      let placed : places (table K.scripts K.limit) K.start w.trace (law_pending w) ≤ K.limit =
+      subst (λ (k : ScriptMap × (State × ℕ)). places (table k.0 k.1.1) k.1.0 w.trace (law_pending w) ≤ k.1.1) (λ i. (sym r.scripts i, (sym r.start i, sym r.limit_is i))) kept in
+      let on = onward w v r.fits r.joined placed told e new h in
+      let same : world_after (table K.scripts K.limit) K.start w on.event_of ≡ world_after (table boot.scripts limit) (start_of boot) first (r.events_before ++ on.event_of) =
+      (λ i. world_after (table (r.scripts i) (r.limit_is i)) (r.start i) w on.event_of)
+      ∙ sym (fold-append (event (table boot.scripts limit) (start_of boot)) first r.events_before on.event_of) in
+      record {
+        events_before = r.events_before ++ on.event_of;
+        fits = subst (λ (x : World ℕ Bytes Bytes). Fits x new) same on.fits;
+        joined = on.joined;
+        scripts = on.boot.scripts ∙ r.scripts;
+        start = on.boot.start ∙ r.start;
+        limit_is = on.boot.limit ∙ r.limit_is;
+      }
+
+  all_events : (v : WorldView) (es : List WorldEvent) (last : WorldView) → Reached v → Leads v es last → Reached last
+  all_events v [] last r h = subst (λ (x : WorldView). Reached x) (sym h) r
+  all_events v (e ∷ es) last r h = all_events h.1 es last (one_event v r h.0 e h.1 h.2) h.3
+
+  at_first : (number : ℕ) → server.next ≡ 1 → server.refused ≡ [] → Reached (joined (opened (booted number boot limit)) server)
+  at_first number next refused = record {
+    events_before = [];
+    fits = record {
+      seen = record {
+        trace = refl;
+        drawn = refl;
+        next = refl;
+        kept = λ pid. refl;
+        taken = refl;
+        waiting = refl;
+        files = λ name. refl;
+        refused = sym refused;
+      };
+      sound = sound_first (plain boot.scripts) (start_of boot);
+      kinds = tt;
+    };
+    joined = begun_joined (opened (booted number boot limit)) server refl refl refl next;
+    scripts = refl;
+    start = refl;
+    limit_is = refl;
+  }
+
+  pub seen_after : (number : ℕ) → server.next ≡ 1 → server.refused ≡ [] → (es : List WorldEvent) (last : WorldView) → Leads (joined (opened (booted number boot limit)) server) es last
+      → IsSeenAfter boot limit server last
+  seen_after number next refused es last h =
+      let r = all_events (joined (opened (booted number boot limit)) server) es last (at_first number next refused) h in
+      (r.events_before, r.fits.seen)

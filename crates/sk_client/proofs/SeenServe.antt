@@ -1,0 +1,134 @@
+-- The server answers in a world of the laws, and in one that is seen so.
+use Rattle.std.proofs.Common.{◌≡◌, ℕ, List, [], ◌∷◌, ◌++◌, map, Option, Some, None, refl, sym, ◌∙◌, ap, subst}
+use Rattle.std.proofs.lemmas.List.{append_assoc}
+use Rattle.sk_objects.specs.declared.content.TheConstants.{LAST_VERSION}
+use Rattle.sk_server.specs.Server.{answer_to}
+use Rattle.sk_server.specs.declared.request.Request.{Request as Sent}
+use Rattle.sk_server.specs.declared.reply.Reply.{Reply}
+use Rattle.std.specs.Prelude.{bytes_eq}
+use Rattle.sk_world.specs.Requests.{Answer}
+use Rattle.sk_world.specs.Server.{answer_to as law_answer_to, answered as law_answered, accepted}
+use Rattle.sk_world.specs.World.{World, Serve, serve, event}
+use Rattle.sk_client.specs.Table.{Bytes, table}
+use Rattle.sk_client.specs.Desk.{sent, first_taken}
+use Rattle.sk_client.specs.LawWorld.{law_answer, law_request, law_served, unanswered}
+use Rattle.sk_client.specs.WorldView.{WorldView, taken_by, taken_from, reply_to, served, AreReplies, IsJoined}
+use Rattle.sk_client.specs.declared.pending.PendingRequest.{PendingRequest}
+use Rattle.sk_client.proofs.SeenFacts.{AreFor, Fits}
+use Rattle.sk_client.proofs.SeenServer.{answer_seen, refused_seen, files_seen}
+
+-- ---- each request that was taken has its reply
+
+served_longer : (qs : List PendingRequest) (rs : List Reply) (q : PendingRequest) → AreReplies rs None qs → law_served (qs ++ q ∷ []) rs ≡ law_served qs rs
+served_longer [] [] q h = refl
+served_longer [] (r ∷ rs) q h = absurd h
+served_longer (x ∷ xs) [] q h = absurd h
+served_longer (x ∷ xs) (r ∷ rs) q h = ap (λ ys. (law_request x, law_answer r.answer) ∷ ys) (served_longer xs rs q h.2)
+
+none_waits : (qs : List PendingRequest) (rs : List Reply) → AreReplies rs None qs → unanswered qs rs ≡ []
+none_waits [] [] h = refl
+none_waits [] (r ∷ rs) h = absurd h
+none_waits (x ∷ xs) [] h = absurd h
+none_waits (x ∷ xs) (r ∷ rs) h = none_waits xs rs h.2
+
+one_waits : (qs : List PendingRequest) (rs : List Reply) (q : PendingRequest) → AreReplies rs None qs → unanswered (qs ++ q ∷ []) rs ≡ q ∷ []
+one_waits [] [] q h = refl
+one_waits [] (r ∷ rs) q h = absurd h
+one_waits (x ∷ xs) [] q h = absurd h
+one_waits (x ∷ xs) (r ∷ rs) q h = one_waits xs rs q h.2
+
+-- ---- but for the last, which was handed back
+
+pub record Last (qs : List PendingRequest) (rs : List Reply) (b : Sent) : Type 0 where
+  pub request : PendingRequest
+  pub sent_so : b ≡ sent request
+  pub alone : unanswered qs rs ≡ request ∷ []
+  pub served : (r : Reply) → law_served qs (rs ++ r ∷ []) ≡ law_served qs rs ++ (law_request request, law_answer r.answer) ∷ []
+  pub none : (r : Reply) → unanswered qs (rs ++ r ∷ []) ≡ []
+
+last_more : (x : PendingRequest) (xs : List PendingRequest) (r : Reply) (rs : List Reply) (b : Sent) → Last xs rs b → Last (x ∷ xs) (r ∷ rs) b
+last_more x xs r rs b l = record {
+  request = l.request;
+  sent_so = l.sent_so;
+  alone = l.alone;
+  served = λ s. ap (λ ys. (law_request x, law_answer r.answer) ∷ ys) (l.served s);
+  none = l.none;
+}
+
+pub last_of : (qs : List PendingRequest) (rs : List Reply) (b : Sent) → AreReplies rs (Some b) qs → Last qs rs b
+last_of [] [] b h = absurd h
+last_of [] (r ∷ rs) b h = absurd h
+last_of (q ∷ []) [] b h = record { request = q; sent_so = h; alone = refl; served = λ r. refl; none = λ r. refl }
+last_of (q ∷ x ∷ xs) [] b h = absurd h
+last_of (q ∷ qs) (r ∷ rs) b h = last_more q qs r rs b (last_of qs rs b h.2)
+
+-- ---- a request is taken, of which the laws see nothing
+
+module _ (w : World ℕ Bytes Bytes) (v : WorldView) (f : Fits w v) where
+  taking : (q : PendingRequest) (qs : List PendingRequest) → v.desk.waiting ≡ q ∷ qs → AreReplies v.replies None v.desk.taken
+      → Fits w (record v { desk = first_taken v.desk (q ∷ qs); back = Some (sent q) })
+  taking q qs is replies = record {
+    seen = record {
+      trace = f.seen.trace;
+      drawn = f.seen.drawn;
+      next = f.seen.next;
+      kept = f.seen.kept;
+      taken = f.seen.taken ∙ sym (served_longer v.desk.taken v.replies q replies);
+      waiting = f.seen.waiting ∙ (λ i. map law_request (none_waits v.desk.taken v.replies replies i ++ is i)) ∙ (λ i. map law_request (sym (one_waits v.desk.taken v.replies q replies) i ++ qs));
+      files = f.seen.files;
+      refused = f.seen.refused;
+    };
+    sound = f.sound;
+    kinds = subst AreFor (ap (λ xs. v.desk.taken ++ xs) is ∙ sym (append_assoc v.desk.taken (q ∷ []) qs)) f.kinds;
+  }
+
+  taking_any : (qs : List PendingRequest) → v.desk.waiting ≡ qs → AreReplies v.replies None v.desk.taken → Fits w (taken_from v qs)
+  taking_any [] is replies = f
+  taking_any (q ∷ qs) is replies = taking q qs is replies
+
+  by_back : (b : Option Sent) → v.back ≡ b → AreReplies v.replies b v.desk.taken → Fits w (taken_by v b)
+  by_back (Some q) is replies = f
+  by_back None is replies = taking_any v.desk.waiting refl replies
+
+  pub taken_fits : IsJoined v.desk v.server v.replies v.back → Fits w (taken_by v v.back)
+  taken_fits j = by_back v.back refl j.replies
+
+  -- ---- the answer
+
+  module _ (b : Sent) (l : Last v.desk.taken v.replies b) where
+    first_is : w.waiting ≡ law_request l.request ∷ map law_request v.desk.waiting
+    first_is = f.seen.waiting ∙ ap (λ xs. map law_request (xs ++ v.desk.waiting)) l.alone
+
+    answer_is : law_answer_to bytes_eq LAST_VERSION w.server (law_request l.request) ≡ law_answer (answer_to v.server b)
+    answer_is = answer_seen w.server v.server f.seen.files f.seen.refused l.request ∙ ap (λ q. law_answer (answer_to v.server q)) (sym l.sent_so)
+
+    abbrev serving : Answer Bytes → World ℕ Bytes Bytes
+    serving a = record w {
+      taken = w.taken ++ (law_request l.request, a) ∷ [];
+      waiting = map law_request v.desk.waiting;
+      server = law_answered bytes_eq LAST_VERSION w.server (law_request l.request) a;
+      changes = w.changes ++ map (λ c. (c, Some (law_request l.request))) (accepted (law_request l.request).ask a);
+    }
+
+    serving_fits : Fits (serving (law_answer (answer_to v.server (sent l.request)))) (served v (sent l.request))
+    serving_fits = record {
+      seen = record {
+        trace = f.seen.trace;
+        drawn = f.seen.drawn;
+        next = f.seen.next;
+        kept = f.seen.kept;
+        taken = ap (λ xs. xs ++ (law_request l.request, law_answer (answer_to v.server (sent l.request))) ∷ []) f.seen.taken ∙ sym (l.served (reply_to v.server (sent l.request)));
+        waiting = ap (λ xs. map law_request (xs ++ v.desk.waiting)) (sym (l.none (reply_to v.server (sent l.request))));
+        files = files_seen w.server v.server f.seen.files f.seen.refused l.request;
+        refused = refused_seen w.server v.server f.seen.files f.seen.refused l.request (answer_to v.server (sent l.request));
+      };
+      sound = f.sound;
+      kinds = f.kinds;
+    }
+
+    pub serve_fits : Fits (event (table v.desk.kernel.scripts v.desk.kernel.limit) v.desk.kernel.start w Serve) (served v b)
+    serve_fits =
+        subst (λ (q : Sent). Fits (event (table v.desk.kernel.scripts v.desk.kernel.limit) v.desk.kernel.start w Serve) (served v q)) (sym l.sent_so)
+        (subst (λ (x : World ℕ Bytes Bytes). Fits x (served v (sent l.request)))
+        (sym ((λ i. serve (table v.desk.kernel.scripts v.desk.kernel.limit) v.desk.kernel.start w (first_is i)) ∙ ap serving (answer_seen w.server v.server f.seen.files f.seen.refused l.request)))
+        serving_fits)

@@ -1,0 +1,6 @@
+-- Each event is seen as one of the laws' events, or as none.
+use Rattle.sk_client.proofs.Seen.{seen_after}
+use Rattle.sk_client.proofs.laws.worlds.Goals as goal
+
+pub returns : goal.returns
+returns c = λ number boot limit server numbered next refused es last h. seen_after boot limit numbered server number next refused es last h

@@ -14,3 +14,4 @@ pub mod SeenServer
 pub mod SeenServe
 pub mod SeenReply
 pub mod Seen
+pub mod Accepted

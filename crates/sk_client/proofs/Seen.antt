@@ -1,5 +1,6 @@
 -- Whatever happens in a world, it is seen like one of those that the laws are about.
 use Rattle.std.proofs.Common.{◌≡◌, ℕ, ◌≤◌, true, false, cond, List, [], ◌∷◌, ◌++◌, Option, Some, None, Result, Ok, Err, refl, sym, ◌∙◌, ap, subst}
+use Rattle.std.proofs.lemmas.List.{append-nil, append_assoc}
 use Rattle.std.proofs.lemmas.List.Sums.{fold-append}
 use Rattle.sk_record.proofs.Sound.{sound_first}
 use Rattle.sk_script.specs.Boot.{BootView}
@@ -23,8 +24,8 @@ use Rattle.sk_world.proofs.First.{places_are_kept}
 use Rattle.sk_client.specs.Table.{Bytes, table, begun, IsNumbered}
 use Rattle.sk_client.specs.Desk.{DeskView, opened, entry, decided, input_of, answered, given_to, given, is_void, stepped, turned}
 use Rattle.sk_client.specs.DeskCalls.{ByRule, TurnPost, ReplyPost}
-use Rattle.sk_client.specs.LawWorld.{law_content, IsSeenAfter, Leads}
-use Rattle.sk_client.specs.WorldView.{WorldView, joined, taken_by, taken_from, served, Serves, Replies as RepliesSo, Turns, EditsFile, EventPost, IsNext, IsJoined}
+use Rattle.sk_client.specs.LawWorld.{Exchanges, with_reply, exchange, exchanged, Leads, law_content, IsSeenAfter}
+use Rattle.sk_client.specs.WorldView.{WorldView, joined, taken_by, taken_from, reply_to, served, Serves, Replies as RepliesSo, Turns, EditsFile, EventPost, IsNext, IsJoined}
 use Rattle.sk_client.specs.declared.pending.PendingRequest.{PendingRequest}
 use Rattle.sk_client.specs.declared.rule.Rule.{Rule}
 use Rattle.sk_client.specs.declared.rule.Rule.TheVariants as rules
@@ -101,28 +102,28 @@ edited_next s (Some b) d name version bytes h = h
 -- ---- one event
 
 -- what an event of the laws, or none, makes of a world that fits
-pub record Onward (w : World ℕ Bytes Bytes) (v new : WorldView) : Type 0 where
+pub record Onward (xs : Exchanges) (w : World ℕ Bytes Bytes) (v new : WorldView) : Type 0 where
   pub event_of : List (LawEvent ℕ Bytes Bytes)
-  pub fits : Fits (world_after (table v.desk.kernel.scripts v.desk.kernel.limit) v.desk.kernel.start w event_of) new
+  pub fits : Fits xs (world_after (table v.desk.kernel.scripts v.desk.kernel.limit) v.desk.kernel.start w event_of) new
   pub joined : IsJoined new.desk new.server new.replies new.back
   pub boot : SameBoot v.desk.kernel new.desk.kernel
 
-module _ (w : World ℕ Bytes Bytes) (v : WorldView) (f : Fits w v) (j : IsJoined v.desk v.server v.replies v.back) where
-  same : (new : WorldView) → new ≡ v → Onward w v new
-  same new is = subst (λ (x : WorldView). Onward w v x) (sym is) (record { event_of = []; fits = f; joined = j; boot = same_boot v.desk.kernel })
+module _ (xs : Exchanges) (w : World ℕ Bytes Bytes) (v : WorldView) (f : Fits xs w v) (j : IsJoined v.desk v.server v.replies v.back) where
+  same : (new : WorldView) → new ≡ v → Onward xs w v new
+  same new is = subst (λ (x : WorldView). Onward xs w v x) (sym is) (record { event_of = []; fits = f; joined = j; boot = same_boot v.desk.kernel })
 
   -- ---- a turn
 
-  turned_on : (turn : Told) (p : ℕ) (new : WorldView) → TurnPost (Ok turn) v.desk p new.desk → new ≡ record v { desk = new.desk } → Onward w v new
+  turned_on : (turn : Told) (p : ℕ) (new : WorldView) → TurnPost (Ok turn) v.desk p new.desk → new ≡ record v { desk = new.desk } → Onward xs w v new
   turned_on turn p new h is =
-      subst (λ (x : WorldView). Onward w v x) (sym is) (record {
+      subst (λ (x : WorldView). Onward xs w v x) (sym is) (record {
         event_of = Turn p ∷ [];
-        fits = turn_fits w v f p turn new.desk h;
+        fits = turn_fits xs w v f p turn new.desk h;
         joined = turn_joined v.server v.replies v.back v.desk new.desk p turn j h;
         boot = ruled_boot turn v.desk new.desk p _ h;
       })
 
-  turns : (told : Result WorldAnswer Cause) (p : ℕ) (new : WorldView) → Turns told v p new → Onward w v new
+  turns : (told : Result WorldAnswer Cause) (p : ℕ) (new : WorldView) → Turns told v p new → Onward xs w v new
   turns (Ok (answers.Turn turn)) p new h = turned_on turn p new h.0 h.1
   turns (Ok (answers.Served reply)) p new h = absurd h
   turns (Ok (answers.Given told)) p new h = absurd h
@@ -138,9 +139,9 @@ module _ (w : World ℕ Bytes Bytes) (v : WorldView) (f : Fits w v) (j : IsJoine
   change name version bytes = record { name = name; version = version; bytes = bytes }
 
   edit_fits : (name : Bytes) (version : ℕ) (bytes : Bytes) → is_fitting v.server.files name version ≡ true
-      → Fits (event (table v.desk.kernel.scripts v.desk.kernel.limit) v.desk.kernel.start w (Edit (change name version bytes))) (record v { server = record v.server { files = written v.server.files name version bytes } })
+      → Fits xs (event (table v.desk.kernel.scripts v.desk.kernel.limit) v.desk.kernel.start w (Edit (change name version bytes))) (record v { server = record v.server { files = written v.server.files name version bytes } })
   edit_fits name version bytes fits =
-      subst (λ b. Fits (edited (table v.desk.kernel.scripts v.desk.kernel.limit) v.desk.kernel.start w (change name version bytes) b) (record v { server = record v.server { files = written v.server.files name version bytes } }))
+      subst (λ b. Fits xs (edited (table v.desk.kernel.scripts v.desk.kernel.limit) v.desk.kernel.start w (change name version bytes) b) (record v { server = record v.server { files = written v.server.files name version bytes } }))
       (sym (fitting_seen w.server.files v.server.files name version bytes f.seen.files ∙ fits))
       (record {
         seen = record {
@@ -152,21 +153,22 @@ module _ (w : World ℕ Bytes Bytes) (v : WorldView) (f : Fits w v) (j : IsJoine
           waiting = f.seen.waiting;
           files = changed_seen w.server.files v.server.files name version bytes f.seen.files fits;
           refused = f.seen.refused;
+          answered = f.seen.answered;
         };
         sound = f.sound;
         kinds = f.kinds;
       })
 
-  edited_on : (name : Bytes) (expected : ℕ) (bytes : Bytes) (version : ℕ) (new : WorldView) → Edits v.server name expected bytes (Ok version) new.server → new ≡ record v { server = new.server } → Onward w v new
+  edited_on : (name : Bytes) (expected : ℕ) (bytes : Bytes) (version : ℕ) (new : WorldView) → Edits v.server name expected bytes (Ok version) new.server → new ≡ record v { server = new.server } → Onward xs w v new
   edited_on name expected bytes version new h is =
-      subst (λ (x : WorldView). Onward w v x) (sym (is ∙ ap (λ (s : ServerView). record v { server = s }) h.2)) (record {
+      subst (λ (x : WorldView). Onward xs w v x) (sym (is ∙ ap (λ (s : ServerView). record v { server = s }) h.2)) (record {
         event_of = Edit (change name expected bytes) ∷ [];
         fits = edit_fits name expected bytes h.0;
         joined = record { replies = j.replies; next = edited_next v.server v.back v.desk name expected bytes j.next; last = j.last };
         boot = same_boot v.desk.kernel;
       })
 
-  edits : (told : Result WorldAnswer Cause) (name : Bytes) (expected : ℕ) (bytes : Bytes) (new : WorldView) → EditsFile told v name expected bytes new → Onward w v new
+  edits : (told : Result WorldAnswer Cause) (name : Bytes) (expected : ℕ) (bytes : Bytes) (new : WorldView) → EditsFile told v name expected bytes new → Onward xs w v new
   edits (Ok (answers.Turn turn)) name expected bytes new h = absurd h
   edits (Ok (answers.Served reply)) name expected bytes new h = absurd h
   edits (Ok (answers.Given told)) name expected bytes new h = absurd h
@@ -187,60 +189,66 @@ module _ (w : World ℕ Bytes Bytes) (v : WorldView) (f : Fits w v) (j : IsJoine
   took_any (Some q) is = (j, same_boot v.desk.kernel)
   took_any None is = took v.desk.waiting refl (subst (λ (o : Option Sent). IsJoined v.desk v.server v.replies o) is j) is
 
+-- nothing was served
+none_served : (xs : Exchanges) (w : World ℕ Bytes Bytes) (v new : WorldView) → Onward xs w v new → Onward (xs ++ []) w v new
+none_served xs w v new on = subst (λ (ys : Exchanges). Onward ys w v new) (sym (append-nil xs)) on
+
 -- ---- the server answers
 
-module _ (w : World ℕ Bytes Bytes) (v : WorldView) (f : Fits w v) (j : IsJoined v.desk v.server v.replies v.back) where
-  answered_on : (b : Sent) → v.back ≡ Some b → Onward w v (served v b)
+module _ (xs : Exchanges) (w : World ℕ Bytes Bytes) (v : WorldView) (f : Fits xs w v) (j : IsJoined v.desk v.server v.replies v.back) where
+  answered_on : (b : Sent) → v.back ≡ Some b → Onward (xs ++ (b, reply_to v.server b) ∷ []) w v (served v b)
   answered_on b is =
       let before : IsJoined v.desk v.server v.replies (Some b) = subst (λ (o : Option Sent). IsJoined v.desk v.server v.replies o) is j in
       record {
         event_of = Serve ∷ [];
-        fits = serve_fits w v f b (last_of v.desk.taken v.replies b before.replies);
+        fits = serve_fits xs w v f b (last_of v.desk.taken v.replies b before.replies);
         joined = answer_joined v.desk v.server (served v b).server v.replies (served v b).replies b refl refl before;
         boot = same_boot v.desk.kernel;
       }
 
-  serves : (told : Result WorldAnswer Cause) (new : WorldView) (b : Option Sent) → v.back ≡ b → Serves told v new b → Onward w v new
-  serves told new None is h = same w v f j new h.1
-  serves (Ok x) new (Some b) is h = subst (λ (x : WorldView). Onward w v x) (sym h.1) (answered_on b is)
-  serves (Err why) new (Some b) is h = same w v f j new h.1
+  serves : (told : Result WorldAnswer Cause) (new : WorldView) (b : Option Sent) → v.back ≡ b → Serves told v new b → Onward (xs ++ exchange b told) w v new
+  serves told new None is h = none_served xs w v new (same xs w v f j new h.1)
+  serves (Ok x) new (Some b) is h =
+      subst (λ (y : WorldAnswer). Onward (xs ++ with_reply b (Ok y)) w v new) (sym h.0)
+      (subst (λ (y : WorldView). Onward (xs ++ (b, reply_to v.server b) ∷ []) w v y) (sym h.1) (answered_on b is))
+  serves (Err why) new (Some b) is h = none_served xs w v new (same xs w v f j new h.1)
 
 -- ---- a reply is given
 
-module _ (w : World ℕ Bytes Bytes) (v : WorldView) (f : Fits w v) (j : IsJoined v.desk v.server v.replies v.back)
+module _ (xs : Exchanges) (w : World ℕ Bytes Bytes) (v : WorldView) (f : Fits xs w v) (j : IsJoined v.desk v.server v.replies v.back)
     (placed : places (table v.desk.kernel.scripts v.desk.kernel.limit) v.desk.kernel.start w.trace (law_pending w) ≤ v.desk.kernel.limit) where
-  given_on : (told : Given) (new : WorldView) (r : Reply) (rs : List Reply) → v.replies ≡ r ∷ rs → ReplyPost (Ok told) v.desk r new.desk → new ≡ record v { desk = new.desk; replies = rs } → Onward w v new
+  given_on : (told : Given) (new : WorldView) (r : Reply) (rs : List Reply) → v.replies ≡ r ∷ rs → ReplyPost (Ok told) v.desk r new.desk → new ≡ record v { desk = new.desk; replies = rs } → Onward xs w v new
   given_on told new r rs is h same =
       let before : IsJoined v.desk v.server (r ∷ rs) v.back = subst (λ (xs : List Reply). IsJoined v.desk v.server xs v.back) is j in
-      subst (λ (x : WorldView). Onward w v x) (sym same) (record {
+      subst (λ (x : WorldView). Onward xs w v x) (sym same) (record {
         event_of = Replies ∷ [];
-        fits = reply_fits w v f r rs is (oldest v.desk v.server r rs v.back before) placed new.desk h.2;
+        fits = reply_fits xs w v f r rs is (oldest v.desk v.server r rs v.back before) placed new.desk h.2;
         joined = given_joined v.desk new.desk v.server r rs v.back h.2 before;
         boot = subst (λ (d : DeskView). SameBoot v.desk.kernel d.kernel) (sym h.2) (replied_boot v.desk r v.desk.taken);
       })
 
-  replies : (told : Result WorldAnswer Cause) (new : WorldView) (rs : List Reply) → v.replies ≡ rs → RepliesSo told v new rs → Onward w v new
-  replies told new [] is h = same w v f j new h.1
+  replies : (told : Result WorldAnswer Cause) (new : WorldView) (rs : List Reply) → v.replies ≡ rs → RepliesSo told v new rs → Onward xs w v new
+  replies told new [] is h = same xs w v f j new h.1
   replies (Ok (answers.Given told)) new (r ∷ rs) is h = given_on told new r rs is h.0 h.1
   replies (Ok (answers.Turn turn)) new (r ∷ rs) is h = absurd h
   replies (Ok (answers.Served reply)) new (r ∷ rs) is h = absurd h
   replies (Ok (answers.Edited version)) new (r ∷ rs) is h = absurd h
-  replies (Err why) new (r ∷ rs) is h = same w v f j new h.2
+  replies (Err why) new (r ∷ rs) is h = same xs w v f j new h.2
 
-  onward : (told : Result WorldAnswer Cause) (e : WorldEvent) (new : WorldView) → EventPost told v e new → Onward w v new
-  onward told (events.Turn p) new h = turns w v f j told p new h
+  onward : (told : Result WorldAnswer Cause) (e : WorldEvent) (new : WorldView) → EventPost told v e new → Onward (xs ++ exchanged told v e) w v new
+  onward told (events.Turn p) new h = none_served xs w v new (turns xs w v f j told p new h)
   onward told events.Serve new h =
       let t = taken_by v v.back in
-      let took = took_any w v f j v.back refl in
-      let on : Onward w t new = serves w t (taken_fits w v f j) took.0 told new t.back refl h in
+      let took = took_any xs w v f j v.back refl in
+      let on : Onward (xs ++ exchange t.back told) w t new = serves xs w t (taken_fits xs w v f j) took.0 told new t.back refl h in
       record {
         event_of = on.event_of;
-        fits = subst (λ (x : World ℕ Bytes Bytes). Fits x new) (after_same v.desk.kernel t.desk.kernel took.1 w on.event_of) on.fits;
+        fits = subst (λ (x : World ℕ Bytes Bytes). Fits (xs ++ exchange t.back told) x new) (after_same v.desk.kernel t.desk.kernel took.1 w on.event_of) on.fits;
         joined = on.joined;
         boot = boot_more v.desk.kernel t.desk.kernel new.desk.kernel took.1 on.boot;
       }
-  onward told events.Reply new h = replies told new v.replies refl h
-  onward told (events.Edit name expected bytes) new h = edits w v f j told name expected bytes new h
+  onward told events.Reply new h = none_served xs w v new (replies told new v.replies refl h)
+  onward told (events.Edit name expected bytes) new h = none_served xs w v new (edits xs w v f j told name expected bytes new h)
 
 -- ---- all events
 
@@ -248,45 +256,52 @@ module _ (boot : BootView) (limit : ℕ) (numbered : IsNumbered boot) (server : 
   abbrev first : World ℕ Bytes Bytes
   first = begun (λ name. law_content (file_of server.files name))
 
-  -- a kernel of that boot, in a world that some list of the laws' events leads to
-  pub record Reached (v : WorldView) : Type 0 where
-    pub events_before : List (LawEvent ℕ Bytes Bytes)
-    pub fits : Fits (world_after (table boot.scripts limit) (start_of boot) (begun (λ name. law_content (file_of server.files name))) events_before) v
+  -- what these events of the laws lead to
+  abbrev pub law_after : List (LawEvent ℕ Bytes Bytes) → World ℕ Bytes Bytes
+  law_after es = world_after (table boot.scripts limit) (start_of boot) (begun (λ name. law_content (file_of server.files name))) es
+
+  -- a kernel of that boot, in a world that these events of the laws and some more lead to
+  pub record Reached (earlier : List (LawEvent ℕ Bytes Bytes)) (xs : Exchanges) (v : WorldView) : Type 0 where
+    pub since : List (LawEvent ℕ Bytes Bytes)
+    pub fits : Fits xs (law_after (earlier ++ since)) v
     pub joined : IsJoined v.desk v.server v.replies v.back
     pub scripts : v.desk.kernel.scripts ≡ boot.scripts
     pub start : v.desk.kernel.start ≡ start_of boot
     pub limit_is : v.desk.kernel.limit ≡ limit
 
-  after : List (LawEvent ℕ Bytes Bytes) → World ℕ Bytes Bytes
-  after es = world_after (table boot.scripts limit) (start_of boot) first es
-
-  one_event : (v : WorldView) → Reached v → (told : Result WorldAnswer Cause) (e : WorldEvent) (new : WorldView) → EventPost told v e new → Reached new
-  one_event v r told e new h =
-      let w = world_after (table boot.scripts limit) (start_of boot) first r.events_before in
+  one_event : (earlier : List (LawEvent ℕ Bytes Bytes)) (xs : Exchanges) (v : WorldView) → Reached earlier xs v → (told : Result WorldAnswer Cause) (e : WorldEvent) (new : WorldView) → EventPost told v e new
+      → Reached earlier (xs ++ exchanged told v e) new
+  one_event earlier xs v r told e new h =
+      let w = law_after (earlier ++ r.since) in
       let K = v.desk.kernel in
-      let kept = places_are_kept (table boot.scripts limit) (start_of boot) (is_table boot.scripts limit boot numbered) first (begins boot limit (λ name. law_content (file_of server.files name))) r.events_before in
+      let kept = places_are_kept (table boot.scripts limit) (start_of boot) (is_table boot.scripts limit boot numbered) first (begins boot limit (λ name. law_content (file_of server.files name))) (earlier ++ r.since) in
       let placed : places (table K.scripts K.limit) K.start w.trace (law_pending w) ≤ K.limit =
       subst (λ (k : ScriptMap × (State × ℕ)). places (table k.0 k.1.1) k.1.0 w.trace (law_pending w) ≤ k.1.1) (λ i. (sym r.scripts i, (sym r.start i, sym r.limit_is i))) kept in
-      let on = onward w v r.fits r.joined placed told e new h in
-      let same : world_after (table K.scripts K.limit) K.start w on.event_of ≡ world_after (table boot.scripts limit) (start_of boot) first (r.events_before ++ on.event_of) =
+      let on = onward xs w v r.fits r.joined placed told e new h in
+      let same : world_after (table K.scripts K.limit) K.start w on.event_of ≡ law_after (earlier ++ (r.since ++ on.event_of)) =
       (λ i. world_after (table (r.scripts i) (r.limit_is i)) (r.start i) w on.event_of)
-      ∙ sym (fold-append (event (table boot.scripts limit) (start_of boot)) first r.events_before on.event_of) in
+      ∙ sym (fold-append (event (table boot.scripts limit) (start_of boot)) first (earlier ++ r.since) on.event_of)
+      ∙ ap law_after (append_assoc earlier r.since on.event_of) in
       record {
-        events_before = r.events_before ++ on.event_of;
-        fits = subst (λ (x : World ℕ Bytes Bytes). Fits x new) same on.fits;
+        since = r.since ++ on.event_of;
+        fits = subst (λ (x : World ℕ Bytes Bytes). Fits (xs ++ exchanged told v e) x new) same on.fits;
         joined = on.joined;
         scripts = on.boot.scripts ∙ r.scripts;
         start = on.boot.start ∙ r.start;
         limit_is = on.boot.limit ∙ r.limit_is;
       }
 
-  all_events : (v : WorldView) (es : List WorldEvent) (last : WorldView) → Reached v → Leads v es last → Reached last
-  all_events v [] last r h = subst (λ (x : WorldView). Reached x) (sym h) r
-  all_events v (e ∷ es) last r h = all_events h.1 es last (one_event v r h.0 e h.1 h.2) h.3
+  all_events : (earlier : List (LawEvent ℕ Bytes Bytes)) (xs : Exchanges) (v : WorldView) (es : List WorldEvent) (ys : Exchanges) (last : WorldView) → Reached earlier xs v → Leads v es ys last
+      → Reached earlier (xs ++ ys) last
+  all_events earlier xs v [] ys last r h =
+      subst (λ (zs : Exchanges). Reached earlier (xs ++ zs) last) (sym h.0) (subst (λ (zs : Exchanges). Reached earlier zs last) (sym (append-nil xs)) (subst (λ (x : WorldView). Reached earlier xs x) (sym h.1) r))
+  all_events earlier xs v (e ∷ es) ys last r h =
+      subst (λ (zs : Exchanges). Reached earlier zs last) (append_assoc xs (exchanged h.0 v e) h.2 ∙ ap (λ zs. xs ++ zs) (sym h.5))
+      (all_events earlier (xs ++ exchanged h.0 v e) h.1 es h.2 last (one_event earlier xs v r h.0 e h.1 h.3) h.4)
 
-  at_first : (number : ℕ) → server.next ≡ 1 → server.refused ≡ [] → Reached (joined (opened (booted number boot limit)) server)
+  at_first : (number : ℕ) → server.next ≡ 1 → server.refused ≡ [] → Reached [] [] (joined (opened (booted number boot limit)) server)
   at_first number next refused = record {
-    events_before = [];
+    since = [];
     fits = record {
       seen = record {
         trace = refl;
@@ -297,6 +312,7 @@ module _ (boot : BootView) (limit : ℕ) (numbered : IsNumbered boot) (server : 
         waiting = refl;
         files = λ name. refl;
         refused = sym refused;
+        answered = refl;
       };
       sound = sound_first (plain boot.scripts) (start_of boot);
       kinds = tt;
@@ -307,8 +323,23 @@ module _ (boot : BootView) (limit : ℕ) (numbered : IsNumbered boot) (server : 
     limit_is = refl;
   }
 
-  pub seen_after : (number : ℕ) → server.next ≡ 1 → server.refused ≡ [] → (es : List WorldEvent) (last : WorldView) → Leads (joined (opened (booted number boot limit)) server) es last
-      → IsSeenAfter boot limit server last
-  seen_after number next refused es last h =
-      let r = all_events (joined (opened (booted number boot limit)) server) es last (at_first number next refused) h in
-      (r.events_before, r.fits.seen)
+  pub reached : (number : ℕ) → server.next ≡ 1 → server.refused ≡ [] → (es : List WorldEvent) (xs : Exchanges) (v : WorldView) → Leads (joined (opened (booted number boot limit)) server) es xs v → Reached [] xs v
+  reached number next refused es xs v h = all_events [] [] (joined (opened (booted number boot limit)) server) es xs v (at_first number next refused) h
+
+  pub seen_after : (number : ℕ) → server.next ≡ 1 → server.refused ≡ [] → (es : List WorldEvent) (xs : Exchanges) (v : WorldView) → Leads (joined (opened (booted number boot limit)) server) es xs v
+      → IsSeenAfter boot limit server xs v
+  seen_after number next refused es xs v h = let r = reached number next refused es xs v h in (r.since, r.fits.seen)
+
+  from_here : (xs : Exchanges) (v : WorldView) (r : Reached [] xs v) → Reached r.since xs v
+  from_here xs v r = record {
+    since = [];
+    fits = subst (λ (es : List (LawEvent ℕ Bytes Bytes)). Fits xs (law_after es) v) (sym (append-nil r.since)) r.fits;
+    joined = r.joined;
+    scripts = r.scripts;
+    start = r.start;
+    limit_is = r.limit_is;
+  }
+
+  -- the same from there on
+  pub later_on : (xs : Exchanges) (v : WorldView) (r : Reached [] xs v) (es : List WorldEvent) (ys : Exchanges) (last : WorldView) → Leads v es ys last → Reached r.since (xs ++ ys) last
+  later_on xs v r es ys last h = all_events r.since xs v es ys last (from_here xs v r) h

@@ -34,7 +34,7 @@ use Rattle.sk_client.specs.Table.{Bytes, Caused, bare, table}
 use Rattle.sk_client.specs.Desk.{pending, is_asked, asked_count, asks_for, asks_on, name_of, rests_of, is_lost, is_void}
 use Rattle.sk_client.specs.declared.pending.PendingRequest.{PendingRequest}
 use Rattle.sk_client.specs.WorldView.{WorldView}
-use Rattle.sk_client.specs.LawWorld.{law_ask, law_request, law_served, unanswered, IsSeen}
+use Rattle.sk_client.specs.LawWorld.{law_ask, law_request, law_served, unanswered, Exchanges, IsSeen}
 use Rattle.sk_server.specs.declared.request.Ask.{Ask}
 use Rattle.sk_server.specs.declared.request.Ask.TheVariants as asks
 use Rattle.sk_client.proofs.DeskFacts.{committed_is}
@@ -128,12 +128,12 @@ more_for [] q all is = (is, tt)
 more_for (x ∷ xs) q all is = (all.0, more_for xs q all.1 is)
 
 -- a world of the laws that is seen so, and what holds besides
-pub record Fits (w : World ℕ Bytes Bytes) (v : WorldView) : Type 0 where
-  pub seen : IsSeen w v
+pub record Fits (xs : Exchanges) (w : World ℕ Bytes Bytes) (v : WorldView) : Type 0 where
+  pub seen : IsSeen xs w v
   pub sound : HasSoundTrace v.desk.kernel
   pub kinds : AreFor (pending v.desk)
 
-module _ (w : World ℕ Bytes Bytes) (v : WorldView) (seen : IsSeen w v) where
+module _ (xs : Exchanges) (w : World ℕ Bytes Bytes) (v : WorldView) (seen : IsSeen xs w v) where
   abbrev K : KernelView
   K = v.desk.kernel
 
@@ -148,7 +148,7 @@ module _ (w : World ℕ Bytes Bytes) (v : WorldView) (seen : IsSeen w v) where
   pub state_seen : state (table v.desk.kernel.scripts v.desk.kernel.limit) v.desk.kernel.start w.trace ≡ state_at v.desk.kernel
   state_seen = (is_bare bare (plain K.scripts) K.start w.trace).state ∙ ap (λ es. run (plain K.scripts) K.start (record_of (plain K.scripts) K.start es)) seen.trace
 
-  steps_seen : effects (kernel (table K.scripts K.limit)) K.start (record_of (kernel (table K.scripts K.limit)) K.start w.trace) ≡ effects (plain K.scripts) K.start (record_at K)
+  pub steps_seen : effects (kernel (table K.scripts K.limit)) K.start (record_of (kernel (table K.scripts K.limit)) K.start w.trace) ≡ effects (plain K.scripts) K.start (record_at K)
   steps_seen = (is_bare bare (plain K.scripts) K.start w.trace).steps ∙ ap (λ es. effects (plain K.scripts) K.start (record_of (plain K.scripts) K.start es)) seen.trace
 
   -- ---- what a request rests on

@@ -3,7 +3,7 @@ use Rattle.std.proofs.Common.{◌≡◌, ℕ, suc, ◌+◌, ◌≤◌, Bool, tru
 use Rattle.std.specs.Prelude.{◌==◌, is_none}
 use Rattle.std.specs.List.{filter}
 use Rattle.std.proofs.lemmas.Bool.{le-ltb, true≢false}
-use Rattle.std.proofs.lemmas.List.{map-append}
+use Rattle.std.proofs.lemmas.List.{append_assoc, map-append}
 use Rattle.sk_record.specs.Notes.{has}
 use Rattle.sk_record.specs.Trace.{Event as Happens, Taken, Commit, Fail, IsSound}
 use Rattle.sk_record.specs.declared.status.Status.TheVariants.{Undecided}
@@ -30,7 +30,7 @@ use Rattle.sk_world.specs.World.{World, Reply as Replies, pending as law_pending
 use Rattle.sk_world.specs.Labels.{bare_event}
 use Rattle.sk_client.specs.Table.{Bytes, Caused, bare, table}
 use Rattle.sk_client.specs.Desk.{DeskView, pending, asked_count, kept_for, forgotten, with_kept as kept_with, entry, fits_ask, decided, input_of, stepped, answered, given_to, given, is_void, is_asked}
-use Rattle.sk_client.specs.LawWorld.{law_input, law_kept, law_ask, law_answer, law_request, law_served, unanswered}
+use Rattle.sk_client.specs.LawWorld.{Exchanges, answered_there, answered_here, law_input, law_kept, law_ask, law_answer, law_request, law_served, unanswered}
 use Rattle.sk_client.specs.WorldView.{WorldView}
 use Rattle.sk_client.specs.declared.pending.PendingRequest.{PendingRequest}
 use Rattle.sk_client.specs.declared.pending.Kept.{Kept}
@@ -70,7 +70,7 @@ law_some false input o = refl
 asked_more : (q : PendingRequest) (qs : List PendingRequest) → q.guess ≡ None → asked_count (q ∷ qs) ≡ asked_count qs + 1
 asked_more q qs none = ap (λ b. length (cond b (q ∷ filter is_asked qs) (filter is_asked qs))) (ap is_none none) ∙ (let one : suc (asked_count qs) ≡ asked_count qs + 1 = omega arith in one)
 
-module _ (w : World ℕ Bytes Bytes) (v : WorldView) (f : Fits w v) where
+module _ (xs : Exchanges) (w : World ℕ Bytes Bytes) (v : WorldView) (f : Fits xs w v) where
   abbrev K : KernelView
   K = v.desk.kernel
 
@@ -78,7 +78,7 @@ module _ (w : World ℕ Bytes Bytes) (v : WorldView) (f : Fits w v) where
 
   decision_fits : (e : Event) (n : Happens Caused) (kept : List Kept) (law : ℕ → Option (LawInput Bytes)) → bare_event bare n ≡ image e → number_after (last_guess v.desk.kernel.trace) e ≡ last_guess v.desk.kernel.trace
       → IsSound (plain v.desk.kernel.scripts) v.desk.kernel.start (events_of v.desk.kernel ++ image e ∷ []) → ((pid : ℕ) → law pid ≡ law_kept (kept_for pid kept))
-      → Fits (with_kept (with_trace w (w.trace ++ n ∷ [])) law) (record v { desk = record v.desk { kernel = with_event v.desk.kernel e; kept = kept } })
+      → Fits xs (with_kept (with_trace w (w.trace ++ n ∷ [])) law) (record v { desk = record v.desk { kernel = with_event v.desk.kernel e; kept = kept } })
   decision_fits e n kept law same number sound answers = record {
     seen = record {
       trace = map-append (bare_event bare) w.trace (n ∷ []) ∙ (λ i. f.seen.trace i ++ same i ∷ []) ∙ sym (map-append image K.trace (e ∷ []));
@@ -89,6 +89,7 @@ module _ (w : World ℕ Bytes Bytes) (v : WorldView) (f : Fits w v) where
       waiting = f.seen.waiting;
       files = f.seen.files;
       refused = f.seen.refused;
+      answered = f.seen.answered;
     };
     sound = subst (IsSound (plain K.scripts) K.start) (sym (map-append image K.trace (e ∷ []))) sound;
     kinds = f.kinds;
@@ -98,23 +99,23 @@ module _ (w : World ℕ Bytes Bytes) (v : WorldView) (f : Fits w v) where
     status : HasStatus v.desk.kernel g Undecided
     status = (undecided_is K f.sound g).0 here
 
-    commits_so : Fits (with_trace w (w.trace ++ Commit g ∷ [])) (record v { desk = record v.desk { kernel = with_event v.desk.kernel (events.Commit g) } })
+    commits_so : Fits xs (with_trace w (w.trace ++ Commit g ∷ [])) (record v { desk = record v.desk { kernel = with_event v.desk.kernel (events.Commit g) } })
     commits_so = decision_fits (events.Commit g) (Commit g) v.desk.kept w.kept refl refl (sound_commit (plain K.scripts) K.start (events_of K) g f.sound status) f.seen.kept
 
     fail_sound : IsSound (plain v.desk.kernel.scripts) v.desk.kernel.start (events_of v.desk.kernel ++ Fail g ∷ [])
     fail_sound = sound_fail (plain K.scripts) K.start entity_total entity_exact (events_of K) g f.sound status
 
-    fails_so : Fits (with_trace w (w.trace ++ Fail g ∷ [])) (record v { desk = record v.desk { kernel = with_event v.desk.kernel (events.Fail g) } })
+    fails_so : Fits xs (with_trace w (w.trace ++ Fail g ∷ [])) (record v { desk = record v.desk { kernel = with_event v.desk.kernel (events.Fail g) } })
     fails_so = decision_fits (events.Fail g) (Fail g) v.desk.kept w.kept refl refl fail_sound f.seen.kept
 
-    keeps_so : (p : ℕ) (input : Input) → Fits (failed_with (table v.desk.kernel.scripts v.desk.kernel.limit) v.desk.kernel.start w p g (Some (law_input input)))
+    keeps_so : (p : ℕ) (input : Input) → Fits xs (failed_with (table v.desk.kernel.scripts v.desk.kernel.limit) v.desk.kernel.start w p g (Some (law_input input)))
         (record v { desk = record v.desk { kernel = with_event v.desk.kernel (events.Fail g); kept = kept_with p input v.desk.kept } })
     keeps_so p input =
         decision_fits (events.Fail g) (Fail g) (kept_with p input v.desk.kept) (law_kept_for (table K.scripts K.limit) p (Some (law_input input)) w.kept) refl refl fail_sound
         (λ pid. ap (cond (pid == p) (Some (law_input input))) (f.seen.kept pid) ∙ law_some (pid == p) input (kept_for pid v.desk.kept) ∙ ap law_kept (sym (kept_with_is p pid input v.desk.kept)))
 
     by_kind : (q : PendingRequest) (ask : Ask) (a : Answer) → IsFor (Some g) ask → fits_ask ask a ≡ true
-        → Fits (law_decided (table v.desk.kernel.scripts v.desk.kernel.limit) v.desk.kernel.start w (law_request (record q { ask = ask })) g (law_answer a)) (record v { desk = decided v.desk (record q { ask = ask }) g a })
+        → Fits xs (law_decided (table v.desk.kernel.scripts v.desk.kernel.limit) v.desk.kernel.start w (law_request (record q { ask = ask })) g (law_answer a)) (record v { desk = decided v.desk (record q { ask = ask }) g a })
     by_kind q (asks.Get name) a kind fits = absurd kind
     by_kind q (asks.Check name version) answers.Yes kind fits = commits_so
     by_kind q (asks.Check name version) (answers.No c) kind fits = keeps_so q.process (inputs.Fresh c)
@@ -126,10 +127,10 @@ module _ (w : World ℕ Bytes Bytes) (v : WorldView) (f : Fits w v) where
     by_kind q (asks.Store name version bytes) answers.Dropped kind fits = fails_so
 
   decided_fits : (q : PendingRequest) (a : Answer) (g : ℕ) → IsFor (Some g) q.ask → fits_ask q.ask a ≡ true
-      → Fits (law_given_to (table v.desk.kernel.scripts v.desk.kernel.limit) v.desk.kernel.start w (law_request q) (law_answer a) (Some g)) (record v { desk = given_to v.desk q a (Some g) })
+      → Fits xs (law_given_to (table v.desk.kernel.scripts v.desk.kernel.limit) v.desk.kernel.start w (law_request q) (law_answer a) (Some g)) (record v { desk = given_to v.desk q a (Some g) })
   decided_fits q a g kind fits =
-      subst (λ (us : List ℕ). Fits (cond (has g us) (law_decided (table K.scripts K.limit) K.start w (law_request q) g (law_answer a)) w) (record v { desk = given_to v.desk q a (Some g) })) (sym (undecided_seen w v f.seen))
-      (elim (has g (undecided_at K)) as (λ b. has g (undecided_at K) ≡ b → Fits (cond b (law_decided (table K.scripts K.limit) K.start w (law_request q) g (law_answer a)) w) (record v { desk = cond b (decided v.desk q g a) v.desk })) [
+      subst (λ (us : List ℕ). Fits xs (cond (has g us) (law_decided (table K.scripts K.limit) K.start w (law_request q) g (law_answer a)) w) (record v { desk = given_to v.desk q a (Some g) })) (sym (undecided_seen xs w v f.seen))
+      (elim (has g (undecided_at K)) as (λ b. has g (undecided_at K) ≡ b → Fits xs (cond b (law_decided (table K.scripts K.limit) K.start w (law_request q) g (law_answer a)) w) (record v { desk = cond b (decided v.desk q g a) v.desk })) [
         | true ↦ λ here. by_kind g here q q.ask a kind fits
         | false ↦ λ here. f
       ] refl)
@@ -141,21 +142,21 @@ module _ (w : World ℕ Bytes Bytes) (v : WorldView) (f : Fits w v) where
     n = asked_entry (law_request q) (law_input input)
 
     by_result : (r : Result Did Refusal) → effect_at v.desk.kernel (entry q.process input None) ≡ r
-        → Fits (stepped_by (table v.desk.kernel.scripts v.desk.kernel.limit) v.desk.kernel.start w (asked_entry (law_request q) (law_input input)) r)
+        → Fits xs (stepped_by (table v.desk.kernel.scripts v.desk.kernel.limit) v.desk.kernel.start w (asked_entry (law_request q) (law_input input)) r)
           (record v { desk = record v.desk { kernel = stepped v.desk.kernel q.process input (or_else (refusal_of r) (trace_full v.desk.kernel 1)) } })
     by_result (Err why) is = f
     by_result (Ok does) is =
-        subst (λ (o : Option Refusal). Fits (with_trace w (w.trace ++ Taken n ∷ [])) (record v { desk = record v.desk { kernel = stepped K q.process input o } })) (sym full)
-        (step_fits w v f q.process input n w.kept (record v.desk { kernel = with_event K (events.Step q.process input) }) (λ i. entry q.process (input_back input i) None) refl refl refl refl f.seen.kept (ap refusal_of is))
+        subst (λ (o : Option Refusal). Fits xs (with_trace w (w.trace ++ Taken n ∷ [])) (record v { desk = record v.desk { kernel = stepped K q.process input o } })) (sym full)
+        (step_fits xs w v f q.process input n w.kept (record v.desk { kernel = with_event K (events.Step q.process input) }) (λ i. entry q.process (input_back input i) None) refl refl refl refl f.seen.kept (ap refusal_of is))
 
-    asked_fits : Fits (law_stepped (table v.desk.kernel.scripts v.desk.kernel.limit) v.desk.kernel.start w (asked_entry (law_request q) (law_input input)))
+    asked_fits : Fits xs (law_stepped (table v.desk.kernel.scripts v.desk.kernel.limit) v.desk.kernel.start w (asked_entry (law_request q) (law_input input)))
         (record v { desk = record v.desk { kernel = stepped v.desk.kernel q.process input (step_refused v.desk.kernel (entry q.process input None)) } })
     asked_fits =
-        subst (λ (r : Result Did Refusal). Fits (stepped_by (table K.scripts K.limit) K.start w n r) (record v { desk = record v.desk { kernel = stepped K q.process input (step_refused K (entry q.process input None)) } }))
-        (sym (does_seen w v f q.process input)) (by_result (effect_at K (entry q.process input None)) refl)
+        subst (λ (r : Result Did Refusal). Fits xs (stepped_by (table K.scripts K.limit) K.start w n r) (record v { desk = record v.desk { kernel = stepped K q.process input (step_refused K (entry q.process input None)) } }))
+        (sym (does_seen xs w v f q.process input)) (by_result (effect_at K (entry q.process input None)) refl)
 
   by_answer : trace_full v.desk.kernel 1 ≡ None → (q : PendingRequest) (ask : Ask) (a : Answer) → IsFor None ask → fits_ask ask a ≡ true
-      → Fits (stepped_for (table v.desk.kernel.scripts v.desk.kernel.limit) v.desk.kernel.start w (law_request (record q { ask = ask })) (law_input_of (law_ask ask) (law_answer a)))
+      → Fits xs (stepped_for (table v.desk.kernel.scripts v.desk.kernel.limit) v.desk.kernel.start w (law_request (record q { ask = ask })) (law_input_of (law_ask ask) (law_answer a)))
         (record v { desk = answered v.desk (record q { ask = ask }) (input_of a) })
   by_answer full q (asks.Get name) answers.Yes kind fits = absurd (true≢false (sym fits))
   by_answer full q (asks.Get name) (answers.No c) kind fits = absurd (true≢false (sym fits))
@@ -168,17 +169,17 @@ module _ (w : World ℕ Bytes Bytes) (v : WorldView) (f : Fits w v) where
   by_answer full q (asks.Store name version bytes) answers.Dropped kind fits = f
 
   stepped_fits : trace_full v.desk.kernel 1 ≡ None → (q : PendingRequest) (a : Answer) → IsFor None q.ask → fits_ask q.ask a ≡ true
-      → Fits (law_given_to (table v.desk.kernel.scripts v.desk.kernel.limit) v.desk.kernel.start w (law_request q) (law_answer a) None) (record v { desk = given_to v.desk q a None })
+      → Fits xs (law_given_to (table v.desk.kernel.scripts v.desk.kernel.limit) v.desk.kernel.start w (law_request q) (law_answer a) None) (record v { desk = given_to v.desk q a None })
   stepped_fits full q a kind fits =
-      subst (λ b. Fits (cond b w (stepped_for (table K.scripts K.limit) K.start w (law_request q) (law_input_of (law_ask q.ask) (law_answer a)))) (record v { desk = given_to v.desk q a None })) (sym (void_seen w v f.seen f.sound q))
-      (elim (is_void K q) as (λ b. Fits (cond b w (stepped_for (table K.scripts K.limit) K.start w (law_request q) (law_input_of (law_ask q.ask) (law_answer a)))) (record v { desk = cond b v.desk (answered v.desk q (input_of a)) })) [
+      subst (λ b. Fits xs (cond b w (stepped_for (table K.scripts K.limit) K.start w (law_request q) (law_input_of (law_ask q.ask) (law_answer a)))) (record v { desk = given_to v.desk q a None })) (sym (void_seen xs w v f.seen f.sound q))
+      (elim (is_void K q) as (λ b. Fits xs (cond b w (stepped_for (table K.scripts K.limit) K.start w (law_request q) (law_input_of (law_ask q.ask) (law_answer a)))) (record v { desk = cond b v.desk (answered v.desk q (input_of a)) })) [
         | true ↦ f
         | false ↦ by_answer full q q.ask a kind fits
       ])
 
 -- ---- the oldest reply
 
-module _ (w : World ℕ Bytes Bytes) (v : WorldView) (f : Fits w v) (r : Reply) (rs : List Reply) (is : v.replies ≡ r ∷ rs) (o : Oldest v.desk r rs v.back)
+module _ (xs : Exchanges) (w : World ℕ Bytes Bytes) (v : WorldView) (f : Fits xs w v) (r : Reply) (rs : List Reply) (is : v.replies ≡ r ∷ rs) (o : Oldest v.desk r rs v.back)
     (placed : places (table v.desk.kernel.scripts v.desk.kernel.limit) v.desk.kernel.start w.trace (law_pending w) ≤ v.desk.kernel.limit) where
   abbrev without : WorldView
   without = record v { desk = record v.desk { taken = o.later }; replies = rs }
@@ -189,7 +190,10 @@ module _ (w : World ℕ Bytes Bytes) (v : WorldView) (f : Fits w v) (r : Reply) 
   kinds_now : AreFor (o.request ∷ o.later ++ v.desk.waiting)
   kinds_now = subst AreFor (ap (λ qs. qs ++ v.desk.waiting) o.taken) f.kinds
 
-  without_fits : Fits (with_given w (law_request o.request, law_answer r.answer) (law_served o.later rs)) (record v { desk = record v.desk { taken = o.later }; replies = rs })
+  oldest_one : w.taken ≡ (law_request o.request, law_answer r.answer) ∷ law_served o.later rs
+  oldest_one = f.seen.taken ∙ (λ i. law_served (o.taken i) (is i))
+
+  without_fits : Fits xs (with_given w (law_request o.request, law_answer r.answer) (law_served o.later rs)) (record v { desk = record v.desk { taken = o.later }; replies = rs })
   without_fits = record {
     seen = record {
       trace = f.seen.trace;
@@ -200,6 +204,10 @@ module _ (w : World ℕ Bytes Bytes) (v : WorldView) (f : Fits w v) (r : Reply) 
       waiting = f.seen.waiting ∙ (λ i. map law_request (unanswered (o.taken i) (is i) ++ v.desk.waiting));
       files = f.seen.files;
       refused = f.seen.refused;
+      answered =
+          ap (map answered_there) (append_assoc w.given ((law_request o.request, law_answer r.answer) ∷ []) (law_served o.later rs))
+          ∙ ap (λ ts. map answered_there (w.given ++ ts)) (sym oldest_one)
+          ∙ f.seen.answered;
     };
     sound = f.sound;
     kinds = kinds_now.1;
@@ -207,20 +215,19 @@ module _ (w : World ℕ Bytes Bytes) (v : WorldView) (f : Fits w v) (r : Reply) 
 
   has_place : o.request.guess ≡ None → trace_full v.desk.kernel 1 ≡ None
   has_place none =
-      let same = places_seen w v f.seen in
+      let same = places_seen xs w v f.seen in
       let asked : asked_count (pending v.desk) ≡ asked_count (o.later ++ v.desk.waiting) + 1 = ap (λ qs. asked_count (qs ++ v.desk.waiting)) o.taken ∙ asked_more o.request (o.later ++ v.desk.waiting) none in
       ap (λ b. cond b (Some TraceFull) None) (le-ltb (room v.desk.kernel) 1 (omega (arith, same, placed, asked)))
 
   by_guess : (g : Option ℕ) → o.request.guess ≡ g
-      → Fits (law_given_to (table v.desk.kernel.scripts v.desk.kernel.limit) v.desk.kernel.start answered_one (law_request o.request) (law_answer r.answer) g)
+      → Fits xs (law_given_to (table v.desk.kernel.scripts v.desk.kernel.limit) v.desk.kernel.start answered_one (law_request o.request) (law_answer r.answer) g)
         (record without { desk = given_to without.desk o.request r.answer g })
-  by_guess None e = stepped_fits answered_one without without_fits (has_place e) o.request r.answer (subst (λ g. IsFor g o.request.ask) e kinds_now.0) o.fits
-  by_guess (Some g) e = decided_fits answered_one without without_fits o.request r.answer g (subst (λ g. IsFor g o.request.ask) e kinds_now.0) o.fits
+  by_guess None e = stepped_fits xs answered_one without without_fits (has_place e) o.request r.answer (subst (λ g. IsFor g o.request.ask) e kinds_now.0) o.fits
+  by_guess (Some g) e = decided_fits xs answered_one without without_fits o.request r.answer g (subst (λ g. IsFor g o.request.ask) e kinds_now.0) o.fits
 
-  pub reply_fits : (new : DeskView) → new ≡ given v.desk r v.desk.taken → Fits (event (table v.desk.kernel.scripts v.desk.kernel.limit) v.desk.kernel.start w Replies) (record v { desk = new; replies = rs })
+  pub reply_fits : (new : DeskView) → new ≡ given v.desk r v.desk.taken → Fits xs (event (table v.desk.kernel.scripts v.desk.kernel.limit) v.desk.kernel.start w Replies) (record v { desk = new; replies = rs })
   reply_fits new e =
-      let oldest_one : w.taken ≡ (law_request o.request, law_answer r.answer) ∷ law_served o.later rs = f.seen.taken ∙ (λ i. law_served (o.taken i) (is i)) in
-      subst (λ (d : DeskView). Fits (event (table v.desk.kernel.scripts v.desk.kernel.limit) v.desk.kernel.start w Replies) (record v { desk = d; replies = rs })) (sym (e ∙ ap (given v.desk r) o.taken))
-      (subst (λ (x : World ℕ Bytes Bytes). Fits x (record without { desk = given_to without.desk o.request r.answer o.request.guess }))
+      subst (λ (d : DeskView). Fits xs (event (table v.desk.kernel.scripts v.desk.kernel.limit) v.desk.kernel.start w Replies) (record v { desk = d; replies = rs })) (sym (e ∙ ap (given v.desk r) o.taken))
+      (subst (λ (x : World ℕ Bytes Bytes). Fits xs x (record without { desk = given_to without.desk o.request r.answer o.request.guess }))
       (sym (ap (reply (table v.desk.kernel.scripts v.desk.kernel.limit) v.desk.kernel.start w) oldest_one))
       (by_guess o.request.guess refl))

@@ -1,6 +1,6 @@
 -- The server answers in a world of the laws, and in one that is seen so.
 use Rattle.std.proofs.Common.{◌≡◌, ℕ, List, [], ◌∷◌, ◌++◌, map, Option, Some, None, refl, sym, ◌∙◌, ap, subst}
-use Rattle.std.proofs.lemmas.List.{append_assoc}
+use Rattle.std.proofs.lemmas.List.{append_assoc, map-append}
 use Rattle.sk_objects.specs.declared.content.TheConstants.{LAST_VERSION}
 use Rattle.sk_server.specs.Server.{answer_to}
 use Rattle.sk_server.specs.declared.request.Request.{Request as Sent}
@@ -11,7 +11,7 @@ use Rattle.sk_world.specs.Server.{answer_to as law_answer_to, answered as law_an
 use Rattle.sk_world.specs.World.{World, Serve, serve, event}
 use Rattle.sk_client.specs.Table.{Bytes, table}
 use Rattle.sk_client.specs.Desk.{sent, first_taken}
-use Rattle.sk_client.specs.LawWorld.{law_answer, law_request, law_served, unanswered}
+use Rattle.sk_client.specs.LawWorld.{Exchanges, answered_there, answered_here, law_answer, law_request, law_served, unanswered}
 use Rattle.sk_client.specs.WorldView.{WorldView, taken_by, taken_from, reply_to, served, AreReplies, IsJoined}
 use Rattle.sk_client.specs.declared.pending.PendingRequest.{PendingRequest}
 use Rattle.sk_client.proofs.SeenFacts.{AreFor, Fits}
@@ -64,9 +64,9 @@ last_of (q ∷ qs) (r ∷ rs) b h = last_more q qs r rs b (last_of qs rs b h.2)
 
 -- ---- a request is taken, of which the laws see nothing
 
-module _ (w : World ℕ Bytes Bytes) (v : WorldView) (f : Fits w v) where
+module _ (xs : Exchanges) (w : World ℕ Bytes Bytes) (v : WorldView) (f : Fits xs w v) where
   taking : (q : PendingRequest) (qs : List PendingRequest) → v.desk.waiting ≡ q ∷ qs → AreReplies v.replies None v.desk.taken
-      → Fits w (record v { desk = first_taken v.desk (q ∷ qs); back = Some (sent q) })
+      → Fits xs w (record v { desk = first_taken v.desk (q ∷ qs); back = Some (sent q) })
   taking q qs is replies = record {
     seen = record {
       trace = f.seen.trace;
@@ -77,20 +77,21 @@ module _ (w : World ℕ Bytes Bytes) (v : WorldView) (f : Fits w v) where
       waiting = f.seen.waiting ∙ (λ i. map law_request (none_waits v.desk.taken v.replies replies i ++ is i)) ∙ (λ i. map law_request (sym (one_waits v.desk.taken v.replies q replies) i ++ qs));
       files = f.seen.files;
       refused = f.seen.refused;
+      answered = f.seen.answered;
     };
     sound = f.sound;
     kinds = subst AreFor (ap (λ xs. v.desk.taken ++ xs) is ∙ sym (append_assoc v.desk.taken (q ∷ []) qs)) f.kinds;
   }
 
-  taking_any : (qs : List PendingRequest) → v.desk.waiting ≡ qs → AreReplies v.replies None v.desk.taken → Fits w (taken_from v qs)
+  taking_any : (qs : List PendingRequest) → v.desk.waiting ≡ qs → AreReplies v.replies None v.desk.taken → Fits xs w (taken_from v qs)
   taking_any [] is replies = f
   taking_any (q ∷ qs) is replies = taking q qs is replies
 
-  by_back : (b : Option Sent) → v.back ≡ b → AreReplies v.replies b v.desk.taken → Fits w (taken_by v b)
+  by_back : (b : Option Sent) → v.back ≡ b → AreReplies v.replies b v.desk.taken → Fits xs w (taken_by v b)
   by_back (Some q) is replies = f
   by_back None is replies = taking_any v.desk.waiting refl replies
 
-  pub taken_fits : IsJoined v.desk v.server v.replies v.back → Fits w (taken_by v v.back)
+  pub taken_fits : IsJoined v.desk v.server v.replies v.back → Fits xs w (taken_by v v.back)
   taken_fits j = by_back v.back refl j.replies
 
   -- ---- the answer
@@ -110,7 +111,7 @@ module _ (w : World ℕ Bytes Bytes) (v : WorldView) (f : Fits w v) where
       changes = w.changes ++ map (λ c. (c, Some (law_request l.request))) (accepted (law_request l.request).ask a);
     }
 
-    serving_fits : Fits (serving (law_answer (answer_to v.server (sent l.request)))) (served v (sent l.request))
+    serving_fits : Fits (xs ++ (sent l.request, reply_to v.server (sent l.request)) ∷ []) (serving (law_answer (answer_to v.server (sent l.request)))) (served v (sent l.request))
     serving_fits = record {
       seen = record {
         trace = f.seen.trace;
@@ -121,14 +122,19 @@ module _ (w : World ℕ Bytes Bytes) (v : WorldView) (f : Fits w v) where
         waiting = ap (λ xs. map law_request (xs ++ v.desk.waiting)) (sym (l.none (reply_to v.server (sent l.request))));
         files = files_seen w.server v.server f.seen.files f.seen.refused l.request;
         refused = refused_seen w.server v.server f.seen.files f.seen.refused l.request (answer_to v.server (sent l.request));
+        answered =
+            ap (map answered_there) (sym (append_assoc w.given w.taken ((law_request l.request, law_answer (answer_to v.server (sent l.request))) ∷ [])))
+            ∙ map-append answered_there (w.given ++ w.taken) ((law_request l.request, law_answer (answer_to v.server (sent l.request))) ∷ [])
+            ∙ ap (λ ys. ys ++ answered_here (sent l.request, reply_to v.server (sent l.request)) ∷ []) f.seen.answered
+            ∙ sym (map-append answered_here xs ((sent l.request, reply_to v.server (sent l.request)) ∷ []));
       };
       sound = f.sound;
       kinds = f.kinds;
     }
 
-    pub serve_fits : Fits (event (table v.desk.kernel.scripts v.desk.kernel.limit) v.desk.kernel.start w Serve) (served v b)
+    pub serve_fits : Fits (xs ++ (b, reply_to v.server b) ∷ []) (event (table v.desk.kernel.scripts v.desk.kernel.limit) v.desk.kernel.start w Serve) (served v b)
     serve_fits =
-        subst (λ (q : Sent). Fits (event (table v.desk.kernel.scripts v.desk.kernel.limit) v.desk.kernel.start w Serve) (served v q)) (sym l.sent_so)
-        (subst (λ (x : World ℕ Bytes Bytes). Fits x (served v (sent l.request)))
+        subst (λ (q : Sent). Fits (xs ++ (q, reply_to v.server q) ∷ []) (event (table v.desk.kernel.scripts v.desk.kernel.limit) v.desk.kernel.start w Serve) (served v q)) (sym l.sent_so)
+        (subst (λ (x : World ℕ Bytes Bytes). Fits (xs ++ (sent l.request, reply_to v.server (sent l.request)) ∷ []) x (served v (sent l.request)))
         (sym ((λ i. serve (table v.desk.kernel.scripts v.desk.kernel.limit) v.desk.kernel.start w (first_is i)) ∙ ap serving (answer_seen w.server v.server f.seen.files f.seen.refused l.request)))
         serving_fits)

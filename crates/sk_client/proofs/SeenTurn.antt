@@ -38,7 +38,7 @@ use Rattle.sk_world.specs.Labels.{bare_event}
 use Rattle.sk_client.specs.Table.{Bytes, bare, table, input_of, turn_of, version_of, buffer_of, MOST_GUESSES}
 use Rattle.sk_client.specs.Desk.{DeskView, pending, asked_count, asks_for, asks_on, kept_for, forgotten, rests_of, fetch_rule, store_rule, unless_kept, cached, buffer, rule_next, rule_of, rule, no_place, no_number, entry, rule_refused, request_of, turned}
 use Rattle.sk_client.specs.DeskCalls.{RulePost, ByRule, TurnPost}
-use Rattle.sk_client.specs.LawWorld.{law_input, law_kept, law_ask, law_request, law_served, unanswered}
+use Rattle.sk_client.specs.LawWorld.{Exchanges, law_input, law_kept, law_ask, law_request, law_served, unanswered}
 use Rattle.sk_client.specs.WorldView.{WorldView}
 use Rattle.sk_client.specs.declared.pending.PendingRequest.{PendingRequest}
 use Rattle.sk_client.specs.declared.pending.Kept.{Kept}
@@ -99,7 +99,7 @@ law_kept_none false o = refl
 pub last_more : (es : List Event) (e : Event) → last_guess (es ++ e ∷ []) ≡ number_after (last_guess es) e
 last_more es e = fold-append number_after 0 es (e ∷ [])
 
-module _ (w : World ℕ Bytes Bytes) (v : WorldView) (f : Fits w v) where
+module _ (xs : Exchanges) (w : World ℕ Bytes Bytes) (v : WorldView) (f : Fits xs w v) where
   abbrev K : KernelView
   K = v.desk.kernel
 
@@ -109,7 +109,7 @@ module _ (w : World ℕ Bytes Bytes) (v : WorldView) (f : Fits w v) where
   places_free : (n : ℕ) → 1 ≤ n → no_place v.desk n ≡ None → has_places (table v.desk.kernel.scripts v.desk.kernel.limit) v.desk.kernel.start n w ≡ true
   places_free n some h =
       let free = ltb-false (room K - asked_count (pending v.desk)) n (none_test (nat_lt (room K - asked_count (pending v.desk)) n) TraceFull h) in
-      let same = places_seen w v f.seen in
+      let same = places_seen xs w v f.seen in
       le-leb (n + places (table K.scripts K.limit) K.start w.trace (law_pending w)) K.limit (omega (arith, free, same, some))
 
   number_free : no_number v.desk ≡ None → has_number (table v.desk.kernel.scripts v.desk.kernel.limit) v.desk.kernel.start w ≡ true
@@ -130,7 +130,7 @@ module _ (w : World ℕ Bytes Bytes) (v : WorldView) (f : Fits w v) where
 
   pub does_seen : (p : ℕ) (input : Input) → outcome (kernel (table v.desk.kernel.scripts v.desk.kernel.limit)) (state (table v.desk.kernel.scripts v.desk.kernel.limit) v.desk.kernel.start w.trace) (own p (law_input input))
       ≡ effect_at v.desk.kernel (entry p input None)
-  does_seen p input = λ i. perform (get (state_seen w v f.seen i)) (act K.scripts p (input_back input i))
+  does_seen p input = λ i. perform (get (state_seen xs w v f.seen i)) (act K.scripts p (input_back input i))
 
   abbrev stepping : ℕ → LawInput Bytes → World ℕ Bytes Bytes
   stepping p x = with_trace w (w.trace ++ Taken (own p x) ∷ [])
@@ -143,7 +143,7 @@ module _ (w : World ℕ Bytes Bytes) (v : WorldView) (f : Fits w v) where
 
   pub step_fits : (p : ℕ) (input : Input) (n : Entry ℕ Bytes Bytes) (kept : ℕ → Option (LawInput Bytes)) (desk : DeskView) → bare n ≡ entry p input None → desk.taken ≡ v.desk.taken → desk.waiting ≡ v.desk.waiting
       → desk.next ≡ v.desk.next → desk.kernel ≡ with_event v.desk.kernel (events.Step p input) → ((pid : ℕ) → kept pid ≡ law_kept (kept_for pid desk.kept))
-      → refusal_of (effect_at v.desk.kernel (entry p input None)) ≡ None → Fits (with_kept (with_trace w (w.trace ++ Taken n ∷ [])) kept) (record v { desk = desk })
+      → refusal_of (effect_at v.desk.kernel (entry p input None)) ≡ None → Fits xs (with_kept (with_trace w (w.trace ++ Taken n ∷ [])) kept) (record v { desk = desk })
   step_fits p input n kept desk same t q number k answers h = record {
     seen = record {
       trace = trace_more n (events.Step p input) (ap Taken same) ∙ ap events_of (sym k);
@@ -154,6 +154,7 @@ module _ (w : World ℕ Bytes Bytes) (v : WorldView) (f : Fits w v) where
       waiting = f.seen.waiting ∙ (λ i. map law_request (unanswered (sym t i) v.replies ++ sym q i));
       files = f.seen.files;
       refused = f.seen.refused;
+      answered = f.seen.answered;
     };
     sound = subst (λ (x : KernelView). IsSound (plain x.scripts) x.start (events_of x)) (sym k) (sound_step p input h);
     kinds = subst AreFor (λ i. sym t i ++ sym q i) f.kinds;
@@ -166,14 +167,14 @@ module _ (w : World ℕ Bytes Bytes) (v : WorldView) (f : Fits w v) where
       ∙ ap law_kept (sym (kept_forgotten p v.desk.kept pid))
 
   steps_fit : (p : ℕ) (input : Input) → rule_refused v.desk p (rules.Steps input) ≡ None
-      → Fits (used (table v.desk.kernel.scripts v.desk.kernel.limit) v.desk.kernel.start w p (law_input input)) (record v { desk = turned v.desk p (rules.Steps input) })
+      → Fits xs (used (table v.desk.kernel.scripts v.desk.kernel.limit) v.desk.kernel.start w p (law_input input)) (record v { desk = turned v.desk p (rules.Steps input) })
   steps_fit p input h =
       let none = none_first (refusal_of (effect_at K (entry p input None))) (no_place v.desk 1) h in
       let room = places_free 1 (omega arith) (none_later (refusal_of (effect_at K (entry p input None))) (no_place v.desk 1) h) in
       let g = ok_of (effect_at K (entry p input None)) none in
       let same : used (table K.scripts K.limit) K.start w p (law_input input) ≡ with_kept (stepping p (law_input input)) (law_kept_for (table K.scripts K.limit) p None w.kept) =
       (λ i. cond (room i) (used_by (table K.scripts K.limit) K.start w p (law_input input) ((does_seen p input ∙ g.1) i)) w) in
-      subst (λ (x : World ℕ Bytes Bytes). Fits x (record v { desk = turned v.desk p (rules.Steps input) })) (sym same)
+      subst (λ (x : World ℕ Bytes Bytes). Fits xs x (record v { desk = turned v.desk p (rules.Steps input) })) (sym same)
       (step_fits p input (own p (law_input input)) (law_kept_for (table K.scripts K.limit) p None w.kept) (turned v.desk p (rules.Steps input)) (λ i. entry p (input_back input i) None) refl refl refl refl (kept_same p) none)
 
   -- without a kept answer none is forgotten
@@ -186,14 +187,14 @@ module _ (w : World ℕ Bytes Bytes) (v : WorldView) (f : Fits w v) where
       ] refl ∙ sym (kept_forgotten p v.desk.kept pid))
 
   plain_fits : (p : ℕ) → kept_for p v.desk.kept ≡ None → rule_refused v.desk p (rules.Steps inputs.None) ≡ None
-      → Fits (other (table v.desk.kernel.scripts v.desk.kernel.limit) v.desk.kernel.start w p None) (record v { desk = turned v.desk p (rules.Steps inputs.None) })
+      → Fits xs (other (table v.desk.kernel.scripts v.desk.kernel.limit) v.desk.kernel.start w p None) (record v { desk = turned v.desk p (rules.Steps inputs.None) })
   plain_fits p empty h =
       let none = none_first (refusal_of (effect_at K (entry p inputs.None None))) (no_place v.desk 1) h in
       let room = places_free 1 (omega arith) (none_later (refusal_of (effect_at K (entry p inputs.None None))) (no_place v.desk 1) h) in
       let g = ok_of (effect_at K (entry p inputs.None None)) none in
       let same : other (table K.scripts K.limit) K.start w p None ≡ stepping p Nothing =
       (λ i. cond (room i) (stepped_by (table K.scripts K.limit) K.start w (own p Nothing) ((does_seen p inputs.None ∙ g.1) i)) w) in
-      subst (λ (x : World ℕ Bytes Bytes). Fits x (record v { desk = turned v.desk p (rules.Steps inputs.None) })) (sym same)
+      subst (λ (x : World ℕ Bytes Bytes). Fits xs x (record v { desk = turned v.desk p (rules.Steps inputs.None) })) (sym same)
       (step_fits p inputs.None (own p Nothing) w.kept (turned v.desk p (rules.Steps inputs.None)) refl refl refl refl refl (λ pid. none_kept p pid empty) none)
 
   -- ---- a request more
@@ -216,8 +217,8 @@ module _ (w : World ℕ Bytes Bytes) (v : WorldView) (f : Fits w v) where
     process = p;
     ask = law_ask ask;
     guess = Some (next_same i);
-    rests = (rests_seen w v f.seen p (law_name (law_ask ask)) ∙ ap (rests_of K p) (name_seen ask)) i;
-    settled = settled_seen w v f.seen f.sound i;
+    rests = (rests_seen xs w v f.seen p (law_name (law_ask ask)) ∙ ap (rests_of K p) (name_seen ask)) i;
+    settled = settled_seen xs w v f.seen f.sound i;
   }
 
   ask_request_seen : (p : ℕ) (ask : Ask) → ask_request (table v.desk.kernel.scripts v.desk.kernel.limit) v.desk.kernel.start w p (law_ask ask) ≡ law_request (request_of v.desk p ask None)
@@ -226,8 +227,8 @@ module _ (w : World ℕ Bytes Bytes) (v : WorldView) (f : Fits w v) where
     process = p;
     ask = law_ask ask;
     guess = None;
-    rests = (rests_seen w v f.seen p (law_name (law_ask ask)) ∙ ap (rests_of K p) (name_seen ask)) i;
-    settled = settled_seen w v f.seen f.sound i;
+    rests = (rests_seen xs w v f.seen p (law_name (law_ask ask)) ∙ ap (rests_of K p) (name_seen ask)) i;
+    settled = settled_seen xs w v f.seen f.sound i;
   }
 
   next_more : suc w.next ≡ v.desk.next + 1
@@ -244,13 +245,13 @@ module _ (w : World ℕ Bytes Bytes) (v : WorldView) (f : Fits w v) where
 
   guess_does : (p : ℕ) (a : LawAsk Bytes Bytes) → outcome (kernel (table v.desk.kernel.scripts v.desk.kernel.limit)) (state (table v.desk.kernel.scripts v.desk.kernel.limit) v.desk.kernel.start w.trace) (guess_entry (table v.desk.kernel.scripts v.desk.kernel.limit) v.desk.kernel.start w p a)
       ≡ effect_at v.desk.kernel (entry p inputs.Good (Some (next_guess v.desk.kernel)))
-  guess_does p a = λ i. perform (get (state_seen w v f.seen i)) (act K.scripts p inputs.Good)
+  guess_does p a = λ i. perform (get (state_seen xs w v f.seen i)) (act K.scripts p inputs.Good)
 
   few_guesses : too_many v.desk.kernel ≡ None → has_guess (table v.desk.kernel.scripts v.desk.kernel.limit) v.desk.kernel.start w ≡ true
   few_guesses h =
       let few : nat_le GUESS_LIMIT (length (undecided_at K)) ≡ false = or_first (nat_le GUESS_LIMIT (length (undecided_at K))) (nat_lt LAST_GUESS (next_guess K)) (none_test (nat_le GUESS_LIMIT (length (undecided_at K)) || nat_lt LAST_GUESS (next_guess K)) TooMany h) in
       let less = leb-false GUESS_LIMIT (length (undecided_at K)) few in
-      ap (λ us. nat_lt (length us) MOST_GUESSES) (undecided_seen w v f.seen) ∙ lt-ltb (length (undecided_at K)) MOST_GUESSES (omega (arith, less))
+      ap (λ us. nat_lt (length us) MOST_GUESSES) (undecided_seen xs w v f.seen) ∙ lt-ltb (length (undecided_at K)) MOST_GUESSES (omega (arith, less))
 
   drawn_below : (g h : ℕ) → Some (next_guess v.desk.kernel) ≡ Some g → IsDrawn (plain v.desk.kernel.scripts) (events_of v.desk.kernel) h → h < g
   drawn_below g h mark drawn =
@@ -265,7 +266,7 @@ module _ (w : World ℕ Bytes Bytes) (v : WorldView) (f : Fits w v) where
       (sound_taken (plain K.scripts) K.start (events_of K) (entry p inputs.Good (Some (next_guess K))) f.sound drawn_below (ap is_ok is))
 
   guessing_fits : (p : ℕ) (ask : Ask) (does : Did) → IsFor (Some (next_guess v.desk.kernel)) ask → effect_at v.desk.kernel (entry p inputs.Good (Some (next_guess v.desk.kernel))) ≡ Ok does
-      → Fits (guessing p (law_ask ask)) (record v { desk = turned v.desk p (rules.Guesses ask) })
+      → Fits xs (guessing p (law_ask ask)) (record v { desk = turned v.desk p (rules.Guesses ask) })
   guessing_fits p ask does kind is = record {
     seen = record {
       trace = trace_more (guess_entry (table K.scripts K.limit) K.start w p (law_ask ask)) (events.Guess (next_guess K) p inputs.Good) (λ i. Taken (entry p inputs.Good (Some (next_same i))));
@@ -276,13 +277,14 @@ module _ (w : World ℕ Bytes Bytes) (v : WorldView) (f : Fits w v) where
       waiting = request_seen p ask (Some (next_guess K)) (guess_request (table K.scripts K.limit) K.start w p (law_ask ask)) (guess_request_seen p ask);
       files = f.seen.files;
       refused = f.seen.refused;
+      answered = f.seen.answered;
     };
     sound = sound_guess p does is;
     kinds = kinds_more (request_of v.desk p ask (Some (next_guess K))) kind;
   }
 
   guess_fits : (p : ℕ) (ask : Ask) → IsFor (Some (next_guess v.desk.kernel)) ask → rule_refused v.desk p (rules.Guesses ask) ≡ None
-      → Fits (guessed (table v.desk.kernel.scripts v.desk.kernel.limit) v.desk.kernel.start w p (law_ask ask)) (record v { desk = turned v.desk p (rules.Guesses ask) })
+      → Fits xs (guessed (table v.desk.kernel.scripts v.desk.kernel.limit) v.desk.kernel.start w p (law_ask ask)) (record v { desk = turned v.desk p (rules.Guesses ask) })
   guess_fits p ask kind h =
       let does = effect_at K (entry p inputs.Good (Some (next_guess K))) in
       let later = or_else (too_many K) (or_else (no_number v.desk) (no_place v.desk 2)) in
@@ -294,11 +296,11 @@ module _ (w : World ℕ Bytes Bytes) (v : WorldView) (f : Fits w v) where
       let room = places_free 2 (omega arith) (none_later (no_number v.desk) (no_place v.desk 2) last) in
       let same : guessed (table K.scripts K.limit) K.start w p (law_ask ask) ≡ guessing p (law_ask ask) =
       (λ i. cond (number i && (few i && room i)) (guessed_by (table K.scripts K.limit) K.start w p (law_ask ask) ((guess_does p (law_ask ask) ∙ g.1) i)) w) in
-      subst (λ (x : World ℕ Bytes Bytes). Fits x (record v { desk = turned v.desk p (rules.Guesses ask) })) (sym same) (guessing_fits p ask g.0 kind g.1)
+      subst (λ (x : World ℕ Bytes Bytes). Fits xs x (record v { desk = turned v.desk p (rules.Guesses ask) })) (sym same) (guessing_fits p ask g.0 kind g.1)
 
   -- ---- a question
 
-  asking_fits : (p : ℕ) (ask : Ask) → IsFor None ask → Fits (asked_now (table v.desk.kernel.scripts v.desk.kernel.limit) v.desk.kernel.start w p (law_ask ask)) (record v { desk = turned v.desk p (rules.Asks ask) })
+  asking_fits : (p : ℕ) (ask : Ask) → IsFor None ask → Fits xs (asked_now (table v.desk.kernel.scripts v.desk.kernel.limit) v.desk.kernel.start w p (law_ask ask)) (record v { desk = turned v.desk p (rules.Asks ask) })
   asking_fits p ask kind = record {
     seen = record {
       trace = f.seen.trace;
@@ -309,107 +311,108 @@ module _ (w : World ℕ Bytes Bytes) (v : WorldView) (f : Fits w v) where
       waiting = request_seen p ask None (ask_request (table K.scripts K.limit) K.start w p (law_ask ask)) (ask_request_seen p ask);
       files = f.seen.files;
       refused = f.seen.refused;
+      answered = f.seen.answered;
     };
     sound = f.sound;
     kinds = kinds_more (request_of v.desk p ask None) kind;
   }
 
   ask_fits : (p : ℕ) (ask : Ask) → IsFor None ask → rule_refused v.desk p (rules.Asks ask) ≡ None
-      → Fits (asked (table v.desk.kernel.scripts v.desk.kernel.limit) v.desk.kernel.start w p (law_ask ask)) (record v { desk = turned v.desk p (rules.Asks ask) })
+      → Fits xs (asked (table v.desk.kernel.scripts v.desk.kernel.limit) v.desk.kernel.start w p (law_ask ask)) (record v { desk = turned v.desk p (rules.Asks ask) })
   ask_fits p ask kind h =
       let number = number_free (none_first (no_number v.desk) (no_place v.desk 1) h) in
       let room = places_free 1 (omega arith) (none_later (no_number v.desk) (no_place v.desk 1) h) in
       let same : asked (table K.scripts K.limit) K.start w p (law_ask ask) ≡ asked_now (table K.scripts K.limit) K.start w p (law_ask ask) =
       (λ i. cond (number i && room i) (asked_now (table K.scripts K.limit) K.start w p (law_ask ask)) w) in
-      subst (λ (x : World ℕ Bytes Bytes). Fits x (record v { desk = turned v.desk p (rules.Asks ask) })) (sym same) (asking_fits p ask kind)
+      subst (λ (x : World ℕ Bytes Bytes). Fits xs x (record v { desk = turned v.desk p (rules.Asks ask) })) (sym same) (asking_fits p ask kind)
 
   -- ---- a turn
 
   module _ (p : ℕ) (turn : Told) (new : DeskView) where
-    by_steps : (input : Input) → RulePost (Ok turn) v.desk p (rules.Steps input) new → Fits (used (table v.desk.kernel.scripts v.desk.kernel.limit) v.desk.kernel.start w p (law_input input)) (record v { desk = new })
+    by_steps : (input : Input) → RulePost (Ok turn) v.desk p (rules.Steps input) new → Fits xs (used (table v.desk.kernel.scripts v.desk.kernel.limit) v.desk.kernel.start w p (law_input input)) (record v { desk = new })
     by_steps input h =
-        subst (λ (d : DeskView). Fits (used (table K.scripts K.limit) K.start w p (law_input input)) (record v { desk = d })) (sym h.2) (steps_fit p input h.0)
+        subst (λ (d : DeskView). Fits xs (used (table K.scripts K.limit) K.start w p (law_input input)) (record v { desk = d })) (sym h.2) (steps_fit p input h.0)
 
     by_guess : (ask : Ask) → IsFor (Some (next_guess v.desk.kernel)) ask → RulePost (Ok turn) v.desk p (rules.Guesses ask) new
-        → Fits (guessed (table v.desk.kernel.scripts v.desk.kernel.limit) v.desk.kernel.start w p (law_ask ask)) (record v { desk = new })
+        → Fits xs (guessed (table v.desk.kernel.scripts v.desk.kernel.limit) v.desk.kernel.start w p (law_ask ask)) (record v { desk = new })
     by_guess ask kind h =
-        subst (λ (d : DeskView). Fits (guessed (table K.scripts K.limit) K.start w p (law_ask ask)) (record v { desk = d })) (sym h.2) (guess_fits p ask kind h.0)
+        subst (λ (d : DeskView). Fits xs (guessed (table K.scripts K.limit) K.start w p (law_ask ask)) (record v { desk = d })) (sym h.2) (guess_fits p ask kind h.0)
 
     by_ask : (ask : Ask) → IsFor None ask → RulePost (Ok turn) v.desk p (rules.Asks ask) new
-        → Fits (asked (table v.desk.kernel.scripts v.desk.kernel.limit) v.desk.kernel.start w p (law_ask ask)) (record v { desk = new })
+        → Fits xs (asked (table v.desk.kernel.scripts v.desk.kernel.limit) v.desk.kernel.start w p (law_ask ask)) (record v { desk = new })
     by_ask ask kind h =
-        subst (λ (d : DeskView). Fits (asked (table K.scripts K.limit) K.start w p (law_ask ask)) (record v { desk = d })) (sym h.2) (ask_fits p ask kind h.0)
+        subst (λ (d : DeskView). Fits xs (asked (table K.scripts K.limit) K.start w p (law_ask ask)) (record v { desk = d })) (sym h.2) (ask_fits p ask kind h.0)
 
     by_fetch : (name : Bytes) (kept : Option Input) (version : Option ℕ) → RulePost (Ok turn) v.desk p (unless_kept kept (fetch_rule name version)) new
-        → Fits (fetched (table v.desk.kernel.scripts v.desk.kernel.limit) v.desk.kernel.start w p name (law_kept kept) version) (record v { desk = new })
+        → Fits xs (fetched (table v.desk.kernel.scripts v.desk.kernel.limit) v.desk.kernel.start w p name (law_kept kept) version) (record v { desk = new })
     by_fetch name (Some input) version h = by_steps input h
     by_fetch name None (Some ver) h = by_guess (asks.Check name ver) tt h
     by_fetch name None None h = by_ask (asks.Get name) tt h
 
     by_store : (name bytes : Bytes) (kept : Option Input) (version : Option ℕ) → RulePost (Ok turn) v.desk p (unless_kept kept (store_rule name bytes version)) new
-        → Fits (stored (table v.desk.kernel.scripts v.desk.kernel.limit) v.desk.kernel.start w p name bytes (law_kept kept) version) (record v { desk = new })
+        → Fits xs (stored (table v.desk.kernel.scripts v.desk.kernel.limit) v.desk.kernel.start w p name bytes (law_kept kept) version) (record v { desk = new })
     by_store name bytes (Some input) version h = by_steps input h
     by_store name bytes None None h = by_ask (asks.Store name 0 bytes) tt h
     by_store name bytes None (Some ver) h =
         elim (nat_lt ver LAST_VERSION) as (λ b. RulePost (Ok turn) v.desk p (cond b (rules.Guesses (asks.Store name ver bytes)) (rules.Asks (asks.Store name ver bytes))) new
-            → Fits (cond b (guessed (table K.scripts K.limit) K.start w p (Store name ver bytes)) (asked (table K.scripts K.limit) K.start w p (Store name ver bytes))) (record v { desk = new })) [
+            → Fits xs (cond b (guessed (table K.scripts K.limit) K.start w p (Store name ver bytes)) (asked (table K.scripts K.limit) K.start w p (Store name ver bytes))) (record v { desk = new })) [
           | true ↦ λ h. by_guess (asks.Store name ver bytes) tt h
           | false ↦ λ h. by_ask (asks.Store name ver bytes) tt h
         ] h
 
     by_other : (kept : Option Input) → kept_for p v.desk.kept ≡ kept → RulePost (Ok turn) v.desk p (unless_kept kept (rules.Steps inputs.None)) new
-        → Fits (other (table v.desk.kernel.scripts v.desk.kernel.limit) v.desk.kernel.start w p (law_kept kept)) (record v { desk = new })
+        → Fits xs (other (table v.desk.kernel.scripts v.desk.kernel.limit) v.desk.kernel.start w p (law_kept kept)) (record v { desk = new })
     by_other (Some input) is h = by_steps input h
     by_other None is h =
-        subst (λ (d : DeskView). Fits (other (table K.scripts K.limit) K.start w p None) (record v { desk = d })) (sym h.2) (plain_fits p is h.0)
+        subst (λ (d : DeskView). Fits xs (other (table K.scripts K.limit) K.start w p None) (record v { desk = d })) (sym h.2) (plain_fits p is h.0)
 
     by_else : RulePost (Ok turn) v.desk p (unless_kept (kept_for p v.desk.kept) (rules.Steps inputs.None)) new
-        → Fits (other (table v.desk.kernel.scripts v.desk.kernel.limit) v.desk.kernel.start w p (w.kept p)) (record v { desk = new })
+        → Fits xs (other (table v.desk.kernel.scripts v.desk.kernel.limit) v.desk.kernel.start w p (w.kept p)) (record v { desk = new })
     by_else h =
-        subst (λ (o : Option (LawInput Bytes)). Fits (other (table K.scripts K.limit) K.start w p o) (record v { desk = new })) (sym (f.seen.kept p))
+        subst (λ (o : Option (LawInput Bytes)). Fits xs (other (table K.scripts K.limit) K.start w p o) (record v { desk = new })) (sym (f.seen.kept p))
         (by_other (kept_for p v.desk.kept) refl h)
 
     cached_seen : (name : Bytes) → version_of (get (state (table v.desk.kernel.scripts v.desk.kernel.limit) v.desk.kernel.start w.trace) (CopyOf name)) ≡ cached v.desk.kernel name
-    cached_seen name = λ i. version_of (get (state_seen w v f.seen i) (CopyOf name))
+    cached_seen name = λ i. version_of (get (state_seen xs w v f.seen i) (CopyOf name))
 
-    by_name : (b : Bool) (rule : Rule) (x : World ℕ Bytes Bytes) → (RulePost (Ok turn) v.desk p rule new → Fits x (record v { desk = new })) → ByRule (Ok turn) v.desk p new (cond b (Err Blocked) (Ok rule))
-        → Fits (cond b w x) (record v { desk = new })
+    by_name : (b : Bool) (rule : Rule) (x : World ℕ Bytes Bytes) → (RulePost (Ok turn) v.desk p rule new → Fits xs x (record v { desk = new })) → ByRule (Ok turn) v.desk p new (cond b (Err Blocked) (Ok rule))
+        → Fits xs (cond b w x) (record v { desk = new })
     by_name true rule x fits h = absurd (let bad : Ok turn ≡ Err Blocked = h.0 in cc)
     by_name false rule x fits h = fits h
 
     by_next : (n : Next) → ByRule (Ok turn) v.desk p new (rule_next v.desk p n)
-        → Fits (law_turned (table v.desk.kernel.scripts v.desk.kernel.limit) v.desk.kernel.start w p (turn_of (buffer v.desk.kernel p) (Ok n))) (record v { desk = new })
+        → Fits xs (law_turned (table v.desk.kernel.scripts v.desk.kernel.limit) v.desk.kernel.start w p (turn_of (buffer v.desk.kernel p) (Ok n))) (record v { desk = new })
     by_next nexts.Signal h = by_steps inputs.None h
     by_next (nexts.Fetch name) h =
         let kept = kept_for p v.desk.kept in
         let same : law_turned (table K.scripts K.limit) K.start w p (turn_of (buffer K p) (Ok (nexts.Fetch name))) ≡ cond (asks_on name (pending v.desk)) w (fetched (table K.scripts K.limit) K.start w p name (law_kept kept) (cached K name)) =
-        (λ i. cond (asks_on_seen w v f.seen name i) w (fetched (table K.scripts K.limit) K.start w p name (f.seen.kept p i) (cached_seen name i))) in
-        subst (λ (x : World ℕ Bytes Bytes). Fits x (record v { desk = new })) (sym same)
+        (λ i. cond (asks_on_seen xs w v f.seen name i) w (fetched (table K.scripts K.limit) K.start w p name (f.seen.kept p i) (cached_seen name i))) in
+        subst (λ (x : World ℕ Bytes Bytes). Fits xs x (record v { desk = new })) (sym same)
         (by_name (asks_on name (pending v.desk)) (unless_kept kept (fetch_rule name (cached K name))) (fetched (table K.scripts K.limit) K.start w p name (law_kept kept) (cached K name)) (by_fetch name kept (cached K name)) h)
     by_next (nexts.Store name) h =
         let kept = kept_for p v.desk.kept in
         let bytes = buffer K p in
         let same : law_turned (table K.scripts K.limit) K.start w p (turn_of (buffer K p) (Ok (nexts.Store name))) ≡ cond (asks_on name (pending v.desk)) w (stored (table K.scripts K.limit) K.start w p name bytes (law_kept kept) (cached K name)) =
-        (λ i. cond (asks_on_seen w v f.seen name i) w (stored (table K.scripts K.limit) K.start w p name bytes (f.seen.kept p i) (cached_seen name i))) in
-        subst (λ (x : World ℕ Bytes Bytes). Fits x (record v { desk = new })) (sym same)
+        (λ i. cond (asks_on_seen xs w v f.seen name i) w (stored (table K.scripts K.limit) K.start w p name bytes (f.seen.kept p i) (cached_seen name i))) in
+        subst (λ (x : World ℕ Bytes Bytes). Fits xs x (record v { desk = new })) (sym same)
         (by_name (asks_on name (pending v.desk)) (unless_kept kept (store_rule name bytes (cached K name))) (stored (table K.scripts K.limit) K.start w p name bytes (law_kept kept) (cached K name)) (by_store name bytes kept (cached K name)) h)
     by_next nexts.Private h = by_else h
     by_next nexts.Waits h = by_else h
     by_next nexts.Other h = by_else h
 
     by_result : (n : Result Next Refusal) → ByRule (Ok turn) v.desk p new (rule_of v.desk p n)
-        → Fits (cond (asks_for p (pending v.desk)) w (law_turned (table v.desk.kernel.scripts v.desk.kernel.limit) v.desk.kernel.start w p (turn_of (buffer v.desk.kernel p) n))) (record v { desk = new })
+        → Fits xs (cond (asks_for p (pending v.desk)) w (law_turned (table v.desk.kernel.scripts v.desk.kernel.limit) v.desk.kernel.start w p (turn_of (buffer v.desk.kernel p) n))) (record v { desk = new })
     by_result (Err why) h = absurd (let bad : Ok turn ≡ Err why = h.0 in cc)
     by_result (Ok n) h =
         elim (asks_for p (pending v.desk)) as (λ b. ByRule (Ok turn) v.desk p new (cond b (Err Blocked) (rule_next v.desk p n))
-            → Fits (cond b w (law_turned (table K.scripts K.limit) K.start w p (turn_of (buffer K p) (Ok n)))) (record v { desk = new })) [
+            → Fits xs (cond b w (law_turned (table K.scripts K.limit) K.start w p (turn_of (buffer K p) (Ok n)))) (record v { desk = new })) [
           | true ↦ λ h. absurd (let bad : Ok turn ≡ Err Blocked = h.0 in cc)
           | false ↦ λ h. by_next n h
         ] h
 
-    pub turn_fits : TurnPost (Ok turn) v.desk p new → Fits (event (table v.desk.kernel.scripts v.desk.kernel.limit) v.desk.kernel.start w (Turn p)) (record v { desk = new })
+    pub turn_fits : TurnPost (Ok turn) v.desk p new → Fits xs (event (table v.desk.kernel.scripts v.desk.kernel.limit) v.desk.kernel.start w (Turn p)) (record v { desk = new })
     turn_fits h =
         let same : event (table K.scripts K.limit) K.start w (Turn p)
             ≡ cond (asks_for p (pending v.desk)) w (law_turned (table K.scripts K.limit) K.start w p (turn_of (buffer K p) (next_of (get (state_at K)) K.scripts p))) =
-        (λ i. cond (asks_for_seen w v f.seen p i) w (law_turned (table K.scripts K.limit) K.start w p (turn_of (buffer_of (get (state_seen w v f.seen i) (Proc p))) (next_of (get (state_seen w v f.seen i)) K.scripts p)))) in
-        subst (λ (x : World ℕ Bytes Bytes). Fits x (record v { desk = new })) (sym same) (by_result (next_of (get (state_at K)) K.scripts p) h)
+        (λ i. cond (asks_for_seen xs w v f.seen p i) w (law_turned (table K.scripts K.limit) K.start w p (turn_of (buffer_of (get (state_seen xs w v f.seen i) (Proc p))) (next_of (get (state_seen xs w v f.seen i)) K.scripts p)))) in
+        subst (λ (x : World ℕ Bytes Bytes). Fits xs x (record v { desk = new })) (sym same) (by_result (next_of (get (state_at K)) K.scripts p) h)

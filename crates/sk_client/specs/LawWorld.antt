@@ -1,13 +1,22 @@
 -- A world as the laws have it, and the same as its callers see it.
-use Rattle.std.specs.Prelude.{◌≡◌, ℕ, List, [], ◌∷◌, ◌++◌, map, Option, Some, None, Result}
+use Rattle.std.specs.Prelude.{◌≡◌, ℕ, ◌+◌, List, [], ◌∷◌, ◌++◌, map, Option, Some, None, Result, Ok, ◌⊎◌}
+use Rattle.std.specs.List.{Contains}
+use Rattle.sk_record.specs.Effects.{MarkedEffect}
+use Rattle.sk_record.specs.Run.{effects}
+use Rattle.sk_ids.specs.declared.entity.Entity.{Entity}
+use Rattle.sk_ids.specs.declared.entity.Entity.TheVariants.{Copy as CopyOf}
 use Rattle.sk_objects.specs.Content.{ContentView}
 use Rattle.sk_script.specs.declared.instruction.Input.{Input}
 use Rattle.sk_script.specs.declared.instruction.Input.TheVariants as inputs
 use Rattle.sk_script.specs.Boot.{BootView}
 use Rattle.sk_store.specs.Start.{start_of}
-use Rattle.sk_kernel.specs.Kernel.{events_of, last_guess}
+use Rattle.sk_store.specs.declared.entity_state.EntityState.{EntityState}
+use Rattle.sk_trace.specs.Entry.{EntryView}
+use Rattle.sk_plain.specs.Act.{Saying, plain}
+use Rattle.sk_kernel.specs.Kernel.{KernelView, events_of, record_at, last_guess}
 use Rattle.sk_server.specs.Files.{file_of}
 use Rattle.sk_server.specs.Server.{ServerView}
+use Rattle.sk_server.specs.declared.request.Request.{Request as Sent}
 use Rattle.sk_server.specs.declared.request.Ask.{Ask}
 use Rattle.sk_server.specs.declared.request.Ask.TheVariants as asks
 use Rattle.sk_server.specs.declared.reply.Answer.{Answer}
@@ -16,12 +25,15 @@ use Rattle.sk_server.specs.declared.reply.Reply.{Reply}
 use Rattle.sk_world.specs.Requests.{Input as LawInput, Content, Nothing, Good, Fresh, Stale, Ask as LawAsk, Get, Check, Store, Answer as LawAnswer, Yes, No, Copy, Dropped, Request, Served}
 use Rattle.sk_world.specs.World.{World, WorldEvent as LawEvent, world_after}
 use Rattle.sk_world.specs.Labels.{bare_event}
-use Rattle.sk_client.specs.Table.{Bytes, bare, table, begun}
-use Rattle.sk_client.specs.Desk.{kept_for}
-use Rattle.sk_client.specs.WorldView.{WorldView, EventPost}
+use Rattle.sk_world.specs.Laws.{paired}
+use Rattle.sk_client.specs.Table.{Bytes, bare, table, begun, copy_of}
+use Rattle.sk_client.specs.Desk.{pending, kept_for}
+use Rattle.sk_client.specs.WorldView.{WorldView, taken_by, EventPost}
 use Rattle.sk_client.specs.declared.pending.PendingRequest.{PendingRequest}
 use Rattle.sk_client.specs.declared.world.WorldEvent.{WorldEvent}
+use Rattle.sk_client.specs.declared.world.WorldEvent.TheVariants as events
 use Rattle.sk_client.specs.declared.world.WorldAnswer.{WorldAnswer}
+use Rattle.sk_client.specs.declared.world.WorldAnswer.TheVariants as told
 use Rattle.sk_client.specs.declared.world.Cause.{Cause}
 
 -- ---- the same words in both
@@ -65,8 +77,46 @@ unanswered (q ∷ qs) (r ∷ rs) = unanswered qs rs
 unanswered (q ∷ qs) [] = q ∷ qs
 unanswered [] rs = []
 
--- a world of the laws, whose entries have causes besides, seen as its callers do
-pub record IsSeen (w : World ℕ Bytes Bytes) (v : WorldView) : Type 0 where
+-- ---- what was served: each request with its reply, in the server's order
+
+abbrev pub Exchanges : Type 0
+Exchanges = List (Sent × Reply)
+
+abbrev pub with_reply : Sent → Result WorldAnswer Cause → Exchanges
+with_reply q (Ok (told.Served r)) = (q, r) ∷ []
+with_reply q answer = []
+
+abbrev pub exchange : Option Sent → Result WorldAnswer Cause → Exchanges
+exchange None answer = []
+exchange (Some q) answer = with_reply q answer
+
+abbrev pub exchanged : Result WorldAnswer Cause → WorldView → WorldEvent → Exchanges
+exchanged answer w (events.Turn pid) = []
+exchanged answer w events.Serve = exchange (taken_by w w.back).back answer
+exchanged answer w events.Reply = []
+exchanged answer w (events.Edit name expected bytes) = []
+
+-- a world comes to another by these events, whatever each of them is answered, and so many requests are served
+abbrev pub Leads : WorldView → List WorldEvent → Exchanges → WorldView → Type 0
+Leads w [] served last = (served ≡ []) × (last ≡ w)
+Leads w (e ∷ es) served last =
+    (answer : Result WorldAnswer Cause) × (next : WorldView) × (later : Exchanges)
+    × EventPost answer w e next × Leads next es later last × (served ≡ exchanged answer w e ++ later)
+
+-- ---- a world of the laws, and the same as its callers see it
+
+-- a request with its answer, the process aside
+abbrev pub Answered : Type 0
+Answered = ℕ × (LawAsk Bytes Bytes × (Option ℕ × LawAnswer Bytes))
+
+abbrev pub answered_there : Served ℕ Bytes Bytes → Answered
+answered_there x = (x.0.number, (x.0.ask, (x.0.guess, x.1)))
+
+abbrev pub answered_here : Sent × Reply → Answered
+answered_here x = (x.0.number, (law_ask x.0.ask, (x.0.guess, law_answer x.1.answer)))
+
+-- behind these exchanges, a world of the laws, whose entries have causes besides, is seen so
+pub record IsSeen (served : Exchanges) (w : World ℕ Bytes Bytes) (v : WorldView) : Type 0 where
   pub trace : map (bare_event bare) w.trace ≡ events_of v.desk.kernel
   pub drawn : w.drawn ≡ last_guess v.desk.kernel.trace
   pub next : w.next ≡ v.desk.next
@@ -75,14 +125,30 @@ pub record IsSeen (w : World ℕ Bytes Bytes) (v : WorldView) : Type 0 where
   pub waiting : w.waiting ≡ map law_request (unanswered v.desk.taken v.replies ++ v.desk.waiting)
   pub files : (name : Bytes) → w.server.files name ≡ law_content (file_of v.server.files name)
   pub refused : w.server.refused ≡ v.server.refused
-
--- a world comes to another by these events, whatever each of them is answered
-abbrev pub Leads : WorldView → List WorldEvent → WorldView → Type 0
-Leads w [] last = last ≡ w
-Leads w (e ∷ es) last = (told : Result WorldAnswer Cause) × (next : WorldView) × EventPost told w e next × Leads next es last
+  pub answered : map answered_there (w.given ++ w.taken) ≡ map answered_here served
 
 -- some list of the laws' events leads to a world that is seen so
-abbrev pub IsSeenAfter : BootView → ℕ → ServerView → WorldView → Type 0
-IsSeenAfter boot limit server v =
+abbrev pub IsSeenAfter : BootView → ℕ → ServerView → Exchanges → WorldView → Type 0
+IsSeenAfter boot limit server served v =
     (es : List (LawEvent ℕ Bytes Bytes))
-    × IsSeen (world_after (table boot.scripts limit) (start_of boot) (begun (λ name. law_content (file_of server.files name))) es) v
+    × IsSeen served (world_after (table boot.scripts limit) (start_of boot) (begun (λ name. law_content (file_of server.files name))) es) v
+
+-- ---- accepted stores
+
+-- the step of a store stands in the kernel's record: it was taken with Good, and it set the copy
+pub record StandsIn (k : KernelView) (name : Bytes) (version : ℕ) (bytes : Bytes) : Type 0 where
+  pub entry : EntryView
+  pub effect : MarkedEffect Entity EntityState Saying
+  pub there : Contains (paired (record_at k) (effects (plain k.scripts) k.start (record_at k))) (entry, effect)
+  pub input : entry.input ≡ inputs.Good
+  pub sets : Contains effect.written (CopyOf name, Some (copy_of (version + 1, bytes)))
+
+-- a request was made with a guess, or its reply was given
+abbrev pub IsDue : WorldView → Sent → Type 0
+IsDue v q = ((g : ℕ) × (q.guess ≡ Some g)) ⊎ ((p : PendingRequest) → Contains (pending v.desk) p → p.number ≡ q.number → ⊥)
+
+-- the step of each store that was accepted and is due stands in the record of a later world
+abbrev pub StoresStand : Exchanges → WorldView → WorldView → Type 0
+StoresStand served v later =
+    (q : Sent) (r : Reply) (name : Bytes) (version : ℕ) (bytes : Bytes) → Contains served (q, r) → r.answer ≡ answers.Yes → q.ask ≡ asks.Store name version bytes → IsDue v q
+    → StandsIn later.desk.kernel name version bytes

@@ -15,7 +15,7 @@ ghost use Rattle.sk_kernel.specs.Kernel.{booted};
 ghost use Rattle.sk_server.specs.Server.{ServerView};
 ghost use Rattle.sk_client.specs.Table.{Bytes, Caused, table, bare, begun, IsNumbered};
 ghost use Rattle.sk_client.specs.Desk.{opened};
-ghost use Rattle.sk_client.specs.LawWorld.{Leads, IsSeenAfter};
+ghost use Rattle.sk_client.specs.LawWorld.{Exchanges, Leads, IsSeenAfter, StoresStand};
 ghost use Rattle.sk_client.specs.WorldView.{WorldView, joined};
 ghost use Rattle.sk_client.specs.declared.world.WorldEvent.{WorldEvent};
 
@@ -63,8 +63,16 @@ pub fn begins()
 /// those that the other laws are about, seen from outside.
 pub fn worlds()
     ensures { (number : ℕ) (boot : BootView) (limit : ℕ) (server : ServerView) → IsNumbered boot → server.next ≡ 1 → server.refused ≡ []
-        → (es : List WorldEvent) (last : WorldView) → Leads (joined (opened (booted number boot limit)) server) es last
-        → IsSeenAfter boot limit server last }
+        → (es : List WorldEvent) (served : Exchanges) (v : WorldView) → Leads (joined (opened (booted number boot limit)) server) es served v
+        → IsSeenAfter boot limit server served v }
+{}
+
+/// Accepted stores stand: after any list of a world's events, and any list behind it, the step of each store that the
+/// server accepted stands in the record of the kernel, from its guess on, or from its reply on where it was asked.
+pub fn accepted()
+    ensures { (number : ℕ) (boot : BootView) (limit : ℕ) (server : ServerView) → IsNumbered boot → server.next ≡ 1 → server.refused ≡ []
+        → (es : List WorldEvent) (served : Exchanges) (v : WorldView) → Leads (joined (opened (booted number boot limit)) server) es served v
+        → (later : List WorldEvent) (more : Exchanges) (last : WorldView) → Leads v later more last → StoresStand served v last }
 {}
 
 /// The numbers of a boot's processes are as the laws ask.

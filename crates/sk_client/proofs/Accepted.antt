@@ -1,6 +1,5 @@
 -- The step of each store that the server accepted stands in the record, told of a world's calls.
-use Rattle.std.proofs.Common.{◌≡◌, ℕ, suc, ◌+◌, List, [], ◌∷◌, ◌++◌, map, Option, Some, None, inl, inr, refl, sym, ◌∙◌, ap, subst, arith}
-use Rattle.std.specs.Prelude.{◌⊎◌}
+use Rattle.std.proofs.Common.{◌≡◌, ℕ, suc, ◌+◌, List, [], ◌∷◌, ◌++◌, map, Some, inl, inr, refl, sym, ◌∙◌, ap, subst, arith}
 use Rattle.std.specs.List.{Contains}
 use Rattle.std.proofs.lemmas.List.Elements.{Contains-append_left, Contains-append_cases}
 use Rattle.sk_record.specs.Effects.{MarkedEffect}
@@ -10,11 +9,9 @@ use Rattle.sk_ids.specs.declared.entity.Entity.{Entity}
 use Rattle.sk_ids.specs.declared.entity.Entity.TheVariants.{Copy as CopyOf}
 use Rattle.sk_script.specs.Boot.{BootView}
 use Rattle.sk_script.specs.Scripts.{ScriptMap}
-use Rattle.sk_script.specs.declared.instruction.Input.TheVariants as inputs
 use Rattle.sk_store.specs.State.{State}
 use Rattle.sk_store.specs.Start.{start_of}
 use Rattle.sk_store.specs.declared.entity_state.EntityState.{EntityState}
-use Rattle.sk_trace.specs.Entry.{EntryView}
 use Rattle.sk_plain.specs.Act.{Saying, plain}
 use Rattle.sk_plain.specs.declared.refusal.Refusal.{Refusal}
 use Rattle.sk_kernel.specs.Kernel.{KernelView, booted, record_at}
@@ -25,8 +22,7 @@ use Rattle.sk_server.specs.declared.request.Ask.TheVariants as asks
 use Rattle.sk_server.specs.declared.reply.Answer.TheVariants as answers
 use Rattle.sk_server.specs.declared.reply.Reply.{Reply}
 use Rattle.sk_world.specs.Requests.{Good, Store, Yes, Request, Served}
-use Rattle.sk_world.specs.World.{Table, World, kernel, served, world_after, event}
-use Rattle.sk_world.specs.Labels.{bare_event}
+use Rattle.sk_world.specs.World.{Table, World, kernel, served, event}
 use Rattle.sk_world.specs.Laws.{paired, Sets, IsDueStep, Stands}
 use Rattle.sk_world.proofs.Each.{cons_cases, cons_first, cons_later, no_member}
 use Rattle.sk_world.proofs.First.{accepted_stand}
@@ -34,14 +30,14 @@ use Rattle.sk_world.proofs.Labels.{is_bare}
 use Rattle.sk_world.proofs.RequestFacts.{in_map}
 use Rattle.std.proofs.lemmas.List.Sums.{fold-append}
 use Rattle.sk_client.specs.Table.{Bytes, Caused, bare, input_of, table, begun, copy_of, IsNumbered}
-use Rattle.sk_client.specs.Desk.{pending, opened}
+use Rattle.sk_client.specs.Desk.{opened}
 use Rattle.sk_client.specs.LawWorld.{Exchanges, Leads, law_content, law_ask, law_answer, law_request, law_served, answered_there, answered_here, IsSeen, StandsIn, IsDue, StoresStand}
 use Rattle.sk_client.specs.WorldView.{WorldView, joined}
 use Rattle.sk_client.specs.declared.pending.PendingRequest.{PendingRequest}
 use Rattle.sk_client.specs.declared.world.WorldEvent.{WorldEvent}
 use Rattle.sk_client.proofs.Table.{is_table, begins}
 use Rattle.sk_client.proofs.SeenFacts.{steps_seen}
-use Rattle.sk_client.proofs.Seen.{Reached, law_after, reached, later_on}
+use Rattle.sk_client.proofs.Seen.{law_after, reached, later_on}
 
 -- ---- elements of lists
 
@@ -145,7 +141,7 @@ module _ (boot : BootView) (limit : ℕ) (numbered : IsNumbered boot) (server : 
       let first = begun (λ name. law_content (file_of server.files name)) in
       let f = found xs (law_after boot limit numbered server a.since) v a.fits.seen q r name version bytes there accepted asks in
       let stands = accepted_stand S (start_of boot) (is_table boot.scripts limit boot numbered) first (begins boot limit (λ name. law_content (file_of server.files name))) a.since b.since
-          f.request name version bytes f.there f.asks (due xs (law_after boot limit numbered server a.since) v a.fits.seen q r name version bytes there accepted asks f is_due) in
+      f.request name version bytes f.there f.asks (due xs (law_after boot limit numbered server a.since) v a.fits.seen q r name version bytes there accepted asks f is_due) in
       let w = law_after boot limit numbered server (a.since ++ b.since) in
       let here : Stands S (start_of boot) w f.request =
       subst (λ (x : World ℕ Bytes Bytes). Stands S (start_of boot) x f.request) (sym (fold-append (event S (start_of boot)) first a.since b.since)) stands in

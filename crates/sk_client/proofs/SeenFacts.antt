@@ -167,14 +167,14 @@ module _ (xs : Exchanges) (w : World ℕ Bytes Bytes) (v : WorldView) (seen : Is
   rests_seen pid name =
       ap (filter (is_tag (table K.scripts K.limit) K.start w.trace pid name)) undecided_seen
       ∙ same_filter (is_tag (table K.scripts K.limit) K.start w.trace pid name) (λ g. has g (tags_at K (Proc pid)) || has g (tags_at K (CopyOf name))) (undecided_at K)
-        (λ g there i. sym (tag_seen g (Proc pid) there) i || sym (tag_seen g (CopyOf name) there) i)
+      (λ g there i. sym (tag_seen g (Proc pid) there) i || sym (tag_seen g (CopyOf name) there) i)
 
   pub settled_seen : HasSoundTrace v.desk.kernel → least (suc w.drawn) (undecided (table v.desk.kernel.scripts v.desk.kernel.limit) v.desk.kernel.start w.trace) ≡ settled v.desk.kernel
   settled_seen sound =
       let next : suc w.drawn ≡ next_guess K = (let same = seen.drawn in omega (arith, same)) in
       (λ i. least (next i) (undecided_seen i))
       ∙ least_is_first (next_guess K) (undecided_at K) (undecided_sorted K sound)
-        (λ y there. (let less = below_next K sound y (entry_drawn (plain K.scripts) K.start (events_of K) sound y ((undecided_is K sound y).0 there).2) in omega (arith, less)))
+      (λ y there. (let less = below_next K sound y (entry_drawn (plain K.scripts) K.start (events_of K) sound y ((undecided_is K sound y).0 there).2) in omega (arith, less)))
 
   -- ---- places of the trace
 
@@ -191,14 +191,14 @@ module _ (xs : Exchanges) (w : World ℕ Bytes Bytes) (v : WorldView) (seen : Is
       ap (list_any (λ q. law_is_asked q.guess && (pid == q.process))) pending_seen
       ∙ any_map (λ q. law_is_asked q.guess && (pid == q.process)) law_request (pending v.desk)
       ∙ any_same (λ q. law_is_asked q.guess && (pid == q.process)) (λ q. is_asked q && (q.process == pid)) (pending v.desk)
-        (λ q i. same_asked q i && eqb_turned pid q.process i)
+      (λ q i. same_asked q i && eqb_turned pid q.process i)
 
   pub asks_on_seen : (name : Bytes) → law_asks_on (table v.desk.kernel.scripts v.desk.kernel.limit) v.desk.kernel.start w name ≡ asks_on name (pending v.desk)
   asks_on_seen name =
       ap (list_any (λ q. law_is_asked q.guess && bytes_eq name (law_name q.ask))) pending_seen
       ∙ any_map (λ q. law_is_asked q.guess && bytes_eq name (law_name q.ask)) law_request (pending v.desk)
       ∙ any_same (λ q. law_is_asked q.guess && bytes_eq name (law_name (law_ask q.ask))) (λ q. is_asked q && bytes_eq (name_of q.ask) name) (pending v.desk)
-        (λ q i. same_asked q i && (ap (bytes_eq name) (name_seen q.ask) ∙ bytes_turned name (name_of q.ask)) i)
+      (λ q i. same_asked q i && (ap (bytes_eq name) (name_seen q.ask) ∙ bytes_turned name (name_of q.ask)) i)
 
   -- ---- guesses that are lost
 

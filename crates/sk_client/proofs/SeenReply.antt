@@ -30,7 +30,7 @@ use Rattle.sk_world.specs.World.{World, Reply as Replies, pending as law_pending
 use Rattle.sk_world.specs.Labels.{bare_event}
 use Rattle.sk_client.specs.Table.{Bytes, Caused, bare, table}
 use Rattle.sk_client.specs.Desk.{DeskView, pending, asked_count, kept_for, forgotten, with_kept as kept_with, entry, fits_ask, decided, input_of, stepped, answered, given_to, given, is_void, is_asked}
-use Rattle.sk_client.specs.LawWorld.{Exchanges, answered_there, answered_here, law_input, law_kept, law_ask, law_answer, law_request, law_served, unanswered}
+use Rattle.sk_client.specs.LawWorld.{Exchanges, answered_there, law_input, law_kept, law_ask, law_answer, law_request, law_served, unanswered}
 use Rattle.sk_client.specs.WorldView.{WorldView}
 use Rattle.sk_client.specs.declared.pending.PendingRequest.{PendingRequest}
 use Rattle.sk_client.specs.declared.pending.Kept.{Kept}
@@ -143,7 +143,7 @@ module _ (xs : Exchanges) (w : World ℕ Bytes Bytes) (v : WorldView) (f : Fits 
 
     by_result : (r : Result Did Refusal) → effect_at v.desk.kernel (entry q.process input None) ≡ r
         → Fits xs (stepped_by (table v.desk.kernel.scripts v.desk.kernel.limit) v.desk.kernel.start w (asked_entry (law_request q) (law_input input)) r)
-          (record v { desk = record v.desk { kernel = stepped v.desk.kernel q.process input (or_else (refusal_of r) (trace_full v.desk.kernel 1)) } })
+        (record v { desk = record v.desk { kernel = stepped v.desk.kernel q.process input (or_else (refusal_of r) (trace_full v.desk.kernel 1)) } })
     by_result (Err why) is = f
     by_result (Ok does) is =
         subst (λ (o : Option Refusal). Fits xs (with_trace w (w.trace ++ Taken n ∷ [])) (record v { desk = record v.desk { kernel = stepped K q.process input o } })) (sym full)
@@ -157,7 +157,7 @@ module _ (xs : Exchanges) (w : World ℕ Bytes Bytes) (v : WorldView) (f : Fits 
 
   by_answer : trace_full v.desk.kernel 1 ≡ None → (q : PendingRequest) (ask : Ask) (a : Answer) → IsFor None ask → fits_ask ask a ≡ true
       → Fits xs (stepped_for (table v.desk.kernel.scripts v.desk.kernel.limit) v.desk.kernel.start w (law_request (record q { ask = ask })) (law_input_of (law_ask ask) (law_answer a)))
-        (record v { desk = answered v.desk (record q { ask = ask }) (input_of a) })
+      (record v { desk = answered v.desk (record q { ask = ask }) (input_of a) })
   by_answer full q (asks.Get name) answers.Yes kind fits = absurd (true≢false (sym fits))
   by_answer full q (asks.Get name) (answers.No c) kind fits = absurd (true≢false (sym fits))
   by_answer full q (asks.Get name) (answers.Copy c) kind fits = asked_fits full (record q { ask = asks.Get name }) (inputs.Fresh c)
@@ -221,7 +221,7 @@ module _ (xs : Exchanges) (w : World ℕ Bytes Bytes) (v : WorldView) (f : Fits 
 
   by_guess : (g : Option ℕ) → o.request.guess ≡ g
       → Fits xs (law_given_to (table v.desk.kernel.scripts v.desk.kernel.limit) v.desk.kernel.start answered_one (law_request o.request) (law_answer r.answer) g)
-        (record without { desk = given_to without.desk o.request r.answer g })
+      (record without { desk = given_to without.desk o.request r.answer g })
   by_guess None e = stepped_fits xs answered_one without without_fits (has_place e) o.request r.answer (subst (λ g. IsFor g o.request.ask) e kinds_now.0) o.fits
   by_guess (Some g) e = decided_fits xs answered_one without without_fits o.request r.answer g (subst (λ g. IsFor g o.request.ask) e kinds_now.0) o.fits
 

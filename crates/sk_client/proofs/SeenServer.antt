@@ -54,7 +54,7 @@ pub put_seen : (fs : Bytes → Content Bytes) (files : FileMap) (name : Bytes) (
 put_seen fs files name version bytes seen m =
     file_case (bytes_eq m name) version bytes (map_.get files m) (fs m) (seen m)
     ∙ ap (λ o. law_content (unwrap_or o (record { version = 0; bytes = [] })))
-      (ap (λ b. cond b (Some (written_content version bytes)) (map_.get files m)) (sym (names_tied m name)) ∙ sym (get-insert nat_list_cmp_total files name (written_content version bytes) m))
+    (ap (λ b. cond b (Some (written_content version bytes)) (map_.get files m)) (sym (names_tied m name)) ∙ sym (get-insert nat_list_cmp_total files name (written_content version bytes) m))
 
 pub fitting_seen : (fs : Bytes → Content Bytes) (files : FileMap) (name : Bytes) (version : ℕ) (bytes : Bytes) → SeenFiles fs files → law_fitting LAST_VERSION fs (change name version bytes) ≡ is_fitting files name version
 fitting_seen fs files name version bytes seen = λ i. ((seen name i).0 == version) && nat_lt version LAST_VERSION
@@ -126,7 +126,7 @@ module _ (t : Server Bytes Bytes) (s : ServerView) (files : SeenFiles t.files s.
   answer_fits : answer_to s (sent q) ≡ answers.Yes → (name : Bytes) (version : ℕ) (bytes : Bytes) → q.ask ≡ asks.Store name version bytes → is_fitting s.files name version ≡ true
   answer_fits told =
       elim (is_dropped (sent q) (remembered (sent q) s.refused)) as (λ b. cond b answers.Dropped (judged s.files q.ask) ≡ answers.Yes
-          → (name : Bytes) (version : ℕ) (bytes : Bytes) → q.ask ≡ asks.Store name version bytes → is_fitting s.files name version ≡ true) [
+      → (name : Bytes) (version : ℕ) (bytes : Bytes) → q.ask ≡ asks.Store name version bytes → is_fitting s.files name version ≡ true) [
         | true ↦ λ h. absurd cc
         | false ↦ λ h. judged_fits q.ask h
       ] told

@@ -355,7 +355,7 @@ module _ (xs : Exchanges) (w : World ℕ Bytes Bytes) (v : WorldView) (f : Fits 
     by_store name bytes None None h = by_ask (asks.Store name 0 bytes) tt h
     by_store name bytes None (Some ver) h =
         elim (nat_lt ver LAST_VERSION) as (λ b. RulePost (Ok turn) v.desk p (cond b (rules.Guesses (asks.Store name ver bytes)) (rules.Asks (asks.Store name ver bytes))) new
-            → Fits xs (cond b (guessed (table K.scripts K.limit) K.start w p (Store name ver bytes)) (asked (table K.scripts K.limit) K.start w p (Store name ver bytes))) (record v { desk = new })) [
+        → Fits xs (cond b (guessed (table K.scripts K.limit) K.start w p (Store name ver bytes)) (asked (table K.scripts K.limit) K.start w p (Store name ver bytes))) (record v { desk = new })) [
           | true ↦ λ h. by_guess (asks.Store name ver bytes) tt h
           | false ↦ λ h. by_ask (asks.Store name ver bytes) tt h
         ] h
@@ -405,7 +405,7 @@ module _ (xs : Exchanges) (w : World ℕ Bytes Bytes) (v : WorldView) (f : Fits 
     by_result (Err why) h = absurd (let bad : Ok turn ≡ Err why = h.0 in cc)
     by_result (Ok n) h =
         elim (asks_for p (pending v.desk)) as (λ b. ByRule (Ok turn) v.desk p new (cond b (Err Blocked) (rule_next v.desk p n))
-            → Fits xs (cond b w (law_turned (table K.scripts K.limit) K.start w p (turn_of (buffer K p) (Ok n)))) (record v { desk = new })) [
+        → Fits xs (cond b w (law_turned (table K.scripts K.limit) K.start w p (turn_of (buffer K p) (Ok n)))) (record v { desk = new })) [
           | true ↦ λ h. absurd (let bad : Ok turn ≡ Err Blocked = h.0 in cc)
           | false ↦ λ h. by_next n h
         ] h
@@ -413,6 +413,6 @@ module _ (xs : Exchanges) (w : World ℕ Bytes Bytes) (v : WorldView) (f : Fits 
     pub turn_fits : TurnPost (Ok turn) v.desk p new → Fits xs (event (table v.desk.kernel.scripts v.desk.kernel.limit) v.desk.kernel.start w (Turn p)) (record v { desk = new })
     turn_fits h =
         let same : event (table K.scripts K.limit) K.start w (Turn p)
-            ≡ cond (asks_for p (pending v.desk)) w (law_turned (table K.scripts K.limit) K.start w p (turn_of (buffer K p) (next_of (get (state_at K)) K.scripts p))) =
+        ≡ cond (asks_for p (pending v.desk)) w (law_turned (table K.scripts K.limit) K.start w p (turn_of (buffer K p) (next_of (get (state_at K)) K.scripts p))) =
         (λ i. cond (asks_for_seen xs w v f.seen p i) w (law_turned (table K.scripts K.limit) K.start w p (turn_of (buffer_of (get (state_seen xs w v f.seen i) (Proc p))) (next_of (get (state_seen xs w v f.seen i)) K.scripts p)))) in
         subst (λ (x : World ℕ Bytes Bytes). Fits xs x (record v { desk = new })) (sym same) (by_result (next_of (get (state_at K)) K.scripts p) h)

@@ -18,8 +18,9 @@ use Rattle.sk_scenario.specs.declared.declarations.Said.{Said}
 use Rattle.sk_scenario.specs.declared.declarations.Said.TheVariants as says
 use Rattle.sk_trace.specs.Lines.{event_line, trace_from}
 use Rattle.sk_scenario.specs.Calls.{step_line}
+use Rattle.sk_scenario.specs.WorldEvents.{world_line}
 use Rattle.sk_scenario.specs.Declarations.{Declared, line_said}
-use Rattle.sk_scenario.specs.Scenario.{Begun, is_end, ended, more, with_script, with_section, SectionView, Steps, Trace, section_from, goes_on, scenario_from, script_ends}
+use Rattle.sk_scenario.specs.Scenario.{Begun, is_end, ended, more, with_script, with_section, SectionView, Steps, World, Trace, section_from, goes_on, scenario_from, script_ends}
 use Rattle.sk_scenario.proofs.Scripts.{begun, cut_none, cut_end, faulty}
 
 -- ---- where the first fault of a scenario can stand
@@ -34,7 +35,7 @@ err_of_section d section (Err f) g e = cc
 
 pub section_is_behind : (d : Declared) (h : Heading) (first : ℕ) (ls : List (List ℕ)) (g : Fault) → section_from d h first ls ≡ Err g → first ≤ g.line
 section_is_behind d headings.Steps first ls g e = fault_is_behind step_line [] first ls g (err_of_section d Steps (read_from step_line [] first ls) g e)
-section_is_behind d headings.World first ls g e = absurd cc
+section_is_behind d headings.World first ls g e = fault_is_behind world_line [] first ls g (err_of_section d World (read_from world_line [] first ls) g e)
 section_is_behind d headings.Trace first ls g e = fault_is_behind event_line [] first ls g (err_of_section d Trace (trace_from first ls) g e)
 
 -- what is begun, and the lines that are left, are behind this line

@@ -1,6 +1,7 @@
 -- What the declarations of a scenario say.
-use Rattle.std.specs.Prelude.{◌≡◌, ℕ, List, [], ◌∷◌, Option, Some, None, Result, Ok, Err, refl, codes, length, nat_lt, if◌then◌else◌}
-use Rattle.std.specs.Coded.{Coded, code_by, coded×, coded_ℕ, coded_option}
+use Rattle.std.specs.Prelude.{◌≡◌, ℕ, Bool, List, [], ◌∷◌, ◌++◌, Option, Some, None, Result, Ok, Err, refl, codes, length, nat_lt, bytes_eq, if◌then◌else◌}
+use Rattle.std.specs.List.{list_any}
+use Rattle.std.specs.Coded.{Coded, code_by, coded×, coded_ℕ, coded_option, coded_list}
 use Rattle.std.specs.FinMap as map
 use Rattle.sk_objects.specs.Content.{ContentView}
 use Rattle.sk_script.specs.declared.instruction.Instruction.{Instruction}
@@ -18,21 +19,29 @@ use Rattle.sk_words.specs.Reading.{TellsKind}
 use Rattle.sk_words.specs.Tables.{Rule, rule_in, unknown}
 use Rattle.sk_scenario.specs.declared.declarations.Heading.{Heading}
 use Rattle.sk_scenario.specs.declared.declarations.Heading.TheVariants as headings
+use Rattle.sk_scenario.specs.declared.declarations.Remote.{Remote}
 use Rattle.sk_scenario.specs.declared.declarations.Said.{Said}
 use Rattle.sk_scenario.specs.declared.declarations.Said.TheVariants as says
+use Rattle.sk_scenario.specs.contracts.declarations.Remote as remote_row
 
--- what is declared so far: the start, the trace limit and the kernel's number
+-- what is declared so far: the start, the files of the server in the order of declaration, the trace limit and the
+-- kernel's number
 pub record Declared : Type 0 where
   pub boot : BootView
+  pub remotes : List Remote
   pub limit : Option ℕ
   pub number : Option ℕ
 
 abbrev pub declared_code : Coded Declared
-declared_code = code_by (BootView × (Option ℕ × Option ℕ)) (coded× boot_code (coded× (coded_option coded_ℕ) (coded_option coded_ℕ)))
-    (λ d. (d.boot, (d.limit, d.number))) (λ p. record { boot = p.0; limit = p.1.0; number = p.1.1 }) (λ _. refl)
+declared_code =
+    code_by (BootView × (List Remote × (Option ℕ × Option ℕ)))
+    (coded× boot_code (coded× (coded_list remote_row.the_row.coded) (coded× (coded_option coded_ℕ) (coded_option coded_ℕ))))
+    (λ d. (d.boot, (d.remotes, (d.limit, d.number))))
+    (λ p. record { boot = p.0; remotes = p.1.0; limit = p.1.1.0; number = p.1.1.1 }) (λ _. refl)
 
 abbrev pub nothing_declared : Declared
-nothing_declared = record { boot = record { scripts = map.empty; objects = []; copies = []; processes = [] }; limit = None; number = None }
+nothing_declared =
+    record { boot = record { scripts = map.empty; objects = []; copies = []; processes = [] }; remotes = []; limit = None; number = None }
 
 -- a name or number that is taken or missing is a fault of the kind Label
 abbrev pub boot_fault : BootFault → FaultKind
@@ -54,6 +63,16 @@ content_of version bytes = record { version = version; bytes = bytes }
 abbrev pub copy : Declared → List ℕ × ℕ × List ℕ → Result Declared FaultKind
 copy d x = if has_copy d.boot x.0 then Err kinds.Label else Ok (record d { boot = with_copy d.boot x.0 (content_of x.1 x.2) })
 
+abbrev pub has_remote : Declared → List ℕ → Bool
+has_remote d name = list_any (λ r. bytes_eq r.name name) d.remotes
+
+abbrev pub with_remote : Declared → List ℕ → ContentView → Declared
+with_remote d name content = record d { remotes = d.remotes ++ record { name = name; content = content } ∷ [] }
+
+-- a file of the server
+abbrev pub remote : Declared → List ℕ × ℕ × List ℕ → Result Declared FaultKind
+remote d x = if has_remote d x.0 then Err kinds.Label else Ok (with_remote d x.0 (content_of x.1 x.2))
+
 abbrev pub process : Declared → ℕ × List ℕ × ℕ → Result Declared FaultKind
 process d x =
     if has_process d.boot x.0 then Err kinds.Label
@@ -71,6 +90,7 @@ declaration_rules d =
     (codes "pipe", λ ws. two_of name literal ws >>= object d Pipe) ∷
     (codes "dir", λ ws. one_of name ws >>= λ n. object d Dir (n, [])) ∷
     (codes "copy", λ ws. three_of name natural literal ws >>= copy d) ∷
+    (codes "remote", λ ws. three_of name natural literal ws >>= remote d) ∷
     (codes "process", λ ws. three_of index name index ws >>= process d) ∷
     (codes "limit", λ ws. one_of short ws >>= λ n. once d.limit (record d { limit = Some n })) ∷
     (codes "number", λ ws. one_of natural ws >>= λ n. once d.number (record d { number = Some n })) ∷

@@ -1,3 +1,4 @@
 pub mod Calls
 pub mod Declarations
 pub mod Scenario
+pub mod WorldEvents

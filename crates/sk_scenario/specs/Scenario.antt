@@ -20,13 +20,15 @@ use Rattle.sk_scenario.specs.declared.scenario.Scenario.{Scenario}
 use Rattle.sk_scenario.specs.declared.call.Call.{Call}
 use Rattle.sk_scenario.specs.Declarations.{Declared, nothing_declared, script, line_said}
 use Rattle.sk_scenario.specs.Calls.{step_line}
+use Rattle.sk_scenario.specs.WorldEvents.{world_line}
+use Rattle.sk_client.specs.declared.world.WorldEvent.{WorldEvent}
 use Rattle.sk_trace.specs.declared.event.Event.{Event}
 use Rattle.sk_trace.specs.Lines.{trace_from}
 
--- what a section says: the calls to make, or what happened; of a world nothing is looked at
+-- what a section says: the calls to make, what is to happen in a world, or what happened
 pub data SectionView : Type 0 where
   Steps : List Call → SectionView
-  World : SectionView
+  World : List WorldEvent → SectionView
   Trace : List Event → SectionView
 
 -- what a scenario says
@@ -36,7 +38,7 @@ pub record ScenarioView : Type 0 where
 
 abbrev pub section_view : Section → SectionView
 section_view (sections.Steps steps) = Steps steps
-section_view sections.World = World
+section_view (sections.World events) = World events
 section_view (sections.Trace trace) = Trace trace.events
 
 abbrev pub scenario_view : Scenario → ScenarioView
@@ -81,7 +83,7 @@ with_section d section (Err f) = Err f
 -- the section below a heading
 abbrev pub section_from : Declared → Heading → ℕ → List (List ℕ) → Result ScenarioView Fault
 section_from d headings.Steps first ls = with_section d Steps (read_from step_line [] first ls)
-section_from d headings.World first ls = Ok (record { declarations = d; section = World })
+section_from d headings.World first ls = with_section d World (read_from world_line [] first ls)
 section_from d headings.Trace first ls = with_section d Trace (trace_from first ls)
 
 -- what a line said, of which the next line has this number, and what the lines behind it say then

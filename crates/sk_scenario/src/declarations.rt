@@ -4,7 +4,7 @@ ghost use Rattle.sk_words.specs.Words.{words, first_of};
 ghost use Rattle.sk_script.specs.Boot.{has_object};
 ghost use Rattle.sk_script.specs.declared.boot.ObjectKind.TheVariants.{Dir};
 ghost use Rattle.sk_words.specs.Reading.{Leaves};
-ghost use Rattle.sk_scenario.specs.Declarations.{nothing_declared, script as script_added, boot_fault, object, copy, process, once, declares, new_script, declared_next, says_next, line_said, SaysNext};
+ghost use Rattle.sk_scenario.specs.Declarations.{nothing_declared, script as script_added, boot_fault, content_of, object, copy, has_remote, remote, process, once, declares, new_script, declared_next, says_next, line_said, SaysNext};
 
 use sk_ids::{Name, Text};
 use sk_objects::Content;
@@ -39,10 +39,18 @@ pub enum Said {
     Heading(Heading),
 }
 
+/// A file that the server has from the start.
+#[derive(Clone, Copy, Debug, PartialEq, Eq)]
+pub struct Remote {
+    pub name: Name,
+    pub content: Content,
+}
+
 /// What was declared so far.
 #[derive(Drop)]
 pub struct Declarations {
     boot: Boot,
+    remotes: Vec<Remote>,
     limit: Option<u32>,
     number: Option<u64>,
 }
@@ -54,7 +62,7 @@ impl Model for Declarations {
 
     ghost coded = { declared_code };
 
-    ghost view = { λ d. record { boot = d.boot; limit = d.limit; number = d.number } };
+    ghost view = { λ d. record { boot = d.boot; remotes = d.remotes.items; limit = d.limit; number = d.number } };
 }
 
 /// The kind of a declaration's fault.
@@ -67,6 +75,13 @@ fn kind_of(fault: BootFault) -> FaultKind
     }
 }
 
+/// The content of this version and these bytes.
+fn content_of(version: Natural, bytes: Text) -> Content
+    ensures { result ≡ content_of version bytes }
+{
+    Content::new(version.get(), bytes).unwrap()
+}
+
 impl Declarations {
     /// Nothing declared.
     pub fn new(alloc: Global) -> Declarations
@@ -74,6 +89,7 @@ impl Declarations {
     {
         Declarations {
             boot: Boot::new(alloc),
+            remotes: Vec::new(alloc),
             limit: None,
             number: None,
         }
@@ -84,6 +100,14 @@ impl Declarations {
         ensures { result.now ≡ self.now.boot }
     {
         &self.boot
+    }
+
+    /// The files that the server has from the start, in the order of their declaration. No two have
+    /// one name.
+    pub fn remotes(&self) -> &[Remote]
+        ensures { result.now ≡ self.now.remotes }
+    {
+        &self.remotes
     }
 
     /// The trace limit.
@@ -191,6 +215,10 @@ impl Declarations {
                 let (name, version, bytes) = three(words)?;
                 self.copy(name, version, bytes)
             }
+            "remote" => {
+                let (name, version, bytes) = three(words)?;
+                self.remote(name, version, bytes)
+            }
             "process" => {
                 let (number, script, terminal) = three(words)?;
                 self.process(number, script, terminal)
@@ -236,8 +264,26 @@ impl Declarations {
     fn copy(&mut self, name: Name, version: Natural, bytes: Text) -> Result<(), FaultKind>
         ensures { Leaves result (copy self.old (name, version, bytes)) self.old self.new }
     {
-        let content = Content::new(version.get(), bytes).unwrap();
-        self.boot.copy(name, content).map_err(kind_of)
+        self.boot
+            .copy(name, content_of(version, bytes))
+            .map_err(kind_of)
+    }
+
+    fn has_remote(&self, name: &Name) -> bool
+        ensures { result ≡ has_remote self.now name.now }
+    {
+        self.remotes.iter().any(|remote| remote.name == *name)
+    }
+
+    fn remote(&mut self, name: Name, version: Natural, bytes: Text) -> Result<(), FaultKind>
+        ensures { Leaves result (remote self.old (name, version, bytes)) self.old self.new }
+    {
+        if self.has_remote(&name) {
+            return Err(FaultKind::Label);
+        }
+        let content = content_of(version, bytes);
+        self.remotes.push(Remote { name, content })?;
+        Ok(())
     }
 
     fn process(&mut self, number: Index, script: Name, terminal: Index) -> Result<(), FaultKind>

@@ -4,7 +4,9 @@
 pub mod call;
 pub mod declarations;
 pub mod scenario;
+pub mod world;
 
 pub use call::{Call, Calls};
-pub use declarations::Declarations;
+pub use declarations::{Declarations, Remote};
 pub use scenario::{Scenario, Section};
+pub use world::WorldEvents;

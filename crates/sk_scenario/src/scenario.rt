@@ -9,6 +9,7 @@ ghost use Rattle.sk_scenario.specs.Scenario.{is_end, ended, goes_on, section_fro
 
 use crate::call::Calls;
 use crate::declarations::{Declarations, Heading, Said};
+use crate::world::WorldEvents;
 use sk_ids::Name;
 use sk_script::Script;
 use sk_trace::Trace;
@@ -20,8 +21,8 @@ use std::alloc::Global;
 pub enum Section {
     /// The steps in order.
     Steps(Calls),
-    /// A world, whose lines are not looked at.
-    World,
+    /// The events of a world in order.
+    World(WorldEvents),
     /// What happened.
     Trace(Trace),
 }
@@ -165,7 +166,7 @@ fn section_of(alloc: Global, heading: Heading, lines: &Cursor) -> Result<Section
 {
     match heading {
         Heading::Steps => Ok(Section::Steps(read(Calls::new(alloc), lines)?)),
-        Heading::World => Ok(Section::World),
+        Heading::World => Ok(Section::World(read(WorldEvents::new(alloc), lines)?)),
         Heading::Trace => Ok(Section::Trace(Trace::read(alloc, lines)?)),
     }
 }

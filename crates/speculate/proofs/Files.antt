@@ -33,13 +33,13 @@ fault_no_usage Memory = λ e. absurd cc
 
 section_no_usage : (wish : Wish) (d : Declared) (section : SectionView) (old new : Option (List ℕ)) → EndsInSection wish d section ends.Usage old new → ⊥
 section_no_usage (Play file trace) d (Steps steps) old new h = h
-section_no_usage (Play file trace) d World old new h = absurd cc
+section_no_usage (Play file trace) d (World es) old new h = absurd cc
 section_no_usage (Play file trace) d (Trace es) old new h = absurd cc
 section_no_usage (Plain file) d (Steps steps) old new h = absurd cc
-section_no_usage (Plain file) d World old new h = absurd cc
+section_no_usage (Plain file) d (World es) old new h = absurd cc
 section_no_usage (Plain file) d (Trace es) old new h = h
 section_no_usage (Replay file) d (Steps steps) old new h = absurd cc
-section_no_usage (Replay file) d World old new h = absurd cc
+section_no_usage (Replay file) d (World es) old new h = absurd cc
 section_no_usage (Replay file) d (Trace es) old new h = h
 
 read_no_usage : (wish : Wish) (read : Result Scenario Fault) (old new : Option (List ℕ)) → EndsRead wish read ends.Usage old new → ⊥

@@ -56,13 +56,13 @@ EndsReplayed d es ends.OutputRefused old new = ⊤
 -- what is wished is done with the section below the declarations; a section that it doesn't take is a fault of the file
 abbrev pub EndsInSection : Wish → Declared → SectionView → End → Option (List ℕ) → Option (List ℕ) → Type 0
 EndsInSection (Play file trace) d (Steps steps) end old new = EndsPlayed trace d steps end old new
-EndsInSection (Play file trace) d World end old new = EndsUnwritten ends.Fault end old new
+EndsInSection (Play file trace) d (World es) end old new = EndsUnwritten ends.Fault end old new
 EndsInSection (Play file trace) d (Trace es) end old new = EndsUnwritten ends.Fault end old new
 EndsInSection (Plain file) d (Steps steps) end old new = EndsUnwritten ends.Fault end old new
-EndsInSection (Plain file) d World end old new = EndsUnwritten ends.Fault end old new
+EndsInSection (Plain file) d (World es) end old new = EndsUnwritten ends.Fault end old new
 EndsInSection (Plain file) d (Trace es) end old new = EndsPlain d.boot es end old new
 EndsInSection (Replay file) d (Steps steps) end old new = EndsUnwritten ends.Fault end old new
-EndsInSection (Replay file) d World end old new = EndsUnwritten ends.Fault end old new
+EndsInSection (Replay file) d (World es) end old new = EndsUnwritten ends.Fault end old new
 EndsInSection (Replay file) d (Trace es) end old new = EndsReplayed d es end old new
 
 -- what reading a text gave is run, or is a fault of which nothing is on the output

@@ -1,0 +1,26 @@
+-- What the lines of a section of a world say.
+use Rattle.std.specs.Prelude.{ℕ, List, [], ◌∷◌, Result, Ok, codes}
+use Rattle.sk_words.specs.declared.fault.FaultKind.{FaultKind}
+use Rattle.sk_words.specs.Faults.{◌>>=◌}
+use Rattle.sk_words.specs.Literals.{literal}
+use Rattle.sk_words.specs.Words.{words, first_of}
+use Rattle.sk_words.specs.Operands.{none_of, one_of, three_of, pid, name, natural}
+use Rattle.sk_words.specs.Tables.{Rule, rule_in, unknown, with_line}
+use Rattle.sk_client.specs.declared.world.WorldEvent.{WorldEvent}
+use Rattle.sk_client.specs.declared.world.WorldEvent.TheVariants as events
+
+abbrev pub world_rules : List (List ℕ × Rule WorldEvent)
+world_rules =
+    (codes "turn", λ ws. one_of pid ws >>= λ x. Ok (events.Turn x)) ∷
+    (codes "serve", λ ws. none_of ws >>= λ x. Ok events.Serve) ∷
+    (codes "reply", λ ws. none_of ws >>= λ x. Ok events.Reply) ∷
+    (codes "edit", λ ws. three_of name natural literal ws >>= λ x. Ok (events.Edit x.0 x.1 x.2)) ∷
+    []
+
+-- what a line says whose first word this is
+unfoldable pub world_event : List ℕ → Rule WorldEvent
+world_event word ws = rule_in world_rules unknown word ws
+
+-- the events so far, with that of a line
+abbrev pub world_line : List WorldEvent → List ℕ → Result (List WorldEvent) FaultKind
+world_line before line = with_line world_event before (first_of (words line))

@@ -1,7 +1,7 @@
 //! The calls of the kernel that a scenario can't make: those with another kernel's token.
 ghost use Rattle.std.specs.Prelude.{◌≡◌};
 
-use crate::plays::{Decision, Pick, Play, Player, does, played};
+use crate::plays::{Decision, Pick, Play, Player, does, does_all};
 use crate::start::{Start, text};
 use sk_guesses::Guess;
 use sk_ids::Text;
@@ -116,7 +116,7 @@ fn meets(
 ) -> Result<(), Fail> {
     let mut two = Player::new(alloc, one_process(number))?;
     let done = takes_all(rt, one, &mut two, turns);
-    let _kernel = two.end(rt);
+    two.abandon(rt);
     done
 }
 
@@ -124,7 +124,7 @@ fn meets(
 fn meet(rt: &impl Abort, alloc: Global, numbers: [u64; 2], turns: &[Turn]) -> Result<(), Fail> {
     let mut one = Player::new(alloc, one_process(numbers[0]))?;
     let done = meets(rt, alloc, &mut one, numbers[1], turns);
-    let _kernel = one.end(rt);
+    one.abandon(rt);
     done
 }
 
@@ -168,6 +168,17 @@ fn shut(rt: &impl Abort, kernel: Kernel) -> (Trace, Texts) {
     kernel.shut()
 }
 
+/// The trace and the texts of a new kernel after it was played with.
+fn shut_after(rt: &impl Abort, alloc: Global, plays: &[Play]) -> Result<(Trace, Texts), Fail> {
+    let mut one = Player::new(alloc, one_process(1))?;
+    let done = does_all(rt, &mut one, plays);
+    let shut = shut(rt, one.end(rt));
+    match done {
+        Ok(()) => Ok(shut),
+        Err(fail) => Err(fail),
+    }
+}
+
 /// A trace is printed so.
 fn prints(rt: &impl Abort, alloc: Global, trace: &Trace, want: &[u8]) -> Result<(), Fail> {
     let printed = trace.print(alloc)?;
@@ -189,8 +200,7 @@ const COMMITTED: &[u8] =
 fn shut_after_a_commit(rt: HostRuntime) -> Result<(), Fail> {
     let said = [text(b"a")?, text(b"b")?];
     let table = [STEPS, GUESS, STEPS, COMMIT];
-    let kernel = played(&rt, rt.alloc(), one_process(1), &table)?;
-    let (trace, texts) = shut(&rt, kernel);
+    let (trace, texts) = shut_after(&rt, rt.alloc(), &table)?;
     prints(&rt, rt.alloc(), &trace, COMMITTED)?;
     has_released(&rt, &texts, &said)
 }

@@ -87,14 +87,21 @@ fn rests_on(rt: &impl Abort, log: &ObjectLog, guesses: &[GuessId]) -> Result<(),
     Ok(())
 }
 
+/// The failure of guess 2 leaves the write on guess 1, and that of guess 1 takes it back.
+fn unwinds_both(rt: &impl Abort, log: &mut ObjectLog, value: &mut Option<Value>) -> Result<(), Fail>
+    requires { CanGoBack ObjectFits object_undone value.old (reverse (object_notes log.old)) }
+{
+    rests_on(rt, log, &[guess(1)?])?;
+    unwinds(rt, log, value, 2, b"abcdXYZ")?;
+    unwinds(rt, log, value, 1, b"abcdef")?;
+    rests_on(rt, log, &[])
+}
+
 #[test]
 fn small_calls_of_an_object_log(rt: HostRuntime) -> Result<(), Fail> {
     let mut log = ObjectLog::new(rt.alloc());
     let mut value = Some(written(rt.alloc(), &mut log)?);
-    rests_on(&rt, &log, &[guess(1)?])?;
-    unwinds(&rt, &mut log, &mut value, 2, b"abcdXYZ")?;
-    unwinds(&rt, &mut log, &mut value, 1, b"abcdef")?;
-    rests_on(&rt, &log, &[])
+    unwinds_both(&rt, &mut log, &mut value)
 }
 
 /// A process at this place.

@@ -13,21 +13,21 @@ use std::process::Abort;
 use std::test::Fail;
 
 /// How a guess is decided.
-#[derive(Clone, Copy, Debug, PartialEq, Eq)]
+#[derive(Clone, Copy)]
 pub enum Decision {
     Commit,
     Fail,
 }
 
 /// Which token is taken.
-#[derive(Clone, Copy, Debug, PartialEq, Eq)]
+#[derive(Clone, Copy)]
 pub enum Pick {
     Oldest,
     Newest,
 }
 
 /// What there is to count.
-#[derive(Clone, Copy, Debug)]
+#[derive(Clone, Copy)]
 pub enum Count {
     /// The place of a process.
     Place(u16),
@@ -272,7 +272,7 @@ pub fn does(rt: &impl Abort, player: &mut Player, place: usize, play: Play) -> R
 }
 
 /// Does one thing after the other.
-fn does_all(rt: &impl Abort, player: &mut Player, plays: &[Play]) -> Result<(), Fail> {
+pub fn does_all(rt: &impl Abort, player: &mut Player, plays: &[Play]) -> Result<(), Fail> {
     for (place, play) in plays.iter().enumerate() {
         does(rt, player, place, *play)?;
     }
@@ -306,26 +306,17 @@ impl Player {
         tokens.destroy_empty();
         kernel
     }
-}
 
-/// The kernel after it was played with.
-pub fn played(
-    rt: &impl Abort,
-    alloc: Global,
-    start: Start<'_>,
-    plays: &[Play],
-) -> Result<Kernel, Fail> {
-    let mut player = Player::new(alloc, start)?;
-    let done = does_all(rt, &mut player, plays);
-    let kernel = player.end(rt);
-    match done {
-        Ok(()) => Ok(kernel),
-        Err(fail) => Err(fail),
+    /// Spends the tokens that are left.
+    pub fn abandon(self, rt: &impl Abort) {
+        let _kernel = self.end(rt);
     }
 }
 
 /// Plays with a new kernel.
 pub fn plays(rt: &impl Abort, alloc: Global, start: Start<'_>, plays: &[Play]) -> Result<(), Fail> {
-    let _kernel = played(rt, alloc, start, plays)?;
-    Ok(())
+    let mut player = Player::new(alloc, start)?;
+    let done = does_all(rt, &mut player, plays);
+    player.abandon(rt);
+    done
 }

@@ -25,13 +25,14 @@ fn two_processes(alloc: Global, scripts: [&[u8]; 2]) -> Result<Boot, Fail> {
     Ok(boot)
 }
 
-/// What a record has: a step without input, a fetch from the copy, a fetch of the server's content,
-/// and a fetch that is guessed.
+/// What a process does: a step without input, a fetch from the copy, one of the server's content where
+/// there is no copy, one where the copy is stale, and one that is guessed.
 #[derive(Clone, Copy)]
 enum Did {
     Steps(u16),
     Good(u16),
     Fresh(u16),
+    Stale(u16),
     Guesses(u16),
 }
 
@@ -44,6 +45,7 @@ fn entry_of(did: Did) -> Result<Entry, Fail> {
         Did::Steps(number) => (number, Input::None, None),
         Did::Good(number) => (number, Input::Good, None),
         Did::Fresh(number) => (number, Input::Fresh(content(2, b"new")?), None),
+        Did::Stale(number) => (number, Input::Stale(content(1, b"new")?), None),
         Did::Guesses(number) => (number, Input::Good, Some(first_guess()?)),
     };
     let pid = pid(number)?;
@@ -212,8 +214,8 @@ fn errors_of_steps(rt: HostRuntime) -> Result<(), Fail> {
 }
 
 /// Why a step of a process is refused.
-fn refusal(store: &Store, boot: &Boot, number: u16, input: Input) -> Option<Refusal> {
-    match plan_step(store, boot.scripts(), Pid::boot(number)?, &input) {
+fn refusal(store: &Store, boot: &Boot, entry: &Entry) -> Option<Refusal> {
+    match plan_step(store, boot.scripts(), entry.pid, &entry.input) {
         Ok(_) => None,
         Err(why) => Some(why),
     }
@@ -224,10 +226,10 @@ fn refuses_all(
     rt: &impl Abort,
     store: &Store,
     boot: &Boot,
-    rows: &[(u16, Input, Refusal)],
+    rows: &[(Did, Refusal)],
 ) -> Result<(), Fail> {
-    for (number, input, want) in rows {
-        assert_eq!(rt; refusal(store, boot, *number, *input), Some(*want));
+    for (did, want) in rows {
+        assert_eq!(rt; refusal(store, boot, &entry_of(*did)?), Some(*want));
     }
     Ok(())
 }
@@ -237,7 +239,7 @@ fn refuses_then(
     rt: &impl Abort,
     alloc: Global,
     boot: &Boot,
-    rows: &[(u16, Input, Refusal)],
+    rows: &[(Did, Refusal)],
 ) -> Result<(), Fail> {
     let two = pid(2)?;
     let mut store = Store::start(alloc, boot)?;
@@ -248,14 +250,14 @@ fn refuses_then(
 /// The first cause is told, where process 1 is at a fetch, process 2 at its end and no other there.
 #[test]
 fn first_cause_is_told(rt: HostRuntime) -> Result<(), Fail> {
-    let rows = [
-        (3, Input::None, Refusal::NoProcess),
-        (2, Input::Good, Refusal::Ended),
-        (1, Input::Good, Refusal::Mismatch),
-        (1, Input::Stale(content(1, b"new")?), Refusal::Mismatch),
-        (1, Input::None, Refusal::NeedsReply),
-    ];
     let boot = two_processes(rt.alloc(), [b"fetch /z\n", b""])?;
+    let rows = [
+        (Did::Steps(3), Refusal::NoProcess),
+        (Did::Good(2), Refusal::Ended),
+        (Did::Good(1), Refusal::Mismatch),
+        (Did::Stale(1), Refusal::Mismatch),
+        (Did::Steps(1), Refusal::NeedsReply),
+    ];
     refuses_then(&rt, rt.alloc(), &boot, &rows)
 }
 

@@ -1,165 +1,196 @@
 //! The calls of the kernel that a scenario can't make: those with another kernel's token.
 ghost use Rattle.std.specs.Prelude.{◌≡◌};
 
+use crate::plays::{Decision, Pick, Play, Player, does, does_all};
+use crate::start::{Start, text};
 use sk_guesses::Guess;
-use sk_ids::{Name, Pid, Text};
+use sk_ids::Text;
 use sk_kernel::{FailRefusal, Kernel, Outcome, Stranger};
-use sk_objects::Content;
-use sk_plain::{Refusal, Trace};
-use sk_script::{Boot, Input, Script};
+use sk_plain::Trace;
 use sk_terminal::Texts;
 use std::alloc::Global;
 use std::process::Abort;
 use std::test::Fail;
 
-const SAY_FETCH_SAY: &[u8] = b"text \"a\"\nsay\nfetch /x\ntext \"b\"\nsay\n";
+const SAY_FETCH_SAY: &[u8] = b"text \"a\"\nsay\nfetch /01\ntext \"b\"\nsay\n";
 
-/// A copy of `/x`, with its name.
-fn copied() -> Option<(Name, Content)> {
-    Some((Name::new(b"/x")?, Content::new(3, Text::new(b"old")?)?))
-}
+/// The two steps before the fetch, or behind it.
+const STEPS: Play = Play::Steps(1, 2, Ok(()));
 
-/// One process that says `a`, fetches `/x` and says `b`, and a copy of `/x`.
-fn one_process(alloc: Global) -> Result<Boot, Fail> {
-    let main = Name::new(b"main").ok_or("name")?;
-    let (name, content) = copied().ok_or("copy")?;
-    let script = Script::parse(alloc, SAY_FETCH_SAY)?;
-    let mut boot = Boot::new(alloc);
-    boot.script(main, script)?;
-    boot.copy(name, content)?;
-    boot.process(1, &main, 1)?;
-    Ok(boot)
-}
+/// The guess at the fetch.
+const GUESS: Play = Play::Guesses(1, 1, 1);
 
-/// The guess of the process at its fetch, after the two steps before it.
-fn at_the_fetch(kernel: &mut Kernel, pid: Pid) -> Result<Guess, Refusal> {
-    kernel.step(pid, Input::None)?;
-    kernel.step(pid, Input::None)?;
-    kernel.create_speculation(pid, Input::Good)
-}
+/// Its commit.
+const COMMIT: Play = Play::Decides(Pick::Oldest, Decision::Commit, Outcome::Done);
 
-/// Commits the guess of a token of this kernel.
-fn committed(rt: &impl Abort, kernel: &mut Kernel, guess: Guess) -> Outcome {
-    match kernel.commit_speculation(guess) {
-        Ok(outcome) => outcome,
-        Err(Stranger { guess: _guess }) => panic!(rt; "a stranger"),
+/// A kernel of this number with one process, which says `a`, fetches and says `b`.
+fn one_process(number: u64) -> Start<'static> {
+    Start {
+        number,
+        script: &[(SAY_FETCH_SAY, 1)],
+        processes: 1,
+        limit: 100,
     }
+}
+
+/// Something that is done with two kernels.
+#[derive(Clone, Copy)]
+enum Turn {
+    One(Play),
+    Two(Play),
+    /// The first kernel's token is given to the second kernel's commit and to its failure, each of
+    /// which hands it back.
+    Lends,
+    /// Both have the same events.
+    Alike,
 }
 
 /// Gives a token to the commit and to the failure of a kernel to which it is strange, and takes it
 /// back from both.
-fn refused_twice(rt: &impl Abort, kernel: &mut Kernel, guess: Guess) -> Guess
-    ensures token { result ≡ guess }
+fn refused_twice(rt: &impl Abort, kernel: &mut Kernel, token: Guess) -> Guess
+    ensures token { result ≡ token }
     ensures kept { kernel.new ≡ kernel.old }
 {
-    let guess = match kernel.commit_speculation(guess) {
+    let token = match kernel.commit_speculation(token) {
         Ok(outcome) => panic!(rt; "committed: {outcome:?}"),
         Err(Stranger { guess }) => guess,
     };
-    match kernel.fail_speculation(guess) {
+    match kernel.fail_speculation(token) {
         Ok(outcome) => panic!(rt; "failed: {outcome:?}"),
         Err(FailRefusal::Stranger(guess)) => guess,
         Err(FailRefusal::Memory(_guess)) => panic!(rt; "want of memory"),
     }
 }
 
-/// Brings two kernels to their guesses, gives the first one's token to the second, and commits both.
-fn exchanged(
-    rt: &impl Abort,
-    one: &mut Kernel,
-    two: &mut Kernel,
-    pid: Pid,
-) -> Result<[Outcome; 2], Refusal> {
-    let first = at_the_fetch(one, pid)?;
-    let second = match at_the_fetch(two, pid) {
-        Ok(second) => second,
-        Err(refusal) => {
-            committed(rt, one, first);
-            return Err(refusal);
-        }
-    };
-    let first = refused_twice(rt, two, first);
-    Ok([committed(rt, one, first), committed(rt, two, second)])
+/// Lends the newest of these tokens to a kernel to which it is strange.
+fn lends(rt: &impl Abort, tokens: &mut Vec<Guess>, kernel: &mut Kernel) -> Result<(), Fail> {
+    match tokens.pop() {
+        Some(token) => tokens.push_reserved(refused_twice(rt, kernel, token)),
+        None => panic!(rt; "no token is kept"),
+    }
+    Ok(())
 }
 
-#[test]
-fn tokens_of_two_kernels(rt: HostRuntime) -> Result<(), Fail> {
-    let pid = Pid::boot(1).ok_or("pid")?;
-    let boot = one_process(rt.alloc())?;
-    let mut one = Kernel::boot(rt.alloc(), 1, &boot, 100)?;
-    let mut two = Kernel::boot(rt.alloc(), 2, &boot, 100)?;
-    let told = exchanged(&rt, &mut one, &mut two, pid)?;
-    assert_eq!(rt; told, [Outcome::Done, Outcome::Done]);
+/// Both kernels have the same events.
+fn are_alike(rt: &impl Abort, one: &Kernel, two: &Kernel) -> Result<(), Fail> {
     assert_eq!(rt; one.trace().events(), two.trace().events());
     Ok(())
 }
 
-/// Gives a token to a kernel of the same number that has drawn no guess, and again after it has
-/// committed its first; each time the token comes back.
-fn lent(
+/// Takes a turn.
+fn takes(
     rt: &impl Abort,
-    token: Guess,
-    kernel: &mut Kernel,
-    pid: Pid,
-) -> (Guess, Result<Outcome, Refusal>) {
-    let token = refused_twice(rt, kernel, token);
-    let own = match at_the_fetch(kernel, pid) {
-        Ok(own) => own,
-        Err(refusal) => return (token, Err(refusal)),
-    };
-    let outcome = committed(rt, kernel, own);
-    (refused_twice(rt, kernel, token), Ok(outcome))
+    one: &mut Player,
+    two: &mut Player,
+    place: usize,
+    turn: Turn,
+) -> Result<(), Fail> {
+    match turn {
+        Turn::One(play) => does(rt, one, place, play),
+        Turn::Two(play) => does(rt, two, place, play),
+        Turn::Lends => lends(rt, &mut one.tokens, &mut two.kernel),
+        Turn::Alike => are_alike(rt, &one.kernel, &two.kernel),
+    }
 }
 
-/// What the first kernel makes of its own token after that, and the second of its own.
-fn lent_and_back(
+/// Takes one turn after the other.
+fn takes_all(
     rt: &impl Abort,
-    one: &mut Kernel,
-    two: &mut Kernel,
-    pid: Pid,
-) -> Result<[Outcome; 2], Refusal> {
-    let token = at_the_fetch(one, pid)?;
-    let (token, other) = lent(rt, token, two, pid);
-    let own = committed(rt, one, token);
-    Ok([own, other?])
-}
-
-#[test]
-fn tokens_of_guesses_that_are_not_undecided(rt: HostRuntime) -> Result<(), Fail> {
-    let pid = Pid::boot(1).ok_or("pid")?;
-    let boot = one_process(rt.alloc())?;
-    let mut one = Kernel::boot(rt.alloc(), 1, &boot, 100)?;
-    let mut two = Kernel::boot(rt.alloc(), 1, &boot, 100)?;
-    let told = lent_and_back(&rt, &mut one, &mut two, pid)?;
-    assert_eq!(rt; told, [Outcome::Done, Outcome::Done]);
+    one: &mut Player,
+    two: &mut Player,
+    turns: &[Turn],
+) -> Result<(), Fail> {
+    for (place, turn) in turns.iter().enumerate() {
+        takes(rt, one, two, place, *turn)?;
+    }
     Ok(())
 }
 
-/// Both steps behind the fetch, the second of which says a text.
-fn says(kernel: &mut Kernel, pid: Pid) -> Result<(), Refusal> {
-    kernel.step(pid, Input::None)?;
-    kernel.step(pid, Input::None)
-}
-
-/// The guess at the fetch, a text said on it, and its commit.
-fn guessed_and_committed(
+/// Takes turns with a player and a new kernel of this number.
+fn meets(
     rt: &impl Abort,
-    kernel: &mut Kernel,
-    pid: Pid,
-) -> Result<Outcome, Refusal> {
-    let guess = at_the_fetch(kernel, pid)?;
-    let said = says(kernel, pid);
-    let outcome = committed(rt, kernel, guess);
-    said?;
-    Ok(outcome)
+    alloc: Global,
+    one: &mut Player,
+    number: u64,
+    turns: &[Turn],
+) -> Result<(), Fail> {
+    let mut two = Player::new(alloc, one_process(number))?;
+    let done = takes_all(rt, one, &mut two, turns);
+    two.abandon(rt);
+    done
 }
 
-/// The trace and the texts of a kernel, where no guess is undecided.
-fn shut(kernel: Kernel) -> Option<(Trace, Texts)> {
+/// Takes turns with two new kernels of these numbers.
+fn meet(rt: &impl Abort, alloc: Global, numbers: [u64; 2], turns: &[Turn]) -> Result<(), Fail> {
+    let mut one = Player::new(alloc, one_process(numbers[0]))?;
+    let done = meets(rt, alloc, &mut one, numbers[1], turns);
+    one.abandon(rt);
+    done
+}
+
+#[test]
+fn tokens_of_two_kernels(rt: HostRuntime) -> Result<(), Fail> {
+    let turns = [
+        Turn::One(STEPS),
+        Turn::One(GUESS),
+        Turn::Two(STEPS),
+        Turn::Two(GUESS),
+        Turn::Lends,
+        Turn::One(COMMIT),
+        Turn::Two(COMMIT),
+        Turn::Alike,
+    ];
+    meet(&rt, rt.alloc(), [1, 2], &turns)
+}
+
+/// A token is lent to a kernel of the same number that has drawn no guess, and again after that has
+/// committed its first.
+#[test]
+fn tokens_of_guesses_that_are_not_undecided(rt: HostRuntime) -> Result<(), Fail> {
+    let turns = [
+        Turn::One(STEPS),
+        Turn::One(GUESS),
+        Turn::Lends,
+        Turn::Two(STEPS),
+        Turn::Two(GUESS),
+        Turn::Two(COMMIT),
+        Turn::Lends,
+        Turn::One(COMMIT),
+    ];
+    meet(&rt, rt.alloc(), [1, 1], &turns)
+}
+
+/// The trace and the texts of a kernel of which no guess is undecided.
+fn shut(rt: &impl Abort, kernel: Kernel) -> (Trace, Texts) {
     if kernel.undecided() > 0 {
-        return None;
+        panic!(rt; "a guess is undecided");
     }
-    Some(kernel.shut())
+    kernel.shut()
+}
+
+/// The trace and the texts of a new kernel after it was played with.
+fn shut_after(rt: &impl Abort, alloc: Global, plays: &[Play]) -> Result<(Trace, Texts), Fail> {
+    let mut one = Player::new(alloc, one_process(1))?;
+    let done = does_all(rt, &mut one, plays);
+    let shut = shut(rt, one.end(rt));
+    match done {
+        Ok(()) => Ok(shut),
+        Err(fail) => Err(fail),
+    }
+}
+
+/// A trace is printed so.
+fn prints(rt: &impl Abort, alloc: Global, trace: &Trace, want: &[u8]) -> Result<(), Fail> {
+    let printed = trace.print(alloc)?;
+    assert_eq!(rt; printed.as_slice(), want);
+    Ok(())
+}
+
+/// Terminal 1 has released these texts, and terminal 2 none.
+fn has_released(rt: &impl Abort, texts: &Texts, said: &[Text]) -> Result<(), Fail> {
+    assert_eq!(rt; texts.of(1), said);
+    assert!(rt; texts.of(2).is_empty());
+    Ok(())
 }
 
 const COMMITTED: &[u8] =
@@ -167,18 +198,9 @@ const COMMITTED: &[u8] =
 
 #[test]
 fn shut_after_a_commit(rt: HostRuntime) -> Result<(), Fail> {
-    let pid = Pid::boot(1).ok_or("pid")?;
-    let said = [
-        Text::new(b"a").ok_or("text")?,
-        Text::new(b"b").ok_or("text")?,
-    ];
-    let boot = one_process(rt.alloc())?;
-    let mut kernel = Kernel::boot(rt.alloc(), 1, &boot, 100)?;
-    let told = guessed_and_committed(&rt, &mut kernel, pid)?;
-    assert_eq!(rt; told, Outcome::Done);
-    let (trace, texts) = shut(kernel).ok_or("undecided")?;
-    assert_eq!(rt; trace.print(rt.alloc())?.as_slice(), COMMITTED);
-    assert_eq!(rt; texts.of(1), said.as_slice());
-    assert!(rt; texts.of(2).is_empty());
-    Ok(())
+    let said = [text(b"a")?, text(b"b")?];
+    let table = [STEPS, GUESS, STEPS, COMMIT];
+    let (trace, texts) = shut_after(&rt, rt.alloc(), &table)?;
+    prints(&rt, rt.alloc(), &trace, COMMITTED)?;
+    has_released(&rt, &texts, &said)
 }

@@ -8,4 +8,8 @@ mod kernels;
 #[cfg(test)]
 mod logs;
 #[cfg(test)]
+mod plays;
+#[cfg(test)]
 mod records;
+#[cfg(test)]
+mod start;

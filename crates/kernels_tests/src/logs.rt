@@ -1,14 +1,16 @@
 //! The undo logs of an object and of a process: one note, and what two failures make of it.
-ghost use Rattle.std.specs.Prelude.{◌≡◌, [], Some, OnOk, reverse};
-ghost use Rattle.sk_undo.specs.EntityLogs.{object_notes, object_undone, ObjectFits};
+ghost use Rattle.std.specs.Prelude.{◌≡◌, [], Some, OnOk, IfOk, reverse};
+ghost use Rattle.sk_undo.specs.EntityLogs.{object_notes, object_undone, ObjectFits, process_notes, process_undone, ProcessFits};
 ghost use Rattle.sk_undo.specs.Log.{CanGoBack};
 
+use crate::start::{name, pid, text};
 use sk_changes::{Change, Invertible};
-use sk_ids::{GuessId, Name, Pid, TagSet, Text};
+use sk_ids::{GuessId, TagSet, Text};
 use sk_objects::{Kind, Value};
 use sk_script::Process;
 use sk_undo::{ObjectLog, ProcessLog};
 use std::alloc::Global;
+use std::process::Abort;
 use std::test::Fail;
 
 fn guess(number: u64) -> Result<GuessId, Fail> {
@@ -20,16 +22,16 @@ fn tags(alloc: Global, number: u64) -> Result<TagSet, Fail> {
 }
 
 fn write(offset: u32, bytes: &[u8]) -> Result<Change, Fail> {
-    let bytes = Text::new(bytes).ok_or("text")?;
+    let bytes = text(bytes)?;
     Ok(Change::WriteAt { offset, bytes })
 }
 
-/// The bytes of a file, where there is one.
-fn bytes(value: &Option<Value>) -> Option<Text> {
-    match value {
-        Some(value) => value.bytes_at(0, 512),
-        None => None,
-    }
+/// A file that has `abcdef`.
+fn file(alloc: Global) -> Result<Value, Fail> {
+    let change = write(0, b"abcdef")?;
+    let mut file = Value::empty(alloc, Kind::File)?;
+    file.apply(change)?;
+    Ok(file)
 }
 
 /// Writes to a file on guess 1, and notes it in a log that has no notes, and that has made room.
@@ -45,48 +47,112 @@ fn writes(alloc: Global, value: &mut Value, log: &mut ObjectLog) -> Result<(), F
     Ok(())
 }
 
+/// The file after it.
+fn written(alloc: Global, log: &mut ObjectLog) -> Result<Value, Fail>
+    requires { object_notes log.old ≡ [] }
+    ensures { IfOk result (λ value. CanGoBack ObjectFits object_undone (Some value) (reverse (object_notes log.new))) }
+{
+    let mut value = file(alloc)?;
+    writes(alloc, &mut value, log)?;
+    Ok(value)
+}
+
+/// The bytes of a file, where there is one.
+fn bytes(value: &Option<Value>) -> Option<Text> {
+    match value {
+        Some(value) => value.bytes_at(0, 512),
+        None => None,
+    }
+}
+
+/// The failure of a guess leaves these bytes of a file.
+fn unwinds(
+    rt: &impl Abort,
+    log: &mut ObjectLog,
+    value: &mut Option<Value>,
+    number: u64,
+    want: &[u8],
+) -> Result<(), Fail>
+    requires { CanGoBack ObjectFits object_undone value.old (reverse (object_notes log.old)) }
+    ensures { OnOk result (CanGoBack ObjectFits object_undone value.new (reverse (object_notes log.new))) }
+{
+    log.unwind(value, guess(number)?);
+    assert_eq!(rt; bytes(value), Text::new(want));
+    Ok(())
+}
+
+/// The newest note of a log rests on these guesses.
+fn rests_on(rt: &impl Abort, log: &ObjectLog, guesses: &[GuessId]) -> Result<(), Fail> {
+    assert_eq!(rt; log.tags().ids(), guesses);
+    Ok(())
+}
+
+/// The failure of guess 2 leaves the write on guess 1, and that of guess 1 takes it back.
+fn unwinds_both(rt: &impl Abort, log: &mut ObjectLog, value: &mut Option<Value>) -> Result<(), Fail>
+    requires { CanGoBack ObjectFits object_undone value.old (reverse (object_notes log.old)) }
+{
+    rests_on(rt, log, &[guess(1)?])?;
+    unwinds(rt, log, value, 2, b"abcdXYZ")?;
+    unwinds(rt, log, value, 1, b"abcdef")?;
+    rests_on(rt, log, &[])
+}
+
 #[test]
 fn small_calls_of_an_object_log(rt: HostRuntime) -> Result<(), Fail> {
-    let alloc = rt.alloc();
-    let mut file = Value::empty(alloc, Kind::File)?;
-    file.apply(write(0, b"abcdef")?)?;
-    let mut log = ObjectLog::new(alloc);
-    writes(alloc, &mut file, &mut log)?;
-    let mut value = Some(file);
-    assert_eq!(rt; log.tags().ids(), [guess(1)?].as_slice());
-    log.unwind(&mut value, guess(2)?);
-    assert_eq!(rt; bytes(&value), Text::new(b"abcdXYZ"));
-    log.unwind(&mut value, guess(1)?);
-    assert_eq!(rt; bytes(&value), Text::new(b"abcdef"));
-    assert!(rt; log.tags().ids().is_empty());
-    Ok(())
+    let mut log = ObjectLog::new(rt.alloc());
+    let mut value = Some(written(rt.alloc(), &mut log)?);
+    unwinds_both(&rt, &mut log, &mut value)
 }
 
 /// A process at this place.
 fn process(place: u32) -> Result<Process, Fail> {
-    let pid = Pid::boot(1).ok_or("pid")?;
-    let name = Name::new(b"main").ok_or("name")?;
     Ok(Process {
         place,
-        ..Process::new(pid, name, 1)
+        ..Process::new(pid(1)?, name(b"main")?, 1)
     })
+}
+
+/// Notes the first step of a process on guess 1 in a log that has no notes, and that has made room:
+/// the process after it.
+fn stepped(alloc: Global, log: &mut ProcessLog) -> Result<Process, Fail>
+    requires { process_notes log.old ≡ [] }
+    ensures { IfOk result (λ process. CanGoBack ProcessFits process_undone (Some process) (reverse (process_notes log.new))) }
+{
+    let (before, after) = (process(3)?, process(4)?);
+    let tags = tags(alloc, 1)?;
+    log.reserve()?;
+    log.note(tags, before)?;
+    Ok(after)
 }
 
 /// The place of a process, where it is present.
 fn place(process: &Option<Process>) -> Option<u32> {
-    process.map(|process| process.place)
+    match process {
+        Some(process) => Some(process.place),
+        None => None,
+    }
+}
+
+/// The failure of a guess leaves a process at this place.
+fn goes_back(
+    rt: &impl Abort,
+    log: &mut ProcessLog,
+    value: &mut Option<Process>,
+    number: u64,
+    want: u32,
+) -> Result<(), Fail>
+    requires { CanGoBack ProcessFits process_undone value.old (reverse (process_notes log.old)) }
+    ensures { OnOk result (CanGoBack ProcessFits process_undone value.new (reverse (process_notes log.new))) }
+{
+    log.unwind(value, guess(number)?);
+    assert_eq!(rt; place(value), Some(want));
+    Ok(())
 }
 
 #[test]
 fn small_calls_of_a_process_log(rt: HostRuntime) -> Result<(), Fail> {
-    let alloc = rt.alloc();
-    let mut log = ProcessLog::new(alloc);
-    log.reserve()?;
-    log.note(tags(alloc, 1)?, process(3)?)?;
-    let mut value = Some(process(4)?);
-    log.unwind(&mut value, guess(2)?);
-    assert_eq!(rt; place(&value), Some(4));
-    log.unwind(&mut value, guess(1)?);
-    assert_eq!(rt; place(&value), Some(3));
-    Ok(())
+    let mut log = ProcessLog::new(rt.alloc());
+    let mut value = Some(stepped(rt.alloc(), &mut log)?);
+    goes_back(&rt, &mut log, &mut value, 2, 4)?;
+    goes_back(&rt, &mut log, &mut value, 1, 3)
 }

@@ -1,43 +1,38 @@
 //! Records, stores and steps, and what a failure leaves of a record.
-use sk_ids::{Entity, GuessId, Name, ObjId, Pid, Text};
-use sk_objects::Content;
+use crate::start::{content, declares_copy, declares_script, name, pid};
+use sk_ids::{Entity, GuessId, Name, ObjId, Pid};
 use sk_plain::{Entry, Event, Refusal, Trace, apply_plan, plan_step, strike_guess};
-use sk_script::{Boot, Input, ObjectKind, ROOT, Register, Script, Val};
+use sk_script::{Boot, Input, ObjectKind, ROOT, Register, Val};
 use sk_store::{EntityState, Look, Store};
 use std::alloc::Global;
 use std::process::Abort;
 use std::test::Fail;
 
-fn name(bytes: &[u8]) -> Result<Name, Fail> {
-    Ok(Name::new(bytes).ok_or("name")?)
+/// Declares two processes with these scripts, and copies `/x` and `/y`.
+fn declares(alloc: Global, boot: &mut Boot, scripts: [&[u8]; 2]) -> Result<(), Fail> {
+    let (one, two) = (name(b"one")?, name(b"two")?);
+    declares_script(alloc, boot, &one, scripts[0])?;
+    declares_script(alloc, boot, &two, scripts[1])?;
+    declares_copy(boot, b"/x", 3, b"new")?;
+    declares_copy(boot, b"/y", 1, b"new")?;
+    boot.process(1, &one, 1)?;
+    Ok(boot.process(2, &two, 2)?)
 }
 
-fn content(version: u64) -> Result<Content, Fail> {
-    let bytes = Text::new(b"new").ok_or("text")?;
-    Ok(Content::new(version, bytes).ok_or("content")?)
-}
-
-/// Two processes with these scripts, and copies `/x` and `/y`.
 fn two_processes(alloc: Global, scripts: [&[u8]; 2]) -> Result<Boot, Fail> {
     let mut boot = Boot::new(alloc);
-    let one = name(b"one")?;
-    let two = name(b"two")?;
-    boot.script(one, Script::parse(alloc, scripts[0])?)?;
-    boot.script(two, Script::parse(alloc, scripts[1])?)?;
-    boot.copy(name(b"/x")?, content(3)?)?;
-    boot.copy(name(b"/y")?, content(1)?)?;
-    boot.process(1, &one, 1)?;
-    boot.process(2, &two, 2)?;
+    declares(alloc, &mut boot, scripts)?;
     Ok(boot)
 }
 
-/// What a record has: a step without input, a fetch from the copy, a fetch of the server's content,
-/// and a fetch that is guessed.
+/// What a process does: a step without input, a fetch from the copy, one of the server's content where
+/// there is no copy, one where the copy is stale, and one that is guessed.
 #[derive(Clone, Copy)]
 enum Did {
     Steps(u16),
     Good(u16),
     Fresh(u16),
+    Stale(u16),
     Guesses(u16),
 }
 
@@ -49,10 +44,11 @@ fn entry_of(did: Did) -> Result<Entry, Fail> {
     let (number, input, guess) = match did {
         Did::Steps(number) => (number, Input::None, None),
         Did::Good(number) => (number, Input::Good, None),
-        Did::Fresh(number) => (number, Input::Fresh(content(2)?), None),
+        Did::Fresh(number) => (number, Input::Fresh(content(2, b"new")?), None),
+        Did::Stale(number) => (number, Input::Stale(content(1, b"new")?), None),
         Did::Guesses(number) => (number, Input::Good, Some(first_guess()?)),
     };
-    let pid = Pid::boot(number).ok_or("pid")?;
+    let pid = pid(number)?;
     Ok(Entry { pid, input, guess })
 }
 
@@ -64,11 +60,31 @@ fn entries_of(alloc: Global, record: &[Did]) -> Result<Vec<Entry>, Fail> {
     Ok(entries)
 }
 
-/// What is left of a record when its guess fails.
-fn left(alloc: Global, boot: &Boot, entries: &[Entry]) -> Result<Vec<Entry>, Fail> {
-    let mut store = Store::start(alloc, boot)?;
+/// What is left of a record from a store when its guess fails.
+fn struck(
+    alloc: Global,
+    store: &mut Store,
+    boot: &Boot,
+    record: &[Did],
+) -> Result<Vec<Entry>, Fail> {
     let guess = first_guess()?;
-    Ok(strike_guess(alloc, &mut store, boot.scripts(), entries, guess)?)
+    let entries = entries_of(alloc, record)?;
+    Ok(strike_guess(alloc, store, boot.scripts(), &entries, guess)?)
+}
+
+/// The same from the start.
+fn left(alloc: Global, boot: &Boot, record: &[Did]) -> Result<Vec<Entry>, Fail> {
+    let mut store = Store::start(alloc, boot)?;
+    struck(alloc, &mut store, boot, record)
+}
+
+/// The entries are those of this record.
+fn is_record(rt: &impl Abort, entries: &[Entry], want: &[Did]) -> Result<(), Fail> {
+    assert_eq!(rt; entries.len(), want.len());
+    for (entry, did) in entries.iter().zip(want) {
+        assert_eq!(rt; *entry, entry_of(*did)?);
+    }
+    Ok(())
 }
 
 /// This is left of a record of two processes with these scripts, when its guess fails.
@@ -80,11 +96,7 @@ fn assert_left(
     want: &[Did],
 ) -> Result<(), Fail> {
     let boot = two_processes(alloc, scripts)?;
-    let entries = entries_of(alloc, record)?;
-    let kept = left(alloc, &boot, &entries)?;
-    let want = entries_of(alloc, want)?;
-    assert_eq!(rt; kept.as_slice(), want.as_slice());
-    Ok(())
+    is_record(rt, &left(alloc, &boot, record)?, want)
 }
 
 #[test]
@@ -157,12 +169,24 @@ fn answer_in(store: &Store, pid: Pid) -> Option<i64> {
 }
 
 /// The number that process 1 has in r0 after so many of its steps.
-fn answer(alloc: Global, lines: &[u8], count: usize) -> Result<Option<i64>, Fail> {
-    let pid = Pid::boot(1).ok_or("pid")?;
-    let boot = two_processes(alloc, [lines, b""])?;
-    let mut store = Store::start(alloc, &boot)?;
-    steps(&mut store, &boot, pid, count)?;
+fn answer(alloc: Global, boot: &Boot, count: usize) -> Result<Option<i64>, Fail> {
+    let pid = pid(1)?;
+    let mut store = Store::start(alloc, boot)?;
+    steps(&mut store, boot, pid, count)?;
     Ok(answer_in(&store, pid))
+}
+
+/// So many steps of a process of these lines leave this number in its r0.
+fn answers(
+    rt: &impl Abort,
+    alloc: Global,
+    lines: &[u8],
+    count: usize,
+    want: i64,
+) -> Result<(), Fail> {
+    let boot = two_processes(alloc, [lines, b""])?;
+    assert_eq!(rt; answer(alloc, &boot, count)?, Some(want));
+    Ok(())
 }
 
 #[test]
@@ -184,38 +208,57 @@ fn errors_of_steps(rt: HostRuntime) -> Result<(), Fail> {
         (b"mkfile r1\nset r2 32768\ncut r1 r2\n", 3, 0),
     ];
     for (lines, count, want) in rows {
-        assert_eq!(rt; answer(rt.alloc(), lines, count)?, Some(want));
+        answers(&rt, rt.alloc(), lines, count, want)?;
     }
     Ok(())
 }
 
 /// Why a step of a process is refused.
-fn refusal(store: &Store, boot: &Boot, number: u16, input: Input) -> Option<Refusal> {
-    match plan_step(store, boot.scripts(), Pid::boot(number)?, &input) {
+fn refusal(store: &Store, boot: &Boot, entry: &Entry) -> Option<Refusal> {
+    match plan_step(store, boot.scripts(), entry.pid, &entry.input) {
         Ok(_) => None,
         Err(why) => Some(why),
     }
 }
 
+/// Each of these steps is refused so.
+fn refuses_all(
+    rt: &impl Abort,
+    store: &Store,
+    boot: &Boot,
+    rows: &[(Did, Refusal)],
+) -> Result<(), Fail> {
+    for (did, want) in rows {
+        assert_eq!(rt; refusal(store, boot, &entry_of(*did)?), Some(*want));
+    }
+    Ok(())
+}
+
+/// Each of these steps is refused so once process 2 has ended.
+fn refuses_then(
+    rt: &impl Abort,
+    alloc: Global,
+    boot: &Boot,
+    rows: &[(Did, Refusal)],
+) -> Result<(), Fail> {
+    let two = pid(2)?;
+    let mut store = Store::start(alloc, boot)?;
+    steps(&mut store, boot, two, 1)?;
+    refuses_all(rt, &store, boot, rows)
+}
+
 /// The first cause is told, where process 1 is at a fetch, process 2 at its end and no other there.
 #[test]
 fn first_cause_is_told(rt: HostRuntime) -> Result<(), Fail> {
-    let two = Pid::boot(2).ok_or("pid")?;
-    let content = content(1)?;
     let boot = two_processes(rt.alloc(), [b"fetch /z\n", b""])?;
-    let mut store = Store::start(rt.alloc(), &boot)?;
-    steps(&mut store, &boot, two, 1)?;
     let rows = [
-        (3, Input::None, Refusal::NoProcess),
-        (2, Input::Good, Refusal::Ended),
-        (1, Input::Good, Refusal::Mismatch),
-        (1, Input::Stale(content), Refusal::Mismatch),
-        (1, Input::None, Refusal::NeedsReply),
+        (Did::Steps(3), Refusal::NoProcess),
+        (Did::Good(2), Refusal::Ended),
+        (Did::Good(1), Refusal::Mismatch),
+        (Did::Stale(1), Refusal::Mismatch),
+        (Did::Steps(1), Refusal::NeedsReply),
     ];
-    for (number, input, want) in rows {
-        assert_eq!(rt; refusal(&store, &boot, number, input), Some(want));
-    }
-    Ok(())
+    refuses_then(&rt, rt.alloc(), &boot, &rows)
 }
 
 /// An object of the boot.
@@ -243,23 +286,39 @@ fn named(store: &Store, name: &Name) -> Option<ObjId> {
     }
 }
 
-/// How many entities start from a boot, and what these two names stand for.
-fn started(alloc: Global, boot: &Boot, names: [&Name; 2]) -> Result<Started, Fail> {
-    let store = Store::start(alloc, boot)?.copy()?;
-    let found = [named(&store, names[0]), named(&store, names[1])];
-    Ok((store.entities()?.len(), found))
+/// So many entities are in a store, and these two names stand for these objects.
+fn starts_with(
+    rt: &impl Abort,
+    store: &Store,
+    names: [&Name; 2],
+    found: [ObjId; 2],
+    count: usize,
+) -> Result<(), Fail> {
+    assert_eq!(rt; named(store, names[0]), Some(found[0]));
+    assert_eq!(rt; named(store, names[1]), Some(found[1]));
+    assert_eq!(rt; store.entities()?.len(), count);
+    Ok(())
 }
 
-type Started = (usize, [Option<ObjId>; 2]);
+/// A copy of the store that starts from a boot.
+fn copied(alloc: Global, boot: &Boot) -> Result<Store, Fail> {
+    Ok(Store::start(alloc, boot)?.copy()?)
+}
+
+/// A boot with two processes, and a file and a pipe of these names.
+fn with_both(alloc: Global, file: Name, pipe: Name) -> Result<Boot, Fail> {
+    let mut boot = two_processes(alloc, [b"say\n", b""])?;
+    declares_both(&mut boot, file, pipe)?;
+    Ok(boot)
+}
 
 #[test]
 fn starts_with_what_is_declared(rt: HostRuntime) -> Result<(), Fail> {
     let (file, pipe) = (name(b"f")?, name(b"p")?);
-    let mut boot = two_processes(rt.alloc(), [b"say\n", b""])?;
-    declares_both(&mut boot, file, pipe)?;
-    let found = [Some(boot_object(2)), Some(boot_object(3))];
-    assert_eq!(rt; started(rt.alloc(), &boot, [&file, &pipe])?, (11, found));
-    Ok(())
+    let found = [boot_object(2), boot_object(3)];
+    let boot = with_both(rt.alloc(), file, pipe)?;
+    let store = copied(rt.alloc(), &boot)?;
+    starts_with(&rt, &store, [&file, &pipe], found, 11)
 }
 
 /// A trace of a step and a commit.
@@ -275,10 +334,10 @@ fn two_events(alloc: Global, pid: Pid, input: Input) -> Result<Trace, Fail> {
 fn keeps_events(rt: HostRuntime) -> Result<(), Fail> {
     let step = entry_of(Did::Steps(1))?;
     let (pid, input) = (step.pid, step.input);
-    let trace = two_events(rt.alloc(), pid, input)?;
     let want = [Event::Step { pid, input }, Event::Commit(first_guess()?)];
-    assert_eq!(rt; trace.events(), want.as_slice());
     let entries = [want[0].entry(), want[1].entry()];
     assert_eq!(rt; entries, [Some(step), None]);
+    let trace = two_events(rt.alloc(), pid, input)?;
+    assert_eq!(rt; trace.events(), want.as_slice());
     Ok(())
 }

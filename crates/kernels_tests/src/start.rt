@@ -1,0 +1,105 @@
+//! What kernels and stores start from, as plain data.
+ghost use Rattle.std.specs.Prelude.{◌<◌};
+
+use sk_ids::{Name, Pid, Text};
+use sk_kernel::Kernel;
+use sk_objects::Content;
+use sk_script::{Boot, Script};
+use std::alloc::{AllocError, Global};
+use std::test::Fail;
+
+/// A name.
+pub fn name(bytes: &[u8]) -> Result<Name, Fail> {
+    Ok(Name::new(bytes).ok_or("name")?)
+}
+
+/// A text.
+pub fn text(bytes: &[u8]) -> Result<Text, Fail> {
+    Ok(Text::new(bytes).ok_or("text")?)
+}
+
+/// A content.
+pub fn content(version: u64, bytes: &[u8]) -> Result<Content, Fail> {
+    Ok(Content::new(version, text(bytes)?).ok_or("content")?)
+}
+
+/// A process.
+pub fn pid(number: u16) -> Result<Pid, Fail> {
+    Ok(Pid::boot(number).ok_or("pid")?)
+}
+
+/// What a kernel starts from.
+#[derive(Clone, Copy)]
+pub struct Start<'a> {
+    /// The kernel's number.
+    pub number: u64,
+    /// The lines of the one script, each so many times.
+    pub script: &'a [(&'a [u8], usize)],
+    /// How many processes there are, each with that script and with a terminal and a copy of its own.
+    pub processes: u8,
+    /// The most events that there may be.
+    pub limit: u32,
+}
+
+/// Adds a line, so many times.
+fn repeats(text: &mut Vec<u8>, line: &[u8], count: usize) -> Result<(), AllocError> {
+    for _ in 0..count {
+        text.extend_from_slice(line)?;
+    }
+    Ok(())
+}
+
+fn text_of(alloc: Global, script: &[(&[u8], usize)]) -> Result<Vec<u8>, AllocError> {
+    let mut text = Vec::new(alloc);
+    for (line, count) in script {
+        repeats(&mut text, line, *count)?;
+    }
+    Ok(text)
+}
+
+/// Declares a script.
+pub fn declares_script(
+    alloc: Global,
+    boot: &mut Boot,
+    name: &Name,
+    text: &[u8],
+) -> Result<(), Fail> {
+    Ok(boot.script(*name, Script::parse(alloc, text)?)?)
+}
+
+/// Declares a copy.
+pub fn declares_copy(boot: &mut Boot, at: &[u8], version: u64, bytes: &[u8]) -> Result<(), Fail> {
+    Ok(boot.copy(name(at)?, content(version, bytes)?)?)
+}
+
+/// Declares a process with a terminal and a copy; the copy's name has three bytes, another for each
+/// number below 100.
+fn declares_process(boot: &mut Boot, number: u8, script: &Name) -> Result<(), Fail>
+    requires { 0 < number }
+{
+    let at = [b'/', b'0' + number / 10 % 10, b'0' + number % 10];
+    declares_copy(boot, &at, 3, b"old")?;
+    let number = u16::from(number);
+    Ok(boot.process(number, script, number)?)
+}
+
+fn declares_all(alloc: Global, boot: &mut Boot, start: Start<'_>) -> Result<(), Fail> {
+    let main = name(b"main")?;
+    declares_script(alloc, boot, &main, &text_of(alloc, start.script)?)?;
+    for number in 1..=start.processes {
+        declares_process(boot, number, &main)?;
+    }
+    Ok(())
+}
+
+fn boot_of(alloc: Global, start: Start<'_>) -> Result<Boot, Fail> {
+    let mut boot = Boot::new(alloc);
+    declares_all(alloc, &mut boot, start)?;
+    Ok(boot)
+}
+
+/// The kernel.
+pub fn kernel_of(alloc: Global, start: Start<'_>) -> Result<Kernel, Fail> {
+    let boot = boot_of(alloc, start)?;
+    Ok(Kernel::boot(alloc, start.number, &boot, start.limit)?)
+}

@@ -2,3 +2,5 @@ pub mod Played
 pub mod Session
 pub mod Plays
 pub mod Replays
+pub mod Told
+pub mod Worlds

@@ -1,10 +1,15 @@
-//! A scenario at play: the kernel that it declares, with the tokens of its guesses, and what its steps are answered.
+//! A scenario at play: the kernel that it declares, with the tokens of its guesses, and what its steps are answered; and
+//! the world that it declares, and what is told of its events.
 #![tactic(auto)]
 
 pub mod answer;
 pub mod replaying;
 pub mod session;
+pub mod told;
+pub mod worlds;
 
 pub use answer::{Answer, write_answer};
 pub use replaying::{Unreplayed, replay};
 pub use session::Session;
+pub use told::{WorldTold, write_told};
+pub use worlds::{happen, world_of};

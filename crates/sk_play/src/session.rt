@@ -24,18 +24,28 @@ pub struct Session {
     ghost held: { all_unspent kernel tokens.items ≡ true },
 }
 
+/// The kernel that a scenario declares, at its start.
+pub(crate) fn declared_kernel(
+    alloc: Global,
+    declarations: &Declarations,
+) -> Result<Kernel, AllocError>
+    ensures { IfOk result (λ kernel. kernel ≡ declared_kernel declarations.now) }
+{
+    Kernel::boot(
+        alloc,
+        declarations.number(),
+        declarations.boot(),
+        declarations.limit(),
+    )
+}
+
 impl Session {
     /// The kernel that a scenario declares, at its start.
     pub fn new(alloc: Global, declarations: &Declarations) -> Result<Session, AllocError>
         ensures kernel { IfOk result (λ session. session.kernel ≡ declared_kernel declarations.now) }
         ensures tokens { IfOk result (λ session. session.tokens.items ≡ []) }
     {
-        let kernel = Kernel::boot(
-            alloc,
-            declarations.number(),
-            declarations.boot(),
-            declarations.limit(),
-        )?;
+        let kernel = declared_kernel(alloc, declarations)?;
         Ok(Session {
             kernel,
             tokens: Vec::new(alloc),

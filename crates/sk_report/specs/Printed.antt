@@ -2,6 +2,7 @@
 use Rattle.std.specs.Prelude.{ℕ, Bool, List, [], ◌∷◌, ◌++◌, flat_map, codes, decimal, length, Option, Some, None, if◌then◌else◌}
 use Rattle.sk_ids.specs.declared.entity.Entity.{Entity}
 use Rattle.sk_ids.specs.declared.entity.Entity.TheVariants as entity
+use Rattle.sk_objects.specs.Content.{ContentView}
 use Rattle.sk_objects.specs.Directory.{Link}
 use Rattle.sk_objects.specs.declared.value.Value.{Value}
 use Rattle.sk_objects.specs.declared.value.Value.TheVariants as value
@@ -63,6 +64,10 @@ made_text p =
 abbrev pub process_text : Process → List ℕ
 process_text p = held_text p ++ 32 ∷ made_text p
 
+-- a content: its version and its bytes
+abbrev pub content_text : ContentView → List ℕ
+content_text content = decimal content.version ++ 32 ∷ spelled content.bytes
+
 -- a value, behind its entity
 abbrev pub value_text : Value → List ℕ
 value_text (value.File bytes) = codes "file " ++ decimal (length bytes) ++ 32 ∷ spelled bytes
@@ -70,7 +75,7 @@ value_text (value.Dir links) = codes "dir " ++ links_text links
 value_text (value.Pipe pipe) = codes "pipe " ++ (if pipe.shut then codes "shut " else codes "open ") ++ spelled pipe.bytes
 value_text (value.Signals signals) = signals_text signals
 value_text (value.Exit status) = option_text status
-value_text (value.Copy content) = decimal content.version ++ 32 ∷ spelled content.bytes
+value_text (value.Copy content) = content_text content
 
 -- what an entity has, behind its name, as a kernel shows it
 abbrev pub view_text : View → List ℕ

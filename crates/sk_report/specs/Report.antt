@@ -1,4 +1,4 @@
--- The report of a kernel, and that of a plain kernel.
+-- The report of a kernel, that of a plain kernel, and that of a world.
 use Rattle.std.specs.Prelude.{ℕ, List, [], ◌∷◌, ◌++◌, map, flat_map, codes, decimal, length, Option, Some, None}
 use Rattle.std.specs.Ordering.{nat_cmp}
 use Rattle.std.specs.FinMap as finmap
@@ -11,7 +11,11 @@ use Rattle.sk_terminal.specs.Terminal.{TaggedText, waiting_of}
 use Rattle.sk_plain.specs.Plain.{PlainView, texts_said}
 use Rattle.sk_kernel.specs.Kernel.{KernelView, state_at, tags_at, texts_at, undecided_at}
 use Rattle.sk_words.specs.Spelling.{spelled}
-use Rattle.sk_report.specs.Printed.{tags_text, process_text, value_text, entity_text}
+use Rattle.sk_objects.specs.Content.{ContentView}
+use Rattle.sk_server.specs.Files.{FileMap}
+use Rattle.sk_client.specs.Desk.{DeskView, pending}
+use Rattle.sk_client.specs.WorldView.{WorldView}
+use Rattle.sk_report.specs.Printed.{tags_text, process_text, content_text, value_text, entity_text}
 
 -- what an entity has, behind its name
 abbrev pub stored_text : EntityState → List ℕ
@@ -78,10 +82,37 @@ with_terminals look numbers (e ∷ es) = with_terminals look (with_terminal numb
 abbrev pub body_text : (Entity → Option EntityState) → (ℕ → List ℕ) → (Entity → List ℕ) → List Entity → List ℕ
 body_text look terminal entity es = flat_map terminal (with_terminals look [] es) ++ flat_map entity es
 
--- the terminals, the entities that are present by their order, and the last line
+-- the terminals, and the entities that are present by their order
+abbrev pub kernel_text : KernelView → List ℕ
+kernel_text k = body_text (finmap.get (state_at k)) (terminal_said k) (entity_line k) (finmap.keys (state_at k))
+
+-- these, and the last line
 abbrev pub report_text : KernelView → List ℕ
-report_text k = body_text (finmap.get (state_at k)) (terminal_said k) (entity_line k) (finmap.keys (state_at k)) ++ last_line k
+report_text k = kernel_text k ++ last_line k
 
 -- the same of a plain kernel that has run so many steps
 abbrev pub plain_report_text : PlainView → ℕ → List ℕ
 plain_report_text k steps = body_text (finmap.get k.state) (plain_terminal_said k) (plain_entity_line k) (finmap.keys k.state) ++ steps_line steps
+
+-- ---- a world
+
+-- the line of a server's file, none where it was never stored
+abbrev pub remote_line : List ℕ → Option ContentView → List ℕ
+remote_line name None = []
+remote_line name (Some content) = codes "remote " ++ name ++ 32 ∷ content_text content ++ 10 ∷ []
+
+-- the files of a server by rising name
+abbrev pub remotes_text : FileMap → List ℕ
+remotes_text files = flat_map (λ name. remote_line name (finmap.get files name)) (finmap.keys files)
+
+-- the number of events, of undecided guesses and of requests without a reply
+abbrev pub counts_of : KernelView → ℕ → List ℕ
+counts_of k requests =
+    codes "trace " ++ decimal (length k.trace) ++ codes " undecided " ++ decimal (length (undecided_at k)) ++ codes " pending " ++ decimal requests ++ 10 ∷ []
+
+abbrev pub desk_line : DeskView → List ℕ
+desk_line d = counts_of d.kernel (length (pending d))
+
+-- the terminals and the entities of the kernel, the server's files, and the last line
+abbrev pub world_report_text : WorldView → List ℕ
+world_report_text w = kernel_text w.desk.kernel ++ remotes_text w.server.files ++ desk_line w.desk

@@ -1,10 +1,10 @@
 //! How entities and what they have are printed.
 ghost use Rattle.std.specs.Prelude.{◌≡◌, ◌<◌, ◌∷◌, Some, flat_map, decimal, slice_index};
-ghost use Rattle.sk_report.specs.Printed.{tags_text, signals_text, links_text, link_text, option_text, registers_text, held_text, made_text, yes_or_no, process_text, value_text, view_text, entity_text};
+ghost use Rattle.sk_report.specs.Printed.{tags_text, signals_text, links_text, link_text, option_text, registers_text, held_text, made_text, yes_or_no, process_text, content_text, value_text, view_text, entity_text};
 ghost use Rattle.sk_script.specs.Registers.{held};
 
 use sk_ids::{Entity, GuessId, Name, ObjId, TagSet};
-use sk_objects::{Directory, Signals, Value};
+use sk_objects::{Content, Directory, Signals, Value};
 use sk_plain::View;
 use sk_script::words::{Literal, Printed};
 use sk_script::{Process, Register, Registers, Val};
@@ -230,6 +230,21 @@ impl fmt::Display for PrintedProcess<'_> {
     }
 }
 
+/// A version and its bytes.
+#[derive(Clone, Copy)]
+pub struct PrintedContent<'a>(pub &'a Content);
+
+impl fmt::Display for PrintedContent<'_> {
+    ghost output = { λ s. Some (content_text s.0.now) };
+
+    fn fmt<W: fmt::Write>(&self, f: &mut fmt::Formatter<W>) -> fmt::Result {
+        let version = self.0.version();
+        let bytes = self.0.bytes();
+        let bytes = Literal(bytes.as_slice());
+        write!(f, "{version} {bytes}")
+    }
+}
+
 /// A value, behind its entity.
 #[derive(Drop)]
 pub struct PrintedValue<'a>(pub &'a Value);
@@ -255,12 +270,7 @@ impl fmt::Display for PrintedValue<'_> {
             }
             Value::Signals(signals) => write!(f, "{}", PrintedSignals(signals)),
             Value::Exit(status) => write!(f, "{}", PrintedOption(status.map(u32::from))),
-            Value::Copy(content) => {
-                let version = content.version();
-                let bytes = content.bytes();
-                let bytes = Literal(bytes.as_slice());
-                write!(f, "{version} {bytes}")
-            }
+            Value::Copy(content) => write!(f, "{}", PrintedContent(content)),
         }
     }
 }

@@ -1,7 +1,7 @@
 //! The report of a kernel, and that of a plain kernel.
 ghost use Rattle.std.specs.Prelude.{◌≡◌, ◌++◌, [], flat_map, OnOk, IfOk};
 ghost use Rattle.std.specs.Io.KnownBytes.{Appends};
-ghost use Rattle.sk_report.specs.Report.{last_line, steps_line, with_terminals, body_text, report_text, plain_report_text};
+ghost use Rattle.sk_report.specs.Report.{last_line, steps_line, with_terminals, body_text, kernel_text, report_text, plain_report_text};
 
 use crate::{Stop, Subject};
 use sk_ids::Entity;
@@ -16,10 +16,21 @@ use std::io::Write;
 pub fn write_report<W: Write>(alloc: Global, kernel: &Kernel, out: &mut W) -> Result<(), Stop>
     ensures { OnOk result (Appends (W.contents out.old) (W.contents out.new) (report_text kernel.now)) }
 {
-    let entities = kernel.entities()?;
-    write_body(alloc, kernel, &entities, out)?;
+    write_kernel(alloc, kernel, out)?;
     write_last(kernel, out)?;
     Ok(())
+}
+
+/// Writes the terminals and the entities.
+pub(crate) fn write_kernel<W: Write>(
+    alloc: Global,
+    kernel: &Kernel,
+    out: &mut W,
+) -> Result<(), Stop>
+    ensures { OnOk result (Appends (W.contents out.old) (W.contents out.new) (kernel_text kernel.now)) }
+{
+    let entities = kernel.entities()?;
+    write_body(alloc, kernel, &entities, out)
 }
 
 /// Writes the terminals and the entities of a plain kernel, and how many steps were run.

@@ -6,6 +6,7 @@ use Rattle.std.proofs.KnownBytes.{Appends-kept}
 use Rattle.sk_words.specs.declared.fault.Fault.{Fault}
 use Rattle.sk_words.specs.declared.fault.FaultKind.{FaultKind}
 use Rattle.sk_words.specs.declared.fault.FaultKind.TheVariants.{Word, Operand, Label, TooLong, Memory}
+use Rattle.sk_client.specs.declared.world.WorldEvent.{WorldEvent}
 use Rattle.sk_script.specs.Boot.{BootView}
 use Rattle.sk_trace.specs.declared.event.Event.{Event}
 use Rattle.sk_scenario.specs.Declarations.{Declared}
@@ -19,9 +20,10 @@ use Rattle.sk_command.specs.Ends.{IsWritten, fault_end}
 use Rattle.sk_command.specs.ReadAll.{INPUT_LIMIT}
 use Rattle.sk_play.proofs.Turns.{reported_kept}
 use Rattle.sk_play.specs.Plays.{Reported, declared_kernel}
+use Rattle.sk_play.specs.Worlds.{declared_world, WorldReported}
 use Rattle.speculate.specs.Plainly.{IsRunPlainly}
 use Rattle.speculate.specs.Replayed.{IsReplayed}
-use Rattle.speculate.specs.Run.{played_text, EndsFile, EndsInSection, EndsPlain, EndsPlayed, EndsReplayed, EndsRead, EndsText}
+use Rattle.speculate.specs.Run.{played_text, world_played_text, EndsFile, EndsInSection, EndsPlain, EndsPlayed, EndsReplayed, EndsWorld, EndsRead, EndsText}
 
 -- a text never ends a run as faulty words do
 fault_no_usage : (kind : FaultKind) → fault_end kind ≢ ends.Usage
@@ -33,7 +35,7 @@ fault_no_usage Memory = λ e. absurd cc
 
 section_no_usage : (wish : Wish) (d : Declared) (section : SectionView) (old new : Option (List ℕ)) → EndsInSection wish d section ends.Usage old new → ⊥
 section_no_usage (Play file trace) d (Steps steps) old new h = h
-section_no_usage (Play file trace) d (World es) old new h = absurd cc
+section_no_usage (Play file trace) d (World es) old new h = h
 section_no_usage (Play file trace) d (Trace es) old new h = absurd cc
 section_no_usage (Plain file) d (Steps steps) old new h = absurd cc
 section_no_usage (Plain file) d (World es) old new h = absurd cc
@@ -66,6 +68,15 @@ played_out trace d steps ends.Fault buffer old mid new written played kept = wri
 played_out trace d steps ends.Usage buffer old mid new written played kept = written
 played_out trace d steps ends.Trouble buffer old mid new written played kept = tt
 played_out trace d steps ends.OutputRefused buffer old mid new written played kept = tt
+
+-- the events of a world
+pub world_out : (trace : Bool) (d : Declared) (es : List WorldEvent) (end : End) (buffer : List ℕ) (old mid new : Option (List ℕ)) → IsWritten end buffer
+    → WorldReported (world_played_text trace) es (declared_world d) old mid → Keeps mid new → EndsWorld trace d es end old new
+world_out trace d es ends.Done buffer old mid new written played kept = (played.0, played.1, played.2, Appends-kept old mid new _ played.3 kept)
+world_out trace d es ends.Fault buffer old mid new written played kept = written
+world_out trace d es ends.Usage buffer old mid new written played kept = written
+world_out trace d es ends.Trouble buffer old mid new written played kept = tt
+world_out trace d es ends.OutputRefused buffer old mid new written played kept = tt
 
 -- a trace of which all that it leaves was run
 pub plain_out : (boot : BootView) (es : List Event) (end : End) (buffer : List ℕ) (old mid new : Option (List ℕ)) → IsWritten end buffer

@@ -12,7 +12,10 @@ use Rattle.sk_scenario.specs.declared.scenario.Scenario.{Scenario}
 use Rattle.sk_scenario.specs.declared.call.Call.{Call}
 use Rattle.sk_kernel.specs.Kernel.{KernelView}
 use Rattle.sk_play.specs.Plays.{Reported, declared_kernel}
-use Rattle.sk_report.specs.Report.{report_text}
+use Rattle.sk_client.specs.WorldView.{WorldView}
+use Rattle.sk_client.specs.declared.world.WorldEvent.{WorldEvent}
+use Rattle.sk_play.specs.Worlds.{declared_world, WorldReported}
+use Rattle.sk_report.specs.Report.{report_text, world_report_text}
 use Rattle.sk_command.specs.declared.end.End.{End}
 use Rattle.sk_command.specs.declared.end.End.TheVariants as ends
 use Rattle.sk_command.specs.CommandLine.{Wish, Play, Plain, Replay, wish_file, Asks, EndsWithoutJob}
@@ -21,10 +24,19 @@ use Rattle.sk_command.specs.ReadAll.{INPUT_LIMIT}
 use Rattle.speculate.specs.Plainly.{IsRunPlainly, IsFaulty}
 use Rattle.speculate.specs.Replayed.{IsReplayed, IsUnreplayed}
 
+-- the line `trace`, and the trace of a kernel
+abbrev pub trace_section : KernelView → List ℕ
+trace_section k = codes "trace\n" ++ trace_text k.trace
+
 -- what is printed of the kernel that the steps leave: its report, and then its trace where that is wanted
 abbrev pub played_text : Bool → KernelView → List ℕ
 played_text false k = report_text k
-played_text true k = report_text k ++ codes "trace\n" ++ trace_text k.trace
+played_text true k = report_text k ++ trace_section k
+
+-- the same of the world that events leave
+abbrev pub world_played_text : Bool → WorldView → List ℕ
+world_played_text false w = world_report_text w
+world_played_text true w = world_report_text w ++ trace_section w.desk.kernel
 
 -- steps are played: where the run ends well, the output has each answer, the report and the trace that is wanted;
 -- else memory ran out or a write was refused
@@ -34,6 +46,14 @@ EndsPlayed trace d steps ends.Fault old new = ⊥
 EndsPlayed trace d steps ends.Usage old new = ⊥
 EndsPlayed trace d steps ends.Trouble old new = ⊤
 EndsPlayed trace d steps ends.OutputRefused old new = ⊤
+
+-- the same of the events of a world
+abbrev pub EndsWorld : Bool → Declared → List WorldEvent → End → Option (List ℕ) → Option (List ℕ) → Type 0
+EndsWorld trace d es ends.Done old new = WorldReported (world_played_text trace) es (declared_world d) old new
+EndsWorld trace d es ends.Fault old new = ⊥
+EndsWorld trace d es ends.Usage old new = ⊥
+EndsWorld trace d es ends.Trouble old new = ⊤
+EndsWorld trace d es ends.OutputRefused old new = ⊤
 
 -- what a trace leaves is run plainly: where the run ends well, the trace is sound and the output has the report;
 -- a trace that is not sound is a fault of which nothing is on the output; else memory ran out or a write was refused
@@ -56,7 +76,7 @@ EndsReplayed d es ends.OutputRefused old new = ⊤
 -- what is wished is done with the section below the declarations; a section that it doesn't take is a fault of the file
 abbrev pub EndsInSection : Wish → Declared → SectionView → End → Option (List ℕ) → Option (List ℕ) → Type 0
 EndsInSection (Play file trace) d (Steps steps) end old new = EndsPlayed trace d steps end old new
-EndsInSection (Play file trace) d (World es) end old new = EndsUnwritten ends.Fault end old new
+EndsInSection (Play file trace) d (World es) end old new = EndsWorld trace d es end old new
 EndsInSection (Play file trace) d (Trace es) end old new = EndsUnwritten ends.Fault end old new
 EndsInSection (Plain file) d (Steps steps) end old new = EndsUnwritten ends.Fault end old new
 EndsInSection (Plain file) d (World es) end old new = EndsUnwritten ends.Fault end old new

@@ -7,6 +7,7 @@ pub mod replaying;
 pub mod striking;
 #[cfg(test)]
 mod tests;
+pub mod worlds;
 
 use crate::program::run;
 use sk_command::end::End;

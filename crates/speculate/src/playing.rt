@@ -2,7 +2,7 @@
 ghost use Rattle.std.specs.Prelude.{OnOk, []};
 ghost use Rattle.std.specs.Io.KnownBytes.{Appends};
 ghost use Rattle.sk_play.specs.Plays.{declared_kernel, Answered, Reported};
-ghost use Rattle.speculate.specs.Run.{played_text};
+ghost use Rattle.speculate.specs.Run.{trace_section, played_text};
 
 use sk_kernel::Kernel;
 use sk_play::{Session, write_answer};
@@ -57,10 +57,18 @@ fn write_played<W: Write>(
 {
     write_report(alloc, kernel, out)?;
     if trace {
-        let text = kernel.trace().print(alloc)?;
-        out.write_all(b"trace\n")?;
-        out.write_all(&text)?;
+        write_trace(alloc, kernel, out)?;
     }
+    Ok(())
+}
+
+/// Writes the line `trace`, and the trace of a kernel.
+pub(crate) fn write_trace<W: Write>(alloc: Global, kernel: &Kernel, out: &mut W) -> Result<(), Stop>
+    ensures { OnOk result (Appends (W.contents out.old) (W.contents out.new) (trace_section kernel.now)) }
+{
+    let text = kernel.trace().print(alloc)?;
+    out.write_all(b"trace\n")?;
+    out.write_all(&text)?;
     Ok(())
 }
 

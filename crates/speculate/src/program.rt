@@ -3,11 +3,13 @@ ghost use Rattle.std.specs.Prelude.{◌≡◌, map, string_bytes};
 ghost use Rattle.std.specs.Io.Buffered.{writer_buffer, writer_contents};
 ghost use Rattle.sk_command.specs.CommandLine.{wish_of};
 ghost use Rattle.sk_command.specs.Ends.{IsFlushed};
-ghost use Rattle.speculate.specs.Run.{EndsPlain, EndsPlayed, EndsReplayed, EndsRead, EndsText, EndsWords};
+ghost use Rattle.speculate.specs.Run.{EndsPlain, EndsPlayed, EndsReplayed, EndsWorld, EndsRead, EndsText, EndsWords};
 
 use crate::playing::play;
 use crate::replaying::replay_all;
 use crate::striking::{Unrun, run_left};
+use crate::worlds::play_world;
+use sk_client::WorldEvent;
 use sk_command::end::{End, flushed, tell_entry, tell_fault, tell_wrong_section};
 use sk_command::job::{Job, asked, explain};
 use sk_command::open_input::{Open, input};
@@ -81,6 +83,9 @@ fn run_read<W: Write + Drop, E: Write>(
         (Job::Play { trace, .. }, Section::Steps(steps)) => {
             run_steps(alloc, &declarations, steps.as_slice(), trace, out)
         }
+        (Job::Play { trace, .. }, Section::World(events)) => {
+            run_world(alloc, &declarations, events.as_slice(), trace, out)
+        }
         (Job::Plain { .. }, Section::Trace(trace)) => {
             run_trace(alloc, declarations.boot(), &trace, out, err)
         }
@@ -104,6 +109,28 @@ fn run_steps<W: Write + Drop>(
     ensures flushed { IsFlushed result (writer_buffer out.new) }
 {
     match play(alloc, declarations, steps, trace, out) {
+        Ok(()) => flushed(out),
+        Err(Stop::Memory) => {
+            let _ = out.flush();
+            End::Trouble
+        }
+        Err(Stop::Output) => End::OutputRefused,
+    }
+}
+
+/// Plays the events of a world, and writes out what the output buffers.
+fn run_world<W: Write + Drop>(
+    alloc: Global,
+    declarations: &Declarations,
+    events: &[WorldEvent],
+    trace: bool,
+    out: &mut BufWriter<W>,
+) -> End
+    ensures end { EndsWorld trace declarations.now events.now result
+        (writer_contents W.contents out.old) (writer_contents W.contents out.new) }
+    ensures flushed { IsFlushed result (writer_buffer out.new) }
+{
+    match play_world(alloc, declarations, events, trace, out) {
         Ok(()) => flushed(out),
         Err(Stop::Memory) => {
             let _ = out.flush();

@@ -1,0 +1,75 @@
+//! The world that a scenario declares, and what is told of its events.
+ghost use Rattle.std.specs.Prelude.{◌≡◌, IfOk, MatchResult, Some, None};
+ghost use Rattle.sk_server.specs.Server.{new_server};
+ghost use Rattle.sk_play.specs.Worlds.{seeded, declared_world, turn_told, edit_told, cause_told, Happens};
+
+use crate::WorldTold;
+use crate::session::declared_kernel;
+use sk_client::{Cause, Desk, World, WorldEvent};
+use sk_plain::Refusal;
+use sk_scenario::{Declarations, Remote};
+use sk_server::{EditRefusal, Server};
+use std::alloc::{AllocError, Global};
+
+/// The world that a scenario declares, at its start: its kernel, and a server of its remote files.
+pub fn world_of(alloc: Global, declarations: &Declarations) -> Result<World, AllocError>
+    ensures { IfOk result (λ world. world ≡ declared_world declarations.now) }
+{
+    let server = seeded(alloc, declarations.remotes())?;
+    let kernel = declared_kernel(alloc, declarations)?;
+    Ok(World::new(alloc, Desk::new(alloc, kernel), server))
+}
+
+/// A server of these files; of two of one name the later one stands.
+fn seeded(alloc: Global, remotes: &[Remote]) -> Result<Server, AllocError>
+    ensures files { IfOk result (λ server. server ≡ seeded new_server remotes.now) }
+    ensures first { IfOk result (λ server. server.next ≡ 1) }
+{
+    let mut server = Server::new(alloc);
+    for remote in remotes {
+        server.seed(remote.name, remote.content)?;
+    }
+    Ok(server)
+}
+
+/// Lets an event happen. A refusal is told, but want of memory.
+pub fn happen(world: &mut World, event: &WorldEvent) -> Result<WorldTold, AllocError>
+    ensures { MatchResult result (λ told. Happens (Some told) world.old event.now world.new) (λ _. Happens None world.old event.now world.new) }
+{
+    match world.event(event) {
+        Ok(answer) => Ok(WorldTold::Answered(answer)),
+        Err(cause) => told_of_cause(cause),
+    }
+}
+
+/// What is told of a refused event.
+fn told_of_cause(cause: Cause) -> Result<WorldTold, AllocError>
+    ensures { MatchResult result (λ told. cause_told cause ≡ Some told) (λ _. cause_told cause ≡ None) }
+{
+    match cause {
+        Cause::Turn(refusal) => told_of_turn(refusal),
+        Cause::Idle => Ok(WorldTold::Idle),
+        Cause::Edit(refusal) => told_of_edit(refusal),
+        Cause::Memory => Err(AllocError),
+    }
+}
+
+/// What is told of a refused turn.
+fn told_of_turn(refusal: Refusal) -> Result<WorldTold, AllocError>
+    ensures { MatchResult result (λ told. turn_told refusal ≡ Some told) (λ _. turn_told refusal ≡ None) }
+{
+    match refusal {
+        Refusal::Memory => Err(AllocError),
+        _ => Ok(WorldTold::Refused(refusal)),
+    }
+}
+
+/// What is told of a refused edit.
+fn told_of_edit(refusal: EditRefusal) -> Result<WorldTold, AllocError>
+    ensures { MatchResult result (λ told. edit_told refusal ≡ Some told) (λ _. edit_told refusal ≡ None) }
+{
+    match refusal {
+        EditRefusal::Version(_) => Ok(WorldTold::OtherVersion),
+        EditRefusal::Memory => Err(AllocError),
+    }
+}

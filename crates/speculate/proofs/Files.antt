@@ -18,6 +18,7 @@ use Rattle.sk_command.specs.declared.end.End.TheVariants as ends
 use Rattle.sk_command.specs.CommandLine.{Wish, Play, Plain, Replay}
 use Rattle.sk_command.specs.Ends.{IsWritten, fault_end}
 use Rattle.sk_command.specs.ReadAll.{INPUT_LIMIT}
+use Rattle.sk_play.proofs.Happened.{world_reported_kept}
 use Rattle.sk_play.proofs.Turns.{reported_kept}
 use Rattle.sk_play.specs.Plays.{Reported, declared_kernel}
 use Rattle.sk_play.specs.Worlds.{declared_world, WorldReported}
@@ -72,7 +73,7 @@ played_out trace d steps ends.OutputRefused buffer old mid new written played ke
 -- the events of a world
 pub world_out : (trace : Bool) (d : Declared) (es : List WorldEvent) (end : End) (buffer : List ℕ) (old mid new : Option (List ℕ)) → IsWritten end buffer
     → WorldReported (world_played_text trace) es (declared_world d) old mid → Keeps mid new → EndsWorld trace d es end old new
-world_out trace d es ends.Done buffer old mid new written played kept = (played.0, played.1, played.2, Appends-kept old mid new _ played.3 kept)
+world_out trace d es ends.Done buffer old mid new written played kept = world_reported_kept _ _ _ _ _ _ played kept
 world_out trace d es ends.Fault buffer old mid new written played kept = written
 world_out trace d es ends.Usage buffer old mid new written played kept = written
 world_out trace d es ends.Trouble buffer old mid new written played kept = tt

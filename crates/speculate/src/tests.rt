@@ -256,7 +256,12 @@ fn known_inputs(rt: HostRuntime) -> Result<(), Fail> {
             "",
             "speculate: line 3: Label\n",
         ),
-        ("world\n", 1, "", "speculate: wrong section\n"),
+        (
+            "world\n",
+            0,
+            "obj 0:1 dir - tags -\ntrace 0 undecided 0 pending 0\n",
+            "",
+        ),
         ("trace\n", 1, "", "speculate: wrong section\n"),
         ("trace\ncommit 0\n", 1, "", "speculate: line 2: Operand\n"),
     ] {

@@ -18,7 +18,7 @@ pub struct Habit {
 }
 
 /// Any of these.
-fn any_of<T: Copy>(rng: &mut Pcg32, all: &[T]) -> Option<T> {
+pub fn any_of<T: Copy>(rng: &mut Pcg32, all: &[T]) -> Option<T> {
     let place = rng.next_u32() as usize % all.len().max(1);
     all.get(place).copied()
 }
@@ -50,7 +50,7 @@ fn is_running(reckoning: &Reckoning, entity: &Entity) -> bool {
 }
 
 /// A process among those that are present, or one that may be absent.
-fn process(rng: &mut Pcg32, reckoning: &Reckoning, present: &[Entity]) -> Option<Pid> {
+pub fn process(rng: &mut Pcg32, reckoning: &Reckoning, present: &[Entity]) -> Option<Pid> {
     if rng.next_u32() % 64 == 0 {
         return Pid::boot((1 + rng.next_u32() % 4) as u16)?.child(1);
     }

@@ -24,6 +24,12 @@ pub enum Finding {
     Refused,
     /// The random scenario is not well-formed.
     Scenario,
+    /// A file of the server is not what its edits and accepted stores make it.
+    File,
+    /// An accepted store has no step, or a step that stores has no accepted store.
+    Store,
+    /// A request is left without a reply.
+    Pending,
     Memory,
 }
 

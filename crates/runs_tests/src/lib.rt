@@ -1,4 +1,5 @@
-//! Random runs of the kernel of many speculations, each judged after every call by the plain kernel.
+//! Random runs of the kernel of many speculations, and random worlds of a client and its server, each judged after
+//! every call by the plain kernel.
 #![tactic(auto)]
 
 #[cfg(test)]
@@ -15,3 +16,5 @@ mod runs;
 mod scenarios;
 #[cfg(test)]
 mod session;
+#[cfg(test)]
+mod worlds;

@@ -261,3 +261,15 @@ pub fn scenario(alloc: Global, rng: &mut Pcg32, kind: Kind) -> Result<Vec<u8>, A
     others(rng, &mut text)?;
     Ok(text)
 }
+
+/// Writes the server's files, of which each may be missing, and that of `/x` of another version than the copy.
+pub fn remotes(rng: &mut Pcg32, text: &mut Vec<u8>) -> Result<(), AllocError> {
+    let first = any(rng, &["remote /x 3 T", "remote /x 3 T", "remote /x 5 T"]);
+    for declared in [first, "remote /y 1 T", "remote /z 2 T"] {
+        if rng.next_u32() % 4 != 0 {
+            line(rng, declared, text)?;
+        }
+    }
+    text.extend_from_slice(b"world\n")?;
+    Ok(())
+}

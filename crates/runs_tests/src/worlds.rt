@@ -1,0 +1,487 @@
+//! Random worlds: a client whose processes take turns, its server, and foreign edits.
+ghost use Rattle.std.specs.Prelude.{◌≡◌, IfOk};
+
+use crate::calls::{any_of, process};
+use crate::finding::Finding;
+use crate::judge::judge;
+use crate::reckoning::Reckoning;
+use crate::scenarios::{Kind, remotes, scenario};
+use rand_core::Rng;
+use rand_pcg::Pcg32;
+use sk_client::{Cause, Desk, Given, Turn, World, WorldAnswer, WorldEvent};
+use sk_ids::{Entity, GuessId, Name, Pid, Text};
+use sk_kernel::Kernel;
+use sk_objects::{Content, Value};
+use sk_plain::{Entry, Event, Plain, Refusal, View, strike};
+use sk_scenario::{Declarations, Remote, Scenario};
+use sk_script::Input;
+use sk_server::{Answer, EditRefusal, Reply, Server};
+use std::alloc::{AllocError, Global};
+use std::collections::BTreeSet;
+use std::process::Abort;
+
+/// How many worlds of each manner there are.
+const WORLDS: u64 = 2_500;
+
+/// The files that a world may have.
+const NAMES: [&[u8]; 3] = [b"/x", b"/y", b"/z"];
+
+/// How often each event comes: so many of 128. The others are turns.
+#[derive(Clone, Copy, Debug)]
+struct Pace {
+    serves: u32,
+    replies: u32,
+    edits: u32,
+}
+
+impl Pace {
+    fn new(serves: u32, replies: u32, edits: u32) -> Pace {
+        Pace {
+            serves,
+            replies,
+            edits,
+        }
+    }
+}
+
+/// A store: what it left of which file.
+#[derive(Clone, Copy, Debug, PartialEq, Eq)]
+struct Store {
+    name: Name,
+    content: Content,
+}
+
+/// A store that the server accepted, and the number of its request.
+#[derive(Clone, Copy, Debug)]
+struct Accepted {
+    request: u64,
+    store: Store,
+}
+
+/// What all events of a world have in common.
+#[derive(Drop)]
+struct Setting<'a> {
+    alloc: Global,
+    declarations: &'a Declarations,
+    names: &'a [Name],
+}
+
+/// What a world has come to.
+#[derive(Drop)]
+struct Course {
+    accepted: Vec<Accepted>,
+    /// How many requests were made, answered by the server, and have their reply.
+    made: u64,
+    served: u64,
+    replied: u64,
+    /// How many events the trace has, and guesses were made.
+    length: usize,
+    drawn: u64,
+    seen: BTreeSet<Entity>,
+}
+
+/// Fine, or this is found.
+fn held(is_so: bool, otherwise: Finding) -> Result<(), Finding> {
+    if is_so { Ok(()) } else { Err(otherwise) }
+}
+
+impl Course {
+    fn new(alloc: Global) -> Course {
+        Course {
+            accepted: Vec::new(alloc),
+            made: 0,
+            served: 0,
+            replied: 0,
+            length: 0,
+            drawn: 0,
+            seen: BTreeSet::new(alloc),
+        }
+    }
+
+    /// Notes one more event of the trace, which has to be as it should.
+    fn appends(&mut self, is_so: bool) -> Result<(), Finding> {
+        self.length = self.length.saturating_add(1);
+        held(is_so, Finding::Events)
+    }
+
+    /// Notes one more request, which has to have this number.
+    fn makes(&mut self, number: u64) -> Result<(), Finding> {
+        self.made = self.made.saturating_add(1);
+        held(number == self.made, Finding::Answer)
+    }
+
+    fn turned(&mut self, last: Option<&Event>, pid: Pid, turn: Turn) -> Result<(), Finding> {
+        match turn {
+            Turn::Stepped => self.appends(is_step_of(last, pid)),
+            Turn::Asked(number) => self.makes(number),
+            Turn::Guessed(id) => {
+                self.made = self.made.saturating_add(1);
+                self.drawn = id.number();
+                self.appends(is_guess_of(last, pid, id))
+            }
+        }
+    }
+
+    fn gave(&mut self, last: Option<&Event>, given: Given) -> Result<(), Finding> {
+        self.replied = self.replied.saturating_add(1);
+        match given {
+            Given::Committed(id) => self.appends(is_event(last, &Event::Commit(id))),
+            Given::Failed(id) => self.appends(is_event(last, &Event::Fail(id))),
+            Given::Gone(_) => Ok(()),
+            Given::Forgotten(number) => held(number == self.replied, Finding::Answer),
+            Given::Taken(number) => {
+                let is_so = number == self.replied && matches!(last, Some(Event::Step { .. }));
+                self.appends(is_so)
+            }
+        }
+    }
+
+    /// Notes that the server answered the request of a number.
+    fn serves(&mut self, number: u64) -> Result<(), Finding> {
+        self.served = self.served.saturating_add(1);
+        held(number == self.served, Finding::Answer)
+    }
+
+    /// Notes what an event was answered, after which the trace ends so.
+    fn note(
+        &mut self,
+        event: &WorldEvent,
+        answer: &WorldAnswer,
+        last: Option<&Event>,
+    ) -> Result<(), Finding> {
+        match (event, answer) {
+            (WorldEvent::Turn(pid), WorldAnswer::Turn(turn)) => self.turned(last, *pid, *turn),
+            (WorldEvent::Serve, WorldAnswer::Served(reply)) => self.serves(reply.number),
+            (WorldEvent::Reply, WorldAnswer::Given(given)) => self.gave(last, *given),
+            (WorldEvent::Edit(..), WorldAnswer::Edited(_)) => Ok(()),
+            _ => Err(Finding::Answer),
+        }
+    }
+
+    /// Whether an event may be refused so.
+    fn refuses(&self, event: &WorldEvent, cause: &Cause) -> bool {
+        match (event, cause) {
+            (WorldEvent::Turn(_), Cause::Turn(refusal)) => *refusal != Refusal::Memory,
+            (WorldEvent::Serve, Cause::Idle) => self.made == self.served,
+            (WorldEvent::Reply, Cause::Idle) => self.served == self.replied,
+            (WorldEvent::Edit(..), Cause::Edit(refusal)) => *refusal != EditRefusal::Memory,
+            _ => false,
+        }
+    }
+
+    /// Notes a store that the server accepted.
+    fn accepts(&mut self, reply: &Reply, store: &Store) -> Result<(), Finding> {
+        let request = reply.number;
+        let store = *store;
+        self.accepted.push(Accepted { request, store })?;
+        held(reply.answer == Answer::Yes, Finding::File)
+    }
+
+    /// Notes which files an event changed: an edit its file, an accepted store the file of its request.
+    fn note_changes(
+        &mut self,
+        event: &WorldEvent,
+        answer: Option<&WorldAnswer>,
+        changes: &[Store],
+    ) -> Result<(), Finding> {
+        match (event, answer, changes) {
+            (WorldEvent::Edit(name, _, bytes), Some(WorldAnswer::Edited(version)), [change]) => {
+                held(is_edit(change, name, *version, bytes), Finding::File)
+            }
+            (WorldEvent::Edit(..), Some(_), _) => Err(Finding::File),
+            (WorldEvent::Serve, Some(WorldAnswer::Served(reply)), [change]) => {
+                self.accepts(reply, change)
+            }
+            (_, _, []) => Ok(()),
+            _ => Err(Finding::File),
+        }
+    }
+}
+
+/// Whether a change is what an edit of this file made.
+fn is_edit(change: &Store, name: &Name, version: u64, bytes: &Text) -> bool {
+    change.name == *name && change.content.version() == version && change.content.bytes() == *bytes
+}
+
+fn is_event(last: Option<&Event>, event: &Event) -> bool {
+    match last {
+        Some(last) => *last == *event,
+        None => false,
+    }
+}
+
+fn is_step_of(last: Option<&Event>, process: Pid) -> bool {
+    match last {
+        Some(Event::Step { pid, .. }) => *pid == process,
+        _ => false,
+    }
+}
+
+fn is_guess_of(last: Option<&Event>, pid: Pid, id: GuessId) -> bool {
+    let input = Input::Good;
+    is_event(last, &Event::Guess { id, pid, input })
+}
+
+/// The copy of a name.
+fn copy_of(plain: &Plain, name: Name) -> Option<Content> {
+    match plain.value(&Entity::Copy(name)) {
+        Some(View::Value(Value::Copy(content))) => Some(*content),
+        _ => None,
+    }
+}
+
+/// The names of the files.
+fn names(alloc: Global) -> Result<Vec<Name>, AllocError> {
+    let mut all = Vec::new(alloc);
+    for bytes in NAMES {
+        if let Some(name) = Name::new(bytes) {
+            all.push(name)?;
+        }
+    }
+    Ok(all)
+}
+
+/// The copies of the names, in their order.
+fn copies_of(setting: &Setting, plain: &Plain) -> Result<Vec<Option<Content>>, AllocError> {
+    let mut all = Vec::new(setting.alloc);
+    for name in setting.names {
+        all.push(copy_of(plain, *name))?;
+    }
+    Ok(all)
+}
+
+/// The server's files of the names, in their order.
+fn files_of(setting: &Setting, server: &Server) -> Result<Vec<Option<Content>>, AllocError> {
+    let mut all = Vec::new(setting.alloc);
+    for name in setting.names {
+        all.push(server.file(name).copied())?;
+    }
+    Ok(all)
+}
+
+/// What has changed between two looks at the names.
+fn changes(
+    setting: &Setting,
+    before: &[Option<Content>],
+    after: &[Option<Content>],
+) -> Result<Vec<Store>, AllocError> {
+    let mut all = Vec::new(setting.alloc);
+    for (name, (before, after)) in setting.names.iter().zip(before.iter().zip(after.iter())) {
+        if let Some(content) = *after
+            && *after != *before
+        {
+            let name = *name;
+            all.push(Store { name, content })?;
+        }
+    }
+    Ok(all)
+}
+
+/// What a step with `Good` left of a copy, where it changed one: it is a store.
+fn stored(
+    setting: &Setting,
+    plain: &mut Plain,
+    entry: &Entry,
+    stores: &mut Vec<Store>,
+) -> Result<(), Finding> {
+    let before = copies_of(setting, plain)?;
+    plain.step(entry.pid, &entry.input)?;
+    if entry.input == Input::Good {
+        for change in changes(setting, &before, &copies_of(setting, plain)?)? {
+            stores.push(change)?;
+        }
+    }
+    Ok(())
+}
+
+/// The stores of the struck record, in its order.
+fn stores_of(setting: &Setting, kernel: &Kernel) -> Result<Vec<Store>, Finding> {
+    let boot = setting.declarations.boot();
+    let mut plain = Plain::boot(setting.alloc, boot)?;
+    let mut stores = Vec::new(setting.alloc);
+    for entry in &strike(setting.alloc, boot, kernel.trace())? {
+        stored(setting, &mut plain, entry, &mut stores)?;
+    }
+    Ok(stores)
+}
+
+/// Whether each accepted store whose reply was given stands among these.
+fn judge_stores(course: &Course, stores: &[Store]) -> Result<(), Finding> {
+    for accepted in &course.accepted {
+        let is_given = accepted.request <= course.replied;
+        held(!is_given || stores.contains(&accepted.store), Finding::Store)?;
+    }
+    Ok(())
+}
+
+/// Lets an event happen, and judges its answer and what it leaves.
+fn happen(
+    setting: &Setting,
+    world: &mut World,
+    course: &mut Course,
+    event: &WorldEvent,
+) -> Result<Reckoning, Finding> {
+    let before = files_of(setting, world.server())?;
+    let told = world.event(event);
+    let changes = changes(setting, &before, &files_of(setting, world.server())?)?;
+    let kernel = world.desk().kernel();
+    let trace = kernel.trace();
+    match &told {
+        Ok(answer) => course.note(event, answer, trace.events().last())?,
+        Err(cause) => held(course.refuses(event, cause), Finding::Answer)?,
+    }
+    course.note_changes(event, told.as_ref().ok(), &changes)?;
+    held(trace.events().len() == course.length, Finding::Events)?;
+    let pending = course.made.saturating_sub(course.replied);
+    held(world.desk().pending() as u64 == pending, Finding::Pending)?;
+    let declarations = setting.declarations;
+    let reckoning = Reckoning::of(setting.alloc, declarations.boot(), trace)?;
+    let limit = declarations.limit();
+    judge(kernel, &reckoning, trace, limit, course.drawn, &mut course.seen)?;
+    if let WorldEvent::Reply = *event {
+        judge_stores(course, &stores_of(setting, kernel)?)?;
+    }
+    Ok(reckoning)
+}
+
+/// An edit of any file, mostly of the version that it has.
+fn edit(rng: &mut Pcg32, server: &Server, names: &[Name]) -> Option<WorldEvent> {
+    let name = any_of(rng, names)?;
+    let version = match server.file(&name) {
+        Some(content) => content.version(),
+        None => 0,
+    };
+    let ahead = u64::from(rng.next_u32() % 8 == 0);
+    let bytes: [&[u8]; 3] = [b"", b"foreign", b"w"];
+    let bytes = Text::new(any_of(rng, &bytes)?)?;
+    Some(WorldEvent::Edit(name, version.saturating_add(ahead), bytes))
+}
+
+/// The next event of a world.
+fn event(
+    setting: &Setting,
+    rng: &mut Pcg32,
+    pace: Pace,
+    server: &Server,
+    reckoning: &Reckoning,
+) -> Result<Option<WorldEvent>, AllocError> {
+    let replies = pace.serves.saturating_add(pace.replies);
+    let edits = replies.saturating_add(pace.edits);
+    let roll = rng.next_u32() % 128;
+    if roll < pace.serves {
+        return Ok(Some(WorldEvent::Serve));
+    }
+    if roll < replies {
+        return Ok(Some(WorldEvent::Reply));
+    }
+    if roll < edits {
+        return Ok(edit(rng, server, setting.names));
+    }
+    let present = reckoning.plain.entities()?;
+    Ok(process(rng, reckoning, &present).map(WorldEvent::Turn))
+}
+
+/// Serves every request and gives every reply; then the stores of the record are just the accepted ones.
+fn settle(setting: &Setting, world: &mut World, course: &mut Course) -> Result<(), Finding> {
+    for _ in course.served..course.made {
+        happen(setting, world, course, &WorldEvent::Serve)?;
+    }
+    for _ in course.replied..course.made {
+        happen(setting, world, course, &WorldEvent::Reply)?;
+    }
+    held(world.desk().pending() == 0, Finding::Pending)?;
+    let stores = stores_of(setting, world.desk().kernel())?;
+    held(stores.len() == course.accepted.len(), Finding::Store)?;
+    judge_stores(course, &stores)
+}
+
+/// Lets so many random events happen, and settles what is left; says how many stores were accepted.
+fn play(
+    setting: &Setting,
+    rng: &mut Pcg32,
+    pace: Pace,
+    world: &mut World,
+    events: u32,
+) -> Result<usize, Finding> {
+    let mut course = Course::new(setting.alloc);
+    let boot = setting.declarations.boot();
+    let mut reckoning = Reckoning::of(setting.alloc, boot, world.desk().kernel().trace())?;
+    for _ in 0..events {
+        if let Some(event) = event(setting, rng, pace, world.server(), &reckoning)? {
+            reckoning = happen(setting, world, &mut course, &event)?;
+        }
+    }
+    settle(setting, world, &mut course)?;
+    Ok(course.accepted.len())
+}
+
+/// A server of these files.
+fn seeded(alloc: Global, remotes: &[Remote]) -> Result<Server, AllocError>
+    ensures { IfOk result (λ server. server.next ≡ 1) }
+{
+    let mut server = Server::new(alloc);
+    for remote in remotes {
+        server.seed(remote.name, remote.content)?;
+    }
+    Ok(server)
+}
+
+/// The world that a scenario declares.
+fn declared(alloc: Global, declarations: &Declarations) -> Result<World, AllocError> {
+    let server = seeded(alloc, declarations.remotes())?;
+    let number = declarations.number();
+    let limit = declarations.limit();
+    let kernel = Kernel::boot(alloc, number, declarations.boot(), limit)?;
+    Ok(World::new(alloc, Desk::new(alloc, kernel), server))
+}
+
+/// The world of a number.
+fn world(alloc: Global, number: u64, kind: Kind, pace: Pace) -> Result<usize, Finding> {
+    let mut rng = Pcg32::new(number, 3);
+    let mut text = scenario(alloc, &mut rng, kind)?;
+    remotes(&mut rng, &mut text)?;
+    let scenario = Scenario::parse(alloc, &text)?;
+    let names = names(alloc)?;
+    let setting = Setting {
+        alloc,
+        declarations: &scenario.declarations,
+        names: &names,
+    };
+    let events = 20 + rng.next_u32() % 60;
+    let mut world = declared(alloc, &scenario.declarations)?;
+    let told = play(&setting, &mut rng, pace, &mut world, events);
+    world.abandon();
+    told
+}
+
+/// So many worlds, in each of which nothing is found; some stores are accepted in them.
+fn worlds(rt: &impl Abort, alloc: Global, kind: Kind, pace: Pace) {
+    let mut accepted = 0usize;
+    for number in 1..=WORLDS {
+        match world(alloc, number, kind, pace) {
+            Ok(count) => accepted = accepted.saturating_add(count),
+            Err(finding) => panic!(rt; "world {number}, {kind:?}, {pace:?}: {finding:?}"),
+        }
+    }
+    assert!(rt; accepted > 0, "no store was accepted");
+}
+
+#[test]
+fn a_server_that_keeps_pace(rt: HostRuntime) {
+    worlds(&rt, rt.alloc(), Kind::Any, Pace::new(24, 24, 8));
+}
+
+#[test]
+fn a_slow_server(rt: HostRuntime) {
+    worlds(&rt, rt.alloc(), Kind::Guessing, Pace::new(8, 8, 6));
+}
+
+#[test]
+fn slow_replies(rt: HostRuntime) {
+    worlds(&rt, rt.alloc(), Kind::Guessing, Pace::new(32, 10, 4));
+}
+
+#[test]
+fn many_edits(rt: HostRuntime) {
+    worlds(&rt, rt.alloc(), Kind::Guessing, Pace::new(20, 20, 24));
+}

@@ -26,13 +26,14 @@ module _ {T : Type 0} where
       (λ (x : (j ≢ port) × (get_elem? views j ≡ some u)). others j u x.0 x.1) (at_set views port j w u e)
 
 module _ {T : Type 0} (number_of : T → ℕ) where
-  counts-push : (n : ℕ) (xs : List T) (x : T) → AreNumbered number_of n xs → number_of x ≡ n + length xs → AreNumbered number_of n (xs ++ x ∷ [])
-  counts-push n [] x c e = (omega (arith, e), tt)
-  counts-push n (y ∷ ys) x c e = (c.0, counts-push (n + 1) ys x c.1 (omega (arith, e)))
+  -- the next item behind numbered ones; and the number of one among them
+  numbered_more : (n : ℕ) (xs : List T) (x : T) → AreNumbered number_of n xs → number_of x ≡ n + length xs → AreNumbered number_of n (xs ++ x ∷ [])
+  numbered_more n [] x c e = (omega (arith, e), tt)
+  numbered_more n (y ∷ ys) x c e = (c.0, numbered_more (n + 1) ys x c.1 (omega (arith, e)))
 
-  counts-at : (n : ℕ) (xs : List T) (x : T) (ys : List T) → AreNumbered number_of n (xs ++ x ∷ ys) → number_of x ≡ n + length xs
-  counts-at n [] x ys c = omega (arith, c.0)
-  counts-at n (y ∷ xs) x ys c = omega (arith, counts-at (n + 1) xs x ys c.1)
+  numbered_at : (n : ℕ) (xs : List T) (x : T) (ys : List T) → AreNumbered number_of n (xs ++ x ∷ ys) → number_of x ≡ n + length xs
+  numbered_at n [] x ys c = omega (arith, c.0)
+  numbered_at n (y ∷ xs) x ys c = omega (arith, numbered_at (n + 1) xs x ys c.1)
 
   -- making the queue, with its first pass
   pub begins : IsInTurn number_of [] (known true true 0 [] [] ∷ [])
@@ -84,7 +85,7 @@ module _ {T : Type 0} (number_of : T → ℕ) where
           sent,
           h.4,
           ap (λ l. l ++ x ∷ []) h.5 ∙ append_assoc h.4 items (x ∷ []),
-          counts-push h.2 h.3 x h.6 next,
+          numbered_more h.2 h.3 x h.6 next,
           omega (arith, next, number, limit, length-append h.3 (x ∷ [])),
           all_set (KnowsAll h.0 h.1 h.2 sent h.4) views port (with_sent v x) ((λ _. (mine.0, mine.1, ap (λ l. l ++ x ∷ []) mine.2)), (h.8 port v at).1)
               (λ j u other e. ((λ p. absurd (other (((h.8 j u e).0 p).0 ∙ sym mine.0))), (h.8 j u e).1)),
@@ -100,7 +101,7 @@ module _ {T : Type 0} (number_of : T → ℕ) where
   pops port v may x items views h at =
       let mine = (h.8 port v at).1 may in
       let received = h.4 ++ x ∷ [] in
-      let number = counts-at h.2 h.4 x items (subst (AreNumbered number_of h.2) h.5 h.6) in (
+      let number = numbered_at h.2 h.4 x items (subst (AreNumbered number_of h.2) h.5 h.6) in (
         with_received v x,
         (
           h.0,

@@ -1,5 +1,5 @@
 //! The rule of a wire: what its passes know, and what each step with them does and tells.
-ghost use Rattle.std.specs.Prelude.{◌≡◌, ℕ};
+ghost use Rattle.std.specs.Prelude.{ℕ};
 
 use crate::numbered::Numbered;
 use crossbeam_queue::protocol::{Join, Lesson, Outcome, Protocol, Split};
@@ -16,7 +16,7 @@ pub struct PassView<T> {
     pub received: LinkedList<T>,
 }
 
-/// The rule.
+/// The rule: what was sent is what was received and then what the wire holds, numbered from the first on.
 pub struct InTurn;
 
 impl<T: Numbered> Protocol<T, PassView<T>> for InTurn {
@@ -28,7 +28,7 @@ impl<T: Numbered> Protocol<T, PassView<T>> for InTurn {
     ghost first = { known true true 0 [] [] };
 }
 
-/// The first number of a wire.
+/// A type that has the first number of a wire. Each call of `Wire::new` picks its own, in proofs.
 pub trait First {
     ghost first: { ℕ };
 }

@@ -1,0 +1,79 @@
+//! Replies that go by a wire, each told apart from all others.
+ghost use Rattle.std.specs.Prelude.{◌≡◌, ◌<◌, ◌+◌, ◌^◌, length};
+ghost use Rattle.crossbeam_queue.specs.Passes.{view};
+ghost use Rattle.sk_wire.specs.Wire.{IsSending, IsReceiving};
+
+use sk_ids::Text;
+use sk_objects::Content;
+use sk_objects::content::LAST_VERSION;
+use sk_server::{Answer, Reply};
+use sk_wire::{Wire, WirePass};
+use std::process::Abort;
+use std::sync::Wait;
+
+/// The reply of a number, with an answer of its own.
+pub fn reply(number: u64) -> Reply
+    ensures { result.number ≡ number }
+{
+    let answer = match Content::new(number % LAST_VERSION, Text::empty()) {
+        Some(content) => Answer::Copy(content),
+        None => Answer::Dropped,
+    };
+    Reply { number, answer }
+}
+
+/// Sends the reply of a number, for which there is room.
+pub fn sends<R: Wait + Abort>(
+    rt: &R,
+    wire: &Wire<Reply>,
+    pass: WirePass<Reply>,
+    number: u64,
+) -> WirePass<Reply>
+    requires pass { IsSending wire.now pass }
+    requires number { number ≡ (view pass).first + length (view pass).sent }
+    requires limit { number < (view pass).first + 2 ^ 62 }
+    ensures pass { IsSending wire.now result }
+    ensures first { (view result).first ≡ (view pass).first }
+    ensures sent { length (view result).sent ≡ length (view pass).sent + 1 }
+{
+    let (pass, sent) = wire.push(rt, pass, reply(number));
+    if sent.is_err() {
+        panic!(rt; "a full wire");
+    }
+    pass
+}
+
+/// Receives the reply of a number.
+pub fn receives<R: Wait + Abort>(
+    rt: &R,
+    wire: &Wire<Reply>,
+    pass: WirePass<Reply>,
+    number: u64,
+) -> WirePass<Reply>
+    requires { IsReceiving wire.now pass }
+    ensures { IsReceiving wire.now result }
+{
+    let (pass, received) = wire.pop(rt, pass);
+    assert_eq!(rt; received, Some(reply(number)));
+    pass
+}
+
+/// Receives the replies of these numbers, and then none.
+pub fn empties<R: Wait + Abort>(
+    rt: &R,
+    wire: &Wire<Reply>,
+    pass: WirePass<Reply>,
+    from: u64,
+    to: u64,
+) -> WirePass<Reply>
+    requires { IsReceiving wire.now pass }
+    ensures { IsReceiving wire.now result }
+{
+    let mut pass = pass;
+    for number in from..to {
+        pass = receives(rt, wire, pass, number);
+    }
+    let (pass, none) = wire.pop(rt, pass);
+    assert_eq!(rt; none, None);
+    pass
+}

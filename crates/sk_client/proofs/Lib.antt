@@ -15,3 +15,4 @@ pub mod SeenServe
 pub mod SeenReply
 pub mod Seen
 pub mod Accepted
+pub mod AskedReplies

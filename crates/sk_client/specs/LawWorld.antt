@@ -12,8 +12,9 @@ use Rattle.sk_script.specs.Boot.{BootView}
 use Rattle.sk_store.specs.Start.{start_of}
 use Rattle.sk_store.specs.declared.entity_state.EntityState.{EntityState}
 use Rattle.sk_trace.specs.Entry.{EntryView}
+use Rattle.sk_trace.specs.declared.event.Event.TheVariants.{Step}
 use Rattle.sk_plain.specs.Act.{Saying, plain}
-use Rattle.sk_kernel.specs.Kernel.{KernelView, events_of, record_at, last_guess}
+use Rattle.sk_kernel.specs.Kernel.{KernelView, events_of, record_at, last_guess, step_refused, with_event}
 use Rattle.sk_server.specs.Files.{file_of}
 use Rattle.sk_server.specs.Server.{ServerView}
 use Rattle.sk_server.specs.declared.request.Request.{Request as Sent}
@@ -27,9 +28,10 @@ use Rattle.sk_world.specs.World.{World, WorldEvent as LawEvent, world_after}
 use Rattle.sk_world.specs.Labels.{bare_event}
 use Rattle.sk_world.specs.Laws.{paired}
 use Rattle.sk_client.specs.Table.{Bytes, bare, table, begun, copy_of}
-use Rattle.sk_client.specs.Desk.{pending, kept_for}
+use Rattle.sk_client.specs.Desk.{pending, kept_for, entry, input_of}
 use Rattle.sk_client.specs.WorldView.{WorldView, taken_by, EventPost}
 use Rattle.sk_client.specs.declared.pending.PendingRequest.{PendingRequest}
+use Rattle.sk_client.specs.declared.desk.Given.TheVariants as gives
 use Rattle.sk_client.specs.declared.world.WorldEvent.{WorldEvent}
 use Rattle.sk_client.specs.declared.world.WorldEvent.TheVariants as events
 use Rattle.sk_client.specs.declared.world.WorldAnswer.{WorldAnswer}
@@ -152,3 +154,28 @@ abbrev pub StoresStand : Exchanges → WorldView → WorldView → Type 0
 StoresStand served v later =
     (q : Sent) (r : Reply) (name : Bytes) (version : ℕ) (bytes : Bytes) → Contains served (q, r) → r.answer ≡ answers.Yes → q.ask ≡ asks.Store name version bytes → IsDue v q
     → StandsIn later.desk.kernel name version bytes
+
+-- ---- the steps of asked requests
+
+-- the oldest reply is to an asked request of this number: the kernel accepts its step with what the reply gives, and takes it
+pub record TakesStep (v : WorldView) (number : ℕ) (next : WorldView) : Type 0 where
+  pub request : PendingRequest
+  pub reply : Reply
+  pub input : Input
+  pub oldest : v.desk.taken ≡ request ∷ next.desk.taken
+  pub its_reply : v.replies ≡ reply ∷ next.replies
+  pub number_is : request.number ≡ number
+  pub asked : request.guess ≡ None
+  pub given : input_of reply.answer ≡ Some input
+  pub accepted : step_refused v.desk.kernel (entry request.process input None) ≡ None
+  pub kernel : next.desk.kernel ≡ with_event v.desk.kernel (Step request.process input)
+
+-- where a reply is answered by Taken, the step was taken
+abbrev pub StepsAreTaken : WorldView → Type 0
+StepsAreTaken v = (number : ℕ) (next : WorldView) → EventPost (Ok (told.Given (gives.Taken number))) v events.Reply next → TakesStep v number next
+
+-- and where by Forgotten, the server dropped the request
+abbrev pub ForgottenAreDropped : WorldView → Type 0
+ForgottenAreDropped v =
+    (number : ℕ) (next : WorldView) → EventPost (Ok (told.Given (gives.Forgotten number))) v events.Reply next
+    → (r : Reply) × (v.replies ≡ r ∷ next.replies) × (r.answer ≡ answers.Dropped)

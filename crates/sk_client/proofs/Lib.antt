@@ -16,3 +16,4 @@ pub mod SeenReply
 pub mod Seen
 pub mod Accepted
 pub mod AskedReplies
+pub mod Writes

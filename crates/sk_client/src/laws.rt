@@ -16,7 +16,7 @@ ghost use Rattle.sk_server.specs.Server.{ServerView};
 ghost use Rattle.sk_client.specs.Table.{Bytes, Caused, table, bare, begun, IsNumbered};
 ghost use Rattle.sk_client.specs.Desk.{opened};
 ghost use Rattle.sk_client.specs.LawWorld.{Exchanges, Leads, IsSeenAfter, StoresStand};
-ghost use Rattle.sk_client.specs.LawWorld.{StepsAreTaken, ForgottenAreDropped};
+ghost use Rattle.sk_client.specs.LawWorld.{StepsAreTaken, ForgottenAreDropped, writes_of, AreWritten};
 ghost use Rattle.sk_client.specs.WorldView.{WorldView, joined};
 ghost use Rattle.sk_client.specs.declared.world.WorldEvent.{WorldEvent};
 
@@ -93,6 +93,14 @@ pub fn taken()
     ensures forgotten { (number : ℕ) (boot : BootView) (limit : ℕ) (server : ServerView) → IsNumbered boot → server.next ≡ 1 → server.refused ≡ []
         → (es : List WorldEvent) (served : Exchanges) (v : WorldView) → Leads (joined (opened (booted number boot limit)) server) es served v
         → ForgottenAreDropped v }
+{}
+
+/// The server's files after any list of a world's events are the first ones after each write in order: the foreign edits
+/// that were answered `Ok`, and just the stores that the server accepted. Each write expects the version that its file has
+/// then.
+pub fn files()
+    ensures { (w : WorldView) (es : List WorldEvent) (served : Exchanges) (last : WorldView) → (h : Leads w es served last)
+        → AreWritten w (writes_of w es served last h) served last }
 {}
 
 /// The numbers of a boot's processes are as the laws ask.

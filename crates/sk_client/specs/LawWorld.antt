@@ -1,5 +1,5 @@
 -- A world as the laws have it, and the same as its callers see it.
-use Rattle.std.specs.Prelude.{◌≡◌, ℕ, ◌+◌, Bool, true, List, [], ◌∷◌, ◌++◌, map, Option, Some, None, is_some, Result, Ok, Err, ◌⊎◌}
+use Rattle.std.specs.Prelude.{◌≡◌, ℕ, ◌+◌, Bool, true, List, [], ◌∷◌, ◌++◌, map, Option, Some, None, is_some, slice_get, Result, Ok, Err, ◌⊎◌}
 use Rattle.std.specs.List.{Contains, filter, fold}
 use Rattle.sk_record.specs.Effects.{MarkedEffect}
 use Rattle.sk_record.specs.Run.{effects}
@@ -154,6 +154,34 @@ abbrev pub StoresStand : Exchanges → WorldView → WorldView → Type 0
 StoresStand served v later =
     (q : Sent) (r : Reply) (name : Bytes) (version : ℕ) (bytes : Bytes) → Contains served (q, r) → r.answer ≡ answers.Yes → q.ask ≡ asks.Store name version bytes → IsDue v q
     → StandsIn later.desk.kernel name version bytes
+
+-- the step of a store stands at this place of the record
+pub record StandsAt (k : KernelView) (place : ℕ) (name : Bytes) (version : ℕ) (bytes : Bytes) : Type 0 where
+  pub entry : EntryView
+  pub effect : MarkedEffect Entity EntityState Saying
+  pub there : slice_get (paired (record_at k) (effects (plain k.scripts) k.start (record_at k))) place ≡ Some (entry, effect)
+  pub input : entry.input ≡ inputs.Good
+  pub sets : Contains effect.written (CopyOf name, Some (copy_of (version + 1, bytes)))
+
+-- one of the exchanges is a store that was accepted and is due
+pub record DueStore (served : Exchanges) (v : WorldView) : Type 0 where
+  pub at : ℕ
+  pub request : Sent
+  pub reply : Reply
+  pub name : Bytes
+  pub version : ℕ
+  pub bytes : Bytes
+  pub there : slice_get served at ≡ Some (request, reply)
+  pub accepted : reply.answer ≡ answers.Yes
+  pub asks : request.ask ≡ asks.Store name version bytes
+  pub due : IsDue v request
+
+-- by its request's number each such store has a place of the record of a later world where its step stands, and no two
+-- of them have one place
+pub record StandApart (served : Exchanges) (v later : WorldView) : Type 0 where
+  pub place_of : ℕ → ℕ
+  pub stands : (s : DueStore served v) → StandsAt later.desk.kernel (place_of s.request.number) s.name s.version s.bytes
+  pub apart : (s t : DueStore served v) → place_of s.request.number ≡ place_of t.request.number → s.at ≡ t.at
 
 -- ---- the steps of asked requests
 

@@ -15,7 +15,7 @@ ghost use Rattle.sk_kernel.specs.Kernel.{booted};
 ghost use Rattle.sk_server.specs.Server.{ServerView};
 ghost use Rattle.sk_client.specs.Table.{Bytes, Caused, table, bare, begun, IsNumbered};
 ghost use Rattle.sk_client.specs.Desk.{opened};
-ghost use Rattle.sk_client.specs.LawWorld.{Exchanges, Leads, IsSeenAfter, StoresStand};
+ghost use Rattle.sk_client.specs.LawWorld.{Exchanges, Leads, IsSeenAfter, StoresStand, StandApart};
 ghost use Rattle.sk_client.specs.LawWorld.{StepsAreTaken, ForgottenAreDropped, writes_of, AreWritten};
 ghost use Rattle.sk_client.specs.WorldView.{WorldView, joined};
 ghost use Rattle.sk_client.specs.declared.world.WorldEvent.{WorldEvent};
@@ -81,6 +81,13 @@ pub fn accepted()
     ensures { (number : ℕ) (boot : BootView) (limit : ℕ) (server : ServerView) → IsNumbered boot → server.next ≡ 1 → server.refused ≡ []
         → (es : List WorldEvent) (served : Exchanges) (v : WorldView) → Leads (joined (opened (booted number boot limit)) server) es served v
         → (later : List WorldEvent) (more : Exchanges) (last : WorldView) → Leads v later more last → StoresStand served v last }
+{}
+
+/// No two accepted stores have one step: each has a place of the record where its step stands, and no two have one place.
+pub fn apart()
+    ensures { (number : ℕ) (boot : BootView) (limit : ℕ) (server : ServerView) → IsNumbered boot → server.next ≡ 1 → server.refused ≡ []
+        → (es : List WorldEvent) (served : Exchanges) (v : WorldView) → Leads (joined (opened (booted number boot limit)) server) es served v
+        → (later : List WorldEvent) (more : Exchanges) (last : WorldView) → Leads v later more last → StandApart served v last }
 {}
 
 /// No asked step is left out: after any list of a world's events, a reply that is answered by `Taken` has its step

@@ -22,7 +22,7 @@ use Rattle.sk_server.specs.declared.request.Ask.TheVariants as asks
 use Rattle.sk_server.specs.declared.reply.Answer.TheVariants as answers
 use Rattle.sk_server.specs.declared.reply.Reply.{Reply}
 use Rattle.sk_world.specs.Requests.{Good, Store, Yes, Request, Served}
-use Rattle.sk_world.specs.World.{Table, World, kernel, served, event}
+use Rattle.sk_world.specs.World.{Table, World, WorldEvent as LawEvent, kernel, served, event}
 use Rattle.sk_world.specs.Laws.{paired, Sets, IsDueStep, Stands}
 use Rattle.sk_world.proofs.Each.{cons_cases, cons_first, cons_later, no_member}
 use Rattle.sk_world.proofs.First.{accepted_stand}
@@ -37,7 +37,7 @@ use Rattle.sk_client.specs.declared.pending.PendingRequest.{PendingRequest}
 use Rattle.sk_client.specs.declared.world.WorldEvent.{WorldEvent}
 use Rattle.sk_client.proofs.Table.{is_table, begins}
 use Rattle.sk_client.proofs.SeenFacts.{steps_seen}
-use Rattle.sk_client.proofs.Seen.{law_after, reached, later_on}
+use Rattle.sk_client.proofs.Seen.{law_after, Reached, reached, later_on}
 
 -- ---- elements of lists
 
@@ -59,7 +59,7 @@ served_pending (q ∷ qs) (r ∷ rs) x h =
       | inr later ↦ let rest = served_pending qs rs x later in (rest.0, cons_later q qs rest.0 rest.1, rest.2)
     ]
 
-paired_map : {A B C : Type 0} (g : A → B) (xs : List A) (ys : List C) → map (λ p. (g p.0, p.1)) (paired xs ys) ≡ paired (map g xs) ys
+pub paired_map : {A B C : Type 0} (g : A → B) (xs : List A) (ys : List C) → map (λ p. (g p.0, p.1)) (paired xs ys) ≡ paired (map g xs) ys
 paired_map g [] ys = refl
 paired_map g (x ∷ xs) [] = refl
 paired_map g (x ∷ xs) (y ∷ ys) = ap (λ zs. (g x, y) ∷ zs) (paired_map g xs ys)
@@ -67,16 +67,16 @@ paired_map g (x ∷ xs) (y ∷ ys) = ap (λ zs. (g x, y) ∷ zs) (paired_map g x
 -- ---- what the laws say of a request
 
 -- a request of the laws that was served with Yes, told as the calls tell it
-record Found (w : World ℕ Bytes Bytes) (q : Sent) (name : Bytes) (version : ℕ) (bytes : Bytes) : Type 0 where
-  request : Request ℕ Bytes Bytes
-  there : Contains (served w) (request, Yes)
-  number : request.number ≡ q.number
-  asks : request.ask ≡ Store name version bytes
-  guess : request.guess ≡ q.guess
+pub record Found (w : World ℕ Bytes Bytes) (q : Sent) (name : Bytes) (version : ℕ) (bytes : Bytes) : Type 0 where
+  pub request : Request ℕ Bytes Bytes
+  pub there : Contains (served w) (request, Yes)
+  pub number : request.number ≡ q.number
+  pub asks : request.ask ≡ Store name version bytes
+  pub guess : request.guess ≡ q.guess
 
 module _ (xs : Exchanges) (w : World ℕ Bytes Bytes) (v : WorldView) (seen : IsSeen xs w v) (q : Sent) (r : Reply) (name : Bytes) (version : ℕ) (bytes : Bytes)
     (there : Contains xs (q, r)) (accepted : r.answer ≡ answers.Yes) (asks : q.ask ≡ asks.Store name version bytes) where
-  found : Found w q name version bytes
+  pub found : Found w q name version bytes
   found =
       let told = subst (λ ys. Contains ys (answered_here (q, r))) (sym seen.answered) (in_map answered_here xs (q, r) there) in
       let x = out_of_map answered_there (served w) (answered_here (q, r)) told in
@@ -106,7 +106,7 @@ module _ (xs : Exchanges) (w : World ℕ Bytes Bytes) (v : WorldView) (seen : Is
   abbrev K : KernelView
   K = v.desk.kernel
 
-  entries_seen : map bare (record_of (kernel (table v.desk.kernel.scripts v.desk.kernel.limit)) v.desk.kernel.start w.trace) ≡ record_at v.desk.kernel
+  pub entries_seen : map bare (record_of (kernel (table v.desk.kernel.scripts v.desk.kernel.limit)) v.desk.kernel.start w.trace) ≡ record_at v.desk.kernel
   entries_seen = (is_bare bare (plain K.scripts) K.start w.trace).entries ∙ ap (record_of (plain K.scripts) K.start) seen.trace
 
   stands_in : (q : Request ℕ Bytes Bytes) (name : Bytes) (version : ℕ) (bytes : Bytes) → q.ask ≡ Store name version bytes → Stands (table v.desk.kernel.scripts v.desk.kernel.limit) v.desk.kernel.start w q
@@ -133,17 +133,25 @@ module _ (boot : BootView) (limit : ℕ) (numbered : IsNumbered boot) (server : 
   abbrev S : Table Entity EntityState Saying Refusal ℕ Bytes Bytes
   S = table boot.scripts limit
 
+  -- a store's step in the world of the laws
+  pub its_step : (xs : Exchanges) (v : WorldView) (a : Reached boot limit numbered server [] xs v) (more : List (LawEvent ℕ Bytes Bytes)) (q : Sent) (r : Reply) (name : Bytes) (version : ℕ) (bytes : Bytes)
+      → (there : Contains xs (q, r)) (accepted : r.answer ≡ answers.Yes) (asks : q.ask ≡ asks.Store name version bytes) → IsDue v q
+      → Stands (table boot.scripts limit) (start_of boot) (law_after boot limit numbered server (a.since ++ more)) (found xs (law_after boot limit numbered server a.since) v a.fits.seen q r name version bytes there accepted asks).request
+  its_step xs v a more q r name version bytes there accepted asks is_due =
+      let w = law_after boot limit numbered server a.since in
+      let first = begun (λ name. law_content (file_of server.files name)) in
+      let f = found xs w v a.fits.seen q r name version bytes there accepted asks in
+      subst (λ (x : World ℕ Bytes Bytes). Stands S (start_of boot) x f.request) (sym (fold-append (event S (start_of boot)) first a.since more))
+      (accepted_stand S (start_of boot) (is_table boot.scripts limit boot numbered) first (begins boot limit (λ name. law_content (file_of server.files name))) a.since more
+      f.request name version bytes f.there f.asks (due xs w v a.fits.seen q r name version bytes there accepted asks f is_due))
+
   pub stores_stand : (number : ℕ) → server.next ≡ 1 → server.refused ≡ [] → (es : List WorldEvent) (xs : Exchanges) (v : WorldView) → Leads (joined (opened (booted number boot limit)) server) es xs v
       → (later : List WorldEvent) (ys : Exchanges) (last : WorldView) → Leads v later ys last → StoresStand xs v last
   stores_stand number next refused es xs v h later ys last more q r name version bytes there accepted asks is_due =
       let a = reached boot limit numbered server number next refused es xs v h in
       let b = later_on boot limit numbered server xs v a later ys last more in
-      let first = begun (λ name. law_content (file_of server.files name)) in
       let f = found xs (law_after boot limit numbered server a.since) v a.fits.seen q r name version bytes there accepted asks in
-      let stands = accepted_stand S (start_of boot) (is_table boot.scripts limit boot numbered) first (begins boot limit (λ name. law_content (file_of server.files name))) a.since b.since
-      f.request name version bytes f.there f.asks (due xs (law_after boot limit numbered server a.since) v a.fits.seen q r name version bytes there accepted asks f is_due) in
       let w = law_after boot limit numbered server (a.since ++ b.since) in
-      let here : Stands S (start_of boot) w f.request =
-      subst (λ (x : World ℕ Bytes Bytes). Stands S (start_of boot) x f.request) (sym (fold-append (event S (start_of boot)) first a.since b.since)) stands in
       stands_in (xs ++ ys) w last b.fits.seen f.request name version bytes f.asks
-      (subst (λ (k : ScriptMap × (State × ℕ)). Stands (table k.0 k.1.1) k.1.0 w f.request) (λ i. (sym b.scripts i, (sym b.start i, sym b.limit_is i))) here)
+      (subst (λ (k : ScriptMap × (State × ℕ)). Stands (table k.0 k.1.1) k.1.0 w f.request) (λ i. (sym b.scripts i, (sym b.start i, sym b.limit_is i)))
+      (its_step xs v a b.since q r name version bytes there accepted asks is_due))

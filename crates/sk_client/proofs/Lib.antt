@@ -15,3 +15,6 @@ pub mod SeenServe
 pub mod SeenReply
 pub mod Seen
 pub mod Accepted
+pub mod StoresApart
+pub mod AskedReplies
+pub mod Writes

@@ -187,10 +187,10 @@ module _ (xs : Exchanges) (w : World ℕ Bytes Bytes) (v : WorldView) (f : Fits 
   abbrev answered_one : World ℕ Bytes Bytes
   answered_one = with_given w (law_request o.request, law_answer r.answer) (law_served o.later rs)
 
-  kinds_now : AreFor (o.request ∷ o.later ++ v.desk.waiting)
+  pub kinds_now : AreFor (o.request ∷ o.later ++ v.desk.waiting)
   kinds_now = subst AreFor (ap (λ qs. qs ++ v.desk.waiting) o.taken) f.kinds
 
-  oldest_one : w.taken ≡ (law_request o.request, law_answer r.answer) ∷ law_served o.later rs
+  pub oldest_one : w.taken ≡ (law_request o.request, law_answer r.answer) ∷ law_served o.later rs
   oldest_one = f.seen.taken ∙ (λ i. law_served (o.taken i) (is i))
 
   without_fits : Fits xs (with_given w (law_request o.request, law_answer r.answer) (law_served o.later rs)) (record v { desk = record v.desk { taken = o.later }; replies = rs })
@@ -213,7 +213,7 @@ module _ (xs : Exchanges) (w : World ℕ Bytes Bytes) (v : WorldView) (f : Fits 
     kinds = kinds_now.1;
   }
 
-  has_place : o.request.guess ≡ None → trace_full v.desk.kernel 1 ≡ None
+  pub has_place : o.request.guess ≡ None → trace_full v.desk.kernel 1 ≡ None
   has_place none =
       let same = places_seen xs w v f.seen in
       let asked : asked_count (pending v.desk) ≡ asked_count (o.later ++ v.desk.waiting) + 1 = ap (λ qs. asked_count (qs ++ v.desk.waiting)) o.taken ∙ asked_more o.request (o.later ++ v.desk.waiting) none in

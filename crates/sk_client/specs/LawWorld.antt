@@ -1,6 +1,6 @@
 -- A world as the laws have it, and the same as its callers see it.
-use Rattle.std.specs.Prelude.{◌≡◌, ℕ, ◌+◌, List, [], ◌∷◌, ◌++◌, map, Option, Some, None, Result, Ok, ◌⊎◌}
-use Rattle.std.specs.List.{Contains}
+use Rattle.std.specs.Prelude.{◌≡◌, ℕ, ◌+◌, Bool, true, List, [], ◌∷◌, ◌++◌, map, Option, Some, None, is_some, slice_get, Result, Ok, Err, ◌⊎◌}
+use Rattle.std.specs.List.{Contains, filter, fold}
 use Rattle.sk_record.specs.Effects.{MarkedEffect}
 use Rattle.sk_record.specs.Run.{effects}
 use Rattle.sk_ids.specs.declared.entity.Entity.{Entity}
@@ -12,9 +12,10 @@ use Rattle.sk_script.specs.Boot.{BootView}
 use Rattle.sk_store.specs.Start.{start_of}
 use Rattle.sk_store.specs.declared.entity_state.EntityState.{EntityState}
 use Rattle.sk_trace.specs.Entry.{EntryView}
+use Rattle.sk_trace.specs.declared.event.Event.TheVariants.{Step}
 use Rattle.sk_plain.specs.Act.{Saying, plain}
-use Rattle.sk_kernel.specs.Kernel.{KernelView, events_of, record_at, last_guess}
-use Rattle.sk_server.specs.Files.{file_of}
+use Rattle.sk_kernel.specs.Kernel.{KernelView, events_of, record_at, last_guess, step_refused, with_event}
+use Rattle.sk_server.specs.Files.{FileMap, file_of, is_fitting, written}
 use Rattle.sk_server.specs.Server.{ServerView}
 use Rattle.sk_server.specs.declared.request.Request.{Request as Sent}
 use Rattle.sk_server.specs.declared.request.Ask.{Ask}
@@ -27,9 +28,10 @@ use Rattle.sk_world.specs.World.{World, WorldEvent as LawEvent, world_after}
 use Rattle.sk_world.specs.Labels.{bare_event}
 use Rattle.sk_world.specs.Laws.{paired}
 use Rattle.sk_client.specs.Table.{Bytes, bare, table, begun, copy_of}
-use Rattle.sk_client.specs.Desk.{pending, kept_for}
+use Rattle.sk_client.specs.Desk.{pending, kept_for, entry, input_of}
 use Rattle.sk_client.specs.WorldView.{WorldView, taken_by, EventPost}
 use Rattle.sk_client.specs.declared.pending.PendingRequest.{PendingRequest}
+use Rattle.sk_client.specs.declared.desk.Given.TheVariants as gives
 use Rattle.sk_client.specs.declared.world.WorldEvent.{WorldEvent}
 use Rattle.sk_client.specs.declared.world.WorldEvent.TheVariants as events
 use Rattle.sk_client.specs.declared.world.WorldAnswer.{WorldAnswer}
@@ -152,3 +154,107 @@ abbrev pub StoresStand : Exchanges → WorldView → WorldView → Type 0
 StoresStand served v later =
     (q : Sent) (r : Reply) (name : Bytes) (version : ℕ) (bytes : Bytes) → Contains served (q, r) → r.answer ≡ answers.Yes → q.ask ≡ asks.Store name version bytes → IsDue v q
     → StandsIn later.desk.kernel name version bytes
+
+-- the step of a store stands at this place of the record
+pub record StandsAt (k : KernelView) (place : ℕ) (name : Bytes) (version : ℕ) (bytes : Bytes) : Type 0 where
+  pub entry : EntryView
+  pub effect : MarkedEffect Entity EntityState Saying
+  pub there : slice_get (paired (record_at k) (effects (plain k.scripts) k.start (record_at k))) place ≡ Some (entry, effect)
+  pub input : entry.input ≡ inputs.Good
+  pub sets : Contains effect.written (CopyOf name, Some (copy_of (version + 1, bytes)))
+
+-- one of the exchanges is a store that was accepted and is due
+pub record DueStore (served : Exchanges) (v : WorldView) : Type 0 where
+  pub at : ℕ
+  pub request : Sent
+  pub reply : Reply
+  pub name : Bytes
+  pub version : ℕ
+  pub bytes : Bytes
+  pub there : slice_get served at ≡ Some (request, reply)
+  pub accepted : reply.answer ≡ answers.Yes
+  pub asks : request.ask ≡ asks.Store name version bytes
+  pub due : IsDue v request
+
+-- by its request's number each such store has a place of the record of a later world where its step stands, and no two
+-- of them have one place
+pub record StandApart (served : Exchanges) (v later : WorldView) : Type 0 where
+  pub place_of : ℕ → ℕ
+  pub stands : (s : DueStore served v) → StandsAt later.desk.kernel (place_of s.request.number) s.name s.version s.bytes
+  pub apart : (s t : DueStore served v) → place_of s.request.number ≡ place_of t.request.number → s.at ≡ t.at
+
+-- ---- the steps of asked requests
+
+-- the oldest reply is to an asked request of this number: the kernel accepts its step with what the reply gives, and takes it
+pub record TakesStep (v : WorldView) (number : ℕ) (next : WorldView) : Type 0 where
+  pub request : PendingRequest
+  pub reply : Reply
+  pub input : Input
+  pub oldest : v.desk.taken ≡ request ∷ next.desk.taken
+  pub its_reply : v.replies ≡ reply ∷ next.replies
+  pub number_is : request.number ≡ number
+  pub asked : request.guess ≡ None
+  pub given : input_of reply.answer ≡ Some input
+  pub accepted : step_refused v.desk.kernel (entry request.process input None) ≡ None
+  pub kernel : next.desk.kernel ≡ with_event v.desk.kernel (Step request.process input)
+
+-- where a reply is answered by Taken, the step was taken
+abbrev pub StepsAreTaken : WorldView → Type 0
+StepsAreTaken v = (number : ℕ) (next : WorldView) → EventPost (Ok (told.Given (gives.Taken number))) v events.Reply next → TakesStep v number next
+
+-- and where by Forgotten, the server dropped the request
+abbrev pub ForgottenAreDropped : WorldView → Type 0
+ForgottenAreDropped v =
+    (number : ℕ) (next : WorldView) → EventPost (Ok (told.Given (gives.Forgotten number))) v events.Reply next
+    → (r : Reply) × (v.replies ≡ r ∷ next.replies) × (r.answer ≡ answers.Dropped)
+
+-- ---- the server's files
+
+-- a write of a file that has this version: a foreign edit, or the store of a request
+pub record Write : Type 0 where
+  pub name : Bytes
+  pub expected : ℕ
+  pub bytes : Bytes
+  pub store : Option Sent
+
+abbrev pub is_store : Write → Bool
+is_store w = is_some w.store
+
+-- an edit writes where it is answered so
+abbrev pub edit_of : Result WorldAnswer Cause → Bytes → ℕ → Bytes → List Write
+edit_of (Ok answer) name expected bytes = record { name = name; expected = expected; bytes = bytes; store = None } ∷ []
+edit_of (Err why) name expected bytes = []
+
+-- a store writes where it is accepted
+abbrev pub store_of : Sent → Ask → Answer → List Write
+store_of q (asks.Store name version bytes) answers.Yes = record { name = name; expected = version; bytes = bytes; store = Some q } ∷ []
+store_of q ask answer = []
+
+abbrev pub stores_of : Exchanges → List Write
+stores_of [] = []
+stores_of (x ∷ xs) = store_of x.0 x.0.ask x.1.answer ++ stores_of xs
+
+-- what an event writes, and what these events write
+abbrev pub written_by : Result WorldAnswer Cause → WorldView → WorldEvent → List Write
+written_by answer w (events.Edit name expected bytes) = edit_of answer name expected bytes
+written_by answer w e = stores_of (exchanged answer w e)
+
+abbrev pub writes_of : (w : WorldView) (es : List WorldEvent) (served : Exchanges) (last : WorldView) → Leads w es served last → List Write
+writes_of w [] served last h = []
+writes_of w (e ∷ es) served last h = written_by h.0 w e ++ writes_of h.1 es h.2 last h.4
+
+-- the files after each write in order
+abbrev pub all_written : FileMap → List Write → FileMap
+all_written files ws = fold (λ files w. written files w.name w.expected w.bytes) files ws
+
+-- each write expects the version that its file has then, which is not the last one
+abbrev pub AllFit : FileMap → List Write → Type 0
+AllFit files [] = Unit {0}
+AllFit files (w ∷ ws) = (is_fitting files w.name w.expected ≡ true) × AllFit (written files w.name w.expected w.bytes) ws
+
+-- a world's files are those of an earlier one after these writes, of which the stores are the accepted ones of what was
+-- served, in the server's order
+pub record AreWritten (first : WorldView) (ws : List Write) (served : Exchanges) (last : WorldView) : Type 0 where
+  pub files : last.server.files ≡ all_written first.server.files ws
+  pub fit : AllFit first.server.files ws
+  pub stores : filter is_store ws ≡ stores_of served

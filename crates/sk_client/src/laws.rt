@@ -10,12 +10,13 @@ ghost use Rattle.sk_world.specs.Requests.{Content};
 ghost use Rattle.sk_world.specs.World.{kernel};
 ghost use Rattle.sk_world.specs.Labels.{labelled, IsBare};
 ghost use Rattle.sk_world.specs.Laws.{IsFirst, AcceptedStand, AcceptedStood};
-ghost use Rattle.sk_world.specs.Laws.{FilesAreChanged, StoresAreReplied, PlacesAreKept};
+ghost use Rattle.sk_world.specs.Laws.{FilesAreChanged, StoresAreReplied, PlacesAreKept, AskedAreTaken};
 ghost use Rattle.sk_kernel.specs.Kernel.{booted};
 ghost use Rattle.sk_server.specs.Server.{ServerView};
 ghost use Rattle.sk_client.specs.Table.{Bytes, Caused, table, bare, begun, IsNumbered};
 ghost use Rattle.sk_client.specs.Desk.{opened};
-ghost use Rattle.sk_client.specs.LawWorld.{Exchanges, Leads, IsSeenAfter, StoresStand};
+ghost use Rattle.sk_client.specs.LawWorld.{Exchanges, Leads, IsSeenAfter, StoresStand, StandApart};
+ghost use Rattle.sk_client.specs.LawWorld.{StepsAreTaken, ForgottenAreDropped, writes_of, AreWritten};
 ghost use Rattle.sk_client.specs.WorldView.{WorldView, joined};
 ghost use Rattle.sk_client.specs.declared.world.WorldEvent.{WorldEvent};
 
@@ -46,6 +47,13 @@ pub fn places()
         → PlacesAreKept (table boot.scripts limit) (start_of boot) }
 {}
 
+/// The step of an asked request is never refused: where the reply that comes next is to a request without a guess and
+/// gives it an input, the kernel accepts the step and the trace takes it.
+pub fn asked()
+    ensures { (boot : BootView) (limit : ℕ) → IsNumbered boot
+        → AskedAreTaken (table boot.scripts limit) (start_of boot) }
+{}
+
 /// The kernel of a world is the plain kernel: at a trace whose entries are bare of their causes it has the same record,
 /// state, steps and undecided guesses.
 pub fn kernels()
@@ -73,6 +81,33 @@ pub fn accepted()
     ensures { (number : ℕ) (boot : BootView) (limit : ℕ) (server : ServerView) → IsNumbered boot → server.next ≡ 1 → server.refused ≡ []
         → (es : List WorldEvent) (served : Exchanges) (v : WorldView) → Leads (joined (opened (booted number boot limit)) server) es served v
         → (later : List WorldEvent) (more : Exchanges) (last : WorldView) → Leads v later more last → StoresStand served v last }
+{}
+
+/// No two accepted stores have one step: each has a place of the record where its step stands, and no two have one place.
+pub fn apart()
+    ensures { (number : ℕ) (boot : BootView) (limit : ℕ) (server : ServerView) → IsNumbered boot → server.next ≡ 1 → server.refused ≡ []
+        → (es : List WorldEvent) (served : Exchanges) (v : WorldView) → Leads (joined (opened (booted number boot limit)) server) es served v
+        → (later : List WorldEvent) (more : Exchanges) (last : WorldView) → Leads v later more last → StandApart served v last }
+{}
+
+/// No asked step is left out: after any list of a world's events, a reply that is answered by `Taken` has its step
+/// accepted by the kernel and in the trace, and one that is answered by `Forgotten` says that the server dropped the
+/// request.
+pub fn taken()
+    ensures steps { (number : ℕ) (boot : BootView) (limit : ℕ) (server : ServerView) → IsNumbered boot → server.next ≡ 1 → server.refused ≡ []
+        → (es : List WorldEvent) (served : Exchanges) (v : WorldView) → Leads (joined (opened (booted number boot limit)) server) es served v
+        → StepsAreTaken v }
+    ensures forgotten { (number : ℕ) (boot : BootView) (limit : ℕ) (server : ServerView) → IsNumbered boot → server.next ≡ 1 → server.refused ≡ []
+        → (es : List WorldEvent) (served : Exchanges) (v : WorldView) → Leads (joined (opened (booted number boot limit)) server) es served v
+        → ForgottenAreDropped v }
+{}
+
+/// The server's files after any list of a world's events are the first ones after each write in order: the foreign edits
+/// that were answered `Ok`, and just the stores that the server accepted. Each write expects the version that its file has
+/// then.
+pub fn files()
+    ensures { (w : WorldView) (es : List WorldEvent) (served : Exchanges) (last : WorldView) → (h : Leads w es served last)
+        → AreWritten w (writes_of w es served last h) served last }
 {}
 
 /// The numbers of a boot's processes are as the laws ask.

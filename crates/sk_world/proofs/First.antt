@@ -32,7 +32,7 @@ once_before : {P M D : Type 0} (ns : List (Entry P M D)) → ((n : Entry P M D) 
 once_before [] h = tt
 once_before (n ∷ ns) h = ((λ o there q r n_is o_is same. (let both : Before ≡ For q = sym (h n (cons_first n ns)) ∙ n_is in cc)), once_before ns (λ o there. h o (cons_later n ns o there)))
 
-contains_at : {A : Type 0} (xs : List A) (i : ℕ) (x : A) → slice_get xs i ≡ Some x → Contains xs x
+pub contains_at : {A : Type 0} (xs : List A) (i : ℕ) (x : A) → slice_get xs i ≡ Some x → Contains xs x
 contains_at [] i x at = cc
 contains_at (y ∷ xs) zero x at = let is : y ≡ x = cc in subst (Contains (y ∷ xs)) is (cons_first y xs)
 contains_at (y ∷ xs) (suc i) x at = cons_later y xs x (contains_at xs i x at)
@@ -53,7 +53,7 @@ module _ {P M D : Type 0} where
       let is : x ≡ o = cc in absurd (h.0 n (contains_at ns i n at_i) r q (ap (λ (n : Entry P M D). n.cause) is ∙ o_is) n_is (sym same))
   once_places (x ∷ ns) h (suc i) (suc j) n o q r at_i at_j n_is o_is same = ap suc (once_places ns h.1 i j n o q r at_i at_j n_is o_is same)
 
-  rising_places : (xs : List (Served P M D)) (zs : List (Request P M D)) → Rising (map (λ x. x.0) xs ++ zs) → (i j : ℕ) (x y : Served P M D) → slice_get xs i ≡ Some x → slice_get xs j ≡ Some y
+  pub rising_places : (xs : List (Served P M D)) (zs : List (Request P M D)) → Rising (map (λ x. x.0) xs ++ zs) → (i j : ℕ) (x y : Served P M D) → slice_get xs i ≡ Some x → slice_get xs j ≡ Some y
       → x.0.number ≡ y.0.number → i ≡ j
   rising_places [] zs h i j x y at_i at_j same = cc
   rising_places (z ∷ xs) zs h zero zero x y at_i at_j same = refl

@@ -7,6 +7,7 @@ pub mod KernelEvents
 pub mod RequestEvents
 pub mod Worlds
 pub mod First
+pub mod AskedSteps
 pub mod PlaceFacts
 pub mod RequestFacts
 pub mod Labels

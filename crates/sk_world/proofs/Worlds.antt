@@ -29,7 +29,7 @@ asked_none : (o : Option ℕ) → o ≡ None → is_asked o ≡ true
 asked_none o is = ap is_asked is
 
 -- the step that an asked request's answer gives is accepted
-takes_by : {E V W F P M D : Type 0} (S : Table E V W F P M D) (start s : FinMap S.order V) (p : P) (ask : Ask M D) (ans : Answer D) (x : Input D) → ReadyFor S start s p ask → input_of ask ans ≡ Some x
+pub takes_by : {E V W F P M D : Type 0} (S : Table E V W F P M D) (start s : FinMap S.order V) (p : P) (ask : Ask M D) (ans : Answer D) (x : Input D) → ReadyFor S start s p ask → input_of ask ans ≡ Some x
     → ((m : M) (v : ℕ) (b : D) → ask ≡ Store m v b → ans ≡ Yes → v < S.last) → Takes S s p ask x
 takes_by S start s p (Get m) (Copy c) x ready is fits = let same : Fresh c ≡ x = cc in subst (Takes S s p (Get m)) same (ready c)
 takes_by S start s p (Get m) Yes x ready is fits = cc
@@ -164,7 +164,7 @@ module _ {E V W F P M D : Type 0} (S : Table E V W F P M D) (start : FinMap S.or
         ]
       ]
 
-  not_void : (es : List (Event (Entry P M D))) (d : ℕ) (served given : List (Served P M D)) (pending waiting : List (Request P M D)) (memory : List ℕ)
+  pub not_void : (es : List (Event (Entry P M D))) (d : ℕ) (served given : List (Served P M D)) (pending waiting : List (Request P M D)) (memory : List ℕ)
       → Invariant S start es d served given pending waiting memory → (x : Served P M D) → Contains served x → (x.1 ≡ Dropped → ⊥) → is_void S start es x.0 ≡ true → ⊥
   not_void es d served given pending waiting memory i x there kept void =
       let y = any_from (is_lost S start es) x.0.rests void in

@@ -1,15 +1,15 @@
 -- What the instruction table has to say, what holds where a world begins, and the laws.
-use Rattle.std.specs.Prelude.{length, ◌≡◌, ℕ, suc, ◌≤◌, ◌<◌, true, List, [], ◌∷◌, ◌++◌, map, Option, Some, None, Ok, ◌⊎◌, slice_get}
+use Rattle.std.specs.Prelude.{length, ◌≡◌, ℕ, suc, ◌≤◌, ◌<◌, true, List, [], ◌∷◌, ◌++◌, map, Option, Some, None, Ok, IsOk, ◌⊎◌, slice_get}
 use Rattle.std.specs.List.{Contains}
 use Rattle.std.specs.Cmp.{IsTotalOrder}
 use Rattle.std.specs.FinMap.{FinMap, get, IsAntisymmetric}
 use Rattle.sk_record.specs.Step.{Effect}
 use Rattle.sk_record.specs.Effects.{MarkedEffect}
 use Rattle.sk_record.specs.Run.{outcome, run, effects, IsLegal}
-use Rattle.sk_record.specs.Trace.{Commit, IsDrawn, IsSound, record_of}
+use Rattle.sk_record.specs.Trace.{Taken, Commit, IsDrawn, IsSound, record_of}
 use Rattle.sk_world.specs.Requests.{Content, Input, Nothing, Good, Fresh, Stale, Ask, Get, Check, Store, Yes, Request, Before, For, Entry, Served, name_of}
 use Rattle.sk_world.specs.Server.{Change, all_changed, AllFit, accepted}
-use Rattle.sk_world.specs.World.{Written, Due, Fetches, Stores, Table, World, WorldEvent, kernel, own, undecided, pending, served, places, world_after, or_zero}
+use Rattle.sk_world.specs.World.{Written, Due, Fetches, Stores, Table, World, WorldEvent, Reply, kernel, own, asked_entry, input_of, state, undecided, pending, served, places, event, world_after, or_zero}
 
 -- parts of two lists, side by side
 abbrev pub paired : {A B : Type 0} → List A → List B → List (A × B)
@@ -170,6 +170,17 @@ module _ {E V W F P M D : Type 0} (S : Table E V W F P M D) where
         (first : World P M D) → IsFirst first → (es : List (WorldEvent P M D))
         → let w = world_after S start first es in
         places S start w.trace (pending w) ≤ S.limit
+
+    -- the step of an asked request is never refused: where its reply comes next and gives it an input, the kernel
+    -- accepts the step and the trace takes it
+    abbrev pub AskedAreTaken : Type 0
+    AskedAreTaken =
+        (first : World P M D) → IsFirst first → (es : List (WorldEvent P M D))
+        → let w = world_after S start first es in
+        (x : Served P M D) (rest : List (Served P M D)) (input : Input D)
+        → w.taken ≡ x ∷ rest → x.0.guess ≡ None → input_of x.0.ask x.1 ≡ Some input
+        → IsOk (outcome (kernel S) (state S start w.trace) (asked_entry x.0 input))
+        × ((event S start w Reply).trace ≡ w.trace ++ Taken (asked_entry x.0 input) ∷ [])
 
     -- steps with Good that count: they were asked, or their guess committed
     abbrev pub Counts : World P M D → Entry P M D → Type 0

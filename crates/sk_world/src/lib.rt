@@ -9,7 +9,7 @@ ghost use Rattle.std.specs.Ordering.{nat_cmp};
 ghost use Rattle.sk_world.specs.Example.{Value, example, begun};
 ghost use Rattle.sk_world.specs.World.{Table};
 ghost use Rattle.sk_world.specs.Laws.{IsTable, IsFirst, AcceptedStand, AcceptedStood};
-ghost use Rattle.sk_world.specs.Laws.{FilesAreChanged, StoresAreReplied, PlacesAreKept};
+ghost use Rattle.sk_world.specs.Laws.{FilesAreChanged, StoresAreReplied, PlacesAreKept, AskedAreTaken};
 
 /// The step of each store that the server accepted stands in the record after every list of events: from its guess on, or
 /// from its reply on where it was asked. The server's files are the plain server's after the foreign edits and just those
@@ -34,6 +34,13 @@ pub fn replied()
 pub fn places()
     ensures { (S : Table ℕ ℕ ℕ ℕ ℕ ℕ ℕ) (start : FinMap S.order ℕ)
         → IsTable S start → PlacesAreKept S start }
+{}
+
+/// The step of an asked request is never refused: where the reply that comes next is to a request without a guess and
+/// gives it an input, the kernel accepts the step and the trace takes it.
+pub fn asked()
+    ensures { (S : Table ℕ ℕ ℕ ℕ ℕ ℕ ℕ) (start : FinMap S.order ℕ)
+        → IsTable S start → AskedAreTaken S start }
 {}
 
 /// The premises can be met: by a table of two instructions, and a world where nothing has happened.

@@ -1,0 +1,152 @@
+-- The server's files after any list of a world's events.
+use Rattle.std.proofs.Common.{◌≡◌, ℕ, true, false, cond, List, [], ◌∷◌, ◌++◌, Option, Some, None, Result, Ok, Err, refl, sym, ◌∙◌, ap, subst}
+use Rattle.std.specs.Prelude.{◌==◌}
+use Rattle.std.proofs.lemmas.List.{append_assoc}
+use Rattle.std.proofs.lemmas.List.Elements.{filter-append}
+use Rattle.std.proofs.lemmas.List.Sums.{fold-append}
+use Rattle.sk_server.specs.Files.{FileMap, file_of, is_fitting, written}
+use Rattle.sk_server.specs.Server.{ServerView, is_dropped, remembered, judged, answer_to, files_after}
+use Rattle.sk_server.specs.declared.request.Request.{Request as Sent}
+use Rattle.sk_server.specs.declared.request.Ask.{Ask}
+use Rattle.sk_server.specs.declared.request.Ask.TheVariants as asks
+use Rattle.sk_server.specs.declared.reply.Answer.{Answer}
+use Rattle.sk_server.specs.declared.reply.Answer.TheVariants as answers
+use Rattle.sk_server.specs.declared.reply.Reply.{Reply}
+use Rattle.sk_client.specs.LawWorld.{Exchanges, with_reply, exchange, exchanged, Leads, Write, is_store, store_of, stores_of, written_by, writes_of, all_written, AllFit, AreWritten}
+use Rattle.sk_client.specs.WorldView.{WorldView, taken_by, taken_from, reply_to, served, Serves, Replies, Turns, EditsFile, EventPost}
+use Rattle.sk_client.specs.declared.pending.PendingRequest.{PendingRequest}
+use Rattle.sk_client.specs.declared.world.WorldEvent.{WorldEvent}
+use Rattle.sk_client.specs.declared.world.WorldEvent.TheVariants as events
+use Rattle.sk_client.specs.declared.world.WorldAnswer.{WorldAnswer}
+use Rattle.sk_client.specs.declared.world.WorldAnswer.TheVariants as told
+use Rattle.sk_client.specs.declared.world.Cause.{Cause}
+use Rattle.sk_client.specs.declared.world.Cause.TheVariants as causes
+
+-- ---- one list of writes after another
+
+fit_more : (files : FileMap) (ws vs : List Write) → AllFit files ws → AllFit (all_written files ws) vs → AllFit files (ws ++ vs)
+fit_more files [] vs h g = g
+fit_more files (w ∷ ws) vs h g = (h.0, fit_more (written files w.name w.expected w.bytes) ws vs h.1 g)
+
+stores_more : (xs ys : Exchanges) → stores_of (xs ++ ys) ≡ stores_of xs ++ stores_of ys
+stores_more [] ys = refl
+stores_more (x ∷ xs) ys = ap (λ ws. store_of x.0 x.0.ask x.1.answer ++ ws) (stores_more xs ys) ∙ sym (append_assoc (store_of x.0 x.0.ask x.1.answer) (stores_of xs) (stores_of ys))
+
+then : (w v last : WorldView) (ws vs : List Write) (xs ys : Exchanges) → AreWritten w ws xs v → AreWritten v vs ys last → AreWritten w (ws ++ vs) (xs ++ ys) last
+then w v last ws vs xs ys a b = record {
+  files =
+      b.files
+      ∙ ap (λ files. all_written files vs) a.files
+      ∙ sym (fold-append (λ (files : FileMap) (x : Write). written files x.name x.expected x.bytes) w.server.files ws vs);
+  fit = fit_more w.server.files ws vs a.fit (subst (λ files. AllFit files vs) a.files b.fit);
+  stores = filter-append is_store ws vs ∙ (λ i. a.stores i ++ b.stores i) ∙ sym (stores_more xs ys);
+}
+
+nothing : (w new : WorldView) → new.server ≡ w.server → AreWritten w [] [] new
+nothing w new same = record { files = ap (λ (s : ServerView). s.files) same; fit = tt; stores = refl }
+
+-- ---- turns, replies and edits
+
+turns : (answer : Result WorldAnswer Cause) (w new : WorldView) (p : ℕ) → Turns answer w p new → new.server ≡ w.server
+turns (Ok (told.Turn turn)) w new p h = ap (λ (x : WorldView). x.server) h.1
+turns (Ok (told.Served reply)) w new p h = absurd h
+turns (Ok (told.Given given)) w new p h = absurd h
+turns (Ok (told.Edited version)) w new p h = absurd h
+turns (Err (causes.Turn why)) w new p h = ap (λ (x : WorldView). x.server) h.1
+turns (Err causes.Idle) w new p h = absurd h
+turns (Err (causes.Edit why)) w new p h = absurd h
+turns (Err causes.Memory) w new p h = absurd h
+
+replies : (answer : Result WorldAnswer Cause) (w new : WorldView) (rs : List Reply) → Replies answer w new rs → new.server ≡ w.server
+replies answer w new [] h = ap (λ (x : WorldView). x.server) h.1
+replies (Ok (told.Turn turn)) w new (r ∷ rs) h = absurd h
+replies (Ok (told.Served reply)) w new (r ∷ rs) h = absurd h
+replies (Ok (told.Given given)) w new (r ∷ rs) h = ap (λ (x : WorldView). x.server) h.1
+replies (Ok (told.Edited version)) w new (r ∷ rs) h = absurd h
+replies (Err why) w new (r ∷ rs) h = ap (λ (x : WorldView). x.server) h.2
+
+edits : (answer : Result WorldAnswer Cause) (w new : WorldView) (name : List ℕ) (expected : ℕ) (bytes : List ℕ) → EditsFile answer w name expected bytes new
+    → AreWritten w (written_by answer w (events.Edit name expected bytes)) [] new
+edits (Ok (told.Turn turn)) w new name expected bytes h = absurd h
+edits (Ok (told.Served reply)) w new name expected bytes h = absurd h
+edits (Ok (told.Given given)) w new name expected bytes h = absurd h
+edits (Ok (told.Edited version)) w new name expected bytes h = record { files = ap (λ (s : ServerView). s.files) h.0.2; fit = (h.0.0, tt); stores = refl }
+edits (Err (causes.Turn why)) w new name expected bytes h = absurd h
+edits (Err causes.Idle) w new name expected bytes h = absurd h
+edits (Err (causes.Edit why)) w new name expected bytes h = nothing w new (ap (λ (x : WorldView). x.server) h.1)
+edits (Err causes.Memory) w new name expected bytes h = absurd h
+
+-- ---- the server's answer
+
+took : (w : WorldView) (qs : List PendingRequest) → (taken_from w qs).server ≡ w.server
+took w [] = refl
+took w (q ∷ qs) = refl
+
+took_any : (w : WorldView) (b : Option Sent) → (taken_by w b).server ≡ w.server
+took_any w (Some q) = refl
+took_any w None = took w w.desk.waiting
+
+-- a store that is accepted fits
+abbrev Fitting : FileMap → Ask → Answer → Type 0
+Fitting files (asks.Store name version bytes) answers.Yes = is_fitting files name version ≡ true
+Fitting files ask answer = Unit {0}
+
+dropped_fits : (files : FileMap) (ask : Ask) → Fitting files ask answers.Dropped
+dropped_fits files (asks.Get name) = tt
+dropped_fits files (asks.Check name version) = tt
+dropped_fits files (asks.Store name version bytes) = tt
+
+judged_fits : (files : FileMap) (ask : Ask) → Fitting files ask (judged files ask)
+judged_fits files (asks.Get name) = tt
+judged_fits files (asks.Check name version) = elim ((file_of files name).version == version) as (λ b. Fitting files (asks.Check name version) (cond b answers.Yes (answers.No (file_of files name)))) [ true ↦ tt | false ↦ tt ]
+judged_fits files (asks.Store name version bytes) =
+    elim (is_fitting files name version) as (λ b. is_fitting files name version ≡ b → Fitting files (asks.Store name version bytes) (cond b answers.Yes (answers.No (file_of files name)))) [
+      | true ↦ λ is. is
+      | false ↦ λ is. tt
+    ] refl
+
+answer_fits : (s : ServerView) (q : Sent) → Fitting s.files q.ask (answer_to s q)
+answer_fits s q = elim (is_dropped q (remembered q s.refused)) as (λ b. Fitting s.files q.ask (cond b answers.Dropped (judged s.files q.ask))) [
+  | true ↦ dropped_fits s.files q.ask
+  | false ↦ judged_fits s.files q.ask
+]
+
+-- what the answer writes
+by_answer : (w : WorldView) (new : WorldView) (q : Sent) (r : Reply) (ask : Ask) (a : Answer) → q.ask ≡ ask → r.answer ≡ a → new.server.files ≡ files_after w.server.files ask a → Fitting w.server.files ask a
+    → AreWritten w (store_of q ask a ++ []) ((q, r) ∷ []) new
+by_answer w new q r (asks.Get name) a ask answer is fits = record { files = is; fit = tt; stores = (λ i. store_of q (sym ask i) (sym answer i) ++ []) }
+by_answer w new q r (asks.Check name version) a ask answer is fits = record { files = is; fit = tt; stores = (λ i. store_of q (sym ask i) (sym answer i) ++ []) }
+by_answer w new q r (asks.Store name version bytes) answers.Yes ask answer is fits = record { files = is; fit = (fits, tt); stores = (λ i. store_of q (sym ask i) (sym answer i) ++ []) }
+by_answer w new q r (asks.Store name version bytes) (answers.No c) ask answer is fits = record { files = is; fit = tt; stores = (λ i. store_of q (sym ask i) (sym answer i) ++ []) }
+by_answer w new q r (asks.Store name version bytes) (answers.Copy c) ask answer is fits = record { files = is; fit = tt; stores = (λ i. store_of q (sym ask i) (sym answer i) ++ []) }
+by_answer w new q r (asks.Store name version bytes) answers.Dropped ask answer is fits = record { files = is; fit = tt; stores = (λ i. store_of q (sym ask i) (sym answer i) ++ []) }
+
+serves : (answer : Result WorldAnswer Cause) (w new : WorldView) (b : Option Sent) → Serves answer w new b → AreWritten w (stores_of (exchange b answer)) (exchange b answer) new
+serves answer w new None h = nothing w new (ap (λ (x : WorldView). x.server) h.1)
+serves (Ok x) w new (Some q) h =
+    subst (λ (y : WorldAnswer). AreWritten w (stores_of (with_reply q (Ok y))) (with_reply q (Ok y)) new) (sym h.0)
+    (by_answer w new q (reply_to w.server q) q.ask (answer_to w.server q) refl refl (ap (λ (y : WorldView). y.server.files) h.1) (answer_fits w.server q))
+serves (Err why) w new (Some q) h = nothing w new (ap (λ (x : WorldView). x.server) h.1)
+
+-- ---- all events
+
+one : (answer : Result WorldAnswer Cause) (w : WorldView) (e : WorldEvent) (new : WorldView) → EventPost answer w e new → AreWritten w (written_by answer w e) (exchanged answer w e) new
+one answer w (events.Turn p) new h = nothing w new (turns answer w new p h)
+one answer w events.Serve new h =
+    let t = taken_by w w.back in
+    let a : AreWritten t (stores_of (exchange t.back answer)) (exchange t.back answer) new = serves answer t new t.back h in
+    let same : t.server ≡ w.server = took_any w w.back in
+    record {
+      files = a.files ∙ ap (λ (s : ServerView). all_written s.files (stores_of (exchange t.back answer))) same;
+      fit = subst (λ (s : ServerView). AllFit s.files (stores_of (exchange t.back answer))) same a.fit;
+      stores = a.stores;
+    }
+one answer w events.Reply new h = nothing w new (replies answer w new w.replies h)
+one answer w (events.Edit name expected bytes) new h = edits answer w new name expected bytes h
+
+pub all_are_written : (w : WorldView) (es : List WorldEvent) (served : Exchanges) (last : WorldView) (h : Leads w es served last) → AreWritten w (writes_of w es served last h) served last
+all_are_written w [] served last h =
+    subst (λ (xs : Exchanges). AreWritten w [] xs last) (sym h.0) (nothing w last (ap (λ (x : WorldView). x.server) h.1))
+all_are_written w (e ∷ es) served last h =
+    subst (λ (xs : Exchanges). AreWritten w (writes_of w (e ∷ es) served last h) xs last) (sym h.5)
+    (then w h.1 last (written_by h.0 w e) (writes_of h.1 es h.2 last h.4) (exchanged h.0 w e) h.2 (one h.0 w e h.1 h.3) (all_are_written h.1 es h.2 last h.4))

@@ -65,6 +65,10 @@ opened k = record { kernel = k; taken = []; waiting = []; next = 1; kept = [] }
 abbrev pub pending : DeskView → List PendingRequest
 pending d = d.taken ++ d.waiting
 
+-- how many requests were taken: those that were made, but for those that wait
+abbrev pub requests_taken : DeskView → ℕ
+requests_taken d = d.next - 1 - length d.waiting
+
 -- ---- asked requests
 
 abbrev pub is_asked : PendingRequest → Bool

@@ -4,7 +4,7 @@ ghost use Rattle.std.specs.VecDeque.{deque_capacity};
 ghost use Rattle.sk_plain.specs.Refusal.{cause};
 ghost use Rattle.sk_kernel.specs.Kernel.{undecided_at, room};
 ghost use Rattle.sk_server.specs.declared.server.TheConstants.{LAST_REQUEST};
-ghost use Rattle.sk_client.specs.Desk.{opened, pending, asks_for, asks_on, asked_count, kept_for, forgotten, kept_after, answer_kept, cached, buffer, rule, rule_next, guess_refused_at, rests_of, request_of, first_sent, first_taken, first_guess, expected, fits_ask, reply_refused, is_lost, lost_by, is_void, given, given_answer, decision_answer, input_of};
+ghost use Rattle.sk_client.specs.Desk.{opened, pending, requests_taken, asks_for, asks_on, asked_count, kept_for, forgotten, kept_after, answer_kept, cached, buffer, rule, rule_next, guess_refused_at, rests_of, request_of, first_sent, first_taken, first_guess, expected, fits_ask, reply_refused, is_lost, lost_by, is_void, given, given_answer, decision_answer, input_of};
 ghost use Rattle.sk_client.specs.DeskCalls.{TurnPost, RulePost, ReplyPost, ShutPost};
 
 use crate::pending::{Kept, PendingRequest, Waiting, name_of};
@@ -278,6 +278,14 @@ impl Desk {
         ensures { result ≡ length (pending self.now) }
     {
         self.taken.len() + self.waiting.len()
+    }
+
+    /// How many requests were taken, with or without a reply by now.
+    pub fn requests_taken(&self) -> u64
+        ensures { result ≡ requests_taken self.now }
+    {
+        let made = self.next.saturating_sub(1);
+        made.saturating_sub(self.waiting.len() as u64)
     }
 
     /// Whether a process waits for a reply.

@@ -1,0 +1,40 @@
+-- A legal history stays legal where a call is entered, and where a request is taken.
+use Rattle.std.proofs.Common.{◌≡◌, ℕ, suc, List, [], ◌∷◌, ◌++◌, ◌+◌, length, length-append, arith, refl, sym, ap, ◌∙◌, subst}
+use Rattle.sk_client.specs.Desk.{DeskView, first_taken, requests_taken}
+use Rattle.sk_workers.specs.declared.entry.Entry.{Entry}
+use Rattle.sk_workers.specs.History.{opening_of, Step, taking, Runs, IsLegal}
+use Rattle.sk_workers.proofs.Steps.{step_keeps, taken_keeps}
+
+-- one call more at the end
+runs_push : (s : DeskView) (es : List Entry) (d : DeskView) (e : Entry) (d' : DeskView) → Runs s es d → e.taken ≡ requests_taken d → Step d e.call e.answer d' → Runs s (es ++ e ∷ []) d'
+runs_push s [] d e d' run taken step =
+    let at = run.1 in (
+      run.0,
+      d',
+      taken ∙ ap requests_taken at,
+      subst (λ (x : DeskView). Step x e.call e.answer d') at step,
+      (0, refl),
+    )
+runs_push s (x ∷ es) d e d' run taken step = (run.0, run.1, run.2, run.3, runs_push run.1 es d e d' run.4 taken step)
+
+-- one request more at the end
+runs_take : (s : DeskView) (es : List Entry) (d : DeskView) → Runs s es d → Runs s es (first_taken d d.waiting)
+runs_take s [] d run = (suc run.0, ap (λ (x : DeskView). first_taken x x.waiting) run.1)
+runs_take s (x ∷ es) d run = (run.0, run.1, run.2, run.3, runs_take run.1 es d run.4)
+
+-- a history with a call more, and as long as the ledger counts
+pub entered : (d d' : DeskView) (es es' : List Entry) (e : Entry) (total total' : ℕ)
+    → IsLegal es d × (total ≡ length es) → e.taken ≡ requests_taken d → Step d e.call e.answer d' → es' ≡ es ++ e ∷ [] → total' ≡ total + 1
+    → IsLegal es' d' × (total' ≡ length es')
+entered d d' es es' e total total' before taken step is more =
+    let run : Runs (opening_of d) (es ++ e ∷ []) d' = runs_push (opening_of d) es d e d' before.0 taken step in
+    let legal : IsLegal (es ++ e ∷ []) d' = subst (λ (x : DeskView). Runs x (es ++ e ∷ []) d') (sym (step_keeps d d' e.call e.answer step)) run in (
+      subst (λ (x : List Entry). IsLegal x d') (sym is) legal,
+      omega (arith, more, before.1, ap length is, length-append es (e ∷ [])),
+    )
+
+pub took : (d d' : DeskView) (es : List Entry) → IsLegal es d → d' ≡ first_taken d d.waiting → IsLegal es d'
+took d d' es legal is =
+    let e = first_taken d d.waiting in
+    let run : Runs (opening_of d) es e = runs_take (opening_of d) es d legal in
+    subst (λ (x : DeskView). IsLegal es x) (sym is) (subst (λ (x : DeskView). Runs x es e) (sym (taken_keeps d d.waiting)) run)

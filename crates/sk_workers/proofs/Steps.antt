@@ -1,0 +1,96 @@
+-- What no call of a desk changes.
+use Rattle.std.proofs.Common.{ℕ, ◌≡◌, ◌≢◌, Bool, true, false, cond, List, [], ◌∷◌, Option, Some, None, Result, Ok, Err, refl, sym, ap, ◌∙◌, subst}
+use Rattle.sk_plain.specs.declared.refusal.Refusal.{Refusal}
+use Rattle.sk_script.specs.declared.instruction.Input.{Input}
+use Rattle.sk_server.specs.declared.reply.Reply.{Reply}
+use Rattle.sk_server.specs.declared.reply.Answer.{Answer}
+use Rattle.sk_record.specs.Notes.{has}
+use Rattle.sk_kernel.specs.Kernel.{KernelView, undecided_at, step_refused}
+use Rattle.sk_client.specs.declared.pending.PendingRequest.{PendingRequest}
+use Rattle.sk_client.specs.declared.rule.Rule.{Rule}
+use Rattle.sk_client.specs.declared.rule.Rule.TheVariants as rules
+use Rattle.sk_client.specs.declared.desk.Turn.{Turn}
+use Rattle.sk_client.specs.declared.desk.Given.{Given}
+use Rattle.sk_client.specs.declared.desk.ReplyRefusal.{ReplyRefusal}
+use Rattle.sk_client.specs.Desk.{DeskView, rule, turned, given, given_to, decided, answered, stepped, is_void, input_of, entry, first_taken}
+use Rattle.sk_client.specs.DeskCalls.{TurnPost, ByRule, RulePost, ReplyPost}
+use Rattle.sk_workers.specs.declared.entry.Call.{Call}
+use Rattle.sk_workers.specs.declared.entry.Call.TheVariants as calls
+use Rattle.sk_workers.specs.declared.entry.Answered.{Answered}
+use Rattle.sk_workers.specs.declared.entry.Answered.TheVariants.{Turned, Replied}
+use Rattle.sk_workers.specs.History.{opening_of, Step, with_reply, without_reply}
+
+-- the opening stays
+abbrev Keeps : DeskView → DeskView → Type 0
+Keeps d e = opening_of e ≡ opening_of d
+
+-- ---- turns
+
+turned_keeps : (d : DeskView) (pid : ℕ) (r : Rule) → Keeps d (turned d pid r)
+turned_keeps d pid (rules.Steps input) = refl
+turned_keeps d pid (rules.Guesses ask) = refl
+turned_keeps d pid (rules.Asks ask) = refl
+
+by_rule_keeps : (d e : DeskView) (pid : ℕ) (answer : Result Turn Refusal) (r : Result Rule Refusal) → ByRule answer d pid e r → Keeps d e
+by_rule_keeps d e pid (Ok turn) (Ok r) post = ap opening_of post.2 ∙ turned_keeps d pid r
+by_rule_keeps d e pid (Err why) (Ok r) post = ap opening_of post.1
+by_rule_keeps d e pid answer (Err why) post = ap opening_of post.1
+
+-- ---- replies
+
+stepped_keeps : (d : DeskView) (pid : ℕ) (input : Input) (why : Option Refusal) → Keeps d (record d { kernel = stepped d.kernel pid input why })
+stepped_keeps d pid input None = refl
+stepped_keeps d pid input (Some why) = refl
+
+answered_keeps : (d : DeskView) (q : PendingRequest) (input : Option Input) → Keeps d (answered d q input)
+answered_keeps d q None = refl
+answered_keeps d q (Some input) = stepped_keeps d q.process input (step_refused d.kernel (entry q.process input None))
+
+cond_keeps : (d x y : DeskView) (b : Bool) → Keeps d x → Keeps d y → Keeps d (cond b x y)
+cond_keeps d x y true p q = p
+cond_keeps d x y false p q = q
+
+given_to_keeps : (d : DeskView) (q : PendingRequest) (a : Answer) (guess : Option ℕ) → Keeps d (given_to d q a guess)
+given_to_keeps d q a (Some g) = cond_keeps d (decided d q g a) d (has g (undecided_at d.kernel)) refl refl
+given_to_keeps d q a None = cond_keeps d d (answered d q (input_of a)) (is_void d.kernel q) refl (answered_keeps d q (input_of a))
+
+given_keeps : (d : DeskView) (r : Reply) (qs : List PendingRequest) → Keeps d (given d r qs)
+given_keeps d r [] = refl
+given_keeps d r (q ∷ qs) = given_to_keeps (record d { taken = qs }) q r.answer q.guess
+
+reply_keeps : (d e : DeskView) (r : Reply) (answer : Result Given (Reply × ReplyRefusal)) → ReplyPost answer d r e → Keeps d e
+reply_keeps d e r (Ok told) post = ap opening_of post.2 ∙ given_keeps d r d.taken
+reply_keeps d e r (Err back) post = ap opening_of post.2
+
+-- ---- calls
+
+pub step_keeps : (d e : DeskView) (call : Call) (answer : Answered) → Step d call answer e → opening_of e ≡ opening_of d
+step_keeps d e (calls.Turn pid) (Turned r) step = by_rule_keeps d e pid r (rule d pid) step.0
+step_keeps d e (calls.Reply reply) (Replied r) step = reply_keeps d e reply (with_reply reply r) step.0
+step_keeps d e (calls.Turn pid) (Replied r) step = absurd step
+step_keeps d e (calls.Reply reply) (Turned r) step = absurd step
+
+pub taken_keeps : (d : DeskView) (qs : List PendingRequest) → opening_of (first_taken d qs) ≡ opening_of d
+taken_keeps d [] = refl
+taken_keeps d (q ∷ qs) = refl
+
+-- ---- refused calls
+
+by_rule_leaves : (d e : DeskView) (pid : ℕ) (why : Refusal) (r : Result Rule Refusal) → ByRule (Err why) d pid e r → e ≡ d
+by_rule_leaves d e pid why (Ok r) post = post.1
+by_rule_leaves d e pid why (Err other) post = post.1
+
+-- a turn that is refused leaves the desk
+pub turn_leaves : (d e : DeskView) (pid : ℕ) (answer : Result Turn Refusal) (why : Refusal) → TurnPost answer d pid e → answer ≡ Err why → e ≡ d
+turn_leaves d e pid answer why post is = by_rule_leaves d e pid why (rule d pid) (subst (λ (a : Result Turn Refusal). TurnPost a d pid e) is post)
+
+-- an answer tells what it would with the reply that comes back
+pub with_back : (d e : DeskView) (reply : Reply) (answer : Result Given (Reply × ReplyRefusal)) (r : Result Given ReplyRefusal)
+    → ReplyPost answer d reply e → r ≡ without_reply answer → ReplyPost (with_reply reply r) d reply e
+with_back d e reply (Ok told) r post is = subst (λ (x : Result Given ReplyRefusal). ReplyPost (with_reply reply x) d reply e) (sym is) post
+with_back d e reply (Err back) r post is = subst (λ (x : Result Given ReplyRefusal). ReplyPost (with_reply reply x) d reply e) (sym is) (refl, post.1, post.2)
+
+-- a reply that comes back leaves the desk
+pub back_leaves : (d e : DeskView) (reply : Reply) (answer : Result Given (Reply × ReplyRefusal)) (why : ReplyRefusal) → ReplyPost answer d reply e → without_reply answer ≡ Err why → e ≡ d
+back_leaves d e reply (Ok told) why post is = absurd (cc)
+back_leaves d e reply (Err back) why post is = post.2

@@ -1,0 +1,86 @@
+-- Histories of a desk, and receipts for their entries.
+use Rattle.std.specs.Prelude.{◌≡◌, ◌≢◌, ℕ, zero, suc, ◌+◌, ◌<◌, List, [], ◌∷◌, ◌++◌, length, Some, Result, Ok, Err, slice_get}
+use Rattle.std.specs.List.{sum_by}
+use Rattle.sk_plain.specs.declared.refusal.Refusal.TheVariants as refusals
+use Rattle.sk_server.specs.declared.reply.Reply.{Reply}
+use Rattle.sk_client.specs.Desk.{DeskView, opened, first_taken, requests_taken}
+use Rattle.sk_client.specs.DeskCalls.{TurnPost, ReplyPost}
+use Rattle.sk_client.specs.declared.desk.Given.{Given}
+use Rattle.sk_client.specs.declared.desk.ReplyRefusal.{ReplyRefusal}
+use Rattle.sk_client.specs.declared.desk.ReplyRefusal.TheVariants.{Memory}
+use Rattle.sk_workers.specs.declared.entry.Call.{Call}
+use Rattle.sk_workers.specs.declared.entry.Call.TheVariants as calls
+use Rattle.sk_workers.specs.declared.entry.Answered.{Answered}
+use Rattle.sk_workers.specs.declared.entry.Answered.TheVariants.{Turned, Replied}
+use Rattle.sk_workers.specs.declared.entry.Entry.{Entry}
+use Rattle.sk_workers.specs.declared.entry.Receipt.{Receipt}
+use Rattle.sk_workers.specs.Views.{BookView, WorkerView}
+
+abbrev pub entry : ℕ → Call → Answered → ℕ → Entry
+entry worker call answer taken = record { worker = worker; call = call; answer = answer; taken = taken }
+
+abbrev pub receipt : ℕ → Entry → Receipt
+receipt place e = record { place = place; entry = e }
+
+-- an answer with the reply that comes back, and without it
+abbrev pub with_reply : Reply → Result Given ReplyRefusal → Result Given (Reply × ReplyRefusal)
+with_reply reply (Ok given) = Ok given
+with_reply reply (Err why) = Err (reply, why)
+
+abbrev pub without_reply : Result Given (Reply × ReplyRefusal) → Result Given ReplyRefusal
+without_reply (Ok given) = Ok given
+without_reply (Err back) = Err back.1
+
+-- ---- histories
+
+-- a desk as it was opened: over the kernel at its start, before any request
+abbrev pub opening_of : DeskView → DeskView
+opening_of d = opened (record d.kernel { trace = [] })
+
+-- a call does what the desk promises of it; want of memory is no answer
+abbrev pub Step : DeskView → Call → Answered → DeskView → Type 0
+Step d (calls.Turn pid) (Turned r) d' = TurnPost r d pid d' × (r ≢ Err refusals.Memory)
+Step d (calls.Reply reply) (Replied r) d' = ReplyPost (with_reply reply r) d reply d' × (r ≢ Err Memory)
+Step d call answer d' = ⊥
+
+-- the oldest request that waits is taken, so many times
+abbrev pub taking : ℕ → DeskView → DeskView
+taking zero d = d
+taking (suc n) d = let e = taking n d in first_taken e e.waiting
+
+-- from a first desk on each answer is the desk's at that place, and the last desk is where the history ends: requests may be
+-- taken before each call and after the last, and an entry tells how many had been
+abbrev pub Runs : DeskView → List Entry → DeskView → Type 0
+Runs d [] last = (n : ℕ) × (last ≡ taking n d)
+Runs d (e ∷ es) last =
+    (n : ℕ) × (d' : DeskView)
+    × (e.taken ≡ requests_taken (taking n d))
+    × Step (taking n d) e.call e.answer d'
+    × Runs d' es last
+
+-- a history from the opening of a desk to the desk
+abbrev pub IsLegal : List Entry → DeskView → Type 0
+IsLegal history d = Runs (opening_of d) history d
+
+-- ---- calls
+
+-- the call is the history's next entry and the worker's next receipt
+abbrev pub Adds : BookView → WorkerView → Call → Answered → BookView → WorkerView → Type 0
+Adds b w call answer b' w' =
+    let e = entry w.number call answer (requests_taken b.desk) in
+    Step b.desk call answer b'.desk
+    × (b'.history ≡ b.history ++ e ∷ [])
+    × (w' ≡ record w { receipts = w.receipts ++ receipt (length b.history) e ∷ [] })
+
+-- ---- workers
+
+-- each receipt is for a call of the worker of this number
+abbrev pub AreOwn : ℕ → List Receipt → Type 0
+AreOwn number rs = (k : ℕ) (r : Receipt) → slice_get rs k ≡ Some r → r.entry.worker ≡ number
+
+abbrev pub fresh : ℕ → WorkerView
+fresh number = record { number = number; turns = 0; receipts = [] }
+
+-- workers numbered from 0, without receipts
+abbrev pub AreFresh : ℕ → List WorkerView → Type 0
+AreFresh n ws = (length ws ≡ n) × ((i : ℕ) (w : WorkerView) → slice_get ws i ≡ Some w → w ≡ fresh i)

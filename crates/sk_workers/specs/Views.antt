@@ -1,0 +1,23 @@
+-- What a contract sees of a book and of a worker.
+use Rattle.std.specs.Prelude.{ℕ, List, refl}
+use Rattle.std.specs.Coded.{Coded, code_by, coded×, coded_list}
+use Rattle.sk_client.specs.Desk.{DeskView, desk_code}
+use Rattle.sk_workers.specs.declared.entry.Entry.{Entry}
+use Rattle.sk_workers.specs.declared.entry.Receipt.{Receipt}
+use Rattle.sk_workers.specs.contracts.entry.Entry as entry_row
+
+-- a desk, and the calls that were made of it, the oldest first
+pub record BookView : Type 0 where
+  pub desk : DeskView
+  pub history : List Entry
+
+abbrev pub book_code : Coded BookView
+book_code =
+    code_by (DeskView × List Entry) (coded× desk_code (coded_list entry_row.the_row.coded))
+    (λ b. (b.desk, b.history)) (λ p. record { desk = p.0; history = p.1 }) (λ _. refl)
+
+-- its number; how many calls of a turn it began; and a receipt for each of its calls, the oldest first
+pub record WorkerView : Type 0 where
+  pub number : ℕ
+  pub turns : ℕ
+  pub receipts : List Receipt

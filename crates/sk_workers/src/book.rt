@@ -1,0 +1,259 @@
+//! A desk with the history of its calls.
+ghost use Rattle.std.specs.Prelude.{◌≡◌, ◌⊎◌, ◌↔◌, ◌+◌, ◌<◌, ◌≤◌, [], ◌∷◌, ◌++◌, length, vec_len, vec_capacity, Ok, Err, IfOk, IfErr, OnOk, MatchOption, IsTrue};
+ghost use Rattle.sk_client.specs.Desk.{opened, first_sent, first_taken};
+ghost use Rattle.sk_workers.specs.History.{Step, Adds, AreFresh, IsLegal, receipt, without_reply};
+
+use crate::entry::{Answered, Call, Entry, Receipt};
+use crate::worker::Worker;
+use sk_client::{Desk, Given, ReplyRefusal, Turn};
+use sk_ids::Pid;
+use sk_plain::Refusal;
+use sk_server::{Reply, Request};
+use std::alloc::{AllocError, Global};
+use std::marker::Model;
+use std::sync::ledger::{self, Blank, Ledger, Share};
+
+/// A desk, the history of the calls that workers made of it, and a ledger's count of them. It can't be dropped:
+/// `reopen` it.
+pub struct Book<L: Ledger> {
+    desk: Desk,
+    history: Vec<Entry>,
+    tally: ledger::Book<L>,
+}
+
+impl<L: Ledger> Model for Book<L> {
+    ghost use Rattle.std.specs.Prelude.{◌≡◌, length};
+    ghost use Rattle.sk_workers.specs.Views.{BookView, book_code};
+    ghost use Rattle.sk_workers.specs.History.{IsLegal};
+
+    ghost Value = { BookView };
+
+    ghost coded = { book_code };
+
+    ghost view = { λ b. record { desk = b.desk; history = b.history.items } };
+
+    ghost invariant = { λ b. IsLegal b.history.items b.desk × (b.tally.total ≡ length b.history.items) };
+}
+
+impl<L: Ledger> Book<L> {
+    /// A book round a desk on which nothing was done, and n workers, 1 to 8, numbered from 0. Where memory runs out
+    /// the ledger and the desk come back.
+    pub fn new(
+        alloc: Global,
+        blank: Blank,
+        desk: Desk,
+        n: u8,
+    ) -> Result<(Book<L>, Vec<Worker<L>>), (Blank, Desk, AllocError)>
+        requires ledger { (blank.name ≡ L.name) × (blank.parts ≡ L.parts) × (L.parts ≡ n) }
+        requires count { (1 ≤ n) × (n ≤ 8) }
+        requires opened { desk ≡ opened desk.kernel }
+        requires trace { desk.kernel.trace ≡ [] }
+        ensures ok { IfOk result (λ made. (made.0 ≡ record { desk = desk; history = [] }) × AreFresh n made.1.items) }
+        ensures err { IfErr result (λ back. (back.0 ≡ blank) × (back.1 ≡ desk)) }
+    {
+        let mut workers = match Vec::with_capacity(alloc, usize::from(n)) {
+            Ok(workers) => workers,
+            Err(error) => return Err((blank, desk, error)),
+        };
+        let (tally, all) = blank.open::<L>();
+        hire(alloc, all, n, &mut workers);
+        let book = Book {
+            desk,
+            history: Vec::new(alloc),
+            tally,
+        };
+        Ok((book, workers))
+    }
+
+    /// The desk. A legal history ends there.
+    pub fn desk(&self) -> &Desk
+        ensures desk { result.now ≡ self.now.desk }
+        ensures legal { IsLegal self.now.history result.now }
+    {
+        &self.desk
+    }
+
+    /// The desk's turn of a process, for a worker. Where memory runs out, first of all for the entry and the receipt,
+    /// the answer is `Memory` and nothing has changed; every other answer is entered.
+    pub fn turn(&mut self, worker: Worker<L>, pid: Pid) -> (Worker<L>, Result<Turn, Refusal>)
+        ensures { ((result.1 ≡ Err Refusal.Memory) × (self.new ≡ self.old) × (result.0 ≡ worker)) ⊎ Adds self.old worker (Call.Turn pid) (Answered.Turned result.1) self.new result.0 }
+    {
+        let mut worker = worker;
+        if make_room(&mut self.history, &mut worker.receipts).is_err() {
+            return (worker, Err(Refusal::Memory));
+        }
+        let taken = self.desk.requests_taken();
+        let Some(answer) = turn_of(&mut self.desk, pid) else {
+            return (worker, Err(Refusal::Memory));
+        };
+        let entry = Entry {
+            worker: worker.number,
+            call: Call::Turn(pid),
+            answer: turned(&answer),
+            taken,
+        };
+        enter(
+            &mut self.history,
+            &mut self.tally,
+            &mut worker.receipts,
+            &mut worker.share,
+            &entry,
+        );
+        (worker, answer)
+    }
+
+    /// Gives the desk a reply, for a worker. Where memory runs out, first of all for the entry and the receipt, the
+    /// answer is `Memory` and nothing has changed; every other answer is entered.
+    pub fn reply(
+        &mut self,
+        worker: Worker<L>,
+        reply: Reply,
+    ) -> (Worker<L>, Result<Given, (Reply, ReplyRefusal)>)
+        ensures back { IfErr result.1 (λ back. back.0 ≡ reply) }
+        ensures entered { ((without_reply result.1 ≡ Err ReplyRefusal.Memory) × (self.new ≡ self.old) × (result.0 ≡ worker)) ⊎ Adds self.old worker (Call.Reply reply) (Answered.Replied (without_reply result.1)) self.new result.0 }
+    {
+        let mut worker = worker;
+        if make_room(&mut self.history, &mut worker.receipts).is_err() {
+            return (worker, Err((reply, ReplyRefusal::Memory)));
+        }
+        let taken = self.desk.requests_taken();
+        let call = call_of(&reply);
+        let given = self.desk.give_reply(reply);
+        let answer = without_reply(&given);
+        if wants_memory(&answer) {
+            return (worker, given);
+        }
+        let entry = Entry {
+            worker: worker.number,
+            call,
+            answer: Answered::Replied(answer),
+            taken,
+        };
+        enter(
+            &mut self.history,
+            &mut self.tally,
+            &mut worker.receipts,
+            &mut worker.share,
+            &entry,
+        );
+        (worker, given)
+    }
+
+    /// Takes the desk's oldest request that waits; `None` where none does. This takes no memory and makes no entry.
+    pub fn next_request(&mut self) -> Option<Request>
+        ensures request { result ≡ first_sent self.old.desk.waiting }
+        ensures taken { self.new ≡ record self.old { desk = first_taken self.old.desk self.old.desk.waiting } }
+    {
+        self.desk.take_request()
+    }
+
+    /// The desk alone. This takes no memory.
+    pub fn reopen(self) -> Desk
+        ensures desk { result ≡ self.desk }
+        ensures legal { IsLegal self.history result }
+    {
+        let Book {
+            desk,
+            history: _,
+            tally: _,
+        } = self;
+        desk
+    }
+}
+
+/// Workers with one part of the ledger each, numbered from 0.
+fn hire<L: Ledger>(alloc: Global, all: Share<L>, n: u8, workers: &mut Vec<Worker<L>>)
+    requires parts { (all.parts ≡ n) × (all.amount ≡ 0) }
+    requires room { (workers.old.items ≡ []) × (n ≤ vec_capacity workers.old) }
+    ensures { AreFresh n workers.new.items }
+{
+    let mut all = all;
+    for number in 0..n {
+        let share = all.split_off(1, 0);
+        workers.push_reserved(Worker::new(alloc, number, share));
+    }
+}
+
+/// Makes room for one more entry and its receipt.
+fn make_room(history: &mut Vec<Entry>, receipts: &mut Vec<Receipt>) -> Result<(), AllocError>
+    ensures history { history.new.items ≡ history.old.items }
+    ensures receipts { receipts.new.items ≡ receipts.old.items }
+    ensures room { OnOk result ((vec_len history.new < vec_capacity history.new) × (vec_len receipts.new < vec_capacity receipts.new)) }
+{
+    history.reserve(1)?;
+    receipts.reserve(1)
+}
+
+/// Adds an entry to the history, and a receipt for it, and counts both.
+fn enter<L: Ledger>(
+    history: &mut Vec<Entry>,
+    tally: &mut ledger::Book<L>,
+    receipts: &mut Vec<Receipt>,
+    share: &mut Share<L>,
+    entry: &Entry,
+)
+    requires history { vec_len history.old < vec_capacity history.old }
+    requires receipts { vec_len receipts.old < vec_capacity receipts.old }
+    requires part { 0 < share.old.parts }
+    ensures history { history.new.items ≡ history.old.items ++ entry.now ∷ [] }
+    ensures receipts { receipts.new.items ≡ receipts.old.items ++ receipt (length history.old.items) entry.now ∷ [] }
+    ensures tally { tally.new.total ≡ tally.old.total + 1 }
+    ensures share { (share.new.amount ≡ share.old.amount + 1) × (share.new.parts ≡ share.old.parts) }
+{
+    let place = history.len() as u64;
+    receipts.push_reserved(Receipt {
+        place,
+        entry: *entry,
+    });
+    history.push_reserved(*entry);
+    tally.add(share, 1);
+}
+
+/// The call that gives a reply.
+fn call_of(reply: &Reply) -> Call
+    ensures { result ≡ Call.Reply reply.now }
+{
+    Call::Reply(*reply)
+}
+
+/// What is entered of the answer to a turn.
+fn turned(answer: &Result<Turn, Refusal>) -> Answered
+    ensures { result ≡ Answered.Turned answer.now }
+{
+    Answered::Turned(*answer)
+}
+
+/// A turn of the desk; `None` where it was refused for want of memory, and nothing has changed.
+fn turn_of(desk: &mut Desk, pid: Pid) -> Option<Result<Turn, Refusal>>
+    ensures { MatchOption result (desk.new ≡ desk.old) (λ answer. Step desk.old (Call.Turn pid) (Answered.Turned answer) desk.new) }
+{
+    let answer = desk.turn(pid);
+    if lacks_memory(&answer) {
+        return None;
+    }
+    Some(answer)
+}
+
+/// Whether a turn was refused for want of memory.
+fn lacks_memory(answer: &Result<Turn, Refusal>) -> bool
+    ensures { IsTrue result ↔ (answer.now ≡ Err Refusal.Memory) }
+{
+    matches!(answer, Err(Refusal::Memory))
+}
+
+/// Whether a reply came back for want of memory.
+fn wants_memory(answer: &Result<Given, ReplyRefusal>) -> bool
+    ensures { IsTrue result ↔ (answer.now ≡ Err ReplyRefusal.Memory) }
+{
+    matches!(answer, Err(ReplyRefusal::Memory))
+}
+
+/// The answer to a reply, without the reply that comes back.
+fn without_reply(given: &Result<Given, (Reply, ReplyRefusal)>) -> Result<Given, ReplyRefusal>
+    ensures { result ≡ without_reply given.now }
+{
+    match given {
+        Ok(given) => Ok(*given),
+        Err((_reply, why)) => Err(*why),
+    }
+}

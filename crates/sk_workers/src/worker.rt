@@ -1,0 +1,59 @@
+//! Workers.
+ghost use Rattle.std.specs.Prelude.{◌≡◌};
+ghost use Rattle.sk_workers.specs.History.{fresh};
+
+use crate::entry::Receipt;
+use std::alloc::Global;
+use std::marker::Model;
+use std::sync::ledger::{Ledger, Share};
+
+/// Who makes calls of a desk, with a receipt for each answer. It can't be copied. Where one is dropped, its
+/// book can no longer be closed.
+#[derive(Drop)]
+pub struct Worker<L: Ledger> {
+    pub(crate) number: u8,
+    pub(crate) turns: u64,
+    pub(crate) receipts: Vec<Receipt>,
+    pub(crate) share: Share<L>,
+}
+
+impl<L: Ledger> Model for Worker<L> {
+    ghost use Rattle.std.specs.Prelude.{◌≡◌, length};
+    ghost use Rattle.sk_workers.specs.Views.{WorkerView};
+    ghost use Rattle.sk_workers.specs.History.{AreOwn};
+
+    ghost Value = { WorkerView };
+
+    ghost view = { λ w. record { number = w.number; turns = w.turns; receipts = w.receipts.items } };
+
+    ghost invariant = { λ w. (w.share.parts ≡ 1) × (w.share.amount ≡ length w.receipts.items) × AreOwn w.number w.receipts.items };
+}
+
+impl<L: Ledger> Worker<L> {
+    /// A worker without receipts, for one part of a ledger.
+    pub(crate) fn new(alloc: Global, number: u8, share: Share<L>) -> Worker<L>
+        requires { (share.parts ≡ 1) × (share.amount ≡ 0) }
+        ensures { result ≡ fresh number }
+    {
+        Worker {
+            number,
+            turns: 0,
+            receipts: Vec::new(alloc),
+            share,
+        }
+    }
+
+    /// Its number, from 0.
+    pub fn number(&self) -> u8
+        ensures { result ≡ self.now.number }
+    {
+        self.number
+    }
+
+    /// The receipts for its calls, the oldest first.
+    pub fn receipts(&self) -> &[Receipt]
+        ensures { result.now ≡ self.now.receipts }
+    {
+        self.receipts.as_slice()
+    }
+}

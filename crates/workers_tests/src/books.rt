@@ -1,0 +1,133 @@
+//! Two workers on one desk.
+ghost use Rattle.std.specs.Prelude.{◌≡◌, [], IfOk};
+ghost use Rattle.sk_kernel.specs.Kernel.{undecided_at};
+ghost use Rattle.sk_client.specs.Desk.{opened};
+
+use sk_client::{Desk, Given, Turn};
+use sk_ids::{GuessId, Name, Pid, Text};
+use sk_kernel::Kernel;
+use sk_objects::Content;
+use sk_script::{Boot, Script};
+use sk_server::{Answer, Reply};
+use sk_workers::{Answered, Book, Call, Worker};
+use std::alloc::Global;
+use std::marker::Brand;
+use std::process::Abort;
+use std::sync::ledger::{Blank, Ledger};
+use std::test::Fail;
+
+/// How many rounds of turns there are; each is two calls.
+const ROUNDS: u64 = 2_100;
+
+/// A kernel of two processes: one that sets its buffer for ever, and one that fetches `/x`, of which there is a copy.
+fn kernel(alloc: Global) -> Result<Kernel, Fail>
+    ensures undecided { IfOk result (λ kernel. undecided_at kernel ≡ []) }
+    ensures trace { IfOk result (λ kernel. kernel.trace ≡ []) }
+{
+    let mut boot = Boot::new(alloc);
+    let remote = Name::new(b"/x").ok_or("name")?;
+    let bytes = Text::new(b"old").ok_or("text")?;
+    boot.copy(remote, Content::new(3, bytes).ok_or("content")?)?;
+    let (round, fetching) = (Name::new(b"round").ok_or("name")?, Name::new(b"fetching").ok_or("name")?);
+    boot.script(round, Script::parse(alloc, b"a:\ntext \"t\"\njump a\n")?)?;
+    boot.script(fetching, Script::parse(alloc, b"fetch /x\nsay\n")?)?;
+    boot.process(1, &round, 1)?;
+    boot.process(2, &fetching, 2)?;
+    Ok(Kernel::boot(alloc, 0, &boot, 1_000_000)?)
+}
+
+/// The desk of that kernel, on which nothing was done.
+fn desk(alloc: Global) -> Result<Desk, Fail>
+    ensures opened { IfOk result (λ desk. desk ≡ opened desk.kernel) }
+    ensures trace { IfOk result (λ desk. desk.kernel.trace ≡ []) }
+{
+    Ok(Desk::new(alloc, kernel(alloc)?))
+}
+
+/// Takes a turn that is a step.
+fn steps<L: Ledger>(rt: &impl Abort, book: &mut Book<L>, worker: Worker<L>, pid: Pid) -> Worker<L> {
+    let (worker, answer) = book.turn(worker, pid);
+    assert_eq!(rt; answer, Ok(Turn::Stepped));
+    worker
+}
+
+/// A guess is made, asked about and committed, by two workers.
+fn guesses<L: Ledger>(
+    rt: &impl Abort,
+    book: &mut Book<L>,
+    one: Worker<L>,
+    other: Worker<L>,
+    pid: Pid,
+) -> (Worker<L>, Worker<L>) {
+    let id = GuessId::new(1).unwrap_or_default();
+    let (one, answer) = book.turn(one, pid);
+    assert_eq!(rt; answer, Ok(Turn::Guessed(id)));
+    match book.next_request() {
+        Some(request) => assert_eq!(rt; request.number, 1),
+        None => panic!(rt; "no request"),
+    }
+    let number = 1;
+    let answer = Answer::Yes;
+    let (other, given) = book.reply(other, Reply { number, answer });
+    assert_eq!(rt; given, Ok(Given::Committed(id)));
+    (one, other)
+}
+
+/// Looks at the receipts of a worker whose first call had this place, and each later one the next but one.
+fn looks<L: Ledger>(rt: &impl Abort, worker: &Worker<L>, first: u64, pid: Pid) {
+    for (turn, receipt) in worker.receipts().iter().take(ROUNDS as usize).enumerate() {
+        assert_eq!(rt; receipt.place, first.saturating_add(2 * (turn as u64)));
+        assert_eq!(rt; receipt.entry.worker, worker.number());
+        assert_eq!(rt; receipt.entry.call, Call::Turn(pid));
+        assert_eq!(rt; receipt.entry.answer, Answered::Turned(Ok(Turn::Stepped)));
+    }
+}
+
+/// Both workers take turns of the first process; then a guess is made and committed.
+fn works<L: Ledger>(rt: &impl Abort, alloc: Global, blank: Blank, desk: Desk, pids: (Pid, Pid))
+    requires ledger { (blank.name ≡ L.name) × (blank.parts ≡ L.parts) × (L.parts ≡ 2) }
+    requires opened { desk ≡ opened desk.kernel }
+    requires trace { desk.kernel.trace ≡ [] }
+{
+    let (mut book, mut workers) = match Book::<L>::new(alloc, blank, desk, 2) {
+        Ok(made) => made,
+        Err((_blank, desk, _error)) => {
+            desk.abandon();
+            panic!(rt; "out of memory")
+        }
+    };
+    let (Some(mut one), Some(mut zero)) = (workers.pop(), workers.pop()) else {
+        panic!(rt; "two workers")
+    };
+    for _ in 0..ROUNDS {
+        zero = steps(rt, &mut book, zero, pids.0);
+        one = steps(rt, &mut book, one, pids.0);
+    }
+    let (zero, one) = guesses(rt, &mut book, zero, one, pids.1);
+    looks(rt, &zero, 0, pids.0);
+    looks(rt, &one, 1, pids.0);
+    ends(rt, &zero, &one);
+    book.reopen().abandon();
+}
+
+/// Looks at the last receipts: the guess, and the reply that committed it, before which a request was taken.
+fn ends<L: Ledger>(rt: &impl Abort, zero: &Worker<L>, one: &Worker<L>) {
+    match (zero.receipts().last(), one.receipts().last()) {
+        (Some(guess), Some(reply)) => {
+            assert_eq!(rt; guess.place, 2 * ROUNDS);
+            assert_eq!(rt; guess.entry.taken, 0);
+            assert_eq!(rt; reply.place, 2 * ROUNDS + 1);
+            assert_eq!(rt; reply.entry.taken, 1);
+        }
+        _ => panic!(rt; "no receipts"),
+    }
+}
+
+#[test]
+fn receipts_of_two_workers(rt: HostRuntime) -> Result<(), Fail> {
+    let alloc = rt.alloc();
+    let first = Pid::boot(1).ok_or("pid")?;
+    let second = Pid::boot(2).ok_or("pid")?;
+    works::<Brand>(&rt, alloc, Blank::new(2), desk(alloc)?, (first, second));
+    Ok(())
+}

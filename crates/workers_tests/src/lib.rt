@@ -1,0 +1,5 @@
+//! Tests of books: workers take turns and give replies, and their receipts tell of each call.
+#![tactic(auto)]
+
+#[cfg(test)]
+mod books;

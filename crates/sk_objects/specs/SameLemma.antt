@@ -1,5 +1,4 @@
 -- The tests of what objects hold are exact.
-use Rattle.std.specs.Prelude.{refl}
 use Rattle.std.specs.Bool.{beq}
 use Rattle.std.specs.Cmp.{booleans_Decides}
 use Rattle.std.specs.Cmp.Lexicographic.{pointwise_decides}
@@ -7,7 +6,6 @@ use Rattle.std.proofs.Common.{ap}
 use Rattle.std.proofs.lemmas.Bool.Decides.{Decides-and, Decides-like}
 use Rattle.sk_record.specs.Same.{IsExact, exact_pair}
 use Rattle.sk_ids.proofs.Same.{exact_bytes as bytes_exact, exact_object}
-use Rattle.sk_objects.specs.Pipe.{PipeView}
 use Rattle.sk_objects.specs.Same.{same_bytes, same_pipe, same_links}
 
 pub exact_bytes : IsExact same_bytes

@@ -76,6 +76,13 @@ impl Plain {
         })
     }
 
+    /// The scripts that it was booted with.
+    pub fn scripts(&self) -> &Scripts
+        ensures { result.now ≡ self.now.scripts }
+    {
+        &self.scripts
+    }
+
     /// Takes the next step of a process with an input, and answers the text that it says. After a
     /// refusal nothing has changed.
     pub fn step(&mut self, pid: Pid, input: &Input) -> Result<Option<Text>, Refusal>

@@ -2,7 +2,6 @@
 use Rattle.std.specs.Prelude.{◌≡◌, true, Bool, Option, Some, None, refl}
 use Rattle.std.proofs.Common.{ap, subst}
 use Rattle.std.specs.Option.{option_eq}
-use Rattle.std.proofs.lemmas.Bool.Decides.{Decides-like}
 use Rattle.sk_record.specs.Same.{IsExact}
 
 pub exact_from : {A : Type 0} (E : A → A → Bool) → ((x : A) → E x x ≡ true) → ((x y : A) → E x y ≡ true → x ≡ y) → IsExact E
@@ -14,6 +13,7 @@ exact_option {E = E} e = exact_from (option_eq E) own from
     own : (x : Option _) → option_eq E x x ≡ true
     own None = refl
     own (Some x) = (e x x).1 refl
+
     from : (x y : Option _) → option_eq E x y ≡ true → x ≡ y
     from None None h = refl
     from None (Some y) h = cc

@@ -1,5 +1,5 @@
 -- The test that processes derive is exact.
-use Rattle.std.specs.Prelude.{◌≡◌, true, List}
+use Rattle.std.specs.Prelude.{◌≡◌, true}
 use Rattle.std.proofs.Common.{ap}
 use Rattle.std.specs.Cmp.{unsigned_Decides, signed_Decides, booleans_Decides, first_so, second_so}
 use Rattle.std.specs.Cmp.Lexicographic.{pointwise_decides}

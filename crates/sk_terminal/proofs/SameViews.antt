@@ -30,6 +30,6 @@ test_views xs ys vs ws none none_here =
     one_answer (each && same_texts vs ws) (same_texts (map clear xs ++ vs) (map clear ys ++ ws))
     (Decides-like (each && same_texts vs ws) (λ h i. map clear (h.0 i) ++ h.1 i)
     (λ e. let same : xs ≡ ys = sym (released-clear xs vs none) ∙ ap released e ∙ released-clear ys ws none_here in
-        (same, append_cancel_left (map clear xs) vs ws (e ∙ ap (λ zs. map clear zs ++ ws) (sym same))))
+    (same, append_cancel_left (map clear xs) vs ws (e ∙ ap (λ zs. map clear zs ++ ws) (sym same))))
     (Decides-and each (same_texts vs ws) (pointwise_decides exact_text xs ys) (exact_texts vs ws)))
     (exact_texts (map clear xs ++ vs) (map clear ys ++ ws))

@@ -1,5 +1,5 @@
 -- The test of the entries is that of the maps, which is exact.
-use Rattle.std.proofs.Common.{◌≡◌, ◌∙◌, nat_eq}
+use Rattle.std.proofs.Common.{◌∙◌, nat_eq}
 use Rattle.std.proofs.lemmas.Bool.Decides.{Decides-at}
 use Rattle.std.specs.Cmp.Lexicographic.{pointwise, nat_list_cmp_total}
 use Rattle.sk_ids.proofs.Ordered.{same_entries}

@@ -1,5 +1,5 @@
 -- The released texts and those that wait are compared apart.
-use Rattle.std.proofs.Common.{◌≡◌, Bool, true, ◌&&◌, List, ℕ, ap, sym, ◌∙◌}
+use Rattle.std.proofs.Common.{◌≡◌, ◌&&◌, ap, sym, ◌∙◌}
 use Rattle.std.specs.Cmp.Lexicographic.{pointwise}
 use Rattle.std.proofs.lemmas.Bool.Decides.{Decides-at}
 use Rattle.sk_ids.specs.contracts.text.TextPartialEq.TheImpl as text

@@ -8,6 +8,8 @@ mod kernels;
 #[cfg(test)]
 mod logs;
 #[cfg(test)]
+mod openings;
+#[cfg(test)]
 mod plays;
 #[cfg(test)]
 mod records;

@@ -92,7 +92,8 @@ fn declares_all(alloc: Global, boot: &mut Boot, start: Start<'_>) -> Result<(), 
     Ok(())
 }
 
-fn boot_of(alloc: Global, start: Start<'_>) -> Result<Boot, Fail> {
+/// What is declared.
+pub fn boot_of(alloc: Global, start: Start<'_>) -> Result<Boot, Fail> {
     let mut boot = Boot::new(alloc);
     declares_all(alloc, &mut boot, start)?;
     Ok(boot)

@@ -58,9 +58,13 @@ desk_code =
     (λ d. (d.kernel, (d.taken, (d.waiting, (d.next, d.kept)))))
     (λ p. record { kernel = p.0; taken = p.1.0; waiting = p.1.1.0; next = p.1.1.1.0; kept = p.1.1.1.1 }) (λ _. refl)
 
+-- the number of the first request that a desk makes
+abbrev pub first_number : ℕ
+first_number = 1
+
 -- over a kernel, before any request
 abbrev pub opened : KernelView → DeskView
-opened k = record { kernel = k; taken = []; waiting = []; next = 1; kept = [] }
+opened k = record { kernel = k; taken = []; waiting = []; next = first_number; kept = [] }
 
 abbrev pub pending : DeskView → List PendingRequest
 pending d = d.taken ++ d.waiting

@@ -4,7 +4,7 @@ ghost use Rattle.std.specs.VecDeque.{deque_capacity};
 ghost use Rattle.sk_plain.specs.Refusal.{cause};
 ghost use Rattle.sk_kernel.specs.Kernel.{undecided_at, room};
 ghost use Rattle.sk_server.specs.declared.server.TheConstants.{LAST_REQUEST};
-ghost use Rattle.sk_client.specs.Desk.{opened, pending, requests_taken, asks_for, asks_on, asked_count, kept_for, forgotten, kept_after, answer_kept, cached, buffer, rule, rule_next, guess_refused_at, rests_of, request_of, first_sent, first_taken, first_guess, expected, fits_ask, reply_refused, is_lost, lost_by, is_void, given, given_answer, decision_answer, input_of};
+ghost use Rattle.sk_client.specs.Desk.{first_number, opened, pending, requests_taken, asks_for, asks_on, asked_count, kept_for, forgotten, kept_after, answer_kept, cached, buffer, rule, rule_next, guess_refused_at, rests_of, request_of, first_sent, first_taken, first_guess, expected, fits_ask, reply_refused, is_lost, lost_by, is_void, given, given_answer, decision_answer, input_of};
 ghost use Rattle.sk_client.specs.DeskCalls.{TurnPost, RulePost, ReplyPost, ShutPost};
 
 use crate::pending::{Kept, PendingRequest, Waiting, name_of};
@@ -23,6 +23,9 @@ use std::alloc::{AllocError, Global};
 use std::collections::VecDeque;
 use std::marker::Model;
 use thiserror::Error;
+
+/// The number of the first request that a desk makes.
+const FIRST_REQUEST: u64 = 1;
 
 /// What a turn did.
 #[derive(Clone, Copy, Debug, PartialEq, Eq)]
@@ -261,9 +264,16 @@ impl Desk {
             holder: Holder::new(alloc, kernel),
             taken: VecDeque::new(alloc),
             waiting: VecDeque::new(alloc),
-            next: 1,
+            next: FIRST_REQUEST,
             kept: Vec::new(alloc),
         }
+    }
+
+    /// The number of the first request since the desk was made. This takes no memory.
+    pub fn first(&self) -> u64
+        ensures { result ≡ first_number }
+    {
+        FIRST_REQUEST
     }
 
     /// The kernel.

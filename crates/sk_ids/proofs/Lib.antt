@@ -4,3 +4,4 @@ pub mod Entities
 pub mod Views
 pub mod Ordered
 pub mod Newest
+pub mod Same

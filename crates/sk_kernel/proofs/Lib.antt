@@ -7,3 +7,4 @@ pub mod Tokens
 pub mod Refusals
 pub mod Lawful
 pub mod Undecided
+mod Opened

@@ -2,3 +2,5 @@ pub mod Kernel
 pub mod Calls
 pub mod Invariant
 pub mod Laws
+pub mod Opening
+pub mod OpeningLemma

@@ -1,27 +1,31 @@
 //! The speculative kernel.
-ghost use Rattle.std.specs.Prelude.{◌≡◌, ◌↔◌, ℕ, true, length, IfOk, IfSome, MatchOption, None, Some, []};
+ghost use Rattle.std.specs.Prelude.{◌≡◌, ◌↔◌, ℕ, true, length, IfOk, IfErr, IfSome, MatchOption, None, Some, []};
 ghost use Rattle.std.specs.FinMap as map;
 ghost use Rattle.std.specs.List.Sorted.{IsStrictlySortedBy};
 ghost use Rattle.sk_ids.specs.Entity.{entity_cmp};
 ghost use Rattle.sk_record.specs.Notes.{has};
 ghost use Rattle.sk_plain.specs.Next.{next_of};
-ghost use Rattle.sk_plain.specs.Planned.{refusal_of};
+ghost use Rattle.sk_record.specs.Step.{perform};
+ghost use Rattle.sk_plain.specs.Act.{act};
+ghost use Rattle.sk_plain.specs.Planned.{refusal_of, planned, CanDo, IsBeside, IsPlainRefusal};
 ghost use Rattle.sk_plain.specs.Refusal.{cause};
 ghost use Rattle.sk_plain.specs.View.{Shows};
 ghost use Rattle.sk_trace.specs.declared.event.Event.TheVariants as events;
 ghost use Rattle.sk_kernel.specs.Kernel.{booted, state_at, undecided_at, tags_at, texts_at, room, next_guess, settled, effect_at, or_else, guess_misfits, too_many, step_refused, guess_refused, HasStatus, RestsOn};
+ghost use Rattle.sk_kernel.specs.Opening.{opening_of};
 ghost use Rattle.sk_kernel.specs.Laws.{HasSoundTrace};
 ghost use Rattle.sk_kernel.specs.Calls.{StepPost, GuessPost, CommitPost, FailPost, ShowsTerminal, LeavesTexts, PlansGuess};
 ghost use Rattle.sk_record.specs.declared.status.Status.{Status};
 ghost use Rattle.sk_undo.specs.Logs.{look_at};
 ghost use Rattle.sk_terminal.specs.Terminals.{released_at};
 
+use crate::Opening;
 use sk_guesses::{Guess, Redeemed, Status};
 use sk_ids::{Entity, GuessId, Pid, TagSet};
 use sk_machine::Machine;
 use sk_plain::{Event, Next, Plan, Refusal, Trace, View, next_of, plan_step};
-use sk_script::{Boot, Input, Scripts};
-use sk_store::{Look, Store};
+use sk_script::{Boot, Input};
+use sk_store::Look;
 use sk_terminal::{Terminal, Texts};
 use std::alloc::{AllocError, Global};
 use std::marker::Model;
@@ -50,36 +54,46 @@ pub enum FailRefusal {
 /// with, its trace limit and its trace, from which all else follows by definition.
 #[derive(Drop)]
 pub struct Kernel {
-    scripts: Scripts,
-    start: Store,
-    limit: u32,
+    opening: Opening,
     trace: Trace,
     machine: Machine,
 }
 
 impl Model for Kernel {
     ghost use Rattle.sk_kernel.specs.Kernel.{KernelView, kernel_code};
+    ghost use Rattle.std.specs.Prelude.{◌≡◌};
+    ghost use Rattle.sk_kernel.specs.Opening.{begun_at, opening_of};
     ghost use Rattle.sk_kernel.specs.Invariant.{IsWhole};
 
     ghost Value = { KernelView };
 
     ghost coded = { kernel_code };
 
-    ghost view = { λ k. record { number = k.machine.guesses.kernel; scripts = k.scripts; start = k.start; limit = k.limit; trace = k.trace.events } };
+    ghost view = { λ k. begun_at k.opening k.machine.guesses.kernel k.trace.events };
 
-    ghost invariant = { λ k. IsWhole (record { number = k.machine.guesses.kernel; scripts = k.scripts; start = k.start; limit = k.limit; trace = k.trace.events }) k.machine k.trace.room };
+    ghost invariant = { λ k. IsWhole (begun_at k.opening k.machine.guesses.kernel k.trace.events) k.machine k.trace.room × (k.opening ≡ opening_of (begun_at k.opening k.machine.guesses.kernel k.trace.events)) };
+}
+
+/// What a step with an input will do, or why it is refused, by the scripts of the opening.
+fn plan_at(machine: &Machine, opening: &Opening, pid: Pid, input: &Input) -> Result<Plan, Refusal>
+    ensures plans { perform (look_at machine.now.slots) (act opening.now.start.scripts pid input.now) ≡ planned (look_at machine.now.slots) pid input.now result }
+    ensures can { IfOk result (λ plan. CanDo (look_at machine.now.slots) plan.beside) }
+    ensures apart { IfOk result (λ plan. IsBeside pid plan.beside) }
+    ensures named { IfErr result IsPlainRefusal }
+{
+    plan_step(machine, opening.scripts(), pid, input)
 }
 
 /// What a guess with an input will do, or why it is refused.
 fn plan_guess(
     machine: &Machine,
-    scripts: &Scripts,
+    opening: &Opening,
     pid: Pid,
     input: &Input,
 ) -> Result<Plan, Refusal>
-    ensures { PlansGuess (look_at machine.now.slots) scripts.now pid input.now result }
+    ensures { PlansGuess (look_at machine.now.slots) opening.now.start.scripts pid input.now result }
 {
-    let planned = plan_step(machine, scripts, pid, input);
+    let planned = plan_at(machine, opening, pid, input);
     if let Input::None = input {
         return Err(match planned {
             Err(Refusal::NoProcess) => Refusal::NoProcess,
@@ -95,16 +109,21 @@ impl Kernel {
     pub fn boot(alloc: Global, number: u64, boot: &Boot, limit: u32) -> Result<Kernel, AllocError>
         ensures { IfOk result (λ kernel. kernel ≡ booted number boot.now limit) }
     {
-        let scripts = boot.scripts().copy()?;
-        let start = Store::start(alloc, boot)?;
+        let opening = Opening::boot(alloc, number, boot, limit)?;
         let machine = Machine::boot(alloc, number, boot)?;
         Ok(Kernel {
-            scripts,
-            start,
-            limit,
+            opening,
             trace: Trace::new(alloc),
             machine,
         })
+    }
+
+    /// Where the trace begins: what the kernel was booted with, its number, its trace limit, and the guess 1.
+    /// This takes no memory.
+    pub fn opening(&self) -> &Opening
+        ensures { result.now ≡ opening_of self.now }
+    {
+        &self.opening
     }
 
     /// What an entity has; `None` where it is absent.
@@ -166,7 +185,7 @@ impl Kernel {
     pub fn room(&self) -> usize
         ensures { result ≡ room self.now }
     {
-        (self.limit as usize)
+        (self.opening.limit() as usize)
             .saturating_sub(self.trace.events().len())
             .saturating_sub(self.machine.open_count())
     }
@@ -183,7 +202,7 @@ impl Kernel {
         ensures exact { result ≡ refusal_of (effect_at self.now (record { pid = pid; input = input.now; guess = None })) }
         ensures told { IfSome result (λ why. cause why ≡ Some why) }
     {
-        match plan_step(&self.machine, &self.scripts, pid, input) {
+        match plan_at(&self.machine, &self.opening, pid, input) {
             Ok(_) => None,
             Err(why) => Some(why),
         }
@@ -194,7 +213,7 @@ impl Kernel {
         ensures exact { result ≡ or_else (guess_misfits input.now (effect_at self.now (record { pid = pid; input = input.now; guess = Some (next_guess self.now) }))) (too_many self.now) }
         ensures told { IfSome result (λ why. cause why ≡ Some why) }
     {
-        if let Err(why) = plan_guess(&self.machine, &self.scripts, pid, input) {
+        if let Err(why) = plan_guess(&self.machine, &self.opening, pid, input) {
             return Some(why);
         }
         if self.machine.is_full() {
@@ -207,14 +226,15 @@ impl Kernel {
     pub fn next_of(&self, pid: Pid) -> Result<Next, Refusal>
         ensures { result ≡ next_of (map.get (state_at self.now)) self.now.scripts pid }
     {
-        next_of(&self.machine, &self.scripts, pid)
+        next_of(&self.machine, self.opening.scripts(), pid)
     }
 
     /// Takes a step of a process with an input. After a refusal the kernel is as it was.
     pub fn step(&mut self, pid: Pid, input: Input) -> Result<(), Refusal>
         ensures { StepPost result (step_refused self.old (record { pid = pid; input = input; guess = None })) (events.Step pid input) self.old self.new }
     {
-        let plan = plan_step(&self.machine, &self.scripts, pid, &input)?;
+        let plan = plan_at(&self.machine, &self.opening, pid, &input)?;
+        let _limit = self.opening.limit();
         if self.room() < 1 {
             return Err(Refusal::TraceFull);
         }
@@ -223,7 +243,7 @@ impl Kernel {
         }
         if self
             .machine
-            .take_step(&self.scripts, pid, &input, &plan)
+            .take_step(self.opening.scripts(), pid, &input, &plan)
             .is_err()
         {
             return Err(Refusal::Memory);
@@ -237,7 +257,8 @@ impl Kernel {
     pub fn create_speculation(&mut self, pid: Pid, input: Input) -> Result<Guess, Refusal>
         ensures { GuessPost result (guess_refused self.old (record { pid = pid; input = input; guess = Some (next_guess self.old) })) pid input self.old self.new }
     {
-        let plan = plan_guess(&self.machine, &self.scripts, pid, &input)?;
+        let plan = plan_guess(&self.machine, &self.opening, pid, &input)?;
+        let _limit = self.opening.limit();
         if self.machine.is_full() {
             return Err(Refusal::TooMany);
         }
@@ -247,7 +268,10 @@ impl Kernel {
         if self.trace.reserve(self.machine.open_count() + 2).is_err() {
             return Err(Refusal::Memory);
         }
-        let Ok(guess) = self.machine.take_guess(&self.scripts, pid, &input, &plan) else {
+        let Ok(guess) = self
+            .machine
+            .take_guess(self.opening.scripts(), pid, &input, &plan)
+        else {
             return Err(Refusal::Memory);
         };
         let id = guess.id();

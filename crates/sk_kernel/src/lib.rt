@@ -3,5 +3,7 @@
 
 pub mod kernel;
 pub mod laws;
+pub mod opening;
 
 pub use kernel::{FailRefusal, Kernel, Outcome, Stranger};
+pub use opening::Opening;

@@ -4,3 +4,5 @@ pub mod Pipe
 pub mod Signals
 pub mod Directory
 pub mod Value
+pub mod Same
+pub mod SameLemma

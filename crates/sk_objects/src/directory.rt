@@ -1,5 +1,5 @@
 //! Directories.
-ghost use Rattle.std.specs.Prelude.{◌≡◌, ◌≤◌, ◌<◌, [], length, IfOk, IfSome, IsSome, None};
+ghost use Rattle.std.specs.Prelude.{◌≡◌, ◌≤◌, ◌<◌, ◌↔◌, IsTrue, [], length, IfOk, IfSome, IsSome, None};
 ghost use Rattle.std.specs.List.{count_by};
 ghost use Rattle.sk_objects.specs.Directory.{is_before, looked_up, linked, unlinked, IsRising};
 ghost use Rattle.sk_objects.specs.declared.directory.TheConstants.{DIRECTORY_LIMIT};
@@ -35,6 +35,32 @@ fn names_before(links: &[(Name, ObjId)], name: &Name) -> usize
     ensures { result ≡ count_by (is_before name.now) links.now }
 {
     links.iter().filter(|link| link.0 < *name).count()
+}
+
+impl PartialEq for Directory {
+    ghost use Rattle.std.specs.Cmp.{decided, partial_equiv_from_equiv};
+    ghost use Rattle.sk_objects.specs.Same.{same_links};
+    ghost use Rattle.sk_objects.specs.SameLemma.{exact_links};
+
+    ghost eq = { same_links };
+
+    ghost laws = { partial_equiv_from_equiv (decided same_links exact_links) };
+
+    /// True exactly where both hold the same.
+    fn eq(&self, other: &Directory) -> bool
+        ensures computed { result ≡ same_links self.now other.now }
+        ensures exact { IsTrue result ↔ (self.now ≡ other.now) }
+    {
+        self.links.as_slice() == other.links.as_slice()
+    }
+}
+
+impl Eq for Directory {
+    ghost use Rattle.std.specs.Cmp.{decided};
+    ghost use Rattle.sk_objects.specs.Same.{same_links};
+    ghost use Rattle.sk_objects.specs.SameLemma.{exact_links};
+
+    ghost laws = { decided same_links exact_links };
 }
 
 impl Directory {

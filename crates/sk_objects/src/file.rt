@@ -1,5 +1,5 @@
 //! Files.
-ghost use Rattle.std.specs.Prelude.{◌≡◌, ◌≤◌, ◌<◌, ◌+◌, [], length, take, vec_len, IfOk, OnOk, OnErr};
+ghost use Rattle.std.specs.Prelude.{◌≡◌, ◌≤◌, ◌<◌, ◌+◌, ◌↔◌, IsTrue, [], length, take, vec_len, IfOk, OnOk, OnErr};
 ghost use Rattle.sk_ids.specs.declared.text.TheConstants.{TEXT_LIMIT};
 ghost use Rattle.sk_objects.specs.File.{overwritten, written, cut, part};
 ghost use Rattle.sk_objects.specs.declared.file.TheConstants.{FILE_LIMIT};
@@ -52,6 +52,32 @@ fn write(cells: &mut Vec<u8>, at: usize, bytes: &[u8]) -> Result<(), AllocError>
     }
     place(cells, at, bytes);
     Ok(())
+}
+
+impl PartialEq for File {
+    ghost use Rattle.std.specs.Cmp.{decided, partial_equiv_from_equiv};
+    ghost use Rattle.sk_objects.specs.Same.{same_bytes};
+    ghost use Rattle.sk_objects.specs.SameLemma.{exact_bytes};
+
+    ghost eq = { same_bytes };
+
+    ghost laws = { partial_equiv_from_equiv (decided same_bytes exact_bytes) };
+
+    /// True exactly where both hold the same.
+    fn eq(&self, other: &File) -> bool
+        ensures computed { result ≡ same_bytes self.now other.now }
+        ensures exact { IsTrue result ↔ (self.now ≡ other.now) }
+    {
+        self.bytes.as_slice() == other.bytes.as_slice()
+    }
+}
+
+impl Eq for File {
+    ghost use Rattle.std.specs.Cmp.{decided};
+    ghost use Rattle.sk_objects.specs.Same.{same_bytes};
+    ghost use Rattle.sk_objects.specs.SameLemma.{exact_bytes};
+
+    ghost laws = { decided same_bytes exact_bytes };
 }
 
 impl File {

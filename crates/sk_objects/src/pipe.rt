@@ -1,5 +1,5 @@
 //! Pipes.
-ghost use Rattle.std.specs.Prelude.{◌≡◌, ◌≤◌, ◌+◌, ◌++◌, false, [], length, take, drop, vec_len, vec_capacity, IfOk};
+ghost use Rattle.std.specs.Prelude.{◌≡◌, ◌≤◌, ◌+◌, ◌++◌, ◌↔◌, IsTrue, false, [], length, take, drop, vec_len, vec_capacity, IfOk};
 ghost use Rattle.sk_ids.specs.declared.text.TheConstants.{TEXT_LIMIT};
 ghost use Rattle.sk_objects.specs.Pipe.{PipeView};
 ghost use Rattle.sk_objects.specs.declared.pipe.TheConstants.{PIPE_LIMIT};
@@ -54,6 +54,32 @@ fn put_front(held: &mut Vec<u8>, bytes: &[u8])
 {
     held.extend_from_slice(bytes).unwrap();
     held.rotate_right(bytes.len());
+}
+
+impl PartialEq for Pipe {
+    ghost use Rattle.std.specs.Cmp.{decided, partial_equiv_from_equiv};
+    ghost use Rattle.sk_objects.specs.Same.{same_pipe};
+    ghost use Rattle.sk_objects.specs.SameLemma.{exact_pipe};
+
+    ghost eq = { same_pipe };
+
+    ghost laws = { partial_equiv_from_equiv (decided same_pipe exact_pipe) };
+
+    /// True exactly where both hold the same.
+    fn eq(&self, other: &Pipe) -> bool
+        ensures computed { result ≡ same_pipe self.now other.now }
+        ensures exact { IsTrue result ↔ (self.now ≡ other.now) }
+    {
+        self.shut == other.shut && self.bytes.as_slice() == other.bytes.as_slice()
+    }
+}
+
+impl Eq for Pipe {
+    ghost use Rattle.std.specs.Cmp.{decided};
+    ghost use Rattle.sk_objects.specs.Same.{same_pipe};
+    ghost use Rattle.sk_objects.specs.SameLemma.{exact_pipe};
+
+    ghost laws = { decided same_pipe exact_pipe };
 }
 
 impl Pipe {

@@ -1,5 +1,5 @@
 //! Queues of signals.
-ghost use Rattle.std.specs.Prelude.{◌≡◌, ◌≤◌, ◌<◌, ◌-◌, ◌++◌, ◌∷◌, ◌↔◌, [], length, take, drop, IfOk, IfSome, IsSome, All, slice_index};
+ghost use Rattle.std.specs.Prelude.{◌≡◌, ◌≤◌, ◌<◌, ◌-◌, ◌++◌, ◌∷◌, ◌↔◌, IsTrue, [], length, take, drop, IfOk, IfSome, IsSome, All, slice_index};
 ghost use Rattle.sk_objects.specs.Signals.{IsSignal};
 ghost use Rattle.sk_objects.specs.declared.signals.TheConstants.{SIGNALS_LIMIT};
 
@@ -29,6 +29,32 @@ impl Model for Signals {
     ghost view = { λ s. s.signals.items };
 
     ghost invariant = { λ s. (vec_len s.signals ≤ SIGNALS_LIMIT) × (SIGNALS_LIMIT ≤ vec_capacity s.signals) × All IsSignal s.signals.items };
+}
+
+impl PartialEq for Signals {
+    ghost use Rattle.std.specs.Cmp.{decided, partial_equiv_from_equiv};
+    ghost use Rattle.sk_objects.specs.Same.{same_bytes};
+    ghost use Rattle.sk_objects.specs.SameLemma.{exact_bytes};
+
+    ghost eq = { same_bytes };
+
+    ghost laws = { partial_equiv_from_equiv (decided same_bytes exact_bytes) };
+
+    /// True exactly where both hold the same.
+    fn eq(&self, other: &Signals) -> bool
+        ensures computed { result ≡ same_bytes self.now other.now }
+        ensures exact { IsTrue result ↔ (self.now ≡ other.now) }
+    {
+        self.signals.as_slice() == other.signals.as_slice()
+    }
+}
+
+impl Eq for Signals {
+    ghost use Rattle.std.specs.Cmp.{decided};
+    ghost use Rattle.sk_objects.specs.Same.{same_bytes};
+    ghost use Rattle.sk_objects.specs.SameLemma.{exact_bytes};
+
+    ghost laws = { decided same_bytes exact_bytes };
 }
 
 impl Signals {

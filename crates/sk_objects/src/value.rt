@@ -15,7 +15,7 @@ use std::alloc::{AllocError, Global};
 pub const LAST_STATUS: u8 = u8::MAX;
 
 /// What an entity other than a process holds.
-#[derive(Drop)]
+#[derive(Drop, PartialEq, Eq)]
 pub enum Value {
     /// A file.
     File(File),

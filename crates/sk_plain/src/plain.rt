@@ -1,5 +1,5 @@
 //! The plain kernel: it takes steps, and knows no guesses.
-ghost use Rattle.std.specs.Prelude.{◌≡◌, IfOk};
+ghost use Rattle.std.specs.Prelude.{◌≡◌, ◌↔◌, IsTrue, IfOk};
 ghost use Rattle.std.specs.List.Sorted.{IsStrictlySortedBy};
 ghost use Rattle.std.specs.FinMap as map;
 ghost use Rattle.sk_ids.specs.Entity.{entity_cmp};
@@ -32,6 +32,38 @@ impl Model for Plain {
     ghost view = { λ k. record { scripts = k.scripts; state = k.store; texts = k.texts } };
 }
 
+impl PartialEq for Plain {
+    ghost use Rattle.std.specs.Cmp.{decided, partial_equiv_from_equiv};
+    ghost use Rattle.sk_plain.specs.Same.{same_plain};
+    ghost use Rattle.sk_plain.specs.SameLemma.{exact_plain};
+
+    ghost eq = { same_plain };
+
+    ghost laws = { partial_equiv_from_equiv (decided same_plain exact_plain) };
+
+    /// True exactly for the same scripts, the same that entities have, and the same texts. This takes no memory.
+    fn eq(&self, other: &Plain) -> bool
+        ensures computed { result ≡ same_plain self.now other.now }
+        ensures exact { IsTrue result ↔ (self.now ≡ other.now) }
+    {
+        if self.scripts != other.scripts {
+            return false;
+        }
+        if self.store != other.store {
+            return false;
+        }
+        self.texts == other.texts
+    }
+}
+
+impl Eq for Plain {
+    ghost use Rattle.std.specs.Cmp.{decided};
+    ghost use Rattle.sk_plain.specs.Same.{same_plain};
+    ghost use Rattle.sk_plain.specs.SameLemma.{exact_plain};
+
+    ghost laws = { decided same_plain exact_plain };
+}
+
 impl Plain {
     /// The kernel at the start of a boot.
     pub fn boot(alloc: Global, boot: &Boot) -> Result<Plain, AllocError>
@@ -42,6 +74,13 @@ impl Plain {
             store: Store::start(alloc, boot)?,
             texts: Terminals::new(alloc),
         })
+    }
+
+    /// The scripts that it was booted with.
+    pub fn scripts(&self) -> &Scripts
+        ensures { result.now ≡ self.now.scripts }
+    {
+        &self.scripts
     }
 
     /// Takes the next step of a process with an input, and answers the text that it says. After a

@@ -20,3 +20,4 @@ pub mod Headline
 pub mod Kept
 pub mod Stays
 pub mod Laws
+pub mod Exact

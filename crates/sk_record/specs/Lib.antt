@@ -8,3 +8,4 @@ pub mod Release
 pub mod UndoState
 pub mod Machine
 pub mod Laws
+pub mod Same

@@ -1,12 +1,10 @@
 -- What is told of a script's lines is told of the script: from the reader of lines.
-use Rattle.std.proofs.Common.{◌≡◌, ◌<◌, ◌≤◌, inl, inr, ℕ, ◌+◌, List, Result, Ok, Err, refl, ap, arith}
+use Rattle.std.proofs.Common.{◌≡◌, ◌<◌, ◌≤◌, inl, inr, ℕ, List, Result, Ok, Err, refl, arith}
 use Rattle.std.specs.Prelude.{◌⊎◌}
-use Rattle.sk_words.specs.declared.fault.FaultKind.{FaultKind}
 use Rattle.sk_words.specs.declared.fault.FaultKind.TheVariants as kinds
 use Rattle.sk_words.specs.declared.fault.Fault.{Fault}
 use Rattle.sk_words.specs.Reading.{read_from, Tells}
 use Rattle.sk_words.proofs.FirstFault.{fault_is_behind}
-use Rattle.sk_script.specs.declared.instruction.Instruction.{Instruction}
 use Rattle.sk_script.specs.Scripting.{ScriptState, TellsScript, instructions_in, opening, script_from, script_line}
 
 or_weaker : (last : ℕ) (f g : Fault) → ((f ≡ g) ⊎ ((f.kind ≡ kinds.Memory) × (f.line < g.line))) → (f ≡ g) ⊎ ((f.kind ≡ kinds.Memory) × (f.line ≤ g.line))

@@ -7,3 +7,5 @@ pub mod Boot
 pub mod Instructions
 pub mod Scripting
 pub mod StepInput
+pub mod Same
+pub mod SameLemma

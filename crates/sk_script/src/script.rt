@@ -28,6 +28,32 @@ impl Model for Script {
     ghost invariant = { λ s. length s.instructions.items ≤ INSTRUCTIONS };
 }
 
+impl PartialEq for Script {
+    ghost use Rattle.std.specs.Cmp.{decided, partial_equiv_from_equiv};
+    ghost use Rattle.sk_script.specs.Same.{same_script};
+    ghost use Rattle.sk_script.specs.SameLemma.{exact_script};
+
+    ghost eq = { same_script };
+
+    ghost laws = { partial_equiv_from_equiv (decided same_script exact_script) };
+
+    /// True exactly for the same instructions.
+    fn eq(&self, other: &Script) -> bool
+        ensures computed { result ≡ same_script self.now other.now }
+        ensures exact { IsTrue result ↔ (self.now ≡ other.now) }
+    {
+        self.instructions.as_slice() == other.instructions.as_slice()
+    }
+}
+
+impl Eq for Script {
+    ghost use Rattle.std.specs.Cmp.{decided};
+    ghost use Rattle.sk_script.specs.Same.{same_script};
+    ghost use Rattle.sk_script.specs.SameLemma.{exact_script};
+
+    ghost laws = { decided same_script exact_script };
+}
+
 impl Script {
     /// The script of these instructions.
     pub(crate) fn of(instructions: Vec<Instruction>) -> Script

@@ -1,5 +1,5 @@
 //! Scripts by name.
-ghost use Rattle.std.specs.Prelude.{◌≡◌, IfOk, OnOk, OnErr, None};
+ghost use Rattle.std.specs.Prelude.{◌≡◌, ◌↔◌, IsTrue, IfOk, OnOk, OnErr, None};
 ghost use Rattle.std.specs.Option.{option_copied};
 ghost use Rattle.std.specs.FinMap as map;
 
@@ -25,6 +25,33 @@ impl Model for Scripts {
     ghost coded = { script_map_code };
 
     ghost view = { λ a. map.from_entries a.scripts.entries };
+}
+
+impl PartialEq for Scripts {
+    ghost use Rattle.std.specs.Cmp.{decided, partial_equiv_from_equiv};
+    ghost use Rattle.sk_script.specs.Same.{same_scripts};
+    ghost use Rattle.sk_script.specs.SameLemma.{exact_scripts};
+
+    ghost eq = { same_scripts };
+
+    ghost laws = { partial_equiv_from_equiv (decided same_scripts exact_scripts) };
+
+    /// True exactly for the same scripts under the same names.
+    fn eq(&self, other: &Scripts) -> bool
+        ensures computed { result ≡ same_scripts self.now other.now }
+        ensures exact { IsTrue result ↔ (self.now ≡ other.now) }
+    {
+        let _rising = (self.scripts.len(), other.scripts.len());
+        self.scripts == other.scripts
+    }
+}
+
+impl Eq for Scripts {
+    ghost use Rattle.std.specs.Cmp.{decided};
+    ghost use Rattle.sk_script.specs.Same.{same_scripts};
+    ghost use Rattle.sk_script.specs.SameLemma.{exact_scripts};
+
+    ghost laws = { decided same_scripts exact_scripts };
 }
 
 impl Scripts {

@@ -1,5 +1,5 @@
 -- What takes a write back.
-use Rattle.std.specs.Prelude.{◌≡◌, Option, Some, None, IsSome, refl}
+use Rattle.std.specs.Prelude.{Option, Some, None, IsSome, refl}
 use Rattle.std.specs.Coded.{Coded, code_by, coded×}
 use Rattle.std.specs.FinMap as map
 use Rattle.sk_ids.specs.declared.entity.Entity.{Entity}

@@ -2,3 +2,5 @@ pub mod State
 pub mod Changed
 pub mod Start
 pub mod Back
+pub mod Same
+pub mod SameLemma

@@ -6,7 +6,7 @@ use sk_script::Process;
 use std::alloc::AllocError;
 
 /// What an entity has: a process, or a value of a kernel object.
-#[derive(Drop)]
+#[derive(Drop, PartialEq, Eq)]
 pub enum EntityState {
     Process(Process),
     Value(Value),

@@ -4,3 +4,4 @@ pub mod SaidTo
 mod HeldTexts
 mod Listed
 mod Decided
+mod SameViews

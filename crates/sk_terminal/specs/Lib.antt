@@ -2,3 +2,5 @@ pub mod Terminal
 pub mod Terminals
 pub mod Held
 pub mod Resting
+pub mod Same
+pub mod SameLemma

@@ -21,6 +21,20 @@ impl Model for BufferedText {
     ghost view = { λ a. (a.text, a.tags) };
 }
 
+impl PartialEq for BufferedText {
+    ghost use Rattle.std.specs.Cmp.{decided, partial_equiv_from_equiv};
+    ghost use Rattle.sk_terminal.specs.Same.{same_said};
+    ghost use Rattle.sk_terminal.specs.SameLemma.{exact_said};
+
+    ghost eq = { same_said };
+
+    ghost laws = { partial_equiv_from_equiv (decided same_said exact_said) };
+
+    fn eq(&self, other: &BufferedText) -> bool {
+        self.text == other.text && self.tags.ids() == other.tags.ids()
+    }
+}
+
 impl BufferedText {
     /// A text that rests on these guesses.
     pub(crate) fn new(text: Text, tags: TagSet) -> BufferedText

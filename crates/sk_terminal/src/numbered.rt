@@ -34,6 +34,21 @@ impl Model for Numbered {
     ghost view = { λ a. map.from_entries a.terminals.entries };
 }
 
+impl PartialEq for Numbered {
+    ghost use Rattle.std.specs.Cmp.{decided, partial_equiv_from_equiv};
+    ghost use Rattle.sk_terminal.specs.Same.{same_terminals};
+    ghost use Rattle.sk_terminal.specs.SameLemma.{exact_terminals};
+
+    ghost eq = { same_terminals };
+
+    ghost laws = { partial_equiv_from_equiv (decided same_terminals exact_terminals) };
+
+    fn eq(&self, other: &Numbered) -> bool {
+        let _rising = (self.terminals.len(), other.terminals.len());
+        self.terminals == other.terminals
+    }
+}
+
 impl Numbered {
     /// Nothing said yet.
     pub(crate) fn new(alloc: Global) -> Numbered

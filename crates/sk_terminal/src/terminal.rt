@@ -1,11 +1,12 @@
 //! The texts said to one terminal.
-ghost use Rattle.std.specs.Prelude.{◌≡◌, ◌+◌, ◌≤◌, ◌++◌, ◌∷◌, [], ℕ, true, false, not, length, map, take, drop, OnOk, OnErr};
+ghost use Rattle.std.specs.Prelude.{◌≡◌, ◌+◌, ◌≤◌, ◌++◌, ◌∷◌, ◌↔◌, IsTrue, [], ℕ, true, false, not, length, map, take, drop, OnOk, OnErr};
 ghost use Rattle.std.specs.Vec.{vec_capacity};
 ghost use Rattle.std.specs.List.{prefix_len, list_all, list_any, filter};
 ghost use Rattle.sk_record.specs.Notes.{has};
 ghost use Rattle.sk_terminal.specs.Held.{texts_of, AreBounded};
 ghost use Rattle.sk_record.specs.Machine.{released, lightened, not_dropped};
 ghost use Rattle.sk_terminal.specs.Terminal.{any_rests, is_clear, clear, waiting_of};
+ghost use Rattle.sk_terminal.specs.Same.{same_texts};
 
 use crate::buffered_text::BufferedText;
 use sk_ids::{GuessId, TagSet, Text};
@@ -30,6 +31,21 @@ pub(crate) struct Held {
     newest: u64,
 }
 
+/// What was said, whatever the number.
+impl PartialEq for Held {
+    ghost use Rattle.std.specs.Cmp.{decided, on_equiv, partial_equiv_from_equiv};
+    ghost use Rattle.sk_terminal.specs.Same.{same_said};
+    ghost use Rattle.sk_terminal.specs.SameLemma.{exact_said};
+
+    ghost eq = { λ a b. same_said a.said b.said };
+
+    ghost laws = { partial_equiv_from_equiv (on_equiv (λ h. h.said) (decided same_said exact_said)) };
+
+    fn eq(&self, other: &Held) -> bool {
+        self.said == other.said
+    }
+}
+
 impl Model for Terminal {
     ghost use Rattle.std.specs.Prelude.{◌≡◌, ◌+◌, ◌≤◌, ◌++◌, List, [], length, map};
     ghost use Rattle.std.specs.Vec.{vec_capacity};
@@ -42,6 +58,33 @@ impl Model for Terminal {
     ghost view = { λ a. map clear a.out.items ++ texts_of a.waiting.items };
 
     ghost invariant = { λ a. (released (texts_of a.waiting.items) ≡ []) × (length a.out.items + length a.waiting.items ≤ vec_capacity a.out) × AreBounded 0 a.waiting.items a.newest };
+}
+
+impl PartialEq for Terminal {
+    ghost use Rattle.std.specs.Cmp.{decided, partial_equiv_from_equiv};
+    ghost use Rattle.sk_terminal.specs.Same.{same_texts};
+    ghost use Rattle.sk_terminal.specs.SameLemma.{exact_texts};
+
+    ghost eq = { same_texts };
+
+    ghost laws = { partial_equiv_from_equiv (decided same_texts exact_texts) };
+
+    /// True exactly for the same texts, each with the same guesses.
+    fn eq(&self, other: &Terminal) -> bool
+        ensures computed { result ≡ same_texts self.now other.now }
+        ensures exact { IsTrue result ↔ (self.now ≡ other.now) }
+    {
+        let released = self.out.as_slice() == other.out.as_slice();
+        released && same_waiting(self.waiting.as_slice(), other.waiting.as_slice())
+    }
+}
+
+impl Eq for Terminal {
+    ghost use Rattle.std.specs.Cmp.{decided};
+    ghost use Rattle.sk_terminal.specs.Same.{same_texts};
+    ghost use Rattle.sk_terminal.specs.SameLemma.{exact_texts};
+
+    ghost laws = { decided same_texts exact_texts };
 }
 
 impl Terminal {
@@ -106,6 +149,13 @@ impl Terminal {
     {
         self.waiting.len()
     }
+}
+
+/// Whether the same texts wait.
+fn same_waiting(texts: &[Held], others: &[Held]) -> bool
+    ensures { result ≡ same_texts (texts_of texts.now) (texts_of others.now) }
+{
+    texts == others
 }
 
 /// The greatest of a number and the guesses of a set.

@@ -1,5 +1,5 @@
 //! What was said to each terminal.
-ghost use Rattle.std.specs.Prelude.{◌≡◌, ℕ, OnOk, OnErr};
+ghost use Rattle.std.specs.Prelude.{◌≡◌, ◌↔◌, ℕ, IsTrue, OnOk, OnErr};
 ghost use Rattle.std.specs.Option.{option_copied, option_map};
 ghost use Rattle.std.specs.FinMap as map;
 ghost use Rattle.sk_record.specs.Machine.{lightened, not_dropped};
@@ -32,6 +32,32 @@ impl Model for Terminals {
     ghost view = { λ a. a.numbered };
 
     ghost invariant = { λ a. AllListed a.numbered a.lists.items };
+}
+
+impl PartialEq for Terminals {
+    ghost use Rattle.std.specs.Cmp.{decided, partial_equiv_from_equiv};
+    ghost use Rattle.sk_terminal.specs.Same.{same_terminals};
+    ghost use Rattle.sk_terminal.specs.SameLemma.{exact_terminals};
+
+    ghost eq = { same_terminals };
+
+    ghost laws = { partial_equiv_from_equiv (decided same_terminals exact_terminals) };
+
+    /// True exactly for the same texts at each terminal.
+    fn eq(&self, other: &Terminals) -> bool
+        ensures computed { result ≡ same_terminals self.now other.now }
+        ensures exact { IsTrue result ↔ (self.now ≡ other.now) }
+    {
+        self.numbered == other.numbered
+    }
+}
+
+impl Eq for Terminals {
+    ghost use Rattle.std.specs.Cmp.{decided};
+    ghost use Rattle.sk_terminal.specs.Same.{same_terminals};
+    ghost use Rattle.sk_terminal.specs.SameLemma.{exact_terminals};
+
+    ghost laws = { decided same_terminals exact_terminals };
 }
 
 impl Terminals {

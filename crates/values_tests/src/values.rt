@@ -1,4 +1,6 @@
 //! The readers on values of each kind, and the calls that take memory.
+ghost use Rattle.std.specs.Prelude.{◌<◌};
+
 use sk_ids::{Name, ObjId, Text};
 use sk_objects::{Content, Directory, File, Kind, Pipe, Value};
 use std::alloc::{AllocError, Global};
@@ -146,4 +148,35 @@ fn slots(rt: HostRuntime) {
         Some(Some(9_223_372_036_854_775_807))
     );
     assert_eq!(rt; version(9_223_372_036_854_775_808), None);
+}
+
+/// The file of `written` with another byte at a place.
+fn written_otherwise(alloc: Global, place: usize) -> Result<Value, AllocError>
+    requires { place < 7 }
+{
+    let mut file = written(alloc)?;
+    file.write_at(place, b"#")?;
+    Ok(Value::File(file))
+}
+
+#[test]
+fn equal_values(rt: HostRuntime) -> Result<(), Fail> {
+    let value = Value::File(written(rt.alloc())?);
+    assert!(rt; value == value.copy()?);
+    for place in 0..7 {
+        assert!(rt; value != written_otherwise(rt.alloc(), place)?);
+    }
+    Ok(())
+}
+
+#[test]
+fn first_values_of_two_kinds(rt: HostRuntime) -> Result<(), Fail> {
+    let kinds = [Kind::File, Kind::Dir, Kind::Pipe, Kind::Signals, Kind::Exit];
+    for one in kinds {
+        for other in kinds {
+            let value = Value::empty(rt.alloc(), one)?;
+            assert_eq!(rt; value == Value::empty(rt.alloc(), other)?, one == other);
+        }
+    }
+    Ok(())
 }

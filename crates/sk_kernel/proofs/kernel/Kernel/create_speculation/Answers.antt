@@ -1,5 +1,9 @@
 -- The plan is what the plain kernel does on the trace's record; the machine draws the next guess and takes it.
-use Rattle.std.proofs.Common.{◌≡◌, Some, None, [], ◌∷◌, ◌++◌, refl, sym, ◌∙◌, ap, subst, arith, rules}
+use Rattle.std.proofs.Common.{◌+◌, ◌<◌, ◌^◌, ◌≡◌, Some, None, [], ◌∷◌, ◌++◌, refl, sym, ◌∙◌, ap, subst, arith, rules}
+use Rattle.sk_record.specs.Machine.{Takes}
+use Rattle.sk_guesses.specs.Guesses.{next_of}
+use Rattle.sk_machine.specs.Parts.{machine_of}
+use Rattle.sk_plain.specs.Act.{plain}
 use Rattle.sk_trace.specs.Entry.{EntryView}
 use Rattle.sk_trace.specs.declared.event.Event.TheVariants as events
 use Rattle.sk_plain.specs.declared.refusal.Refusal.TheVariants.{TooMany, TraceFull}
@@ -10,6 +14,7 @@ use Rattle.sk_machine.proofs.Given.{from_ok}
 use Rattle.sk_kernel.proofs.Whole.{tidy, next_rises}
 use Rattle.sk_kernel.proofs.Tokens.{next_is, guess_new, guessed_whole}
 use Rattle.sk_kernel.proofs.Refusals.{guess_misfit, guess_too_many, guess_without_room, guess_free}
+use Rattle.sk_kernel.proofs.Opened.{still_opened, few_open}
 use Rattle.sk_kernel.proofs.kernel.Kernel.create_speculation.Goals as goal
 
 pub returns-in_err-plan : goal.returns-in_err-plan
@@ -17,21 +22,21 @@ returns-in_err-plan c =
     let n : EntryView = record { pid = c.args.pid; input = c.args.input; guess = Some (next_guess c.args.self.now) } in
     let why = c.in_err-plan.field-0.0 in
     let refused = subst (λ (k : KernelView). guess_refused k n ≡ Some why) c.self.view_is
-    (guess_misfit (the_view c.self.inside) c.self.inside.machine c.self.inside.trace.room c.self.invariant n why c.in_err-plan.ensures.0) in
+    (guess_misfit (the_view c.self.inside) c.self.inside.machine c.self.inside.trace.room c.self.invariant.0 n why c.in_err-plan.ensures.0) in
     let told = c.in_err-plan.ensures.1 in
     search (rules, refused, told)
 
 pub take_guess-requires-clause-tidy : goal.take_guess-requires-clause-tidy
-take_guess-requires-clause-tidy c = tidy (the_view c.self.inside) c.self.inside.machine c.self.invariant.stands
+take_guess-requires-clause-tidy c = tidy (the_view c.self.inside) c.self.inside.machine c.self.invariant.0.stands
 
 pub take_guess-requires-clause-rising : goal.take_guess-requires-clause-rising
-take_guess-requires-clause-rising c = next_rises (the_view c.self.inside) c.self.inside.machine c.self.invariant.stands
+take_guess-requires-clause-rising c = next_rises (the_view c.self.inside) c.self.inside.machine c.self.invariant.0.stands
 
 pub returns-then-is_full : goal.returns-then-is_full
 returns-then-is_full c =
     let n : EntryView = record { pid = c.args.pid; input = c.args.input; guess = Some (next_guess c.args.self.now) } in (
       subst (λ (k : KernelView). guess_refused k n ≡ Some TooMany) c.self.view_is
-          (guess_too_many (the_view c.self.inside) c.self.inside.machine c.self.inside.trace.room c.self.invariant n c.in_ok-plan.ensures.1 (sym c.is_full.ensures ∙ c.if-is_full.true)),
+          (guess_too_many (the_view c.self.inside) c.self.inside.machine c.self.inside.trace.room c.self.invariant.0 n c.in_ok-plan.ensures.1 (sym c.is_full.ensures ∙ c.if-is_full.true)),
       refl,
     )
 
@@ -39,7 +44,7 @@ pub returns-then-room-lt2 : goal.returns-then-room-lt2
 returns-then-room-lt2 c =
     let n : EntryView = record { pid = c.args.pid; input = c.args.input; guess = Some (next_guess c.args.self.now) } in (
       subst (λ (k : KernelView). guess_refused k n ≡ Some TraceFull) c.self.view_is
-          (guess_without_room (the_view c.self.inside) c.self.inside.machine c.self.inside.trace.room c.self.invariant n c.in_ok-plan.ensures.1 (sym c.is_full.ensures ∙ c.if-is_full.false)
+          (guess_without_room (the_view c.self.inside) c.self.inside.machine c.self.inside.trace.room c.self.invariant.0 n c.in_ok-plan.ensures.1 (sym c.is_full.ensures ∙ c.if-is_full.false)
           c.room.result (c.room.ensures ∙ ap room (sym c.self.view_is)) c.if-room-lt2.true),
       refl,
     )
@@ -48,9 +53,9 @@ pub returns-then-is_err : goal.returns-then-is_err
 returns-then-is_err c =
     let n : EntryView = record { pid = c.args.pid; input = c.args.input; guess = Some (next_guess c.args.self.now) } in (
       subst (λ (k : KernelView). guess_refused k n ≡ None) c.self.view_is
-          (guess_free (the_view c.self.inside) c.self.inside.machine c.self.inside.trace.room c.self.invariant n c.in_ok-plan.ensures.1 (sym c.is_full.ensures ∙ c.if-is_full.false)
+          (guess_free (the_view c.self.inside) c.self.inside.machine c.self.inside.trace.room c.self.invariant.0 n c.in_ok-plan.ensures.1 (sym c.is_full.ensures ∙ c.if-is_full.false)
           c.room.result (c.room.ensures ∙ ap room (sym c.self.view_is)) c.if-room-lt2.false),
-      (λ i. record { number = c.self.inside.machine.guesses.kernel; scripts = c.self.inside.scripts; start = c.self.inside.start; limit = c.self.inside.limit; trace = c.reserve.ensures.events i })
+      (λ i. record { number = c.self.inside.machine.guesses.kernel; scripts = c.self.inside.opening.start.scripts; start = c.self.inside.opening.start.state; limit = c.self.inside.opening.limit; trace = c.reserve.ensures.events i })
           ∙ c.self.view_is,
     )
 
@@ -59,39 +64,51 @@ returns-in_default c =
     let n : EntryView = record { pid = c.args.pid; input = c.args.input; guess = Some (next_guess c.args.self.now) } in
     let same = c.in_default.ensures.err in (
       subst (λ (k : KernelView). guess_refused k n ≡ None) c.self.view_is
-          (guess_free (the_view c.self.inside) c.self.inside.machine c.self.inside.trace.room c.self.invariant n c.in_ok-plan.ensures.1 (sym c.is_full.ensures ∙ c.if-is_full.false)
+          (guess_free (the_view c.self.inside) c.self.inside.machine c.self.inside.trace.room c.self.invariant.0 n c.in_ok-plan.ensures.1 (sym c.is_full.ensures ∙ c.if-is_full.false)
           c.room.result (c.room.ensures ∙ ap room (sym c.self.view_is)) c.if-room-lt2.false),
-      (λ i. record { number = (same i).guesses.kernel; scripts = c.self.inside.scripts; start = c.self.inside.start; limit = c.self.inside.limit; trace = c.reserve.ensures.events i })
+      (λ i. record { number = (same i).guesses.kernel; scripts = c.self.inside.opening.start.scripts; start = c.self.inside.opening.start.state; limit = c.self.inside.opening.limit; trace = c.reserve.ensures.events i })
           ∙ c.self.view_is,
     )
 
 pub invariant_of-self-2 : goal.invariant_of-self-2
 invariant_of-self-2 c =
+    let drawn_entry : EntryView = record { pid = c.args.pid; input = c.args.input; guess = Some (next_of c.self.inside.machine.guesses) } in
+    let takes = subst (λ s. Takes (plain s) (machine_of c.self.inside.machine) drawn_entry (machine_of c.take_guess.new.self)) c.scripts.ensures c.in-Ok.ensures.ok in
     let reserved = from_ok c.reserve.result c.if-is_err.ensures.value c.reserve.ensures.room in
     let pushed = c.push.ensures.room in
     let counted = c.open_count.ensures in
-    let number = c.id-id.ensures ∙ ap (λ t. t.id) c.in-Ok.ensures.token in
-    guessed_whole (the_view c.self.inside) c.self.inside.machine c.self.inside.trace.room c.self.invariant c.take_guess.new.self c.push.new.self.room c.args.pid c.args.input c.id-id.result c.push.new.self.events
-    c.in-Ok.ensures.ok c.in-Ok.ensures.guesses number
-    (c.push.ensures.events ∙ ap (λ es. es ++ events.Guess c.id-id.result c.args.pid c.args.input ∷ []) c.reserve.ensures.events)
-    (omega (arith, reserved, pushed, counted))
+    let number = c.id-id.ensures ∙ ap (λ t. t.id) c.in-Ok.ensures.token in (
+      guessed_whole (the_view c.self.inside) c.self.inside.machine c.self.inside.trace.room c.self.invariant.0 c.take_guess.new.self c.push.new.self.room c.args.pid c.args.input c.id-id.result c.push.new.self.events
+          takes c.in-Ok.ensures.guesses number
+          (c.push.ensures.events ∙ ap (λ es. es ++ events.Guess c.id-id.result c.args.pid c.args.input ∷ []) c.reserve.ensures.events)
+          (omega (arith, reserved, pushed, counted)),
+      still_opened (the_view c.self.inside) _ c.push.new.self.events _ c.self.invariant.1 (ap (λ v. v.kernel) c.in-Ok.ensures.guesses),
+    )
 
 pub returns : goal.returns
 returns c =
     let n : EntryView = record { pid = c.args.pid; input = c.args.input; guess = Some (next_guess c.args.self.now) } in
-    let next = next_is (the_view c.self.inside) c.self.inside.machine c.self.inside.trace.room c.self.invariant ∙ ap next_guess c.self.view_is in
+    let next = next_is (the_view c.self.inside) c.self.inside.machine c.self.inside.trace.room c.self.invariant.0 ∙ ap next_guess c.self.view_is in
     let number = c.id-id.ensures ∙ ap (λ t. t.id) c.in-Ok.ensures.token ∙ next in
     let more = c.push.ensures.events ∙ ap (λ es. es ++ events.Guess c.id-id.result c.args.pid c.args.input ∷ []) c.reserve.ensures.events ∙ ap (λ g. c.self.inside.trace.events ++ events.Guess g c.args.pid c.args.input ∷ []) number in
     let left =
-    (λ i. record { number = (c.in-Ok.ensures.guesses i).kernel; scripts = c.self.inside.scripts; start = c.self.inside.start; limit = c.self.inside.limit; trace = more i })
+    (λ i. record { number = (c.in-Ok.ensures.guesses i).kernel; scripts = c.self.inside.opening.start.scripts; start = c.self.inside.opening.start.state; limit = c.self.inside.opening.limit; trace = more i })
     ∙ ap (λ (k : KernelView). with_event k (events.Guess (next_guess c.args.self.now) c.args.pid c.args.input)) c.self.view_is in
+    let drawn_entry : EntryView = record { pid = c.args.pid; input = c.args.input; guess = Some (next_of c.self.inside.machine.guesses) } in
+    let takes = subst (λ s. Takes (plain s) (machine_of c.self.inside.machine) drawn_entry (machine_of c.take_guess.new.self)) c.scripts.ensures c.in-Ok.ensures.ok in
     let fresh =
     subst (λ (k : KernelView). IsNew k (with_event k (events.Guess (next_guess k) c.args.pid c.args.input))) c.self.view_is
-    (guess_new (the_view c.self.inside) c.self.inside.machine c.self.inside.trace.room c.self.invariant c.take_guess.new.self c.args.pid c.args.input c.in-Ok.ensures.ok) in (
+    (guess_new (the_view c.self.inside) c.self.inside.machine c.self.inside.trace.room c.self.invariant.0 c.take_guess.new.self c.args.pid c.args.input takes) in (
       subst (λ (k : KernelView). guess_refused k n ≡ None) c.self.view_is
-          (guess_free (the_view c.self.inside) c.self.inside.machine c.self.inside.trace.room c.self.invariant n c.in_ok-plan.ensures.1 (sym c.is_full.ensures ∙ c.if-is_full.false)
+          (guess_free (the_view c.self.inside) c.self.inside.machine c.self.inside.trace.room c.self.invariant.0 n c.in_ok-plan.ensures.1 (sym c.is_full.ensures ∙ c.if-is_full.false)
           c.room.result (c.room.ensures ∙ ap room (sym c.self.view_is)) c.if-room-lt2.false),
       c.in-Ok.ensures.token ∙ (λ i. record { kernel = (ap (λ (k : KernelView). k.number) c.self.view_is) i; id = next i }),
       left,
       subst (λ (k : KernelView). IsNew c.args.self.now k) (sym left) fresh,
     )
+
+pub overflow_add-open_count : goal.overflow_add-open_count
+overflow_add-open_count c =
+    let few = few_open (the_view c.self.inside) c.self.inside.machine c.self.invariant.0.stands c.room.result (c.room.ensures ∙ ap room (sym c.self.view_is)) (omega (arith, c.if-room-lt2.false)) in
+    let below : c.open_count.result + 2 < 2 ^ 33 = omega (arith, few, c.open_count.ensures, c.limit-limit.ensures, c.limit-limit.type_inv) in
+    search (rules, below)

@@ -4,39 +4,42 @@ use Rattle.sk_trace.specs.declared.event.Event.TheVariants as events
 use Rattle.sk_kernel.specs.contracts.kernel.Kernel.{the_view}
 use Rattle.sk_kernel.proofs.Whole.{grows, open_undecided, opens_rise}
 use Rattle.sk_kernel.proofs.Tokens.{token_undecided, stranger_back, nothing_left, decided_by, kept_place, failed_whole}
+use Rattle.sk_kernel.proofs.Opened.{still_opened}
 use Rattle.sk_kernel.proofs.kernel.Kernel.fail_speculation.Goals as goal
 
 pub returns-in-Err : goal.returns-in-Err
 returns-in-Err c =
-    let told = stranger_back (the_view c.self.inside) c.self.inside.machine c.self.inside.trace.room c.self.invariant c.args.guess c.args.self.now c.self.view_is c.in-Err.guess (sym c.redeem.ensures ∙ c.in-Err.is) in
+    let told = stranger_back (the_view c.self.inside) c.self.inside.machine c.self.inside.trace.room c.self.invariant.0 c.args.guess c.args.self.now c.self.view_is c.in-Err.guess (sym c.redeem.ensures ∙ c.in-Err.is) in
     (told.0, told.1, refl)
 
 pub fail-requires-clause-opens : goal.fail-requires-clause-opens
-fail-requires-clause-opens c = λ g. (open_undecided (the_view c.self.inside) c.self.inside.machine c.self.invariant.stands g).0
+fail-requires-clause-opens c = λ g. (open_undecided (the_view c.self.inside) c.self.inside.machine c.self.invariant.0.stands g).0
 
 pub fail-requires-clause-rising : goal.fail-requires-clause-rising
-fail-requires-clause-rising c = opens_rise (the_view c.self.inside) c.self.inside.machine c.self.invariant.stands
+fail-requires-clause-rising c = opens_rise (the_view c.self.inside) c.self.inside.machine c.self.invariant.0.stands
 
 pub fail-requires-clause-grow : goal.fail-requires-clause-grow
-fail-requires-clause-grow c = grows (the_view c.self.inside) c.self.inside.machine c.self.invariant.stands
+fail-requires-clause-grow c = grows (the_view c.self.inside) c.self.inside.machine c.self.invariant.0.stands
 
 pub push-requires : goal.push-requires
 push-requires c =
-    kept_place (the_view c.self.inside) c.self.inside.machine c.self.inside.machine c.self.inside.trace.room 0 c.in-Undecided.id [] c.self.invariant
-    (token_undecided (the_view c.self.inside) c.self.inside.machine c.self.inside.trace.room c.self.invariant c.args.guess c.in-Undecided.id (sym c.redeem.ensures ∙ c.in-Ok.is ∙ ap Ok c.in-Undecided.is))
+    kept_place (the_view c.self.inside) c.self.inside.machine c.self.inside.machine c.self.inside.trace.room 0 c.in-Undecided.id [] c.self.invariant.0
+    (token_undecided (the_view c.self.inside) c.self.inside.machine c.self.inside.trace.room c.self.invariant.0 c.args.guess c.in-Undecided.id (sym c.redeem.ensures ∙ c.in-Ok.is ∙ ap Ok c.in-Undecided.is))
 
 pub invariant_of-self : goal.invariant_of-self
-invariant_of-self c =
-    failed_whole (the_view c.self.inside) c.self.inside.machine c.fail.new.self c.self.inside.trace.room c.push.new.self.room c.in-Undecided.id c.push.new.self.events c.self.invariant
-    (token_undecided (the_view c.self.inside) c.self.inside.machine c.self.inside.trace.room c.self.invariant c.args.guess c.in-Undecided.id (sym c.redeem.ensures ∙ c.in-Ok.is ∙ ap Ok c.in-Undecided.is))
-    c.fail.ensures.fails c.fail.ensures.drawn c.push.ensures.events c.push.ensures.room
+invariant_of-self c = (
+  failed_whole (the_view c.self.inside) c.self.inside.machine c.fail.new.self c.self.inside.trace.room c.push.new.self.room c.in-Undecided.id c.push.new.self.events c.self.invariant.0
+      (token_undecided (the_view c.self.inside) c.self.inside.machine c.self.inside.trace.room c.self.invariant.0 c.args.guess c.in-Undecided.id (sym c.redeem.ensures ∙ c.in-Ok.is ∙ ap Ok c.in-Undecided.is))
+      c.fail.ensures.fails c.fail.ensures.drawn c.push.ensures.events c.push.ensures.room,
+  still_opened (the_view c.self.inside) _ c.push.new.self.events _ c.self.invariant.1 c.fail.ensures.kernel,
+)
 
 pub returns-in-Struck : goal.returns-in-Struck
 returns-in-Struck c =
-    nothing_left (the_view c.self.inside) c.self.inside.machine c.self.inside.trace.room c.self.invariant c.args.guess c.args.self.now c.self.view_is c.in-Struck._struck (events.Fail c.args.guess.id)
+    nothing_left (the_view c.self.inside) c.self.inside.machine c.self.inside.trace.room c.self.invariant.0 c.args.guess c.args.self.now c.self.view_is c.in-Struck._struck (events.Fail c.args.guess.id)
     (sym c.redeem.ensures ∙ c.in-Ok.is ∙ ap Ok c.in-Struck.is)
 
 pub returns-in-Undecided : goal.returns-in-Undecided
 returns-in-Undecided c =
-    decided_by (the_view c.self.inside) c.self.inside.machine c.self.inside.trace.room c.self.invariant c.args.guess c.args.self.now c.self.view_is c.in-Undecided.id events.Fail _ (sym c.redeem.ensures ∙ c.in-Ok.is ∙ ap Ok c.in-Undecided.is)
-    (λ i. record { number = c.fail.ensures.kernel i; scripts = c.self.inside.scripts; start = c.self.inside.start; limit = c.self.inside.limit; trace = c.push.ensures.events i })
+    decided_by (the_view c.self.inside) c.self.inside.machine c.self.inside.trace.room c.self.invariant.0 c.args.guess c.args.self.now c.self.view_is c.in-Undecided.id events.Fail _ (sym c.redeem.ensures ∙ c.in-Ok.is ∙ ap Ok c.in-Undecided.is)
+    (λ i. record { number = c.fail.ensures.kernel i; scripts = c.self.inside.opening.start.scripts; start = c.self.inside.opening.start.state; limit = c.self.inside.opening.limit; trace = c.push.ensures.events i })

@@ -1,5 +1,5 @@
 -- The oldest open guess is the least of the trace's undecided ones.
-use Rattle.std.proofs.Common.{◌≡◌, ◌∙◌, ap, get_or}
+use Rattle.std.proofs.Common.{◌∙◌, ap, get_or}
 use Rattle.sk_kernel.specs.Kernel.{settled}
 use Rattle.sk_kernel.specs.contracts.kernel.Kernel.{the_view}
 use Rattle.sk_kernel.proofs.Whole.{opens_are}
@@ -10,5 +10,5 @@ pub returns : goal.returns
 returns c =
     let k = the_view c.self.inside in
     c.settled.ensures
-    ∙ (λ i. get_or (opens_are k c.self.inside.machine c.self.invariant.stands i) 0 (next_is k c.self.inside.machine c.self.inside.trace.room c.self.invariant i))
+    ∙ (λ i. get_or (opens_are k c.self.inside.machine c.self.invariant.0.stands i) 0 (next_is k c.self.inside.machine c.self.inside.trace.room c.self.invariant.0 i))
     ∙ ap settled c.self.view_is

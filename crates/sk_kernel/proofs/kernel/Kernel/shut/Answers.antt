@@ -12,4 +12,4 @@ returns-clause-texts c = λ t.
     let m = c.self.inside.machine in
     subst (λ (texts : TerminalMap). LeavesTexts c.args.self t (released_at texts t)) (sym c.into_texts.ensures)
     (subst (λ (k : KernelView). LeavesTexts k t (released_at m.texts t)) c.self.view_is
-    (texts_left (the_view c.self.inside) m c.self.invariant.stands (ap undecided_at c.self.view_is ∙ c.requires) t))
+    (texts_left (the_view c.self.inside) m c.self.invariant.0.stands (ap undecided_at c.self.view_is ∙ c.requires) t))

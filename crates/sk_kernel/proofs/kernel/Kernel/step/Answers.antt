@@ -1,5 +1,8 @@
 -- The plan is what the plain kernel does on the trace's record; the machine takes it, and stands for the trace with one event more.
-use Rattle.std.proofs.Common.{◌≡◌, Some, None, ◌∷◌, ◌++◌, [], refl, sym, ◌∙◌, ap, subst, arith, rules}
+use Rattle.std.proofs.Common.{◌+◌, ◌<◌, ◌^◌, ◌≡◌, Some, None, ◌∷◌, ◌++◌, [], refl, sym, ◌∙◌, ap, subst, arith, rules}
+use Rattle.sk_record.specs.Machine.{Takes}
+use Rattle.sk_machine.specs.Parts.{machine_of}
+use Rattle.sk_plain.specs.Act.{plain}
 use Rattle.sk_trace.specs.Entry.{EntryView}
 use Rattle.sk_trace.specs.declared.event.Event.TheVariants as events
 use Rattle.sk_plain.specs.declared.refusal.Refusal.TheVariants.{TraceFull}
@@ -8,6 +11,7 @@ use Rattle.sk_kernel.specs.contracts.kernel.Kernel.{the_view}
 use Rattle.sk_machine.proofs.Given.{from_ok, from_err}
 use Rattle.sk_kernel.proofs.Whole.{tidy, opens_rise, stepped_whole, no_more_opens}
 use Rattle.sk_kernel.proofs.Refusals.{step_misfits, step_without_room, step_free}
+use Rattle.sk_kernel.proofs.Opened.{still_opened, few_open}
 use Rattle.sk_kernel.proofs.kernel.Kernel.step.Goals as goal
 
 pub returns-in_err-plan : goal.returns-in_err-plan
@@ -15,14 +19,14 @@ returns-in_err-plan c =
     let n : EntryView = record { pid = c.args.pid; input = c.args.input; guess = None } in
     let why = c.in_err-plan.field-0.0 in
     let refused = subst (λ (k : KernelView). step_refused k n ≡ Some why) c.self.view_is
-    (step_misfits (the_view c.self.inside) c.self.inside.machine c.self.inside.trace.room c.self.invariant n why c.in_err-plan.ensures.plans) in
+    (step_misfits (the_view c.self.inside) c.self.inside.machine c.self.inside.trace.room c.self.invariant.0 n why c.in_err-plan.ensures.plans) in
     search (rules, refused)
 
 pub returns-then-room-lt1 : goal.returns-then-room-lt1
 returns-then-room-lt1 c =
     let n : EntryView = record { pid = c.args.pid; input = c.args.input; guess = None } in (
       subst (λ (k : KernelView). step_refused k n ≡ Some TraceFull) c.self.view_is
-          (step_without_room (the_view c.self.inside) c.self.inside.machine c.self.inside.trace.room c.self.invariant n _ c.room.result c.in_ok-plan.ensures.plans (c.room.ensures ∙ ap room (sym c.self.view_is)) c.if-room-lt1.true),
+          (step_without_room (the_view c.self.inside) c.self.inside.machine c.self.inside.trace.room c.self.invariant.0 n _ c.room.result c.in_ok-plan.ensures.plans (c.room.ensures ∙ ap room (sym c.self.view_is)) c.if-room-lt1.true),
       refl,
     )
 
@@ -30,45 +34,54 @@ pub returns-then-is_err : goal.returns-then-is_err
 returns-then-is_err c =
     let n : EntryView = record { pid = c.args.pid; input = c.args.input; guess = None } in (
       subst (λ (k : KernelView). step_refused k n ≡ None) c.self.view_is
-          (step_free (the_view c.self.inside) c.self.inside.machine c.self.inside.trace.room c.self.invariant n _ c.room.result c.in_ok-plan.ensures.plans (c.room.ensures ∙ ap room (sym c.self.view_is)) c.if-room-lt1.false),
-      (λ i. record { number = c.self.inside.machine.guesses.kernel; scripts = c.self.inside.scripts; start = c.self.inside.start; limit = c.self.inside.limit; trace = c.reserve.ensures.events i })
+          (step_free (the_view c.self.inside) c.self.inside.machine c.self.inside.trace.room c.self.invariant.0 n _ c.room.result c.in_ok-plan.ensures.plans (c.room.ensures ∙ ap room (sym c.self.view_is)) c.if-room-lt1.false),
+      (λ i. record { number = c.self.inside.machine.guesses.kernel; scripts = c.self.inside.opening.start.scripts; start = c.self.inside.opening.start.state; limit = c.self.inside.opening.limit; trace = c.reserve.ensures.events i })
           ∙ c.self.view_is,
     )
 
 pub take_step-requires-clause-tidy : goal.take_step-requires-clause-tidy
-take_step-requires-clause-tidy c = tidy (the_view c.self.inside) c.self.inside.machine c.self.invariant.stands
+take_step-requires-clause-tidy c = tidy (the_view c.self.inside) c.self.inside.machine c.self.invariant.0.stands
 
 pub take_step-requires-clause-rising : goal.take_step-requires-clause-rising
-take_step-requires-clause-rising c = opens_rise (the_view c.self.inside) c.self.inside.machine c.self.invariant.stands
+take_step-requires-clause-rising c = opens_rise (the_view c.self.inside) c.self.inside.machine c.self.invariant.0.stands
 
 pub returns-then-is_err-2 : goal.returns-then-is_err-2
 returns-then-is_err-2 c =
     let n : EntryView = record { pid = c.args.pid; input = c.args.input; guess = None } in
     let same = from_err c.take_step.result c.if-is_err-2.ensures.value c.take_step.ensures.err in (
       subst (λ (k : KernelView). step_refused k n ≡ None) c.self.view_is
-          (step_free (the_view c.self.inside) c.self.inside.machine c.self.inside.trace.room c.self.invariant n _ c.room.result c.in_ok-plan.ensures.plans (c.room.ensures ∙ ap room (sym c.self.view_is)) c.if-room-lt1.false),
-      (λ i. record { number = (same i).guesses.kernel; scripts = c.self.inside.scripts; start = c.self.inside.start; limit = c.self.inside.limit; trace = c.reserve.ensures.events i })
+          (step_free (the_view c.self.inside) c.self.inside.machine c.self.inside.trace.room c.self.invariant.0 n _ c.room.result c.in_ok-plan.ensures.plans (c.room.ensures ∙ ap room (sym c.self.view_is)) c.if-room-lt1.false),
+      (λ i. record { number = (same i).guesses.kernel; scripts = c.self.inside.opening.start.scripts; start = c.self.inside.opening.start.state; limit = c.self.inside.opening.limit; trace = c.reserve.ensures.events i })
           ∙ c.self.view_is,
     )
 
 pub invariant_of-self-2 : goal.invariant_of-self-2
 invariant_of-self-2 c =
-    let takes = from_ok c.take_step.result c.if-is_err-2.ensures.value c.take_step.ensures.ok in
-    let opens = no_more_opens c.self.inside.scripts c.self.inside.machine c.take_step.new.self c.args.pid c.args.input takes in
+    let n : EntryView = record { pid = c.args.pid; input = c.args.input; guess = None } in
+    let takes = subst (λ s. Takes (plain s) (machine_of c.self.inside.machine) n (machine_of c.take_step.new.self)) c.scripts.ensures (from_ok c.take_step.result c.if-is_err-2.ensures.value c.take_step.ensures.ok) in
+    let opens = no_more_opens c.self.inside.opening.start.scripts c.self.inside.machine c.take_step.new.self c.args.pid c.args.input takes in
     let reserved = from_ok c.reserve.result c.if-is_err.ensures.value c.reserve.ensures.room in
     let pushed = c.push.ensures.room in
-    let counted = c.open_count.ensures in
-    stepped_whole (the_view c.self.inside) c.self.inside.machine c.take_step.new.self c.self.inside.trace.room c.push.new.self.room c.args.pid c.args.input c.push.new.self.events c.self.invariant
-    takes c.take_step.ensures.guesses
-    (c.push.ensures.events ∙ ap (λ es. es ++ events.Step c.args.pid c.args.input ∷ []) c.reserve.ensures.events)
-    (omega (arith, opens, reserved, pushed, counted))
+    let counted = c.open_count.ensures in (
+      stepped_whole (the_view c.self.inside) c.self.inside.machine c.take_step.new.self c.self.inside.trace.room c.push.new.self.room c.args.pid c.args.input c.push.new.self.events c.self.invariant.0
+          takes c.take_step.ensures.guesses
+          (c.push.ensures.events ∙ ap (λ es. es ++ events.Step c.args.pid c.args.input ∷ []) c.reserve.ensures.events)
+          (omega (arith, opens, reserved, pushed, counted)),
+      still_opened (the_view c.self.inside) _ c.push.new.self.events _ c.self.invariant.1 (ap (λ v. v.kernel) c.take_step.ensures.guesses),
+    )
 
 pub returns : goal.returns
 returns c =
     let n : EntryView = record { pid = c.args.pid; input = c.args.input; guess = None } in
     let more = c.push.ensures.events ∙ ap (λ es. es ++ events.Step c.args.pid c.args.input ∷ []) c.reserve.ensures.events in (
       subst (λ (k : KernelView). step_refused k n ≡ None) c.self.view_is
-          (step_free (the_view c.self.inside) c.self.inside.machine c.self.inside.trace.room c.self.invariant n _ c.room.result c.in_ok-plan.ensures.plans (c.room.ensures ∙ ap room (sym c.self.view_is)) c.if-room-lt1.false),
-      (λ i. record { number = (c.take_step.ensures.guesses i).kernel; scripts = c.self.inside.scripts; start = c.self.inside.start; limit = c.self.inside.limit; trace = more i })
+          (step_free (the_view c.self.inside) c.self.inside.machine c.self.inside.trace.room c.self.invariant.0 n _ c.room.result c.in_ok-plan.ensures.plans (c.room.ensures ∙ ap room (sym c.self.view_is)) c.if-room-lt1.false),
+      (λ i. record { number = (c.take_step.ensures.guesses i).kernel; scripts = c.self.inside.opening.start.scripts; start = c.self.inside.opening.start.state; limit = c.self.inside.opening.limit; trace = more i })
           ∙ ap (λ (k : KernelView). with_event k (events.Step c.args.pid c.args.input)) c.self.view_is,
     )
+
+pub overflow_add-open_count : goal.overflow_add-open_count
+overflow_add-open_count c =
+    let few = few_open (the_view c.self.inside) c.self.inside.machine c.self.invariant.0.stands c.room.result (c.room.ensures ∙ ap room (sym c.self.view_is)) c.if-room-lt1.false in
+    let below : c.open_count.result + 1 < 2 ^ 33 = omega (arith, few, c.open_count.ensures, c.limit-limit.ensures, c.limit-limit.type_inv) in
+    search (rules, below)

@@ -11,10 +11,10 @@ pub returns-in-Ok-clause-exact : goal.returns-in-Ok-clause-exact
 returns-in-Ok-clause-exact c =
     let n : EntryView = record { pid = c.args.pid; input = c.args.input.now; guess = None } in
     subst (λ (k : KernelView). None ≡ refusal_of (effect_at k n)) c.self.view_is
-    (sym (step_why (the_view c.self.inside) c.self.inside.machine c.self.inside.trace.room c.self.invariant n _ c.in-Ok.ensures.plans))
+    (sym (step_why (the_view c.self.inside) c.self.inside.machine c.self.inside.trace.room c.self.invariant.0 n _ c.in-Ok.ensures.plans))
 
 pub returns-in-Err-clause-exact : goal.returns-in-Err-clause-exact
 returns-in-Err-clause-exact c =
     let n : EntryView = record { pid = c.args.pid; input = c.args.input.now; guess = None } in
     subst (λ (k : KernelView). Some c.in-Err.why ≡ refusal_of (effect_at k n)) c.self.view_is
-    (sym (step_why (the_view c.self.inside) c.self.inside.machine c.self.inside.trace.room c.self.invariant n _ c.in-Err.ensures.plans))
+    (sym (step_why (the_view c.self.inside) c.self.inside.machine c.self.inside.trace.room c.self.invariant.0 n _ c.in-Err.ensures.plans))

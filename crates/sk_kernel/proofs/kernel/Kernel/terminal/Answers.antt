@@ -10,4 +10,4 @@ use Rattle.sk_kernel.proofs.kernel.Kernel.terminal.Goals as goal
 pub returns : goal.returns
 returns c =
     subst (λ (k : KernelView). MatchOption c.terminal.result (texts_at k c.args.number ≡ []) (λ x. ShowsTerminal k c.args.number x.now)) c.self.view_is
-    (terminal_shown (the_view c.self.inside) c.self.inside.machine c.self.invariant.stands c.args.number c.terminal.result c.terminal.ensures)
+    (terminal_shown (the_view c.self.inside) c.self.inside.machine c.self.invariant.0.stands c.args.number c.terminal.result c.terminal.ensures)

@@ -1,7 +1,7 @@
 -- Where the labels find no room, that is told at the first line, before which there is none.
-use Rattle.std.proofs.Common.{◌≡◌, ◌≤◌, ◌+◌, arith}
+use Rattle.std.proofs.Common.{◌≤◌, ◌+◌, arith}
 use Rattle.sk_words.specs.Lines.{last_line}
-use Rattle.sk_script.proofs.Told.{at_first, of_lines}
+use Rattle.sk_script.proofs.Told.{at_first}
 use Rattle.sk_script.proofs.script.Script.parse_lines.Goals as goal
 
 pub returns-in_default : goal.returns-in_default

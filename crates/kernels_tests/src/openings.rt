@@ -1,0 +1,87 @@
+//! Plain kernels and openings, compared.
+use crate::start::{Start, boot_of, kernel_of, pid};
+use sk_kernel::{Kernel, Opening};
+use sk_plain::Plain;
+use sk_script::Input;
+use std::alloc::{AllocError, Global};
+use std::test::Fail;
+
+/// A kernel of number 1 with one process, which says nothing again and again.
+const START: Start<'static> = Start {
+    number: 1,
+    script: &[(b"again:\nsay\njump again\n", 1)],
+    processes: 1,
+    limit: 100,
+};
+
+/// The opening of a kernel with so many events.
+fn opening_after(alloc: Global, start: Start<'_>, steps: usize) -> Result<Opening, Fail> {
+    let mut kernel = kernel_of(alloc, start)?;
+    for _ in 0..steps {
+        kernel.step(pid(1)?, Input::None)?;
+    }
+    Ok(opening_of(&kernel)?)
+}
+
+fn opening_of(kernel: &Kernel) -> Result<Opening, AllocError> {
+    kernel.opening().copy()
+}
+
+#[test]
+fn openings_after_the_same_boot(rt: HostRuntime) -> Result<(), Fail> {
+    let first = opening_after(rt.alloc(), START, 0)?;
+    let later = opening_after(rt.alloc(), START, 5)?;
+    assert!(rt; first == later);
+    assert_eq!(rt; (first.number(), first.limit(), first.guess()), (1, 100, 1));
+    assert!(rt; first.start().said(1).is_empty());
+    Ok(())
+}
+
+#[test]
+fn openings_that_differ(rt: HostRuntime) -> Result<(), Fail> {
+    let first = opening_after(rt.alloc(), START, 0)?;
+    let table = [
+        Start { number: 2, ..START },
+        Start { limit: 101, ..START },
+        Start {
+            processes: 2,
+            ..START
+        },
+        Start {
+            script: &[(b"again:\nsay\njump again\nsay\n", 1)],
+            ..START
+        },
+    ];
+    for start in table {
+        let other = opening_after(rt.alloc(), start, 0)?;
+        assert!(rt; first != other);
+    }
+    Ok(())
+}
+
+/// The plain kernel after so many steps.
+fn plain_after(alloc: Global, steps: usize) -> Result<Plain, Fail> {
+    let boot = boot_of(alloc, START)?;
+    let mut plain = Plain::boot(alloc, &boot)?;
+    for _ in 0..steps {
+        step_once(&mut plain)?;
+    }
+    Ok(plain)
+}
+
+fn step_once(plain: &mut Plain) -> Result<(), Fail> {
+    plain.step(pid(1)?, &Input::None)?;
+    Ok(())
+}
+
+/// Every second step leaves the process where it was, with one text more.
+#[test]
+fn plain_kernels_that_differ_in_one_text(rt: HostRuntime) -> Result<(), Fail> {
+    for steps in [0, 1, 2, 3] {
+        let plain = plain_after(rt.alloc(), steps)?;
+        assert!(rt; plain == plain_after(rt.alloc(), steps)?);
+        assert!(rt; plain != plain_after(rt.alloc(), steps + 1)?);
+        assert!(rt; plain != plain_after(rt.alloc(), steps + 2)?);
+    }
+    Ok(())
+}

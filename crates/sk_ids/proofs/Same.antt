@@ -1,0 +1,55 @@
+-- The tests that texts and identifiers derive are exact.
+use Rattle.std.specs.Prelude.{◌≡◌, ℕ, true, List, length, take, nat_eq}
+use Rattle.std.proofs.Common.{ap, sym, ◌∙◌}
+use Rattle.std.proofs.Math.Seq.{take-append_seam}
+use Rattle.std.specs.Option.{option_eq}
+use Rattle.std.specs.Cmp.{unsigned_Decides, first_so, second_so}
+use Rattle.std.specs.Cmp.Lexicographic.{pointwise, pointwise_decides}
+use Rattle.sk_record.specs.Same.{IsExact}
+use Rattle.sk_record.proofs.Exact.{exact_from, exact_option}
+use Rattle.sk_ids.specs.Padded.{padded}
+use Rattle.sk_ids.specs.declared.pid.ObjId.{ObjId}
+use Rattle.sk_ids.specs.declared.entity.Entity.{Entity}
+use Rattle.sk_ids.specs.declared.entity.Entity.TheVariants.{Proc, Sig, Exit, Obj, Copy}
+use Rattle.sk_ids.specs.contracts.text.TextPartialEq.TheImpl as text
+use Rattle.sk_ids.specs.contracts.text.TextEq.TheImpl.Laws.{laws-law as text_laws}
+use Rattle.sk_ids.specs.contracts.pid.ObjIdPartialEq.TheImpl as object
+use Rattle.sk_ids.specs.contracts.pid.ObjIdEq.TheImpl.Laws.{laws-law as object_laws}
+use Rattle.sk_ids.specs.contracts.pid.PidPartialEq.TheImpl as pid
+use Rattle.sk_ids.specs.contracts.entity.EntityPartialEq.TheImpl as entity
+use Rattle.sk_ids.specs.contracts.entity.EntityEq.TheImpl.Laws.{laws-law as entity_laws}
+
+pub exact_bytes : IsExact (pointwise nat_eq)
+exact_bytes = pointwise_decides unsigned_Decides
+
+text_from : (s t : List ℕ) → (text.ghosts).eq s t ≡ true → s ≡ t
+text_from s t h =
+    let long : length s ≡ length t = (unsigned_Decides (length s) (length t)).0 (first_so (nat_eq (length s) (length t)) (pointwise nat_eq (padded s) (padded t)) h) in
+    let cells : padded s ≡ padded t = (exact_bytes (padded s) (padded t)).0 (second_so (nat_eq (length s) (length t)) (pointwise nat_eq (padded s) (padded t)) h) in
+    sym (take-append_seam s _) ∙ (λ i. take (long i) (cells i)) ∙ take-append_seam t _
+
+pub exact_text : IsExact (text.ghosts).eq
+exact_text = exact_from (text.ghosts).eq text_laws.refl text_from
+
+pub exact_pid : IsExact (pid.ghosts).eq
+exact_pid = unsigned_Decides
+
+object_from : (a b : ObjId) → (object.ghosts).eq a b ≡ true → a ≡ b
+object_from a b h =
+    let maker = (exact_option unsigned_Decides a.maker b.maker).0 (first_so (option_eq nat_eq a.maker b.maker) (nat_eq a.count b.count) h) in
+    let count = (unsigned_Decides a.count b.count).0 (second_so (option_eq nat_eq a.maker b.maker) (nat_eq a.count b.count) h) in
+    λ i. record { maker = maker i; count = count i }
+
+pub exact_object : IsExact (object.ghosts).eq
+exact_object = exact_from (object.ghosts).eq object_laws.refl object_from
+
+entity_from : (a b : Entity) → (entity.ghosts).eq a b ≡ true → a ≡ b
+entity_from (Proc p) (Proc q) h = ap Proc ((unsigned_Decides p q).0 h)
+entity_from (Sig p) (Sig q) h = ap Sig ((unsigned_Decides p q).0 h)
+entity_from (Exit p) (Exit q) h = ap Exit ((unsigned_Decides p q).0 h)
+entity_from (Obj p) (Obj q) h = ap Obj ((exact_object p q).0 h)
+entity_from (Copy p) (Copy q) h = ap Copy ((exact_bytes p q).0 h)
+entity_from _ _ h = cc
+
+pub exact_entity : IsExact (entity.ghosts).eq
+exact_entity = exact_from (entity.ghosts).eq entity_laws.refl entity_from

@@ -1,0 +1,21 @@
+-- The test of the three parts is exact.
+use Rattle.std.proofs.Common.{rules, ◌≡◌, false}
+use Rattle.std.proofs.lemmas.Bool.Decides.{Decides-at}
+use Rattle.sk_plain.specs.Same.{same_plain}
+use Rattle.sk_plain.specs.SameLemma.{exact_plain}
+use Rattle.sk_plain.proofs.plain.PlainPartialEq.eq.Goals as goal
+
+pub returns-then-ne-clause-exact : goal.returns-then-ne-clause-exact
+returns-then-ne-clause-exact c =
+    let told : false ≡ same_plain c.args.self.now c.args.other.now = search rules in
+    Decides-at false (same_plain c.args.self.now c.args.other.now) told (exact_plain c.args.self.now c.args.other.now)
+
+pub returns-then-ne-2-clause-exact : goal.returns-then-ne-2-clause-exact
+returns-then-ne-2-clause-exact c =
+    let told : false ≡ same_plain c.args.self.now c.args.other.now = search rules in
+    Decides-at false (same_plain c.args.self.now c.args.other.now) told (exact_plain c.args.self.now c.args.other.now)
+
+pub returns-clause-exact : goal.returns-clause-exact
+returns-clause-exact c =
+    let told : c.eq.result ≡ same_plain c.args.self.now c.args.other.now = search rules in
+    Decides-at c.eq.result (same_plain c.args.self.now c.args.other.now) told (exact_plain c.args.self.now c.args.other.now)

@@ -309,7 +309,10 @@ fn stores_of(setting: &Setting, kernel: &Kernel) -> Result<Vec<Store>, Finding> 
 fn judge_stores(course: &Course, stores: &[Store]) -> Result<(), Finding> {
     for accepted in &course.accepted {
         let is_given = accepted.request <= course.replied;
-        held(!is_given || stores.contains(&accepted.store), Finding::Store)?;
+        held(
+            !is_given || stores.contains(&accepted.store),
+            Finding::Store,
+        )?;
     }
     Ok(())
 }
@@ -337,7 +340,14 @@ fn happen(
     let declarations = setting.declarations;
     let reckoning = Reckoning::of(setting.alloc, declarations.boot(), trace)?;
     let limit = declarations.limit();
-    judge(kernel, &reckoning, trace, limit, course.drawn, &mut course.seen)?;
+    judge(
+        kernel,
+        &reckoning,
+        trace,
+        limit,
+        course.drawn,
+        &mut course.seen,
+    )?;
     if let WorldEvent::Reply = *event {
         judge_stores(course, &stores_of(setting, kernel)?)?;
     }

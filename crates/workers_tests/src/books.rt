@@ -28,7 +28,10 @@ fn kernel(alloc: Global) -> Result<Kernel, Fail>
     let remote = Name::new(b"/x").ok_or("name")?;
     let bytes = Text::new(b"old").ok_or("text")?;
     boot.copy(remote, Content::new(3, bytes).ok_or("content")?)?;
-    let (round, fetching) = (Name::new(b"round").ok_or("name")?, Name::new(b"fetching").ok_or("name")?);
+    let (round, fetching) = (
+        Name::new(b"round").ok_or("name")?,
+        Name::new(b"fetching").ok_or("name")?,
+    );
     boot.script(round, Script::parse(alloc, b"a:\ntext \"t\"\njump a\n")?)?;
     boot.script(fetching, Script::parse(alloc, b"fetch /x\nsay\n")?)?;
     boot.process(1, &round, 1)?;

@@ -20,6 +20,6 @@ invariant_of-self-2 g c =
     entered old.desk left old.history.items c.enter.new.history.items e old.tally.total c.enter.new.tally.total
     c.self.invariant c.requests_taken-taken.ensures
     (subst (λ (call : Call). Step old.desk call (Replied answer) left) (sym c.call_of-call.ensures)
-        (told, λ memory. false≢true (sym c.if-wants_memory.false ∙ c.wants_memory.ensures.1 memory)))
+    (told, λ memory. false≢true (sym c.if-wants_memory.false ∙ c.wants_memory.ensures.1 memory)))
     (c.enter.ensures.history ∙ ap (λ (es : List Entry). es ++ e ∷ []) c.make_room.ensures.history)
     c.enter.ensures.tally

@@ -42,7 +42,10 @@ fn openings_that_differ(rt: HostRuntime) -> Result<(), Fail> {
     let first = opening_after(rt.alloc(), START, 0)?;
     let table = [
         Start { number: 2, ..START },
-        Start { limit: 101, ..START },
+        Start {
+            limit: 101,
+            ..START
+        },
         Start {
             processes: 2,
             ..START

@@ -1,8 +1,8 @@
 -- A legal history stays legal where a call is entered, and where a request is taken.
-use Rattle.std.proofs.Common.{◌≡◌, ℕ, suc, List, [], ◌∷◌, ◌++◌, ◌+◌, length, length-append, arith, refl, sym, ap, ◌∙◌, subst}
+use Rattle.std.proofs.Common.{◌≡◌, ℕ, suc, List, [], ◌∷◌, ◌++◌, ◌+◌, ◌<◌, length, length-append, arith, refl, sym, ap, ◌∙◌, subst}
 use Rattle.sk_client.specs.Desk.{DeskView, first_taken, requests_taken}
 use Rattle.sk_workers.specs.declared.entry.Entry.{Entry}
-use Rattle.sk_workers.specs.History.{opening_of, Step, taking, Runs, IsLegal}
+use Rattle.sk_workers.specs.History.{as_opened, Step, taking, Runs, IsLegal}
 use Rattle.sk_workers.proofs.Steps.{step_keeps, taken_keeps}
 
 -- one call more at the end
@@ -23,18 +23,19 @@ runs_take s [] d run = (suc run.0, ap (λ (x : DeskView). first_taken x x.waitin
 runs_take s (x ∷ es) d run = (run.0, run.1, run.2, run.3, runs_take run.1 es d run.4)
 
 -- a history with a call more, and as long as the ledger counts
-pub entered : (d d' : DeskView) (es es' : List Entry) (e : Entry) (total total' : ℕ)
-    → IsLegal es d × (total ≡ length es) → e.taken ≡ requests_taken d → Step d e.call e.answer d' → es' ≡ es ++ e ∷ [] → total' ≡ total + 1
-    → IsLegal es' d' × (total' ≡ length es')
-entered d d' es es' e total total' before taken step is more =
-    let run : Runs (opening_of d) (es ++ e ∷ []) d' = runs_push (opening_of d) es d e d' before.0 taken step in
+pub entered : (d d' : DeskView) (es es' : List Entry) (e : Entry) (total total' parts : ℕ)
+    → IsLegal es d × (total ≡ length es) × (0 < parts) → e.taken ≡ requests_taken d → Step d e.call e.answer d' → es' ≡ es ++ e ∷ [] → total' ≡ total + 1
+    → IsLegal es' d' × (total' ≡ length es') × (0 < parts)
+entered d d' es es' e total total' parts before taken step is more =
+    let run : Runs (as_opened d) (es ++ e ∷ []) d' = runs_push (as_opened d) es d e d' before.0 taken step in
     let legal : IsLegal (es ++ e ∷ []) d' = subst (λ (x : DeskView). Runs x (es ++ e ∷ []) d') (sym (step_keeps d d' e.call e.answer step)) run in (
       subst (λ (x : List Entry). IsLegal x d') (sym is) legal,
       omega (arith, more, before.1, ap length is, length-append es (e ∷ [])),
+      before.2,
     )
 
 pub took : (d d' : DeskView) (es : List Entry) → IsLegal es d → d' ≡ first_taken d d.waiting → IsLegal es d'
 took d d' es legal is =
     let e = first_taken d d.waiting in
-    let run : Runs (opening_of d) es e = runs_take (opening_of d) es d legal in
+    let run : Runs (as_opened d) es e = runs_take (as_opened d) es d legal in
     subst (λ (x : DeskView). IsLegal es x) (sym is) (subst (λ (x : DeskView). Runs x es e) (sym (taken_keeps d d.waiting)) run)

@@ -18,11 +18,11 @@ use Rattle.sk_workers.specs.declared.entry.Call.{Call}
 use Rattle.sk_workers.specs.declared.entry.Call.TheVariants as calls
 use Rattle.sk_workers.specs.declared.entry.Answered.{Answered}
 use Rattle.sk_workers.specs.declared.entry.Answered.TheVariants.{Turned, Replied}
-use Rattle.sk_workers.specs.History.{opening_of, Step, with_reply, without_reply}
+use Rattle.sk_workers.specs.History.{as_opened, Step, with_reply, without_reply}
 
 -- the opening stays
 abbrev Keeps : DeskView → DeskView → Type 0
-Keeps d e = opening_of e ≡ opening_of d
+Keeps d e = as_opened e ≡ as_opened d
 
 -- ---- turns
 
@@ -32,9 +32,9 @@ turned_keeps d pid (rules.Guesses ask) = refl
 turned_keeps d pid (rules.Asks ask) = refl
 
 by_rule_keeps : (d e : DeskView) (pid : ℕ) (answer : Result Turn Refusal) (r : Result Rule Refusal) → ByRule answer d pid e r → Keeps d e
-by_rule_keeps d e pid (Ok turn) (Ok r) post = ap opening_of post.2 ∙ turned_keeps d pid r
-by_rule_keeps d e pid (Err why) (Ok r) post = ap opening_of post.1
-by_rule_keeps d e pid answer (Err why) post = ap opening_of post.1
+by_rule_keeps d e pid (Ok turn) (Ok r) post = ap as_opened post.2 ∙ turned_keeps d pid r
+by_rule_keeps d e pid (Err why) (Ok r) post = ap as_opened post.1
+by_rule_keeps d e pid answer (Err why) post = ap as_opened post.1
 
 -- ---- replies
 
@@ -59,18 +59,18 @@ given_keeps d r [] = refl
 given_keeps d r (q ∷ qs) = given_to_keeps (record d { taken = qs }) q r.answer q.guess
 
 reply_keeps : (d e : DeskView) (r : Reply) (answer : Result Given (Reply × ReplyRefusal)) → ReplyPost answer d r e → Keeps d e
-reply_keeps d e r (Ok told) post = ap opening_of post.2 ∙ given_keeps d r d.taken
-reply_keeps d e r (Err back) post = ap opening_of post.2
+reply_keeps d e r (Ok told) post = ap as_opened post.2 ∙ given_keeps d r d.taken
+reply_keeps d e r (Err back) post = ap as_opened post.2
 
 -- ---- calls
 
-pub step_keeps : (d e : DeskView) (call : Call) (answer : Answered) → Step d call answer e → opening_of e ≡ opening_of d
+pub step_keeps : (d e : DeskView) (call : Call) (answer : Answered) → Step d call answer e → as_opened e ≡ as_opened d
 step_keeps d e (calls.Turn pid) (Turned r) step = by_rule_keeps d e pid r (rule d pid) step.0
 step_keeps d e (calls.Reply reply) (Replied r) step = reply_keeps d e reply (with_reply reply r) step.0
 step_keeps d e (calls.Turn pid) (Replied r) step = absurd step
 step_keeps d e (calls.Reply reply) (Turned r) step = absurd step
 
-pub taken_keeps : (d : DeskView) (qs : List PendingRequest) → opening_of (first_taken d qs) ≡ opening_of d
+pub taken_keeps : (d : DeskView) (qs : List PendingRequest) → as_opened (first_taken d qs) ≡ as_opened d
 taken_keeps d [] = refl
 taken_keeps d (q ∷ qs) = refl
 

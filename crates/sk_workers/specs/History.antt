@@ -34,8 +34,8 @@ without_reply (Err back) = Err back.1
 -- ---- histories
 
 -- a desk as it was opened: over the kernel at its start, before any request
-abbrev pub opening_of : DeskView → DeskView
-opening_of d = opened (record d.kernel { trace = [] })
+abbrev pub as_opened : DeskView → DeskView
+as_opened d = opened (record d.kernel { trace = [] })
 
 -- a call does what the desk promises of it; want of memory is no answer
 abbrev pub Step : DeskView → Call → Answered → DeskView → Type 0
@@ -60,7 +60,7 @@ Runs d (e ∷ es) last =
 
 -- a history from the opening of a desk to the desk
 abbrev pub IsLegal : List Entry → DeskView → Type 0
-IsLegal history d = Runs (opening_of d) history d
+IsLegal history d = Runs (as_opened d) history d
 
 -- ---- calls
 
@@ -71,6 +71,11 @@ Adds b w call answer b' w' =
     Step b.desk call answer b'.desk
     × (b'.history ≡ b.history ++ e ∷ [])
     × (w' ≡ record w { receipts = w.receipts ++ receipt (length b.history) e ∷ [] })
+
+-- one receipt more, for this call and answer, at some place and after so many requests
+abbrev pub Told : WorkerView → Call → Answered → WorkerView → Type 0
+Told w call answer w' =
+    (place : ℕ) × (taken : ℕ) × (w' ≡ record w { receipts = w.receipts ++ receipt place (entry w.number call answer taken) ∷ [] })
 
 -- ---- workers
 

@@ -1,6 +1,7 @@
 -- What a contract sees of a book and of a worker.
 use Rattle.std.specs.Prelude.{ℕ, List, refl}
-use Rattle.std.specs.Coded.{Coded, code_by, coded×, coded_list}
+use Rattle.std.specs.Coded.{Coded, code_by, coded×, coded_ℕ, coded_list}
+use Rattle.sk_kernel.specs.Opening.{OpeningView, opening_code}
 use Rattle.sk_client.specs.Desk.{DeskView, desk_code}
 use Rattle.sk_workers.specs.declared.entry.Entry.{Entry}
 use Rattle.sk_workers.specs.declared.entry.Receipt.{Receipt}
@@ -21,3 +22,11 @@ pub record WorkerView : Type 0 where
   pub number : ℕ
   pub turns : ℕ
   pub receipts : List Receipt
+
+-- where a desk was opened, and the number of its first request: what is kept beside the lock
+pub record SharedView : Type 0 where
+  pub opening : OpeningView
+  pub first : ℕ
+
+abbrev pub shared_code : Coded SharedView
+shared_code = code_by (OpeningView × ℕ) (coded× opening_code coded_ℕ) (λ s. (s.opening, s.first)) (λ p. record { opening = p.0; first = p.1 }) (λ _. refl)

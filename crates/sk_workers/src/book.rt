@@ -16,13 +16,13 @@ use std::sync::ledger::{self, Blank, Ledger, Share};
 /// A desk, the history of the calls that workers made of it, and a ledger's count of them. It can't be dropped:
 /// `reopen` it.
 pub struct Book<L: Ledger> {
-    desk: Desk,
-    history: Vec<Entry>,
-    tally: ledger::Book<L>,
+    pub(crate) desk: Desk,
+    pub(crate) history: Vec<Entry>,
+    pub(crate) tally: ledger::Book<L>,
 }
 
 impl<L: Ledger> Model for Book<L> {
-    ghost use Rattle.std.specs.Prelude.{◌≡◌, length};
+    ghost use Rattle.std.specs.Prelude.{◌≡◌, ◌<◌, length};
     ghost use Rattle.sk_workers.specs.Views.{BookView, book_code};
     ghost use Rattle.sk_workers.specs.History.{IsLegal};
 
@@ -32,7 +32,7 @@ impl<L: Ledger> Model for Book<L> {
 
     ghost view = { λ b. record { desk = b.desk; history = b.history.items } };
 
-    ghost invariant = { λ b. IsLegal b.history.items b.desk × (b.tally.total ≡ length b.history.items) };
+    ghost invariant = { λ b. IsLegal b.history.items b.desk × (b.tally.total ≡ length b.history.items) × (0 < L.parts) };
 }
 
 impl<L: Ledger> Book<L> {

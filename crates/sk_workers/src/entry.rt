@@ -6,6 +6,7 @@ use sk_ids::Pid;
 use sk_objects::Content;
 use sk_plain::Refusal;
 use sk_server::{Answer, Reply};
+use thiserror::Error;
 
 /// A call of the desk.
 #[derive(Clone, Copy, Debug, PartialEq, Eq)]
@@ -38,6 +39,18 @@ pub struct Entry {
 pub struct Receipt {
     pub place: u64,
     pub entry: Entry,
+}
+
+/// Why a history was not closed, in the order in which the causes are tried.
+#[derive(Clone, Copy, Debug, PartialEq, Eq, Error)]
+pub enum CloseRefusal {
+    #[error("{0} requests have no reply")]
+    Pending(usize),
+    /// This worker's receipt of this index does not stand in the history, or not above the one before it.
+    #[error("receipt {receipt} of worker {worker} does not stand in the history")]
+    Disagree { worker: u8, receipt: usize },
+    #[error("the desk was opened elsewhere")]
+    Other,
 }
 
 impl Call {

@@ -1,11 +1,16 @@
 //! Workers of a client's desk: a book holds the desk with the history of the calls that they made of it, and each call
-//! gives its worker a receipt. A ledger counts the calls on both sides.
+//! gives its worker a receipt. A ledger counts the calls on both sides. Workers in several threads share a book under
+//! one lock; where it is closed, their receipts are the history's entries.
 #![tactic(auto)]
 
 pub mod book;
+pub mod closing;
 pub mod entry;
+pub mod shared;
 pub mod worker;
 
 pub use book::Book;
-pub use entry::{Answered, Call, Entry, Receipt};
+pub use closing::History;
+pub use entry::{Answered, Call, CloseRefusal, Entry, Receipt};
+pub use shared::{Gate, Shared};
 pub use worker::Worker;

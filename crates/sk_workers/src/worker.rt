@@ -1,6 +1,7 @@
 //! Workers.
-ghost use Rattle.std.specs.Prelude.{◌≡◌};
+ghost use Rattle.std.specs.Prelude.{◌≡◌, length};
 ghost use Rattle.sk_workers.specs.History.{fresh};
+ghost use Rattle.sk_workers.specs.Closing.{begins_turn};
 
 use crate::entry::Receipt;
 use std::alloc::Global;
@@ -55,5 +56,32 @@ impl<L: Ledger> Worker<L> {
         ensures { result.now ≡ self.now.receipts }
     {
         self.receipts.as_slice()
+    }
+    /// Begins a turn: its number, how many turns it began before, and itself with one more; that number stays at
+    /// its last value.
+    pub(crate) fn begin_turn(self) -> (u8, u64, Worker<L>)
+        ensures number { result.0 ≡ self.number }
+        ensures turn { result.1 ≡ self.turns }
+        ensures worker { result.2 ≡ begins_turn self }
+    {
+        let mut worker = self;
+        let turn = worker.turns;
+        if turn < u64::MAX {
+            worker.turns = turn + 1;
+        }
+        (worker.number, turn, worker)
+    }
+
+    /// What is left of a worker: its share.
+    pub(crate) fn into_share(self) -> Share<L>
+        ensures { (result.parts ≡ 1) × (result.amount ≡ length self.receipts) }
+    {
+        let Worker {
+            number: _,
+            turns: _,
+            receipts: _,
+            share,
+        } = self;
+        share
     }
 }

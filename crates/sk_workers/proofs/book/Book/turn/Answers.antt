@@ -12,7 +12,7 @@ invariant_of-self-2 g c =
     let old = c.self.inside in
     let call = calls.Turn c.args.pid in
     let e = entry c.worker.inside.number call c.turned.result c.requests_taken-taken.result in
-    entered old.desk c.turn_of.new.desk old.history.items c.enter.new.history.items e old.tally.total c.enter.new.tally.total
+    entered old.desk c.turn_of.new.desk old.history.items c.enter.new.history.items e old.tally.total c.enter.new.tally.total g.L.Ledger.parts
     c.self.invariant c.requests_taken-taken.ensures
     (subst (λ (a : Answered). Step old.desk call a c.turn_of.new.desk) (sym c.turned.ensures) c.in-Some.ensures)
     (c.enter.ensures.history ∙ ap (λ (es : List Entry). es ++ e ∷ []) c.make_room.ensures.history)

@@ -1,0 +1,62 @@
+-- What the checks of a close show.
+use Rattle.std.proofs.Common.{◌≡◌, ℕ, zero, suc, ◌<◌, List, [], ◌∷◌, ◌++◌, length, refl, sym, ap, ◌∙◌, subst}
+use Rattle.std.specs.Prelude.{Option, Some, None, MatchOption, slice_get}
+use Rattle.std.proofs.lemmas.Option.{slice_get_within}
+use Rattle.sk_kernel.specs.Opening.{opening_of}
+use Rattle.sk_client.specs.Desk.{DeskView, pending, first_number}
+use Rattle.sk_workers.specs.declared.entry.Entry.{Entry}
+use Rattle.sk_workers.specs.declared.entry.Receipt.{Receipt}
+use Rattle.sk_workers.specs.Views.{BookView, WorkerView, SharedView}
+use Rattle.sk_workers.specs.History.{AreOwn, AreFresh, IsLegal, Runs}
+use Rattle.sk_workers.specs.Closing.{Agrees, Stands, AllStand, AreDistinct, AreApart, IsFrom, IsClosed, begun, receipts_of, numbers}
+
+-- what was found of a worker's receipts, or that all stand
+pub found : (h : List Entry) (w : WorkerView) (rs : List Receipt) (o : Option ℕ) → rs ≡ w.receipts → AreOwn w.number w.receipts
+    → MatchOption o ((k : ℕ) → k < length rs → Agrees h rs k) (λ k. (k < length rs) × ¬ Agrees h rs k)
+    → MatchOption o (Stands h w) (λ k. (k < length w.receipts) × ¬ Agrees h w.receipts k)
+found h w rs None is own all = record { own = own; agree = subst (λ (l : List Receipt). (k : ℕ) → k < length l → Agrees h l k) is all }
+found h w rs (Some k) is own bad = subst (λ (l : List Receipt). (k < length l) × ¬ Agrees h l k) is bad
+
+some_is : {A : Type 0} (x y : A) → Some x ≡ Some y → x ≡ y
+some_is x y e = cc
+
+-- receipts that stand, of workers with numbers of their own, are for different places
+apart : (h : List Entry) (ws : List WorkerView) → AllStand h ws → AreDistinct ws → AreApart ws
+apart h ws stand distinct i j k l v w r s atv atw other atr ats same =
+    let sv = stand i v atv in
+    let sw = stand j w atw in
+    let one = (sv.agree k (slice_get_within v.receipts k r atr) r atr).0 in
+    let two = (sw.agree l (slice_get_within w.receipts l s ats) s ats).0 in
+    let is : r.entry ≡ s.entry = some_is r.entry s.entry (sym one ∙ ap (slice_get h) same ∙ two) in
+    distinct i j v w atv atw other (sym (sv.own k r atr) ∙ ap (λ (e : Entry). e.worker) is ∙ sw.own l s ats)
+
+-- what was checked and counted is what a close promises
+pub closed : (s : SharedView) (b : BookView) (ws : List WorkerView) (h : List Entry) (d : DeskView) → h ≡ b.history → d ≡ b.desk
+    → IsLegal b.history b.desk → length b.history ≡ receipts_of ws → (pending b.desk ≡ []) × AllStand b.history ws × IsFrom s b.desk → AreDistinct ws
+    → IsClosed s ws h d
+closed s b ws h d is at legal count ok distinct =
+    let from : begun (record { opening = opening_of b.desk.kernel; first = first_number }) ≡ begun s = (λ i. begun (record { opening = ok.2.0 i; first = ok.2.1 i })) in
+    let run : Runs (begun s) b.history b.desk = subst (λ (x : DeskView). Runs x b.history b.desk) from legal in
+    let done : IsClosed s ws b.history b.desk = record { legal = run; done = ok.0; stand = ok.1; apart = apart b.history ws ok.1 distinct; count = count } in
+    subst (λ (x : List Entry × DeskView). IsClosed s ws x.0 x.1) (λ i. (sym is i, sym at i)) done
+
+at_number : (ws us : List WorkerView) (i : ℕ) (v : WorkerView) → numbers ws ≡ numbers us → slice_get ws i ≡ Some v → (u : WorkerView) × (slice_get us i ≡ Some u) × (v.number ≡ u.number)
+at_number [] us i v e at = absurd (cc)
+at_number (w ∷ ws) [] i v e at = absurd (cc)
+at_number (w ∷ ws) (u ∷ us) zero v e at = (u, refl, cc)
+at_number (w ∷ ws) (u ∷ us) (suc i) v e at = at_number ws us i v (cc) at
+
+-- workers numbered from 0 have numbers of their own, and so have those that come back for them
+pub distinct : (n : ℕ) (ws us : List WorkerView) → AreFresh n us → numbers ws ≡ numbers us → AreDistinct ws
+distinct n ws us fresh same i j v w atv atw other is =
+    let a = at_number ws us i v same atv in
+    let b = at_number ws us j w same atw in
+    other (ap (λ (x : WorkerView). x.number) (sym (fresh.1 i a.0 a.1)) ∙ sym a.2 ∙ is ∙ b.2 ∙ ap (λ (x : WorkerView). x.number) (fresh.1 j b.0 b.1))
+
+numbers_of : (ws : List WorkerView) (x : WorkerView) → numbers (ws ++ x ∷ []) ≡ numbers ws ++ x.number ∷ []
+numbers_of [] x = refl
+numbers_of (w ∷ ws) x = ap (λ l. w.number ∷ l) (numbers_of ws x)
+
+-- a worker that comes back in the place of one with its number
+pub numbers_push : (ws us : List WorkerView) (x a : WorkerView) → numbers ws ≡ numbers us → x.number ≡ a.number → numbers (ws ++ x ∷ []) ≡ numbers (us ++ a ∷ [])
+numbers_push ws us x a e n = numbers_of ws x ∙ (λ i. e i ++ n i ∷ []) ∙ sym (numbers_of us a)

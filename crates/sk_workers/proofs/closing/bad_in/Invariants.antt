@@ -1,0 +1,6 @@
+use Rattle.std.proofs.Common.{ℕ, ◌<◌}
+use Rattle.sk_workers.specs.Closing.{Agrees}
+use Rattle.sk_workers.proofs.closing.bad_in.Given as goal
+
+abbrev pub invariant-loop-k : goal.invariant-loop-k
+invariant-loop-k l = (j : ℕ) → j < l.k → Agrees l.history l.receipts j

@@ -20,8 +20,8 @@ use std::alloc::{AllocError, Global};
 use std::collections::BTreeSet;
 use std::process::Abort;
 
-/// How many worlds of each manner there are.
-const WORLDS: u64 = 2_500;
+/// How many worlds of a manner there are in a test.
+const WORLDS: u64 = 1_250;
 
 /// The files that a world may have.
 const NAMES: [&[u8]; 3] = [b"/x", b"/y", b"/z"];
@@ -464,10 +464,10 @@ fn world(alloc: Global, number: u64, kind: Kind, pace: Pace) -> Result<usize, Fi
     told
 }
 
-/// So many worlds, in each of which nothing is found; some stores are accepted in them.
-fn worlds(rt: &impl Abort, alloc: Global, kind: Kind, pace: Pace) {
+/// So many worlds from a number on, in each of which nothing is found; some stores are accepted in them.
+fn worlds(rt: &impl Abort, alloc: Global, kind: Kind, pace: Pace, from: u64) {
     let mut accepted = 0usize;
-    for number in 1..=WORLDS {
+    for number in from..from.saturating_add(WORLDS) {
         match world(alloc, number, kind, pace) {
             Ok(count) => accepted = accepted.saturating_add(count),
             Err(finding) => panic!(rt; "world {number}, {kind:?}, {pace:?}: {finding:?}"),
@@ -478,20 +478,40 @@ fn worlds(rt: &impl Abort, alloc: Global, kind: Kind, pace: Pace) {
 
 #[test]
 fn a_server_that_keeps_pace(rt: HostRuntime) {
-    worlds(&rt, rt.alloc(), Kind::Any, Pace::new(24, 24, 8));
+    worlds(&rt, rt.alloc(), Kind::Any, Pace::new(24, 24, 8), 1);
+}
+
+#[test]
+fn a_server_that_keeps_pace_again(rt: HostRuntime) {
+    worlds(&rt, rt.alloc(), Kind::Any, Pace::new(24, 24, 8), 1 + WORLDS);
 }
 
 #[test]
 fn a_slow_server(rt: HostRuntime) {
-    worlds(&rt, rt.alloc(), Kind::Guessing, Pace::new(8, 8, 6));
+    worlds(&rt, rt.alloc(), Kind::Guessing, Pace::new(8, 8, 6), 1);
+}
+
+#[test]
+fn a_slow_server_again(rt: HostRuntime) {
+    worlds(&rt, rt.alloc(), Kind::Guessing, Pace::new(8, 8, 6), 1 + WORLDS);
 }
 
 #[test]
 fn slow_replies(rt: HostRuntime) {
-    worlds(&rt, rt.alloc(), Kind::Guessing, Pace::new(32, 10, 4));
+    worlds(&rt, rt.alloc(), Kind::Guessing, Pace::new(32, 10, 4), 1);
+}
+
+#[test]
+fn slow_replies_again(rt: HostRuntime) {
+    worlds(&rt, rt.alloc(), Kind::Guessing, Pace::new(32, 10, 4), 1 + WORLDS);
 }
 
 #[test]
 fn many_edits(rt: HostRuntime) {
-    worlds(&rt, rt.alloc(), Kind::Guessing, Pace::new(20, 20, 24));
+    worlds(&rt, rt.alloc(), Kind::Guessing, Pace::new(20, 20, 24), 1);
+}
+
+#[test]
+fn many_edits_again(rt: HostRuntime) {
+    worlds(&rt, rt.alloc(), Kind::Guessing, Pace::new(20, 20, 24), 1 + WORLDS);
 }

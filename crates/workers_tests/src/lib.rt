@@ -3,3 +3,5 @@
 
 #[cfg(test)]
 mod books;
+#[cfg(test)]
+mod shares;

@@ -1,0 +1,17 @@
+-- The rounds that a worker makes of its processes.
+use Rattle.std.specs.Prelude.{ℕ, ◌+◌, Bool, true, ◌&&◌, nat_lt, nat_le, Option, Some, None, if◌then◌else◌}
+use Rattle.sk_crew.specs.declared.rounds.Rounds.{Rounds}
+
+-- the worker of this number, one of so many, took no turn yet; one that has no process has stopped
+abbrev pub fresh : ℕ → ℕ → ℕ → Rounds
+fresh number workers count = record { count = count; first = number; step = workers; at = number; is_ended = true; is_over = nat_le count number }
+
+-- the place of the process whose turn it is
+abbrev pub due : Rounds → Option ℕ
+due r = if r.is_over then None else Some r.at
+
+-- after a turn that was answered `Ended`, or was not: behind the last process the round is over, and the worker stops where each turn of it was
+abbrev pub after : Bool → Rounds → Rounds
+after ended r =
+    if nat_lt (r.at + r.step) r.count then record r { at = r.at + r.step; is_ended = r.is_ended && ended }
+    else record r { at = r.first; is_ended = true; is_over = r.is_ended && ended }

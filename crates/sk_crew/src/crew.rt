@@ -1,0 +1,155 @@
+//! A crew, from its desk and server to the history of its calls.
+ghost use Rattle.std.specs.Prelude.{◌≡◌, ◌≤◌, ◌<◌, [], vec_len, IfOk};
+ghost use Rattle.sk_client.specs.Desk.{opened, pending};
+ghost use Rattle.sk_workers.specs.History.{Runs};
+ghost use Rattle.sk_workers.specs.Closing.{numbers, AreDistinct, IsClosed};
+
+use crate::clerk::Clerk;
+use crate::ends::{Inbox, Line, Outbox};
+use crate::ground::Ground;
+use crate::service::Service;
+use crate::settling::settle;
+use crate::working::work_served;
+use sk_client::Desk;
+use sk_server::Server;
+use sk_workers::{CloseRefusal, Gate, History, Shared, Worker};
+use std::alloc::Global;
+use std::sync::Wait;
+use std::sync::ledger::{Blank, Ledger};
+use std::thread::Threads;
+use thiserror::Error;
+
+/// Why a crew has no history.
+#[derive(Clone, Copy, Debug, PartialEq, Eq, Error)]
+pub enum CrewFault {
+    #[error("out of memory")]
+    Memory,
+    #[error("{0}")]
+    Close(CloseRefusal),
+}
+
+/// How many workers there are, 1 to 8, and how many turns each of them takes at most.
+#[derive(Clone, Copy, Debug, PartialEq, Eq)]
+pub struct Plan {
+    pub workers: u8,
+    pub turns: u32,
+}
+
+/// The crew works until all is served. All workers come back in their order.
+fn run_served<L: Ledger + Send + Sync, R: Threads + Wait + Sync, G: Gate + Sync>(
+    rt: &R,
+    shared: &Shared<L>,
+    workers: Vec<Worker<L>>,
+    server: Server,
+    ground: Ground,
+    plan: Plan,
+    gate: &G,
+) -> Result<(Vec<Worker<L>>, Server), CrewFault>
+    requires { 0 < vec_len workers }
+    ensures numbers { IfOk result (λ back. numbers back.0.items ≡ numbers workers.items) }
+    ensures count { IfOk result (λ back. vec_len back.0 ≡ vec_len workers) }
+{
+    let Ground {
+        processes,
+        requests,
+        replies,
+    } = ground;
+    let Line {
+        wire: requests,
+        sending: asks,
+        receiving: takes,
+        first,
+    } = requests;
+    let Line {
+        wire: replies,
+        sending: answers,
+        receiving: gets,
+        first: first_reply,
+    } = replies;
+    let clerk = Clerk {
+        requests: Outbox::new(&requests, asks, first),
+        replies: Inbox::new(&replies, gets),
+        request: None,
+        reply: None,
+    };
+    let service = Service {
+        server,
+        requests: Inbox::new(&requests, takes),
+        replies: Outbox::new(&replies, answers, first_reply),
+        kept: None,
+    };
+    let mut workers = workers;
+    let Ok(others) = workers.split_off(1) else {
+        return Err(CrewFault::Memory);
+    };
+    let Some(first) = workers.pop() else {
+        unreachable!()
+    };
+    let (first, mut others, clerk, service) = work_served(
+        rt, shared, first, others, clerk, service, &processes, plan, gate,
+    );
+    let (first, server) = settle(rt, shared, first, clerk, service)?;
+    workers.push_reserved(first);
+    match workers.append(&mut others) {
+        Ok(()) => Ok((workers, server)),
+        Err(_) => Err(CrewFault::Memory),
+    }
+}
+
+/// Runs workers, each in a thread of its own, on a desk on which nothing was done, and a server beside them; then closes
+/// the desk. Worker k has the processes whose places, by rising number from 0, are k modulo the number of workers, and
+/// takes a turn of each in rounds, until each turn of a round was answered `Ended`, or for so many turns as the plan says.
+/// Worker 0 carries requests and replies. What is left is served at the end.
+pub fn run_crew<L: Ledger + Send + Sync, R: Threads + Wait + Sync, G: Gate + Sync>(
+    rt: &R,
+    alloc: Global,
+    blank: Blank,
+    desk: Desk,
+    server: Server,
+    plan: Plan,
+    gate: &G,
+) -> Result<(History, Server), CrewFault>
+    requires ledger { (blank.name ≡ L.name) × (blank.parts ≡ L.parts) × (L.parts ≡ plan.workers) }
+    requires count { (1 ≤ plan.workers) × (plan.workers ≤ 8) }
+    requires opened { desk ≡ opened desk.kernel }
+    requires trace { desk.kernel.trace ≡ [] }
+    ensures legal { IfOk result (λ done. Runs desk done.0.entries.items done.0.desk) }
+    ensures settled { IfOk result (λ done. pending done.0.desk ≡ []) }
+{
+    let ground = match Ground::new(alloc, &desk) {
+        Ok(ground) => ground,
+        Err(_) => {
+            desk.abandon();
+            return Err(CrewFault::Memory);
+        }
+    };
+    let (shared, workers) = match Shared::<L>::new(alloc, blank, desk, plan.workers) {
+        Ok(made) => made,
+        Err((_blank, desk, _error)) => {
+            desk.abandon();
+            return Err(CrewFault::Memory);
+        }
+    };
+    match run_served(rt, &shared, workers, server, ground, plan, gate) {
+        Ok((workers, server)) => Ok((close(shared, workers)?, server)),
+        Err(fault) => {
+            shared.reopen().abandon();
+            Err(fault)
+        }
+    }
+}
+
+/// Closes what the workers shared.
+fn close<L: Ledger>(shared: Shared<L>, workers: Vec<Worker<L>>) -> Result<History, CrewFault>
+    requires workers { vec_len workers ≡ L.parts }
+    requires distinct { AreDistinct workers.items }
+    ensures { IfOk result (λ history. IsClosed shared workers.items history.entries.items history.desk) }
+{
+    match shared.close(workers) {
+        Ok(history) => Ok(history),
+        Err((shared, _workers, refusal)) => {
+            shared.reopen().abandon();
+            Err(CrewFault::Close(refusal))
+        }
+    }
+}

@@ -1,0 +1,132 @@
+//! The two ends of a wire.
+ghost use Rattle.std.specs.Prelude.{◌≡◌, ◌+◌, ◌<◌, ◌^◌, ◌↔◌, length, IfOk, IfErr, OnOk, IsTrue};
+ghost use Rattle.crossbeam_queue.specs.Passes.{view};
+ghost use Rattle.sk_wire.specs.Rule.{sender, with_sent};
+ghost use Rattle.sk_wire.specs.Wire.{IsSending, IsReceiving};
+ghost use Rattle.sk_wire.specs.Calls.{PopPost};
+
+use sk_wire::{Numbered, Wire, WirePass};
+use std::alloc::{AllocError, Global};
+use std::sync::Wait;
+
+/// A wire takes fewer items than this.
+const WIRE_ITEMS: u64 = 1 << 62;
+
+/// A new wire with both its passes, for items that are numbered from `first` on.
+#[derive(Drop)]
+pub(crate) struct Line<T: Numbered> {
+    pub(crate) wire: Wire<T>,
+    pub(crate) sending: WirePass<T>,
+    pub(crate) receiving: WirePass<T>,
+    pub(crate) first: u64,
+    ghost sends: { IsSending wire sending × (view sending ≡ sender first) },
+    ghost receives: { IsReceiving wire receiving },
+}
+
+impl<T: Numbered + Drop> Line<T> {
+    pub(crate) fn new(alloc: Global, first: u64) -> Result<Line<T>, AllocError>
+        ensures { IfOk result (λ line. line.first ≡ first) }
+    {
+        let (wire, sending, receiving) = Wire::<T>::new(alloc, first)?;
+        Ok(Line {
+            wire,
+            sending,
+            receiving,
+            first,
+        })
+    }
+}
+
+/// The sending end of a wire, and the number of the item that is next.
+#[derive(Drop)]
+pub(crate) struct Outbox<'a, T: Numbered> {
+    wire: &'a Wire<T>,
+    pass: WirePass<T>,
+    first: u64,
+    next: u64,
+    ghost sends: { IsSending wire.now pass },
+    ghost begins: { (view pass).first ≡ first },
+    ghost counts: { next ≡ first + length (view pass).sent },
+}
+
+/// The receiving end of a wire.
+#[derive(Drop)]
+pub(crate) struct Inbox<'a, T: Numbered> {
+    wire: &'a Wire<T>,
+    pass: WirePass<T>,
+    ghost receives: { IsReceiving wire.now pass },
+}
+
+impl<'a, T: Numbered + Drop> Outbox<'a, T> {
+    /// The end of a new wire, numbered from `first` on.
+    pub(crate) fn new(wire: &'a Wire<T>, pass: WirePass<T>, first: u64) -> Outbox<'a, T>
+        requires { IsSending wire.now pass × (view pass ≡ sender first) }
+        ensures { view result.pass ≡ view pass }
+    {
+        Outbox {
+            wire,
+            pass,
+            first,
+            next: first,
+        }
+    }
+
+    /// Whether the item of this number is next.
+    fn is_next(&self, number: u64) -> bool
+        ensures { IsTrue result ↔ (number ≡ self.now.next) × (number < self.now.first + 2 ^ 62) × (number + 1 < 2 ^ 64) }
+    {
+        number == self.next && number - self.first < WIRE_ITEMS && number < u64::MAX
+    }
+
+    /// Sends the next item. It comes back where the wire is full, or where its number is not the next.
+    pub(crate) fn send<R: Wait>(self, rt: &R, item: T) -> (Outbox<'a, T>, Result<(), T>)
+        ensures sent { OnOk result.1 (view result.0.pass ≡ with_sent (view self.entry.pass) item) }
+        ensures back { IfErr result.1 (λ back. (back ≡ item) × (view result.0.pass ≡ view self.entry.pass)) }
+    {
+        if !self.is_next(item.number()) {
+            return (self, Err(item));
+        }
+        let Outbox {
+            wire,
+            pass,
+            first,
+            next,
+        } = self;
+        let (pass, sent) = wire.push(rt, pass, item);
+        let next = next + u64::from(sent.is_ok());
+        let outbox = Outbox {
+            wire,
+            pass,
+            first,
+            next,
+        };
+        (outbox, sent)
+    }
+
+    /// Sends an item, if there is one; what was not sent is kept.
+    pub(crate) fn post<R: Wait>(self, rt: &R, item: Option<T>) -> (Outbox<'a, T>, Option<T>) {
+        let Some(item) = item else {
+            return (self, None);
+        };
+        let (outbox, sent) = self.send(rt, item);
+        (outbox, sent.err())
+    }
+}
+
+impl<'a, T: Numbered + Drop> Inbox<'a, T> {
+    pub(crate) fn new(wire: &'a Wire<T>, pass: WirePass<T>) -> Inbox<'a, T>
+        requires { IsReceiving wire.now pass }
+        ensures { view result.pass ≡ view pass }
+    {
+        Inbox { wire, pass }
+    }
+
+    /// Receives the next item; `None` where the wire holds none.
+    pub(crate) fn receive<R: Wait>(self, rt: &R) -> (Inbox<'a, T>, Option<T>)
+        ensures { PopPost T.number_of result.1 (view self.entry.pass) (view result.0.pass) }
+    {
+        let Inbox { wire, pass } = self;
+        let (pass, item) = wire.pop(rt, pass);
+        (Inbox { wire, pass }, item)
+    }
+}

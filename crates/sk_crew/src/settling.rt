@@ -1,0 +1,147 @@
+//! What is left when all threads have ended is served by rising number.
+ghost use Rattle.std.specs.Prelude.{◌≡◌, IfOk};
+
+use crate::clerk::Clerk;
+use crate::crew::CrewFault;
+use crate::service::{Service, Unfinished};
+use sk_client::ReplyRefusal;
+use sk_server::{Reply, Request, Server, ServerRefusal};
+use sk_workers::{Shared, Worker};
+use std::sync::Wait;
+use std::sync::ledger::Ledger;
+
+/// Gives the desk a reply. One that is not its next is left out.
+fn give<L: Ledger, R: Wait>(
+    rt: &R,
+    shared: &Shared<L>,
+    worker: Worker<L>,
+    reply: Reply,
+) -> Result<Worker<L>, CrewFault>
+    ensures { IfOk result (λ back. back.number ≡ worker.number) }
+{
+    match shared.reply(rt, worker, reply) {
+        (_, Err((_, ReplyRefusal::Memory))) => Err(CrewFault::Memory),
+        (worker, _) => Ok(worker),
+    }
+}
+
+/// Has a request answered, and gives the desk the reply. One that is not the server's next is left out.
+fn serve<L: Ledger, R: Wait>(
+    rt: &R,
+    shared: &Shared<L>,
+    worker: Worker<L>,
+    server: &mut Server,
+    request: Request,
+) -> Result<Worker<L>, CrewFault>
+    ensures { IfOk result (λ back. back.number ≡ worker.number) }
+{
+    match server.answer(request) {
+        Ok(reply) => give(rt, shared, worker, reply),
+        Err((_, ServerRefusal::Memory)) => Err(CrewFault::Memory),
+        Err(_) => Ok(worker),
+    }
+}
+
+/// Gives the replies that the clerk holds, and those in its wire.
+fn give_received<L: Ledger, R: Wait>(
+    rt: &R,
+    shared: &Shared<L>,
+    worker: Worker<L>,
+    clerk: Clerk,
+) -> Result<(Worker<L>, Option<Request>), CrewFault>
+    ensures { IfOk result (λ back. back.0.number ≡ worker.number) }
+{
+    let Clerk {
+        requests: _,
+        replies,
+        request,
+        reply,
+    } = clerk;
+    let mut worker = worker;
+    let mut replies = replies;
+    let mut next = reply;
+    for _ in rt.forever() {
+        if let Some(reply) = next {
+            worker = give(rt, shared, worker, reply)?;
+        }
+        let (back, reply) = replies.receive(rt);
+        replies = back;
+        next = reply;
+        if next.is_none() {
+            break;
+        }
+    }
+    Ok((worker, request))
+}
+
+/// Serves what the server holds, and what is in its wire.
+fn serve_received<L: Ledger, R: Wait>(
+    rt: &R,
+    shared: &Shared<L>,
+    worker: Worker<L>,
+    service: Service,
+) -> Result<(Worker<L>, Server), CrewFault>
+    ensures { IfOk result (λ back. back.0.number ≡ worker.number) }
+{
+    let Service {
+        mut server,
+        requests,
+        replies: _,
+        kept,
+    } = service;
+    let mut worker = match kept {
+        Some(Unfinished::Reply(reply)) => give(rt, shared, worker, reply)?,
+        Some(Unfinished::Request(request)) => serve(rt, shared, worker, &mut server, request)?,
+        None => worker,
+    };
+    let mut requests = requests;
+    for _ in rt.forever() {
+        let (back, request) = requests.receive(rt);
+        requests = back;
+        let Some(request) = request else {
+            break;
+        };
+        worker = serve(rt, shared, worker, &mut server, request)?;
+    }
+    Ok((worker, server))
+}
+
+/// Serves a request that was not sent, and those that the desk still holds.
+fn serve_unsent<L: Ledger, R: Wait>(
+    rt: &R,
+    shared: &Shared<L>,
+    worker: Worker<L>,
+    server: &mut Server,
+    request: Option<Request>,
+) -> Result<Worker<L>, CrewFault>
+    ensures { IfOk result (λ back. back.number ≡ worker.number) }
+{
+    let mut worker = worker;
+    let mut next = request;
+    for _ in rt.forever() {
+        if let Some(request) = next {
+            worker = serve(rt, shared, worker, server, request)?;
+        }
+        next = shared.next_request(rt);
+        if next.is_none() {
+            break;
+        }
+    }
+    Ok(worker)
+}
+
+/// Serves by rising number what both kept, what the wires hold and what the desk holds, for worker 0.
+pub(crate) fn settle<L: Ledger, R: Wait>(
+    rt: &R,
+    shared: &Shared<L>,
+    worker: Worker<L>,
+    clerk: Clerk,
+    service: Service,
+) -> Result<(Worker<L>, Server), CrewFault>
+    ensures { IfOk result (λ back. back.0.number ≡ worker.number) }
+{
+    let (worker, request) = give_received(rt, shared, worker, clerk)?;
+    let (worker, mut server) = serve_received(rt, shared, worker, service)?;
+    let worker = serve_unsent(rt, shared, worker, &mut server, request)?;
+    Ok((worker, server))
+}

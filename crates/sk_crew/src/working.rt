@@ -1,0 +1,215 @@
+//! The threads of a crew.
+ghost use Rattle.std.specs.Prelude.{◌≡◌, vec_len, vec_capacity};
+ghost use Rattle.std.specs.Thread.{IsSync};
+ghost use Rattle.sk_workers.specs.Closing.{numbers};
+
+use crate::clerk::Clerk;
+use crate::crew::Plan;
+use crate::rounds::Rounds;
+use crate::service::Service;
+use sk_ids::Pid;
+use sk_plain::Refusal;
+use sk_workers::{Gate, Shared, Worker};
+use std::sync::Wait;
+use std::sync::atomic::{AtomicBool, Ordering};
+use std::sync::ledger::Ledger;
+use std::thread;
+use std::thread::Threads;
+
+/// A worker takes its next turn, of the process whose turn it is. The answer says whether it has not stopped.
+fn take_turn<L: Ledger, R: Wait, G: Gate>(
+    rt: &R,
+    shared: &Shared<L>,
+    worker: Worker<L>,
+    pid: Pid,
+    rounds: &mut Rounds,
+    gate: &G,
+) -> Worker<L>
+    ensures { result.number ≡ worker.number }
+{
+    let (worker, answer) = shared.turn(rt, worker, pid, gate);
+    rounds.take(answer == Err(Refusal::Ended));
+    if answer.is_err() {
+        thread::yield_now();
+    }
+    worker
+}
+
+/// Makes a worker's rounds.
+fn work<L: Ledger, R: Wait, G: Gate>(
+    rt: &R,
+    shared: &Shared<L>,
+    worker: Worker<L>,
+    processes: &[Pid],
+    plan: Plan,
+    gate: &G,
+) -> Worker<L>
+    ensures { result.number ≡ worker.number }
+{
+    let mut worker = worker;
+    let mut rounds = Rounds::new(worker.number(), plan.workers, processes.len());
+    for _ in 0..plan.turns {
+        let Some(place) = rounds.due() else {
+            break;
+        };
+        let Some(pid) = processes.get(place) else {
+            break;
+        };
+        worker = take_turn(rt, shared, worker, *pid, &mut rounds, gate);
+    }
+    worker
+}
+
+/// Makes the rounds of worker 0, which carries before each of its turns.
+fn lead<'a, L: Ledger, R: Wait, G: Gate>(
+    rt: &R,
+    shared: &Shared<L>,
+    worker: Worker<L>,
+    clerk: Clerk<'a>,
+    processes: &[Pid],
+    plan: Plan,
+    gate: &G,
+) -> (Worker<L>, Clerk<'a>)
+    ensures { result.0.number ≡ worker.number }
+{
+    let mut worker = worker;
+    let mut clerk = clerk;
+    let mut rounds = Rounds::new(worker.number(), plan.workers, processes.len());
+    for _ in 0..plan.turns {
+        let Some(place) = rounds.due() else {
+            break;
+        };
+        let Some(pid) = processes.get(place) else {
+            break;
+        };
+        let (back, carrier) = clerk.carry(rt, shared, worker);
+        clerk = back;
+        worker = take_turn(rt, shared, carrier, *pid, &mut rounds, gate);
+    }
+    (worker, clerk)
+}
+
+/// Carries until the other workers have stopped.
+fn carry_on<'a, L: Ledger, R: Wait>(
+    rt: &R,
+    shared: &Shared<L>,
+    worker: Worker<L>,
+    clerk: Clerk<'a>,
+    have_stopped: &AtomicBool,
+) -> (Worker<L>, Clerk<'a>)
+    ensures { result.0.number ≡ worker.number }
+{
+    let mut worker = worker;
+    let mut clerk = clerk;
+    for _ in rt.forever() {
+        if have_stopped.load(Ordering::SeqCst) {
+            break;
+        }
+        let (back, carrier) = clerk.carry(rt, shared, worker);
+        clerk = back;
+        worker = carrier;
+        thread::yield_now();
+    }
+    (worker, clerk)
+}
+
+/// Makes the rounds of each worker in a thread of its own, and gives all back in their order.
+fn work_all<L: Ledger + Send + Sync, R: Threads + Wait + Sync, G: Gate + Sync>(
+    rt: &R,
+    shared: &Shared<L>,
+    workers: Vec<Worker<L>>,
+    processes: &[Pid],
+    plan: Plan,
+    gate: &G,
+) -> Vec<Worker<L>>
+    ensures numbers { numbers result.items ≡ numbers workers.items }
+    ensures count { vec_len result ≡ vec_len workers }
+    ensures room { vec_capacity result ≡ vec_capacity workers }
+{
+    let mut rest = workers;
+    let Some(last) = rest.pop() else {
+        return rest;
+    };
+    let (one, mut all) = thread::join(
+        rt,
+        move || -> Worker<L>
+            ensures { result.number ≡ last.number }
+        { work(rt, shared, last, processes, plan, gate) },
+        move || -> Vec<Worker<L>>
+            requires { IsSync R.row × IsSync G.row }
+            ensures { (numbers result.items ≡ numbers rest.items) × (vec_len result ≡ vec_len rest) × (vec_capacity result ≡ vec_capacity rest) }
+        { work_all(rt, shared, rest, processes, plan, gate) },
+    );
+    all.push_reserved(one);
+    all
+}
+
+/// Makes the rounds of worker 0 and of the others at once.
+fn work_together<'a, L: Ledger + Send + Sync, R: Threads + Wait + Sync, G: Gate + Sync>(
+    rt: &R,
+    shared: &Shared<L>,
+    first: Worker<L>,
+    others: Vec<Worker<L>>,
+    clerk: Clerk<'a>,
+    processes: &[Pid],
+    plan: Plan,
+    gate: &G,
+) -> (Worker<L>, Vec<Worker<L>>, Clerk<'a>)
+    ensures first { result.0.number ≡ first.number }
+    ensures others { numbers result.1.items ≡ numbers others.items }
+    ensures count { vec_len result.1 ≡ vec_len others }
+{
+    let have_stopped = AtomicBool::new(false);
+    let have_stopped = &have_stopped;
+    let ((first, clerk), others) = thread::join(
+        rt,
+        move || -> (Worker<L>, Clerk)
+            ensures { result.0.number ≡ first.number }
+        {
+            let (first, clerk) = lead(rt, shared, first, clerk, processes, plan, gate);
+            carry_on(rt, shared, first, clerk, have_stopped)
+        },
+        move || -> Vec<Worker<L>>
+            requires { IsSync R.row × IsSync G.row }
+            ensures { (numbers result.items ≡ numbers others.items) × (vec_len result ≡ vec_len others) }
+        {
+            let others = work_all(rt, shared, others, processes, plan, gate);
+            have_stopped.store(true, Ordering::SeqCst);
+            others
+        },
+    );
+    (first, others, clerk)
+}
+
+/// Makes the rounds of all workers, and has the server answer at once, until they have stopped.
+pub(crate) fn work_served<'a, L: Ledger + Send + Sync, R: Threads + Wait + Sync, G: Gate + Sync>(
+    rt: &R,
+    shared: &Shared<L>,
+    first: Worker<L>,
+    others: Vec<Worker<L>>,
+    clerk: Clerk<'a>,
+    service: Service<'a>,
+    processes: &[Pid],
+    plan: Plan,
+    gate: &G,
+) -> (Worker<L>, Vec<Worker<L>>, Clerk<'a>, Service<'a>)
+    ensures first { result.0.number ≡ first.number }
+    ensures others { numbers result.1.items ≡ numbers others.items }
+    ensures count { vec_len result.1 ≡ vec_len others }
+{
+    let stop = AtomicBool::new(false);
+    let stop = &stop;
+    let ((first, others, clerk), service) = thread::join(
+        rt,
+        move || -> (Worker<L>, Vec<Worker<L>>, Clerk)
+            requires { IsSync R.row × IsSync G.row × IsSync L.row }
+            ensures { (result.0.number ≡ first.number) × (numbers result.1.items ≡ numbers others.items) × (vec_len result.1 ≡ vec_len others) }
+        {
+            let worked = work_together(rt, shared, first, others, clerk, processes, plan, gate);
+            stop.store(true, Ordering::SeqCst);
+            worked
+        },
+        move || -> Service { service.serve(rt, stop) },
+    );
+    (first, others, clerk, service)
+}

@@ -1,0 +1,296 @@
+//! Workers in threads of their own share a desk.
+ghost use Rattle.std.specs.Prelude.{◌≡◌, ◌<◌, [], vec_len, IfOk};
+ghost use Rattle.sk_kernel.specs.Kernel.{undecided_at};
+ghost use Rattle.sk_client.specs.Desk.{opened};
+ghost use Rattle.sk_workers.specs.Closing.{AreDistinct};
+
+use sk_client::{Desk, Given, Turn};
+use sk_ids::{Entity, GuessId, Name, Pid, Text};
+use sk_kernel::Kernel;
+use sk_objects::Content;
+use sk_plain::View;
+use sk_script::{Boot, ObjectKind, Register, Script, Val};
+use sk_server::{Answer, Reply};
+use sk_workers::{Answered, CloseRefusal, Gate, History, Shared, Worker};
+use std::alloc::Global;
+use std::marker::Brand;
+use std::process::Abort;
+use std::sync::Wait;
+use std::sync::atomic::{AtomicU64, Ordering};
+use std::sync::ledger::{Blank, Ledger};
+use std::test::Fail;
+use std::thread;
+use std::thread::Threads;
+
+const ROUNDS: u64 = 1_000_000_000;
+
+/// Holds the first turn of worker 0 until three answers have come to worker 1, or for so many rounds. It counts the turns
+/// of each worker that come with the number that is next.
+#[derive(Drop)]
+struct UntilThree<'a> {
+    answers: &'a AtomicU64,
+    zero: &'a AtomicU64,
+    one: &'a AtomicU64,
+}
+
+impl Gate for UntilThree<'_> {
+    fn before(&self, worker: u8, turn: u64) {
+        let came = if worker == 0 { self.zero } else { self.one };
+        if came.load(Ordering::SeqCst) == turn {
+            came.fetch_add(1, Ordering::SeqCst);
+        }
+        if worker != 0 || turn != 0 {
+            return;
+        }
+        for _ in 0..ROUNDS {
+            if self.answers.load(Ordering::SeqCst) >= 3 {
+                return;
+            }
+            thread::yield_now();
+        }
+    }
+}
+
+/// Waits for nothing.
+#[derive(Drop)]
+struct Open;
+
+impl Gate for Open {
+    fn before(&self, _worker: u8, _turn: u64) {}
+}
+
+/// Declares a process of this number, with its script and its terminal.
+fn declare(alloc: Global, boot: &mut Boot, number: u16, text: &[u8]) -> Result<(), Fail>
+    requires { 0 < number }
+{
+    let name = Name::new(&number.to_be_bytes()).ok_or("name")?;
+    boot.script(name, Script::parse(alloc, text)?)?;
+    boot.process(number, &name, number)?;
+    Ok(())
+}
+
+/// A kernel of the file `f`, of a copy of `/x`, of a process that reads `f`, of one that writes to it, and of one that fetches.
+fn kernel(alloc: Global) -> Result<Kernel, Fail>
+    ensures undecided { IfOk result (λ kernel. undecided_at kernel ≡ []) }
+    ensures trace { IfOk result (λ kernel. kernel.trace ≡ []) }
+{
+    let mut boot = Boot::new(alloc);
+    let bytes = Text::new(b"old").ok_or("text")?;
+    let content = Content::new(3, bytes).ok_or("content")?;
+    boot.copy(Name::new(b"/x").ok_or("name")?, content)?;
+    boot.object(Name::new(b"f").ok_or("name")?, ObjectKind::File, b"f0")?;
+    declare(alloc, &mut boot, 1, b"look r1 r7 f\nread r1 r2\n")?;
+    declare(
+        alloc,
+        &mut boot,
+        2,
+        b"look r1 r7 f\ntext \"z\"\nwrite r1 r2\n",
+    )?;
+    declare(alloc, &mut boot, 3, b"fetch /x\n")?;
+    Ok(Kernel::boot(alloc, 0, &boot, 1_000_000)?)
+}
+
+/// The desk of that kernel, on which nothing was done.
+fn desk(alloc: Global) -> Result<Desk, Fail>
+    ensures opened { IfOk result (λ desk. desk ≡ opened desk.kernel) }
+    ensures trace { IfOk result (λ desk. desk.kernel.trace ≡ []) }
+{
+    Ok(Desk::new(alloc, kernel(alloc)?))
+}
+
+/// Takes so many turns of a process, each of which is a step, and counts the answers.
+fn steps<L: Ledger, R: Wait + Abort, G: Gate>(
+    rt: &R,
+    shared: &Shared<L>,
+    worker: Worker<L>,
+    pid: Pid,
+    turns: u32,
+    gate: &G,
+    answers: &AtomicU64,
+) -> Worker<L>
+    ensures { result.number ≡ worker.number }
+{
+    let mut worker = worker;
+    for _ in 0..turns {
+        let (back, answer) = shared.turn(rt, worker, pid, gate);
+        worker = back;
+        assert_eq!(rt; answer, Ok(Turn::Stepped));
+        answers.fetch_add(1, Ordering::SeqCst);
+    }
+    worker
+}
+
+/// Worker 0 takes two turns of the first process, of which the gate holds the first, and worker 1 three of the second.
+fn five<L: Ledger + Send + Sync, R: Threads + Wait + Sync + Abort>(
+    rt: &R,
+    shared: &Shared<L>,
+    zero: Worker<L>,
+    one: Worker<L>,
+    pids: (Pid, Pid),
+) -> (Worker<L>, Worker<L>)
+    ensures { (result.0.number ≡ zero.number) × (result.1.number ≡ one.number) }
+{
+    let answers = AtomicU64::new(0);
+    let idle = AtomicU64::new(0);
+    let (came, other) = (AtomicU64::new(0), AtomicU64::new(0));
+    let gate = UntilThree {
+        answers: &answers,
+        zero: &came,
+        one: &other,
+    };
+    let (first, second) = pids;
+    let (zero, one) = thread::join(
+        rt,
+        || -> Worker<L>
+            ensures { result.number ≡ zero.number }
+        { steps(rt, shared, zero, first, 2, &gate, &idle) },
+        || -> Worker<L>
+            ensures { result.number ≡ one.number }
+        { steps(rt, shared, one, second, 3, &gate, &answers) },
+    );
+    assert_eq!(rt; came.load(Ordering::SeqCst), 2);
+    assert_eq!(rt; other.load(Ordering::SeqCst), 3);
+    (zero, one)
+}
+
+/// Closes what two workers share.
+fn closes<L: Ledger>(
+    rt: &impl Abort,
+    shared: Shared<L>,
+    workers: Vec<Worker<L>>,
+) -> History
+    requires workers { vec_len workers ≡ L.parts }
+    requires distinct { AreDistinct workers.items }
+{
+    match shared.close(workers) {
+        Ok(history) => history,
+        Err((shared, _workers, refusal)) => {
+            shared.reopen().abandon();
+            panic!(rt; "{refusal:?}")
+        }
+    }
+}
+
+/// Two workers share a desk, make five calls, and close it.
+fn two_workers<L: Ledger + Send + Sync, R: Threads + Wait + Sync + Abort>(
+    rt: &R,
+    alloc: Global,
+    blank: Blank,
+    desk: Desk,
+    pids: (Pid, Pid),
+) -> History
+    requires ledger { (blank.name ≡ L.name) × (blank.parts ≡ L.parts) × (L.parts ≡ 2) }
+    requires opened { desk ≡ opened desk.kernel }
+    requires trace { desk.kernel.trace ≡ [] }
+{
+    let (shared, mut workers) = match Shared::<L>::new(alloc, blank, desk, 2) {
+        Ok(made) => made,
+        Err((_blank, desk, _error)) => {
+            desk.abandon();
+            panic!(rt; "out of memory")
+        }
+    };
+    let (Some(one), Some(zero)) = (workers.pop(), workers.pop()) else {
+        unreachable!()
+    };
+    let (zero, one) = five(rt, &shared, zero, one, pids);
+    workers.push_reserved(zero);
+    workers.push_reserved(one);
+    closes(rt, shared, workers)
+}
+
+/// What the first process read, and how much of it.
+fn reads(rt: &impl Abort, desk: &Desk, pid: Pid, text: Text) {
+    match desk.kernel().value(&Entity::Proc(pid)) {
+        Some(View::Process(process)) => {
+            assert_eq!(rt; process.buffer, text);
+            assert_eq!(rt; process.registers.get(Register::ANSWER), Val::Num(2));
+        }
+        _ => panic!(rt; "no process"),
+    }
+}
+
+#[test]
+fn two_workers_one_history(rt: HostRuntime) -> Result<(), Fail> {
+    let alloc = rt.alloc();
+    let first = Pid::boot(1).ok_or("pid")?;
+    let second = Pid::boot(2).ok_or("pid")?;
+    let text = Text::new(b"z0").ok_or("text")?;
+    let History { entries, desk } = two_workers::<Brand, _>(
+        &rt,
+        alloc,
+        Blank::new(2),
+        desk(alloc)?,
+        (first, second),
+    );
+    assert_eq!(rt; entries.len(), 5);
+    for (place, entry) in entries.iter().enumerate() {
+        let worker = if place < 3 { 1 } else { 0 };
+        assert_eq!(rt; entry.worker, worker);
+        assert_eq!(rt; entry.answer, Answered::Turned(Ok(Turn::Stepped)));
+    }
+    reads(&rt, &desk, first, text);
+    desk.abandon();
+    Ok(())
+}
+
+/// With a request that has no reply the desk is not closed; with its reply given it is.
+fn waits_for_the_reply<L: Ledger, R: Wait + Abort>(
+    rt: &R,
+    alloc: Global,
+    blank: Blank,
+    desk: Desk,
+    pid: Pid,
+) -> History
+    requires ledger { (blank.name ≡ L.name) × (blank.parts ≡ L.parts) × (L.parts ≡ 1) }
+    requires opened { desk ≡ opened desk.kernel }
+    requires trace { desk.kernel.trace ≡ [] }
+{
+    let (shared, mut workers) = match Shared::<L>::new(alloc, blank, desk, 1) {
+        Ok(made) => made,
+        Err((_blank, desk, _error)) => {
+            desk.abandon();
+            panic!(rt; "out of memory")
+        }
+    };
+    let Some(worker) = workers.pop() else {
+        unreachable!()
+    };
+    let id = GuessId::new(1).unwrap_or_default();
+    let (worker, answer) = shared.turn(rt, worker, pid, &Open);
+    assert_eq!(rt; answer, Ok(Turn::Guessed(id)));
+    workers.push_reserved(worker);
+    let (shared, mut workers) = match shared.close(workers) {
+        Ok(History { entries: _, desk }) => {
+            desk.abandon();
+            panic!(rt; "closed with a request pending")
+        }
+        Err((shared, workers, refusal)) => {
+            assert_eq!(rt; refusal, CloseRefusal::Pending(1));
+            (shared, workers)
+        }
+    };
+    assert!(rt; shared.next_request(rt).is_some());
+    assert!(rt; shared.next_request(rt).is_none());
+    let Some(worker) = workers.pop() else {
+        unreachable!()
+    };
+    let number = 1;
+    let answer = Answer::Yes;
+    let (worker, given) = shared.reply(rt, worker, Reply { number, answer });
+    assert_eq!(rt; given, Ok(Given::Committed(id)));
+    workers.push_reserved(worker);
+    closes(rt, shared, workers)
+}
+
+#[test]
+fn closed_when_settled(rt: HostRuntime) -> Result<(), Fail> {
+    let alloc = rt.alloc();
+    let pid = Pid::boot(3).ok_or("pid")?;
+    let History { entries, desk } =
+        waits_for_the_reply::<Brand, _>(&rt, alloc, Blank::new(1), desk(alloc)?, pid);
+    assert_eq!(rt; entries.len(), 2);
+    assert_eq!(rt; desk.pending(), 0);
+    desk.abandon();
+    Ok(())
+}

@@ -493,7 +493,13 @@ fn a_slow_server(rt: HostRuntime) {
 
 #[test]
 fn a_slow_server_again(rt: HostRuntime) {
-    worlds(&rt, rt.alloc(), Kind::Guessing, Pace::new(8, 8, 6), 1 + WORLDS);
+    worlds(
+        &rt,
+        rt.alloc(),
+        Kind::Guessing,
+        Pace::new(8, 8, 6),
+        1 + WORLDS,
+    );
 }
 
 #[test]
@@ -503,7 +509,13 @@ fn slow_replies(rt: HostRuntime) {
 
 #[test]
 fn slow_replies_again(rt: HostRuntime) {
-    worlds(&rt, rt.alloc(), Kind::Guessing, Pace::new(32, 10, 4), 1 + WORLDS);
+    worlds(
+        &rt,
+        rt.alloc(),
+        Kind::Guessing,
+        Pace::new(32, 10, 4),
+        1 + WORLDS,
+    );
 }
 
 #[test]
@@ -513,5 +525,11 @@ fn many_edits(rt: HostRuntime) {
 
 #[test]
 fn many_edits_again(rt: HostRuntime) {
-    worlds(&rt, rt.alloc(), Kind::Guessing, Pace::new(20, 20, 24), 1 + WORLDS);
+    worlds(
+        &rt,
+        rt.alloc(),
+        Kind::Guessing,
+        Pace::new(20, 20, 24),
+        1 + WORLDS,
+    );
 }

@@ -1,11 +1,15 @@
 -- The command line, and what words ask for by it.
-use Rattle.std.specs.Prelude.{◌≡◌, ◌⊎◌, ℕ, Bool, true, false, List, [], Option, Some, None, codes, bytes_eq, option_and_then, if◌then◌else◌}
+use Rattle.std.specs.Prelude.{◌≡◌, ◌⊎◌, ℕ, Bool, true, false, List, [], ◌∷◌, ⊤, Option, Some, None, codes, bytes_eq, option_map, option_and_then, if◌then◌else◌}
+use Rattle.std.specs.Int.{IsInRange}
 use Rattle.std.specs.Option.{option_map_or}
+use Rattle.std.specs.Str.Parse.{digits_value, without_leading_plus}
 use Rattle.clap.specs.Kinds.{IsAmong, Kinds}
 use Rattle.clap.specs.Faults.{fault_of}
 use Rattle.clap.specs.Simple.{App, Shape, new_app, new_rule, on_top, subcommand_of, with_rule, with_subcommand}
+use Rattle.clap.specs.ValueTests.{is_unsigned_in}
 use Rattle.clap.specs.Walk.{Row, Rule, Text, first_of}
 use Rattle.clap.specs.declared.builder.action.ArgAction.TheVariants.{Set, SetTrue}
+use Rattle.clap.specs.declared.builder.value_parser.ValueParser.TheVariants as parsers
 use Rattle.clap.specs.declared.error.kind.ErrorKind.{ErrorKind}
 use Rattle.sk_command.specs.declared.job.Job.{Job}
 use Rattle.sk_command.specs.declared.job.Job.TheVariants as jobs
@@ -21,6 +25,14 @@ file_rule = record (new_rule (codes "FILE")) { required = true; action = Some Se
 abbrev pub trace_rule : Rule
 trace_rule = record (new_rule (codes "trace")) { long = Some (codes "trace"); action = Some SetTrue }
 
+-- the option --workers, a number from 1 to 8
+abbrev pub workers_rule : Rule
+workers_rule = record (new_rule (codes "workers")) { long = Some (codes "workers"); required = true; action = Some Set; value_names = 1; parser = Some (parsers.Unsigned 1 8) }
+
+-- the option --turns, a number from 1 to 1,000,000
+abbrev pub turns_rule : Rule
+turns_rule = record (new_rule (codes "turns")) { long = Some (codes "turns"); action = Some Set; value_names = 1; defaults = codes "100000" ∷ []; parser = Some (parsers.Unsigned 1 1000000) }
+
 abbrev pub play_command : App
 play_command = with_rule (with_rule (new_app (codes "play")) file_rule) trace_rule
 
@@ -29,6 +41,9 @@ plain_command = with_rule (new_app (codes "plain")) file_rule
 
 abbrev pub replay_command : App
 replay_command = with_rule (new_app (codes "replay")) file_rule
+
+abbrev pub work_command : App
+work_command = with_rule (with_rule (with_rule (new_app (codes "work")) file_rule) workers_rule) turns_rule
 
 -- one command has to be named, and no other word is one
 abbrev pub wants_command : Shape → Shape
@@ -39,36 +54,62 @@ abbrev pub bare_command_line : App
 bare_command_line = on_top wants_command (new_app (codes "speculate"))
 
 abbrev pub command_line : App
-command_line = with_subcommand (with_subcommand (with_subcommand bare_command_line play_command.top) plain_command.top) replay_command.top
+command_line =
+    with_subcommand (with_subcommand (with_subcommand (with_subcommand bare_command_line play_command.top) plain_command.top) replay_command.top) work_command.top
 
 -- ---- what words ask for
 
--- to play the scenario of a file, with its trace or without, to run plainly what the trace of a file leaves, or to replay that trace
+-- to play the scenario of a file, with its trace or without, to run plainly what the trace of a file leaves, to replay that trace, or to let
+-- so many workers take at most so many turns each of a scenario's processes
 pub data Wish : Type 0 where
   Play : Text → Bool → Wish
   Plain : Text → Wish
   Replay : Text → Wish
+  Work : Text → ℕ → ℕ → Wish
 
 abbrev pub wish_file : Wish → Text
 wish_file (Play file trace) = file
 wish_file (Plain file) = file
 wish_file (Replay file) = file
+wish_file (Work file workers turns) = file
+
+-- the wish is one for threads
+abbrev pub needs_threads : Wish → Bool
+needs_threads (Play file trace) = false
+needs_threads (Plain file) = false
+needs_threads (Replay file) = false
+needs_threads (Work file workers turns) = true
 
 abbrev pub wish_of : Job → Wish
 wish_of (jobs.Play file trace) = Play file.now trace
 wish_of (jobs.Plain file) = Plain file.now
 wish_of (jobs.Replay file) = Replay file.now
+wish_of (jobs.Work file workers turns) = Work file.now workers turns
 
 -- whether a command was found with this flag
 abbrev pub has_flag : Text → List Row → Bool
 has_flag flag rows = option_map_or (λ value. bytes_eq value (codes "true")) (first_of flag rows) false
+
+-- the number that a text says, from 1 to a limit
+abbrev pub number_said : ℕ → Text → Option ℕ
+number_said most text = if is_unsigned_in 1 most text then Some (digits_value 10 (without_leading_plus text)) else None
+
+-- and the one that an argument was found with
+abbrev pub number_found : ℕ → Text → List Row → Option ℕ
+number_found most argument rows = option_and_then (number_said most) (first_of argument rows)
+
+-- 1 to 8 workers, and 1 to 1,000,000 turns
+abbrev pub wish_to_work : List Row → Text → Option Wish
+wish_to_work rows file =
+    option_and_then (λ workers. option_map (λ turns. Work file workers turns) (number_found 1000000 (codes "turns") rows)) (number_found 8 (codes "workers") rows)
 
 -- what a command of this name asks for
 abbrev pub wish_for : Text → List Row → Text → Option Wish
 wish_for command rows file =
     if bytes_eq command (codes "play") then Some (Play file (has_flag (codes "trace") rows))
     else if bytes_eq command (codes "plain") then Some (Plain file)
-    else if bytes_eq command (codes "replay") then Some (Replay file) else None
+    else if bytes_eq command (codes "replay") then Some (Replay file)
+    else if bytes_eq command (codes "work") then wish_to_work rows file else None
 
 -- what a command that was found with its words asks for, which name a file
 abbrev pub wish_found : Option (Text × List Row) → Option Wish
@@ -81,6 +122,13 @@ faults_of words = fault_of command_line words
 -- what words wish, where they name a command and its file
 abbrev pub wished : List Text → Option Wish
 wished words = wish_found (subcommand_of command_line words)
+
+-- the workers of a job and their turns are within their bounds
+abbrev pub IsWithinBounds : Job → Type 0
+IsWithinBounds (jobs.Play file trace) = ⊤
+IsWithinBounds (jobs.Plain file) = ⊤
+IsWithinBounds (jobs.Replay file) = ⊤
+IsWithinBounds (jobs.Work file workers turns) = IsInRange 1 8 workers × IsInRange 1 1000000 turns
 
 -- words ask for a job
 abbrev pub Asks : List Text → Wish → Type 0

@@ -1,5 +1,6 @@
 //! What the words of the command line ask for.
-ghost use Rattle.std.specs.Prelude.{◌≡◌, false, [], map, option_map, IfOk, IfErr, OnOk, string_bytes};
+ghost use Rattle.std.specs.Prelude.{◌≡◌, false, [], map, option_map, IfOk, IfErr, IfSome, OnOk, string_bytes};
+ghost use Rattle.std.specs.Int.{IsInRange};
 ghost use Rattle.std.specs.Io.Buffered.{writer_buffer, writer_contents};
 ghost use Rattle.clap.specs.Kinds.{HasKind};
 ghost use Rattle.clap.specs.Matches.{found_of};
@@ -7,10 +8,11 @@ ghost use Rattle.clap.specs.Simple.{app_of, subcommand_rows_of};
 ghost use Rattle.clap.specs.Values.{kind_of};
 ghost use Rattle.clap.specs.Walk.{rows_of, rule_of};
 ghost use Rattle.clap.specs.declared.builder.command.Command.TheViews.{out-Command as fields_of};
-ghost use Rattle.sk_command.specs.CommandLine.{bare_command_line, command_line, play_command, plain_command, replay_command, file_rule, trace_rule, has_flag, wish_of, wish_found, wished, faults_of, wish_file};
+ghost use Rattle.sk_command.specs.CommandLine.{bare_command_line, command_line, play_command, plain_command, replay_command, work_command, file_rule, trace_rule, workers_rule, turns_rule, has_flag, number_said, number_found, wish_to_work, IsWithinBounds, wish_of, wish_found, wished, faults_of, wish_file, needs_threads};
 ghost use Rattle.sk_command.specs.Ends.{EndsFor, EndsWithHelp, IsFlushed};
 
 use crate::end::{End, flushed};
+use clap::builder::ValueParser;
 use clap::error::ErrorKind;
 use clap::{Arg, ArgAction, ArgMatches, Command, Error};
 use std::alloc::{AllocError, Global};
@@ -21,11 +23,24 @@ use std::io::{BufWriter, Write};
 #[derive(Clone, Copy, Debug, PartialEq, Eq)]
 pub enum Job<'a> {
     /// The steps of a scenario are played; its trace is printed where that is wanted.
-    Play { file: &'a str, trace: bool },
+    Play {
+        file: &'a str,
+        trace: bool,
+    },
     /// What a trace leaves is run without guesses.
-    Plain { file: &'a str },
+    Plain {
+        file: &'a str,
+    },
     /// A trace is taken anew by a kernel.
-    Replay { file: &'a str },
+    Replay {
+        file: &'a str,
+    },
+    /// Workers, 1 to 8, take turns of a scenario's processes on one desk, each so many at most, 1 to 1,000,000.
+    Work {
+        file: &'a str,
+        workers: u8,
+        turns: u32,
+    },
 }
 
 impl<'a> Job<'a> {
@@ -34,7 +49,20 @@ impl<'a> Job<'a> {
         ensures { result.now ≡ wish_file (wish_of self.entry) }
     {
         match self {
-            Job::Play { file, .. } | Job::Plain { file } | Job::Replay { file } => file,
+            Job::Play { file, .. }
+            | Job::Plain { file }
+            | Job::Replay { file }
+            | Job::Work { file, .. } => file,
+        }
+    }
+
+    /// Whether it is one for threads.
+    pub fn needs_threads(self) -> bool
+        ensures { result ≡ needs_threads (wish_of self.entry) }
+    {
+        match self {
+            Job::Work { .. } => true,
+            Job::Play { .. } | Job::Plain { .. } | Job::Replay { .. } => false,
         }
     }
 }
@@ -45,6 +73,9 @@ const PLAIN_HELP: &str =
     "Strikes a trace, runs what it leaves without guesses and prints the report.";
 
 const REPLAY_HELP: &str = "Takes the events of a trace anew and prints the report.";
+
+const WORK_HELP: &str =
+    "Lets workers take turns of a scenario's processes on one desk and prints the report.";
 
 const FORMS: &str = "A scenario is a text of lines. First come the declarations:
   script NAME .. end    a script, an instruction or label per line
@@ -65,6 +96,7 @@ For `plain` and `replay` then comes the line `trace`, and below it what happened
   guess G PID INPUT     the process took a step on a guessed input
   commit G              the guess was right
   fail G                the guess was wrong
+`work` takes any section, and runs none of its lines.
 INPUT is none, good, fresh V LIT or stale V LIT.
 
 Status: 0 done; 1 a fault in the file; 2 a fault in the words;
@@ -89,6 +121,32 @@ fn trace_arg<'a>(alloc: Global) -> Arg<'a>
         .long("trace")
         .action(ArgAction::SetTrue)
         .help("Prints the trace behind the report")
+}
+
+fn workers_arg<'a>(alloc: Global) -> Arg<'a>
+    ensures rule { rule_of result ≡ workers_rule }
+    ensures local { result.global ≡ false }
+{
+    Arg::new(alloc, "workers")
+        .long("workers")
+        .required(true)
+        .action(ArgAction::Set)
+        .value_name("N")
+        .value_parser(ValueParser::unsigned(1, 8))
+        .help("The number of workers, 1 to 8")
+}
+
+fn turns_arg<'a>(alloc: Global) -> Arg<'a>
+    ensures rule { rule_of result ≡ turns_rule }
+    ensures local { result.global ≡ false }
+{
+    Arg::new(alloc, "turns")
+        .long("turns")
+        .action(ArgAction::Set)
+        .value_name("T")
+        .default_value("100000")
+        .value_parser(ValueParser::unsigned(1, 1_000_000))
+        .help("The greatest number of turns of each worker, 1 to 1000000")
 }
 
 fn play<'a>(alloc: Global) -> Result<Command<'a>, AllocError>
@@ -122,6 +180,18 @@ fn replay<'a>(alloc: Global) -> Result<Command<'a>, AllocError>
         .arg(file_arg(alloc))
 }
 
+fn work<'a>(alloc: Global) -> Result<Command<'a>, AllocError>
+    ensures app { IfOk result (λ command. app_of command ≡ work_command) }
+    ensures local { IfOk result (λ command. (fields_of command).has_globals ≡ false) }
+{
+    Command::new(alloc, "work")
+        .about(WORK_HELP)
+        .after_help(FORMS)
+        .arg(file_arg(alloc))?
+        .arg(workers_arg(alloc))?
+        .arg(turns_arg(alloc))
+}
+
 /// The command line without its commands, one of which has to be named.
 fn without_commands<'a>(alloc: Global) -> Command<'a>
     ensures { app_of result ≡ bare_command_line }
@@ -139,7 +209,8 @@ fn command<'a>(alloc: Global) -> Result<Command<'a>, AllocError>
     without_commands(alloc)
         .subcommand(play(alloc)?)?
         .subcommand(plain(alloc)?)?
-        .subcommand(replay(alloc)?)
+        .subcommand(replay(alloc)?)?
+        .subcommand(work(alloc)?)
 }
 
 /// Whether a command has this flag among its words.
@@ -152,9 +223,35 @@ fn has_flag(words: &ArgMatches, flag: &str) -> bool
     }
 }
 
+/// The number that a text says, if it is one from 1 to this limit.
+fn number_said(text: &str, most: u32) -> Option<u32>
+    ensures value { result ≡ number_said most text.now }
+    ensures within { IfSome result (IsInRange 1 most) }
+{
+    let Ok(number) = text.parse::<u32>() else {
+        return None;
+    };
+    if number < 1 || most < number {
+        return None;
+    }
+    Some(number)
+}
+
+/// The number that an argument has, if it is one from 1 to this limit.
+fn number_of(words: &ArgMatches, argument: &str, most: u32) -> Option<u32>
+    ensures value { result ≡ number_found most argument.now (rows_of (found_of words.now)) }
+    ensures within { IfSome result (IsInRange 1 most) }
+{
+    match words.get_str(argument) {
+        Some(text) => number_said(text, most),
+        None => None,
+    }
+}
+
 /// The job that a parse found, if there is one.
 fn job_of<'a>(matches: &ArgMatches<'a>) -> Option<Job<'a>>
-    ensures { option_map wish_of result ≡ wish_found (subcommand_rows_of matches.now) }
+    ensures job { option_map wish_of result ≡ wish_found (subcommand_rows_of matches.now) }
+    ensures within { IfSome result IsWithinBounds }
 {
     let (command, words) = matches.subcommand()?;
     let file = words.get_str("FILE")?;
@@ -165,8 +262,24 @@ fn job_of<'a>(matches: &ArgMatches<'a>) -> Option<Job<'a>>
         }),
         "plain" => Some(Job::Plain { file }),
         "replay" => Some(Job::Replay { file }),
+        "work" => work_on(file, words),
         _ => None,
     }
+}
+
+/// The job of the command `work` on a file, with its workers and their turns.
+fn work_on<'a>(file: &'a str, words: &ArgMatches) -> Option<Job<'a>>
+    ensures job { option_map wish_of result
+        ≡ wish_to_work (rows_of (found_of words.now)) file.entry.now }
+    ensures within { IfSome result IsWithinBounds }
+{
+    let workers = u8::try_from(number_of(words, "workers", 8)?).ok()?;
+    let turns = number_of(words, "turns", 1_000_000)?;
+    Some(Job::Work {
+        file,
+        workers,
+        turns,
+    })
 }
 
 /// What the program's words ask for, of which the first is its own name; `None` where they name no file.
@@ -175,6 +288,7 @@ pub fn asked<'a>(alloc: Global, words: &'a [String]) -> Result<Option<Job<'a>>, 
     ensures faultless { OnOk result (faults_of (map string_bytes words.now) ≡ []) }
     ensures job { IfOk result (λ job. option_map wish_of job
         ≡ wished (map string_bytes words.now)) }
+    ensures within { IfOk result (λ job. IfSome job IsWithinBounds) }
     ensures err { IfErr result (HasKind (faults_of (map string_bytes words.now))) }
 {
     let parser = command(alloc)?;

@@ -18,6 +18,8 @@ pub enum Message<'a> {
     Entry(usize),
     /// The input of this name can't be read.
     Unread(&'a str),
+    /// The job is one for threads, of which the run has none.
+    NeedsThreads,
 }
 
 impl fmt::Display for Message<'_> {
@@ -34,6 +36,7 @@ impl fmt::Display for Message<'_> {
             Message::WrongSection => write!(f, "speculate: wrong section"),
             Message::Entry(number) => write!(f, "speculate: trace entry {number} refused"),
             Message::Unread(file) => write!(f, "speculate: cannot read {file}"),
+            Message::NeedsThreads => write!(f, "speculate: work needs threads"),
         }
     }
 }

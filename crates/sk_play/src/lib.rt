@@ -1,5 +1,5 @@
 //! A scenario at play: the kernel that it declares, with the tokens of its guesses, and what its steps are answered; and
-//! the world that it declares, and what is told of its events.
+//! the world that it declares, joined or as its desk and its server, and what is told of its events.
 #![tactic(auto)]
 
 pub mod answer;
@@ -12,4 +12,4 @@ pub use answer::{Answer, write_answer};
 pub use replaying::{Unreplayed, replay};
 pub use session::Session;
 pub use told::{WorldTold, write_told};
-pub use worlds::{happen, world_of};
+pub use worlds::{desk_of, happen, world_of};

@@ -1,6 +1,8 @@
 //! The world that a scenario declares, and what is told of its events.
 ghost use Rattle.std.specs.Prelude.{◌≡◌, IfOk, MatchResult, Some, None};
 ghost use Rattle.sk_server.specs.Server.{new_server};
+ghost use Rattle.sk_client.specs.Desk.{opened};
+ghost use Rattle.sk_play.specs.Plays.{declared_kernel};
 ghost use Rattle.sk_play.specs.Worlds.{seeded, declared_world, turn_told, edit_told, cause_told, Happens};
 
 use crate::WorldTold;
@@ -15,9 +17,19 @@ use std::alloc::{AllocError, Global};
 pub fn world_of(alloc: Global, declarations: &Declarations) -> Result<World, AllocError>
     ensures { IfOk result (λ world. world ≡ declared_world declarations.now) }
 {
+    let (desk, server) = desk_of(alloc, declarations)?;
+    Ok(World::new(alloc, desk, server))
+}
+
+/// The desk and the server of that world, before they are joined: no request is made, and none is answered.
+pub fn desk_of(alloc: Global, declarations: &Declarations) -> Result<(Desk, Server), AllocError>
+    ensures desk { IfOk result (λ parts. parts.0 ≡ opened (declared_kernel declarations.now)) }
+    ensures server { IfOk result (λ parts. parts.1 ≡ seeded new_server declarations.now.remotes) }
+    ensures first { IfOk result (λ parts. parts.1.next ≡ 1) }
+{
     let server = seeded(alloc, declarations.remotes())?;
     let kernel = declared_kernel(alloc, declarations)?;
-    Ok(World::new(alloc, Desk::new(alloc, kernel), server))
+    Ok((Desk::new(alloc, kernel), server))
 }
 
 /// A server of these files; of two of one name the later one stands.

@@ -1,4 +1,4 @@
--- The report of a kernel, that of a plain kernel, and that of a world.
+-- The report of a kernel, that of a plain kernel, and that of a desk and a server, in a world or apart; and the line of workers.
 use Rattle.std.specs.Prelude.{ℕ, List, [], ◌∷◌, ◌++◌, map, flat_map, codes, decimal, length, Option, Some, None}
 use Rattle.std.specs.Ordering.{nat_cmp}
 use Rattle.std.specs.FinMap as finmap
@@ -13,6 +13,7 @@ use Rattle.sk_kernel.specs.Kernel.{KernelView, state_at, tags_at, texts_at, unde
 use Rattle.sk_words.specs.Spelling.{spelled}
 use Rattle.sk_objects.specs.Content.{ContentView}
 use Rattle.sk_server.specs.Files.{FileMap}
+use Rattle.sk_server.specs.Server.{ServerView}
 use Rattle.sk_client.specs.Desk.{DeskView, pending}
 use Rattle.sk_client.specs.WorldView.{WorldView}
 use Rattle.sk_report.specs.Printed.{tags_text, process_text, content_text, value_text, entity_text}
@@ -113,6 +114,15 @@ counts_of k requests =
 abbrev pub desk_line : DeskView → List ℕ
 desk_line d = counts_of d.kernel (length (pending d))
 
--- the terminals and the entities of the kernel, the server's files, and the last line
+-- the terminals and the entities of a desk's kernel, the files of its server, and the last line
+abbrev pub desk_report_text : DeskView → ServerView → List ℕ
+desk_report_text d s = kernel_text d.kernel ++ remotes_text s.files ++ desk_line d
+
 abbrev pub world_report_text : WorldView → List ℕ
-world_report_text w = kernel_text w.desk.kernel ++ remotes_text w.server.files ++ desk_line w.desk
+world_report_text w = desk_report_text w.desk w.server
+
+-- ---- workers
+
+-- how many workers there were, and how many calls they made
+abbrev pub workers_line : ℕ → ℕ → List ℕ
+workers_line workers calls = codes "workers " ++ decimal workers ++ codes " calls " ++ decimal calls ++ 10 ∷ []

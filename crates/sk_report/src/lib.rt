@@ -1,5 +1,5 @@
-//! The report of a kernel: its terminals, its entities and the last line; that of a world; and how entities and what
-//! they have are printed.
+//! The report of a kernel: its terminals, its entities and the last line; that of a world, or of a desk and a server; the
+//! line of workers; and how entities and what they have are printed.
 #![tactic(auto)]
 
 pub mod printed;
@@ -14,4 +14,4 @@ pub use printed::{
 pub use report::{write_plain_report, write_report};
 pub use stop::Stop;
 pub use subject::Subject;
-pub use world_report::write_world_report;
+pub use world_report::{write_desk_report, write_workers, write_world_report};

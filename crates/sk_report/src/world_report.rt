@@ -1,8 +1,8 @@
-//! The report of a world.
+//! The report of a world, or of a desk and a server that none holds; and the line of workers.
 ghost use Rattle.std.specs.Prelude.{OnOk, flat_map};
 ghost use Rattle.std.specs.FinMap as map;
 ghost use Rattle.std.specs.Io.KnownBytes.{Appends};
-ghost use Rattle.sk_report.specs.Report.{remote_line, remotes_text, counts_of, desk_line, world_report_text};
+ghost use Rattle.sk_report.specs.Report.{remote_line, remotes_text, counts_of, desk_line, desk_report_text, world_report_text, workers_line};
 
 use crate::report::write_kernel;
 use crate::{PrintedContent, Stop};
@@ -21,10 +21,30 @@ use std::io::Write;
 pub fn write_world_report<W: Write>(alloc: Global, world: &World, out: &mut W) -> Result<(), Stop>
     ensures { OnOk result (Appends (W.contents out.old) (W.contents out.new) (world_report_text world.now)) }
 {
-    write_kernel(alloc, world.desk().kernel(), out)?;
-    write_remotes(world.server(), out)?;
-    write_desk(world.desk(), out)?;
+    write_desk_report(alloc, world.desk(), world.server(), out)
+}
+
+/// The same of a desk and a server.
+pub fn write_desk_report<W: Write>(
+    alloc: Global,
+    desk: &Desk,
+    server: &Server,
+    out: &mut W,
+) -> Result<(), Stop>
+    ensures { OnOk result (Appends (W.contents out.old) (W.contents out.new)
+        (desk_report_text desk.now server.now)) }
+{
+    write_kernel(alloc, desk.kernel(), out)?;
+    write_remotes(server, out)?;
+    write_desk_line(desk, out)?;
     Ok(())
+}
+
+/// Writes the line that tells how many workers there were, and how many calls they made.
+pub fn write_workers<W: Write>(workers: u8, calls: usize, out: &mut W) -> io::Result<()>
+    ensures { OnOk result (Appends (W.contents out.old) (W.contents out.new) (workers_line workers calls)) }
+{
+    writeln!(out, "workers {workers} calls {calls}")
 }
 
 /// Writes the files of a server.
@@ -63,7 +83,7 @@ fn write_remote<W: Write>(name: Name, content: Option<Content>, out: &mut W) -> 
 }
 
 /// Writes the last line.
-fn write_desk<W: Write>(desk: &Desk, out: &mut W) -> io::Result<()>
+fn write_desk_line<W: Write>(desk: &Desk, out: &mut W) -> io::Result<()>
     ensures { OnOk result (Appends (W.contents out.old) (W.contents out.new) (desk_line desk.now)) }
 {
     write_counts(desk.kernel(), desk.pending(), out)

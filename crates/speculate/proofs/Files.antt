@@ -1,5 +1,5 @@
 -- What reading a file and then its text comes to.
-use Rattle.std.proofs.Common.{◌≡◌, ◌≢◌, ◌≤◌, inr, ℕ, Bool, List, [], length, Option, Some, None, Result, Ok, Err, sym, subst}
+use Rattle.std.proofs.Common.{◌≡◌, ◌≢◌, ◌≤◌, inr, ℕ, Bool, false, List, [], length, Option, Some, None, Result, Ok, Err, sym, subst}
 use Rattle.std.specs.Prelude.{IfSome}
 use Rattle.std.specs.Io.KnownBytes.{Keeps}
 use Rattle.std.proofs.KnownBytes.{Appends-kept}
@@ -15,7 +15,7 @@ use Rattle.sk_scenario.specs.declared.call.Call.{Call}
 use Rattle.sk_scenario.specs.declared.scenario.Scenario.{Scenario}
 use Rattle.sk_command.specs.declared.end.End.{End}
 use Rattle.sk_command.specs.declared.end.End.TheVariants as ends
-use Rattle.sk_command.specs.CommandLine.{Wish, Play, Plain, Replay}
+use Rattle.sk_command.specs.CommandLine.{Wish, Play, Plain, Replay, Work, needs_threads}
 use Rattle.sk_command.specs.Ends.{IsWritten, fault_end}
 use Rattle.sk_command.specs.ReadAll.{INPUT_LIMIT}
 use Rattle.sk_play.proofs.Happened.{world_reported_kept}
@@ -27,37 +27,38 @@ use Rattle.speculate.specs.Replayed.{IsReplayed}
 use Rattle.speculate.specs.Run.{played_text, world_played_text, EndsFile, EndsInSection, EndsPlain, EndsPlayed, EndsReplayed, EndsWorld, EndsRead, EndsText}
 
 -- a text never ends a run as faulty words do
-fault_no_usage : (kind : FaultKind) → fault_end kind ≢ ends.Usage
+pub fault_no_usage : (kind : FaultKind) → fault_end kind ≢ ends.Usage
 fault_no_usage Word = λ e. absurd cc
 fault_no_usage Operand = λ e. absurd cc
 fault_no_usage Label = λ e. absurd cc
 fault_no_usage TooLong = λ e. absurd cc
 fault_no_usage Memory = λ e. absurd cc
 
-section_no_usage : (wish : Wish) (d : Declared) (section : SectionView) (old new : Option (List ℕ)) → EndsInSection wish d section ends.Usage old new → ⊥
-section_no_usage (Play file trace) d (Steps steps) old new h = h
-section_no_usage (Play file trace) d (World es) old new h = h
-section_no_usage (Play file trace) d (Trace es) old new h = absurd cc
-section_no_usage (Plain file) d (Steps steps) old new h = absurd cc
-section_no_usage (Plain file) d (World es) old new h = absurd cc
-section_no_usage (Plain file) d (Trace es) old new h = h
-section_no_usage (Replay file) d (Steps steps) old new h = absurd cc
-section_no_usage (Replay file) d (World es) old new h = absurd cc
-section_no_usage (Replay file) d (Trace es) old new h = h
+section_no_usage : (wish : Wish) (d : Declared) (section : SectionView) (old new : Option (List ℕ)) → needs_threads wish ≡ false → EndsInSection wish d section ends.Usage old new → ⊥
+section_no_usage (Play file trace) d (Steps steps) old new done h = h
+section_no_usage (Play file trace) d (World es) old new done h = h
+section_no_usage (Play file trace) d (Trace es) old new done h = absurd cc
+section_no_usage (Plain file) d (Steps steps) old new done h = absurd cc
+section_no_usage (Plain file) d (World es) old new done h = absurd cc
+section_no_usage (Plain file) d (Trace es) old new done h = h
+section_no_usage (Replay file) d (Steps steps) old new done h = absurd cc
+section_no_usage (Replay file) d (World es) old new done h = absurd cc
+section_no_usage (Replay file) d (Trace es) old new done h = h
+section_no_usage (Work file workers turns) d section old new done h = absurd cc
 
-read_no_usage : (wish : Wish) (read : Result Scenario Fault) (old new : Option (List ℕ)) → EndsRead wish read ends.Usage old new → ⊥
-read_no_usage wish (Ok s) old new h = section_no_usage wish s.declarations (section_view s.section) old new h
-read_no_usage wish (Err f) old new h = fault_no_usage f.kind (sym h.0)
+read_no_usage : (wish : Wish) (read : Result Scenario Fault) (old new : Option (List ℕ)) → needs_threads wish ≡ false → EndsRead wish read ends.Usage old new → ⊥
+read_no_usage wish (Ok s) old new done h = section_no_usage wish s.declarations (section_view s.section) old new done h
+read_no_usage wish (Err f) old new done h = fault_no_usage f.kind (sym h.0)
 
 -- no text is a fault of the words
-text_no_usage : (wish : Wish) (text : List ℕ) (end : End) (old new : Option (List ℕ)) → EndsText wish text end old new → end ≢ ends.Usage
-text_no_usage wish text end old new h = λ e. read_no_usage wish h.0 old new (subst (λ x. EndsRead wish h.0 x old new) e h.2)
+text_no_usage : (wish : Wish) (text : List ℕ) (end : End) (old new : Option (List ℕ)) → needs_threads wish ≡ false → EndsText wish text end old new → end ≢ ends.Usage
+text_no_usage wish text end old new done h = λ e. read_no_usage wish h.0 old new done (subst (λ x. EndsRead wish h.0 x old new) e h.2)
 
 -- an input that was read
-pub was_read : (wish : Wish) (known : Option (List ℕ)) (text : List ℕ) (end : End) (old new : Option (List ℕ)) → IfSome known (λ bytes. text ≡ bytes) → length text ≤ INPUT_LIMIT
+pub was_read : (wish : Wish) (known : Option (List ℕ)) (text : List ℕ) (end : End) (old new : Option (List ℕ)) → needs_threads wish ≡ false → IfSome known (λ bytes. text ≡ bytes) → length text ≤ INPUT_LIMIT
     → EndsText wish text end old new → EndsFile wish known end old new
-was_read wish None text end old new same short h = text_no_usage wish text end old new h
-was_read wish (Some bytes) text end old new same short h = inr (subst (λ xs. length xs ≤ INPUT_LIMIT) same short, subst (λ xs. EndsText wish xs end old new) same h)
+was_read wish None text end old new done same short h = text_no_usage wish text end old new done h
+was_read wish (Some bytes) text end old new done same short h = inr (subst (λ xs. length xs ≤ INPUT_LIMIT) same short, subst (λ xs. EndsText wish xs end old new) same h)
 
 -- ---- what was done, once the buffer is written out
 

@@ -18,7 +18,7 @@ use Rattle.sk_play.specs.Worlds.{declared_world, WorldReported}
 use Rattle.sk_report.specs.Report.{report_text, world_report_text}
 use Rattle.sk_command.specs.declared.end.End.{End}
 use Rattle.sk_command.specs.declared.end.End.TheVariants as ends
-use Rattle.sk_command.specs.CommandLine.{Wish, Play, Plain, Replay, wish_file, Asks, EndsWithoutJob}
+use Rattle.sk_command.specs.CommandLine.{Wish, Play, Plain, Replay, Work, Asks, EndsWithoutJob}
 use Rattle.sk_command.specs.Ends.{EndsUnwritten, fault_end}
 use Rattle.sk_command.specs.ReadAll.{INPUT_LIMIT}
 use Rattle.speculate.specs.Plainly.{IsRunPlainly, IsFaulty}
@@ -73,7 +73,8 @@ EndsReplayed d es ends.Usage old new = ⊥
 EndsReplayed d es ends.Trouble old new = ⊤
 EndsReplayed d es ends.OutputRefused old new = ⊤
 
--- what is wished is done with the section below the declarations; a section that it doesn't take is a fault of the file
+-- what is wished is done with the section below the declarations; a section that it doesn't take is a fault of the file, and what is one for
+-- threads is not done here
 abbrev pub EndsInSection : Wish → Declared → SectionView → End → Option (List ℕ) → Option (List ℕ) → Type 0
 EndsInSection (Play file trace) d (Steps steps) end old new = EndsPlayed trace d steps end old new
 EndsInSection (Play file trace) d (World es) end old new = EndsWorld trace d es end old new
@@ -84,6 +85,7 @@ EndsInSection (Plain file) d (Trace es) end old new = EndsPlain d.boot es end ol
 EndsInSection (Replay file) d (Steps steps) end old new = EndsUnwritten ends.Fault end old new
 EndsInSection (Replay file) d (World es) end old new = EndsUnwritten ends.Fault end old new
 EndsInSection (Replay file) d (Trace es) end old new = EndsReplayed d es end old new
+EndsInSection (Work file workers turns) d section end old new = EndsUnwritten ends.Usage end old new
 
 -- what reading a text gave is run, or is a fault of which nothing is on the output
 abbrev pub EndsRead : Wish → Result Scenario Fault → End → Option (List ℕ) → Option (List ℕ) → Type 0
@@ -101,8 +103,14 @@ EndsFile wish None end old new = end ≢ ends.Usage
 EndsFile wish (Some bytes) end old new =
     EndsUnwritten ends.Trouble end old new ⊎ ((length bytes ≤ INPUT_LIMIT) × EndsText wish bytes end old new)
 
--- words, of which the first is the program's own name, ask for no job, or for one that is done with
--- the file that they name
+-- a wish for threads is told, and no file is read; any other is done with the file that it names
+abbrev pub EndsWish : Wish → (List ℕ → Option (List ℕ)) → End → Option (List ℕ) → Option (List ℕ) → Type 0
+EndsWish (Play file trace) bytes_of end old new = EndsFile (Play file trace) (bytes_of file) end old new
+EndsWish (Plain file) bytes_of end old new = EndsFile (Plain file) (bytes_of file) end old new
+EndsWish (Replay file) bytes_of end old new = EndsFile (Replay file) (bytes_of file) end old new
+EndsWish (Work file workers turns) bytes_of end old new = EndsUnwritten ends.Usage end old new
+
+-- words, of which the first is the program's own name, ask for no job, or for one that is done
 abbrev pub EndsWords : List (List ℕ) → (List ℕ → Option (List ℕ)) → End → Option (List ℕ) → Option (List ℕ) → Type 0
 EndsWords words bytes_of end old new =
-    EndsWithoutJob words end old new ⊎ ((wish : Wish) × Asks words wish × EndsFile wish (bytes_of (wish_file wish)) end old new)
+    EndsWithoutJob words end old new ⊎ ((wish : Wish) × Asks words wish × EndsWish wish bytes_of end old new)

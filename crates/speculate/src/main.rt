@@ -7,14 +7,20 @@ pub mod replaying;
 pub mod striking;
 #[cfg(test)]
 mod tests;
+pub mod working;
+#[cfg(test)]
+mod working_tests;
 pub mod worlds;
 
-use crate::program::run;
+use crate::working::run_work;
 use sk_command::end::End;
 use sk_command::open_input::Open;
+use sk_workers::Gate;
 use std::io::{BufWriter, ErrorKind, Read, Write};
 use std::process::ExitCode;
 use std::rt::Files;
+use std::sync::Wait;
+use std::thread::Threads;
 use std::{env, fs, io};
 
 /// An input: a file, or the standard input.
@@ -51,6 +57,14 @@ impl<R: Files + Input> Open for System<'_, R> {
     }
 }
 
+/// A gate that lets every worker pass at once.
+#[derive(Drop)]
+struct Unguarded;
+
+impl Gate for Unguarded {
+    fn before(&self, _worker: u8, _turn: u64) {}
+}
+
 /// How the run ends where its words can't be had.
 fn end_without_words(rt: &HostRuntime, error: &io::Error) -> End {
     if error.kind() != ErrorKind::InvalidData {
@@ -60,7 +74,8 @@ fn end_without_words(rt: &HostRuntime, error: &io::Error) -> End {
     End::Usage
 }
 
-fn end_of(rt: &HostRuntime) -> End {
+/// Runs the program on the words of its process; its threads come from a runtime that has them.
+fn end_of<T: Threads + Wait + Sync>(rt: &HostRuntime, threads: &T) -> End {
     let words = match env::args(rt) {
         Ok(words) => words.collect::<Vec<String>>(rt.alloc()),
         Err(error) => return end_without_words(rt, &error),
@@ -72,12 +87,21 @@ fn end_of(rt: &HostRuntime) -> End {
         return End::Trouble;
     };
     let system = System { rt };
-    let end = run(rt.alloc(), &words, &system, &mut out, &mut rt.stderr());
+    let mut err = rt.stderr();
+    let end = run_work(
+        threads,
+        rt.alloc(),
+        &words,
+        &system,
+        &Unguarded,
+        &mut out,
+        &mut err,
+    );
     // What a refused write left over is not written again.
     let _left = out.into_parts();
     end
 }
 
 fn main(rt: HostRuntime) -> ExitCode {
-    ExitCode::from(end_of(&rt).status())
+    ExitCode::from(end_of(&rt, &rt).status())
 }

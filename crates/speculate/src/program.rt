@@ -1,16 +1,18 @@
 //! The run of the program, from its words to its end.
-ghost use Rattle.std.specs.Prelude.{◌≡◌, map, string_bytes};
+ghost use Rattle.std.specs.Prelude.{◌≡◌, false, map, string_bytes};
 ghost use Rattle.std.specs.Io.Buffered.{writer_buffer, writer_contents};
-ghost use Rattle.sk_command.specs.CommandLine.{wish_of};
+ghost use Rattle.sk_command.specs.CommandLine.{needs_threads, wish_file, wish_of};
 ghost use Rattle.sk_command.specs.Ends.{IsFlushed};
-ghost use Rattle.speculate.specs.Run.{EndsPlain, EndsPlayed, EndsReplayed, EndsWorld, EndsRead, EndsText, EndsWords};
+ghost use Rattle.speculate.specs.Run.{EndsPlain, EndsPlayed, EndsReplayed, EndsWorld, EndsRead, EndsText, EndsFile, EndsWords};
 
 use crate::playing::play;
 use crate::replaying::replay_all;
 use crate::striking::{Unrun, run_left};
 use crate::worlds::play_world;
 use sk_client::WorldEvent;
-use sk_command::end::{End, flushed, tell_entry, tell_fault, tell_wrong_section};
+use sk_command::end::{
+    End, flushed, tell_entry, tell_fault, tell_needs_threads, tell_wrong_section,
+};
 use sk_command::job::{Job, asked, explain};
 use sk_command::open_input::{Open, input};
 use sk_report::Stop;
@@ -21,8 +23,8 @@ use sk_words::Fault;
 use std::alloc::Global;
 use std::io::{BufWriter, Write};
 
-/// Runs the program on its words, of which the first is its own name. After a refused write of the
-/// output nothing more is written to it.
+/// Runs the program on its words, of which the first is its own name, but for a job that needs threads, which is
+/// told. After a refused write of the output nothing more is written to it.
 pub fn run<O: Open, W: Write + Drop, E: Write>(
     alloc: Global,
     words: &[String],
@@ -39,13 +41,33 @@ pub fn run<O: Open, W: Write + Drop, E: Write>(
         Ok(None) => return End::Usage,
         Err(error) => return explain(alloc, &error, out, err),
     };
+    if job.needs_threads() {
+        return tell_needs_threads(err);
+    }
+    run_file(alloc, job, inputs, out, err)
+}
+
+/// Does a job that needs no threads with the file that it names.
+pub(crate) fn run_file<O: Open, W: Write + Drop, E: Write>(
+    alloc: Global,
+    job: Job,
+    inputs: &O,
+    out: &mut BufWriter<W>,
+    err: &mut E,
+) -> End
+    requires { needs_threads (wish_of job) ≡ false }
+    ensures end { let wish = wish_of job.entry in
+        EndsFile wish (O.bytes_of inputs.now (wish_file wish)) result
+        (writer_contents W.contents out.old) (writer_contents W.contents out.new) }
+    ensures flushed { IsFlushed result (writer_buffer out.new) }
+{
     match input(alloc, inputs, job.file(), err) {
         Ok(text) => run_text(alloc, job, &text, out, err),
         Err(end) => end,
     }
 }
 
-/// Does a job with a scenario's text, or tells its first fault.
+/// Does a job with a scenario's text, or tells its first fault, or that the job needs threads.
 pub fn run_text<W: Write + Drop, E: Write>(
     alloc: Global,
     job: Job,
@@ -60,7 +82,7 @@ pub fn run_text<W: Write + Drop, E: Write>(
     run_read(alloc, job, Scenario::parse(alloc, text), out, err)
 }
 
-/// Does a job with what was read, or tells its fault.
+/// Does a job with what was read, or tells its fault, or that the job needs threads.
 fn run_read<W: Write + Drop, E: Write>(
     alloc: Global,
     job: Job,
@@ -92,6 +114,7 @@ fn run_read<W: Write + Drop, E: Write>(
         (Job::Replay { .. }, Section::Trace(trace)) => {
             run_replay(alloc, &declarations, &trace, out, err)
         }
+        (Job::Work { .. }, _) => tell_needs_threads(err),
         _ => tell_wrong_section(err),
     }
 }

@@ -1,12 +1,13 @@
 //! The program, run on inputs and outputs that are known or fail, which a stored run can't have.
 
 use crate::playing::play;
-use crate::program::run;
+use crate::program::{run, run_text};
 use crate::striking::{Unrun, run_left};
 use sk_command::end::End;
+use sk_command::job::{Job, asked};
 use sk_command::open_input::Open;
 use sk_command::read_all::{INPUT_LIMIT, READ_LIMIT, ReadFault, read_all};
-use sk_report::Stop;
+use sk_report::{Stop, write_workers};
 use sk_scenario::{Scenario, Section};
 use std::alloc::{AllocError, Global};
 use std::io;
@@ -18,8 +19,8 @@ use std::test::*;
 
 /// An input in memory, whatever its name.
 #[derive(Drop)]
-struct Known<'a> {
-    bytes: &'a [u8],
+pub(crate) struct Known<'a> {
+    pub(crate) bytes: &'a [u8],
 }
 
 impl<'a> Open for Known<'a> {
@@ -169,7 +170,7 @@ impl Write for RefusesOnce {
 
 // ---- runs
 
-fn words_of(alloc: Global, words: &[&str]) -> Result<Vec<String>, AllocError> {
+pub(crate) fn words_of(alloc: Global, words: &[&str]) -> Result<Vec<String>, AllocError> {
     let mut all = vec![in alloc; String::from_str(alloc, "speculate")?]?;
     for word in words {
         all.push(String::from_str(alloc, word)?)?;
@@ -179,10 +180,10 @@ fn words_of(alloc: Global, words: &[&str]) -> Result<Vec<String>, AllocError> {
 
 /// How a run ended, and what it wrote.
 #[derive(Drop)]
-struct Ran {
-    end: End,
-    out: Vec<u8>,
-    err: Vec<u8>,
+pub(crate) struct Ran {
+    pub(crate) end: End,
+    pub(crate) out: Vec<u8>,
+    pub(crate) err: Vec<u8>,
 }
 
 fn run_known<O: Open>(alloc: Global, words: &[&str], inputs: &O) -> io::Result<Ran> {
@@ -195,7 +196,13 @@ fn run_known<O: Open>(alloc: Global, words: &[&str], inputs: &O) -> io::Result<R
 }
 
 /// Compares what a run came to with what is wanted.
-fn check(rt: &impl Abort, ran: &Ran, status: u8, out: &str, err: &str) -> Result<(), Fail> {
+pub(crate) fn check(
+    rt: &impl Abort,
+    ran: &Ran,
+    status: u8,
+    out: &str,
+    err: &str,
+) -> Result<(), Fail> {
     assert_eq!(rt; str::from_utf8(&ran.err), Ok(err));
     assert_eq!(rt; str::from_utf8(&ran.out), Ok(out));
     assert_eq!(rt; ran.end.status(), status);
@@ -375,7 +382,7 @@ fn too_long_script(rt: HostRuntime) -> Result<(), Fail> {
 }
 
 const NO_SUBCOMMAND: &str = "error: 'speculate' requires a subcommand but one was not provided
-  [subcommands: play, plain, replay]
+  [subcommands: play, plain, replay, work]
 
 Usage: speculate <COMMAND>
 
@@ -414,6 +421,104 @@ fn faulty_words(rt: HostRuntime) -> Result<(), Fail> {
     )
 }
 
+const NO_WORKERS: &str = "error: the following required arguments were not provided:
+  --workers <N>
+
+Usage: speculate work --workers <N> <FILE>
+
+For more information, try '--help'.
+";
+
+#[test]
+fn words_of_work(rt: HostRuntime) -> Result<(), Fail> {
+    let alloc = rt.alloc();
+    for (words, workers, turns) in [
+        (["work", "-", "--workers", "1"].as_slice(), 1, 100_000),
+        (["work", "--workers=8", "--turns=1", "-"].as_slice(), 8, 1),
+        (
+            ["work", "--turns", "1000000", "-", "--workers", "03"].as_slice(),
+            3,
+            1_000_000,
+        ),
+    ] {
+        let words = words_of(alloc, words)?;
+        let Ok(job) = asked(alloc, &words) else {
+            return Err(Fail::from("faulty words"));
+        };
+        let file = "-";
+        assert_eq!(rt;
+            job,
+            Some(Job::Work {
+                file,
+                workers,
+                turns
+            })
+        );
+    }
+    Ok(())
+}
+
+#[test]
+fn faulty_words_of_work(rt: HostRuntime) -> Result<(), Fail> {
+    let alloc = rt.alloc();
+    let inputs = Known { bytes: b"" };
+    let ran = run_known(alloc, &["work", "-"], &inputs)?;
+    check(&rt, &ran, 2, "", NO_WORKERS)?;
+    for (workers, turns, fault) in [
+        ("0", "1", "'0' for '--workers <N>': 0 is not in 1..=8"),
+        ("9", "1", "'9' for '--workers <N>': 9 is not in 1..=8"),
+        (
+            "x",
+            "1",
+            "'x' for '--workers <N>': invalid digit found in string",
+        ),
+        ("1", "0", "'0' for '--turns <T>': 0 is not in 1..=1000000"),
+        (
+            "1",
+            "1000001",
+            "'1000001' for '--turns <T>': 1000001 is not in 1..=1000000",
+        ),
+    ] {
+        let words = ["work", "-", "--workers", workers, "--turns", turns];
+        let ran = run_known(alloc, &words, &inputs)?;
+        let err = format!(in alloc;
+            "error: invalid value {fault}\n\nFor more information, try '--help'.\n"
+        )?;
+        check(&rt, &ran, 2, "", &err)?;
+    }
+    Ok(())
+}
+
+#[test]
+fn work_needs_threads(rt: HostRuntime) -> Result<(), Fail> {
+    let alloc = rt.alloc();
+    let told = "speculate: work needs threads\n";
+    let ran = run_known(
+        alloc,
+        &["work", "gone", "--workers", "2"],
+        &Gives::Bytes(b""),
+    )?;
+    check(&rt, &ran, 2, "", told)?;
+    let job = Job::Work {
+        file: "-",
+        workers: 2,
+        turns: 1,
+    };
+    let mut out = BufWriter::new(alloc, Vec::new(alloc))?;
+    let mut err = Vec::new(alloc);
+    let end = run_text(alloc, job, b"world\n", &mut out, &mut err);
+    let (out, _unwritten) = out.into_parts();
+    check(&rt, &Ran { end, out, err }, 2, "", told)
+}
+
+#[test]
+fn line_of_workers(rt: HostRuntime) -> Result<(), Fail> {
+    let mut out = Vec::new(rt.alloc());
+    write_workers(2, 8, &mut out)?;
+    assert_eq!(rt; str::from_utf8(&out), Ok("workers 2 calls 8\n"));
+    Ok(())
+}
+
 #[test]
 fn help(rt: HostRuntime) -> Result<(), Fail> {
     let alloc = rt.alloc();
@@ -422,6 +527,7 @@ fn help(rt: HostRuntime) -> Result<(), Fail> {
         (["--help"].as_slice(), "A kernel that runs"),
         (["play", "-h"].as_slice(), "Runs the steps"),
         (["plain", "-h"].as_slice(), "Strikes a trace"),
+        (["work", "-h"].as_slice(), "Lets workers take"),
     ] {
         let ran = run_known(alloc, words, &inputs)?;
         assert!(rt; ran.out.starts_with(begins.as_bytes()));

@@ -59,11 +59,17 @@ impl Gate for Open {
     fn before(&self, _worker: u8, _turn: u64) {}
 }
 
-/// Declares a process of this number, with its script and its terminal.
-fn declare(alloc: Global, boot: &mut Boot, number: u16, text: &[u8]) -> Result<(), Fail>
+/// Declares a process of this number, with a script of its own and a terminal.
+fn declare(
+    alloc: Global,
+    boot: &mut Boot,
+    number: u16,
+    name: &[u8],
+    text: &[u8],
+) -> Result<(), Fail>
     requires { 0 < number }
 {
-    let name = Name::new(&number.to_be_bytes()).ok_or("name")?;
+    let name = Name::new(name).ok_or("name")?;
     boot.script(name, Script::parse(alloc, text)?)?;
     boot.process(number, &name, number)?;
     Ok(())
@@ -79,14 +85,21 @@ fn kernel(alloc: Global) -> Result<Kernel, Fail>
     let content = Content::new(3, bytes).ok_or("content")?;
     boot.copy(Name::new(b"/x").ok_or("name")?, content)?;
     boot.object(Name::new(b"f").ok_or("name")?, ObjectKind::File, b"f0")?;
-    declare(alloc, &mut boot, 1, b"look r1 r7 f\nread r1 r2\n")?;
+    declare(
+        alloc,
+        &mut boot,
+        1,
+        b"reading",
+        b"look r1 r7 f\nread r1 r2\n",
+    )?;
     declare(
         alloc,
         &mut boot,
         2,
+        b"writing",
         b"look r1 r7 f\ntext \"z\"\nwrite r1 r2\n",
     )?;
-    declare(alloc, &mut boot, 3, b"fetch /x\n")?;
+    declare(alloc, &mut boot, 3, b"fetching", b"fetch /x\n")?;
     Ok(Kernel::boot(alloc, 0, &boot, 1_000_000)?)
 }
 
@@ -154,11 +167,7 @@ fn five<L: Ledger + Send + Sync, R: Threads + Wait + Sync + Abort>(
 }
 
 /// Closes what two workers share.
-fn closes<L: Ledger>(
-    rt: &impl Abort,
-    shared: Shared<L>,
-    workers: Vec<Worker<L>>,
-) -> History
+fn closes<L: Ledger>(rt: &impl Abort, shared: Shared<L>, workers: Vec<Worker<L>>) -> History
     requires workers { vec_len workers ≡ L.parts }
     requires distinct { AreDistinct workers.items }
 {
@@ -287,8 +296,13 @@ fn waits_for_the_reply<L: Ledger, R: Wait + Abort>(
 fn closed_when_settled(rt: HostRuntime) -> Result<(), Fail> {
     let alloc = rt.alloc();
     let pid = Pid::boot(3).ok_or("pid")?;
-    let History { entries, desk } =
-        waits_for_the_reply::<Brand, _>(&rt, alloc, Blank::new(1), desk(alloc)?, pid);
+    let History { entries, desk } = waits_for_the_reply::<Brand, _>(
+        &rt,
+        alloc,
+        Blank::new(1),
+        desk(alloc)?,
+        pid,
+    );
     assert_eq!(rt; entries.len(), 2);
     assert_eq!(rt; desk.pending(), 0);
     desk.abandon();

@@ -21,4 +21,4 @@ pub returns-in-Ok-clause-job : goal.returns-in-Ok-clause-job
 returns-in-Ok-clause-job c =
     let app = c.in_ok-parser.ensures in
     let rows = (c.in-Ok.ensures.matches (ap is_simple app ∙ is_plain)).1 in
-    c.job_of.ensures ∙ ap wish_found (rows ∙ ap (λ a. subcommand_of a (map string_bytes c.args.words.now)) app)
+    c.job_of.ensures.job ∙ ap wish_found (rows ∙ ap (λ a. subcommand_of a (map string_bytes c.args.words.now)) app)

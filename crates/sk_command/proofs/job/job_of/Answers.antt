@@ -7,8 +7,8 @@ use Rattle.clap.proofs.WalkLemmas.{first_value-rows}
 use Rattle.sk_command.proofs.Jobs.{name_in_rows, wish_in_rows}
 use Rattle.sk_command.proofs.job.job_of.Goals as goal
 
-pub returns-in_err-file : goal.returns-in_err-file
-returns-in_err-file c =
+pub returns-in_err-file-clause-job : goal.returns-in_err-file-clause-job
+returns-in_err-file-clause-job c =
     let found = found_of c.in_ok-command.words.now in
     let file = c.in_err-file.ensures ∙ first_value-rows found (codes "FILE") in
     let matches = c.args.matches.now in
@@ -16,8 +16,8 @@ returns-in_err-file c =
     let wish = wish_in_rows (subcommand_rows_of matches) command (rows_of found) (name_in_rows matches command c.in_ok-command.ensures.name) c.in_ok-command.ensures.rows in
     rw (c.from_residual-in_err-file.ensures, wish, ← file) refl
 
-pub returns-in-play : goal.returns-in-play
-returns-in-play c =
+pub returns-in-play-clause-job : goal.returns-in-play-clause-job
+returns-in-play-clause-job c =
     let found = found_of c.in_ok-command.words.now in
     let file = c.in_ok-file.ensures ∙ first_value-rows found (codes "FILE") in
     let matches = c.args.matches.now in
@@ -25,8 +25,8 @@ returns-in-play c =
     let wish = wish_in_rows (subcommand_rows_of matches) command (rows_of found) (name_in_rows matches command c.in_ok-command.ensures.name) c.in_ok-command.ensures.rows in
     rw (wish, ← file, c.in-play.is, c.has_flag.ensures) refl
 
-pub returns-in-plain : goal.returns-in-plain
-returns-in-plain c =
+pub returns-in-plain-clause-job : goal.returns-in-plain-clause-job
+returns-in-plain-clause-job c =
     let found = found_of c.in_ok-command.words.now in
     let file = c.in_ok-file.ensures ∙ first_value-rows found (codes "FILE") in
     let matches = c.args.matches.now in
@@ -34,11 +34,20 @@ returns-in-plain c =
     let wish = wish_in_rows (subcommand_rows_of matches) command (rows_of found) (name_in_rows matches command c.in_ok-command.ensures.name) c.in_ok-command.ensures.rows in
     rw (wish, ← file, c.in-plain.is) refl
 
-pub returns-in-replay : goal.returns-in-replay
-returns-in-replay c =
+pub returns-in-replay-clause-job : goal.returns-in-replay-clause-job
+returns-in-replay-clause-job c =
     let found = found_of c.in_ok-command.words.now in
     let file = c.in_ok-file.ensures ∙ first_value-rows found (codes "FILE") in
     let matches = c.args.matches.now in
     let command = c.in_ok-command.command.now in
     let wish = wish_in_rows (subcommand_rows_of matches) command (rows_of found) (name_in_rows matches command c.in_ok-command.ensures.name) c.in_ok-command.ensures.rows in
     rw (wish, ← file, c.in-replay.is) refl
+
+pub returns-in-work-clause-job : goal.returns-in-work-clause-job
+returns-in-work-clause-job c =
+    let found = found_of c.in_ok-command.words.now in
+    let file = c.in_ok-file.ensures ∙ first_value-rows found (codes "FILE") in
+    let matches = c.args.matches.now in
+    let command = c.in_ok-command.command.now in
+    let wish = wish_in_rows (subcommand_rows_of matches) command (rows_of found) (name_in_rows matches command c.in_ok-command.ensures.name) c.in_ok-command.ensures.rows in
+    rw (wish, ← file, c.in-work.is) c.work_on.ensures.job

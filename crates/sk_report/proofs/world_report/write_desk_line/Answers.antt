@@ -3,7 +3,7 @@ use Rattle.std.proofs.Common.{subst}
 use Rattle.std.specs.Prelude.{OnOk}
 use Rattle.std.specs.Io.KnownBytes.{Appends}
 use Rattle.sk_report.proofs.Counted.{counted}
-use Rattle.sk_report.proofs.world_report.write_desk.Goals as goal
+use Rattle.sk_report.proofs.world_report.write_desk_line.Goals as goal
 
 pub returns : goal.returns
 returns g c =

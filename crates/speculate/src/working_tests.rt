@@ -1,0 +1,122 @@
+//! Runs with threads, over inputs and outputs in memory.
+
+use crate::tests::{Known, Ran, check, words_of};
+use crate::working::run_work;
+use sk_command::open_input::Open;
+use sk_workers::Gate;
+use std::alloc::Global;
+use std::io::BufWriter;
+use std::sync::Wait;
+use std::sync::atomic::{AtomicBool, Ordering};
+use std::test::Fail;
+use std::thread::Threads;
+use std::{io, thread};
+
+const ROUNDS: u64 = 1_000_000_000;
+
+const TWO_WORKERS: &str = "script main
+text \"a\"
+say
+end
+process 1 main 1
+process 2 main 2
+";
+
+const TWO_WORKERS_REPORT: &str = "terminal 1 released 1 waiting 0
+\"a\"
+terminal 2 released 1 waiting 0
+\"a\"
+proc 1 at 2 regs 0 0 0 0 0 0 0 0:1 buf \"a\" kids 0 objs 0 handler - saved - ended yes tags -
+proc 2 at 2 regs 0 0 0 0 0 0 0 0:1 buf \"a\" kids 0 objs 0 handler - saved - ended yes tags -
+sig 1 - tags -
+sig 2 - tags -
+exit 1 0 tags -
+exit 2 0 tags -
+obj 0:1 dir - tags -
+trace 6 undecided 0 pending 0
+workers 2 calls 8
+";
+
+/// Waits for nothing.
+#[derive(Drop)]
+struct NoWait;
+
+impl Gate for NoWait {
+    fn before(&self, _worker: u8, _turn: u64) {}
+}
+
+/// Holds each of two workers before its turn 1 until the other has come to its own, or for so many rounds.
+#[derive(Drop)]
+struct Meeting<'a> {
+    zero: &'a AtomicBool,
+    one: &'a AtomicBool,
+    ran_out: &'a AtomicBool,
+}
+
+impl Gate for Meeting<'_> {
+    fn before(&self, worker: u8, turn: u64) {
+        if turn != 1 {
+            return;
+        }
+        let (own, other) = if worker == 0 {
+            (self.zero, self.one)
+        } else {
+            (self.one, self.zero)
+        };
+        own.store(true, Ordering::SeqCst);
+        for _ in 0..ROUNDS {
+            if other.load(Ordering::SeqCst) {
+                return;
+            }
+            thread::yield_now();
+        }
+        self.ran_out.store(true, Ordering::SeqCst);
+    }
+}
+
+fn run_known<R: Threads + Wait + Sync, O: Open, G: Gate + Sync>(
+    rt: &R,
+    alloc: Global,
+    words: &[&str],
+    inputs: &O,
+    gate: &G,
+) -> io::Result<Ran> {
+    let words = words_of(alloc, words)?;
+    let mut out = BufWriter::new(alloc, Vec::new(alloc))?;
+    let mut err = Vec::new(alloc);
+    let end = run_work(rt, alloc, &words, inputs, gate, &mut out, &mut err);
+    let (out, _unwritten) = out.into_parts();
+    Ok(Ran { end, out, err })
+}
+
+#[test]
+fn two_workers_report(rt: HostRuntime) -> Result<(), Fail> {
+    let bytes = TWO_WORKERS.as_bytes();
+    let words = ["work", "-", "--workers", "2"];
+    let ran = run_known(&rt, rt.alloc(), &words, &Known { bytes }, &NoWait)?;
+    check(&rt, &ran, 0, TWO_WORKERS_REPORT, "")
+}
+
+#[test]
+fn two_workers_meet(rt: HostRuntime) -> Result<(), Fail> {
+    let (zero, one) = (AtomicBool::new(false), AtomicBool::new(false));
+    let ran_out = AtomicBool::new(false);
+    let gate = Meeting {
+        zero: &zero,
+        one: &one,
+        ran_out: &ran_out,
+    };
+    let bytes = TWO_WORKERS.as_bytes();
+    let words = ["work", "-", "--workers", "2"];
+    let ran = run_known(&rt, rt.alloc(), &words, &Known { bytes }, &gate)?;
+    assert!(rt; zero.load(Ordering::SeqCst) && one.load(Ordering::SeqCst));
+    assert!(rt; !ran_out.load(Ordering::SeqCst));
+    check(&rt, &ran, 0, TWO_WORKERS_REPORT, "")
+}
+
+#[test]
+fn other_commands_are_passed_on(rt: HostRuntime) -> Result<(), Fail> {
+    let bytes = TWO_WORKERS.as_bytes();
+    let ran = run_known(&rt, rt.alloc(), &["plain", "-"], &Known { bytes }, &NoWait)?;
+    check(&rt, &ran, 1, "", "speculate: wrong section\n")
+}

@@ -16,13 +16,12 @@ returns g c =
     let report = desk_report_text h.desk c.in_ok-history.server in
     let calls : c.len.result ≡ length h.entries.items = omega (arith, c.len.ensures, h.entries.ok.0) in
     on_ok_weaker c.write_worked-written.result
-    (λ text.
-        (
-          h.entries.items,
-          h.desk,
-          c.in_ok-history.server,
-          from,
-          c.in_ok-history.ensures.settled,
-          subst (λ (n : ℕ). Appends old new (report ++ workers_line c.args.plan.workers n)) calls text,
-        ))
+    (λ text. (
+      h.entries.items,
+      h.desk,
+      c.in_ok-history.server,
+      from,
+      c.in_ok-history.ensures.settled,
+      subst (λ (n : ℕ). Appends old new (report ++ workers_line c.args.plan.workers n)) calls text,
+    ))
     c.write_worked-written.ensures

@@ -16,7 +16,7 @@ use std::sync::ledger::Ledger;
 use std::thread;
 use std::thread::Threads;
 
-/// A worker takes its next turn, of the process whose turn it is. The answer says whether it has not stopped.
+/// A worker takes a turn of a process, and its rounds go on by the answer.
 fn take_turn<L: Ledger, R: Wait, G: Gate>(
     rt: &R,
     shared: &Shared<L>,

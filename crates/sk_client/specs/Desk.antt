@@ -312,11 +312,15 @@ abbrev pub first_guess : List PendingRequest → Option ℕ
 first_guess [] = None
 first_guess (q ∷ qs) = q.guess
 
+-- a step that the kernel takes wants memory
+abbrev pub is_taken : KernelView → ℕ → Option Input → Bool
+is_taken k pid None = false
+is_taken k pid (Some input) = is_none (step_refused k (entry pid input None))
+
 -- a reply takes a step, and with it memory
 abbrev pub takes_step : KernelView → PendingRequest → Answer → Option ℕ → Bool
 takes_step k q a (Some g) = false
-takes_step k q Dropped None = false
-takes_step k q a None = not (is_void k q)
+takes_step k q a None = not (is_void k q) && is_taken k q.process (input_of a)
 
 abbrev pub wants_memory : DeskView → Reply → List PendingRequest → Bool
 wants_memory d r [] = false

@@ -1,8 +1,9 @@
 //! A crew, from its desk and server to the history of its calls.
-ghost use Rattle.std.specs.Prelude.{◌≡◌, ◌≤◌, ◌<◌, [], vec_len, IfOk};
+ghost use Rattle.std.specs.Prelude.{◌≡◌, ◌≤◌, ◌<◌, [], vec_len, IfOk, IfErr};
 ghost use Rattle.sk_client.specs.Desk.{opened, pending};
 ghost use Rattle.sk_workers.specs.History.{Runs};
 ghost use Rattle.sk_workers.specs.Closing.{numbers, AreDistinct, IsClosed};
+ghost use Rattle.sk_crew.specs.Faults.{start_of, HasCause};
 
 use crate::clerk::Clerk;
 use crate::ends::{Inbox, Line, Outbox};
@@ -48,6 +49,7 @@ fn run_served<L: Ledger + Send + Sync, R: Threads + Wait + Sync, G: Gate + Sync>
     requires { 0 < vec_len workers }
     ensures numbers { IfOk result (λ back. numbers back.0.items ≡ numbers workers.items) }
     ensures count { IfOk result (λ back. vec_len back.0 ≡ vec_len workers) }
+    ensures fault { IfErr result (λ fault. fault ≡ CrewFault.Memory) }
 {
     let Ground {
         processes,
@@ -115,6 +117,7 @@ pub fn run_crew<L: Ledger + Send + Sync, R: Threads + Wait + Sync, G: Gate + Syn
     requires trace { desk.kernel.trace ≡ [] }
     ensures legal { IfOk result (λ done. Runs desk done.0.entries.items done.0.desk) }
     ensures settled { IfOk result (λ done. pending done.0.desk ≡ []) }
+    ensures fault { IfErr result (HasCause (start_of desk)) }
 {
     let ground = match Ground::new(alloc, &desk) {
         Ok(ground) => ground,
@@ -143,7 +146,8 @@ pub fn run_crew<L: Ledger + Send + Sync, R: Threads + Wait + Sync, G: Gate + Syn
 fn close<L: Ledger>(shared: Shared<L>, workers: Vec<Worker<L>>) -> Result<History, CrewFault>
     requires workers { vec_len workers ≡ L.parts }
     requires distinct { AreDistinct workers.items }
-    ensures { IfOk result (λ history. IsClosed shared workers.items history.entries.items history.desk) }
+    ensures closed { IfOk result (λ history. IsClosed shared workers.items history.entries.items history.desk) }
+    ensures fault { IfErr result (HasCause shared) }
 {
     match shared.close(workers) {
         Ok(history) => Ok(history),

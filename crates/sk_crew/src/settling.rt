@@ -1,5 +1,5 @@
 //! What is left when all threads have ended is served by rising number.
-ghost use Rattle.std.specs.Prelude.{◌≡◌, IfOk};
+ghost use Rattle.std.specs.Prelude.{◌≡◌, IfOk, IfErr};
 
 use crate::clerk::Clerk;
 use crate::crew::CrewFault;
@@ -17,7 +17,8 @@ fn give<L: Ledger, R: Wait>(
     worker: Worker<L>,
     reply: Reply,
 ) -> Result<Worker<L>, CrewFault>
-    ensures { IfOk result (λ back. back.number ≡ worker.number) }
+    ensures number { IfOk result (λ back. back.number ≡ worker.number) }
+    ensures fault { IfErr result (λ fault. fault ≡ CrewFault.Memory) }
 {
     match shared.reply(rt, worker, reply) {
         (_, Err((_, ReplyRefusal::Memory))) => Err(CrewFault::Memory),
@@ -33,7 +34,8 @@ fn serve<L: Ledger, R: Wait>(
     server: &mut Server,
     request: Request,
 ) -> Result<Worker<L>, CrewFault>
-    ensures { IfOk result (λ back. back.number ≡ worker.number) }
+    ensures number { IfOk result (λ back. back.number ≡ worker.number) }
+    ensures fault { IfErr result (λ fault. fault ≡ CrewFault.Memory) }
 {
     match server.answer(request) {
         Ok(reply) => give(rt, shared, worker, reply),
@@ -49,7 +51,8 @@ fn give_received<L: Ledger, R: Wait>(
     worker: Worker<L>,
     clerk: Clerk,
 ) -> Result<(Worker<L>, Option<Request>), CrewFault>
-    ensures { IfOk result (λ back. back.0.number ≡ worker.number) }
+    ensures number { IfOk result (λ back. back.0.number ≡ worker.number) }
+    ensures fault { IfErr result (λ fault. fault ≡ CrewFault.Memory) }
 {
     let Clerk {
         requests: _,
@@ -81,7 +84,8 @@ fn serve_received<L: Ledger, R: Wait>(
     worker: Worker<L>,
     service: Service,
 ) -> Result<(Worker<L>, Server), CrewFault>
-    ensures { IfOk result (λ back. back.0.number ≡ worker.number) }
+    ensures number { IfOk result (λ back. back.0.number ≡ worker.number) }
+    ensures fault { IfErr result (λ fault. fault ≡ CrewFault.Memory) }
 {
     let Service {
         mut server,
@@ -114,7 +118,8 @@ fn serve_unsent<L: Ledger, R: Wait>(
     server: &mut Server,
     request: Option<Request>,
 ) -> Result<Worker<L>, CrewFault>
-    ensures { IfOk result (λ back. back.number ≡ worker.number) }
+    ensures number { IfOk result (λ back. back.number ≡ worker.number) }
+    ensures fault { IfErr result (λ fault. fault ≡ CrewFault.Memory) }
 {
     let mut worker = worker;
     let mut next = request;
@@ -138,7 +143,8 @@ pub(crate) fn settle<L: Ledger, R: Wait>(
     clerk: Clerk,
     service: Service,
 ) -> Result<(Worker<L>, Server), CrewFault>
-    ensures { IfOk result (λ back. back.0.number ≡ worker.number) }
+    ensures number { IfOk result (λ back. back.0.number ≡ worker.number) }
+    ensures fault { IfErr result (λ fault. fault ≡ CrewFault.Memory) }
 {
     let (worker, request) = give_received(rt, shared, worker, clerk)?;
     let (worker, mut server) = serve_received(rt, shared, worker, service)?;

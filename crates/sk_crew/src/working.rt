@@ -1,7 +1,8 @@
 //! The threads of a crew.
-ghost use Rattle.std.specs.Prelude.{◌≡◌, vec_len, vec_capacity};
+ghost use Rattle.std.specs.Prelude.{◌≡◌, vec_len, vec_capacity, slice_get, option_and_then};
 ghost use Rattle.std.specs.Thread.{IsSync};
 ghost use Rattle.sk_workers.specs.Closing.{numbers};
+ghost use Rattle.sk_crew.specs.Rounds.{due};
 
 use crate::clerk::Clerk;
 use crate::crew::Plan;
@@ -15,6 +16,13 @@ use std::sync::atomic::{AtomicBool, Ordering};
 use std::sync::ledger::Ledger;
 use std::thread;
 use std::thread::Threads;
+
+/// The process whose turn it is in a worker's rounds; `None` once the worker has stopped.
+fn due(rounds: &Rounds, processes: &[Pid]) -> Option<Pid>
+    ensures { result ≡ option_and_then (slice_get processes.now) (due rounds.now) }
+{
+    processes.get(rounds.due()?).copied()
+}
 
 /// A worker takes a turn of a process, and its rounds go on by the answer.
 fn take_turn<L: Ledger, R: Wait, G: Gate>(
@@ -49,13 +57,10 @@ fn work<L: Ledger, R: Wait, G: Gate>(
     let mut worker = worker;
     let mut rounds = Rounds::new(worker.number(), plan.workers, processes.len());
     for _ in 0..plan.turns {
-        let Some(place) = rounds.due() else {
+        let Some(pid) = due(&rounds, processes) else {
             break;
         };
-        let Some(pid) = processes.get(place) else {
-            break;
-        };
-        worker = take_turn(rt, shared, worker, *pid, &mut rounds, gate);
+        worker = take_turn(rt, shared, worker, pid, &mut rounds, gate);
     }
     worker
 }
@@ -76,15 +81,12 @@ fn lead<'a, L: Ledger, R: Wait, G: Gate>(
     let mut clerk = clerk;
     let mut rounds = Rounds::new(worker.number(), plan.workers, processes.len());
     for _ in 0..plan.turns {
-        let Some(place) = rounds.due() else {
-            break;
-        };
-        let Some(pid) = processes.get(place) else {
+        let Some(pid) = due(&rounds, processes) else {
             break;
         };
         let (back, carrier) = clerk.carry(rt, shared, worker);
         clerk = back;
-        worker = take_turn(rt, shared, carrier, *pid, &mut rounds, gate);
+        worker = take_turn(rt, shared, carrier, pid, &mut rounds, gate);
     }
     (worker, clerk)
 }

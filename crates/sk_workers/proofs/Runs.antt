@@ -2,7 +2,7 @@
 use Rattle.std.proofs.Common.{◌≡◌, ℕ, suc, List, [], ◌∷◌, ◌++◌, ◌+◌, ◌<◌, length, length-append, arith, refl, sym, ap, ◌∙◌, subst}
 use Rattle.sk_client.specs.Desk.{DeskView, first_taken, requests_taken}
 use Rattle.sk_workers.specs.declared.entry.Entry.{Entry}
-use Rattle.sk_workers.specs.History.{as_opened, Step, taking, Runs, IsLegal}
+use Rattle.sk_workers.specs.History.{as_opened, Step, Runs, IsLegal}
 use Rattle.sk_workers.proofs.Steps.{step_keeps, taken_keeps}
 
 -- one call more at the end

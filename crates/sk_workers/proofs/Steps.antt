@@ -1,11 +1,11 @@
 -- What no call of a desk changes.
-use Rattle.std.proofs.Common.{ℕ, ◌≡◌, ◌≢◌, Bool, true, false, cond, List, [], ◌∷◌, Option, Some, None, Result, Ok, Err, refl, sym, ap, ◌∙◌, subst}
+use Rattle.std.proofs.Common.{ℕ, ◌≡◌, Bool, true, false, cond, List, [], ◌∷◌, Option, Some, None, Result, Ok, Err, refl, sym, ap, ◌∙◌, subst}
 use Rattle.sk_plain.specs.declared.refusal.Refusal.{Refusal}
 use Rattle.sk_script.specs.declared.instruction.Input.{Input}
 use Rattle.sk_server.specs.declared.reply.Reply.{Reply}
 use Rattle.sk_server.specs.declared.reply.Answer.{Answer}
 use Rattle.sk_record.specs.Notes.{has}
-use Rattle.sk_kernel.specs.Kernel.{KernelView, undecided_at, step_refused}
+use Rattle.sk_kernel.specs.Kernel.{undecided_at, step_refused}
 use Rattle.sk_client.specs.declared.pending.PendingRequest.{PendingRequest}
 use Rattle.sk_client.specs.declared.rule.Rule.{Rule}
 use Rattle.sk_client.specs.declared.rule.Rule.TheVariants as rules
@@ -13,7 +13,7 @@ use Rattle.sk_client.specs.declared.desk.Turn.{Turn}
 use Rattle.sk_client.specs.declared.desk.Given.{Given}
 use Rattle.sk_client.specs.declared.desk.ReplyRefusal.{ReplyRefusal}
 use Rattle.sk_client.specs.Desk.{DeskView, rule, turned, given, given_to, decided, answered, stepped, is_void, input_of, entry, first_taken}
-use Rattle.sk_client.specs.DeskCalls.{TurnPost, ByRule, RulePost, ReplyPost}
+use Rattle.sk_client.specs.DeskCalls.{TurnPost, ByRule, ReplyPost}
 use Rattle.sk_workers.specs.declared.entry.Call.{Call}
 use Rattle.sk_workers.specs.declared.entry.Call.TheVariants as calls
 use Rattle.sk_workers.specs.declared.entry.Answered.{Answered}

@@ -1,7 +1,7 @@
 -- When a book may be closed, and what its close promises of the history and of the workers.
 use Rattle.std.specs.Prelude.{◌≡◌, ◌≢◌, ℕ, ◌+◌, ◌<◌, List, [], length, map, Some, slice_get, nat_lt, ◌^◌, if◌then◌else◌}
 use Rattle.std.specs.List.{sum_by}
-use Rattle.sk_kernel.specs.Opening.{OpeningView, opening_of, begun_at}
+use Rattle.sk_kernel.specs.Opening.{opening_of, begun_at}
 use Rattle.sk_client.specs.Desk.{DeskView, opened, pending, first_number}
 use Rattle.sk_workers.specs.declared.entry.Entry.{Entry}
 use Rattle.sk_workers.specs.declared.entry.Receipt.{Receipt}

@@ -1,6 +1,5 @@
 -- Histories of a desk, and receipts for their entries.
-use Rattle.std.specs.Prelude.{◌≡◌, ◌≢◌, ℕ, zero, suc, ◌+◌, ◌<◌, List, [], ◌∷◌, ◌++◌, length, Some, Result, Ok, Err, slice_get}
-use Rattle.std.specs.List.{sum_by}
+use Rattle.std.specs.Prelude.{◌≡◌, ◌≢◌, ℕ, zero, suc, List, [], ◌∷◌, ◌++◌, length, Some, Result, Ok, Err, slice_get}
 use Rattle.sk_plain.specs.declared.refusal.Refusal.TheVariants as refusals
 use Rattle.sk_server.specs.declared.reply.Reply.{Reply}
 use Rattle.sk_client.specs.Desk.{DeskView, opened, first_taken, requests_taken}

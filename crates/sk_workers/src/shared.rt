@@ -3,8 +3,9 @@ ghost use Rattle.std.specs.Prelude.{◌≡◌, ◌⊎◌, ◌≤◌, List, [], v
 ghost use Rattle.sk_kernel.specs.Opening.{opening_of};
 ghost use Rattle.sk_client.specs.Desk.{first_number, opened};
 ghost use Rattle.sk_workers.specs.declared.entry.Entry.{Entry};
+ghost use Rattle.sk_workers.specs.Views.{BookView};
 ghost use Rattle.sk_workers.specs.History.{AreFresh, IsLegal, Told, without_reply};
-ghost use Rattle.sk_workers.specs.Closing.{AreDistinct, IsClosed, begins_turn};
+ghost use Rattle.sk_workers.specs.Closing.{AreDistinct, IsClosed, Refuses, begins_turn};
 
 use crate::book::Book;
 use crate::closing::History;
@@ -118,6 +119,7 @@ impl<L: Ledger> Shared<L> {
         requires distinct { AreDistinct workers.items }
         ensures closed { IfOk result (λ h. IsClosed self workers.items h.entries.items h.desk) }
         ensures back { IfErr result (λ back. (back.0 ≡ self) × (back.1 ≡ workers)) }
+        ensures refused { IfErr result (λ back. (book : BookView) × Refuses self workers.items book back.2) }
     {
         let Shared {
             book,

@@ -1,8 +1,7 @@
 -- The answer that is entered is the desk's, without the reply that comes back.
-use Rattle.std.proofs.Common.{◌++◌, ◌∷◌, [], List, Err, sym, ap, ◌∙◌, subst}
+use Rattle.std.proofs.Common.{◌++◌, ◌∷◌, [], List, sym, ap, ◌∙◌, subst}
 use Rattle.std.proofs.lemmas.Bool.{false≢true}
 use Rattle.sk_workers.specs.declared.entry.Call.{Call}
-use Rattle.sk_workers.specs.declared.entry.Call.TheVariants as calls
 use Rattle.sk_workers.specs.declared.entry.Answered.TheVariants.{Replied}
 use Rattle.sk_workers.specs.declared.entry.Entry.{Entry}
 use Rattle.sk_workers.specs.History.{Step, entry}

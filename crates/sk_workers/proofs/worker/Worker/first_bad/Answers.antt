@@ -1,4 +1,4 @@
-use Rattle.std.proofs.Common.{◌≡◌, ℕ, Some, ap, ◌∙◌, subst}
+use Rattle.std.proofs.Common.{ap, ◌∙◌, subst}
 use Rattle.sk_workers.specs.Views.{WorkerView}
 use Rattle.sk_workers.specs.History.{AreOwn}
 use Rattle.sk_workers.proofs.Closed.{found}

@@ -1,7 +1,9 @@
 //! What is found wrong.
+use sk_command::read_all::ReadFault;
 use sk_plain::{Refusal, TraceFault};
 use sk_words::Fault;
 use std::alloc::{AllocError, AllocFailed};
+use std::io;
 
 /// Why a crew's run does not pass.
 #[derive(Clone, Copy, Debug, PartialEq, Eq)]
@@ -9,8 +11,14 @@ pub enum Finding {
     Memory,
     /// The scenario is not well-formed.
     Scenario,
+    /// The words after the program's name are not its numbers.
+    Words,
+    /// The input can't be read.
+    Input(ReadFault),
     /// There is no history.
     Crew,
+    /// The call of this place is of another worker.
+    Owner(usize),
     /// A fresh desk answers the call of this place otherwise.
     Entry(usize),
     /// A fresh desk has made fewer requests.
@@ -54,5 +62,17 @@ impl From<Refusal> for Finding {
 impl From<Fault> for Finding {
     fn from(_fault: Fault) -> Finding {
         Finding::Scenario
+    }
+}
+
+impl From<ReadFault> for Finding {
+    fn from(fault: ReadFault) -> Finding {
+        Finding::Input(fault)
+    }
+}
+
+impl From<io::Error> for Finding {
+    fn from(_error: io::Error) -> Finding {
+        Finding::Words
     }
 }

@@ -15,14 +15,14 @@ fn is_same(one: Option<View>, other: Option<View>) -> bool {
     }
 }
 
-/// Compares the texts of the first terminals.
-fn judge_terminals(kernel: &Kernel, plain: &Plain) -> Result<(), Finding> {
-    for number in 0..32 {
-        let released = match kernel.terminal(number) {
+/// Compares what the terminals of the boot's processes have released; their children have no others.
+fn judge_terminals(boot: &Boot, kernel: &Kernel, plain: &Plain) -> Result<(), Finding> {
+    for process in boot.processes() {
+        let released = match kernel.terminal(process.terminal) {
             Some(terminal) => terminal.released(),
             None => &[],
         };
-        if released != plain.said(number) {
+        if released != plain.said(process.terminal) {
             return Err(Finding::Terminal);
         }
     }
@@ -47,5 +47,5 @@ pub fn judge(alloc: Global, boot: &Boot, kernel: &Kernel) -> Result<(), Finding>
             return Err(Finding::Value);
         }
     }
-    judge_terminals(kernel, &plain)
+    judge_terminals(boot, kernel, &plain)
 }

@@ -1,0 +1,74 @@
+//! `crew_tests WORKERS TURNS CREWS < SCENARIO`: crews run the processes of a scenario, one crew after the other, and each is
+//! judged: each call is of the worker that it belongs to, a fresh desk answers each as the crew's did, and the kernel stands as
+//! the plain kernel does. Its tests judge crews of a scenario of their own.
+#![tactic(auto)]
+
+ghost use Rattle.std.specs.Prelude.{◌≤◌, IfSome};
+
+mod again;
+mod crews;
+mod finding;
+mod judge;
+mod owners;
+#[cfg(test)]
+mod tests;
+
+use crate::crews::judge_crews;
+use crate::finding::Finding;
+use sk_command::read_all::read_all;
+use sk_crew::Plan;
+use sk_scenario::Scenario;
+use std::env;
+use std::io::Write;
+use std::process::ExitCode;
+use std::sync::Wait;
+use std::thread::Threads;
+
+/// How many crews there are, and how large each is.
+#[derive(Clone, Copy, Debug)]
+struct Wish {
+    plan: Plan,
+    crews: u32,
+}
+
+/// What the words after the program's name ask for.
+fn wish_of(words: &[String]) -> Option<Wish>
+    ensures workers { IfSome result (λ wish. (1 ≤ wish.plan.workers) × (wish.plan.workers ≤ 8)) }
+    ensures turns { IfSome result (λ wish. 1 ≤ wish.plan.turns) }
+{
+    let workers = words.get(1)?.parse::<u8>().ok()?;
+    let turns = words.get(2)?.parse::<u32>().ok()?;
+    let crews = words.get(3)?.parse::<u32>().ok()?;
+    if workers < 1 || 8 < workers || turns < 1 {
+        return None;
+    }
+    let plan = Plan { workers, turns };
+    Some(Wish { plan, crews })
+}
+
+/// Judges crews of the scenario on the standard input: how many calls they make.
+fn judge_input<T: Threads + Wait + Sync>(rt: &HostRuntime, threads: &T) -> Result<usize, Finding> {
+    let words = env::args(rt)?.collect::<Vec<String>>(rt.alloc())?;
+    let Some(wish) = wish_of(&words) else {
+        return Err(Finding::Words);
+    };
+    let text = read_all(rt.alloc(), &mut rt.reader())?;
+    let scenario = Scenario::parse(rt.alloc(), &text)?;
+    judge_crews(
+        threads,
+        rt.alloc(),
+        &scenario.declarations,
+        wish.plan,
+        wish.crews,
+    )
+}
+
+fn main(rt: HostRuntime) -> ExitCode {
+    match judge_input(&rt, &rt) {
+        Ok(_calls) => ExitCode::SUCCESS,
+        Err(finding) => {
+            let _ = writeln!(rt.stderr(), "{finding:?}");
+            ExitCode::FAILURE
+        }
+    }
+}

@@ -2,6 +2,7 @@
 use crate::calls::{Habit, answer, call};
 use crate::finding::Finding;
 use crate::judge::judge;
+use crate::numbers::runs_after;
 use crate::reckoning::Reckoning;
 use crate::scenarios::{Kind, scenario};
 use crate::session::{Answer, Session};
@@ -10,12 +11,10 @@ use rand_pcg::Pcg32;
 use sk_ids::{Entity, GuessId};
 use sk_plain::{Event, Trace};
 use sk_scenario::{Call, Declarations, Scenario};
-use std::alloc::{AllocError, Global};
+use std::alloc::{Alloc, AllocError, Global};
 use std::collections::BTreeSet;
+use std::env::Env;
 use std::process::Abort;
-
-/// The number of the first run.
-const FIRST: u64 = 1;
 
 /// How many short runs of each manner there are.
 const RUNS: u64 = 1_250;
@@ -193,8 +192,9 @@ fn run(rt: &impl Abort, alloc: Global, number: u64, manner: Manner) -> Result<()
 }
 
 /// So many runs, in each of which the kernel is what its trace comes to after each call.
-fn runs(rt: &impl Abort, alloc: Global, count: u64, manner: Manner) {
-    for number in FIRST..FIRST.saturating_add(count) {
+fn runs<R: Abort + Env + Alloc>(rt: &R, alloc: Global, count: u64, manner: Manner) {
+    let first = runs_after(rt).saturating_add(1);
+    for number in first..first.saturating_add(count) {
         assert_eq!(rt;
             run(rt, alloc, number, manner),
             Ok(()),

@@ -4,6 +4,7 @@ ghost use Rattle.std.specs.Prelude.{◌≡◌, IfOk};
 use crate::calls::{any_of, process};
 use crate::finding::Finding;
 use crate::judge::judge;
+use crate::numbers::runs_after;
 use crate::reckoning::Reckoning;
 use crate::scenarios::{Kind, remotes, scenario};
 use rand_core::Rng;
@@ -16,8 +17,9 @@ use sk_plain::{Entry, Event, Plain, Refusal, View, strike};
 use sk_scenario::{Declarations, Remote, Scenario};
 use sk_script::Input;
 use sk_server::{Answer, EditRefusal, Reply, Server};
-use std::alloc::{AllocError, Global};
+use std::alloc::{Alloc, AllocError, Global};
 use std::collections::BTreeSet;
+use std::env::Env;
 use std::process::Abort;
 
 /// How many worlds of a manner there are in a test.
@@ -465,9 +467,10 @@ fn world(alloc: Global, number: u64, kind: Kind, pace: Pace) -> Result<usize, Fi
 }
 
 /// So many worlds from a number on, in each of which nothing is found; some stores are accepted in them.
-fn worlds(rt: &impl Abort, alloc: Global, kind: Kind, pace: Pace, from: u64) {
+fn worlds<R: Abort + Env + Alloc>(rt: &R, alloc: Global, kind: Kind, pace: Pace, from: u64) {
     let mut accepted = 0usize;
-    for number in from..from.saturating_add(WORLDS) {
+    let first = runs_after(rt).saturating_add(from);
+    for number in first..first.saturating_add(WORLDS) {
         match world(alloc, number, kind, pace) {
             Ok(count) => accepted = accepted.saturating_add(count),
             Err(finding) => panic!(rt; "world {number}, {kind:?}, {pace:?}: {finding:?}"),

@@ -1,17 +1,64 @@
 //! A history, run again.
 use crate::finding::Finding;
 use sk_client::Desk;
+use sk_server::{Reply, Request, Server, ServerRefusal};
 use sk_workers::{Answered, Call, Entry};
+use std::alloc::Global;
 
-/// Takes requests until so many were taken.
-fn take_until(desk: &mut Desk, taken: u64) -> Result<(), Finding> {
+/// A fresh server with the replies that it made, the oldest first.
+#[derive(Drop)]
+pub struct Peer {
+    server: Server,
+    replies: Vec<Reply>,
+    /// How many of the replies were given.
+    given: usize,
+}
+
+impl Peer {
+    /// A server that answered nothing yet.
+    pub fn new(alloc: Global, server: Server) -> Peer {
+        Peer {
+            server,
+            replies: Vec::new(alloc),
+            given: 0,
+        }
+    }
+
+    /// The server.
+    pub fn server(&self) -> &Server {
+        &self.server
+    }
+
+    /// Answers a request.
+    fn serve(&mut self, request: Request) -> Result<(), Finding> {
+        match self.server.answer(request) {
+            Ok(reply) => {
+                self.replies.push(reply)?;
+                Ok(())
+            }
+            Err((_, ServerRefusal::Memory)) => Err(Finding::Memory),
+            Err((_, ServerRefusal::OutOfTurn { .. })) => Err(Finding::Requests),
+        }
+    }
+
+    /// Whether this is the reply that comes next, which is given then.
+    fn gives(&mut self, reply: &Reply) -> bool {
+        let is_next = self.replies.get(self.given) == Some(reply);
+        self.given = self.given.saturating_add(1);
+        is_next
+    }
+}
+
+/// Takes requests until so many were taken, and has them answered.
+fn take_until(desk: &mut Desk, peer: &mut Peer, taken: u64) -> Result<(), Finding> {
     for _ in 0..taken {
         if desk.requests_taken() >= taken {
             return Ok(());
         }
-        if desk.take_request().is_none() {
+        let Some(request) = desk.take_request() else {
             return Err(Finding::Requests);
-        }
+        };
+        peer.serve(request)?;
     }
     Ok(())
 }
@@ -27,10 +74,16 @@ fn make(desk: &mut Desk, call: Call) -> Answered {
     }
 }
 
-/// Makes the calls of a history on a desk, each of which has to be answered as it was.
-pub fn run_again(desk: &mut Desk, entries: &[Entry]) -> Result<(), Finding> {
+/// Makes the calls of a history on a desk, each of which has to be answered as it was; the replies have to be those of the
+/// server to the desk's requests.
+pub fn run_again(desk: &mut Desk, peer: &mut Peer, entries: &[Entry]) -> Result<(), Finding> {
     for (place, entry) in entries.iter().enumerate() {
-        take_until(desk, entry.taken)?;
+        take_until(desk, peer, entry.taken)?;
+        if let Call::Reply(reply) = entry.call {
+            if !peer.gives(&reply) {
+                return Err(Finding::Reply(place));
+            }
+        }
         if make(desk, entry.call) != entry.answer {
             return Err(Finding::Entry(place));
         }

@@ -2,10 +2,10 @@
 ghost use Rattle.std.specs.Prelude.{◌≡◌, ◌≤◌, [], IfOk};
 ghost use Rattle.sk_client.specs.Desk.{opened};
 
-use crate::again::run_again;
+use crate::again::{Peer, run_again};
 use crate::finding::Finding;
-use crate::judge::judge;
-use crate::owners::judge_owners;
+use crate::judge::{judge, judge_files};
+use crate::turns::judge_calls;
 use sk_client::Desk;
 use sk_crew::{Plan, run_crew};
 use sk_play::desk_of;
@@ -33,48 +33,54 @@ fn crew<R: Threads + Wait + Sync>(
     desk: Desk,
     server: Server,
     plan: Plan,
-) -> Result<History, Finding>
+) -> Result<(History, Server), Finding>
     requires count { (1 ≤ plan.workers) × (plan.workers ≤ 8) }
     requires opened { desk ≡ opened desk.kernel }
     requires trace { desk.kernel.trace ≡ [] }
 {
     let blank = Blank::new(u64::from(plan.workers));
     match run_crew::<Brand, R, Open>(rt, alloc, blank, desk, server, plan, &Open) {
-        Ok((history, _server)) => Ok(history),
+        Ok(done) => Ok(done),
         Err(_) => Err(Finding::Crew),
     }
 }
 
-/// Runs a history again on a fresh desk, which has to come to the same trace.
-fn repeat(fresh: &mut Desk, workers: u8, entries: &[Entry], desk: &Desk) -> Result<(), Finding>
-    requires { 1 ≤ workers }
-{
-    judge_owners(fresh.kernel(), workers, entries)?;
-    run_again(fresh, entries)?;
-    if fresh.kernel().trace().events() == desk.kernel().trace().events() {
-        Ok(())
-    } else {
-        Err(Finding::Trace)
+/// What a crew leaves.
+#[derive(Clone, Copy)]
+struct Left<'a> {
+    entries: &'a [Entry],
+    desk: &'a Desk,
+    server: &'a Server,
+}
+
+/// Runs the history again with a fresh desk and a fresh server, which have to come to the same trace and files.
+fn repeat(fresh: &mut Desk, peer: &mut Peer, left: &Left) -> Result<(), Finding> {
+    run_again(fresh, peer, left.entries)?;
+    if fresh.kernel().trace().events() != left.desk.kernel().trace().events() {
+        return Err(Finding::Trace);
     }
+    judge_files(peer.server(), left.server)
 }
 
 /// Judges what a crew leaves.
 fn judge_crew(
     alloc: Global,
     declarations: &Declarations,
-    workers: u8,
-    entries: &[Entry],
-    desk: &Desk,
+    plan: Plan,
+    left: &Left,
 ) -> Result<(), Finding>
-    requires { 1 ≤ workers }
+    requires { 1 ≤ plan.workers }
 {
-    if desk.pending() > 0 {
+    if left.desk.pending() > 0 {
         return Err(Finding::Pending);
     }
-    judge(alloc, declarations.boot(), desk.kernel())?;
-    let (mut fresh, _server) = desk_of(alloc, declarations)?;
-    let repeated = repeat(&mut fresh, workers, entries, desk);
+    judge(alloc, declarations.boot(), left.desk.kernel())?;
+    let (mut fresh, server) = desk_of(alloc, declarations)?;
+    let mut peer = Peer::new(alloc, server);
+    let calls = judge_calls(alloc, fresh.kernel(), plan, left.entries);
+    let repeated = repeat(&mut fresh, &mut peer, left);
     fresh.abandon();
+    calls?;
     repeated
 }
 
@@ -88,8 +94,13 @@ fn one_crew<R: Threads + Wait + Sync>(
     requires count { (1 ≤ plan.workers) × (plan.workers ≤ 8) }
 {
     let (desk, server) = desk_of(alloc, declarations)?;
-    let History { entries, desk } = crew(rt, alloc, desk, server, plan)?;
-    let judged = judge_crew(alloc, declarations, plan.workers, entries.as_slice(), &desk);
+    let (History { entries, desk }, server) = crew(rt, alloc, desk, server, plan)?;
+    let left = Left {
+        entries: entries.as_slice(),
+        desk: &desk,
+        server: &server,
+    };
+    let judged = judge_crew(alloc, declarations, plan, &left);
     desk.abandon();
     judged?;
     Ok(entries.len())

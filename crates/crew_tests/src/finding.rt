@@ -19,10 +19,18 @@ pub enum Finding {
     Crew,
     /// The call of this place is of another worker.
     Owner(usize),
+    /// The turn of this place is not the one that its worker takes then.
+    Turn(usize),
+    /// This worker stopped too early.
+    Stopped(u8),
     /// A fresh desk answers the call of this place otherwise.
     Entry(usize),
-    /// A fresh desk has made fewer requests.
+    /// A fresh server gives another reply at this place.
+    Reply(usize),
+    /// A fresh desk has made fewer requests, or others.
     Requests,
+    /// A fresh server has other files in the end.
+    Files,
     /// The history leads to another trace.
     Trace,
     /// A request has no reply, or a guess is undecided.

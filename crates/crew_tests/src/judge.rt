@@ -3,6 +3,7 @@ use crate::finding::Finding;
 use sk_kernel::Kernel;
 use sk_plain::{Plain, View, strike};
 use sk_script::Boot;
+use sk_server::Server;
 use std::alloc::Global;
 
 /// Whether two entities have the same.
@@ -48,4 +49,18 @@ pub fn judge(alloc: Global, boot: &Boot, kernel: &Kernel) -> Result<(), Finding>
         }
     }
     judge_terminals(boot, kernel, &plain)
+}
+
+/// Compares the files of two servers.
+pub fn judge_files(one: &Server, other: &Server) -> Result<(), Finding> {
+    let names = one.names()?;
+    if names != other.names()? {
+        return Err(Finding::Files);
+    }
+    for name in &names {
+        if one.file(name) != other.file(name) {
+            return Err(Finding::Files);
+        }
+    }
+    Ok(())
 }

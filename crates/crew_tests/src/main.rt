@@ -1,6 +1,7 @@
 //! `crew_tests WORKERS TURNS CREWS < SCENARIO`: crews run the processes of a scenario, one crew after the other, and each is
-//! judged: each call is of the worker that it belongs to, a fresh desk answers each as the crew's did, and the kernel stands as
-//! the plain kernel does. Its tests judge crews of a scenario of their own.
+//! judged: each worker makes the turns that are its own, in its rounds; a fresh desk and a fresh server answer each call as the
+//! crew's did and come to the same trace and files; and the kernel stands as the plain kernel does. Its tests judge crews of a
+//! scenario of their own.
 #![tactic(auto)]
 
 ghost use Rattle.std.specs.Prelude.{◌≤◌, IfSome};
@@ -9,9 +10,9 @@ mod again;
 mod crews;
 mod finding;
 mod judge;
-mod owners;
 #[cfg(test)]
 mod tests;
+mod turns;
 
 use crate::crews::judge_crews;
 use crate::finding::Finding;

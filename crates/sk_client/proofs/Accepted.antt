@@ -1,5 +1,5 @@
 -- The step of each store that the server accepted stands in the record, told of a world's calls.
-use Rattle.std.proofs.Common.{◌≡◌, ℕ, suc, ◌+◌, List, [], ◌∷◌, ◌++◌, map, Some, inl, inr, refl, sym, ◌∙◌, ap, subst, arith}
+use Rattle.std.proofs.Common.{◌≡◌, ℕ, suc, ◌+◌, ◌<◌, List, [], ◌∷◌, ◌++◌, map, Option, Some, inl, inr, refl, sym, ◌∙◌, ap, subst, arith}
 use Rattle.std.specs.List.{Contains}
 use Rattle.std.proofs.lemmas.List.Elements.{Contains-append_left, Contains-append_cases}
 use Rattle.sk_record.specs.Effects.{MarkedEffect}
@@ -7,14 +7,12 @@ use Rattle.sk_record.specs.Run.{effects}
 use Rattle.sk_record.specs.Trace.{record_of}
 use Rattle.sk_ids.specs.declared.entity.Entity.{Entity}
 use Rattle.sk_ids.specs.declared.entity.Entity.TheVariants.{Copy as CopyOf}
-use Rattle.sk_script.specs.Boot.{BootView}
 use Rattle.sk_script.specs.Scripts.{ScriptMap}
 use Rattle.sk_store.specs.State.{State}
-use Rattle.sk_store.specs.Start.{start_of}
 use Rattle.sk_store.specs.declared.entity_state.EntityState.{EntityState}
 use Rattle.sk_plain.specs.Act.{Saying, plain}
 use Rattle.sk_plain.specs.declared.refusal.Refusal.{Refusal}
-use Rattle.sk_kernel.specs.Kernel.{KernelView, booted, record_at}
+use Rattle.sk_kernel.specs.Kernel.{KernelView, record_at}
 use Rattle.sk_server.specs.Files.{file_of}
 use Rattle.sk_server.specs.Server.{ServerView}
 use Rattle.sk_server.specs.declared.request.Request.{Request as Sent}
@@ -22,32 +20,25 @@ use Rattle.sk_server.specs.declared.request.Ask.TheVariants as asks
 use Rattle.sk_server.specs.declared.reply.Answer.TheVariants as answers
 use Rattle.sk_server.specs.declared.reply.Reply.{Reply}
 use Rattle.sk_world.specs.Requests.{Good, Store, Yes, Request, Served}
-use Rattle.sk_world.specs.World.{Table, World, WorldEvent as LawEvent, kernel, served, event}
+use Rattle.sk_world.specs.World.{Table, World, WorldEvent as LawEvent, kernel, served, event, world_after}
 use Rattle.sk_world.specs.Laws.{paired, Sets, IsDueStep, Stands}
 use Rattle.sk_world.proofs.Each.{cons_cases, cons_first, cons_later, no_member}
-use Rattle.sk_world.proofs.First.{accepted_stand}
+use Rattle.sk_world.proofs.First.{all_after, accepted_stand, accepted_stood}
 use Rattle.sk_world.proofs.Labels.{is_bare}
 use Rattle.sk_world.proofs.RequestFacts.{in_map}
 use Rattle.std.proofs.lemmas.List.Sums.{fold-append}
-use Rattle.sk_client.specs.Table.{Bytes, Caused, bare, input_of, table, begun, copy_of, IsNumbered}
+use Rattle.sk_client.specs.Table.{Bytes, Caused, bare, input_of, table, copy_of}
 use Rattle.sk_client.specs.Desk.{opened}
-use Rattle.sk_client.specs.LawWorld.{Exchanges, Leads, law_content, law_ask, law_answer, law_request, law_served, answered_there, answered_here, IsSeen, StandsIn, IsDue, StoresStand}
+use Rattle.sk_client.specs.LawWorld.{Exchanges, Leads, law_content, begun, IsReady, law_ask, law_answer, law_request, law_served, answered_there, answered_here, IsSeen, StandsIn, IsDue, StoresStand, StoresStood}
 use Rattle.sk_client.specs.WorldView.{WorldView, joined}
 use Rattle.sk_client.specs.declared.pending.PendingRequest.{PendingRequest}
 use Rattle.sk_client.specs.declared.world.WorldEvent.{WorldEvent}
-use Rattle.sk_client.proofs.Table.{is_table, begins}
+use Rattle.sk_client.proofs.Before.{out_of_map, ready_table, begins}
+use Rattle.sk_client.proofs.Requests.{made, all_grew}
 use Rattle.sk_client.proofs.SeenFacts.{steps_seen}
 use Rattle.sk_client.proofs.Seen.{law_after, Reached, reached, later_on}
 
 -- ---- elements of lists
-
-out_of_map : {A B : Type 0} (g : A → B) (xs : List A) (y : B) → Contains (map g xs) y → (x : A) × Contains xs x × (g x ≡ y)
-out_of_map g [] y h = absurd (no_member y h)
-out_of_map g (x ∷ xs) y h =
-    elim (cons_cases (g x) (map g xs) y h) [
-      | inl is ↦ (x, cons_first x xs, is)
-      | inr later ↦ let rest = out_of_map g xs y later in (rest.0, cons_later x xs rest.0 rest.1, rest.2)
-    ]
 
 -- a request that has its reply on the way is pending
 served_pending : (qs : List PendingRequest) (rs : List Reply) (x : Served ℕ Bytes Bytes) → Contains (law_served qs rs) x → (p : PendingRequest) × Contains qs p × (x.0 ≡ law_request p)
@@ -63,6 +54,15 @@ pub paired_map : {A B C : Type 0} (g : A → B) (xs : List A) (ys : List C) → 
 paired_map g [] ys = refl
 paired_map g (x ∷ xs) [] = refl
 paired_map g (x ∷ xs) (y ∷ ys) = ap (λ zs. (g x, y) ∷ zs) (paired_map g xs ys)
+
+paired_in : {A B : Type 0} (xs : List A) (ys : List B) (p : A × B) → Contains (paired xs ys) p → Contains xs p.0
+paired_in [] ys p h = absurd (no_member p h)
+paired_in (x ∷ xs) [] p h = absurd (no_member p h)
+paired_in (x ∷ xs) (y ∷ ys) p h =
+    elim (cons_cases (x, y) (paired xs ys) p h) [
+      | inl is ↦ subst (Contains (x ∷ xs)) (ap (λ q. q.0) is) (cons_first x xs)
+      | inr later ↦ cons_later x xs p.0 (paired_in xs ys p later)
+    ]
 
 -- ---- what the laws say of a request
 
@@ -109,9 +109,9 @@ module _ (xs : Exchanges) (w : World ℕ Bytes Bytes) (v : WorldView) (seen : Is
   pub entries_seen : map bare (record_of (kernel (table v.desk.kernel.scripts v.desk.kernel.limit)) v.desk.kernel.start w.trace) ≡ record_at v.desk.kernel
   entries_seen = (is_bare bare (plain K.scripts) K.start w.trace).entries ∙ ap (record_of (plain K.scripts) K.start) seen.trace
 
-  stands_in : (q : Request ℕ Bytes Bytes) (name : Bytes) (version : ℕ) (bytes : Bytes) → q.ask ≡ Store name version bytes → Stands (table v.desk.kernel.scripts v.desk.kernel.limit) v.desk.kernel.start w q
-      → StandsIn v.desk.kernel name version bytes
-  stands_in q name version bytes is s =
+  stands_in : (q : Request ℕ Bytes Bytes) (mark : Option ℕ) (name : Bytes) (version : ℕ) (bytes : Bytes) → q.ask ≡ Store name version bytes
+      → (s : Stands (table v.desk.kernel.scripts v.desk.kernel.limit) v.desk.kernel.start w q) → s.entry.guess ≡ mark → StandsIn v.desk.kernel mark name version bytes
+  stands_in q mark name version bytes is s its =
       let ns = record_of (kernel (table K.scripts K.limit)) K.start w.trace in
       let fs = effects (kernel (table K.scripts K.limit)) K.start ns in
       let one : suc version ≡ version + 1 = omega arith in
@@ -121,6 +121,7 @@ module _ (xs : Exchanges) (w : World ℕ Bytes Bytes) (v : WorldView) (seen : Is
         there =
             subst (λ ps. Contains ps (bare s.entry, s.marked_effect)) (paired_map bare ns fs ∙ (λ i. paired (entries_seen i) (steps_seen xs w v seen i)))
             (in_map (λ (p : Caused × MarkedEffect Entity EntityState Saying). (bare p.0, p.1)) (paired ns fs) (s.entry, s.marked_effect) s.there);
+        guess = its;
         input = ap input_of s.input;
         sets =
             subst (λ n. Contains s.marked_effect.written (CopyOf name, Some (copy_of (n, bytes)))) one
@@ -129,29 +130,69 @@ module _ (xs : Exchanges) (w : World ℕ Bytes Bytes) (v : WorldView) (seen : Is
 
 -- ---- all of it
 
-module _ (boot : BootView) (limit : ℕ) (numbered : IsNumbered boot) (server : ServerView) where
+module _ (k : KernelView) (ready : IsReady k) (server : ServerView) where
   abbrev S : Table Entity EntityState Saying Refusal ℕ Bytes Bytes
-  S = table boot.scripts limit
+  S = table k.scripts k.limit
 
   -- a store's step in the world of the laws
-  pub its_step : (xs : Exchanges) (v : WorldView) (a : Reached boot limit numbered server [] xs v) (more : List (LawEvent ℕ Bytes Bytes)) (q : Sent) (r : Reply) (name : Bytes) (version : ℕ) (bytes : Bytes)
+  pub its_step : (xs : Exchanges) (v : WorldView) (a : Reached k ready server [] xs v) (more : List (LawEvent ℕ Bytes Bytes)) (q : Sent) (r : Reply) (name : Bytes) (version : ℕ) (bytes : Bytes)
       → (there : Contains xs (q, r)) (accepted : r.answer ≡ answers.Yes) (asks : q.ask ≡ asks.Store name version bytes) → IsDue v q
-      → Stands (table boot.scripts limit) (start_of boot) (law_after boot limit numbered server (a.since ++ more)) (found xs (law_after boot limit numbered server a.since) v a.fits.seen q r name version bytes there accepted asks).request
+      → Stands (table k.scripts k.limit) k.start (law_after k ready server (a.since ++ more)) (found xs (law_after k ready server a.since) v a.fits.seen q r name version bytes there accepted asks).request
   its_step xs v a more q r name version bytes there accepted asks is_due =
-      let w = law_after boot limit numbered server a.since in
-      let first = begun (λ name. law_content (file_of server.files name)) in
+      let w = law_after k ready server a.since in
+      let first = begun k (λ name. law_content (file_of server.files name)) in
       let f = found xs w v a.fits.seen q r name version bytes there accepted asks in
-      subst (λ (x : World ℕ Bytes Bytes). Stands S (start_of boot) x f.request) (sym (fold-append (event S (start_of boot)) first a.since more))
-      (accepted_stand S (start_of boot) (is_table boot.scripts limit boot numbered) first (begins boot limit (λ name. law_content (file_of server.files name))) a.since more
+      subst (λ (x : World ℕ Bytes Bytes). Stands S k.start x f.request) (sym (fold-append (event S k.start) first a.since more))
+      (accepted_stand S k.start (ready_table k ready) first (begins k (λ name. law_content (file_of server.files name)) ready) a.since more
       f.request name version bytes f.there f.asks (due xs w v a.fits.seen q r name version bytes there accepted asks f is_due))
 
-  pub stores_stand : (number : ℕ) → server.next ≡ 1 → server.refused ≡ [] → (es : List WorldEvent) (xs : Exchanges) (v : WorldView) → Leads (joined (opened (booted number boot limit)) server) es xs v
+  -- it is that of the request's guess, or of none
+  pub its_guess : (es : List (LawEvent ℕ Bytes Bytes)) (q : Request ℕ Bytes Bytes) (s : Stands (table k.scripts k.limit) k.start (law_after k ready server es) q)
+      → s.entry.guess ≡ q.guess
+  its_guess es q s =
+      let first = begun k (λ name. law_content (file_of server.files name)) in
+      let ns = record_of (kernel S) k.start (law_after k ready server es).trace in
+      let all = all_after S k.start (ready_table k ready) first (begins k (λ name. law_content (file_of server.files name)) ready) es in
+      (all.1.owners.owner s.entry q (paired_in ns (effects (kernel S) k.start ns) (s.entry, s.marked_effect) s.there) s.cause).1
+
+  pub stores_stand : server.next ≡ 1 → server.refused ≡ [] → (es : List WorldEvent) (xs : Exchanges) (v : WorldView) → Leads (joined (opened k) server) es xs v
       → (later : List WorldEvent) (ys : Exchanges) (last : WorldView) → Leads v later ys last → StoresStand xs v last
-  stores_stand number next refused es xs v h later ys last more q r name version bytes there accepted asks is_due =
-      let a = reached boot limit numbered server number next refused es xs v h in
-      let b = later_on boot limit numbered server xs v a later ys last more in
-      let f = found xs (law_after boot limit numbered server a.since) v a.fits.seen q r name version bytes there accepted asks in
-      let w = law_after boot limit numbered server (a.since ++ b.since) in
-      stands_in (xs ++ ys) w last b.fits.seen f.request name version bytes f.asks
-      (subst (λ (k : ScriptMap × (State × ℕ)). Stands (table k.0 k.1.1) k.1.0 w f.request) (λ i. (sym b.scripts i, (sym b.start i, sym b.limit_is i)))
-      (its_step xs v a b.since q r name version bytes there accepted asks is_due))
+  stores_stand next refused es xs v h later ys last more q r name version bytes there accepted asks is_due =
+      let a = reached k ready server next refused es xs v h in
+      let b = later_on k ready server xs v a later ys last more in
+      let f = found xs (law_after k ready server a.since) v a.fits.seen q r name version bytes there accepted asks in
+      let w = law_after k ready server (a.since ++ b.since) in
+      let step = its_step xs v a b.since q r name version bytes there accepted asks is_due in
+      let here =
+      subst (λ (c : ScriptMap × (State × ℕ)). (s : Stands (table c.0 c.1.1) c.1.0 w f.request) × (s.entry.guess ≡ q.guess)) (λ i. (sym b.scripts i, (sym b.start i, sym b.limit_is i)))
+      (step, its_guess (a.since ++ b.since) f.request step ∙ f.guess) in
+      stands_in (xs ++ ys) w last b.fits.seen f.request q.guess name version bytes f.asks here.0 here.1
+
+  -- a store's step in the world of the laws, since its guess
+  stood : (earlier more : List (LawEvent ℕ Bytes Bytes)) (next : ℕ) (q : Request ℕ Bytes Bytes) (name : Bytes) (version : ℕ) (bytes : Bytes) (g : ℕ)
+      → (law_after k ready server earlier).next ≡ next → q.number < next → Contains (served (law_after k ready server (earlier ++ more))) (q, Yes) → q.ask ≡ Store name version bytes → q.guess ≡ Some g
+      → Stands (table k.scripts k.limit) k.start (law_after k ready server earlier) q
+  stood earlier more next q name version bytes g is low there asks its =
+      let first = begun k (λ name. law_content (file_of server.files name)) in
+      let w = law_after k ready server earlier in
+      let z = world_after S k.start w more in
+      let told : Contains (served z) (q, Yes) = subst (λ (x : World ℕ Bytes Bytes). Contains (served x) (q, Yes)) (fold-append (event S k.start) first earlier more) there in
+      let by_now : Contains (made w) q =
+      elim ((all_grew S k.start more w).requests q (Contains-append_left (map (λ x. x.0) (served z)) z.waiting q (in_map (λ (x : Served ℕ Bytes Bytes). x.0) (served z) (q, Yes) told))) [
+        | inl before ↦ before
+        | inr new ↦ absurd (omega (arith, is, low))
+      ] in
+      accepted_stood S k.start (ready_table k ready) first (begins k (λ name. law_content (file_of server.files name)) ready) earlier more q name version bytes g by_now told asks its
+
+  pub stores_stood : server.next ≡ 1 → server.refused ≡ [] → (es : List WorldEvent) (xs : Exchanges) (v : WorldView) → Leads (joined (opened k) server) es xs v
+      → (later : List WorldEvent) (ys : Exchanges) (last : WorldView) → Leads v later ys last → StoresStood (xs ++ ys) v
+  stores_stood next refused es xs v h later ys last more q r name version bytes g there accepted asks its low =
+      let a = reached k ready server next refused es xs v h in
+      let b = later_on k ready server xs v a later ys last more in
+      let f = found (xs ++ ys) (law_after k ready server (a.since ++ b.since)) last b.fits.seen q r name version bytes there accepted asks in
+      let step = stood a.since b.since v.desk.next f.request name version bytes g a.fits.seen.next (subst (λ n. n < v.desk.next) (sym f.number) low) f.there f.asks (f.guess ∙ its) in
+      let w = law_after k ready server a.since in
+      let here =
+      subst (λ (c : ScriptMap × (State × ℕ)). (s : Stands (table c.0 c.1.1) c.1.0 w f.request) × (s.entry.guess ≡ Some g)) (λ i. (sym a.scripts i, (sym a.start i, sym a.limit_is i)))
+      (step, its_guess a.since f.request step ∙ f.guess ∙ its) in
+      stands_in xs w v a.fits.seen f.request (Some g) name version bytes f.asks here.0 here.1

@@ -5,16 +5,14 @@ use Rattle.std.specs.List.{Contains}
 use Rattle.std.proofs.lemmas.Bool.{true≢false}
 use Rattle.sk_record.specs.Run.{outcome}
 use Rattle.sk_record.specs.Notes.{has}
-use Rattle.sk_script.specs.Boot.{BootView}
 use Rattle.sk_script.specs.Scripts.{ScriptMap}
 use Rattle.sk_script.specs.declared.instruction.Input.{Input}
 use Rattle.sk_script.specs.declared.instruction.Input.TheVariants as inputs
 use Rattle.sk_store.specs.State.{State}
-use Rattle.sk_store.specs.Start.{start_of}
 use Rattle.sk_trace.specs.declared.event.Event.TheVariants.{Step}
 use Rattle.sk_plain.specs.Planned.{refusal_of}
 use Rattle.sk_plain.specs.declared.refusal.Refusal.{Refusal}
-use Rattle.sk_kernel.specs.Kernel.{KernelView, booted, undecided_at, effect_at, or_else, step_refused, with_event}
+use Rattle.sk_kernel.specs.Kernel.{KernelView, undecided_at, effect_at, or_else, step_refused, with_event}
 use Rattle.sk_server.specs.Files.{file_of}
 use Rattle.sk_server.specs.Server.{ServerView}
 use Rattle.sk_server.specs.declared.request.Ask.{Ask}
@@ -27,16 +25,16 @@ use Rattle.sk_world.specs.World.{World, kernel, state, pending as law_pending, p
 use Rattle.sk_world.proofs.Each.{cons_first}
 use Rattle.sk_world.proofs.AskedSteps.{answered_whole, asked_are_taken}
 use Rattle.sk_world.proofs.First.{places_are_kept}
-use Rattle.sk_client.specs.Table.{Bytes, table, begun, IsNumbered}
+use Rattle.sk_client.specs.Table.{Bytes, table}
 use Rattle.sk_client.specs.Desk.{DeskView, opened, entry, fits_ask, is_void, input_of, stepped, answered, given_to, given, decision_answer, step_answer, answer_to, given_answer}
-use Rattle.sk_client.specs.LawWorld.{Exchanges, Leads, law_content, law_input, law_kept, law_ask, law_answer, law_request, law_served, TakesStep, StepsAreTaken, ForgottenAreDropped}
+use Rattle.sk_client.specs.LawWorld.{Exchanges, Leads, law_content, begun, IsReady, law_input, law_kept, law_ask, law_answer, law_request, law_served, TakesStep, StepsAreTaken, ForgottenAreDropped}
 use Rattle.sk_client.specs.WorldView.{WorldView, joined, IsJoined, Replies}
 use Rattle.sk_client.specs.declared.pending.PendingRequest.{PendingRequest}
 use Rattle.sk_client.specs.declared.desk.Given.TheVariants as gives
 use Rattle.sk_client.specs.declared.world.WorldEvent.{WorldEvent}
 use Rattle.sk_client.specs.declared.world.WorldAnswer.TheVariants as told
 use Rattle.sk_client.specs.declared.world.Cause.TheVariants as causes
-use Rattle.sk_client.proofs.Table.{is_table, begins}
+use Rattle.sk_client.proofs.Before.{ready_table, begins}
 use Rattle.sk_client.proofs.WorldFacts.{Oldest, oldest}
 use Rattle.sk_client.proofs.SeenFacts.{IsFor, void_seen}
 use Rattle.sk_client.proofs.SeenTurn.{Did, does_seen}
@@ -134,43 +132,43 @@ desk_after d q a number t accepted =
 
 -- ---- in a world
 
-module _ (boot : BootView) (limit : ℕ) (numbered : IsNumbered boot) (server : ServerView) where
+module _ (k : KernelView) (ready : IsReady k) (server : ServerView) where
   abbrev first : World ℕ Bytes Bytes
-  first = begun (λ name. law_content (file_of server.files name))
+  first = begun k (λ name. law_content (file_of server.files name))
 
-  module _ (xs : Exchanges) (v : WorldView) (r : Reached boot limit numbered server [] xs v) where
+  module _ (xs : Exchanges) (v : WorldView) (r : Reached k ready server [] xs v) where
     abbrev w : World ℕ Bytes Bytes
-    w = law_after boot limit numbered server r.since
+    w = law_after k ready server r.since
 
     abbrev K : KernelView
     K = v.desk.kernel
 
     -- the laws' table, start and limit are the kernel's
-    same_boot : ◌≡◌ {A = ScriptMap × (State × ℕ)} (boot.scripts, (start_of boot, limit)) (v.desk.kernel.scripts, (v.desk.kernel.start, v.desk.kernel.limit))
+    same_boot : ◌≡◌ {A = ScriptMap × (State × ℕ)} (k.scripts, (k.start, k.limit)) (v.desk.kernel.scripts, (v.desk.kernel.start, v.desk.kernel.limit))
     same_boot = λ i. (sym r.scripts i, (sym r.start i, sym r.limit_is i))
 
     placed : places (table v.desk.kernel.scripts v.desk.kernel.limit) v.desk.kernel.start w.trace (law_pending w) ≤ v.desk.kernel.limit
     placed =
-        subst (λ (k : ScriptMap × (State × ℕ)). places (table k.0 k.1.1) k.1.0 w.trace (law_pending w) ≤ k.1.1) same_boot
-        (places_are_kept (table boot.scripts limit) (start_of boot) (is_table boot.scripts limit boot numbered) first (begins boot limit (λ name. law_content (file_of server.files name))) r.since)
+        subst (λ (c : ScriptMap × (State × ℕ)). places (table c.0 c.1.1) c.1.0 w.trace (law_pending w) ≤ c.1.1) same_boot
+        (places_are_kept (table k.scripts k.limit) k.start (ready_table k ready) first (begins k (λ name. law_content (file_of server.files name)) ready) r.since)
 
     module _ (p : Reply) (rs : List Reply) (is : v.replies ≡ p ∷ rs) (o : Oldest v.desk p rs v.back) where
       accepts : o.request.guess ≡ None → (input : Input) → input_of p.answer ≡ Some input → step_refused v.desk.kernel (entry o.request.process input None) ≡ None
       accepts none input given =
           let kind : IsFor None o.request.ask = subst (λ g. IsFor g o.request.ask) none (kinds_now xs w v r.fits p rs is o placed).0 in
-          let law = asked_are_taken (table boot.scripts limit) (start_of boot) (is_table boot.scripts limit boot numbered) first (begins boot limit (λ name. law_content (file_of server.files name))) r.since
+          let law = asked_are_taken (table k.scripts k.limit) k.start (ready_table k ready) first (begins k (λ name. law_content (file_of server.files name)) ready) r.since
           (law_request o.request, law_answer p.answer) (law_served o.later rs) (law_input input) (oldest_one xs w v r.fits p rs is o placed) none
           (law_gives o.request.ask p.answer kind o.fits ∙ ap law_kept given) in
           let there : is_ok (outcome (kernel (table K.scripts K.limit)) (state (table K.scripts K.limit) K.start w.trace) (asked_entry (law_request o.request) (law_input input))) ≡ true =
-          subst (λ (k : ScriptMap × (State × ℕ)). is_ok (outcome (kernel (table k.0 k.1.1)) (state (table k.0 k.1.1) k.1.0 w.trace) (asked_entry (law_request o.request) (law_input input))) ≡ true) same_boot law.0 in
+          subst (λ (c : ScriptMap × (State × ℕ)). is_ok (outcome (kernel (table c.0 c.1.1)) (state (table c.0 c.1.1) c.1.0 w.trace) (asked_entry (law_request o.request) (law_input input))) ≡ true) same_boot law.0 in
           let here : is_ok (effect_at K (entry o.request.process input None)) ≡ true = sym (ap is_ok (does_seen xs w v r.fits o.request.process input)) ∙ there in
           (λ i. or_else (not_refused (effect_at K (entry o.request.process input None)) here i) (has_place xs w v r.fits p rs is o placed none i))
 
       whole : (p.answer ≡ answers.Dropped → ⊥) → is_void v.desk.kernel o.request ≡ true → ⊥
       whole kept void =
-          let there : law_void (table boot.scripts limit) (start_of boot) w.trace (law_request o.request) ≡ true =
-          subst (λ (k : ScriptMap × (State × ℕ)). law_void (table k.0 k.1.1) k.1.0 w.trace (law_request o.request) ≡ true) (sym same_boot) (void_seen xs w v r.fits.seen r.fits.sound o.request ∙ void) in
-          answered_whole (table boot.scripts limit) (start_of boot) (is_table boot.scripts limit boot numbered) first (begins boot limit (λ name. law_content (file_of server.files name))) r.since
+          let there : law_void (table k.scripts k.limit) k.start w.trace (law_request o.request) ≡ true =
+          subst (λ (c : ScriptMap × (State × ℕ)). law_void (table c.0 c.1.1) c.1.0 w.trace (law_request o.request) ≡ true) (sym same_boot) (void_seen xs w v r.fits.seen r.fits.sound o.request ∙ void) in
+          answered_whole (table k.scripts k.limit) k.start (ready_table k ready) first (begins k (λ name. law_content (file_of server.files name)) ready) r.since
           (law_request o.request, law_answer p.answer)
           (subst (λ ys. Contains ys (law_request o.request, law_answer p.answer)) (sym (oldest_one xs w v r.fits p rs is o placed)) (cons_first (law_request o.request, law_answer p.answer) (law_served o.later rs)))
           (λ dropped. kept (law_dropped p.answer dropped)) there
@@ -214,9 +212,9 @@ module _ (boot : BootView) (limit : ℕ) (numbered : IsNumbered boot) (server : 
         let o = oldest_here p rs is in
         (p, is ∙ ap (λ (x : WorldView). p ∷ x.replies) (sym h.1), forgotten p rs is o n p.answer refl (h.0.1 ∙ ap (given_answer v.desk p) o.taken))
 
-  pub steps_are_taken : (number : ℕ) → server.next ≡ 1 → server.refused ≡ [] → (es : List WorldEvent) (xs : Exchanges) (v : WorldView) → Leads (joined (opened (booted number boot limit)) server) es xs v → StepsAreTaken v
-  steps_are_taken number next refused es xs v h n new e = takes xs v (reached boot limit numbered server number next refused es xs v h) n new v.replies refl e
+  pub steps_are_taken : server.next ≡ 1 → server.refused ≡ [] → (es : List WorldEvent) (xs : Exchanges) (v : WorldView) → Leads (joined (opened k) server) es xs v → StepsAreTaken v
+  steps_are_taken next refused es xs v h n new e = takes xs v (reached k ready server next refused es xs v h) n new v.replies refl e
 
-  pub forgotten_are_dropped : (number : ℕ) → server.next ≡ 1 → server.refused ≡ [] → (es : List WorldEvent) (xs : Exchanges) (v : WorldView) → Leads (joined (opened (booted number boot limit)) server) es xs v
+  pub forgotten_are_dropped : server.next ≡ 1 → server.refused ≡ [] → (es : List WorldEvent) (xs : Exchanges) (v : WorldView) → Leads (joined (opened k) server) es xs v
       → ForgottenAreDropped v
-  forgotten_are_dropped number next refused es xs v h n new e = forgets xs v (reached boot limit numbered server number next refused es xs v h) n new v.replies refl e
+  forgotten_are_dropped next refused es xs v h n new e = forgets xs v (reached k ready server next refused es xs v h) n new v.replies refl e

@@ -13,6 +13,9 @@ pub mod SeenTurn
 pub mod SeenServer
 pub mod SeenServe
 pub mod SeenReply
+pub mod Before
+pub mod Booted
+pub mod Requests
 pub mod Seen
 pub mod Accepted
 pub mod StoresApart

@@ -2,14 +2,10 @@
 use Rattle.std.proofs.Common.{◌≡◌, ℕ, ◌≤◌, true, false, cond, List, [], ◌∷◌, ◌++◌, Option, Some, None, Result, Ok, Err, refl, sym, ◌∙◌, ap, subst}
 use Rattle.std.proofs.lemmas.List.{append-nil, append_assoc}
 use Rattle.std.proofs.lemmas.List.Sums.{fold-append}
-use Rattle.sk_record.proofs.Sound.{sound_first}
-use Rattle.sk_script.specs.Boot.{BootView}
 use Rattle.sk_script.specs.Scripts.{ScriptMap}
 use Rattle.sk_store.specs.State.{State}
-use Rattle.sk_store.specs.Start.{start_of}
-use Rattle.sk_plain.specs.Act.{plain}
 use Rattle.sk_plain.specs.declared.refusal.Refusal.{Refusal}
-use Rattle.sk_kernel.specs.Kernel.{KernelView, booted, step_refused, undecided_at}
+use Rattle.sk_kernel.specs.Kernel.{KernelView, events_of, step_refused, undecided_at}
 use Rattle.sk_record.specs.Notes.{has}
 use Rattle.sk_script.specs.declared.instruction.Input.{Input}
 use Rattle.sk_server.specs.Files.{file_of, is_fitting, written}
@@ -21,10 +17,10 @@ use Rattle.sk_server.specs.declared.reply.Reply.{Reply}
 use Rattle.sk_world.specs.Server.{Change}
 use Rattle.sk_world.specs.World.{World, WorldEvent as LawEvent, Turn, Serve, Reply as Replies, Edit, pending as law_pending, places, edited, event, world_after}
 use Rattle.sk_world.proofs.First.{places_are_kept}
-use Rattle.sk_client.specs.Table.{Bytes, table, begun, IsNumbered}
+use Rattle.sk_client.specs.Table.{Bytes, table}
 use Rattle.sk_client.specs.Desk.{DeskView, opened, entry, decided, input_of, answered, given_to, given, is_void, stepped, turned}
 use Rattle.sk_client.specs.DeskCalls.{ByRule, TurnPost, ReplyPost}
-use Rattle.sk_client.specs.LawWorld.{Exchanges, with_reply, exchange, exchanged, Leads, law_content, IsSeenAfter}
+use Rattle.sk_client.specs.LawWorld.{Exchanges, with_reply, exchange, exchanged, Leads, law_content, begun, IsReady, IsSeen, IsSeenAfter}
 use Rattle.sk_client.specs.WorldView.{WorldView, joined, taken_by, taken_from, reply_to, served, Serves, Replies as RepliesSo, Turns, EditsFile, EventPost, IsNext, IsJoined}
 use Rattle.sk_client.specs.declared.pending.PendingRequest.{PendingRequest}
 use Rattle.sk_client.specs.declared.rule.Rule.{Rule}
@@ -37,7 +33,7 @@ use Rattle.sk_client.specs.declared.world.WorldAnswer.{WorldAnswer}
 use Rattle.sk_client.specs.declared.world.WorldAnswer.TheVariants as answers
 use Rattle.sk_client.specs.declared.world.Cause.{Cause}
 use Rattle.sk_client.specs.declared.world.Cause.TheVariants as causes
-use Rattle.sk_client.proofs.Table.{is_table, begins}
+use Rattle.sk_client.proofs.Before.{back, ready_table, begins}
 use Rattle.sk_client.proofs.WorldFacts.{turn_joined, taken_joined, answer_joined, oldest, given_joined, begun_joined}
 use Rattle.sk_client.proofs.SeenFacts.{Fits}
 use Rattle.sk_client.proofs.SeenServer.{fitting_seen, changed_seen}
@@ -252,35 +248,35 @@ module _ (xs : Exchanges) (w : World ℕ Bytes Bytes) (v : WorldView) (f : Fits 
 
 -- ---- all events
 
-module _ (boot : BootView) (limit : ℕ) (numbered : IsNumbered boot) (server : ServerView) where
+module _ (k : KernelView) (ready : IsReady k) (server : ServerView) where
   abbrev first : World ℕ Bytes Bytes
-  first = begun (λ name. law_content (file_of server.files name))
+  first = begun k (λ name. law_content (file_of server.files name))
 
   -- what these events of the laws lead to
   abbrev pub law_after : List (LawEvent ℕ Bytes Bytes) → World ℕ Bytes Bytes
-  law_after es = world_after (table boot.scripts limit) (start_of boot) (begun (λ name. law_content (file_of server.files name))) es
+  law_after es = world_after (table k.scripts k.limit) k.start (begun k (λ name. law_content (file_of server.files name))) es
 
-  -- a kernel of that boot, in a world that these events of the laws and some more lead to
+  -- the same kernel later, in a world that these events of the laws and some more lead to
   pub record Reached (earlier : List (LawEvent ℕ Bytes Bytes)) (xs : Exchanges) (v : WorldView) : Type 0 where
     pub since : List (LawEvent ℕ Bytes Bytes)
     pub fits : Fits xs (law_after (earlier ++ since)) v
     pub joined : IsJoined v.desk v.server v.replies v.back
-    pub scripts : v.desk.kernel.scripts ≡ boot.scripts
-    pub start : v.desk.kernel.start ≡ start_of boot
-    pub limit_is : v.desk.kernel.limit ≡ limit
+    pub scripts : v.desk.kernel.scripts ≡ k.scripts
+    pub start : v.desk.kernel.start ≡ k.start
+    pub limit_is : v.desk.kernel.limit ≡ k.limit
 
   one_event : (earlier : List (LawEvent ℕ Bytes Bytes)) (xs : Exchanges) (v : WorldView) → Reached earlier xs v → (told : Result WorldAnswer Cause) (e : WorldEvent) (new : WorldView) → EventPost told v e new
       → Reached earlier (xs ++ exchanged told v e) new
   one_event earlier xs v r told e new h =
       let w = law_after (earlier ++ r.since) in
       let K = v.desk.kernel in
-      let kept = places_are_kept (table boot.scripts limit) (start_of boot) (is_table boot.scripts limit boot numbered) first (begins boot limit (λ name. law_content (file_of server.files name))) (earlier ++ r.since) in
+      let kept = places_are_kept (table k.scripts k.limit) k.start (ready_table k ready) first (begins k (λ name. law_content (file_of server.files name)) ready) (earlier ++ r.since) in
       let placed : places (table K.scripts K.limit) K.start w.trace (law_pending w) ≤ K.limit =
-      subst (λ (k : ScriptMap × (State × ℕ)). places (table k.0 k.1.1) k.1.0 w.trace (law_pending w) ≤ k.1.1) (λ i. (sym r.scripts i, (sym r.start i, sym r.limit_is i))) kept in
+      subst (λ (c : ScriptMap × (State × ℕ)). places (table c.0 c.1.1) c.1.0 w.trace (law_pending w) ≤ c.1.1) (λ i. (sym r.scripts i, (sym r.start i, sym r.limit_is i))) kept in
       let on = onward xs w v r.fits r.joined placed told e new h in
       let same : world_after (table K.scripts K.limit) K.start w on.event_of ≡ law_after (earlier ++ (r.since ++ on.event_of)) =
       (λ i. world_after (table (r.scripts i) (r.limit_is i)) (r.start i) w on.event_of)
-      ∙ sym (fold-append (event (table boot.scripts limit) (start_of boot)) first (earlier ++ r.since) on.event_of)
+      ∙ sym (fold-append (event (table k.scripts k.limit) k.start) first (earlier ++ r.since) on.event_of)
       ∙ ap law_after (append_assoc earlier r.since on.event_of) in
       record {
         since = r.since ++ on.event_of;
@@ -299,12 +295,12 @@ module _ (boot : BootView) (limit : ℕ) (numbered : IsNumbered boot) (server : 
       subst (λ (zs : Exchanges). Reached earlier zs last) (append_assoc xs (exchanged h.0 v e) h.2 ∙ ap (λ zs. xs ++ zs) (sym h.5))
       (all_events earlier (xs ++ exchanged h.0 v e) h.1 es h.2 last (one_event earlier xs v r h.0 e h.1 h.3) h.4)
 
-  at_first : (number : ℕ) → server.next ≡ 1 → server.refused ≡ [] → Reached [] [] (joined (opened (booted number boot limit)) server)
-  at_first number next refused = record {
+  at_first : server.next ≡ 1 → server.refused ≡ [] → Reached [] [] (joined (opened k) server)
+  at_first next refused = record {
     since = [];
     fits = record {
       seen = record {
-        trace = refl;
+        trace = back (events_of k);
         drawn = refl;
         next = refl;
         kept = λ pid. refl;
@@ -314,21 +310,17 @@ module _ (boot : BootView) (limit : ℕ) (numbered : IsNumbered boot) (server : 
         refused = sym refused;
         answered = refl;
       };
-      sound = sound_first (plain boot.scripts) (start_of boot);
+      sound = ready.0.sound;
       kinds = tt;
     };
-    joined = begun_joined (opened (booted number boot limit)) server refl refl refl next;
+    joined = begun_joined (opened k) server refl refl refl next;
     scripts = refl;
     start = refl;
     limit_is = refl;
   }
 
-  pub reached : (number : ℕ) → server.next ≡ 1 → server.refused ≡ [] → (es : List WorldEvent) (xs : Exchanges) (v : WorldView) → Leads (joined (opened (booted number boot limit)) server) es xs v → Reached [] xs v
-  reached number next refused es xs v h = all_events [] [] (joined (opened (booted number boot limit)) server) es xs v (at_first number next refused) h
-
-  pub seen_after : (number : ℕ) → server.next ≡ 1 → server.refused ≡ [] → (es : List WorldEvent) (xs : Exchanges) (v : WorldView) → Leads (joined (opened (booted number boot limit)) server) es xs v
-      → IsSeenAfter boot limit server xs v
-  seen_after number next refused es xs v h = let r = reached number next refused es xs v h in (r.since, r.fits.seen)
+  pub reached : server.next ≡ 1 → server.refused ≡ [] → (es : List WorldEvent) (xs : Exchanges) (v : WorldView) → Leads (joined (opened k) server) es xs v → Reached [] xs v
+  reached next refused es xs v h = all_events [] [] (joined (opened k) server) es xs v (at_first next refused) h
 
   from_here : (xs : Exchanges) (v : WorldView) (r : Reached [] xs v) → Reached r.since xs v
   from_here xs v r = record {
@@ -343,3 +335,15 @@ module _ (boot : BootView) (limit : ℕ) (numbered : IsNumbered boot) (server : 
   -- the same from there on
   pub later_on : (xs : Exchanges) (v : WorldView) (r : Reached [] xs v) (es : List WorldEvent) (ys : Exchanges) (last : WorldView) → Leads v es ys last → Reached r.since (xs ++ ys) last
   later_on xs v r es ys last h = all_events r.since xs v es ys last (from_here xs v r) h
+
+  pub seen_after : server.next ≡ 1 → server.refused ≡ [] → (es : List WorldEvent) (xs : Exchanges) (v : WorldView) → Leads (joined (opened k) server) es xs v → IsSeenAfter k server xs v
+  seen_after next refused es xs v h =
+      let r = reached next refused es xs v h in (
+        r.since,
+        r.fits.seen,
+        λ later ys last more.
+            let on = later_on xs v r later ys last more in (
+              on.since,
+              subst (λ (w : World ℕ Bytes Bytes). IsSeen (xs ++ ys) w last) (fold-append (event (table k.scripts k.limit) k.start) first r.since on.since) on.fits.seen,
+            ),
+      )

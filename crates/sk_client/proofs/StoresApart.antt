@@ -10,14 +10,12 @@ use Rattle.sk_record.specs.Run.{effects}
 use Rattle.sk_record.specs.Trace.{record_of}
 use Rattle.sk_ids.specs.declared.entity.Entity.{Entity}
 use Rattle.sk_ids.specs.declared.entity.Entity.TheVariants.{Copy as CopyOf}
-use Rattle.sk_script.specs.Boot.{BootView}
 use Rattle.sk_script.specs.Scripts.{ScriptMap}
 use Rattle.sk_store.specs.State.{State}
-use Rattle.sk_store.specs.Start.{start_of}
 use Rattle.sk_store.specs.declared.entity_state.EntityState.{EntityState}
 use Rattle.sk_plain.specs.Act.{Saying}
 use Rattle.sk_plain.specs.declared.refusal.Refusal.{Refusal}
-use Rattle.sk_kernel.specs.Kernel.{booted}
+use Rattle.sk_kernel.specs.Kernel.{KernelView}
 use Rattle.sk_server.specs.Files.{file_of}
 use Rattle.sk_server.specs.Server.{ServerView}
 use Rattle.sk_server.specs.declared.request.Request.{Request as Sent}
@@ -28,15 +26,15 @@ use Rattle.sk_world.specs.Laws.{paired, record_now, Sets}
 use Rattle.sk_world.proofs.Each.{cons_cases, no_member}
 use Rattle.sk_world.proofs.First.{contains_at, rising_places, all_after, stores_are_replied}
 use Rattle.sk_world.proofs.RequestFacts.{Rising}
-use Rattle.sk_client.specs.Table.{Bytes, Caused, bare, input_of, table, begun, copy_of, IsNumbered}
+use Rattle.sk_client.specs.Table.{Bytes, Caused, bare, input_of, table, copy_of}
 use Rattle.sk_client.specs.Desk.{opened}
-use Rattle.sk_client.specs.LawWorld.{Exchanges, Leads, law_content, answered_there, answered_here, IsSeen, StandsAt, DueStore, StandApart}
+use Rattle.sk_client.specs.LawWorld.{Exchanges, Leads, law_content, begun, IsReady, answered_there, answered_here, IsSeen, StandsAt, DueStore, StandApart}
 use Rattle.sk_client.specs.WorldView.{WorldView, joined}
 use Rattle.sk_client.specs.declared.world.WorldEvent.{WorldEvent}
-use Rattle.sk_client.proofs.Table.{is_table, begins}
+use Rattle.sk_client.proofs.Before.{ready_table, begins}
 use Rattle.sk_client.proofs.SeenFacts.{steps_seen}
 use Rattle.sk_client.proofs.Seen.{law_after, Reached, reached, later_on}
-use Rattle.sk_client.proofs.Accepted.{paired_map, found, entries_seen, its_step}
+use Rattle.sk_client.proofs.Accepted.{paired_map, found, entries_seen, its_step, its_guess}
 
 -- ---- places of lists
 
@@ -125,39 +123,40 @@ module _ (xs : Exchanges) (w : World ℕ Bytes Bytes) (v : WorldView) (seen : Is
 
 -- ---- the steps
 
-module _ (boot : BootView) (limit : ℕ) (numbered : IsNumbered boot) (server : ServerView) where
+module _ (k : KernelView) (ready : IsReady k) (server : ServerView) where
   abbrev first : World ℕ Bytes Bytes
-  first = begun (λ name. law_content (file_of server.files name))
+  first = begun k (λ name. law_content (file_of server.files name))
 
   abbrev S : Table Entity EntityState Saying Refusal ℕ Bytes Bytes
-  S = table boot.scripts limit
+  S = table k.scripts k.limit
 
-  module _ (xs : Exchanges) (v : WorldView) (a : Reached boot limit numbered server [] xs v) (ys : Exchanges) (last : WorldView) (b : Reached boot limit numbered server a.since (xs ++ ys) last) where
+  module _ (xs : Exchanges) (v : WorldView) (a : Reached k ready server [] xs v) (ys : Exchanges) (last : WorldView) (b : Reached k ready server a.since (xs ++ ys) last) where
     abbrev w : World ℕ Bytes Bytes
-    w = law_after boot limit numbered server (a.since ++ b.since)
+    w = law_after k ready server (a.since ++ b.since)
 
     abbrev entries : List Caused
-    entries = record_of (kernel S) (start_of boot) w.trace
+    entries = record_of (kernel S) k.start w.trace
 
     -- the step of a store, at its place
     record AtPlace (s : DueStore xs v) : Type 0 where
       entry : Caused
       effect : MarkedEffect Entity EntityState Saying
       request : Request ℕ Bytes Bytes
-      at : slice_get (record_now S (start_of boot) w) (place_in entries s.request.number) ≡ Some (entry, effect)
+      at : slice_get (record_now S k.start w) (place_in entries s.request.number) ≡ Some (entry, effect)
       cause : entry.cause ≡ For request
       number : request.number ≡ s.request.number
+      guess : entry.guess ≡ s.request.guess
       input : entry.input ≡ Good
       sets : Contains effect.written (CopyOf s.name, Some (copy_of (suc s.version, s.bytes)))
 
     at_place : (s : DueStore xs v) → AtPlace s
     at_place s =
         let there = contains_at xs s.at (s.request, s.reply) s.there in
-        let f = found xs (law_after boot limit numbered server a.since) v a.fits.seen s.request s.reply s.name s.version s.bytes there s.accepted s.asks in
-        let step = its_step boot limit numbered server xs v a b.since s.request s.reply s.name s.version s.bytes there s.accepted s.asks s.due in
-        let fs = effects (kernel S) (start_of boot) entries in
+        let f = found xs (law_after k ready server a.since) v a.fits.seen s.request s.reply s.name s.version s.bytes there s.accepted s.asks in
+        let step = its_step k ready server xs v a b.since s.request s.reply s.name s.version s.bytes there s.accepted s.asks s.due in
+        let fs = effects (kernel S) k.start entries in
         let here = place_at (paired entries fs) (step.entry, step.marked_effect) step.there in
-        let replied = stores_are_replied S (start_of boot) (is_table boot.scripts limit boot numbered) first (begins boot limit (λ name. law_content (file_of server.files name))) (a.since ++ b.since) in
+        let replied = stores_are_replied S k.start (ready_table k ready) first (begins k (λ name. law_content (file_of server.files name)) ready) (a.since ++ b.since) in
         let same : place_in entries s.request.number ≡ here.0 =
         first_is entries replied.step_once here.0 step.entry f.request s.request.number (paired_first entries fs here.0 (step.entry, step.marked_effect) here.1) step.cause f.number in
         record {
@@ -167,11 +166,12 @@ module _ (boot : BootView) (limit : ℕ) (numbered : IsNumbered boot) (server : 
           at = ap (slice_get (paired entries fs)) same ∙ here.1;
           cause = step.cause;
           number = f.number;
+          guess = its_guess k ready server (a.since ++ b.since) f.request step ∙ f.guess;
           input = step.input;
           sets = subst (λ ask. Sets S ask Good step.marked_effect.written) f.asks step.sets;
         }
 
-    stands_at : (s : DueStore xs v) → StandsAt last.desk.kernel (place_in entries s.request.number) s.name s.version s.bytes
+    stands_at : (s : DueStore xs v) → StandsAt last.desk.kernel (place_in entries s.request.number) s.request.guess s.name s.version s.bytes
     stands_at s =
         let t = at_place s in
         let K = last.desk.kernel in
@@ -179,7 +179,7 @@ module _ (boot : BootView) (limit : ℕ) (numbered : IsNumbered boot) (server : 
         let ns = record_of (kernel (table K.scripts K.limit)) K.start w.trace in
         let fs = effects (kernel (table K.scripts K.limit)) K.start ns in
         let at_kernel : slice_get (paired ns fs) place ≡ Some (t.entry, t.effect) =
-        subst (λ (k : ScriptMap × (State × ℕ)). slice_get (record_now (table k.0 k.1.1) k.1.0 w) place ≡ Some (t.entry, t.effect)) (λ i. (sym b.scripts i, (sym b.start i, sym b.limit_is i))) t.at in
+        subst (λ (c : ScriptMap × (State × ℕ)). slice_get (record_now (table c.0 c.1.1) c.1.0 w) place ≡ Some (t.entry, t.effect)) (λ i. (sym b.scripts i, (sym b.start i, sym b.limit_is i))) t.at in
         let one : suc s.version ≡ s.version + 1 = omega arith in
         record {
           entry = bare t.entry;
@@ -188,6 +188,7 @@ module _ (boot : BootView) (limit : ℕ) (numbered : IsNumbered boot) (server : 
               ap (λ ps. slice_get ps place) (sym (paired_map bare ns fs ∙ (λ i. paired (entries_seen (xs ++ ys) w last b.fits.seen i) (steps_seen (xs ++ ys) w last b.fits.seen i))))
               ∙ slice_get-map (λ (p : Caused × MarkedEffect Entity EntityState Saying). (bare p.0, p.1)) (paired ns fs) place
               ∙ ap (option_map (λ (p : Caused × MarkedEffect Entity EntityState Saying). (bare p.0, p.1))) at_kernel;
+          guess = t.guess;
           input = ap input_of t.input;
           sets = subst (λ n. Contains t.effect.written (CopyOf s.name, Some (copy_of (n, s.bytes)))) one t.sets;
         }
@@ -196,18 +197,18 @@ module _ (boot : BootView) (limit : ℕ) (numbered : IsNumbered boot) (server : 
     one_store s t same =
         let x = at_place s in
         let y = at_place t in
-        let fs = effects (kernel S) (start_of boot) entries in
+        let fs = effects (kernel S) k.start entries in
         let both : x.entry ≡ y.entry = same_entry (x.entry, x.effect) (y.entry, y.effect) (sym x.at ∙ ap (slice_get (paired entries fs)) same ∙ y.at) in
         let requests : x.request ≡ y.request = same_cause x.request y.request (sym x.cause ∙ ap (λ (n : Caused). n.cause) both ∙ y.cause) in
-        let earlier = law_after boot limit numbered server a.since in
-        one_number xs earlier v a.fits.seen (all_after S (start_of boot) (is_table boot.scripts limit boot numbered) first (begins boot limit (λ name. law_content (file_of server.files name))) a.since).1.numbers.rising
+        let earlier = law_after k ready server a.since in
+        one_number xs earlier v a.fits.seen (all_after S k.start (ready_table k ready) first (begins k (λ name. law_content (file_of server.files name)) ready) a.since).1.numbers.rising
         s.at t.at (s.request, s.reply) (t.request, t.reply) s.there t.there (sym x.number ∙ ap (λ (q : Request ℕ Bytes Bytes). q.number) requests ∙ y.number)
 
     stand : StandApart xs v last
     stand = record { place_of = place_in entries; stands = stands_at; apart = one_store }
 
-  pub stand_apart : (number : ℕ) → server.next ≡ 1 → server.refused ≡ [] → (es : List WorldEvent) (xs : Exchanges) (v : WorldView) → Leads (joined (opened (booted number boot limit)) server) es xs v
+  pub stand_apart : server.next ≡ 1 → server.refused ≡ [] → (es : List WorldEvent) (xs : Exchanges) (v : WorldView) → Leads (joined (opened k) server) es xs v
       → (later : List WorldEvent) (ys : Exchanges) (last : WorldView) → Leads v later ys last → StandApart xs v last
-  stand_apart number next refused es xs v h later ys last more =
-      let a = reached boot limit numbered server number next refused es xs v h in
-      stand xs v a ys last (later_on boot limit numbered server xs v a later ys last more)
+  stand_apart next refused es xs v h later ys last more =
+      let a = reached k ready server next refused es xs v h in
+      stand xs v a ys last (later_on k ready server xs v a later ys last more)

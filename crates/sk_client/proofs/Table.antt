@@ -1,5 +1,5 @@
 -- The kernel's table is one: what the laws of worlds ask of a table holds of it, from the start of every boot on.
-use Rattle.std.proofs.Common.{◌≡◌, ℕ, false, List, [], map, Some, None, Ok, IsSome, inl, inr, refl, sym, ◌∙◌, subst, arith}
+use Rattle.std.proofs.Common.{◌≡◌, ℕ, false, List, [], map, Some, None, Ok, IsSome, inl, inr, refl, sym, ◌∙◌, subst}
 use Rattle.std.specs.Prelude.{◌⊎◌}
 use Rattle.std.specs.List.{Contains}
 use Rattle.std.specs.FinMap.{get}
@@ -7,8 +7,6 @@ use Rattle.std.proofs.lemmas.Bool.{eq-eqb}
 use Rattle.std.proofs.lemmas.Slice.Eq.{bytes_eq-Decides}
 use Rattle.sk_record.specs.Step.{Effect}
 use Rattle.sk_record.specs.Run.{outcome, run}
-use Rattle.sk_record.specs.Trace.{Taken}
-use Rattle.sk_record.proofs.Sound.{sound_first}
 use Rattle.sk_ids.specs.declared.entity.Entity.{Entity}
 use Rattle.sk_ids.specs.declared.entity.Entity.TheVariants.{Proc, Copy}
 use Rattle.sk_ids.proofs.Entities.{entity_total, entity_exact}
@@ -21,11 +19,10 @@ use Rattle.sk_store.specs.Start.{start_of}
 use Rattle.sk_store.specs.declared.entity_state.EntityState.{EntityState}
 use Rattle.sk_store.specs.declared.entity_state.EntityState.TheVariants as stored
 use Rattle.sk_plain.specs.Act.{Scripts, Saying}
-use Rattle.sk_world.specs.Requests.{Content, Input as Reply, Nothing, Good, Fresh, Stale, Entry}
+use Rattle.sk_world.specs.Requests.{Input as Reply, Nothing, Good, Fresh, Stale, Entry}
 use Rattle.sk_world.specs.World.{kernel, own, Due, Fetches, Stores}
-use Rattle.sk_world.specs.Laws.{IsTable, IsFirst}
-use Rattle.sk_world.proofs.Each.{no_member}
-use Rattle.sk_client.specs.Table.{Bytes, input_of, table, begun, IsNumbered}
+use Rattle.sk_world.specs.Laws.{IsTable}
+use Rattle.sk_client.specs.Table.{Bytes, input_of, table, IsNumbered}
 use Rattle.sk_client.proofs.Tidy.{IsTidy, IsNextChild, unborn}
 use Rattle.sk_client.proofs.Rows.{IsOf, CanWrite}
 use Rattle.sk_client.proofs.Runs.{next_in, found, run_tidy}
@@ -104,18 +101,3 @@ is_table scripts limit boot numbered =
           takes_stored scripts limit s p m v b is.0 is.1 ((run_tidy scripts limit (start_of boot) ns tidy).copies m) cached lt;
       store_stale = λ s p m b v c next. takes_stale scripts limit s p m v b c (store_at scripts s p m b next).0;
     }
-
-pub begins : (boot : BootView) (limit : ℕ) (files : Bytes → Content Bytes) → IsFirst (table boot.scripts limit) (start_of boot) (begun files)
-begins boot limit files = record {
-  sound = sound_first (kernel (table boot.scripts limit)) (start_of boot);
-  drawn = λ g d. absurd (no_member (Taken d.0) d.1);
-  decided = refl;
-  before = λ n h. absurd (no_member n h);
-  waiting = refl;
-  taken = refl;
-  given = refl;
-  refused = refl;
-  changes = refl;
-  kept = λ p. refl;
-  room = omega arith;
-}

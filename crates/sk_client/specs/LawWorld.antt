@@ -1,8 +1,9 @@
 -- A world as the laws have it, and the same as its callers see it.
-use Rattle.std.specs.Prelude.{◌≡◌, ℕ, ◌+◌, Bool, true, List, [], ◌∷◌, ◌++◌, map, Option, Some, None, is_some, slice_get, Result, Ok, Err, ◌⊎◌}
+use Rattle.std.specs.Prelude.{◌≡◌, ℕ, ◌+◌, ◌<◌, ◌≤◌, Bool, true, length, List, [], ◌∷◌, ◌++◌, map, Option, Some, None, is_some, slice_get, Result, Ok, Err, ◌⊎◌}
 use Rattle.std.specs.List.{Contains, filter, fold}
 use Rattle.sk_record.specs.Effects.{MarkedEffect}
 use Rattle.sk_record.specs.Run.{effects}
+use Rattle.sk_record.specs.Trace.{Event as Happens, Taken, Commit, Fail}
 use Rattle.sk_ids.specs.declared.entity.Entity.{Entity}
 use Rattle.sk_ids.specs.declared.entity.Entity.TheVariants.{Copy as CopyOf}
 use Rattle.sk_objects.specs.Content.{ContentView}
@@ -14,7 +15,8 @@ use Rattle.sk_store.specs.declared.entity_state.EntityState.{EntityState}
 use Rattle.sk_trace.specs.Entry.{EntryView}
 use Rattle.sk_trace.specs.declared.event.Event.TheVariants.{Step}
 use Rattle.sk_plain.specs.Act.{Saying, plain}
-use Rattle.sk_kernel.specs.Kernel.{KernelView, events_of, record_at, last_guess, step_refused, with_event}
+use Rattle.sk_kernel.specs.Kernel.{KernelView, events_of, record_at, undecided_at, last_guess, step_refused, with_event}
+use Rattle.sk_kernel.specs.Laws.{HasSoundTrace}
 use Rattle.sk_server.specs.Files.{FileMap, file_of, is_fitting, written}
 use Rattle.sk_server.specs.Server.{ServerView}
 use Rattle.sk_server.specs.declared.request.Request.{Request as Sent}
@@ -23,11 +25,11 @@ use Rattle.sk_server.specs.declared.request.Ask.TheVariants as asks
 use Rattle.sk_server.specs.declared.reply.Answer.{Answer}
 use Rattle.sk_server.specs.declared.reply.Answer.TheVariants as answers
 use Rattle.sk_server.specs.declared.reply.Reply.{Reply}
-use Rattle.sk_world.specs.Requests.{Input as LawInput, Content, Nothing, Good, Fresh, Stale, Ask as LawAsk, Get, Check, Store, Answer as LawAnswer, Yes, No, Copy, Dropped, Request, Served}
+use Rattle.sk_world.specs.Requests.{Input as LawInput, Content, Nothing, Good, Fresh, Stale, Ask as LawAsk, Get, Check, Store, Answer as LawAnswer, Yes, No, Copy, Dropped, Request, Before, Served}
 use Rattle.sk_world.specs.World.{World, WorldEvent as LawEvent, world_after}
 use Rattle.sk_world.specs.Labels.{bare_event}
 use Rattle.sk_world.specs.Laws.{paired}
-use Rattle.sk_client.specs.Table.{Bytes, bare, table, begun, copy_of}
+use Rattle.sk_client.specs.Table.{Bytes, Caused, bare, table, IsNumbered, copy_of}
 use Rattle.sk_client.specs.Desk.{pending, kept_for, entry, input_of}
 use Rattle.sk_client.specs.WorldView.{WorldView, taken_by, EventPost}
 use Rattle.sk_client.specs.declared.pending.PendingRequest.{PendingRequest}
@@ -129,19 +131,65 @@ pub record IsSeen (served : Exchanges) (w : World ℕ Bytes Bytes) (v : WorldVie
   pub refused : w.server.refused ≡ v.server.refused
   pub answered : map answered_there (w.given ++ w.taken) ≡ map answered_here served
 
--- some list of the laws' events leads to a world that is seen so
-abbrev pub IsSeenAfter : BootView → ℕ → ServerView → Exchanges → WorldView → Type 0
-IsSeenAfter boot limit server served v =
+-- ---- where a world begins
+
+-- an entry, and an event, of before
+abbrev pub from_before : EntryView → Caused
+from_before n = record { process = n.pid; input = law_input n.input; guess = n.guess; cause = Before }
+
+abbrev pub event_before : Happens EntryView → Happens Caused
+event_before (Taken n) = Taken (from_before n)
+event_before (Commit g) = Commit g
+event_before (Fail g) = Fail g
+
+-- with this kernel, all that it did was before; its desk, and a server with these files
+abbrev pub begun : KernelView → (Bytes → Content Bytes) → World ℕ Bytes Bytes
+begun k files = record {
+  trace = map event_before (events_of k);
+  drawn = last_guess k.trace;
+  next = 1;
+  kept = λ pid. None;
+  taken = [];
+  waiting = [];
+  server = record { files = files; refused = [] };
+  given = [];
+  changes = [];
+}
+
+-- a kernel was booted, whatever it did since: its trace is sound, with a place for the decision of each undecided guess
+pub record WasBooted (k : KernelView) : Type 0 where
+  pub boot : BootView
+  pub numbered : IsNumbered boot
+  pub scripts : k.scripts ≡ boot.scripts
+  pub start : k.start ≡ start_of boot
+  pub sound : HasSoundTrace k
+  pub place : length k.trace + length (undecided_at k) ≤ k.limit
+
+-- it can begin a world: all its guesses are decided
+abbrev pub IsReady : KernelView → Type 0
+IsReady k = WasBooted k × (undecided_at k ≡ [])
+
+-- some list of the laws' events leads on from a world to one that is seen so
+abbrev pub IsSeenOn : KernelView → World ℕ Bytes Bytes → Exchanges → WorldView → Type 0
+IsSeenOn k w served v = (es : List (LawEvent ℕ Bytes Bytes)) × IsSeen served (world_after (table k.scripts k.limit) k.start w es) v
+
+-- such a list leads there from the beginning; and from the world that it leads to, another one to each later world
+abbrev pub IsSeenAfter : KernelView → ServerView → Exchanges → WorldView → Type 0
+IsSeenAfter k server served v =
     (es : List (LawEvent ℕ Bytes Bytes))
-    × IsSeen served (world_after (table boot.scripts limit) (start_of boot) (begun (λ name. law_content (file_of server.files name))) es) v
+    × IsSeen served (world_after (table k.scripts k.limit) k.start (begun k (λ name. law_content (file_of server.files name))) es) v
+    × ((later : List WorldEvent) (more : Exchanges) (last : WorldView) → Leads v later more last
+    → IsSeenOn k (world_after (table k.scripts k.limit) k.start (begun k (λ name. law_content (file_of server.files name))) es) (served ++ more) last)
 
 -- ---- accepted stores
 
--- the step of a store stands in the kernel's record: it was taken with Good, and it set the copy
-pub record StandsIn (k : KernelView) (name : Bytes) (version : ℕ) (bytes : Bytes) : Type 0 where
+-- the step of a store that was made with this guess, or asked, stands in the kernel's record: it is that of the guess, or
+-- of none, it was taken with Good, and it set the copy
+pub record StandsIn (k : KernelView) (mark : Option ℕ) (name : Bytes) (version : ℕ) (bytes : Bytes) : Type 0 where
   pub entry : EntryView
   pub effect : MarkedEffect Entity EntityState Saying
   pub there : Contains (paired (record_at k) (effects (plain k.scripts) k.start (record_at k))) (entry, effect)
+  pub guess : entry.guess ≡ mark
   pub input : entry.input ≡ inputs.Good
   pub sets : Contains effect.written (CopyOf name, Some (copy_of (version + 1, bytes)))
 
@@ -153,13 +201,21 @@ IsDue v q = ((g : ℕ) × (q.guess ≡ Some g)) ⊎ ((p : PendingRequest) → Co
 abbrev pub StoresStand : Exchanges → WorldView → WorldView → Type 0
 StoresStand served v later =
     (q : Sent) (r : Reply) (name : Bytes) (version : ℕ) (bytes : Bytes) → Contains served (q, r) → r.answer ≡ answers.Yes → q.ask ≡ asks.Store name version bytes → IsDue v q
-    → StandsIn later.desk.kernel name version bytes
+    → StandsIn later.desk.kernel q.guess name version bytes
 
--- the step of a store stands at this place of the record
-pub record StandsAt (k : KernelView) (place : ℕ) (name : Bytes) (version : ℕ) (bytes : Bytes) : Type 0 where
+-- the step of each store that was made with a guess by now, and that is accepted, by now or later, stands in the record of
+-- this world
+abbrev pub StoresStood : Exchanges → WorldView → Type 0
+StoresStood served v =
+    (q : Sent) (r : Reply) (name : Bytes) (version : ℕ) (bytes : Bytes) (g : ℕ) → Contains served (q, r) → r.answer ≡ answers.Yes → q.ask ≡ asks.Store name version bytes
+    → q.guess ≡ Some g → q.number < v.desk.next → StandsIn v.desk.kernel (Some g) name version bytes
+
+-- it stands at this place of the record
+pub record StandsAt (k : KernelView) (place : ℕ) (mark : Option ℕ) (name : Bytes) (version : ℕ) (bytes : Bytes) : Type 0 where
   pub entry : EntryView
   pub effect : MarkedEffect Entity EntityState Saying
   pub there : slice_get (paired (record_at k) (effects (plain k.scripts) k.start (record_at k))) place ≡ Some (entry, effect)
+  pub guess : entry.guess ≡ mark
   pub input : entry.input ≡ inputs.Good
   pub sets : Contains effect.written (CopyOf name, Some (copy_of (version + 1, bytes)))
 
@@ -180,7 +236,7 @@ pub record DueStore (served : Exchanges) (v : WorldView) : Type 0 where
 -- of them have one place
 pub record StandApart (served : Exchanges) (v later : WorldView) : Type 0 where
   pub place_of : ℕ → ℕ
-  pub stands : (s : DueStore served v) → StandsAt later.desk.kernel (place_of s.request.number) s.name s.version s.bytes
+  pub stands : (s : DueStore served v) → StandsAt later.desk.kernel (place_of s.request.number) s.request.guess s.name s.version s.bytes
   pub apart : (s t : DueStore served v) → place_of s.request.number ≡ place_of t.request.number → s.at ≡ t.at
 
 -- ---- the steps of asked requests

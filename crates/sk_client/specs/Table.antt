@@ -20,7 +20,7 @@ use Rattle.sk_plain.specs.declared.next.Next.TheVariants.{Signal, Fetch, Store, 
 use Rattle.sk_plain.specs.Act.{Scripts, Saying, act}
 use Rattle.sk_plain.specs.Next.{next_of}
 use Rattle.sk_world.specs.Requests.{Input as Reply, Content, Nothing, Good, Fresh, Stale, Entry}
-use Rattle.sk_world.specs.World.{Table, World, Next as Turn, Halted, Due, Fetches, Stores, Else}
+use Rattle.sk_world.specs.World.{Table, Next as Turn, Halted, Due, Fetches, Stores, Else}
 
 -- names and bytes are lists of numbers
 abbrev pub Bytes : Type 0
@@ -96,17 +96,3 @@ HasNumber p = (0 < p.number) × (p.number < 65536)
 
 abbrev pub IsNumbered : BootView → Type 0
 IsNumbered boot = All HasNumber boot.processes
-
--- where a world begins: a kernel that was just booted, its desk, and a server with these files
-abbrev pub begun : (Bytes → Content Bytes) → World ℕ Bytes Bytes
-begun files = record {
-  trace = [];
-  drawn = 0;
-  next = 1;
-  kept = λ pid. None;
-  taken = [];
-  waiting = [];
-  server = record { files = files; refused = [] };
-  given = [];
-  changes = [];
-}

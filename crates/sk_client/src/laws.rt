@@ -1,6 +1,6 @@
 //! What holds of a kernel with its desk and a server, after every list of turns, replies and foreign edits: the laws of
 //! worlds at the kernel's table of instructions. Each law is the contract of a function that does nothing.
-ghost use Rattle.std.specs.Prelude.{◌≡◌, ℕ, List, []};
+ghost use Rattle.std.specs.Prelude.{◌≡◌, ℕ, List, [], ◌++◌, Some, None, Result};
 ghost use Rattle.sk_record.specs.Trace.{Event};
 ghost use Rattle.sk_script.specs.Boot.{BootView};
 ghost use Rattle.sk_store.specs.State.{State};
@@ -11,11 +11,19 @@ ghost use Rattle.sk_world.specs.World.{kernel};
 ghost use Rattle.sk_world.specs.Labels.{labelled, IsBare};
 ghost use Rattle.sk_world.specs.Laws.{IsFirst, AcceptedStand, AcceptedStood};
 ghost use Rattle.sk_world.specs.Laws.{FilesAreChanged, StoresAreReplied, PlacesAreKept, AskedAreTaken};
-ghost use Rattle.sk_kernel.specs.Kernel.{booted};
+ghost use Rattle.sk_guesses.specs.Token.{Token};
+ghost use Rattle.sk_script.specs.declared.instruction.Input.{Input};
+ghost use Rattle.sk_trace.specs.declared.event.Event.TheVariants as events;
+ghost use Rattle.sk_plain.specs.declared.refusal.Refusal.{Refusal};
+ghost use Rattle.sk_kernel.specs.Kernel.{KernelView, booted, next_guess, step_refused, guess_refused};
+ghost use Rattle.sk_kernel.specs.Calls.{StepPost, GuessPost, CommitPost, FailPost};
+ghost use Rattle.sk_kernel.specs.declared.kernel.Outcome.{Outcome};
+ghost use Rattle.sk_kernel.specs.declared.kernel.Stranger.{Stranger};
+ghost use Rattle.sk_kernel.specs.declared.kernel.FailRefusal.{FailRefusal};
 ghost use Rattle.sk_server.specs.Server.{ServerView};
-ghost use Rattle.sk_client.specs.Table.{Bytes, Caused, table, bare, begun, IsNumbered};
-ghost use Rattle.sk_client.specs.Desk.{opened};
-ghost use Rattle.sk_client.specs.LawWorld.{Exchanges, Leads, IsSeenAfter, StoresStand, StandApart};
+ghost use Rattle.sk_client.specs.Table.{Bytes, Caused, table, bare, IsNumbered};
+ghost use Rattle.sk_client.specs.Desk.{opened, entry};
+ghost use Rattle.sk_client.specs.LawWorld.{Exchanges, Leads, begun, WasBooted, IsReady, IsSeenAfter, StoresStand, StoresStood, StandApart};
 ghost use Rattle.sk_client.specs.LawWorld.{StepsAreTaken, ForgottenAreDropped, writes_of, AreWritten};
 ghost use Rattle.sk_client.specs.WorldView.{WorldView, joined};
 ghost use Rattle.sk_client.specs.declared.world.WorldEvent.{WorldEvent};
@@ -61,32 +69,53 @@ pub fn kernels()
     ensures bare { (scripts : Scripts) (start : State) (es : List (Event Caused)) → IsBare bare (plain scripts) start es }
 {}
 
-/// A world of a kernel that was just booted is a first one, whatever files the server has.
-pub fn begins()
-    ensures { (boot : BootView) (limit : ℕ) (files : Bytes → Content Bytes)
-        → IsFirst (table boot.scripts limit) (start_of boot) (begun files) }
+/// A kernel that was booted is such after each of its calls, whatever they are answered, by what they ensure. With the
+/// numbers of its boot (`numbered`) it is so from `Kernel::boot` on. It is ready where nothing is undecided, which is what
+/// `Desk::new` requires of it.
+pub fn ready()
+    ensures boot { (number : ℕ) (boot : BootView) (limit : ℕ) → IsNumbered boot → WasBooted (booted number boot limit) }
+    ensures step { (result : Result (Unit {0}) Refusal) (pid : ℕ) (input : Input) (old new : KernelView)
+        → StepPost result (step_refused old (entry pid input None)) (events.Step pid input) old new → WasBooted old → WasBooted new }
+    ensures guess { (result : Result Token Refusal) (pid : ℕ) (input : Input) (old new : KernelView)
+        → GuessPost result (guess_refused old (entry pid input (Some (next_guess old)))) pid input old new → WasBooted old → WasBooted new }
+    ensures commit { (result : Result Outcome Stranger) (token : Token) (old new : KernelView)
+        → CommitPost result token old new → WasBooted old → WasBooted new }
+    ensures fail { (result : Result Outcome FailRefusal) (token : Token) (old new : KernelView)
+        → FailPost result token old new → WasBooted old → WasBooted new }
 {}
 
-/// A world whose kernel was just booted, and whose server has answered nothing, is after any list of its events one of
-/// those that the other laws are about, seen from outside.
+/// A world of a kernel that is ready is a first one, whatever files the server has.
+pub fn begins()
+    ensures { (k : KernelView) (files : Bytes → Content Bytes) → IsReady k
+        → IsFirst (table k.scripts k.limit) k.start (begun k files) }
+{}
+
+/// A world whose kernel is ready, and whose server has answered nothing, is after any list of its events one of those that
+/// the other laws are about, seen from outside. And it goes on so: a world behind it is one to which that one leads.
 pub fn worlds()
-    ensures { (number : ℕ) (boot : BootView) (limit : ℕ) (server : ServerView) → IsNumbered boot → server.next ≡ 1 → server.refused ≡ []
-        → (es : List WorldEvent) (served : Exchanges) (v : WorldView) → Leads (joined (opened (booted number boot limit)) server) es served v
-        → IsSeenAfter boot limit server served v }
+    ensures { (k : KernelView) (server : ServerView) → IsReady k → server.next ≡ 1 → server.refused ≡ []
+        → (es : List WorldEvent) (served : Exchanges) (v : WorldView) → Leads (joined (opened k) server) es served v
+        → IsSeenAfter k server served v }
 {}
 
 /// Accepted stores stand: after any list of a world's events, and any list behind it, the step of each store that the
-/// server accepted stands in the record of the kernel, from its guess on, or from its reply on where it was asked.
+/// server accepted in the first list stands in the record of the kernel, where it was made with a guess, or its reply was
+/// given in that list (`stand`). And it stood there since its guess: after the first list there stands the step of each store
+/// that was made with a guess by then, if the server accepts it in that list or in the one behind (`stood`). What is made by
+/// then has a number below that of the desk's next request.
 pub fn accepted()
-    ensures { (number : ℕ) (boot : BootView) (limit : ℕ) (server : ServerView) → IsNumbered boot → server.next ≡ 1 → server.refused ≡ []
-        → (es : List WorldEvent) (served : Exchanges) (v : WorldView) → Leads (joined (opened (booted number boot limit)) server) es served v
+    ensures stand { (k : KernelView) (server : ServerView) → IsReady k → server.next ≡ 1 → server.refused ≡ []
+        → (es : List WorldEvent) (served : Exchanges) (v : WorldView) → Leads (joined (opened k) server) es served v
         → (later : List WorldEvent) (more : Exchanges) (last : WorldView) → Leads v later more last → StoresStand served v last }
+    ensures stood { (k : KernelView) (server : ServerView) → IsReady k → server.next ≡ 1 → server.refused ≡ []
+        → (es : List WorldEvent) (served : Exchanges) (v : WorldView) → Leads (joined (opened k) server) es served v
+        → (later : List WorldEvent) (more : Exchanges) (last : WorldView) → Leads v later more last → StoresStood (served ++ more) v }
 {}
 
 /// No two accepted stores have one step: each has a place of the record where its step stands, and no two have one place.
 pub fn apart()
-    ensures { (number : ℕ) (boot : BootView) (limit : ℕ) (server : ServerView) → IsNumbered boot → server.next ≡ 1 → server.refused ≡ []
-        → (es : List WorldEvent) (served : Exchanges) (v : WorldView) → Leads (joined (opened (booted number boot limit)) server) es served v
+    ensures { (k : KernelView) (server : ServerView) → IsReady k → server.next ≡ 1 → server.refused ≡ []
+        → (es : List WorldEvent) (served : Exchanges) (v : WorldView) → Leads (joined (opened k) server) es served v
         → (later : List WorldEvent) (more : Exchanges) (last : WorldView) → Leads v later more last → StandApart served v last }
 {}
 
@@ -94,11 +123,11 @@ pub fn apart()
 /// accepted by the kernel and in the trace, and one that is answered by `Forgotten` says that the server dropped the
 /// request.
 pub fn taken()
-    ensures steps { (number : ℕ) (boot : BootView) (limit : ℕ) (server : ServerView) → IsNumbered boot → server.next ≡ 1 → server.refused ≡ []
-        → (es : List WorldEvent) (served : Exchanges) (v : WorldView) → Leads (joined (opened (booted number boot limit)) server) es served v
+    ensures steps { (k : KernelView) (server : ServerView) → IsReady k → server.next ≡ 1 → server.refused ≡ []
+        → (es : List WorldEvent) (served : Exchanges) (v : WorldView) → Leads (joined (opened k) server) es served v
         → StepsAreTaken v }
-    ensures forgotten { (number : ℕ) (boot : BootView) (limit : ℕ) (server : ServerView) → IsNumbered boot → server.next ≡ 1 → server.refused ≡ []
-        → (es : List WorldEvent) (served : Exchanges) (v : WorldView) → Leads (joined (opened (booted number boot limit)) server) es served v
+    ensures forgotten { (k : KernelView) (server : ServerView) → IsReady k → server.next ≡ 1 → server.refused ≡ []
+        → (es : List WorldEvent) (served : Exchanges) (v : WorldView) → Leads (joined (opened k) server) es served v
         → ForgottenAreDropped v }
 {}
 

@@ -18,7 +18,7 @@ pub enum End {
     Fault,
     /// The words have a fault, or ask for a job that this run does not do.
     Usage,
-    /// Want of memory, or an input that can't be read.
+    /// Want of memory, an input that can't be read, or a desk of workers that could not be closed.
     Trouble,
     /// The output refused a write; nothing more is written to it.
     OutputRefused,

@@ -67,7 +67,8 @@ impl<'a> Job<'a> {
     }
 }
 
-const PLAY_HELP: &str = "Runs the steps of a scenario and prints each answer, and then the report.";
+const PLAY_HELP: &str =
+    "Plays the events of a scenario and prints each answer, and then the report.";
 
 const PLAIN_HELP: &str =
     "Strikes a trace, runs what it leaves without guesses and prints the report.";
@@ -83,6 +84,7 @@ const FORMS: &str = "A scenario is a text of lines. First come the declarations:
   pipe NAME LIT         a pipe with these bytes
   dir NAME              an empty directory
   copy NAME V LIT       a cached copy of a remote file and its version
+  remote NAME V LIT     a file of the server and its version
   process N SCRIPT T    a boot process, its script and its terminal
   limit N               the trace limit, 1000000 where none is given
   number N              the kernel's number, 1 where none is given
@@ -91,6 +93,11 @@ For `play` then comes the line `steps`, and below it an event per line:
   guess PID INPUT       the process takes a step on a guessed input
   commit G              the guess was right
   fail G                the guess was wrong
+or the line `world`, and below it an event of desk and server per line:
+  turn PID              the desk takes a turn of the process
+  serve                 the server answers the next request
+  reply                 the desk is given the next reply
+  edit NAME V LIT       another client writes a file of the server
 For `plain` and `replay` then comes the line `trace`, and below it what happened:
   step PID INPUT        the process took a step
   guess G PID INPUT     the process took a step on a guessed input
@@ -100,7 +107,8 @@ For `plain` and `replay` then comes the line `trace`, and below it what happened
 INPUT is none, good, fresh V LIT or stale V LIT.
 
 Status: 0 done; 1 a fault in the file; 2 a fault in the words;
-3 want of memory, or a read or write that failed.";
+3 want of memory, a read or write that failed, or a desk that
+could not be closed.";
 
 fn file_arg<'a>(alloc: Global) -> Arg<'a>
     ensures rule { rule_of result ≡ file_rule }

@@ -1,5 +1,8 @@
 -- The rounds that a worker makes of its processes.
-use Rattle.std.specs.Prelude.{ℕ, ◌+◌, Bool, true, ◌&&◌, nat_lt, nat_le, Option, Some, None, if◌then◌else◌}
+use Rattle.std.specs.Prelude.{ℕ, ◌+◌, Bool, true, false, ◌&&◌, nat_lt, nat_le, Option, Some, None, Result, Ok, Err, if◌then◌else◌}
+use Rattle.sk_plain.specs.declared.refusal.Refusal.{Refusal}
+use Rattle.sk_plain.specs.declared.refusal.Refusal.TheVariants.{Ended}
+use Rattle.sk_client.specs.declared.desk.Turn.{Turn}
 use Rattle.sk_crew.specs.declared.rounds.Rounds.{Rounds}
 
 -- the worker of this number, one of so many, took no turn yet; one that has no process has stopped
@@ -15,3 +18,8 @@ abbrev pub after : Bool → Rounds → Rounds
 after ended r =
     if nat_lt (r.at + r.step) r.count then record r { at = r.at + r.step; is_ended = r.is_ended && ended }
     else record r { at = r.first; is_ended = true; is_over = r.is_ended && ended }
+
+-- whether a turn was answered `Ended`
+abbrev pub is_ended : Result Turn Refusal → Bool
+is_ended (Err Ended) = true
+is_ended answer = false

@@ -1,6 +1,9 @@
 //! The rounds that a worker makes of its processes.
 ghost use Rattle.std.specs.Prelude.{◌≡◌};
-ghost use Rattle.sk_crew.specs.Rounds.{fresh, due, after};
+ghost use Rattle.sk_crew.specs.Rounds.{fresh, due, after, is_ended};
+
+use sk_client::Turn;
+use sk_plain::Refusal;
 
 /// How far a worker is in its rounds. Its processes are every so many of all, one after the other, and it stops after a
 /// round of which each turn was answered `Ended`.
@@ -59,4 +62,11 @@ impl Rounds {
             self.is_over = is_ended;
         }
     }
+}
+
+/// Whether a turn was answered `Ended`.
+pub(crate) fn is_ended(answer: &Result<Turn, Refusal>) -> bool
+    ensures { result ≡ is_ended answer.now }
+{
+    matches!(answer, Err(Refusal::Ended))
 }

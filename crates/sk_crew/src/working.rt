@@ -1,16 +1,18 @@
 //! The threads of a crew.
-ghost use Rattle.std.specs.Prelude.{◌≡◌, vec_len, vec_capacity, slice_get, option_and_then};
+ghost use Rattle.std.specs.Prelude.{◌≡◌, ◌⊎◌, Err, vec_len, vec_capacity, slice_get, option_and_then};
 ghost use Rattle.std.specs.Thread.{IsSync};
-ghost use Rattle.sk_workers.specs.Closing.{numbers};
-ghost use Rattle.sk_crew.specs.Rounds.{due};
+ghost use Rattle.sk_workers.specs.History.{Told};
+ghost use Rattle.sk_workers.specs.Closing.{begins_turn, numbers};
+ghost use Rattle.sk_crew.specs.Rounds.{due, after, is_ended};
 
 use crate::clerk::Clerk;
 use crate::crew::Plan;
-use crate::rounds::Rounds;
+use crate::rounds::{Rounds, is_ended};
 use crate::service::Service;
+use sk_client::Turn;
 use sk_ids::Pid;
 use sk_plain::Refusal;
-use sk_workers::{Gate, Shared, Worker};
+use sk_workers::{Answered, Call, Gate, Shared, Worker};
 use std::sync::Wait;
 use std::sync::atomic::{AtomicBool, Ordering};
 use std::sync::ledger::Ledger;
@@ -32,15 +34,17 @@ fn take_turn<L: Ledger, R: Wait, G: Gate>(
     pid: Pid,
     rounds: &mut Rounds,
     gate: &G,
-) -> Worker<L>
-    ensures { result.number ≡ worker.number }
+) -> (Worker<L>, Result<Turn, Refusal>)
+    ensures number { result.0.number ≡ worker.number }
+    ensures told { ((result.1 ≡ Err Refusal.Memory) × (result.0 ≡ begins_turn worker)) ⊎ Told (begins_turn worker) (Call.Turn pid) (Answered.Turned result.1) result.0 }
+    ensures rounds { rounds.new ≡ after (is_ended result.1) rounds.old }
 {
     let (worker, answer) = shared.turn(rt, worker, pid, gate);
-    rounds.take(answer == Err(Refusal::Ended));
+    rounds.take(is_ended(&answer));
     if answer.is_err() {
         thread::yield_now();
     }
-    worker
+    (worker, answer)
 }
 
 /// Makes a worker's rounds.
@@ -60,7 +64,8 @@ fn work<L: Ledger, R: Wait, G: Gate>(
         let Some(pid) = due(&rounds, processes) else {
             break;
         };
-        worker = take_turn(rt, shared, worker, pid, &mut rounds, gate);
+        let (back, _) = take_turn(rt, shared, worker, pid, &mut rounds, gate);
+        worker = back;
     }
     worker
 }
@@ -86,7 +91,8 @@ fn lead<'a, L: Ledger, R: Wait, G: Gate>(
         };
         let (back, carrier) = clerk.carry(rt, shared, worker);
         clerk = back;
-        worker = take_turn(rt, shared, carrier, pid, &mut rounds, gate);
+        let (back, _) = take_turn(rt, shared, carrier, pid, &mut rounds, gate);
+        worker = back;
     }
     (worker, clerk)
 }

@@ -18,6 +18,10 @@ other : (b : Bool) (o : Option Status) (s : Status) → (if b then None else o) 
 other true o s is = cc
 other false o s is = is
 
+-- where the status of a guess stands
+pub place-of : (v w : GuessesView) (id n : ℕ) (s : Status) → w ≡ v → n ≡ id → status_of v id ≡ Some s → slice_get w.statuses (n - 1) ≡ Some s
+place-of v w id n s same number was = rw (same, number) (other (id == 0) (slice_get v.statuses (id - 1)) s was)
+
 pub undecided-decided : (v w : GuessesView) (id n : ℕ) (s : Status) → w ≡ v → n ≡ id → status_of v id ≡ Some Undecided → is_undecided s ≡ false → undecided_of (slice_set w.statuses (n - 1) s) + 1 ≡ undecided_of w.statuses
 undecided-decided v w id n s same number was becomes =
     rw (same, number) (undecided-set v.statuses (id - 1) s (other (id == 0) (slice_get v.statuses (id - 1)) Undecided was) becomes)

@@ -1,2 +1,3 @@
 pub mod Decided
+pub mod Open
 pub mod Statuses

@@ -7,22 +7,22 @@ use Rattle.sk_record.specs.declared.status.Status.{Status}
 use Rattle.sk_record.specs.declared.status.Status.TheVariants.{Undecided}
 use Rattle.sk_guesses.specs.Guesses.{GuessesView, drawn, next_of, status_of, decided}
 
-pub get-push : (xs : List Status) (s : Status) → slice_get (xs ++ s ∷ []) (length xs) ≡ Some s
+pub get-push : {X : Type 0} (xs : List X) (s : X) → slice_get (xs ++ s ∷ []) (length xs) ≡ Some s
 get-push [] s = refl
 get-push (x ∷ xs) s = get-push xs s
 
-get-push_other : (xs : List Status) (i : ℕ) (s : Status) → i ≢ length xs → slice_get (xs ++ s ∷ []) i ≡ slice_get xs i
+pub get-push_other : {X : Type 0} (xs : List X) (i : ℕ) (s : X) → i ≢ length xs → slice_get (xs ++ s ∷ []) i ≡ slice_get xs i
 get-push_other [] zero s h = absurd (h refl)
 get-push_other [] (suc i) s h = refl
 get-push_other (x ∷ xs) zero s h = refl
 get-push_other (x ∷ xs) (suc i) s h = get-push_other xs i s (λ e. h (ap suc e))
 
-get-set : (xs : List Status) (i : ℕ) (s t : Status) → slice_get xs i ≡ Some t → slice_get (slice_set xs i s) i ≡ Some s
+pub get-set : {X : Type 0} (xs : List X) (i : ℕ) (s t : X) → slice_get xs i ≡ Some t → slice_get (slice_set xs i s) i ≡ Some s
 get-set [] i s t h = cc
 get-set (x ∷ xs) zero s t h = refl
 get-set (x ∷ xs) (suc i) s t h = get-set xs i s t h
 
-get-set_other : (xs : List Status) (i j : ℕ) (s : Status) → j ≢ i → slice_get (slice_set xs i s) j ≡ slice_get xs j
+pub get-set_other : {X : Type 0} (xs : List X) (i j : ℕ) (s : X) → j ≢ i → slice_get (slice_set xs i s) j ≡ slice_get xs j
 get-set_other [] i j s h = refl
 get-set_other (x ∷ xs) zero zero s h = absurd (h refl)
 get-set_other (x ∷ xs) zero (suc j) s h = refl

@@ -1,3 +1,5 @@
 pub mod Token
 pub mod Guesses
+pub mod Drawn
+pub mod Room
 pub mod Calls

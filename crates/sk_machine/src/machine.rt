@@ -6,7 +6,7 @@ ghost use Rattle.sk_record.specs.Notes.{has};
 ghost use Rattle.sk_record.specs.Step.{perform};
 ghost use Rattle.sk_record.specs.Trace.{marks};
 ghost use Rattle.sk_record.specs.Effects.{is_in, is_marked};
-ghost use Rattle.sk_record.specs.UndoState.{IsTidy, Took, numbers, step_tags, still_open, not_struck, tags_at};
+ghost use Rattle.sk_record.specs.UndoState.{IsTidy, numbers, step_tags, still_open, not_struck, tags_at};
 ghost use Rattle.sk_record.specs.Machine.{Takes, Commits, Fails, with_failure};
 ghost use Rattle.sk_record.specs.declared.status.Status.TheVariants.{Undecided, Committed, Struck};
 ghost use Rattle.std.specs.Option.{option_copied};
@@ -20,9 +20,9 @@ ghost use Rattle.sk_ids.specs.declared.entity.Entity.{Entity};
 ghost use Rattle.sk_store.specs.Start.{start_of};
 ghost use Rattle.sk_undo.specs.Logs.{look_at};
 ghost use Rattle.sk_plain.specs.Act.{act, plain};
-ghost use Rattle.sk_plain.specs.Planned.{CanDo, IsBeside, effect_of, said_by};
+ghost use Rattle.sk_plain.specs.Planned.{CanDo, IsBeside, effect_of};
 ghost use Rattle.sk_machine.specs.Parts.{any_rests, machine_of, planned_effect, undo_state_of};
-ghost use Rattle.sk_machine.specs.Performed.{is_struck, texts_after, with_struck};
+ghost use Rattle.sk_machine.specs.Performed.{is_struck, with_struck};
 
 use crate::Open;
 use crate::dependents::{Dependents, forget, list_all, listed_for};
@@ -58,7 +58,7 @@ impl Model for Machine {
 
     ghost coded = { parts_code };
 
-    ghost view = { λ m. record { slots = m.logs.slots; opens = m.opens.items; guesses = m.guesses; texts = m.terminals } };
+    ghost view = { λ m. record { slots = m.logs.slots; opens = m.opens.items; guesses = m.guesses.view; texts = m.terminals } };
 
     ghost invariant = { λ m. AllListed m.logs.slots m.dependents.items × (m.untagged ≡ []) };
 }
@@ -92,10 +92,10 @@ fn close_struck(opens: &mut Vec<Open>, id: GuessId)
 
 /// Strikes an open guess, if its own step rests on a failed one and it is another.
 fn strike_one(guesses: &mut Guesses, one: &Open, id: GuessId)
-    requires { is_struck id one.now ≡ true → status_of guesses.old one.now.0 ≡ Some Undecided }
-    ensures statuses { (g : ℕ) → status_of guesses.new g ≡ (if (one.now.0 == g) && is_struck id one.now then Some Struck else status_of guesses.old g) }
-    ensures kernel { guesses.new.kernel ≡ guesses.old.kernel }
-    ensures drawn { length guesses.new.statuses ≡ length guesses.old.statuses }
+    requires { is_struck id one.now ≡ true → status_of guesses.old.view one.now.0 ≡ Some Undecided }
+    ensures statuses { (g : ℕ) → status_of guesses.new.view g ≡ (if (one.now.0 == g) && is_struck id one.now then Some Struck else status_of guesses.old.view g) }
+    ensures kernel { guesses.new.view.kernel ≡ guesses.old.view.kernel }
+    ensures drawn { length guesses.new.view.statuses ≡ length guesses.old.view.statuses }
 {
     if one.id != id && one.tags.contains(id) {
         guesses.strike(one.id);
@@ -104,11 +104,11 @@ fn strike_one(guesses: &mut Guesses, one: &Open, id: GuessId)
 
 /// Strikes the open guesses whose own steps rest on a failed one, but for that one.
 fn strike_open(guesses: &mut Guesses, opens: &[Open], id: GuessId)
-    requires opens { (g : ℕ) → has g (numbers opens.now) ≡ true → (g == id) ≡ false → status_of guesses.old g ≡ Some Undecided }
+    requires opens { (g : ℕ) → has g (numbers opens.now) ≡ true → (g == id) ≡ false → status_of guesses.old.view g ≡ Some Undecided }
     requires rising { IsStrictlySortedBy nat_cmp (numbers opens.now) }
-    ensures statuses { (g : ℕ) → status_of guesses.new g ≡ with_struck id opens.now (status_of guesses.old) g }
-    ensures kernel { guesses.new.kernel ≡ guesses.old.kernel }
-    ensures drawn { length guesses.new.statuses ≡ length guesses.old.statuses }
+    ensures statuses { (g : ℕ) → status_of guesses.new.view g ≡ with_struck id opens.now (status_of guesses.old.view) g }
+    ensures kernel { guesses.new.view.kernel ≡ guesses.old.view.kernel }
+    ensures drawn { length guesses.new.view.statuses ≡ length guesses.old.view.statuses }
 {
     for open in opens {
         strike_one(guesses, open, id);
@@ -117,12 +117,12 @@ fn strike_open(guesses: &mut Guesses, opens: &[Open], id: GuessId)
 
 /// A guess has failed, and the open guesses whose own steps rest on it are struck.
 fn strike_all(guesses: &mut Guesses, opens: &[Open], id: GuessId)
-    requires opens { (g : ℕ) → has g (numbers opens.now) ≡ true → status_of guesses.old g ≡ Some Undecided }
-    requires undecided { status_of guesses.old id ≡ Some Undecided }
+    requires opens { (g : ℕ) → has g (numbers opens.now) ≡ true → status_of guesses.old.view g ≡ Some Undecided }
+    requires undecided { status_of guesses.old.view id ≡ Some Undecided }
     requires rising { IsStrictlySortedBy nat_cmp (numbers opens.now) }
-    ensures statuses { (g : ℕ) → status_of guesses.new g ≡ with_failure id opens.now (status_of guesses.old) g }
-    ensures kernel { guesses.new.kernel ≡ guesses.old.kernel }
-    ensures drawn { length guesses.new.statuses ≡ length guesses.old.statuses }
+    ensures statuses { (g : ℕ) → status_of guesses.new.view g ≡ with_failure id opens.now (status_of guesses.old.view) g }
+    ensures kernel { guesses.new.view.kernel ≡ guesses.old.view.kernel }
+    ensures drawn { length guesses.new.view.statuses ≡ length guesses.old.view.statuses }
 {
     guesses.fail(id);
     strike_open(guesses, opens, id);
@@ -187,47 +187,6 @@ impl Machine {
         self.add_tags(read, plan.writes(pid).as_slice())
     }
 
-    /// Takes a planned step, but for the status of its guess. Without memory nothing has changed.
-    fn take(
-        &mut self,
-        scripts: &Scripts,
-        pid: Pid,
-        input: &Input,
-        plan: &Plan,
-        own: &Option<GuessId>,
-    ) -> Result<(), AllocError>
-        requires accepted { perform (look_at self.old.slots) (act scripts.now pid input.now) ≡ Ok (effect_of (look_at self.old.slots) pid input.now plan.now) }
-        requires can { CanDo (look_at self.old.slots) plan.now.beside }
-        requires beside { IsBeside pid plan.now.beside }
-        requires tidy { IsTidy (undo_state_of self.old) }
-        requires rising { IsStrictlySortedBy nat_cmp (numbers self.old.opens ++ marks own.now) }
-        ensures took { OnOk result (Took (plain scripts.now) (undo_state_of self.old) (record { pid = pid; input = input.now; guess = own.now }) (undo_state_of self.new)) }
-        ensures says { OnOk result (self.new.texts ≡ texts_after self.old.texts (step_tags (undo_state_of self.old) (planned_effect self.old (record { pid = pid; input = input.now; guess = own.now }) plan.now)) (said_by plan.now)) }
-        ensures guesses { self.new.guesses ≡ self.old.guesses }
-        ensures err { OnErr result (self.new ≡ self.old) }
-    {
-        let tags = self.step_tags(pid, input, plan, own)?;
-        let written = plan.writes(pid);
-        list_all(
-            self.alloc,
-            &mut self.dependents,
-            &self.logs,
-            &tags,
-            written.as_slice(),
-        )?;
-        let Some(id) = own else {
-            return perform(&mut self.logs, &mut self.terminals, pid, plan, tags);
-        };
-        let own_tags = tags.copy()?;
-        self.opens.reserve(1)?;
-        perform(&mut self.logs, &mut self.terminals, pid, plan, tags)?;
-        self.opens.push_reserved(Open {
-            id: *id,
-            tags: own_tags,
-        });
-        Ok(())
-    }
-
     /// Takes a planned step that is no guess. Without memory nothing has changed.
     pub fn take_step(
         &mut self,
@@ -245,7 +204,16 @@ impl Machine {
         ensures guesses { self.new.guesses ≡ self.old.guesses }
         ensures err { OnErr result (self.new ≡ self.old) }
     {
-        self.take(scripts, pid, input, plan, &None)
+        let tags = self.step_tags(pid, input, plan, &None)?;
+        let written = plan.writes(pid);
+        list_all(
+            self.alloc,
+            &mut self.dependents,
+            &self.logs,
+            &tags,
+            written.as_slice(),
+        )?;
+        perform(&mut self.logs, &mut self.terminals, pid, plan, tags)
     }
 
     /// Draws the next guess and takes its planned step. Without memory nothing has changed.
@@ -267,16 +235,26 @@ impl Machine {
         ensures guesses { OnOk result (self.new.guesses ≡ drawn self.old.guesses) }
         ensures err { OnErr result (self.new ≡ self.old) }
     {
-        let Ok(guess) = self.guesses.draw() else {
-            return Err(AllocError);
+        let Some(id) = self.guesses.free() else {
+            unreachable!();
         };
-        if self
-            .take(scripts, pid, input, plan, &Some(guess.id()))
-            .is_err()
-        {
-            self.guesses.undraw(guess);
-            return Err(AllocError);
-        }
+        let tags = self.step_tags(pid, input, plan, &Some(id))?;
+        let written = plan.writes(pid);
+        list_all(
+            self.alloc,
+            &mut self.dependents,
+            &self.logs,
+            &tags,
+            written.as_slice(),
+        )?;
+        let own_tags = tags.copy()?;
+        self.opens.reserve(1)?;
+        self.guesses.reserve()?;
+        perform(&mut self.logs, &mut self.terminals, pid, plan, tags)?;
+        let Ok(guess) = self.guesses.draw() else {
+            unreachable!();
+        };
+        self.opens.push_reserved(Open { id, tags: own_tags });
         Ok(guess)
     }
 

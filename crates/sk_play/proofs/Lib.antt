@@ -1,5 +1,4 @@
-pub mod Held
-pub mod Settled
+pub mod Decided
 pub mod Turns
 pub mod Replayed
 pub mod Happened

@@ -1,6 +1,5 @@
 -- A trace that is replayed: each event is the call of a session, which is answered as the event tells.
 use Rattle.std.specs.Prelude.{◌≡◌, ℕ, ◌+◌, List, ◌∷◌, ◌++◌, map, length, Result, Ok, Err, ⊤}
-use Rattle.sk_guesses.specs.Token.{Token}
 use Rattle.sk_trace.specs.declared.event.Event.{Event}
 use Rattle.sk_trace.specs.declared.event.Event.TheVariants as events
 use Rattle.sk_scenario.specs.declared.call.Call.{Call}
@@ -26,25 +25,25 @@ told_by (events.Guess id pid input) = answers.Guessed id
 told_by (events.Commit id) = answers.Done
 told_by (events.Fail id) = answers.Done
 
--- the events happen in turn, from these tokens and this kernel on, which leaves those tokens and that kernel
-abbrev pub Replays : List Event → List Token → KernelView → List Token → KernelView → Type 0
-Replays es tokens kernel left last = Plays (map call_of es) (map told_by es) tokens kernel left last
+-- the events happen in turn, from these held guesses and this kernel on, which leaves those guesses held and that kernel
+abbrev pub Replays : List Event → List ℕ → KernelView → List ℕ → KernelView → Type 0
+Replays es held kernel left last = Plays (map call_of es) (map told_by es) held kernel left last
 
 -- the entry at this place, from 1, is the first that does not: its call is answered otherwise
-pub record StopsAt (es : List Event) (tokens : List Token) (kernel : KernelView) (at : ℕ) : Type 0 where
+pub record StopsAt (es : List Event) (held : List ℕ) (kernel : KernelView) (at : ℕ) : Type 0 where
   pub before : List Event
   pub event : Event
   pub later : List Event
   pub parts : es ≡ before ++ event ∷ later
   pub place : at ≡ length before + 1
   -- those before it happen
-  pub held : List Token
+  pub left : List ℕ
   pub here : KernelView
-  pub replays : Replays before tokens kernel held here
+  pub replays : Replays before held kernel left here
   -- and then its call is answered
   pub answer : Answer
   pub next : KernelView
-  pub answered : AnswerMatches answer (call_of event) held here next
+  pub answered : AnswerMatches answer (call_of event) left here next
   pub other : ¬ (answer ≡ told_by event)
 
 -- the kernel with a trace
@@ -52,7 +51,7 @@ abbrev pub replayed : KernelView → List Event → KernelView
 replayed k es = record k { trace = k.trace ++ es }
 
 -- all events happen, or the first that does not is told, or memory ran out
-abbrev pub ReplaysSo : Result (Unit {0}) Unreplayed → List Event → List Token → KernelView → List Token → KernelView → Type 0
-ReplaysSo (Ok u) es tokens kernel left last = Replays es tokens kernel left last × (last ≡ replayed kernel es)
-ReplaysSo (Err (unreplayed.Entry at)) es tokens kernel left last = StopsAt es tokens kernel at
-ReplaysSo (Err unreplayed.Memory) es tokens kernel left last = ⊤
+abbrev pub ReplaysSo : Result (Unit {0}) Unreplayed → List Event → List ℕ → KernelView → List ℕ → KernelView → Type 0
+ReplaysSo (Ok u) es held kernel left last = Replays es held kernel left last × (last ≡ replayed kernel es)
+ReplaysSo (Err (unreplayed.Entry at)) es held kernel left last = StopsAt es held kernel at
+ReplaysSo (Err unreplayed.Memory) es held kernel left last = ⊤

@@ -1,6 +1,6 @@
--- The tokens that a run holds.
-use Rattle.std.specs.Prelude.{◌≡◌, Option, Some, None, ℕ, zero, suc, Bool, true, false, ◌==◌, List, [], ◌∷◌, ◌++◌, if◌then◌else◌}
-use Rattle.sk_guesses.specs.Token.{Token}
+-- What a run answers to the calls of a scenario, and the guesses whose tokens it holds.
+use Rattle.std.specs.Prelude.{◌≡◌, Option, Some, None, ℕ, Bool, true, false, List, [], ◌∷◌, ◌++◌}
+use Rattle.sk_record.specs.Notes.{has}
 use Rattle.sk_record.specs.declared.status.Status.TheVariants.{Undecided, Struck}
 use Rattle.sk_plain.specs.declared.refusal.Refusal.{Refusal}
 use Rattle.sk_trace.specs.Entry.{EntryView}
@@ -12,7 +12,7 @@ use Rattle.sk_scenario.specs.declared.call.Call.TheVariants as calls
 use Rattle.sk_kernel.specs.Kernel.{KernelView, HasStatus, next_guess, with_event, step_refused, guess_refused}
 use Rattle.sk_kernel.specs.declared.kernel.Outcome.{Outcome}
 use Rattle.sk_kernel.specs.declared.kernel.Outcome.TheVariants as outcomes
-use Rattle.sk_holder.specs.Tokens.{is_held}
+use Rattle.sk_holder.specs.Holder.{but}
 use Rattle.sk_play.specs.declared.answer.Answer.{Answer}
 use Rattle.sk_play.specs.declared.answer.Answer.TheVariants as answers
 
@@ -36,29 +36,20 @@ GuessTold answers.Done refused event old new = ⊥
 GuessTold answers.Gone refused event old new = ⊥
 GuessTold answers.NoToken refused event old new = ⊥
 
--- the guess of the token at a place
-abbrev pub id_at : List Token → ℕ → Option ℕ
-id_at [] place = None
-id_at (t ∷ ts) zero = Some t.id
-id_at (t ∷ ts) (suc place) = id_at ts place
+-- the guesses that are held, and one that was drawn
+abbrev pub with_guess : Answer → List ℕ → List ℕ
+with_guess (answers.Guessed id) held = held ++ id ∷ []
+with_guess answers.Stepped held = held
+with_guess answers.Done held = held
+with_guess answers.Gone held = held
+with_guess answers.NoToken held = held
+with_guess (answers.Refused why) held = held
 
--- the tokens but the first of this guess
-abbrev pub without_token : ℕ → List Token → List Token
-without_token id [] = []
-without_token id (t ∷ ts) = if t.id == id then ts else t ∷ without_token id ts
-
--- with the token of a guess that was drawn
-abbrev pub with_guess : Answer → ℕ → List Token → List Token
-with_guess (answers.Guessed id) kernel ts = ts ++ record { kernel = kernel; id = id } ∷ []
-with_guess answers.Stepped kernel ts = ts
-with_guess answers.Done kernel ts = ts
-with_guess answers.Gone kernel ts = ts
-with_guess answers.NoToken kernel ts = ts
-with_guess (answers.Refused why) kernel ts = ts
-
-abbrev pub outcome_told : Outcome → Answer
-outcome_told outcomes.Done = answers.Done
-outcome_told outcomes.Gone = answers.Gone
+-- what a decision is told as; without a token nothing comes of it
+abbrev pub decision_told : Option Outcome → Answer
+decision_told (Some outcomes.Done) = answers.Done
+decision_told (Some outcomes.Gone) = answers.Gone
+decision_told None = answers.NoToken
 
 -- a decision: the guess of a held token is decided, or was struck before; without a token nothing changes
 abbrev pub DecisionTold : Answer → Event → Bool → ℕ → KernelView → KernelView → Type 0
@@ -72,17 +63,24 @@ DecisionTold (answers.Refused why) event held id old new = ⊥
 abbrev pub entry : ℕ → Input → Option ℕ → EntryView
 entry pid input guess = record { pid = pid; input = input; guess = guess }
 
--- what is answered to one step of a scenario, and what it leaves
-abbrev pub AnswerMatches : Answer → Call → List Token → KernelView → KernelView → Type 0
-AnswerMatches answer (calls.Step pid input) tokens old new = StepTold answer (step_refused old (entry pid input None)) (events.Step pid input) old new
-AnswerMatches answer (calls.Guess pid input) tokens old new =
+-- what is answered to one step of a scenario, where these guesses are held, and what it leaves
+abbrev pub AnswerMatches : Answer → Call → List ℕ → KernelView → KernelView → Type 0
+AnswerMatches answer (calls.Step pid input) held old new = StepTold answer (step_refused old (entry pid input None)) (events.Step pid input) old new
+AnswerMatches answer (calls.Guess pid input) held old new =
     GuessTold answer (guess_refused old (entry pid input (Some (next_guess old)))) (events.Guess (next_guess old) pid input) old new
-AnswerMatches answer (calls.Commit id) tokens old new = DecisionTold answer (events.Commit id) (is_held id tokens) id old new
-AnswerMatches answer (calls.Fail id) tokens old new = DecisionTold answer (events.Fail id) (is_held id tokens) id old new
+AnswerMatches answer (calls.Commit id) held old new = DecisionTold answer (events.Commit id) (has id held) id old new
+AnswerMatches answer (calls.Fail id) held old new = DecisionTold answer (events.Fail id) (has id held) id old new
 
--- the tokens that are held after a step of a scenario: a guess gives one, and a decision spends one
-abbrev pub tokens_after : Answer → Call → ℕ → List Token → List Token
-tokens_after answer (calls.Step pid input) kernel ts = ts
-tokens_after answer (calls.Guess pid input) kernel ts = with_guess answer kernel ts
-tokens_after answer (calls.Commit id) kernel ts = without_token id ts
-tokens_after answer (calls.Fail id) kernel ts = without_token id ts
+-- the call can want memory: nothing else stands against it, and it is no decision
+abbrev pub CanWantMemory : Call → KernelView → Type 0
+CanWantMemory (calls.Step pid input) kernel = step_refused kernel (entry pid input None) ≡ None
+CanWantMemory (calls.Guess pid input) kernel = guess_refused kernel (entry pid input (Some (next_guess kernel))) ≡ None
+CanWantMemory (calls.Commit id) kernel = ⊥
+CanWantMemory (calls.Fail id) kernel = ⊥
+
+-- the guesses whose tokens are held after a step of a scenario: a guess gives one token, and a decision spends one
+abbrev pub held_after : Answer → Call → List ℕ → List ℕ
+held_after answer (calls.Step pid input) held = held
+held_after answer (calls.Guess pid input) held = with_guess answer held
+held_after answer (calls.Commit id) held = but id held
+held_after answer (calls.Fail id) held = but id held

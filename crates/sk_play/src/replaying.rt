@@ -51,7 +51,7 @@ fn told_by(event: &Event) -> Answer
 /// Makes the call of each event in order. It stops at the first that is answered otherwise than the
 /// trace has it: refused, gone, without a token, or with another guess.
 pub fn replay(session: &mut Session, events: &[Event]) -> Result<(), Unreplayed>
-    ensures { ReplaysSo result events.now session.old.tokens.items session.old.kernel session.new.tokens.items session.new.kernel }
+    ensures { ReplaysSo result events.now session.old.holder.held session.old.holder.kernel session.new.holder.held session.new.holder.kernel }
 {
     for (place, event) in events.iter().enumerate() {
         let answer = session.execute(&call_of(event))?;

@@ -14,7 +14,7 @@ pub enum FaultKind {
     /// A label or name that is declared twice, or not declared.
     #[error("Label")]
     Label,
-    /// One instruction too many.
+    /// One instruction, or one boot object, too many.
     #[error("TooLong")]
     TooLong,
     /// A growth was refused.

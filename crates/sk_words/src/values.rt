@@ -47,6 +47,7 @@ impl Model for Natural {
 }
 
 impl Natural {
+    /// The number, 0 to 2^63 - 1.
     pub fn get(self) -> u64
         ensures value { result ≡ self }
         ensures limit { result ≤ 9223372036854775807 }
@@ -100,6 +101,7 @@ impl Model for Index {
 }
 
 impl Index {
+    /// The number, 1 to 65,535.
     pub fn get(self) -> u16
         ensures value { result ≡ self }
         ensures least { 1 ≤ result }

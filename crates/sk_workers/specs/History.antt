@@ -71,10 +71,15 @@ Adds b w call answer b' w' =
     × (b'.history ≡ b.history ++ e ∷ [])
     × (w' ≡ record w { receipts = w.receipts ++ receipt (length b.history) e ∷ [] })
 
--- one receipt more, for this call and answer, at some place and after so many requests
+-- want of memory is no answer
+abbrev pub IsAnswer : Answered → Type 0
+IsAnswer (Turned r) = r ≢ Err refusals.Memory
+IsAnswer (Replied r) = r ≢ Err Memory
+
+-- an answer and one receipt more, for this call and answer, at some place and after so many requests
 abbrev pub Told : WorkerView → Call → Answered → WorkerView → Type 0
 Told w call answer w' =
-    (place : ℕ) × (taken : ℕ) × (w' ≡ record w { receipts = w.receipts ++ receipt place (entry w.number call answer taken) ∷ [] })
+    IsAnswer answer × (place : ℕ) × (taken : ℕ) × (w' ≡ record w { receipts = w.receipts ++ receipt place (entry w.number call answer taken) ∷ [] })
 
 -- ---- workers
 

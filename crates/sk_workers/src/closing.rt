@@ -33,6 +33,7 @@ impl<L: Ledger> Book<L> {
         ensures same { IfOk result (λ h. (h.entries.items ≡ self.history) × (h.desk ≡ self.desk)) }
         ensures back { IfErr result (λ back. (back.0 ≡ self) × (back.1 ≡ workers)) }
         ensures refused { IfErr result (λ back. Refuses (record { opening = opening.now; first = first }) workers.items self back.2) }
+        ensures legal { IfErr result (λ back. IsLegal back.0.history back.0.desk) }
     {
         match self.check(&workers, opening, first) {
             Ok(()) => Ok(self.settle(workers)),

@@ -1,6 +1,6 @@
 //! Workers of a client's desk: a book holds the desk with the history of the calls that they made of it, and each call
 //! gives its worker a receipt. A ledger counts the calls on both sides. Workers in several threads share a book under
-//! one lock; where it is closed, their receipts are the history's entries.
+//! one lock; where it is closed, their receipts are the history's entries. Requests and replies go by wires.
 #![tactic(auto)]
 
 pub mod book;
@@ -13,4 +13,5 @@ pub use book::Book;
 pub use closing::History;
 pub use entry::{Answered, Call, CloseRefusal, Entry, Receipt};
 pub use shared::{Gate, Shared};
+pub use sk_wire::{Wire, WirePass};
 pub use worker::Worker;

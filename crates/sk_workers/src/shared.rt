@@ -119,7 +119,7 @@ impl<L: Ledger> Shared<L> {
         requires distinct { AreDistinct workers.items }
         ensures closed { IfOk result (λ h. IsClosed self workers.items h.entries.items h.desk) }
         ensures back { IfErr result (λ back. (back.0 ≡ self) × (back.1 ≡ workers)) }
-        ensures refused { IfErr result (λ back. (book : BookView) × Refuses self workers.items book back.2) }
+        ensures refused { IfErr result (λ back. (book : BookView) × IsLegal book.history book.desk × Refuses self workers.items book back.2) }
     {
         let Shared {
             book,

@@ -1,8 +1,7 @@
 -- What reading a file and then its text comes to.
 use Rattle.std.proofs.Common.{◌≡◌, ◌≢◌, ◌≤◌, inr, ℕ, Bool, false, List, [], length, Option, Some, None, Result, Ok, Err, sym, subst}
-use Rattle.std.specs.Prelude.{IfSome}
-use Rattle.std.specs.Io.KnownBytes.{Keeps}
-use Rattle.std.proofs.KnownBytes.{Appends-kept}
+use Rattle.std.specs.Prelude.{IfSome, OnOk}
+use Rattle.std.proofs.KnownBytes.{Appends-kept, Keeps-trans}
 use Rattle.sk_words.specs.declared.fault.Fault.{Fault}
 use Rattle.sk_words.specs.declared.fault.FaultKind.{FaultKind}
 use Rattle.sk_words.specs.declared.fault.FaultKind.TheVariants.{Word, Operand, Label, TooLong, Memory}
@@ -13,18 +12,22 @@ use Rattle.sk_scenario.specs.Declarations.{Declared}
 use Rattle.sk_scenario.specs.Scenario.{section_view, SectionView, Steps, World, Trace}
 use Rattle.sk_scenario.specs.declared.call.Call.{Call}
 use Rattle.sk_scenario.specs.declared.scenario.Scenario.{Scenario}
+use Rattle.sk_report.specs.declared.stop.Stop.{Stop}
+use Rattle.sk_report.specs.declared.stop.Stop.TheVariants as stops
 use Rattle.sk_command.specs.declared.end.End.{End}
 use Rattle.sk_command.specs.declared.end.End.TheVariants as ends
 use Rattle.sk_command.specs.CommandLine.{Wish, Play, Plain, Replay, Work, needs_threads}
-use Rattle.sk_command.specs.Ends.{IsWritten, fault_end}
+use Rattle.sk_command.specs.Ends.{fault_end}
 use Rattle.sk_command.specs.ReadAll.{INPUT_LIMIT}
 use Rattle.sk_play.proofs.Happened.{world_reported_kept}
 use Rattle.sk_play.proofs.Turns.{reported_kept}
 use Rattle.sk_play.specs.Plays.{Reported, declared_kernel}
 use Rattle.sk_play.specs.Worlds.{declared_world, WorldReported}
-use Rattle.speculate.specs.Plainly.{IsRunPlainly}
-use Rattle.speculate.specs.Replayed.{IsReplayed}
-use Rattle.speculate.specs.Run.{played_text, world_played_text, EndsFile, EndsInSection, EndsPlain, EndsPlayed, EndsReplayed, EndsWorld, EndsRead, EndsText}
+use Rattle.speculate.specs.Plainly.{RunsPlainly}
+use Rattle.speculate.specs.Replayed.{ReplaysTo}
+use Rattle.speculate.specs.declared.striking.Unrun.{Unrun}
+use Rattle.speculate.specs.declared.striking.Unrun.TheVariants as unruns
+use Rattle.speculate.specs.Run.{played_text, world_played_text, EndsReport, EndsTrace, EndsFile, EndsInSection, EndsPlain, EndsPlayed, EndsReplayed, EndsWorld, EndsRead, EndsText}
 
 -- a text never ends a run as faulty words do
 pub fault_no_usage : (kind : FaultKind) → fault_end kind ≢ ends.Usage
@@ -63,37 +66,47 @@ was_read wish (Some bytes) text end old new done same short h = inr (subst (λ x
 -- ---- what was done, once the buffer is written out
 
 -- steps that were played
-pub played_out : (trace : Bool) (d : Declared) (steps : List Call) (end : End) (buffer : List ℕ) (old mid new : Option (List ℕ)) → IsWritten end buffer
-    → Reported (played_text trace) steps [] (declared_kernel d) old mid → Keeps mid new → EndsPlayed trace d steps end old new
-played_out trace d steps ends.Done buffer old mid new written played kept = reported_kept _ _ _ _ _ _ _ played kept
-played_out trace d steps ends.Fault buffer old mid new written played kept = written
-played_out trace d steps ends.Usage buffer old mid new written played kept = written
-played_out trace d steps ends.Trouble buffer old mid new written played kept = tt
-played_out trace d steps ends.OutputRefused buffer old mid new written played kept = tt
+pub played_out : (trace : Bool) (d : Declared) (steps : List Call) (written : Result (Unit {0}) Stop) (end : End) (buffer : List ℕ) (old mid new : Option (List ℕ))
+    → OnOk written (Reported (played_text trace) steps [] (declared_kernel d) old mid) → EndsReport written end buffer mid new → EndsPlayed trace d steps end old new
+played_out trace d steps (Ok u) ends.Done buffer old mid new played ended = reported_kept _ _ _ _ _ _ _ played ended.1
+played_out trace d steps (Ok u) ends.Fault buffer old mid new played ended = ended.0
+played_out trace d steps (Ok u) ends.Usage buffer old mid new played ended = ended.0
+played_out trace d steps (Ok u) ends.Trouble buffer old mid new played ended = tt
+played_out trace d steps (Ok u) ends.OutputRefused buffer old mid new played ended = tt
+played_out trace d steps (Err stops.Memory) end buffer old mid new played ended = subst (λ x. EndsPlayed trace d steps x old new) (sym ended) tt
+played_out trace d steps (Err stops.Output) end buffer old mid new played ended = subst (λ x. EndsPlayed trace d steps x old new) (sym ended) tt
 
 -- the events of a world
-pub world_out : (trace : Bool) (d : Declared) (es : List WorldEvent) (end : End) (buffer : List ℕ) (old mid new : Option (List ℕ)) → IsWritten end buffer
-    → WorldReported (world_played_text trace) es (declared_world d) old mid → Keeps mid new → EndsWorld trace d es end old new
-world_out trace d es ends.Done buffer old mid new written played kept = world_reported_kept _ _ _ _ _ _ played kept
-world_out trace d es ends.Fault buffer old mid new written played kept = written
-world_out trace d es ends.Usage buffer old mid new written played kept = written
-world_out trace d es ends.Trouble buffer old mid new written played kept = tt
-world_out trace d es ends.OutputRefused buffer old mid new written played kept = tt
+pub world_out : (trace : Bool) (d : Declared) (es : List WorldEvent) (written : Result (Unit {0}) Stop) (end : End) (buffer : List ℕ) (old mid new : Option (List ℕ))
+    → OnOk written (WorldReported (world_played_text trace) es (declared_world d) old mid) → EndsReport written end buffer mid new → EndsWorld trace d es end old new
+world_out trace d es (Ok u) ends.Done buffer old mid new played ended = world_reported_kept _ _ _ _ _ _ played ended.1
+world_out trace d es (Ok u) ends.Fault buffer old mid new played ended = ended.0
+world_out trace d es (Ok u) ends.Usage buffer old mid new played ended = ended.0
+world_out trace d es (Ok u) ends.Trouble buffer old mid new played ended = tt
+world_out trace d es (Ok u) ends.OutputRefused buffer old mid new played ended = tt
+world_out trace d es (Err stops.Memory) end buffer old mid new played ended = subst (λ x. EndsWorld trace d es x old new) (sym ended) tt
+world_out trace d es (Err stops.Output) end buffer old mid new played ended = subst (λ x. EndsWorld trace d es x old new) (sym ended) tt
 
 -- a trace of which all that it leaves was run
-pub plain_out : (boot : BootView) (es : List Event) (end : End) (buffer : List ℕ) (old mid new : Option (List ℕ)) → IsWritten end buffer
-    → IsRunPlainly boot es old mid → Keeps mid new → EndsPlain boot es end old new
-plain_out boot es ends.Done buffer old mid new written run kept = record { sound = run.sound; kernel = run.kernel; has_run = run.has_run; report = Appends-kept old mid new _ run.report kept }
-plain_out boot es ends.Fault buffer old mid new written run kept = absurd written
-plain_out boot es ends.Usage buffer old mid new written run kept = written
-plain_out boot es ends.Trouble buffer old mid new written run kept = tt
-plain_out boot es ends.OutputRefused buffer old mid new written run kept = tt
+pub plain_out : (boot : BootView) (es : List Event) (ran : Result (Unit {0}) Unrun) (end : End) (buffer : List ℕ) (old mid new : Option (List ℕ)) → RunsPlainly ran boot es old mid
+    → EndsTrace ran end buffer mid new → EndsPlain boot es end old new
+plain_out boot es (Ok u) ends.Done buffer old mid new run ended = record { sound = run.sound; kernel = run.kernel; has_run = run.has_run; report = Appends-kept old mid new _ run.report ended.1 }
+plain_out boot es (Ok u) ends.Fault buffer old mid new run ended = absurd ended.0
+plain_out boot es (Ok u) ends.Usage buffer old mid new run ended = ended.0
+plain_out boot es (Ok u) ends.Trouble buffer old mid new run ended = tt
+plain_out boot es (Ok u) ends.OutputRefused buffer old mid new run ended = tt
+plain_out boot es (Err (unruns.Entry at)) end buffer old mid new run ended = subst (λ x. EndsPlain boot es x old new) (sym ended.0) ((at, run.0), Keeps-trans old mid new run.1 ended.1)
+plain_out boot es (Err unruns.Memory) end buffer old mid new run ended = subst (λ x. EndsPlain boot es x old new) (sym ended) tt
+plain_out boot es (Err unruns.Output) end buffer old mid new run ended = subst (λ x. EndsPlain boot es x old new) (sym ended) tt
 
 -- a trace that happened again
-pub replayed_out : (d : Declared) (es : List Event) (end : End) (buffer : List ℕ) (old mid new : Option (List ℕ)) → IsWritten end buffer
-    → IsReplayed [] (declared_kernel d) es old mid → Keeps mid new → EndsReplayed d es end old new
-replayed_out d es ends.Done buffer old mid new written run kept = (run.0, run.1, run.2, Appends-kept old mid new _ run.3 kept)
-replayed_out d es ends.Fault buffer old mid new written run kept = absurd written
-replayed_out d es ends.Usage buffer old mid new written run kept = written
-replayed_out d es ends.Trouble buffer old mid new written run kept = tt
-replayed_out d es ends.OutputRefused buffer old mid new written run kept = tt
+pub replayed_out : (d : Declared) (es : List Event) (ran : Result (Unit {0}) Unrun) (end : End) (buffer : List ℕ) (old mid new : Option (List ℕ)) → ReplaysTo ran [] (declared_kernel d) es old mid
+    → EndsTrace ran end buffer mid new → EndsReplayed d es end old new
+replayed_out d es (Ok u) ends.Done buffer old mid new run ended = (run.0, run.1, run.2, Appends-kept old mid new _ run.3 ended.1)
+replayed_out d es (Ok u) ends.Fault buffer old mid new run ended = absurd ended.0
+replayed_out d es (Ok u) ends.Usage buffer old mid new run ended = ended.0
+replayed_out d es (Ok u) ends.Trouble buffer old mid new run ended = tt
+replayed_out d es (Ok u) ends.OutputRefused buffer old mid new run ended = tt
+replayed_out d es (Err (unruns.Entry at)) end buffer old mid new run ended = subst (λ x. EndsReplayed d es x old new) (sym ended.0) ((at, run.0), Keeps-trans old mid new run.1 ended.1)
+replayed_out d es (Err unruns.Memory) end buffer old mid new run ended = subst (λ x. EndsReplayed d es x old new) (sym ended) tt
+replayed_out d es (Err unruns.Output) end buffer old mid new run ended = subst (λ x. EndsReplayed d es x old new) (sym ended) tt

@@ -1,7 +1,6 @@
 -- What comes of replaying a trace on the kernel that a scenario declares.
 use Rattle.std.specs.Prelude.{ℕ, List, [], Option, Result, Ok, Err, ⊤}
 use Rattle.std.specs.Io.KnownBytes.{Appends, Keeps}
-use Rattle.sk_guesses.specs.Token.{Token}
 use Rattle.sk_trace.specs.declared.event.Event.{Event}
 use Rattle.sk_scenario.specs.Declarations.{Declared}
 use Rattle.sk_kernel.specs.Kernel.{KernelView}
@@ -14,15 +13,15 @@ use Rattle.speculate.specs.declared.striking.Unrun.{Unrun}
 use Rattle.speculate.specs.declared.striking.Unrun.TheVariants as unruns
 
 -- every event of the trace happens again, and the kernel with that trace is reported
-abbrev pub IsReplayed : List Token → KernelView → List Event → Option (List ℕ) → Option (List ℕ) → Type 0
-IsReplayed tokens k es old new = (left : List Token) × (last : KernelView) × Replays es tokens k left last × Appends old new (report_text (replayed k es))
+abbrev pub IsReplayed : List ℕ → KernelView → List Event → Option (List ℕ) → Option (List ℕ) → Type 0
+IsReplayed held k es old new = (left : List ℕ) × (last : KernelView) × Replays es held k left last × Appends old new (report_text (replayed k es))
 
 -- or the first entry that does not is told and nothing written, or memory or the output failed
-abbrev pub ReplaysTo : Result (Unit {0}) Unrun → List Token → KernelView → List Event → Option (List ℕ) → Option (List ℕ) → Type 0
-ReplaysTo (Ok u) tokens k es old new = IsReplayed tokens k es old new
-ReplaysTo (Err (unruns.Entry at)) tokens k es old new = StopsAt es tokens k at × Keeps old new
-ReplaysTo (Err unruns.Memory) tokens k es old new = ⊤
-ReplaysTo (Err unruns.Output) tokens k es old new = ⊤
+abbrev pub ReplaysTo : Result (Unit {0}) Unrun → List ℕ → KernelView → List Event → Option (List ℕ) → Option (List ℕ) → Type 0
+ReplaysTo (Ok u) held k es old new = IsReplayed held k es old new
+ReplaysTo (Err (unruns.Entry at)) held k es old new = StopsAt es held k at × Keeps old new
+ReplaysTo (Err unruns.Memory) held k es old new = ⊤
+ReplaysTo (Err unruns.Output) held k es old new = ⊤
 
 -- an entry that does not happen again
 abbrev pub IsUnreplayed : Declared → List Event → Type 0

@@ -1,5 +1,5 @@
 -- What a run of the program comes to: how it ends, and what its output holds then.
-use Rattle.std.specs.Prelude.{◌⊎◌, ◌≢◌, ◌≤◌, ℕ, Bool, true, false, List, [], ◌++◌, codes, length, Option, Some, None, Result, Ok, Err, ⊤}
+use Rattle.std.specs.Prelude.{◌≡◌, ◌⊎◌, ◌≢◌, ◌≤◌, ℕ, Bool, true, false, List, [], ◌++◌, codes, length, Option, Some, None, Result, Ok, Err, ⊤}
 use Rattle.std.specs.Str.Lines.{lines}
 use Rattle.std.specs.Io.KnownBytes.{Keeps}
 use Rattle.sk_words.specs.declared.fault.Fault.{Fault}
@@ -16,13 +16,17 @@ use Rattle.sk_client.specs.WorldView.{WorldView}
 use Rattle.sk_client.specs.declared.world.WorldEvent.{WorldEvent}
 use Rattle.sk_play.specs.Worlds.{declared_world, WorldReported}
 use Rattle.sk_report.specs.Report.{report_text, world_report_text}
+use Rattle.sk_report.specs.declared.stop.Stop.{Stop}
+use Rattle.sk_report.specs.declared.stop.Stop.TheVariants as stops
 use Rattle.sk_command.specs.declared.end.End.{End}
 use Rattle.sk_command.specs.declared.end.End.TheVariants as ends
 use Rattle.sk_command.specs.CommandLine.{Wish, Play, Plain, Replay, Work, Asks, EndsWithoutJob}
-use Rattle.sk_command.specs.Ends.{EndsUnwritten, fault_end}
+use Rattle.sk_command.specs.Ends.{EndsUnwritten, IsWritten, fault_end}
 use Rattle.sk_command.specs.ReadAll.{INPUT_LIMIT}
 use Rattle.speculate.specs.Plainly.{IsRunPlainly, IsFaulty}
 use Rattle.speculate.specs.Replayed.{IsReplayed, IsUnreplayed}
+use Rattle.speculate.specs.declared.striking.Unrun.{Unrun}
+use Rattle.speculate.specs.declared.striking.Unrun.TheVariants as unruns
 
 -- the line `trace`, and the trace of a kernel
 abbrev pub trace_section : KernelView → List ℕ
@@ -37,6 +41,19 @@ played_text true k = report_text k ++ trace_section k
 abbrev pub world_played_text : Bool → WorldView → List ℕ
 world_played_text false w = world_report_text w
 world_played_text true w = world_report_text w ++ trace_section w.desk.kernel
+
+-- how a run ends behind a report: what is left of it in the buffer is written out, or memory ran out or a write was refused before its end
+abbrev pub EndsReport : Result (Unit {0}) Stop → End → List ℕ → Option (List ℕ) → Option (List ℕ) → Type 0
+EndsReport (Ok u) end buffer old new = IsWritten end buffer × Keeps old new
+EndsReport (Err stops.Memory) end buffer old new = end ≡ ends.Trouble
+EndsReport (Err stops.Output) end buffer old new = end ≡ ends.OutputRefused
+
+-- the same of a trace, of which an entry may be told in place of its report
+abbrev pub EndsTrace : Result (Unit {0}) Unrun → End → List ℕ → Option (List ℕ) → Option (List ℕ) → Type 0
+EndsTrace (Ok u) end buffer old new = IsWritten end buffer × Keeps old new
+EndsTrace (Err (unruns.Entry at)) end buffer old new = EndsUnwritten ends.Fault end old new
+EndsTrace (Err unruns.Memory) end buffer old new = end ≡ ends.Trouble
+EndsTrace (Err unruns.Output) end buffer old new = end ≡ ends.OutputRefused
 
 -- steps are played: where the run ends well, the output has each answer, the report and the trace that is wanted;
 -- else memory ran out or a write was refused

@@ -38,7 +38,7 @@ fn report_all<W: Write>(
     trace: bool,
     out: &mut W,
 ) -> Result<(), Stop>
-    ensures { OnOk result (Reported (played_text trace) steps.now session.old.tokens.items session.old.kernel
+    ensures { OnOk result (Reported (played_text trace) steps.now session.old.holder.held session.old.holder.kernel
         (W.contents out.old) (W.contents out.new)) }
 {
     take_all(session, steps, out)?;
@@ -74,7 +74,8 @@ pub(crate) fn write_trace<W: Write>(alloc: Global, kernel: &Kernel, out: &mut W)
 
 /// Takes the steps in order, and writes a line for each answer.
 fn take_all<W: Write>(session: &mut Session, steps: &[Call], out: &mut W) -> Result<(), Stop>
-    ensures { OnOk result (Answered steps.now session.old.tokens.items session.old.kernel session.new.tokens.items session.new.kernel (W.contents out.old) (W.contents out.new)) }
+    ensures { OnOk result (Answered steps.now session.old.holder.held session.old.holder.kernel
+        session.new.holder.held session.new.holder.kernel (W.contents out.old) (W.contents out.new)) }
 {
     for (place, step) in steps.iter().enumerate() {
         let answer = session.execute(step)?;

@@ -3,7 +3,7 @@ ghost use Rattle.std.specs.Prelude.{◌≡◌, false, map, string_bytes};
 ghost use Rattle.std.specs.Io.Buffered.{writer_buffer, writer_contents};
 ghost use Rattle.sk_command.specs.CommandLine.{needs_threads, wish_file, wish_of};
 ghost use Rattle.sk_command.specs.Ends.{IsFlushed};
-ghost use Rattle.speculate.specs.Run.{EndsPlain, EndsPlayed, EndsReplayed, EndsWorld, EndsRead, EndsText, EndsFile, EndsWords};
+ghost use Rattle.speculate.specs.Run.{EndsReport, EndsTrace, EndsPlain, EndsPlayed, EndsReplayed, EndsWorld, EndsRead, EndsText, EndsFile, EndsWords};
 
 use crate::playing::play;
 use crate::replaying::replay_all;
@@ -131,14 +131,8 @@ fn run_steps<W: Write + Drop>(
         (writer_contents W.contents out.old) (writer_contents W.contents out.new) }
     ensures flushed { IsFlushed result (writer_buffer out.new) }
 {
-    match play(alloc, declarations, steps, trace, out) {
-        Ok(()) => flushed(out),
-        Err(Stop::Memory) => {
-            let _ = out.flush();
-            End::Trouble
-        }
-        Err(Stop::Output) => End::OutputRefused,
-    }
+    let played = play(alloc, declarations, steps, trace, out);
+    ended(played, out)
 }
 
 /// Plays the events of a world, and writes out what the output buffers.
@@ -153,14 +147,8 @@ fn run_world<W: Write + Drop>(
         (writer_contents W.contents out.old) (writer_contents W.contents out.new) }
     ensures flushed { IsFlushed result (writer_buffer out.new) }
 {
-    match play_world(alloc, declarations, events, trace, out) {
-        Ok(()) => flushed(out),
-        Err(Stop::Memory) => {
-            let _ = out.flush();
-            End::Trouble
-        }
-        Err(Stop::Output) => End::OutputRefused,
-    }
+    let played = play_world(alloc, declarations, events, trace, out);
+    ended(played, out)
 }
 
 /// Runs what a trace leaves on the plain kernel, and writes out what the output buffers; or tells its
@@ -176,15 +164,8 @@ fn run_trace<W: Write + Drop, E: Write>(
         (writer_contents W.contents out.old) (writer_contents W.contents out.new) }
     ensures flushed { IsFlushed result (writer_buffer out.new) }
 {
-    match run_left(alloc, boot, trace, out) {
-        Ok(()) => flushed(out),
-        Err(Unrun::Entry(number)) => tell_entry(number, err),
-        Err(Unrun::Memory) => {
-            let _ = out.flush();
-            End::Trouble
-        }
-        Err(Unrun::Output) => End::OutputRefused,
-    }
+    let ran = run_left(alloc, boot, trace, out);
+    ended_trace(ran, out, err)
 }
 
 /// Replays a trace, and writes out what the output buffers; or tells its first entry that does not
@@ -200,13 +181,41 @@ fn run_replay<W: Write + Drop, E: Write>(
         (writer_contents W.contents out.old) (writer_contents W.contents out.new) }
     ensures flushed { IsFlushed result (writer_buffer out.new) }
 {
-    match replay_all(alloc, declarations, trace, out) {
+    let replayed = replay_all(alloc, declarations, trace, out);
+    ended_trace(replayed, out, err)
+}
+
+/// Ends a run whose report was written so: what the output buffers is written out, but nothing after a refused write.
+fn ended<W: Write + Drop>(written: Result<(), Stop>, out: &mut BufWriter<W>) -> End
+    ensures end { EndsReport written result (writer_buffer out.new)
+        (writer_contents W.contents out.old) (writer_contents W.contents out.new) }
+    ensures flushed { IsFlushed result (writer_buffer out.new) }
+{
+    match written {
         Ok(()) => flushed(out),
-        Err(Unrun::Entry(number)) => tell_entry(number, err),
-        Err(Unrun::Memory) => {
+        Err(Stop::Memory) => {
             let _ = out.flush();
             End::Trouble
         }
-        Err(Unrun::Output) => End::OutputRefused,
+        Err(Stop::Output) => End::OutputRefused,
     }
+}
+
+/// The same of a run of a trace, which may have stopped at an entry: then that entry is told.
+fn ended_trace<W: Write + Drop, E: Write>(
+    ran: Result<(), Unrun>,
+    out: &mut BufWriter<W>,
+    err: &mut E,
+) -> End
+    ensures end { EndsTrace ran result (writer_buffer out.new)
+        (writer_contents W.contents out.old) (writer_contents W.contents out.new) }
+    ensures flushed { IsFlushed result (writer_buffer out.new) }
+{
+    let written = match ran {
+        Ok(()) => Ok(()),
+        Err(Unrun::Entry(number)) => return tell_entry(number, err),
+        Err(Unrun::Memory) => Err(Stop::Memory),
+        Err(Unrun::Output) => Err(Stop::Output),
+    };
+    ended(written, out)
 }

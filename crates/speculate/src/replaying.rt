@@ -3,7 +3,7 @@ ghost use Rattle.std.specs.Prelude.{[]};
 ghost use Rattle.sk_play.specs.Plays.{declared_kernel};
 ghost use Rattle.speculate.specs.Replayed.{ReplaysTo};
 
-use crate::striking::{Unrun, unrun_by};
+use crate::striking::Unrun;
 use sk_play::{Session, Unreplayed, replay};
 use sk_report::write_report;
 use sk_scenario::Declarations;
@@ -49,12 +49,10 @@ fn report_replayed<W: Write>(
     events: &[Event],
     out: &mut W,
 ) -> Result<(), Unrun>
-    ensures { ReplaysTo result session.old.tokens.items session.old.kernel events.now
+    ensures { ReplaysTo result session.old.holder.held session.old.holder.kernel events.now
         (W.contents out.old) (W.contents out.new) }
 {
     replay(session, events)?;
-    match write_report(alloc, session.kernel(), out) {
-        Ok(()) => Ok(()),
-        Err(stop) => Err(unrun_by(stop)),
-    }
+    write_report(alloc, session.kernel(), out)?;
+    Ok(())
 }

@@ -2,7 +2,7 @@
 ghost use Rattle.std.specs.Prelude.{◌≡◌, None, OnOk, IsOk};
 ghost use Rattle.sk_plain.specs.Plain.{step_of};
 ghost use Rattle.sk_plain.specs.Refusal.{cause};
-ghost use Rattle.speculate.specs.Plainly.{after_step, all_run, unrun_by, AllTaken, RunsPlainly};
+ghost use Rattle.speculate.specs.Plainly.{after_step, all_run, AllTaken, RunsPlainly};
 
 use sk_plain::{Plain, Refusal, TraceFault, strike};
 use sk_report::{Stop, write_plain_report};
@@ -46,13 +46,17 @@ impl From<AllocError> for Unrun {
     }
 }
 
-/// The same of writing a report.
-pub fn unrun_by(stop: Stop) -> Unrun
-    ensures { result ≡ unrun_by stop }
-{
-    match stop {
-        Stop::Memory => Unrun::Memory,
-        Stop::Output => Unrun::Output,
+impl From<Stop> for Unrun {
+    ghost use Rattle.std.specs.Prelude.{◌≡◌};
+    ghost use Rattle.speculate.specs.Plainly.{unrun_by};
+
+    ghost from_gives = { λ stop unrun. unrun ≡ unrun_by stop };
+
+    fn from(stop: Stop) -> Unrun {
+        match stop {
+            Stop::Memory => Unrun::Memory,
+            Stop::Output => Unrun::Output,
+        }
     }
 }
 
@@ -69,10 +73,8 @@ pub fn run_left<W: Write>(
     let entries = strike(alloc, boot, trace)?;
     let mut plain = Plain::boot(alloc, boot)?;
     run_entries(&mut plain, &entries)?;
-    match write_plain_report(alloc, &plain, entries.len(), out) {
-        Ok(()) => Ok(()),
-        Err(stop) => Err(unrun_by(stop)),
-    }
+    write_plain_report(alloc, &plain, entries.len(), out)?;
+    Ok(())
 }
 
 /// Takes the steps of entries, of which none is refused.

@@ -525,7 +525,7 @@ fn help(rt: HostRuntime) -> Result<(), Fail> {
     let inputs = Known { bytes: b"" };
     for (words, begins) in [
         (["--help"].as_slice(), "A kernel that runs"),
-        (["play", "-h"].as_slice(), "Runs the steps"),
+        (["play", "-h"].as_slice(), "Plays the events"),
         (["plain", "-h"].as_slice(), "Strikes a trace"),
         (["work", "-h"].as_slice(), "Lets workers take"),
     ] {

@@ -1,5 +1,5 @@
 //! The run of the program where it may have threads.
-ghost use Rattle.std.specs.Prelude.{◌≡◌, ◌≤◌, ◌++◌, [], map, string_bytes, OnOk, IfOk};
+ghost use Rattle.std.specs.Prelude.{◌≡◌, ◌≤◌, ◌++◌, [], map, string_bytes, Err, OnOk, IfOk};
 ghost use Rattle.std.specs.Io.KnownBytes.{Appends};
 ghost use Rattle.std.specs.Io.Buffered.{writer_buffer, writer_contents};
 ghost use Rattle.sk_command.specs.Ends.{IsFlushed};
@@ -13,7 +13,7 @@ use sk_client::Desk;
 use sk_command::end::{End, flushed, tell_fault};
 use sk_command::job::{Job, asked, explain};
 use sk_command::open_input::{Open, input};
-use sk_crew::{Plan, run_crew};
+use sk_crew::{CrewFault, Plan, run_crew};
 use sk_play::desk_of;
 use sk_report::{Stop, write_desk_report, write_workers};
 use sk_scenario::{Declarations, Scenario};
@@ -121,16 +121,24 @@ fn work_on<R: Threads + Wait + Sync, W: Write + Drop, G: Gate + Sync>(
 {
     match work(rt, alloc, plan, declarations, gate, out) {
         Ok(()) => flushed(out),
-        Err(Stop::Memory) => {
+        Err(Unworked::Crew | Unworked::Report(Stop::Memory)) => {
             let _ = out.flush();
             End::Trouble
         }
-        Err(Stop::Output) => End::OutputRefused,
+        Err(Unworked::Report(Stop::Output)) => End::OutputRefused,
     }
 }
 
+/// Why there is no report of a crew's work.
+#[derive(Clone, Copy, Debug, PartialEq, Eq)]
+enum Unworked {
+    /// Memory ran out, or the desk could not be closed, before anything was written.
+    Crew,
+    Report(Stop),
+}
+
 /// Lets workers run the declared processes, and writes the report of the desk that they leave, and their number and that
-/// of their calls. A desk that could not be closed stops it as want of memory does.
+/// of their calls.
 fn work<R: Threads + Wait + Sync, W: Write, G: Gate + Sync>(
     rt: &R,
     alloc: Global,
@@ -138,16 +146,24 @@ fn work<R: Threads + Wait + Sync, W: Write, G: Gate + Sync>(
     declarations: &Declarations,
     gate: &G,
     out: &mut W,
-) -> Result<(), Stop>
+) -> Result<(), Unworked>
     requires { (1 ≤ plan.workers) × (plan.workers ≤ 8) }
-    ensures { OnOk result (IsWorked plan.workers declarations.now (W.contents out.old) (W.contents out.new)) }
+    ensures done { OnOk result (IsWorked plan.workers declarations.now (W.contents out.old) (W.contents out.new)) }
+    ensures unwritten { result ≡ Err Unworked.Crew → out.new ≡ out.old }
 {
-    let (desk, server) = desk_of(alloc, declarations)?;
-    let (history, server) = crew(rt, alloc, plan, desk, server, gate)?;
+    let Ok((desk, server)) = desk_of(alloc, declarations) else {
+        return Err(Unworked::Crew);
+    };
+    let Ok((history, server)) = crew(rt, alloc, plan, desk, server, gate) else {
+        return Err(Unworked::Crew);
+    };
     let History { entries, desk } = history;
     let written = write_worked(alloc, plan, &desk, &server, entries.len(), out);
     desk.abandon();
-    written
+    match written {
+        Ok(()) => Ok(()),
+        Err(stop) => Err(Unworked::Report(stop)),
+    }
 }
 
 /// A crew of this run, with a ledger of its own.
@@ -158,7 +174,7 @@ fn crew<R: Threads + Wait + Sync, G: Gate + Sync>(
     desk: Desk,
     server: Server,
     gate: &G,
-) -> Result<(History, Server), Stop>
+) -> Result<(History, Server), CrewFault>
     requires count { (1 ≤ plan.workers) × (plan.workers ≤ 8) }
     requires opened { desk ≡ opened desk.kernel }
     requires trace { desk.kernel.trace ≡ [] }
@@ -166,10 +182,7 @@ fn crew<R: Threads + Wait + Sync, G: Gate + Sync>(
     ensures settled { IfOk result (λ done. pending done.0.desk ≡ []) }
 {
     let blank = Blank::new(u64::from(plan.workers));
-    match run_crew::<Brand, R, G>(rt, alloc, blank, desk, server, plan, gate) {
-        Ok(done) => Ok(done),
-        Err(_) => Err(Stop::Memory),
-    }
+    run_crew::<Brand, R, G>(rt, alloc, blank, desk, server, plan, gate)
 }
 
 /// Writes the report of a desk and a server, and the line of workers.

@@ -5,11 +5,11 @@ ghost use Rattle.sk_client.specs.Desk.{opened};
 
 use sk_client::{Desk, Given, Turn};
 use sk_ids::{GuessId, Name, Pid, Text};
-use sk_kernel::Kernel;
+use sk_kernel::{Kernel, Opening};
 use sk_objects::Content;
 use sk_script::{Boot, Script};
 use sk_server::{Answer, Reply};
-use sk_workers::{Answered, Book, Call, Worker};
+use sk_workers::{Answered, Book, Call, CloseRefusal, History, Worker};
 use std::alloc::Global;
 use std::marker::Brand;
 use std::process::Abort;
@@ -132,5 +132,51 @@ fn receipts_of_two_workers(rt: HostRuntime) -> Result<(), Fail> {
     let first = Pid::boot(1).ok_or("pid")?;
     let second = Pid::boot(2).ok_or("pid")?;
     works::<Brand>(&rt, alloc, Blank::new(2), desk(alloc)?, (first, second));
+    Ok(())
+}
+
+/// A book is not closed by a first request that is not its own desk's.
+fn stays_open_elsewhere<L: Ledger>(
+    rt: &impl Abort,
+    alloc: Global,
+    blank: Blank,
+    desk: Desk,
+    opening: &Opening,
+)
+    requires ledger { (blank.name ≡ L.name) × (blank.parts ≡ L.parts) × (L.parts ≡ 2) }
+    requires opened { desk ≡ opened desk.kernel }
+    requires trace { desk.kernel.trace ≡ [] }
+{
+    let (book, workers) = match Book::<L>::new(alloc, blank, desk, 2) {
+        Ok(made) => made,
+        Err((_blank, desk, _error)) => {
+            desk.abandon();
+            panic!(rt; "out of memory")
+        }
+    };
+    match book.close(workers, opening, 2) {
+        Err((book, _workers, refusal)) => {
+            book.reopen().abandon();
+            assert_eq!(rt; refusal, CloseRefusal::Other);
+        }
+        Ok(History { entries: _, desk }) => {
+            desk.abandon();
+            panic!(rt; "closed elsewhere")
+        }
+    }
+}
+
+#[test]
+fn not_closed_elsewhere(rt: HostRuntime) -> Result<(), Fail> {
+    let alloc = rt.alloc();
+    let desk = desk(alloc)?;
+    let opening = match desk.kernel().opening().copy() {
+        Ok(opening) => opening,
+        Err(_) => {
+            desk.abandon();
+            panic!(rt; "out of memory")
+        }
+    };
+    stays_open_elsewhere::<Brand>(&rt, alloc, Blank::new(2), desk, &opening);
     Ok(())
 }

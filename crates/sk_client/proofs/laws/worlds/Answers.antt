@@ -3,4 +3,4 @@ use Rattle.sk_client.proofs.Seen.{seen_after}
 use Rattle.sk_client.proofs.laws.worlds.Goals as goal
 
 pub returns : goal.returns
-returns c = λ number boot limit server numbered next refused es served v h. seen_after boot limit numbered server number next refused es served v h
+returns c = λ k server ready next refused es served v h. seen_after k ready server next refused es served v h

@@ -9,5 +9,5 @@ use Rattle.sk_machine.proofs.machine.strike_all.Goals as goal
 pub returns-clause-statuses : goal.returns-clause-statuses
 returns-clause-statuses c = λ g.
     c.strike_open.ensures.statuses g
-    ∙ failure_is c.args.id c.args.opens.now (status_of c.args.guesses.now) (status_of c.fail.new.self)
-    (λ h. ap (λ v. status_of v h) c.fail.ensures ∙ status-decided c.args.guesses.now c.args.id Undecided Failed c.requires.undecided h) g
+    ∙ failure_is c.args.id c.args.opens.now (status_of c.args.guesses.now.view) (status_of c.fail.new.self.view)
+    (λ h. ap (λ v. status_of v h) c.fail.ensures ∙ status-decided c.args.guesses.now.view c.args.id Undecided Failed c.requires.undecided h) g

@@ -5,6 +5,6 @@ use Rattle.sk_machine.proofs.machine.strike_open.Given as goal
 
 abbrev pub invariant-loop-open : goal.invariant-loop-open
 invariant-loop-open l =
-    ((g : ℕ) → status_of l.guesses g ≡ with_struck l.id (take l.open-index l.opens) (status_of l.fn.guesses) g)
-    × (l.guesses.kernel ≡ l.fn.guesses.kernel)
-    × (length l.guesses.statuses ≡ length l.fn.guesses.statuses)
+    ((g : ℕ) → status_of l.guesses.view g ≡ with_struck l.id (take l.open-index l.opens) (status_of l.fn.guesses.view) g)
+    × (l.guesses.view.kernel ≡ l.fn.guesses.view.kernel)
+    × (length l.guesses.view.statuses ≡ length l.fn.guesses.view.statuses)

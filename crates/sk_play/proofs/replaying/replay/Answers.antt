@@ -10,25 +10,25 @@ pub returns-then-ne : goal.returns-then-ne
 returns-then-ne c =
     let es = c.args.events.now in
     let e = c.index-events-place.result in
-    let answered = subst (λ s. AnswerMatches c.in_ok-answer.answer s c.loop-place.session.tokens.items c.loop-place.session.kernel c.execute.new.self.kernel) c.call_of.ensures c.in_ok-answer.ensures.told in
+    let answered = subst (λ s. AnswerMatches c.in_ok-answer.answer s c.loop-place.session.holder.held c.loop-place.session.holder.kernel c.execute.new.self.holder.kernel) c.call_of.ensures c.in_ok-answer.ensures.told in
     let apart : c.in_ok-answer.answer ≡ c.told_by.result → ⊥ = search rules in
     let other : c.in_ok-answer.answer ≡ told_by e → ⊥ = λ is. apart (is ∙ sym c.told_by.ensures) in
-    stops_at es c.loop-place.place (c.loop-place.place + 1) e c.in_ok-answer.answer _ _ _ _ c.execute.new.self.kernel c.loop-place-test.true c.index-events-place.is refl c.loop-place.invariant answered other
+    stops_at es c.loop-place.place (c.loop-place.place + 1) e c.in_ok-answer.answer _ _ _ _ c.execute.new.self.holder.kernel c.loop-place-test.true c.index-events-place.is refl c.loop-place.invariant answered other
 
 pub loop-place-preserved : goal.loop-place-preserved
 loop-place-preserved c =
     let es = c.args.events.now in
     let i = c.loop-place.place in
     let e = c.index-events-place.result in
-    let answered = subst (λ s. AnswerMatches c.in_ok-answer.answer s c.loop-place.session.tokens.items c.loop-place.session.kernel c.execute.new.self.kernel) c.call_of.ensures c.in_ok-answer.ensures.told in
+    let answered = subst (λ s. AnswerMatches c.in_ok-answer.answer s c.loop-place.session.holder.held c.loop-place.session.holder.kernel c.execute.new.self.holder.kernel) c.call_of.ensures c.in_ok-answer.ensures.told in
     let same : c.in_ok-answer.answer ≡ c.told_by.result = search rules in
     let more =
-    replays_more (take i es) e c.in_ok-answer.answer c.args.session.now.tokens.items c.loop-place.session.tokens.items c.args.session.now.kernel c.loop-place.session.kernel c.execute.new.self.kernel
+    replays_more (take i es) e c.in_ok-answer.answer c.args.session.now.holder.held c.loop-place.session.holder.held c.args.session.now.holder.kernel c.loop-place.session.holder.kernel c.execute.new.self.holder.kernel
     c.loop-place.invariant (same ∙ c.told_by.ensures) answered in
     let item : get_or es i e ≡ e = sym c.index-events-place.is in
-    rw (take_more es i e c.loop-place-test.true, item, c.in_ok-answer.ensures.tokens, c.call_of.ensures) more
+    rw (take_more es i e c.loop-place-test.true, item, c.in_ok-answer.ensures.held, c.call_of.ensures) more
 
 pub returns : goal.returns
 returns c =
-    let all = subst (λ es. Replays es c.args.session.now.tokens.items c.args.session.now.kernel c.loop-place.session.tokens.items c.loop-place.session.kernel) (take_all c.loop-place.place c.args.events.now c.loop-place-test.false) c.loop-place.invariant in
-    (all, leaves c.args.events.now _ _ c.args.session.now.kernel c.loop-place.session.kernel all)
+    let all = subst (λ es. Replays es c.args.session.now.holder.held c.args.session.now.holder.kernel c.loop-place.session.holder.held c.loop-place.session.holder.kernel) (take_all c.loop-place.place c.args.events.now c.loop-place-test.false) c.loop-place.invariant in
+    (all, leaves c.args.events.now _ _ c.args.session.now.holder.kernel c.loop-place.session.holder.kernel all)

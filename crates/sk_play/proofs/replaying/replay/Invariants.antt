@@ -4,4 +4,4 @@ use Rattle.sk_play.specs.Replays.{Replays}
 use Rattle.sk_play.proofs.replaying.replay.Given as goal
 
 abbrev pub invariant-loop-place : goal.invariant-loop-place
-invariant-loop-place l = Replays (take l.place l.events) l.fn.session.tokens.items l.fn.session.kernel l.session.tokens.items l.session.kernel
+invariant-loop-place l = Replays (take l.place l.events) l.fn.session.holder.held l.fn.session.holder.kernel l.session.holder.held l.session.holder.kernel

@@ -2,4 +2,4 @@
 use Rattle.speculate.proofs.playing.play.Goals as goal
 
 pub returns : goal.returns
-returns g c = rw (c.in_ok-session.ensures.kernel, c.in_ok-session.ensures.tokens) at c.report_all-reported.ensures
+returns g c = rw c.in_ok-session.ensures at c.report_all-reported.ensures

@@ -16,6 +16,6 @@ loop-place-preserved g c =
     let within : i ≤ length steps = omega (arith, c.loop-place-test.true) in
     let count : 1 + length before.0 ≡ i + 1 = omega (arith, one_each (take i steps) before.0 _ _ _ _ before.1, length-take-le i steps within) in (
       before.0 ++ a ∷ [],
-      rw (take_more steps i step c.loop-place-test.true, item, c.in_ok-answer.ensures.tokens) (plays_more (take i steps) before.0 step a _ _ _ _ _ before.1 c.in_ok-answer.ensures.told),
+      rw (take_more steps i step c.loop-place-test.true, item, c.in_ok-answer.ensures.held) (plays_more (take i steps) before.0 step a _ _ _ _ _ before.1 c.in_ok-answer.ensures.told),
       rw (lines_more 1 before.0 a, count) (Appends-trans _ _ _ _ _ before.2 c.in_ok-write_answer.ensures),
     )

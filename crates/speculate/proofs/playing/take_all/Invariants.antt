@@ -5,4 +5,4 @@ use Rattle.speculate.proofs.playing.take_all.Given as goal
 
 abbrev pub invariant-loop-place : goal.invariant-loop-place
 invariant-loop-place g l =
-    Answered (take l.place l.steps) l.fn.session.tokens.items l.fn.session.kernel l.session.tokens.items l.session.kernel (g.W.Write.contents l.fn.out) (g.W.Write.contents l.out)
+    Answered (take l.place l.steps) l.fn.session.holder.held l.fn.session.holder.kernel l.session.holder.held l.session.holder.kernel (g.W.Write.contents l.fn.out) (g.W.Write.contents l.out)

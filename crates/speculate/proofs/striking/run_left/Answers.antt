@@ -12,8 +12,8 @@ run_entries-requires g c =
     let taken = left_is_taken c.args.boot.now c.args.trace.now.events c.in_ok-entries.ensures.sound in
     rw (c.in_ok-plain.ensures, c.deref.ensures.value, c.in_ok-entries.ensures.left) taken
 
-pub returns-in-Ok : goal.returns-in-Ok
-returns-in-Ok g c =
+pub returns : goal.returns
+returns g c =
     let boot = c.args.boot.now in
     let left = left_by boot c.args.trace.now.events in
     let ran : c.run_entries.new.plain ≡ all_run (plain_start boot) left =
@@ -22,7 +22,7 @@ returns-in-Ok g c =
     ∙ ap (all_run (plain_start boot)) (c.deref.ensures.value ∙ c.in_ok-entries.ensures.left) in
     let sized : vec_len c.in_ok-entries.entries ≡ length c.in_ok-entries.entries.items = search rules in
     let counted : c.len.result ≡ length left = c.len.ensures ∙ sized ∙ ap length c.in_ok-entries.ensures.left in
-    let told = subst (λ n. Appends (g.W.Write.contents c.args.out.now) (g.W.Write.contents c.write_plain_report.new.out) (plain_report_text c.run_entries.new.plain n)) counted c.in-Ok.ensures in
+    let told = subst (λ n. Appends (g.W.Write.contents c.args.out.now) (g.W.Write.contents c.write_plain_report.new.out) (plain_report_text c.run_entries.new.plain n)) counted c.in_ok-write_plain_report.ensures in
     record {
       sound = c.in_ok-entries.ensures.sound;
       kernel = all_run (plain_start boot) left;

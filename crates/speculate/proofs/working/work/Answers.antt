@@ -1,27 +1,23 @@
 -- The history that the crew left, and what was written of it.
 use Rattle.std.proofs.Common.{◌≡◌, ℕ, ◌++◌, length, subst, arith}
-use Rattle.std.proofs.lemmas.Result.{on_ok_weaker}
 use Rattle.std.specs.Io.KnownBytes.{Appends}
 use Rattle.sk_client.specs.Desk.{DeskView}
 use Rattle.sk_workers.specs.History.{Runs}
 use Rattle.sk_report.specs.Report.{desk_report_text, workers_line}
 use Rattle.speculate.proofs.working.work.Goals as goal
 
-pub returns : goal.returns
-returns g c =
-    let h = c.in_ok-history.history in
-    let from = subst (λ (d : DeskView). Runs d h.entries.items h.desk) c.in_ok-desk.ensures.desk c.in_ok-history.ensures.legal in
+pub returns-in-Ok-written-clause-done : goal.returns-in-Ok-written-clause-done
+returns-in-Ok-written-clause-done g c =
+    let h = c.in-Ok-crew.history in
+    let from = subst (λ (d : DeskView). Runs d h.entries.items h.desk) c.in-Ok.ensures.desk c.in-Ok-crew.ensures.legal in
     let old = g.W.Write.contents c.args.out.now in
     let new = g.W.Write.contents c.write_worked-written.new.out in
-    let report = desk_report_text h.desk c.in_ok-history.server in
-    let calls : c.len.result ≡ length h.entries.items = omega (arith, c.len.ensures, h.entries.ok.0) in
-    on_ok_weaker c.write_worked-written.result
-    (λ text. (
+    let report = desk_report_text h.desk c.in-Ok-crew.server in
+    let calls : c.len.result ≡ length h.entries.items = omega (arith, c.len.ensures, h.entries.ok.0) in (
       h.entries.items,
       h.desk,
-      c.in_ok-history.server,
+      c.in-Ok-crew.server,
       from,
-      c.in_ok-history.ensures.settled,
-      subst (λ (n : ℕ). Appends old new (report ++ workers_line c.args.plan.workers n)) calls text,
-    ))
-    c.write_worked-written.ensures
+      c.in-Ok-crew.ensures.settled,
+      subst (λ (n : ℕ). Appends old new (report ++ workers_line c.args.plan.workers n)) calls c.in-Ok-written.ensures,
+    )

@@ -12,8 +12,8 @@ use Rattle.sk_machine.proofs.machine.Machine.commit.Goals as goal
 
 pub returns-clause-commits : goal.returns-clause-commits
 returns-clause-commits c =
-    let a : Parts = record { slots = c.self.inside.logs.slots; opens = c.self.inside.opens.items; guesses = c.self.inside.guesses; texts = c.self.inside.terminals } in
-    let b : Parts = record { slots = c.commit.new.self.slots; opens = c.close.new.opens.items; guesses = c.commit-2.new.self; texts = c.commit-3.new.self } in
+    let a : Parts = record { slots = c.self.inside.logs.slots; opens = c.self.inside.opens.items; guesses = c.self.inside.guesses.view; texts = c.self.inside.terminals } in
+    let b : Parts = record { slots = c.commit.new.self.slots; opens = c.close.new.opens.items; guesses = c.commit-2.new.self.view; texts = c.commit-3.new.self } in
     let undecided : status_of a.guesses c.args.id ≡ Some Undecided = ap (λ (p : Parts). status_of p.guesses c.args.id) c.self.view_is ∙ c.requires.undecided in
     subst (λ (p : Parts). Commits (machine_of p) c.args.id (machine_of b)) c.self.view_is
     (commits_of a b c.args.id c.commit.ensures.slots c.close.ensures

@@ -11,8 +11,8 @@ use Rattle.sk_machine.proofs.machine.Machine.fail.Goals as goal
 
 pub returns-clause-fails : goal.returns-clause-fails
 returns-clause-fails c =
-    let a : Parts = record { slots = c.self.inside.logs.slots; opens = c.self.inside.opens.items; guesses = c.self.inside.guesses; texts = c.self.inside.terminals } in
-    let b : Parts = record { slots = c.unwind.new.self.slots; opens = c.close_struck.new.opens.items; guesses = c.strike_all.new.guesses; texts = c.drop_of.new.self } in
+    let a : Parts = record { slots = c.self.inside.logs.slots; opens = c.self.inside.opens.items; guesses = c.self.inside.guesses.view; texts = c.self.inside.terminals } in
+    let b : Parts = record { slots = c.unwind.new.self.slots; opens = c.close_struck.new.opens.items; guesses = c.strike_all.new.guesses.view; texts = c.drop_of.new.self } in
     subst (λ (p : Parts). Fails (machine_of p) c.args.id (machine_of b)) c.self.view_is
     (fails_of a b c.args.id c.unwind.ensures.slots c.close_struck.ensures (λ h. c.strike_all.ensures.statuses h ∙ ap (λ (os : List Open). with_failure c.args.id os (status_of a.guesses) h) c.deref-2.ensures.value) c.drop_of.ensures.texts)
 

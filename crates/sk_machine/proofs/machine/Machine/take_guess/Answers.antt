@@ -1,25 +1,43 @@
--- The draw and the step together are what the machine takes.
-use Rattle.std.proofs.Common.{◌≡◌, Some, Ok, ap, ◌∙◌, subst, sym}
+-- What was performed, with the guess that was drawn, is what the machine takes.
+use Rattle.std.proofs.Common.{◌≡◌, [], ◌∷◌, ◌++◌, List, Some, Ok, ap, ◌∙◌, subst, sym}
 use Rattle.sk_record.specs.Step.{perform}
+use Rattle.sk_record.specs.UndoState.{step_tags}
 use Rattle.sk_record.specs.Machine.{Takes}
-use Rattle.sk_guesses.specs.Guesses.{next_of}
+use Rattle.sk_guesses.specs.Guesses.{drawn, next_of}
+use Rattle.sk_ids.specs.declared.entity.Entity.{Entity}
+use Rattle.sk_trace.specs.Entry.{EntryView}
 use Rattle.sk_undo.specs.Logs.{look_at}
 use Rattle.sk_plain.specs.Act.{act, plain}
-use Rattle.sk_plain.specs.Planned.{effect_of}
-use Rattle.sk_machine.specs.Parts.{Parts, machine_of}
-use Rattle.sk_machine.proofs.Given.{from_ok}
+use Rattle.sk_plain.specs.Planned.{effect_of, said_by, writes_of}
+use Rattle.sk_plain.proofs.Scan.{changed_are}
+use Rattle.sk_machine.specs.Parts.{Parts, machine_of, planned_effect, undo_state_of}
+use Rattle.sk_machine.specs.Performed.{entities_of, texts_after}
 use Rattle.sk_machine.proofs.Becomes.{takes_guess}
+use Rattle.sk_machine.proofs.Joins.{took_of}
+use Rattle.sk_machine.proofs.Listed.{AreListedFor, performed_listed}
 use Rattle.sk_machine.proofs.machine.Machine.take_guess.Goals as goal
+
+pub invariant_of-self-2 : goal.invariant_of-self-2
+invariant_of-self-2 c =
+    let m = c.self.inside.logs.slots in
+    let ws = writes_of (look_at m) c.args.pid c.args.plan.now in
+    let written : c.as_slice.result.now ≡ entities_of ws = c.as_slice.ensures.value ∙ c.writes-written.ensures ∙ sym (changed_are (look_at m) c.args.pid c.args.plan.now) in
+    let listed = subst (λ (es : List Entity). AreListedFor c.in_ok-tags.tags c.list_all.new.lists.items es) written c.in_ok-list_all.ensures.listed in
+    (performed_listed m c.perform.new.logs.slots c.in_ok-tags.tags ws c.self.inside.dependents.items c.list_all.new.lists.items c.self.invariant.0 c.list_all.ensures.kept listed c.in_ok-perform.ensures.writes, c.self.invariant.1)
 
 pub returns-clause-ok : goal.returns-clause-ok
 returns-clause-ok c =
-    let a : Parts = record { slots = c.self.inside.logs.slots; opens = c.self.inside.opens.items; guesses = c.self.inside.guesses; texts = c.self.inside.terminals } in
-    let ok = c.if-is_err.ensures.value in
-    let number : c.id.result ≡ next_of a.guesses = c.id.ensures ∙ ap (λ t. t.id) c.in-Ok.ensures.1 in
-    let guesses = c.take.ensures.guesses ∙ c.in-Ok.ensures.2 in
-    subst (λ (p : Parts). Takes (plain c.args.scripts.now) (machine_of p) (record { pid = c.args.pid; input = c.args.input.now; guess = Some (next_of p.guesses) }) (machine_of c.take.new.self)) c.self.view_is
-    (takes_guess c.args.scripts.now a c.take.new.self c.args.pid c.args.input.now c.id.result c.args.plan.now number
-    (subst (λ (p : Parts). perform (look_at p.slots) (act c.args.scripts.now c.args.pid c.args.input.now) ≡ Ok (effect_of (look_at p.slots) c.args.pid c.args.input.now c.args.plan.now)) (sym c.self.view_is) c.requires.accepted)
-    (from_ok c.take.result ok c.take.ensures.took)
-    (from_ok c.take.result ok c.take.ensures.says)
-    guesses)
+    let scripts = c.args.scripts.now in
+    let plan = c.args.plan.now in
+    let id = c.in-Some.id in
+    let n : EntryView = record { pid = c.args.pid; input = c.args.input.now; guess = Some id } in
+    let a : Parts = record { slots = c.self.inside.logs.slots; opens = c.self.inside.opens.items; guesses = c.self.inside.guesses.view; texts = c.self.inside.terminals } in
+    let b : Parts = record { slots = c.perform.new.logs.slots; opens = c.push_reserved.new.self.items; guesses = c.draw.new.self.view; texts = c.perform.new.terminals } in
+    let accepted = subst (λ (p : Parts). perform (look_at p.slots) (act scripts n.pid n.input) ≡ Ok (effect_of (look_at p.slots) n.pid n.input plan)) (sym c.self.view_is) c.requires.accepted in
+    let tags = subst (λ (p : Parts). c.in_ok-tags.tags ≡ step_tags (undo_state_of p) (planned_effect p n plan)) (sym c.self.view_is) c.in_ok-tags.ensures in
+    let opens = c.push_reserved.ensures.items ∙ (λ i. c.reserve.ensures.items i ++ (id, c.in_ok-own_tags.ensures i) ∷ []) in
+    let took = took_of scripts a b n plan c.in_ok-tags.tags accepted tags c.in_ok-perform.ensures.writes opens in
+    let says = c.in_ok-perform.ensures.says ∙ ap (λ ts. texts_after a.texts ts (said_by plan)) tags in
+    let guesses = c.in-Ok.ensures.draws.2 ∙ ap drawn c.reserve-2.ensures.view in
+    subst (λ (p : Parts). Takes (plain scripts) (machine_of p) (record { pid = n.pid; input = n.input; guess = Some (next_of p.guesses) }) (machine_of b)) c.self.view_is
+    (takes_guess scripts a b n.pid n.input id plan c.in-Some.ensures.value accepted took says guesses)

@@ -1,0 +1,111 @@
+//! Whose the calls of a history are, and in which order each worker made its own.
+ghost use Rattle.std.specs.Prelude.{◌≤◌};
+
+use crate::finding::Finding;
+use sk_crew::Plan;
+use sk_ids::{Entity, Pid};
+use sk_kernel::Kernel;
+use sk_plain::Refusal;
+use sk_workers::{Answered, Call, Entry};
+use std::alloc::{AllocFailed, Global};
+
+/// The processes of a worker: those whose places, by rising number from 0, are its own number modulo that of the workers.
+fn processes_of(
+    alloc: Global,
+    present: &[Entity],
+    workers: u8,
+    worker: u8,
+) -> Result<Vec<Pid>, AllocFailed<Pid>>
+    requires { 1 ≤ workers }
+{
+    let mut place = 0usize;
+    let mut own = Vec::new(alloc);
+    for entity in present {
+        if let Entity::Proc(pid) = entity {
+            if place % usize::from(workers) == usize::from(worker) {
+                own.push(*pid)?;
+            }
+            place = place.saturating_add(1);
+        }
+    }
+    Ok(own)
+}
+
+/// How far a worker is.
+#[derive(Clone, Copy)]
+struct Progress {
+    turns: u32,
+    /// The turns of this round.
+    taken: usize,
+    /// Whether each turn of this round was answered `Ended`.
+    is_ended: bool,
+    has_stopped: bool,
+}
+
+/// Whether a worker's turns go round its processes, one each, until a whole round was answered `Ended`, or for as many turns
+/// as the plan says.
+fn judge_turns(own: &[Pid], plan: Plan, worker: u8, entries: &[Entry]) -> Result<(), Finding> {
+    let mut progress = Progress {
+        turns: 0,
+        taken: 0,
+        is_ended: true,
+        has_stopped: own.is_empty(),
+    };
+    for (place, entry) in entries.iter().enumerate() {
+        let Call::Turn(pid) = entry.call else {
+            continue;
+        };
+        if entry.worker != worker {
+            continue;
+        }
+        if progress.has_stopped || own.get(progress.taken) != Some(&pid) {
+            return Err(Finding::Turn(place));
+        }
+        progress.pass(own.len(), entry.answer);
+    }
+    if progress.has_stopped || progress.turns == plan.turns {
+        Ok(())
+    } else {
+        Err(Finding::Stopped(worker))
+    }
+}
+
+impl Progress {
+    /// Goes on after a turn of one of so many processes.
+    fn pass(&mut self, count: usize, answer: Answered) {
+        self.turns = self.turns.saturating_add(1);
+        self.taken = self.taken.saturating_add(1);
+        self.is_ended = self.is_ended && answer == Answered::Turned(Err(Refusal::Ended));
+        if self.taken == count {
+            self.has_stopped = self.is_ended;
+            self.taken = 0;
+            self.is_ended = true;
+        }
+    }
+}
+
+/// Whether each worker made the turns that are its own, on a kernel just booted, and worker 0 gave the replies.
+pub fn judge_calls(
+    alloc: Global,
+    booted: &Kernel,
+    plan: Plan,
+    entries: &[Entry],
+) -> Result<(), Finding>
+    requires { 1 ≤ plan.workers }
+{
+    for (place, entry) in entries.iter().enumerate() {
+        let is_own = match entry.call {
+            Call::Turn(_) => entry.worker < plan.workers,
+            Call::Reply(_) => entry.worker == 0,
+        };
+        if !is_own {
+            return Err(Finding::Owner(place));
+        }
+    }
+    let present = booted.entities()?;
+    for worker in 0..plan.workers {
+        let own = processes_of(alloc, &present, plan.workers, worker)?;
+        judge_turns(&own, plan, worker, entries)?;
+    }
+    Ok(())
+}

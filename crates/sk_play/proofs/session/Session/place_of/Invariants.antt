@@ -1,7 +1,0 @@
--- A token of the guess is held where one is among those that are left to look at.
-use Rattle.std.proofs.Common.{◌≡◌, drop}
-use Rattle.sk_holder.specs.Tokens.{is_held}
-use Rattle.sk_play.proofs.session.Session.place_of.Given as goal
-
-abbrev pub invariant-loop-place : goal.invariant-loop-place
-invariant-loop-place l = is_held l.id l.token-items ≡ is_held l.id (drop l.place l.token-items)

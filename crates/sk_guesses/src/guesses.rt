@@ -1,5 +1,5 @@
 //! The guesses that a kernel drew.
-ghost use Rattle.std.specs.Prelude.{◌≡◌, ◌≤◌, ◌+◌, Some, IfSome, IsOk, OnOk, false, not, is_some};
+ghost use Rattle.std.specs.Prelude.{◌≡◌, ◌≢◌, ◌≤◌, ◌+◌, Some, IfSome, IsOk, OnOk, false, not, is_some};
 ghost use Rattle.sk_record.specs.declared.status.Status.TheVariants.{Undecided, Committed, Failed, Struck};
 ghost use Rattle.sk_ids.specs.declared.guess.TheConstants.{LAST_GUESS};
 ghost use Rattle.sk_guesses.specs.declared.guesses.TheConstants.{GUESS_LIMIT};
@@ -179,31 +179,42 @@ impl Guesses {
         }
     }
 
-    /// Commits an undecided guess.
+    /// Commits a guess; one that is not undecided stays as it is.
     pub fn commit(&mut self, id: GuessId)
-        requires { status_of self.old.view id ≡ Some Undecided }
-        ensures { self.new.view ≡ decided self.old.view id Committed }
+        ensures undecided { status_of self.old.view id ≡ Some Undecided → self.new.view ≡ decided self.old.view id Committed }
+        ensures other { status_of self.old.view id ≢ Some Undecided → self.new.view ≡ self.old.view }
     {
         self.decide(id, Drawn::Committed);
     }
 
-    /// Fails an undecided guess.
+    /// Fails a guess; one that is not undecided stays as it is.
     pub fn fail(&mut self, id: GuessId)
-        requires { status_of self.old.view id ≡ Some Undecided }
-        ensures { self.new.view ≡ decided self.old.view id Failed }
+        ensures undecided { status_of self.old.view id ≡ Some Undecided → self.new.view ≡ decided self.old.view id Failed }
+        ensures other { status_of self.old.view id ≢ Some Undecided → self.new.view ≡ self.old.view }
     {
         self.decide(id, Drawn::Failed);
     }
 
-    /// Strikes an undecided guess, whose step another's failure took away.
+    /// Strikes a guess, whose step another's failure took away; one that is not undecided stays as it
+    /// is.
     pub fn strike(&mut self, id: GuessId)
-        requires { status_of self.old.view id ≡ Some Undecided }
-        ensures { self.new.view ≡ decided self.old.view id Struck }
+        ensures undecided { status_of self.old.view id ≡ Some Undecided → self.new.view ≡ decided self.old.view id Struck }
+        ensures other { status_of self.old.view id ≢ Some Undecided → self.new.view ≡ self.old.view }
     {
         self.decide(id, Drawn::Struck);
     }
 
     fn decide(&mut self, id: GuessId, to: Drawn)
+        requires { is_undecided (shown to) ≡ false }
+        ensures undecided { status_of self.old.view id ≡ Some Undecided → self.new.view ≡ decided self.old.view id (shown to) }
+        ensures other { status_of self.old.view id ≢ Some Undecided → self.new.view ≡ self.old.view }
+    {
+        if self.status(id) == Some(Status::Undecided) {
+            self.close(id, to);
+        }
+    }
+
+    fn close(&mut self, id: GuessId, to: Drawn)
         requires was { status_of self.old.view id ≡ Some Undecided }
         requires becomes { is_undecided (shown to) ≡ false }
         ensures { self.new.view ≡ decided self.old.view id (shown to) }

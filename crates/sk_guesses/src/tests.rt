@@ -26,16 +26,13 @@ fn sixty_four_guesses(rt: HostRuntime) -> Result<(), Fail> {
     Ok(())
 }
 
-/// Decides the guess so, where it is undecided.
+/// Decides the guess so.
 fn decide(guesses: &mut Guesses, id: GuessId, to: Status) {
-    match guesses.status(id) {
-        Some(Status::Undecided) => match to {
-            Status::Undecided => {}
-            Status::Committed => guesses.commit(id),
-            Status::Failed => guesses.fail(id),
-            Status::Struck => guesses.strike(id),
-        },
-        _ => {}
+    match to {
+        Status::Undecided => {}
+        Status::Committed => guesses.commit(id),
+        Status::Failed => guesses.fail(id),
+        Status::Struck => guesses.strike(id),
     }
 }
 
@@ -72,6 +69,15 @@ fn tokens_after_a_decision(rt: HostRuntime) -> Result<(), Fail> {
         assert_eq!(rt; answer, want);
         assert_eq!(rt; guesses.status(id), Some(to));
     }
+    for (id, was, _) in rows {
+        if was != Status::Undecided {
+            for to in [Status::Committed, Status::Failed, Status::Struck] {
+                decide(&mut guesses, id, to);
+                assert_eq!(rt; guesses.status(id), Some(was));
+            }
+        }
+    }
+    guesses.commit(fifth);
     assert_eq!(rt; guesses.undecided(), 1);
     assert_eq!(rt; guesses.status(fifth), None);
     Ok(())

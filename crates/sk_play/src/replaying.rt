@@ -6,12 +6,15 @@ use crate::{Answer, Session};
 use sk_scenario::Call;
 use sk_trace::Event;
 use std::alloc::AllocError;
+use thiserror::Error;
 
 /// Why a trace was not replayed to its end.
-#[derive(Clone, Copy, Debug, PartialEq, Eq)]
+#[derive(Clone, Copy, Debug, PartialEq, Eq, Error)]
 pub enum Unreplayed {
     /// The entry of this number, from 1, does not happen as the trace has it.
+    #[error("entry {0} does not happen")]
     Entry(usize),
+    #[error("out of memory")]
     Memory,
 }
 

@@ -1,12 +1,14 @@
 //! Why writing stopped before its end.
 use std::alloc::AllocError;
 use std::io;
+use thiserror::Error;
 
 /// Why a run stopped before its end.
-#[derive(Clone, Copy, Debug, PartialEq, Eq)]
+#[derive(Clone, Copy, Debug, PartialEq, Eq, Error)]
 pub enum Stop {
+    #[error("out of memory")]
     Memory,
-    /// A write was refused.
+    #[error("the output refused a write")]
     Output,
 }
 

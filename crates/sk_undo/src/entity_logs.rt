@@ -122,20 +122,24 @@ impl ObjectLog {
         self.log.note(tags, ObjectUndo::Birth)
     }
 
-    /// Undoes the writes that rest on the guess, without memory. The value is as the last note left it.
+    /// Undoes the writes that rest on the guess, without memory; the room that was made stays. The
+    /// value is as the last note left it.
     pub fn unwind(&mut self, value: &mut Option<Value>, guess: GuessId)
         requires { CanGoBack ObjectFits object_undone value.old (reverse (object_notes self.old)) }
         ensures value { value.new ≡ unwound guess (log_of object_undone value.old (object_notes self.old)) value.old }
         ensures log { log_of object_undone value.new (object_notes self.new) ≡ cut guess (log_of object_undone value.old (object_notes self.old)) }
         ensures can { CanGoBack ObjectFits object_undone value.new (reverse (object_notes self.new)) }
+        ensures room { ObjectRoom self.old → ObjectRoom self.new }
     {
         self.log.unwind(value, guess);
     }
 
-    /// Takes a guess out of all notes, and drops those that then rest on nothing, without memory.
+    /// Takes a guess out of all notes, and drops those that then rest on nothing, without memory; the
+    /// room that was made stays.
     pub fn commit(&mut self, guess: GuessId)
         ensures log { (now : Option Value) → log_of object_undone now (object_notes self.new) ≡ committed guess (log_of object_undone now (object_notes self.old)) }
         ensures can { (now : Option Value) → CanGoBack ObjectFits object_undone now (reverse (object_notes self.old)) → CanGoBack ObjectFits object_undone now (reverse (object_notes self.new)) }
+        ensures room { ObjectRoom self.old → ObjectRoom self.new }
     {
         self.log.commit(guess);
     }
@@ -193,20 +197,23 @@ impl ProcessLog {
         self.log.note(tags, ProcessUndo::Birth)
     }
 
-    /// Undoes the writes that rest on the guess, without memory.
+    /// Undoes the writes that rest on the guess, without memory; the room that was made stays.
     pub fn unwind(&mut self, value: &mut Option<Process>, guess: GuessId)
         requires { CanGoBack ProcessFits process_undone value.old (reverse (process_notes self.old)) }
         ensures value { value.new ≡ unwound guess (log_of process_undone value.old (process_notes self.old)) value.old }
         ensures log { log_of process_undone value.new (process_notes self.new) ≡ cut guess (log_of process_undone value.old (process_notes self.old)) }
         ensures can { CanGoBack ProcessFits process_undone value.new (reverse (process_notes self.new)) }
+        ensures room { ProcessRoom self.old → ProcessRoom self.new }
     {
         self.log.unwind(value, guess);
     }
 
-    /// Takes a guess out of all notes, and drops those that then rest on nothing, without memory.
+    /// Takes a guess out of all notes, and drops those that then rest on nothing, without memory; the
+    /// room that was made stays.
     pub fn commit(&mut self, guess: GuessId)
         ensures log { (now : Option Process) → log_of process_undone now (process_notes self.new) ≡ committed guess (log_of process_undone now (process_notes self.old)) }
         ensures can { (now : Option Process) → CanGoBack ProcessFits process_undone now (reverse (process_notes self.old)) → CanGoBack ProcessFits process_undone now (reverse (process_notes self.new)) }
+        ensures room { ProcessRoom self.old → ProcessRoom self.new }
     {
         self.log.commit(guess);
     }

@@ -52,20 +52,23 @@ impl<U: Undoing> GrowingLog<U> {
         Ok(())
     }
 
-    /// Undoes the writes that rest on the guess, without memory.
+    /// Undoes the writes that rest on the guess, without memory; the room that was made stays.
     pub fn unwind(&mut self, value: &mut Option<U::Of>, guess: GuessId)
         requires { CanGoBack U.fits U.undone value.old (reverse self.old.log.notes.items) }
         ensures value { value.new ≡ unwound guess (log_of U.undone value.old self.old.log.notes.items) value.old }
         ensures log { log_of U.undone value.new self.new.log.notes.items ≡ cut guess (log_of U.undone value.old self.old.log.notes.items) }
         ensures can { CanGoBack U.fits U.undone value.new (reverse self.new.log.notes.items) }
+        ensures room { HasRoom self.old.log.notes → HasRoom self.new.log.notes }
     {
         self.log.unwind(value, guess);
     }
 
-    /// Takes a guess out of all notes, and drops those that then rest on nothing, without memory.
+    /// Takes a guess out of all notes, and drops those that then rest on nothing, without memory; the
+    /// room that was made stays.
     pub fn commit(&mut self, guess: GuessId)
         ensures log { (now : Option U.Of) → log_of U.undone now self.new.log.notes.items ≡ committed guess (log_of U.undone now self.old.log.notes.items) }
         ensures can { (now : Option U.Of) → CanGoBack U.fits U.undone now (reverse self.old.log.notes.items) → CanGoBack U.fits U.undone now (reverse self.new.log.notes.items) }
+        ensures room { HasRoom self.old.log.notes → HasRoom self.new.log.notes }
     {
         self.log.commit(guess);
     }

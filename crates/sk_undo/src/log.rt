@@ -1,6 +1,6 @@
 //! The writes of one value, each with the guesses that it rests on and with what undoes it.
 ghost use Rattle.std.specs.Prelude.{◌≡◌, ◌≤◌, ◌+◌, ◌++◌, ◌∷◌, [], false, length, take, drop, Option, OnOk, OnErr, IsOk, reverse};
-ghost use Rattle.std.specs.Vec.{vec_len};
+ghost use Rattle.std.specs.Vec.{vec_len, vec_capacity};
 ghost use Rattle.std.specs.List.{prefix_len};
 ghost use Rattle.sk_record.specs.Notes.{unwound, cut};
 ghost use Rattle.sk_record.specs.UndoState.{IsGrowing};
@@ -48,6 +48,8 @@ pub struct Log<U> {
 fn lighten<U: Undoing>(notes: &mut Vec<Note<U>>, guess: GuessId) -> usize
     ensures notes { notes.new.items ≡ take result notes.old.items ++ lightened guess (drop result notes.old.items) }
     ensures before { rests_last guess (reverse (take result notes.old.items)) ≡ false }
+    ensures len { vec_len notes.new ≡ vec_len notes.old }
+    ensures capacity { vec_capacity notes.new ≡ vec_capacity notes.old }
 {
     let mut before = notes.as_slice().len();
     while before > 0 && notes[before - 1].tags.contains(guess) {
@@ -72,7 +74,9 @@ fn is_bare<U: Undoing>(note: &Note<U>) -> bool
 
 /// Drops the oldest notes, up to the first that has tags.
 fn drop_bare<U: Undoing>(notes: &mut Vec<Note<U>>)
-    ensures { notes.new.items ≡ dropped notes.old.items }
+    ensures notes { notes.new.items ≡ dropped notes.old.items }
+    ensures len { vec_len notes.new ≤ vec_len notes.old }
+    ensures capacity { vec_capacity notes.new ≡ vec_capacity notes.old }
 {
     let bare = bare_count(notes.as_slice());
     if bare > 0 {
@@ -83,7 +87,9 @@ fn drop_bare<U: Undoing>(notes: &mut Vec<Note<U>>)
 /// Drops the oldest notes.
 fn drop_front<U: Undoing>(notes: &mut Vec<Note<U>>, count: usize)
     requires { count ≤ length notes.old.items }
-    ensures { notes.new.items ≡ drop count notes.old.items }
+    ensures notes { notes.new.items ≡ drop count notes.old.items }
+    ensures len { vec_len notes.new ≤ vec_len notes.old }
+    ensures capacity { vec_capacity notes.new ≡ vec_capacity notes.old }
 {
     notes.drain(..count);
 }
@@ -139,6 +145,7 @@ impl<U: Undoing> Log<U> {
         ensures value { value.new ≡ before_last value.old (seen U.undone value.old (reverse self.old.notes.items)) }
         ensures notes { reverse self.new.notes.items ≡ less (reverse self.old.notes.items) }
         ensures fewer { vec_len self.new.notes + 1 ≡ vec_len self.old.notes }
+        ensures capacity { vec_capacity self.new.notes ≡ vec_capacity self.old.notes }
         ensures can { CanGoBack U.fits U.undone value.new (reverse self.new.notes.items) }
     {
         match self.notes.pop() {
@@ -158,12 +165,13 @@ impl<U: Undoing> Log<U> {
     }
 
     /// Undoes the writes that rest on the guess, which are the newest where each note rests on
-    /// what those before it rest on. It takes no memory.
+    /// what those before it rest on. It takes no memory, and leaves the room that was made.
     pub fn unwind(&mut self, value: &mut Option<U::Of>, guess: GuessId)
         requires can { CanGoBack U.fits U.undone value.old (reverse self.old.notes.items) }
         ensures value { IsGrowing (log_of U.undone value.old self.old.notes.items) → value.new ≡ unwound guess (log_of U.undone value.old self.old.notes.items) value.old }
         ensures log { IsGrowing (log_of U.undone value.old self.old.notes.items) → log_of U.undone value.new self.new.notes.items ≡ cut guess (log_of U.undone value.old self.old.notes.items) }
         ensures can { CanGoBack U.fits U.undone value.new (reverse self.new.notes.items) }
+        ensures room { HasRoom self.old.notes → HasRoom self.new.notes }
     {
         while self.rests_last(guess) {
             self.undo_last(value);
@@ -172,10 +180,11 @@ impl<U: Undoing> Log<U> {
 
     /// Takes a guess out of all notes, and drops those that then rest on nothing. The first are the
     /// newest, and the others the oldest, where each note rests on what those before it rest on. It takes
-    /// no memory, and looks at the notes alone that rest on the guess.
+    /// no memory, leaves the room that was made, and looks at the notes alone that rest on the guess.
     pub fn commit(&mut self, guess: GuessId)
         ensures notes { Grows self.old.notes.items → self.new.notes.items ≡ dropped (lightened guess self.old.notes.items) }
         ensures can { (now : Option U.Of) → CanGoBack U.fits U.undone now (reverse self.old.notes.items) → CanGoBack U.fits U.undone now (reverse self.new.notes.items) }
+        ensures room { HasRoom self.old.notes → HasRoom self.new.notes }
     {
         lighten(&mut self.notes, guess);
         drop_bare(&mut self.notes);

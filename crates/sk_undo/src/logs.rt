@@ -93,14 +93,6 @@ impl Logs {
         self.slots.entities()
     }
 
-    /// Whether something is noted of an entity.
-    #[tactic(auto, using(crate::proofs::SeenNotes::none_reverse))]
-    pub fn is_noted(&self, entity: Entity) -> bool
-        ensures { result ≡ not (is_empty (log_at self.now.slots entity)) }
-    {
-        self.slots.is_noted(entity)
-    }
-
     /// The tags of the next step.
     pub fn set_tags(&mut self, tags: TagSet)
         ensures { self.new ≡ record { slots = self.old.slots; tags = tags } }

@@ -134,13 +134,6 @@ impl Slot {
         self.value.as_ref()
     }
 
-    /// Whether something is noted of it.
-    pub fn is_noted(&self) -> bool
-        ensures { result ≡ not (is_empty self.now.log) }
-    {
-        !is_unnoted(&self.value, &self.log)
-    }
-
     /// Sets what is there, and answers what takes it back where that is not noted.
     pub fn set(
         &mut self,

@@ -116,16 +116,6 @@ impl Slots {
         }
     }
 
-    /// Whether something is noted of an entity.
-    pub fn is_noted(&self, entity: Entity) -> bool
-        ensures { result ≡ not (is_empty (slot_in (map.get self.now entity)).log) }
-    {
-        match self.slot(entity) {
-            Some(slot) => slot.is_noted(),
-            None => false,
-        }
-    }
-
     /// The tags of an entity, where it has a slot.
     pub fn tags(&self, entity: Entity) -> Option<&TagSet>
         ensures { unwrap_or (option_copied result) [] ≡ last_tags [] (log_at self.now entity) }

@@ -10,14 +10,17 @@ use sk_script::Boot;
 use sk_trace::{Entry, Trace};
 use std::alloc::{AllocError, Global};
 use std::io::Write;
+use thiserror::Error;
 
 /// Why a trace was not run to its report.
-#[derive(Clone, Copy, Debug, PartialEq, Eq)]
+#[derive(Clone, Copy, Debug, PartialEq, Eq, Error)]
 pub enum Unrun {
     /// The entry of this number, from 1, can't stand there.
+    #[error("entry {0} can't stand there")]
     Entry(usize),
+    #[error("out of memory")]
     Memory,
-    /// A write was refused.
+    #[error("the output refused a write")]
     Output,
 }
 

@@ -25,6 +25,7 @@ use std::marker::Brand;
 use std::sync::Wait;
 use std::sync::ledger::Blank;
 use std::thread::Threads;
+use thiserror::Error;
 
 /// Runs the program on its words, of which the first is its own name. Of `work` each worker has a thread of its own and
 /// passes the gate before its turns, and the server has another; other commands are done as `run` does them. After a refused
@@ -130,10 +131,12 @@ fn work_on<R: Threads + Wait + Sync, W: Write + Drop, G: Gate + Sync>(
 }
 
 /// Why there is no report of a crew's work.
-#[derive(Clone, Copy, Debug, PartialEq, Eq)]
+#[derive(Clone, Copy, Debug, PartialEq, Eq, Error)]
 enum Unworked {
     /// Memory ran out, or the desk could not be closed, before anything was written.
+    #[error("the crew left no history")]
     Crew,
+    #[error("{0}")]
     Report(Stop),
 }
 

@@ -10,4 +10,4 @@ pub returns-clause-statuses : goal.returns-clause-statuses
 returns-clause-statuses c = λ g.
     c.strike_open.ensures.statuses g
     ∙ failure_is c.args.id c.args.opens.now (status_of c.args.guesses.now.view) (status_of c.fail.new.self.view)
-    (λ h. ap (λ v. status_of v h) c.fail.ensures ∙ status-decided c.args.guesses.now.view c.args.id Undecided Failed c.requires.undecided h) g
+    (λ h. ap (λ v. status_of v h) (c.fail.ensures.undecided c.requires.undecided) ∙ status-decided c.args.guesses.now.view c.args.id Undecided Failed c.requires.undecided h) g

@@ -11,13 +11,13 @@ drop_front-requires g c =
     let ns = c.args.notes.now.items in
     subst (λ k. k ≤ length ns) (sym (c.bare_count-bare.ensures ∙ ap (prefix_len (λ n. is_empty n.tags)) c.as_slice.ensures.value)) (within_notes ns)
 
-pub returns-then-bare-gt0 : goal.returns-then-bare-gt0
-returns-then-bare-gt0 g c =
+pub returns-then-bare-gt0-clause-notes : goal.returns-then-bare-gt0-clause-notes
+returns-then-bare-gt0-clause-notes g c =
     let ns = c.args.notes.now.items in
-    c.drop_front.ensures ∙ ap (λ k. drop k ns) (c.bare_count-bare.ensures ∙ ap (prefix_len (λ n. is_empty n.tags)) c.as_slice.ensures.value) ∙ dropped_is ns
+    c.drop_front.ensures.notes ∙ ap (λ k. drop k ns) (c.bare_count-bare.ensures ∙ ap (prefix_len (λ n. is_empty n.tags)) c.as_slice.ensures.value) ∙ dropped_is ns
 
-pub returns-else-bare-gt0 : goal.returns-else-bare-gt0
-returns-else-bare-gt0 g c =
+pub returns-else-bare-gt0-clause-notes : goal.returns-else-bare-gt0-clause-notes
+returns-else-bare-gt0-clause-notes g c =
     let ns = c.args.notes.now.items in
     let none = c.if-bare-gt0.false in
     none_dropped ns c.bare_count-bare.result (c.bare_count-bare.ensures ∙ ap (prefix_len (λ n. is_empty n.tags)) c.as_slice.ensures.value) (omega arith)

@@ -11,6 +11,8 @@ loop-before-init g c =
       from_end c.args.guess ns ∙ ap (λ k. lightened_from c.args.guess k ns) (sym long),
       omega arith,
       refl,
+      refl,
+      refl,
     )
 
 pub loop-before-preserved : goal.loop-before-preserved
@@ -26,6 +28,8 @@ loop-before-preserved g c =
           ∙ from_before c.args.guess c.loop-before.before j ns c.loop-before.notes.items c.index_mut.result.now next lt c.loop-before.invariant.0 item,
       omega arith,
       length-set c.loop-before.notes.items j _ ∙ c.loop-before.invariant.2,
+      c.loop-before.invariant.3,
+      c.loop-before.invariant.4,
     )
 
 pub returns-else-contains-clause-before : goal.returns-else-contains-clause-before

@@ -17,7 +17,7 @@ returns-clause-commits c =
     let undecided : status_of a.guesses c.args.id ≡ Some Undecided = ap (λ (p : Parts). status_of p.guesses c.args.id) c.self.view_is ∙ c.requires.undecided in
     subst (λ (p : Parts). Commits (machine_of p) c.args.id (machine_of b)) c.self.view_is
     (commits_of a b c.args.id c.commit.ensures.slots c.close.ensures
-    (λ h. ap (λ g. status_of g h) c.commit-2.ensures ∙ status-decided a.guesses c.args.id Undecided Committed undecided h)
+    (λ h. ap (λ g. status_of g h) (c.commit-2.ensures.undecided undecided) ∙ status-decided a.guesses c.args.id Undecided Committed undecided h)
     c.commit-3.ensures.texts)
 
 pub forget-requires-clause-listed : goal.forget-requires-clause-listed

@@ -7,9 +7,9 @@ use Rattle.sk_undo.proofs.log.Log.commit.Goals as goal
 
 pub returns-clause-notes : goal.returns-clause-notes
 returns-clause-notes g c grows =
-    c.drop_bare.ensures ∙ ap dropped (c.lighten.ensures.notes ∙ whole_pass c.args.guess c.lighten.result c.args.self.now.notes.items c.lighten.ensures.before grows)
+    c.drop_bare.ensures.notes ∙ ap dropped (c.lighten.ensures.notes ∙ whole_pass c.args.guess c.lighten.result c.args.self.now.notes.items c.lighten.ensures.before grows)
 
 pub returns-clause-can : goal.returns-clause-can
 returns-clause-can g c now can =
-    subst (λ ns. CanGoBack g.U.Undoing.fits g.U.Undoing.undone now (reverse ns)) (sym (c.drop_bare.ensures ∙ ap dropped c.lighten.ensures.notes))
+    subst (λ ns. CanGoBack g.U.Undoing.fits g.U.Undoing.undone now (reverse ns)) (sym (c.drop_bare.ensures.notes ∙ ap dropped c.lighten.ensures.notes))
     (commit_can g.U.Undoing.fits g.U.Undoing.undone c.args.guess c.lighten.result now c.args.self.now.notes.items can)

@@ -1,11 +1,14 @@
--- What is left unwinds to the same, and can be undone.
-use Rattle.std.proofs.Common.{vec_len}
+-- What is left unwinds to the same, and can be undone; the room stays.
+use Rattle.std.proofs.Common.{◌≡◌, ◌≤◌, vec_len}
+use Rattle.std.specs.Vec.{vec_capacity}
 use Rattle.std.specs.Prelude.{reverse}
 use Rattle.sk_undo.proofs.SeenNotes.{Left}
 use Rattle.sk_undo.proofs.log.Log.unwind.Given as goal
 
 abbrev pub invariant-loop-guess : goal.invariant-loop-guess
-invariant-loop-guess g l = Left g.U.Undoing.fits g.U.Undoing.undone l.guess l.fn.value l.value (reverse l.fn.self.notes.items) (reverse l.self.notes.items)
+invariant-loop-guess g l =
+    Left g.U.Undoing.fits g.U.Undoing.undone l.guess l.fn.value l.value (reverse l.fn.self.notes.items) (reverse l.self.notes.items)
+    × (vec_len l.self.notes ≤ vec_len l.fn.self.notes) × (vec_capacity l.self.notes ≡ vec_capacity l.fn.self.notes)
 
 abbrev pub decreases-loop-guess : goal.decreases-loop-guess
 decreases-loop-guess g l = vec_len l.self.notes

@@ -10,7 +10,7 @@ use Rattle.sk_guesses.specs.Drawn.{shown}
 use Rattle.sk_guesses.specs.declared.guesses.Drawn.TheVariants as drawn
 use Rattle.sk_guesses.proofs.Decided.{place-of, undecided-decided}
 use Rattle.sk_guesses.proofs.Open.{holds-decide, within-shown}
-use Rattle.sk_guesses.proofs.guesses.Guesses.decide.Goals as goal
+use Rattle.sk_guesses.proofs.guesses.Guesses.close.Goals as goal
 
 pub invariant_of-self : goal.invariant_of-self
 invariant_of-self c =

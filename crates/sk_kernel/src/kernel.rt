@@ -1,13 +1,11 @@
 //! The speculative kernel.
-ghost use Rattle.std.specs.Prelude.{◌≡◌, ◌↔◌, ℕ, true, length, IfOk, IfErr, IfSome, MatchOption, None, Some, []};
+ghost use Rattle.std.specs.Prelude.{◌≡◌, ◌↔◌, ℕ, true, length, IfOk, IfSome, MatchOption, None, Some, []};
 ghost use Rattle.std.specs.FinMap as map;
 ghost use Rattle.std.specs.List.Sorted.{IsStrictlySortedBy};
 ghost use Rattle.sk_ids.specs.Entity.{entity_cmp};
 ghost use Rattle.sk_record.specs.Notes.{has};
 ghost use Rattle.sk_plain.specs.Next.{next_of};
-ghost use Rattle.sk_record.specs.Step.{perform};
-ghost use Rattle.sk_plain.specs.Act.{act};
-ghost use Rattle.sk_plain.specs.Planned.{refusal_of, planned, CanDo, IsBeside, IsPlainRefusal};
+ghost use Rattle.sk_plain.specs.Planned.{refusal_of, PlansStep};
 ghost use Rattle.sk_plain.specs.Refusal.{cause};
 ghost use Rattle.sk_plain.specs.View.{Shows};
 ghost use Rattle.sk_trace.specs.declared.event.Event.TheVariants as events;
@@ -76,10 +74,7 @@ impl Model for Kernel {
 
 /// What a step with an input will do, or why it is refused, by the scripts of the opening.
 fn plan_at(machine: &Machine, opening: &Opening, pid: Pid, input: &Input) -> Result<Plan, Refusal>
-    ensures plans { perform (look_at machine.now.slots) (act opening.now.start.scripts pid input.now) ≡ planned (look_at machine.now.slots) pid input.now result }
-    ensures can { IfOk result (λ plan. CanDo (look_at machine.now.slots) plan.beside) }
-    ensures apart { IfOk result (λ plan. IsBeside pid plan.beside) }
-    ensures named { IfErr result IsPlainRefusal }
+    ensures { PlansStep (look_at machine.now.slots) opening.now.start.scripts pid input.now result }
 {
     plan_step(machine, opening.scripts(), pid, input)
 }

@@ -1,5 +1,5 @@
 -- The rows of the table on new objects and on files.
-use Rattle.std.specs.Prelude.{ℕ, ◌+◌, ◌==◌, nat_lt, nat_le, List, length, Option, Some, None, slice_set, if◌then◌else◌}
+use Rattle.std.specs.Prelude.{ℕ, ◌+◌, ◌==◌, nat_lt, nat_le, List, length, Option, Some, None, Result, Ok, Err, slice_set, if◌then◌else◌}
 use Rattle.sk_ids.specs.declared.pid.ObjId.{ObjId}
 use Rattle.sk_ids.specs.declared.entity.Entity.TheVariants.{Obj}
 use Rattle.sk_ids.specs.declared.text.TheConstants.{TEXT_LIMIT}
@@ -14,8 +14,9 @@ use Rattle.sk_script.specs.declared.register.Val.TheVariants as vals
 use Rattle.sk_script.specs.declared.process.Process.{Process}
 use Rattle.sk_store.specs.declared.entity_state.EntityState.{EntityState}
 use Rattle.sk_store.specs.declared.entity_state.EntityState.TheVariants as stored
+use Rattle.sk_plain.specs.declared.refusal.Errno.{Errno}
 use Rattle.sk_plain.specs.declared.refusal.Errno.TheVariants.{BadObject, IsDirectory, Invalid, TooBig, NoSpace}
-use Rattle.sk_plain.specs.Rows.{StepTree, answered, failed, filled, alone, with_write, on_object, on_number}
+use Rattle.sk_plain.specs.Rows.{StepTree, answered, failed, filled, alone, with_write, on_object, or_failed, on_number}
 
 -- the last value of the counter of objects
 abbrev pub LAST_OBJECT : ℕ
@@ -44,16 +45,16 @@ made pid p r kind =
 
 -- ---- files
 
--- a row that is about the bytes of a file: the error 9 where there is no object, 21 at a directory, 22 at a pipe
+-- the bytes of the file that is there: the error 9 where there is no object, 21 at a directory, 22 at a pipe
+abbrev pub file_in : Option EntityState → Result (List ℕ) Errno
+file_in (Some (stored.Value (values.File bytes))) = Ok bytes
+file_in (Some (stored.Value (values.Dir links))) = Err IsDirectory
+file_in (Some (stored.Value (values.Pipe held))) = Err Invalid
+file_in _ = Err BadObject
+
+-- a row about the bytes of a file
 abbrev pub on_file : ℕ → Process → (List ℕ → StepTree) → Option EntityState → StepTree
-on_file pid p row (Some (stored.Value (values.File bytes))) = row bytes
-on_file pid p row (Some (stored.Value (values.Dir links))) = alone pid (failed p IsDirectory)
-on_file pid p row (Some (stored.Value (values.Pipe held))) = alone pid (failed p Invalid)
-on_file pid p row (Some (stored.Value (values.Signals queue))) = alone pid (failed p BadObject)
-on_file pid p row (Some (stored.Value (values.Exit status))) = alone pid (failed p BadObject)
-on_file pid p row (Some (stored.Value (values.Copy content))) = alone pid (failed p BadObject)
-on_file pid p row (Some (stored.Process q)) = alone pid (failed p BadObject)
-on_file pid p row None = alone pid (failed p BadObject)
+on_file pid p row there = or_failed pid p row (file_in there)
 
 -- `size rF`
 abbrev pub size : ℕ → Process → Option ObjId → StepTree

@@ -1,5 +1,5 @@
 -- The rows of the table on directories.
-use Rattle.std.specs.Prelude.{ℕ, nat_lt, List, length, Option, Some, None, if◌then◌else◌}
+use Rattle.std.specs.Prelude.{ℕ, nat_lt, List, length, Option, Some, None, Result, Ok, Err, if◌then◌else◌}
 use Rattle.sk_ids.specs.declared.pid.ObjId.{ObjId}
 use Rattle.sk_ids.specs.declared.entity.Entity.TheVariants.{Obj}
 use Rattle.sk_objects.specs.Directory.{Link as Entry, looked_up}
@@ -12,19 +12,20 @@ use Rattle.sk_script.specs.declared.process.Process.{Process}
 use Rattle.sk_script.specs.Private.{given}
 use Rattle.sk_store.specs.declared.entity_state.EntityState.{EntityState}
 use Rattle.sk_store.specs.declared.entity_state.EntityState.TheVariants as stored
+use Rattle.sk_plain.specs.declared.refusal.Errno.{Errno}
 use Rattle.sk_plain.specs.declared.refusal.Errno.TheVariants.{BadObject, NotLinked, Exists, NotDirectory, NoSpace}
-use Rattle.sk_plain.specs.Rows.{StepTree, answered, failed, alone, with_write, on_object}
+use Rattle.sk_plain.specs.Rows.{StepTree, answered, failed, alone, with_write, on_object, or_failed}
 
--- a row that is about the names of a directory: the error 9 where there is no object, 20 at another object
+-- the names of the directory that is there: the error 9 where there is no object, 20 at another object
+abbrev pub directory_in : Option EntityState → Result (List Entry) Errno
+directory_in (Some (stored.Value (values.Dir links))) = Ok links
+directory_in (Some (stored.Value (values.File bytes))) = Err NotDirectory
+directory_in (Some (stored.Value (values.Pipe held))) = Err NotDirectory
+directory_in _ = Err BadObject
+
+-- a row about the names of a directory
 abbrev pub on_directory : ℕ → Process → (List Entry → StepTree) → Option EntityState → StepTree
-on_directory pid p row (Some (stored.Value (values.Dir links))) = row links
-on_directory pid p row (Some (stored.Value (values.File bytes))) = alone pid (failed p NotDirectory)
-on_directory pid p row (Some (stored.Value (values.Pipe held))) = alone pid (failed p NotDirectory)
-on_directory pid p row (Some (stored.Value (values.Signals queue))) = alone pid (failed p BadObject)
-on_directory pid p row (Some (stored.Value (values.Exit status))) = alone pid (failed p BadObject)
-on_directory pid p row (Some (stored.Value (values.Copy content))) = alone pid (failed p BadObject)
-on_directory pid p row (Some (stored.Process q)) = alone pid (failed p BadObject)
-on_directory pid p row None = alone pid (failed p BadObject)
+on_directory pid p row there = or_failed pid p row (directory_in there)
 
 -- the object of a name, in a register
 abbrev pub named : ℕ → Process → ℕ → Option ObjId → StepTree

@@ -1,5 +1,5 @@
 -- The rows of the table on pipes.
-use Rattle.std.specs.Prelude.{ℕ, ◌+◌, ◌==◌, nat_le, Bool, true, false, [], length, take, Option, Some, None, min, if◌then◌else◌}
+use Rattle.std.specs.Prelude.{ℕ, ◌+◌, ◌==◌, nat_le, Bool, true, false, [], length, take, Option, Some, None, Result, Ok, Err, min, if◌then◌else◌}
 use Rattle.sk_record.specs.Step.{Refuse}
 use Rattle.sk_ids.specs.declared.pid.ObjId.{ObjId}
 use Rattle.sk_ids.specs.declared.entity.Entity.TheVariants.{Obj}
@@ -12,19 +12,20 @@ use Rattle.sk_script.specs.declared.process.Process.{Process}
 use Rattle.sk_store.specs.declared.entity_state.EntityState.{EntityState}
 use Rattle.sk_store.specs.declared.entity_state.EntityState.TheVariants as stored
 use Rattle.sk_plain.specs.declared.refusal.Refusal.TheVariants.{Blocked}
+use Rattle.sk_plain.specs.declared.refusal.Errno.{Errno}
 use Rattle.sk_plain.specs.declared.refusal.Errno.TheVariants.{BadObject, Invalid, BrokenPipe}
-use Rattle.sk_plain.specs.Rows.{StepTree, answered, failed, filled, alone, with_write, on_object, on_number}
+use Rattle.sk_plain.specs.Rows.{StepTree, answered, failed, filled, alone, with_write, on_object, or_failed, on_number}
 
--- a row that is about a pipe: the error 9 where there is no object, 22 at another object
+-- the pipe that is there: the error 9 where there is no object, 22 at another object
+abbrev pub pipe_in : Option EntityState → Result PipeView Errno
+pipe_in (Some (stored.Value (values.Pipe held))) = Ok held
+pipe_in (Some (stored.Value (values.File bytes))) = Err Invalid
+pipe_in (Some (stored.Value (values.Dir links))) = Err Invalid
+pipe_in _ = Err BadObject
+
+-- a row about a pipe
 abbrev pub on_pipe : ℕ → Process → (PipeView → StepTree) → Option EntityState → StepTree
-on_pipe pid p row (Some (stored.Value (values.Pipe held))) = row held
-on_pipe pid p row (Some (stored.Value (values.File bytes))) = alone pid (failed p Invalid)
-on_pipe pid p row (Some (stored.Value (values.Dir links))) = alone pid (failed p Invalid)
-on_pipe pid p row (Some (stored.Value (values.Signals queue))) = alone pid (failed p BadObject)
-on_pipe pid p row (Some (stored.Value (values.Exit status))) = alone pid (failed p BadObject)
-on_pipe pid p row (Some (stored.Value (values.Copy content))) = alone pid (failed p BadObject)
-on_pipe pid p row (Some (stored.Process q)) = alone pid (failed p BadObject)
-on_pipe pid p row None = alone pid (failed p BadObject)
+on_pipe pid p row there = or_failed pid p row (pipe_in there)
 
 -- the buffer appended, where the pipe is not shut; it waits where the buffer does not fit, and an empty one changes nothing
 abbrev pub put_in : ℕ → Process → ObjId → PipeView → StepTree

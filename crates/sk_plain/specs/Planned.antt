@@ -1,5 +1,5 @@
 -- What a plan stands for: the step's reads, writes and text.
-use Rattle.std.specs.Prelude.{◌≡◌, ◌<◌, ℕ, List, [], ◌∷◌, ◌++◌, map, false, Option, Some, None, Result, Ok, Err}
+use Rattle.std.specs.Prelude.{◌≡◌, ◌<◌, ℕ, List, [], ◌∷◌, ◌++◌, map, false, Option, Some, None, Result, Ok, Err, IfOk, IfErr}
 use Rattle.sk_record.specs.Step.{Effect, perform}
 use Rattle.sk_ids.specs.declared.entity.Entity.{Entity}
 use Rattle.sk_ids.specs.declared.entity.Entity.TheVariants.{Proc, Sig, Exit, Obj, Copy}
@@ -8,7 +8,7 @@ use Rattle.sk_objects.specs.declared.value.Value.TheVariants as values
 use Rattle.sk_script.specs.declared.process.Process.{Process}
 use Rattle.sk_script.specs.declared.instruction.Input.{Input}
 use Rattle.sk_script.specs.declared.instruction.Input.TheVariants as inputs
-use Rattle.sk_plain.specs.Act.{StepTree, Saying}
+use Rattle.sk_plain.specs.Act.{Scripts, StepTree, Saying, act}
 use Rattle.sk_store.specs.Changed.{changed, FitsAt}
 use Rattle.sk_store.specs.declared.entity_state.EntityState.{EntityState}
 use Rattle.sk_store.specs.declared.entity_state.EntityState.TheVariants as stored
@@ -80,18 +80,6 @@ effect_after reads look pid plan = record {
   said = said_by plan;
 }
 
--- what a plan does, but for what every step reads
-abbrev pub row_effect : (Entity → Option EntityState) → ℕ → Plan → Effect Entity EntityState Saying
-row_effect look pid plan = effect_after [] look pid plan
-
-abbrev pub rowed : (Entity → Option EntityState) → ℕ → Result Plan Refusal → Result (Effect Entity EntityState Saying) Refusal
-rowed look pid (Ok plan) = Ok (row_effect look pid plan)
-rowed look pid (Err why) = Err why
-
--- a plan is that of a row of the table, looked up here
-abbrev pub PlansRow : (Entity → Option EntityState) → ℕ → StepTree → Result Plan Refusal → Type 0
-PlansRow look pid row result = perform look row ≡ rowed look pid result
-
 -- the signals of the process are read by a step without input
 abbrev pub signals_read : ℕ → Input → List Entity
 signals_read pid inputs.None = Sig pid ∷ []
@@ -99,21 +87,14 @@ signals_read pid inputs.Good = []
 signals_read pid (inputs.Fresh content) = []
 signals_read pid (inputs.Stale content) = []
 
--- what a plan does once the process was looked at
-abbrev pub step_effect : (Entity → Option EntityState) → ℕ → Input → Plan → Effect Entity EntityState Saying
-step_effect look pid input plan = effect_after (signals_read pid input) look pid plan
-
-abbrev pub step_planned : (Entity → Option EntityState) → ℕ → Input → Result Plan Refusal → Result (Effect Entity EntityState Saying) Refusal
-step_planned look pid input (Ok plan) = Ok (step_effect look pid input plan)
-step_planned look pid input (Err why) = Err why
-
 -- the whole step
 abbrev pub effect_of : (Entity → Option EntityState) → ℕ → Input → Plan → Effect Entity EntityState Saying
 effect_of look pid input plan = effect_after (Proc pid ∷ signals_read pid input) look pid plan
 
-abbrev pub planned : (Entity → Option EntityState) → ℕ → Input → Result Plan Refusal → Result (Effect Entity EntityState Saying) Refusal
-planned look pid input (Ok plan) = Ok (effect_of look pid input plan)
-planned look pid input (Err why) = Err why
+-- what a plan or a refusal stands for, after these reads
+abbrev pub planned : List Entity → (Entity → Option EntityState) → ℕ → Result Plan Refusal → Result (Effect Entity EntityState Saying) Refusal
+planned reads look pid (Ok plan) = Ok (effect_after reads look pid plan)
+planned reads look pid (Err why) = Err why
 
 -- a change that is planned fits what is there
 abbrev pub CanBecome : Option EntityState → Becomes → Type 0
@@ -154,6 +135,21 @@ IsPlainRefusal Blocked = Unit {0}
 IsPlainRefusal TooMany = ⊥
 IsPlainRefusal TraceFull = ⊥
 IsPlainRefusal Memory = ⊥
+
+-- what a step does after these reads, looked up here: its plan, which fits what is there and writes no process but its own, or a refusal
+pub record PlansAfter (reads : List Entity) (look : Entity → Option EntityState) (pid : ℕ) (step : StepTree) (result : Result Plan Refusal) : Type 0 where
+  pub plans : perform look step ≡ planned reads look pid result
+  pub can : IfOk result (λ plan. CanDo look plan.beside)
+  pub apart : IfOk result (λ plan. IsBeside pid plan.beside)
+  pub named : IfErr result IsPlainRefusal
+
+-- that of a row of the table
+abbrev pub PlansRow : (Entity → Option EntityState) → ℕ → StepTree → Result Plan Refusal → Type 0
+PlansRow look pid row result = PlansAfter [] look pid row result
+
+-- that of the next step of a process with an input
+abbrev pub PlansStep : (Entity → Option EntityState) → Scripts → ℕ → Input → Result Plan Refusal → Type 0
+PlansStep look scripts pid input result = PlansAfter (Proc pid ∷ signals_read pid input) look pid (act scripts pid input) result
 
 -- an input that is a reply
 abbrev pub IsReply : Input → Type 0

@@ -1,5 +1,5 @@
 -- What the rows of the table of instructions are made of: what becomes of a process, what a register's value stands for, and what is written.
-use Rattle.std.specs.Prelude.{ℕ, ◌+◌, ◌&&◌, pos, negsuc, neg_ℤ, nat_le, List, [], ◌∷◌, Option, Some, None, slice_set, if◌then◌else◌}
+use Rattle.std.specs.Prelude.{ℕ, ◌+◌, ◌&&◌, pos, negsuc, neg_ℤ, nat_le, List, [], ◌∷◌, Option, Some, None, Result, Ok, Err, slice_set, if◌then◌else◌}
 use Rattle.sk_record.specs.Step.{Step, Ask, Done}
 use Rattle.sk_ids.specs.declared.pid.ObjId.{ObjId}
 use Rattle.sk_ids.specs.declared.entity.Entity.{Entity}
@@ -87,3 +87,8 @@ on_object pid p row None = alone pid (failed p BadObject)
 abbrev pub on_number : ℕ → Process → (ℕ → StepTree) → Option ℕ → StepTree
 on_number pid p row (Some n) = row n
 on_number pid p row None = alone pid (failed p Invalid)
+
+-- a row about what an object is, or the error where it is something else
+abbrev pub or_failed : {A : Type 0} → ℕ → Process → (A → StepTree) → Result A Errno → StepTree
+or_failed pid p row (Ok found) = row found
+or_failed pid p row (Err error) = alone pid (failed p error)

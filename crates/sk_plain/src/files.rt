@@ -7,18 +7,18 @@ ghost use Rattle.sk_store.specs.declared.entity_state.EntityState.TheVariants as
 ghost use Rattle.sk_script.specs.Registers.{held};
 ghost use Rattle.sk_plain.specs.Rows.{object_in, number_in};
 ghost use Rattle.sk_plain.specs.Files.{made as made_row, size as size_row, read as read_row, written_at, write as write_row, cut_to, cut as cut_row};
-ghost use Rattle.sk_plain.specs.Planned.{PlansRow, CanDo, IsBeside};
+ghost use Rattle.sk_plain.specs.Planned.{PlansRow};
 
 use crate::shapes::{alone, answered, changed, failed, filled, looked, wrote};
-use crate::values::{number_at, object_at};
+use crate::values::{file_at, number_at, object_at};
 use crate::{Becomes, Errno, Plan};
 use sk_changes::Change;
 use sk_ids::text::TEXT_LIMIT;
 use sk_ids::{Entity, ObjId, Pid};
 use sk_objects::file::FILE_LIMIT;
-use sk_objects::{File, Kind, Value};
+use sk_objects::{File, Kind};
 use sk_script::{Process, Register, Val};
-use sk_store::{EntityState, Look};
+use sk_store::Look;
 
 /// `mkfile rA`, `mkdir rA`, `mkpipe rA`
 pub(crate) fn made<S: Look>(
@@ -29,9 +29,7 @@ pub(crate) fn made<S: Look>(
     kind: Kind,
 ) -> Plan
     requires { process.now.place + 1 < 2 ^ 32 }
-    ensures plans { PlansRow (S.look _store.now) pid (made_row pid process.now register kind) (Ok result) }
-    ensures can { CanDo (S.look _store.now) result.beside }
-    ensures apart { IsBeside pid result.beside }
+    ensures { PlansRow (S.look _store.now) pid (made_row pid process.now register kind) (Ok result) }
 {
     if process.objects >= u32::MAX {
         return alone(failed(process, Errno::NoSpace));
@@ -58,23 +56,17 @@ pub(crate) fn made<S: Look>(
 /// `size rF`
 pub(crate) fn size<S: Look>(store: &S, pid: Pid, process: &Process, file: Register) -> Plan
     requires { process.now.place + 1 < 2 ^ 32 }
-    ensures plans { PlansRow (S.look store.now) pid (size_row pid process.now (object_in (held process.now.registers file))) (Ok result) }
-    ensures can { CanDo (S.look store.now) result.beside }
-    ensures apart { IsBeside pid result.beside }
+    ensures { PlansRow (S.look store.now) pid (size_row pid process.now (object_in (held process.now.registers file))) (Ok result) }
 {
     let held = object_at(process, file);
     let Some(object) = &held else {
         return alone(failed(process, Errno::BadObject));
     };
-    let error = match store.value(Entity::Obj(*object)) {
-        Some(EntityState::Value(Value::File(file))) => {
-            return looked(answered(process, file.len() as u64), Entity::Obj(*object));
-        }
-        Some(EntityState::Value(Value::Dir(_))) => Errno::IsDirectory,
-        Some(EntityState::Value(Value::Pipe(_))) => Errno::Invalid,
-        _ => Errno::BadObject,
+    let process_after = match file_at(store, object) {
+        Ok(file) => answered(process, file.len() as u64),
+        Err(error) => failed(process, error),
     };
-    looked(failed(process, error), Entity::Obj(*object))
+    looked(process_after, Entity::Obj(*object))
 }
 
 /// `read rF rO`
@@ -86,28 +78,24 @@ pub(crate) fn read<S: Look>(
     at: Register,
 ) -> Plan
     requires { process.now.place + 1 < 2 ^ 32 }
-    ensures plans { PlansRow (S.look store.now) pid (read_row pid process.now (object_in (held process.now.registers file)) (number_in (held process.now.registers at))) (Ok result) }
-    ensures can { CanDo (S.look store.now) result.beside }
-    ensures apart { IsBeside pid result.beside }
+    ensures { PlansRow (S.look store.now) pid (read_row pid process.now (object_in (held process.now.registers file)) (number_in (held process.now.registers at))) (Ok result) }
 {
     let held = object_at(process, file);
     let Some(object) = &held else {
         return alone(failed(process, Errno::BadObject));
     };
-    let error = match store.value(Entity::Obj(*object)) {
-        Some(EntityState::Value(Value::File(file))) => match number_at(process, at) {
+    let process_after = match file_at(store, object) {
+        Ok(file) => match number_at(process, at) {
             Some(at) => {
                 let text = file.part(at as usize, TEXT_LIMIT);
                 let len = text.len() as u64;
-                return looked(filled(process, text, len), Entity::Obj(*object));
+                filled(process, text, len)
             }
-            None => Errno::Invalid,
+            None => failed(process, Errno::Invalid),
         },
-        Some(EntityState::Value(Value::Dir(_))) => Errno::IsDirectory,
-        Some(EntityState::Value(Value::Pipe(_))) => Errno::Invalid,
-        _ => Errno::BadObject,
+        Err(error) => failed(process, error),
     };
-    looked(failed(process, error), Entity::Obj(*object))
+    looked(process_after, Entity::Obj(*object))
 }
 
 /// The buffer written at a place of a file.
@@ -121,9 +109,7 @@ fn written_at<S: Look>(
 ) -> Plan
     requires place { process.now.place + 1 < 2 ^ 32 }
     requires there { S.look _store.now (Obj object.now) ≡ Some (stored.Value (values.File file.now)) }
-    ensures plans { PlansRow (S.look _store.now) pid (Ask (Obj object.now) (λ v. written_at pid process.now object.now file.now at)) (Ok result) }
-    ensures can { CanDo (S.look _store.now) result.beside }
-    ensures apart { IsBeside pid result.beside }
+    ensures { PlansRow (S.look _store.now) pid (Ask (Obj object.now) (λ v. written_at pid process.now object.now file.now at)) (Ok result) }
 {
     let len = process.buffer.len() as u64;
     if at > FILE_LIMIT as u64 - len {
@@ -153,21 +139,17 @@ pub(crate) fn write<S: Look>(
     at: Register,
 ) -> Plan
     requires { process.now.place + 1 < 2 ^ 32 }
-    ensures plans { PlansRow (S.look store.now) pid (write_row pid process.now (object_in (held process.now.registers file)) (number_in (held process.now.registers at))) (Ok result) }
-    ensures can { CanDo (S.look store.now) result.beside }
-    ensures apart { IsBeside pid result.beside }
+    ensures { PlansRow (S.look store.now) pid (write_row pid process.now (object_in (held process.now.registers file)) (number_in (held process.now.registers at))) (Ok result) }
 {
     let Some(object) = object_at(process, file) else {
         return alone(failed(process, Errno::BadObject));
     };
-    let error = match store.value(Entity::Obj(object)) {
-        Some(EntityState::Value(Value::File(file))) => match number_at(process, at) {
+    let error = match file_at(store, &object) {
+        Ok(file) => match number_at(process, at) {
             Some(at) => return written_at(store, pid, process, &object, file, at),
             None => Errno::Invalid,
         },
-        Some(EntityState::Value(Value::Dir(_))) => Errno::IsDirectory,
-        Some(EntityState::Value(Value::Pipe(_))) => Errno::Invalid,
-        _ => Errno::BadObject,
+        Err(error) => error,
     };
     looked(failed(process, error), Entity::Obj(object))
 }
@@ -183,9 +165,7 @@ fn cut_to<S: Look>(
 ) -> Plan
     requires place { process.now.place + 1 < 2 ^ 32 }
     requires there { S.look _store.now (Obj object.now) ≡ Some (stored.Value (values.File file.now)) }
-    ensures plans { PlansRow (S.look _store.now) pid (Ask (Obj object.now) (λ v. cut_to pid process.now object.now file.now size)) (Ok result) }
-    ensures can { CanDo (S.look _store.now) result.beside }
-    ensures apart { IsBeside pid result.beside }
+    ensures { PlansRow (S.look _store.now) pid (Ask (Obj object.now) (λ v. cut_to pid process.now object.now file.now size)) (Ok result) }
 {
     if size > FILE_LIMIT as u64 {
         return looked(failed(process, Errno::TooBig), Entity::Obj(*object));
@@ -211,21 +191,17 @@ pub(crate) fn cut<S: Look>(
     size: Register,
 ) -> Plan
     requires { process.now.place + 1 < 2 ^ 32 }
-    ensures plans { PlansRow (S.look store.now) pid (cut_row pid process.now (object_in (held process.now.registers file)) (number_in (held process.now.registers size))) (Ok result) }
-    ensures can { CanDo (S.look store.now) result.beside }
-    ensures apart { IsBeside pid result.beside }
+    ensures { PlansRow (S.look store.now) pid (cut_row pid process.now (object_in (held process.now.registers file)) (number_in (held process.now.registers size))) (Ok result) }
 {
     let Some(object) = object_at(process, file) else {
         return alone(failed(process, Errno::BadObject));
     };
-    let error = match store.value(Entity::Obj(object)) {
-        Some(EntityState::Value(Value::File(file))) => match number_at(process, size) {
+    let error = match file_at(store, &object) {
+        Ok(file) => match number_at(process, size) {
             Some(size) => return cut_to(store, pid, process, &object, file, size),
             None => Errno::Invalid,
         },
-        Some(EntityState::Value(Value::Dir(_))) => Errno::IsDirectory,
-        Some(EntityState::Value(Value::Pipe(_))) => Errno::Invalid,
-        _ => Errno::BadObject,
+        Err(error) => error,
     };
     looked(failed(process, error), Entity::Obj(object))
 }

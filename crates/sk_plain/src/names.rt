@@ -8,17 +8,17 @@ ghost use Rattle.sk_store.specs.declared.entity_state.EntityState.TheVariants as
 ghost use Rattle.sk_script.specs.Registers.{held};
 ghost use Rattle.sk_plain.specs.Rows.{object_in};
 ghost use Rattle.sk_plain.specs.Names.{look as look_row, link_to, link as link_row, unlink_from, unlink as unlink_row};
-ghost use Rattle.sk_plain.specs.Planned.{PlansRow, CanDo, IsBeside};
+ghost use Rattle.sk_plain.specs.Planned.{PlansRow};
 
 use crate::shapes::{alone, answered, changed, failed, given, looked};
-use crate::values::object_at;
+use crate::values::{directory_at, object_at};
 use crate::{Becomes, Errno, Plan};
 use sk_changes::Change;
 use sk_ids::{Entity, Name, ObjId, Pid};
+use sk_objects::Directory;
 use sk_objects::directory::DIRECTORY_LIMIT;
-use sk_objects::{Directory, Value};
 use sk_script::{Process, Register, Val};
-use sk_store::{EntityState, Look};
+use sk_store::Look;
 
 /// `look rA rD NAME`
 pub(crate) fn look<S: Look>(
@@ -30,28 +30,20 @@ pub(crate) fn look<S: Look>(
     name: &Name,
 ) -> Plan
     requires { process.now.place + 1 < 2 ^ 32 }
-    ensures plans { PlansRow (S.look store.now) pid (look_row pid process.now register (object_in (held process.now.registers directory)) name.now) (Ok result) }
-    ensures can { CanDo (S.look store.now) result.beside }
-    ensures apart { IsBeside pid result.beside }
+    ensures { PlansRow (S.look store.now) pid (look_row pid process.now register (object_in (held process.now.registers directory)) name.now) (Ok result) }
 {
     let held = object_at(process, directory);
     let Some(object) = &held else {
         return alone(failed(process, Errno::BadObject));
     };
-    let error = match store.value(Entity::Obj(*object)) {
-        Some(EntityState::Value(Value::Dir(directory))) => match directory.look(name) {
-            Some(found) => {
-                let process_after = given(process, register, Val::Obj(found));
-                return looked(process_after, Entity::Obj(*object));
-            }
-            None => Errno::NotLinked,
+    let process_after = match directory_at(store, object) {
+        Ok(directory) => match directory.look(name) {
+            Some(found) => given(process, register, Val::Obj(found)),
+            None => failed(process, Errno::NotLinked),
         },
-        Some(EntityState::Value(Value::File(_))) | Some(EntityState::Value(Value::Pipe(_))) => {
-            Errno::NotDirectory
-        }
-        _ => Errno::BadObject,
+        Err(error) => failed(process, error),
     };
-    looked(failed(process, error), Entity::Obj(*object))
+    looked(process_after, Entity::Obj(*object))
 }
 
 /// A name linked in a directory.
@@ -66,9 +58,7 @@ fn link_to<S: Look>(
 ) -> Plan
     requires place { process.now.place + 1 < 2 ^ 32 }
     requires there { S.look _store.now (Obj at.now) ≡ Some (stored.Value (values.Dir directory.now)) }
-    ensures plans { PlansRow (S.look _store.now) pid (Ask (Obj at.now) (λ v. link_to pid process.now at.now directory.now name.now object.now (looked_up directory.now name.now))) (Ok result) }
-    ensures can { CanDo (S.look _store.now) result.beside }
-    ensures apart { IsBeside pid result.beside }
+    ensures { PlansRow (S.look _store.now) pid (Ask (Obj at.now) (λ v. link_to pid process.now at.now directory.now name.now object.now (looked_up directory.now name.now))) (Ok result) }
 {
     if directory.look(name).is_some() {
         return looked(failed(process, Errno::Exists), Entity::Obj(*at));
@@ -93,9 +83,7 @@ pub(crate) fn link<S: Look>(
     object: Register,
 ) -> Plan
     requires { process.now.place + 1 < 2 ^ 32 }
-    ensures plans { PlansRow (S.look store.now) pid (link_row pid process.now (object_in (held process.now.registers directory)) name.now (object_in (held process.now.registers object))) (Ok result) }
-    ensures can { CanDo (S.look store.now) result.beside }
-    ensures apart { IsBeside pid result.beside }
+    ensures { PlansRow (S.look store.now) pid (link_row pid process.now (object_in (held process.now.registers directory)) name.now (object_in (held process.now.registers object))) (Ok result) }
 {
     let Some(at) = object_at(process, directory) else {
         return alone(failed(process, Errno::BadObject));
@@ -103,16 +91,10 @@ pub(crate) fn link<S: Look>(
     let Some(object) = object_at(process, object) else {
         return looked(failed(process, Errno::BadObject), Entity::Obj(at));
     };
-    let error = match store.value(Entity::Obj(at)) {
-        Some(EntityState::Value(Value::Dir(directory))) => {
-            return link_to(store, pid, process, &at, directory, name, &object);
-        }
-        Some(EntityState::Value(Value::File(_))) | Some(EntityState::Value(Value::Pipe(_))) => {
-            Errno::NotDirectory
-        }
-        _ => Errno::BadObject,
-    };
-    looked(failed(process, error), Entity::Obj(at))
+    match directory_at(store, &at) {
+        Ok(directory) => link_to(store, pid, process, &at, directory, name, &object),
+        Err(error) => looked(failed(process, error), Entity::Obj(at)),
+    }
 }
 
 /// `unlink rD NAME`
@@ -124,29 +106,25 @@ pub(crate) fn unlink<S: Look>(
     name: &Name,
 ) -> Plan
     requires { process.now.place + 1 < 2 ^ 32 }
-    ensures plans { PlansRow (S.look store.now) pid (unlink_row pid process.now (object_in (held process.now.registers directory)) name.now) (Ok result) }
-    ensures can { CanDo (S.look store.now) result.beside }
-    ensures apart { IsBeside pid result.beside }
+    ensures { PlansRow (S.look store.now) pid (unlink_row pid process.now (object_in (held process.now.registers directory)) name.now) (Ok result) }
 {
     let held = object_at(process, directory);
     let Some(at) = &held else {
         return alone(failed(process, Errno::BadObject));
     };
-    let error = match store.value(Entity::Obj(*at)) {
-        Some(EntityState::Value(Value::Dir(directory))) => {
+    let error = match directory_at(store, at) {
+        Ok(directory) => {
             if directory.look(name).is_some() {
+                let change = Change::Unlink(*name);
                 return changed(
                     answered(process, 0),
                     &Entity::Obj(*at),
-                    Becomes::Changed(Change::Unlink(*name)),
+                    Becomes::Changed(change),
                 );
             }
             Errno::NotLinked
         }
-        Some(EntityState::Value(Value::File(_))) | Some(EntityState::Value(Value::Pipe(_))) => {
-            Errno::NotDirectory
-        }
-        _ => Errno::BadObject,
+        Err(error) => error,
     };
     looked(failed(process, error), Entity::Obj(*at))
 }

@@ -1,5 +1,5 @@
 //! What the instructions on pipes will do.
-ghost use Rattle.std.specs.Prelude.{◌≡◌, ◌+◌, ◌<◌, ◌≤◌, ◌^◌, Some, Ok, IfOk, IfErr};
+ghost use Rattle.std.specs.Prelude.{◌≡◌, ◌+◌, ◌<◌, ◌≤◌, ◌^◌, Some, Ok};
 ghost use Rattle.sk_record.specs.Step.{Ask};
 ghost use Rattle.sk_ids.specs.declared.entity.Entity.TheVariants.{Obj};
 ghost use Rattle.sk_objects.specs.declared.value.Value.TheVariants as values;
@@ -8,17 +8,17 @@ ghost use Rattle.sk_script.specs.Registers.{held};
 ghost use Rattle.sk_plain.specs.Rows.{object_in, number_to};
 ghost use Rattle.sk_ids.specs.declared.text.TheConstants.{TEXT_LIMIT};
 ghost use Rattle.sk_plain.specs.Pipes.{put_in, put as put_row, take_from, take_out as take_row, shut as shut_row};
-ghost use Rattle.sk_plain.specs.Planned.{PlansRow, CanDo, IsBeside, IsPlainRefusal};
+ghost use Rattle.sk_plain.specs.Planned.{PlansRow};
 
 use crate::shapes::{alone, answered, changed, failed, filled, looked};
-use crate::values::{number_up_to, object_at};
+use crate::values::{number_up_to, object_at, pipe_at};
 use crate::{Becomes, Errno, Plan, Refusal};
 use sk_changes::Change;
 use sk_ids::{Entity, ObjId, Pid, Text};
+use sk_objects::Pipe;
 use sk_objects::pipe::PIPE_LIMIT;
-use sk_objects::{Pipe, Value};
 use sk_script::{Process, Register};
-use sk_store::{EntityState, Look};
+use sk_store::Look;
 
 /// The greatest number of bytes that are taken at once.
 const TAKE_LIMIT: u16 = 512;
@@ -33,10 +33,7 @@ fn put_in<S: Look>(
 ) -> Result<Plan, Refusal>
     requires place { process.now.place + 1 < 2 ^ 32 }
     requires there { S.look _store.now (Obj object.now) ≡ Some (stored.Value (values.Pipe pipe.now)) }
-    ensures plans { PlansRow (S.look _store.now) pid (Ask (Obj object.now) (λ v. put_in pid process.now object.now pipe.now)) result }
-    ensures can { IfOk result (λ plan. CanDo (S.look _store.now) plan.beside) }
-    ensures apart { IfOk result (λ plan. IsBeside pid plan.beside) }
-    ensures named { IfErr result IsPlainRefusal }
+    ensures { PlansRow (S.look _store.now) pid (Ask (Obj object.now) (λ v. put_in pid process.now object.now pipe.now)) result }
 {
     if pipe.is_shut() {
         return Ok(looked(failed(process, Errno::BrokenPipe), Entity::Obj(*object)));
@@ -64,24 +61,15 @@ pub(crate) fn put<S: Look>(
     pipe: Register,
 ) -> Result<Plan, Refusal>
     requires { process.now.place + 1 < 2 ^ 32 }
-    ensures plans { PlansRow (S.look store.now) pid (put_row pid process.now (object_in (held process.now.registers pipe))) result }
-    ensures can { IfOk result (λ plan. CanDo (S.look store.now) plan.beside) }
-    ensures apart { IfOk result (λ plan. IsBeside pid plan.beside) }
-    ensures named { IfErr result IsPlainRefusal }
+    ensures { PlansRow (S.look store.now) pid (put_row pid process.now (object_in (held process.now.registers pipe))) result }
 {
     let Some(object) = object_at(process, pipe) else {
         return Ok(alone(failed(process, Errno::BadObject)));
     };
-    let error = match store.value(Entity::Obj(object)) {
-        Some(EntityState::Value(Value::Pipe(pipe))) => {
-            return put_in(store, pid, process, &object, pipe);
-        }
-        Some(EntityState::Value(Value::File(_))) | Some(EntityState::Value(Value::Dir(_))) => {
-            Errno::Invalid
-        }
-        _ => Errno::BadObject,
-    };
-    Ok(looked(failed(process, error), Entity::Obj(object)))
+    match pipe_at(store, &object) {
+        Ok(pipe) => put_in(store, pid, process, &object, pipe),
+        Err(error) => Ok(looked(failed(process, error), Entity::Obj(object))),
+    }
 }
 
 /// The first bytes of a pipe taken out, at most so many.
@@ -96,10 +84,7 @@ fn take_from<S: Look>(
     requires place { process.now.place + 1 < 2 ^ 32 }
     requires there { S.look _store.now (Obj object.now) ≡ Some (stored.Value (values.Pipe pipe.now)) }
     requires most { (1 ≤ most) × (most ≤ 512) }
-    ensures plans { PlansRow (S.look _store.now) pid (Ask (Obj object.now) (λ v. take_from pid process.now object.now pipe.now most)) result }
-    ensures can { IfOk result (λ plan. CanDo (S.look _store.now) plan.beside) }
-    ensures apart { IfOk result (λ plan. IsBeside pid plan.beside) }
-    ensures named { IfErr result IsPlainRefusal }
+    ensures { PlansRow (S.look _store.now) pid (Ask (Obj object.now) (λ v. take_from pid process.now object.now pipe.now most)) result }
 {
     let bytes = pipe.as_slice();
     if bytes.len() == 0 {
@@ -126,25 +111,17 @@ pub(crate) fn take<S: Look>(
     most: Register,
 ) -> Result<Plan, Refusal>
     requires { process.now.place + 1 < 2 ^ 32 }
-    ensures plans { PlansRow (S.look store.now) pid (take_row pid process.now (object_in (held process.now.registers pipe)) (number_to TEXT_LIMIT (held process.now.registers most))) result }
-    ensures can { IfOk result (λ plan. CanDo (S.look store.now) plan.beside) }
-    ensures apart { IfOk result (λ plan. IsBeside pid plan.beside) }
-    ensures named { IfErr result IsPlainRefusal }
+    ensures { PlansRow (S.look store.now) pid (take_row pid process.now (object_in (held process.now.registers pipe)) (number_to TEXT_LIMIT (held process.now.registers most))) result }
 {
     let Some(object) = object_at(process, pipe) else {
         return Ok(alone(failed(process, Errno::BadObject)));
     };
-    let error = match store.value(Entity::Obj(object)) {
-        Some(EntityState::Value(Value::Pipe(pipe))) => {
-            match number_up_to(process, most, TAKE_LIMIT) {
-                Some(most) => return take_from(store, pid, process, &object, pipe, most),
-                None => Errno::Invalid,
-            }
-        }
-        Some(EntityState::Value(Value::File(_))) | Some(EntityState::Value(Value::Dir(_))) => {
-            Errno::Invalid
-        }
-        _ => Errno::BadObject,
+    let error = match pipe_at(store, &object) {
+        Ok(pipe) => match number_up_to(process, most, TAKE_LIMIT) {
+            Some(most) => return take_from(store, pid, process, &object, pipe, most),
+            None => Errno::Invalid,
+        },
+        Err(error) => error,
     };
     Ok(looked(failed(process, error), Entity::Obj(object)))
 }
@@ -152,30 +129,19 @@ pub(crate) fn take<S: Look>(
 /// `shut rP`
 pub(crate) fn shut<S: Look>(store: &S, pid: Pid, process: &Process, pipe: Register) -> Plan
     requires { process.now.place + 1 < 2 ^ 32 }
-    ensures plans { PlansRow (S.look store.now) pid (shut_row pid process.now (object_in (held process.now.registers pipe))) (Ok result) }
-    ensures can { CanDo (S.look store.now) result.beside }
-    ensures apart { IsBeside pid result.beside }
+    ensures { PlansRow (S.look store.now) pid (shut_row pid process.now (object_in (held process.now.registers pipe))) (Ok result) }
 {
     let held = object_at(process, pipe);
     let Some(object) = &held else {
         return alone(failed(process, Errno::BadObject));
     };
-    let error = match store.value(Entity::Obj(*object)) {
-        Some(EntityState::Value(Value::Pipe(pipe))) => {
-            let process_after = answered(process, 0);
-            if pipe.is_shut() {
-                return looked(process_after, Entity::Obj(*object));
-            }
-            return changed(
-                process_after,
-                &Entity::Obj(*object),
-                Becomes::Changed(Change::Shut),
-            );
-        }
-        Some(EntityState::Value(Value::File(_))) | Some(EntityState::Value(Value::Dir(_))) => {
-            Errno::Invalid
-        }
-        _ => Errno::BadObject,
-    };
-    looked(failed(process, error), Entity::Obj(*object))
+    match pipe_at(store, object) {
+        Ok(pipe) if pipe.is_shut() => looked(answered(process, 0), Entity::Obj(*object)),
+        Ok(_) => changed(
+            answered(process, 0),
+            &Entity::Obj(*object),
+            Becomes::Changed(Change::Shut),
+        ),
+        Err(error) => looked(failed(process, error), Entity::Obj(*object)),
+    }
 }

@@ -14,6 +14,7 @@ use std::marker::Model;
 pub enum Looks {
     Nowhere,
     At(Entity),
+    /// For the names of directories as entities: no step looks at two yet.
     AtBoth(Entity, Entity),
 }
 
@@ -48,7 +49,7 @@ pub enum Beside {
     /// The entity is written.
     One(Entity, Becomes),
     Birth(Child),
-    /// The entity is absent after the step.
+    /// The entity is absent after the step. For the names of directories as entities: no step removes one yet.
     Gone(Entity),
 }
 

@@ -1,11 +1,11 @@
 //! What the instructions on processes and signals will do.
-ghost use Rattle.std.specs.Prelude.{◌≡◌, ◌+◌, ◌<◌, ◌^◌, true, Some, Ok, IfOk, IfErr, ◌==◌};
+ghost use Rattle.std.specs.Prelude.{◌≡◌, ◌+◌, ◌<◌, ◌^◌, true, Some, Ok, ◌==◌};
 ghost use Rattle.std.specs.List.{list_any};
 ghost use Rattle.sk_script.specs.Registers.{held};
 ghost use Rattle.sk_plain.specs.Rows.{number_to, who_in};
 ghost use Rattle.sk_objects.specs.declared.signals.TheConstants.{LAST_SIGNAL};
 ghost use Rattle.sk_plain.specs.Processes.{KILL, with_handler, returned, handling, status_of, kill as kill_row, fork as fork_row, wait as wait_row};
-ghost use Rattle.sk_plain.specs.Planned.{PlansRow, CanDo, IsBeside, IsPlainRefusal};
+ghost use Rattle.sk_plain.specs.Planned.{PlansRow};
 
 use crate::shapes::{alone, answered, changed, failed, given, looked, wrote};
 use crate::values::{number_up_to, who_at};
@@ -106,9 +106,7 @@ pub(crate) fn kill<S: Look>(
     signal: Register,
 ) -> Plan
     requires { process.now.place + 1 < 2 ^ 32 }
-    ensures plans { PlansRow (S.look store.now) pid (kill_row pid process.now (who_in (held process.now.registers who)) (number_to LAST_SIGNAL (held process.now.registers signal))) (Ok result) }
-    ensures can { CanDo (S.look store.now) result.beside }
-    ensures apart { IsBeside pid result.beside }
+    ensures { PlansRow (S.look store.now) pid (kill_row pid process.now (who_in (held process.now.registers who)) (number_to LAST_SIGNAL (held process.now.registers signal))) (Ok result) }
 {
     let Some(who) = who_at(process, who) else {
         return alone(failed(process, Errno::Invalid));
@@ -142,9 +140,7 @@ pub(crate) fn fork<S: Look>(
     place: u32,
 ) -> Plan
     requires { process.now.place + 1 < 2 ^ 32 }
-    ensures plans { PlansRow (S.look _store.now) pid (fork_row pid process.now register place) (Ok result) }
-    ensures can { CanDo (S.look _store.now) result.beside }
-    ensures apart { IsBeside pid result.beside }
+    ensures { PlansRow (S.look _store.now) pid (fork_row pid process.now register place) (Ok result) }
 {
     if process.children >= u16::MAX {
         return alone(failed(process, Errno::Again));
@@ -179,10 +175,7 @@ pub(crate) fn wait<S: Look>(
     who: Register,
 ) -> Result<Plan, Refusal>
     requires { process.now.place + 1 < 2 ^ 32 }
-    ensures plans { PlansRow (S.look store.now) pid (wait_row pid process.now register (who_in (held process.now.registers who))) result }
-    ensures can { IfOk result (λ plan. CanDo (S.look store.now) plan.beside) }
-    ensures apart { IfOk result (λ plan. IsBeside pid plan.beside) }
-    ensures named { IfErr result IsPlainRefusal }
+    ensures { PlansRow (S.look store.now) pid (wait_row pid process.now register (who_in (held process.now.registers who))) result }
 {
     let Some(who) = who_at(process, who) else {
         return Ok(alone(failed(process, Errno::Invalid)));

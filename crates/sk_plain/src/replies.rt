@@ -1,11 +1,11 @@
 //! What the instructions with a reply of the server will do.
-ghost use Rattle.std.specs.Prelude.{◌≡◌, ◌+◌, ◌<◌, ◌^◌, ℕ, IsSome, None, Option, IfOk, IfErr};
+ghost use Rattle.std.specs.Prelude.{◌≡◌, ◌+◌, ◌<◌, ◌^◌, ℕ, IsSome, None, Option, IfOk};
 ghost use Rattle.sk_record.specs.Step.{Ask};
 ghost use Rattle.sk_ids.specs.declared.entity.Entity.{Entity};
 ghost use Rattle.sk_ids.specs.declared.entity.Entity.TheVariants.{Copy};
 ghost use Rattle.sk_store.specs.declared.entity_state.EntityState.{EntityState};
 ghost use Rattle.sk_plain.specs.Replies.{fetched, from_copy, over_copy, good as good_row, fresh as fresh_row, stale as stale_row};
-ghost use Rattle.sk_plain.specs.Planned.{PlansRow, CanDo, IsBeside, IsPlainRefusal, said_by};
+ghost use Rattle.sk_plain.specs.Planned.{PlansRow, said_by};
 
 use crate::shapes::{answered, changed, failed, filled, looked, wrote};
 use crate::{Becomes, Errno, Plan, Refusal};
@@ -26,11 +26,8 @@ fn fetched(process: &Process, content: &Content) -> Process
 /// A fetch from the cached copy.
 fn from_copy<S: Look>(store: &S, pid: Pid, process: &Process, name: Name) -> Result<Plan, Refusal>
     requires { process.now.place + 1 < 2 ^ 32 }
-    ensures plans { PlansRow (S.look store.now) pid (Ask (Copy name) (from_copy pid process.now)) result }
-    ensures can { IfOk result (λ plan. CanDo (S.look store.now) plan.beside) }
-    ensures apart { IfOk result (λ plan. IsBeside pid plan.beside) }
+    ensures row { PlansRow (S.look store.now) pid (Ask (Copy name) (from_copy pid process.now)) result }
     ensures quiet { IfOk result (λ plan. said_by plan ≡ None) }
-    ensures named { IfErr result IsPlainRefusal }
 {
     match store.value(Entity::Copy(name)) {
         Some(EntityState::Value(Value::Copy(content))) => Ok(looked(
@@ -44,11 +41,8 @@ fn from_copy<S: Look>(store: &S, pid: Pid, process: &Process, name: Name) -> Res
 /// A store over the cached copy, or over none.
 fn over_copy<S: Look>(store: &S, pid: Pid, process: &Process, name: Name) -> Result<Plan, Refusal>
     requires { process.now.place + 1 < 2 ^ 32 }
-    ensures plans { PlansRow (S.look store.now) pid (Ask (Copy name) (over_copy pid process.now name)) result }
-    ensures can { IfOk result (λ plan. CanDo (S.look store.now) plan.beside) }
-    ensures apart { IfOk result (λ plan. IsBeside pid plan.beside) }
+    ensures row { PlansRow (S.look store.now) pid (Ask (Copy name) (over_copy pid process.now name)) result }
     ensures quiet { IfOk result (λ plan. said_by plan ≡ None) }
-    ensures named { IfErr result IsPlainRefusal }
 {
     match store.value(Entity::Copy(name)) {
         None => match Content::new(1, process.buffer) {
@@ -82,11 +76,8 @@ pub(crate) fn good<S: Look>(
     instruction: &Option<Instruction>,
 ) -> Result<Plan, Refusal>
     requires { IsSome instruction.now → process.now.place + 1 < 2 ^ 32 }
-    ensures plans { PlansRow (S.look store.now) pid (good_row pid process.now instruction.now) result }
-    ensures can { IfOk result (λ plan. CanDo (S.look store.now) plan.beside) }
-    ensures apart { IfOk result (λ plan. IsBeside pid plan.beside) }
+    ensures row { PlansRow (S.look store.now) pid (good_row pid process.now instruction.now) result }
     ensures quiet { IfOk result (λ plan. said_by plan ≡ None) }
-    ensures named { IfErr result IsPlainRefusal }
 {
     match instruction {
         Some(Instruction::Fetch(name)) => from_copy(store, pid, process, *name),
@@ -104,11 +95,8 @@ pub(crate) fn fresh<S: Look>(
     content: &Content,
 ) -> Result<Plan, Refusal>
     requires { IsSome instruction.now → process.now.place + 1 < 2 ^ 32 }
-    ensures plans { PlansRow (S.look _store.now) pid (fresh_row pid process.now content.now instruction.now) result }
-    ensures can { IfOk result (λ plan. CanDo (S.look _store.now) plan.beside) }
-    ensures apart { IfOk result (λ plan. IsBeside pid plan.beside) }
+    ensures row { PlansRow (S.look _store.now) pid (fresh_row pid process.now content.now instruction.now) result }
     ensures quiet { IfOk result (λ plan. said_by plan ≡ None) }
-    ensures named { IfErr result IsPlainRefusal }
 {
     match instruction {
         Some(Instruction::Fetch(name)) => Ok(wrote(
@@ -129,11 +117,8 @@ pub(crate) fn stale<S: Look>(
     content: &Content,
 ) -> Result<Plan, Refusal>
     requires { IsSome instruction.now → process.now.place + 1 < 2 ^ 32 }
-    ensures plans { PlansRow (S.look _store.now) pid (stale_row pid process.now content.now instruction.now) result }
-    ensures can { IfOk result (λ plan. CanDo (S.look _store.now) plan.beside) }
-    ensures apart { IfOk result (λ plan. IsBeside pid plan.beside) }
+    ensures row { PlansRow (S.look _store.now) pid (stale_row pid process.now content.now instruction.now) result }
     ensures quiet { IfOk result (λ plan. said_by plan ≡ None) }
-    ensures named { IfErr result IsPlainRefusal }
 {
     match instruction {
         Some(Instruction::Store(name)) => Ok(wrote(

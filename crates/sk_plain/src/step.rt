@@ -1,13 +1,12 @@
 //! What a step will do, before it does it. A plan takes no memory.
-ghost use Rattle.std.specs.Prelude.{◌≡◌, ◌+◌, ◌<◌, ◌^◌, IsSome, IfOk, IfErr, Some, None};
+ghost use Rattle.std.specs.Prelude.{◌≡◌, ◌+◌, ◌<◌, ◌^◌, IsSome, IfOk, Some, None};
 ghost use Rattle.std.specs.FinMap as map;
-ghost use Rattle.sk_record.specs.Step.{perform};
 ghost use Rattle.sk_ids.specs.declared.entity.Entity.TheVariants.{Sig};
 ghost use Rattle.sk_objects.specs.declared.value.Value.TheVariants as values;
 ghost use Rattle.sk_store.specs.declared.entity_state.EntityState.TheVariants as stored;
 ghost use Rattle.sk_script.specs.Private.{moved, private_step};
-ghost use Rattle.sk_plain.specs.Act.{row, does, instruction_of, handled as handled_row, with_signals, with_input, act};
-ghost use Rattle.sk_plain.specs.Planned.{PlansRow, step_planned, planned, CanDo, IsBeside, IsReply, IsPlainRefusal, said_by};
+ghost use Rattle.sk_plain.specs.Act.{row, does, instruction_of, handled as handled_row, with_signals, with_input};
+ghost use Rattle.sk_plain.specs.Planned.{PlansRow, PlansAfter, PlansStep, signals_read, IsReply, said_by};
 
 use crate::processes::{
     ends, fork, handling, is_killed, kill, returned, status_of, wait, with_handler,
@@ -47,10 +46,7 @@ fn row<S: Look>(
     instruction: &Instruction,
 ) -> Result<Plan, Refusal>
     requires { process.now.place + 1 < 2 ^ 32 }
-    ensures plans { PlansRow (S.look store.now) pid (row pid process.now instruction.now) result }
-    ensures can { IfOk result (λ plan. CanDo (S.look store.now) plan.beside) }
-    ensures apart { IfOk result (λ plan. IsBeside pid plan.beside) }
-    ensures named { IfErr result IsPlainRefusal }
+    ensures { PlansRow (S.look store.now) pid (row pid process.now instruction.now) result }
 {
     Ok(match instruction {
         Instruction::Handler(place) => alone(with_handler(process, *place)),
@@ -99,10 +95,7 @@ fn does<S: Look>(
     instruction: &Option<Instruction>,
 ) -> Result<Plan, Refusal>
     requires { IsSome instruction.now → process.now.place + 1 < 2 ^ 32 }
-    ensures plans { PlansRow (S.look store.now) pid (does pid process.now instruction.now) result }
-    ensures can { IfOk result (λ plan. CanDo (S.look store.now) plan.beside) }
-    ensures apart { IfOk result (λ plan. IsBeside pid plan.beside) }
-    ensures named { IfErr result IsPlainRefusal }
+    ensures { PlansRow (S.look store.now) pid (does pid process.now instruction.now) result }
 {
     let Some(instruction) = instruction else {
         return Ok(ends(pid, process, 0));
@@ -123,10 +116,7 @@ fn handled<S: Look>(
 ) -> Result<Plan, Refusal>
     requires place { IsSome instruction.now → process.now.place + 1 < 2 ^ 32 }
     requires there { S.look store.now (Sig pid) ≡ Some (stored.Value (values.Signals signals.now)) }
-    ensures plans { PlansRow (S.look store.now) pid (handled_row pid process.now instruction.now signals.now process.now.handler process.now.saved) result }
-    ensures can { IfOk result (λ plan. CanDo (S.look store.now) plan.beside) }
-    ensures apart { IfOk result (λ plan. IsBeside pid plan.beside) }
-    ensures named { IfErr result IsPlainRefusal }
+    ensures { PlansRow (S.look store.now) pid (handled_row pid process.now instruction.now signals.now process.now.handler process.now.saved) result }
 {
     match (signals.as_slice(), process.handler, process.saved) {
         ([signal, ..], Some(handler), None) => Ok(wrote(
@@ -146,10 +136,7 @@ fn with_signals<S: Look>(
     instruction: &Option<Instruction>,
 ) -> Result<Plan, Refusal>
     requires { IsSome instruction.now → process.now.place + 1 < 2 ^ 32 }
-    ensures plans { PlansRow (S.look store.now) pid (with_signals pid process.now instruction.now (S.look store.now (Sig pid))) result }
-    ensures can { IfOk result (λ plan. CanDo (S.look store.now) plan.beside) }
-    ensures apart { IfOk result (λ plan. IsBeside pid plan.beside) }
-    ensures named { IfErr result IsPlainRefusal }
+    ensures { PlansRow (S.look store.now) pid (with_signals pid process.now instruction.now (S.look store.now (Sig pid))) result }
 {
     match store.value(Entity::Sig(pid)) {
         Some(EntityState::Value(Value::Signals(signals))) => {
@@ -171,11 +158,8 @@ fn with_input<S: Look>(
     input: &Input,
 ) -> Result<Plan, Refusal>
     requires { IsSome instruction.now → process.now.place + 1 < 2 ^ 32 }
-    ensures plans { perform (S.look store.now) (with_input pid process.now instruction.now input.now) ≡ step_planned (S.look store.now) pid input.now result }
-    ensures can { IfOk result (λ plan. CanDo (S.look store.now) plan.beside) }
-    ensures apart { IfOk result (λ plan. IsBeside pid plan.beside) }
+    ensures row { PlansAfter (signals_read pid input.now) (S.look store.now) pid (with_input pid process.now instruction.now input.now) result }
     ensures quiet { IsReply input.now → IfOk result (λ plan. said_by plan ≡ None) }
-    ensures named { IfErr result IsPlainRefusal }
 {
     match input {
         Input::None => with_signals(store, pid, process, instruction),
@@ -204,11 +188,8 @@ pub fn plan_step<S: Look>(
     pid: Pid,
     input: &Input,
 ) -> Result<Plan, Refusal>
-    ensures plans { perform (S.look store.now) (act scripts.now pid input.now) ≡ planned (S.look store.now) pid input.now result }
-    ensures can { IfOk result (λ plan. CanDo (S.look store.now) plan.beside) }
-    ensures apart { IfOk result (λ plan. IsBeside pid plan.beside) }
+    ensures step { PlansStep (S.look store.now) scripts.now pid input.now result }
     ensures quiet { IsReply input.now → IfOk result (λ plan. said_by plan ≡ None) }
-    ensures named { IfErr result IsPlainRefusal }
 {
     let process = match store.value(Entity::Proc(pid)) {
         Some(EntityState::Process(process)) => process,

@@ -1,10 +1,19 @@
-//! What a register's value stands for.
-ghost use Rattle.std.specs.Prelude.{◌≡◌, ◌≤◌, IfSome};
+//! What a register's value stands for, and what the object is that a row is about.
+ghost use Rattle.std.specs.Prelude.{◌≡◌, ◌≤◌, IfSome, IfOk, IfErr, Some, Err};
+ghost use Rattle.sk_ids.specs.declared.entity.Entity.TheVariants.{Obj};
+ghost use Rattle.sk_objects.specs.declared.value.Value.TheVariants as values;
+ghost use Rattle.sk_store.specs.declared.entity_state.EntityState.TheVariants as stored;
 ghost use Rattle.sk_script.specs.Registers.{held};
 ghost use Rattle.sk_plain.specs.Rows.{object_in, number_in, number_to, who_in};
+ghost use Rattle.sk_plain.specs.Files.{file_in};
+ghost use Rattle.sk_plain.specs.Names.{directory_in};
+ghost use Rattle.sk_plain.specs.Pipes.{pipe_in};
 
-use sk_ids::{ObjId, Pid};
+use crate::Errno;
+use sk_ids::{Entity, ObjId, Pid};
+use sk_objects::{Directory, File, Pipe, Value};
 use sk_script::{Process, Register, Val};
+use sk_store::{EntityState, Look};
 
 /// The object that a register holds.
 pub(crate) fn object_at(process: &Process, register: Register) -> Option<ObjId>
@@ -44,5 +53,45 @@ pub(crate) fn who_at(process: &Process, register: Register) -> Option<Pid>
     match process.registers.get(register) {
         Val::Who(pid) => Some(pid),
         Val::Num(_) | Val::Obj(_) => None,
+    }
+}
+
+/// The file that an object is, or the error of a row that is about one.
+pub(crate) fn file_at<'a, S: Look>(store: &'a S, object: &ObjId) -> Result<&'a File, Errno>
+    ensures ok { IfOk result (λ file. S.look store.now (Obj object.now) ≡ Some (stored.Value (values.File file.now))) }
+    ensures err { IfErr result (λ error. file_in (S.look store.now (Obj object.now)) ≡ Err error) }
+{
+    match store.value(Entity::Obj(*object)) {
+        Some(EntityState::Value(Value::File(file))) => Ok(file),
+        Some(EntityState::Value(Value::Dir(_))) => Err(Errno::IsDirectory),
+        Some(EntityState::Value(Value::Pipe(_))) => Err(Errno::Invalid),
+        _ => Err(Errno::BadObject),
+    }
+}
+
+/// The directory that an object is, or the error of a row that is about one.
+pub(crate) fn directory_at<'a, S: Look>(
+    store: &'a S,
+    object: &ObjId,
+) -> Result<&'a Directory, Errno>
+    ensures ok { IfOk result (λ directory. S.look store.now (Obj object.now) ≡ Some (stored.Value (values.Dir directory.now))) }
+    ensures err { IfErr result (λ error. directory_in (S.look store.now (Obj object.now)) ≡ Err error) }
+{
+    match store.value(Entity::Obj(*object)) {
+        Some(EntityState::Value(Value::Dir(directory))) => Ok(directory),
+        Some(EntityState::Value(Value::File(_) | Value::Pipe(_))) => Err(Errno::NotDirectory),
+        _ => Err(Errno::BadObject),
+    }
+}
+
+/// The pipe that an object is, or the error of a row that is about one.
+pub(crate) fn pipe_at<'a, S: Look>(store: &'a S, object: &ObjId) -> Result<&'a Pipe, Errno>
+    ensures ok { IfOk result (λ pipe. S.look store.now (Obj object.now) ≡ Some (stored.Value (values.Pipe pipe.now))) }
+    ensures err { IfErr result (λ error. pipe_in (S.look store.now (Obj object.now)) ≡ Err error) }
+{
+    match store.value(Entity::Obj(*object)) {
+        Some(EntityState::Value(Value::Pipe(pipe))) => Ok(pipe),
+        Some(EntityState::Value(Value::File(_) | Value::Dir(_))) => Err(Errno::Invalid),
+        _ => Err(Errno::BadObject),
     }
 }

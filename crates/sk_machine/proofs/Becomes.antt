@@ -20,11 +20,10 @@ use Rattle.sk_undo.specs.Logs.{look_at}
 use Rattle.sk_undo.specs.Decisions.{Lightened, Unwound}
 use Rattle.sk_trace.specs.Entry.{EntryView}
 use Rattle.sk_plain.specs.Act.{Scripts, Saying, act, plain}
-use Rattle.sk_plain.specs.Planned.{effect_of}
+use Rattle.sk_plain.specs.Planned.{effect_of, texts_after}
 use Rattle.sk_plain.specs.Planned.{said_by as said_in_plan}
 use Rattle.sk_plain.specs.declared.plan.Plan.{Plan}
 use Rattle.sk_machine.specs.Parts.{Parts, machine_of, undo_state_of, planned_effect, said_at}
-use Rattle.sk_machine.specs.Performed.{texts_after}
 
 -- ---- texts
 

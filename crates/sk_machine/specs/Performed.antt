@@ -1,4 +1,4 @@
--- What the writes and the text of a step leave.
+-- What the writes of a step leave, and the failure of a guess of the open ones.
 use Rattle.std.specs.Prelude.{◌≡◌, ℕ, Bool, true, false, not, ◌&&◌, ◌==◌, List, [], ◌∷◌, ◌++◌, map, Option, Some, None, if◌then◌else◌}
 use Rattle.std.specs.List.{list_any}
 use Rattle.sk_record.specs.Effects.{is_in, written_value}
@@ -9,9 +9,7 @@ use Rattle.sk_record.specs.declared.status.Status.TheVariants.{Struck}
 use Rattle.sk_ids.specs.Entity.{entity_cmp}
 use Rattle.sk_ids.specs.declared.entity.Entity.{Entity}
 use Rattle.sk_store.specs.declared.entity_state.EntityState.{EntityState}
-use Rattle.sk_terminal.specs.Terminals.{TerminalMap, said_to}
 use Rattle.sk_undo.specs.Logs.{SlotMap, look_at, log_at}
-use Rattle.sk_plain.specs.Act.{Saying}
 
 abbrev pub entities_of : List (Entity × Option EntityState) → List Entity
 entities_of ws = map (λ w. w.0) ws
@@ -29,11 +27,6 @@ IsClean m tags es = (e : Entity) → is_in entity_cmp es e ≡ true → tags ≡
 pub record Performed (old : SlotMap) (tags : List ℕ) (ws : List (Entity × Option EntityState)) (new : SlotMap) : Type 0 where
   pub look : (q : Entity) → look_at new q ≡ written_value entity_cmp ws q (look_at old q)
   pub logs : (q : Entity) → log_at new q ≡ log_at old q ++ noted (is_in entity_cmp (entities_of ws) q) tags (look_at old q) []
-
--- a text goes to its terminal, with the tags of its step
-abbrev pub texts_after : TerminalMap → List ℕ → Option Saying → TerminalMap
-texts_after texts tags None = texts
-texts_after texts tags (Some s) = said_to texts s.to (s.text, tags)
 
 -- whether the failure of g strikes an open guess: its own step rests on g, and it is another
 abbrev pub is_struck : ℕ → Open → Bool

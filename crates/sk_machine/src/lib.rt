@@ -5,7 +5,7 @@
 mod dependents;
 pub mod machine;
 pub mod open;
-pub mod perform;
+
 
 pub use machine::Machine;
 pub use open::Open;

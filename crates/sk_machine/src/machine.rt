@@ -20,16 +20,15 @@ ghost use Rattle.sk_ids.specs.declared.entity.Entity.{Entity};
 ghost use Rattle.sk_store.specs.Start.{start_of};
 ghost use Rattle.sk_undo.specs.Logs.{look_at};
 ghost use Rattle.sk_plain.specs.Act.{act, plain};
-ghost use Rattle.sk_plain.specs.Planned.{CanDo, IsBeside, effect_of};
+ghost use Rattle.sk_plain.specs.Planned.{CanDo, IsBeside, effect_of, said_by, texts_after, writes_of};
 ghost use Rattle.sk_machine.specs.Parts.{any_rests, machine_of, planned_effect, undo_state_of};
-ghost use Rattle.sk_machine.specs.Performed.{is_struck, with_struck};
+ghost use Rattle.sk_machine.specs.Performed.{entities_of, AreApart, IsClean, Performed, is_struck, with_struck};
 
 use crate::Open;
 use crate::dependents::{Dependents, forget, list_all, listed_for};
-use crate::perform::perform;
 use sk_guesses::{Guess, Guesses, Redeemed, Status};
 use sk_ids::{Entity, GuessId, Pid, TagSet};
-use sk_plain::Plan;
+use sk_plain::{Plan, perform_plan};
 use sk_script::{Boot, Input, Scripts};
 use sk_store::{EntityState, Look, Store};
 use sk_terminal::{Terminal, Terminals, Texts};
@@ -71,6 +70,27 @@ impl Look for Machine {
     fn value(&self, entity: Entity) -> Option<&EntityState> {
         self.logs.value(entity)
     }
+}
+
+/// Performs a plan, whose writes and text rest on these guesses. Without memory nothing has changed.
+#[tactic(auto, using(crate::proofs::Writes::performed))]
+fn perform(
+    logs: &mut Logs,
+    terminals: &mut Terminals,
+    pid: Pid,
+    plan: &Plan,
+    tags: TagSet,
+) -> Result<(), AllocError>
+    requires can { CanDo (look_at logs.old.slots) plan.now.beside }
+    requires apart { AreApart (entities_of (writes_of (look_at logs.old.slots) pid plan.now)) }
+    requires clean { IsClean logs.old.slots tags (entities_of (writes_of (look_at logs.old.slots) pid plan.now)) }
+    ensures writes { OnOk result (Performed logs.old.slots tags (writes_of (look_at logs.old.slots) pid plan.now) logs.new.slots) }
+    ensures says { OnOk result (terminals.new ≡ texts_after terminals.old tags (said_by plan.now)) }
+    ensures unwritten { OnErr result (logs.new.slots ≡ logs.old.slots) }
+    ensures unsaid { OnErr result (terminals.new ≡ terminals.old) }
+{
+    logs.set_tags(tags);
+    perform_plan(logs, terminals, pid, plan)
 }
 
 /// Takes a guess out of the open ones, and out of what the others rest on.

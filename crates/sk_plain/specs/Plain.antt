@@ -7,7 +7,7 @@ use Rattle.sk_record.specs.Step.{Effect, perform}
 use Rattle.sk_record.specs.Run.{put_all}
 use Rattle.sk_ids.specs.declared.entity.Entity.{Entity}
 use Rattle.sk_record.specs.Machine.{released}
-use Rattle.sk_terminal.specs.Terminals.{TerminalMap, terminals_code, texts_at, said_to}
+use Rattle.sk_terminal.specs.Terminals.{TerminalMap, terminals_code, texts_at}
 use Rattle.sk_script.specs.Scripts.{ScriptMap, script_map_code}
 use Rattle.sk_script.specs.Boot.{BootView}
 use Rattle.sk_script.specs.declared.instruction.Input.{Input}
@@ -17,7 +17,7 @@ use Rattle.sk_store.specs.declared.entity_state.EntityState.{EntityState}
 use Rattle.sk_plain.specs.declared.refusal.Refusal.{Refusal}
 use Rattle.sk_plain.specs.Refusal.{cause}
 use Rattle.sk_plain.specs.Act.{act, Saying}
-use Rattle.sk_plain.specs.Planned.{refusal_of}
+use Rattle.sk_plain.specs.Planned.{refusal_of, texts_after}
 
 -- the scripts that it was booted with, what entities have, and the texts of each terminal, of which none rests on a guess
 pub record PlainView : Type 0 where
@@ -44,8 +44,7 @@ step_of k pid input = perform (map.get k.state) (act k.scripts pid input)
 
 -- after an accepted step
 abbrev pub with_said : TerminalMap → Option Saying → TerminalMap
-with_said texts None = texts
-with_said texts (Some s) = said_to texts s.to (s.text, [])
+with_said texts said = texts_after texts [] said
 
 abbrev pub stepped : PlainView → Effect Entity EntityState Saying → PlainView
 stepped k f = record k { state = put_all f.written k.state; texts = with_said k.texts f.said }

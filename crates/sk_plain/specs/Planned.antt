@@ -8,6 +8,7 @@ use Rattle.sk_objects.specs.declared.value.Value.TheVariants as values
 use Rattle.sk_script.specs.declared.process.Process.{Process}
 use Rattle.sk_script.specs.declared.instruction.Input.{Input}
 use Rattle.sk_script.specs.declared.instruction.Input.TheVariants as inputs
+use Rattle.sk_terminal.specs.Terminals.{TerminalMap, said_to}
 use Rattle.sk_plain.specs.Act.{Scripts, StepTree, Saying, act}
 use Rattle.sk_store.specs.Changed.{changed, FitsAt}
 use Rattle.sk_store.specs.declared.entity_state.EntityState.{EntityState}
@@ -67,6 +68,11 @@ said_in p (Gone e) = None
 
 abbrev pub said_by : Plan → Option Saying
 said_by plan = said_in plan.process plan.beside
+
+-- the texts after a step that rests on these guesses
+abbrev pub texts_after : TerminalMap → List ℕ → Option Saying → TerminalMap
+texts_after texts tags None = texts
+texts_after texts tags (Some s) = said_to texts s.to (s.text, tags)
 
 -- all that a plan writes
 abbrev pub writes_of : (Entity → Option EntityState) → ℕ → Plan → List (Entity × Option EntityState)

@@ -3,13 +3,14 @@ ghost use Rattle.std.specs.Prelude.{◌≡◌, OnOk, OnErr, IfOk, Some, None, []
 ghost use Rattle.sk_ids.specs.declared.entity.Entity.TheVariants.{Proc, Sig, Exit};
 ghost use Rattle.sk_store.specs.declared.entity_state.EntityState.TheVariants as stored;
 ghost use Rattle.sk_objects.specs.declared.value.Value.TheVariants as values;
-ghost use Rattle.sk_plain.specs.Planned.{CanBecome, CanDo, value_of, child_of, writes_of, wrote_all};
+ghost use Rattle.sk_plain.specs.Planned.{CanBecome, CanDo, value_of, child_of, said_by, texts_after, writes_of, wrote_all};
 
 use crate::{Becomes, Beside, Child, Plan};
 use sk_ids::{Entity, Pid};
 use sk_objects::{Kind, Value};
 use sk_script::Process;
 use sk_store::{EntityState, Keeper};
+use sk_terminal::Terminals;
 use std::alloc::AllocError;
 
 /// An entity becomes this. Without memory nothing has changed.
@@ -102,7 +103,8 @@ fn child_of(process: &Process, child: &Child) -> Process
     }
 }
 
-/// Writes what was planned for the next step of a process. Without memory nothing has changed.
+/// Writes what was planned for the next step of a process, and says nothing. Without memory nothing
+/// has changed.
 pub fn apply_plan<K: Keeper>(keeper: &mut K, pid: Pid, plan: &Plan) -> Result<(), AllocError>
     requires { CanDo (K.look keeper.old) plan.now.beside }
     ensures ok { OnOk result (keeper.new ≡ wrote_all K.wrote (writes_of (K.look keeper.old) pid plan.now) keeper.old) }
@@ -133,6 +135,36 @@ pub fn apply_plan<K: Keeper>(keeper: &mut K, pid: Pid, plan: &Plan) -> Result<()
                 return Err(AllocError);
             }
         }
+    }
+    Ok(())
+}
+
+/// Performs what was planned for the next step of a process: its writes, and the text that it says,
+/// which rests on what the step rests on. Without memory nothing has changed.
+pub fn perform_plan<K: Keeper>(
+    keeper: &mut K,
+    terminals: &mut Terminals,
+    pid: Pid,
+    plan: &Plan,
+) -> Result<(), AllocError>
+    requires { CanDo (K.look keeper.old) plan.now.beside }
+    ensures writes { OnOk result (keeper.new ≡ wrote_all K.wrote (writes_of (K.look keeper.old) pid plan.now) keeper.old) }
+    ensures says { OnOk result (terminals.new ≡ texts_after terminals.old (K.step_tags keeper.old) (said_by plan.now)) }
+    ensures unwritten { OnErr result (keeper.new ≡ keeper.old) }
+    ensures unsaid { OnErr result (terminals.new ≡ terminals.old) }
+{
+    let Beside::Says = plan.beside else {
+        return apply_plan(keeper, pid, plan);
+    };
+    let process = &plan.process;
+    let tags = keeper.step_tags()?;
+    let back = keeper.write(Entity::Proc(pid), EntityState::Process(*process))?;
+    if terminals
+        .say(process.terminal, process.buffer, tags)
+        .is_err()
+    {
+        keeper.take_back(back);
+        return Err(AllocError);
     }
     Ok(())
 }

@@ -6,10 +6,10 @@ ghost use Rattle.sk_ids.specs.Entity.{entity_cmp};
 ghost use Rattle.sk_plain.specs.View.{Shows};
 ghost use Rattle.sk_plain.specs.Plain.{plain_start, texts_said, step_of, Steps};
 
-use crate::{Beside, Refusal, View, apply_plan, plan_step};
-use sk_ids::{Entity, Pid, TagSet, Text};
+use crate::{Refusal, View, perform_plan, plan_step};
+use sk_ids::{Entity, Pid, Text};
 use sk_script::{Boot, Input, Scripts};
-use sk_store::{EntityState, Keeper, Look, Store};
+use sk_store::{Look, Store};
 use sk_terminal::Terminals;
 use std::alloc::{AllocError, Global};
 use std::marker::Model;
@@ -89,24 +89,8 @@ impl Plain {
         ensures { Steps result (step_of self.old pid input.now) self.old self.new }
     {
         let plan = plan_step(&self.store, &self.scripts, pid, input)?;
-        let Beside::Says = plan.beside else {
-            apply_plan(&mut self.store, pid, &plan)?;
-            return Ok(None);
-        };
-        let process = &plan.process;
-        let back = self
-            .store
-            .write(Entity::Proc(pid), EntityState::Process(*process))?;
-        let tags = TagSet::new(self.store.memory());
-        if self
-            .texts
-            .say(process.terminal, process.buffer, tags)
-            .is_err()
-        {
-            self.store.take_back(back);
-            return Err(Refusal::Memory);
-        }
-        Ok(Some(process.buffer))
+        perform_plan(&mut self.store, &mut self.texts, pid, &plan)?;
+        Ok(plan.text())
     }
 
     /// What an entity has; `None` where it is absent.

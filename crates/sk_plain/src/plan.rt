@@ -1,10 +1,10 @@
 //! What a step will do. A plan is the step's footprint: nothing that uses one knows of instructions.
-ghost use Rattle.std.specs.Prelude.{◌≡◌, is_some};
+ghost use Rattle.std.specs.Prelude.{◌≡◌, option_map};
 ghost use Rattle.sk_plain.specs.Planned.{read_by, written_by, said_by};
 
 use crate::Entities;
 use sk_changes::Change;
-use sk_ids::{Entity, Pid};
+use sk_ids::{Entity, Pid, Text};
 use sk_objects::{Content, Kind};
 use sk_script::{Input, Process, Registers};
 use std::marker::Model;
@@ -81,11 +81,14 @@ impl Plan {
         read_entities(pid, input, &self.looks)
     }
 
-    /// Whether the process says its buffer, as the step leaves it.
-    pub fn says(&self) -> bool
-        ensures { result ≡ is_some (said_by self.now) }
+    /// The text that the process says: its buffer, as the step leaves it.
+    pub fn text(&self) -> Option<Text>
+        ensures { result ≡ option_map (λ s. s.text) (said_by self.now) }
     {
-        matches!(self.beside, Beside::Says)
+        match self.beside {
+            Beside::Says => Some(self.process.buffer),
+            _ => None,
+        }
     }
 
     /// The entities that the step writes.

@@ -7,7 +7,7 @@ ghost use Rattle.sk_store.specs.declared.entity_state.EntityState.TheVariants as
 
 use crate::{EntityState, Keeper, Look, Store};
 use sk_changes::{Change, Invertible, Undo};
-use sk_ids::Entity;
+use sk_ids::{Entity, TagSet};
 use sk_objects::Value;
 use std::alloc::{AllocError, Global};
 use std::marker::Model;
@@ -109,6 +109,7 @@ fn write_in(store: &mut Store, entity: &Entity, stored: EntityState) -> Result<P
 impl Keeper for Store {
     type Back = Back;
 
+    ghost use Rattle.std.specs.Prelude.{[]};
     ghost use Rattle.sk_record.specs.Run.{put};
     ghost use Rattle.sk_store.specs.Back.{taken_back, CanTakeBack};
 
@@ -118,8 +119,14 @@ impl Keeper for Store {
 
     ghost taken_back = { taken_back };
 
+    ghost step_tags = { λ _. [] };
+
     fn memory(&self) -> Global {
         self.alloc()
+    }
+
+    fn step_tags(&self) -> Result<TagSet, AllocError> {
+        Ok(TagSet::new(self.alloc()))
     }
 
     fn write(&mut self, entity: Entity, stored: EntityState) -> Result<Back, AllocError> {

@@ -1,12 +1,12 @@
 //! Writing to what entities have.
 use crate::{EntityState, Look};
 use sk_changes::Change;
-use sk_ids::Entity;
+use sk_ids::{Entity, TagSet};
 use std::alloc::{AllocError, Global};
 
 /// What performs the writes of a step, each of which can be taken back until the next one.
 pub trait Keeper: Look {
-    ghost use Rattle.std.specs.Prelude.{◌≡◌, OnOk, OnErr, IfOk, Option, Some, None};
+    ghost use Rattle.std.specs.Prelude.{◌≡◌, OnOk, OnErr, IfOk, ℕ, List, Option, Some, None};
     ghost use Rattle.sk_ids.specs.declared.entity.Entity.{Entity};
     ghost use Rattle.sk_store.specs.declared.entity_state.EntityState.{EntityState};
     ghost use Rattle.sk_store.specs.Changed.{FitsAt, changed};
@@ -23,8 +23,15 @@ pub trait Keeper: Look {
     /// After that.
     ghost taken_back: { Self → Self.Back → Self };
 
+    /// The guesses that a step rests on.
+    ghost step_tags: { Self → List ℕ };
+
     /// What it takes its memory from.
     fn memory(&self) -> Global;
+
+    /// Another set of the guesses that the step rests on whose writes it performs.
+    fn step_tags(&self) -> Result<TagSet, AllocError>
+        ensures { IfOk result (λ tags. tags ≡ step_tags self.now) };
 
     /// Sets what an entity has. Without memory nothing has changed.
     fn write(&mut self, entity: Entity, stored: EntityState) -> Result<Self::Back, AllocError>

@@ -146,8 +146,14 @@ impl Keeper for Logs {
 
     ghost taken_back = { taken_back };
 
+    ghost step_tags = { λ l. l.tags };
+
     fn memory(&self) -> Global {
         self.slots.alloc()
+    }
+
+    fn step_tags(&self) -> Result<TagSet, AllocError> {
+        self.tags.copy()
     }
 
     fn write(&mut self, entity: Entity, stored: EntityState) -> Result<Back, AllocError> {

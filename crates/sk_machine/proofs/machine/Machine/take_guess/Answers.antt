@@ -8,10 +8,10 @@ use Rattle.sk_ids.specs.declared.entity.Entity.{Entity}
 use Rattle.sk_trace.specs.Entry.{EntryView}
 use Rattle.sk_undo.specs.Logs.{look_at}
 use Rattle.sk_plain.specs.Act.{act, plain}
-use Rattle.sk_plain.specs.Planned.{effect_of, said_by, writes_of}
+use Rattle.sk_plain.specs.Planned.{effect_of, said_by, texts_after, writes_of}
 use Rattle.sk_plain.proofs.Scan.{changed_are}
 use Rattle.sk_machine.specs.Parts.{Parts, machine_of, planned_effect, undo_state_of}
-use Rattle.sk_machine.specs.Performed.{entities_of, texts_after}
+use Rattle.sk_machine.specs.Performed.{entities_of}
 use Rattle.sk_machine.proofs.Becomes.{takes_guess}
 use Rattle.sk_machine.proofs.Joins.{took_of}
 use Rattle.sk_machine.proofs.Listed.{AreListedFor, performed_listed}

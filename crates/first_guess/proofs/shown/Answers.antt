@@ -1,0 +1,14 @@
+-- As many texts are released of a terminal's as of the record's: by recursion over the texts.
+use Rattle.std.proofs.Common.{◌≡◌, ℕ, suc, List, [], ◌∷◌, length, ap, refl, ◌∙◌}
+use Rattle.hidewillow.specs.Machine.{released}
+use Rattle.hidewillow.specs.Parts.{said_at}
+use Rattle.hidewillow.specs.Terminal.{TaggedText}
+use Rattle.first_guess.proofs.shown.Goals as goal
+
+as_many : (t : ℕ) (texts : List TaggedText) → length (released texts) ≡ length (released (said_at t texts))
+as_many t [] = refl
+as_many t ((text, []) ∷ texts) = ap suc (as_many t texts)
+as_many t ((text, g ∷ tags) ∷ texts) = refl
+
+pub returns-in-Some : goal.returns-in-Some
+returns-in-Some c = ap length c.released.ensures ∙ as_many 1 c.in-Some.terminal.now ∙ ap (λ texts. length (released texts)) c.in-Some.ensures.said

@@ -24,6 +24,14 @@ OPEN = 63
 LOOSE = 1.25
 # A decision looks at each other open guess, of which there are 63 at most.
 BESIDE_OPEN = 1.5
+# A decision visits what rests on its guess, and nothing else.
+BESIDE_OTHERS = 1.05
+# A step that rests on all open guesses, with its share of their decisions: where it leaves the tags of
+# what it writes as they are, and where an entity comes to rest on them.
+SAME_TAGS = 2
+NEW_TAGS = 4
+# A long computation under a guess, in instructions and in peak memory.
+UNDER_A_GUESS = 1.1
 
 
 def spent():
@@ -49,6 +57,15 @@ class Meter:
                 words = [self.program, command, file.name]
                 self.known[key] = self.timed(words) if self.seconds else self.counted(words)
         return self.known[key]
+
+    def peak(self, text):
+        """The peak memory of a play, in kilobytes."""
+        with tempfile.NamedTemporaryFile("w", suffix=".scenario") as file:
+            file.write(text)
+            file.flush()
+            words = [self.program, "play", file.name]
+            ran = subprocess.Popen(words, stdout=subprocess.DEVNULL, stderr=subprocess.DEVNULL)
+            return os.wait4(ran.pid, 0)[2].ru_maxrss
 
     def counted(self, words):
         tool = ["valgrind", "--tool=cachegrind", "--cache-sim=no", "--cachegrind-out-file=/dev/null"]
@@ -132,14 +149,24 @@ def steps(before, body, count, guesses, guesser, drawn=OPEN):
     return scenario(first, ["step 1 none"] * count, others, FILES, [f"{take} 2 good"] * drawn + lead)
 
 
+def step_limit(name, guesser, drawn):
+    """The limit of a row of `step_rows`."""
+    if guesser == 2:
+        return LOOSE
+    if drawn == 1:
+        return None
+    if name in ("private", "read", "look in a directory"):
+        return SAME_TAGS
+    return NEW_TAGS if name in ("make a file", "fork") else None
+
+
 def step_rows(meter):
     """Steps of a process that rests on none of the open guesses, and of one that rests on all of them. What
-    the latter cost is with the share of the decisions that end the run, and has no limit."""
+    the latter cost is with the share of the decisions that end the run."""
     for guesser, drawn, whose in ((2, OPEN, "of others"), (1, 1, "its own"), (1, OPEN, "its own")):
         for name, before, body in kinds():
             cost = lambda guesses: meter.each(lambda n: steps(before, body, n, guesses, guesser, drawn), 600, 1200, 1)
-            limit = LOOSE if guesser == 2 else None
-            yield f"step, {name}: {drawn} open ({whose}) / none", cost(True), cost(False), limit
+            yield f"step, {name}: {drawn} open ({whose}) / none", cost(True), cost(False), step_limit(name, guesser, drawn)
 
 
 def decided(body, count, decision, instruction):
@@ -197,7 +224,7 @@ def held_rows(meter):
             lines = 3 if decision == "commit" else 2
             cost = lambda amount: meter.each(lambda n: held_rounds(n, decision, held, amount), 100, 200, lines)
             amount = 62 if held == "open guesses" else 1000
-            limit = BESIDE_OPEN if held == "open guesses" else LOOSE
+            limit = {"open guesses": BESIDE_OPEN, "noted files": BESIDE_OTHERS}.get(held, LOOSE)
             yield f"guess and {decision}: {amount} {held} held / none", cost(amount), cost(0), limit
 
 
@@ -252,6 +279,15 @@ def text_rows(meter):
             yield f"held texts, as many guesses that {told}, {decision}: 2,000 to 4,000 / twice 1,000 to 2,000", late, early, LOOSE
 
 
+def long_rows(meter):
+    """A million private steps under one guess, whose decision ends the run."""
+    million = 1_000_000
+    run = lambda take: scenario(["fetch /x"] + looping(["set r0 1"], 1000), ["step 1 none"] * million, before=[f"{take} 1 good"])
+    guessed, plain = run("guess"), run("step")
+    yield "1,000,000 private steps under one guess / under none", meter.played(guessed), meter.played(plain), UNDER_A_GUESS
+    yield "the same, peak memory in kilobytes", meter.peak(guessed), meter.peak(plain), UNDER_A_GUESS
+
+
 def shown(cost, seconds):
     return f"{cost * 1e6:14,.2f}" if seconds else f"{cost:14,.0f}"
 
@@ -268,7 +304,7 @@ def main():
     unit = "microseconds" if words.seconds else "instructions"
     print(f"{'ratio':>7} {'limit':>6} {unit + ' left':>20} {'right':>14}  what")
     over = 0
-    for rows in (step_rows, decision_rows, held_rows, nested_rows, text_rows):
+    for rows in (step_rows, long_rows, decision_rows, held_rows, nested_rows, text_rows):
         if words.only and words.only not in rows.__name__:
             continue
         for name, left, right, limit in rows(meter):

@@ -86,6 +86,10 @@ abbrev pub instruction_of : Option (List Instruction) → ℕ → Option Instruc
 instruction_of (Some script) place = slice_get script place
 instruction_of None place = None
 
+-- the next instruction of a process
+abbrev pub next_in : Scripts → Process → Option Instruction
+next_in scripts p = instruction_of (get scripts p.script) p.place
+
 -- the front signal goes to the handler, where one is set and no place is saved
 abbrev pub handled : ℕ → Process → Option Instruction → List ℕ → Option ℕ → Option ℕ → StepTree
 handled pid p i (n ∷ ns) (Some handler) None =
@@ -119,7 +123,7 @@ with_input pid p i (inputs.Stale content) = stale pid p content i
 
 abbrev pub goes_on : Scripts → ℕ → Input → Option EntityState → StepTree
 goes_on scripts pid input (Some (stored.Process p)) =
-    if p.ended then Refuse Ended else with_input pid p (instruction_of (get scripts p.script) p.place) input
+    if p.ended then Refuse Ended else with_input pid p (next_in scripts p) input
 goes_on scripts pid input (Some (stored.Value v)) = Refuse NoProcess
 goes_on scripts pid input None = Refuse NoProcess
 

@@ -1,5 +1,5 @@
 -- The rows of the table on new objects and on files.
-use Rattle.std.specs.Prelude.{ℕ, ◌+◌, ◌==◌, nat_lt, nat_le, List, length, Option, Some, None, Result, Ok, Err, slice_set, if◌then◌else◌}
+use Rattle.std.specs.Prelude.{ℕ, ◌+◌, ◌==◌, nat_lt, nat_le, List, length, Option, Some, Result, Ok, Err, slice_set, if◌then◌else◌}
 use Rattle.sk_ids.specs.declared.pid.ObjId.{ObjId}
 use Rattle.sk_ids.specs.declared.entity.Entity.TheVariants.{Obj}
 use Rattle.sk_ids.specs.declared.text.TheConstants.{TEXT_LIMIT}

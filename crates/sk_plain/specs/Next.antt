@@ -1,6 +1,5 @@
 -- What a process does next, told without a step.
 use Rattle.std.specs.Prelude.{ℕ, Bool, true, false, not, ◌&&◌, ◌||◌, ◌==◌, List, length, Option, Some, None, is_some, Result, Ok, Err, if◌then◌else◌}
-use Rattle.std.specs.FinMap.{get}
 use Rattle.std.specs.List.{list_any}
 use Rattle.sk_record.specs.Step.{Effect, perform}
 use Rattle.sk_ids.specs.declared.entity.Entity.{Entity}
@@ -17,7 +16,7 @@ use Rattle.sk_plain.specs.declared.next.Next.{Next}
 use Rattle.sk_plain.specs.declared.next.Next.TheVariants as nexts
 use Rattle.sk_plain.specs.declared.refusal.Refusal.{Refusal}
 use Rattle.sk_plain.specs.declared.refusal.Refusal.TheVariants.{NoProcess, Ended, Blocked}
-use Rattle.sk_plain.specs.Act.{Scripts, Saying, act, instruction_of}
+use Rattle.sk_plain.specs.Act.{Scripts, Saying, act, next_in}
 use Rattle.sk_plain.specs.Processes.{KILL}
 
 -- a step without input takes a signal of this queue: the process is killed, or a handler is set and no place saved
@@ -53,7 +52,7 @@ next_instruction look scripts pid p i =
 abbrev pub next_going : (Entity → Option EntityState) → Scripts → ℕ → Process → Next
 next_going look scripts pid p =
     if is_due p (look (Sig pid)) then nexts.Signal
-    else next_instruction look scripts pid p (instruction_of (get scripts p.script) p.place)
+    else next_instruction look scripts pid p (next_in scripts p)
 
 abbrev pub next_at : (Entity → Option EntityState) → Scripts → ℕ → Option EntityState → Result Next Refusal
 next_at look scripts pid (Some (stored.Process p)) = if p.ended then Err Ended else Ok (next_going look scripts pid p)

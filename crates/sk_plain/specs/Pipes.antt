@@ -1,5 +1,5 @@
 -- The rows of the table on pipes.
-use Rattle.std.specs.Prelude.{ℕ, ◌+◌, ◌==◌, nat_le, Bool, true, false, [], length, take, Option, Some, None, Result, Ok, Err, min, if◌then◌else◌}
+use Rattle.std.specs.Prelude.{ℕ, ◌+◌, ◌==◌, nat_le, Bool, true, false, [], length, take, Option, Some, Result, Ok, Err, min, if◌then◌else◌}
 use Rattle.sk_record.specs.Step.{Refuse}
 use Rattle.sk_ids.specs.declared.pid.ObjId.{ObjId}
 use Rattle.sk_ids.specs.declared.entity.Entity.TheVariants.{Obj}

@@ -1,11 +1,12 @@
 //! What a process does next, told without a step.
-ghost use Rattle.std.specs.Prelude.{◌≡◌, ◌+◌, ◌<◌, ◌^◌, IsSome, Some};
+ghost use Rattle.std.specs.Prelude.{◌≡◌, Some};
 ghost use Rattle.sk_ids.specs.declared.entity.Entity.TheVariants.{Sig};
+ghost use Rattle.sk_plain.specs.Act.{next_in};
 ghost use Rattle.sk_plain.specs.Next.{takes_signal, is_due, is_private, waits, next_instruction, next_of};
 
 use crate::Refusal;
 use crate::processes::is_killed;
-use crate::step::{instruction_at, plan_step, private};
+use crate::step::{instruction_at, plan_step};
 use sk_ids::{Entity, Name, Pid};
 use sk_objects::{Signals, Value};
 use sk_script::{Input, Instruction, Process, Scripts};
@@ -44,13 +45,13 @@ fn is_due<S: Look>(store: &S, pid: Pid, process: &Process) -> bool
     }
 }
 
-/// Whether the instruction is private.
-fn is_private(process: &Process, instruction: &Option<Instruction>) -> bool
-    requires { IsSome instruction.now → process.now.place + 1 < 2 ^ 32 }
-    ensures { result ≡ is_private process.now instruction.now }
+/// Whether the next instruction is private.
+fn is_private(scripts: &Scripts, process: &Process) -> bool
+    ensures { result ≡ is_private process.now (next_in scripts.now process.now) }
 {
-    match instruction {
-        Some(instruction) => private(process, instruction).is_some(),
+    let mut next = *process;
+    match instruction_at(scripts, process) {
+        Some(instruction) => next.does(instruction),
         None => false,
     }
 }
@@ -66,22 +67,15 @@ fn waits<S: Look>(store: &S, scripts: &Scripts, pid: Pid) -> bool
 }
 
 /// What a process does next where no signal is due.
-fn next_instruction<S: Look>(
-    store: &S,
-    scripts: &Scripts,
-    pid: Pid,
-    process: &Process,
-    instruction: &Option<Instruction>,
-) -> Next
-    requires { IsSome instruction.now → process.now.place + 1 < 2 ^ 32 }
-    ensures { result ≡ next_instruction (S.look store.now) scripts.now pid process.now instruction.now }
+fn next_instruction<S: Look>(store: &S, scripts: &Scripts, pid: Pid, process: &Process) -> Next
+    ensures { result ≡ next_instruction (S.look store.now) scripts.now pid process.now (next_in scripts.now process.now) }
 {
-    match instruction {
+    match instruction_at(scripts, process) {
         Some(Instruction::Fetch(name)) => return Next::Fetch(*name),
         Some(Instruction::Store(name)) => return Next::Store(*name),
         _ => {}
     }
-    if is_private(process, instruction) {
+    if is_private(scripts, process) {
         return Next::Private;
     }
     if waits(store, scripts, pid) {
@@ -104,6 +98,5 @@ pub fn next_of<S: Look>(store: &S, scripts: &Scripts, pid: Pid) -> Result<Next, 
     if is_due(store, pid, process) {
         return Ok(Next::Signal);
     }
-    let instruction = instruction_at(scripts, &process.script, process.place);
-    Ok(next_instruction(store, scripts, pid, process, &instruction))
+    Ok(next_instruction(store, scripts, pid, process))
 }

@@ -1,18 +1,20 @@
 //! What the instructions with a reply of the server will do.
-ghost use Rattle.std.specs.Prelude.{◌≡◌, ◌+◌, ◌<◌, ◌^◌, ℕ, IsSome, None, Option, IfOk};
+ghost use Rattle.std.specs.Prelude.{◌≡◌, ◌+◌, ◌<◌, ◌^◌, ℕ, None, Option, IfOk};
 ghost use Rattle.sk_record.specs.Step.{Ask};
 ghost use Rattle.sk_ids.specs.declared.entity.Entity.{Entity};
 ghost use Rattle.sk_ids.specs.declared.entity.Entity.TheVariants.{Copy};
 ghost use Rattle.sk_store.specs.declared.entity_state.EntityState.{EntityState};
+ghost use Rattle.sk_plain.specs.Act.{next_in};
 ghost use Rattle.sk_plain.specs.Replies.{fetched, from_copy, over_copy, good as good_row, fresh as fresh_row, stale as stale_row};
 ghost use Rattle.sk_plain.specs.Planned.{PlansRow, said_by};
 
 use crate::shapes::{answered, changed, failed, filled, looked, wrote};
+use crate::step::instruction_at;
 use crate::{Becomes, Errno, Plan, Refusal};
 use sk_changes::Change;
 use sk_ids::{Entity, Name, Pid};
 use sk_objects::{Content, Value};
-use sk_script::{Instruction, Process};
+use sk_script::{Instruction, Process, Scripts};
 use sk_store::{EntityState, Look};
 
 /// The process after a fetch of this content.
@@ -71,15 +73,14 @@ fn over_copy<S: Look>(store: &S, pid: Pid, process: &Process, name: Name) -> Res
 /// A step whose cached copy is said to be good.
 pub(crate) fn good<S: Look>(
     store: &S,
+    scripts: &Scripts,
     pid: Pid,
     process: &Process,
-    instruction: &Option<Instruction>,
 ) -> Result<Plan, Refusal>
-    requires { IsSome instruction.now → process.now.place + 1 < 2 ^ 32 }
-    ensures row { PlansRow (S.look store.now) pid (good_row pid process.now instruction.now) result }
+    ensures row { PlansRow (S.look store.now) pid (good_row pid process.now (next_in scripts.now process.now)) result }
     ensures quiet { IfOk result (λ plan. said_by plan ≡ None) }
 {
-    match instruction {
+    match instruction_at(scripts, process) {
         Some(Instruction::Fetch(name)) => from_copy(store, pid, process, *name),
         Some(Instruction::Store(name)) => over_copy(store, pid, process, *name),
         _ => Err(Refusal::Mismatch),
@@ -89,16 +90,15 @@ pub(crate) fn good<S: Look>(
 /// A fetch of the server's content.
 pub(crate) fn fresh<S: Look>(
     _store: &S,
+    scripts: &Scripts,
     pid: Pid,
     process: &Process,
-    instruction: &Option<Instruction>,
     content: &Content,
 ) -> Result<Plan, Refusal>
-    requires { IsSome instruction.now → process.now.place + 1 < 2 ^ 32 }
-    ensures row { PlansRow (S.look _store.now) pid (fresh_row pid process.now content.now instruction.now) result }
+    ensures row { PlansRow (S.look _store.now) pid (fresh_row pid process.now content.now (next_in scripts.now process.now)) result }
     ensures quiet { IfOk result (λ plan. said_by plan ≡ None) }
 {
-    match instruction {
+    match instruction_at(scripts, process) {
         Some(Instruction::Fetch(name)) => Ok(wrote(
             fetched(process, content),
             Entity::Copy(*name),
@@ -111,16 +111,15 @@ pub(crate) fn fresh<S: Look>(
 /// A store that the server refused, with the server's content.
 pub(crate) fn stale<S: Look>(
     _store: &S,
+    scripts: &Scripts,
     pid: Pid,
     process: &Process,
-    instruction: &Option<Instruction>,
     content: &Content,
 ) -> Result<Plan, Refusal>
-    requires { IsSome instruction.now → process.now.place + 1 < 2 ^ 32 }
-    ensures row { PlansRow (S.look _store.now) pid (stale_row pid process.now content.now instruction.now) result }
+    ensures row { PlansRow (S.look _store.now) pid (stale_row pid process.now content.now (next_in scripts.now process.now)) result }
     ensures quiet { IfOk result (λ plan. said_by plan ≡ None) }
 {
-    match instruction {
+    match instruction_at(scripts, process) {
         Some(Instruction::Store(name)) => Ok(wrote(
             failed(process, Errno::StaleCopy),
             Entity::Copy(*name),

@@ -1,11 +1,11 @@
 //! What a step will do, before it does it. A plan takes no memory.
 ghost use Rattle.std.specs.Prelude.{◌≡◌, ◌+◌, ◌<◌, ◌^◌, IsSome, IfOk, Some, None};
-ghost use Rattle.std.specs.FinMap as map;
+ghost use Rattle.std.specs.Option.{option_copied};
 ghost use Rattle.sk_ids.specs.declared.entity.Entity.TheVariants.{Sig};
 ghost use Rattle.sk_objects.specs.declared.value.Value.TheVariants as values;
 ghost use Rattle.sk_store.specs.declared.entity_state.EntityState.TheVariants as stored;
-ghost use Rattle.sk_script.specs.Private.{moved, private_step};
-ghost use Rattle.sk_plain.specs.Act.{row, does, instruction_of, handled as handled_row, with_signals, with_input};
+ghost use Rattle.sk_script.specs.Private.{moved};
+ghost use Rattle.sk_plain.specs.Act.{row, does, next_in, handled as handled_row, with_signals, with_input};
 ghost use Rattle.sk_plain.specs.Planned.{PlansRow, PlansAfter, PlansStep, signals_read, IsReply, said_by};
 
 use crate::processes::{
@@ -14,7 +14,7 @@ use crate::processes::{
 use crate::shapes::{alone, wrote};
 use crate::{Becomes, Beside, Looks, Plan, Refusal, files, names, pipes, replies};
 use sk_changes::Change;
-use sk_ids::{Entity, Name, Pid};
+use sk_ids::{Entity, Pid};
 use sk_objects::{Kind, Signals, Value};
 use sk_script::{Input, Instruction, Process, Scripts};
 use sk_store::{EntityState, Look};
@@ -74,49 +74,30 @@ fn row<S: Look>(
     })
 }
 
-/// The process after a private instruction; `None` for another.
-pub(crate) fn private(process: &Process, instruction: &Instruction) -> Option<Process>
-    requires { process.now.place + 1 < 2 ^ 32 }
-    ensures { result ≡ private_step process.now instruction.now }
-{
-    let mut next = *process;
-    if next.does(instruction) {
-        Some(next)
-    } else {
-        None
-    }
-}
-
 /// A step without input.
-fn does<S: Look>(
-    store: &S,
-    pid: Pid,
-    process: &Process,
-    instruction: &Option<Instruction>,
-) -> Result<Plan, Refusal>
-    requires { IsSome instruction.now → process.now.place + 1 < 2 ^ 32 }
-    ensures { PlansRow (S.look store.now) pid (does pid process.now instruction.now) result }
+fn does<S: Look>(store: &S, scripts: &Scripts, pid: Pid, process: &Process) -> Result<Plan, Refusal>
+    ensures { PlansRow (S.look store.now) pid (does pid process.now (next_in scripts.now process.now)) result }
 {
-    let Some(instruction) = instruction else {
+    let Some(instruction) = instruction_at(scripts, process) else {
         return Ok(ends(pid, process, 0));
     };
-    match private(process, instruction) {
-        Some(next) => Ok(alone(next)),
-        None => row(store, pid, process, instruction),
+    let mut plan = alone(*process);
+    if plan.process.does(instruction) {
+        return Ok(plan);
     }
+    row(store, pid, process, instruction)
 }
 
 /// The front signal goes to the handler, where one is set and no place is saved.
 fn handled<S: Look>(
     store: &S,
+    scripts: &Scripts,
     pid: Pid,
     process: &Process,
-    instruction: &Option<Instruction>,
     signals: &Signals,
 ) -> Result<Plan, Refusal>
-    requires place { IsSome instruction.now → process.now.place + 1 < 2 ^ 32 }
-    requires there { S.look store.now (Sig pid) ≡ Some (stored.Value (values.Signals signals.now)) }
-    ensures { PlansRow (S.look store.now) pid (handled_row pid process.now instruction.now signals.now process.now.handler process.now.saved) result }
+    requires { S.look store.now (Sig pid) ≡ Some (stored.Value (values.Signals signals.now)) }
+    ensures { PlansRow (S.look store.now) pid (handled_row pid process.now (next_in scripts.now process.now) signals.now process.now.handler process.now.saved) result }
 {
     match (signals.as_slice(), process.handler, process.saved) {
         ([signal, ..], Some(handler), None) => Ok(wrote(
@@ -124,58 +105,56 @@ fn handled<S: Look>(
             Entity::Sig(pid),
             Becomes::Changed(Change::TakeSignal),
         )),
-        _ => does(store, pid, process, instruction),
+        _ => does(store, scripts, pid, process),
     }
 }
 
 /// What a process does next without input.
 fn with_signals<S: Look>(
     store: &S,
+    scripts: &Scripts,
     pid: Pid,
     process: &Process,
-    instruction: &Option<Instruction>,
 ) -> Result<Plan, Refusal>
-    requires { IsSome instruction.now → process.now.place + 1 < 2 ^ 32 }
-    ensures { PlansRow (S.look store.now) pid (with_signals pid process.now instruction.now (S.look store.now (Sig pid))) result }
+    ensures { PlansRow (S.look store.now) pid (with_signals pid process.now (next_in scripts.now process.now) (S.look store.now (Sig pid))) result }
 {
     match store.value(Entity::Sig(pid)) {
         Some(EntityState::Value(Value::Signals(signals))) => {
             if is_killed(signals.as_slice()) {
                 return Ok(ends(pid, process, KILLED));
             }
-            handled(store, pid, process, instruction, signals)
+            handled(store, scripts, pid, process, signals)
         }
-        _ => does(store, pid, process, instruction),
+        _ => does(store, scripts, pid, process),
     }
 }
 
 /// The next step of a process that goes on.
 fn with_input<S: Look>(
     store: &S,
+    scripts: &Scripts,
     pid: Pid,
     process: &Process,
-    instruction: &Option<Instruction>,
     input: &Input,
 ) -> Result<Plan, Refusal>
-    requires { IsSome instruction.now → process.now.place + 1 < 2 ^ 32 }
-    ensures row { PlansAfter (signals_read pid input.now) (S.look store.now) pid (with_input pid process.now instruction.now input.now) result }
+    ensures row { PlansAfter (signals_read pid input.now) (S.look store.now) pid (with_input pid process.now (next_in scripts.now process.now) input.now) result }
     ensures quiet { IsReply input.now → IfOk result (λ plan. said_by plan ≡ None) }
 {
     match input {
-        Input::None => with_signals(store, pid, process, instruction),
-        Input::Good => replies::good(store, pid, process, instruction),
-        Input::Fresh(content) => replies::fresh(store, pid, process, instruction, content),
-        Input::Stale(content) => replies::stale(store, pid, process, instruction, content),
+        Input::None => with_signals(store, scripts, pid, process),
+        Input::Good => replies::good(store, scripts, pid, process),
+        Input::Fresh(content) => replies::fresh(store, scripts, pid, process, content),
+        Input::Stale(content) => replies::stale(store, scripts, pid, process, content),
     }
 }
 
-/// The instruction at a place of a script.
-pub(crate) fn instruction_at(scripts: &Scripts, name: &Name, place: u32) -> Option<Instruction>
-    ensures value { result ≡ instruction_of (map.get scripts.now name.now) place }
-    ensures small { IsSome result → place + 1 < 2 ^ 32 }
+/// The next instruction of a process, where it stands; `None` past the end of its script.
+pub(crate) fn instruction_at<'a>(scripts: &'a Scripts, process: &Process) -> Option<&'a Instruction>
+    ensures value { option_copied result ≡ next_in scripts.now process.now }
+    ensures small { IsSome result → process.now.place + 1 < 2 ^ 32 }
 {
-    match scripts.get(name) {
-        Some(script) if place < script.len() => script.at(place),
+    match scripts.get(&process.script) {
+        Some(script) if process.place < script.len() => script.get(process.place),
         _ => None,
     }
 }
@@ -198,6 +177,5 @@ pub fn plan_step<S: Look>(
     if process.ended {
         return Err(Refusal::Ended);
     }
-    let instruction = instruction_at(scripts, &process.script, process.place);
-    with_input(store, pid, process, &instruction, input)
+    with_input(store, scripts, pid, process, input)
 }

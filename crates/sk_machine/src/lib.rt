@@ -6,6 +6,5 @@ mod dependents;
 pub mod machine;
 pub mod open;
 
-
 pub use machine::Machine;
 pub use open::Open;

@@ -49,7 +49,8 @@ pub enum Beside {
     /// The entity is written.
     One(Entity, Becomes),
     Birth(Child),
-    /// The entity is absent after the step. For the names of directories as entities: no step removes one yet.
+    /// The entity is absent after the step. For the names of directories as entities: no step removes
+    /// one yet.
     Gone(Entity),
 }
 

@@ -8,6 +8,7 @@
 """
 import re
 import sys
+sys.dont_write_bytecode = True
 from sources import Index, ROOT, crates, imports_of, words_of
 
 PAGE = ROOT / "docs/API.md"

@@ -10,6 +10,7 @@ those that it cites. Lengths are lines, with the comments above a definition; ty
 """
 import re
 import sys
+sys.dont_write_bytecode = True
 from sources import Index, ROOT, crates, imports_of, words_of
 
 PAGE = ROOT / "docs/HEADLINE.md"

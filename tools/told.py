@@ -1,0 +1,237 @@
+"""A run as the program tells it: its events, what each reads and writes, and all values and tags after each event.
+
+The program is run once with `--steps` on the whole scenario, and once on each beginning of its section; all values,
+tags, reads, writes and outputs are its own. What is looked up here in the scenario is what no report repeats: the
+instruction at a place, the script of a process and its terminal.
+"""
+import re
+import subprocess
+
+SECTIONS = ("steps", "world")
+WORD = re.compile(r'"(?:\\.|[^"\\])*"[^ \t]*|[^ \t]+')
+PROCESS = re.compile(r'at (\d+) regs \S+(?: \S+){7} buf (".*") kids .* ended (yes|no)')
+# The answers of the events that are in the kernel's trace.
+IN_TRACE = re.compile(r"(?:stepped|done|(?:guess|guessed|committed|failed|taken) \d+)")
+
+
+class Fault(Exception):
+    """What the program says of a scenario that it refuses."""
+
+
+def words_of(line):
+    found = WORD.findall(line.rstrip("\r"))
+    return [] if found and found[0].startswith("#") else found
+
+
+def plain(name):
+    """A process, a guess or a terminal without leading zeros."""
+    return ".".join(str(int(part)) for part in name.split("."))
+
+
+def played(program, text, *flags):
+    """The lines that the program prints for a scenario."""
+    given = text.encode("utf-8", "surrogateescape")
+    ran = subprocess.run([program, "play", *flags, "-"], input=given, capture_output=True)
+    if ran.returncode:
+        raise Fault(ran.stderr.decode(errors="replace").strip() or f"the program ended with {ran.returncode}")
+    return ran.stdout.decode("ascii").split("\n")[:-1]
+
+
+class Scenario:
+    """The declarations of a scenario and the events of its section."""
+
+    def __init__(self, text):
+        lines = text.split("\n")
+        heading = next((at for at, line in enumerate(lines) if words_of(line) in ([it] for it in SECTIONS)), len(lines))
+        self.is_world = heading < len(lines) and words_of(lines[heading]) == ["world"]
+        self.head = lines[: heading + 1]
+        self.lines = [line for line in lines[heading + 1:] if words_of(line)]
+        self.events = [words_of(line) for line in self.lines]
+        self.about = next((line.strip()[1:].strip() for line in lines if line.strip().startswith("#")), "")
+        self.scripts, self.runs, self.terminal = {}, {}, {}
+        self.declare()
+
+    def declare(self):
+        inside = None
+        for words in filter(None, map(words_of, self.head)):
+            if inside is not None:
+                if words[0] == "end":
+                    inside = None
+                elif not words[0].endswith(":"):
+                    inside.append(" ".join(words))
+            elif words[0] == "script":
+                inside = self.scripts.setdefault(words[1], [])
+            elif words[0] == "process":
+                self.runs[plain(words[1])] = words[2]
+                self.terminal[plain(words[1])] = plain(words[3])
+
+    def beginning(self, count):
+        return "\n".join(self.head + self.lines[:count]) + "\n"
+
+    def script(self, process):
+        """The script of a process, which is that of the boot process above it."""
+        return self.runs.get(process.split(".")[0], "")
+
+    def instruction(self, process, place):
+        lines = self.scripts.get(self.script(process), [])
+        return lines[place] if place < len(lines) else "exit"
+
+
+class State:
+    """What a report shows: of each entity its value and tags, of each terminal what is released and how much waits."""
+
+    def __init__(self, report):
+        self.entities, self.terminals = {}, {}
+        lines = iter(report)
+        for line in lines:
+            words = line.split(" ")
+            if words[0] == "trace":
+                break
+            if words[0] == "terminal":
+                self.terminals[words[1]] = ([next(lines) for _ in range(int(words[3]))], int(words[5]))
+            elif words[0] == "remote":
+                self.entities[f"remote {words[1]}"] = (" ".join(words[2:]), ())
+            else:
+                value, tags = line.rsplit(" tags ", 1)
+                key, value = " ".join(value.split(" ")[:2]), " ".join(value.split(" ")[2:])
+                self.entities[key] = (value, () if tags == "-" else tuple(map(int, tags.split(","))))
+
+    def value(self, key):
+        return self.entities.get(key, ("", ()))[0]
+
+    def tags(self, key):
+        return set(self.entities.get(key, ("", ()))[1])
+
+    def process(self, name):
+        """The place of a process, its buffer, and whether it has ended."""
+        found = PROCESS.match(self.value(f"proc {name}"))
+        return found and (int(found[1]), found[2], found[3] == "yes")
+
+    def texts(self):
+        """How many texts each terminal has, released or waiting."""
+        return {name: len(out) + waiting for name, (out, waiting) in self.terminals.items()}
+
+
+class Event:
+    """One event of a section: its words, its answer, and what the program lists of its step."""
+
+    def __init__(self, number, words, answer):
+        self.number, self.words, self.answer = number, words, answer
+        self.process = self.guess = self.decided = self.struck = None
+        self.does, self.reads, self.writes, self.tags = "", [], [], set()
+        self.is_refused = answer.startswith("refused")
+        if words[0] in ("step", "guess", "turn"):
+            self.process = plain(words[1])
+        drawn = re.fullmatch(r"guess(?:ed)? (\d+)", answer)
+        if drawn:
+            self.guess = int(drawn[1])
+
+    def list_as(self, entry, reads, writes, tags):
+        """Takes the four lines that the program lists for an event of the trace."""
+        words = entry.split(" ")
+        if words[0] in ("commit", "fail"):
+            self.decided = (words[0], int(words[1]))
+            return
+        self.process = words[2] if words[0] == "guess" else words[1]
+        self.reads, self.writes = entities_in(reads), entities_in(writes)
+        listed = tags.split(" ")[1]
+        self.tags = set() if listed == "-" else set(map(int, listed.split(",")))
+
+    @property
+    def is_step(self):
+        """Whether a process took a step here, one from a reply too."""
+        return bool(self.process and (self.reads or self.writes))
+
+    @property
+    def told(self):
+        return " ".join(self.words)
+
+
+def entities_in(line):
+    words = line.split(" ")[1:]
+    return [] if words == ["-"] else [" ".join(words[at:at + 2]) for at in range(0, len(words), 2)]
+
+
+class Text:
+    """A text that a step said, and when it was released or thrown away."""
+
+    def __init__(self, terminal, words, event):
+        self.terminal, self.words, self.event, self.tags = terminal, words, event, set(event.tags)
+        self.released = self.gone = None
+
+
+class Guess:
+    """The event that made a guess, and when and how it was decided: `commit`, `fail`, `struck`, or `open`."""
+
+    def __init__(self, event):
+        self.event, self.end, self.how = event, None, "open"
+
+
+class Run:
+    """The events of a scenario, and the states before, between and after them."""
+
+    def __init__(self, program, text):
+        self.scenario = Scenario(text)
+        events = self.scenario.events
+        listed = played(program, self.scenario.beginning(len(events)), "--steps")
+        answers = [line.split(" ", 1)[1] for line in listed[: len(events)]]
+        entries = iter(listed[listed.index("events") + 1:])
+        self.states = [State(played(program, self.scenario.beginning(count))[count:]) for count in range(len(events) + 1)]
+        self.events, self.texts, self.guesses = [], [], {}
+        for number, (words, answer) in enumerate(zip(events, answers), 1):
+            event = Event(number, words, answer)
+            if IN_TRACE.fullmatch(answer):
+                event.list_as(*(next(entries) for _ in range(4)))
+            self.take(event)
+        if next(entries, None):
+            raise Fault("the program lists more events than it answered")
+
+    def take(self, event):
+        before, after = self.states[event.number - 1:event.number + 1]
+        self.events.append(event)
+        if event.process and before.process(event.process):
+            event.does = self.instruction(event, before, after)
+        if event.guess:
+            self.guesses[event.guess] = Guess(event)
+        if event.is_step:
+            said = next((name for name, count in after.texts().items() if count > before.texts().get(name, 0)), None)
+            if said:
+                self.texts.append(Text(said, before.process(event.process)[1], event))
+        if event.decided:
+            self.decide(event)
+        self.release(event, after)
+
+    def instruction(self, event, before, after):
+        """What a process does at an event: a signal that is due, or the instruction at its place."""
+        queue = before.value(f"sig {event.process}").split(",")
+        if event.is_step and "9" in queue and f"exit {event.process}" in event.writes:
+            return "signal 9"
+        if event.is_step and queue != ["-"] and after.value(f"sig {event.process}") == (",".join(queue[1:]) or "-"):
+            return f"signal {queue[0]}"
+        return self.scenario.instruction(event.process, before.process(event.process)[0])
+
+    def decide(self, event):
+        how, guess = event.decided
+        self.guesses[guess].end, self.guesses[guess].how = event.number, how
+        if how == "commit":
+            for it in [*self.events, *self.texts]:
+                it.tags.discard(guess)
+            return
+        for it in self.events:
+            if guess in it.tags and not it.struck:
+                it.struck = event.number
+                own = self.guesses.get(it.guess)
+                if own and own.end is None:
+                    own.end, own.how = event.number, "struck"
+        for text in self.texts:
+            if guess in text.tags and text.gone is None:
+                text.gone = event.number
+
+    def release(self, event, after):
+        """Marks the texts that are released by now, and holds those that are left against the report."""
+        for terminal, (out, waiting) in after.terminals.items():
+            kept = [it for it in self.texts if it.terminal == terminal and it.gone is None]
+            for text in kept[: len(out)]:
+                text.released = text.released or event.number
+            if [it.words for it in kept[: len(out)]] != out or len(kept) != len(out) + waiting:
+                raise Fault(f"event {event.number}: terminal {terminal} has other texts than were said")

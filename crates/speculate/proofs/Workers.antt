@@ -11,7 +11,7 @@ use Rattle.sk_command.specs.declared.end.End.TheVariants as ends
 use Rattle.sk_command.specs.Ends.{IsWritten}
 use Rattle.sk_command.specs.ReadAll.{INPUT_LIMIT}
 use Rattle.speculate.specs.Work.{IsWorked, EndsWork, EndsWorkRead, EndsWorkText, EndsWorkFile}
-use Rattle.speculate.proofs.Files.{fault_no_usage}
+use Rattle.sk_run.proofs.Files.{fault_no_usage}
 
 -- what workers did, once the buffer is written out
 pub worked_out : (workers : ℕ) (d : Declared) (end : End) (buffer : List ℕ) (old mid new : Option (List ℕ)) → IsWritten end buffer

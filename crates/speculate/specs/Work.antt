@@ -17,7 +17,7 @@ use Rattle.sk_command.specs.declared.end.End.TheVariants as ends
 use Rattle.sk_command.specs.CommandLine.{Wish, Play, Plain, Replay, Work, Asks, EndsWithoutJob}
 use Rattle.sk_command.specs.Ends.{EndsUnwritten, fault_end}
 use Rattle.sk_command.specs.ReadAll.{INPUT_LIMIT}
-use Rattle.speculate.specs.Run.{EndsFile}
+use Rattle.sk_run.specs.Run.{EndsFile}
 
 -- a legal history leads from the declared desk to a desk on which nothing is pending, and the output has the report of that desk and of a server,
 -- and the number of workers and of calls

@@ -1,16 +1,11 @@
-//! `speculate`: plays a scenario on a kernel that runs ahead on guesses.
+//! `speculate`: plays a scenario on a kernel that runs ahead on guesses. What it does without threads is in `sk_run`.
 #![tactic(auto)]
 
-pub mod playing;
-pub mod program;
-pub mod replaying;
-pub mod striking;
 #[cfg(test)]
 mod tests;
 pub mod working;
 #[cfg(test)]
 mod working_tests;
-pub mod worlds;
 
 use crate::working::run_work;
 use sk_command::end::End;

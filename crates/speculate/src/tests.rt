@@ -1,13 +1,13 @@
 //! The program, run on inputs and outputs that are known or fail, which a stored run can't have.
 
-use crate::playing::play;
-use crate::program::{run, run_text};
-use crate::striking::{Unrun, run_left};
 use sk_command::end::End;
 use sk_command::job::{Job, asked};
 use sk_command::open_input::Open;
 use sk_command::read_all::{INPUT_LIMIT, READ_LIMIT, ReadFault, read_all};
 use sk_report::{Stop, write_workers};
+use sk_run::playing::play;
+use sk_run::striking::{Unrun, run_left};
+use sk_run::{run, run_text};
 use sk_scenario::{Scenario, Section};
 use std::alloc::{AllocError, Global};
 use std::io;

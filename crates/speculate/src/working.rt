@@ -8,7 +8,6 @@ ghost use Rattle.sk_workers.specs.History.{Runs};
 ghost use Rattle.sk_report.specs.Report.{desk_report_text, workers_line};
 ghost use Rattle.speculate.specs.Work.{IsWorked, EndsWork, EndsWorkFile, EndsWorkText, EndsThreadedWords};
 
-use crate::program::run_file;
 use sk_client::Desk;
 use sk_command::end::{End, flushed, tell_fault};
 use sk_command::job::{Job, asked, explain};
@@ -16,6 +15,7 @@ use sk_command::open_input::{Open, input};
 use sk_crew::{CrewFault, Plan, run_crew};
 use sk_play::desk_of;
 use sk_report::{Stop, write_desk_report, write_workers};
+use sk_run::run_file;
 use sk_scenario::{Declarations, Scenario};
 use sk_server::Server;
 use sk_workers::{Gate, History};

@@ -1,10 +1,12 @@
 //! Runs with a desk and a server, and each kind of reply.
 use crate::asking::{Told, Wish};
-use crate::plays::{Came, Did, Play, Sent, Sight, plays};
+use crate::plays::{Came, Did, Play, Sent, Sight, plays, plays_both};
 use crate::start::{Start, Version};
 use sk_client::ReplyRefusal;
 use sk_objects::content::LAST_VERSION;
 use sk_plain::Refusal;
+use std::alloc::Global;
+use std::process::Abort;
 use std::test::Fail;
 
 /// These scripts, with a copy or none, and room for many events.
@@ -109,34 +111,99 @@ fn two_processes_one_name(rt: HostRuntime) -> Result<(), Fail> {
 }
 
 #[test]
-fn replies_out_of_turn(rt: HostRuntime) -> Result<(), Fail> {
+fn late_and_wrong_replies(rt: HostRuntime) -> Result<(), Fail> {
     let check = sent(1, Some(1), &[], Wish::Check(b"/x", 3));
-    let table = [
+    let early = [
+        Play::See(Sight::Expected(1)),
         Play::Turn(1, Did::Guessed(1)),
+        Play::See(Sight::Expected(1)),
         Play::Reply(1, Told::Yes, out_of_turn(1)),
         Play::Take(check),
+        Play::See(Sight::Expected(1)),
         Play::Reply(2, Told::Copy(3, b"old"), out_of_turn(1)),
+        Play::Reply(0, Told::Yes, out_of_turn(1)),
+        Play::Reply(u64::MAX, Told::Yes, out_of_turn(1)),
         Play::Reply(1, Told::Copy(3, b"old"), wrong_kind()),
+        Play::See(Sight::Trace(1, 1)),
+        Play::See(Sight::Pending(1)),
+    ];
+    let dropped = [
         Play::Reply(1, Told::Dropped, Came::Failed(1)),
+        Play::See(Sight::Expected(2)),
         Play::Reply(1, Told::Dropped, out_of_turn(2)),
         Play::Turn(1, Did::Guessed(2)),
+        Play::See(Sight::Expected(2)),
     ];
-    plays(&rt, rt.alloc(), with(&[b"fetch /x\n"], old()), &table)
+    let believed = [
+        Play::Reply(1, Told::Yes, Came::Committed(1)),
+        Play::See(Sight::Expected(2)),
+        Play::Reply(1, Told::Yes, out_of_turn(2)),
+        Play::See(Sight::Trace(2, 0)),
+        Play::See(Sight::Copy(b"/x", 3, b"old")),
+        Play::See(Sight::File(b"/x", 4, b"new")),
+    ];
+    let start = Start {
+        file: Some((b"/x", 4, b"new")),
+        ..with(&[b"fetch /x\n"], old())
+    };
+    plays_both(&rt, rt.alloc(), start, &early, &dropped)?;
+    plays_both(&rt, rt.alloc(), start, &early, &believed)
 }
 
 #[test]
-fn last_version_is_asked(rt: HostRuntime) -> Result<(), Fail> {
+fn last_version(rt: HostRuntime) -> Result<(), Fail> {
     let store = sent(1, None, &[], Wish::Store(b"/x", LAST_VERSION, b""));
     let table = [
         Play::Turn(1, Did::Asked(1)),
         Play::Take(store),
         Play::Reply(1, Told::Yes, wrong_kind()),
+        Play::See(Sight::Pending(1)),
+        Play::See(Sight::Trace(0, 0)),
         Play::Reply(1, Told::No(LAST_VERSION, b"m"), Came::Taken(1)),
         Play::See(Sight::Stands(1, 1, -116)),
         Play::See(Sight::Copy(b"/x", LAST_VERSION, b"m")),
+        Play::See(Sight::Trace(1, 0)),
     ];
     let start = with(&[b"store /x\n"], Some((b"/x", LAST_VERSION, b"m")));
     plays(&rt, rt.alloc(), start, &table)
+}
+
+/// A guess on another, which fails; then the reply to the inner one, which was struck with it.
+fn struck_and_told(rt: &impl Abort, alloc: Global, told: Told<'_>) -> Result<(), Fail> {
+    let inner = sent(2, Some(2), &[1], Wish::Store(b"/x", 3, b"new"));
+    let table = [
+        Play::Turn(1, Did::Guessed(1)),
+        Play::Turn(1, Did::Stepped),
+        Play::Turn(1, Did::Guessed(2)),
+        Play::Take(sent(1, Some(1), &[], Wish::Check(b"/x", 3))),
+        Play::Take(inner),
+        Play::Reply(1, Told::No(5, b"z"), Came::Failed(1)),
+        Play::See(Sight::Trace(4, 0)),
+        Play::See(Sight::Expected(2)),
+        Play::Reply(2, told, Came::Gone(2)),
+        Play::See(Sight::Trace(4, 0)),
+        Play::See(Sight::Expected(3)),
+        Play::See(Sight::Pending(0)),
+        Play::See(Sight::Copy(b"/x", 3, b"old")),
+        Play::See(Sight::File(b"/x", 5, b"z")),
+        Play::Reply(2, told, out_of_turn(3)),
+        Play::Turn(1, Did::Stepped),
+        Play::See(Sight::Stands(1, 1, 5)),
+        Play::See(Sight::Buffer(1, b"z")),
+    ];
+    let start = Start {
+        file: Some((b"/x", 5, b"z")),
+        ..with(&[b"fetch /x\ntext \"new\"\nstore /x\n"], old())
+    };
+    plays(rt, alloc, start, &table)
+}
+
+#[test]
+fn reply_to_struck_guess(rt: HostRuntime) -> Result<(), Fail> {
+    for told in [Told::Yes, Told::No(9, b"false"), Told::Dropped] {
+        struck_and_told(&rt, rt.alloc(), told)?;
+    }
+    Ok(())
 }
 
 #[test]

@@ -70,6 +70,8 @@ pub enum Play<'a> {
 pub enum Sight<'a> {
     /// How many requests have no reply.
     Pending(usize),
+    /// The number of the request whose reply is next.
+    Expected(u64),
     /// Each reply of the server was given.
     NoReply,
     /// A process's place and its r0.
@@ -342,6 +344,12 @@ fn waits(rt: &impl Abort, desk: &Desk, count: usize) -> Result<(), Fail> {
     Ok(())
 }
 
+/// The reply to the request of this number is next.
+fn expects(rt: &impl Abort, desk: &Desk, number: u64) -> Result<(), Fail> {
+    assert_eq!(rt; desk.expected(), number);
+    Ok(())
+}
+
 /// Each reply of the server was given.
 fn is_quiet(rt: &impl Abort, far: &Far) -> Result<(), Fail> {
     assert!(rt; far.replies.is_empty());
@@ -368,6 +376,7 @@ fn ends_stale(
 fn sees(rt: &impl Abort, desk: &Desk, far: &Far, sight: Sight<'_>) -> Result<(), Fail> {
     match sight {
         Sight::Pending(count) => waits(rt, desk, count),
+        Sight::Expected(number) => expects(rt, desk, number),
         Sight::NoReply => is_quiet(rt, far),
         Sight::Stands(number, place, answer) => stands(rt, desk.kernel(), number, place, answer),
         Sight::Buffer(number, bytes) => buffers(rt, desk.kernel(), number, bytes),
@@ -425,4 +434,18 @@ pub fn plays(
     let done = does_all(rt, &mut desk, &mut far, plays);
     desk.abandon();
     done
+}
+
+/// Plays one part after the other with a new desk.
+pub fn plays_both(
+    rt: &impl Abort,
+    alloc: Global,
+    start: Start<'_>,
+    first: &[Play<'_>],
+    then: &[Play<'_>],
+) -> Result<(), Fail> {
+    let mut all = Vec::new(alloc);
+    all.extend_from_slice(first)?;
+    all.extend_from_slice(then)?;
+    plays(rt, alloc, start, &all)
 }

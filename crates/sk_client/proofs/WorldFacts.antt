@@ -24,7 +24,7 @@ use Rattle.sk_client.specs.declared.rule.Rule.{Rule}
 use Rattle.sk_client.specs.declared.rule.Rule.TheVariants as rules
 use Rattle.sk_client.specs.declared.desk.Turn.{Turn}
 use Rattle.sk_client.specs.declared.desk.ReplyRefusal.TheVariants as refusals
-use Rattle.sk_client.specs.Desk.{DeskView, entry, sent, first_sent, first_taken, fits_ask, reply_refused, no_number, no_place, guess_refused_at, rule, turned, request_of, given, given_to, answered as stepped_for, decided, input_of, is_void}
+use Rattle.sk_client.specs.Desk.{DeskView, entry, sent, first_sent, first_taken, fits_ask, out_of_turn, reply_refused, no_number, no_place, guess_refused_at, rule, turned, request_of, given, given_to, answered as stepped_for, decided, input_of, is_void}
 use Rattle.sk_client.specs.DeskCalls.{ByRule, TurnPost}
 use Rattle.sk_client.specs.declared.world.WorldAnswer.{WorldAnswer}
 use Rattle.sk_client.specs.declared.world.Cause.{Cause}
@@ -244,7 +244,7 @@ oldest d s r rs b j = oldest_of d r rs b d.taken refl j.replies
 pub fits_reply : (d : DeskView) (r : Reply) (rs : List Reply) (b : Option Request) → Oldest d r rs b → reply_refused d r d.taken ≡ None
 fits_reply d r rs b o =
     ap (reply_refused d r) o.taken
-    ∙ (λ i. cond (not (eq-eqb o.request.number r.number o.number i)) (Some (refusals.OutOfTurn o.request.number)) (cond (o.fits i) None (Some refusals.WrongKind)))
+    ∙ (λ i. cond (not (eq-eqb o.request.number r.number o.number i)) (Some (out_of_turn d)) (cond (o.fits i) None (Some refusals.WrongKind)))
 
 pub given_joined : (d e : DeskView) (s : ServerView) (r : Reply) (rs : List Reply) (b : Option Request) → e ≡ given d r d.taken → IsJoined d s (r ∷ rs) b → IsJoined e s rs b
 given_joined d e s r rs b is j =

@@ -225,14 +225,17 @@ abbrev pub expected : DeskView → List PendingRequest → ℕ
 expected d [] = d.next
 expected d (q ∷ qs) = q.number
 
-abbrev pub refused_by : PendingRequest → Reply → Option ReplyRefusal
-refused_by q r =
-    if not (q.number == r.number) then Some (OutOfTurn q.number)
+abbrev pub out_of_turn : DeskView → ReplyRefusal
+out_of_turn d = OutOfTurn (expected d (pending d))
+
+abbrev pub refused_by : DeskView → PendingRequest → Reply → Option ReplyRefusal
+refused_by d q r =
+    if not (q.number == r.number) then Some (out_of_turn d)
     else if fits_ask q.ask r.answer then None else Some WrongKind
 
 abbrev pub reply_refused : DeskView → Reply → List PendingRequest → Option ReplyRefusal
-reply_refused d r [] = Some (OutOfTurn (expected d d.waiting))
-reply_refused d r (q ∷ qs) = refused_by q r
+reply_refused d r [] = Some (out_of_turn d)
+reply_refused d r (q ∷ qs) = refused_by d q r
 
 -- ---- what a reply does
 

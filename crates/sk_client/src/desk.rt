@@ -509,8 +509,8 @@ impl Desk {
         Some(sent)
     }
 
-    /// The number of the oldest request without a reply, or of the next one.
-    fn expected(&self) -> u64
+    /// The number of the next request to be taken.
+    fn next_taken(&self) -> u64
         ensures { result ≡ expected self.now self.now.waiting }
     {
         match self.waiting.front() {
@@ -519,16 +519,26 @@ impl Desk {
         }
     }
 
+    /// The number that `OutOfTurn` tells: that of the oldest taken request without a reply, or of the next one to be
+    /// taken. This takes no memory.
+    pub fn expected(&self) -> u64
+        ensures { result ≡ expected self.now (pending self.now) }
+    {
+        match self.taken.front() {
+            Some(request) => request.number,
+            None => self.next_taken(),
+        }
+    }
+
     /// Why a reply comes back, want of memory aside.
     fn reply_refusal(&self, reply: &Reply) -> Option<ReplyRefusal>
         ensures { result ≡ reply_refused self.now reply.now self.now.taken }
     {
+        let expected = self.expected();
         let Some(request) = self.taken.front() else {
-            let expected = self.expected();
             return Some(ReplyRefusal::OutOfTurn { expected });
         };
         if request.number != reply.number {
-            let expected = request.number;
             return Some(ReplyRefusal::OutOfTurn { expected });
         }
         if !fits_ask(&request.ask, &reply.answer) {

@@ -363,8 +363,9 @@ class Picture(Layout):
         self.parts.append(f"<g><title>{html.escape(about)}</title>")
         if event.is_refused:
             self.add(path(f"M{x - 4:.1f} {y - 4:.1f}l8 8m0 -8l-8 8", f'stroke="{SOFT}" stroke-width="1.6"'))
-            turn = f'transform="rotate(-55 {x:.1f} {y + 18:.1f})"' if self.is_tight else ""
-            self.add(text(x, y + 21, event.answer.split(" ")[-1], 9.5, SOFT, "end" if self.is_tight else "middle", turn))
+            turn = f'transform="rotate(-55 {x:.1f} {y - 12:.1f})"' if self.is_tight else ""
+            side = "start" if self.is_tight else "middle"
+            self.add(text(x, y - 12, event.answer.split(" ")[-1], 9.5, SOFT, side, f"{turn} {HALO}"))
         elif event.guess:
             shape = f"M{x:.1f} {y - 12:.1f}l12 12l-12 12l-12 -12z"
             self.add(path(shape, f'{self.kind("guess", event)} fill="{hue(event.guess)}" stroke="#fff" stroke-width="1.5"'))
@@ -567,7 +568,7 @@ def main():
         given.html = re.sub(r"\.scenario$", "", os.path.basename(given.scenario)) + ".html"
     try:
         write(given.program, given.scenario, given.html, given.svg)
-    except told.Fault as fault:
+    except (told.Fault, OSError) as fault:
         sys.exit(f"{given.scenario}: {fault}")
 
 

@@ -31,7 +31,10 @@ def plain(name):
 def played(program, text, *flags):
     """The lines that the program prints for a scenario."""
     given = text.encode("utf-8", "surrogateescape")
-    ran = subprocess.run([program, "play", *flags, "-"], input=given, capture_output=True)
+    try:
+        ran = subprocess.run([program, "play", *flags, "-"], input=given, capture_output=True)
+    except OSError as error:
+        raise Fault(f"{program} cannot be run: {error.strerror}") from error
     if ran.returncode:
         raise Fault(ran.stderr.decode(errors="replace").strip() or f"the program ended with {ran.returncode}")
     return ran.stdout.decode("ascii").split("\n")[:-1]

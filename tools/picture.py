@@ -211,7 +211,8 @@ class Layout:
         return min(22, int(((self.x(after) - 8 if after else self.width) - self.x(number) - 12) / 6.3))
 
     def crosses(self, event, key):
-        if event.decided and event.decided[0] == "fail":
+        """Whether an event has a value of its own on a lane, or a line that passes above it."""
+        if event.decided and event.decided[0] == "fail" or event.is_step and key in event.writes:
             return True
         ends = [self.ys[it] for it in self.touched(event) if it in self.ys] if event.is_step else []
         y, own = self.ys[key], self.ys.get(f"proc {event.process}")
@@ -396,7 +397,9 @@ class Picture(Layout):
             self.add(line(x, y, last, y, SOFT, 1.4, 'stroke-dasharray="3 3"'))
             chips.append((chip(x, SOFT, f'fill="#fff" stroke="{SOFT}" stroke-dasharray="3 2"'), None))
             if said.released:
-                chips.append((chip(last, INK, f'fill="#dafbe1" stroke="{GREEN}"'), None))
+                count = sum(it.terminal == said.terminal and it.released == end > it.event.number for it in self.run.texts)
+                words = short(said.words, room) if count == 1 else f"{count} texts"
+                chips.append((self.chip(last, y, words, INK, f'fill="#dafbe1" stroke="{GREEN}"'), None))
             elif said.gone:
                 wide = self.chip_width(short(said.words, room)) / 2 + 3
                 slash = f"M{x - wide:.1f} {y + 7:.1f}L{x + wide:.1f} {y - 7:.1f}"

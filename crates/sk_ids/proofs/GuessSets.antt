@@ -1,9 +1,8 @@
--- Lists of guesses that rise: what a filter, and a sort without repeats, leave of them.
-use Rattle.std.proofs.Common.{◌≡◌, ℕ, Bool, ◌||◌, eqb, List, [], ◌∷◌, ◌++◌, arith, refl, sym, ◌∙◌, subst}
+-- Lists of guesses that rise: what a sort without repeats leaves of them.
+use Rattle.std.proofs.Common.{◌≡◌, ℕ, Bool, ◌||◌, eqb, List, [], ◌∷◌, ◌++◌, arith, refl, sym, ◌∙◌}
 use Rattle.std.specs.Ordering.{nat_cmp}
 use Rattle.std.specs.Cmp.{both_ways, nat_eq_equiv}
-use Rattle.std.specs.List.{list_any, filter, dedup}
-use Rattle.std.specs.List.Retain.{RetainsInTurn}
+use Rattle.std.specs.List.{list_any, dedup}
 use Rattle.std.specs.List.Sorted.{IsStrictlySortedBy, IsPermutation}
 use Rattle.std.proofs.lemmas.Map.Keys.{sorted_from_strictly_increasing}
 use Rattle.std.proofs.lemmas.Map.Views.{list_any-from_Contains, Contains-from_any}
@@ -18,15 +17,6 @@ rising_none = sorted_from_strictly_increasing [] (λ k h. absurd (omega arith))
 
 pub rising_one : (x : ℕ) → IsStrictlySortedBy nat_cmp (x ∷ [])
 rising_one x = sorted_from_strictly_increasing (x ∷ []) (λ k h. absurd (omega arith))
-
--- a test that changes nothing filters
-pub filtered_in_turn : {S X : Type 0} (R : S → X → Bool → S → X → Type 0) (test : X → Bool) (s : S)
-    → ((x : X) (b : Bool) (t : S) (y : X) → R s x b t y → (b ≡ test x) × (t ≡ s) × (y ≡ x)) → (xs ys : List X) → RetainsInTurn R s xs ys → ys ≡ filter test xs
-filtered_in_turn R test s h [] ys told = told
-filtered_in_turn R test s h (x ∷ xs) ys (b, t, y, step, zs, later, is) =
-    let says = h x b t y step in
-    let rest : zs ≡ filter test xs = filtered_in_turn R test s h xs zs (subst (λ u. RetainsInTurn R u xs zs) says.1 later) in
-    is ∙ rw (says.0, says.2, rest)
 
 -- a list without repeats has the same members
 any_deduped : (q : ℕ) (xs : List ℕ) → list_any (eqb q) (dedup eqb xs) ≡ list_any (eqb q) xs

@@ -5,3 +5,4 @@ pub mod Views
 pub mod Ordered
 pub mod Newest
 pub mod Same
+pub mod Searches

@@ -7,7 +7,7 @@ use Rattle.std.proofs.lemmas.List.Kept.{AllPairs-from_increasing}
 use Rattle.std.proofs.lemmas.Bool.{eqb-true, ltb-false, ltb-true}
 use Rattle.sk_record.specs.Notes.{has, without}
 
-other : (x g : ℕ) → x < g → eqb x g ≡ false
+pub other : (x g : ℕ) → x < g → eqb x g ≡ false
 other x g below = elim (eqb x g) as (λ b. eqb x g ≡ b → b ≡ false) [
   | true ↦ λ is. (let same : x ≡ g = eqb-true x g is in absurd (omega (same, below, arith)))
   | false ↦ λ _. refl

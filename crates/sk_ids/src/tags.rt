@@ -1,8 +1,10 @@
 //! Sets of guesses.
-ghost use Rattle.std.specs.Prelude.{◌≡◌, ◌||◌, ◌∷◌, ℕ, IfOk, [], false};
+ghost use Rattle.std.specs.Prelude.{◌≡◌, ◌||◌, ◌∷◌, ℕ, IfOk, [], true, false};
 ghost use Rattle.std.specs.Ordering.{nat_cmp};
 ghost use Rattle.std.specs.List.Sorted.{IsStrictlySortedBy};
 ghost use Rattle.sk_record.specs.Notes.{has, without};
+ghost use Rattle.sk_record.specs.Merged.{same_tags};
+ghost use Rattle.std.specs.List.{list_all};
 
 use crate::GuessId;
 use smallvec::SmallVec;
@@ -62,7 +64,27 @@ impl TagSet {
     pub fn contains(&self, id: GuessId) -> bool
         ensures { result ≡ has id self.now }
     {
-        self.reaches(id) && self.ids.as_slice().contains(&id)
+        self.reaches(id) && self.ids.as_slice().binary_search(&id).is_ok()
+    }
+
+    /// Whether both sets have the same guesses.
+    pub fn is_same(&self, other: &TagSet) -> bool
+        ensures { result ≡ same_tags self.now other.now }
+    {
+        self.ids.as_slice() == other.ids.as_slice()
+    }
+
+    /// Whether each guess of the other set is in this one. Most sets that are asked are the same.
+    pub fn covers(&self, other: &TagSet) -> bool
+        ensures { result ≡ true → (id : ℕ) → has id other.now ≡ true → has id self.now ≡ true }
+    {
+        self.is_same(other) || self.has_all(other)
+    }
+
+    fn has_all(&self, other: &TagSet) -> bool
+        ensures { result ≡ list_all (λ id. has id self.now) other.now }
+    {
+        other.ids.as_slice().iter().all(|id| self.contains(*id))
     }
 
     /// The guesses by rising number.
@@ -77,8 +99,11 @@ impl TagSet {
     pub fn without(&mut self, id: GuessId)
         ensures { self.new ≡ without id self.old }
     {
-        if self.reaches(id) {
-            self.ids.retain(|other| *other != id);
+        if !self.reaches(id) {
+            return;
+        }
+        if let Ok(place) = self.ids.as_slice().binary_search(&id) {
+            self.ids.remove(place);
         }
     }
 

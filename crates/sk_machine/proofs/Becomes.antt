@@ -1,13 +1,14 @@
 -- What the parts become, as the machine of records has it: after a step, a commit and a failure.
-use Rattle.std.proofs.Common.{◌≡◌, ℕ, true, false, cond, not, List, [], ◌∷◌, ◌++◌, Option, Some, None, Result, Ok, Err, refl, sym, ◌∙◌, ap, subst}
+use Rattle.std.proofs.Common.{◌≡◌, ℕ, true, false, cond, not, List, [], ◌∷◌, ◌++◌, Option, Some, None, Ok, refl, sym, ◌∙◌, ap, subst}
 use Rattle.std.specs.Prelude.{◌==◌}
 use Rattle.std.proofs.lemmas.Bool.{eqb-true}
 use Rattle.std.proofs.lemmas.List.{append-nil}
-use Rattle.sk_record.specs.Step.{Effect, perform}
-use Rattle.sk_record.specs.Notes.{has, without}
-use Rattle.sk_record.specs.Run.{marked_effect}
-use Rattle.sk_record.specs.UndoState.{Took, step_tags, still_open, not_struck}
-use Rattle.sk_record.specs.Machine.{Takes, Commits, Fails, lightened, not_dropped, with_drawn, with_status, with_failure}
+use Rattle.sk_record.specs.Step.{perform}
+use Rattle.sk_record.specs.Notes.{has, without, noted}
+use Rattle.sk_record.specs.UndoState.{opened, step_tags, still_open, not_struck}
+use Rattle.sk_record.specs.Machine.{Fails, lightened, not_dropped, with_drawn, with_status, with_failure}
+use Rattle.sk_record.specs.Merged.{Merges, MergedTakes, MergedCommits}
+use Rattle.sk_record.specs.Effects.{is_in}
 use Rattle.sk_record.specs.Release.{said_by}
 use Rattle.sk_record.specs.declared.status.Status.TheVariants.{Committed}
 use Rattle.sk_guesses.specs.Guesses.{status_of, drawn, next_of}
@@ -16,14 +17,16 @@ use Rattle.sk_script.specs.declared.instruction.Input.{Input}
 use Rattle.sk_terminal.specs.Terminal.{TaggedText}
 use Rattle.sk_terminal.specs.Terminals.{TerminalMap, texts_at}
 use Rattle.sk_terminal.proofs.SaidTo.{texts_said}
-use Rattle.sk_undo.specs.Logs.{look_at}
+use Rattle.sk_ids.specs.Entity.{entity_cmp}
+use Rattle.sk_undo.specs.Logs.{look_at, log_at}
 use Rattle.sk_undo.specs.Decisions.{Lightened, Unwound}
 use Rattle.sk_trace.specs.Entry.{EntryView}
 use Rattle.sk_plain.specs.Act.{Scripts, Saying, act, plain}
-use Rattle.sk_plain.specs.Planned.{effect_of, texts_after}
+use Rattle.sk_plain.specs.Planned.{effect_of, writes_of, texts_after}
 use Rattle.sk_plain.specs.Planned.{said_by as said_in_plan}
 use Rattle.sk_plain.specs.declared.plan.Plan.{Plan}
 use Rattle.sk_machine.specs.Parts.{Parts, machine_of, undo_state_of, planned_effect, said_at}
+use Rattle.sk_machine.specs.Performed.{Performed, entities_of}
 
 -- ---- texts
 
@@ -57,51 +60,51 @@ said_left t g (x ∷ xs) =
 
 -- ---- the parts
 
-abbrev ok_or : {A F : Type 0} → A → Result A F → A
-ok_or x (Ok y) = y
-ok_or x (Err why) = x
-
-effect_same : {E V W F : Type 0} (f g : Effect E V W) (r : Result (Effect E V W) F) → r ≡ Ok f → r ≡ Ok g → f ≡ g
-effect_same f g r is also = ap (ok_or f) (sym is ∙ also)
-
 -- a step, with the status of its guess and its text
-pub takes_of : (scripts : Scripts) (a b : Parts) (n : EntryView) (plan : Plan)
+pub takes_of : (scripts : Scripts) (a b : Parts) (n : EntryView) (plan : Plan) (tags : List ℕ)
     → perform (look_at a.slots) (act scripts n.pid n.input) ≡ Ok (effect_of (look_at a.slots) n.pid n.input plan)
-    → Took (plain scripts) (undo_state_of a) n (undo_state_of b)
+    → tags ≡ step_tags (undo_state_of a) (planned_effect a n plan)
+    → Performed a.slots tags (writes_of (look_at a.slots) n.pid plan) b.slots
+    → b.opens ≡ a.opens ++ opened n.guess tags
     → ((g : ℕ) → status_of b.guesses g ≡ with_drawn n.guess (status_of a.guesses) g)
-    → b.texts ≡ texts_after a.texts (step_tags (undo_state_of a) (planned_effect a n plan)) (said_in_plan plan)
-    → Takes (plain scripts) (machine_of a) n (machine_of b)
-takes_of scripts a b n plan accepted took status texts =
-    let same = effect_same (effect_of (look_at a.slots) n.pid n.input plan) took.effect (perform (look_at a.slots) (act scripts n.pid n.input)) accepted took.accepted in
-    record {
-      state = took;
-      status = status;
-      texts = λ t.
-          ap (λ m. said_at t (texts_at m t)) texts
-          ∙ said_after scripts a.texts (step_tags (undo_state_of a) (planned_effect a n plan)) (said_in_plan plan) t
-          ∙ ap (λ f. said_at t (texts_at a.texts t) ++ said_by (plain scripts) t f.said (step_tags (undo_state_of a) (marked_effect (plain scripts) n.guess (Ok f)))) same;
-    }
+    → b.texts ≡ texts_after a.texts tags (said_in_plan plan)
+    → MergedTakes (plain scripts) (machine_of a) n (machine_of b)
+takes_of scripts a b n plan tags accepted is did opens status texts = record {
+  effect = effect_of (look_at a.slots) n.pid n.input plan;
+  accepted = accepted;
+  look = did.look;
+  logs = λ e. subst (λ ts. Merges [] (log_at a.slots e ++ noted (is_in entity_cmp (entities_of (writes_of (look_at a.slots) n.pid plan)) e) ts (look_at a.slots e) []) (log_at b.slots e)) is (did.logs e);
+  opens = opens ∙ ap (λ ts. a.opens ++ opened n.guess ts) is;
+  status = status;
+  texts = λ t.
+      ap (λ m. said_at t (texts_at m t)) texts ∙ said_after scripts a.texts tags (said_in_plan plan) t
+      ∙ ap (λ ts. said_at t (texts_at a.texts t) ++ said_by (plain scripts) t (said_in_plan plan) ts) is;
+}
 
 -- a guess, whose number is the next
-pub takes_guess : (scripts : Scripts) (a b : Parts) (pid : ℕ) (input : Input) (id : ℕ) (plan : Plan)
+pub takes_guess : (scripts : Scripts) (a b : Parts) (pid : ℕ) (input : Input) (id : ℕ) (plan : Plan) (tags : List ℕ)
     → id ≡ next_of a.guesses
     → perform (look_at a.slots) (act scripts pid input) ≡ Ok (effect_of (look_at a.slots) pid input plan)
-    → Took (plain scripts) (undo_state_of a) (record { pid = pid; input = input; guess = Some id }) (undo_state_of b)
-    → b.texts ≡ texts_after a.texts (step_tags (undo_state_of a) (planned_effect a (record { pid = pid; input = input; guess = Some id }) plan)) (said_in_plan plan)
+    → tags ≡ step_tags (undo_state_of a) (planned_effect a (record { pid = pid; input = input; guess = Some id }) plan)
+    → Performed a.slots tags (writes_of (look_at a.slots) pid plan) b.slots
+    → b.opens ≡ a.opens ++ (id, tags) ∷ []
+    → b.texts ≡ texts_after a.texts tags (said_in_plan plan)
     → b.guesses ≡ drawn a.guesses
-    → Takes (plain scripts) (machine_of a) (record { pid = pid; input = input; guess = Some (next_of a.guesses) }) (machine_of b)
-takes_guess scripts a b pid input id plan number accepted took texts guesses =
-    subst (λ k. Takes (plain scripts) (machine_of a) (record { pid = pid; input = input; guess = Some k }) (machine_of b)) number
-    (takes_of scripts a b (record { pid = pid; input = input; guess = Some id }) plan accepted took
+    → MergedTakes (plain scripts) (machine_of a) (record { pid = pid; input = input; guess = Some (next_of a.guesses) }) (machine_of b)
+takes_guess scripts a b pid input id plan tags number accepted is did opens texts guesses =
+    subst (λ k. MergedTakes (plain scripts) (machine_of a) (record { pid = pid; input = input; guess = Some k }) (machine_of b)) number
+    (takes_of scripts a b (record { pid = pid; input = input; guess = Some id }) plan tags accepted is did opens
     (λ g. ap (λ v. status_of v g) guesses ∙ status-drawn a.guesses g ∙ ap (λ k. with_drawn (Some k) (status_of a.guesses) g) (sym number))
     texts)
 
 pub commits_of : (a b : Parts) (g : ℕ) → Lightened a.slots g b.slots → b.opens ≡ still_open g a.opens
     → ((h : ℕ) → status_of b.guesses h ≡ with_status g Committed (status_of a.guesses) h)
     → ((t : ℕ) → texts_at b.texts t ≡ lightened g (texts_at a.texts t))
-    → Commits (machine_of a) g (machine_of b)
+    → MergedCommits (machine_of a) g (machine_of b)
 commits_of a b g did opens status texts = record {
-  state = record { look = did.look; logs = did.logs; opens = opens };
+  look = did.look;
+  logs = did.logs;
+  opens = opens;
   status = status;
   texts = λ t. ap (said_at t) (texts t) ∙ said_lightened t g (texts_at a.texts t);
 }

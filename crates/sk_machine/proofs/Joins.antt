@@ -15,7 +15,7 @@ use Rattle.std.proofs.lemmas.Bool.{true≢false}
 use Rattle.sk_record.specs.Notes.{noted}
 use Rattle.sk_record.specs.Step.{perform}
 use Rattle.sk_record.specs.Effects.{is_in, writes}
-use Rattle.sk_record.specs.UndoState.{IsTidy, Took, opened, step_tags}
+use Rattle.sk_record.specs.UndoState.{IsTidy, step_tags}
 use Rattle.sk_record.proofs.UndoStates.{tidy_clean}
 use Rattle.sk_store.specs.declared.entity_state.EntityState.{EntityState}
 use Rattle.sk_store.specs.declared.entity_state.EntityState.TheVariants as stored
@@ -45,21 +45,6 @@ pub clean_of : (m : Parts) (n : EntryView) (plan : Plan) (tags : List ℕ) → I
 clean_of m n plan tags tidy is e there none =
     let f = planned_effect m n plan in
     tidy_clean (undo_state_of m) f tidy e (contained_more (map (λ r. r.0) f.read) (writes f) e (contained (writes f) e there)) (sym is ∙ none)
-
--- what was performed is what the machine takes
-pub took_of : (scripts : Scripts) (a : Parts) (b : Parts) (n : EntryView) (plan : Plan) (tags : List ℕ)
-    → perform (look_at a.slots) (act scripts n.pid n.input) ≡ Ok (effect_of (look_at a.slots) n.pid n.input plan)
-    → tags ≡ step_tags (undo_state_of a) (planned_effect a n plan)
-    → Performed a.slots tags (writes_of (look_at a.slots) n.pid plan) b.slots
-    → b.opens ≡ a.opens ++ opened n.guess tags
-    → Took (plain scripts) (undo_state_of a) n (undo_state_of b)
-took_of scripts a b n plan tags accepted is did opens = record {
-  effect = effect_of (look_at a.slots) n.pid n.input plan;
-  accepted = accepted;
-  look = did.look;
-  logs = λ e. did.logs e ∙ (λ i. log_at a.slots e ++ noted (is_in entity_cmp (entities_of (writes_of (look_at a.slots) n.pid plan)) e) (is i) (look_at a.slots e) []);
-  opens = opens ∙ ap (λ t. a.opens ++ opened n.guess t) is;
-}
 
 -- ---- no entity is written twice
 process_apart : (e : Entity) (pid : ℕ) → IsNoProcess e → eq_by_cmp entity_cmp e (Proc pid) ≡ false

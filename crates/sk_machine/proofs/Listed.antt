@@ -9,7 +9,9 @@ use Rattle.std.proofs.lemmas.Bool.{false≢true, or_cases, or_left, or_right, eq
 use Rattle.std.proofs.lemmas.List.Folds.{list_any-append}
 use Rattle.sk_record.specs.Effects.{is_in}
 use Rattle.sk_record.specs.Notes.{Note, has, without, cut, carried, committed, noted, last_tags}
+use Rattle.sk_record.specs.Merged.{Merges}
 use Rattle.sk_record.specs.UndoState.{IsGrowing}
+use Rattle.sk_record.proofs.Merged.{grow_in}
 use Rattle.sk_record.proofs.UndoStates.{and_both}
 use Rattle.sk_record.proofs.Machine.{has_filter}
 use Rattle.sk_ids.specs.Entity.{entity_cmp}
@@ -201,17 +203,29 @@ before_commit : (g c : ℕ) (log : List (Note EntityState)) → carries g (commi
 before_commit g c [] here = here
 before_commit g c (n ∷ ns) here = before_noted g c n (committed c ns) ns (without c n.tags) refl (before_commit g c ns) here
 
+-- what a log from which notes are left out rests on, the whole log rests on
+pub before_merged : (g : ℕ) (t : List ℕ) (ns ms : List (Note EntityState)) → Merges t ns ms → carries g ms ≡ true → carries g ns ≡ true
+before_merged g t [] [] h here = here
+before_merged g t [] (m ∷ ms) h here = absurd h
+before_merged g t (n ∷ ns) [] h here = absurd (false≢true here)
+before_merged g t (n ∷ ns) (m ∷ ms) (inl h) here = or_right _ _ (before_merged g t ns (m ∷ ms) h.1 here)
+before_merged g t (n ∷ ns) (m ∷ ms) (inr h) here =
+    elim (or_cases (has g m.tags) (carries g ms) here) [
+      | inl now ↦ or_left _ _ (ap (λ (x : Note EntityState). has g x.tags) (sym h.0) ∙ now)
+      | inr later ↦ or_right _ _ (before_merged g n.tags ns ms h.1 later)
+    ]
+
 pub unwound_listed : (c : ℕ) (m n : SlotMap) (ds : List Dependents) → AllListed m ds → Unwound m c n → AllListed n ds
 unwound_listed c m n ds all did g e here = all g e (before_cut g c (log_at m e) (sym (ap (carries g) (did.logs e)) ∙ here))
 
 pub committed_listed : (c : ℕ) (m n : SlotMap) (ds : List Dependents) → AllListed m ds → Lightened m c n → AllListed n ds
-committed_listed c m n ds all did g e here = all g e (before_commit g c (log_at m e) (sym (ap (carries g) (did.logs e)) ∙ here))
+committed_listed c m n ds all did g e here = all g e (before_commit g c (log_at m e) (before_merged g [] (committed c (log_at m e)) (log_at n e) (did.logs e) here))
 
 pub unwound_grows : (c : ℕ) (m n : SlotMap) → AllGrow m → Unwound m c n → AllGrow n
 unwound_grows c m n grows did e = subst IsGrowing (sym (did.logs e)) (grow_cut c (log_at m e) (grows e))
 
 pub committed_grows : (c : ℕ) (m n : SlotMap) → AllGrow m → Lightened m c n → AllGrow n
-committed_grows c m n grows did e = subst IsGrowing (sym (did.logs e)) (grow_commit c (log_at m e) (grows e))
+committed_grows c m n grows did e = λ g. grow_in g [] (committed c (log_at m e)) (log_at n e) refl (did.logs e) (grow_commit c (log_at m e) (grows e) g)
 
 -- a pass that leaves in each list from the decided guess on what rests on its guess, and drops empty lists
 some_in : (es : List Entity) (e : Entity) → is_in entity_cmp es e ≡ true → not (is_empty es) ≡ true
@@ -262,7 +276,7 @@ still_listed m old ds all kept g e here = kept g e (all g e here)
 pub performed_listed : (m n : SlotMap) (tags : List ℕ) (ws : List (Entity × Option EntityState)) (old ds : List Dependents) → AllListed m old → StayListed old ds → AreListedFor tags ds (entities_of ws) → Performed m tags ws n → AllListed n ds
 performed_listed m n tags ws old ds all kept writes did g e here =
     let v = is_in entity_cmp (entities_of ws) e in
-    elim (or_cases (carries g (log_at m e)) (carries g (noted v tags (look_at m e) [])) (sym (list_any-append (λ k. has g k.tags) (log_at m e) (noted v tags (look_at m e) [])) ∙ sym (ap (carries g) (did.logs e)) ∙ here)) [
+    elim (or_cases (carries g (log_at m e)) (carries g (noted v tags (look_at m e) [])) (sym (list_any-append (λ k. has g k.tags) (log_at m e) (noted v tags (look_at m e) [])) ∙ before_merged g [] (log_at m e ++ noted v tags (look_at m e) []) (log_at n e) (did.logs e) here)) [
       | inl before ↦ kept g e (all g e before)
       | inr now ↦ let both = of_noted g v tags (look_at m e) now in writes g e both.1 both.0
     ]

@@ -1,5 +1,7 @@
 -- The tags that a step's footprint rests on, one entity after another.
-use Rattle.std.proofs.Common.{◌≡◌, ℕ, ◌||◌, List, ◌++◌, map, Option, sym, ◌∙◌, ap}
+use Rattle.std.proofs.Common.{◌≡◌, ℕ, Bool, true, false, ◌||◌, List, [], ◌∷◌, ◌++◌, map, Option, refl, sym, ◌∙◌, ap}
+use Rattle.std.proofs.lemmas.Bool.{true≢false, or_right}
+use Rattle.sk_undo.specs.Log.{is_empty}
 use Rattle.std.specs.Ordering.{nat_cmp}
 use Rattle.std.specs.List.Sorted.{IsStrictlySortedBy}
 use Rattle.std.proofs.Math.Bool.{or_assoc}
@@ -17,6 +19,23 @@ use Rattle.sk_plain.specs.Planned.{read_by, written_by}
 use Rattle.sk_plain.specs.declared.plan.Plan.{Plan}
 use Rattle.sk_plain.proofs.Scan.{asked, changed_are}
 use Rattle.sk_machine.specs.Parts.{Parts, undo_state_of, planned_effect, any_rests}
+
+none_more : (b : Bool) → b ≡ (b || false)
+none_more true = refl
+none_more false = refl
+
+-- a set that has all guesses of another
+pub covered : (a b : List ℕ) → ((g : ℕ) → has g b ≡ true → has g a ≡ true) → (g : ℕ) → has g a ≡ (has g a || has g b)
+covered a b h g =
+    elim (has g b) as (λ t. has g b ≡ t → has g a ≡ (has g a || t)) [
+      | true ↦ λ is. h g is ∙ sym (or_right (has g a) true refl)
+      | false ↦ λ _. none_more (has g a)
+    ] refl
+
+-- and one that has none
+pub from_none : (a b c : List ℕ) → is_empty a ≡ true → c ≡ b → (g : ℕ) → has g c ≡ (has g a || has g b)
+from_none [] b c none same g = ap (has g) same
+from_none (x ∷ a) b c none same g = absurd (true≢false (sym none))
 
 module _ (m : Parts) (n : EntryView) (plan : Plan) where
   -- what a plan reads and writes is what its step touches

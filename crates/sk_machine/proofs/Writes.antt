@@ -1,5 +1,5 @@
--- The writes of a step, each with its note.
-use Rattle.std.proofs.Common.{◌≡◌, ℕ, Bool, true, false, cond, ◌||◌, List, [], ◌∷◌, ◌++◌, Option, refl, sym, ◌∙◌, ap}
+-- The writes of a step, each with its note or covered by the newest one: the logs are those of the machine, but for notes that are left out.
+use Rattle.std.proofs.Common.{◌≡◌, ℕ, Bool, true, false, cond, ◌||◌, List, [], ◌∷◌, ◌++◌, Option, refl, sym, ◌∙◌, ap, subst}
 use Rattle.std.specs.Prelude.{reverse}
 use Rattle.std.specs.Ordering.{eq_by_cmp}
 use Rattle.std.specs.Cmp.{Equal-is, eq_by_cmp_equiv}
@@ -10,27 +10,46 @@ use Rattle.std.proofs.lemmas.List.{append-nil}
 use Rattle.sk_ids.specs.Entity.{entity_cmp}
 use Rattle.sk_ids.specs.declared.entity.Entity.{Entity}
 use Rattle.sk_ids.proofs.Entities.{entity_total, entity_exact}
-use Rattle.sk_record.specs.Notes.{Note, noted}
+use Rattle.sk_ids.proofs.Same.{exact_bytes}
+use Rattle.sk_record.specs.Notes.{Note, noted, last_tags}
 use Rattle.sk_record.specs.Effects.{is_in, written_value}
+use Rattle.sk_plain.specs.Planned.{wrote_all}
+use Rattle.sk_machine.specs.Performed.{AreApart, IsClean, Performed, entities_of}
 use Rattle.sk_record.proofs.Values.{is_in_tied}
 use Rattle.sk_store.specs.declared.entity_state.EntityState.{EntityState}
-use Rattle.sk_plain.specs.Planned.{wrote_all}
 use Rattle.sk_undo.specs.Log.{is_empty}
-use Rattle.sk_undo.specs.Slot.{SlotView, noted_on, slot_wrote}
+use Rattle.sk_undo.specs.Slot.{SlotView, noted_on, slot_wrote, goes_unnoted, is_whole}
 use Rattle.sk_undo.specs.Logs.{SlotMap, LogsView, slot_in, look_at, log_at, slots_wrote, wrote}
-use Rattle.sk_machine.specs.Performed.{AreApart, IsClean, Performed, entities_of}
+use Rattle.sk_record.specs.Merged.{Merges, same_tags}
+use Rattle.sk_record.proofs.Merged.{all_kept, left_out, both_more, in_turn, none_left}
+use Rattle.sk_record.proofs.UndoStates.{and_both}
 use Rattle.sk_undo.proofs.SeenNotes.{none_reverse}
 use Rattle.sk_undo.proofs.Passes.{placed_at}
+
+last_more : (t : List ℕ) (ns : List (Note EntityState)) (n : Note EntityState) → last_tags t (ns ++ n ∷ []) ≡ n.tags
+last_more t [] n = refl
+last_more t (x ∷ ns) n = last_more x.tags ns n
+
+-- a write that is not noted has the tags of the newest note
+unnoted_tags : (t : ℕ) (tags : List ℕ) (log : List (Note EntityState)) → goes_unnoted (t ∷ tags) log ≡ true → last_tags [] (reverse log) ≡ t ∷ tags
+unnoted_tags t tags [] h = absurd (true≢false (sym h))
+unnoted_tags t tags (n ∷ ns) h =
+    ap (last_tags []) (reverse_onto ns n []) ∙ last_more [] (reverse ns) n ∙ sym ((exact_bytes (t ∷ tags) n.tags).0 (and_both (is_whole n.before) (same_tags (t ∷ tags) n.tags) h).1)
+
+-- the log after a write
+noted_more : (tags : List ℕ) (before : Option EntityState) (log : List (Note EntityState)) → (tags ≡ [] → reverse log ≡ []) → Merges [] (reverse log ++ noted true tags before []) (reverse (noted_on tags before log))
+noted_more [] before [] clean = tt
+noted_more [] before (n ∷ ns) clean = absurd (true≢false (ap is_empty (sym (clean refl)) ∙ none_reverse (n ∷ ns)))
+noted_more (t ∷ tags) before log clean =
+    let note : Note EntityState = record { tags = t ∷ tags; before = before } in
+    elim (goes_unnoted (t ∷ tags) log) as (λ b. goes_unnoted (t ∷ tags) log ≡ b → Merges [] (reverse log ++ note ∷ []) (reverse (cond b log (note ∷ log)))) [
+      | true ↦ λ is. left_out [] (reverse log) note (unnoted_tags t tags log is)
+      | false ↦ λ _. subst (λ ns. Merges [] (reverse log ++ note ∷ []) ns) (sym (reverse_onto log note [])) (all_kept [] (reverse log ++ note ∷ []))
+    ] refl
 
 pick : {A B : Type 0} (f : A → B) (b : Bool) (x y : A) → f (cond b x y) ≡ cond b (f x) (f y)
 pick f true x y = refl
 pick f false x y = refl
-
--- the log after a write
-noted_more : (tags : List ℕ) (before : Option EntityState) (log : List (Note EntityState)) → (tags ≡ [] → reverse log ≡ []) → reverse (noted_on tags before log) ≡ reverse log ++ noted true tags before []
-noted_more [] before [] clean = refl
-noted_more [] before (n ∷ ns) clean = absurd (true≢false (ap is_empty (sym (clean refl)) ∙ none_reverse (n ∷ ns)))
-noted_more (t ∷ tags) before log clean = reverse_onto log (record { tags = t ∷ tags; before = before }) []
 
 module _ (tags : List ℕ) (m : SlotMap) (e : Entity) (v : Option EntityState) where
   at : (q : Entity) → slot_in (fin.get (slots_wrote tags m e v) q) ≡ cond (eq_by_cmp entity_cmp q e) (slot_wrote tags (slot_in (fin.get m e)) v) (slot_in (fin.get m q))
@@ -39,15 +58,15 @@ module _ (tags : List ℕ) (m : SlotMap) (e : Entity) (v : Option EntityState) w
   pub look_wrote : (q : Entity) → look_at (slots_wrote tags m e v) q ≡ cond (eq_by_cmp entity_cmp q e) v (look_at m q)
   look_wrote q = ap (λ (s : SlotView). s.now) (at q) ∙ pick (λ (s : SlotView). s.now) (eq_by_cmp entity_cmp q e) (slot_wrote tags (slot_in (fin.get m e)) v) (slot_in (fin.get m q))
 
-  pub log_wrote : (tags ≡ [] → log_at m e ≡ []) → (q : Entity) → log_at (slots_wrote tags m e v) q ≡ log_at m q ++ noted (eq_by_cmp entity_cmp q e) tags (look_at m q) []
+  pub log_wrote : (tags ≡ [] → log_at m e ≡ []) → (q : Entity) → Merges [] (log_at m q ++ noted (eq_by_cmp entity_cmp q e) tags (look_at m q) []) (log_at (slots_wrote tags m e v) q)
   log_wrote clean q =
-      ap (λ (s : SlotView). reverse s.log) (at q)
-      ∙ elim (eq_by_cmp entity_cmp q e) as (λ b. eq_by_cmp entity_cmp q e ≡ b → reverse (cond b (slot_wrote tags (slot_in (fin.get m e)) v) (slot_in (fin.get m q))).log ≡ log_at m q ++ noted b tags (look_at m q) []) [
+      subst (λ ns. Merges [] (log_at m q ++ noted (eq_by_cmp entity_cmp q e) tags (look_at m q) []) ns) (sym (ap (λ (s : SlotView). reverse s.log) (at q)))
+      (elim (eq_by_cmp entity_cmp q e) as (λ b. eq_by_cmp entity_cmp q e ≡ b → Merges [] (log_at m q ++ noted b tags (look_at m q) []) (reverse (cond b (slot_wrote tags (slot_in (fin.get m e)) v) (slot_in (fin.get m q))).log)) [
         | true ↦ λ is.
-            noted_more tags (look_at m e) (slot_in (fin.get m e)).log clean
-            ∙ ap (λ x. log_at m x ++ noted true tags (look_at m x) []) (sym (entity_exact q e ((Equal-is (entity_cmp q e)).0 is)))
-        | false ↦ λ is. sym (append-nil (log_at m q))
-      ] refl
+            subst (λ x. Merges [] (log_at m x ++ noted true tags (look_at m x) []) (reverse (slot_wrote tags (slot_in (fin.get m e)) v).log)) (sym (entity_exact q e ((Equal-is (entity_cmp q e)).0 is)))
+            (noted_more tags (look_at m e) (slot_in (fin.get m e)).log clean)
+        | false ↦ λ is. subst (λ ns. Merges [] ns (log_at m q)) (sym (append-nil (log_at m q))) (all_kept [] (log_at m q))
+      ] refl)
 
 two : (a b : Bool) (tags : List ℕ) (v w : Option EntityState) (log : List (Note EntityState)) → (a ≡ true → b ≡ false)
     → (log ++ noted a tags v []) ++ noted b tags (cond a w v) [] ≡ log ++ noted (a || b) tags v []
@@ -66,21 +85,26 @@ self_in : (e : Entity) → eq_by_cmp entity_cmp e e ≡ true
 self_in e = (eq_by_cmp_equiv entity_total).refl e
 
 pub logs_all : (ws : List (Entity × Option EntityState)) (l : LogsView) → AreApart (entities_of ws) → IsClean l.slots l.tags (entities_of ws)
-    → (q : Entity) → log_at (wrote_all wrote ws l).slots q ≡ log_at l.slots q ++ noted (is_in entity_cmp (entities_of ws) q) l.tags (look_at l.slots q) []
-logs_all [] l apart clean q = sym (append-nil (log_at l.slots q))
+    → (q : Entity) → Merges [] (log_at l.slots q ++ noted (is_in entity_cmp (entities_of ws) q) l.tags (look_at l.slots q) []) (log_at (wrote_all wrote ws l).slots q)
+logs_all [] l apart clean q = subst (λ ns. Merges [] ns (log_at l.slots q)) (sym (append-nil (log_at l.slots q))) (all_kept [] (log_at l.slots q))
 logs_all (w ∷ ws) l apart clean q =
     let es = entities_of ws in
     let first = log_wrote l.tags l.slots w.0 w.1 (clean w.0 (or_left _ _ (self_in w.0))) in
     let still : IsClean (wrote l w.0 w.1).slots l.tags es = λ e there none.
-    first e ∙ none_noted (eq_by_cmp entity_cmp e w.0) l.tags (look_at l.slots e) (log_at l.slots e) none (clean e (or_right _ _ there) none) in
-    logs_all ws (wrote l w.0 w.1) apart.1 still q
-    ∙ (λ i. first q i ++ noted (is_in entity_cmp es q) l.tags (look_wrote l.tags l.slots w.0 w.1 q i) [])
-    ∙ two (eq_by_cmp entity_cmp q w.0) (is_in entity_cmp es q) l.tags (look_at l.slots q) w.1 (log_at l.slots q)
-    (λ tied. is_in_tied entity_total es q w.0 tied ∙ apart.0)
+    none_left [] (log_at (wrote l w.0 w.1).slots e)
+    (subst (λ ns. Merges [] ns (log_at (wrote l w.0 w.1).slots e)) (none_noted (eq_by_cmp entity_cmp e w.0) l.tags (look_at l.slots e) (log_at l.slots e) none (clean e (or_right _ _ there) none)) (first e)) in
+    let rest = logs_all ws (wrote l w.0 w.1) apart.1 still q in
+    let seen = look_wrote l.tags l.slots w.0 w.1 q in
+    subst (λ ns. Merges [] ns (log_at (wrote_all wrote ws (wrote l w.0 w.1)).slots q))
+    (two (eq_by_cmp entity_cmp q w.0) (is_in entity_cmp es q) l.tags (look_at l.slots q) w.1 (log_at l.slots q)
+    (λ tied. is_in_tied entity_total es q w.0 tied ∙ apart.0))
+    (in_turn [] _ _ _
+    (both_more [] (log_at l.slots q ++ noted (eq_by_cmp entity_cmp q w.0) l.tags (look_at l.slots q) []) (log_at (wrote l w.0 w.1).slots q) (noted (is_in entity_cmp es q) l.tags (cond (eq_by_cmp entity_cmp q w.0) w.1 (look_at l.slots q)) []) (first q))
+    (subst (λ x. Merges [] (log_at (wrote l w.0 w.1).slots q ++ noted (is_in entity_cmp es q) l.tags x []) (log_at (wrote_all wrote ws (wrote l w.0 w.1)).slots q)) seen rest))
 
 -- all writes of a step
 pub performed : (ws : List (Entity × Option EntityState)) (l : LogsView) (new : SlotMap) → AreApart (entities_of ws) → IsClean l.slots l.tags (entities_of ws) → new ≡ (wrote_all wrote ws l).slots → Performed l.slots l.tags ws new
 performed ws l new apart clean is = record {
   look = λ q. ap (λ m. look_at m q) is ∙ look_all ws l q;
-  logs = λ q. ap (λ m. log_at m q) is ∙ logs_all ws l apart clean q;
+  logs = λ q. subst (λ m. Merges [] (log_at l.slots q ++ noted (is_in entity_cmp (entities_of ws) q) l.tags (look_at l.slots q) []) (log_at m q)) (sym is) (logs_all ws l apart clean q);
 }

@@ -3,6 +3,7 @@ use Rattle.std.specs.Prelude.{◌≡◌, ℕ, Bool, true, false, not, ◌&&◌, 
 use Rattle.std.specs.List.{list_any}
 use Rattle.sk_record.specs.Effects.{is_in, written_value}
 use Rattle.sk_record.specs.Notes.{has, noted}
+use Rattle.sk_record.specs.Merged.{Merges}
 use Rattle.sk_record.specs.UndoState.{Open}
 use Rattle.sk_record.specs.declared.status.Status.{Status}
 use Rattle.sk_record.specs.declared.status.Status.TheVariants.{Struck}
@@ -23,10 +24,10 @@ AreApart (e ∷ es) = (is_in entity_cmp es e ≡ false) × AreApart es
 abbrev pub IsClean : SlotMap → List ℕ → List Entity → Type 0
 IsClean m tags es = (e : Entity) → is_in entity_cmp es e ≡ true → tags ≡ [] → log_at m e ≡ []
 
--- the writes of a step that has these tags
+-- the writes of a step that has these tags, whose notes may be left out
 pub record Performed (old : SlotMap) (tags : List ℕ) (ws : List (Entity × Option EntityState)) (new : SlotMap) : Type 0 where
   pub look : (q : Entity) → look_at new q ≡ written_value entity_cmp ws q (look_at old q)
-  pub logs : (q : Entity) → log_at new q ≡ log_at old q ++ noted (is_in entity_cmp (entities_of ws) q) tags (look_at old q) []
+  pub logs : (q : Entity) → Merges [] (log_at old q ++ noted (is_in entity_cmp (entities_of ws) q) tags (look_at old q) []) (log_at new q)
 
 -- whether the failure of g strikes an open guess: its own step rests on g, and it is another
 abbrev pub is_struck : ℕ → Open → Bool

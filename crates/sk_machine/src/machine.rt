@@ -7,12 +7,14 @@ ghost use Rattle.sk_record.specs.Step.{perform};
 ghost use Rattle.sk_record.specs.Trace.{marks};
 ghost use Rattle.sk_record.specs.Effects.{is_in, is_marked};
 ghost use Rattle.sk_record.specs.UndoState.{IsTidy, numbers, step_tags, still_open, not_struck, tags_at};
-ghost use Rattle.sk_record.specs.Machine.{Takes, Commits, Fails, with_failure};
+ghost use Rattle.sk_record.specs.Machine.{Fails, with_failure};
+ghost use Rattle.sk_record.specs.Merged.{MergedTakes, MergedCommits};
 ghost use Rattle.sk_record.specs.declared.status.Status.TheVariants.{Undecided, Committed, Struck};
 ghost use Rattle.std.specs.Option.{option_copied};
 ghost use Rattle.std.specs.FinMap as map;
 ghost use Rattle.sk_guesses.specs.Calls.{redeemed};
 ghost use Rattle.sk_guesses.specs.Guesses.{decided, drawn, is_full, next_of, status_of};
+ghost use Rattle.sk_undo.specs.Log.{is_empty};
 ghost use Rattle.sk_undo.specs.Decisions.{AllGrow, AllRest};
 ghost use Rattle.sk_machine.specs.Noted.{IsAtStart};
 ghost use Rattle.sk_ids.specs.Entity.{entity_cmp};
@@ -148,6 +150,25 @@ fn strike_all(guesses: &mut Guesses, opens: &[Open], id: GuessId)
     strike_open(guesses, opens, id);
 }
 
+fn is_none(tags: &TagSet) -> bool
+    ensures { result ≡ is_empty tags.now }
+{
+    tags.ids().is_empty()
+}
+
+/// Adds guesses to a set. Most sets have them.
+fn with_tags(all: TagSet, more: &TagSet) -> Result<TagSet, AllocError>
+    ensures { IfOk result (λ both. (g : ℕ) → has g both ≡ (has g all || has g more.now)) }
+{
+    if all.covers(more) {
+        return Ok(all);
+    }
+    if is_none(&all) {
+        return more.copy();
+    }
+    all.union(more)
+}
+
 impl Machine {
     /// What a boot starts from: nothing is noted, no guess drawn, no text said.
     pub fn boot(alloc: Global, number: u64, boot: &Boot) -> Result<Machine, AllocError>
@@ -173,7 +194,7 @@ impl Machine {
         let mut all = tags;
         for entity in entities {
             if let Some(more) = self.logs.tags(*entity) {
-                all = all.union(more)?;
+                all = with_tags(all, more)?;
             }
         }
         let _rising = all.ids();
@@ -220,7 +241,7 @@ impl Machine {
         requires beside { IsBeside pid plan.now.beside }
         requires tidy { IsTidy (undo_state_of self.old) }
         requires rising { IsStrictlySortedBy nat_cmp (numbers self.old.opens) }
-        ensures ok { OnOk result (Takes (plain scripts.now) (machine_of self.old) (record { pid = pid; input = input.now; guess = None }) (machine_of self.new)) }
+        ensures ok { OnOk result (MergedTakes (plain scripts.now) (machine_of self.old) (record { pid = pid; input = input.now; guess = None }) (machine_of self.new)) }
         ensures guesses { self.new.guesses ≡ self.old.guesses }
         ensures err { OnErr result (self.new ≡ self.old) }
     {
@@ -251,7 +272,7 @@ impl Machine {
         requires rising { IsStrictlySortedBy nat_cmp (numbers self.old.opens ++ marks (Some (next_of self.old.guesses))) }
         requires free { is_full self.old.guesses ≡ false }
         ensures token { IfOk result (λ guess. guess ≡ record { kernel = self.old.guesses.kernel; id = next_of self.old.guesses }) }
-        ensures ok { OnOk result (Takes (plain scripts.now) (machine_of self.old) (record { pid = pid; input = input.now; guess = Some (next_of self.old.guesses) }) (machine_of self.new)) }
+        ensures ok { OnOk result (MergedTakes (plain scripts.now) (machine_of self.old) (record { pid = pid; input = input.now; guess = Some (next_of self.old.guesses) }) (machine_of self.new)) }
         ensures guesses { OnOk result (self.new.guesses ≡ drawn self.old.guesses) }
         ensures err { OnErr result (self.new ≡ self.old) }
     {
@@ -283,7 +304,7 @@ impl Machine {
         requires grow { AllGrow self.old.slots }
         requires rest { AllRest self.old.slots }
         requires undecided { status_of self.old.guesses id ≡ Some Undecided }
-        ensures commits { Commits (machine_of self.old) id (machine_of self.new) }
+        ensures commits { MergedCommits (machine_of self.old) id (machine_of self.new) }
         ensures guesses { self.new.guesses ≡ decided self.old.guesses id Committed }
     {
         self.logs.commit(id, listed_for(&self.dependents, id));

@@ -21,3 +21,5 @@ pub mod Kept
 pub mod Stays
 pub mod Laws
 pub mod Exact
+pub mod Merged
+pub mod Handed

@@ -32,7 +32,7 @@ empty_log : {V : Type 0} (ns : List (Note V)) → AllSome ns → last_tags [] ns
 empty_log [] all none = refl
 empty_log (n ∷ ns) all none = absurd (none_at_end n.tags ns all.1 all.0 none)
 
-noted_some : {V : Type 0} (b : Bool) (tags : List ℕ) (v : Option V) (rest : List (Note V)) → AllSome rest → AllSome (noted b tags v rest)
+pub noted_some : {V : Type 0} (b : Bool) (tags : List ℕ) (v : Option V) (rest : List (Note V)) → AllSome rest → AllSome (noted b tags v rest)
 noted_some false tags v rest all = all
 noted_some true [] v rest all = all
 noted_some true (t ∷ tags) v rest all = ((λ h. true≢false (sym (or_left _ _ (eq-eqb t t refl)) ∙ ap (has t) h)), all)

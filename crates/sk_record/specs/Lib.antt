@@ -9,3 +9,4 @@ pub mod UndoState
 pub mod Machine
 pub mod Laws
 pub mod Same
+pub mod Merged

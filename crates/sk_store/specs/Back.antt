@@ -11,16 +11,17 @@ use Rattle.sk_store.specs.State.{State}
 use Rattle.sk_store.specs.declared.entity_state.EntityState.{EntityState}
 use Rattle.sk_store.specs.declared.entity_state.EntityState.TheVariants as stored
 use Rattle.sk_store.specs.declared.back.PutBack.{PutBack}
-use Rattle.sk_store.specs.declared.back.PutBack.TheVariants.{Born, Was, Changed}
+use Rattle.sk_store.specs.declared.back.PutBack.TheVariants.{Was, Changed}
 use Rattle.sk_store.specs.contracts.back.PutBack as put_back
+use Rattle.sk_store.specs.contracts.entity_state.EntityState as stored_row
 
 -- an entity that was written, and what puts it back
 pub record BackView : Type 0 where
   pub entity : Entity
-  pub undo : PutBack
+  pub undo : PutBack EntityState
 
 abbrev pub back_code : Coded BackView
-back_code = code_by (Entity × PutBack) (coded× entity.the_row.coded put_back.the_row.coded) (λ n. (n.entity, n.undo)) (λ p. record { entity = p.0; undo = p.1 }) (λ _. refl)
+back_code = code_by (Entity × PutBack EntityState) (coded× entity.the_row.coded (put_back.the_row stored_row.the_row).coded) (λ n. (n.entity, n.undo)) (λ p. record { entity = p.0; undo = p.1 }) (λ _. refl)
 
 -- a value with a change taken back
 abbrev pub changed_back : Option EntityState → State → Entity → (Value → Value) → State
@@ -39,9 +40,9 @@ HasValue (Some (stored.Process p)) = ⊥
 HasValue None = ⊥
 
 -- one write put back
-abbrev pub put_back_at : State → Entity → PutBack → State
-put_back_at s e Born = map.remove s e
-put_back_at s e (Was v) = map.insert s e v
+abbrev pub put_back_at : State → Entity → PutBack EntityState → State
+put_back_at s e (Was None) = map.remove s e
+put_back_at s e (Was (Some v)) = map.insert s e v
 put_back_at s e (Changed undo) = changed_back (map.get s e) s e (λ v. value_undone v undo)
 
 abbrev pub taken_back : State → BackView → State
@@ -53,9 +54,9 @@ CanChangeBack (Some (stored.Value v)) can = can v
 CanChangeBack (Some (stored.Process p)) can = ⊥
 CanChangeBack None can = ⊥
 
-abbrev pub CanPutBack : State → Entity → PutBack → Type 0
-CanPutBack s e Born = Unit {0}
-CanPutBack s e (Was v) = IsSome (map.get s e)
+abbrev pub CanPutBack : State → Entity → PutBack EntityState → Type 0
+CanPutBack s e (Was None) = Unit {0}
+CanPutBack s e (Was (Some v)) = IsSome (map.get s e)
 CanPutBack s e (Changed undo) = CanChangeBack (map.get s e) (λ v. CanUndo v undo)
 
 abbrev pub CanTakeBack : State → BackView → Type 0

@@ -12,12 +12,11 @@ use sk_objects::Value;
 use std::alloc::{AllocError, Global};
 use std::marker::Model;
 
-/// What puts a write back.
+/// What puts a write back, whatever it is that was written.
 #[derive(Drop)]
-pub enum PutBack {
-    /// The entity was absent.
-    Born,
-    Was(EntityState),
+pub enum PutBack<V> {
+    /// What was there, if anything.
+    Was(Option<V>),
     Changed(Undo),
 }
 
@@ -25,7 +24,7 @@ pub enum PutBack {
 #[derive(Drop)]
 pub struct Back {
     entity: Entity,
-    undo: PutBack,
+    undo: PutBack<EntityState>,
 }
 
 impl Model for Back {
@@ -78,13 +77,13 @@ fn change_in(store: &mut Store, entity: &Entity, change: Change) -> Result<Undo,
 }
 
 /// Puts a write back, which takes no memory.
-fn put_back(store: &mut Store, entity: &Entity, undo: PutBack)
+fn put_back(store: &mut Store, entity: &Entity, undo: PutBack<EntityState>)
     requires { CanPutBack store.old entity.now undo }
     ensures { store.new ≡ put_back_at store.old entity.now undo }
 {
     match undo {
-        PutBack::Born => store.remove(*entity),
-        PutBack::Was(stored) => {
+        PutBack::Was(None) => store.remove(*entity),
+        PutBack::Was(Some(stored)) => {
             store.replace(*entity, stored);
         }
         PutBack::Changed(undo) => change_back(store, entity, undo),
@@ -93,17 +92,21 @@ fn put_back(store: &mut Store, entity: &Entity, undo: PutBack)
 
 /// Sets what an entity has, and answers what puts it back.
 #[tactic(auto, using(crate::proofs::Puts::puts))]
-fn write_in(store: &mut Store, entity: &Entity, stored: EntityState) -> Result<PutBack, AllocError>
+fn write_in(
+    store: &mut Store,
+    entity: &Entity,
+    stored: EntityState,
+) -> Result<PutBack<EntityState>, AllocError>
     ensures ok { OnOk result (store.new ≡ map.insert store.old entity.now stored) }
     ensures can { IfOk result (λ undo. CanPutBack store.new entity.now undo) }
     ensures back { IfOk result (λ undo. put_back_at store.new entity.now undo ≡ store.old) }
     ensures err { OnErr result (store.new ≡ store.old) }
 {
     if store.value(*entity).is_some() {
-        return Ok(PutBack::Was(store.replace(*entity, stored)));
+        return Ok(PutBack::Was(Some(store.replace(*entity, stored))));
     }
     store.put(*entity, stored)?;
-    Ok(PutBack::Born)
+    Ok(PutBack::Was(None))
 }
 
 impl Keeper for Store {

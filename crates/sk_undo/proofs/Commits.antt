@@ -1,11 +1,12 @@
 -- What a commit leaves of a log.
-use Rattle.std.proofs.Common.{◌≡◌, ℕ, true, false, cond, not, ◌&&◌, List, [], ◌∷◌, ◌++◌, Option, refl, sym, ◌∙◌, ap, subst}
+use Rattle.std.proofs.Common.{◌≡◌, ℕ, Bool, true, false, cond, not, ◌&&◌, List, [], ◌∷◌, ◌++◌, Option, inl, inr, refl, sym, ◌∙◌, ap, subst}
 use Rattle.std.specs.Prelude.{◌==◌, reverse}
 use Rattle.std.specs.List.{list_all}
 use Rattle.std.proofs.lemmas.Bool.{true≢false, or_left, or_parts, eq-eqb}
 use Rattle.std.proofs.lemmas.Grind.{reverse_onto}
 use Rattle.std.proofs.lemmas.List.{reverse-reverse}
 use Rattle.sk_record.specs.Notes.{Note, has, without, noted, carried, committed}
+use Rattle.sk_record.specs.Merged.{Merges}
 use Rattle.sk_record.specs.UndoState.{IsGrowing}
 use Rattle.sk_record.proofs.UndoStates.{and_both}
 use Rattle.sk_record.proofs.Machine.{has_filter}
@@ -25,6 +26,10 @@ without_free g (t ∷ tags) none =
 
 has_left : (g h : ℕ) (tags left : List ℕ) → without g tags ≡ left → has h left ≡ (not (h == g) && has h tags)
 has_left g h tags left is = ap (has h) (sym is) ∙ has_filter (λ t. not (t == g)) h tags
+
+not_true : (b : Bool) → not b ≡ true → b ≡ false
+not_true true h = absurd (true≢false (sym h))
+not_true false h = refl
 
 -- ---- logs as they are seen: where nothing rests on the guess, and a second commit of it
 module _ {V : Type 0} where
@@ -54,6 +59,35 @@ module _ {V : Type 0} where
   pub committed_twice : (g : ℕ) (ns : List (Note V)) → committed g (committed g ns) ≡ committed g ns
   committed_twice g [] = refl
   committed_twice g (n ∷ ns) = again_by g (without g n.tags) n.before (committed g ns) (without_free g (without g n.tags) (has_without g n.tags)) (committed_twice g ns)
+
+  -- ---- what neither rests on the guess nor on nothing
+  abbrev pub is_settled : ℕ → Note V → Bool
+  is_settled g n = not (has g n.tags) && not (is_empty n.tags)
+
+  pub settled_free : (g : ℕ) (ns : List (Note V)) → list_all (is_settled g) ns ≡ true → committed g ns ≡ ns
+  settled_free g [] all = refl
+  settled_free g (n ∷ ns) all =
+      let both = and_both _ _ all in
+      let one = and_both _ _ both.0 in
+      ap (λ tags. noted true tags n.before (committed g ns)) (without_free g n.tags (not_true (has g n.tags) one.0))
+      ∙ noted_some n.tags n.before (committed g ns) one.1
+      ∙ ap (λ rest. n ∷ rest) (settled_free g ns both.1)
+
+  settled_noted : (g : ℕ) (left : List ℕ) (v : Option V) (rest : List (Note V)) → has g left ≡ false → list_all (is_settled g) rest ≡ true → list_all (is_settled g) (noted true left v rest) ≡ true
+  settled_noted g [] v rest free all = all
+  settled_noted g (t ∷ left) v rest free all = λ i. (not (free i) && true) && all i
+
+  pub all_settled : (g : ℕ) (ns : List (Note V)) → list_all (is_settled g) (committed g ns) ≡ true
+  all_settled g [] = refl
+  all_settled g (n ∷ ns) = settled_noted g (without g n.tags) n.before (committed g ns) (has_without g n.tags) (all_settled g ns)
+
+  -- what holds of each note holds of each where some are left out
+  pub all_merged : (p : Note V → Bool) (t : List ℕ) (ns ms : List (Note V)) → Merges t ns ms → list_all p ns ≡ true → list_all p ms ≡ true
+  all_merged p t [] [] h all = refl
+  all_merged p t [] (m ∷ ms) h all = absurd h
+  all_merged p t (n ∷ ns) [] h all = refl
+  all_merged p t (n ∷ ns) (m ∷ ms) (inl h) all = all_merged p t ns (m ∷ ms) h.1 (and_both _ _ all).1
+  all_merged p t (n ∷ ns) (m ∷ ms) (inr h) all = let both = and_both _ _ all in λ i. (ap p h.0 ∙ both.0) i && all_merged p n.tags ns ms h.1 both.1 i
 
   -- a log that grows still grows
   some_left : (h : ℕ) (left : List ℕ) (v : Option V) (rest : List (Note V)) → has h left ≡ true → AllSeen h rest → AllSeen h (noted true left v rest)
@@ -121,7 +155,7 @@ module _ {U V : Type 0} (undone : U → Option V → Option V) where
   in_order now [] = []
   in_order now (n ∷ ns) = record { tags = n.tags; before = undone n.undo (value_before now ns) } ∷ in_order now ns
 
-  before_more : (ns : List (RawNote U)) (n : RawNote U) (now : Option V) → value_before now (ns ++ n ∷ []) ≡ value_before (undone n.undo now) ns
+  pub before_more : (ns : List (RawNote U)) (n : RawNote U) (now : Option V) → value_before now (ns ++ n ∷ []) ≡ value_before (undone n.undo now) ns
   before_more [] n now = refl
   before_more (x ∷ ns) n now = ap (undone x.undo) (before_more ns n now)
 

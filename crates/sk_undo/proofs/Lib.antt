@@ -7,3 +7,6 @@ pub mod Opening
 pub mod Growing
 pub mod Present
 mod NewestNotes
+pub mod Joins
+pub mod Stable
+pub mod Runs

@@ -9,7 +9,8 @@ use Rattle.sk_undo.specs.Log.{is_empty}
 use Rattle.sk_undo.specs.Slot.{SlotView, slot_of, slot_wrote, is_bare, slot_back, CanGoBackOnce}
 use Rattle.sk_undo.specs.Logs.{SlotMap, slot_in, placed, slots_wrote, CanUndoLast}
 use Rattle.sk_undo.specs.Decisions.{ChangedAt}
-use Rattle.sk_undo.specs.declared.slot.UndoWrite.{UndoWrite}
+use Rattle.sk_store.specs.declared.back.PutBack.{PutBack}
+use Rattle.sk_store.specs.declared.entity_state.EntityState.{EntityState}
 use Rattle.sk_ids.specs.Entity.{entity_cmp}
 use Rattle.sk_ids.proofs.Entities.{entity_total, entity_exact}
 
@@ -47,11 +48,11 @@ remove_back m e v absent = same_map entity_total entity_exact _ _ (λ q.
     ∙ gone q e m v absent (eq_by_cmp entity_cmp q e) refl)
 
 -- what may be taken back from a slot may be taken back where the slot stands
-pub can_again : (m : SlotMap) (e : Entity) (w : SlotView) (back : Option UndoWrite) → CanGoBackOnce w back → CanUndoLast (get (insert m e w) e) back
+pub can_again : (m : SlotMap) (e : Entity) (w : SlotView) (back : Option (PutBack EntityState)) → CanGoBackOnce w back → CanUndoLast (get (insert m e w) e) back
 can_again m e w back h = subst (λ o. CanUndoLast o back) (sym (at_same m e w)) h
 
 -- and leaves the slot that was there
-pub back_again : (m : SlotMap) (e : Entity) (s w : SlotView) (back : Option UndoWrite) → get m e ≡ Some s → slot_back w back ≡ s
+pub back_again : (m : SlotMap) (e : Entity) (s w : SlotView) (back : Option (PutBack EntityState)) → get m e ≡ Some s → slot_back w back ≡ s
     → insert (insert m e w) e (slot_back (slot_in (get (insert m e w) e)) back) ≡ m
 back_again m e s w back here is =
     ap (λ o. insert (insert m e w) e (slot_back (slot_in o) back)) (at_same m e w)

@@ -12,14 +12,16 @@ use Rattle.sk_ids.specs.declared.entity.Entity.{Entity}
 use Rattle.sk_ids.proofs.Entities.{entity_total, entity_exact}
 use Rattle.sk_record.specs.Effects.{is_in}
 use Rattle.sk_record.specs.Notes.{Note, has, cut, unwound, committed}
+use Rattle.sk_record.specs.Merged.{Merges}
 use Rattle.sk_record.specs.UndoState.{IsGrowing}
+use Rattle.sk_record.proofs.Merged.{all_kept, in_turn, both_committed, grow_in}
 use Rattle.sk_store.specs.declared.entity_state.EntityState.{EntityState}
 use Rattle.sk_undo.specs.Log.{is_empty, carries}
 use Rattle.sk_undo.specs.Slot.{SlotView, slot_of, is_bare}
 use Rattle.sk_undo.specs.Logs.{SlotMap, slot_in, placed, look_at, log_at}
 use Rattle.sk_undo.specs.Decisions.{SlotUnwound, SlotCommitted, ChangedAt, Unwound, Lightened, AreListed, AllRest, AllGrow, NoneBare}
 use Rattle.sk_undo.proofs.SeenNotes.{none_is, none_off, grow_cut}
-use Rattle.sk_undo.proofs.Commits.{committed_free, committed_twice, grow_commit}
+use Rattle.sk_undo.proofs.Commits.{committed_free, committed_twice, grow_commit, is_settled, settled_free, all_settled, all_merged}
 
 -- ---- the slot of one entity
 absent_is : (v : Option EntityState) → is_none v ≡ true → v ≡ None
@@ -138,7 +140,7 @@ all_unwound g old now so =
 -- ---- a commit, where these are left
 pub record Committing (g : ℕ) (old now : SlotMap) (rest : List Entity) : Type 0 where
   pub look : (q : Entity) → look_at now q ≡ look_at old q
-  pub logs : (q : Entity) → committed g (log_at now q) ≡ committed g (log_at old q)
+  pub logs : (q : Entity) → Merges [] (committed g (log_at old q)) (committed g (log_at now q))
   pub grow : AllGrow now
   pub done : (q : Entity) → is_in entity_cmp rest q ≡ false → committed g (log_at now q) ≡ log_at now q
   pub bare : NoneBare old → NoneBare now
@@ -150,7 +152,7 @@ unlisted false c h is = refl
 pub committing_from : (g : ℕ) (old : SlotMap) (es : List Entity) → AreListed g old es → AllRest old → AllGrow old → Committing g old old es
 committing_from g old es listed rests grows = record {
   look = λ q. refl;
-  logs = λ q. refl;
+  logs = λ q. all_kept [] (committed g (log_at old q));
   grow = grows;
   done = λ q is. committed_free g (log_at old q) (unlisted _ _ (listed q) is) (rests q);
   bare = λ h. h;
@@ -162,17 +164,17 @@ module _ (g : ℕ) (old now new : SlotMap) (e : Entity) (rest : List Entity) (so
     look = λ q. by_place q e (look_at new q ≡ look_at old q)
         (λ is. (there h q is).now ∙ so.look q)
         (λ is. ap (λ (s : SlotView). s.now) (sym (elsewhere h q is)) ∙ so.look q);
-    logs = λ q. by_place q e (committed g (log_at new q) ≡ committed g (log_at old q))
-        (λ is. ap (committed g) ((there h q is).log (so.grow q)) ∙ committed_twice g (log_at now q) ∙ so.logs q)
-        (λ is. ap (λ (s : SlotView). committed g (reverse s.log)) (sym (elsewhere h q is)) ∙ so.logs q);
+    logs = λ q. by_place q e (Merges [] (committed g (log_at old q)) (committed g (log_at new q)))
+        (λ is. in_turn [] _ _ _ (so.logs q) (subst (λ ns. Merges [] ns (committed g (log_at new q))) (committed_twice g (log_at now q)) (both_committed g [] (committed g (log_at now q)) (log_at new q) ((there h q is).log (so.grow q)))))
+        (λ is. subst (λ (s : SlotView). Merges [] (committed g (log_at old q)) (committed g (reverse s.log))) (elsewhere h q is) (so.logs q));
     grow = λ q. by_place q e (IsGrowing (log_at new q))
-        (λ is. subst IsGrowing (sym ((there h q is).log (so.grow q))) (grow_commit g (log_at now q) (so.grow q)))
+        (λ is. λ x. grow_in x [] (committed g (log_at now q)) (log_at new q) refl ((there h q is).log (so.grow q)) (grow_commit g (log_at now q) (so.grow q) x))
         (λ is. subst (λ (s : SlotView). IsGrowing (reverse s.log)) (elsewhere h q is) (so.grow q));
     done = λ q out. by_place q e (committed g (log_at new q) ≡ log_at new q)
-        (λ is. let log = (there h q is).log (so.grow q) in ap (committed g) log ∙ committed_twice g (log_at now q) ∙ sym log)
+        (λ is. settled_free g (log_at new q) (all_merged (is_settled g) [] (committed g (log_at now q)) (log_at new q) ((there h q is).log (so.grow q)) (all_settled g (log_at now q))))
         (λ is. subst (λ (s : SlotView). committed g (reverse s.log) ≡ reverse s.log) (elsewhere h q is) (so.done q (ap (λ b. b || is_in entity_cmp rest q) is ∙ out)));
     bare = λ none. subst NoneBare (sym h.all) (placed_bare now e h.slot (so.bare none));
   }
 
 pub all_committed : (g : ℕ) (old now : SlotMap) → Committing g old now [] → Lightened old g now
-all_committed g old now so = record { look = so.look; logs = λ q. sym (so.done q refl) ∙ so.logs q }
+all_committed g old now so = record { look = so.look; logs = λ q. subst (Merges [] (committed g (log_at old q))) (so.done q refl) (so.logs q) }

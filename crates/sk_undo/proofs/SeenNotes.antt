@@ -1,5 +1,5 @@
 -- Notes that are there, notes that are seen, and logs that grow.
-use Rattle.std.proofs.Common.{◌≡◌, ℕ, true, false, cond, ◌&&◌, ◌||◌, List, [], ◌∷◌, ◌++◌, Option, refl, ◌∙◌, sym, ap, subst}
+use Rattle.std.proofs.Common.{◌≡◌, ℕ, Bool, true, false, cond, ◌&&◌, ◌||◌, List, [], ◌∷◌, ◌++◌, Option, refl, ◌∙◌, sym, ap, subst}
 use Rattle.std.specs.Prelude.{reverse}
 use Rattle.std.specs.List.{list_all}
 use Rattle.std.proofs.lemmas.Bool.{true≢false, or_parts}
@@ -167,6 +167,21 @@ module _ {U V : Type 0} (undone : U → Option V → Option V) where
       let whole = reverse_onto ns n [] in
       none_off g (log now (r ∷ rs)) now (ap (carries g) whole ∙ last_none g (reverse ns) n (subst IsGrowing whole grows) none)
 
+-- ---- what holds of all notes
+pub all_less : {A : Type 0} (p : A → Bool) (xs : List A) → list_all p xs ≡ true → list_all p (less xs) ≡ true
+all_less p [] all = refl
+all_less p (x ∷ xs) all = (and_both _ _ all).1
+
+all_more : {A : Type 0} (p : A → Bool) (xs ys : List A) → list_all p xs ≡ true → list_all p ys ≡ true → list_all p (xs ++ ys) ≡ true
+all_more p [] ys all more = more
+all_more p (x ∷ xs) ys all more = let both = and_both _ _ all in λ i. both.0 i && all_more p xs ys both.1 more i
+
+pub all_reverse : {A : Type 0} (p : A → Bool) (xs : List A) → list_all p xs ≡ true → list_all p (reverse xs) ≡ true
+all_reverse p [] all = refl
+all_reverse p (x ∷ xs) all =
+    let both = and_both _ _ all in
+    ap (list_all p) (reverse_onto xs x []) ∙ all_more p (reverse xs) (x ∷ []) (all_reverse p xs both.1) (λ i. both.0 i && true)
+
 -- ---- the newest notes undone, one after another
 module _ {U V : Type 0} (fits : U → Option V → Type 0) (undone : U → Option V → Option V) where
   -- what is left of a log unwinds to the same
@@ -175,9 +190,10 @@ module _ {U V : Type 0} (fits : U → Option V → Type 0) (undone : U → Optio
     pub value : unwound g (reverse (seen undone now rs)) now ≡ unwound g (reverse (seen undone old olds)) old
     pub cuts : cut g (reverse (seen undone now rs)) ≡ cut g (reverse (seen undone old olds))
     pub grows : IsGrowing (reverse (seen undone old olds)) → IsGrowing (reverse (seen undone now rs))
+    pub left : (p : RawNote U → Bool) → list_all p olds ≡ true → list_all p rs ≡ true
 
   pub all_left : (g : ℕ) (now : Option V) (rs : List (RawNote U)) → CanGoBack fits undone now rs → Left g now now rs rs
-  all_left g now rs can = record { can = can; value = refl; cuts = refl; grows = λ h. h }
+  all_left g now rs can = record { can = can; value = refl; cuts = refl; grows = λ h. h; left = λ p h. h }
 
   pub one_less : (g : ℕ) (old now now' : Option V) (olds rs rs' : List (RawNote U)) → Left g old now olds rs → rests_last g rs ≡ true
       → now' ≡ before_last now (seen undone now rs) → rs' ≡ less rs → CanGoBack fits undone now' rs' → Left g old now' olds rs'
@@ -189,6 +205,7 @@ module _ {U V : Type 0} (fits : U → Option V → Type 0) (undone : U → Optio
         value = (λ i. unwound g (reverse (view i)) (value i)) ∙ off.0 ∙ so.value;
         cuts = ap (λ ns. cut g (reverse ns)) view ∙ off.1 ∙ so.cuts;
         grows = λ grows. subst (λ ns. IsGrowing (reverse ns)) (sym view) (less_grows undone now rs (so.grows grows));
+        left = λ p all. ap (list_all p) notes ∙ all_less p rs (so.left p all);
       }
 
   -- where the newest of what is left does not rest on the guess

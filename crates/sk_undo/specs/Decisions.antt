@@ -1,11 +1,12 @@
 -- What a decision leaves, entity by entity.
-use Rattle.std.specs.Prelude.{◌≡◌, ℕ, true, false, not, List, Some, reverse}
+use Rattle.std.specs.Prelude.{◌≡◌, ℕ, true, false, not, List, [], Some, reverse}
 use Rattle.std.specs.List.{list_all}
 use Rattle.std.specs.FinMap as map
 use Rattle.sk_ids.specs.Entity.{entity_cmp}
 use Rattle.sk_ids.specs.declared.entity.Entity.{Entity}
 use Rattle.sk_record.specs.Effects.{is_in}
 use Rattle.sk_record.specs.Notes.{cut, unwound, committed}
+use Rattle.sk_record.specs.Merged.{Merges}
 use Rattle.sk_record.specs.UndoState.{Open, UndoState, IsGrowing}
 use Rattle.sk_store.specs.declared.entity_state.EntityState.{EntityState}
 use Rattle.sk_undo.specs.Log.{is_empty, carries}
@@ -17,10 +18,10 @@ pub record SlotUnwound (g : ℕ) (old new : SlotView) : Type 0 where
   pub now : IsGrowing (reverse old.log) → new.now ≡ unwound g (reverse old.log) old.now
   pub log : IsGrowing (reverse old.log) → reverse new.log ≡ cut g (reverse old.log)
 
--- a slot with a guess out of all notes, and without each note that then has no tags
+-- a slot with a guess out of all notes, and without each note that then has no tags; others may be left out then
 pub record SlotCommitted (g : ℕ) (old new : SlotView) : Type 0 where
   pub now : new.now ≡ old.now
-  pub log : IsGrowing (reverse old.log) → reverse new.log ≡ committed g (reverse old.log)
+  pub log : IsGrowing (reverse old.log) → Merges [] (committed g (reverse old.log)) (reverse new.log)
 
 -- the slot of one entity is changed so
 pub record ChangedAt (Changed : SlotView → SlotView → Type 0) (old : SlotMap) (e : Entity) (new : SlotMap) : Type 0 where
@@ -33,10 +34,10 @@ pub record Unwound (old : SlotMap) (g : ℕ) (new : SlotMap) : Type 0 where
   pub look : (e : Entity) → look_at new e ≡ unwound g (log_at old e) (look_at old e)
   pub logs : (e : Entity) → log_at new e ≡ cut g (log_at old e)
 
--- a guess out of all notes, and each note that then has no tags
+-- a guess out of all notes, and each note that then has no tags; others may be left out then
 pub record Lightened (old : SlotMap) (g : ℕ) (new : SlotMap) : Type 0 where
   pub look : (e : Entity) → look_at new e ≡ look_at old e
-  pub logs : (e : Entity) → log_at new e ≡ committed g (log_at old e)
+  pub logs : (e : Entity) → Merges [] (committed g (log_at old e)) (log_at new e)
 
 -- each entity is listed of which a note rests on the guess
 abbrev pub AreListed : ℕ → SlotMap → List Entity → Type 0

@@ -1,9 +1,13 @@
 -- The writes of one value, seen as the value before each.
-use Rattle.std.specs.Prelude.{◌≡◌, ◌<◌, ℕ, Bool, true, false, List, [], ◌∷◌, reverse, Option, if◌then◌else◌}
+use Rattle.std.specs.Prelude.{◌≡◌, ◌<◌, ◌&&◌, ℕ, zero, suc, Bool, true, false, List, [], ◌∷◌, reverse, Option, Some, None, if◌then◌else◌}
 use Rattle.std.specs.List.{list_any, list_all}
 use Rattle.std.specs.declared.vec.Vec.{Vec}
 use Rattle.std.specs.Vec.{vec_len, vec_capacity}
 use Rattle.sk_record.specs.Notes.{Note, has, without}
+use Rattle.sk_record.specs.Merged.{same_tags}
+use Rattle.sk_changes.specs.declared.change.Undo.{Undo}
+use Rattle.sk_store.specs.declared.back.PutBack.{PutBack}
+use Rattle.sk_store.specs.declared.back.PutBack.TheVariants.{Was, Changed}
 use Rattle.sk_undo.specs.declared.log.Note.{Note as RawNote}
 
 -- whether nothing is in the list
@@ -28,6 +32,30 @@ Covers these tags = (g : ℕ) → has g tags ≡ true → has g these ≡ true
 abbrev pub HasRoom : {X Z : Type 0} → Vec X Z → Type 0
 HasRoom v = vec_len v < vec_capacity v
 
+-- ---- what puts a write back
+module _ {V : Type 0} where
+  -- what was there before it
+  abbrev pub undone_by : (V → Undo → V) → PutBack V → Option V → Option V
+  undone_by undone (Was v) now = v
+  undone_by undone (Changed undo) None = None
+  undone_by undone (Changed undo) (Some v) = Some (undone v undo)
+
+  abbrev pub FitsBy : (V → Undo → Type 0) → PutBack V → Option V → Type 0
+  FitsBy fits (Was v) now = Unit {0}
+  FitsBy fits (Changed undo) None = ⊥
+  FitsBy fits (Changed undo) (Some v) = fits v undo
+
+  -- nothing, or what is only ever set
+  abbrev pub is_whole_at : (V → Bool) → Option V → Bool
+  is_whole_at whole None = true
+  is_whole_at whole (Some v) = whole v
+
+  -- whether what was there is put back whatever stands there now
+  abbrev pub restores : (V → Bool) → PutBack V → Bool
+  restores whole (Was v) = is_whole_at whole v
+  restores whole (Changed undo) = false
+
+-- ---- notes
 module _ {U V : Type 0} (undone : U → Option V → Option V) where
   -- the notes, the newest first, with what was there before each
   abbrev pub seen : Option V → List (RawNote U) → List (Note V)
@@ -83,3 +111,31 @@ module _ {U : Type 0} where
   abbrev pub dropped : List (RawNote U) → List (RawNote U)
   dropped [] = []
   dropped (n ∷ ns) = if is_empty n.tags then dropped ns else n ∷ ns
+
+-- ---- notes that stand for later ones
+module _ {V : Type 0} (whole : V → Bool) where
+  -- whether a note puts back what was there before a later write with these tags, too
+  abbrev pub stands_for : RawNote (PutBack V) → List ℕ → Bool
+  stands_for n tags = restores whole n.undo && same_tags tags n.tags
+
+  -- whether a write is not noted, after these notes, the newest first
+  abbrev pub goes_unnoted_raw : List ℕ → List (RawNote (PutBack V)) → Bool
+  goes_unnoted_raw tags [] = is_empty tags
+  goes_unnoted_raw tags (n ∷ ns) = stands_for n tags
+
+  -- the same of the note before, where there is one
+  abbrev pub is_covered : Option (RawNote (PutBack V)) → List ℕ → Bool
+  is_covered None tags = false
+  is_covered (Some n) tags = stands_for n tags
+
+  -- whether the note before stands for the one at a place
+  abbrev pub repeats : Option (RawNote (PutBack V)) → ℕ → List (RawNote (PutBack V)) → Bool
+  repeats p i [] = false
+  repeats p zero (n ∷ ns) = is_covered p n.tags
+  repeats p (suc i) (n ∷ ns) = repeats (Some n) i ns
+
+  -- without each note from a place on for which the one before it stands
+  abbrev pub joined_from : Option (RawNote (PutBack V)) → ℕ → List (RawNote (PutBack V)) → List (RawNote (PutBack V))
+  joined_from p i [] = []
+  joined_from p zero (n ∷ ns) = if is_covered p n.tags then joined_from p zero ns else n ∷ joined_from (Some n) zero ns
+  joined_from p (suc i) (n ∷ ns) = n ∷ joined_from (Some n) i ns

@@ -7,7 +7,7 @@ use Rattle.sk_ids.specs.declared.entity.Entity.{Entity}
 use Rattle.sk_ids.specs.contracts.entity.Entity as entity
 use Rattle.sk_record.specs.Notes.{Note}
 use Rattle.sk_store.specs.declared.entity_state.EntityState.{EntityState}
-use Rattle.sk_undo.specs.declared.slot.UndoWrite.{UndoWrite}
+use Rattle.sk_store.specs.declared.back.PutBack.{PutBack}
 use Rattle.sk_undo.specs.declared.slots.TakeBack.{TakeBack}
 use Rattle.sk_undo.specs.declared.slots.TakeBack.TheVariants.{DropSlot, UndoLast}
 use Rattle.sk_undo.specs.contracts.slots.TakeBack as how_row
@@ -44,7 +44,7 @@ abbrev pub slots_back : SlotMap → Entity → TakeBack → SlotMap
 slots_back m e DropSlot = map.remove m e
 slots_back m e (UndoLast back) = map.insert m e (slot_back (slot_in (map.get m e)) back)
 
-abbrev pub CanUndoLast : Option SlotView → Option UndoWrite → Type 0
+abbrev pub CanUndoLast : Option SlotView → Option (PutBack EntityState) → Type 0
 CanUndoLast None back = ⊥
 CanUndoLast (Some s) back = CanGoBackOnce s back
 

@@ -1,27 +1,36 @@
 -- What an entity has with its undo log, seen as the value now and the value before each note, the newest first.
-use Rattle.std.specs.Prelude.{◌≡◌, ℕ, Bool, ◌&&◌, List, [], ◌∷◌, Option, Some, None, is_none, refl, if◌then◌else◌}
+use Rattle.std.specs.Prelude.{◌≡◌, ℕ, Bool, true, false, ◌&&◌, List, [], ◌∷◌, Option, Some, None, is_none, refl, if◌then◌else◌}
 use Rattle.std.specs.Coded.{Coded, code_by, coded×, coded_ℕ, coded_list, coded_option}
 use Rattle.sk_changes.specs.Changes.{CanUndo, value_undone}
+use Rattle.sk_changes.specs.declared.change.Undo.{Undo}
 use Rattle.sk_record.specs.Notes.{Note}
+use Rattle.sk_record.specs.Merged.{same_tags}
 use Rattle.sk_store.specs.declared.entity_state.EntityState.{EntityState}
 use Rattle.sk_store.specs.declared.entity_state.EntityState.TheVariants as stored
 use Rattle.sk_store.specs.contracts.entity_state.EntityState as stored_row
-use Rattle.sk_undo.specs.declared.slot.UndoWrite.{UndoWrite}
-use Rattle.sk_undo.specs.declared.slot.UndoWrite.TheVariants.{Was, Changed}
-use Rattle.sk_undo.specs.Log.{is_empty, before_last, less, HasNote}
+use Rattle.sk_store.specs.declared.back.PutBack.{PutBack}
+use Rattle.sk_undo.specs.declared.log.Note.{Note as RawNote}
+use Rattle.sk_undo.specs.Log.{is_empty, before_last, less, HasNote, undone_by, FitsBy, is_whole_at, restores}
+
+-- a value with a change taken back; a process is only ever set
+abbrev pub state_undone : EntityState → Undo → EntityState
+state_undone (stored.Process p) undo = stored.Process p
+state_undone (stored.Value v) undo = stored.Value (value_undone v undo)
+
+abbrev pub StateFits : EntityState → Undo → Type 0
+StateFits (stored.Process p) undo = ⊥
+StateFits (stored.Value v) undo = CanUndo v undo
+
+abbrev pub is_process : EntityState → Bool
+is_process (stored.Process p) = true
+is_process (stored.Value v) = false
 
 -- what was there before a write
-abbrev pub undone : UndoWrite → Option EntityState → Option EntityState
-undone (Was v) now = v
-undone (Changed undo) None = None
-undone (Changed undo) (Some (stored.Process p)) = Some (stored.Process p)
-undone (Changed undo) (Some (stored.Value v)) = Some (stored.Value (value_undone v undo))
+abbrev pub undone : PutBack EntityState → Option EntityState → Option EntityState
+undone = undone_by state_undone
 
-abbrev pub Fits : UndoWrite → Option EntityState → Type 0
-Fits (Was v) now = Unit {0}
-Fits (Changed undo) None = ⊥
-Fits (Changed undo) (Some (stored.Process p)) = ⊥
-Fits (Changed undo) (Some (stored.Value v)) = CanUndo v undo
+abbrev pub Fits : PutBack EntityState → Option EntityState → Type 0
+Fits = FitsBy StateFits
 
 pub record SlotView : Type 0 where
   pub now : Option EntityState
@@ -41,19 +50,38 @@ slot_of now = record { now = now; log = [] }
 abbrev pub is_bare : SlotView → Bool
 is_bare s = is_none s.now && is_empty s.log
 
--- the log after a write: without tags nothing is noted, but where there are older notes
+-- whether what was there before a write is put back whatever stands there now
+abbrev pub is_whole : Option EntityState → Bool
+is_whole = is_whole_at is_process
+
+-- whether a write is not noted: it has no tags, and there are no notes; or the newest note puts back what was there before it, too
+abbrev pub goes_unnoted : List ℕ → List (Note EntityState) → Bool
+goes_unnoted tags [] = is_empty tags
+goes_unnoted tags (n ∷ ns) = is_whole n.before && same_tags tags n.tags
+
+-- the log after a write
 abbrev pub noted_on : List ℕ → Option EntityState → List (Note EntityState) → List (Note EntityState)
-noted_on tags before log = if is_empty tags && is_empty log then log else record { tags = tags; before = before } ∷ log
+noted_on tags before log = if goes_unnoted tags log then log else record { tags = tags; before = before } ∷ log
+
+-- whether the log is the same whatever stands there now
+abbrev pub is_stable : List (Note EntityState) → Bool
+is_stable [] = true
+is_stable (n ∷ ns) = is_whole n.before
+
+-- the same of the notes that are there, the newest first
+abbrev pub is_stable_raw : List (RawNote (PutBack EntityState)) → Bool
+is_stable_raw [] = true
+is_stable_raw (n ∷ ns) = restores is_process n.undo
 
 -- one write
 abbrev pub slot_wrote : List ℕ → SlotView → Option EntityState → SlotView
 slot_wrote tags s v = record { now = v; log = noted_on tags s.now s.log }
 
 -- the newest write taken back: that of the newest note, or one that was not noted
-abbrev pub slot_back : SlotView → Option UndoWrite → SlotView
+abbrev pub slot_back : SlotView → Option (PutBack EntityState) → SlotView
 slot_back s None = record { now = before_last s.now s.log; log = less s.log }
 slot_back s (Some undo) = record { now = undone undo s.now; log = s.log }
 
-abbrev pub CanGoBackOnce : SlotView → Option UndoWrite → Type 0
+abbrev pub CanGoBackOnce : SlotView → Option (PutBack EntityState) → Type 0
 CanGoBackOnce s None = HasNote s.log
-CanGoBackOnce s (Some undo) = (s.log ≡ []) × Fits undo s.now
+CanGoBackOnce s (Some undo) = (is_stable s.log ≡ true) × Fits undo s.now

@@ -1,135 +1,130 @@
 //! The undo logs of kernel objects and of processes.
-ghost use Rattle.std.specs.Prelude.{◌≡◌, ◌++◌, ◌∷◌, [], OnOk, OnErr, IsOk, Option, reverse};
-ghost use Rattle.sk_record.specs.Notes.{unwound, cut, committed};
-ghost use Rattle.sk_undo.specs.Log.{log_of, CanGoBack, HasRoom, newest_tags, Covers};
-ghost use Rattle.sk_undo.specs.EntityLogs.{ObjectFits, object_undone, ProcessFits, process_undone, object_notes, process_notes, ObjectRoom, ProcessRoom};
+ghost use Rattle.std.specs.Prelude.{◌≡◌, ◌++◌, ◌∷◌, [], true, length, OnOk, OnErr, IsOk, Option, Some, None, reverse};
+ghost use Rattle.sk_record.specs.Notes.{unwound, cut, committed, last_tags};
+ghost use Rattle.sk_record.specs.Merged.{merged};
+ghost use Rattle.sk_undo.specs.Log.{log_of, CanGoBack, HasRoom, newest_tags, Grows, Covers};
+ghost use Rattle.sk_undo.specs.Kept.{ObjectFits, object_undone, runs_of, AllSet, is_apart};
 ghost use Rattle.sk_objects.specs.declared.value.Value.{Value};
-ghost use Rattle.sk_script.specs.declared.process.Process.{Process};
-ghost use Rattle.sk_undo.specs.declared.entity_logs.ObjectUndo.TheVariants as ObjectUndo;
-ghost use Rattle.sk_undo.specs.declared.entity_logs.ProcessUndo.TheVariants as ProcessUndo;
+ghost use Rattle.sk_store.specs.declared.back.PutBack.TheVariants as PutBack;
 
-use crate::{GrowingLog, Undoing};
+use crate::{Kept, Log};
 use sk_changes::{Invertible, Undo};
 use sk_ids::{GuessId, TagSet};
 use sk_objects::Value;
 use sk_script::Process;
+use sk_store::PutBack;
 use std::alloc::{AllocError, Global};
 
-/// What undoes a write of an object.
-#[derive(Drop)]
-pub enum ObjectUndo {
-    /// The object was absent.
-    Birth,
-    Change(Undo),
-}
+impl Kept for Value {
+    ghost use Rattle.sk_changes.specs.Changes.{CanUndo, value_undone};
+    ghost use Rattle.sk_undo.specs.Kept.{is_object_whole};
 
-impl Undoing for ObjectUndo {
-    ghost use Rattle.sk_undo.specs.EntityLogs.{ObjectFits, object_undone};
+    ghost fits = { CanUndo };
 
-    type Of = Value;
+    ghost undone = { value_undone };
 
-    ghost fits = { ObjectFits };
+    ghost is_whole = { is_object_whole };
 
-    ghost undone = { object_undone };
+    fn change_back(&mut self, undo: Undo) {
+        self.undo(undo);
+    }
 
-    fn undo(self, value: &mut Option<Value>) {
-        match self {
-            ObjectUndo::Birth => *value = None,
-            ObjectUndo::Change(undo) => {
-                if let Some(inner) = value {
-                    inner.undo(undo);
-                }
-            }
-        }
+    fn is_whole(&self) -> bool {
+        false
     }
 }
 
-/// What undoes a write of a process.
-#[derive(Drop)]
-pub enum ProcessUndo {
-    /// The process was absent.
-    Birth,
-    /// The process before it.
-    Checkpoint(Process),
-}
-
-impl Undoing for ProcessUndo {
-    ghost use Rattle.sk_undo.specs.EntityLogs.{ProcessFits, process_undone};
-
-    type Of = Process;
+impl Kept for Process {
+    ghost use Rattle.sk_undo.specs.Kept.{ProcessFits, process_changed_back, is_process_whole};
 
     ghost fits = { ProcessFits };
 
-    ghost undone = { process_undone };
+    ghost undone = { process_changed_back };
 
-    fn undo(self, value: &mut Option<Process>) {
-        match self {
-            ProcessUndo::Birth => *value = None,
-            ProcessUndo::Checkpoint(before) => *value = Some(before),
-        }
+    ghost is_whole = { is_process_whole };
+
+    fn change_back(&mut self, _undo: Undo) {
+        unreachable!()
+    }
+
+    fn is_whole(&self) -> bool {
+        true
     }
 }
 
 /// The undo log of an object.
 #[derive(Drop)]
 pub struct ObjectLog {
-    log: GrowingLog<ObjectUndo>,
+    log: Log<Value>,
+    ghost grows: { Grows log.notes.items },
 }
 
 impl ObjectLog {
     /// Nothing is noted.
     pub fn new(alloc: Global) -> ObjectLog
-        ensures { object_notes result ≡ [] }
+        ensures { result.log.notes.items ≡ [] }
     {
         ObjectLog {
-            log: GrowingLog::new(alloc),
+            log: Log::new(alloc),
         }
     }
 
     /// The tags of the newest note.
     pub fn tags(&self) -> &TagSet
-        ensures { result.now ≡ newest_tags (reverse (object_notes self.now)) }
+        ensures { result.now ≡ newest_tags (reverse self.now.log.notes.items) }
     {
         self.log.tags()
     }
 
     /// Makes room for the next note.
     pub fn reserve(&mut self) -> Result<(), AllocError>
-        ensures notes { object_notes self.new ≡ object_notes self.old }
-        ensures ok { OnOk result (ObjectRoom self.new) }
-        ensures room { ObjectRoom self.old → IsOk result }
+        ensures notes { self.new.log.notes.items ≡ self.old.log.notes.items }
+        ensures ok { OnOk result (HasRoom self.new.log.notes) }
+        ensures room { HasRoom self.old.log.notes → IsOk result }
     {
         self.log.reserve()
     }
 
+    /// Notes a write that rests on all that `tags` has.
+    fn add(&mut self, tags: TagSet, undo: PutBack<Value>) -> Result<(), AllocError>
+        requires { Covers tags (newest_tags (reverse self.old.log.notes.items)) }
+        ensures ok { OnOk result (self.new.log.notes.items ≡ self.old.log.notes.items ++ record { tags = tags; undo = undo } ∷ []) }
+        ensures err { OnErr result (self.new.log.notes.items ≡ self.old.log.notes.items) }
+        ensures room { HasRoom self.old.log.notes → IsOk result }
+    {
+        self.log.reserve()?;
+        self.log.note_reserved(tags, undo);
+        Ok(())
+    }
+
     /// Notes a change that rests on all that `tags` has.
     pub fn note(&mut self, tags: TagSet, undo: Undo) -> Result<(), AllocError>
-        requires { Covers tags (newest_tags (reverse (object_notes self.old))) }
-        ensures ok { OnOk result (object_notes self.new ≡ object_notes self.old ++ record { tags = tags; undo = ObjectUndo.Change undo } ∷ []) }
-        ensures err { OnErr result (object_notes self.new ≡ object_notes self.old) }
-        ensures room { ObjectRoom self.old → IsOk result }
+        requires { Covers tags (newest_tags (reverse self.old.log.notes.items)) }
+        ensures ok { OnOk result (self.new.log.notes.items ≡ self.old.log.notes.items ++ record { tags = tags; undo = PutBack.Changed undo } ∷ []) }
+        ensures err { OnErr result (self.new.log.notes.items ≡ self.old.log.notes.items) }
+        ensures room { HasRoom self.old.log.notes → IsOk result }
     {
-        self.log.note(tags, ObjectUndo::Change(undo))
+        self.add(tags, PutBack::Changed(undo))
     }
 
     /// Notes that the object appears, which rests on all that `tags` has.
     pub fn note_birth(&mut self, tags: TagSet) -> Result<(), AllocError>
-        requires { Covers tags (newest_tags (reverse (object_notes self.old))) }
-        ensures ok { OnOk result (object_notes self.new ≡ object_notes self.old ++ record { tags = tags; undo = ObjectUndo.Birth } ∷ []) }
-        ensures err { OnErr result (object_notes self.new ≡ object_notes self.old) }
-        ensures room { ObjectRoom self.old → IsOk result }
+        requires { Covers tags (newest_tags (reverse self.old.log.notes.items)) }
+        ensures ok { OnOk result (self.new.log.notes.items ≡ self.old.log.notes.items ++ record { tags = tags; undo = PutBack.Was None } ∷ []) }
+        ensures err { OnErr result (self.new.log.notes.items ≡ self.old.log.notes.items) }
+        ensures room { HasRoom self.old.log.notes → IsOk result }
     {
-        self.log.note(tags, ObjectUndo::Birth)
+        self.add(tags, PutBack::Was(None))
     }
 
     /// Undoes the writes that rest on the guess, without memory; the room that was made stays. The
     /// value is as the last note left it.
     pub fn unwind(&mut self, value: &mut Option<Value>, guess: GuessId)
-        requires { CanGoBack ObjectFits object_undone value.old (reverse (object_notes self.old)) }
-        ensures value { value.new ≡ unwound guess (log_of object_undone value.old (object_notes self.old)) value.old }
-        ensures log { log_of object_undone value.new (object_notes self.new) ≡ cut guess (log_of object_undone value.old (object_notes self.old)) }
-        ensures can { CanGoBack ObjectFits object_undone value.new (reverse (object_notes self.new)) }
-        ensures room { ObjectRoom self.old → ObjectRoom self.new }
+        requires { CanGoBack ObjectFits object_undone value.old (reverse self.old.log.notes.items) }
+        ensures value { value.new ≡ unwound guess (log_of object_undone value.old self.old.log.notes.items) value.old }
+        ensures log { log_of object_undone value.new self.new.log.notes.items ≡ cut guess (log_of object_undone value.old self.old.log.notes.items) }
+        ensures can { CanGoBack ObjectFits object_undone value.new (reverse self.new.log.notes.items) }
+        ensures room { HasRoom self.old.log.notes → HasRoom self.new.log.notes }
     {
         self.log.unwind(value, guess);
     }
@@ -137,84 +132,113 @@ impl ObjectLog {
     /// Takes a guess out of all notes, and drops those that then rest on nothing, without memory; the
     /// room that was made stays.
     pub fn commit(&mut self, guess: GuessId)
-        ensures log { (now : Option Value) → log_of object_undone now (object_notes self.new) ≡ committed guess (log_of object_undone now (object_notes self.old)) }
-        ensures can { (now : Option Value) → CanGoBack ObjectFits object_undone now (reverse (object_notes self.old)) → CanGoBack ObjectFits object_undone now (reverse (object_notes self.new)) }
-        ensures room { ObjectRoom self.old → ObjectRoom self.new }
+        ensures log { (now : Option Value) → log_of object_undone now self.new.log.notes.items ≡ committed guess (log_of object_undone now self.old.log.notes.items) }
+        ensures can { (now : Option Value) → CanGoBack ObjectFits object_undone now (reverse self.old.log.notes.items) → CanGoBack ObjectFits object_undone now (reverse self.new.log.notes.items) }
+        ensures room { HasRoom self.old.log.notes → HasRoom self.new.log.notes }
     {
         self.log.commit(guess);
     }
 }
 
-/// The undo log of a process.
+/// The undo log of a process, which keeps a note for each run of neighbouring writes with equal tags:
+/// that of the first.
 #[derive(Drop)]
 pub struct ProcessLog {
-    log: GrowingLog<ProcessUndo>,
+    log: Log<Process>,
+    ghost grows: { Grows log.notes.items },
+    ghost whole: { AllSet log.notes.items },
+    ghost apart: { is_apart [] (runs_of log.notes.items) ≡ true },
 }
 
 impl ProcessLog {
     /// Nothing is noted.
     pub fn new(alloc: Global) -> ProcessLog
-        ensures { process_notes result ≡ [] }
+        ensures { runs_of result.log.notes.items ≡ [] }
     {
         ProcessLog {
-            log: GrowingLog::new(alloc),
+            log: Log::new(alloc),
         }
     }
 
-    /// The tags of the newest note.
+    /// The tags of the newest run.
     pub fn tags(&self) -> &TagSet
-        ensures { result.now ≡ newest_tags (reverse (process_notes self.now)) }
+        ensures { result.now ≡ last_tags [] (runs_of self.now.log.notes.items) }
     {
         self.log.tags()
     }
 
+    /// How many runs there are.
+    pub fn kept(&self) -> usize
+        ensures { result ≡ length (runs_of self.now.log.notes.items) }
+    {
+        self.log.len()
+    }
+
     /// Makes room for the next note.
     pub fn reserve(&mut self) -> Result<(), AllocError>
-        ensures notes { process_notes self.new ≡ process_notes self.old }
-        ensures ok { OnOk result (ProcessRoom self.new) }
-        ensures room { ProcessRoom self.old → IsOk result }
+        ensures runs { runs_of self.new.log.notes.items ≡ runs_of self.old.log.notes.items }
+        ensures ok { OnOk result (HasRoom self.new.log.notes) }
+        ensures room { HasRoom self.old.log.notes → IsOk result }
     {
         self.log.reserve()
     }
 
-    /// Notes a step of the process, which rests on all that `tags` has, with the process before it.
-    pub fn note(&mut self, tags: TagSet, before: Process) -> Result<(), AllocError>
-        requires { Covers tags (newest_tags (reverse (process_notes self.old))) }
-        ensures ok { OnOk result (process_notes self.new ≡ process_notes self.old ++ record { tags = tags; undo = ProcessUndo.Checkpoint before } ∷ []) }
-        ensures err { OnErr result (process_notes self.new ≡ process_notes self.old) }
-        ensures room { ProcessRoom self.old → IsOk result }
+    /// Notes a write that rests on all that `tags` has; one of the newest run wants no memory.
+    fn add(&mut self, tags: TagSet, before: Option<Process>) -> Result<(), AllocError>
+        requires { Covers tags (last_tags [] (runs_of self.old.log.notes.items)) }
+        ensures ok { OnOk result (runs_of self.new.log.notes.items ≡ merged [] (runs_of self.old.log.notes.items ++ record { tags = tags; before = before } ∷ [])) }
+        ensures newest { OnOk result (last_tags [] (runs_of self.new.log.notes.items) ≡ tags) }
+        ensures err { OnErr result (runs_of self.new.log.notes.items ≡ runs_of self.old.log.notes.items) }
+        ensures room { HasRoom self.old.log.notes → IsOk result }
     {
-        self.log.note(tags, ProcessUndo::Checkpoint(before))
+        if self.log.goes_unnoted(&tags) {
+            return Ok(());
+        }
+        self.log.reserve()?;
+        self.log.note_reserved(tags, PutBack::Was(before));
+        Ok(())
+    }
+
+    /// Notes a step of the process, which rests on all that `tags` has, with the process before it. A step of
+    /// the newest run wants no memory.
+    pub fn note(&mut self, tags: TagSet, before: Process) -> Result<(), AllocError>
+        requires { Covers tags (last_tags [] (runs_of self.old.log.notes.items)) }
+        ensures ok { OnOk result (runs_of self.new.log.notes.items ≡ merged [] (runs_of self.old.log.notes.items ++ record { tags = tags; before = Some before } ∷ [])) }
+        ensures newest { OnOk result (last_tags [] (runs_of self.new.log.notes.items) ≡ tags) }
+        ensures err { OnErr result (runs_of self.new.log.notes.items ≡ runs_of self.old.log.notes.items) }
+        ensures room { HasRoom self.old.log.notes → IsOk result }
+    {
+        self.add(tags, Some(before))
     }
 
     /// Notes that the process appears, which rests on all that `tags` has.
     pub fn note_birth(&mut self, tags: TagSet) -> Result<(), AllocError>
-        requires { Covers tags (newest_tags (reverse (process_notes self.old))) }
-        ensures ok { OnOk result (process_notes self.new ≡ process_notes self.old ++ record { tags = tags; undo = ProcessUndo.Birth } ∷ []) }
-        ensures err { OnErr result (process_notes self.new ≡ process_notes self.old) }
-        ensures room { ProcessRoom self.old → IsOk result }
+        requires { Covers tags (last_tags [] (runs_of self.old.log.notes.items)) }
+        ensures ok { OnOk result (runs_of self.new.log.notes.items ≡ merged [] (runs_of self.old.log.notes.items ++ record { tags = tags; before = None } ∷ [])) }
+        ensures newest { OnOk result (last_tags [] (runs_of self.new.log.notes.items) ≡ tags) }
+        ensures err { OnErr result (runs_of self.new.log.notes.items ≡ runs_of self.old.log.notes.items) }
+        ensures room { HasRoom self.old.log.notes → IsOk result }
     {
-        self.log.note(tags, ProcessUndo::Birth)
+        self.add(tags, None)
     }
 
-    /// Undoes the writes that rest on the guess, without memory; the room that was made stays.
+    /// Puts back what was there before the first run that rests on the guess, and forgets that run and those
+    /// after it, without memory; the room that was made stays.
     pub fn unwind(&mut self, value: &mut Option<Process>, guess: GuessId)
-        requires { CanGoBack ProcessFits process_undone value.old (reverse (process_notes self.old)) }
-        ensures value { value.new ≡ unwound guess (log_of process_undone value.old (process_notes self.old)) value.old }
-        ensures log { log_of process_undone value.new (process_notes self.new) ≡ cut guess (log_of process_undone value.old (process_notes self.old)) }
-        ensures can { CanGoBack ProcessFits process_undone value.new (reverse (process_notes self.new)) }
-        ensures room { ProcessRoom self.old → ProcessRoom self.new }
+        ensures value { value.new ≡ unwound guess (runs_of self.old.log.notes.items) value.old }
+        ensures runs { runs_of self.new.log.notes.items ≡ cut guess (runs_of self.old.log.notes.items) }
+        ensures room { HasRoom self.old.log.notes → HasRoom self.new.log.notes }
     {
         self.log.unwind(value, guess);
     }
 
-    /// Takes a guess out of all notes, and drops those that then rest on nothing, without memory; the
-    /// room that was made stays.
+    /// Takes a guess out of all tags, drops the runs that then rest on nothing, and joins those whose tags
+    /// became equal, without memory; the room that was made stays.
     pub fn commit(&mut self, guess: GuessId)
-        ensures log { (now : Option Process) → log_of process_undone now (process_notes self.new) ≡ committed guess (log_of process_undone now (process_notes self.old)) }
-        ensures can { (now : Option Process) → CanGoBack ProcessFits process_undone now (reverse (process_notes self.old)) → CanGoBack ProcessFits process_undone now (reverse (process_notes self.new)) }
-        ensures room { ProcessRoom self.old → ProcessRoom self.new }
+        ensures runs { runs_of self.new.log.notes.items ≡ merged [] (committed guess (runs_of self.old.log.notes.items)) }
+        ensures room { HasRoom self.old.log.notes → HasRoom self.new.log.notes }
     {
         self.log.commit(guess);
+        self.log.join(0);
     }
 }

@@ -3,15 +3,13 @@
 #![tactic(auto)]
 
 pub mod entity_logs;
-pub mod growing_log;
 pub mod log;
 pub mod logs;
 pub mod slot;
 pub mod slots;
 
-pub use entity_logs::{ObjectLog, ObjectUndo, ProcessLog, ProcessUndo};
-pub use growing_log::GrowingLog;
-pub use log::{Log, Note, Undoing};
+pub use entity_logs::{ObjectLog, ProcessLog};
+pub use log::{Kept, Log, Note, put_back};
 pub use logs::{Back, Logs};
-pub use slot::{Slot, UndoWrite};
+pub use slot::Slot;
 pub use slots::{Slots, TakeBack};

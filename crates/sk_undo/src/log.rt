@@ -1,33 +1,69 @@
-//! The writes of one value, each with the guesses that it rests on and with what undoes it.
-ghost use Rattle.std.specs.Prelude.{◌≡◌, ◌≤◌, ◌+◌, ◌++◌, ◌∷◌, [], false, length, take, drop, Option, OnOk, OnErr, IsOk, reverse};
+//! The writes of one value, each with the guesses that it rests on and with what puts it back.
+ghost use Rattle.std.specs.Prelude.{◌≡◌, ◌≤◌, ◌<◌, ◌+◌, ◌++◌, ◌∷◌, [], Bool, true, false, length, take, drop, None, OnOk, OnErr, Option, IsOk, reverse};
 ghost use Rattle.std.specs.Vec.{vec_len, vec_capacity};
-ghost use Rattle.std.specs.List.{prefix_len};
+ghost use Rattle.std.specs.List.{prefix_len, list_all};
 ghost use Rattle.sk_record.specs.Notes.{unwound, cut};
 ghost use Rattle.sk_record.specs.UndoState.{IsGrowing};
-ghost use Rattle.sk_undo.specs.Log.{is_empty, seen, log_of, CanGoBack, HasNote, HasRoom, before_last, less, rests_last, newest_tags, lightened, dropped, Grows};
+ghost use Rattle.sk_store.specs.declared.back.PutBack.{PutBack};
+ghost use Rattle.sk_undo.specs.declared.log.Note.{Note};
+ghost use Rattle.sk_undo.specs.Log.{is_empty, seen, log_of, CanGoBack, HasNote, HasRoom, before_last, less, rests_last, newest_tags, lightened, dropped, Grows, undone_by, FitsBy, restores, stands_for, goes_unnoted_raw, joined_from, repeats};
 
+use sk_changes::Undo;
 use sk_ids::{GuessId, TagSet};
+use sk_store::PutBack;
 use std::alloc::{AllocError, Global};
 
-/// What undoes a write of a value, which may have been its birth or its end.
-pub trait Undoing: Drop {
-    ghost use Rattle.std.specs.Prelude.{◌≡◌, Option};
+/// What is kept with a log of its writes. Some of it is only ever set, and some is changed in place, too.
+pub trait Kept: Drop {
+    ghost use Rattle.std.specs.Prelude.{◌≡◌, Bool};
+    ghost use Rattle.sk_changes.specs.declared.change.Undo.{Undo};
 
-    type Of: Drop;
+    /// Whether a change of it can be undone so.
+    ghost fits: { Self → Undo → Type 0 };
 
-    /// Whether it undoes what stands there.
-    ghost fits: { Self → Option Self.Of → Type 0 };
+    /// What was there before the change.
+    ghost undone: { Self → Undo → Self };
 
-    /// What was there before the write.
-    ghost undone: { Self → Option Self.Of → Option Self.Of };
+    /// Whether it is only ever set.
+    ghost is_whole: { Self → Bool };
 
-    /// What was there before the write stands again, which takes no memory.
-    fn undo(self, value: &mut Option<Self::Of>)
-        requires { fits self value.old }
-        ensures { value.new ≡ undone self value.old };
+    /// What was there before a change stands again, which takes no memory.
+    fn change_back(&mut self, undo: Undo)
+        requires { fits self.old undo }
+        ensures { self.new ≡ undone self.old undo };
+
+    /// Whether it is only ever set, and never changed in place.
+    fn is_whole(&self) -> bool
+        ensures { result ≡ is_whole self.now };
 }
 
-/// A write, the guesses that it rests on, and what undoes it.
+/// Puts back what was there before a write, which takes no memory.
+pub fn put_back<V: Kept>(undo: PutBack<V>, value: &mut Option<V>)
+    requires { FitsBy V.fits undo value.old }
+    ensures { value.new ≡ undone_by V.undone undo value.old }
+{
+    match undo {
+        PutBack::Was(before) => *value = before,
+        PutBack::Changed(undo) => {
+            if let Some(inner) = value {
+                inner.change_back(undo);
+            }
+        }
+    }
+}
+
+/// Whether what was there is put back whatever stands there now: nothing was, or what is only ever set.
+fn restores<V: Kept>(undo: &PutBack<V>) -> bool
+    ensures { result ≡ restores V.is_whole undo.now }
+{
+    match undo {
+        PutBack::Was(Some(before)) => before.is_whole(),
+        PutBack::Was(None) => true,
+        PutBack::Changed(_) => false,
+    }
+}
+
+/// A write, the guesses that it rests on, and what puts it back.
 #[derive(Drop)]
 pub struct Note<U> {
     pub tags: TagSet,
@@ -36,8 +72,8 @@ pub struct Note<U> {
 
 /// The notes of the writes that can be undone, the newest last.
 #[derive(Drop)]
-pub struct Log<U> {
-    notes: Vec<Note<U>>,
+pub struct Log<V> {
+    notes: Vec<Note<PutBack<V>>>,
     /// What `tags` lends where there are no notes.
     no_tags: TagSet,
     ghost none: { no_tags ≡ [] },
@@ -45,7 +81,7 @@ pub struct Log<U> {
 
 /// Takes a guess out of the tags of the newest notes, back to the first that does not rest on it, and
 /// answers how many notes stand up to that one.
-fn lighten<U: Undoing>(notes: &mut Vec<Note<U>>, guess: GuessId) -> usize
+fn lighten<V: Kept>(notes: &mut Vec<Note<PutBack<V>>>, guess: GuessId) -> usize
     ensures notes { notes.new.items ≡ take result notes.old.items ++ lightened guess (drop result notes.old.items) }
     ensures before { rests_last guess (reverse (take result notes.old.items)) ≡ false }
     ensures len { vec_len notes.new ≡ vec_len notes.old }
@@ -60,20 +96,20 @@ fn lighten<U: Undoing>(notes: &mut Vec<Note<U>>, guess: GuessId) -> usize
 }
 
 /// How many of the oldest notes stand before the first that has tags.
-fn bare_count<U: Undoing>(notes: &[Note<U>]) -> usize
+fn bare_count<V: Kept>(notes: &[Note<PutBack<V>>]) -> usize
     ensures { result ≡ prefix_len (λ n. is_empty n.tags) notes.now }
 {
     notes.iter().take_while(|note| is_bare(*note)).count()
 }
 
-fn is_bare<U: Undoing>(note: &Note<U>) -> bool
+fn is_bare<V: Kept>(note: &Note<PutBack<V>>) -> bool
     ensures { result ≡ is_empty note.now.tags }
 {
     note.tags.ids().is_empty()
 }
 
 /// Drops the oldest notes, up to the first that has tags.
-fn drop_bare<U: Undoing>(notes: &mut Vec<Note<U>>)
+fn drop_bare<V: Kept>(notes: &mut Vec<Note<PutBack<V>>>)
     ensures notes { notes.new.items ≡ dropped notes.old.items }
     ensures len { vec_len notes.new ≤ vec_len notes.old }
     ensures capacity { vec_capacity notes.new ≡ vec_capacity notes.old }
@@ -85,7 +121,7 @@ fn drop_bare<U: Undoing>(notes: &mut Vec<Note<U>>)
 }
 
 /// Drops the oldest notes.
-fn drop_front<U: Undoing>(notes: &mut Vec<Note<U>>, count: usize)
+fn drop_front<V: Kept>(notes: &mut Vec<Note<PutBack<V>>>, count: usize)
     requires { count ≤ length notes.old.items }
     ensures notes { notes.new.items ≡ drop count notes.old.items }
     ensures len { vec_len notes.new ≤ vec_len notes.old }
@@ -94,9 +130,43 @@ fn drop_front<U: Undoing>(notes: &mut Vec<Note<U>>, count: usize)
     notes.drain(..count);
 }
 
-impl<U: Undoing> Log<U> {
+/// Whether a note puts back what was there before a later write with these tags, too.
+fn stands_for<V: Kept>(note: &Note<PutBack<V>>, tags: &TagSet) -> bool
+    ensures { result ≡ stands_for V.is_whole note.now tags.now }
+{
+    restores(&note.undo) && tags.is_same(&note.tags)
+}
+
+/// Whether the note before stands for the one at a place.
+fn is_needless<V: Kept>(notes: &[Note<PutBack<V>>], place: usize) -> bool
+    requires { place < length notes.now }
+    ensures { result ≡ repeats V.is_whole None place notes.now }
+{
+    if place == 0 {
+        return false;
+    }
+    stands_for(&notes[place - 1], &notes[place].tags)
+}
+
+/// Leaves out each note from a place on for which the note before it stands.
+fn join_from<V: Kept>(notes: &mut Vec<Note<PutBack<V>>>, first: usize)
+    ensures notes { notes.new.items ≡ joined_from V.is_whole None first notes.old.items }
+    ensures len { vec_len notes.new ≤ vec_len notes.old }
+    ensures capacity { vec_capacity notes.new ≡ vec_capacity notes.old }
+{
+    let mut place = first;
+    while place < notes.len() {
+        if is_needless(notes.as_slice(), place) {
+            notes.remove(place);
+        } else {
+            place += 1;
+        }
+    }
+}
+
+impl<V: Kept> Log<V> {
     /// Nothing is noted.
-    pub fn new(alloc: Global) -> Log<U>
+    pub fn new(alloc: Global) -> Log<V>
         ensures { result.notes.items ≡ [] }
     {
         Log {
@@ -109,6 +179,24 @@ impl<U: Undoing> Log<U> {
         ensures { result ≡ is_empty self.now.notes.items }
     {
         self.notes.is_empty()
+    }
+
+    /// How many notes there are.
+    pub fn len(&self) -> usize
+        ensures { result ≡ length self.now.notes.items }
+    {
+        self.notes.len()
+    }
+
+    /// Whether a write with these tags is not noted: it has none, and there are no notes; or the newest note
+    /// stands for it.
+    pub fn goes_unnoted(&self, tags: &TagSet) -> bool
+        ensures { result ≡ goes_unnoted_raw V.is_whole tags.now (reverse self.now.notes.items) }
+    {
+        match self.notes.last() {
+            Some(newest) => stands_for(newest, tags),
+            None => tags.ids().is_empty(),
+        }
     }
 
     /// The tags of the newest note.
@@ -131,7 +219,7 @@ impl<U: Undoing> Log<U> {
     }
 
     /// Notes a write, for which there is room.
-    pub fn note_reserved(&mut self, tags: TagSet, undo: U)
+    pub fn note_reserved(&mut self, tags: TagSet, undo: PutBack<V>)
         requires { HasRoom self.old.notes }
         ensures { self.new.notes.items ≡ self.old.notes.items ++ record { tags = tags; undo = undo } ∷ [] }
     {
@@ -139,17 +227,17 @@ impl<U: Undoing> Log<U> {
     }
 
     /// Undoes the newest write.
-    pub fn undo_last(&mut self, value: &mut Option<U::Of>)
-        requires can { CanGoBack U.fits U.undone value.old (reverse self.old.notes.items) }
+    pub fn undo_last(&mut self, value: &mut Option<V>)
+        requires can { CanGoBack (FitsBy V.fits) (undone_by V.undone) value.old (reverse self.old.notes.items) }
         requires some { HasNote (reverse self.old.notes.items) }
-        ensures value { value.new ≡ before_last value.old (seen U.undone value.old (reverse self.old.notes.items)) }
+        ensures value { value.new ≡ before_last value.old (seen (undone_by V.undone) value.old (reverse self.old.notes.items)) }
         ensures notes { reverse self.new.notes.items ≡ less (reverse self.old.notes.items) }
         ensures fewer { vec_len self.new.notes + 1 ≡ vec_len self.old.notes }
         ensures capacity { vec_capacity self.new.notes ≡ vec_capacity self.old.notes }
-        ensures can { CanGoBack U.fits U.undone value.new (reverse self.new.notes.items) }
+        ensures can { CanGoBack (FitsBy V.fits) (undone_by V.undone) value.new (reverse self.new.notes.items) }
     {
         match self.notes.pop() {
-            Some(note) => note.undo.undo(value),
+            Some(note) => put_back(note.undo, value),
             None => unreachable!(),
         }
     }
@@ -166,11 +254,12 @@ impl<U: Undoing> Log<U> {
 
     /// Undoes the writes that rest on the guess, which are the newest where each note rests on
     /// what those before it rest on. It takes no memory, and leaves the room that was made.
-    pub fn unwind(&mut self, value: &mut Option<U::Of>, guess: GuessId)
-        requires can { CanGoBack U.fits U.undone value.old (reverse self.old.notes.items) }
-        ensures value { IsGrowing (log_of U.undone value.old self.old.notes.items) → value.new ≡ unwound guess (log_of U.undone value.old self.old.notes.items) value.old }
-        ensures log { IsGrowing (log_of U.undone value.old self.old.notes.items) → log_of U.undone value.new self.new.notes.items ≡ cut guess (log_of U.undone value.old self.old.notes.items) }
-        ensures can { CanGoBack U.fits U.undone value.new (reverse self.new.notes.items) }
+    pub fn unwind(&mut self, value: &mut Option<V>, guess: GuessId)
+        requires can { CanGoBack (FitsBy V.fits) (undone_by V.undone) value.old (reverse self.old.notes.items) }
+        ensures value { IsGrowing (log_of (undone_by V.undone) value.old self.old.notes.items) → value.new ≡ unwound guess (log_of (undone_by V.undone) value.old self.old.notes.items) value.old }
+        ensures log { IsGrowing (log_of (undone_by V.undone) value.old self.old.notes.items) → log_of (undone_by V.undone) value.new self.new.notes.items ≡ cut guess (log_of (undone_by V.undone) value.old self.old.notes.items) }
+        ensures can { CanGoBack (FitsBy V.fits) (undone_by V.undone) value.new (reverse self.new.notes.items) }
+        ensures left { (p : Note (PutBack V) → Bool) → list_all p self.old.notes.items ≡ true → list_all p self.new.notes.items ≡ true }
         ensures room { HasRoom self.old.notes → HasRoom self.new.notes }
     {
         while self.rests_last(guess) {
@@ -180,13 +269,24 @@ impl<U: Undoing> Log<U> {
 
     /// Takes a guess out of all notes, and drops those that then rest on nothing. The first are the
     /// newest, and the others the oldest, where each note rests on what those before it rest on. It takes
-    /// no memory, leaves the room that was made, and looks at the notes alone that rest on the guess.
-    pub fn commit(&mut self, guess: GuessId)
+    /// no memory, leaves the room that was made, and looks at the notes alone that rest on the guess. Answers
+    /// the place of the first of these.
+    pub fn commit(&mut self, guess: GuessId) -> usize
         ensures notes { Grows self.old.notes.items → self.new.notes.items ≡ dropped (lightened guess self.old.notes.items) }
-        ensures can { (now : Option U.Of) → CanGoBack U.fits U.undone now (reverse self.old.notes.items) → CanGoBack U.fits U.undone now (reverse self.new.notes.items) }
+        ensures can { (now : Option V) → CanGoBack (FitsBy V.fits) (undone_by V.undone) now (reverse self.old.notes.items) → CanGoBack (FitsBy V.fits) (undone_by V.undone) now (reverse self.new.notes.items) }
         ensures room { HasRoom self.old.notes → HasRoom self.new.notes }
     {
-        lighten(&mut self.notes, guess);
+        let first = lighten(&mut self.notes, guess);
         drop_bare(&mut self.notes);
+        first
+    }
+
+    /// Leaves out each note from a place on for which the note before it stands, without memory; the room
+    /// that was made stays.
+    pub fn join(&mut self, first: usize)
+        ensures notes { self.new.notes.items ≡ joined_from V.is_whole None first self.old.notes.items }
+        ensures room { HasRoom self.old.notes → HasRoom self.new.notes }
+    {
+        join_from(&mut self.notes, first);
     }
 }

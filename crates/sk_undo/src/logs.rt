@@ -112,7 +112,8 @@ impl Logs {
         self.slots.unwind(guess, entities);
     }
 
-    /// Takes a guess out of all notes, at the entities of which a note rests on it, without memory.
+    /// Takes a guess out of all notes, at the entities of which a note rests on it, and leaves out those for
+    /// which then an older one stands. It takes no memory.
     pub fn commit(&mut self, guess: GuessId, entities: &[Entity])
         requires listed { AreListed guess self.old.slots entities.now }
         requires rest { AllRest self.old.slots }
@@ -157,20 +158,17 @@ impl Keeper for Logs {
     }
 
     fn write(&mut self, entity: Entity, stored: EntityState) -> Result<Back, AllocError> {
-        let tags = self.tags.copy()?;
-        let how = self.slots.set(&entity, tags, stored)?;
+        let how = self.slots.set(&entity, &self.tags, stored)?;
         Ok(Back { entity, how })
     }
 
     fn change(&mut self, entity: Entity, change: Change) -> Result<Back, AllocError> {
-        let tags = self.tags.copy()?;
-        let how = self.slots.change(&entity, tags, change)?;
+        let how = self.slots.change(&entity, &self.tags, change)?;
         Ok(Back { entity, how })
     }
 
     fn remove(&mut self, entity: Entity) -> Result<(), AllocError> {
-        let tags = self.tags.copy()?;
-        self.slots.clear(&entity, tags)
+        self.slots.clear(&entity, &self.tags)
     }
 
     fn take_back(&mut self, back: Back) {

@@ -2,44 +2,38 @@
 ghost use Rattle.std.specs.Prelude.{◌≡◌, [], OnOk, OnErr, IfOk, Some, None, is_none, true, not, ◌&&◌, reverse};
 ghost use Rattle.std.specs.Option.{option_copied};
 ghost use Rattle.sk_record.specs.Notes.{last_tags, unwound, cut, committed};
+ghost use Rattle.sk_record.specs.Merged.{Merges};
 ghost use Rattle.sk_record.specs.UndoState.{IsGrowing};
 ghost use Rattle.sk_store.specs.Changed.{FitsAt, changed};
-ghost use Rattle.sk_undo.specs.Log.{is_empty, seen};
-ghost use Rattle.sk_undo.specs.Slot.{undone, Fits, is_bare, slot_of, slot_wrote, slot_back, CanGoBackOnce};
+ghost use Rattle.sk_store.specs.declared.back.PutBack.TheVariants as PutBack;
+ghost use Rattle.sk_undo.specs.Log.{is_empty, seen, CanGoBack};
+ghost use Rattle.sk_undo.specs.Slot.{undone, Fits, is_bare, slot_of, slot_wrote, slot_back, CanGoBackOnce, goes_unnoted, is_stable_raw};
 
-use crate::{Log, Undoing};
+use crate::{Kept, Log, put_back};
 use sk_changes::{Change, Invertible, Undo};
 use sk_ids::{GuessId, TagSet};
-use sk_store::EntityState;
+use sk_store::{EntityState, PutBack};
 use std::alloc::{AllocError, Global};
 use std::marker::Model;
 
-/// What undoes a write.
-#[derive(Drop)]
-pub enum UndoWrite {
-    /// What was there, if anything.
-    Was(Option<EntityState>),
-    Changed(Undo),
-}
+impl Kept for EntityState {
+    ghost use Rattle.sk_undo.specs.Slot.{StateFits, state_undone, is_process};
 
-impl Undoing for UndoWrite {
-    ghost use Rattle.sk_undo.specs.Slot.{Fits, undone};
+    ghost fits = { StateFits };
 
-    type Of = EntityState;
+    ghost undone = { state_undone };
 
-    ghost fits = { Fits };
+    ghost is_whole = { is_process };
 
-    ghost undone = { undone };
-
-    fn undo(self, value: &mut Option<EntityState>) {
+    fn change_back(&mut self, undo: Undo) {
         match self {
-            UndoWrite::Was(before) => *value = before,
-            UndoWrite::Changed(undo) => {
-                if let Some(EntityState::Value(inner)) = value {
-                    inner.undo(undo);
-                }
-            }
+            EntityState::Value(inner) => inner.undo(undo),
+            EntityState::Process(_) => unreachable!(),
         }
+    }
+
+    fn is_whole(&self) -> bool {
+        matches!(self, EntityState::Process(_))
     }
 }
 
@@ -47,7 +41,7 @@ impl Undoing for UndoWrite {
 #[derive(Drop)]
 pub struct Slot {
     value: Option<EntityState>,
-    log: Log<UndoWrite>,
+    log: Log<EntityState>,
 }
 
 impl Model for Slot {
@@ -65,24 +59,24 @@ impl Model for Slot {
 }
 
 /// Whether nothing is noted.
-fn is_unnoted(value: &Option<EntityState>, log: &Log<UndoWrite>) -> bool
+fn is_unnoted(value: &Option<EntityState>, log: &Log<EntityState>) -> bool
     ensures seen { result ≡ is_empty (seen undone value.now (reverse log.now.notes.items)) }
     ensures none { result ≡ true → log.now.notes.items ≡ [] }
 {
     log.is_empty()
 }
 
-/// Whether a write is not noted. One without tags is noted where there are older notes, which
-/// would be undone to something else after it.
-fn is_loose(tags: &TagSet, value: &Option<EntityState>, log: &Log<UndoWrite>) -> bool
-    ensures seen { result ≡ (is_empty tags.now && is_empty (seen undone value.now (reverse log.now.notes.items))) }
-    ensures none { result ≡ true → log.now.notes.items ≡ [] }
+/// Whether a write is not noted.
+fn goes_unnoted(tags: &TagSet, value: &Option<EntityState>, log: &Log<EntityState>) -> bool
+    requires { CanGoBack Fits undone value.now (reverse log.now.notes.items) }
+    ensures seen { result ≡ goes_unnoted tags.now (seen undone value.now (reverse log.now.notes.items)) }
+    ensures stable { result ≡ true → is_stable_raw (reverse log.now.notes.items) ≡ true }
 {
-    tags.ids().is_empty() && is_unnoted(value, log)
+    log.goes_unnoted(tags)
 }
 
 /// Whether there is neither a value nor a note.
-fn is_bare(value: &Option<EntityState>, log: &Log<UndoWrite>) -> bool
+fn is_bare(value: &Option<EntityState>, log: &Log<EntityState>) -> bool
     ensures { result ≡ (is_none value.now && is_empty (seen undone value.now (reverse log.now.notes.items))) }
 {
     value.is_none() && is_unnoted(value, log)
@@ -92,8 +86,8 @@ fn is_bare(value: &Option<EntityState>, log: &Log<UndoWrite>) -> bool
 fn change_in(value: &mut Option<EntityState>, change: Change) -> Result<Undo, AllocError>
     requires { FitsAt value.old change }
     ensures ok { OnOk result (value.new ≡ Some (changed value.old change)) }
-    ensures can { IfOk result (λ undo. Fits (UndoWrite.Changed undo) value.new) }
-    ensures back { IfOk result (λ undo. undone (UndoWrite.Changed undo) value.new ≡ value.old) }
+    ensures can { IfOk result (λ undo. Fits (PutBack.Changed undo) value.new) }
+    ensures back { IfOk result (λ undo. undone (PutBack.Changed undo) value.new ≡ value.old) }
     ensures err { OnErr result (value.new ≡ value.old) }
 {
     match std::mem::replace(value, None) {
@@ -111,7 +105,7 @@ fn change_in(value: &mut Option<EntityState>, change: Change) -> Result<Undo, Al
 
 /// The tags of the newest note.
 #[tactic(auto, using(crate::proofs::SeenNotes::tags_seen))]
-fn tags_in<'a>(value: &Option<EntityState>, log: &'a Log<UndoWrite>) -> &'a TagSet
+fn tags_in<'a>(value: &Option<EntityState>, log: &'a Log<EntityState>) -> &'a TagSet
     ensures { result.now ≡ last_tags [] (reverse (seen undone value.now (reverse log.now.notes.items))) }
 {
     log.tags()
@@ -137,28 +131,29 @@ impl Slot {
     /// Sets what is there, and answers what takes it back where that is not noted.
     pub fn set(
         &mut self,
-        tags: TagSet,
+        tags: &TagSet,
         value: Option<EntityState>,
-    ) -> Result<Option<UndoWrite>, AllocError>
-        ensures ok { OnOk result (self.new ≡ slot_wrote tags self.old value) }
+    ) -> Result<Option<PutBack<EntityState>>, AllocError>
+        ensures ok { OnOk result (self.new ≡ slot_wrote tags.now self.old value) }
         ensures can { IfOk result (λ back. CanGoBackOnce self.new back) }
         ensures back { IfOk result (λ back. slot_back self.new back ≡ self.old) }
         ensures err { OnErr result (self.new ≡ self.old) }
     {
-        if is_loose(&tags, &self.value, &self.log) {
+        if goes_unnoted(tags, &self.value, &self.log) {
             let before = std::mem::replace(&mut self.value, value);
-            return Ok(Some(UndoWrite::Was(before)));
+            return Ok(Some(PutBack::Was(before)));
         }
+        let tags = tags.copy()?;
         self.log.reserve()?;
         let before = std::mem::replace(&mut self.value, value);
-        let undo = UndoWrite::Was(before);
+        let undo = PutBack::Was(before);
         self.log.note_reserved(tags, undo);
         Ok(None)
     }
 
     /// Makes the entity absent.
-    pub fn clear(&mut self, tags: TagSet) -> Result<(), AllocError>
-        ensures ok { OnOk result (self.new ≡ slot_wrote tags self.old None) }
+    pub fn clear(&mut self, tags: &TagSet) -> Result<(), AllocError>
+        ensures ok { OnOk result (self.new ≡ slot_wrote tags.now self.old None) }
         ensures err { OnErr result (self.new ≡ self.old) }
     {
         self.set(tags, None)?;
@@ -166,30 +161,35 @@ impl Slot {
     }
 
     /// Changes what is there, and answers what takes it back where that is not noted.
-    pub fn change(&mut self, tags: TagSet, change: Change) -> Result<Option<UndoWrite>, AllocError>
+    pub fn change(
+        &mut self,
+        tags: &TagSet,
+        change: Change,
+    ) -> Result<Option<PutBack<EntityState>>, AllocError>
         requires { FitsAt self.old.now change }
-        ensures ok { OnOk result (self.new ≡ slot_wrote tags self.old (Some (changed self.old.now change))) }
+        ensures ok { OnOk result (self.new ≡ slot_wrote tags.now self.old (Some (changed self.old.now change))) }
         ensures can { IfOk result (λ back. CanGoBackOnce self.new back) }
         ensures back { IfOk result (λ back. slot_back self.new back ≡ self.old) }
         ensures err { OnErr result (self.new ≡ self.old) }
     {
-        if is_loose(&tags, &self.value, &self.log) {
+        if goes_unnoted(tags, &self.value, &self.log) {
             let undo = change_in(&mut self.value, change)?;
-            return Ok(Some(UndoWrite::Changed(undo)));
+            return Ok(Some(PutBack::Changed(undo)));
         }
+        let tags = tags.copy()?;
         self.log.reserve()?;
-        let undo = UndoWrite::Changed(change_in(&mut self.value, change)?);
+        let undo = PutBack::Changed(change_in(&mut self.value, change)?);
         self.log.note_reserved(tags, undo);
         Ok(None)
     }
 
     /// Takes the newest write back, which takes no memory.
-    pub fn take_back(&mut self, back: Option<UndoWrite>)
+    pub fn take_back(&mut self, back: Option<PutBack<EntityState>>)
         requires { CanGoBackOnce self.old back }
         ensures { self.new ≡ slot_back self.old back }
     {
         match back {
-            Some(undo) => undo.undo(&mut self.value),
+            Some(undo) => put_back(undo, &mut self.value),
             None => self.log.undo_last(&mut self.value),
         }
     }
@@ -216,11 +216,13 @@ impl Slot {
         self.log.unwind(&mut self.value, guess);
     }
 
-    /// Takes a guess out of all notes, and drops those that then rest on nothing. It takes no memory.
+    /// Takes a guess out of all notes, drops those that then rest on nothing, and leaves out those for which
+    /// then an older one stands. It takes no memory.
     pub fn commit(&mut self, guess: GuessId)
         ensures now { self.new.now ≡ self.old.now }
-        ensures log { IsGrowing (reverse self.old.log) → reverse self.new.log ≡ committed guess (reverse self.old.log) }
+        ensures log { IsGrowing (reverse self.old.log) → Merges [] (committed guess (reverse self.old.log)) (reverse self.new.log) }
     {
-        self.log.commit(guess);
+        let first = self.log.commit(guess);
+        self.log.join(first);
     }
 }

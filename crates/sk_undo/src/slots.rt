@@ -17,11 +17,11 @@ ghost use Rattle.sk_undo.specs.Decisions.{ChangedAt, SlotUnwound, SlotCommitted,
 ghost use Rattle.sk_undo.specs.contracts.slots.Slots.{the_row as slots_row};
 ghost use Rattle.sk_undo.specs.contracts.slot.Slot.{the_row as slot_row};
 
-use crate::{Slot, UndoWrite};
+use crate::Slot;
 use sk_changes::Change;
 use sk_ids::{Entity, GuessId, TagSet};
 use sk_objects::Value;
-use sk_store::{EntityState, Store};
+use sk_store::{EntityState, PutBack, Store};
 use std::alloc::{AllocError, Global};
 use std::collections::BTreeMap;
 use std::marker::Model;
@@ -31,7 +31,7 @@ use std::marker::Model;
 pub enum TakeBack {
     /// The entity had no slot.
     DropSlot,
-    UndoLast(Option<UndoWrite>),
+    UndoLast(Option<PutBack<EntityState>>),
 }
 
 /// The slots of entities. One without a slot is absent, and nothing is noted of it.
@@ -53,8 +53,8 @@ impl Model for Slots {
 }
 
 /// The slot of an entity that had none.
-fn born(alloc: Global, tags: TagSet, value: Option<EntityState>) -> Result<Slot, AllocError>
-    ensures { IfOk result (λ slot. slot ≡ slot_wrote tags (slot_of None) value) }
+fn born(alloc: Global, tags: &TagSet, value: Option<EntityState>) -> Result<Slot, AllocError>
+    ensures { IfOk result (λ slot. slot ≡ slot_wrote tags.now (slot_of None) value) }
 {
     let mut slot = Slot::new(alloc, None);
     slot.set(tags, value)?;
@@ -161,10 +161,10 @@ impl Slots {
     pub fn set(
         &mut self,
         entity: &Entity,
-        tags: TagSet,
+        tags: &TagSet,
         value: EntityState,
     ) -> Result<TakeBack, AllocError>
-        ensures ok { OnOk result (self.new ≡ slots_wrote tags self.old entity.now (Some value)) }
+        ensures ok { OnOk result (self.new ≡ slots_wrote tags.now self.old entity.now (Some value)) }
         ensures can { IfOk result (λ how. CanTakeBack self.new entity.now how) }
         ensures back { IfOk result (λ how. slots_back self.new entity.now how ≡ self.old) }
         ensures err { OnErr result (self.new ≡ self.old) }
@@ -179,8 +179,8 @@ impl Slots {
     }
 
     /// Makes an entity absent. Without memory nothing has changed.
-    pub fn clear(&mut self, entity: &Entity, tags: TagSet) -> Result<(), AllocError>
-        ensures ok { OnOk result (self.new ≡ slots_wrote tags self.old entity.now None) }
+    pub fn clear(&mut self, entity: &Entity, tags: &TagSet) -> Result<(), AllocError>
+        ensures ok { OnOk result (self.new ≡ slots_wrote tags.now self.old entity.now None) }
         ensures err { OnErr result (self.new ≡ self.old) }
     {
         if let Some(slot) = self.slot_mut(entity) {
@@ -201,11 +201,11 @@ impl Slots {
     pub fn change(
         &mut self,
         entity: &Entity,
-        tags: TagSet,
+        tags: &TagSet,
         change: Change,
     ) -> Result<TakeBack, AllocError>
         requires { FitsAt (look_at self.old entity.now) change }
-        ensures ok { OnOk result (self.new ≡ slots_wrote tags self.old entity.now (Some (changed (look_at self.old entity.now) change))) }
+        ensures ok { OnOk result (self.new ≡ slots_wrote tags.now self.old entity.now (Some (changed (look_at self.old entity.now) change))) }
         ensures can { IfOk result (λ how. CanTakeBack self.new entity.now how) }
         ensures back { IfOk result (λ how. slots_back self.new entity.now how ≡ self.old) }
         ensures err { OnErr result (self.new ≡ self.old) }
@@ -272,7 +272,8 @@ impl Slots {
         }
     }
 
-    /// Takes a guess out of all notes, at the entities of which a note rests on it, without memory.
+    /// Takes a guess out of all notes, at the entities of which a note rests on it, and leaves out those for
+    /// which then an older one stands. It takes no memory.
     pub fn commit(&mut self, guess: GuessId, entities: &[Entity])
         requires listed { AreListed guess self.old entities.now }
         requires rest { AllRest self.old }

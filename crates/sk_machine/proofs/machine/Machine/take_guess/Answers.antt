@@ -2,7 +2,7 @@
 use Rattle.std.proofs.Common.{◌≡◌, [], ◌∷◌, ◌++◌, List, Some, Ok, ap, ◌∙◌, subst, sym}
 use Rattle.sk_record.specs.Step.{perform}
 use Rattle.sk_record.specs.UndoState.{step_tags}
-use Rattle.sk_record.specs.Machine.{Takes}
+use Rattle.sk_record.specs.Merged.{MergedTakes}
 use Rattle.sk_guesses.specs.Guesses.{drawn, next_of}
 use Rattle.sk_ids.specs.declared.entity.Entity.{Entity}
 use Rattle.sk_trace.specs.Entry.{EntryView}
@@ -13,7 +13,6 @@ use Rattle.sk_plain.proofs.Scan.{changed_are}
 use Rattle.sk_machine.specs.Parts.{Parts, machine_of, planned_effect, undo_state_of}
 use Rattle.sk_machine.specs.Performed.{entities_of}
 use Rattle.sk_machine.proofs.Becomes.{takes_guess}
-use Rattle.sk_machine.proofs.Joins.{took_of}
 use Rattle.sk_machine.proofs.Listed.{AreListedFor, performed_listed}
 use Rattle.sk_machine.proofs.machine.Machine.take_guess.Goals as goal
 
@@ -36,8 +35,6 @@ returns-clause-ok c =
     let accepted = subst (λ (p : Parts). perform (look_at p.slots) (act scripts n.pid n.input) ≡ Ok (effect_of (look_at p.slots) n.pid n.input plan)) (sym c.self.view_is) c.requires.accepted in
     let tags = subst (λ (p : Parts). c.in_ok-tags.tags ≡ step_tags (undo_state_of p) (planned_effect p n plan)) (sym c.self.view_is) c.in_ok-tags.ensures in
     let opens = c.push_reserved.ensures.items ∙ (λ i. c.reserve.ensures.items i ++ (id, c.in_ok-own_tags.ensures i) ∷ []) in
-    let took = took_of scripts a b n plan c.in_ok-tags.tags accepted tags c.in_ok-perform.ensures.writes opens in
-    let says = c.in_ok-perform.ensures.says ∙ ap (λ ts. texts_after a.texts ts (said_by plan)) tags in
     let guesses = c.in-Ok.ensures.draws.2 ∙ ap drawn c.reserve-2.ensures.view in
-    subst (λ (p : Parts). Takes (plain scripts) (machine_of p) (record { pid = n.pid; input = n.input; guess = Some (next_of p.guesses) }) (machine_of b)) c.self.view_is
-    (takes_guess scripts a b n.pid n.input id plan c.in-Some.ensures.value accepted took says guesses)
+    subst (λ (p : Parts). MergedTakes (plain scripts) (machine_of p) (record { pid = n.pid; input = n.input; guess = Some (next_of p.guesses) }) (machine_of b)) c.self.view_is
+    (takes_guess scripts a b n.pid n.input id plan c.in_ok-tags.tags c.in-Some.ensures.value accepted tags c.in_ok-perform.ensures.writes opens c.in_ok-perform.ensures.says guesses)

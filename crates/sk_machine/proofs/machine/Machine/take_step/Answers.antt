@@ -3,7 +3,7 @@ use Rattle.std.proofs.Common.{◌≡◌, List, None, Ok, ap, refl, ◌∙◌, su
 use Rattle.std.proofs.lemmas.List.{append-nil}
 use Rattle.sk_record.specs.Step.{perform}
 use Rattle.sk_record.specs.UndoState.{step_tags}
-use Rattle.sk_record.specs.Machine.{Takes}
+use Rattle.sk_record.specs.Merged.{MergedTakes}
 use Rattle.sk_ids.specs.declared.entity.Entity.{Entity}
 use Rattle.sk_trace.specs.Entry.{EntryView}
 use Rattle.sk_undo.specs.Logs.{look_at}
@@ -14,7 +14,7 @@ use Rattle.sk_machine.specs.Parts.{Parts, machine_of, planned_effect, undo_state
 use Rattle.sk_machine.specs.Performed.{IsClean, entities_of}
 use Rattle.sk_machine.proofs.Given.{on_ok}
 use Rattle.sk_machine.proofs.Becomes.{takes_of}
-use Rattle.sk_machine.proofs.Joins.{clean_of, took_of}
+use Rattle.sk_machine.proofs.Joins.{clean_of}
 use Rattle.sk_machine.proofs.Listed.{AreListedFor, either_listed}
 use Rattle.sk_machine.proofs.machine.Machine.take_step.Goals as goal
 
@@ -42,8 +42,7 @@ returns-clause-ok c =
     let accepted = subst (λ (p : Parts). perform (look_at p.slots) (act scripts n.pid n.input) ≡ Ok (effect_of (look_at p.slots) n.pid n.input plan)) (sym c.self.view_is) c.requires.accepted in
     let tags = subst (λ (p : Parts). c.in_ok-tags.tags ≡ step_tags (undo_state_of p) (planned_effect p n plan)) (sym c.self.view_is) c.in_ok-tags.ensures in
     on_ok c.perform.result c.perform.ensures.writes c.perform.ensures.says (λ did says.
-    subst (λ (p : Parts). Takes (plain scripts) (machine_of p) n (machine_of b)) c.self.view_is
-    (takes_of scripts a b n plan accepted
-    (took_of scripts a b n plan c.in_ok-tags.tags accepted tags did (sym (append-nil a.opens)))
+    subst (λ (p : Parts). MergedTakes (plain scripts) (machine_of p) n (machine_of b)) c.self.view_is
+    (takes_of scripts a b n plan c.in_ok-tags.tags accepted tags did (sym (append-nil a.opens))
     (λ g. refl)
-    (says ∙ ap (λ ts. texts_after a.texts ts (said_by plan)) tags)))
+    says))

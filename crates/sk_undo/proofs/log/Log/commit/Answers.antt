@@ -1,15 +1,15 @@
 -- The pass from the newest note back is the whole commit, where each note rests on what those before it rest on.
 use Rattle.std.proofs.Common.{sym, ◌∙◌, ap, subst}
 use Rattle.std.specs.Prelude.{reverse}
-use Rattle.sk_undo.specs.Log.{dropped, CanGoBack}
+use Rattle.sk_undo.specs.Log.{FitsBy, undone_by, dropped, CanGoBack}
 use Rattle.sk_undo.proofs.NewestNotes.{whole_pass, commit_can}
 use Rattle.sk_undo.proofs.log.Log.commit.Goals as goal
 
 pub returns-clause-notes : goal.returns-clause-notes
 returns-clause-notes g c grows =
-    c.drop_bare.ensures.notes ∙ ap dropped (c.lighten.ensures.notes ∙ whole_pass c.args.guess c.lighten.result c.args.self.now.notes.items c.lighten.ensures.before grows)
+    c.drop_bare.ensures.notes ∙ ap dropped (c.lighten-first.ensures.notes ∙ whole_pass c.args.guess c.lighten-first.result c.args.self.now.notes.items c.lighten-first.ensures.before grows)
 
 pub returns-clause-can : goal.returns-clause-can
 returns-clause-can g c now can =
-    subst (λ ns. CanGoBack g.U.Undoing.fits g.U.Undoing.undone now (reverse ns)) (sym (c.drop_bare.ensures.notes ∙ ap dropped c.lighten.ensures.notes))
-    (commit_can g.U.Undoing.fits g.U.Undoing.undone c.args.guess c.lighten.result now c.args.self.now.notes.items can)
+    subst (λ ns. CanGoBack (FitsBy g.V.Kept.fits) (undone_by g.V.Kept.undone) now (reverse ns)) (sym (c.drop_bare.ensures.notes ∙ ap dropped c.lighten-first.ensures.notes))
+    (commit_can (FitsBy g.V.Kept.fits) (undone_by g.V.Kept.undone) c.args.guess c.lighten-first.result now c.args.self.now.notes.items can)

@@ -1,11 +1,14 @@
-use Rattle.std.proofs.Common.{refl, ◌∙◌, sym, arith}
+use Rattle.std.proofs.Common.{refl, ap, ◌∙◌, sym, arith}
+use Rattle.std.specs.List.{list_all}
+use Rattle.std.proofs.lemmas.List.{reverse-reverse}
 use Rattle.std.specs.Prelude.{reverse}
-use Rattle.sk_undo.proofs.SeenNotes.{all_left, one_less, all_off}
+use Rattle.sk_undo.specs.Log.{FitsBy, undone_by}
+use Rattle.sk_undo.proofs.SeenNotes.{all_left, one_less, all_off, all_reverse}
 use Rattle.sk_undo.proofs.log.Log.unwind.Goals as goal
 
 pub loop-guess-init : goal.loop-guess-init
 loop-guess-init g c = (
-  all_left g.U.Undoing.fits g.U.Undoing.undone c.args.guess c.args.value.now (reverse c.args.self.now.notes.items) c.requires.can,
+  all_left (FitsBy g.V.Kept.fits) (undone_by g.V.Kept.undone) c.args.guess c.args.value.now (reverse c.args.self.now.notes.items) c.requires.can,
   omega arith,
   refl,
 )
@@ -20,7 +23,7 @@ pub loop-guess-preserved : goal.loop-guess-preserved
 loop-guess-preserved g c =
     let fewer = c.undo_last.ensures.fewer in
     let within = c.loop-guess.invariant.1 in (
-      one_less g.U.Undoing.fits g.U.Undoing.undone c.args.guess c.args.value.now c.loop-guess.value c.undo_last.new.value
+      one_less (FitsBy g.V.Kept.fits) (undone_by g.V.Kept.undone) c.args.guess c.args.value.now c.loop-guess.value c.undo_last.new.value
           (reverse c.args.self.now.notes.items) (reverse c.loop-guess.self.notes.items) (reverse c.undo_last.new.self.notes.items)
           c.loop-guess.invariant.0 (sym c.loop-guess-test.ensures) c.undo_last.ensures.value c.undo_last.ensures.notes c.undo_last.ensures.can,
       omega arith,
@@ -29,16 +32,21 @@ loop-guess-preserved g c =
 
 pub returns-clause-value : goal.returns-clause-value
 returns-clause-value g c grows =
-    (all_off g.U.Undoing.fits g.U.Undoing.undone c.args.guess c.args.value.now c.loop-guess.value
+    (all_off (FitsBy g.V.Kept.fits) (undone_by g.V.Kept.undone) c.args.guess c.args.value.now c.loop-guess.value
     (reverse c.args.self.now.notes.items) (reverse c.loop-guess.self.notes.items) c.loop-guess.invariant.0 (sym c.loop-guess-test.ensures) grows).0
 
 pub returns-clause-log : goal.returns-clause-log
 returns-clause-log g c grows =
-    (all_off g.U.Undoing.fits g.U.Undoing.undone c.args.guess c.args.value.now c.loop-guess.value
+    (all_off (FitsBy g.V.Kept.fits) (undone_by g.V.Kept.undone) c.args.guess c.args.value.now c.loop-guess.value
     (reverse c.args.self.now.notes.items) (reverse c.loop-guess.self.notes.items) c.loop-guess.invariant.0 (sym c.loop-guess-test.ensures) grows).1
 
 pub returns-clause-can : goal.returns-clause-can
 returns-clause-can g c = c.loop-guess.invariant.0.can
+
+pub returns-clause-left : goal.returns-clause-left
+returns-clause-left g c p all =
+    let new = c.loop-guess.self.notes.items in
+    ap (list_all p) (sym (reverse-reverse new)) ∙ all_reverse p (reverse new) (c.loop-guess.invariant.0.left p (all_reverse p c.args.self.now.notes.items all))
 
 pub returns-clause-room : goal.returns-clause-room
 returns-clause-room g c room =

@@ -2,12 +2,13 @@
 use Rattle.std.proofs.Common.{◌≡◌, ◌≤◌, vec_len}
 use Rattle.std.specs.Vec.{vec_capacity}
 use Rattle.std.specs.Prelude.{reverse}
+use Rattle.sk_undo.specs.Log.{FitsBy, undone_by}
 use Rattle.sk_undo.proofs.SeenNotes.{Left}
 use Rattle.sk_undo.proofs.log.Log.unwind.Given as goal
 
 abbrev pub invariant-loop-guess : goal.invariant-loop-guess
 invariant-loop-guess g l =
-    Left g.U.Undoing.fits g.U.Undoing.undone l.guess l.fn.value l.value (reverse l.fn.self.notes.items) (reverse l.self.notes.items)
+    Left (FitsBy g.V.Kept.fits) (undone_by g.V.Kept.undone) l.guess l.fn.value l.value (reverse l.fn.self.notes.items) (reverse l.self.notes.items)
     × (vec_len l.self.notes ≤ vec_len l.fn.self.notes) × (vec_capacity l.self.notes ≡ vec_capacity l.fn.self.notes)
 
 abbrev pub decreases-loop-guess : goal.decreases-loop-guess

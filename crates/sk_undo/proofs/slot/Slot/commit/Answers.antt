@@ -1,23 +1,30 @@
-use Rattle.std.proofs.Common.{◌≡◌, ◌∙◌, ap, sym, subst, rules}
+use Rattle.std.proofs.Common.{◌≡◌, [], None, ◌∙◌, ap, sym, subst, rules}
 use Rattle.std.specs.Prelude.{reverse}
-use Rattle.sk_undo.specs.Log.{seen}
-use Rattle.sk_undo.specs.Slot.{SlotView, undone}
+use Rattle.sk_undo.specs.Log.{seen, CanGoBack, joined_from}
+use Rattle.sk_undo.specs.Slot.{SlotView, undone, Fits, state_undone, StateFits, is_process}
 use Rattle.sk_record.specs.Notes.{committed}
+use Rattle.sk_record.specs.Merged.{Merges}
 use Rattle.sk_record.specs.UndoState.{IsGrowing}
 use Rattle.sk_undo.proofs.Commits.{commit_seen}
 use Rattle.sk_undo.proofs.Growing.{grows_there}
+use Rattle.sk_undo.proofs.Joins.{joins, joined_can}
 use Rattle.sk_undo.proofs.slot.Slot.commit.Goals as goal
 
 pub returns-clause-log : goal.returns-clause-log
 returns-clause-log c grows =
     let ns = c.self.inside.log.notes.items in
     let v = c.self.inside.value in
+    let mid = c.commit-first.new.self.notes.items in
     let inside : IsGrowing (reverse (seen undone v (reverse ns))) = subst (λ (s : SlotView). IsGrowing (reverse s.log)) (sym c.self.view_is) grows in
-    let h : reverse (seen undone v (reverse c.commit.new.self.notes.items)) ≡ committed c.args.guess (reverse (seen undone v (reverse ns))) =
-    ap (λ ms. reverse (seen undone v (reverse ms))) (c.commit.ensures.notes (grows_there undone v ns inside)) ∙ commit_seen undone c.args.guess ns v inside in
-    search (rules, h)
+    let h : reverse (seen undone v (reverse mid)) ≡ committed c.args.guess (reverse (seen undone v (reverse ns))) =
+    ap (λ ms. reverse (seen undone v (reverse ms))) (c.commit-first.ensures.notes (grows_there undone v ns inside)) ∙ commit_seen undone c.args.guess ns v inside in
+    let m : Merges [] (committed c.args.guess (reverse (seen undone v (reverse ns)))) (reverse (seen undone v (reverse c.join.new.self.notes.items))) =
+    subst (λ ms. Merges [] (committed c.args.guess (reverse (seen undone v (reverse ns)))) (reverse (seen undone v (reverse ms)))) (sym c.join.ensures.notes)
+    (subst (λ xs. Merges [] xs (reverse (seen undone v (reverse (joined_from is_process None c.commit-first.result mid))))) h (joins is_process state_undone StateFits v c.commit-first.result mid)) in
+    subst (λ (s : SlotView). Merges [] (committed c.args.guess (reverse s.log)) (reverse (seen undone v (reverse c.join.new.self.notes.items)))) c.self.view_is m
 
 pub invariant_of-self : goal.invariant_of-self
 invariant_of-self c =
-    let can = c.commit.ensures.can c.self.inside.value c.self.invariant in
-    search (rules, can)
+    let v = c.self.inside.value in
+    let can = joined_can is_process state_undone StateFits v c.commit-first.result c.commit-first.new.self.notes.items (c.commit-first.ensures.can v c.self.invariant) in
+    subst (λ ms. CanGoBack Fits undone v (reverse ms)) (sym c.join.ensures.notes) can

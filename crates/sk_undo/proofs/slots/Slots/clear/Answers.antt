@@ -16,16 +16,16 @@ pub returns-then-is_bare-clause-ok : goal.returns-then-is_bare-clause-ok
 returns-then-is_bare-clause-ok c =
     let whole = rw c.in-Some.is at (c.slot_mut.follows.holds c.clear.new.self) in
     c.remove.ensures ∙ ap (λ m. map.remove m c.args.entity.now) whole ∙ placed_gone c.args.self.now c.args.entity.now c.clear.new.self (sym c.if-is_bare.ensures)
-    ∙ ap (placed c.args.self.now c.args.entity.now) (c.in_ok-clear.ensures.ok ∙ ap (λ o. slot_wrote c.args.tags (slot_in o) None) c.in-Some.ensures.value)
+    ∙ ap (placed c.args.self.now c.args.entity.now) (c.in_ok-clear.ensures.ok ∙ ap (λ o. slot_wrote c.args.tags.now (slot_in o) None) c.in-Some.ensures.value)
 
 pub returns-else-is_bare-clause-ok : goal.returns-else-is_bare-clause-ok
 returns-else-is_bare-clause-ok c =
     let whole = rw c.in-Some.is at (c.slot_mut.follows.holds c.clear.new.self) in
     whole ∙ placed_full c.args.self.now c.args.entity.now c.clear.new.self (sym c.if-is_bare.ensures)
-    ∙ ap (placed c.args.self.now c.args.entity.now) (c.in_ok-clear.ensures.ok ∙ ap (λ o. slot_wrote c.args.tags (slot_in o) None) c.in-Some.ensures.value)
+    ∙ ap (placed c.args.self.now c.args.entity.now) (c.in_ok-clear.ensures.ok ∙ ap (λ o. slot_wrote c.args.tags.now (slot_in o) None) c.in-Some.ensures.value)
 
 pub returns-then-is_empty-clause-ok : goal.returns-then-is_empty-clause-ok
 returns-then-is_empty-clause-ok c =
     let none : map.get c.args.self.now c.args.entity.now ≡ None = search rules in
-    let empty : is_empty c.args.tags ≡ true = search rules in
-    c.slot_mut.follows.holds-at-none ∙ placed_untouched c.args.self.now c.args.entity.now c.args.tags none empty
+    let empty : is_empty c.args.tags.now ≡ true = search rules in
+    c.slot_mut.follows.holds-at-none ∙ placed_untouched c.args.self.now c.args.entity.now c.args.tags.now none empty

@@ -5,7 +5,7 @@ use Rattle.sk_undo.proofs.Maps.{placed_gone, placed_full, changed_slot, changed_
 use Rattle.sk_undo.proofs.slots.Slots.commit_at.Goals as goal
 
 pub returns-in_default : goal.returns-in_default
-returns-in_default c = changed_none (SlotCommitted c.args.guess) c.args.self.now _ c.args.entity.now (search rules) (record { now = refl; log = λ _. refl }) c.slot_mut.follows.holds-at-none
+returns-in_default c = changed_none (SlotCommitted c.args.guess) c.args.self.now _ c.args.entity.now (search rules) (record { now = refl; log = λ _. tt }) c.slot_mut.follows.holds-at-none
 
 pub returns-then-is_bare : goal.returns-then-is_bare
 returns-then-is_bare c =

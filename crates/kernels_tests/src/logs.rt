@@ -1,7 +1,8 @@
-//! The undo logs of an object and of a process: one note, and what two failures make of it.
-ghost use Rattle.std.specs.Prelude.{◌≡◌, [], Some, OnOk, IfOk, reverse};
-ghost use Rattle.sk_undo.specs.EntityLogs.{object_notes, object_undone, ObjectFits, process_notes, process_undone, ProcessFits};
-ghost use Rattle.sk_undo.specs.Log.{CanGoBack};
+//! The undo logs of an object and of a process: one note, and what two failures make of it; and the runs of a process.
+ghost use Rattle.std.specs.Prelude.{◌≡◌, ◌∷◌, [], Some, OnOk, IfOk, reverse};
+ghost use Rattle.sk_record.specs.Notes.{last_tags};
+ghost use Rattle.sk_undo.specs.Kept.{object_undone, ObjectFits, runs_of};
+ghost use Rattle.sk_undo.specs.Log.{CanGoBack, Covers};
 
 use crate::start::{name, pid, text};
 use sk_changes::{Change, Invertible};
@@ -13,11 +14,15 @@ use std::alloc::Global;
 use std::process::Abort;
 use std::test::Fail;
 
-fn guess(number: u64) -> Result<GuessId, Fail> {
+fn guess(number: u64) -> Result<GuessId, Fail>
+    ensures { IfOk result (λ id. id ≡ number) }
+{
     Ok(GuessId::new(number).ok_or("guess")?)
 }
 
-fn tags(alloc: Global, number: u64) -> Result<TagSet, Fail> {
+fn tags(alloc: Global, number: u64) -> Result<TagSet, Fail>
+    ensures { IfOk result (λ tags. tags ≡ number ∷ []) }
+{
     Ok(TagSet::of(alloc, guess(number)?))
 }
 
@@ -36,8 +41,8 @@ fn file(alloc: Global) -> Result<Value, Fail> {
 
 /// Writes to a file on guess 1, and notes it in a log that has no notes, and that has made room.
 fn writes(alloc: Global, value: &mut Value, log: &mut ObjectLog) -> Result<(), Fail>
-    requires { object_notes log.old ≡ [] }
-    ensures { OnOk result (CanGoBack ObjectFits object_undone (Some value.new) (reverse (object_notes log.new))) }
+    requires { log.old.log.notes.items ≡ [] }
+    ensures { OnOk result (CanGoBack ObjectFits object_undone (Some value.new) (reverse log.new.log.notes.items)) }
 {
     let change = write(4, b"XYZ")?;
     let tags = tags(alloc, 1)?;
@@ -49,8 +54,8 @@ fn writes(alloc: Global, value: &mut Value, log: &mut ObjectLog) -> Result<(), F
 
 /// The file after it.
 fn written(alloc: Global, log: &mut ObjectLog) -> Result<Value, Fail>
-    requires { object_notes log.old ≡ [] }
-    ensures { IfOk result (λ value. CanGoBack ObjectFits object_undone (Some value) (reverse (object_notes log.new))) }
+    requires { log.old.log.notes.items ≡ [] }
+    ensures { IfOk result (λ value. CanGoBack ObjectFits object_undone (Some value) (reverse log.new.log.notes.items)) }
 {
     let mut value = file(alloc)?;
     writes(alloc, &mut value, log)?;
@@ -73,8 +78,8 @@ fn unwinds(
     number: u64,
     want: &[u8],
 ) -> Result<(), Fail>
-    requires { CanGoBack ObjectFits object_undone value.old (reverse (object_notes log.old)) }
-    ensures { OnOk result (CanGoBack ObjectFits object_undone value.new (reverse (object_notes log.new))) }
+    requires { CanGoBack ObjectFits object_undone value.old (reverse log.old.log.notes.items) }
+    ensures { OnOk result (CanGoBack ObjectFits object_undone value.new (reverse log.new.log.notes.items)) }
 {
     log.unwind(value, guess(number)?);
     assert_eq!(rt; bytes(value), Text::new(want));
@@ -89,7 +94,7 @@ fn rests_on(rt: &impl Abort, log: &ObjectLog, guesses: &[GuessId]) -> Result<(),
 
 /// The failure of guess 2 leaves the write on guess 1, and that of guess 1 takes it back.
 fn unwinds_both(rt: &impl Abort, log: &mut ObjectLog, value: &mut Option<Value>) -> Result<(), Fail>
-    requires { CanGoBack ObjectFits object_undone value.old (reverse (object_notes log.old)) }
+    requires { CanGoBack ObjectFits object_undone value.old (reverse log.old.log.notes.items) }
 {
     rests_on(rt, log, &[guess(1)?])?;
     unwinds(rt, log, value, 2, b"abcdXYZ")?;
@@ -114,9 +119,9 @@ fn process(place: u32) -> Result<Process, Fail> {
 
 /// Notes the first step of a process on guess 1 in a log that has no notes, and that has made room:
 /// the process after it.
+#[tactic(auto, using(crate::proofs::Covered::covers_none, crate::proofs::Covered::covers_same, crate::proofs::Covered::covers_that, crate::proofs::Covered::covered_by))]
 fn stepped(alloc: Global, log: &mut ProcessLog) -> Result<Process, Fail>
-    requires { process_notes log.old ≡ [] }
-    ensures { IfOk result (λ process. CanGoBack ProcessFits process_undone (Some process) (reverse (process_notes log.new))) }
+    requires { last_tags [] (runs_of log.old.log.notes.items) ≡ [] }
 {
     let (before, after) = (process(3)?, process(4)?);
     let tags = tags(alloc, 1)?;
@@ -140,10 +145,7 @@ fn goes_back(
     value: &mut Option<Process>,
     number: u64,
     want: u32,
-) -> Result<(), Fail>
-    requires { CanGoBack ProcessFits process_undone value.old (reverse (process_notes log.old)) }
-    ensures { OnOk result (CanGoBack ProcessFits process_undone value.new (reverse (process_notes log.new))) }
-{
+) -> Result<(), Fail> {
     log.unwind(value, guess(number)?);
     assert_eq!(rt; place(value), Some(want));
     Ok(())
@@ -154,5 +156,50 @@ fn small_calls_of_a_process_log(rt: HostRuntime) -> Result<(), Fail> {
     let mut log = ProcessLog::new(rt.alloc());
     let mut value = Some(stepped(rt.alloc(), &mut log)?);
     goes_back(&rt, &mut log, &mut value, 2, 4)?;
+    goes_back(&rt, &mut log, &mut value, 1, 3)
+}
+
+/// The set of the guesses 1 and 2.
+fn both(alloc: Global) -> Result<TagSet, Fail>
+    ensures { IfOk result (λ tags. Covers tags (1 ∷ [])) }
+{
+    Ok(tags(alloc, 1)?.union(&tags(alloc, 2)?)?)
+}
+
+/// Notes a step on guess 1, of a process at this place, where nothing rests on another guess.
+#[tactic(auto, using(crate::proofs::Covered::covers_none, crate::proofs::Covered::covers_same, crate::proofs::Covered::covers_that, crate::proofs::Covered::covered_by))]
+fn note_one(alloc: Global, log: &mut ProcessLog, at: u32) -> Result<(), Fail>
+    requires { Covers (1 ∷ []) (last_tags [] (runs_of log.old.log.notes.items)) }
+    ensures { OnOk result (last_tags [] (runs_of log.new.log.notes.items) ≡ 1 ∷ []) }
+{
+    let (tags, before) = (tags(alloc, 1)?, process(at)?);
+    log.note(tags, before)?;
+    Ok(())
+}
+
+/// Notes a hundred steps on guess 1, the first of a process at place 3.
+#[tactic(auto, using(crate::proofs::Covered::covers_none, crate::proofs::Covered::covers_same, crate::proofs::Covered::covers_that, crate::proofs::Covered::covered_by))]
+fn note_hundred(alloc: Global, log: &mut ProcessLog) -> Result<(), Fail>
+    requires { last_tags [] (runs_of log.old.log.notes.items) ≡ [] }
+    ensures { OnOk result (last_tags [] (runs_of log.new.log.notes.items) ≡ 1 ∷ []) }
+{
+    note_one(alloc, log, 3)?;
+    for at in 4..103 {
+        note_one(alloc, log, at)?;
+    }
+    Ok(())
+}
+
+#[test]
+#[tactic(auto, using(crate::proofs::Covered::covers_none, crate::proofs::Covered::covers_same, crate::proofs::Covered::covers_that, crate::proofs::Covered::covered_by))]
+fn a_process_log_keeps_its_runs(rt: HostRuntime) -> Result<(), Fail> {
+    let mut log = ProcessLog::new(rt.alloc());
+    note_hundred(rt.alloc(), &mut log)?;
+    assert_eq!(rt; log.kept(), 1);
+    log.note(both(rt.alloc())?, process(103)?)?;
+    assert_eq!(rt; log.kept(), 2);
+    log.commit(guess(2)?);
+    assert_eq!(rt; log.kept(), 1);
+    let mut value = Some(process(104)?);
     goes_back(&rt, &mut log, &mut value, 1, 3)
 }

@@ -7,7 +7,8 @@ use Rattle.std.proofs.lemmas.List.{length-set}
 use Rattle.std.proofs.lemmas.List.Sums.{fold-append}
 use Rattle.sk_record.specs.Notes.{has, without}
 use Rattle.sk_record.specs.UndoState.{Open, numbers}
-use Rattle.sk_record.specs.Machine.{RepresentsTrace, Takes, Commits, Fails, rests_on}
+use Rattle.sk_record.specs.Machine.{Fails, rests_on}
+use Rattle.sk_record.specs.Merged.{MergedStands, MergedTakes, MergedCommits}
 use Rattle.sk_record.specs.declared.status.Status.{Status}
 use Rattle.sk_record.specs.declared.status.Status.TheVariants.{Undecided, Committed, Failed, Struck}
 use Rattle.sk_ids.specs.declared.guess.TheConstants.{LAST_GUESS}
@@ -142,19 +143,19 @@ module _ (k : KernelView) (m b : Parts) (place left : ℕ) (g : ℕ) (es : List 
   pub kept_place : 0 < place
   kept_place = let some = some_open m.opens is_open in let room = whole.place in omega (arith, some, room)
 
-  pub committed_whole : Commits (machine_of m) g (machine_of b) → b.guesses ≡ decided m.guesses g Committed → es ≡ k.trace ++ events.Commit g ∷ [] → left + 1 ≡ place
+  pub committed_whole : MergedCommits (machine_of m) g (machine_of b) → b.guesses ≡ decided m.guesses g Committed → es ≡ k.trace ++ events.Commit g ∷ [] → left + 1 ≡ place
       → IsWhole (record { number = b.guesses.kernel; scripts = k.scripts; start = k.start; limit = k.limit; trace = es }) b left
   committed_whole commits guesses trace room =
       let stands = stands_committed k m whole.stands g b undecided commits in
       let status : status_of b.guesses g ≡ Some Committed = commits.status g ∙ ap (λ x. cond x (Some Committed) (status_of m.guesses g)) (eq-eqb g g refl) in
       let gone : has g (numbers b.opens) ≡ false = false_from_ne_true _ (λ here. let both : Some Committed ≡ Some Undecided = sym status ∙ (open_undecided (with_event k (events.Commit g)) b stands g).0 here in cc) in
       let p : Open → Bool = λ o. not (o.0 == g) in
-      let same : numbers b.opens ≡ numbers (filter p m.opens) = ap numbers commits.state.opens ∙ numbers_without g (filter p m.opens) in
+      let same : numbers b.opens ≡ numbers (filter p m.opens) = ap numbers commits.opens ∙ numbers_without g (filter p m.opens) in
       let less = fewer p m.opens g is_open (sym (ap (has g) same) ∙ gone) in
-      let long : length b.opens ≡ length (filter p m.opens) = ap length commits.state.opens ∙ length_without g (filter p m.opens) in
+      let long : length b.opens ≡ length (filter p m.opens) = ap length commits.opens ∙ length_without g (filter p m.opens) in
       let enough = whole.place in
       record {
-        stands = subst (λ (xs : List Event). RepresentsTrace (plain k.scripts) k.start (map image xs) (machine_of b)) (sym trace) stands;
+        stands = subst (λ (xs : List Event). MergedStands (plain k.scripts) k.start (map image xs) (machine_of b)) (sym trace) stands;
         number = refl;
         drawn = ap (λ v. length v.statuses) guesses ∙ length-set m.guesses.statuses _ Committed ∙ whole.drawn ∙ sym (ap last_guess trace ∙ fold-append number_after 0 k.trace (events.Commit g ∷ []));
         place = omega (arith, less, long, room, enough);
@@ -171,7 +172,7 @@ module _ (k : KernelView) (m b : Parts) (place left : ℕ) (g : ℕ) (es : List 
       let long : length b.opens ≡ length (filter p m.opens) = ap length fails.state.opens in
       let enough = whole.place in
       record {
-        stands = subst (λ (xs : List Event). RepresentsTrace (plain k.scripts) k.start (map image xs) (machine_of b)) (sym trace) stands;
+        stands = subst (λ (xs : List Event). MergedStands (plain k.scripts) k.start (map image xs) (machine_of b)) (sym trace) stands;
         number = refl;
         drawn = drawn ∙ whole.drawn ∙ sym (ap last_guess trace ∙ fold-append number_after 0 k.trace (events.Fail g ∷ []));
         place = omega (arith, less, long, room, enough);
@@ -188,7 +189,7 @@ module _ (k : KernelView) (m : Parts) (place : ℕ) (whole : IsWhole k m place) 
   next_is = ap (λ n. n + 1) whole.drawn
 
   -- its number is above each that was drawn, and it is undecided
-  pub guess_new : (b : Parts) (pid : ℕ) (input : Input) → Takes (plain k.scripts) (machine_of m) (record { pid = pid; input = input; guess = Some (next_of m.guesses) }) (machine_of b)
+  pub guess_new : (b : Parts) (pid : ℕ) (input : Input) → MergedTakes (plain k.scripts) (machine_of m) (record { pid = pid; input = input; guess = Some (next_of m.guesses) }) (machine_of b)
       → IsNew k (with_event k (events.Guess (next_guess k) pid input))
   guess_new b pid input takes =
       let next = next_of m.guesses in
@@ -204,14 +205,14 @@ module _ (k : KernelView) (m : Parts) (place : ℕ) (whole : IsWhole k m place) 
       (λ i. cond (nat_le GUESS_LIMIT (sym (undecided_counted k m whole.stands) i) || nat_lt LAST_GUESS (sym next_is i)) (Some TooMany) None)
 
   pub guessed_whole : (b : Parts) (left : ℕ) (pid : ℕ) (input : Input) (id : ℕ) (es : List Event)
-      → Takes (plain k.scripts) (machine_of m) (record { pid = pid; input = input; guess = Some (next_of m.guesses) }) (machine_of b)
+      → MergedTakes (plain k.scripts) (machine_of m) (record { pid = pid; input = input; guess = Some (next_of m.guesses) }) (machine_of b)
       → b.guesses ≡ drawn m.guesses → id ≡ next_of m.guesses → es ≡ k.trace ++ events.Guess id pid input ∷ [] → length m.opens + 1 ≤ left
       → IsWhole (record { number = b.guesses.kernel; scripts = k.scripts; start = k.start; limit = k.limit; trace = es }) b left
   guessed_whole b left pid input id es takes guesses number trace room =
       let events_are : es ≡ k.trace ++ events.Guess (next_of m.guesses) pid input ∷ [] = trace ∙ ap (λ n. k.trace ++ events.Guess n pid input ∷ []) number in
-      let opens : length b.opens ≡ length m.opens + 1 = ap length takes.state.opens ∙ length_more m.opens _ in
+      let opens : length b.opens ≡ length m.opens + 1 = ap length takes.opens ∙ length_more m.opens _ in
       record {
-        stands = subst (λ (xs : List Event). RepresentsTrace (plain k.scripts) k.start (map image xs) (machine_of b)) (sym events_are) (stands_guessed k m whole.stands pid input b takes);
+        stands = subst (λ (xs : List Event). MergedStands (plain k.scripts) k.start (map image xs) (machine_of b)) (sym events_are) (stands_guessed k m whole.stands pid input b takes);
         number = refl;
         drawn = ap (λ v. length v.statuses) guesses ∙ length_more m.guesses.statuses Undecided ∙ sym (ap last_guess events_are ∙ fold-append number_after 0 k.trace (events.Guess (next_of m.guesses) pid input ∷ []));
         place = omega (arith, opens, room);

@@ -15,11 +15,13 @@ use Rattle.sk_record.specs.Run.{effects}
 use Rattle.sk_record.specs.Notes.{Note, has, tags_along}
 use Rattle.sk_record.specs.Release.{IsReleased, said_with}
 use Rattle.sk_record.specs.Trace.{IsDrawn, all_recorded, no_record}
-use Rattle.sk_record.specs.UndoState.{numbers, tags_at as tags_in, IsTidy, IsGrowing}
+use Rattle.sk_record.specs.UndoState.{Open, numbers, tags_at as tags_in, IsTidy, IsGrowing}
 use Rattle.sk_record.specs.declared.status.Status.{Status}
 use Rattle.sk_record.specs.declared.status.Status.TheVariants.{Undecided}
-use Rattle.sk_record.specs.Machine.{IsPlainRun, RepresentsTrace, Takes, Commits, Fails, released}
+use Rattle.sk_record.specs.Machine.{IsPlainRun, RepresentsTrace, Fails, released}
+use Rattle.sk_record.specs.Merged.{MergedStands, MergedTakes, MergedCommits}
 use Rattle.sk_record.proofs.Headline as headline
+use Rattle.sk_record.proofs.Merged as merged
 use Rattle.sk_record.proofs.Sound.{entries_are}
 use Rattle.sk_record.proofs.Statuses.{one_status}
 use Rattle.sk_record.proofs.Tidy.{AllSome, tidy_of, grows_of, rests_of, tags_are}
@@ -47,7 +49,7 @@ use Rattle.sk_kernel.proofs.Clear.{AllClear, all_clear, clear_released}
 use Rattle.sk_terminal.specs.Terminals.{released_at}
 use Rattle.sk_kernel.specs.Invariant.{IsWhole}
 use Rattle.sk_guesses.specs.Guesses.{opened}
-use Rattle.sk_record.specs.Machine.{machine_at_start}
+use Rattle.sk_record.specs.Machine.{Machine, machine_at_start}
 use Rattle.sk_script.specs.Boot.{BootView}
 use Rattle.sk_store.specs.State.{State}
 use Rattle.sk_store.specs.Start.{start_of}
@@ -103,9 +105,9 @@ released_said t [] = refl
 released_said t ((text, []) ∷ xs) = ap (λ (ws : List Saying). record { to = t; text = text } ∷ ws) (released_said t xs)
 released_said t ((text, g ∷ tags) ∷ xs) = refl
 
-module _ (k : KernelView) (m : Parts) (stands : RepresentsTrace (plain k.scripts) k.start (events_of k) (machine_of m)) where
+module _ (k : KernelView) (m : Parts) (stands : MergedStands (plain k.scripts) k.start (events_of k) (machine_of m)) where
   is_plain : IsPlainRun (plain k.scripts) k.start (events_of k) (machine_of m)
-  is_plain = headline.plain_run (plain k.scripts) entity_total entity_exact k.start (events_of k) (machine_of m) stands
+  is_plain = merged.merged_run (plain k.scripts) entity_total entity_exact k.start (events_of k) (machine_of m) stands
 
   -- ---- what there is to see
   pub look_is : (e : Entity) → look_at m.slots e ≡ map.get (state_at k) e
@@ -115,7 +117,9 @@ module _ (k : KernelView) (m : Parts) (stands : RepresentsTrace (plain k.scripts
   entities_are es rising present = keys_are entity_total entity_exact (state_at k) es rising (λ e. present e ∙ ap is_some (look_is e))
 
   pub tags_computed : (e : Entity) → tags_in (undo_state_of m) e ≡ tags_at k e
-  tags_computed e = tags_are (plain k.scripts) entity_total entity_exact k.start (all_recorded (plain k.scripts) k.start no_record (events_of k)) (undo_state_of m) stands.state e
+  tags_computed e =
+      merged.same_tags stands.full (machine_of m) stands.merged e
+      ∙ tags_are (plain k.scripts) entity_total entity_exact k.start (all_recorded (plain k.scripts) k.start no_record (events_of k)) stands.full.state stands.stands.state e
 
   pub tags_exact : (e : Entity) (g : ℕ) → (has g (tags_in (undo_state_of m) e) ≡ true) ↔ RestsOn k e g
   tags_exact e g = is_plain.tags e g
@@ -139,7 +143,7 @@ module _ (k : KernelView) (m : Parts) (stands : RepresentsTrace (plain k.scripts
   -- an open guess is undecided, and an undecided one is open
   pub open_undecided : (g : ℕ) → (has g (numbers m.opens) ≡ true) ↔ (status_of m.guesses g ≡ Some Undecided)
   open_undecided g =
-      let open_is = headline.open_is (plain k.scripts) entity_total entity_exact k.start (events_of k) (machine_of m) stands g in
+      let open_is = subst (λ (os : List Open). (has g (numbers os) ≡ true) ↔ HasStatus k g Undecided) (sym stands.merged.opens) (headline.open_is (plain k.scripts) entity_total entity_exact k.start (events_of k) stands.full stands.stands g) in
       ((λ here. (status_is g Undecided).1 (open_is.0 here)), λ is. open_is.1 ((status_is g Undecided).0 is))
 
   pub undecided_counted : undecided_count m.guesses.statuses ≡ length (undecided_at k)
@@ -147,7 +151,7 @@ module _ (k : KernelView) (m : Parts) (stands : RepresentsTrace (plain k.scripts
 
   pub texts_are : (t : ℕ) → said_at t (texts_in m.texts t) ≡ texts_at k t
   texts_are t =
-      stands.texts t
+      stands.merged.texts t ∙ stands.stands.texts t
       ∙ ap (λ ns. let ran = effects (plain k.scripts) k.start ns in said_with (plain k.scripts) t (tags_along (plain k.scripts).order (undecided_at k) (λ g. []) ran) ran) (entries_are (plain k.scripts) k.start (events_of k))
 
   pub releases : (t : ℕ) → IsReleased (plain k.scripts) k.start (events_of k) t (released (said_at t (texts_in m.texts t)))
@@ -155,49 +159,58 @@ module _ (k : KernelView) (m : Parts) (stands : RepresentsTrace (plain k.scripts
 
   -- ---- what a step asks for
   pub tidy : IsTidy (undo_state_of m)
-  tidy = tidy_of (plain k.scripts) entity_total entity_exact k.start (all_recorded (plain k.scripts) k.start no_record (events_of k)) (undo_state_of m) stands.state
+  tidy =
+      merged.tidy_in stands.full (machine_of m) stands.merged
+      (tidy_of (plain k.scripts) entity_total entity_exact k.start (all_recorded (plain k.scripts) k.start no_record (events_of k)) stands.full.state stands.stands.state)
 
   pub grows : (e : Entity) → IsGrowing (log_at m.slots e)
-  grows e = grows_of (plain k.scripts) entity_total entity_exact k.start (all_recorded (plain k.scripts) k.start no_record (events_of k)) (undo_state_of m) stands.state e
+  grows e =
+      merged.growing_in stands.full (machine_of m) stands.merged e
+      (grows_of (plain k.scripts) entity_total entity_exact k.start (all_recorded (plain k.scripts) k.start no_record (events_of k)) stands.full.state stands.stands.state e)
 
   pub rests : (e : Entity) → list_all (λ n. not (is_empty n.tags)) (log_at m.slots e) ≡ true
-  rests e = all_rest (log_at m.slots e) (rests_of (plain k.scripts) entity_total entity_exact k.start (all_recorded (plain k.scripts) k.start no_record (events_of k)) (undo_state_of m) stands.state e)
+  rests e =
+      all_rest (log_at m.slots e)
+      (merged.some_in [] (stands.full.state.logs e) (log_at m.slots e) (stands.merged.logs e)
+      (rests_of (plain k.scripts) entity_total entity_exact k.start (all_recorded (plain k.scripts) k.start no_record (events_of k)) stands.full.state stands.stands.state e))
 
   pub same_effect : (n : EntryView) → perform (look_at m.slots) (act k.scripts n.pid n.input) ≡ effect_at k n
-  same_effect n = headline.same_outcome (plain k.scripts) entity_total entity_exact k.start (events_of k) (machine_of m) stands n
+  same_effect n =
+      (λ i. perform (λ e. stands.merged.look e i) (act k.scripts n.pid n.input))
+      ∙ headline.same_outcome (plain k.scripts) entity_total entity_exact k.start (events_of k) stands.full stands.stands n
 
   -- ---- what stands after an event
-  pub stands_stepped : (pid : ℕ) (input : Input) (b : Parts) → Takes (plain k.scripts) (machine_of m) (record { pid = pid; input = input; guess = None }) (machine_of b)
-      → RepresentsTrace (plain k.scripts) k.start (events_of (with_event k (events.Step pid input))) (machine_of b)
+  pub stands_stepped : (pid : ℕ) (input : Input) (b : Parts) → MergedTakes (plain k.scripts) (machine_of m) (record { pid = pid; input = input; guess = None }) (machine_of b)
+      → MergedStands (plain k.scripts) k.start (events_of (with_event k (events.Step pid input))) (machine_of b)
   stands_stepped pid input b takes =
       let n : EntryView = record { pid = pid; input = input; guess = None } in
-      subst (λ es. RepresentsTrace (plain k.scripts) k.start es (machine_of b)) (sym (map_more k.trace (events.Step pid input)))
-      (headline.stands_taken (plain k.scripts) entity_total entity_exact k.start (events_of k) (machine_of m) n (machine_of b) stands (λ g h no_mark drawn. absurd (no_guess g no_mark)) takes)
+      subst (λ es. MergedStands (plain k.scripts) k.start es (machine_of b)) (sym (map_more k.trace (events.Step pid input)))
+      (merged.merged_taken (plain k.scripts) entity_total entity_exact k.start (events_of k) (machine_of m) n (machine_of b) stands (λ g h no_mark drawn. absurd (no_guess g no_mark)) takes)
 
-  pub stands_committed : (g : ℕ) (b : Parts) → HasStatus k g Undecided → Commits (machine_of m) g (machine_of b)
-      → RepresentsTrace (plain k.scripts) k.start (events_of (with_event k (events.Commit g))) (machine_of b)
+  pub stands_committed : (g : ℕ) (b : Parts) → HasStatus k g Undecided → MergedCommits (machine_of m) g (machine_of b)
+      → MergedStands (plain k.scripts) k.start (events_of (with_event k (events.Commit g))) (machine_of b)
   stands_committed g b undecided commits =
-      subst (λ es. RepresentsTrace (plain k.scripts) k.start es (machine_of b)) (sym (map_more k.trace (events.Commit g)))
-      (headline.stands_committed (plain k.scripts) entity_total entity_exact k.start (events_of k) (machine_of m) g (machine_of b) stands undecided commits)
+      subst (λ es. MergedStands (plain k.scripts) k.start es (machine_of b)) (sym (map_more k.trace (events.Commit g)))
+      (merged.merged_committed (plain k.scripts) entity_total entity_exact k.start (events_of k) (machine_of m) g (machine_of b) stands undecided commits)
 
   pub stands_failed : (g : ℕ) (b : Parts) → HasStatus k g Undecided → Fails (machine_of m) g (machine_of b)
-      → RepresentsTrace (plain k.scripts) k.start (events_of (with_event k (events.Fail g))) (machine_of b)
+      → MergedStands (plain k.scripts) k.start (events_of (with_event k (events.Fail g))) (machine_of b)
   stands_failed g b undecided fails =
-      subst (λ es. RepresentsTrace (plain k.scripts) k.start es (machine_of b)) (sym (map_more k.trace (events.Fail g)))
-      (headline.stands_failed (plain k.scripts) entity_total entity_exact k.start (events_of k) (machine_of m) g (machine_of b) stands undecided fails)
+      subst (λ es. MergedStands (plain k.scripts) k.start es (machine_of b)) (sym (map_more k.trace (events.Fail g)))
+      (merged.merged_failed (plain k.scripts) entity_total entity_exact k.start (events_of k) (machine_of m) g (machine_of b) stands undecided fails)
 
   -- every guess that was drawn has a number below the next
   pub drawn_below : (h : ℕ) → IsDrawn (plain k.scripts) (events_of k) h → h < next_of m.guesses
   drawn_below h drawn =
-      let has_status = (one_status (plain k.scripts) k.start (events_of k) stands.sound h).0.0 drawn in
+      let has_status = (one_status (plain k.scripts) k.start (events_of k) stands.stands.sound h).0.0 drawn in
       status_below m.guesses h has_status.0 ((status_is h has_status.0).1 has_status.1)
 
-  pub stands_guessed : (pid : ℕ) (input : Input) (b : Parts) → Takes (plain k.scripts) (machine_of m) (record { pid = pid; input = input; guess = Some (next_of m.guesses) }) (machine_of b)
-      → RepresentsTrace (plain k.scripts) k.start (events_of (with_event k (events.Guess (next_of m.guesses) pid input))) (machine_of b)
+  pub stands_guessed : (pid : ℕ) (input : Input) (b : Parts) → MergedTakes (plain k.scripts) (machine_of m) (record { pid = pid; input = input; guess = Some (next_of m.guesses) }) (machine_of b)
+      → MergedStands (plain k.scripts) k.start (events_of (with_event k (events.Guess (next_of m.guesses) pid input))) (machine_of b)
   stands_guessed pid input b takes =
       let n : EntryView = record { pid = pid; input = input; guess = Some (next_of m.guesses) } in
-      subst (λ es. RepresentsTrace (plain k.scripts) k.start es (machine_of b)) (sym (map_more k.trace (events.Guess (next_of m.guesses) pid input)))
-      (headline.stands_taken (plain k.scripts) entity_total entity_exact k.start (events_of k) (machine_of m) n (machine_of b) stands
+      subst (λ es. MergedStands (plain k.scripts) k.start es (machine_of b)) (sym (map_more k.trace (events.Guess (next_of m.guesses) pid input)))
+      (merged.merged_taken (plain k.scripts) entity_total entity_exact k.start (events_of k) (machine_of m) n (machine_of b) stands
       (λ g h mark drawn. let own = some_same (next_of m.guesses) g mark in let less = drawn_below h drawn in omega (arith, own, less)) takes)
 
   -- with the next number they rise still
@@ -228,19 +241,19 @@ module _ (k : KernelView) (m : Parts) (stands : RepresentsTrace (plain k.scripts
 
 -- what stands after a step
 pub stepped_whole : (k : KernelView) (m b : Parts) (place left : ℕ) (pid : ℕ) (input : Input) (es : List Event) → IsWhole k m place
-    → Takes (plain k.scripts) (machine_of m) (record { pid = pid; input = input; guess = None }) (machine_of b)
+    → MergedTakes (plain k.scripts) (machine_of m) (record { pid = pid; input = input; guess = None }) (machine_of b)
     → b.guesses ≡ m.guesses → es ≡ k.trace ++ events.Step pid input ∷ [] → length b.opens ≤ left
     → IsWhole (record { number = b.guesses.kernel; scripts = k.scripts; start = k.start; limit = k.limit; trace = es }) b left
 stepped_whole k m b place left pid input es whole takes same trace room = record {
-  stands = subst (λ (xs : List Event). RepresentsTrace (plain k.scripts) k.start (map image xs) (machine_of b)) (sym trace) (stands_stepped k m whole.stands pid input b takes);
+  stands = subst (λ (xs : List Event). MergedStands (plain k.scripts) k.start (map image xs) (machine_of b)) (sym trace) (stands_stepped k m whole.stands pid input b takes);
   number = refl;
   drawn = ap (λ v. length v.statuses) same ∙ whole.drawn ∙ sym (ap last_guess trace ∙ fold-append number_after 0 k.trace (events.Step pid input ∷ []));
   place = room;
 }
 
 -- a step that is no guess opens none
-pub no_more_opens : (scripts : Scripts) (a b : Parts) (pid : ℕ) (input : Input) → Takes (plain scripts) (machine_of a) (record { pid = pid; input = input; guess = None }) (machine_of b) → length b.opens ≡ length a.opens
-no_more_opens scripts a b pid input takes = ap length (takes.state.opens ∙ append-nil a.opens)
+pub no_more_opens : (scripts : Scripts) (a b : Parts) (pid : ℕ) (input : Input) → MergedTakes (plain scripts) (machine_of a) (record { pid = pid; input = input; guess = None }) (machine_of b) → length b.opens ≡ length a.opens
+no_more_opens scripts a b pid input takes = ap length (takes.opens ∙ append-nil a.opens)
 
 -- ---- at the start
 
@@ -255,11 +268,19 @@ started scripts start number m at = λ i. record {
   texts = λ t. (ap (λ x. said_at t (texts_in x t)) at.texts ∙ ap (λ o. said_at t (unwrap_or o [])) (map.get-empty nat_cmp t)) i;
 }
 
+-- a machine that stands for a trace, without a note left out
+none_merged : (boot : BootView) (m : Machine Entity EntityState Saying) → RepresentsTrace (plain boot.scripts) (start_of boot) [] m → MergedStands (plain boot.scripts) (start_of boot) [] m
+none_merged boot m stands = record {
+  full = m;
+  stands = stands;
+  merged = record { look = λ e. refl; logs = λ e. merged.all_kept [] (m.state.logs e); opens = refl; status = λ g. refl; texts = λ t. refl };
+}
+
 pub booted_whole : (number limit place : ℕ) (boot : BootView) (m : Parts) → IsAtStart number (start_of boot) m → IsWhole (booted number boot limit) m place
 booted_whole number limit place boot m at =
     let none : length m.opens ≡ 0 = ap length at.opens in
     record {
-      stands = subst (λ x. RepresentsTrace (plain boot.scripts) (start_of boot) [] x) (sym (started boot.scripts (start_of boot) number m at)) (headline.stands_first (plain boot.scripts) entity_total entity_exact (start_of boot));
+      stands = subst (λ x. MergedStands (plain boot.scripts) (start_of boot) [] x) (sym (started boot.scripts (start_of boot) number m at)) (none_merged boot _ (headline.stands_first (plain boot.scripts) entity_total entity_exact (start_of boot)));
       number = ap (λ v. v.kernel) at.guesses;
       drawn = ap (λ v. length v.statuses) at.guesses;
       place = omega (arith, none);

@@ -1,13 +1,13 @@
 -- What holds of the parts of a kernel between its calls.
 use Rattle.std.specs.Prelude.{◌≡◌, ℕ, ◌≤◌, length}
-use Rattle.sk_record.specs.Machine.{RepresentsTrace}
+use Rattle.sk_record.specs.Merged.{MergedStands}
 use Rattle.sk_machine.specs.Parts.{Parts, machine_of}
 use Rattle.sk_plain.specs.Act.{plain}
 use Rattle.sk_kernel.specs.Kernel.{KernelView, events_of, last_guess}
 
 pub record IsWhole (k : KernelView) (m : Parts) (room : ℕ) : Type 0 where
-  -- values, logs, open guesses, statuses and texts are what the trace comes to
-  pub stands : RepresentsTrace (plain k.scripts) k.start (events_of k) (machine_of m)
+  -- values, logs, open guesses, statuses and texts are what the trace comes to, but for notes that are left out
+  pub stands : MergedStands (plain k.scripts) k.start (events_of k) (machine_of m)
   pub number : m.guesses.kernel ≡ k.number
   pub drawn : length m.guesses.statuses ≡ last_guess k.trace
   -- a place of the trace is kept for the decision of each open guess

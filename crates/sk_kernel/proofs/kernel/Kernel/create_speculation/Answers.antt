@@ -1,6 +1,6 @@
 -- The plan is what the plain kernel does on the trace's record; the machine draws the next guess and takes it.
 use Rattle.std.proofs.Common.{◌+◌, ◌<◌, ◌^◌, ◌≡◌, Some, None, [], ◌∷◌, ◌++◌, refl, sym, ◌∙◌, ap, subst, arith, rules}
-use Rattle.sk_record.specs.Machine.{Takes}
+use Rattle.sk_record.specs.Merged.{MergedTakes}
 use Rattle.sk_guesses.specs.Guesses.{next_of}
 use Rattle.sk_machine.specs.Parts.{machine_of}
 use Rattle.sk_plain.specs.Act.{plain}
@@ -73,7 +73,7 @@ returns-in_default c =
 pub invariant_of-self-2 : goal.invariant_of-self-2
 invariant_of-self-2 c =
     let drawn_entry : EntryView = record { pid = c.args.pid; input = c.args.input; guess = Some (next_of c.self.inside.machine.guesses) } in
-    let takes = subst (λ s. Takes (plain s) (machine_of c.self.inside.machine) drawn_entry (machine_of c.take_guess.new.self)) c.scripts.ensures c.in-Ok.ensures.ok in
+    let takes = subst (λ s. MergedTakes (plain s) (machine_of c.self.inside.machine) drawn_entry (machine_of c.take_guess.new.self)) c.scripts.ensures c.in-Ok.ensures.ok in
     let reserved = from_ok c.reserve.result c.if-is_err.ensures.value c.reserve.ensures.room in
     let pushed = c.push.ensures.room in
     let counted = c.open_count.ensures in
@@ -95,7 +95,7 @@ returns c =
     (λ i. record { number = (c.in-Ok.ensures.guesses i).kernel; scripts = c.self.inside.opening.start.scripts; start = c.self.inside.opening.start.state; limit = c.self.inside.opening.limit; trace = more i })
     ∙ ap (λ (k : KernelView). with_event k (events.Guess (next_guess c.args.self.now) c.args.pid c.args.input)) c.self.view_is in
     let drawn_entry : EntryView = record { pid = c.args.pid; input = c.args.input; guess = Some (next_of c.self.inside.machine.guesses) } in
-    let takes = subst (λ s. Takes (plain s) (machine_of c.self.inside.machine) drawn_entry (machine_of c.take_guess.new.self)) c.scripts.ensures c.in-Ok.ensures.ok in
+    let takes = subst (λ s. MergedTakes (plain s) (machine_of c.self.inside.machine) drawn_entry (machine_of c.take_guess.new.self)) c.scripts.ensures c.in-Ok.ensures.ok in
     let fresh =
     subst (λ (k : KernelView). IsNew k (with_event k (events.Guess (next_guess k) c.args.pid c.args.input))) c.self.view_is
     (guess_new (the_view c.self.inside) c.self.inside.machine c.self.inside.trace.room c.self.invariant.0 c.take_guess.new.self c.args.pid c.args.input takes) in (

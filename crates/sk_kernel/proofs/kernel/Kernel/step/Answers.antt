@@ -1,6 +1,6 @@
 -- The plan is what the plain kernel does on the trace's record; the machine takes it, and stands for the trace with one event more.
 use Rattle.std.proofs.Common.{◌+◌, ◌<◌, ◌^◌, ◌≡◌, Some, None, ◌∷◌, ◌++◌, [], refl, sym, ◌∙◌, ap, subst, arith, rules}
-use Rattle.sk_record.specs.Machine.{Takes}
+use Rattle.sk_record.specs.Merged.{MergedTakes}
 use Rattle.sk_machine.specs.Parts.{machine_of}
 use Rattle.sk_plain.specs.Act.{plain}
 use Rattle.sk_trace.specs.Entry.{EntryView}
@@ -58,7 +58,7 @@ returns-then-is_err-2 c =
 pub invariant_of-self-2 : goal.invariant_of-self-2
 invariant_of-self-2 c =
     let n : EntryView = record { pid = c.args.pid; input = c.args.input; guess = None } in
-    let takes = subst (λ s. Takes (plain s) (machine_of c.self.inside.machine) n (machine_of c.take_step.new.self)) c.scripts.ensures (from_ok c.take_step.result c.if-is_err-2.ensures.value c.take_step.ensures.ok) in
+    let takes = subst (λ s. MergedTakes (plain s) (machine_of c.self.inside.machine) n (machine_of c.take_step.new.self)) c.scripts.ensures (from_ok c.take_step.result c.if-is_err-2.ensures.value c.take_step.ensures.ok) in
     let opens = no_more_opens c.self.inside.opening.start.scripts c.self.inside.machine c.take_step.new.self c.args.pid c.args.input takes in
     let reserved = from_ok c.reserve.result c.if-is_err.ensures.value c.reserve.ensures.room in
     let pushed = c.push.ensures.room in

@@ -1,0 +1,85 @@
+// Refuses the N-th growth, read or write of a program: put before the C library by the loader, it counts the calls of the kind
+// that REFUSED_KIND names (growth, read or write), of all threads together, and fails the one whose number is REFUSED_NUMBER;
+// with number 0 none. Reads are those of descriptor 0 and writes those of descriptor 1. The kind `interrupt` fails each read
+// as interrupted. What was refused is told by the byte r on the descriptor that REFUSED_TOLD names, and each write of
+// descriptor 1 after a refused one by w.
+#define _GNU_SOURCE
+#include <errno.h>
+#include <stdatomic.h>
+#include <stdlib.h>
+#include <sys/syscall.h>
+#include <sys/uio.h>
+#include <unistd.h>
+
+void *__libc_malloc(size_t);
+void *__libc_calloc(size_t, size_t);
+void *__libc_realloc(void *, size_t);
+void *__libc_memalign(size_t, size_t);
+
+static char kind;
+static long number;
+static int told = -1;
+static atomic_long count;
+static atomic_int is_refused_once;
+
+__attribute__((constructor)) static void start(void) {
+  const char *which = getenv("REFUSED_KIND"), *place = getenv("REFUSED_NUMBER"), *descriptor = getenv("REFUSED_TOLD");
+  if (which == NULL || place == NULL || descriptor == NULL) return;
+  number = atol(place);
+  told = atoi(descriptor);
+  kind = which[0];
+}
+
+static void tell(char what) {
+  if (syscall(SYS_write, told, &what, 1) != 1) _exit(125);
+}
+
+// Whether a call of this kind is the one that is refused.
+static int refuses(char what, int error) {
+  if (kind != what || atomic_fetch_add(&count, 1) + 1 != number) return 0;
+  atomic_store(&is_refused_once, 1);
+  tell('r');
+  errno = error;
+  return 1;
+}
+
+void *malloc(size_t size) { return refuses('g', ENOMEM) ? NULL : __libc_malloc(size); }
+void *calloc(size_t items, size_t size) { return refuses('g', ENOMEM) ? NULL : __libc_calloc(items, size); }
+void *realloc(void *old, size_t size) { return refuses('g', ENOMEM) ? NULL : __libc_realloc(old, size); }
+void *memalign(size_t align, size_t size) { return refuses('g', ENOMEM) ? NULL : __libc_memalign(align, size); }
+void *aligned_alloc(size_t align, size_t size) { return memalign(align, size); }
+
+int posix_memalign(void **to, size_t align, size_t size) {
+  void *made = memalign(align, size);
+  if (made == NULL) return ENOMEM;
+  *to = made;
+  return 0;
+}
+
+ssize_t read(int descriptor, void *to, size_t size) {
+  if (descriptor == 0 && kind == 'i') {
+    errno = EINTR;
+    return -1;
+  }
+  if (descriptor == 0 && refuses('r', EIO)) return -1;
+  return syscall(SYS_read, descriptor, to, size);
+}
+
+ssize_t __read(int, void *, size_t) __attribute__((alias("read")));
+
+// Whether a write of a descriptor is refused.
+static int refuses_write(int descriptor) {
+  if (descriptor != 1) return 0;
+  if (kind == 'w' && atomic_load(&is_refused_once)) tell('w');
+  return refuses('w', ENOSPC);
+}
+
+ssize_t write(int descriptor, const void *from, size_t size) {
+  return refuses_write(descriptor) ? -1 : syscall(SYS_write, descriptor, from, size);
+}
+
+ssize_t __write(int, const void *, size_t) __attribute__((alias("write")));
+
+ssize_t writev(int descriptor, const struct iovec *from, int parts) {
+  return refuses_write(descriptor) ? -1 : syscall(SYS_writev, descriptor, from, parts);
+}

@@ -1,0 +1,66 @@
+//! Steps on a kernel.
+use crate::finding::Finding;
+use crate::sights::{Sight, printed, report, shows};
+use crate::texts::tells_texts;
+use sk_play::{Answer, Session, write_answer};
+use sk_scenario::{Call, Declarations};
+use std::alloc::{AllocError, Global};
+use std::io::Write;
+
+fn starts(alloc: Global, declarations: &Declarations) -> Result<Session, Finding> {
+    match Session::new(alloc, declarations) {
+        Ok(session) => Ok(session),
+        Err(AllocError) => Ok(Session::new(alloc, declarations)?),
+    }
+}
+
+/// Makes a call, and makes it again where memory was wanted and nothing has changed.
+fn calls(alloc: Global, session: &mut Session, call: &Call) -> Result<Answer, Finding> {
+    let before = Sight::of(alloc, session.kernel())?;
+    match session.execute(call) {
+        Ok(answer) => Ok(answer),
+        Err(AllocError) => {
+            Sight::of(alloc, session.kernel())?.same(&before)?;
+            Ok(session.execute(call)?)
+        }
+    }
+}
+
+fn calls_all<W: Write>(
+    alloc: Global,
+    text: &[u8],
+    declarations: &Declarations,
+    session: &mut Session,
+    steps: &[Call],
+    out: &mut W,
+) -> Result<(), Finding> {
+    for (place, call) in steps.iter().enumerate() {
+        let answer = calls(alloc, session, call)?;
+        write_answer(place + 1, &answer, out)?;
+    }
+    let kernel = session.kernel();
+    let trace = printed(alloc, kernel.trace())?;
+    shows(&report(alloc, kernel)?, &trace, out)?;
+    tells_texts(
+        alloc,
+        text,
+        declarations.boot(),
+        kernel.trace(),
+        &trace,
+        out,
+    )
+}
+
+/// Plays steps, and prints what comes of them.
+pub fn plays_steps<W: Write>(
+    alloc: Global,
+    text: &[u8],
+    declarations: &Declarations,
+    steps: &[Call],
+    out: &mut W,
+) -> Result<(), Finding> {
+    let mut session = starts(alloc, declarations)?;
+    let played = calls_all(alloc, text, declarations, &mut session, steps, out);
+    session.end();
+    played
+}

@@ -1,0 +1,65 @@
+//! `memory_tests < SCENARIO`: plays the steps or the world of a scenario, and prints what `speculate play - --trace` prints.
+//! Growths may be refused to it: whatever answers want of memory has then to be as it was before, and is done once more.
+//! At the end the first script, the printed trace and what is left of it go through the same.
+#![tactic(auto)]
+
+mod finding;
+mod kernels;
+mod sights;
+mod texts;
+mod worlds;
+
+use crate::finding::Finding;
+use crate::kernels::plays_steps;
+use crate::texts::scenario_of;
+use crate::worlds::plays_world;
+use sk_scenario::Section;
+use std::alloc::Global;
+use std::io::{Read, Write};
+use std::process::ExitCode;
+
+/// The greatest length of a scenario, in bytes.
+const ROOM: usize = 16_384;
+
+/// Reads what the input has left to an array, since what was read can't be read again: how much it was.
+fn fills<R: Read>(reader: &mut R, room: &mut [u8; ROOM]) -> Result<usize, Finding> {
+    let mut count = 0usize;
+    for _ in 0..ROOM {
+        let rest = room.get_mut(count..).ok_or(Finding::Input)?;
+        let read = reader.read(rest)?;
+        if read == 0 {
+            return Ok(count);
+        }
+        count = count.saturating_add(read);
+    }
+    Err(Finding::Input)
+}
+
+/// Plays a scenario, and prints what comes of it.
+fn plays<W: Write>(alloc: Global, text: &[u8], out: &mut W) -> Result<(), Finding> {
+    let scenario = scenario_of(alloc, text)?;
+    let declarations = &scenario.declarations;
+    match &scenario.section {
+        Section::Steps(steps) => plays_steps(alloc, text, declarations, steps.as_slice(), out),
+        Section::World(events) => plays_world(alloc, text, declarations, events.as_slice(), out),
+        Section::Trace(_) => Err(Finding::Scenario),
+    }
+}
+
+/// Plays the scenario on the standard input.
+fn plays_input(rt: &HostRuntime) -> Result<(), Finding> {
+    let mut room = [0u8; ROOM];
+    let count = fills(&mut rt.reader(), &mut room)?;
+    let text = room.get(..count).ok_or(Finding::Input)?;
+    plays(rt.alloc(), text, &mut rt.stdout())
+}
+
+fn main(rt: HostRuntime) -> ExitCode {
+    match plays_input(&rt) {
+        Ok(()) => ExitCode::SUCCESS,
+        Err(finding) => {
+            let _ = writeln!(rt.stderr(), "{finding:?}");
+            ExitCode::FAILURE
+        }
+    }
+}

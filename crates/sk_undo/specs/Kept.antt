@@ -27,11 +27,12 @@ ObjectFits = FitsBy CanUndo
 abbrev pub is_process_whole : Process → Bool
 is_process_whole p = true
 
+-- so no change of it is ever noted, and undoing one would leave it
 abbrev pub process_changed_back : Process → Undo → Process
 process_changed_back p undo = p
 
 abbrev pub ProcessFits : Process → Undo → Type 0
-ProcessFits p undo = ⊥
+ProcessFits p undo = Unit {0}
 
 -- what was there before a write that set it
 abbrev pub was : PutBack Process → Option Process

@@ -43,9 +43,7 @@ impl Kept for Process {
 
     ghost is_whole = { is_process_whole };
 
-    fn change_back(&mut self, _undo: Undo) {
-        unreachable!()
-    }
+    fn change_back(&mut self, _undo: Undo) {}
 
     fn is_whole(&self) -> bool {
         true

@@ -3,31 +3,15 @@ use crate::finding::Finding;
 use crate::reckoning::Reckoning;
 use sk_ids::{Entity, GuessId, Text};
 use sk_kernel::Kernel;
-use sk_objects::Value;
 use sk_plain::{Trace, View};
 use std::alloc::AllocError;
 use std::collections::BTreeSet;
-
-/// Whether two values are the same.
-fn is_same_value(one: &Value, other: &Value) -> bool {
-    match (one, other) {
-        (Value::File(one), Value::File(other)) => one.as_slice() == other.as_slice(),
-        (Value::Dir(one), Value::Dir(other)) => one.as_slice() == other.as_slice(),
-        (Value::Pipe(one), Value::Pipe(other)) => {
-            one.is_shut() == other.is_shut() && one.as_slice() == other.as_slice()
-        }
-        (Value::Signals(one), Value::Signals(other)) => one.as_slice() == other.as_slice(),
-        (Value::Exit(one), Value::Exit(other)) => one == other,
-        (Value::Copy(one), Value::Copy(other)) => one == other,
-        _ => false,
-    }
-}
 
 /// Whether two entities have the same.
 fn is_same(one: Option<View>, other: Option<View>) -> bool {
     match (one, other) {
         (Some(View::Process(one)), Some(View::Process(other))) => one == other,
-        (Some(View::Value(one)), Some(View::Value(other))) => is_same_value(one, other),
+        (Some(View::Value(one)), Some(View::Value(other))) => *one == *other,
         (None, None) => true,
         _ => false,
     }

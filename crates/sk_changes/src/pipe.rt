@@ -47,7 +47,9 @@ impl Invertible for Pipe {
                 if count == 0 || count as usize > TEXT_LIMIT || count as usize > held {
                     return Err(NotApplied::Unfit);
                 }
-                Ok(Undo::Untake(self.take(count as usize)))
+                let bytes = self.front(count as usize);
+                self.advance(count as usize);
+                Ok(Undo::Untake(bytes))
             }
             Change::Shut => {
                 if self.is_shut() {

@@ -1,5 +1,5 @@
 -- The bytes of a file, written over and cut.
-use Rattle.std.specs.Prelude.{ℕ, ◌+◌, ◌-◌, List, ◌++◌, length, take, drop, replicate}
+use Rattle.std.specs.Prelude.{ℕ, ◌+◌, ◌-◌, ◌/◌, List, ◌++◌, length, take, drop, replicate}
 
 -- the bytes with others in the place of those that begin at `at`
 abbrev pub overwritten : List ℕ → ℕ → List ℕ → List ℕ
@@ -16,6 +16,10 @@ written f at bytes = overwritten (filled f (at + length bytes)) at bytes
 -- the first n bytes, or all of them and zeros up to n
 abbrev pub cut : List ℕ → ℕ → List ℕ
 cut f n = take n f ++ replicate (n - length f) 0
+
+-- how many blocks of 512 so many bytes take
+abbrev pub blocks_of : ℕ → ℕ
+blocks_of size = (size + 511) / 512
 
 -- up to so many bytes from a place on
 abbrev pub part : List ℕ → ℕ → ℕ → List ℕ

@@ -1,5 +1,5 @@
 //! Directories.
-ghost use Rattle.std.specs.Prelude.{◌≡◌, ◌≤◌, ◌<◌, ◌↔◌, IsTrue, [], length, IfOk, IfSome, IsSome, None};
+ghost use Rattle.std.specs.Prelude.{◌≡◌, ◌≤◌, ◌<◌, ◌↔◌, IsTrue, [], length, slice_get, IfOk, None};
 ghost use Rattle.std.specs.List.{count_by};
 ghost use Rattle.sk_objects.specs.Directory.{is_before, looked_up, linked, unlinked, IsRising};
 ghost use Rattle.sk_objects.specs.declared.directory.TheConstants.{DIRECTORY_LIMIT};
@@ -82,13 +82,11 @@ impl Directory {
         Ok(Directory { links })
     }
 
-    /// The names with their objects, by rising bytes of the names.
-    pub fn as_slice(&self) -> &[(Name, ObjId)]
-        ensures value { result.now ≡ self.now }
-        ensures limit { length result.now ≤ DIRECTORY_LIMIT }
-        ensures rising { IsRising result.now }
+    /// The name at a place, by rising bytes, with its object; `None` past the last.
+    pub fn at(&self, place: usize) -> Option<(Name, ObjId)>
+        ensures { result ≡ slice_get self.now place }
     {
-        self.links.as_slice()
+        self.links.get(place).copied()
     }
 
     /// The number of names.

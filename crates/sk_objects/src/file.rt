@@ -1,7 +1,7 @@
 //! Files.
-ghost use Rattle.std.specs.Prelude.{◌≡◌, ◌≤◌, ◌<◌, ◌+◌, ◌↔◌, IsTrue, [], length, take, vec_len, IfOk, OnOk, OnErr};
+ghost use Rattle.std.specs.Prelude.{◌≡◌, ◌≤◌, ◌<◌, ◌+◌, ◌*◌, ◌↔◌, IsTrue, [], length, take, vec_len, IfOk, OnOk, OnErr};
 ghost use Rattle.sk_ids.specs.declared.text.TheConstants.{TEXT_LIMIT};
-ghost use Rattle.sk_objects.specs.File.{overwritten, written, cut, part};
+ghost use Rattle.sk_objects.specs.File.{overwritten, written, cut, part, blocks_of};
 ghost use Rattle.sk_objects.specs.declared.file.TheConstants.{FILE_LIMIT};
 
 use sk_ids::Text;
@@ -10,6 +10,9 @@ use std::marker::Model;
 
 /// The greatest length of a file, in bytes.
 pub const FILE_LIMIT: usize = 32_768;
+
+/// The size of a block, in bytes.
+pub const BLOCK: usize = 512;
 
 /// The bytes of a file, at most 32,768.
 #[derive(Drop)]
@@ -90,12 +93,11 @@ impl File {
         }
     }
 
-    /// The file of these bytes, at most 32,768.
-    pub fn from_slice(alloc: Global, bytes: &[u8]) -> Result<File, AllocError>
-        requires { length bytes.now ≤ FILE_LIMIT }
+    /// The file of a text's bytes.
+    pub fn from_text(alloc: Global, bytes: &Text) -> Result<File, AllocError>
         ensures { IfOk result (λ file. file ≡ bytes.now) }
     {
-        let bytes = Vec::from_slice(alloc, bytes)?;
+        let bytes = Vec::from_slice(alloc, bytes.as_slice())?;
         Ok(File { bytes })
     }
 
@@ -105,14 +107,6 @@ impl File {
     {
         let bytes = Vec::from_slice(*self.bytes.allocator(), self.bytes.as_slice())?;
         Ok(File { bytes })
-    }
-
-    /// All the bytes.
-    pub fn as_slice(&self) -> &[u8]
-        ensures value { result.now ≡ self.now }
-        ensures limit { length result.now ≤ FILE_LIMIT }
-    {
-        self.bytes.as_slice()
     }
 
     /// The number of bytes.
@@ -130,6 +124,27 @@ impl File {
     {
         let rest = &self.bytes[at.min(self.bytes.len())..];
         Text::new(&rest[..count.min(rest.len())]).unwrap()
+    }
+
+    /// How many blocks of 512 hold the bytes.
+    pub fn blocks(&self) -> usize
+        ensures value { result ≡ blocks_of (length self.now) }
+        ensures limit { result ≤ 64 }
+    {
+        (self.bytes.len() + (BLOCK - 1)) / BLOCK
+    }
+
+    /// The bytes of a block, fewer than 512 of the last alone.
+    pub fn block(&self, index: usize) -> &[u8]
+        requires { index < blocks_of (length self.now) }
+        ensures { result.now ≡ part self.now (512 * index) 512 }
+    {
+        let rest = &self.bytes[BLOCK * index..];
+        if rest.len() < BLOCK {
+            rest
+        } else {
+            &rest[..BLOCK]
+        }
     }
 
     /// Writes bytes at a place, with zeros in a gap. Only bytes past the end can want memory, and

@@ -1,6 +1,7 @@
 //! Pipes.
 ghost use Rattle.std.specs.Prelude.{◌≡◌, ◌≤◌, ◌+◌, ◌++◌, ◌↔◌, IsTrue, false, [], length, take, drop, vec_len, vec_capacity, IfOk};
 ghost use Rattle.sk_ids.specs.declared.text.TheConstants.{TEXT_LIMIT};
+ghost use Rattle.sk_objects.specs.File.{part};
 ghost use Rattle.sk_objects.specs.Pipe.{PipeView};
 ghost use Rattle.sk_objects.specs.declared.pipe.TheConstants.{PIPE_LIMIT};
 
@@ -31,19 +32,15 @@ impl Model for Pipe {
     ghost invariant = { λ p. (vec_len p.bytes ≤ PIPE_LIMIT) × (PIPE_LIMIT ≤ vec_capacity p.bytes) };
 }
 
-/// Takes bytes from the front.
-fn take_front(held: &mut Vec<u8>, count: usize) -> Text
+/// Drops bytes at the front.
+fn drop_front(held: &mut Vec<u8>, count: usize)
     requires held { count ≤ vec_len held.old }
-    requires short { count ≤ TEXT_LIMIT }
-    ensures taken { result ≡ take count held.old.items }
     ensures items { held.new.items ≡ drop count held.old.items }
     ensures capacity { vec_capacity held.new ≡ vec_capacity held.old }
 {
-    let taken = Text::new(&held[..count]).unwrap();
     held.rotate_left(count);
     let left = held.len() - count;
     held.truncate(left);
-    taken
 }
 
 /// Puts bytes back at the front, where there is room.
@@ -105,12 +102,29 @@ impl Pipe {
         })
     }
 
-    /// All the bytes, the oldest first.
-    pub fn as_slice(&self) -> &[u8]
-        ensures value { result.now ≡ self.now.bytes }
-        ensures limit { length result.now ≤ PIPE_LIMIT }
+    /// The bytes in two parts, the oldest first.
+    pub fn parts(&self) -> (&[u8], &[u8])
+        ensures { result.0.now ++ result.1.now ≡ self.now.bytes }
     {
-        self.bytes.as_slice()
+        (self.bytes.as_slice(), &[])
+    }
+
+    /// The `count` oldest bytes, at most 512 and at most those held.
+    pub fn front(&self, count: usize) -> Text
+        requires held { count ≤ length self.now.bytes }
+        requires short { count ≤ TEXT_LIMIT }
+        ensures { result ≡ take count self.now.bytes }
+    {
+        Text::new(&self.bytes[..count]).unwrap()
+    }
+
+    /// Up to `count` bytes, at most 512, from a place on, counted from the oldest; none past the end.
+    pub fn part(&self, at: usize, count: usize) -> Text
+        requires { count ≤ TEXT_LIMIT }
+        ensures { result ≡ part self.now.bytes at count }
+    {
+        let rest = &self.bytes[at.min(self.bytes.len())..];
+        Text::new(&rest[..count.min(rest.len())]).unwrap()
     }
 
     /// The number of bytes.
@@ -136,14 +150,12 @@ impl Pipe {
         self.bytes.extend_from_slice(bytes).unwrap();
     }
 
-    /// Takes out the `count` oldest bytes, at most 512 and at most those held.
-    pub fn take(&mut self, count: usize) -> Text
-        requires held { count ≤ length self.old.bytes }
-        requires short { count ≤ TEXT_LIMIT }
-        ensures taken { result ≡ take count self.old.bytes }
-        ensures left { self.new ≡ record self.old { bytes = drop count self.old.bytes } }
+    /// Drops the `count` oldest bytes, at most those held.
+    pub fn advance(&mut self, count: usize)
+        requires { count ≤ length self.old.bytes }
+        ensures { self.new ≡ record self.old { bytes = drop count self.old.bytes } }
     {
-        take_front(&mut self.bytes, count)
+        drop_front(&mut self.bytes, count);
     }
 
     /// Puts bytes back at the front, for which there must be room. This takes no memory.

@@ -42,12 +42,13 @@ pub enum Kind {
     Copy,
 }
 
-/// Up to `count` bytes from a place on, and at most 512; none past the end.
-fn part(bytes: &[u8], offset: u64, count: usize) -> Text
-    ensures { result ≡ bytes_part bytes.now offset (min count TEXT_LIMIT) }
+/// Up to `count` bytes of a text from a place on; none past the end.
+fn part(text: &Text, at: usize, count: usize) -> Text
+    ensures { result ≡ bytes_part text.now at count }
 {
-    let rest = &bytes[bytes.len().min(offset as usize)..];
-    Text::new(&rest[..count.min(TEXT_LIMIT).min(rest.len())]).unwrap()
+    let bytes = text.as_slice();
+    let rest = &bytes[bytes.len().min(at)..];
+    Text::new(&rest[..count.min(rest.len())]).unwrap()
 }
 
 impl Value {
@@ -99,10 +100,12 @@ impl Value {
     pub fn bytes_at(&self, offset: u64, count: usize) -> Option<Text>
         ensures { result ≡ bytes_from self.now offset count }
     {
+        let at = offset as usize;
+        let count = count.min(TEXT_LIMIT);
         match self {
-            Value::File(file) => Some(part(file.as_slice(), offset, count)),
-            Value::Pipe(pipe) => Some(part(pipe.as_slice(), offset, count)),
-            Value::Copy(content) => Some(part(content.bytes().as_slice(), offset, count)),
+            Value::File(file) => Some(file.part(at, count)),
+            Value::Pipe(pipe) => Some(pipe.part(at, count)),
+            Value::Copy(content) => Some(part(&content.bytes(), at, count)),
             _ => None,
         }
     }
@@ -147,7 +150,7 @@ impl Value {
         ensures { result ≡ link_at self.now place }
     {
         match self {
-            Value::Dir(directory) => directory.as_slice().get(place).copied(),
+            Value::Dir(directory) => directory.at(place),
             _ => None,
         }
     }

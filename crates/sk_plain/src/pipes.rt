@@ -86,17 +86,16 @@ fn take_from<S: Look>(
     requires most { (1 ≤ most) × (most ≤ 512) }
     ensures { PlansRow (S.look _store.now) pid (Ask (Obj object.now) (λ v. take_from pid process.now object.now pipe.now most)) result }
 {
-    let bytes = pipe.as_slice();
-    if bytes.len() == 0 {
+    let held = pipe.len();
+    if held == 0 {
         if !pipe.is_shut() {
             return Err(Refusal::Blocked);
         }
         return Ok(looked(filled(process, Text::empty(), 0), Entity::Obj(*object)));
     }
-    let count = (most as usize).min(bytes.len());
-    let text = Text::new(&bytes[..count]).unwrap();
+    let count = (most as usize).min(held);
     Ok(changed(
-        filled(process, text, count as u64),
+        filled(process, pipe.front(count), count as u64),
         &Entity::Obj(*object),
         Becomes::Changed(Change::Take(count as u32)),
     ))

@@ -1,12 +1,13 @@
 //! How entities and what they have are printed.
-ghost use Rattle.std.specs.Prelude.{◌≡◌, ◌<◌, ◌∷◌, Some, flat_map, decimal, slice_index};
+ghost use Rattle.std.specs.Prelude.{◌≡◌, ◌<◌, ◌∷◌, Some, drop, flat_map, decimal};
 ghost use Rattle.sk_report.specs.Printed.{tags_text, signals_text, links_text, link_text, option_text, registers_text, held_text, made_text, yes_or_no, process_text, content_text, value_text, view_text, entity_text};
 ghost use Rattle.sk_script.specs.Registers.{held};
+ghost use Rattle.sk_words.specs.Spelling.{spelled};
 
 use sk_ids::{Entity, GuessId, Name, ObjId, TagSet};
-use sk_objects::{Content, Directory, Signals, Value};
+use sk_objects::{Content, Directory, File, Pipe, Signals, Value};
 use sk_plain::View;
-use sk_script::words::{Literal, Printed};
+use sk_script::words::{Literal, Printed, Unquoted};
 use sk_script::{Process, Register, Registers, Val};
 use std::fmt;
 
@@ -92,17 +93,19 @@ impl fmt::Display for PrintedLink {
     }
 }
 
-/// Links, each behind a space.
+/// The links of a directory behind the first, each behind a space.
 #[derive(Drop)]
-struct MoreLinks<'a>(&'a [(Name, ObjId)]);
+struct MoreLinks<'a>(&'a Directory);
 
 impl fmt::Display for MoreLinks<'_> {
-    ghost output = { λ s. Some (flat_map (λ link. 32 ∷ link_text link) s.0.now) };
+    ghost output = { λ s. Some (flat_map (λ link. 32 ∷ link_text link) (drop 1 s.0.now)) };
 
     fn fmt<W: fmt::Write>(&self, f: &mut fmt::Formatter<W>) -> fmt::Result {
-        for (name, object) in self.0 {
-            let link = PrintedLink(*name, *object);
+        let mut place = 1;
+        while let Some((name, object)) = self.0.at(place) {
+            let link = PrintedLink(name, object);
             write!(f, " {link}")?;
+            place += 1;
         }
         Ok(())
     }
@@ -116,11 +119,11 @@ impl fmt::Display for PrintedLinks<'_> {
     ghost output = { λ s. Some (links_text s.0.now) };
 
     fn fmt<W: fmt::Write>(&self, f: &mut fmt::Formatter<W>) -> fmt::Result {
-        match self.0.as_slice() {
-            [] => write!(f, "-"),
-            [(name, object), others @ ..] => {
-                let first = PrintedLink(*name, *object);
-                let others = MoreLinks(others);
+        match self.0.at(0) {
+            None => write!(f, "-"),
+            Some((name, object)) => {
+                let first = PrintedLink(name, object);
+                let others = MoreLinks(self.0);
                 write!(f, "{first}{others}")
             }
         }
@@ -245,6 +248,38 @@ impl fmt::Display for PrintedContent<'_> {
     }
 }
 
+/// The bytes of a file, as a literal.
+#[derive(Drop)]
+struct PrintedFile<'a>(&'a File);
+
+impl fmt::Display for PrintedFile<'_> {
+    ghost output = { λ s. Some (spelled s.0.now) };
+
+    fn fmt<W: fmt::Write>(&self, f: &mut fmt::Formatter<W>) -> fmt::Result {
+        write!(f, "\"")?;
+        for index in 0..self.0.blocks() {
+            let block = Unquoted(self.0.block(index));
+            write!(f, "{block}")?;
+        }
+        write!(f, "\"")
+    }
+}
+
+/// The bytes of a pipe, as a literal.
+#[derive(Drop)]
+struct PrintedPipe<'a>(&'a Pipe);
+
+impl fmt::Display for PrintedPipe<'_> {
+    ghost output = { λ s. Some (spelled s.0.now.bytes) };
+
+    fn fmt<W: fmt::Write>(&self, f: &mut fmt::Formatter<W>) -> fmt::Result {
+        let (front, back) = self.0.parts();
+        let front = Unquoted(front);
+        let back = Unquoted(back);
+        write!(f, "\"{front}{back}\"")
+    }
+}
+
 /// A value, behind its entity.
 #[derive(Drop)]
 pub struct PrintedValue<'a>(pub &'a Value);
@@ -256,7 +291,7 @@ impl fmt::Display for PrintedValue<'_> {
         match self.0 {
             Value::File(file) => {
                 let size = file.len();
-                let bytes = Literal(file.as_slice());
+                let bytes = PrintedFile(file);
                 write!(f, "file {size} {bytes}")
             }
             Value::Dir(directory) => {
@@ -265,7 +300,7 @@ impl fmt::Display for PrintedValue<'_> {
             }
             Value::Pipe(pipe) => {
                 let state = if pipe.is_shut() { "shut" } else { "open" };
-                let bytes = Literal(pipe.as_slice());
+                let bytes = PrintedPipe(pipe);
                 write!(f, "pipe {state} {bytes}")
             }
             Value::Signals(signals) => write!(f, "{}", PrintedSignals(signals)),

@@ -18,6 +18,6 @@ pub use fault::{Fault, FaultKind};
 pub use line::{Words, first_word};
 pub use operands::{Operand, closed, next_word, no_more, none, one, three, two};
 pub use reader::{Reader, read};
-pub use spelling::{Literal, Printed};
+pub use spelling::{Literal, Printed, Unquoted};
 pub use text::Lines;
 pub use values::{Index, Label, Natural};

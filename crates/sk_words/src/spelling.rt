@@ -43,6 +43,24 @@ impl fmt::Display for Spelled {
     }
 }
 
+/// Bytes as they stand between the quotes of a literal.
+#[derive(Clone, Copy)]
+pub struct Unquoted<'a>(pub &'a [u8]);
+
+impl fmt::Display for Unquoted<'_> {
+    ghost use Rattle.std.specs.Prelude.{Some, flat_map};
+    ghost use Rattle.sk_words.specs.Spelling.{spelled_byte};
+
+    ghost output = { λ t. Some (flat_map spelled_byte t.0.now) };
+
+    fn fmt<W: fmt::Write>(&self, f: &mut fmt::Formatter<W>) -> fmt::Result {
+        for byte in self.0 {
+            write!(f, "{}", Spelled(*byte))?;
+        }
+        Ok(())
+    }
+}
+
 /// Bytes as a literal.
 #[derive(Drop)]
 pub struct Literal<'a>(pub &'a [u8]);
@@ -54,11 +72,8 @@ impl<'a> fmt::Display for Literal<'a> {
     ghost output = { λ t. Some (spelled t.0.now) };
 
     fn fmt<W: fmt::Write>(&self, f: &mut fmt::Formatter<W>) -> fmt::Result {
-        write!(f, "\"")?;
-        for byte in self.0 {
-            write!(f, "{}", Spelled(*byte))?;
-        }
-        write!(f, "\"")
+        let bytes = Unquoted(self.0);
+        write!(f, "\"{bytes}\"")
     }
 }
 

@@ -54,7 +54,7 @@ fn object(count: u32) -> ObjId {
 }
 
 fn file(alloc: Global, bytes: Text) -> Result<Value, AllocError> {
-    Ok(Value::File(File::from_slice(alloc, bytes.as_slice())?))
+    Ok(Value::File(File::from_text(alloc, &bytes)?))
 }
 
 fn file_row(

@@ -1,55 +1,44 @@
--- A value that is taken out of the store, changed and put in again: from what a finite map reads after its writes.
-use Rattle.std.proofs.Common.{◌≡◌, Bool, true, false, cond, Option, Some, None, Bor, refl, sym, ◌∙◌, ap, subst}
+-- A value of the store changed where it stands: from what a finite map reads after its writes.
+use Rattle.std.proofs.Common.{◌≡◌, Bool, true, false, cond, Option, Some, None, refl, sym, ◌∙◌, ap, subst}
 use Rattle.std.specs.Ordering.{eq_by_cmp}
 use Rattle.std.specs.Cmp.{Equal-is}
-use Rattle.std.specs.Option.{is_some, option_copied}
-use Rattle.std.proofs.lemmas.Bool.{true≢false}
 use Rattle.sk_ids.specs.Entity.{entity_cmp}
 use Rattle.std.specs.FinMap.{get, insert, remove, get-insert, get-remove, same_map}
-use Rattle.std.specs.Cmp.{eq_by_cmp_equiv}
 use Rattle.sk_ids.specs.declared.entity.Entity.{Entity}
 use Rattle.sk_ids.proofs.Entities.{entity_total, entity_exact}
-use Rattle.sk_objects.specs.declared.value.Value.{Value}
 use Rattle.sk_changes.specs.declared.change.Change.{Change}
-use Rattle.sk_changes.specs.Changes.{value_after}
+use Rattle.sk_changes.specs.declared.change.Undo.{Undo}
 use Rattle.sk_store.specs.State.{State}
-use Rattle.sk_store.specs.Changed.{changed}
+use Rattle.sk_store.specs.Changed.{changed, StateFits, state_undone}
 use Rattle.sk_store.specs.declared.entity_state.EntityState.{EntityState}
-use Rattle.sk_store.specs.declared.entity_state.EntityState.TheVariants as stored
-use Rattle.sk_store.proofs.Puts.{insert_twice, insert_back}
+use Rattle.sk_store.proofs.Puts.{at_same, insert_back}
 use Rattle.sk_store.specs.Back.{CanChangeBack, changed_back}
 
--- what was set is read
-pub reads : (s : State) (e : Entity) (x : EntityState) → get (insert s e x) e ≡ Some x
-reads s e x = get-insert entity_total s e x e ∙ ap (λ b. cond b (Some x) (get s e)) ((eq_by_cmp_equiv entity_total).refl e)
-
 -- the value after its change stands where it was
-pub put_changed : (s : State) (e : Entity) (v : Value) (hole : EntityState) (c : Change) → get s e ≡ Some (stored.Value v)
-    → insert (insert s e hole) e (stored.Value (value_after v c)) ≡ insert s e (changed (get s e) c)
-put_changed s e v hole c at = insert_twice s e hole _ ∙ ap (λ o. insert s e (changed o c)) (sym at)
+pub put_changed : (s : State) (e : Entity) (v w : EntityState) (c : Change) → Some v ≡ get s e → w ≡ changed (Some v) c → insert s e w ≡ insert s e (changed (get s e) c)
+put_changed s e v w c here is = ap (insert s e) (is ∙ ap (λ o. changed o c) here)
 
--- and what was there stands again
-pub put_same : (s : State) (e : Entity) (v : Value) (hole : EntityState) → get s e ≡ Some (stored.Value v) → insert (insert s e hole) e (stored.Value v) ≡ s
-put_same s e v hole at = insert_back s e (stored.Value v) hole at
+kept : (q e : Entity) (m : State) (v : EntityState) → get m e ≡ Some v → (b : Bool) → eq_by_cmp entity_cmp q e ≡ b → cond b (Some v) (get m q) ≡ get m q
+kept q e m v here true is = sym (ap (get m) (entity_exact q e ((Equal-is (entity_cmp q e)).0 is)) ∙ here)
+kept q e m v here false is = refl
+
+-- what is there, set again
+pub insert_same : (m : State) (e : Entity) (v : EntityState) → get m e ≡ Some v → insert m e v ≡ m
+insert_same m e v here = same_map entity_total entity_exact _ _ (λ q. get-insert entity_total m e v q ∙ kept q e m v here (eq_by_cmp entity_cmp q e) refl)
 
 -- what may be taken back from a value may be taken back where the value stands
-pub can_change_back : (s : State) (e : Entity) (w : Value) (can : Value → Type 0) → can w → CanChangeBack (get (insert s e (stored.Value w)) e) can
-can_change_back s e w can h = subst (λ o. CanChangeBack o can) (sym (reads s e (stored.Value w))) h
+pub can_change_back : (s : State) (e : Entity) (w : EntityState) (undo : Undo) → StateFits w undo → CanChangeBack (get (insert s e w) e) undo
+can_change_back s e w undo h = subst (λ o. CanChangeBack o undo) (sym (at_same s e w)) h
 
 -- the value with its change taken back stands where it was
-pub put_undone : (s : State) (e : Entity) (v : Value) (hole : EntityState) (back : Value → Value) → get s e ≡ Some (stored.Value v)
-    → insert (insert s e hole) e (stored.Value (back v)) ≡ changed_back (get s e) s e back
-put_undone s e v hole back at = insert_twice s e hole _ ∙ ap (λ o. changed_back o s e back) (sym at)
+pub put_undone : (s : State) (e : Entity) (v w : EntityState) (undo : Undo) → Some v ≡ get s e → w ≡ state_undone v undo → insert s e w ≡ changed_back (get s e) s e undo
+put_undone s e v w undo here is = ap (insert s e) is ∙ ap (λ o. changed_back o s e undo) here
 
 -- a change, and then what takes it back, leave what was there
-pub changed_and_back : (s : State) (e : Entity) (v w : Value) (hole : EntityState) (back : Value → Value) → get s e ≡ Some (stored.Value v) → back w ≡ v
-    → changed_back (get (insert (insert s e hole) e (stored.Value w)) e) (insert (insert s e hole) e (stored.Value w)) e back ≡ s
-changed_and_back s e v w hole back at is =
-    let t = insert (insert s e hole) e (stored.Value w) in
-    ap (λ o. changed_back o t e back) (reads (insert s e hole) e (stored.Value w))
-    ∙ insert_twice (insert s e hole) e (stored.Value w) (stored.Value (back w))
-    ∙ ap (λ x. insert (insert s e hole) e (stored.Value x)) is
-    ∙ put_same s e v hole at
+pub changed_and_back : (s : State) (e : Entity) (v w : EntityState) (undo : Undo) → get s e ≡ Some v → state_undone w undo ≡ v
+    → changed_back (get (insert s e w) e) (insert s e w) e undo ≡ s
+changed_and_back s e v w undo here is =
+    ap (λ o. changed_back o (insert s e w) e undo) (at_same s e w) ∙ ap (insert (insert s e w) e) is ∙ insert_back s e v w here
 
 gone : (q e : Entity) (m : State) (v : EntityState) → get m e ≡ None → (b : Bool) → eq_by_cmp entity_cmp q e ≡ b → cond b None (cond b (Some v) (get m q)) ≡ get m q
 gone q e m v absent true is = sym (ap (get m) (entity_exact q e ((Equal-is (entity_cmp q e)).0 is)) ∙ absent)
@@ -61,8 +50,3 @@ remove_back m e v absent = same_map entity_total entity_exact _ _ (λ q.
     get-remove entity_total (insert m e v) e q
     ∙ ap (cond (eq_by_cmp entity_cmp q e) None) (get-insert entity_total m e v q)
     ∙ gone q e m v absent (eq_by_cmp entity_cmp q e) refl)
-
--- what is absent shows nothing
-pub none_seen : {X : Type 0} (o : Option (Bor X)) → is_some o ≡ false → option_copied o ≡ None
-none_seen None is = refl
-none_seen (Some x) is = absurd (true≢false is)

@@ -4,12 +4,10 @@ use Rattle.std.specs.Coded.{Coded, code_by, coded×}
 use Rattle.std.specs.FinMap as map
 use Rattle.sk_ids.specs.declared.entity.Entity.{Entity}
 use Rattle.sk_ids.specs.contracts.entity.Entity as entity
-use Rattle.sk_objects.specs.declared.value.Value.{Value}
-use Rattle.sk_objects.specs.declared.value.Value.TheVariants as values
-use Rattle.sk_changes.specs.Changes.{CanUndo, value_undone}
+use Rattle.sk_changes.specs.declared.change.Undo.{Undo}
 use Rattle.sk_store.specs.State.{State}
+use Rattle.sk_store.specs.Changed.{StateFits, state_undone}
 use Rattle.sk_store.specs.declared.entity_state.EntityState.{EntityState}
-use Rattle.sk_store.specs.declared.entity_state.EntityState.TheVariants as stored
 use Rattle.sk_store.specs.declared.back.PutBack.{PutBack}
 use Rattle.sk_store.specs.declared.back.PutBack.TheVariants.{Was, Changed}
 use Rattle.sk_store.specs.contracts.back.PutBack as put_back
@@ -24,40 +22,28 @@ abbrev pub back_code : Coded BackView
 back_code = code_by (Entity × PutBack EntityState) (coded× entity.the_row.coded (put_back.the_row stored_row.the_row).coded) (λ n. (n.entity, n.undo)) (λ p. record { entity = p.0; undo = p.1 }) (λ _. refl)
 
 -- a value with a change taken back
-abbrev pub changed_back : Option EntityState → State → Entity → (Value → Value) → State
-changed_back (Some (stored.Value v)) s e back = map.insert s e (stored.Value (back v))
-changed_back (Some (stored.Process p)) s e back = s
-changed_back None s e back = s
-
--- what stands for a value while it is taken out
-abbrev pub taken_out : EntityState
-taken_out = stored.Value (values.Exit None)
-
--- it has a value of a kernel object
-abbrev pub HasValue : Option EntityState → Type 0
-HasValue (Some (stored.Value v)) = Unit {0}
-HasValue (Some (stored.Process p)) = ⊥
-HasValue None = ⊥
+abbrev pub changed_back : Option EntityState → State → Entity → Undo → State
+changed_back (Some v) s e undo = map.insert s e (state_undone v undo)
+changed_back None s e undo = s
 
 -- one write put back
 abbrev pub put_back_at : State → Entity → PutBack EntityState → State
 put_back_at s e (Was None) = map.remove s e
 put_back_at s e (Was (Some v)) = map.insert s e v
-put_back_at s e (Changed undo) = changed_back (map.get s e) s e (λ v. value_undone v undo)
+put_back_at s e (Changed undo) = changed_back (map.get s e) s e undo
 
 abbrev pub taken_back : State → BackView → State
 taken_back s b = put_back_at s b.entity b.undo
 
 -- what a change is taken back from is there
-abbrev pub CanChangeBack : Option EntityState → (Value → Type 0) → Type 0
-CanChangeBack (Some (stored.Value v)) can = can v
-CanChangeBack (Some (stored.Process p)) can = ⊥
-CanChangeBack None can = ⊥
+abbrev pub CanChangeBack : Option EntityState → Undo → Type 0
+CanChangeBack (Some v) undo = StateFits v undo
+CanChangeBack None undo = ⊥
 
 abbrev pub CanPutBack : State → Entity → PutBack EntityState → Type 0
 CanPutBack s e (Was None) = Unit {0}
 CanPutBack s e (Was (Some v)) = IsSome (map.get s e)
-CanPutBack s e (Changed undo) = CanChangeBack (map.get s e) (λ v. CanUndo v undo)
+CanPutBack s e (Changed undo) = CanChangeBack (map.get s e) undo
 
 abbrev pub CanTakeBack : State → BackView → Type 0
 CanTakeBack s b = CanPutBack s b.entity b.undo

@@ -1,14 +1,15 @@
 //! What takes a write back, in a store.
 ghost use Rattle.std.specs.Prelude.{◌≡◌, OnOk, OnErr, IsSome, IfOk, Some};
 ghost use Rattle.std.specs.FinMap as map;
+ghost use Rattle.sk_ids.specs.declared.entity.Entity.TheVariants.{Proc};
 ghost use Rattle.sk_store.specs.Changed.{FitsAt, changed};
-ghost use Rattle.sk_store.specs.Back.{taken_back, CanTakeBack, put_back_at, CanPutBack, HasValue, taken_out};
-ghost use Rattle.sk_store.specs.declared.entity_state.EntityState.TheVariants as EntityState;
+ghost use Rattle.sk_store.specs.declared.entity_state.EntityState.TheVariants as states;
+ghost use Rattle.sk_store.specs.Back.{put_back_at, CanPutBack};
 
 use crate::{EntityState, Keeper, Look, Store};
-use sk_changes::{Change, Invertible, Undo};
-use sk_ids::{Entity, TagSet};
-use sk_objects::Value;
+use sk_changes::{Change, Undo};
+use sk_ids::{Entity, Pid, TagSet};
+use sk_script::Process;
 use std::alloc::{AllocError, Global};
 use std::marker::Model;
 
@@ -37,29 +38,18 @@ impl Model for Back {
     ghost view = { λ n. record { entity = n.entity; undo = n.undo } };
 }
 
-/// Takes a value out of the store, where a placeholder stands until it is put back.
-fn take_value(store: &mut Store, entity: &Entity) -> Value
-    requires { HasValue (map.get store.old entity.now) }
-    ensures old { map.get store.old entity.now ≡ Some (EntityState.Value result) }
-    ensures new { store.new ≡ map.insert store.old entity.now taken_out }
-{
-    match store.replace(*entity, EntityState::Value(Value::Exit(None))) {
-        EntityState::Value(value) => value,
-        EntityState::Process(_) => unreachable!(),
-    }
-}
-
-/// Takes back a change of a value in place.
+/// Takes back a change of a value, where it stands.
 fn change_back(store: &mut Store, entity: &Entity, undo: Undo)
     requires { CanPutBack store.old entity.now (PutBack.Changed undo) }
     ensures { store.new ≡ put_back_at store.old entity.now (PutBack.Changed undo) }
 {
-    let mut value = take_value(store, entity);
-    value.undo(undo);
-    store.replace(*entity, EntityState::Value(value));
+    match store.get_mut(entity) {
+        Some(stored) => stored.undo(undo),
+        None => unreachable!(),
+    }
 }
 
-/// Changes a value in place. Without memory nothing has changed.
+/// Changes a value where it stands. Without memory nothing has changed.
 fn change_in(store: &mut Store, entity: &Entity, change: Change) -> Result<Undo, AllocError>
     requires { FitsAt (map.get store.old entity.now) change }
     ensures ok { OnOk result (store.new ≡ map.insert store.old entity.now (changed (map.get store.old entity.now) change)) }
@@ -67,13 +57,25 @@ fn change_in(store: &mut Store, entity: &Entity, change: Change) -> Result<Undo,
     ensures back { IfOk result (λ undo. put_back_at store.new entity.now (PutBack.Changed undo) ≡ store.old) }
     ensures err { OnErr result (store.new ≡ store.old) }
 {
-    let mut value = take_value(store, entity);
-    let answer = value.apply(change);
-    store.replace(*entity, EntityState::Value(value));
-    match answer {
-        Ok(undo) => Ok(undo),
-        Err(_) => Err(AllocError),
+    match store.get_mut(entity) {
+        Some(stored) => {
+            let undo = stored.change(change)?;
+            Ok(undo)
+        }
+        None => unreachable!(),
     }
+}
+
+/// Sets a process where it stands. Without memory nothing has changed.
+fn set_process(store: &mut Store, pid: Pid, process: &Process) -> Result<(), AllocError>
+    ensures ok { OnOk result (store.new ≡ map.insert store.old (Proc pid) (states.Process process.now)) }
+    ensures err { OnErr result (store.new ≡ store.old) }
+{
+    if let Some(held) = store.get_mut(&Entity::Proc(pid)) {
+        held.set_process(process);
+        return Ok(());
+    }
+    store.put(Entity::Proc(pid), EntityState::Process(*process))
 }
 
 /// Puts a write back, which takes no memory.
@@ -82,10 +84,13 @@ fn put_back(store: &mut Store, entity: &Entity, undo: PutBack<EntityState>)
     ensures { store.new ≡ put_back_at store.old entity.now undo }
 {
     match undo {
-        PutBack::Was(None) => store.remove(*entity),
-        PutBack::Was(Some(stored)) => {
-            store.replace(*entity, stored);
+        PutBack::Was(None) => {
+            store.remove(*entity);
         }
+        PutBack::Was(Some(stored)) => match store.put(*entity, stored) {
+            Ok(()) => {}
+            Err(_) => unreachable!(),
+        },
         PutBack::Changed(undo) => change_back(store, entity, undo),
     }
 }
@@ -102,8 +107,9 @@ fn write_in(
     ensures back { IfOk result (λ undo. put_back_at store.new entity.now undo ≡ store.old) }
     ensures err { OnErr result (store.new ≡ store.old) }
 {
-    if store.value(*entity).is_some() {
-        return Ok(PutBack::Was(Some(store.replace(*entity, stored))));
+    if let Some(held) = store.get_mut(entity) {
+        let before = std::mem::replace(held, stored);
+        return Ok(PutBack::Was(Some(before)));
     }
     store.put(*entity, stored)?;
     Ok(PutBack::Was(None))
@@ -143,6 +149,10 @@ impl Keeper for Store {
             entity,
             undo: PutBack::Changed(undo),
         })
+    }
+
+    fn set_process(&mut self, pid: Pid, process: &Process) -> Result<(), AllocError> {
+        set_process(self, pid, process)
     }
 
     fn remove(&mut self, entity: Entity) -> Result<(), AllocError> {

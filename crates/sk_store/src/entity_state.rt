@@ -1,6 +1,7 @@
 //! What an entity has.
-ghost use Rattle.std.specs.Prelude.{◌≡◌, IfOk};
+ghost use Rattle.std.specs.Prelude.{◌≡◌, IfOk, OnOk, OnErr, Some};
 
+use sk_changes::{Change, Invertible, Undo};
 use sk_objects::Value;
 use sk_script::Process;
 use std::alloc::AllocError;
@@ -13,6 +14,8 @@ pub enum EntityState {
 }
 
 impl EntityState {
+    ghost use Rattle.sk_store.specs.Changed.{FitsAt, changed, StateFits, state_undone};
+
     /// Another of equal content.
     pub fn copy(&self) -> Result<EntityState, AllocError>
         ensures { IfOk result (λ copy. copy ≡ self.now) }
@@ -20,6 +23,46 @@ impl EntityState {
         match self {
             EntityState::Process(process) => Ok(EntityState::Process(*process)),
             EntityState::Value(value) => Ok(EntityState::Value(value.copy()?)),
+        }
+    }
+
+    /// Changes the value that it is, where it stands. Without memory nothing has changed.
+    pub fn change(&mut self, change: Change) -> Result<Undo, AllocError>
+        requires { FitsAt (Some self.old) change }
+        ensures ok { OnOk result (self.new ≡ changed (Some self.old) change) }
+        ensures can { IfOk result (λ undo. StateFits self.new undo) }
+        ensures back { IfOk result (λ undo. state_undone self.new undo ≡ self.old) }
+        ensures err { OnErr result (self.new ≡ self.old) }
+    {
+        match self {
+            EntityState::Value(value) => match value.apply(change) {
+                Ok(undo) => Ok(undo),
+                Err(_) => Err(AllocError),
+            },
+            EntityState::Process(_) => unreachable!(),
+        }
+    }
+
+    /// Becomes a process, which takes no memory.
+    pub fn set_process(&mut self, process: &Process)
+        ensures { self.new ≡ EntityState.Process process.now }
+    {
+        match self {
+            EntityState::Process(held) => *held = *process,
+            EntityState::Value(_) => {
+                let _before = std::mem::replace(self, EntityState::Process(*process));
+            }
+        }
+    }
+
+    /// Takes back a change of the value that it is, which takes no memory.
+    pub fn undo(&mut self, undo: Undo)
+        requires { StateFits self.old undo }
+        ensures { self.new ≡ state_undone self.old undo }
+    {
+        match self {
+            EntityState::Value(value) => value.undo(undo),
+            EntityState::Process(_) => unreachable!(),
         }
     }
 }

@@ -1,14 +1,17 @@
 //! Writing to what entities have.
 use crate::{EntityState, Look};
 use sk_changes::Change;
-use sk_ids::{Entity, TagSet};
+use sk_ids::{Entity, Pid, TagSet};
+use sk_script::Process;
 use std::alloc::{AllocError, Global};
 
 /// What performs the writes of a step, each of which can be taken back until the next one.
 pub trait Keeper: Look {
     ghost use Rattle.std.specs.Prelude.{◌≡◌, OnOk, OnErr, IfOk, ℕ, List, Option, Some, None};
     ghost use Rattle.sk_ids.specs.declared.entity.Entity.{Entity};
+    ghost use Rattle.sk_ids.specs.declared.entity.Entity.TheVariants.{Proc};
     ghost use Rattle.sk_store.specs.declared.entity_state.EntityState.{EntityState};
+    ghost use Rattle.sk_store.specs.declared.entity_state.EntityState.TheVariants as stored;
     ghost use Rattle.sk_store.specs.Changed.{FitsAt, changed};
 
     /// What takes one write back.
@@ -46,6 +49,11 @@ pub trait Keeper: Look {
         ensures ok { OnOk result (self.new ≡ wrote self.old entity (Some (changed (Self.look self.old entity) change))) }
         ensures can { IfOk result (λ back. can_take_back self.new back) }
         ensures back { IfOk result (λ back. taken_back self.new back ≡ self.old) }
+        ensures err { OnErr result (self.new ≡ self.old) };
+
+    /// Sets a process where it stands, as the last write of a step. Without memory nothing has changed.
+    fn set_process(&mut self, pid: Pid, process: &Process) -> Result<(), AllocError>
+        ensures ok { OnOk result (self.new ≡ wrote self.old (Proc pid) (Some (stored.Process process.now))) }
         ensures err { OnErr result (self.new ≡ self.old) };
 
     /// Makes an entity absent, as the last write of a step. Without memory nothing has changed.

@@ -1,47 +1,29 @@
--- The value that was taken out stands where it was: changed, so that it can be changed back, or as it was.
-use Rattle.std.proofs.Common.{IsSome, sym, ◌∙◌, ap, subst}
-use Rattle.std.specs.FinMap.{get, insert}
-use Rattle.sk_changes.specs.Changes.{CanUndo, value_undone}
-use Rattle.sk_store.specs.declared.entity_state.EntityState.TheVariants as stored
-use Rattle.sk_store.proofs.Puts.{set_there}
-use Rattle.sk_store.specs.Back.{taken_out, CanChangeBack, changed_back}
-use Rattle.sk_store.proofs.InPlace.{put_changed, put_same, can_change_back, changed_and_back}
+-- The value stands where it was: changed, so that it can be changed back, or as it was.
+use Rattle.std.proofs.Common.{Some, sym, ◌∙◌, ap, subst, rules}
+use Rattle.std.specs.FinMap.{get}
+use Rattle.sk_store.specs.Back.{CanChangeBack, changed_back}
+use Rattle.sk_store.proofs.InPlace.{put_changed, insert_same, can_change_back, changed_and_back}
 use Rattle.sk_store.proofs.back.change_in.Goals as goal
 
-pub replace-requires : goal.replace-requires
-replace-requires c = subst (λ s. IsSome (get s c.args.entity.now)) (sym c.take_value-value.ensures.new) (set_there c.args.store.now c.args.entity.now taken_out)
+pub returns-in_err-undo-in-Some-clause-err : goal.returns-in_err-undo-in-Some-clause-err
+returns-in_err-undo-in-Some-clause-err c =
+    let whole = rw c.in-Some.is at (c.get_mut.follows.holds c.change.new.self) in
+    let same = insert_same c.args.store.now c.args.entity.now c.change.new.self (sym c.in-Some.ensures.value ∙ ap Some (sym c.in_err-undo-in-Some.ensures.err)) in
+    search (rules, whole ∙ same)
 
-pub returns-in-Ok-clause-ok : goal.returns-in-Ok-clause-ok
-returns-in-Ok-clause-ok c =
-    let s = c.args.store.now in
-    let e = c.args.entity.now in
-    c.replace.ensures.new
-    ∙ ap (λ t. insert t e (stored.Value c.apply-answer.new.self)) c.take_value-value.ensures.new
-    ∙ ap (λ w. insert (insert s e taken_out) e (stored.Value w)) c.in-Ok.ensures.ok.0
-    ∙ put_changed s e c.take_value-value.result taken_out c.args.change c.take_value-value.ensures.old
+pub returns-clause-ok : goal.returns-clause-ok
+returns-clause-ok c =
+    (rw c.in-Some.is at (c.get_mut.follows.holds c.change.new.self))
+    ∙ put_changed c.args.store.now c.args.entity.now _ c.change.new.self c.args.change c.in-Some.ensures.value c.in_ok-undo-in-Some.ensures.ok
 
-pub returns-in-Ok-clause-can : goal.returns-in-Ok-clause-can
-returns-in-Ok-clause-can c =
-    let s = c.args.store.now in
-    let e = c.args.entity.now in
-    let w = c.apply-answer.new.self in
-    let now = c.replace.ensures.new ∙ ap (λ t. insert t e (stored.Value w)) c.take_value-value.ensures.new in
-    subst (λ t. CanChangeBack (get t e) (λ v. CanUndo v c.in-Ok.undo)) (sym now) (can_change_back (insert s e taken_out) e w (λ v. CanUndo v c.in-Ok.undo) c.in-Ok.ensures.back.0)
+pub returns-clause-can : goal.returns-clause-can
+returns-clause-can c =
+    let whole = rw c.in-Some.is at (c.get_mut.follows.holds c.change.new.self) in
+    subst (λ t. CanChangeBack (get t c.args.entity.now) c.in_ok-undo-in-Some.undo) (sym whole)
+    (can_change_back c.args.store.now c.args.entity.now c.change.new.self c.in_ok-undo-in-Some.undo c.in_ok-undo-in-Some.ensures.can)
 
-pub returns-in-Ok-clause-back : goal.returns-in-Ok-clause-back
-returns-in-Ok-clause-back c =
-    let s = c.args.store.now in
-    let e = c.args.entity.now in
-    let w = c.apply-answer.new.self in
-    let now = c.replace.ensures.new ∙ ap (λ t. insert t e (stored.Value w)) c.take_value-value.ensures.new in
-    ap (λ t. changed_back (get t e) t e (λ v. value_undone v c.in-Ok.undo)) now
-    ∙ changed_and_back s e c.take_value-value.result w taken_out (λ v. value_undone v c.in-Ok.undo) c.take_value-value.ensures.old c.in-Ok.ensures.back.1
-
-pub returns-in-Err-clause-err : goal.returns-in-Err-clause-err
-returns-in-Err-clause-err c =
-    let s = c.args.store.now in
-    let e = c.args.entity.now in
-    c.replace.ensures.new
-    ∙ ap (λ t. insert t e (stored.Value c.apply-answer.new.self)) c.take_value-value.ensures.new
-    ∙ ap (λ w. insert (insert s e taken_out) e (stored.Value w)) c.in-Err.ensures.err
-    ∙ put_same s e c.take_value-value.result taken_out c.take_value-value.ensures.old
+pub returns-clause-back : goal.returns-clause-back
+returns-clause-back c =
+    let whole = rw c.in-Some.is at (c.get_mut.follows.holds c.change.new.self) in
+    ap (λ t. changed_back (get t c.args.entity.now) t c.args.entity.now c.in_ok-undo-in-Some.undo) whole
+    ∙ changed_and_back c.args.store.now c.args.entity.now _ c.change.new.self c.in_ok-undo-in-Some.undo (sym c.in-Some.ensures.value) c.in_ok-undo-in-Some.ensures.back

@@ -38,15 +38,6 @@ fn write_one<K: Keeper>(
     }
 }
 
-/// The last write of each step.
-fn write_process<K: Keeper>(keeper: &mut K, pid: Pid, process: &Process) -> Result<(), AllocError>
-    ensures ok { OnOk result (keeper.new ≡ K.wrote keeper.old (Proc pid) (Some (stored.Process process.now))) }
-    ensures err { OnErr result (keeper.new ≡ keeper.old) }
-{
-    keeper.write(Entity::Proc(pid), EntityState::Process(*process))?;
-    Ok(())
-}
-
 /// A child's exit slot, and then its parent.
 fn bear_slot<K: Keeper>(
     keeper: &mut K,
@@ -61,7 +52,7 @@ fn bear_slot<K: Keeper>(
         Entity::Exit(child.pid),
         EntityState::Value(Value::Exit(None)),
     )?;
-    if write_process(keeper, pid, process).is_err() {
+    if keeper.set_process(pid, process).is_err() {
         keeper.take_back(back);
         return Err(AllocError);
     }
@@ -112,10 +103,10 @@ pub fn apply_plan<K: Keeper>(keeper: &mut K, pid: Pid, plan: &Plan) -> Result<()
 {
     let process = &plan.process;
     match &plan.beside {
-        Beside::Nothing | Beside::Says => return write_process(keeper, pid, process),
+        Beside::Nothing | Beside::Says => return keeper.set_process(pid, process),
         Beside::One(entity, becomes) => {
             let back = write_one(keeper, *entity, becomes)?;
-            if write_process(keeper, pid, process).is_err() {
+            if keeper.set_process(pid, process).is_err() {
                 keeper.take_back(back);
                 return Err(AllocError);
             }

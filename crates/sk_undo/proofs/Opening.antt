@@ -59,9 +59,6 @@ by_place : (q e : Entity) (P : Type 0) → (eq_by_cmp entity_cmp q e ≡ true �
 by_place q e P here apart = elim (eq_by_cmp entity_cmp q e) as (λ b. eq_by_cmp entity_cmp q e ≡ b → P) [ true ↦ here | false ↦ apart ] refl
 
 module _ (start store store' : State) (slots slots' : SlotMap) (e : Entity) (rest : List Entity) (so : Opening start (e ∷ rest) store slots) where
-  pub first_there : IsSome (map.get store e)
-  first_there = subst IsSome (sym (so.left e (or_left _ _ (self_in e)))) (so.present e (or_left _ _ (self_in e)))
-
   apart_from : (q : Entity) → is_in entity_cmp rest q ≡ true → eq_by_cmp entity_cmp q e ≡ false
   apart_from q there = by_place q e (eq_by_cmp entity_cmp q e ≡ false)
       (λ is. absurd (true≢false (sym (ap (is_in entity_cmp rest) (sym (entity_exact q e ((Equal-is (entity_cmp q e)).0 is))) ∙ there) ∙ out_after e rest (sorted_head entity_cmp e rest so.rising))))

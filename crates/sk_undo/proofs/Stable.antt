@@ -8,7 +8,8 @@ use Rattle.sk_store.specs.declared.back.PutBack.{PutBack}
 use Rattle.sk_store.specs.declared.back.PutBack.TheVariants.{Was, Changed}
 use Rattle.sk_undo.specs.declared.log.Note.{Note as RawNote}
 use Rattle.sk_undo.specs.Log.{seen, CanGoBack, restores, goes_unnoted_raw}
-use Rattle.sk_undo.specs.Slot.{undone, Fits, state_undone, StateFits, is_process, is_whole, goes_unnoted, is_stable, is_stable_raw}
+use Rattle.sk_store.specs.Changed.{StateFits, state_undone}
+use Rattle.sk_undo.specs.Slot.{undone, Fits, is_process, is_whole, goes_unnoted, is_stable, is_stable_raw}
 use Rattle.sk_undo.proofs.Joins.{same_undone, fits_any}
 
 whole_is : (undo : PutBack EntityState) (now : Option EntityState) → Fits undo now → restores is_process undo ≡ is_whole (undone undo now)

@@ -1,26 +1,17 @@
 -- What an entity has with its undo log, seen as the value now and the value before each note, the newest first.
 use Rattle.std.specs.Prelude.{◌≡◌, ℕ, Bool, true, false, ◌&&◌, List, [], ◌∷◌, Option, Some, None, is_none, refl, if◌then◌else◌}
 use Rattle.std.specs.Coded.{Coded, code_by, coded×, coded_ℕ, coded_list, coded_option}
-use Rattle.sk_changes.specs.Changes.{CanUndo, value_undone}
-use Rattle.sk_changes.specs.declared.change.Undo.{Undo}
 use Rattle.sk_record.specs.Notes.{Note}
 use Rattle.sk_record.specs.Merged.{same_tags}
 use Rattle.sk_store.specs.declared.entity_state.EntityState.{EntityState}
 use Rattle.sk_store.specs.declared.entity_state.EntityState.TheVariants as stored
 use Rattle.sk_store.specs.contracts.entity_state.EntityState as stored_row
+use Rattle.sk_store.specs.Changed.{StateFits, state_undone}
 use Rattle.sk_store.specs.declared.back.PutBack.{PutBack}
 use Rattle.sk_undo.specs.declared.log.Note.{Note as RawNote}
 use Rattle.sk_undo.specs.Log.{is_empty, before_last, less, HasNote, undone_by, FitsBy, is_whole_at, restores}
 
--- a value with a change taken back; a process is only ever set
-abbrev pub state_undone : EntityState → Undo → EntityState
-state_undone (stored.Process p) undo = stored.Process p
-state_undone (stored.Value v) undo = stored.Value (value_undone v undo)
-
-abbrev pub StateFits : EntityState → Undo → Type 0
-StateFits (stored.Process p) undo = ⊥
-StateFits (stored.Value v) undo = CanUndo v undo
-
+-- a process is only ever set
 abbrev pub is_process : EntityState → Bool
 is_process (stored.Process p) = true
 is_process (stored.Value v) = false

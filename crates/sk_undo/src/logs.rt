@@ -13,7 +13,8 @@ ghost use Rattle.sk_undo.specs.Decisions.{Unwound, Lightened, AreListed, AllRest
 
 use crate::{Slots, TakeBack};
 use sk_changes::Change;
-use sk_ids::{Entity, GuessId, TagSet};
+use sk_ids::{Entity, GuessId, Pid, TagSet};
+use sk_script::Process;
 use sk_store::{EntityState, Keeper, Look, Store};
 use std::alloc::{AllocError, Global};
 use std::marker::Model;
@@ -165,6 +166,10 @@ impl Keeper for Logs {
     fn change(&mut self, entity: Entity, change: Change) -> Result<Back, AllocError> {
         let how = self.slots.change(&entity, &self.tags, change)?;
         Ok(Back { entity, how })
+    }
+
+    fn set_process(&mut self, pid: Pid, process: &Process) -> Result<(), AllocError> {
+        self.slots.set_process(pid, &self.tags, process)
     }
 
     fn remove(&mut self, entity: Entity) -> Result<(), AllocError> {

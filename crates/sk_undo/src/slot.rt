@@ -10,14 +10,16 @@ ghost use Rattle.sk_undo.specs.Log.{is_empty, seen, CanGoBack};
 ghost use Rattle.sk_undo.specs.Slot.{undone, Fits, is_bare, slot_of, slot_wrote, slot_back, CanGoBackOnce, goes_unnoted, is_stable_raw};
 
 use crate::{Kept, Log, put_back};
-use sk_changes::{Change, Invertible, Undo};
+use sk_changes::{Change, Undo};
 use sk_ids::{GuessId, TagSet};
+use sk_script::Process;
 use sk_store::{EntityState, PutBack};
 use std::alloc::{AllocError, Global};
 use std::marker::Model;
 
 impl Kept for EntityState {
-    ghost use Rattle.sk_undo.specs.Slot.{StateFits, state_undone, is_process};
+    ghost use Rattle.sk_store.specs.Changed.{StateFits, state_undone};
+    ghost use Rattle.sk_undo.specs.Slot.{is_process};
 
     ghost fits = { StateFits };
 
@@ -26,10 +28,7 @@ impl Kept for EntityState {
     ghost is_whole = { is_process };
 
     fn change_back(&mut self, undo: Undo) {
-        match self {
-            EntityState::Value(inner) => inner.undo(undo),
-            EntityState::Process(_) => unreachable!(),
-        }
+        self.undo(undo);
     }
 
     fn is_whole(&self) -> bool {
@@ -82,7 +81,7 @@ fn is_bare(value: &Option<EntityState>, log: &Log<EntityState>) -> bool
     value.is_none() && is_unnoted(value, log)
 }
 
-/// Changes a value in place. Without memory nothing has changed.
+/// Changes a value where it stands. Without memory nothing has changed.
 fn change_in(value: &mut Option<EntityState>, change: Change) -> Result<Undo, AllocError>
     requires { FitsAt value.old change }
     ensures ok { OnOk result (value.new ≡ Some (changed value.old change)) }
@@ -90,16 +89,24 @@ fn change_in(value: &mut Option<EntityState>, change: Change) -> Result<Undo, Al
     ensures back { IfOk result (λ undo. undone (PutBack.Changed undo) value.new ≡ value.old) }
     ensures err { OnErr result (value.new ≡ value.old) }
 {
-    match std::mem::replace(value, None) {
-        Some(EntityState::Value(mut inner)) => {
-            let answer = inner.apply(change);
-            *value = Some(EntityState::Value(inner));
-            match answer {
-                Ok(undo) => Ok(undo),
-                Err(_) => Err(AllocError),
-            }
+    match value {
+        Some(state) => {
+            let undo = state.change(change)?;
+            Ok(undo)
         }
-        _ => unreachable!(),
+        None => unreachable!(),
+    }
+}
+
+/// Sets the process that is there, where it stands.
+fn set_process(value: &mut Option<EntityState>, process: &Process)
+    ensures { value.new ≡ Some (EntityState.Process process.now) }
+{
+    match value {
+        Some(held) => held.set_process(process),
+        None => {
+            let _before = std::mem::replace(value, Some(EntityState::Process(*process)));
+        }
     }
 }
 
@@ -149,6 +156,19 @@ impl Slot {
         let undo = PutBack::Was(before);
         self.log.note_reserved(tags, undo);
         Ok(None)
+    }
+
+    /// Sets the process that is there, where it stands.
+    pub fn set_process(&mut self, tags: &TagSet, process: &Process) -> Result<(), AllocError>
+        ensures ok { OnOk result (self.new ≡ slot_wrote tags.now self.old (Some (EntityState.Process process.now))) }
+        ensures err { OnErr result (self.new ≡ self.old) }
+    {
+        if goes_unnoted(tags, &self.value, &self.log) {
+            set_process(&mut self.value, process);
+            return Ok(());
+        }
+        self.set(tags, Some(EntityState::Process(*process)))?;
+        Ok(())
     }
 
     /// Makes the entity absent.

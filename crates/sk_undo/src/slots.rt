@@ -1,5 +1,5 @@
 //! All entities with their undo logs, in one map.
-ghost use Rattle.std.specs.Prelude.{◌≡◌, [], false, not, OnOk, OnErr, IfOk, OnSome, IsSome, Some, None, is_some};
+ghost use Rattle.std.specs.Prelude.{◌≡◌, [], false, not, OnOk, OnErr, IfOk, OnSome, Some, None, is_some};
 ghost use Rattle.std.specs.Option.{option_copied, option_copied_mut, unwrap_or};
 ghost use Rattle.std.specs.FinMap as map;
 ghost use Rattle.std.specs.List.Sorted.{IsStrictlySortedBy};
@@ -7,6 +7,7 @@ ghost use Rattle.std.specs.Borrow.{LendsSo, sem};
 ghost use Rattle.std.specs.Ordering.{eq_by_cmp};
 ghost use Rattle.sk_ids.specs.Entity.{entity_cmp};
 ghost use Rattle.sk_ids.specs.declared.entity.Entity.{Entity};
+ghost use Rattle.sk_ids.specs.declared.entity.Entity.TheVariants.{Proc};
 ghost use Rattle.sk_record.specs.Effects.{is_in};
 ghost use Rattle.sk_record.specs.Notes.{last_tags};
 ghost use Rattle.sk_store.specs.Changed.{FitsAt, changed};
@@ -19,8 +20,8 @@ ghost use Rattle.sk_undo.specs.contracts.slot.Slot.{the_row as slot_row};
 
 use crate::Slot;
 use sk_changes::Change;
-use sk_ids::{Entity, GuessId, TagSet};
-use sk_objects::Value;
+use sk_ids::{Entity, GuessId, Pid, TagSet};
+use sk_script::Process;
 use sk_store::{EntityState, PutBack, Store};
 use std::alloc::{AllocError, Global};
 use std::collections::BTreeMap;
@@ -63,14 +64,12 @@ fn born(alloc: Global, tags: &TagSet, value: Option<EntityState>) -> Result<Slot
 
 /// Moves what an entity has out of the store, into a slot of which nothing is noted.
 fn move_over(store: &mut Store, slots: &mut Slots, entity: &Entity) -> Result<(), AllocError>
-    requires { IsSome (map.get store.old entity.now) }
     ensures here { OnOk result (slots.new ≡ map.insert slots.old entity.now (slot_of (map.get store.old entity.now))) }
     ensures others { (e : Entity) → eq_by_cmp entity_cmp e entity.now ≡ false → map.get store.new e ≡ map.get store.old e }
 {
     let alloc = slots.alloc();
-    let hole = EntityState::Value(Value::Exit(None));
-    let value = store.replace(*entity, hole);
-    slots.put(*entity, Slot::new(alloc, Some(value)))
+    let value = store.remove(*entity);
+    slots.put(*entity, Slot::new(alloc, value))
 }
 
 impl Slots {
@@ -176,6 +175,25 @@ impl Slots {
         let slot = born(self.alloc, tags, Some(value))?;
         self.put(*entity, slot)?;
         Ok(TakeBack::DropSlot)
+    }
+
+    /// Sets a process where it stands. Without memory nothing has changed.
+    pub fn set_process(
+        &mut self,
+        pid: Pid,
+        tags: &TagSet,
+        process: &Process,
+    ) -> Result<(), AllocError>
+        ensures ok { OnOk result (self.new ≡ slots_wrote tags.now self.old (Proc pid) (Some (EntityState.Process process.now))) }
+        ensures err { OnErr result (self.new ≡ self.old) }
+    {
+        let entity = Entity::Proc(pid);
+        if let Some(slot) = self.slot_mut(&entity) {
+            slot.set_process(tags, process)?;
+            return Ok(());
+        }
+        let slot = born(self.alloc, tags, Some(EntityState::Process(*process)))?;
+        self.put(entity, slot)
     }
 
     /// Makes an entity absent. Without memory nothing has changed.

@@ -1,7 +1,8 @@
 use Rattle.std.proofs.Common.{◌≡◌, [], None, ◌∙◌, ap, sym, subst, rules}
 use Rattle.std.specs.Prelude.{reverse}
 use Rattle.sk_undo.specs.Log.{seen, CanGoBack, joined_from}
-use Rattle.sk_undo.specs.Slot.{SlotView, undone, Fits, state_undone, StateFits, is_process}
+use Rattle.sk_store.specs.Changed.{StateFits, state_undone}
+use Rattle.sk_undo.specs.Slot.{SlotView, undone, Fits, is_process}
 use Rattle.sk_record.specs.Notes.{committed}
 use Rattle.sk_record.specs.Merged.{Merges}
 use Rattle.sk_record.specs.UndoState.{IsGrowing}

@@ -1,10 +1,10 @@
-use Rattle.std.proofs.Common.{◌∷◌, ◌+◌, drop, sym, subst, ap, ◌∙◌, List}
+use Rattle.std.proofs.Common.{◌+◌, drop, sym, subst, ap, ◌∙◌, List}
 use Rattle.std.specs.List.Sorted.{IsStrictlySortedBy}
 use Rattle.sk_ids.specs.Entity.{entity_cmp}
 use Rattle.sk_ids.specs.declared.entity.Entity.{Entity}
 use Rattle.sk_record.specs.Effects.{is_in}
 use Rattle.sk_undo.proofs.Passes.{next_of}
-use Rattle.sk_undo.proofs.Opening.{Opening, opening_from, opening_at_end, first_there, opening_more, values_moved, nothing_noted, none_bare}
+use Rattle.sk_undo.proofs.Opening.{Opening, opening_from, opening_at_end, opening_more, values_moved, nothing_noted, none_bare}
 use Rattle.sk_undo.proofs.slots.Slots.open.Goals as goal
 
 pub loop-entity-init : goal.loop-entity-init
@@ -14,15 +14,6 @@ loop-entity-init c =
     (opening_from c.args.store c.deref-entity-items.result.now
     (subst (λ (es : List Entity). IsStrictlySortedBy entity_cmp es) same c.in_ok-entities.ensures.rising)
     (λ q. ap (λ (es : List Entity). is_in entity_cmp es q) (sym same) ∙ c.in_ok-entities.ensures.present q))
-
--- what is left begins with the entity of this turn
-begins : (c : goal.After-slots-1) → Opening c.args.store (c.entity-item.result ∷ drop (c.loop-entity.entity-index + 1) c.deref-entity-items.result.now) c.loop-entity.store c.loop-entity.slots
-begins c =
-    subst (λ es. Opening c.args.store es c.loop-entity.store c.loop-entity.slots)
-    (next_of c.deref-entity-items.result.now c.loop-entity.entity-index c.entity-item.result c.loop-entity-test.true c.entity-item.is) c.loop-entity.invariant
-
-pub move_over-requires : goal.move_over-requires
-move_over-requires c = first_there c.args.store c.loop-entity.store c.loop-entity.store c.loop-entity.slots c.loop-entity.slots c.entity-item.result _ (begins c)
 
 pub loop-entity-preserved : goal.loop-entity-preserved
 loop-entity-preserved c =

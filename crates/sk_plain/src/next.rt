@@ -36,7 +36,7 @@ fn takes_signal(process: &Process, signals: &Signals) -> bool
 }
 
 /// Whether a signal is due.
-fn is_due<S: Look>(store: &S, pid: Pid, process: &Process) -> bool
+pub(crate) fn is_due<S: Look>(store: &S, pid: Pid, process: &Process) -> bool
     ensures { result ≡ is_due process.now (S.look store.now (Sig pid)) }
 {
     match store.value(Entity::Sig(pid)) {

@@ -9,3 +9,4 @@ pub mod Scripting
 pub mod StepInput
 pub mod Same
 pub mod SameLemma
+pub mod Lease

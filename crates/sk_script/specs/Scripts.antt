@@ -1,5 +1,5 @@
 -- Scripts by name.
-use Rattle.std.specs.Prelude.{List}
+use Rattle.std.specs.Prelude.{ℕ, List, [], unwrap_or}
 use Rattle.std.specs.FinMap as map
 use Rattle.std.specs.Coded.{Coded, coded_ℕ, coded_list}
 use Rattle.sk_ids.specs.Name.{name_order}
@@ -12,3 +12,7 @@ ScriptMap = map.FinMap name_order (List Instruction)
 
 abbrev pub script_map_code : Coded ScriptMap
 script_map_code = map.code (coded_list coded_ℕ) (coded_list instruction.the_row.coded)
+
+-- the instructions under a name: none where no script has it
+abbrev pub script_at : ScriptMap → List ℕ → List Instruction
+script_at m name = unwrap_or (map.get m name) []

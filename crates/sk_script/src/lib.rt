@@ -3,16 +3,19 @@
 
 pub mod boot;
 pub mod instruction;
+pub mod lease;
 pub mod parse;
 pub mod private;
 pub mod process;
 pub mod register;
 pub mod script;
 pub mod scripts;
+pub mod shared_script;
 pub mod step_input;
 
 pub use boot::{Boot, BootFault, BootObject, BootProcess, ObjectKind};
 pub use instruction::{Input, Instruction};
+pub use lease::Lease;
 pub use process::{Process, ROOT};
 pub use register::{Register, Registers, Val};
 pub use script::Script;

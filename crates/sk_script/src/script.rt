@@ -4,7 +4,7 @@ ghost use Rattle.std.specs.Option.{option_copied};
 ghost use Rattle.sk_script.specs.Script.{INSTRUCTIONS};
 
 use crate::Instruction;
-use std::alloc::AllocError;
+use std::alloc::{AllocError, Global};
 use std::marker::Model;
 
 /// The greatest number of instructions of a script.
@@ -61,6 +61,13 @@ impl Script {
         ensures { result ≡ instructions.items }
     {
         Script { instructions }
+    }
+
+    /// A script without instructions.
+    pub(crate) fn empty(alloc: Global) -> Script
+        ensures { result ≡ [] }
+    {
+        Script::of(Vec::new(alloc))
     }
 
     /// The instruction at a place, from 0 on; `None` past the last one.

@@ -2,18 +2,22 @@
 ghost use Rattle.std.specs.Prelude.{◌≡◌, ◌↔◌, IsTrue, IfOk, OnOk, OnErr, None};
 ghost use Rattle.std.specs.Option.{option_copied};
 ghost use Rattle.std.specs.FinMap as map;
+ghost use Rattle.std.specs.Arc.{arc_value};
+ghost use Rattle.sk_script.specs.Scripts.{script_at};
 
 use crate::Script;
+use crate::shared_script::SharedScript;
 use sk_ids::Name;
 use std::alloc::{AllocError, Global};
 use std::collections::BTreeMap;
 use std::marker::Model;
+use std::sync::Arc;
 
 /// Scripts by name, which contracts see as a map.
 #[derive(Drop)]
 pub struct Scripts {
     alloc: Global,
-    scripts: BTreeMap<Name, Script>,
+    scripts: BTreeMap<Name, SharedScript>,
 }
 
 impl Model for Scripts {
@@ -69,7 +73,26 @@ impl Scripts {
     pub fn get(&self, name: &Name) -> Option<&Script>
         ensures { option_copied result ≡ map.get self.now name.now }
     {
+        match self.shared(name) {
+            Some(shared) => Some(shared.script()),
+            None => None,
+        }
+    }
+
+    fn shared(&self, name: &Name) -> Option<&SharedScript>
+        ensures { option_copied result ≡ map.get self.now name.now }
+    {
         self.scripts.get(name)
+    }
+
+    /// The script of this name, shared; an empty one where there is none. Refused only for want of memory.
+    pub fn share(&self, name: &Name) -> Result<Arc<Script>, AllocError>
+        ensures { IfOk result (λ shared. arc_value shared ≡ script_at self.now name.now) }
+    {
+        match self.shared(name) {
+            Some(shared) => shared.share(),
+            None => Ok(Arc::new(self.alloc, Script::empty(self.alloc))?),
+        }
     }
 
     /// Gives a script this name, which no other may have yet.
@@ -78,11 +101,12 @@ impl Scripts {
         ensures ok { OnOk result (self.new ≡ map.insert self.old name script) }
         ensures err { OnErr result (self.new ≡ self.old) }
     {
-        self.scripts.insert(name, script)?;
+        let shared = SharedScript::new(self.alloc, script)?;
+        self.scripts.insert(name, shared)?;
         Ok(())
     }
 
-    /// The same scripts again.
+    /// The same scripts again, which share what they hold.
     pub fn copy(&self) -> Result<Scripts, AllocError>
         ensures { IfOk result (λ copy. copy ≡ self.now) }
     {

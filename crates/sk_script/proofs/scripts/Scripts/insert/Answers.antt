@@ -8,5 +8,6 @@ use Rattle.sk_script.proofs.scripts.Scripts.insert.Goals as goal
 
 pub returns-clause-ok : goal.returns-clause-ok
 returns-clause-ok c =
-    one_given refl nat_list_cmp_total exact_bytes c.self.inside.scripts.entries c.insert.new.self.entries c.args.name c.args.script c.in_ok-insert.ensures.updates.0
-    ∙ ap (λ m. map.insert m c.args.name c.args.script) c.self.view_is
+    one_given refl nat_list_cmp_total exact_bytes c.self.inside.scripts.entries c.insert.new.self.entries c.args.name c.in_ok-shared.shared c.in_ok-insert.ensures.updates.0
+    ∙ ap (λ m. map.insert m c.args.name c.in_ok-shared.shared) c.self.view_is
+    ∙ ap (λ s. map.insert c.args.self.now c.args.name s) c.in_ok-shared.ensures

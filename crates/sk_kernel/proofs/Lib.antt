@@ -8,3 +8,5 @@ pub mod Refusals
 pub mod Lawful
 pub mod Undecided
 mod Opened
+pub mod HandedIn
+pub mod Entries

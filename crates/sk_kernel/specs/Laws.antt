@@ -1,15 +1,21 @@
 -- What the laws of kernels say.
-use Rattle.std.specs.Prelude.{◌≡◌, ℕ, false, map, Ok}
+use Rattle.std.specs.Prelude.{◌≡◌, ℕ, false, ◌++◌, replicate, map as each_of, Some, Ok}
 use Rattle.std.specs.FinMap as map
+use Rattle.std.specs.Ordering.{eq_by_cmp}
 use Rattle.sk_record.specs.Effects.{is_in}
 use Rattle.sk_record.specs.Step.{Effect}
 use Rattle.sk_record.specs.Trace.{IsDrawn, IsSound}
 use Rattle.sk_ids.specs.Entity.{entity_cmp}
 use Rattle.sk_ids.specs.declared.entity.Entity.{Entity}
+use Rattle.sk_ids.specs.declared.entity.Entity.TheVariants.{Proc}
+use Rattle.sk_script.specs.declared.process.Process.{Process}
+use Rattle.sk_script.specs.Lease.{LeaseView, after_private}
 use Rattle.sk_trace.specs.Entry.{EntryView}
 use Rattle.sk_store.specs.declared.entity_state.EntityState.{EntityState}
+use Rattle.sk_store.specs.declared.entity_state.EntityState.TheVariants as stored
 use Rattle.sk_plain.specs.Act.{plain, Saying}
-use Rattle.sk_kernel.specs.Kernel.{KernelView, events_of, state_at, tags_at, effect_at}
+use Rattle.sk_kernel.specs.Kernel.{KernelView, events_of, record_at, state_at, tags_at, effect_at}
+use Rattle.sk_kernel.specs.HandIn.{IsAsLent, alone_entry, with_steps}
 
 -- the trace of a kernel is sound
 abbrev pub HasSoundTrace : KernelView → Type 0
@@ -27,4 +33,15 @@ pub record IsUntouched (old new : KernelView) (e : Entity) : Type 0 where
 -- so is each entity that the step of an entry does not write, where it is accepted
 abbrev pub KeepsUnwritten : KernelView → EntryView → KernelView → Type 0
 KeepsUnwritten old n new =
-    (f : Effect Entity EntityState Saying) (e : Entity) → effect_at old n ≡ Ok f → is_in entity_cmp (map (λ w. w.0) f.written) e ≡ false → IsUntouched old new e
+    (f : Effect Entity EntityState Saying) (e : Entity) → effect_at old n ≡ Ok f → is_in entity_cmp (each_of (λ w. w.0) f.written) e ≡ false → IsUntouched old new e
+
+-- the instructions of a hand-in are as many entries more of the record, and leave the process as it became and all else as it was
+pub record AreEntries (old new : KernelView) (pid n : ℕ) (p : Process) : Type 0 where
+  pub entries : record_at new ≡ record_at old ++ replicate n (alone_entry pid)
+  pub process : map.get (state_at new) (Proc pid) ≡ Some (stored.Process p)
+  pub others : (e : Entity) → eq_by_cmp entity_cmp e (Proc pid) ≡ false → map.get (state_at new) e ≡ map.get (state_at old) e
+
+-- so it is of each lease that can be handed in, with this process after its instructions
+abbrev pub HandsInEntries : KernelView → LeaseView → Type 0
+HandsInEntries k l =
+    IsAsLent k l → after_private l.script l.count l.lent ≡ Some l.now → AreEntries k (with_steps k l.lent.pid l.count) l.lent.pid l.count l.now

@@ -4,3 +4,4 @@ pub mod Invariant
 pub mod Laws
 pub mod Opening
 pub mod OpeningLemma
+pub mod HandIn

@@ -52,9 +52,9 @@ pub enum FailRefusal {
 /// with, its trace limit and its trace, from which all else follows by definition.
 #[derive(Drop)]
 pub struct Kernel {
-    opening: Opening,
-    trace: Trace,
-    machine: Machine,
+    pub(crate) opening: Opening,
+    pub(crate) trace: Trace,
+    pub(crate) machine: Machine,
 }
 
 impl Model for Kernel {

@@ -4,9 +4,10 @@ ghost use Rattle.sk_record.specs.Notes.{has};
 ghost use Rattle.sk_record.specs.declared.status.Status.TheVariants.{Undecided};
 ghost use Rattle.sk_ids.specs.declared.entity.Entity.{Entity};
 ghost use Rattle.sk_script.specs.declared.instruction.Input.{Input};
+ghost use Rattle.sk_script.specs.Lease.{LeaseView};
 ghost use Rattle.sk_trace.specs.declared.event.Event.TheVariants as events;
 ghost use Rattle.sk_kernel.specs.Kernel.{KernelView, HasStatus, RestsOn, next_guess, tags_at, with_event};
-ghost use Rattle.sk_kernel.specs.Laws.{HasSoundTrace, WasDrawn, KeepsUnwritten};
+ghost use Rattle.sk_kernel.specs.Laws.{HasSoundTrace, WasDrawn, KeepsUnwritten, HandsInEntries};
 
 /// The number of the next guess is above that of each guess that was made.
 pub fn numbers()
@@ -17,6 +18,11 @@ pub fn numbers()
 pub fn unwritten()
     ensures step { (k : KernelView) (pid : ℕ) (input : Input) → HasSoundTrace k → KeepsUnwritten k (record { pid = pid; input = input; guess = None }) (with_event k (events.Step pid input)) }
     ensures guess { (k : KernelView) (pid : ℕ) (input : Input) → HasSoundTrace k → KeepsUnwritten k (record { pid = pid; input = input; guess = Some (next_guess k) }) (with_event k (events.Guess (next_guess k) pid input)) }
+{}
+
+/// A hand-in of so many private instructions is as many entries of the record, and leaves the process as they do.
+pub fn handed_in()
+    ensures { (k : KernelView) (l : LeaseView) → HasSoundTrace k → HandsInEntries k l }
 {}
 
 /// After the failure of a guess nothing rests on it.

@@ -27,7 +27,7 @@ use Rattle.sk_undo.specs.Logs.{look_at, log_at}
 use Rattle.sk_machine.specs.Parts.{Parts, undo_state_of, planned_effect}
 use Rattle.sk_machine.specs.Performed.{AreApart, IsClean, Performed, entities_of}
 
-contained : (es : List Entity) (e : Entity) → is_in entity_cmp es e ≡ true → Contains es e
+pub contained : (es : List Entity) (e : Entity) → is_in entity_cmp es e ≡ true → Contains es e
 contained [] e here = absurd (true≢false (sym here))
 contained (x ∷ es) e here =
     elim (eq_by_cmp entity_cmp e x) as (λ b. eq_by_cmp entity_cmp e x ≡ b → (b || is_in entity_cmp es e) ≡ true → Contains (x ∷ es) e) [
@@ -35,7 +35,7 @@ contained (x ∷ es) e here =
       | false ↦ λ _ later. let at = contained es e later in let far = at.1 in (suc at.0, omega arith, at.2)
     ] refl here
 
-contained_more : (xs es : List Entity) (e : Entity) → Contains es e → Contains (xs ++ es) e
+pub contained_more : (xs es : List Entity) (e : Entity) → Contains es e → Contains (xs ++ es) e
 contained_more [] es e at = at
 contained_more (x ∷ xs) es e at = let more = contained_more xs es e at in let far = more.1 in (suc more.0, omega arith, more.2)
 

@@ -7,3 +7,4 @@ pub mod Listed
 pub mod Struck
 pub mod Becomes
 pub mod Count
+pub mod Alone

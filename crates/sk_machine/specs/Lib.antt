@@ -2,3 +2,4 @@ pub mod Parts
 pub mod Noted
 pub mod Performed
 pub mod Dependents
+pub mod HandsIn

@@ -3,6 +3,7 @@
 #![tactic(auto)]
 
 mod dependents;
+pub mod hand_in;
 pub mod machine;
 pub mod open;
 

@@ -41,9 +41,9 @@ use std::marker::Model;
 /// What a kernel keeps beside its trace.
 #[derive(Drop)]
 pub struct Machine {
-    alloc: Global,
-    logs: Logs,
-    dependents: Vec<Dependents>,
+    pub(crate) alloc: Global,
+    pub(crate) logs: Logs,
+    pub(crate) dependents: Vec<Dependents>,
     opens: Vec<Open>,
     guesses: Guesses,
     terminals: Terminals,
@@ -187,7 +187,7 @@ impl Machine {
     }
 
     /// Adds to a set the guesses that these entities rest on.
-    fn add_tags(&self, tags: TagSet, entities: &[Entity]) -> Result<TagSet, AllocError>
+    pub(crate) fn add_tags(&self, tags: TagSet, entities: &[Entity]) -> Result<TagSet, AllocError>
         ensures members { IfOk result (λ all. (g : ℕ) → has g all ≡ (has g tags || any_rests self.now g entities.now)) }
         ensures rising { IfOk result (λ all. IsStrictlySortedBy nat_cmp all) }
     {

@@ -1,0 +1,84 @@
+-- The machine takes the process as it became, and stands for the trace with as many steps more.
+use Rattle.std.proofs.Common.{◌≡◌, ℕ, ◌+◌, ◌<◌, ◌≤◌, ◌^◌, Some, ◌++◌, length, refl, sym, ◌∙◌, ap, subst, arith, rules}
+use Rattle.std.specs.Prelude.{replicate}
+use Rattle.sk_script.specs.Lease.{after_private}
+use Rattle.sk_trace.specs.declared.event.Event.{Event}
+use Rattle.sk_machine.specs.HandsIn.{HandsInProcess}
+use Rattle.sk_machine.proofs.Given.{from_ok, from_err}
+use Rattle.sk_kernel.specs.Kernel.{KernelView, room}
+use Rattle.sk_kernel.specs.HandIn.{IsAsLent, alone_step, with_steps}
+use Rattle.sk_kernel.specs.contracts.kernel.Kernel.{the_view}
+use Rattle.sk_kernel.proofs.Whole.{tidy, opens_rise, open_count}
+use Rattle.sk_kernel.proofs.HandedIn.{handed_whole, same_opens, fits_places}
+use Rattle.sk_kernel.proofs.Opened.{still_opened}
+use Rattle.sk_kernel.proofs.kernel.Kernel.do_steps.Goals as goal
+
+pub hand_in-requires-clause-tidy : goal.hand_in-requires-clause-tidy
+hand_in-requires-clause-tidy c = tidy (the_view c.self.inside) c.self.inside.machine c.self.invariant.0.stands
+
+pub hand_in-requires-clause-rising : goal.hand_in-requires-clause-rising
+hand_in-requires-clause-rising c = opens_rise (the_view c.self.inside) c.self.inside.machine c.self.invariant.0.stands
+
+pub overflow_add-places : goal.overflow_add-places
+overflow_add-places c =
+    let few = fits_places (the_view c.self.inside) c.self.inside.machine c.self.invariant.0.stands c.args.count (subst (λ (k : KernelView). c.args.count ≤ room k) (sym c.self.view_is) c.requires.places) c.requires.some in
+    let below : c.open_count.result + c.args.count < 2 ^ 33 = omega (arith, few, c.open_count.ensures, c.limit-limit.ensures, c.limit-limit.type_inv) in
+    search (rules, below)
+
+pub returns-then-is_err : goal.returns-then-is_err
+returns-then-is_err c =
+    (
+      c.requires.as_lent,
+      subst (λ n. n ≤ room c.args.self.now) c.requires.count c.requires.places,
+      subst (λ n. 0 < n) c.requires.count c.requires.some,
+      (λ i. record { number = c.self.inside.machine.guesses.kernel; scripts = c.self.inside.opening.start.scripts; start = c.self.inside.opening.start.state; limit = c.self.inside.opening.limit; trace = c.reserve.ensures.events i })
+          ∙ c.self.view_is,
+    )
+
+pub returns-then-is_err-2 : goal.returns-then-is_err-2
+returns-then-is_err-2 c =
+    let same = from_err c.hand_in.result c.if-is_err-2.ensures.value c.hand_in.ensures.err in (
+      c.requires.as_lent,
+      subst (λ n. n ≤ room c.args.self.now) c.requires.count c.requires.places,
+      subst (λ n. 0 < n) c.requires.count c.requires.some,
+      (λ i. record { number = (same i).guesses.kernel; scripts = c.self.inside.opening.start.scripts; start = c.self.inside.opening.start.state; limit = c.self.inside.opening.limit; trace = c.reserve.ensures.events i })
+          ∙ c.self.view_is,
+    )
+
+pub append-requires : goal.append-requires
+append-requires c =
+    let reserved = from_ok c.reserve.result c.if-is_err.ensures.value c.reserve.ensures.room in
+    omega (arith, reserved)
+
+pub invariant_of-self-2 : goal.invariant_of-self-2
+invariant_of-self-2 c =
+    let k = the_view c.self.inside in
+    let m = c.self.inside.machine in
+    let b = c.hand_in.new.self in
+    let l = c.args.lease.now in
+    let own : c.lent.result.now.pid ≡ l.lent.pid = ap (λ p. p.pid) c.lent.ensures in
+    let hands : HandsInProcess m l.lent.pid c.now-process.result.now b =
+    subst (λ pid. HandsInProcess m pid c.now-process.result.now b) own (from_ok c.hand_in.result c.if-is_err-2.ensures.value c.hand_in.ensures.ok) in
+    let reserved = from_ok c.reserve.result c.if-is_err.ensures.value c.reserve.ensures.room in
+    let opens = same_opens k.scripts m b l.lent.pid c.now-process.result.now (hands k.scripts) in
+    let appended = c.append.ensures.room in
+    let counted = c.open_count.ensures in
+    let trace : c.append.new.trace.events ≡ k.trace ++ replicate l.count (alone_step l.lent.pid) =
+    c.append.ensures.events ∙ (λ i. c.reserve.ensures.events i ++ replicate (c.requires.count i) (alone_step (own i))) in (
+      handed_whole k m b c.self.inside.trace.room c.append.new.trace.room l c.now-process.result.now c.append.new.trace.events c.self.invariant.0
+          (subst (λ (x : KernelView). IsAsLent x l) (sym c.self.view_is) c.requires.as_lent)
+          c.now-process.ensures.done (subst (λ n. 0 < n) c.requires.count c.requires.some) (hands k.scripts) c.hand_in.ensures.guesses trace
+          (omega (arith, opens, reserved, appended, counted)),
+      still_opened k _ c.append.new.trace.events _ c.self.invariant.1 (ap (λ v. v.kernel) c.hand_in.ensures.guesses),
+    )
+
+pub returns : goal.returns
+returns c =
+    let l = c.args.lease.now in
+    let own : c.lent.result.now.pid ≡ l.lent.pid = ap (λ p. p.pid) c.lent.ensures in
+    let trace = c.append.ensures.events ∙ (λ i. c.reserve.ensures.events i ++ replicate (c.requires.count i) (alone_step (own i))) in (
+      c.requires.as_lent,
+      subst (λ n. n ≤ room c.args.self.now) c.requires.count c.requires.places,
+      (λ i. record { number = (c.hand_in.ensures.guesses i).kernel; scripts = c.self.inside.opening.start.scripts; start = c.self.inside.opening.start.state; limit = c.self.inside.opening.limit; trace = trace i })
+          ∙ ap (λ (k : KernelView). with_steps k l.lent.pid l.count) c.self.view_is,
+    )

@@ -1,0 +1,20 @@
+-- What is looked up is the run of the trace's record.
+use Rattle.std.proofs.Common.{Option, subst}
+use Rattle.std.specs.FinMap as map
+use Rattle.sk_ids.specs.declared.entity.Entity.{Entity}
+use Rattle.sk_store.specs.declared.entity_state.EntityState.{EntityState}
+use Rattle.sk_undo.specs.Logs.{look_at}
+use Rattle.sk_plain.specs.Act.{Scripts}
+use Rattle.sk_plain.specs.Leased.{Lends, lease_of}
+use Rattle.sk_kernel.specs.Kernel.{KernelView, state_at}
+use Rattle.sk_kernel.specs.contracts.kernel.Kernel.{the_view}
+use Rattle.sk_kernel.proofs.Whole.{look_is}
+use Rattle.sk_kernel.proofs.kernel.Kernel.lease.Goals as goal
+
+pub returns : goal.returns
+returns c =
+    let m = c.self.inside.machine in
+    let s = c.self.inside.opening.start.scripts in
+    subst (λ (k : KernelView). Lends c.lease_of.result (lease_of (map.get (state_at k)) k.scripts c.args.pid)) c.self.view_is
+    (subst (λ (f : Entity → Option EntityState). Lends c.lease_of.result (lease_of f s c.args.pid)) (λ i e. look_is (the_view c.self.inside) m c.self.invariant.0.stands e i)
+    (subst (λ (t : Scripts). Lends c.lease_of.result (lease_of (λ e. look_at m.slots e) t c.args.pid)) c.scripts.ensures c.lease_of.ensures))

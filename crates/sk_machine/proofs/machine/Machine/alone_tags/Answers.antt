@@ -1,0 +1,15 @@
+-- The guesses of the process and of its signals are those of its private instructions.
+use Rattle.std.proofs.Common.{◌≡◌, ℕ, ◌||◌, List, [], ap, ◌∙◌}
+use Rattle.sk_record.specs.Notes.{has}
+use Rattle.sk_ids.specs.declared.entity.Entity.{Entity}
+use Rattle.sk_machine.specs.Parts.{any_rests}
+use Rattle.sk_machine.proofs.Given.{if_ok}
+use Rattle.sk_machine.proofs.Alone.{tags_alone}
+use Rattle.sk_machine.proofs.machine.Machine.alone_tags.Goals as goal
+
+pub returns : goal.returns
+returns c =
+    let m = c.args.self.now in
+    if_ok c.add_tags.result c.add_tags.ensures.members c.add_tags.ensures.rising (λ tags members rising.
+    tags_alone m c.args.pid tags c.requires.tidy c.requires.rising rising
+    (λ g. members g ∙ (λ i. has g (c.new.ensures i) || any_rests m g (c.as_slice.ensures i))))

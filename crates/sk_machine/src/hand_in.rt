@@ -1,0 +1,68 @@
+//! Many private instructions of one process at once.
+ghost use Rattle.std.specs.Prelude.{◌≡◌, ◌∷◌, [], IfOk, OnOk, OnErr};
+ghost use Rattle.std.specs.List.Sorted.{IsStrictlySortedBy};
+ghost use Rattle.std.specs.Ordering.{nat_cmp};
+ghost use Rattle.sk_record.specs.UndoState.{IsTidy, numbers};
+ghost use Rattle.sk_ids.specs.declared.entity.Entity.TheVariants.{Proc};
+ghost use Rattle.sk_machine.specs.HandsIn.{AreAlone, SetsProcess, HandsInProcess};
+ghost use Rattle.sk_machine.specs.Parts.{undo_state_of};
+ghost use Rattle.sk_machine.specs.Performed.{IsClean};
+
+use crate::Machine;
+use crate::dependents::list_all;
+use sk_ids::{Entity, Pid, TagSet};
+use sk_script::Process;
+use sk_store::{EntityState, Keeper};
+use sk_undo::Logs;
+use std::alloc::AllocError;
+use std::slice;
+
+/// Sets what a process has become, which rests on these guesses. Without memory nothing has changed.
+#[tactic(auto, using(crate::proofs::Writes::performed))]
+fn set_process(
+    logs: &mut Logs,
+    tags: TagSet,
+    pid: Pid,
+    process: &Process,
+) -> Result<(), AllocError>
+    requires { IsClean logs.old.slots tags (Proc pid ∷ []) }
+    ensures ok { OnOk result (SetsProcess logs.old.slots tags pid process.now logs.new.slots) }
+    ensures err { OnErr result (logs.new.slots ≡ logs.old.slots) }
+{
+    logs.set_tags(tags);
+    let _back = logs.write(Entity::Proc(pid), EntityState::Process(*process))?;
+    Ok(())
+}
+
+impl Machine {
+    /// The guesses that private instructions of a process rest on: those of the process and of its signals.
+    fn alone_tags(&self, pid: Pid) -> Result<TagSet, AllocError>
+        requires tidy { IsTidy (undo_state_of self.now) }
+        requires rising { IsStrictlySortedBy nat_cmp (numbers self.now.opens) }
+        ensures { IfOk result (AreAlone self.now pid) }
+    {
+        let touched = [Entity::Proc(pid), Entity::Sig(pid)];
+        self.add_tags(TagSet::new(self.alloc), touched.as_slice())
+    }
+
+    /// Sets what a process has become by private instructions: one write, with one note. Without memory nothing has
+    /// changed.
+    pub fn hand_in(&mut self, pid: Pid, process: &Process) -> Result<(), AllocError>
+        requires tidy { IsTidy (undo_state_of self.old) }
+        requires rising { IsStrictlySortedBy nat_cmp (numbers self.old.opens) }
+        ensures ok { OnOk result (HandsInProcess self.old pid process.now self.new) }
+        ensures guesses { self.new.guesses ≡ self.old.guesses }
+        ensures err { OnErr result (self.new ≡ self.old) }
+    {
+        let tags = self.alone_tags(pid)?;
+        let own = Entity::Proc(pid);
+        list_all(
+            self.alloc,
+            &mut self.dependents,
+            &self.logs,
+            &tags,
+            slice::from_ref(&own),
+        )?;
+        set_process(&mut self.logs, tags, pid, process)
+    }
+}

@@ -14,4 +14,6 @@ mod plays;
 #[cfg(test)]
 mod records;
 #[cfg(test)]
+mod sizes;
+#[cfg(test)]
 mod start;

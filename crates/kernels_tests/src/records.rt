@@ -151,8 +151,11 @@ fn writer_before_the_guess(rt: HostRuntime) -> Result<(), Fail> {
 /// Takes so many steps of a process, each without input.
 fn steps(store: &mut Store, boot: &Boot, pid: Pid, count: usize) -> Result<(), Refusal> {
     for _ in 0..count {
-        let plan = plan_step(store, boot.scripts(), pid, &Input::None)?;
-        apply_plan(store, pid, &plan)?;
+        let plan = match plan_step(store, boot.scripts(), pid, &Input::None) {
+            Ok(plan) => plan,
+            Err(why) => return Err(why),
+        };
+        apply_plan(store, boot.scripts(), pid, &Input::None, &plan)?;
     }
     Ok(())
 }

@@ -2,10 +2,10 @@
 //! kernel, and what depends on each undecided guess is followed from step to step.
 use crate::finding::Finding;
 use sk_guesses::Status;
-use sk_ids::{Entity, GuessId, TagSet, Text};
+use sk_ids::{Entity, GuessId, Pid, TagSet, Text};
 use sk_plain::{Entry, Event, Plain, Plan, Trace, apply_plan, plan_step, strike};
 use sk_script::{Boot, Scripts};
-use sk_store::Store;
+use sk_store::{EntityState, Look, Store};
 use std::alloc::{AllocError, Global};
 use std::collections::BTreeSet;
 
@@ -36,6 +36,14 @@ pub struct Reckoning {
     /// By rising number.
     dirt: Vec<Dirt>,
     said: Vec<Said>,
+}
+
+/// The terminal of a process; 0 where there is none.
+fn terminal_of(store: &Store, pid: Pid) -> u16 {
+    match store.value(Entity::Proc(pid)) {
+        Some(EntityState::Process(process)) => process.terminal,
+        _ => 0,
+    }
 }
 
 /// Whether a trace has the decision of a guess.
@@ -114,12 +122,15 @@ impl Reckoning {
 
     /// Takes a step.
     fn take(&mut self, scripts: &Scripts, entry: &Entry) -> Result<(), Finding> {
-        let plan = plan_step(&self.store, scripts, entry.pid, &entry.input)?;
-        apply_plan(&mut self.store, entry.pid, &plan)?;
+        let plan = match plan_step(&self.store, scripts, entry.pid, &entry.input) {
+            Ok(plan) => plan,
+            Err(why) => return Err(Finding::from(why)),
+        };
+        apply_plan(&mut self.store, scripts, entry.pid, &entry.input, &plan)?;
         let is_held = follow(&mut self.dirt, entry, &plan)?;
         let text = self.plain.step(entry.pid, &entry.input)?;
         if let Some(text) = text {
-            let terminal = plan.process.terminal;
+            let terminal = terminal_of(&self.store, entry.pid);
             self.said.push(Said {
                 terminal,
                 text,

@@ -15,7 +15,8 @@ use Rattle.sk_ids.specs.declared.entity.Entity.{Entity}
 use Rattle.sk_script.specs.Scripts.{ScriptMap}
 use Rattle.sk_store.specs.declared.entity_state.EntityState.{EntityState}
 use Rattle.sk_plain.specs.Act.{plain, act}
-use Rattle.sk_plain.specs.Planned.{effect_of, CanDo, IsBeside}
+use Rattle.sk_plain.specs.Planned.{effect_of, IsBeside}
+use Rattle.sk_plain.specs.Seen.{CanPerform, seen_with}
 use Rattle.sk_plain.specs.declared.plan.Plan.{Plan}
 use Rattle.sk_plain.specs.Refusal.{cause}
 use Rattle.sk_plain.specs.declared.refusal.Refusal.{Refusal}
@@ -45,8 +46,8 @@ GuessPost (Err why) refused pid input old new = (refused ≡ cause why) × (new 
 -- the plan of a guess with an input, or why it does not fit
 abbrev pub PlansGuess : (Entity → Option EntityState) → ScriptMap → ℕ → Input → Result Plan Refusal → Type 0
 PlansGuess look scripts pid input (Ok plan) =
-    (perform look (act scripts pid input) ≡ Ok (effect_of look pid input plan)) × (guess_misfits input (perform look (act scripts pid input)) ≡ None)
-    × CanDo look plan.beside × IsBeside pid plan.beside
+    (perform look (act scripts pid input) ≡ Ok (effect_of look pid input (seen_with look scripts pid input plan))) × (guess_misfits input (perform look (act scripts pid input)) ≡ None)
+    × CanPerform look scripts pid input plan × IsBeside pid (seen_with look scripts pid input plan).beside
 PlansGuess look scripts pid input (Err why) = (guess_misfits input (perform look (act scripts pid input)) ≡ Some why) × (cause why ≡ Some why)
 
 -- a token that is another kernel's, or whose guess is decided

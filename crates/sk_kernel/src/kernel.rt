@@ -5,7 +5,8 @@ ghost use Rattle.std.specs.List.Sorted.{IsStrictlySortedBy};
 ghost use Rattle.sk_ids.specs.Entity.{entity_cmp};
 ghost use Rattle.sk_record.specs.Notes.{has};
 ghost use Rattle.sk_plain.specs.Next.{next_of};
-ghost use Rattle.sk_plain.specs.Planned.{refusal_of, PlansStep};
+ghost use Rattle.sk_plain.specs.Planned.{refusal_of};
+ghost use Rattle.sk_plain.specs.Seen.{PlansStep};
 ghost use Rattle.sk_plain.specs.Refusal.{cause};
 ghost use Rattle.sk_plain.specs.View.{Shows};
 ghost use Rattle.sk_trace.specs.declared.event.Event.TheVariants as events;
@@ -228,7 +229,10 @@ impl Kernel {
     pub fn step(&mut self, pid: Pid, input: Input) -> Result<(), Refusal>
         ensures { StepPost result (step_refused self.old (record { pid = pid; input = input; guess = None })) (events.Step pid input) self.old self.new }
     {
-        let plan = plan_at(&self.machine, &self.opening, pid, &input)?;
+        let plan = match plan_at(&self.machine, &self.opening, pid, &input) {
+            Ok(plan) => plan,
+            Err(why) => return Err(why),
+        };
         let _limit = self.opening.limit();
         if self.room() < 1 {
             return Err(Refusal::TraceFull);
@@ -252,7 +256,10 @@ impl Kernel {
     pub fn create_speculation(&mut self, pid: Pid, input: Input) -> Result<Guess, Refusal>
         ensures { GuessPost result (guess_refused self.old (record { pid = pid; input = input; guess = Some (next_guess self.old) })) pid input self.old self.new }
     {
-        let plan = plan_guess(&self.machine, &self.opening, pid, &input)?;
+        let plan = match plan_guess(&self.machine, &self.opening, pid, &input) {
+            Ok(plan) => plan,
+            Err(why) => return Err(why),
+        };
         let _limit = self.opening.limit();
         if self.machine.is_full() {
             return Err(Refusal::TooMany);

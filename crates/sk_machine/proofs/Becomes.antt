@@ -24,7 +24,7 @@ use Rattle.sk_trace.specs.Entry.{EntryView}
 use Rattle.sk_plain.specs.Act.{Scripts, Saying, act, plain}
 use Rattle.sk_plain.specs.Planned.{effect_of, writes_of, texts_after}
 use Rattle.sk_plain.specs.Planned.{said_by as said_in_plan}
-use Rattle.sk_plain.specs.declared.plan.Plan.{Plan}
+use Rattle.sk_plain.specs.Plan.{PlanView}
 use Rattle.sk_machine.specs.Parts.{Parts, machine_of, undo_state_of, planned_effect, said_at}
 use Rattle.sk_machine.specs.Performed.{Performed, entities_of}
 
@@ -61,7 +61,7 @@ said_left t g (x ∷ xs) =
 -- ---- the parts
 
 -- a step, with the status of its guess and its text
-pub takes_of : (scripts : Scripts) (a b : Parts) (n : EntryView) (plan : Plan) (tags : List ℕ)
+pub takes_of : (scripts : Scripts) (a b : Parts) (n : EntryView) (plan : PlanView) (tags : List ℕ)
     → perform (look_at a.slots) (act scripts n.pid n.input) ≡ Ok (effect_of (look_at a.slots) n.pid n.input plan)
     → tags ≡ step_tags (undo_state_of a) (planned_effect a n plan)
     → Performed a.slots tags (writes_of (look_at a.slots) n.pid plan) b.slots
@@ -82,7 +82,7 @@ takes_of scripts a b n plan tags accepted is did opens status texts = record {
 }
 
 -- a guess, whose number is the next
-pub takes_guess : (scripts : Scripts) (a b : Parts) (pid : ℕ) (input : Input) (id : ℕ) (plan : Plan) (tags : List ℕ)
+pub takes_guess : (scripts : Scripts) (a b : Parts) (pid : ℕ) (input : Input) (id : ℕ) (plan : PlanView) (tags : List ℕ)
     → id ≡ next_of a.guesses
     → perform (look_at a.slots) (act scripts pid input) ≡ Ok (effect_of (look_at a.slots) pid input plan)
     → tags ≡ step_tags (undo_state_of a) (planned_effect a (record { pid = pid; input = input; guess = Some id }) plan)

@@ -6,8 +6,6 @@ use Rattle.std.specs.Cmp.{Equal-is}
 use Rattle.sk_ids.specs.Entity.{entity_cmp}
 use Rattle.sk_ids.specs.declared.entity.Entity.{Entity}
 use Rattle.sk_ids.specs.declared.entity.Entity.TheVariants.{Proc, Sig, Exit, Obj, Copy}
-use Rattle.sk_plain.specs.declared.plan.Beside.{Beside}
-use Rattle.sk_plain.specs.declared.plan.Beside.TheVariants.{Nothing, Says, One, Birth, Gone}
 use Rattle.sk_script.specs.declared.process.Process.{Process}
 use Rattle.sk_plain.specs.Planned.{written_beside, gone_in}
 use Rattle.sk_ids.proofs.Entities.{entity_exact}
@@ -21,7 +19,7 @@ use Rattle.sk_store.specs.declared.entity_state.EntityState.{EntityState}
 use Rattle.sk_store.specs.declared.entity_state.EntityState.TheVariants as stored
 use Rattle.sk_plain.specs.Act.{Scripts, act, plain}
 use Rattle.sk_plain.specs.Planned.{IsBeside, IsNoProcess, effect_of, writes_of}
-use Rattle.sk_plain.specs.declared.plan.Plan.{Plan}
+use Rattle.sk_plain.specs.Plan.{PlanView, BesideView, Nothing, Says, One, Birth, Gone}
 use Rattle.sk_trace.specs.Entry.{EntryView}
 use Rattle.sk_undo.specs.Logs.{look_at, log_at}
 use Rattle.sk_machine.specs.Parts.{Parts, undo_state_of, planned_effect}
@@ -40,7 +38,7 @@ contained_more [] es e at = at
 contained_more (x ∷ xs) es e at = let more = contained_more xs es e at in let far = more.1 in (suc more.0, omega arith, more.2)
 
 -- a step without tags writes only what has no notes
-pub clean_of : (m : Parts) (n : EntryView) (plan : Plan) (tags : List ℕ) → IsTidy (undo_state_of m) → tags ≡ step_tags (undo_state_of m) (planned_effect m n plan)
+pub clean_of : (m : Parts) (n : EntryView) (plan : PlanView) (tags : List ℕ) → IsTidy (undo_state_of m) → tags ≡ step_tags (undo_state_of m) (planned_effect m n plan)
     → IsClean m.slots tags (entities_of (writes_of (look_at m.slots) n.pid plan))
 clean_of m n plan tags tidy is e there none =
     let f = planned_effect m n plan in
@@ -75,7 +73,7 @@ child_apart child pid less =
       | false ↦ λ _. refl
     ] refl
 
-apart_with : (look : Entity → Option EntityState) (pid : ℕ) (p : Process) (beside : Beside) → IsBeside pid beside
+apart_with : (look : Entity → Option EntityState) (pid : ℕ) (p : Process) (beside : BesideView) → IsBeside pid beside
     → AreApart (entities_of (written_beside look p beside ++ (Proc pid, Some (stored.Process p)) ∷ map (λ e. (e, None)) (gone_in beside)))
 apart_with look pid p Nothing h = (refl, tt)
 apart_with look pid p Says h = (refl, tt)
@@ -83,5 +81,5 @@ apart_with look pid p (One e becomes) h = (ap (λ b. b || false) (process_apart 
 apart_with look pid p (Gone e) h = (ap (λ b. b || false) (process_first e pid h), (refl, tt))
 apart_with look pid p (Birth c) h = (ap (λ b. b || false) (child_apart c.pid pid h), (refl, (refl, (refl, tt))))
 
-pub apart_of : (look : Entity → Option EntityState) (pid : ℕ) (plan : Plan) → IsBeside pid plan.beside → AreApart (entities_of (writes_of look pid plan))
+pub apart_of : (look : Entity → Option EntityState) (pid : ℕ) (plan : PlanView) → IsBeside pid plan.beside → AreApart (entities_of (writes_of look pid plan))
 apart_of look pid plan h = apart_with look pid plan.process plan.beside h

@@ -16,7 +16,7 @@ use Rattle.sk_store.specs.declared.entity_state.EntityState.{EntityState}
 use Rattle.sk_undo.specs.Logs.{look_at}
 use Rattle.sk_trace.specs.Entry.{EntryView}
 use Rattle.sk_plain.specs.Planned.{read_by, written_by}
-use Rattle.sk_plain.specs.declared.plan.Plan.{Plan}
+use Rattle.sk_plain.specs.Plan.{PlanView}
 use Rattle.sk_plain.proofs.Scan.{asked, changed_are}
 use Rattle.sk_machine.specs.Parts.{Parts, undo_state_of, planned_effect, any_rests}
 
@@ -37,7 +37,7 @@ pub from_none : (a b c : List ℕ) → is_empty a ≡ true → c ≡ b → (g : 
 from_none [] b c none same g = ap (has g) same
 from_none (x ∷ a) b c none same g = absurd (true≢false (sym none))
 
-module _ (m : Parts) (n : EntryView) (plan : Plan) where
+module _ (m : Parts) (n : EntryView) (plan : PlanView) where
   -- what a plan reads and writes is what its step touches
   touched_is : (g : ℕ) → any_rests m g (touches (planned_effect m n plan)) ≡ (any_rests m g (read_by n.pid n.input plan.looks) || any_rests m g (written_by n.pid plan.beside))
   touched_is g =

@@ -18,7 +18,7 @@ use Rattle.sk_undo.specs.Decisions.{undo_state}
 use Rattle.sk_trace.specs.Entry.{EntryView}
 use Rattle.sk_plain.specs.Act.{Saying}
 use Rattle.sk_plain.specs.Planned.{effect_of}
-use Rattle.sk_plain.specs.declared.plan.Plan.{Plan}
+use Rattle.sk_plain.specs.Plan.{PlanView}
 
 -- what each entity has with its notes, the open guesses with the tags of their own steps, the status of each guess, and
 -- each terminal's texts
@@ -52,7 +52,7 @@ abbrev pub machine_of : Parts → Machine Entity EntityState Saying
 machine_of m = record { state = undo_state_of m; status = status_of m.guesses; texts = λ t. said_at t (texts_at m.texts t) }
 
 -- what the planned step of an entry does
-abbrev pub planned_effect : Parts → EntryView → Plan → MarkedEffect Entity EntityState Saying
+abbrev pub planned_effect : Parts → EntryView → PlanView → MarkedEffect Entity EntityState Saying
 planned_effect m n plan =
     let f = effect_of (look_at m.slots) n.pid n.input plan in
     record { mark = n.guess; read = f.read; written = f.written; said = f.said }

@@ -22,7 +22,8 @@ ghost use Rattle.sk_ids.specs.declared.entity.Entity.{Entity};
 ghost use Rattle.sk_store.specs.Start.{start_of};
 ghost use Rattle.sk_undo.specs.Logs.{look_at};
 ghost use Rattle.sk_plain.specs.Act.{act, plain};
-ghost use Rattle.sk_plain.specs.Planned.{CanDo, IsBeside, effect_of, said_by, texts_after, writes_of};
+ghost use Rattle.sk_plain.specs.Planned.{IsBeside, effect_of, said_by, texts_after, writes_of};
+ghost use Rattle.sk_plain.specs.Seen.{CanPerform, seen_with};
 ghost use Rattle.sk_machine.specs.Parts.{any_rests, machine_of, planned_effect, undo_state_of};
 ghost use Rattle.sk_machine.specs.Performed.{entities_of, AreApart, IsClean, Performed, is_struck, with_struck};
 
@@ -79,20 +80,22 @@ impl Look for Machine {
 fn perform(
     logs: &mut Logs,
     terminals: &mut Terminals,
+    scripts: &Scripts,
     pid: Pid,
+    input: &Input,
     plan: &Plan,
     tags: TagSet,
 ) -> Result<(), AllocError>
-    requires can { CanDo (look_at logs.old.slots) plan.now.beside }
-    requires apart { AreApart (entities_of (writes_of (look_at logs.old.slots) pid plan.now)) }
-    requires clean { IsClean logs.old.slots tags (entities_of (writes_of (look_at logs.old.slots) pid plan.now)) }
-    ensures writes { OnOk result (Performed logs.old.slots tags (writes_of (look_at logs.old.slots) pid plan.now) logs.new.slots) }
-    ensures says { OnOk result (terminals.new ≡ texts_after terminals.old tags (said_by plan.now)) }
+    requires can { CanPerform (look_at logs.old.slots) scripts.now pid input.now plan.now }
+    requires apart { AreApart (entities_of (writes_of (look_at logs.old.slots) pid (seen_with (look_at logs.old.slots) scripts.now pid input.now plan.now))) }
+    requires clean { IsClean logs.old.slots tags (entities_of (writes_of (look_at logs.old.slots) pid (seen_with (look_at logs.old.slots) scripts.now pid input.now plan.now))) }
+    ensures writes { OnOk result (Performed logs.old.slots tags (writes_of (look_at logs.old.slots) pid (seen_with (look_at logs.old.slots) scripts.now pid input.now plan.now)) logs.new.slots) }
+    ensures says { OnOk result (terminals.new ≡ texts_after terminals.old tags (said_by (seen_with (look_at logs.old.slots) scripts.now pid input.now plan.now))) }
     ensures unwritten { OnErr result (logs.new.slots ≡ logs.old.slots) }
     ensures unsaid { OnErr result (terminals.new ≡ terminals.old) }
 {
     logs.set_tags(tags);
-    perform_plan(logs, terminals, pid, plan)
+    perform_plan(logs, terminals, scripts, pid, input, plan)
 }
 
 /// Takes a guess out of the open ones, and out of what the others rest on.
@@ -214,6 +217,7 @@ impl Machine {
     /// The guesses that a planned step rests on: those of all that it touches, and its own.
     fn step_tags(
         &self,
+        scripts: &Scripts,
         pid: Pid,
         input: &Input,
         plan: &Plan,
@@ -221,7 +225,7 @@ impl Machine {
     ) -> Result<TagSet, AllocError>
         requires tidy { IsTidy (undo_state_of self.now) }
         requires rising { IsStrictlySortedBy nat_cmp (numbers self.now.opens ++ marks own.now) }
-        ensures { IfOk result (λ tags. tags ≡ step_tags (undo_state_of self.now) (planned_effect self.now (record { pid = pid; input = input.now; guess = own.now }) plan.now)) }
+        ensures { IfOk result (λ tags. tags ≡ step_tags (undo_state_of self.now) (planned_effect self.now (record { pid = pid; input = input.now; guess = own.now }) (seen_with (look_at self.now.slots) scripts.now pid input.now plan.now))) }
     {
         let own = self.own_tags(own);
         let read = self.add_tags(own, plan.reads(pid, input).as_slice())?;
@@ -236,16 +240,16 @@ impl Machine {
         input: &Input,
         plan: &Plan,
     ) -> Result<(), AllocError>
-        requires accepted { perform (look_at self.old.slots) (act scripts.now pid input.now) ≡ Ok (effect_of (look_at self.old.slots) pid input.now plan.now) }
-        requires can { CanDo (look_at self.old.slots) plan.now.beside }
-        requires beside { IsBeside pid plan.now.beside }
+        requires accepted { perform (look_at self.old.slots) (act scripts.now pid input.now) ≡ Ok (effect_of (look_at self.old.slots) pid input.now (seen_with (look_at self.old.slots) scripts.now pid input.now plan.now)) }
+        requires can { CanPerform (look_at self.old.slots) scripts.now pid input.now plan.now }
+        requires beside { IsBeside pid (seen_with (look_at self.old.slots) scripts.now pid input.now plan.now).beside }
         requires tidy { IsTidy (undo_state_of self.old) }
         requires rising { IsStrictlySortedBy nat_cmp (numbers self.old.opens) }
         ensures ok { OnOk result (MergedTakes (plain scripts.now) (machine_of self.old) (record { pid = pid; input = input.now; guess = None }) (machine_of self.new)) }
         ensures guesses { self.new.guesses ≡ self.old.guesses }
         ensures err { OnErr result (self.new ≡ self.old) }
     {
-        let tags = self.step_tags(pid, input, plan, &None)?;
+        let tags = self.step_tags(scripts, pid, input, plan, &None)?;
         let written = plan.writes(pid);
         list_all(
             self.alloc,
@@ -254,7 +258,15 @@ impl Machine {
             &tags,
             written.as_slice(),
         )?;
-        perform(&mut self.logs, &mut self.terminals, pid, plan, tags)
+        perform(
+            &mut self.logs,
+            &mut self.terminals,
+            scripts,
+            pid,
+            input,
+            plan,
+            tags,
+        )
     }
 
     /// Draws the next guess and takes its planned step. Without memory nothing has changed.
@@ -265,9 +277,9 @@ impl Machine {
         input: &Input,
         plan: &Plan,
     ) -> Result<Guess, AllocError>
-        requires accepted { perform (look_at self.old.slots) (act scripts.now pid input.now) ≡ Ok (effect_of (look_at self.old.slots) pid input.now plan.now) }
-        requires can { CanDo (look_at self.old.slots) plan.now.beside }
-        requires beside { IsBeside pid plan.now.beside }
+        requires accepted { perform (look_at self.old.slots) (act scripts.now pid input.now) ≡ Ok (effect_of (look_at self.old.slots) pid input.now (seen_with (look_at self.old.slots) scripts.now pid input.now plan.now)) }
+        requires can { CanPerform (look_at self.old.slots) scripts.now pid input.now plan.now }
+        requires beside { IsBeside pid (seen_with (look_at self.old.slots) scripts.now pid input.now plan.now).beside }
         requires tidy { IsTidy (undo_state_of self.old) }
         requires rising { IsStrictlySortedBy nat_cmp (numbers self.old.opens ++ marks (Some (next_of self.old.guesses))) }
         requires free { is_full self.old.guesses ≡ false }
@@ -279,7 +291,7 @@ impl Machine {
         let Some(id) = self.guesses.free() else {
             unreachable!();
         };
-        let tags = self.step_tags(pid, input, plan, &Some(id))?;
+        let tags = self.step_tags(scripts, pid, input, plan, &Some(id))?;
         let written = plan.writes(pid);
         list_all(
             self.alloc,
@@ -291,7 +303,15 @@ impl Machine {
         let own_tags = tags.copy()?;
         self.opens.reserve(1)?;
         self.guesses.reserve()?;
-        perform(&mut self.logs, &mut self.terminals, pid, plan, tags)?;
+        perform(
+            &mut self.logs,
+            &mut self.terminals,
+            scripts,
+            pid,
+            input,
+            plan,
+            tags,
+        )?;
         let Ok(guess) = self.guesses.draw() else {
             unreachable!();
         };

@@ -21,22 +21,23 @@ use Rattle.sk_store.specs.declared.entity_state.EntityState.TheVariants as store
 use Rattle.sk_plain.specs.declared.refusal.Refusal.{Refusal}
 use Rattle.sk_plain.specs.declared.refusal.Refusal.TheVariants.{NoProcess, Ended, Mismatch, NeedsReply, Blocked, TooMany, TraceFull, Memory}
 use Rattle.sk_plain.specs.declared.plan.Plan.{Plan}
-use Rattle.sk_plain.specs.declared.plan.Beside.{Beside}
-use Rattle.sk_plain.specs.declared.plan.Beside.TheVariants.{Nothing, Says, One, Birth, Gone}
+use Rattle.sk_plain.specs.Plan.{PlanView, BesideView, Nothing, Says, One, Birth, Gone}
+use Rattle.sk_plain.specs.Seen.{seen_with, looked, looks_of, written_in}
+use Rattle.sk_plain.proofs.Plans.{written_is}
 use Rattle.sk_script.specs.declared.process.Process.{Process}
 
 pub asked : {A B : Type 0} (look : A → B) (es : List A) → map (λ (r : A × B). r.0) (map (λ e. (e, look e)) es) ≡ es
 asked look [] = refl
 asked look (e ∷ es) = ap (λ rest. e ∷ rest) (asked look es)
 
-changed_by : (look : Entity → Option EntityState) (p : Process) (pid : ℕ) (v : Option EntityState) (b : Beside) → map (λ (w : Entity × Option EntityState). w.0) (written_beside look p b ++ (Proc pid, v) ∷ map (λ e. (e, None)) (gone_in b)) ≡ written_by pid b
+changed_by : (look : Entity → Option EntityState) (p : Process) (pid : ℕ) (v : Option EntityState) (b : BesideView) → map (λ (w : Entity × Option EntityState). w.0) (written_beside look p b ++ (Proc pid, v) ∷ map (λ e. (e, None)) (gone_in b)) ≡ written_by pid b
 changed_by look p pid v Nothing = refl
 changed_by look p pid v Says = refl
 changed_by look p pid v (One e becomes) = refl
 changed_by look p pid v (Birth c) = refl
 changed_by look p pid v (Gone e) = refl
 
-pub changed_are : (look : Entity → Option EntityState) (pid : ℕ) (plan : Plan) → map (λ (w : Entity × Option EntityState). w.0) (writes_of look pid plan) ≡ written_by pid plan.beside
+pub changed_are : (look : Entity → Option EntityState) (pid : ℕ) (plan : PlanView) → map (λ (w : Entity × Option EntityState). w.0) (writes_of look pid plan) ≡ written_by pid plan.beside
 changed_are look pid plan = changed_by look plan.process pid (Some (stored.Process plan.process)) plan.beside
 
 -- writes one after another are those of a finite map
@@ -52,35 +53,35 @@ on_all (Err why) p q r f = tt
 module _ (scripts : Scripts) (g : ℕ) (n : EntryView) (plan : Plan) (look : Entity → Option EntityState) where
   -- what the step leaves behind
   abbrev pub planned_effect : Effect Entity EntityState Saying
-  planned_effect = effect_of look n.pid n.input plan
+  planned_effect = effect_of look n.pid n.input (seen_with look scripts n.pid n.input plan)
 
   -- the step depends on the guess where its plan does
   hit_is : (dirty : List Entity) → hit entity_cmp g dirty (marked_effect (plain scripts) n.guess (Ok planned_effect)) ≡ depends g dirty n plan
   hit_is dirty = ap (λ b. is_marked n.guess g || b)
       (list_any-append (is_in entity_cmp dirty) (map (λ (r : Entity × Option EntityState). r.0) planned_effect.read) (map (λ (w : Entity × Option EntityState). w.0) planned_effect.written)
-      ∙ ap (λ es. list_any (is_in entity_cmp dirty) es || list_any (is_in entity_cmp dirty) (map (λ (w : Entity × Option EntityState). w.0) planned_effect.written)) (asked look (read_by n.pid n.input plan.looks))
-      ∙ ap (λ es. list_any (is_in entity_cmp dirty) (read_by n.pid n.input plan.looks) || list_any (is_in entity_cmp dirty) es) (changed_are look n.pid plan))
+      ∙ ap (λ es. list_any (is_in entity_cmp dirty) es || list_any (is_in entity_cmp dirty) (map (λ (w : Entity × Option EntityState). w.0) planned_effect.written)) (asked look (read_by n.pid n.input (looked (looks_of plan))))
+      ∙ ap (λ es. list_any (is_in entity_cmp dirty) (read_by n.pid n.input (looked (looks_of plan))) || list_any (is_in entity_cmp dirty) es) (changed_are look n.pid (seen_with look scripts n.pid n.input plan) ∙ written_is look scripts n.pid n.input plan))
 
   -- what is left of the entry and the rest, by whether the step depends on the guess
   step_left : (t : State) (dirty more : List Entity) (kept before rest : List EntryView) (b : Bool)
-      → more ≡ cond b (written_by n.pid plan.beside ++ dirty) dirty → kept ≡ cond b before (before ++ n ∷ [])
+      → more ≡ cond b (written_in n.pid plan ++ dirty) dirty → kept ≡ cond b before (before ++ n ∷ [])
       → kept ++ remaining scripts g more t rest ≡ before ++ keep (b ∷ hits entity_cmp g (dirtied b (marked_effect (plain scripts) n.guess (Ok planned_effect)) dirty) (effects (plain scripts) t rest)) (n ∷ rest)
   step_left t dirty more kept before rest true are is =
       ap (λ (k : List EntryView). k ++ remaining scripts g more t rest) is
-      ∙ ap (λ (m : List Entity). before ++ remaining scripts g m t rest) (are ∙ ap (λ (ws : List Entity). ws ++ dirty) (sym (changed_are look n.pid plan)))
+      ∙ ap (λ (m : List Entity). before ++ remaining scripts g m t rest) (are ∙ ap (λ (ws : List Entity). ws ++ dirty) (sym (changed_are look n.pid (seen_with look scripts n.pid n.input plan) ∙ written_is look scripts n.pid n.input plan)))
   step_left t dirty more kept before rest false are is =
       ap (λ (k : List EntryView). k ++ remaining scripts g more t rest) is
       ∙ append_assoc before (n ∷ []) (remaining scripts g more t rest)
       ∙ ap (λ (m : List Entity). before ++ n ∷ remaining scripts g m t rest) are
 
-module _ (scripts : Scripts) (n : EntryView) (plan : Plan) (s t : State) (accepted : outcome (plain scripts) s n ≡ Ok (effect_of (get s) n.pid n.input plan)) (taken : t ≡ put_all (effect_of (get s) n.pid n.input plan).written s) (rest : List EntryView) where
+module _ (scripts : Scripts) (n : EntryView) (plan : Plan) (s t : State) (accepted : outcome (plain scripts) s n ≡ Ok (effect_of (get s) n.pid n.input (seen_with (get s) scripts n.pid n.input plan))) (taken : t ≡ put_all (effect_of (get s) n.pid n.input (seen_with (get s) scripts n.pid n.input plan)).written s) (rest : List EntryView) where
   -- what is kept with what the rest will leave
   pub kept_on : (g : ℕ) (dirty more : List Entity) (kept before : List EntryView)
-      → more ≡ cond (depends g dirty n plan) (written_by n.pid plan.beside ++ dirty) dirty
+      → more ≡ cond (depends g dirty n plan) (written_in n.pid plan ++ dirty) dirty
       → kept ≡ cond (depends g dirty n plan) before (before ++ n ∷ [])
       → kept ++ remaining scripts g more t rest ≡ before ++ remaining scripts g dirty s (n ∷ rest)
   kept_on g dirty more kept before are is =
-      let left_behind = marked_effect (plain scripts) n.guess (Ok (effect_of (get s) n.pid n.input plan)) in
+      let left_behind = marked_effect (plain scripts) n.guess (Ok (effect_of (get s) n.pid n.input (seen_with (get s) scripts n.pid n.input plan))) in
       step_left scripts g n plan (get s) t dirty more kept before rest (depends g dirty n plan) are is
       ∙ ap (λ b. before ++ keep (b ∷ hits entity_cmp g (dirtied b left_behind dirty) (effects (plain scripts) t rest)) (n ∷ rest)) (sym (hit_is scripts g n plan (get s) dirty))
       ∙ ap (λ (u : State). before ++ keep (hits entity_cmp g dirty (left_behind ∷ effects (plain scripts) u rest)) (n ∷ rest)) taken

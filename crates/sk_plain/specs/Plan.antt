@@ -1,20 +1,40 @@
--- What a step will do.
-use Rattle.std.specs.Prelude.{refl}
-use Rattle.std.specs.Coded.{Coded, code_by, coded×}
+-- What a step will do, seen with the process that it is for: the process as it becomes, what else is looked at, and what else is done.
+use Rattle.std.specs.Prelude.{ℕ, List, Option}
+use Rattle.sk_ids.specs.declared.entity.Entity.{Entity}
+use Rattle.sk_objects.specs.Content.{ContentView}
+use Rattle.sk_objects.specs.declared.value.Kind.{Kind}
+use Rattle.sk_changes.specs.declared.change.Change.{Change}
+use Rattle.sk_script.specs.declared.register.Val.{Val}
 use Rattle.sk_script.specs.declared.process.Process.{Process}
-use Rattle.sk_script.specs.contracts.process.Process as process
-use Rattle.sk_plain.specs.declared.plan.Looks.{Looks}
-use Rattle.sk_plain.specs.contracts.plan.Looks as looks
-use Rattle.sk_plain.specs.declared.plan.Beside.{Beside}
-use Rattle.sk_plain.specs.contracts.plan.Beside as beside
 
--- the process as it becomes, what else is looked at, and what else is done
+-- the entities beside the process that a step looks at, in their order
+pub data LooksView : Type 0 where
+  Nowhere : LooksView
+  At : (entity : Entity) → LooksView
+  AtBoth : (first : Entity) → (second : Entity) → LooksView
+
+-- what an entity becomes: a value of a kind with nothing in it, an exit slot with a status, a cached copy, or what it was, changed
+pub data BecomesView : Type 0 where
+  Empty : (kind : Kind) → BecomesView
+  Exited : (status : ℕ) → BecomesView
+  Cached : (content : ContentView) → BecomesView
+  Changed : (change : Change) → BecomesView
+
+-- a process that is born, with an empty queue of signals and an exit slot that is not set; it has its parent's script, buffer, handler and terminal
+pub record Child : Type 0 where
+  pub pid : ℕ
+  pub place : ℕ
+  pub registers : List Val
+
+-- what a step does beside writing its process: it says the buffer, one entity is written, a child is born, or an entity is absent then
+pub data BesideView : Type 0 where
+  Nothing : BesideView
+  Says : BesideView
+  One : (entity : Entity) → (becomes : BecomesView) → BesideView
+  Birth : (child : Child) → BesideView
+  Gone : (entity : Entity) → BesideView
+
 pub record PlanView : Type 0 where
   pub process : Process
-  pub looks : Looks
-  pub beside : Beside
-
-abbrev pub plan_code : Coded PlanView
-plan_code =
-    code_by (Process × (Looks × Beside)) (coded× process.the_row.coded (coded× looks.the_row.coded beside.the_row.coded))
-    (λ p. (p.process, (p.looks, p.beside))) (λ p. record { process = p.0; looks = p.1.0; beside = p.1.1 }) (λ _. refl)
+  pub looks : LooksView
+  pub beside : BesideView

@@ -15,23 +15,16 @@ use Rattle.sk_store.specs.declared.entity_state.EntityState.{EntityState}
 use Rattle.sk_store.specs.declared.entity_state.EntityState.TheVariants as stored
 use Rattle.sk_plain.specs.declared.refusal.Refusal.{Refusal}
 use Rattle.sk_plain.specs.declared.refusal.Refusal.TheVariants.{NoProcess, Ended, Mismatch, NeedsReply, Blocked, TooMany, TraceFull, Memory}
-use Rattle.sk_plain.specs.declared.plan.Plan.{Plan}
-use Rattle.sk_plain.specs.declared.plan.Child.{Child}
-use Rattle.sk_plain.specs.declared.plan.Looks.{Looks}
-use Rattle.sk_plain.specs.declared.plan.Looks.TheVariants.{Nowhere, At, AtBoth}
-use Rattle.sk_plain.specs.declared.plan.Becomes.{Becomes}
-use Rattle.sk_plain.specs.declared.plan.Becomes.TheVariants.{Empty, Exited, Cached, Changed}
-use Rattle.sk_plain.specs.declared.plan.Beside.{Beside}
-use Rattle.sk_plain.specs.declared.plan.Beside.TheVariants.{Nothing, Says, One, Birth, Gone}
+use Rattle.sk_plain.specs.Plan.{PlanView, LooksView, Nowhere, At, AtBoth, BecomesView, Empty, Exited, Cached, Changed, BesideView, Nothing, Says, One, Birth, Gone, Child}
 
 -- the entities that are looked at, in their order
-abbrev pub looked_at : Looks → List Entity
+abbrev pub looked_at : LooksView → List Entity
 looked_at Nowhere = []
 looked_at (At e) = e ∷ []
 looked_at (AtBoth d e) = d ∷ e ∷ []
 
 -- what an entity has after it became that
-abbrev pub value_of : Option EntityState → Becomes → EntityState
+abbrev pub value_of : Option EntityState → BecomesView → EntityState
 value_of now (Empty kind) = stored.Value (empty_of kind)
 value_of now (Exited status) = stored.Value (values.Exit (Some status))
 value_of now (Cached content) = stored.Value (values.Copy content)
@@ -42,7 +35,7 @@ abbrev pub child_of : Process → Child → Process
 child_of p c = record p { pid = c.pid; place = c.place; registers = c.registers; children = 0; objects = 0; saved = None; ended = false }
 
 -- what is written beside the process
-abbrev pub written_beside : (Entity → Option EntityState) → Process → Beside → List (Entity × Option EntityState)
+abbrev pub written_beside : (Entity → Option EntityState) → Process → BesideView → List (Entity × Option EntityState)
 written_beside look p Nothing = []
 written_beside look p Says = []
 written_beside look p (One e becomes) = (e, Some (value_of (look e) becomes)) ∷ []
@@ -51,7 +44,7 @@ written_beside look p (Birth c) =
     (Proc c.pid, Some (stored.Process (child_of p c))) ∷ (Sig c.pid, Some (stored.Value (values.Signals []))) ∷ (Exit c.pid, Some (stored.Value (values.Exit None))) ∷ []
 
 -- what is made absent, after the process is written
-abbrev pub gone_in : Beside → List Entity
+abbrev pub gone_in : BesideView → List Entity
 gone_in Nothing = []
 gone_in Says = []
 gone_in (One e becomes) = []
@@ -59,14 +52,14 @@ gone_in (Birth c) = []
 gone_in (Gone e) = e ∷ []
 
 -- the text that is said: the process's buffer, to its terminal
-abbrev pub said_in : Process → Beside → Option Saying
+abbrev pub said_in : Process → BesideView → Option Saying
 said_in p Nothing = None
 said_in p Says = Some (record { to = p.terminal; text = p.buffer })
 said_in p (One e becomes) = None
 said_in p (Birth c) = None
 said_in p (Gone e) = None
 
-abbrev pub said_by : Plan → Option Saying
+abbrev pub said_by : PlanView → Option Saying
 said_by plan = said_in plan.process plan.beside
 
 -- the texts after a step that rests on these guesses
@@ -75,11 +68,11 @@ texts_after texts tags None = texts
 texts_after texts tags (Some s) = said_to texts s.to (s.text, tags)
 
 -- all that a plan writes
-abbrev pub writes_of : (Entity → Option EntityState) → ℕ → Plan → List (Entity × Option EntityState)
+abbrev pub writes_of : (Entity → Option EntityState) → ℕ → PlanView → List (Entity × Option EntityState)
 writes_of look pid plan = written_beside look plan.process plan.beside ++ (Proc pid, Some (stored.Process plan.process)) ∷ map (λ e. (e, None)) (gone_in plan.beside)
 
 -- what a plan does after these reads
-abbrev pub effect_after : List Entity → (Entity → Option EntityState) → ℕ → Plan → Effect Entity EntityState Saying
+abbrev pub effect_after : List Entity → (Entity → Option EntityState) → ℕ → PlanView → Effect Entity EntityState Saying
 effect_after reads look pid plan = record {
   read = map (λ e. (e, look e)) (reads ++ looked_at plan.looks);
   written = writes_of look pid plan;
@@ -94,22 +87,22 @@ signals_read pid (inputs.Fresh content) = []
 signals_read pid (inputs.Stale content) = []
 
 -- the whole step
-abbrev pub effect_of : (Entity → Option EntityState) → ℕ → Input → Plan → Effect Entity EntityState Saying
+abbrev pub effect_of : (Entity → Option EntityState) → ℕ → Input → PlanView → Effect Entity EntityState Saying
 effect_of look pid input plan = effect_after (Proc pid ∷ signals_read pid input) look pid plan
 
 -- what a plan or a refusal stands for, after these reads
-abbrev pub planned : List Entity → (Entity → Option EntityState) → ℕ → Result Plan Refusal → Result (Effect Entity EntityState Saying) Refusal
+abbrev pub planned : List Entity → (Entity → Option EntityState) → ℕ → Result PlanView Refusal → Result (Effect Entity EntityState Saying) Refusal
 planned reads look pid (Ok plan) = Ok (effect_after reads look pid plan)
 planned reads look pid (Err why) = Err why
 
 -- a change that is planned fits what is there
-abbrev pub CanBecome : Option EntityState → Becomes → Type 0
+abbrev pub CanBecome : Option EntityState → BecomesView → Type 0
 CanBecome now (Empty kind) = Unit {0}
 CanBecome now (Exited status) = Unit {0}
 CanBecome now (Cached content) = Unit {0}
 CanBecome now (Changed change) = FitsAt now change
 
-abbrev pub CanDo : (Entity → Option EntityState) → Beside → Type 0
+abbrev pub CanDo : (Entity → Option EntityState) → BesideView → Type 0
 CanDo look Nothing = Unit {0}
 CanDo look Says = Unit {0}
 CanDo look (One e becomes) = CanBecome (look e) becomes
@@ -124,7 +117,7 @@ IsNoProcess (Obj o) = Unit {0}
 IsNoProcess (Copy n) = Unit {0}
 
 -- what is written beside a process is not the process
-abbrev pub IsBeside : ℕ → Beside → Type 0
+abbrev pub IsBeside : ℕ → BesideView → Type 0
 IsBeside pid Nothing = Unit {0}
 IsBeside pid Says = Unit {0}
 IsBeside pid (One e becomes) = IsNoProcess e
@@ -142,21 +135,6 @@ IsPlainRefusal TooMany = ⊥
 IsPlainRefusal TraceFull = ⊥
 IsPlainRefusal Memory = ⊥
 
--- what a step does after these reads, looked up here: its plan, which fits what is there and writes no process but its own, or a refusal
-pub record PlansAfter (reads : List Entity) (look : Entity → Option EntityState) (pid : ℕ) (step : StepTree) (result : Result Plan Refusal) : Type 0 where
-  pub plans : perform look step ≡ planned reads look pid result
-  pub can : IfOk result (λ plan. CanDo look plan.beside)
-  pub apart : IfOk result (λ plan. IsBeside pid plan.beside)
-  pub named : IfErr result IsPlainRefusal
-
--- that of a row of the table
-abbrev pub PlansRow : (Entity → Option EntityState) → ℕ → StepTree → Result Plan Refusal → Type 0
-PlansRow look pid row result = PlansAfter [] look pid row result
-
--- that of the next step of a process with an input
-abbrev pub PlansStep : (Entity → Option EntityState) → Scripts → ℕ → Input → Result Plan Refusal → Type 0
-PlansStep look scripts pid input result = PlansAfter (Proc pid ∷ signals_read pid input) look pid (act scripts pid input) result
-
 -- an input that is a reply
 abbrev pub IsReply : Input → Type 0
 IsReply inputs.None = ⊥
@@ -170,11 +148,11 @@ refusal_of (Ok f) = None
 refusal_of (Err why) = Some why
 
 -- the entities that a plan reads
-abbrev pub read_by : ℕ → Input → Looks → List Entity
+abbrev pub read_by : ℕ → Input → LooksView → List Entity
 read_by pid input looks = (Proc pid ∷ signals_read pid input) ++ looked_at looks
 
 -- the entities beside the process that are written
-abbrev pub also_changed : Beside → List Entity
+abbrev pub also_changed : BesideView → List Entity
 also_changed Nothing = []
 also_changed Says = []
 also_changed (One e becomes) = e ∷ []
@@ -182,7 +160,7 @@ also_changed (Gone e) = []
 also_changed (Birth c) = Proc c.pid ∷ Sig c.pid ∷ Exit c.pid ∷ []
 
 -- the entities that a plan writes
-abbrev pub written_by : ℕ → Beside → List Entity
+abbrev pub written_by : ℕ → BesideView → List Entity
 written_by pid beside = also_changed beside ++ Proc pid ∷ gone_in beside
 
 -- a state after these writes, in their order

@@ -9,7 +9,8 @@ use Rattle.sk_ids.specs.Entity.{entity_cmp}
 use Rattle.sk_store.specs.State.{State}
 use Rattle.sk_trace.specs.Entry.{EntryView}
 use Rattle.sk_plain.specs.Act.{Scripts, Saying, plain}
-use Rattle.sk_plain.specs.Planned.{read_by, written_by}
+use Rattle.sk_plain.specs.Planned.{read_by}
+use Rattle.sk_plain.specs.Seen.{looked, looks_of, written_in}
 use Rattle.sk_plain.specs.declared.plan.Plan.{Plan}
 use Rattle.sk_store.specs.declared.entity_state.EntityState.{EntityState}
 use Rattle.sk_plain.specs.declared.refusal.Refusal.{Refusal}
@@ -18,7 +19,7 @@ use Rattle.sk_plain.specs.declared.refusal.Refusal.TheVariants.{NoProcess, Ended
 -- whether the planned step of an entry is the guess, or reads or writes what is dirty
 abbrev pub depends : ℕ → List Entity → EntryView → Plan → Bool
 depends g dirty n plan =
-    is_marked n.guess g || (list_any (is_in entity_cmp dirty) (read_by n.pid n.input plan.looks) || list_any (is_in entity_cmp dirty) (written_by n.pid plan.beside))
+    is_marked n.guess g || (list_any (is_in entity_cmp dirty) (read_by n.pid n.input (looked (looks_of plan))) || list_any (is_in entity_cmp dirty) (written_in n.pid plan))
 
 -- of the entries to come, those that neither are marked g nor touch what is dirty or becomes so
 abbrev pub remaining : Scripts → ℕ → List Entity → State → List EntryView → List EntryView

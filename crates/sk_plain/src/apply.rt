@@ -1,91 +1,235 @@
-//! Doing what was planned, in place. Nothing here knows of instructions.
-ghost use Rattle.std.specs.Prelude.{◌≡◌, OnOk, OnErr, IfOk, Some, None, []};
-ghost use Rattle.sk_ids.specs.declared.entity.Entity.TheVariants.{Proc, Sig, Exit};
-ghost use Rattle.sk_store.specs.declared.entity_state.EntityState.TheVariants as stored;
+//! Doing what was planned, where things stand. Nothing here knows of instructions.
+ghost use Rattle.std.specs.Prelude.{◌≡◌, ◌≤◌, ◌+◌, ◌<◌, ◌^◌, OnOk, OnErr, IfOk, Some, None, []};
+ghost use Rattle.std.specs.Option.{option_copied};
+ghost use Rattle.sk_ids.specs.declared.entity.Entity.TheVariants.{Proc, Sig, Exit, Copy};
+ghost use Rattle.sk_objects.specs.declared.content.TheConstants.{LAST_VERSION};
 ghost use Rattle.sk_objects.specs.declared.value.Value.TheVariants as values;
-ghost use Rattle.sk_plain.specs.Planned.{CanBecome, CanDo, value_of, child_of, said_by, texts_after, writes_of, wrote_all};
+ghost use Rattle.sk_script.specs.Private.{moved};
+ghost use Rattle.sk_terminal.specs.Terminals.{said_to};
+ghost use Rattle.sk_store.specs.declared.entity_state.EntityState.TheVariants as stored;
+ghost use Rattle.sk_store.specs.Processes.{CanBecome as CanBecomeThere, became, process_in, IsProcess};
+ghost use Rattle.sk_plain.specs.Act.{next_in};
+ghost use Rattle.sk_plain.specs.Plan.{Nowhere, Birth};
+ghost use Rattle.sk_plain.specs.Planned.{CanBecome, CanDo, IsBeside, child_of, value_of, said_by, texts_after, writes_of, wrote_all};
+ghost use Rattle.sk_plain.specs.Seen.{CanChange, CanPerform, HasContent, IsWritable, beside_of, content_in, process_given, row_seen, written, text_in, seen_with};
+ghost use Rattle.sk_plain.specs.Forked.{CanFork, forked};
 
-use crate::{Becomes, Beside, Child, Plan};
-use sk_ids::{Entity, Pid};
-use sk_objects::{Kind, Value};
-use sk_script::Process;
-use sk_store::{EntityState, Keeper};
+use crate::becomes::{Filling, Forking};
+use crate::step::instruction_at;
+use crate::{Becomes, Beside, Errno, Looks, Plan, ProcessChange, Row, Writes};
+use sk_changes::Change;
+use sk_ids::{Entity, Name, Pid, Text};
+use sk_objects::{Content, Kind, Value};
+use sk_script::{Input, Instruction, Process, Register, Scripts, Val};
+use sk_store::{Becoming, EntityState, Keeper, Look};
 use sk_terminal::Terminals;
 use std::alloc::AllocError;
+
+/// The process of a number, which is there.
+fn process_at<K: Look>(keeper: &K, pid: Pid) -> &Process
+    requires { IsProcess (K.look keeper.now (Proc pid)) }
+    ensures { result.now ≡ process_in (K.look keeper.now (Proc pid)) }
+{
+    match keeper.value(Entity::Proc(pid)) {
+        Some(EntityState::Process(process)) => process,
+        _ => unreachable!(),
+    }
+}
+
+/// The bytes that a process reads of the entity that it looks at.
+fn read<K: Look>(keeper: &K, looks: &Looks, from: u64, count: u32) -> Text
+    ensures { result ≡ text_in (K.look keeper.now) looks.now from count }
+{
+    let Looks::At(entity) = looks else {
+        return Text::empty();
+    };
+    match keeper.value(*entity) {
+        Some(EntityState::Value(value)) => match value.bytes_at(from, count as usize) {
+            Some(text) => text,
+            None => Text::empty(),
+        },
+        _ => Text::empty(),
+    }
+}
+
+/// A version of a content whose bytes are a process's buffer.
+fn version_of<K: Look>(keeper: &K, pid: Pid, version: u64) -> Content
+    requires there { IsProcess (K.look keeper.now (Proc pid)) }
+    requires version { version ≤ LAST_VERSION }
+    ensures { result ≡ record { version = version; bytes = (process_in (K.look keeper.now (Proc pid))).buffer } }
+{
+    match Content::new(version, process_at(keeper, pid).buffer) {
+        Some(content) => content,
+        None => unreachable!(),
+    }
+}
 
 /// An entity becomes this. Without memory nothing has changed.
 fn write_one<K: Keeper>(
     keeper: &mut K,
+    pid: Pid,
     entity: Entity,
-    becomes: &Becomes,
+    writes: &Writes,
 ) -> Result<K::Back, AllocError>
-    requires { CanBecome (K.look keeper.old entity) becomes.now }
-    ensures ok { OnOk result (keeper.new ≡ K.wrote keeper.old entity (Some (value_of (K.look keeper.old entity) becomes.now))) }
+    requires there { IsProcess (K.look keeper.old (Proc pid)) }
+    requires can { CanBecome (K.look keeper.old entity) (written (process_in (K.look keeper.old (Proc pid))) writes.now) }
+    requires version { IsWritable (Beside.One entity writes.now) }
+    ensures ok { OnOk result (keeper.new ≡ K.wrote keeper.old entity (Some (value_of (K.look keeper.old entity) (written (process_in (K.look keeper.old (Proc pid))) writes.now)))) }
     ensures can { IfOk result (λ back. K.can_take_back keeper.new back) }
     ensures back { IfOk result (λ back. K.taken_back keeper.new back ≡ keeper.old) }
     ensures err { OnErr result (keeper.new ≡ keeper.old) }
 {
-    match becomes {
-        Becomes::Empty(kind) => {
+    let change = match writes {
+        Writes::Empty(kind) => {
             let value = Value::empty(keeper.memory(), *kind)?;
-            keeper.write(entity, EntityState::Value(value))
+            return keeper.write(entity, EntityState::Value(value));
         }
-        Becomes::Exited(status) => {
-            keeper.write(entity, EntityState::Value(Value::Exit(Some(*status))))
+        Writes::Exited(status) => {
+            return keeper.write(entity, EntityState::Value(Value::Exit(Some(*status))));
         }
-        Becomes::Cached(content) => keeper.write(entity, EntityState::Value(Value::Copy(*content))),
-        Becomes::Changed(change) => keeper.change(entity, *change),
+        Writes::First => {
+            let content = version_of(keeper, pid, 1);
+            return keeper.write(entity, EntityState::Value(Value::Copy(content)));
+        }
+        Writes::Over(version) => Change::SetCopy(version_of(keeper, pid, *version)),
+        Writes::At(offset) => Change::WriteAt {
+            offset: *offset,
+            bytes: process_at(keeper, pid).buffer,
+        },
+        Writes::Cut(size) => Change::CutTo(*size),
+        Writes::Link(name, object) => Change::Link(*name, *object),
+        Writes::Unlink(name) => Change::Unlink(*name),
+        Writes::Put => Change::Put(process_at(keeper, pid).buffer),
+        Writes::Take(count) => Change::Take(*count),
+        Writes::Shut => Change::Shut,
+        Writes::Signal(signal) => Change::PushSignal(*signal),
+        Writes::TakeSignal => Change::TakeSignal,
+    };
+    keeper.change(entity, change)
+}
+
+/// Goes on from a write with the last one, that of the process. Where that wants memory the first is
+/// taken back.
+fn write_last<K: Keeper, C: Becoming>(
+    keeper: &mut K,
+    back: K::Back,
+    pid: Pid,
+    by: &C,
+) -> Result<(), AllocError>
+    requires can { CanBecomeThere (C.can by.now) (K.look keeper.old (Proc pid)) }
+    requires back { K.can_take_back keeper.old back }
+    ensures ok { OnOk result (keeper.new ≡ K.wrote keeper.old (Proc pid) (Some (became (C.after by.now) (K.look keeper.old (Proc pid))))) }
+    ensures err { OnErr result (keeper.new ≡ K.taken_back keeper.old back) }
+{
+    if keeper.change_process(pid, by).is_err() {
+        keeper.take_back(back);
+        return Err(AllocError);
+    }
+    Ok(())
+}
+
+/// What a row writes beside its process, and then the process.
+fn write_beside<K: Keeper, C: Becoming>(
+    keeper: &mut K,
+    pid: Pid,
+    beside: &Beside,
+    by: &C,
+) -> Result<(), AllocError>
+    requires process { CanBecomeThere (C.can by.now) (K.look keeper.old (Proc pid)) }
+    requires can { CanDo (K.look keeper.old) (beside_of (process_in (K.look keeper.old (Proc pid))) beside.now) }
+    requires apart { IsBeside pid (beside_of (process_in (K.look keeper.old (Proc pid))) beside.now) }
+    requires version { IsWritable beside.now }
+    ensures ok { OnOk result (keeper.new ≡ wrote_all K.wrote (writes_of (K.look keeper.old) pid (record { process = C.after by.now (process_in (K.look keeper.old (Proc pid))); looks = Nowhere; beside = beside_of (process_in (K.look keeper.old (Proc pid))) beside.now })) keeper.old) }
+    ensures err { OnErr result (keeper.new ≡ keeper.old) }
+{
+    let Beside::One(entity, writes) = beside else {
+        return keeper.change_process(pid, by);
+    };
+    let back = write_one(keeper, pid, *entity, writes)?;
+    write_last(keeper, back, pid, by)
+}
+
+/// A row, as it was planned.
+fn act<K: Keeper>(keeper: &mut K, pid: Pid, row: &Row) -> Result<(), AllocError>
+    requires there { IsProcess (K.look keeper.old (Proc pid)) }
+    requires change { CanChange (process_in (K.look keeper.old (Proc pid))) row.now.change }
+    requires can { CanDo (K.look keeper.old) (beside_of (process_in (K.look keeper.old (Proc pid))) row.now.beside) }
+    requires apart { IsBeside pid (beside_of (process_in (K.look keeper.old (Proc pid))) row.now.beside) }
+    requires version { IsWritable row.now.beside }
+    ensures ok { OnOk result (keeper.new ≡ wrote_all K.wrote (writes_of (K.look keeper.old) pid (row_seen (K.look keeper.old) (process_in (K.look keeper.old (Proc pid))) row.now)) keeper.old) }
+    ensures err { OnErr result (keeper.new ≡ keeper.old) }
+{
+    match &row.change {
+        ProcessChange::Does(becomes) => write_beside(keeper, pid, &row.beside, becomes),
+        ProcessChange::Fills {
+            from,
+            count,
+            number,
+        } => {
+            let text = read(keeper, &row.looks, *from, *count);
+            let number = number.unwrap_or(text.len() as u64);
+            write_beside(keeper, pid, &row.beside, &Filling { text, number })
+        }
     }
 }
 
-/// A child's exit slot, and then its parent.
-fn bear_slot<K: Keeper>(
+/// A content becomes a copy, and then what becomes of the process.
+fn write_copy<K: Keeper, C: Becoming>(
     keeper: &mut K,
-    child: &Child,
     pid: Pid,
-    process: &Process,
+    name: &Name,
+    content: &Content,
+    by: &C,
 ) -> Result<(), AllocError>
-    ensures ok { OnOk result (keeper.new ≡ K.wrote (K.wrote keeper.old (Exit child.now.pid) (Some (stored.Value (values.Exit None)))) (Proc pid) (Some (stored.Process process.now))) }
+    requires { CanBecomeThere (C.can by.now) (K.look keeper.old (Proc pid)) }
+    ensures ok { OnOk result (keeper.new ≡ K.wrote (K.wrote keeper.old (Copy name.now) (Some (stored.Value (values.Copy content.now)))) (Proc pid) (Some (became (C.after by.now) (K.look keeper.old (Proc pid))))) }
     ensures err { OnErr result (keeper.new ≡ keeper.old) }
 {
     let back = keeper.write(
-        Entity::Exit(child.pid),
-        EntityState::Value(Value::Exit(None)),
+        Entity::Copy(*name),
+        EntityState::Value(Value::Copy(*content)),
     )?;
-    if keeper.set_process(pid, process).is_err() {
-        keeper.take_back(back);
-        return Err(AllocError);
-    }
-    Ok(())
+    write_last(keeper, back, pid, by)
 }
 
-/// A child's queue of signals, and then the rest.
-fn bear_queue<K: Keeper>(
+/// The content of an input becomes the copy of a name, and is fetched, or told as an error.
+fn receive<K: Keeper>(
     keeper: &mut K,
-    child: &Child,
     pid: Pid,
-    process: &Process,
+    name: &Name,
+    input: &Input,
 ) -> Result<(), AllocError>
-    ensures ok { OnOk result (keeper.new ≡ K.wrote (K.wrote (K.wrote keeper.old (Sig child.now.pid) (Some (stored.Value (values.Signals [])))) (Exit child.now.pid) (Some (stored.Value (values.Exit None)))) (Proc pid) (Some (stored.Process process.now))) }
+    requires there { IsProcess (K.look keeper.old (Proc pid)) }
+    requires place { (process_in (K.look keeper.old (Proc pid))).place + 1 < 2 ^ 32 }
+    requires content { HasContent input.now }
+    ensures ok { OnOk result (keeper.new ≡ K.wrote (K.wrote keeper.old (Copy name.now) (Some (stored.Value (values.Copy (content_in input.now))))) (Proc pid) (Some (stored.Process (process_given (process_in (K.look keeper.old (Proc pid))) input.now)))) }
     ensures err { OnErr result (keeper.new ≡ keeper.old) }
 {
-    let queue = Value::empty(keeper.memory(), Kind::Signals)?;
-    let back = keeper.write(Entity::Sig(child.pid), EntityState::Value(queue))?;
-    if bear_slot(keeper, child, pid, process).is_err() {
-        keeper.take_back(back);
-        return Err(AllocError);
+    match input {
+        Input::Fresh(content) => {
+            content.known();
+            let filling = Filling {
+                text: content.bytes(),
+                number: content.version(),
+            };
+            write_copy(keeper, pid, name, content, &filling)
+        }
+        Input::Stale(content) => {
+            let error = Val::Num(Errno::StaleCopy.answer());
+            let failed = Becomes::Gives(Register::ANSWER, error);
+            write_copy(keeper, pid, name, content, &failed)
+        }
+        Input::None | Input::Good => unreachable!(),
     }
-    Ok(())
 }
 
 /// A child of a process.
-fn child_of(process: &Process, child: &Child) -> Process
-    ensures { result ≡ child_of process.now child.now }
+fn child_of(process: &Process, child: Pid, place: u32) -> Process
+    ensures { result ≡ child_of process.now (record { pid = child; place = place; registers = process.now.registers }) }
 {
     Process {
-        pid: child.pid,
-        place: child.place,
-        registers: child.registers,
+        pid: child,
+        place,
         children: 0,
         objects: 0,
         saved: None,
@@ -94,60 +238,116 @@ fn child_of(process: &Process, child: &Child) -> Process
     }
 }
 
-/// Writes what was planned for the next step of a process, and says nothing. Without memory nothing
-/// has changed.
-pub fn apply_plan<K: Keeper>(keeper: &mut K, pid: Pid, plan: &Plan) -> Result<(), AllocError>
-    requires { CanDo (K.look keeper.old) plan.now.beside }
-    ensures ok { OnOk result (keeper.new ≡ wrote_all K.wrote (writes_of (K.look keeper.old) pid plan.now) keeper.old) }
+/// A child's exit slot, and then its parent.
+fn bear_slot<K: Keeper>(keeper: &mut K, pid: Pid, by: &Forking) -> Result<(), AllocError>
+    requires { CanBecomeThere (CanFork by.now) (K.look keeper.old (Proc pid)) }
+    ensures ok { OnOk result (keeper.new ≡ K.wrote (K.wrote keeper.old (Exit by.now.child) (Some (stored.Value (values.Exit None)))) (Proc pid) (Some (became (forked by.now) (K.look keeper.old (Proc pid))))) }
     ensures err { OnErr result (keeper.new ≡ keeper.old) }
 {
-    let process = &plan.process;
-    match &plan.beside {
-        Beside::Nothing | Beside::Says => return keeper.set_process(pid, process),
-        Beside::One(entity, becomes) => {
-            let back = write_one(keeper, *entity, becomes)?;
-            if keeper.set_process(pid, process).is_err() {
-                keeper.take_back(back);
-                return Err(AllocError);
-            }
-        }
-        Beside::Gone(entity) => {
-            let back = keeper.write(Entity::Proc(pid), EntityState::Process(*process))?;
-            if keeper.remove(*entity).is_err() {
-                keeper.take_back(back);
-                return Err(AllocError);
-            }
-        }
-        Beside::Birth(child) => {
-            let first = EntityState::Process(child_of(process, child));
-            let back = keeper.write(Entity::Proc(child.pid), first)?;
-            if bear_queue(keeper, child, pid, process).is_err() {
-                keeper.take_back(back);
-                return Err(AllocError);
-            }
-        }
+    let back = keeper.write(
+        Entity::Exit(by.child),
+        EntityState::Value(Value::Exit(None)),
+    )?;
+    write_last(keeper, back, pid, by)
+}
+
+/// A child's queue of signals, and then the rest.
+fn bear_queue<K: Keeper>(keeper: &mut K, pid: Pid, by: &Forking) -> Result<(), AllocError>
+    requires { CanBecomeThere (CanFork by.now) (K.look keeper.old (Proc pid)) }
+    ensures ok { OnOk result (keeper.new ≡ K.wrote (K.wrote (K.wrote keeper.old (Sig by.now.child) (Some (stored.Value (values.Signals [])))) (Exit by.now.child) (Some (stored.Value (values.Exit None)))) (Proc pid) (Some (became (forked by.now) (K.look keeper.old (Proc pid))))) }
+    ensures err { OnErr result (keeper.new ≡ keeper.old) }
+{
+    let queue = Value::empty(keeper.memory(), Kind::Signals)?;
+    let back = keeper.write(Entity::Sig(by.child), EntityState::Value(queue))?;
+    if bear_slot(keeper, pid, by).is_err() {
+        keeper.take_back(back);
+        return Err(AllocError);
     }
     Ok(())
 }
 
-/// Performs what was planned for the next step of a process: its writes, and the text that it says,
-/// which rests on what the step rests on. Without memory nothing has changed.
-pub fn perform_plan<K: Keeper>(
+/// A child, and then its parent.
+fn bear<K: Keeper>(keeper: &mut K, pid: Pid, by: &Forking, place: u32) -> Result<(), AllocError>
+    requires can { CanBecomeThere (CanFork by.now) (K.look keeper.old (Proc pid)) }
+    requires apart { pid < by.now.child }
+    ensures ok { OnOk result (keeper.new ≡ wrote_all K.wrote (writes_of (K.look keeper.old) pid (record { process = forked by.now (process_in (K.look keeper.old (Proc pid))); looks = Nowhere; beside = Birth (record { pid = by.now.child; place = place; registers = (process_in (K.look keeper.old (Proc pid))).registers }) })) keeper.old) }
+    ensures err { OnErr result (keeper.new ≡ keeper.old) }
+{
+    let first = child_of(process_at(keeper, pid), by.child, place);
+    let back = keeper.write(Entity::Proc(by.child), EntityState::Process(first))?;
+    if bear_queue(keeper, pid, by).is_err() {
+        keeper.take_back(back);
+        return Err(AllocError);
+    }
+    Ok(())
+}
+
+/// The next instruction of a process.
+fn instruction_of<'a, K: Look>(
+    keeper: &K,
+    scripts: &'a Scripts,
+    pid: Pid,
+) -> Option<&'a Instruction>
+    requires { IsProcess (K.look keeper.now (Proc pid)) }
+    ensures { option_copied result ≡ next_in scripts.now (process_in (K.look keeper.now (Proc pid))) }
+{
+    instruction_at(scripts, process_at(keeper, pid))
+}
+
+/// Writes what was planned for the next step of a process, and says nothing. Without memory nothing
+/// has changed.
+pub fn apply_plan<K: Keeper>(
+    keeper: &mut K,
+    scripts: &Scripts,
+    pid: Pid,
+    input: &Input,
+    plan: &Plan,
+) -> Result<(), AllocError>
+    requires { CanPerform (K.look keeper.old) scripts.now pid input.now plan.now }
+    ensures ok { OnOk result (keeper.new ≡ wrote_all K.wrote (writes_of (K.look keeper.old) pid (seen_with (K.look keeper.old) scripts.now pid input.now plan.now)) keeper.old) }
+    ensures err { OnErr result (keeper.new ≡ keeper.old) }
+{
+    match plan {
+        Plan::Private => match instruction_of(keeper, scripts, pid) {
+            Some(instruction) => keeper.change_process(pid, instruction),
+            None => unreachable!(),
+        },
+        Plan::Speaks => keeper.change_process(pid, &Becomes::Moves),
+        Plan::Received(name) => receive(keeper, pid, name, input),
+        Plan::Forks(register, child, place) => {
+            let forking = Forking {
+                register: *register,
+                child: *child,
+            };
+            bear(keeper, pid, &forking, *place)
+        }
+        Plan::Acts(row) => act(keeper, pid, row),
+    }
+}
+
+/// A process as it is after it spoke.
+fn spoken(process: &Process) -> Process
+    requires { process.now.place + 1 < 2 ^ 32 }
+    ensures { result ≡ moved process.now }
+{
+    Process {
+        place: process.place + 1,
+        ..*process
+    }
+}
+
+/// Writes a process, and says its buffer to its terminal.
+fn speak<K: Keeper>(
     keeper: &mut K,
     terminals: &mut Terminals,
     pid: Pid,
-    plan: &Plan,
+    process: &Process,
 ) -> Result<(), AllocError>
-    requires { CanDo (K.look keeper.old) plan.now.beside }
-    ensures writes { OnOk result (keeper.new ≡ wrote_all K.wrote (writes_of (K.look keeper.old) pid plan.now) keeper.old) }
-    ensures says { OnOk result (terminals.new ≡ texts_after terminals.old (K.step_tags keeper.old) (said_by plan.now)) }
+    ensures writes { OnOk result (keeper.new ≡ K.wrote keeper.old (Proc pid) (Some (stored.Process process.now))) }
+    ensures says { OnOk result (terminals.new ≡ said_to terminals.old process.now.terminal (process.now.buffer, K.step_tags keeper.old)) }
     ensures unwritten { OnErr result (keeper.new ≡ keeper.old) }
     ensures unsaid { OnErr result (terminals.new ≡ terminals.old) }
 {
-    let Beside::Says = plan.beside else {
-        return apply_plan(keeper, pid, plan);
-    };
-    let process = &plan.process;
     let tags = keeper.step_tags()?;
     let back = keeper.write(Entity::Proc(pid), EntityState::Process(*process))?;
     if terminals
@@ -158,4 +358,27 @@ pub fn perform_plan<K: Keeper>(
         return Err(AllocError);
     }
     Ok(())
+}
+
+/// Performs what was planned for the next step of a process: its writes, and the text that it says,
+/// which rests on what the step rests on. Without memory nothing has changed.
+pub fn perform_plan<K: Keeper>(
+    keeper: &mut K,
+    terminals: &mut Terminals,
+    scripts: &Scripts,
+    pid: Pid,
+    input: &Input,
+    plan: &Plan,
+) -> Result<(), AllocError>
+    requires { CanPerform (K.look keeper.old) scripts.now pid input.now plan.now }
+    ensures writes { OnOk result (keeper.new ≡ wrote_all K.wrote (writes_of (K.look keeper.old) pid (seen_with (K.look keeper.old) scripts.now pid input.now plan.now)) keeper.old) }
+    ensures says { OnOk result (terminals.new ≡ texts_after terminals.old (K.step_tags keeper.old) (said_by (seen_with (K.look keeper.old) scripts.now pid input.now plan.now))) }
+    ensures unwritten { OnErr result (keeper.new ≡ keeper.old) }
+    ensures unsaid { OnErr result (terminals.new ≡ terminals.old) }
+{
+    let Plan::Speaks = plan else {
+        return apply_plan(keeper, scripts, pid, input, plan);
+    };
+    let process = spoken(process_at(keeper, pid));
+    speak(keeper, terminals, pid, &process)
 }

@@ -7,17 +7,16 @@ ghost use Rattle.sk_store.specs.declared.entity_state.EntityState.TheVariants as
 ghost use Rattle.sk_script.specs.Registers.{held};
 ghost use Rattle.sk_plain.specs.Rows.{object_in, number_in};
 ghost use Rattle.sk_plain.specs.Files.{made as made_row, size as size_row, read as read_row, written_at, write as write_row, cut_to, cut as cut_row};
-ghost use Rattle.sk_plain.specs.Planned.{PlansRow};
+ghost use Rattle.sk_plain.specs.Seen.{PlansRow};
 
-use crate::shapes::{alone, answered, changed, failed, filled, looked, wrote};
+use crate::shapes::{alone, answered, changed, failed, looked, wrote};
 use crate::values::{file_at, number_at, object_at};
-use crate::{Becomes, Errno, Plan};
-use sk_changes::Change;
+use crate::{Becomes, Errno, ProcessChange, Row, Writes};
 use sk_ids::text::TEXT_LIMIT;
 use sk_ids::{Entity, ObjId, Pid};
 use sk_objects::file::FILE_LIMIT;
 use sk_objects::{File, Kind};
-use sk_script::{Process, Register, Val};
+use sk_script::{Process, Register};
 use sk_store::Look;
 
 /// `mkfile rA`, `mkdir rA`, `mkpipe rA`
@@ -27,46 +26,39 @@ pub(crate) fn made<S: Look>(
     process: &Process,
     register: Register,
     kind: Kind,
-) -> Plan
+) -> Row
     requires { process.now.place + 1 < 2 ^ 32 }
-    ensures { PlansRow (S.look _store.now) pid (made_row pid process.now register kind) (Ok result) }
+    ensures { PlansRow (S.look _store.now) process.now pid (made_row pid process.now register kind) (Ok result) }
 {
     if process.objects >= u32::MAX {
-        return alone(failed(process, Errno::NoSpace));
+        return alone(failed(Errno::NoSpace));
     }
-    let objects = process.objects + 1;
     let object = ObjId {
         maker: Some(pid),
-        count: objects,
+        count: process.objects + 1,
     };
-    let val = Val::Obj(object);
-    let maker = Process {
-        place: process.place + 1,
-        registers: process.registers.with(register, val),
-        objects,
-        ..*process
-    };
+    let change = ProcessChange::Does(Becomes::Makes(register, object));
     let object = ObjId {
         maker: Some(pid),
-        count: objects,
+        count: process.objects + 1,
     };
-    wrote(maker, Entity::Obj(object), Becomes::Empty(kind))
+    wrote(change, Entity::Obj(object), Writes::Empty(kind))
 }
 
 /// `size rF`
-pub(crate) fn size<S: Look>(store: &S, pid: Pid, process: &Process, file: Register) -> Plan
+pub(crate) fn size<S: Look>(store: &S, pid: Pid, process: &Process, file: Register) -> Row
     requires { process.now.place + 1 < 2 ^ 32 }
-    ensures { PlansRow (S.look store.now) pid (size_row pid process.now (object_in (held process.now.registers file))) (Ok result) }
+    ensures { PlansRow (S.look store.now) process.now pid (size_row pid process.now (object_in (held process.now.registers file))) (Ok result) }
 {
     let held = object_at(process, file);
     let Some(object) = &held else {
-        return alone(failed(process, Errno::BadObject));
+        return alone(failed(Errno::BadObject));
     };
-    let process_after = match file_at(store, object) {
-        Ok(file) => answered(process, file.len() as u64),
-        Err(error) => failed(process, error),
+    let change = match file_at(store, object) {
+        Ok(file) => answered(file.len() as u64),
+        Err(error) => failed(error),
     };
-    looked(process_after, Entity::Obj(*object))
+    looked(change, Entity::Obj(*object))
 }
 
 /// `read rF rO`
@@ -76,26 +68,26 @@ pub(crate) fn read<S: Look>(
     process: &Process,
     file: Register,
     at: Register,
-) -> Plan
+) -> Row
     requires { process.now.place + 1 < 2 ^ 32 }
-    ensures { PlansRow (S.look store.now) pid (read_row pid process.now (object_in (held process.now.registers file)) (number_in (held process.now.registers at))) (Ok result) }
+    ensures { PlansRow (S.look store.now) process.now pid (read_row pid process.now (object_in (held process.now.registers file)) (number_in (held process.now.registers at))) (Ok result) }
 {
     let held = object_at(process, file);
     let Some(object) = &held else {
-        return alone(failed(process, Errno::BadObject));
+        return alone(failed(Errno::BadObject));
     };
-    let process_after = match file_at(store, object) {
-        Ok(file) => match number_at(process, at) {
-            Some(at) => {
-                let text = file.part(at as usize, TEXT_LIMIT);
-                let len = text.len() as u64;
-                filled(process, text, len)
-            }
-            None => failed(process, Errno::Invalid),
+    let change = match file_at(store, object) {
+        Ok(_) => match number_at(process, at) {
+            Some(from) => ProcessChange::Fills {
+                from,
+                count: TEXT_LIMIT as u32,
+                number: None,
+            },
+            None => failed(Errno::Invalid),
         },
-        Err(error) => failed(process, error),
+        Err(error) => failed(error),
     };
-    looked(process_after, Entity::Obj(*object))
+    looked(change, Entity::Obj(*object))
 }
 
 /// The buffer written at a place of a file.
@@ -106,28 +98,20 @@ fn written_at<S: Look>(
     object: &ObjId,
     file: &File,
     at: u64,
-) -> Plan
+) -> Row
     requires place { process.now.place + 1 < 2 ^ 32 }
     requires there { S.look _store.now (Obj object.now) ≡ Some (stored.Value (values.File file.now)) }
-    ensures { PlansRow (S.look _store.now) pid (Ask (Obj object.now) (λ v. written_at pid process.now object.now file.now at)) (Ok result) }
+    ensures { PlansRow (S.look _store.now) process.now pid (Ask (Obj object.now) (λ v. written_at pid process.now object.now file.now at)) (Ok result) }
 {
     let len = process.buffer.len() as u64;
     if at > FILE_LIMIT as u64 - len {
-        return looked(failed(process, Errno::TooBig), Entity::Obj(*object));
+        return looked(failed(Errno::TooBig), Entity::Obj(*object));
     }
-    let process_after = answered(process, len);
+    let change = answered(len);
     if len == 0 {
-        return looked(process_after, Entity::Obj(*object));
+        return looked(change, Entity::Obj(*object));
     }
-    let change = Change::WriteAt {
-        offset: at as u32,
-        bytes: process.buffer,
-    };
-    changed(
-        process_after,
-        &Entity::Obj(*object),
-        Becomes::Changed(change),
-    )
+    changed(change, &Entity::Obj(*object), Writes::At(at as u32))
 }
 
 /// `write rF rO`
@@ -137,12 +121,12 @@ pub(crate) fn write<S: Look>(
     process: &Process,
     file: Register,
     at: Register,
-) -> Plan
+) -> Row
     requires { process.now.place + 1 < 2 ^ 32 }
-    ensures { PlansRow (S.look store.now) pid (write_row pid process.now (object_in (held process.now.registers file)) (number_in (held process.now.registers at))) (Ok result) }
+    ensures { PlansRow (S.look store.now) process.now pid (write_row pid process.now (object_in (held process.now.registers file)) (number_in (held process.now.registers at))) (Ok result) }
 {
     let Some(object) = object_at(process, file) else {
-        return alone(failed(process, Errno::BadObject));
+        return alone(failed(Errno::BadObject));
     };
     let error = match file_at(store, &object) {
         Ok(file) => match number_at(process, at) {
@@ -151,7 +135,7 @@ pub(crate) fn write<S: Look>(
         },
         Err(error) => error,
     };
-    looked(failed(process, error), Entity::Obj(object))
+    looked(failed(error), Entity::Obj(object))
 }
 
 /// A file of this length cut to a size.
@@ -162,24 +146,19 @@ fn cut_to<S: Look>(
     object: &ObjId,
     file: &File,
     size: u64,
-) -> Plan
+) -> Row
     requires place { process.now.place + 1 < 2 ^ 32 }
     requires there { S.look _store.now (Obj object.now) ≡ Some (stored.Value (values.File file.now)) }
-    ensures { PlansRow (S.look _store.now) pid (Ask (Obj object.now) (λ v. cut_to pid process.now object.now file.now size)) (Ok result) }
+    ensures { PlansRow (S.look _store.now) process.now pid (Ask (Obj object.now) (λ v. cut_to pid process.now object.now file.now size)) (Ok result) }
 {
     if size > FILE_LIMIT as u64 {
-        return looked(failed(process, Errno::TooBig), Entity::Obj(*object));
+        return looked(failed(Errno::TooBig), Entity::Obj(*object));
     }
-    let process_after = answered(process, 0);
+    let change = answered(0);
     if size == file.len() as u64 {
-        return looked(process_after, Entity::Obj(*object));
+        return looked(change, Entity::Obj(*object));
     }
-    let change = Change::CutTo(size as u32);
-    changed(
-        process_after,
-        &Entity::Obj(*object),
-        Becomes::Changed(change),
-    )
+    changed(change, &Entity::Obj(*object), Writes::Cut(size as u32))
 }
 
 /// `cut rF rN`
@@ -189,12 +168,12 @@ pub(crate) fn cut<S: Look>(
     process: &Process,
     file: Register,
     size: Register,
-) -> Plan
+) -> Row
     requires { process.now.place + 1 < 2 ^ 32 }
-    ensures { PlansRow (S.look store.now) pid (cut_row pid process.now (object_in (held process.now.registers file)) (number_in (held process.now.registers size))) (Ok result) }
+    ensures { PlansRow (S.look store.now) process.now pid (cut_row pid process.now (object_in (held process.now.registers file)) (number_in (held process.now.registers size))) (Ok result) }
 {
     let Some(object) = object_at(process, file) else {
-        return alone(failed(process, Errno::BadObject));
+        return alone(failed(Errno::BadObject));
     };
     let error = match file_at(store, &object) {
         Ok(file) => match number_at(process, size) {
@@ -203,5 +182,5 @@ pub(crate) fn cut<S: Look>(
         },
         Err(error) => error,
     };
-    looked(failed(process, error), Entity::Obj(object))
+    looked(failed(error), Entity::Obj(object))
 }

@@ -8,12 +8,11 @@ ghost use Rattle.sk_store.specs.declared.entity_state.EntityState.TheVariants as
 ghost use Rattle.sk_script.specs.Registers.{held};
 ghost use Rattle.sk_plain.specs.Rows.{object_in};
 ghost use Rattle.sk_plain.specs.Names.{look as look_row, link_to, link as link_row, unlink_from, unlink as unlink_row};
-ghost use Rattle.sk_plain.specs.Planned.{PlansRow};
+ghost use Rattle.sk_plain.specs.Seen.{PlansRow};
 
 use crate::shapes::{alone, answered, changed, failed, given, looked};
 use crate::values::{directory_at, object_at};
-use crate::{Becomes, Errno, Plan};
-use sk_changes::Change;
+use crate::{Errno, Row, Writes};
 use sk_ids::{Entity, Name, ObjId, Pid};
 use sk_objects::Directory;
 use sk_objects::directory::DIRECTORY_LIMIT;
@@ -28,22 +27,22 @@ pub(crate) fn look<S: Look>(
     register: Register,
     directory: Register,
     name: &Name,
-) -> Plan
+) -> Row
     requires { process.now.place + 1 < 2 ^ 32 }
-    ensures { PlansRow (S.look store.now) pid (look_row pid process.now register (object_in (held process.now.registers directory)) name.now) (Ok result) }
+    ensures { PlansRow (S.look store.now) process.now pid (look_row pid process.now register (object_in (held process.now.registers directory)) name.now) (Ok result) }
 {
     let held = object_at(process, directory);
     let Some(object) = &held else {
-        return alone(failed(process, Errno::BadObject));
+        return alone(failed(Errno::BadObject));
     };
-    let process_after = match directory_at(store, object) {
+    let change = match directory_at(store, object) {
         Ok(directory) => match directory.look(name) {
-            Some(found) => given(process, register, Val::Obj(found)),
-            None => failed(process, Errno::NotLinked),
+            Some(found) => given(register, Val::Obj(found)),
+            None => failed(Errno::NotLinked),
         },
-        Err(error) => failed(process, error),
+        Err(error) => failed(error),
     };
-    looked(process_after, Entity::Obj(*object))
+    looked(change, Entity::Obj(*object))
 }
 
 /// A name linked in a directory.
@@ -55,22 +54,18 @@ fn link_to<S: Look>(
     directory: &Directory,
     name: &Name,
     object: &ObjId,
-) -> Plan
+) -> Row
     requires place { process.now.place + 1 < 2 ^ 32 }
     requires there { S.look _store.now (Obj at.now) ≡ Some (stored.Value (values.Dir directory.now)) }
-    ensures { PlansRow (S.look _store.now) pid (Ask (Obj at.now) (λ v. link_to pid process.now at.now directory.now name.now object.now (looked_up directory.now name.now))) (Ok result) }
+    ensures { PlansRow (S.look _store.now) process.now pid (Ask (Obj at.now) (λ v. link_to pid process.now at.now directory.now name.now object.now (looked_up directory.now name.now))) (Ok result) }
 {
     if directory.look(name).is_some() {
-        return looked(failed(process, Errno::Exists), Entity::Obj(*at));
+        return looked(failed(Errno::Exists), Entity::Obj(*at));
     }
     if directory.len() >= DIRECTORY_LIMIT {
-        return looked(failed(process, Errno::NoSpace), Entity::Obj(*at));
+        return looked(failed(Errno::NoSpace), Entity::Obj(*at));
     }
-    changed(
-        answered(process, 0),
-        &Entity::Obj(*at),
-        Becomes::Changed(Change::Link(*name, *object)),
-    )
+    changed(answered(0), &Entity::Obj(*at), Writes::Link(*name, *object))
 }
 
 /// `link rD NAME rA`
@@ -81,19 +76,19 @@ pub(crate) fn link<S: Look>(
     directory: Register,
     name: &Name,
     object: Register,
-) -> Plan
+) -> Row
     requires { process.now.place + 1 < 2 ^ 32 }
-    ensures { PlansRow (S.look store.now) pid (link_row pid process.now (object_in (held process.now.registers directory)) name.now (object_in (held process.now.registers object))) (Ok result) }
+    ensures { PlansRow (S.look store.now) process.now pid (link_row pid process.now (object_in (held process.now.registers directory)) name.now (object_in (held process.now.registers object))) (Ok result) }
 {
     let Some(at) = object_at(process, directory) else {
-        return alone(failed(process, Errno::BadObject));
+        return alone(failed(Errno::BadObject));
     };
     let Some(object) = object_at(process, object) else {
-        return looked(failed(process, Errno::BadObject), Entity::Obj(at));
+        return looked(failed(Errno::BadObject), Entity::Obj(at));
     };
     match directory_at(store, &at) {
         Ok(directory) => link_to(store, pid, process, &at, directory, name, &object),
-        Err(error) => looked(failed(process, error), Entity::Obj(at)),
+        Err(error) => looked(failed(error), Entity::Obj(at)),
     }
 }
 
@@ -104,27 +99,22 @@ pub(crate) fn unlink<S: Look>(
     process: &Process,
     directory: Register,
     name: &Name,
-) -> Plan
+) -> Row
     requires { process.now.place + 1 < 2 ^ 32 }
-    ensures { PlansRow (S.look store.now) pid (unlink_row pid process.now (object_in (held process.now.registers directory)) name.now) (Ok result) }
+    ensures { PlansRow (S.look store.now) process.now pid (unlink_row pid process.now (object_in (held process.now.registers directory)) name.now) (Ok result) }
 {
     let held = object_at(process, directory);
     let Some(at) = &held else {
-        return alone(failed(process, Errno::BadObject));
+        return alone(failed(Errno::BadObject));
     };
     let error = match directory_at(store, at) {
         Ok(directory) => {
             if directory.look(name).is_some() {
-                let change = Change::Unlink(*name);
-                return changed(
-                    answered(process, 0),
-                    &Entity::Obj(*at),
-                    Becomes::Changed(change),
-                );
+                return changed(answered(0), &Entity::Obj(*at), Writes::Unlink(*name));
             }
             Errno::NotLinked
         }
         Err(error) => error,
     };
-    looked(failed(process, error), Entity::Obj(*at))
+    looked(failed(error), Entity::Obj(*at))
 }

@@ -4,9 +4,9 @@ ghost use Rattle.sk_ids.specs.declared.entity.Entity.TheVariants.{Sig};
 ghost use Rattle.sk_plain.specs.Act.{next_in};
 ghost use Rattle.sk_plain.specs.Next.{takes_signal, is_due, is_private, waits, next_instruction, next_of};
 
-use crate::Refusal;
 use crate::processes::is_killed;
 use crate::step::{instruction_at, plan_step};
+use crate::{Refusal, step};
 use sk_ids::{Entity, Name, Pid};
 use sk_objects::{Signals, Value};
 use sk_script::{Input, Instruction, Process, Scripts};
@@ -49,9 +49,8 @@ pub(crate) fn is_due<S: Look>(store: &S, pid: Pid, process: &Process) -> bool
 fn is_private(scripts: &Scripts, process: &Process) -> bool
     ensures { result ≡ is_private process.now (next_in scripts.now process.now) }
 {
-    let mut next = *process;
     match instruction_at(scripts, process) {
-        Some(instruction) => next.does(instruction),
+        Some(instruction) => step::is_private(process, instruction),
         None => false,
     }
 }

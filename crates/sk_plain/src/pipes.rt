@@ -8,13 +8,12 @@ ghost use Rattle.sk_script.specs.Registers.{held};
 ghost use Rattle.sk_plain.specs.Rows.{object_in, number_to};
 ghost use Rattle.sk_ids.specs.declared.text.TheConstants.{TEXT_LIMIT};
 ghost use Rattle.sk_plain.specs.Pipes.{put_in, put as put_row, take_from, take_out as take_row, shut as shut_row};
-ghost use Rattle.sk_plain.specs.Planned.{PlansRow};
+ghost use Rattle.sk_plain.specs.Seen.{PlansRow};
 
-use crate::shapes::{alone, answered, changed, failed, filled, looked};
+use crate::shapes::{alone, answered, changed, failed, looked};
 use crate::values::{number_up_to, object_at, pipe_at};
-use crate::{Becomes, Errno, Plan, Refusal};
-use sk_changes::Change;
-use sk_ids::{Entity, ObjId, Pid, Text};
+use crate::{Errno, ProcessChange, Refusal, Row, Writes};
+use sk_ids::{Entity, ObjId, Pid};
 use sk_objects::Pipe;
 use sk_objects::pipe::PIPE_LIMIT;
 use sk_script::{Process, Register};
@@ -30,27 +29,23 @@ fn put_in<S: Look>(
     process: &Process,
     object: &ObjId,
     pipe: &Pipe,
-) -> Result<Plan, Refusal>
+) -> Result<Row, Refusal>
     requires place { process.now.place + 1 < 2 ^ 32 }
     requires there { S.look _store.now (Obj object.now) ≡ Some (stored.Value (values.Pipe pipe.now)) }
-    ensures { PlansRow (S.look _store.now) pid (Ask (Obj object.now) (λ v. put_in pid process.now object.now pipe.now)) result }
+    ensures { PlansRow (S.look _store.now) process.now pid (Ask (Obj object.now) (λ v. put_in pid process.now object.now pipe.now)) result }
 {
     if pipe.is_shut() {
-        return Ok(looked(failed(process, Errno::BrokenPipe), Entity::Obj(*object)));
+        return Ok(looked(failed(Errno::BrokenPipe), Entity::Obj(*object)));
     }
     let len = process.buffer.len();
-    let process_after = answered(process, len as u64);
+    let change = answered(len as u64);
     if len == 0 {
-        return Ok(looked(process_after, Entity::Obj(*object)));
+        return Ok(looked(change, Entity::Obj(*object)));
     }
     if pipe.len() + len > PIPE_LIMIT {
         return Err(Refusal::Blocked);
     }
-    Ok(changed(
-        process_after,
-        &Entity::Obj(*object),
-        Becomes::Changed(Change::Put(process.buffer)),
-    ))
+    Ok(changed(change, &Entity::Obj(*object), Writes::Put))
 }
 
 /// `put rP`
@@ -59,16 +54,27 @@ pub(crate) fn put<S: Look>(
     pid: Pid,
     process: &Process,
     pipe: Register,
-) -> Result<Plan, Refusal>
+) -> Result<Row, Refusal>
     requires { process.now.place + 1 < 2 ^ 32 }
-    ensures { PlansRow (S.look store.now) pid (put_row pid process.now (object_in (held process.now.registers pipe))) result }
+    ensures { PlansRow (S.look store.now) process.now pid (put_row pid process.now (object_in (held process.now.registers pipe))) result }
 {
     let Some(object) = object_at(process, pipe) else {
-        return Ok(alone(failed(process, Errno::BadObject)));
+        return Ok(alone(failed(Errno::BadObject)));
     };
     match pipe_at(store, &object) {
         Ok(pipe) => put_in(store, pid, process, &object, pipe),
-        Err(error) => Ok(looked(failed(process, error), Entity::Obj(object))),
+        Err(error) => Ok(looked(failed(error), Entity::Obj(object))),
+    }
+}
+
+/// So many bytes of the front of a pipe come to the buffer.
+fn taken(count: u32) -> ProcessChange
+    ensures { result ≡ ProcessChange.Fills 0 count (Some count) }
+{
+    ProcessChange::Fills {
+        from: 0,
+        count,
+        number: Some(u64::from(count)),
     }
 }
 
@@ -80,25 +86,21 @@ fn take_from<S: Look>(
     object: &ObjId,
     pipe: &Pipe,
     most: u16,
-) -> Result<Plan, Refusal>
+) -> Result<Row, Refusal>
     requires place { process.now.place + 1 < 2 ^ 32 }
     requires there { S.look _store.now (Obj object.now) ≡ Some (stored.Value (values.Pipe pipe.now)) }
     requires most { (1 ≤ most) × (most ≤ 512) }
-    ensures { PlansRow (S.look _store.now) pid (Ask (Obj object.now) (λ v. take_from pid process.now object.now pipe.now most)) result }
+    ensures { PlansRow (S.look _store.now) process.now pid (Ask (Obj object.now) (λ v. take_from pid process.now object.now pipe.now most)) result }
 {
     let held = pipe.len();
     if held == 0 {
         if !pipe.is_shut() {
             return Err(Refusal::Blocked);
         }
-        return Ok(looked(filled(process, Text::empty(), 0), Entity::Obj(*object)));
+        return Ok(looked(taken(0), Entity::Obj(*object)));
     }
-    let count = (most as usize).min(held);
-    Ok(changed(
-        filled(process, pipe.front(count), count as u64),
-        &Entity::Obj(*object),
-        Becomes::Changed(Change::Take(count as u32)),
-    ))
+    let count = (most as usize).min(held) as u32;
+    Ok(changed(taken(count), &Entity::Obj(*object), Writes::Take(count)))
 }
 
 /// `take rP rN`
@@ -108,12 +110,12 @@ pub(crate) fn take<S: Look>(
     process: &Process,
     pipe: Register,
     most: Register,
-) -> Result<Plan, Refusal>
+) -> Result<Row, Refusal>
     requires { process.now.place + 1 < 2 ^ 32 }
-    ensures { PlansRow (S.look store.now) pid (take_row pid process.now (object_in (held process.now.registers pipe)) (number_to TEXT_LIMIT (held process.now.registers most))) result }
+    ensures { PlansRow (S.look store.now) process.now pid (take_row pid process.now (object_in (held process.now.registers pipe)) (number_to TEXT_LIMIT (held process.now.registers most))) result }
 {
     let Some(object) = object_at(process, pipe) else {
-        return Ok(alone(failed(process, Errno::BadObject)));
+        return Ok(alone(failed(Errno::BadObject)));
     };
     let error = match pipe_at(store, &object) {
         Ok(pipe) => match number_up_to(process, most, TAKE_LIMIT) {
@@ -122,25 +124,21 @@ pub(crate) fn take<S: Look>(
         },
         Err(error) => error,
     };
-    Ok(looked(failed(process, error), Entity::Obj(object)))
+    Ok(looked(failed(error), Entity::Obj(object)))
 }
 
 /// `shut rP`
-pub(crate) fn shut<S: Look>(store: &S, pid: Pid, process: &Process, pipe: Register) -> Plan
+pub(crate) fn shut<S: Look>(store: &S, pid: Pid, process: &Process, pipe: Register) -> Row
     requires { process.now.place + 1 < 2 ^ 32 }
-    ensures { PlansRow (S.look store.now) pid (shut_row pid process.now (object_in (held process.now.registers pipe))) (Ok result) }
+    ensures { PlansRow (S.look store.now) process.now pid (shut_row pid process.now (object_in (held process.now.registers pipe))) (Ok result) }
 {
     let held = object_at(process, pipe);
     let Some(object) = &held else {
-        return alone(failed(process, Errno::BadObject));
+        return alone(failed(Errno::BadObject));
     };
     match pipe_at(store, object) {
-        Ok(pipe) if pipe.is_shut() => looked(answered(process, 0), Entity::Obj(*object)),
-        Ok(_) => changed(
-            answered(process, 0),
-            &Entity::Obj(*object),
-            Becomes::Changed(Change::Shut),
-        ),
-        Err(error) => looked(failed(process, error), Entity::Obj(*object)),
+        Ok(pipe) if pipe.is_shut() => looked(answered(0), Entity::Obj(*object)),
+        Ok(_) => changed(answered(0), &Entity::Obj(*object), Writes::Shut),
+        Err(error) => looked(failed(error), Entity::Obj(*object)),
     }
 }

@@ -1,15 +1,19 @@
 //! The plain kernel: it takes steps, and knows no guesses.
-ghost use Rattle.std.specs.Prelude.{◌≡◌, ◌↔◌, IsTrue, IfOk};
+ghost use Rattle.std.specs.Prelude.{◌≡◌, ◌↔◌, IsTrue, IfOk, option_map};
 ghost use Rattle.std.specs.List.Sorted.{IsStrictlySortedBy};
 ghost use Rattle.std.specs.FinMap as map;
 ghost use Rattle.sk_ids.specs.Entity.{entity_cmp};
+ghost use Rattle.sk_ids.specs.declared.entity.Entity.TheVariants.{Proc};
+ghost use Rattle.sk_store.specs.Processes.{IsProcess};
+ghost use Rattle.sk_plain.specs.Planned.{said_by};
+ghost use Rattle.sk_plain.specs.Seen.{seen_with};
 ghost use Rattle.sk_plain.specs.View.{Shows};
 ghost use Rattle.sk_plain.specs.Plain.{plain_start, texts_said, step_of, Steps};
 
-use crate::{Refusal, View, perform_plan, plan_step};
+use crate::{Plan, Refusal, View, perform_plan, plan_step};
 use sk_ids::{Entity, Pid, Text};
 use sk_script::{Boot, Input, Scripts};
-use sk_store::{Look, Store};
+use sk_store::{EntityState, Look, Store};
 use sk_terminal::Terminals;
 use std::alloc::{AllocError, Global};
 use std::marker::Model;
@@ -64,6 +68,21 @@ impl Eq for Plain {
     ghost laws = { decided same_plain exact_plain };
 }
 
+/// The text that a planned step will say: the buffer of its process.
+#[tactic(auto, using(crate::proofs::Plans::row_quiet))]
+fn text_of(store: &Store, _scripts: &Scripts, pid: Pid, _input: &Input, plan: &Plan) -> Option<Text>
+    requires { IsProcess (map.get store.now (Proc pid)) }
+    ensures { result ≡ option_map (λ s. s.text) (said_by (seen_with (map.get store.now) _scripts.now pid _input.now plan.now)) }
+{
+    let Plan::Speaks = plan else {
+        return None;
+    };
+    match store.value(Entity::Proc(pid)) {
+        Some(EntityState::Process(process)) => Some(process.buffer),
+        _ => unreachable!(),
+    }
+}
+
 impl Plain {
     /// The kernel at the start of a boot.
     pub fn boot(alloc: Global, boot: &Boot) -> Result<Plain, AllocError>
@@ -88,9 +107,20 @@ impl Plain {
     pub fn step(&mut self, pid: Pid, input: &Input) -> Result<Option<Text>, Refusal>
         ensures { Steps result (step_of self.old pid input.now) self.old self.new }
     {
-        let plan = plan_step(&self.store, &self.scripts, pid, input)?;
-        perform_plan(&mut self.store, &mut self.texts, pid, &plan)?;
-        Ok(plan.text())
+        let plan = match plan_step(&self.store, &self.scripts, pid, input) {
+            Ok(plan) => plan,
+            Err(why) => return Err(why),
+        };
+        let text = text_of(&self.store, &self.scripts, pid, input, &plan);
+        perform_plan(
+            &mut self.store,
+            &mut self.texts,
+            &self.scripts,
+            pid,
+            input,
+            &plan,
+        )?;
+        Ok(text)
     }
 
     /// What an entity has; `None` where it is absent.

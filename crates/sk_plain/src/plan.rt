@@ -1,144 +1,147 @@
-//! What a step will do. A plan is the step's footprint: nothing that uses one knows of instructions.
-ghost use Rattle.std.specs.Prelude.{◌≡◌, option_map};
-ghost use Rattle.sk_plain.specs.Planned.{read_by, written_by, said_by};
+//! What a step will do, in a few words: nothing here holds a process, or bytes that stand elsewhere.
+ghost use Rattle.std.specs.Prelude.{◌≡◌};
+ghost use Rattle.sk_plain.specs.Planned.{read_by};
+ghost use Rattle.sk_plain.specs.Seen.{looked, looks_of, written_in, written_row};
 
-use crate::Entities;
-use sk_changes::Change;
-use sk_ids::{Entity, Pid, Text};
-use sk_objects::{Content, Kind};
-use sk_script::{Input, Process, Registers};
-use std::marker::Model;
+use crate::{Becomes, Entities};
+use sk_ids::{Entity, Name, ObjId, Pid};
+use sk_objects::Kind;
+use sk_script::{Input, Register};
 
-/// The entities beside the process that a step looks at, in their order.
+/// The entity beside the process that a step looks at.
 #[derive(Clone, Copy)]
 pub enum Looks {
     Nowhere,
     At(Entity),
-    /// For the names of directories as entities: no step looks at two yet.
-    AtBoth(Entity, Entity),
 }
 
-/// What an entity becomes.
+/// What becomes of the process.
 #[derive(Clone, Copy)]
-pub enum Becomes {
+pub enum ProcessChange {
+    Does(Becomes),
+    /// Up to so many bytes, at most 512, of the entity that is looked at come to its buffer, from a
+    /// place on; r0 has a number, or how many bytes there are.
+    Fills {
+        from: u64,
+        count: u32,
+        number: Option<u64>,
+    },
+}
+
+/// What an entity becomes. The bytes that are written are the process's buffer before the step.
+#[derive(Clone, Copy)]
+pub enum Writes {
     /// A value of a kind with nothing in it.
     Empty(Kind),
     /// An exit slot with a status.
     Exited(u8),
-    /// A cached copy.
-    Cached(Content),
-    /// What it was, changed.
-    Changed(Change),
+    /// The first version of a cached copy.
+    First,
+    /// A later one.
+    Over(u64),
+    /// A file with the bytes at a place.
+    At(u32),
+    /// A file of another size.
+    Cut(u32),
+    Link(Name, ObjId),
+    Unlink(Name),
+    /// A pipe with the bytes at its end.
+    Put,
+    /// A pipe without so many at its front.
+    Take(u32),
+    Shut,
+    Signal(u8),
+    TakeSignal,
 }
 
-/// A process that is born, with an empty queue of signals and an exit slot that is not set. It has its
-/// parent's script, buffer, handler and terminal.
-#[derive(Clone, Copy)]
-pub struct Child {
-    pub pid: Pid,
-    pub place: u32,
-    pub registers: Registers,
-}
-
-/// What a step does beside writing its process.
+/// The entity that a step writes beside its process.
 #[derive(Clone, Copy)]
 pub enum Beside {
     Nothing,
-    /// The process says its buffer, as the step leaves it, to its terminal.
-    Says,
-    /// The entity is written.
-    One(Entity, Becomes),
-    Birth(Child),
-    /// The entity is absent after the step. For the names of directories as entities: no step removes
-    /// one yet.
-    Gone(Entity),
+    One(Entity, Writes),
 }
 
-/// What a step will do: the process as it becomes, what else is looked at, and what else is done.
+/// What a row of the table does.
 #[derive(Clone, Copy)]
-pub struct Plan {
-    pub process: Process,
+pub struct Row {
+    pub change: ProcessChange,
     pub looks: Looks,
     pub beside: Beside,
 }
 
-impl Model for Plan {
-    ghost use Rattle.sk_plain.specs.Plan.{PlanView, plan_code};
-
-    ghost Value = { PlanView };
-
-    ghost coded = { plan_code };
-
-    ghost view = { λ p. record { process = p.process; looks = p.looks; beside = p.beside } };
-
-    ghost inverse = { λ p. record { process = p.process; looks = p.looks; beside = p.beside } };
+/// What a step will do.
+#[derive(Clone, Copy)]
+pub enum Plan {
+    /// The next instruction, which is private.
+    Private,
+    /// The process says its buffer.
+    Speaks,
+    /// The content of the input becomes the copy of a name, and is fetched, or told as an error.
+    Received(Name),
+    /// A child is born at a place, with an empty queue of signals and an exit slot that is not set, and
+    /// is in a register of its parent. It has its parent's script, registers, buffer, handler and terminal.
+    Forks(Register, Pid, u32),
+    Acts(Row),
 }
 
 impl Plan {
     /// The entities that the step reads, with this input.
     pub fn reads(&self, pid: Pid, input: &Input) -> Entities
-        ensures { result ≡ read_by pid input.now self.now.looks }
+        ensures { result ≡ read_by pid input.now (looked (looks_of self.now)) }
     {
-        read_entities(pid, input, &self.looks)
-    }
-
-    /// The text that the process says: its buffer, as the step leaves it.
-    pub fn text(&self) -> Option<Text>
-        ensures { result ≡ option_map (λ s. s.text) (said_by self.now) }
-    {
-        match self.beside {
-            Beside::Says => Some(self.process.buffer),
-            _ => None,
+        match self {
+            Plan::Acts(row) => read_entities(pid, input, &row.looks),
+            Plan::Private | Plan::Speaks | Plan::Received(_) | Plan::Forks(..) => {
+                read_entities(pid, input, &Looks::Nowhere)
+            }
         }
     }
 
     /// The entities that the step writes.
     pub fn writes(&self, pid: Pid) -> Entities
-        ensures { result ≡ written_by pid self.now.beside }
+        ensures { result ≡ written_in pid self.now }
     {
-        written_entities(pid, &self.beside)
+        match self {
+            Plan::Private | Plan::Speaks => Entities::one(Entity::Proc(pid)),
+            Plan::Received(name) => {
+                let mut all = Entities::one(Entity::Copy(*name));
+                all.push(Entity::Proc(pid));
+                all
+            }
+            Plan::Forks(_, child, _) => {
+                let mut all = Entities::one(Entity::Proc(*child));
+                all.push(Entity::Sig(*child));
+                all.push(Entity::Exit(*child));
+                all.push(Entity::Proc(pid));
+                all
+            }
+            Plan::Acts(row) => written_entities(pid, &row.beside),
+        }
     }
 }
 
 /// The entities that a step with this input reads.
 fn read_entities(pid: Pid, input: &Input, looks: &Looks) -> Entities
-    ensures { result ≡ read_by pid input.now looks.now }
+    ensures { result ≡ read_by pid input.now (looked looks.now) }
 {
     let mut all = Entities::one(Entity::Proc(pid));
     if let Input::None = input {
         all.push(Entity::Sig(pid));
     }
-    match looks {
-        Looks::Nowhere => {}
-        Looks::At(entity) => all.push(*entity),
-        Looks::AtBoth(first, second) => {
-            all.push(*first);
-            all.push(*second);
-        }
+    if let Looks::At(entity) = looks {
+        all.push(*entity);
     }
     all
 }
 
-/// The entities that a step writes.
+/// The entities that a row writes.
 fn written_entities(pid: Pid, beside: &Beside) -> Entities
-    ensures { result ≡ written_by pid beside.now }
+    ensures { result ≡ written_row pid beside.now }
 {
     match beside {
-        Beside::Nothing | Beside::Says => Entities::one(Entity::Proc(pid)),
+        Beside::Nothing => Entities::one(Entity::Proc(pid)),
         Beside::One(entity, _) => {
             let mut all = Entities::one(*entity);
-            all.push(Entity::Proc(pid));
-            all
-        }
-        Beside::Gone(entity) => {
-            let mut all = Entities::one(Entity::Proc(pid));
-            all.push(*entity);
-            all
-        }
-        Beside::Birth(child) => {
-            let mut all = Entities::one(Entity::Proc(child.pid));
-            all.push(Entity::Sig(child.pid));
-            all.push(Entity::Exit(child.pid));
             all.push(Entity::Proc(pid));
             all
         }

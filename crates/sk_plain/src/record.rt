@@ -8,7 +8,8 @@ ghost use Rattle.sk_record.specs.Strike.{strike};
 ghost use Rattle.sk_ids.specs.Entity.{entity_cmp};
 ghost use Rattle.sk_trace.specs.Entry.{EntryView};
 ghost use Rattle.sk_plain.specs.Act.{plain};
-ghost use Rattle.sk_plain.specs.Planned.{CanDo, writes_of, written_by};
+ghost use Rattle.sk_plain.specs.Planned.{writes_of};
+ghost use Rattle.sk_plain.specs.Seen.{CanPerform, seen_with, written_in};
 ghost use Rattle.sk_plain.specs.declared.refusal.Refusal.TheVariants.{Memory};
 ghost use Rattle.sk_plain.specs.Remaining.{depends, remaining, refusal_in, EndsBy};
 
@@ -72,19 +73,20 @@ fn depends(dirty: &[Entity], guess: GuessId, entry: &Entry, plan: &Plan) -> bool
 /// Takes a planned step, and keeps its entry or adds what it writes to what is dirty.
 fn take(
     store: &mut Store,
+    scripts: &Scripts,
     dirty: &mut Vec<Entity>,
     kept: &mut Vec<Entry>,
     guess: GuessId,
     entry: &Entry,
     plan: &Plan,
 ) -> Result<(), Refusal>
-    requires { CanDo (map.get store.old) plan.now.beside }
-    ensures store { OnOk result (store.new ≡ put_all (writes_of (map.get store.old) entry.now.pid plan.now) store.old) }
-    ensures dirty { OnOk result (dirty.new.items ≡ (if depends guess dirty.old.items entry.now plan.now then written_by entry.now.pid plan.now.beside ++ dirty.old.items else dirty.old.items)) }
+    requires { CanPerform (map.get store.old) scripts.now entry.now.pid entry.now.input plan.now }
+    ensures store { OnOk result (store.new ≡ put_all (writes_of (map.get store.old) entry.now.pid (seen_with (map.get store.old) scripts.now entry.now.pid entry.now.input plan.now)) store.old) }
+    ensures dirty { OnOk result (dirty.new.items ≡ (if depends guess dirty.old.items entry.now plan.now then written_in entry.now.pid plan.now ++ dirty.old.items else dirty.old.items)) }
     ensures memory { IfErr result (λ why. why ≡ Memory) }
     ensures kept { OnOk result (kept.new.items ≡ (if depends guess dirty.old.items entry.now plan.now then kept.old.items else kept.old.items ++ entry.now ∷ [])) }
 {
-    apply_plan(store, entry.pid, plan)?;
+    apply_plan(store, scripts, entry.pid, &entry.input, plan)?;
     if depends(dirty, guess, entry, plan) {
         let written = plan.writes(entry.pid);
         mark(dirty, written.as_slice())?;
@@ -109,8 +111,11 @@ fn one_entry(
     ensures passed { OnOk result ((rest : List EntryView) → refusal_in scripts.now store.new rest ≡ refusal_in scripts.now store.old (entry.now ∷ rest)) }
     ensures refused { IfErr result (λ why. (rest : List EntryView) → EndsBy (refusal_in scripts.now store.old (entry.now ∷ rest)) why) }
 {
-    let plan = plan_step(store, scripts, entry.pid, &entry.input)?;
-    take(store, dirty, kept, guess, entry, &plan)
+    let plan = match plan_step(store, scripts, entry.pid, &entry.input) {
+        Ok(plan) => plan,
+        Err(why) => return Err(why),
+    };
+    take(store, scripts, dirty, kept, guess, entry, &plan)
 }
 
 /// Takes a record's steps in a store, and answers the record without what depends on a guess. The

@@ -101,7 +101,7 @@ fn take_entry(replay: &mut Replay, scripts: &Scripts, entry: &Entry) -> Result<(
     if !is_above(replay.greatest, entry.guess) {
         return Err(Fault::Unknown);
     }
-    apply_plan(&mut replay.now, entry.pid, &plan)?;
+    apply_plan(&mut replay.now, scripts, entry.pid, &entry.input, &plan)?;
     replay.entries.push(*entry)?;
     if let Some(guess) = entry.guess {
         replay.undecided.push(guess)?;
@@ -140,8 +140,11 @@ fn commit(replay: &mut Replay, guess: GuessId) -> Result<(), Fault>
 fn take_again(store: &mut Store, scripts: &Scripts, entry: &Entry) -> Result<(), Refusal>
     ensures { OnOk result ((rest : List EntryView) → run (plain scripts.now) store.new rest ≡ run (plain scripts.now) store.old (entry.now ∷ rest)) }
 {
-    let plan = plan_step(store, scripts, entry.pid, &entry.input)?;
-    apply_plan(store, entry.pid, &plan)?;
+    let plan = match plan_step(store, scripts, entry.pid, &entry.input) {
+        Ok(plan) => plan,
+        Err(why) => return Err(why),
+    };
+    apply_plan(store, scripts, entry.pid, &entry.input, &plan)?;
     Ok(())
 }
 

@@ -1,70 +1,66 @@
 //! What the instructions with a reply of the server will do.
-ghost use Rattle.std.specs.Prelude.{◌≡◌, ◌+◌, ◌<◌, ◌^◌, ℕ, None, Option, IfOk};
+ghost use Rattle.std.specs.Prelude.{◌≡◌, ◌+◌, ◌<◌, ◌^◌, [], Some, None, IfOk};
 ghost use Rattle.sk_record.specs.Step.{Ask};
-ghost use Rattle.sk_ids.specs.declared.entity.Entity.{Entity};
 ghost use Rattle.sk_ids.specs.declared.entity.Entity.TheVariants.{Copy};
-ghost use Rattle.sk_store.specs.declared.entity_state.EntityState.{EntityState};
+ghost use Rattle.sk_ids.specs.declared.text.TheConstants.{TEXT_LIMIT};
+ghost use Rattle.sk_script.specs.declared.instruction.Input.TheVariants as Input;
 ghost use Rattle.sk_plain.specs.Act.{next_in};
-ghost use Rattle.sk_plain.specs.Replies.{fetched, from_copy, over_copy, good as good_row, fresh as fresh_row, stale as stale_row};
-ghost use Rattle.sk_plain.specs.Planned.{PlansRow, said_by};
+ghost use Rattle.sk_plain.specs.Replies.{from_copy, over_copy, good as good_row, fresh as fresh_row, stale as stale_row};
+ghost use Rattle.sk_plain.specs.Planned.{said_by};
+ghost use Rattle.sk_plain.specs.Seen.{PlansAfter, PlansRow, seen};
 
-use crate::shapes::{answered, changed, failed, filled, looked, wrote};
+use crate::shapes::{answered, changed, looked};
 use crate::step::instruction_at;
-use crate::{Becomes, Errno, Plan, Refusal};
-use sk_changes::Change;
+use crate::{Plan, ProcessChange, Refusal, Row, Writes};
+use sk_ids::text::TEXT_LIMIT;
 use sk_ids::{Entity, Name, Pid};
+use sk_objects::content::LAST_VERSION;
 use sk_objects::{Content, Value};
 use sk_script::{Instruction, Process, Scripts};
 use sk_store::{EntityState, Look};
 
-/// The process after a fetch of this content.
-fn fetched(process: &Process, content: &Content) -> Process
-    requires { process.now.place + 1 < 2 ^ 32 }
-    ensures { result ≡ fetched process.now content.now }
+/// The bytes of a cached copy come to the buffer, and its version to r0.
+fn fetched(version: u64) -> ProcessChange
+    ensures { result ≡ ProcessChange.Fills 0 TEXT_LIMIT (Some version) }
 {
-    filled(process, content.bytes(), content.version())
+    ProcessChange::Fills {
+        from: 0,
+        count: TEXT_LIMIT as u32,
+        number: Some(version),
+    }
 }
 
 /// A fetch from the cached copy.
-fn from_copy<S: Look>(store: &S, pid: Pid, process: &Process, name: Name) -> Result<Plan, Refusal>
+fn from_copy<S: Look>(store: &S, pid: Pid, process: &Process, name: Name) -> Result<Row, Refusal>
     requires { process.now.place + 1 < 2 ^ 32 }
-    ensures row { PlansRow (S.look store.now) pid (Ask (Copy name) (from_copy pid process.now)) result }
-    ensures quiet { IfOk result (λ plan. said_by plan ≡ None) }
+    ensures { PlansRow (S.look store.now) process.now pid (Ask (Copy name) (from_copy pid process.now)) result }
 {
     match store.value(Entity::Copy(name)) {
-        Some(EntityState::Value(Value::Copy(content))) => Ok(looked(
-            fetched(process, content),
-            Entity::Copy(name),
-        )),
+        Some(EntityState::Value(Value::Copy(content))) => {
+            content.known();
+            Ok(looked(fetched(content.version()), Entity::Copy(name)))
+        }
         _ => Err(Refusal::Mismatch),
     }
 }
 
 /// A store over the cached copy, or over none.
-fn over_copy<S: Look>(store: &S, pid: Pid, process: &Process, name: Name) -> Result<Plan, Refusal>
+fn over_copy<S: Look>(store: &S, pid: Pid, process: &Process, name: Name) -> Result<Row, Refusal>
     requires { process.now.place + 1 < 2 ^ 32 }
-    ensures row { PlansRow (S.look store.now) pid (Ask (Copy name) (over_copy pid process.now name)) result }
-    ensures quiet { IfOk result (λ plan. said_by plan ≡ None) }
+    ensures { PlansRow (S.look store.now) process.now pid (Ask (Copy name) (over_copy pid process.now name)) result }
 {
     match store.value(Entity::Copy(name)) {
-        None => match Content::new(1, process.buffer) {
-            Some(content) => Ok(changed(
-                answered(process, 1),
-                &Entity::Copy(name),
-                Becomes::Cached(content),
-            )),
-            None => unreachable!(),
-        },
+        None => Ok(changed(answered(1), &Entity::Copy(name), Writes::First)),
         Some(EntityState::Value(Value::Copy(old))) => {
             let version = old.version() + 1;
-            match Content::new(version, process.buffer) {
-                Some(content) => Ok(changed(
-                    answered(process, version),
-                    &Entity::Copy(name),
-                    Becomes::Changed(Change::SetCopy(content)),
-                )),
-                None => Err(Refusal::Mismatch),
+            if version > LAST_VERSION {
+                return Err(Refusal::Mismatch);
             }
+            Ok(changed(
+                answered(version),
+                &Entity::Copy(name),
+                Writes::Over(version),
+            ))
         }
         _ => Err(Refusal::Mismatch),
     }
@@ -76,9 +72,8 @@ pub(crate) fn good<S: Look>(
     scripts: &Scripts,
     pid: Pid,
     process: &Process,
-) -> Result<Plan, Refusal>
-    ensures row { PlansRow (S.look store.now) pid (good_row pid process.now (next_in scripts.now process.now)) result }
-    ensures quiet { IfOk result (λ plan. said_by plan ≡ None) }
+) -> Result<Row, Refusal>
+    ensures { PlansRow (S.look store.now) process.now pid (good_row pid process.now (next_in scripts.now process.now)) result }
 {
     match instruction_at(scripts, process) {
         Some(Instruction::Fetch(name)) => from_copy(store, pid, process, *name),
@@ -95,15 +90,11 @@ pub(crate) fn fresh<S: Look>(
     process: &Process,
     content: &Content,
 ) -> Result<Plan, Refusal>
-    ensures row { PlansRow (S.look _store.now) pid (fresh_row pid process.now content.now (next_in scripts.now process.now)) result }
-    ensures quiet { IfOk result (λ plan. said_by plan ≡ None) }
+    ensures quiet { IfOk result (λ plan. said_by (seen (S.look _store.now) (next_in scripts.now process.now) (Input.Fresh content.now) process.now plan) ≡ None) }
+    ensures row { PlansAfter (S.look _store.now) (next_in scripts.now process.now) (Input.Fresh content.now) process.now [] pid (fresh_row pid process.now content.now (next_in scripts.now process.now)) result }
 {
     match instruction_at(scripts, process) {
-        Some(Instruction::Fetch(name)) => Ok(wrote(
-            fetched(process, content),
-            Entity::Copy(*name),
-            Becomes::Cached(*content),
-        )),
+        Some(Instruction::Fetch(name)) => Ok(Plan::Received(*name)),
         _ => Err(Refusal::Mismatch),
     }
 }
@@ -116,15 +107,11 @@ pub(crate) fn stale<S: Look>(
     process: &Process,
     content: &Content,
 ) -> Result<Plan, Refusal>
-    ensures row { PlansRow (S.look _store.now) pid (stale_row pid process.now content.now (next_in scripts.now process.now)) result }
-    ensures quiet { IfOk result (λ plan. said_by plan ≡ None) }
+    ensures quiet { IfOk result (λ plan. said_by (seen (S.look _store.now) (next_in scripts.now process.now) (Input.Stale content.now) process.now plan) ≡ None) }
+    ensures row { PlansAfter (S.look _store.now) (next_in scripts.now process.now) (Input.Stale content.now) process.now [] pid (stale_row pid process.now content.now (next_in scripts.now process.now)) result }
 {
     match instruction_at(scripts, process) {
-        Some(Instruction::Store(name)) => Ok(wrote(
-            failed(process, Errno::StaleCopy),
-            Entity::Copy(*name),
-            Becomes::Cached(*content),
-        )),
+        Some(Instruction::Store(name)) => Ok(Plan::Received(*name)),
         _ => Err(Refusal::Mismatch),
     }
 }

@@ -1,19 +1,19 @@
 //! What a step will do, before it does it. A plan takes no memory.
-ghost use Rattle.std.specs.Prelude.{◌≡◌, ◌+◌, ◌<◌, ◌^◌, IsSome, IfOk, Some, None};
+ghost use Rattle.std.specs.Prelude.{◌≡◌, ◌+◌, ◌<◌, ◌^◌, [], false, is_some, IsSome, IfOk, Some, None};
 ghost use Rattle.std.specs.Option.{option_copied};
 ghost use Rattle.sk_ids.specs.declared.entity.Entity.TheVariants.{Sig};
 ghost use Rattle.sk_objects.specs.declared.value.Value.TheVariants as values;
 ghost use Rattle.sk_store.specs.declared.entity_state.EntityState.TheVariants as stored;
-ghost use Rattle.sk_script.specs.Private.{moved};
+ghost use Rattle.sk_script.specs.Private.{private_step};
 ghost use Rattle.sk_plain.specs.Act.{row, does, next_in, handled as handled_row, with_signals, with_input};
-ghost use Rattle.sk_plain.specs.Planned.{PlansRow, PlansAfter, PlansStep, signals_read, IsReply, said_by};
+ghost use Rattle.sk_plain.specs.Planned.{signals_read, IsReply, said_by};
+ghost use Rattle.sk_plain.specs.declared.plan.Beside.TheVariants as Beside;
+ghost use Rattle.sk_plain.specs.declared.plan.Looks.TheVariants as Looks;
+ghost use Rattle.sk_plain.specs.Seen.{PlansAfter, PlansStep, plan_of, seen, seen_with};
 
-use crate::processes::{
-    ends, fork, handling, is_killed, kill, returned, status_of, wait, with_handler,
-};
+use crate::processes::{ends, fork, is_killed, kill, status_of, wait};
 use crate::shapes::{alone, wrote};
-use crate::{Becomes, Beside, Looks, Plan, Refusal, files, names, pipes, replies};
-use sk_changes::Change;
+use crate::{Becomes, Plan, ProcessChange, Refusal, Row, Writes, files, names, pipes, replies};
 use sk_ids::{Entity, Pid};
 use sk_objects::{Kind, Signals, Value};
 use sk_script::{Input, Instruction, Process, Scripts};
@@ -22,70 +22,99 @@ use sk_store::{EntityState, Look};
 /// The status of a process that a signal ended.
 const KILLED: u8 = 137;
 
-/// The process says its buffer.
-fn says(process: &Process) -> Plan
-    requires { process.now.place + 1 < 2 ^ 32 }
-    ensures { result ≡ record { process = moved process.now; looks = Looks.Nowhere; beside = Beside.Says } }
+/// The process alone becomes this.
+fn alone_does(becomes: Becomes) -> Plan
+    ensures { result ≡ Plan.Acts (record { change = ProcessChange.Does becomes; looks = Looks.Nowhere; beside = Beside.Nothing }) }
 {
-    let process = Process {
-        place: process.place + 1,
-        ..*process
-    };
-    Plan {
-        process,
-        looks: Looks::Nowhere,
-        beside: Beside::Says,
+    Plan::Acts(alone(ProcessChange::Does(becomes)))
+}
+
+/// The plan that is a row's.
+fn plan_of(row: Result<Row, Refusal>) -> Result<Plan, Refusal>
+    ensures { result ≡ plan_of row }
+{
+    match row {
+        Ok(row) => Ok(Plan::Acts(row)),
+        Err(why) => Err(why),
+    }
+}
+
+/// Whether an instruction is private.
+pub(crate) fn is_private(_process: &Process, instruction: &Instruction) -> bool
+    ensures { result ≡ is_some (private_step _process.now instruction.now) }
+{
+    match instruction {
+        Instruction::Set(..)
+        | Instruction::Move(..)
+        | Instruction::Add(..)
+        | Instruction::Text(_)
+        | Instruction::Len(_)
+        | Instruction::SelfPid(_)
+        | Instruction::BootPid(..)
+        | Instruction::Jump(_)
+        | Instruction::Zero(..)
+        | Instruction::Negative(..) => true,
+        _ => false,
     }
 }
 
 /// What an instruction will do that is not private, without input.
-fn row<S: Look>(
+#[tactic(auto, using(crate::proofs::Plans::rows))]
+fn tabled<S: Look>(
     store: &S,
     pid: Pid,
     process: &Process,
     instruction: &Instruction,
 ) -> Result<Plan, Refusal>
-    requires { process.now.place + 1 < 2 ^ 32 }
-    ensures { PlansRow (S.look store.now) pid (row pid process.now instruction.now) result }
+    requires place { process.now.place + 1 < 2 ^ 32 }
+    requires other { is_some (private_step process.now instruction.now) ≡ false }
+    ensures { PlansAfter (S.look store.now) (Some instruction.now) Input.None process.now [] pid (row pid process.now instruction.now) result }
 {
     Ok(match instruction {
-        Instruction::Handler(place) => alone(with_handler(process, *place)),
-        Instruction::Return => alone(returned(process)),
-        Instruction::Say => says(process),
-        Instruction::MakeFile(to) => files::made(store, pid, process, *to, Kind::File),
-        Instruction::MakeDir(to) => files::made(store, pid, process, *to, Kind::Dir),
-        Instruction::MakePipe(to) => files::made(store, pid, process, *to, Kind::Pipe),
-        Instruction::Look(to, at, name) => names::look(store, pid, process, *to, *at, name),
-        Instruction::Link(at, name, object) => names::link(store, pid, process, *at, name, *object),
-        Instruction::Unlink(at, name) => names::unlink(store, pid, process, *at, name),
-        Instruction::Size(file) => files::size(store, pid, process, *file),
-        Instruction::Write(file, at) => files::write(store, pid, process, *file, *at),
-        Instruction::Read(file, at) => files::read(store, pid, process, *file, *at),
-        Instruction::Cut(file, size) => files::cut(store, pid, process, *file, *size),
-        Instruction::Put(pipe) => return pipes::put(store, pid, process, *pipe),
-        Instruction::Take(pipe, most) => return pipes::take(store, pid, process, *pipe, *most),
-        Instruction::Shut(pipe) => pipes::shut(store, pid, process, *pipe),
-        Instruction::Fork(to, place) => fork(store, pid, process, *to, *place),
-        Instruction::Wait(to, who) => return wait(store, pid, process, *to, *who),
-        Instruction::Kill(who, signal) => kill(store, pid, process, *who, *signal),
-        Instruction::Exit(from) => ends(pid, process, status_of(&process.registers.get(*from))),
+        Instruction::Handler(place) => alone_does(Becomes::Handler(*place)),
+        Instruction::Return => alone_does(Becomes::Returns),
+        Instruction::Say => Plan::Speaks,
+        Instruction::MakeFile(to) => Plan::Acts(files::made(store, pid, process, *to, Kind::File)),
+        Instruction::MakeDir(to) => Plan::Acts(files::made(store, pid, process, *to, Kind::Dir)),
+        Instruction::MakePipe(to) => Plan::Acts(files::made(store, pid, process, *to, Kind::Pipe)),
+        Instruction::Look(to, at, name) => {
+            Plan::Acts(names::look(store, pid, process, *to, *at, name))
+        }
+        Instruction::Link(at, name, object) => {
+            Plan::Acts(names::link(store, pid, process, *at, name, *object))
+        }
+        Instruction::Unlink(at, name) => Plan::Acts(names::unlink(store, pid, process, *at, name)),
+        Instruction::Size(file) => Plan::Acts(files::size(store, pid, process, *file)),
+        Instruction::Write(file, at) => Plan::Acts(files::write(store, pid, process, *file, *at)),
+        Instruction::Read(file, at) => Plan::Acts(files::read(store, pid, process, *file, *at)),
+        Instruction::Cut(file, size) => Plan::Acts(files::cut(store, pid, process, *file, *size)),
+        Instruction::Put(pipe) => return plan_of(pipes::put(store, pid, process, *pipe)),
+        Instruction::Take(pipe, most) => {
+            return plan_of(pipes::take(store, pid, process, *pipe, *most));
+        }
+        Instruction::Shut(pipe) => Plan::Acts(pipes::shut(store, pid, process, *pipe)),
+        Instruction::Fork(to, place) => fork(store, pid, process, *to, *place, instruction),
+        Instruction::Wait(to, who) => return plan_of(wait(store, pid, process, *to, *who)),
+        Instruction::Kill(who, signal) => Plan::Acts(kill(store, pid, process, *who, *signal)),
+        Instruction::Exit(from) => {
+            Plan::Acts(ends(pid, status_of(&process.registers.get(*from))))
+        }
         Instruction::Fetch(_) | Instruction::Store(_) => return Err(Refusal::NeedsReply),
-        _ => alone(*process),
+        _ => unreachable!(),
     })
 }
 
 /// A step without input.
 fn does<S: Look>(store: &S, scripts: &Scripts, pid: Pid, process: &Process) -> Result<Plan, Refusal>
-    ensures { PlansRow (S.look store.now) pid (does pid process.now (next_in scripts.now process.now)) result }
+    ensures { PlansAfter (S.look store.now) (next_in scripts.now process.now) Input.None process.now [] pid (does pid process.now (next_in scripts.now process.now)) result }
 {
     let Some(instruction) = instruction_at(scripts, process) else {
-        return Ok(ends(pid, process, 0));
+        return Ok(Plan::Acts(ends(pid, 0)));
     };
-    let mut plan = alone(*process);
-    if plan.process.does(instruction) {
-        return Ok(plan);
+    if is_private(process, instruction) {
+        return Ok(Plan::Private);
     }
-    row(store, pid, process, instruction)
+    tabled(store, pid, process, instruction)
 }
 
 /// The front signal goes to the handler, where one is set and no place is saved.
@@ -97,14 +126,14 @@ fn handled<S: Look>(
     signals: &Signals,
 ) -> Result<Plan, Refusal>
     requires { S.look store.now (Sig pid) ≡ Some (stored.Value (values.Signals signals.now)) }
-    ensures { PlansRow (S.look store.now) pid (handled_row pid process.now (next_in scripts.now process.now) signals.now process.now.handler process.now.saved) result }
+    ensures { PlansAfter (S.look store.now) (next_in scripts.now process.now) Input.None process.now [] pid (handled_row pid process.now (next_in scripts.now process.now) signals.now process.now.handler process.now.saved) result }
 {
     match (signals.as_slice(), process.handler, process.saved) {
-        ([signal, ..], Some(handler), None) => Ok(wrote(
-            handling(process, *signal, handler),
+        ([signal, ..], Some(handler), None) => Ok(Plan::Acts(wrote(
+            ProcessChange::Does(Becomes::Handles(*signal, handler)),
             Entity::Sig(pid),
-            Becomes::Changed(Change::TakeSignal),
-        )),
+            Writes::TakeSignal,
+        ))),
         _ => does(store, scripts, pid, process),
     }
 }
@@ -116,12 +145,12 @@ fn with_signals<S: Look>(
     pid: Pid,
     process: &Process,
 ) -> Result<Plan, Refusal>
-    ensures { PlansRow (S.look store.now) pid (with_signals pid process.now (next_in scripts.now process.now) (S.look store.now (Sig pid))) result }
+    ensures { PlansAfter (S.look store.now) (next_in scripts.now process.now) Input.None process.now [] pid (with_signals pid process.now (next_in scripts.now process.now) (S.look store.now (Sig pid))) result }
 {
     match store.value(Entity::Sig(pid)) {
         Some(EntityState::Value(Value::Signals(signals))) => {
             if is_killed(signals.as_slice()) {
-                return Ok(ends(pid, process, KILLED));
+                return Ok(Plan::Acts(ends(pid, KILLED)));
             }
             handled(store, scripts, pid, process, signals)
         }
@@ -130,6 +159,7 @@ fn with_signals<S: Look>(
 }
 
 /// The next step of a process that goes on.
+#[tactic(auto, using(crate::proofs::Plans::rows))]
 fn with_input<S: Look>(
     store: &S,
     scripts: &Scripts,
@@ -137,12 +167,12 @@ fn with_input<S: Look>(
     process: &Process,
     input: &Input,
 ) -> Result<Plan, Refusal>
-    ensures row { PlansAfter (signals_read pid input.now) (S.look store.now) pid (with_input pid process.now (next_in scripts.now process.now) input.now) result }
-    ensures quiet { IsReply input.now → IfOk result (λ plan. said_by plan ≡ None) }
+    ensures row { PlansAfter (S.look store.now) (next_in scripts.now process.now) input.now process.now (signals_read pid input.now) pid (with_input pid process.now (next_in scripts.now process.now) input.now) result }
+    ensures quiet { IsReply input.now → IfOk result (λ plan. said_by (seen (S.look store.now) (next_in scripts.now process.now) input.now process.now plan) ≡ None) }
 {
     match input {
         Input::None => with_signals(store, scripts, pid, process),
-        Input::Good => replies::good(store, scripts, pid, process),
+        Input::Good => plan_of(replies::good(store, scripts, pid, process)),
         Input::Fresh(content) => replies::fresh(store, scripts, pid, process, content),
         Input::Stale(content) => replies::stale(store, scripts, pid, process, content),
     }
@@ -168,7 +198,7 @@ pub fn plan_step<S: Look>(
     input: &Input,
 ) -> Result<Plan, Refusal>
     ensures step { PlansStep (S.look store.now) scripts.now pid input.now result }
-    ensures quiet { IsReply input.now → IfOk result (λ plan. said_by plan ≡ None) }
+    ensures quiet { IsReply input.now → IfOk result (λ plan. said_by (seen_with (S.look store.now) scripts.now pid input.now plan) ≡ None) }
 {
     let process = match store.value(Entity::Proc(pid)) {
         Some(EntityState::Process(process)) => process,

@@ -3,13 +3,12 @@ ghost use Rattle.std.specs.Prelude.{◌≡◌, OnOk, OnErr, IsSome, IfOk, Some};
 ghost use Rattle.std.specs.FinMap as map;
 ghost use Rattle.sk_ids.specs.declared.entity.Entity.TheVariants.{Proc};
 ghost use Rattle.sk_store.specs.Changed.{FitsAt, changed};
-ghost use Rattle.sk_store.specs.declared.entity_state.EntityState.TheVariants as states;
+ghost use Rattle.sk_store.specs.Processes.{CanBecome, became};
 ghost use Rattle.sk_store.specs.Back.{put_back_at, CanPutBack};
 
-use crate::{EntityState, Keeper, Look, Store};
+use crate::{Becoming, EntityState, Keeper, Look, Store};
 use sk_changes::{Change, Undo};
 use sk_ids::{Entity, Pid, TagSet};
-use sk_script::Process;
 use std::alloc::{AllocError, Global};
 use std::marker::Model;
 
@@ -66,16 +65,15 @@ fn change_in(store: &mut Store, entity: &Entity, change: Change) -> Result<Undo,
     }
 }
 
-/// Sets a process where it stands. Without memory nothing has changed.
-fn set_process(store: &mut Store, pid: Pid, process: &Process) -> Result<(), AllocError>
-    ensures ok { OnOk result (store.new ≡ map.insert store.old (Proc pid) (states.Process process.now)) }
-    ensures err { OnErr result (store.new ≡ store.old) }
+/// Changes a process where it stands, which takes no memory.
+fn become_in<C: Becoming>(store: &mut Store, pid: Pid, by: &C)
+    requires { CanBecome (C.can by.now) (map.get store.old (Proc pid)) }
+    ensures { store.new ≡ map.insert store.old (Proc pid) (became (C.after by.now) (map.get store.old (Proc pid))) }
 {
-    if let Some(held) = store.get_mut(&Entity::Proc(pid)) {
-        held.set_process(process);
-        return Ok(());
+    match store.get_mut(&Entity::Proc(pid)) {
+        Some(stored) => stored.become_by(by),
+        None => unreachable!(),
     }
-    store.put(Entity::Proc(pid), EntityState::Process(*process))
 }
 
 /// Puts a write back, which takes no memory.
@@ -151,8 +149,9 @@ impl Keeper for Store {
         })
     }
 
-    fn set_process(&mut self, pid: Pid, process: &Process) -> Result<(), AllocError> {
-        set_process(self, pid, process)
+    fn change_process<C: Becoming>(&mut self, pid: Pid, by: &C) -> Result<(), AllocError> {
+        become_in(self, pid, by);
+        Ok(())
     }
 
     fn remove(&mut self, entity: Entity) -> Result<(), AllocError> {
@@ -164,4 +163,8 @@ impl Keeper for Store {
         let Back { entity, undo } = back;
         put_back(self, &entity, undo);
     }
+
+    ghost use Rattle.sk_store.specs.OthersLaw.{put_others};
+
+    ghost others = { put_others };
 }

@@ -1,6 +1,7 @@
 //! What an entity has.
 ghost use Rattle.std.specs.Prelude.{◌≡◌, IfOk, OnOk, OnErr, Some};
 
+use crate::Becoming;
 use sk_changes::{Change, Invertible, Undo};
 use sk_objects::Value;
 use sk_script::Process;
@@ -15,6 +16,7 @@ pub enum EntityState {
 
 impl EntityState {
     ghost use Rattle.sk_store.specs.Changed.{FitsAt, changed, StateFits, state_undone};
+    ghost use Rattle.sk_store.specs.Processes.{CanBecome, became};
 
     /// Another of equal content.
     pub fn copy(&self) -> Result<EntityState, AllocError>
@@ -43,15 +45,14 @@ impl EntityState {
         }
     }
 
-    /// Becomes a process, which takes no memory.
-    pub fn set_process(&mut self, process: &Process)
-        ensures { self.new ≡ EntityState.Process process.now }
+    /// Changes the process that it is, where it stands, which takes no memory.
+    pub fn become_by<C: Becoming>(&mut self, by: &C)
+        requires { CanBecome (C.can by.now) (Some self.old) }
+        ensures { self.new ≡ became (C.after by.now) (Some self.old) }
     {
         match self {
-            EntityState::Process(held) => *held = *process,
-            EntityState::Value(_) => {
-                let _before = std::mem::replace(self, EntityState::Process(*process));
-            }
+            EntityState::Process(process) => by.change(process),
+            EntityState::Value(_) => unreachable!(),
         }
     }
 

@@ -1,8 +1,7 @@
 //! Writing to what entities have.
-use crate::{EntityState, Look};
+use crate::{Becoming, EntityState, Look};
 use sk_changes::Change;
 use sk_ids::{Entity, Pid, TagSet};
-use sk_script::Process;
 use std::alloc::{AllocError, Global};
 
 /// What performs the writes of a step, each of which can be taken back until the next one.
@@ -11,7 +10,10 @@ pub trait Keeper: Look {
     ghost use Rattle.sk_ids.specs.declared.entity.Entity.{Entity};
     ghost use Rattle.sk_ids.specs.declared.entity.Entity.TheVariants.{Proc};
     ghost use Rattle.sk_store.specs.declared.entity_state.EntityState.{EntityState};
-    ghost use Rattle.sk_store.specs.declared.entity_state.EntityState.TheVariants as stored;
+    ghost use Rattle.std.specs.Prelude.{false};
+    ghost use Rattle.std.specs.Ordering.{eq_by_cmp};
+    ghost use Rattle.sk_ids.specs.Entity.{entity_cmp};
+    ghost use Rattle.sk_store.specs.Processes.{CanBecome, became};
     ghost use Rattle.sk_store.specs.Changed.{FitsAt, changed};
 
     /// What takes one write back.
@@ -51,9 +53,11 @@ pub trait Keeper: Look {
         ensures back { IfOk result (λ back. taken_back self.new back ≡ self.old) }
         ensures err { OnErr result (self.new ≡ self.old) };
 
-    /// Sets a process where it stands, as the last write of a step. Without memory nothing has changed.
-    fn set_process(&mut self, pid: Pid, process: &Process) -> Result<(), AllocError>
-        ensures ok { OnOk result (self.new ≡ wrote self.old (Proc pid) (Some (stored.Process process.now))) }
+    /// Changes a process where it stands, as the last write of a step. Without memory nothing has
+    /// changed.
+    fn change_process<C: Becoming>(&mut self, pid: Pid, by: &C) -> Result<(), AllocError>
+        requires { CanBecome (C.can by.now) (Self.look self.old (Proc pid)) }
+        ensures ok { OnOk result (self.new ≡ wrote self.old (Proc pid) (Some (became (C.after by.now) (Self.look self.old (Proc pid))))) }
         ensures err { OnErr result (self.new ≡ self.old) };
 
     /// Makes an entity absent, as the last write of a step. Without memory nothing has changed.
@@ -65,4 +69,7 @@ pub trait Keeper: Look {
     fn take_back(&mut self, back: Self::Back)
         requires { can_take_back self.old back }
         ensures { self.new ≡ taken_back self.old back };
+
+    /// A write leaves all other entities as they are.
+    ghost others: { (k : Self) (e q : Entity) (v : Option EntityState) → eq_by_cmp entity_cmp q e ≡ false → Self.look (wrote k e v) q ≡ Self.look k q };
 }

@@ -2,6 +2,7 @@
 #![tactic(auto)]
 
 pub mod back;
+pub mod becoming;
 pub mod entity_state;
 pub mod keeper;
 pub mod look;
@@ -9,6 +10,7 @@ pub mod start;
 pub mod store;
 
 pub use back::{Back, PutBack};
+pub use becoming::Becoming;
 pub use entity_state::EntityState;
 pub use keeper::Keeper;
 pub use look::Look;

@@ -14,8 +14,7 @@ ghost use Rattle.sk_undo.specs.Decisions.{Unwound, Lightened, AreListed, AllRest
 use crate::{Slots, TakeBack};
 use sk_changes::Change;
 use sk_ids::{Entity, GuessId, Pid, TagSet};
-use sk_script::Process;
-use sk_store::{EntityState, Keeper, Look, Store};
+use sk_store::{Becoming, EntityState, Keeper, Look, Store};
 use std::alloc::{AllocError, Global};
 use std::marker::Model;
 
@@ -168,8 +167,8 @@ impl Keeper for Logs {
         Ok(Back { entity, how })
     }
 
-    fn set_process(&mut self, pid: Pid, process: &Process) -> Result<(), AllocError> {
-        self.slots.set_process(pid, &self.tags, process)
+    fn change_process<C: Becoming>(&mut self, pid: Pid, by: &C) -> Result<(), AllocError> {
+        self.slots.change_process(pid, &self.tags, by)
     }
 
     fn remove(&mut self, entity: Entity) -> Result<(), AllocError> {
@@ -180,4 +179,8 @@ impl Keeper for Logs {
         let Back { entity, how } = back;
         self.slots.take_back(&entity, how);
     }
+
+    ghost use Rattle.sk_undo.specs.OthersLaw.{wrote_others};
+
+    ghost others = { wrote_others };
 }

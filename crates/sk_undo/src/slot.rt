@@ -5,6 +5,7 @@ ghost use Rattle.sk_record.specs.Notes.{last_tags, unwound, cut, committed};
 ghost use Rattle.sk_record.specs.Merged.{Merges};
 ghost use Rattle.sk_record.specs.UndoState.{IsGrowing};
 ghost use Rattle.sk_store.specs.Changed.{FitsAt, changed};
+ghost use Rattle.sk_store.specs.Processes.{CanBecome, IsProcess, became};
 ghost use Rattle.sk_store.specs.declared.back.PutBack.TheVariants as PutBack;
 ghost use Rattle.sk_undo.specs.Log.{is_empty, seen, CanGoBack};
 ghost use Rattle.sk_undo.specs.Slot.{undone, Fits, is_bare, slot_of, slot_wrote, slot_back, CanGoBackOnce, goes_unnoted, is_stable_raw};
@@ -12,8 +13,7 @@ ghost use Rattle.sk_undo.specs.Slot.{undone, Fits, is_bare, slot_of, slot_wrote,
 use crate::{Kept, Log, put_back};
 use sk_changes::{Change, Undo};
 use sk_ids::{GuessId, TagSet};
-use sk_script::Process;
-use sk_store::{EntityState, PutBack};
+use sk_store::{Becoming, EntityState, PutBack};
 use std::alloc::{AllocError, Global};
 use std::marker::Model;
 
@@ -98,15 +98,25 @@ fn change_in(value: &mut Option<EntityState>, change: Change) -> Result<Undo, Al
     }
 }
 
-/// Sets the process that is there, where it stands.
-fn set_process(value: &mut Option<EntityState>, process: &Process)
-    ensures { value.new ≡ Some (EntityState.Process process.now) }
+/// Changes the process that is there, where it stands.
+fn become_in<C: Becoming>(value: &mut Option<EntityState>, by: &C)
+    requires { CanBecome (C.can by.now) value.old }
+    ensures { value.new ≡ Some (became (C.after by.now) value.old) }
 {
     match value {
-        Some(held) => held.set_process(process),
-        None => {
-            let _before = std::mem::replace(value, Some(EntityState::Process(*process)));
-        }
+        Some(state) => state.become_by(by),
+        None => unreachable!(),
+    }
+}
+
+/// Another of the process that is there.
+fn process_copy(value: &Option<EntityState>) -> Option<EntityState>
+    requires { IsProcess value.now }
+    ensures { result ≡ value.now }
+{
+    match value {
+        Some(EntityState::Process(process)) => Some(EntityState::Process(*process)),
+        _ => unreachable!(),
     }
 }
 
@@ -158,16 +168,21 @@ impl Slot {
         Ok(None)
     }
 
-    /// Sets the process that is there, where it stands.
-    pub fn set_process(&mut self, tags: &TagSet, process: &Process) -> Result<(), AllocError>
-        ensures ok { OnOk result (self.new ≡ slot_wrote tags.now self.old (Some (EntityState.Process process.now))) }
+    /// Changes the process that is there, where it stands.
+    pub fn change_process<C: Becoming>(&mut self, tags: &TagSet, by: &C) -> Result<(), AllocError>
+        requires { CanBecome (C.can by.now) self.old.now }
+        ensures ok { OnOk result (self.new ≡ slot_wrote tags.now self.old (Some (became (C.after by.now) self.old.now))) }
         ensures err { OnErr result (self.new ≡ self.old) }
     {
         if goes_unnoted(tags, &self.value, &self.log) {
-            set_process(&mut self.value, process);
+            become_in(&mut self.value, by);
             return Ok(());
         }
-        self.set(tags, Some(EntityState::Process(*process)))?;
+        let tags = tags.copy()?;
+        self.log.reserve()?;
+        let undo = PutBack::Was(process_copy(&self.value));
+        become_in(&mut self.value, by);
+        self.log.note_reserved(tags, undo);
         Ok(())
     }
 

@@ -11,6 +11,7 @@ ghost use Rattle.sk_ids.specs.declared.entity.Entity.TheVariants.{Proc};
 ghost use Rattle.sk_record.specs.Effects.{is_in};
 ghost use Rattle.sk_record.specs.Notes.{last_tags};
 ghost use Rattle.sk_store.specs.Changed.{FitsAt, changed};
+ghost use Rattle.sk_store.specs.Processes.{CanBecome, became};
 ghost use Rattle.sk_undo.specs.Log.{is_empty};
 ghost use Rattle.sk_undo.specs.Slot.{slot_of, slot_wrote};
 ghost use Rattle.sk_undo.specs.Logs.{look_at, log_at, slot_in, slots_wrote, slots_back, CanTakeBack};
@@ -21,8 +22,7 @@ ghost use Rattle.sk_undo.specs.contracts.slot.Slot.{the_row as slot_row};
 use crate::Slot;
 use sk_changes::Change;
 use sk_ids::{Entity, GuessId, Pid, TagSet};
-use sk_script::Process;
-use sk_store::{EntityState, PutBack, Store};
+use sk_store::{Becoming, EntityState, PutBack, Store};
 use std::alloc::{AllocError, Global};
 use std::collections::BTreeMap;
 use std::marker::Model;
@@ -177,23 +177,24 @@ impl Slots {
         Ok(TakeBack::DropSlot)
     }
 
-    /// Sets a process where it stands. Without memory nothing has changed.
-    pub fn set_process(
+    /// Changes a process where it stands. Without memory nothing has changed.
+    pub fn change_process<C: Becoming>(
         &mut self,
         pid: Pid,
         tags: &TagSet,
-        process: &Process,
+        by: &C,
     ) -> Result<(), AllocError>
-        ensures ok { OnOk result (self.new ≡ slots_wrote tags.now self.old (Proc pid) (Some (EntityState.Process process.now))) }
+        requires { CanBecome (C.can by.now) (look_at self.old (Proc pid)) }
+        ensures ok { OnOk result (self.new ≡ slots_wrote tags.now self.old (Proc pid) (Some (became (C.after by.now) (look_at self.old (Proc pid))))) }
         ensures err { OnErr result (self.new ≡ self.old) }
     {
-        let entity = Entity::Proc(pid);
-        if let Some(slot) = self.slot_mut(&entity) {
-            slot.set_process(tags, process)?;
-            return Ok(());
+        match self.slot_mut(&Entity::Proc(pid)) {
+            Some(slot) => {
+                slot.change_process(tags, by)?;
+                Ok(())
+            }
+            None => unreachable!(),
         }
-        let slot = born(self.alloc, tags, Some(EntityState::Process(*process)))?;
-        self.put(entity, slot)
     }
 
     /// Makes an entity absent. Without memory nothing has changed.

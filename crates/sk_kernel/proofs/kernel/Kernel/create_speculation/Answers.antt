@@ -17,13 +17,13 @@ use Rattle.sk_kernel.proofs.Refusals.{guess_misfit, guess_too_many, guess_withou
 use Rattle.sk_kernel.proofs.Opened.{still_opened, few_open}
 use Rattle.sk_kernel.proofs.kernel.Kernel.create_speculation.Goals as goal
 
-pub returns-in_err-plan : goal.returns-in_err-plan
-returns-in_err-plan c =
+pub returns-in-Err : goal.returns-in-Err
+returns-in-Err c =
     let n : EntryView = record { pid = c.args.pid; input = c.args.input; guess = Some (next_guess c.args.self.now) } in
-    let why = c.in_err-plan.field-0.0 in
+    let why = c.in-Err.why in
     let refused = subst (λ (k : KernelView). guess_refused k n ≡ Some why) c.self.view_is
-    (guess_misfit (the_view c.self.inside) c.self.inside.machine c.self.inside.trace.room c.self.invariant.0 n why c.in_err-plan.ensures.0) in
-    let told = c.in_err-plan.ensures.1 in
+    (guess_misfit (the_view c.self.inside) c.self.inside.machine c.self.inside.trace.room c.self.invariant.0 n why c.in-Err.ensures.0) in
+    let told = c.in-Err.ensures.1 in
     search (rules, refused, told)
 
 pub take_guess-requires-clause-tidy : goal.take_guess-requires-clause-tidy
@@ -36,7 +36,7 @@ pub returns-then-is_full : goal.returns-then-is_full
 returns-then-is_full c =
     let n : EntryView = record { pid = c.args.pid; input = c.args.input; guess = Some (next_guess c.args.self.now) } in (
       subst (λ (k : KernelView). guess_refused k n ≡ Some TooMany) c.self.view_is
-          (guess_too_many (the_view c.self.inside) c.self.inside.machine c.self.inside.trace.room c.self.invariant.0 n c.in_ok-plan.ensures.1 (sym c.is_full.ensures ∙ c.if-is_full.true)),
+          (guess_too_many (the_view c.self.inside) c.self.inside.machine c.self.inside.trace.room c.self.invariant.0 n c.in-Ok.ensures.1 (sym c.is_full.ensures ∙ c.if-is_full.true)),
       refl,
     )
 
@@ -44,7 +44,7 @@ pub returns-then-room-lt2 : goal.returns-then-room-lt2
 returns-then-room-lt2 c =
     let n : EntryView = record { pid = c.args.pid; input = c.args.input; guess = Some (next_guess c.args.self.now) } in (
       subst (λ (k : KernelView). guess_refused k n ≡ Some TraceFull) c.self.view_is
-          (guess_without_room (the_view c.self.inside) c.self.inside.machine c.self.inside.trace.room c.self.invariant.0 n c.in_ok-plan.ensures.1 (sym c.is_full.ensures ∙ c.if-is_full.false)
+          (guess_without_room (the_view c.self.inside) c.self.inside.machine c.self.inside.trace.room c.self.invariant.0 n c.in-Ok.ensures.1 (sym c.is_full.ensures ∙ c.if-is_full.false)
           c.room.result (c.room.ensures ∙ ap room (sym c.self.view_is)) c.if-room-lt2.true),
       refl,
     )
@@ -53,7 +53,7 @@ pub returns-then-is_err : goal.returns-then-is_err
 returns-then-is_err c =
     let n : EntryView = record { pid = c.args.pid; input = c.args.input; guess = Some (next_guess c.args.self.now) } in (
       subst (λ (k : KernelView). guess_refused k n ≡ None) c.self.view_is
-          (guess_free (the_view c.self.inside) c.self.inside.machine c.self.inside.trace.room c.self.invariant.0 n c.in_ok-plan.ensures.1 (sym c.is_full.ensures ∙ c.if-is_full.false)
+          (guess_free (the_view c.self.inside) c.self.inside.machine c.self.inside.trace.room c.self.invariant.0 n c.in-Ok.ensures.1 (sym c.is_full.ensures ∙ c.if-is_full.false)
           c.room.result (c.room.ensures ∙ ap room (sym c.self.view_is)) c.if-room-lt2.false),
       (λ i. record { number = c.self.inside.machine.guesses.kernel; scripts = c.self.inside.opening.start.scripts; start = c.self.inside.opening.start.state; limit = c.self.inside.opening.limit; trace = c.reserve.ensures.events i })
           ∙ c.self.view_is,
@@ -64,7 +64,7 @@ returns-in_default c =
     let n : EntryView = record { pid = c.args.pid; input = c.args.input; guess = Some (next_guess c.args.self.now) } in
     let same = c.in_default.ensures.err in (
       subst (λ (k : KernelView). guess_refused k n ≡ None) c.self.view_is
-          (guess_free (the_view c.self.inside) c.self.inside.machine c.self.inside.trace.room c.self.invariant.0 n c.in_ok-plan.ensures.1 (sym c.is_full.ensures ∙ c.if-is_full.false)
+          (guess_free (the_view c.self.inside) c.self.inside.machine c.self.inside.trace.room c.self.invariant.0 n c.in-Ok.ensures.1 (sym c.is_full.ensures ∙ c.if-is_full.false)
           c.room.result (c.room.ensures ∙ ap room (sym c.self.view_is)) c.if-room-lt2.false),
       (λ i. record { number = (same i).guesses.kernel; scripts = c.self.inside.opening.start.scripts; start = c.self.inside.opening.start.state; limit = c.self.inside.opening.limit; trace = c.reserve.ensures.events i })
           ∙ c.self.view_is,
@@ -73,36 +73,36 @@ returns-in_default c =
 pub invariant_of-self-2 : goal.invariant_of-self-2
 invariant_of-self-2 c =
     let drawn_entry : EntryView = record { pid = c.args.pid; input = c.args.input; guess = Some (next_of c.self.inside.machine.guesses) } in
-    let takes = subst (λ s. MergedTakes (plain s) (machine_of c.self.inside.machine) drawn_entry (machine_of c.take_guess.new.self)) c.scripts.ensures c.in-Ok.ensures.ok in
+    let takes = subst (λ s. MergedTakes (plain s) (machine_of c.self.inside.machine) drawn_entry (machine_of c.take_guess.new.self)) c.scripts.ensures c.in-Ok-take_guess.ensures.ok in
     let reserved = from_ok c.reserve.result c.if-is_err.ensures.value c.reserve.ensures.room in
     let pushed = c.push.ensures.room in
     let counted = c.open_count.ensures in
-    let number = c.id-id.ensures ∙ ap (λ t. t.id) c.in-Ok.ensures.token in (
+    let number = c.id-id.ensures ∙ ap (λ t. t.id) c.in-Ok-take_guess.ensures.token in (
       guessed_whole (the_view c.self.inside) c.self.inside.machine c.self.inside.trace.room c.self.invariant.0 c.take_guess.new.self c.push.new.self.room c.args.pid c.args.input c.id-id.result c.push.new.self.events
-          takes c.in-Ok.ensures.guesses number
+          takes c.in-Ok-take_guess.ensures.guesses number
           (c.push.ensures.events ∙ ap (λ es. es ++ events.Guess c.id-id.result c.args.pid c.args.input ∷ []) c.reserve.ensures.events)
           (omega (arith, reserved, pushed, counted)),
-      still_opened (the_view c.self.inside) _ c.push.new.self.events _ c.self.invariant.1 (ap (λ v. v.kernel) c.in-Ok.ensures.guesses),
+      still_opened (the_view c.self.inside) _ c.push.new.self.events _ c.self.invariant.1 (ap (λ v. v.kernel) c.in-Ok-take_guess.ensures.guesses),
     )
 
 pub returns : goal.returns
 returns c =
     let n : EntryView = record { pid = c.args.pid; input = c.args.input; guess = Some (next_guess c.args.self.now) } in
     let next = next_is (the_view c.self.inside) c.self.inside.machine c.self.inside.trace.room c.self.invariant.0 ∙ ap next_guess c.self.view_is in
-    let number = c.id-id.ensures ∙ ap (λ t. t.id) c.in-Ok.ensures.token ∙ next in
+    let number = c.id-id.ensures ∙ ap (λ t. t.id) c.in-Ok-take_guess.ensures.token ∙ next in
     let more = c.push.ensures.events ∙ ap (λ es. es ++ events.Guess c.id-id.result c.args.pid c.args.input ∷ []) c.reserve.ensures.events ∙ ap (λ g. c.self.inside.trace.events ++ events.Guess g c.args.pid c.args.input ∷ []) number in
     let left =
-    (λ i. record { number = (c.in-Ok.ensures.guesses i).kernel; scripts = c.self.inside.opening.start.scripts; start = c.self.inside.opening.start.state; limit = c.self.inside.opening.limit; trace = more i })
+    (λ i. record { number = (c.in-Ok-take_guess.ensures.guesses i).kernel; scripts = c.self.inside.opening.start.scripts; start = c.self.inside.opening.start.state; limit = c.self.inside.opening.limit; trace = more i })
     ∙ ap (λ (k : KernelView). with_event k (events.Guess (next_guess c.args.self.now) c.args.pid c.args.input)) c.self.view_is in
     let drawn_entry : EntryView = record { pid = c.args.pid; input = c.args.input; guess = Some (next_of c.self.inside.machine.guesses) } in
-    let takes = subst (λ s. MergedTakes (plain s) (machine_of c.self.inside.machine) drawn_entry (machine_of c.take_guess.new.self)) c.scripts.ensures c.in-Ok.ensures.ok in
+    let takes = subst (λ s. MergedTakes (plain s) (machine_of c.self.inside.machine) drawn_entry (machine_of c.take_guess.new.self)) c.scripts.ensures c.in-Ok-take_guess.ensures.ok in
     let fresh =
     subst (λ (k : KernelView). IsNew k (with_event k (events.Guess (next_guess k) c.args.pid c.args.input))) c.self.view_is
     (guess_new (the_view c.self.inside) c.self.inside.machine c.self.inside.trace.room c.self.invariant.0 c.take_guess.new.self c.args.pid c.args.input takes) in (
       subst (λ (k : KernelView). guess_refused k n ≡ None) c.self.view_is
-          (guess_free (the_view c.self.inside) c.self.inside.machine c.self.inside.trace.room c.self.invariant.0 n c.in_ok-plan.ensures.1 (sym c.is_full.ensures ∙ c.if-is_full.false)
+          (guess_free (the_view c.self.inside) c.self.inside.machine c.self.inside.trace.room c.self.invariant.0 n c.in-Ok.ensures.1 (sym c.is_full.ensures ∙ c.if-is_full.false)
           c.room.result (c.room.ensures ∙ ap room (sym c.self.view_is)) c.if-room-lt2.false),
-      c.in-Ok.ensures.token ∙ (λ i. record { kernel = (ap (λ (k : KernelView). k.number) c.self.view_is) i; id = next i }),
+      c.in-Ok-take_guess.ensures.token ∙ (λ i. record { kernel = (ap (λ (k : KernelView). k.number) c.self.view_is) i; id = next i }),
       left,
       subst (λ (k : KernelView). IsNew c.args.self.now k) (sym left) fresh,
     )

@@ -14,19 +14,19 @@ use Rattle.sk_kernel.proofs.Refusals.{step_misfits, step_without_room, step_free
 use Rattle.sk_kernel.proofs.Opened.{still_opened, few_open}
 use Rattle.sk_kernel.proofs.kernel.Kernel.step.Goals as goal
 
-pub returns-in_err-plan : goal.returns-in_err-plan
-returns-in_err-plan c =
+pub returns-in-Err : goal.returns-in-Err
+returns-in-Err c =
     let n : EntryView = record { pid = c.args.pid; input = c.args.input; guess = None } in
-    let why = c.in_err-plan.field-0.0 in
+    let why = c.in-Err.why in
     let refused = subst (λ (k : KernelView). step_refused k n ≡ Some why) c.self.view_is
-    (step_misfits (the_view c.self.inside) c.self.inside.machine c.self.inside.trace.room c.self.invariant.0 n why c.in_err-plan.ensures.plans) in
+    (step_misfits (the_view c.self.inside) c.self.inside.machine c.self.inside.trace.room c.self.invariant.0 n why c.in-Err.ensures.plans) in
     search (rules, refused)
 
 pub returns-then-room-lt1 : goal.returns-then-room-lt1
 returns-then-room-lt1 c =
     let n : EntryView = record { pid = c.args.pid; input = c.args.input; guess = None } in (
       subst (λ (k : KernelView). step_refused k n ≡ Some TraceFull) c.self.view_is
-          (step_without_room (the_view c.self.inside) c.self.inside.machine c.self.inside.trace.room c.self.invariant.0 n _ c.room.result c.in_ok-plan.ensures.plans (c.room.ensures ∙ ap room (sym c.self.view_is)) c.if-room-lt1.true),
+          (step_without_room (the_view c.self.inside) c.self.inside.machine c.self.inside.trace.room c.self.invariant.0 n _ c.room.result c.in-Ok.ensures.plans (c.room.ensures ∙ ap room (sym c.self.view_is)) c.if-room-lt1.true),
       refl,
     )
 
@@ -34,7 +34,7 @@ pub returns-then-is_err : goal.returns-then-is_err
 returns-then-is_err c =
     let n : EntryView = record { pid = c.args.pid; input = c.args.input; guess = None } in (
       subst (λ (k : KernelView). step_refused k n ≡ None) c.self.view_is
-          (step_free (the_view c.self.inside) c.self.inside.machine c.self.inside.trace.room c.self.invariant.0 n _ c.room.result c.in_ok-plan.ensures.plans (c.room.ensures ∙ ap room (sym c.self.view_is)) c.if-room-lt1.false),
+          (step_free (the_view c.self.inside) c.self.inside.machine c.self.inside.trace.room c.self.invariant.0 n _ c.room.result c.in-Ok.ensures.plans (c.room.ensures ∙ ap room (sym c.self.view_is)) c.if-room-lt1.false),
       (λ i. record { number = c.self.inside.machine.guesses.kernel; scripts = c.self.inside.opening.start.scripts; start = c.self.inside.opening.start.state; limit = c.self.inside.opening.limit; trace = c.reserve.ensures.events i })
           ∙ c.self.view_is,
     )
@@ -50,7 +50,7 @@ returns-then-is_err-2 c =
     let n : EntryView = record { pid = c.args.pid; input = c.args.input; guess = None } in
     let same = from_err c.take_step.result c.if-is_err-2.ensures.value c.take_step.ensures.err in (
       subst (λ (k : KernelView). step_refused k n ≡ None) c.self.view_is
-          (step_free (the_view c.self.inside) c.self.inside.machine c.self.inside.trace.room c.self.invariant.0 n _ c.room.result c.in_ok-plan.ensures.plans (c.room.ensures ∙ ap room (sym c.self.view_is)) c.if-room-lt1.false),
+          (step_free (the_view c.self.inside) c.self.inside.machine c.self.inside.trace.room c.self.invariant.0 n _ c.room.result c.in-Ok.ensures.plans (c.room.ensures ∙ ap room (sym c.self.view_is)) c.if-room-lt1.false),
       (λ i. record { number = (same i).guesses.kernel; scripts = c.self.inside.opening.start.scripts; start = c.self.inside.opening.start.state; limit = c.self.inside.opening.limit; trace = c.reserve.ensures.events i })
           ∙ c.self.view_is,
     )
@@ -75,7 +75,7 @@ returns c =
     let n : EntryView = record { pid = c.args.pid; input = c.args.input; guess = None } in
     let more = c.push.ensures.events ∙ ap (λ es. es ++ events.Step c.args.pid c.args.input ∷ []) c.reserve.ensures.events in (
       subst (λ (k : KernelView). step_refused k n ≡ None) c.self.view_is
-          (step_free (the_view c.self.inside) c.self.inside.machine c.self.inside.trace.room c.self.invariant.0 n _ c.room.result c.in_ok-plan.ensures.plans (c.room.ensures ∙ ap room (sym c.self.view_is)) c.if-room-lt1.false),
+          (step_free (the_view c.self.inside) c.self.inside.machine c.self.inside.trace.room c.self.invariant.0 n _ c.room.result c.in-Ok.ensures.plans (c.room.ensures ∙ ap room (sym c.self.view_is)) c.if-room-lt1.false),
       (λ i. record { number = (c.take_step.ensures.guesses i).kernel; scripts = c.self.inside.opening.start.scripts; start = c.self.inside.opening.start.state; limit = c.self.inside.opening.limit; trace = more i })
           ∙ ap (λ (k : KernelView). with_event k (events.Step c.args.pid c.args.input)) c.self.view_is,
     )

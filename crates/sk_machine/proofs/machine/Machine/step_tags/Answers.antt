@@ -1,6 +1,9 @@
 -- The tags of what is read and of what is written, with the step's own, are the step's tags.
-use Rattle.std.proofs.Common.{◌||◌, ◌∙◌}
+use Rattle.std.proofs.Common.{◌||◌, sym, ◌∙◌}
 use Rattle.sk_trace.specs.Entry.{EntryView}
+use Rattle.sk_undo.specs.Logs.{look_at}
+use Rattle.sk_plain.specs.Seen.{seen_with}
+use Rattle.sk_plain.proofs.Plans.{written_is}
 use Rattle.sk_machine.specs.Parts.{any_rests}
 use Rattle.sk_machine.proofs.Given.{if_ok}
 use Rattle.sk_machine.proofs.Tags.{tags_are}
@@ -10,8 +13,10 @@ pub returns : goal.returns
 returns c =
     let m = c.args.self.now in
     let n : EntryView = record { pid = c.args.pid; input = c.args.input.now; guess = c.args.own.now } in
+    let scripts = c.args.scripts.now in
+    let plan = seen_with (look_at m.slots) scripts n.pid n.input c.args.plan.now in
     let read = c.as_slice.ensures.value ∙ c.reads.ensures in
-    let written = c.as_slice-2.ensures.value ∙ c.writes.ensures in
+    let written = c.as_slice-2.ensures.value ∙ c.writes.ensures ∙ sym (written_is (look_at m.slots) scripts n.pid n.input c.args.plan.now) in
     if_ok c.add_tags-2.result c.add_tags-2.ensures.members c.add_tags-2.ensures.rising (λ tags members rising.
-    tags_are m n c.args.plan.now tags c.requires.tidy c.requires.rising rising
+    tags_are m n plan tags c.requires.tidy c.requires.rising rising
     (λ g. members g ∙ (λ i. ((c.in_ok-read.ensures.members g ∙ (λ j. c.own_tags-own.ensures g j || any_rests m g (read j))) i) || any_rests m g (written i))))

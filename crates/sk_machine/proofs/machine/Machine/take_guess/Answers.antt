@@ -9,18 +9,24 @@ use Rattle.sk_trace.specs.Entry.{EntryView}
 use Rattle.sk_undo.specs.Logs.{look_at}
 use Rattle.sk_plain.specs.Act.{act, plain}
 use Rattle.sk_plain.specs.Planned.{effect_of, said_by, texts_after, writes_of}
+use Rattle.sk_plain.specs.Seen.{seen_with}
+use Rattle.sk_plain.proofs.Plans.{written_is}
 use Rattle.sk_plain.proofs.Scan.{changed_are}
 use Rattle.sk_machine.specs.Parts.{Parts, machine_of, planned_effect, undo_state_of}
-use Rattle.sk_machine.specs.Performed.{entities_of}
+use Rattle.sk_machine.specs.Performed.{AreApart, entities_of}
 use Rattle.sk_machine.proofs.Becomes.{takes_guess}
+use Rattle.sk_machine.proofs.Joins.{apart_of}
 use Rattle.sk_machine.proofs.Listed.{AreListedFor, performed_listed}
 use Rattle.sk_machine.proofs.machine.Machine.take_guess.Goals as goal
 
 pub invariant_of-self-2 : goal.invariant_of-self-2
 invariant_of-self-2 c =
     let m = c.self.inside.logs.slots in
-    let ws = writes_of (look_at m) c.args.pid c.args.plan.now in
-    let written : c.as_slice.result.now ≡ entities_of ws = c.as_slice.ensures.value ∙ c.writes-written.ensures ∙ sym (changed_are (look_at m) c.args.pid c.args.plan.now) in
+    let plan = seen_with (look_at m) c.args.scripts.now c.args.pid c.args.input.now c.args.plan.now in
+    let ws = writes_of (look_at m) c.args.pid plan in
+    let written : c.as_slice.result.now ≡ entities_of ws =
+    c.as_slice.ensures.value ∙ c.writes-written.ensures ∙ sym (written_is (look_at m) c.args.scripts.now c.args.pid c.args.input.now c.args.plan.now)
+    ∙ sym (changed_are (look_at m) c.args.pid plan) in
     let listed = subst (λ (es : List Entity). AreListedFor c.in_ok-tags.tags c.list_all.new.lists.items es) written c.in_ok-list_all.ensures.listed in
     (performed_listed m c.perform.new.logs.slots c.in_ok-tags.tags ws c.self.inside.dependents.items c.list_all.new.lists.items c.self.invariant.0 c.list_all.ensures.kept listed c.in_ok-perform.ensures.writes, c.self.invariant.1)
 
@@ -32,9 +38,15 @@ returns-clause-ok c =
     let n : EntryView = record { pid = c.args.pid; input = c.args.input.now; guess = Some id } in
     let a : Parts = record { slots = c.self.inside.logs.slots; opens = c.self.inside.opens.items; guesses = c.self.inside.guesses.view; texts = c.self.inside.terminals } in
     let b : Parts = record { slots = c.perform.new.logs.slots; opens = c.push_reserved.new.self.items; guesses = c.draw.new.self.view; texts = c.perform.new.terminals } in
-    let accepted = subst (λ (p : Parts). perform (look_at p.slots) (act scripts n.pid n.input) ≡ Ok (effect_of (look_at p.slots) n.pid n.input plan)) (sym c.self.view_is) c.requires.accepted in
-    let tags = subst (λ (p : Parts). c.in_ok-tags.tags ≡ step_tags (undo_state_of p) (planned_effect p n plan)) (sym c.self.view_is) c.in_ok-tags.ensures in
+    let accepted = subst (λ (p : Parts). perform (look_at p.slots) (act scripts n.pid n.input) ≡ Ok (effect_of (look_at p.slots) n.pid n.input (seen_with (look_at p.slots) scripts n.pid n.input plan))) (sym c.self.view_is) c.requires.accepted in
+    let tags = subst (λ (p : Parts). c.in_ok-tags.tags ≡ step_tags (undo_state_of p) (planned_effect p n (seen_with (look_at p.slots) scripts n.pid n.input plan))) (sym c.self.view_is) c.in_ok-tags.ensures in
     let opens = c.push_reserved.ensures.items ∙ (λ i. c.reserve.ensures.items i ++ (id, c.in_ok-own_tags.ensures i) ∷ []) in
     let guesses = c.in-Ok.ensures.draws.2 ∙ ap drawn c.reserve-2.ensures.view in
     subst (λ (p : Parts). MergedTakes (plain scripts) (machine_of p) (record { pid = n.pid; input = n.input; guess = Some (next_of p.guesses) }) (machine_of b)) c.self.view_is
-    (takes_guess scripts a b n.pid n.input id plan c.in_ok-tags.tags c.in-Some.ensures.value accepted tags c.in_ok-perform.ensures.writes opens c.in_ok-perform.ensures.says guesses)
+    (takes_guess scripts a b n.pid n.input id (seen_with (look_at a.slots) scripts n.pid n.input plan) c.in_ok-tags.tags c.in-Some.ensures.value accepted tags c.in_ok-perform.ensures.writes opens c.in_ok-perform.ensures.says guesses)
+
+pub perform-requires-clause-apart : goal.perform-requires-clause-apart
+perform-requires-clause-apart c =
+    let planned = λ (m : Parts). seen_with (look_at m.slots) c.args.scripts.now c.args.pid c.args.input.now c.args.plan.now in
+    subst (λ (m : Parts). AreApart (entities_of (writes_of (look_at m.slots) c.args.pid (planned m)))) (sym c.self.view_is)
+    (apart_of (look_at c.args.self.now.slots) c.args.pid (planned c.args.self.now) c.requires.beside)

@@ -1,0 +1,25 @@
+use Rattle.std.proofs.Common.{Some, None, [], ap, ◌∙◌}
+use Rattle.sk_ids.specs.declared.entity.Entity.TheVariants.{Proc, Sig, Exit}
+use Rattle.sk_objects.specs.declared.value.Value.TheVariants as values
+use Rattle.sk_script.specs.declared.process.Process.{Process}
+use Rattle.sk_store.specs.declared.entity_state.EntityState.TheVariants as stored
+use Rattle.sk_plain.specs.Forked.{CanFork, forked}
+use Rattle.sk_plain.specs.Planned.{child_of}
+use Rattle.sk_plain.proofs.Others.{apart_from_child, can_still, from_ok, then_more}
+use Rattle.sk_plain.proofs.apply.bear.Goals as goal
+
+pub bear_queue-requires : goal.bear_queue-requires
+bear_queue-requires g c =
+    can_still g.K.Look.look g.K.Keeper.wrote g.met.K.Keeper.others (CanFork c.args.by.now) c.args.keeper.now c.write.new.self (Proc c.args.by.now.child) _ c.args.pid c.in_ok-back.ensures.ok
+    (apart_from_child c.args.pid c.args.by.now.child c.requires.apart) c.requires.can
+
+pub returns-clause-ok : goal.returns-clause-ok
+returns-clause-ok g c =
+    let k = c.args.keeper.now in
+    let child = c.args.by.now.child in
+    let first = c.child_of-first.ensures ∙ ap (λ (q : Process). child_of q (record { pid = child; place = c.args.place; registers = q.registers })) c.process_at.ensures in
+    let born = c.in_ok-back.ensures.ok ∙ ap (λ q. g.K.Keeper.wrote k (Proc child) (Some (stored.Process q))) first in
+    then_more g.K.Look.look g.K.Keeper.wrote g.met.K.Keeper.others (forked c.args.by.now) k c.write.new.self c.bear_queue.new.keeper (Proc child) _ c.args.pid
+    (λ m. g.K.Keeper.wrote (g.K.Keeper.wrote m (Sig child) (Some (stored.Value (values.Signals [])))) (Exit child) (Some (stored.Value (values.Exit None))))
+    born (apart_from_child c.args.pid child c.requires.apart)
+    (from_ok c.bear_queue.result c.if-is_err.ensures.value c.bear_queue.ensures.ok)

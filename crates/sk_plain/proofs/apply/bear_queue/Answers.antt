@@ -1,0 +1,18 @@
+use Rattle.std.proofs.Common.{Some, None, [], refl, rules}
+use Rattle.sk_ids.specs.declared.entity.Entity.TheVariants.{Sig, Exit}
+use Rattle.sk_objects.specs.declared.value.Value.TheVariants as values
+use Rattle.sk_store.specs.declared.entity_state.EntityState.TheVariants as stored
+use Rattle.sk_plain.specs.Forked.{CanFork, forked}
+use Rattle.sk_plain.proofs.Others.{can_still, from_ok, then_more}
+use Rattle.sk_plain.proofs.apply.bear_queue.Goals as goal
+
+pub bear_slot-requires : goal.bear_slot-requires
+bear_slot-requires g c =
+    can_still g.K.Look.look g.K.Keeper.wrote g.met.K.Keeper.others (CanFork c.args.by.now) c.args.keeper.now c.write.new.self (Sig c.args.by.now.child) _ c.args.pid c.in_ok-back.ensures.ok refl c.requires
+
+pub returns-clause-ok : goal.returns-clause-ok
+returns-clause-ok g c =
+    then_more g.K.Look.look g.K.Keeper.wrote g.met.K.Keeper.others (forked c.args.by.now) c.args.keeper.now c.write.new.self c.bear_slot.new.keeper (Sig c.args.by.now.child) (Some (stored.Value (values.Signals []))) c.args.pid
+    (λ k. g.K.Keeper.wrote k (Exit c.args.by.now.child) (Some (stored.Value (values.Exit None))))
+    (search (rules, c.in_ok-back.ensures.ok, c.in_ok-queue.ensures)) refl
+    (from_ok c.bear_slot.result c.if-is_err.ensures.value c.bear_slot.ensures.ok)

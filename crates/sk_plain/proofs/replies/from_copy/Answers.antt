@@ -1,0 +1,26 @@
+-- The bytes of the copy that is there are read whole.
+use Rattle.std.proofs.Common.{◌≡◌, ◌<◌, ◌^◌, Ok, Some, sym, ◌∙◌, ap, subst, arith, rules}
+use Rattle.sk_record.specs.Step.{Ask}
+use Rattle.sk_ids.specs.declared.entity.Entity.TheVariants.{Copy}
+use Rattle.sk_objects.specs.declared.value.Value.TheVariants as values
+use Rattle.sk_store.specs.declared.entity_state.EntityState.TheVariants as stored
+use Rattle.sk_plain.specs.Replies.{from_copy}
+use Rattle.sk_plain.specs.Seen.{PlansRow}
+use Rattle.sk_plain.specs.declared.plan.Row.{Row}
+use Rattle.sk_plain.specs.declared.plan.Looks.TheVariants as looks
+use Rattle.sk_plain.specs.declared.plan.ProcessChange.{ProcessChange}
+use Rattle.sk_plain.specs.declared.plan.ProcessChange.TheVariants.{Fills}
+use Rattle.sk_plain.specs.declared.plan.Beside.TheVariants as beside
+use Rattle.sk_plain.proofs.Reading.{fetch_plans}
+use Rattle.sk_plain.proofs.replies.from_copy.Goals as goal
+
+pub returns-in-Some-Value-Copy : goal.returns-in-Some-Value-Copy
+returns-in-Some-Value-Copy g c =
+    let look = g.S.Look.look c.args.store.now in
+    let p = c.args.process.now in
+    let content = c.in-Some-Value-Copy.content in
+    let below : content.version < 2 ^ 63 = omega (arith, c.version.ensures.value, c.version.ensures.limit) in
+    let here : look (Copy c.args.name) ≡ Some (stored.Value (values.Copy content)) = search rules in
+    let row = c.looked.ensures ∙ ap (λ (ch : ProcessChange). let r : Row = record { change = ch; looks = looks.At (Copy c.args.name); beside = beside.Nothing } in r) (c.fetched.ensures ∙ ap (λ v. Fills 0 512 (Some v)) c.version.ensures.value) in
+    subst (λ r. PlansRow look p c.args.pid (Ask (Copy c.args.name) (from_copy c.args.pid p)) (Ok r)) (sym row)
+    (fetch_plans look p c.args.pid c.args.name content here c.known.ensures.1 below c.requires)

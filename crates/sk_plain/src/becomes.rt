@@ -1,0 +1,131 @@
+//! What becomes of a process at a step, told in a few words.
+ghost use Rattle.std.specs.Prelude.{◌≡◌, ◌+◌, ◌<◌, ◌^◌};
+ghost use Rattle.sk_script.specs.Private.{given};
+ghost use Rattle.sk_plain.specs.Processes.{handling, returned};
+
+use crate::Errno;
+use sk_ids::{ObjId, Pid, Text};
+use sk_script::{Process, Register, Val};
+use sk_store::Becoming;
+
+/// What a process becomes.
+#[derive(Clone, Copy)]
+pub enum Becomes {
+    /// It goes on to its next instruction.
+    Moves,
+    /// And has a value in a register.
+    Gives(Register, Val),
+    /// And its handler begins at this place.
+    Handler(u32),
+    /// It goes on where it was before its handler; the error 22 where it was at none.
+    Returns,
+    /// It goes to its handler, with a signal in r6.
+    Handles(u8, u32),
+    /// It goes on, and has made one more object, which is in a register.
+    Makes(Register, ObjId),
+    /// It ends where it stands.
+    Ends,
+}
+
+/// The register that holds the signal at a handler.
+const SIGNAL_REGISTER: u8 = 6;
+
+/// Goes on at the next instruction, with a value in a register.
+fn give(process: &mut Process, register: Register, val: Val)
+    requires { process.old.place + 1 < 2 ^ 32 }
+    ensures { process.new ≡ given process.old register val }
+{
+    process.place += 1;
+    process.registers.set(register, val);
+}
+
+/// Goes back from the handler.
+fn go_back(process: &mut Process)
+    requires { process.old.place + 1 < 2 ^ 32 }
+    ensures { process.new ≡ returned process.old process.old.saved }
+{
+    match process.saved {
+        Some(place) => {
+            process.place = place;
+            process.saved = None;
+        }
+        None => give(process, Register::ANSWER, Val::Num(Errno::Invalid.answer())),
+    }
+}
+
+/// Goes to the handler.
+fn handle(process: &mut Process, signal: u8, handler: u32)
+    ensures { process.new ≡ handling process.old signal handler }
+{
+    let register = Register::new(SIGNAL_REGISTER).unwrap();
+    process.saved = Some(process.place);
+    process.place = handler;
+    process.registers.set(register, Val::Num(i64::from(signal)));
+}
+
+impl Becoming for Becomes {
+    ghost use Rattle.sk_plain.specs.Seen.{CanBecome, process_after};
+
+    ghost can = { λ b p. CanBecome p b };
+
+    ghost after = { λ b p. process_after p b };
+
+    fn change(&self, process: &mut Process) {
+        match self {
+            Becomes::Moves => process.place += 1,
+            Becomes::Gives(register, val) => give(process, *register, *val),
+            Becomes::Handler(place) => {
+                process.place += 1;
+                process.handler = Some(*place);
+            }
+            Becomes::Returns => go_back(process),
+            Becomes::Handles(signal, handler) => handle(process, *signal, *handler),
+            Becomes::Makes(register, object) => {
+                process.objects += 1;
+                give(process, *register, Val::Obj(*object));
+            }
+            Becomes::Ends => process.ended = true,
+        }
+    }
+}
+
+/// A text that comes to a process's buffer, and the number that it is answered.
+#[derive(Clone, Copy)]
+pub(crate) struct Filling {
+    pub(crate) text: Text,
+    pub(crate) number: u64,
+}
+
+impl Becoming for Filling {
+    ghost use Rattle.std.specs.Prelude.{◌+◌, ◌<◌, ◌^◌};
+    ghost use Rattle.sk_plain.specs.Rows.{filled};
+
+    ghost can = { λ f p. (p.place + 1 < 2 ^ 32) × (f.number < 2 ^ 63) };
+
+    ghost after = { λ f p. filled p f.text f.number };
+
+    fn change(&self, process: &mut Process) {
+        process.buffer = self.text;
+        give(process, Register::ANSWER, Val::Num(self.number as i64));
+    }
+}
+
+/// A process has one more child, which is in a register.
+#[derive(Clone, Copy)]
+pub(crate) struct Forking {
+    pub(crate) register: Register,
+    pub(crate) child: Pid,
+}
+
+impl Becoming for Forking {
+    ghost use Rattle.sk_plain.specs.Forked.{CanFork, forked};
+
+    ghost can = { CanFork };
+
+    ghost after = { forked };
+
+    fn change(&self, process: &mut Process) {
+        process.children += 1;
+        give(process, self.register, Val::Who(self.child));
+    }
+}

@@ -1,0 +1,10 @@
+use Rattle.std.proofs.Common.{◌∙◌, ap}
+use Rattle.std.specs.FinMap as map
+use Rattle.sk_ids.specs.declared.entity.Entity.TheVariants.{Proc}
+use Rattle.sk_store.specs.Processes.{became}
+use Rattle.sk_store.proofs.back.become_in.Goals as goal
+
+pub returns : goal.returns
+returns g c =
+    (rw c.in-Some.is at (c.get_mut.follows.holds c.become_by.new.self))
+    ∙ ap (map.insert c.args.store.now (Proc c.args.pid)) (c.become_by.ensures ∙ ap (became (g.C.Becoming.after c.args.by.now)) c.in-Some.ensures.value)

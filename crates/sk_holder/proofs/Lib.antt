@@ -2,3 +2,4 @@ pub mod Held
 pub mod Settled
 pub mod Kept
 pub mod Decided
+pub mod HandedIn

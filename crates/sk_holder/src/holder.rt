@@ -4,15 +4,16 @@ ghost use Rattle.sk_record.specs.Notes.{has};
 ghost use Rattle.sk_plain.specs.Refusal.{cause};
 ghost use Rattle.sk_kernel.specs.Kernel.{undecided_at, next_guess, step_refused, guess_refused};
 ghost use Rattle.sk_kernel.specs.Calls.{StepPost, LeavesTexts};
+ghost use Rattle.sk_kernel.specs.HandIn.{HandInPost};
 ghost use Rattle.sk_terminal.specs.Terminals.{released_at};
 ghost use Rattle.sk_trace.specs.declared.event.Event.TheVariants as events;
 ghost use Rattle.sk_holder.specs.Holder.{holding, GuessesPost, DecidesPost};
 
 use sk_guesses::Guess;
 use sk_ids::{GuessId, Pid};
-use sk_kernel::{Kernel, Outcome};
+use sk_kernel::{HandIn, Kernel, Outcome};
 use sk_plain::{Refusal, Trace};
-use sk_script::Input;
+use sk_script::{Input, Lease};
 use sk_terminal::Texts;
 use std::alloc::Global;
 use std::marker::Model;
@@ -88,6 +89,14 @@ impl Holder {
         ensures held { self.new.held ≡ self.old.held }
     {
         self.kernel.step(pid, input)
+    }
+
+    /// Takes a lease in, as the kernel does.
+    pub fn hand_in(&mut self, lease: Lease) -> Result<(), (Lease, HandIn)>
+        ensures kernel { HandInPost result lease self.old.kernel self.new.kernel }
+        ensures held { self.new.held ≡ self.old.held }
+    {
+        self.kernel.hand_in(lease)
     }
 
     /// Draws the next guess and takes its step, as the kernel does, and keeps its token.

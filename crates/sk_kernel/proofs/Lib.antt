@@ -8,3 +8,4 @@ pub mod Refusals
 pub mod Lawful
 pub mod Undecided
 mod Opened
+pub mod Appended

@@ -1,9 +1,11 @@
 //! The kernel of many speculations, for one thread.
 #![tactic(auto)]
 
+pub mod footprint;
 pub mod kernel;
 pub mod laws;
 pub mod opening;
 
+pub use footprint::Footprint;
 pub use kernel::{FailRefusal, Kernel, Outcome, Stranger};
 pub use opening::Opening;

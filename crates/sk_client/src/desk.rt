@@ -5,6 +5,7 @@ ghost use Rattle.sk_plain.specs.Refusal.{cause};
 ghost use Rattle.sk_kernel.specs.Kernel.{undecided_at, room};
 ghost use Rattle.sk_server.specs.declared.server.TheConstants.{LAST_REQUEST};
 ghost use Rattle.sk_client.specs.Desk.{first_number, opened, pending, requests_taken, asks_for, asks_on, asked_count, kept_for, forgotten, kept_after, answer_kept, cached, buffer, rule, rule_next, guess_refused_at, rests_of, request_of, first_sent, first_taken, first_guess, expected, fits_ask, reply_refused, is_lost, lost_by, is_void, given, given_answer, decision_answer, input_of};
+ghost use Rattle.sk_client.specs.Upcoming.{turn_step, reply_step};
 ghost use Rattle.sk_client.specs.DeskCalls.{TurnPost, RulePost, ReplyPost, ShutPost};
 
 use crate::pending::{Kept, PendingRequest, Waiting, name_of};
@@ -373,6 +374,27 @@ impl Desk {
             return Err(Refusal::Blocked);
         }
         self.rule_next(pid, next)
+    }
+
+    /// The process and the input of the step that a turn would take, where its rule takes one. This takes no memory.
+    pub fn turn_step(&self, pid: Pid) -> Option<(Pid, Input)>
+        ensures { result ≡ turn_step pid (rule self.now pid) }
+    {
+        match self.rule(pid) {
+            Ok(Rule::Steps(input)) => Some((pid, input)),
+            Ok(Rule::Guesses(_)) => Some((pid, Input::Good)),
+            Ok(Rule::Asks(_)) | Err(_) => None,
+        }
+    }
+
+    /// The process of the oldest taken request, and what a step of it would be given by this reply. This takes no
+    /// memory.
+    pub fn reply_step(&self, reply: &Reply) -> Option<(Pid, Input)>
+        ensures { result ≡ reply_step reply.now self.now.taken }
+    {
+        let process = self.taken.front()?.process;
+        let input = input_of(&reply.answer)?;
+        Some((process, input))
     }
 
     /// Takes a turn of a process. Refusals: those of the kernel's step, with one place of the trace kept for

@@ -1,11 +1,13 @@
 //! A desk and a server, joined.
 ghost use Rattle.std.specs.Prelude.{◌≡◌, [], true};
 ghost use Rattle.sk_client.specs.WorldView.{joined, taken_by, EventPost, RunsTo, Turns, AnswersWith, Serves, Replies, EditsFile};
+ghost use Rattle.sk_client.specs.Upcoming.{upcoming};
 ghost use Rattle.sk_server.specs.Server.{is_in_turn};
 
 use crate::desk::{Desk, Given, ReplyRefusal, Turn};
 use sk_ids::{Name, Pid, Text};
 use sk_plain::Refusal;
+use sk_script::Input;
 use sk_server::{EditRefusal, Reply, Request, Server, ServerRefusal};
 use std::alloc::Global;
 use std::collections::VecDeque;
@@ -134,6 +136,17 @@ impl World {
         ensures { result.now ≡ self.now.server }
     {
         &self.server
+    }
+
+    /// The process and the input of the step that an event takes, where it takes one. This takes no memory.
+    pub fn upcoming(&self, event: &WorldEvent) -> Option<(Pid, Input)>
+        ensures { result ≡ upcoming self.now event.now }
+    {
+        match event {
+            WorldEvent::Turn(pid) => self.desk.turn_step(*pid),
+            WorldEvent::Reply => self.desk.reply_step(self.replies.front()?),
+            WorldEvent::Serve | WorldEvent::Edit(..) => None,
+        }
     }
 
     /// Takes an event. After a refusal everything is as it was, but that a request which the server handed back is

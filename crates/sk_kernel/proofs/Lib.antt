@@ -10,3 +10,4 @@ pub mod Undecided
 mod Opened
 pub mod HandedIn
 pub mod Entries
+pub mod Appended

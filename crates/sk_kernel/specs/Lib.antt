@@ -1,5 +1,6 @@
 pub mod Kernel
 pub mod Calls
+pub mod Footprint
 pub mod Invariant
 pub mod Laws
 pub mod Opening

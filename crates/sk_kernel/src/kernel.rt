@@ -11,6 +11,7 @@ ghost use Rattle.sk_plain.specs.Refusal.{cause};
 ghost use Rattle.sk_plain.specs.View.{Shows};
 ghost use Rattle.sk_trace.specs.declared.event.Event.TheVariants as events;
 ghost use Rattle.sk_kernel.specs.Kernel.{booted, state_at, undecided_at, tags_at, texts_at, room, next_guess, settled, effect_at, or_else, guess_misfits, too_many, step_refused, guess_refused, HasStatus, RestsOn};
+ghost use Rattle.sk_kernel.specs.Footprint.{footprint_of};
 ghost use Rattle.sk_kernel.specs.Opening.{opening_of};
 ghost use Rattle.sk_kernel.specs.Laws.{HasSoundTrace};
 ghost use Rattle.sk_kernel.specs.Calls.{StepPost, GuessPost, CommitPost, FailPost, ShowsTerminal, LeavesTexts, PlansGuess};
@@ -18,7 +19,7 @@ ghost use Rattle.sk_record.specs.declared.status.Status.{Status};
 ghost use Rattle.sk_undo.specs.Logs.{look_at};
 ghost use Rattle.sk_terminal.specs.Terminals.{released_at};
 
-use crate::Opening;
+use crate::{Footprint, Opening};
 use sk_guesses::{Guess, Redeemed, Status};
 use sk_ids::{Entity, GuessId, Pid, TagSet};
 use sk_machine::Machine;
@@ -216,6 +217,20 @@ impl Kernel {
             return Some(Refusal::TooMany);
         }
         None
+    }
+
+    /// What the next step of a process with an input would read and write. Refused as the step would be, the
+    /// trace's limit aside. This takes no memory.
+    pub fn footprint(&self, pid: Pid, input: &Input) -> Result<Footprint, Refusal>
+        ensures { result ≡ footprint_of (effect_at self.now (record { pid = pid; input = input.now; guess = None })) }
+    {
+        match plan_at(&self.machine, &self.opening, pid, input) {
+            Ok(plan) => Ok(Footprint {
+                reads: plan.reads(pid, input),
+                writes: plan.writes(pid),
+            }),
+            Err(why) => Err(why),
+        }
     }
 
     /// What a process does next. Refused with `NoProcess` or `Ended`. This takes no memory.

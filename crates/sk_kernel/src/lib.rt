@@ -2,10 +2,12 @@
 #![tactic(auto)]
 
 pub mod hand_in;
+pub mod footprint;
 pub mod kernel;
 pub mod laws;
 pub mod opening;
 
 pub use hand_in::HandIn;
+pub use footprint::Footprint;
 pub use kernel::{FailRefusal, Kernel, Outcome, Stranger};
 pub use opening::Opening;

@@ -2,12 +2,14 @@
 //! line of workers; and how entities and what they have are printed.
 #![tactic(auto)]
 
+pub mod footprints;
 pub mod printed;
 pub mod report;
 pub mod stop;
 pub mod subject;
 pub mod world_report;
 
+pub use footprints::{PrintedEntities, write_footprint};
 pub use printed::{
     PrintedContent, PrintedEntity, PrintedProcess, PrintedTags, PrintedValue, PrintedView,
 };

@@ -1,0 +1,132 @@
+-- What an event of a world appends was foreseen.
+use Rattle.std.proofs.Common.{◌≡◌, ℕ, Bool, true, false, cond, List, [], ◌∷◌, Option, Some, None, Result, Ok, Err, option_map, refl, sym, ap, subst, ◌∙◌}
+use Rattle.sk_record.specs.Notes.{has}
+use Rattle.sk_script.specs.declared.instruction.Input.{Input}
+use Rattle.sk_script.specs.declared.instruction.Input.TheVariants as inputs
+use Rattle.sk_plain.specs.declared.refusal.Refusal.{Refusal}
+use Rattle.sk_trace.specs.declared.event.Event.TheVariants as trace
+use Rattle.sk_kernel.specs.Kernel.{KernelView, next_guess, undecided_at, step_refused}
+use Rattle.sk_kernel.specs.Footprint.{appended, IsForeseen}
+use Rattle.sk_kernel.proofs.Appended.{unchanged_foreseen, appended_foreseen}
+use Rattle.sk_server.specs.declared.request.Request.{Request}
+use Rattle.sk_server.specs.declared.reply.Reply.{Reply}
+use Rattle.sk_server.specs.declared.reply.Answer.{Answer}
+use Rattle.sk_server.specs.declared.reply.Answer.TheVariants.{Yes, No, Copy, Dropped}
+use Rattle.sk_client.specs.declared.pending.PendingRequest.{PendingRequest}
+use Rattle.sk_client.specs.declared.rule.Rule.{Rule}
+use Rattle.sk_client.specs.declared.rule.Rule.TheVariants as rules
+use Rattle.sk_client.specs.declared.desk.Turn.{Turn}
+use Rattle.sk_client.specs.declared.world.WorldEvent.{WorldEvent}
+use Rattle.sk_client.specs.declared.world.WorldEvent.TheVariants as events
+use Rattle.sk_client.specs.declared.world.WorldAnswer.{WorldAnswer}
+use Rattle.sk_client.specs.declared.world.WorldAnswer.TheVariants as answers
+use Rattle.sk_client.specs.declared.world.Cause.{Cause}
+use Rattle.sk_client.specs.declared.world.Cause.TheVariants as causes
+use Rattle.sk_client.specs.Desk.{DeskView, rule, turned, given, given_to, decided, decision, answered, stepped, entry, input_of, is_void}
+use Rattle.sk_client.specs.DeskCalls.{ByRule}
+use Rattle.sk_client.specs.WorldView.{WorldView, EventPost, Turns, Serves, Replies, EditsFile, taken_by, taken_from}
+use Rattle.sk_client.specs.Upcoming.{upcoming, turn_step, reply_step, first_reply_step}
+
+-- ---- a turn
+
+ruled : (d new : DeskView) (pid : ℕ) (by : Rule) → new ≡ turned d pid by → IsForeseen (turn_step pid (Ok by)) (appended d.kernel new.kernel)
+ruled d new pid (rules.Steps input) is = appended_foreseen (Some (pid, input)) d.kernel new.kernel (trace.Step pid input) (ap (λ (x : DeskView). x.kernel) is) refl
+ruled d new pid (rules.Guesses ask) is =
+    appended_foreseen (Some (pid, inputs.Good)) d.kernel new.kernel (trace.Guess (next_guess d.kernel) pid inputs.Good) (ap (λ (x : DeskView). x.kernel) is) refl
+ruled d new pid (rules.Asks ask) is = unchanged_foreseen None d.kernel new.kernel (ap (λ (x : DeskView). x.kernel) is)
+
+by_rule : (r : Result Turn Refusal) (d new : DeskView) (pid : ℕ) (by : Result Rule Refusal) → ByRule r d pid new by → IsForeseen (turn_step pid by) (appended d.kernel new.kernel)
+by_rule (Ok turn) d new pid (Ok by) h = ruled d new pid by h.2
+by_rule (Err why) d new pid (Ok by) h = unchanged_foreseen (turn_step pid (Ok by)) d.kernel new.kernel (ap (λ (x : DeskView). x.kernel) h.1)
+by_rule r d new pid (Err why) h = unchanged_foreseen None d.kernel new.kernel (ap (λ (x : DeskView). x.kernel) h.1)
+
+same : (u : Option (ℕ × Input)) (w new : WorldView) → new ≡ w → IsForeseen u (appended w.desk.kernel new.desk.kernel)
+same u w new is = unchanged_foreseen u w.desk.kernel new.desk.kernel (ap (λ (x : WorldView). x.desk.kernel) is)
+
+turn_foreseen : (r : Result WorldAnswer Cause) (w : WorldView) (pid : ℕ) (new : WorldView) → Turns r w pid new → IsForeseen (turn_step pid (rule w.desk pid)) (appended w.desk.kernel new.desk.kernel)
+turn_foreseen (Ok (answers.Turn turn)) w pid new h = by_rule (Ok turn) w.desk new.desk pid (rule w.desk pid) h.0
+turn_foreseen (Ok (answers.Served reply)) w pid new h = absurd h
+turn_foreseen (Ok (answers.Given told)) w pid new h = absurd h
+turn_foreseen (Ok (answers.Edited version)) w pid new h = absurd h
+turn_foreseen (Err (causes.Turn why)) w pid new h = same (turn_step pid (rule w.desk pid)) w new h.1
+turn_foreseen (Err causes.Idle) w pid new h = absurd h
+turn_foreseen (Err (causes.Edit why)) w pid new h = absurd h
+turn_foreseen (Err causes.Memory) w pid new h = absurd h
+
+-- ---- a request that is served
+
+taken_keeps : (w : WorldView) (b : Option Request) → (taken_by w b).desk.kernel ≡ w.desk.kernel
+taken_keeps w (Some q) = refl
+taken_keeps w None = from w.desk.waiting where
+  from : (qs : List PendingRequest) → (taken_from w qs).desk.kernel ≡ w.desk.kernel
+  from [] = refl
+  from (q ∷ qs) = refl
+
+serve_keeps : (r : Result WorldAnswer Cause) (w new : WorldView) (q : Option Request) → Serves r w new q → new.desk.kernel ≡ w.desk.kernel
+serve_keeps r w new None h = ap (λ (x : WorldView). x.desk.kernel) h.1
+serve_keeps (Ok told) w new (Some q) h = ap (λ (x : WorldView). x.desk.kernel) h.1
+serve_keeps (Err why) w new (Some q) h = ap (λ (x : WorldView). x.desk.kernel) h.1
+
+-- ---- a reply
+
+decides : (u : Option (ℕ × Input)) (d : DeskView) (q : PendingRequest) (g : ℕ) (a : Answer) → IsForeseen u (appended d.kernel (decided d q g a).kernel)
+decides u d q g Yes = appended_foreseen u d.kernel (decided d q g Yes).kernel (trace.Commit g) refl tt
+decides u d q g (No content) = appended_foreseen u d.kernel (decided d q g (No content)).kernel (trace.Fail g) refl tt
+decides u d q g (Copy content) = appended_foreseen u d.kernel (decided d q g (Copy content)).kernel (trace.Fail g) refl tt
+decides u d q g Dropped = appended_foreseen u d.kernel (decided d q g Dropped).kernel (trace.Fail g) refl tt
+
+steps : (k : KernelView) (pid : ℕ) (input : Input) (refused : Option Refusal) → IsForeseen (Some (pid, input)) (appended k (stepped k pid input refused))
+steps k pid input None = appended_foreseen (Some (pid, input)) k (stepped k pid input None) (trace.Step pid input) refl refl
+steps k pid input (Some why) = unchanged_foreseen (Some (pid, input)) k k refl
+
+answers_step : (d : DeskView) (q : PendingRequest) (input : Option Input) → IsForeseen (option_map (λ i. (q.process, i)) input) (appended d.kernel (answered d q input).kernel)
+answers_step d q None = unchanged_foreseen None d.kernel d.kernel refl
+answers_step d q (Some input) = steps d.kernel q.process input (step_refused d.kernel (entry q.process input None))
+
+given_foreseen : (d : DeskView) (q : PendingRequest) (a : Answer) (g : Option ℕ)
+    → IsForeseen (option_map (λ i. (q.process, i)) (input_of a)) (appended d.kernel (given_to d q a g).kernel)
+given_foreseen d q a (Some g) =
+    let u : Option (ℕ × Input) = option_map (λ i. (q.process, i)) (input_of a) in
+    elim (has g (undecided_at d.kernel)) as (λ b. IsForeseen u (appended d.kernel (cond b (decided d q g a) d).kernel)) [
+      | true ↦ decides u d q g a
+      | false ↦ unchanged_foreseen u d.kernel d.kernel refl
+    ]
+given_foreseen d q a None =
+    let u : Option (ℕ × Input) = option_map (λ i. (q.process, i)) (input_of a) in
+    elim (is_void d.kernel q) as (λ b. IsForeseen u (appended d.kernel (cond b d (answered d q (input_of a))).kernel)) [
+      | true ↦ unchanged_foreseen u d.kernel d.kernel refl
+      | false ↦ answers_step d q (input_of a)
+    ]
+
+reply_foreseen : (d new : DeskView) (r : Reply) (qs : List PendingRequest) → new ≡ given d r qs → IsForeseen (reply_step r qs) (appended d.kernel new.kernel)
+reply_foreseen d new r [] is = unchanged_foreseen None d.kernel new.kernel (ap (λ (x : DeskView). x.kernel) is)
+reply_foreseen d new r (q ∷ qs) is =
+    subst (λ (x : DeskView). IsForeseen (reply_step r (q ∷ qs)) (appended d.kernel x.kernel)) (sym is) (given_foreseen (record d { taken = qs }) q r.answer q.guess)
+
+replies_foreseen : (r : Result WorldAnswer Cause) (w new : WorldView) (rs : List Reply) → Replies r w new rs
+    → IsForeseen (first_reply_step rs w.desk.taken) (appended w.desk.kernel new.desk.kernel)
+replies_foreseen r w new [] h = same None w new h.1
+replies_foreseen (Ok (answers.Given told)) w new (r ∷ rs) h = reply_foreseen w.desk new.desk r w.desk.taken h.0.2
+replies_foreseen (Ok (answers.Turn turn)) w new (r ∷ rs) h = absurd h
+replies_foreseen (Ok (answers.Served reply)) w new (r ∷ rs) h = absurd h
+replies_foreseen (Ok (answers.Edited version)) w new (r ∷ rs) h = absurd h
+replies_foreseen (Err why) w new (r ∷ rs) h = same (reply_step r w.desk.taken) w new h.2
+
+-- ---- an edit
+
+edit_keeps : (r : Result WorldAnswer Cause) (w : WorldView) (name : List ℕ) (expected : ℕ) (bytes : List ℕ) (new : WorldView) → EditsFile r w name expected bytes new → new.desk.kernel ≡ w.desk.kernel
+edit_keeps (Ok (answers.Edited version)) w name expected bytes new h = ap (λ (x : WorldView). x.desk.kernel) h.1
+edit_keeps (Ok (answers.Turn turn)) w name expected bytes new h = absurd h
+edit_keeps (Ok (answers.Served reply)) w name expected bytes new h = absurd h
+edit_keeps (Ok (answers.Given told)) w name expected bytes new h = absurd h
+edit_keeps (Err (causes.Edit why)) w name expected bytes new h = ap (λ (x : WorldView). x.desk.kernel) h.1
+edit_keeps (Err (causes.Turn why)) w name expected bytes new h = absurd h
+edit_keeps (Err causes.Idle) w name expected bytes new h = absurd h
+edit_keeps (Err causes.Memory) w name expected bytes new h = absurd h
+
+pub event_foreseen : (r : Result WorldAnswer Cause) (w : WorldView) (e : WorldEvent) (new : WorldView) → EventPost r w e new → IsForeseen (upcoming w e) (appended w.desk.kernel new.desk.kernel)
+event_foreseen r w (events.Turn pid) new h = turn_foreseen r w pid new h
+event_foreseen r w events.Serve new h =
+    unchanged_foreseen None w.desk.kernel new.desk.kernel (serve_keeps r (taken_by w w.back) new (taken_by w w.back).back h ∙ taken_keeps w w.back)
+event_foreseen r w events.Reply new h = replies_foreseen r w new w.replies h
+event_foreseen r w (events.Edit name expected bytes) new h = unchanged_foreseen None w.desk.kernel new.desk.kernel (edit_keeps r w name expected bytes new h)

@@ -1,0 +1,24 @@
+-- What is appended to a trace, and that it was foreseen.
+use Rattle.std.proofs.Common.{◌≡◌, ℕ, List, [], ◌∷◌, ◌++◌, length, Option, Some, None, refl, sym, ap, subst, ◌∙◌, arith}
+use Rattle.std.specs.Prelude.{slice_get}
+use Rattle.std.proofs.lemmas.Option.{slice_get_past}
+use Rattle.sk_script.specs.declared.instruction.Input.{Input}
+use Rattle.sk_trace.specs.declared.event.Event.{Event}
+use Rattle.sk_kernel.specs.Kernel.{KernelView, with_event}
+use Rattle.sk_kernel.specs.Footprint.{appended, IsForeseen}
+
+behind : {X : Type 0} (xs : List X) (x : X) → slice_get (xs ++ x ∷ []) (length xs) ≡ Some x
+behind [] x = refl
+behind (y ∷ ys) x = behind ys x
+
+-- a kernel that stays as it is appends nothing
+pub unchanged_foreseen : (upcoming : Option (ℕ × Input)) (k new : KernelView) → new ≡ k → IsForeseen upcoming (appended k new)
+unchanged_foreseen upcoming k new is =
+    let nothing : appended k new ≡ None = ap (λ (n : KernelView). appended k n) is ∙ slice_get_past k.trace (length k.trace) (omega arith) in
+    subst (IsForeseen upcoming) (sym nothing) tt
+
+-- and one with one event more that event
+pub appended_foreseen : (upcoming : Option (ℕ × Input)) (k new : KernelView) (e : Event) → new ≡ with_event k e → IsForeseen upcoming (Some e) → IsForeseen upcoming (appended k new)
+appended_foreseen upcoming k new e is foreseen =
+    let one : appended k new ≡ Some e = ap (λ (n : KernelView). appended k n) is ∙ behind k.trace e in
+    subst (IsForeseen upcoming) (sym one) foreseen

@@ -1,3 +1,5 @@
+pub mod Count
 pub mod Decided
-pub mod Open
+pub mod Opens
+pub mod Places
 pub mod Statuses

@@ -29,11 +29,11 @@ get-set_other (x ∷ xs) zero (suc j) s h = refl
 get-set_other (x ∷ xs) (suc i) zero s h = refl
 get-set_other (x ∷ xs) (suc i) (suc j) s h = get-set_other xs i j s (λ e. h (ap suc e))
 
-status-at : (v : GuessesView) (id : ℕ) → 0 < id → status_of v id ≡ slice_get v.statuses (id - 1)
+pub status-at : (v : GuessesView) (id : ℕ) → 0 < id → status_of v id ≡ slice_get v.statuses (id - 1)
 status-at v id h = let some : (id == 0) ≡ false = grind arith in rw some refl
 
 -- what has a status was drawn
-some_number : (v : GuessesView) (id : ℕ) (s : Status) → status_of v id ≡ Some s → 0 < id
+pub some_number : (v : GuessesView) (id : ℕ) (s : Status) → status_of v id ≡ Some s → 0 < id
 some_number v zero s h = cc
 some_number v (suc i) s h = omega arith
 

@@ -1,5 +1,6 @@
 pub mod Token
 pub mod Guesses
-pub mod Drawn
+pub mod EntitySet
+pub mod Opens
 pub mod Room
 pub mod Calls

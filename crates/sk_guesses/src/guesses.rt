@@ -1,16 +1,25 @@
 //! The guesses that a kernel drew.
-ghost use Rattle.std.specs.Prelude.{◌≡◌, ◌≢◌, ◌≤◌, ◌+◌, Some, IfSome, IsOk, OnOk, false, not, is_some};
+ghost use Rattle.std.specs.Prelude.{◌≡◌, ◌≢◌, ◌<◌, ◌≤◌, ◌+◌, ◌-◌, ◌==◌, ◌∷◌, ◌++◌, ℕ, [], true, length, map, get_or, slice_index_or, slice_set, if◌then◌else◌, Some, IfSome, IfOk, IsOk, OnOk, OnErr, false, not, is_some};
+ghost use Rattle.std.specs.List.{prefix_len};
+ghost use Rattle.std.specs.List.Sorted.{IsStrictlySortedBy};
+ghost use Rattle.sk_ids.specs.Entity.{entity_cmp};
+ghost use Rattle.std.specs.Option.{unwrap_or};
+ghost use Rattle.sk_record.specs.Notes.{has};
+ghost use Rattle.sk_record.specs.Machine.{rests_on};
+ghost use Rattle.sk_record.specs.UndoState.{numbers, not_struck};
+ghost use Rattle.sk_record.specs.declared.status.Status.{Status};
 ghost use Rattle.sk_record.specs.declared.status.Status.TheVariants.{Undecided, Committed, Failed, Struck};
 ghost use Rattle.sk_ids.specs.declared.guess.TheConstants.{LAST_GUESS};
 ghost use Rattle.sk_guesses.specs.declared.guesses.TheConstants.{GUESS_LIMIT};
 ghost use Rattle.sk_guesses.specs.Guesses.{opened, next_of, undecided_of, is_full, is_undecided, status_of, decided};
-ghost use Rattle.sk_guesses.specs.Drawn.{shown};
-ghost use Rattle.sk_guesses.specs.Room.{HasRoom};
+ghost use Rattle.sk_guesses.specs.EntitySet.{with_entities};
+ghost use Rattle.sk_guesses.specs.Opens.{opens_of, dependents_of, depending, relieved, left_to, but, not_resting, after_commit, open_in, struck_by, without_list};
+ghost use Rattle.sk_guesses.specs.Room.{HasRoom, Listing, DecidedSo};
 ghost use Rattle.sk_guesses.specs.Calls.{Draws, redeemed};
 
-use crate::{Guess, Redeemed, Status};
-use sk_ids::GuessId;
-use slab::Slab;
+use crate::open_guess::OpenGuess;
+use crate::{EntitySet, Guess, Redeemed, Status};
+use sk_ids::{Entity, GuessId, TagSet};
 use std::alloc::{AllocError, Global};
 use std::marker::Model;
 use thiserror::Error;
@@ -27,66 +36,150 @@ pub enum DrawRefusal {
     Memory,
 }
 
-/// A guess that was drawn.
-#[derive(Clone, Copy)]
-enum Drawn {
-    /// Nothing decided it yet: the undecided ones have it under this key.
-    Open(usize),
-    Committed,
-    Failed,
-    Struck,
-}
-
-impl Drawn {
-    fn status(self) -> Status
-        ensures { result ≡ shown self }
-    {
-        match self {
-            Drawn::Open(_) => Status::Undecided,
-            Drawn::Committed => Status::Committed,
-            Drawn::Failed => Status::Failed,
-            Drawn::Struck => Status::Struck,
-        }
-    }
-}
-
-/// The guesses of one kernel, numbered from 1 in the order in which they were drawn. All calls but
-/// `reserve` and `draw` take no memory.
+/// The guesses of one kernel, numbered from 1 in the order in which they were drawn, and what is known
+/// of each undecided one. All calls but `reserve`, `draw` and `depend` take no memory.
 #[derive(Drop)]
 pub struct Guesses {
+    alloc: Global,
     kernel: u64,
-    all: Vec<Drawn>,
-    undecided: Slab<GuessId>,
+    statuses: Vec<Status>,
+    /// The undecided guesses, by rising number.
+    opens: Vec<OpenGuess>,
+    /// The list with which the next guess begins: room, and no entity yet.
+    next: EntitySet,
 }
 
 impl Model for Guesses {
-    ghost use Rattle.std.specs.Prelude.{◌≤◌, length, map, vec_capacity};
-    ghost use Rattle.slab.specs.Slab.{slab_len};
+    ghost use Rattle.std.specs.Prelude.{◌≡◌, ◌≤◌, [], length, map, vec_capacity};
     ghost use Rattle.sk_ids.specs.declared.guess.TheConstants.{LAST_GUESS};
     ghost use Rattle.sk_guesses.specs.declared.guesses.TheConstants.{GUESS_LIMIT};
-    ghost use Rattle.sk_guesses.specs.Drawn.{IsOpen, shown};
+    ghost use Rattle.sk_guesses.specs.Opens.{AreOpen};
     ghost use Rattle.sk_guesses.specs.Room.{Roomy};
 
     ghost Value = { Roomy };
 
     ghost view = { λ a. record {
-      view = record { kernel = a.kernel; statuses = map shown a.all.items };
-      places = vec_capacity a.all;
-      keys = a.undecided.capacity;
+      view = record { kernel = a.kernel; statuses = a.statuses.items };
+      opens = map (λ l. l.guess) a.opens.items;
+      places = vec_capacity a.statuses;
+      keys = vec_capacity a.opens;
+      next = a.next.room;
     } };
 
-    ghost invariant = { λ a. IsOpen a.all.items a.undecided × (slab_len a.undecided ≤ GUESS_LIMIT) × (length a.all.items ≤ LAST_GUESS) };
+    ghost invariant = { λ a. AreOpen (record { kernel = a.kernel; statuses = a.statuses.items }) (map (λ l. l.guess) a.opens.items)
+      × (length a.opens.items ≤ GUESS_LIMIT) × (length a.statuses.items ≤ LAST_GUESS) × (a.next.entities ≡ []) };
+}
+
+/// Makes room for one entity more in the lists of these guesses.
+fn make_room(opens: &mut Vec<OpenGuess>, tags: &TagSet) -> Result<(), AllocError>
+    ensures same { map (λ l. l.guess) opens.new.items ≡ map (λ l. l.guess) opens.old.items }
+    ensures room { OnOk result ((k : ℕ) (d : Listing) → k < length opens.new.items → has (slice_index_or opens.new.items k d).guess.id tags.now ≡ true → 0 < (slice_index_or opens.new.items k d).room) }
+{
+    for place in 0..opens.len() {
+        opens[place].reserve(tags)?;
+    }
+    Ok(())
+}
+
+/// Adds an entity to the lists of these guesses, where there is room for it.
+fn depend_on(opens: &mut Vec<OpenGuess>, tags: &TagSet, entity: &Entity)
+    requires { (k : ℕ) (d : Listing) → k < length opens.old.items → has (slice_index_or opens.old.items k d).guess.id tags.now ≡ true → 0 < (slice_index_or opens.old.items k d).room }
+    ensures { map (λ l. l.guess) opens.new.items ≡ map (depending tags.now entity.now) (map (λ l. l.guess) opens.old.items) }
+{
+    for place in 0..opens.len() {
+        opens[place].depend(tags, entity);
+    }
+}
+
+/// How many undecided guesses stand before one.
+fn place_of(opens: &[OpenGuess], id: GuessId) -> usize
+    ensures { result ≡ prefix_len (λ l. not (l.guess.id == id)) opens.now }
+{
+    opens
+        .iter()
+        .take_while(|open| is_another(*open, id))
+        .count()
+}
+
+fn is_another(open: &OpenGuess, id: GuessId) -> bool
+    ensures { result ≡ not (open.now.guess.id == id) }
+{
+    open.id() != id
+}
+
+/// Moves out the list of a guess.
+fn take_list(opens: &mut Vec<OpenGuess>, alloc: Global, id: GuessId) -> EntitySet
+    ensures list { result.entities ≡ dependents_of id (map (λ l. l.guess) opens.old.items) }
+    ensures opens { map (λ l. l.guess) opens.new.items ≡ without_list id (map (λ l. l.guess) opens.old.items) }
+    ensures as_many { length opens.new.items ≡ length opens.old.items }
+{
+    let place = place_of(opens.as_slice(), id);
+    if place >= opens.len() {
+        return EntitySet::new(alloc);
+    }
+    opens[place].take_dependents(alloc)
+}
+
+/// Takes a guess out of the undecided ones.
+fn close(opens: &mut Vec<OpenGuess>, id: GuessId)
+    ensures opens { map (λ l. l.guess) opens.new.items ≡ but id (map (λ l. l.guess) opens.old.items) }
+    ensures fewer { length opens.new.items ≤ length opens.old.items }
+{
+    opens.retain(|open: &OpenGuess| open.id() != id);
+}
+
+/// The same, and out of what the steps of the others rest on.
+fn close_committed(opens: &mut Vec<OpenGuess>, id: GuessId)
+    ensures opens { map (λ l. l.guess) opens.new.items ≡ after_commit id (map (λ l. l.guess) opens.old.items) }
+    ensures fewer { length opens.new.items ≤ length opens.old.items }
+{
+    opens.retain_mut(|open: &mut OpenGuess| {
+        open.without(id);
+        open.id() != id
+    });
+}
+
+/// Takes the guesses out of the undecided ones whose own steps rest on a guess.
+fn close_resting(opens: &mut Vec<OpenGuess>, id: GuessId)
+    ensures opens { map (λ l. l.guess) opens.new.items ≡ not_resting id (map (λ l. l.guess) opens.old.items) }
+    ensures fewer { length opens.new.items ≤ length opens.old.items }
+{
+    opens.retain(|open: &OpenGuess| !open.rests_on(id));
+}
+
+/// Strikes an undecided guess, if its own step rests on a guess.
+fn strike_one(statuses: &mut Vec<Status>, open: &OpenGuess, id: GuessId)
+    requires { open.now.guess.id - 1 < length statuses.old.items }
+    ensures statuses { statuses.new.items ≡ (if has id open.now.guess.tags then slice_set statuses.old.items (open.now.guess.id - 1) Struck else statuses.old.items) }
+    ensures drawn { length statuses.new.items ≡ length statuses.old.items }
+{
+    if open.rests_on(id) {
+        statuses[(open.id().number() - 1) as usize] = Status::Struck;
+    }
+}
+
+/// The undecided guesses whose own steps rest on a guess are struck.
+fn strike_all(statuses: &mut Vec<Status>, opens: &[OpenGuess], id: GuessId)
+    requires { (k : ℕ) (d : Listing) → k < length opens.now → (slice_index_or opens.now k d).guess.id - 1 < length statuses.old.items }
+    ensures { statuses.new.items ≡ struck_by id (map (λ l. l.guess) opens.now) statuses.old.items }
+{
+    for open in opens {
+        strike_one(statuses, open, id);
+    }
 }
 
 impl Guesses {
     /// No guess drawn yet, for the kernel of this number.
     pub fn new(alloc: Global, kernel: u64) -> Guesses
-        ensures { result.view ≡ opened kernel }
+        ensures view { result.view ≡ opened kernel }
+        ensures opens { result.opens ≡ [] }
     {
         Guesses {
+            alloc,
             kernel,
-            all: Vec::new(alloc),
-            undecided: Slab::new(alloc),
+            statuses: Vec::new(alloc),
+            opens: Vec::new(alloc),
+            next: EntitySet::new(alloc),
         }
     }
 
@@ -102,15 +195,48 @@ impl Guesses {
         ensures value { result ≡ next_of self.now.view }
         ensures limit { result ≤ LAST_GUESS + 1 }
     {
-        self.all.len() as u64 + 1
+        self.statuses.len() as u64 + 1
     }
 
     /// How many guesses are undecided.
     pub fn undecided(&self) -> usize
         ensures value { result ≡ undecided_of self.now.view.statuses }
+        ensures opens { result ≡ length self.now.opens }
         ensures limit { result ≤ GUESS_LIMIT }
     {
-        self.undecided.len()
+        self.opens.len()
+    }
+
+    /// The oldest undecided guess.
+    pub fn oldest(&self) -> Option<GuessId>
+        ensures { (g : ℕ) → unwrap_or result g ≡ get_or (numbers (opens_of self.now.opens)) 0 g }
+    {
+        match self.opens.first() {
+            Some(open) => Some(open.id()),
+            None => None,
+        }
+    }
+
+    /// The entities that rest on a guess, by rising order; none where it is not undecided.
+    pub fn dependents(&self, id: GuessId) -> &[Entity]
+        ensures value { result.now ≡ dependents_of id self.now.opens }
+        ensures rising { IsStrictlySortedBy entity_cmp result.now }
+        ensures known { status_of self.now.view id ≡ Some Undecided → has id (numbers (opens_of self.now.opens)) ≡ true }
+    {
+        let place = place_of(self.opens.as_slice(), id);
+        if place >= self.opens.len() {
+            return &[];
+        }
+        self.opens[place].dependents()
+    }
+
+    /// Moves out the list of the entities that rest on a guess, for its decision.
+    pub fn take_dependents(&mut self, id: GuessId) -> EntitySet
+        ensures list { result.entities ≡ dependents_of id self.old.opens }
+        ensures view { self.new.view ≡ self.old.view }
+        ensures opens { self.new.opens ≡ without_list id self.old.opens }
+    {
+        take_list(&mut self.opens, self.alloc, id)
     }
 
     /// Whether `draw` would answer `TooMany`.
@@ -125,7 +251,7 @@ impl Guesses {
         ensures some { is_some result ≡ not (is_full self.now.view) }
         ensures value { IfSome result (λ id. id ≡ next_of self.now.view) }
     {
-        if self.undecided.len() >= GUESS_LIMIT {
+        if self.undecided() >= GUESS_LIMIT {
             return None;
         }
         GuessId::new(self.next())
@@ -135,33 +261,75 @@ impl Guesses {
     pub fn status(&self, id: GuessId) -> Option<Status>
         ensures { result ≡ status_of self.now.view id }
     {
-        Some(self.all.get((id.number() - 1) as usize)?.status())
+        self.statuses.get((id.number() - 1) as usize).copied()
     }
 
-    /// Makes room for the next draw.
-    pub fn reserve(&mut self) -> Result<(), AllocError>
+    /// Makes room for the next draw, with so many entities.
+    pub fn reserve(&mut self, count: usize) -> Result<(), AllocError>
         ensures view { self.new.view ≡ self.old.view }
-        ensures ok { OnOk result (HasRoom self.new) }
-        ensures room { HasRoom self.old → IsOk result }
+        ensures opens { self.new.opens ≡ self.old.opens }
+        ensures ok { OnOk result (HasRoom self.new count) }
+        ensures room { HasRoom self.old count → IsOk result }
     {
-        self.all.reserve(1)?;
-        self.undecided.reserve(1)
+        self.statuses.reserve(1)?;
+        self.opens.reserve(1)?;
+        self.next.reserve(count)
     }
 
-    /// Draws the next number, whose guess is undecided. After a refusal everything is as it was.
-    pub fn draw(&mut self) -> Result<Guess, DrawRefusal>
+    /// Draws the next number, whose guess is undecided. Its own step rests on these guesses, itself among
+    /// them, and the entities rest on it. After a refusal everything is as it was.
+    pub fn draw(&mut self, tags: TagSet, entities: &[Entity]) -> Result<Guess, DrawRefusal>
+        requires { is_full self.old.view ≡ false → has (next_of self.old.view) tags ≡ true }
         ensures draws { Draws self.old.view self.new.view result }
-        ensures room { is_full self.old.view ≡ false → HasRoom self.old → IsOk result }
+        ensures opens { OnOk result (self.new.opens ≡ self.old.opens ++ record { id = next_of self.old.view; tags = tags; dependents = with_entities [] entities.now } ∷ []) }
+        ensures same { OnErr result (self.new.opens ≡ self.old.opens) }
+        ensures room { is_full self.old.view ≡ false → HasRoom self.old (length entities.now) → IsOk result }
     {
         let Some(id) = self.free() else {
             return Err(DrawRefusal::TooMany);
         };
-        if self.reserve().is_err() {
+        if self.reserve(entities.len()).is_err() {
             return Err(DrawRefusal::Memory);
         }
-        let key = self.undecided.insert_reserved(id);
-        self.all.push_reserved(Drawn::Open(key));
+        let mut dependents = std::mem::replace(&mut self.next, EntitySet::new(self.alloc));
+        dependents.add_all(entities);
+        self.opens.push_reserved(OpenGuess::new(id, tags, dependents));
+        self.statuses.push_reserved(Status::Undecided);
         Ok(Guess::new(self.kernel, id))
+    }
+
+    /// Adds an entity to the lists of these guesses; those that are not undecided have none. Without
+    /// memory everything is as it was.
+    pub fn depend(&mut self, tags: &TagSet, entity: &Entity) -> Result<(), AllocError>
+        ensures view { self.new.view ≡ self.old.view }
+        ensures ok { OnOk result (self.new.opens ≡ map (depending tags.now entity.now) self.old.opens) }
+        ensures err { OnErr result (self.new.opens ≡ self.old.opens) }
+    {
+        make_room(&mut self.opens, tags)?;
+        depend_on(&mut self.opens, tags, entity);
+        Ok(())
+    }
+
+    /// Takes an entity out of the lists of these guesses.
+    pub fn relieve(&mut self, tags: &TagSet, entity: &Entity)
+        ensures view { self.new.view ≡ self.old.view }
+        ensures opens { self.new.opens ≡ map (relieved tags.now entity.now) self.old.opens }
+    {
+        self.opens.retain_mut(|open: &mut OpenGuess| {
+            open.relieve(tags, entity);
+            true
+        });
+    }
+
+    /// Leaves an entity to the lists of these guesses alone.
+    pub fn leave_to(&mut self, tags: &TagSet, entity: &Entity)
+        ensures view { self.new.view ≡ self.old.view }
+        ensures opens { self.new.opens ≡ map (left_to tags.now entity.now) self.old.opens }
+    {
+        self.opens.retain_mut(|open: &mut OpenGuess| {
+            open.leave_to(tags, entity);
+            true
+        });
     }
 
     /// Takes a token in, or hands it back where it is another kernel's, or its guess is neither
@@ -179,51 +347,69 @@ impl Guesses {
         }
     }
 
-    /// Commits a guess; one that is not undecided stays as it is.
-    pub fn commit(&mut self, id: GuessId)
-        ensures undecided { status_of self.old.view id ≡ Some Undecided → self.new.view ≡ decided self.old.view id Committed }
-        ensures other { status_of self.old.view id ≢ Some Undecided → self.new.view ≡ self.old.view }
+    /// Whether a guess is undecided.
+    fn is_open(&self, id: GuessId) -> bool
+        ensures { result ≡ open_in (status_of self.now.view id) }
     {
-        self.decide(id, Drawn::Committed);
+        self.status(id) == Some(Status::Undecided)
+    }
+
+    /// Commits a guess, and takes it out of what the steps of undecided ones rest on; one that is not
+    /// undecided stays as it is.
+    pub fn commit(&mut self, id: GuessId)
+        ensures undecided { status_of self.old.view id ≡ Some Undecided → DecidedSo self.old self.new id Committed (after_commit id self.old.opens) }
+        ensures other { status_of self.old.view id ≢ Some Undecided → self.new ≡ self.old }
+        ensures emptied { dependents_of id self.new.opens ≡ [] }
+    {
+        if !self.is_open(id) {
+            return;
+        }
+        close_committed(&mut self.opens, id);
+        self.statuses[(id.number() - 1) as usize] = Status::Committed;
     }
 
     /// Fails a guess; one that is not undecided stays as it is.
     pub fn fail(&mut self, id: GuessId)
-        ensures undecided { status_of self.old.view id ≡ Some Undecided → self.new.view ≡ decided self.old.view id Failed }
-        ensures other { status_of self.old.view id ≢ Some Undecided → self.new.view ≡ self.old.view }
+        ensures undecided { status_of self.old.view id ≡ Some Undecided → DecidedSo self.old self.new id Failed (but id self.old.opens) }
+        ensures other { status_of self.old.view id ≢ Some Undecided → self.new ≡ self.old }
+        ensures emptied { dependents_of id self.new.opens ≡ [] }
+        ensures resting { opens_of (not_resting id self.new.opens) ≡ not_struck id (opens_of self.old.opens) }
     {
-        self.decide(id, Drawn::Failed);
+        self.decide(id, Status::Failed);
     }
 
     /// Strikes a guess, whose step another's failure took away; one that is not undecided stays as it
     /// is.
     pub fn strike(&mut self, id: GuessId)
-        ensures undecided { status_of self.old.view id ≡ Some Undecided → self.new.view ≡ decided self.old.view id Struck }
-        ensures other { status_of self.old.view id ≢ Some Undecided → self.new.view ≡ self.old.view }
+        ensures undecided { status_of self.old.view id ≡ Some Undecided → DecidedSo self.old self.new id Struck (but id self.old.opens) }
+        ensures other { status_of self.old.view id ≢ Some Undecided → self.new ≡ self.old }
+        ensures emptied { dependents_of id self.new.opens ≡ [] }
     {
-        self.decide(id, Drawn::Struck);
+        self.decide(id, Status::Struck);
     }
 
-    fn decide(&mut self, id: GuessId, to: Drawn)
-        requires { is_undecided (shown to) ≡ false }
-        ensures undecided { status_of self.old.view id ≡ Some Undecided → self.new.view ≡ decided self.old.view id (shown to) }
-        ensures other { status_of self.old.view id ≢ Some Undecided → self.new.view ≡ self.old.view }
+    fn decide(&mut self, id: GuessId, to: Status)
+        requires { is_undecided to ≡ false }
+        ensures undecided { status_of self.old.view id ≡ Some Undecided → DecidedSo self.old self.new id to (but id self.old.opens) }
+        ensures other { status_of self.old.view id ≢ Some Undecided → self.new ≡ self.old }
+        ensures emptied { dependents_of id self.new.opens ≡ [] }
+        ensures resting { opens_of (not_resting id self.new.opens) ≡ not_struck id (opens_of self.old.opens) }
     {
-        if self.status(id) == Some(Status::Undecided) {
-            self.close(id, to);
+        if !self.is_open(id) {
+            return;
         }
+        close(&mut self.opens, id);
+        self.statuses[(id.number() - 1) as usize] = to;
     }
 
-    fn close(&mut self, id: GuessId, to: Drawn)
-        requires was { status_of self.old.view id ≡ Some Undecided }
-        requires becomes { is_undecided (shown to) ≡ false }
-        ensures { self.new.view ≡ decided self.old.view id (shown to) }
+    /// Strikes the undecided guesses whose own steps rest on a guess.
+    pub fn strike_resting(&mut self, id: GuessId)
+        ensures statuses { (g : ℕ) → status_of self.new.view g ≡ (if rests_on id (opens_of self.old.opens) g then Some Struck else status_of self.old.view g) }
+        ensures kernel { self.new.view.kernel ≡ self.old.view.kernel }
+        ensures drawn { length self.new.view.statuses ≡ length self.old.view.statuses }
+        ensures opens { self.new.opens ≡ not_resting id self.old.opens }
     {
-        let place = (id.number() - 1) as usize;
-        let Drawn::Open(key) = self.all[place] else {
-            unreachable!();
-        };
-        self.all[place] = to;
-        self.undecided.remove(key);
+        strike_all(&mut self.statuses, self.opens.as_slice(), id);
+        close_resting(&mut self.opens, id);
     }
 }

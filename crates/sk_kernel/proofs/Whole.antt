@@ -1,5 +1,5 @@
 -- What the parts of a kernel say of its trace.
-use Rattle.std.proofs.Common.{Bor, ◌≡◌, ℕ, zero, suc, ◌<◌, ◌≤◌, length, true, not, List, [], ◌∷◌, ◌++◌, map, Option, Some, None, refl, sym, ◌∙◌, ap, subst, arith}
+use Rattle.std.proofs.Common.{Bor, ◌≡◌, ℕ, zero, suc, ◌<◌, ◌≤◌, length, true, false, not, List, [], ◌∷◌, ◌++◌, map, Option, Some, None, refl, sym, ◌∙◌, ap, subst, arith}
 use Rattle.std.specs.Prelude.{◌↔◌, is_some, slice_get, MatchOption}
 use Rattle.std.specs.declared.cmp.Ordering.TheVariants.{Less}
 use Rattle.std.specs.Cmp.{nat_cmp_is}
@@ -42,7 +42,7 @@ use Rattle.sk_trace.specs.declared.event.Event.TheVariants as events
 use Rattle.sk_plain.specs.Act.{plain, act, Saying}
 use Rattle.sk_plain.specs.Replay.{image}
 use Rattle.sk_machine.specs.Parts.{Parts, machine_of, undo_state_of, said_at}
-use Rattle.sk_machine.proofs.Count.{at_place, count_of}
+use Rattle.sk_guesses.proofs.Count.{at_place, count_of}
 use Rattle.sk_kernel.specs.Kernel.{KernelView, events_of, record_at, state_at, undecided_at, tags_at, texts_at, HasStatus, RestsOn, effect_at, number_after, last_guess, with_event, room}
 use Rattle.sk_kernel.specs.Calls.{ShowsTerminal, LeavesTexts}
 use Rattle.sk_kernel.proofs.Clear.{AllClear, all_clear, clear_released}
@@ -178,6 +178,20 @@ module _ (k : KernelView) (m : Parts) (stands : MergedStands (plain k.scripts) k
   same_effect n =
       (λ i. perform (λ e. stands.merged.look e i) (act k.scripts n.pid n.input))
       ∙ headline.same_outcome (plain k.scripts) entity_total entity_exact k.start (events_of k) stands.full stands.stands n
+
+  -- the list of a guess has just the entities that rest on it
+  pub dependents_are : (id : ℕ) (es : List Entity) → (has id (numbers m.opens) ≡ true → (e : Entity) → is_in entity_cmp es e ≡ has id (tags_in (undo_state_of m) e)) → (has id (numbers m.opens) ≡ false → es ≡ [])
+      → (e : Entity) → is_in entity_cmp es e ≡ has id (tags_at k e)
+  dependents_are id es exact none e =
+      elim (has id (numbers m.opens)) as (λ b. has id (numbers m.opens) ≡ b → is_in entity_cmp es e ≡ has id (tags_at k e)) [
+        | true ↦ λ here. exact here e ∙ ap (has id) (tags_computed e)
+        | false ↦ λ closed.
+            ap (λ xs. is_in entity_cmp xs e) (none closed)
+            ∙ sym (elim (has id (tags_at k e)) as (λ b. has id (tags_at k e) ≡ b → b ≡ false) [
+              | true ↦ λ here. sym (tidy.known e id (ap (has id) (tags_computed e) ∙ here)) ∙ closed
+              | false ↦ λ _. refl
+            ] refl)
+      ] refl
 
   -- ---- what stands after an event
   pub stands_stepped : (pid : ℕ) (input : Input) (b : Parts) → MergedTakes (plain k.scripts) (machine_of m) (record { pid = pid; input = input; guess = None }) (machine_of b)

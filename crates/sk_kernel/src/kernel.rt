@@ -3,7 +3,9 @@ ghost use Rattle.std.specs.Prelude.{◌≡◌, ◌↔◌, ℕ, true, length, IfO
 ghost use Rattle.std.specs.FinMap as map;
 ghost use Rattle.std.specs.List.Sorted.{IsStrictlySortedBy};
 ghost use Rattle.sk_ids.specs.Entity.{entity_cmp};
+ghost use Rattle.sk_record.specs.Effects.{is_in};
 ghost use Rattle.sk_record.specs.Notes.{has};
+ghost use Rattle.sk_ids.specs.declared.entity.Entity.{Entity};
 ghost use Rattle.sk_plain.specs.Next.{next_of};
 ghost use Rattle.sk_plain.specs.Planned.{refusal_of};
 ghost use Rattle.sk_plain.specs.Seen.{PlansStep};
@@ -139,6 +141,15 @@ impl Kernel {
         ensures exact { (id : ℕ) → (has id result.now ≡ true) ↔ RestsOn self.now entity.now id }
     {
         self.machine.tags_of(entity)
+    }
+
+    /// The entities that rest on a guess, by rising order; none where it is not undecided. This takes no
+    /// memory.
+    pub fn dependents(&self, id: GuessId) -> &[Entity]
+        ensures rising { IsStrictlySortedBy entity_cmp result.now }
+        ensures exact { (e : Entity) → is_in entity_cmp result.now e ≡ has id (tags_at self.now e) }
+    {
+        self.machine.dependents(id)
     }
 
     /// What became of a guess; `None` where it was never drawn.

@@ -1,5 +1,5 @@
 -- Many private instructions of one process at once: the guesses that they rest on, and what the machine becomes.
-use Rattle.std.proofs.Common.{◌≡◌, ℕ, Bool, true, false, ◌||◌, List, [], ◌∷◌, ◌++◌, Option, Some, None, refl, sym, ◌∙◌, ap, subst}
+use Rattle.std.proofs.Common.{◌≡◌, ℕ, Bool, true, false, ◌||◌, List, [], ◌∷◌, ◌++◌, Option, Some, None, absurd, true≢false, refl, sym, ◌∙◌, ap, subst}
 use Rattle.std.specs.List.{list_any, filter}
 use Rattle.std.specs.List.Sorted.{IsStrictlySortedBy}
 use Rattle.std.specs.Ordering.{nat_cmp, eq_by_cmp}
@@ -31,6 +31,11 @@ twice : (a b : Bool) → (false || (a || (b || false))) ≡ (false || (a || (b |
 twice true b = refl
 twice false true = refl
 twice false false = refl
+
+-- one of one is one of two
+pub first_among : (a b : Bool) → (a || false) ≡ true → (a || (b || false)) ≡ true
+first_among true b is = refl
+first_among false b is = absurd (true≢false (sym is))
 
 or_none : (b : Bool) → (b || false) ≡ b
 or_none true = refl

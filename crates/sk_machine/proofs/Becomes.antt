@@ -118,3 +118,7 @@ fails_of a b g did opens status texts = record {
   status = status;
   texts = λ t. ap (said_at t) (texts t) ∙ said_left t g (texts_at a.texts t);
 }
+
+-- equal in each part
+pub same_parts : (a b : Parts) → a.slots ≡ b.slots → a.opens ≡ b.opens → a.guesses ≡ b.guesses → a.texts ≡ b.texts → a ≡ b
+same_parts a b slots opens guesses texts = λ i. record { slots = slots i; opens = opens i; guesses = guesses i; texts = texts i }

@@ -19,3 +19,11 @@ from_ok (Err why) is p = absurd (true≢false (sym is))
 pub from_err : {A F P : Type 0} (r : Result A F) → true ≡ is_err r → OnErr r P → P
 from_err (Ok x) is p = absurd (true≢false is)
 from_err (Err why) is p = p
+
+pub then_ok : {A F P Q : Type 0} (r : Result A F) → OnOk r P → (P → Q) → OnOk r Q
+then_ok (Ok x) p f = f p
+then_ok (Err why) p f = tt
+
+pub for_err : {A F P : Type 0} (r : Result A F) → P → OnErr r P
+for_err (Ok x) p = tt
+for_err (Err why) p = p

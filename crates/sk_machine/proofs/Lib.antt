@@ -2,9 +2,6 @@ pub mod Given
 pub mod Writes
 pub mod Joins
 pub mod Tags
-pub mod Opens
 pub mod Listed
-pub mod Struck
 pub mod Becomes
-pub mod Count
 pub mod Alone

@@ -1,172 +1,253 @@
--- What is listed as resting on each guess, after writes and decisions.
-use Rattle.std.proofs.Common.{◌≡◌, ℕ, zero, suc, ◌<◌, ◌≤◌, ◌+◌, length, take, Bool, true, false, cond, not, ◌||◌, List, [], ◌∷◌, ◌++◌, Option, Result, Ok, Err, is_ok, inl, inr, refl, sym, ◌∙◌, ap, subst, arith}
-use Rattle.std.specs.List.{list_all, filter, prefix_len}
-use Rattle.std.specs.List.Retain.{RetainsInTurn}
-use Rattle.std.specs.Prelude.{◌==◌, slice_index_or, slice_set, OnOk, OnErr}
+-- What the lists of dependents have, after writes and decisions.
+use Rattle.std.proofs.Common.{◌≡◌, ℕ, zero, suc, ◌<◌, ◌≤◌, ◌+◌, length, take, drop, Bool, true, false, cond, not, ◌||◌, ◌&&◌, List, [], ◌∷◌, ◌++◌, map, Option, refl, sym, ◌∙◌, ap, subst, arith}
+use Rattle.std.specs.List.{AllByRecursion, list_all, list_any, filter}
+use Rattle.std.specs.Prelude.{◌==◌, slice_index_or}
 use Rattle.std.specs.Ordering.{eq_by_cmp}
-use Rattle.std.specs.Cmp.{Equal-is, eq_by_cmp_equiv}
-use Rattle.std.proofs.lemmas.Bool.{false≢true, or_cases, or_left, or_right, eqb-true, eq-eqb}
+use Rattle.std.specs.Cmp.{eq_by_cmp_equiv}
+use Rattle.std.proofs.Common.{inl, inr}
+use Rattle.sk_ids.proofs.Entities.{entity_total}
+use Rattle.sk_guesses.proofs.Opens.{same_opens, depending_keeps}
+use Rattle.std.proofs.lemmas.Bool.{true≢false, false≢true, or_left, or_right, eqb-true, eq-eqb}
+use Rattle.std.proofs.lemmas.List.{append-nil}
 use Rattle.std.proofs.lemmas.List.Folds.{list_any-append}
 use Rattle.sk_record.specs.Effects.{is_in}
 use Rattle.sk_record.specs.Notes.{Note, has, without, cut, carried, committed, noted, last_tags}
-use Rattle.sk_record.specs.Merged.{Merges}
-use Rattle.sk_record.specs.UndoState.{IsGrowing}
-use Rattle.sk_record.proofs.Merged.{grow_in}
+use Rattle.std.specs.Ordering.{nat_cmp}
+use Rattle.std.specs.List.Sorted.{IsStrictlySortedBy}
+use Rattle.sk_record.proofs.Rising.{above}
+use Rattle.sk_record.specs.UndoState.{IsGrowing, IsTidy, Open, numbers, still_open}
+use Rattle.sk_record.proofs.Merged.{same_last}
 use Rattle.sk_record.proofs.UndoStates.{and_both}
 use Rattle.sk_record.proofs.Machine.{has_filter}
 use Rattle.sk_ids.specs.Entity.{entity_cmp}
 use Rattle.sk_ids.specs.declared.entity.Entity.{Entity}
-use Rattle.sk_ids.proofs.Entities.{entity_total, entity_exact}
+use Rattle.sk_guesses.specs.EntitySet.{with_entity, with_entities, without_entity}
+use Rattle.sk_guesses.specs.Opens.{OpenGuess, opens_of, dependents_of, depending, left_to, but, not_resting, after_commit, without_tag}
+use Rattle.sk_guesses.proofs.Places.{with_in, with_all_in, without_in, tied_is}
 use Rattle.sk_store.specs.declared.entity_state.EntityState.{EntityState}
-use Rattle.sk_undo.specs.Log.{is_empty, carries}
+use Rattle.sk_undo.specs.Log.{carries}
 use Rattle.sk_undo.specs.Logs.{SlotMap, look_at, log_at}
-use Rattle.sk_undo.specs.Decisions.{Unwound, Lightened, AllGrow}
-use Rattle.sk_undo.proofs.SeenNotes.{grow_cut}
-use Rattle.sk_undo.proofs.Commits.{grow_commit}
-use Rattle.sk_machine.specs.declared.dependents.Dependents.{Dependents}
-use Rattle.sk_machine.specs.Dependents.{listed_for, AllListed, StayListed, StayResting}
-use Rattle.sk_machine.specs.Performed.{Performed, entities_of}
+use Rattle.sk_undo.specs.Decisions.{Unwound, Lightened, AreListed, AllGrow}
+use Rattle.sk_undo.proofs.SeenNotes.{AllSeen, grow_head, grow_tail}
+use Rattle.sk_machine.specs.Dependents.{tags_in, with_tags, AllExact, IsAlmostExact, AllAlmostExact, Covers, Depends}
+use Rattle.sk_machine.specs.Parts.{Parts, undo_state_of}
+use Rattle.sk_machine.specs.Performed.{IsClean, Performed, entities_of}
 
--- ---- lists of entities
-in_front : (xs ys : List Entity) (e : Entity) → is_in entity_cmp xs e ≡ true → is_in entity_cmp (xs ++ ys) e ≡ true
-in_front xs ys e here = list_any-append (eq_by_cmp entity_cmp e) xs ys ∙ or_left _ _ here
+-- ---- lists that are exact
+picked : (h : ℕ) (c : Bool) (xs ys : List ℕ) → has h (cond c xs ys) ≡ cond c (has h xs) (has h ys)
+picked h true xs ys = refl
+picked h false xs ys = refl
 
-in_back : (xs ys : List Entity) (e : Entity) → is_in entity_cmp ys e ≡ true → is_in entity_cmp (xs ++ ys) e ≡ true
-in_back xs ys e here = list_any-append (eq_by_cmp entity_cmp e) xs ys ∙ or_right _ _ here
+pub exact_as : (tags later : Entity → List ℕ) → ((e : Entity) → tags e ≡ later e) → (os : List OpenGuess) → AllExact tags os → AllExact later os
+exact_as tags later same [] all = tt
+exact_as tags later same (o ∷ os) all = ((λ e. all.0 e ∙ ap (has o.id) (same e)), exact_as tags later same os all.1)
 
-alone : (e : Entity) → is_in entity_cmp (e ∷ []) e ≡ true
-alone e = or_left _ _ ((eq_by_cmp_equiv entity_total).refl e)
+pub exact_at : (tags : Entity → List ℕ) (g : ℕ) (os : List OpenGuess) → AllExact tags os → has g (numbers (opens_of os)) ≡ true → (e : Entity) → is_in entity_cmp (dependents_of g os) e ≡ has g (tags e)
+exact_at tags g [] all here e = absurd (true≢false (sym here))
+exact_at tags g (o ∷ os) all here e =
+    elim (o.id == g) as (λ b. (o.id == g) ≡ b → (b || has g (numbers (opens_of os))) ≡ true → is_in entity_cmp (cond b o.dependents (dependents_of g os)) e ≡ has g (tags e)) [
+      | true ↦ λ is _. all.0 e ∙ ap (λ h. has h (tags e)) (eqb-true o.id g is)
+      | false ↦ λ _ later. exact_at tags g os all.1 later e
+    ] refl here
 
-tied_is : (e x : Entity) → eq_by_cmp entity_cmp e x ≡ true → e ≡ x
-tied_is e x is = entity_exact e x ((Equal-is (entity_cmp e x)).0 is)
+-- ---- one entity more rests on the tags of a step
+with_all : (i q b : Bool) → (cond i true b || q) ≡ cond (i || (q || false)) true b
+with_all true q b = refl
+with_all false true true = refl
+with_all false true false = refl
+with_all false false true = refl
+with_all false false false = refl
 
-pub in_filter : (p : Entity → Bool) (es : List Entity) (e : Entity) → is_in entity_cmp es e ≡ true → p e ≡ true → is_in entity_cmp (filter p es) e ≡ true
-in_filter p [] e here keeps = here
-in_filter p (x ∷ es) e here keeps =
-    elim (or_cases (eq_by_cmp entity_cmp e x) (is_in entity_cmp es e) here) [
-      | inl is ↦ subst (λ b. is_in entity_cmp (cond b (x ∷ filter p es) (filter p es)) e ≡ true) (sym (ap p (sym (tied_is e x is)) ∙ keeps)) (or_left _ _ is)
-      | inr later ↦
-          let rest = in_filter p es e later keeps in
-          elim (p x) as (λ b. is_in entity_cmp (cond b (x ∷ filter p es) (filter p es)) e ≡ true) [ true ↦ or_right _ _ rest | false ↦ rest ]
-    ]
+with_none : (i q b : Bool) → (q ≡ true → b ≡ false) → cond i false b ≡ cond (i || (q || false)) false b
+with_none true q b h = refl
+with_none false true b h = h refl
+with_none false false b h = refl
 
--- ---- one more of a list is gone over
-take_next : {X : Type 0} (xs : List X) (i : ℕ) (d : X) → i < length xs → take (suc i) xs ≡ take i xs ++ slice_index_or xs i d ∷ []
-take_next [] i d lt = absurd (omega arith)
-take_next (x ∷ xs) zero d lt = refl
-take_next (x ∷ xs) (suc i) d lt = ap (λ ys. x ∷ ys) (take_next xs i d (omega arith))
+with_same : (i q t b : Bool) → (q ≡ true → b ≡ t) → cond i t b ≡ cond (i || (q || false)) t b
+with_same true q t b h = refl
+with_same false true t b h = h refl
+with_same false false t b h = refl
 
-take_more : {X : Type 0} (xs : List X) (i : ℕ) (d : X) → i < length xs → d ≡ slice_index_or xs i d → take (i + 1) xs ≡ take i xs ++ d ∷ []
-take_more xs i d lt is = let next : i + 1 ≡ suc i = omega arith in ap (λ k. take k xs) next ∙ take_next xs i d lt ∙ ap (λ y. take i xs ++ y ∷ []) (sym is)
+module _ (tags : List ℕ) (es : List Entity) (x : Entity) (base : Entity → List ℕ) where
+  after : (h : ℕ) (e : Entity) → has h (with_tags tags (es ++ x ∷ []) base e) ≡ cond (is_in entity_cmp es e || (eq_by_cmp entity_cmp e x || false)) (has h tags) (has h (base e))
+  after h e =
+      ap (λ b. has h (cond b tags (base e))) (list_any-append (eq_by_cmp entity_cmp e) es (x ∷ []))
+      ∙ picked h (is_in entity_cmp es e || (eq_by_cmp entity_cmp e x || false)) tags (base e)
 
-one_of : (a b : Bool) (P : Type 0) → (a || (b || false)) ≡ true → (a ≡ true → P) → (b ≡ true → P) → P
-one_of true b P here f g = f refl
-one_of false true P here f g = g refl
-one_of false false P here f g = absurd (false≢true here)
+  before : (h : ℕ) (e : Entity) → has h (with_tags tags es base e) ≡ cond (is_in entity_cmp es e) (has h tags) (has h (base e))
+  before h e = picked h (is_in entity_cmp es e) tags (base e)
 
-pub entity_more : (P : Type 0) (es : List Entity) (i : ℕ) (x e : Entity) → i < length es → x ≡ slice_index_or es i x → is_in entity_cmp (take (i + 1) es) e ≡ true → (is_in entity_cmp (take i es) e ≡ true → P) → (x ≡ e → P) → P
-entity_more P es i x e lt is here f g =
-    one_of (is_in entity_cmp (take i es) e) (eq_by_cmp entity_cmp e x) P (sym (list_any-append (eq_by_cmp entity_cmp e) (take i es) (x ∷ [])) ∙ sym (ap (λ xs. is_in entity_cmp xs e) (take_more es i x lt is)) ∙ here) f (λ same. g (sym (tied_is e x same)))
+  -- it is added to the lists of these
+  pub depend_more : ((g : ℕ) → has g (base x) ≡ true → has g tags ≡ true) → (os : List OpenGuess) → AllExact (with_tags tags es base) os → AllExact (with_tags tags (es ++ x ∷ []) base) (map (depending tags x) os)
+  depend_more covers [] all = tt
+  depend_more covers (o ∷ os) all =
+      let rest = depend_more covers os all.1 in
+      elim (has o.id tags) as (λ b. has o.id tags ≡ b → AllExact (with_tags tags (es ++ x ∷ []) base) (cond b (record o { dependents = with_entity o.dependents x }) o ∷ map (depending tags x) os)) [
+        | true ↦ λ is. ((λ e.
+            with_in o.dependents x e ∙ ap (λ b. b || eq_by_cmp entity_cmp e x) (all.0 e ∙ before o.id e ∙ ap (λ t. cond (is_in entity_cmp es e) t (has o.id (base e))) is)
+            ∙ with_all (is_in entity_cmp es e) (eq_by_cmp entity_cmp e x) (has o.id (base e))
+            ∙ ap (λ t. cond (is_in entity_cmp es e || (eq_by_cmp entity_cmp e x || false)) t (has o.id (base e))) (sym is) ∙ sym (after o.id e)), rest)
+        | false ↦ λ is. ((λ e.
+            all.0 e ∙ before o.id e ∙ ap (λ t. cond (is_in entity_cmp es e) t (has o.id (base e))) is
+            ∙ with_none (is_in entity_cmp es e) (eq_by_cmp entity_cmp e x) (has o.id (base e)) (λ same. off o.id is e same)
+            ∙ ap (λ t. cond (is_in entity_cmp es e || (eq_by_cmp entity_cmp e x || false)) t (has o.id (base e))) (sym is) ∙ sym (after o.id e)), rest)
+      ] refl where
+    off : (h : ℕ) → has h tags ≡ false → (e : Entity) → eq_by_cmp entity_cmp e x ≡ true → has h (base e) ≡ false
+    off h none e same =
+        elim (has h (base e)) as (λ b. has h (base e) ≡ b → b ≡ false) [
+          | true ↦ λ here. absurd (true≢false (sym (covers h (ap (λ y. has h (base y)) (sym (tied_is e x same)) ∙ here)) ∙ none))
+          | false ↦ λ _. refl
+        ] refl
 
-pub guess_more : (P : Type 0) (tags : List ℕ) (i x g : ℕ) → i < length tags → x ≡ slice_index_or tags i x → has g (take (i + 1) tags) ≡ true → (has g (take i tags) ≡ true → P) → (x ≡ g → P) → P
-guess_more P tags i x g lt is here f h =
-    one_of (has g (take i tags)) (x == g) P (sym (list_any-append (λ t. t == g) (take i tags) (x ∷ [])) ∙ sym (ap (has g) (take_more tags i x lt is)) ∙ here) f (λ same. h (eqb-true x g same))
+  both_ways : (a b : Bool) → (a ≡ true → b ≡ true) → (b ≡ true → a ≡ true) → a ≡ b
+  both_ways true b f g = sym (f refl)
+  both_ways false true f g = g refl
+  both_ways false false f g = refl
 
--- ---- the list of a guess
-abbrev pub is_other : ℕ → Dependents → Bool
-is_other g d = not (d.guess == g)
+  -- it is in them already
+  pub depend_none : ((g : ℕ) → has g (base x) ≡ true → has g tags ≡ true) → ((g : ℕ) → has g tags ≡ true → has g (base x) ≡ true) → (os : List OpenGuess) → AllExact (with_tags tags es base) os → AllExact (with_tags tags (es ++ x ∷ []) base) os
+  depend_none covers covered [] all = tt
+  depend_none covers covered (o ∷ os) all =
+      ((λ e.
+          all.0 e ∙ before o.id e
+          ∙ with_same (is_in entity_cmp es e) (eq_by_cmp entity_cmp e x) (has o.id tags) (has o.id (base e)) (λ same.
+          ap (λ y. has o.id (base y)) (tied_is e x same) ∙ both_ways (has o.id (base x)) (has o.id tags) (covers o.id) (covered o.id))
+          ∙ sym (after o.id e)), depend_none covers covered os all.1)
 
-pub found : (g k : ℕ) (ds : List Dependents) (d : Dependents) → k ≡ prefix_len (is_other g) ds → k < length ds → d ≡ slice_index_or ds k d → d.entities.items ≡ listed_for g ds
-found g k [] d is lt at = absurd (omega arith)
-found g k (x ∷ ds) d is lt at =
-    elim (x.guess == g) as (λ b. k ≡ cond (not b) (1 + prefix_len (is_other g) ds) 0 → d.entities.items ≡ cond b x.entities.items (listed_for g ds)) [
-      | true ↦ λ none. ap (λ (y : Dependents). y.entities.items) (at ∙ ap (λ j. slice_index_or (x ∷ ds) j d) none)
-      | false ↦ λ more.
-          let next : k ≡ suc (prefix_len (is_other g) ds) = omega arith in
-          found g (prefix_len (is_other g) ds) ds d refl (omega arith) (at ∙ ap (λ j. slice_index_or (x ∷ ds) j d) next)
-    ] is
+-- ---- what is taken out again
+not_in : (a b : Bool) → (a ≡ true → b ≡ true) → b ≡ false → a ≡ false
+not_in true b f none = sym (f refl) ∙ none
+not_in false b f none = refl
 
-pub missing : (g k : ℕ) (ds : List Dependents) → k ≡ prefix_len (is_other g) ds → length ds ≤ k → [] ≡ listed_for g ds
-missing g k [] is le = refl
-missing g k (x ∷ ds) is le =
-    elim (x.guess == g) as (λ b. k ≡ cond (not b) (1 + prefix_len (is_other g) ds) 0 → [] ≡ cond b x.entities.items (listed_for g ds)) [
-      | true ↦ λ none. absurd (omega arith)
-      | false ↦ λ more. missing g (prefix_len (is_other g) ds) ds refl (omega arith)
-    ] is
+-- where some of these were added
+pub almost_of : (tags : List ℕ) (es all : List Entity) (base : Entity → List ℕ) → Covers tags all base → ((e : Entity) → is_in entity_cmp es e ≡ true → is_in entity_cmp all e ≡ true)
+    → (os : List OpenGuess) → AllExact (with_tags tags es base) os → AllAlmostExact base all os
+almost_of tags es all base covers within [] exact = tt
+almost_of tags es all base covers within (o ∷ os) exact = (
+  record {
+    kept = λ e here.
+        exact.0 e
+        ∙ elim (is_in entity_cmp es e) as (λ b. is_in entity_cmp es e ≡ b → has o.id (cond b tags (base e)) ≡ true) [
+          | true ↦ λ is. covers e o.id (within e is) here
+          | false ↦ λ _. here
+        ] refl;
+    others = λ e none. exact.0 e ∙ ap (λ b. has o.id (cond b tags (base e))) (not_in (is_in entity_cmp es e) (is_in entity_cmp all e) (within e) none);
+  },
+  almost_of tags es all base covers within os exact.1,
+)
 
--- ---- one entity more: in a list that is there
-grown : (g : ℕ) (ds : List Dependents) (new x : Dependents) (es : List Entity) (q : Entity) → new.guess ≡ x.guess → new.entities.items ≡ x.entities.items ++ es → is_in entity_cmp (cond (x.guess == g) x.entities.items (listed_for g ds)) q ≡ true
-    → is_in entity_cmp (cond (new.guess == g) new.entities.items (listed_for g ds)) q ≡ true
-grown g ds new x es q same more here =
-    subst (λ n. is_in entity_cmp (cond (n == g) new.entities.items (listed_for g ds)) q ≡ true) (sym same)
-    (elim (x.guess == g) as (λ b. is_in entity_cmp (cond b x.entities.items (listed_for g ds)) q ≡ true → is_in entity_cmp (cond b new.entities.items (listed_for g ds)) q ≡ true) [
-      | true ↦ λ h. subst (λ all. is_in entity_cmp all q ≡ true) (sym more) (in_front x.entities.items es q h)
-      | false ↦ λ h. h
-    ] here)
+and_true : (b : Bool) → (b && true) ≡ b
+and_true true = refl
+and_true false = refl
 
-kept_add : (k : ℕ) (ds : List Dependents) (d new : Dependents) (es : List Entity) → k < length ds → d ≡ slice_index_or ds k d → new.guess ≡ d.guess → new.entities.items ≡ d.entities.items ++ es → StayListed ds (slice_set ds k new)
-kept_add k [] d new es lt at same more g q here = absurd (omega arith)
-kept_add zero (x ∷ ds) d new es lt at same more g q here =
-    grown g ds new x es q (same ∙ ap (λ (y : Dependents). y.guess) at) (more ∙ ap (λ (y : Dependents). y.entities.items ++ es) at) here
-kept_add (suc k) (x ∷ ds) d new es lt at same more g q here =
-    elim (x.guess == g) as (λ b. is_in entity_cmp (cond b x.entities.items (listed_for g ds)) q ≡ true → is_in entity_cmp (cond b x.entities.items (listed_for g (slice_set ds k new))) q ≡ true) [
-      | true ↦ λ h. h
-      | false ↦ λ h. kept_add k ds d new es (omega arith) at same more g q h
-    ] here
+and_none : (b : Bool) → (b && false) ≡ false
+and_none true = refl
+and_none false = refl
 
-new_add : (g k : ℕ) (ds : List Dependents) (d new : Dependents) (e : Entity) → k ≡ prefix_len (is_other g) ds → k < length ds → d ≡ slice_index_or ds k d → new.guess ≡ d.guess → new.entities.items ≡ d.entities.items ++ e ∷ []
-    → is_in entity_cmp (listed_for g (slice_set ds k new)) e ≡ true
-new_add g k [] d new e is lt at same more = absurd (omega arith)
-new_add g zero (x ∷ ds) d new e is lt at same more =
-    let here : new.guess ≡ x.guess = same ∙ ap (λ (y : Dependents). y.guess) at in
-    subst (λ n. is_in entity_cmp (cond (n == g) new.entities.items (listed_for g ds)) e ≡ true) (sym here)
-    (elim (x.guess == g) as (λ b. zero ≡ cond (not b) (1 + prefix_len (is_other g) ds) 0 → is_in entity_cmp (cond b new.entities.items (listed_for g ds)) e ≡ true) [
-      | true ↦ λ _. subst (λ es. is_in entity_cmp es e ≡ true) (sym more) (in_back d.entities.items (e ∷ []) e (alone e))
-      | false ↦ λ more. absurd (omega arith)
-    ] is)
-new_add g (suc k) (x ∷ ds) d new e is lt at same more =
-    elim (x.guess == g) as (λ b. suc k ≡ cond (not b) (1 + prefix_len (is_other g) ds) 0 → is_in entity_cmp (cond b x.entities.items (listed_for g (slice_set ds k new))) e ≡ true) [
-      | true ↦ λ none. absurd (omega arith)
-      | false ↦ λ next. new_add g k ds d new e (omega arith) (omega arith) at same more
-    ] is
+module _ (base : Entity → List ℕ) (x : Entity) (es : List Entity) where
+  stays_one : (o : OpenGuess) → has o.id (base x) ≡ true → IsAlmostExact base (x ∷ es) o → IsAlmostExact base es o
+  stays_one o is almost = record {
+    kept = almost.kept;
+    others = λ e none.
+        elim (eq_by_cmp entity_cmp e x) as (λ b. eq_by_cmp entity_cmp e x ≡ b → is_in entity_cmp o.dependents e ≡ has o.id (base e)) [
+          | true ↦ λ same. let here = ap (λ y. has o.id (base y)) (tied_is e x same) ∙ is in almost.kept e here ∙ sym here
+          | false ↦ λ apart. almost.others e (λ i. apart i || none i)
+        ] refl;
+  }
 
-none_more : (es : List Entity) → es ≡ es ++ []
-none_more [] = refl
-none_more (e ∷ es) = ap (λ xs. e ∷ xs) (none_more es)
+  goes_one : (o : OpenGuess) → has o.id (base x) ≡ false → IsAlmostExact base (x ∷ es) o → IsAlmostExact base es (record o { dependents = without_entity o.dependents x })
+  goes_one o is almost = record {
+    kept = λ e here.
+        without_in o.dependents x e
+        ∙ elim (eq_by_cmp entity_cmp e x) as (λ b. eq_by_cmp entity_cmp e x ≡ b → (is_in entity_cmp o.dependents e && not b) ≡ true) [
+          | true ↦ λ same. absurd (true≢false (sym here ∙ ap (λ y. has o.id (base y)) (tied_is e x same) ∙ is))
+          | false ↦ λ _. and_true (is_in entity_cmp o.dependents e) ∙ almost.kept e here
+        ] refl;
+    others = λ e none.
+        without_in o.dependents x e
+        ∙ elim (eq_by_cmp entity_cmp e x) as (λ b. eq_by_cmp entity_cmp e x ≡ b → (is_in entity_cmp o.dependents e && not b) ≡ has o.id (base e)) [
+          | true ↦ λ same. and_none (is_in entity_cmp o.dependents e) ∙ sym (ap (λ y. has o.id (base y)) (tied_is e x same) ∙ is)
+          | false ↦ λ apart. and_true (is_in entity_cmp o.dependents e) ∙ almost.others e (λ i. apart i || none i)
+        ] refl;
+  }
 
--- where there was memory for it
-pub kept_extended : {A F : Type 0} (r : Result A F) (k : ℕ) (ds : List Dependents) (d new : Dependents) (e : Entity) → k < length ds → d ≡ slice_index_or ds k d → new.guess ≡ d.guess → new.entities.items ≡ cond (is_ok r) (d.entities.items ++ e ∷ []) d.entities.items → StayListed ds (slice_set ds k new)
-kept_extended (Ok x) k ds d new e lt at same more = kept_add k ds d new (e ∷ []) lt at same more
-kept_extended (Err why) k ds d new e lt at same more = kept_add k ds d new [] lt at same (more ∙ none_more d.entities.items)
+  pub left_more : (tags : List ℕ) → tags ≡ base x → (os : List OpenGuess) → AllAlmostExact base (x ∷ es) os → AllAlmostExact base es (map (left_to tags x) os)
+  left_more tags same [] all = tt
+  left_more tags same (o ∷ os) all =
+      elim (has o.id tags) as (λ b. has o.id tags ≡ b → AllAlmostExact base es (cond b o (record o { dependents = without_entity o.dependents x }) ∷ map (left_to tags x) os)) [
+        | true ↦ λ is. (stays_one o (ap (has o.id) (sym same) ∙ is) all.0, left_more tags same os all.1)
+        | false ↦ λ is. (goes_one o (ap (has o.id) (sym same) ∙ is) all.0, left_more tags same os all.1)
+      ] refl
 
-pub new_extended : {A F : Type 0} (r : Result A F) (g k : ℕ) (ds : List Dependents) (d new : Dependents) (e : Entity) → k ≡ prefix_len (is_other g) ds → k < length ds → d ≡ slice_index_or ds k d → new.guess ≡ d.guess
-    → new.entities.items ≡ cond (is_ok r) (d.entities.items ++ e ∷ []) d.entities.items → OnOk r (is_in entity_cmp (listed_for g (slice_set ds k new)) e ≡ true)
-new_extended (Ok x) g k ds d new e is lt at same more = new_add g k ds d new e is lt at same more
-new_extended (Err why) g k ds d new e is lt at same more = tt
+pub none_left : (base : Entity → List ℕ) (os : List OpenGuess) → AllAlmostExact base [] os → AllExact base os
+none_left base [] all = tt
+none_left base (o ∷ os) all = ((λ e. all.0.others e refl), none_left base os all.1)
 
--- and in a new list
-pub kept_push : (ds : List Dependents) (d : Dependents) → StayListed ds (ds ++ d ∷ [])
-kept_push [] d g q here = absurd (false≢true here)
-kept_push (x ∷ ds) d g q here =
-    elim (x.guess == g) as (λ b. is_in entity_cmp (cond b x.entities.items (listed_for g ds)) q ≡ true → is_in entity_cmp (cond b x.entities.items (listed_for g (ds ++ d ∷ []))) q ≡ true) [
-      | true ↦ λ h. h
-      | false ↦ λ h. kept_push ds d g q h
-    ] here
+-- ---- one of a list is gone over
+pub take_next : (es : List Entity) (i : ℕ) (d : Entity) → i < length es → d ≡ slice_index_or es i d → take (i + 1) es ≡ take i es ++ d ∷ []
+take_next es i d lt is = let next : i + 1 ≡ suc i = omega arith in ap (λ k. take k es) next ∙ by_place es i lt is where
+  by_place : (es : List Entity) (i : ℕ) → i < length es → d ≡ slice_index_or es i d → take (suc i) es ≡ take i es ++ d ∷ []
+  by_place [] i lt is = absurd (omega arith)
+  by_place (x ∷ es) zero lt is = ap (λ y. y ∷ []) (sym is)
+  by_place (x ∷ es) (suc i) lt is = ap (λ ys. x ∷ ys) (by_place es i (omega arith) is)
 
-pub new_push : (g k : ℕ) (ds : List Dependents) (d : Dependents) (e : Entity) → k ≡ prefix_len (is_other g) ds → length ds ≤ k → d.guess ≡ g → d.entities.items ≡ e ∷ [] → is_in entity_cmp (listed_for g (ds ++ d ∷ [])) e ≡ true
-new_push g k [] d e is le same more =
-    ap (λ b. is_in entity_cmp (cond b d.entities.items []) e) (eq-eqb d.guess g same) ∙ ap (λ es. is_in entity_cmp es e) more ∙ alone e
-new_push g k (x ∷ ds) d e is le same more =
-    elim (x.guess == g) as (λ b. k ≡ cond (not b) (1 + prefix_len (is_other g) ds) 0 → is_in entity_cmp (cond b x.entities.items (listed_for g (ds ++ d ∷ []))) e ≡ true) [
-      | true ↦ λ none. absurd (omega arith)
-      | false ↦ λ next. new_push g (prefix_len (is_other g) ds) ds d e refl (omega arith) same more
-    ] is
+pub take_all : (es : List Entity) (i : ℕ) → length es ≤ i → take i es ≡ es
+take_all [] zero le = refl
+take_all [] (suc i) le = refl
+take_all (x ∷ es) zero le = absurd (omega arith)
+take_all (x ∷ es) (suc i) le = ap (λ ys. x ∷ ys) (take_all es i (omega arith))
+
+pub drop_all : (es : List Entity) (i : ℕ) → length es ≤ i → drop i es ≡ []
+drop_all [] zero le = refl
+drop_all [] (suc i) le = refl
+drop_all (x ∷ es) zero le = absurd (omega arith)
+drop_all (x ∷ es) (suc i) le = drop_all es i (omega arith)
+
+pub in_front : (es : List Entity) (i : ℕ) (e : Entity) → is_in entity_cmp (take i es) e ≡ true → is_in entity_cmp es e ≡ true
+in_front [] zero e here = here
+in_front [] (suc i) e here = here
+in_front (x ∷ es) zero e here = absurd (false≢true here)
+in_front (x ∷ es) (suc i) e here =
+    elim (eq_by_cmp entity_cmp e x) as (λ b. (b || is_in entity_cmp (take i es) e) ≡ true → (b || is_in entity_cmp es e) ≡ true) [ true ↦ λ _. refl | false ↦ λ later. in_front es i e later ] here
+
+-- ---- a step
+last_more : (t : List ℕ) (ns : List (Note EntityState)) (n : Note EntityState) → last_tags t (ns ++ n ∷ []) ≡ n.tags
+last_more t [] n = refl
+last_more t (x ∷ ns) n = last_more x.tags ns n
+
+noted_last : (b : Bool) (tags : List ℕ) (v : Option EntityState) (log : List (Note EntityState)) → (b ≡ true → tags ≡ [] → log ≡ []) → last_tags [] (log ++ noted b tags v []) ≡ cond b tags (last_tags [] log)
+noted_last false tags v log clean = ap (last_tags []) (append-nil log)
+noted_last true [] v log clean = ap (last_tags []) (append-nil log ∙ clean refl refl)
+noted_last true (t ∷ tags) v log clean = last_more [] log (record { tags = t ∷ tags; before = v })
+
+-- what is written rests on what the step rests on
+pub tags_written : (m n : SlotMap) (tags : List ℕ) (ws : List (Entity × Option EntityState)) → IsClean m tags (entities_of ws) → Performed m tags ws n
+    → (e : Entity) → with_tags tags (entities_of ws) (tags_in m) e ≡ tags_in n e
+tags_written m n tags ws clean did e =
+    sym (noted_last (is_in entity_cmp (entities_of ws) e) tags (look_at m e) (log_at m e) (clean e))
+    ∙ same_last [] (log_at m e ++ noted (is_in entity_cmp (entities_of ws) e) tags (look_at m e) []) (log_at n e) (did.logs e)
+
+pub any_of : (tags : Entity → List ℕ) (g : ℕ) (es : List Entity) (e : Entity) → is_in entity_cmp es e ≡ true → has g (tags e) ≡ true → list_any (λ x. has g (tags x)) es ≡ true
+any_of tags g [] e here is = absurd (true≢false (sym here))
+any_of tags g (x ∷ es) e here is =
+    elim (eq_by_cmp entity_cmp e x) as (λ b. eq_by_cmp entity_cmp e x ≡ b → (b || is_in entity_cmp es e) ≡ true → (has g (tags x) || list_any (λ x. has g (tags x)) es) ≡ true) [
+      | true ↦ λ same _. or_left _ _ (ap (λ y. has g (tags y)) (sym (tied_is e x same)) ∙ is)
+      | false ↦ λ _ later. or_right _ _ (any_of tags g es e later is)
+    ] refl here
+
+-- ---- a guess
+pub exact_more : (tags : Entity → List ℕ) (os : List OpenGuess) (o : OpenGuess) → AllExact tags os → ((e : Entity) → is_in entity_cmp o.dependents e ≡ has o.id (tags e)) → AllExact tags (os ++ o ∷ [])
+exact_more tags [] o all own = (own, tt)
+exact_more tags (x ∷ os) o all own = (all.0, exact_more tags os o all.1 own)
+
+-- the list of a guess that was not there has what its step wrote
+pub begun : (g : ℕ) (tags : List ℕ) (es : List Entity) (base : Entity → List ℕ) → has g tags ≡ true → ((e : Entity) → has g (base e) ≡ false)
+    → (e : Entity) → is_in entity_cmp (with_entities [] es) e ≡ has g (with_tags tags es base e)
+begun g tags es base own fresh e =
+    with_all_in es [] e
+    ∙ elim (is_in entity_cmp es e) as (λ b. b ≡ has g (cond b tags (base e))) [ true ↦ sym own | false ↦ sym (fresh e) ]
 
 -- ---- notes that rest on a guess
-pub last_carries : (g : ℕ) (tags : List ℕ) (log : List (Note EntityState)) → has g (last_tags tags log) ≡ true → (has g tags || carries g log) ≡ true
-last_carries g tags [] here = or_left _ _ here
-last_carries g tags (n ∷ ns) here = or_right _ _ (last_carries g n.tags ns here)
-
 all_last : (g : ℕ) (tags : List ℕ) (ns : List (Note EntityState)) → list_all (λ n. has g n.tags) ns ≡ true → has g tags ≡ true → has g (last_tags tags ns) ≡ true
 all_last g tags [] all here = here
 all_last g tags (n ∷ ns) all here = let both = and_both _ _ all in all_last g n.tags ns both.1 both.0
@@ -179,110 +260,160 @@ rests_last g tags (n ∷ ns) all here =
       | false ↦ λ _ all later. rests_last g n.tags ns all later
     ] refl all here
 
--- ---- decisions
-has_left : (g c : ℕ) (tags : List ℕ) → has g (without c tags) ≡ true → has g tags ≡ true
-has_left g c tags here = (and_both (not (g == c)) (has g tags) (sym (has_filter (λ t. not (t == c)) g tags) ∙ here)).1
+-- each entity of which a note rests on an undecided guess is in its list
+pub listed : (g : ℕ) (m : SlotMap) (os : List OpenGuess) → AllExact (tags_in m) os → AllGrow m → has g (numbers (opens_of os)) ≡ true → AreListed g m (dependents_of g os)
+listed g m os all grows here e carry = exact_at (tags_in m) g os all here e ∙ rests_last g [] (log_at m e) (grows e g) carry
 
-before_cut : (g c : ℕ) (log : List (Note EntityState)) → carries g (cut c log) ≡ true → carries g log ≡ true
-before_cut g c [] here = here
-before_cut g c (n ∷ ns) here =
-    elim (has c n.tags) as (λ b. carries g (cond b [] (n ∷ cut c ns)) ≡ true → (has g n.tags || carries g ns) ≡ true) [
-      | true ↦ λ none. absurd (false≢true none)
-      | false ↦ λ some. elim (or_cases (has g n.tags) (carries g (cut c ns)) some) [ inl now ↦ or_left _ _ now | inr later ↦ or_right _ _ (before_cut g c ns later) ]
+-- ---- a commit
+without_other : (h g : ℕ) (tags : List ℕ) → (h == g) ≡ false → has h (without g tags) ≡ has h tags
+without_other h g tags apart = has_filter (λ t. not (t == g)) h tags ∙ ap (λ b. not b && has h tags) apart
+
+committed_more : (h g : ℕ) (t u w : List ℕ) (n : Note EntityState) (rest ns : List (Note EntityState)) → has h w ≡ has h n.tags → (has h t ≡ true → has h n.tags ≡ true) → has h u ≡ has h t
+    → ((v : List ℕ) → has h v ≡ has h n.tags → has h (last_tags v rest) ≡ has h (last_tags n.tags ns))
+    → has h (last_tags u (noted true w n.before rest)) ≡ has h (last_tags n.tags ns)
+committed_more h g t u [] n rest ns is grow same next =
+    next u (elim (has h t) as (λ b. has h t ≡ b → has h u ≡ has h n.tags) [
+      | true ↦ λ here. absurd (false≢true (is ∙ grow here))
+      | false ↦ λ none. same ∙ none ∙ is
+    ] refl)
+committed_more h g t u (x ∷ w) n rest ns is grow same next = next (x ∷ w) is
+
+committed_last : (h g : ℕ) → (h == g) ≡ false → (t u : List ℕ) (ns : List (Note EntityState)) → (has h t ≡ true → AllSeen h ns) → IsGrowing ns → has h u ≡ has h t → has h (last_tags u (committed g ns)) ≡ has h (last_tags t ns)
+committed_last h g apart t u [] all grows same = same
+committed_last h g apart t u (n ∷ ns) all grows same =
+    committed_more h g t u (without g n.tags) n (committed g ns) ns (without_other h g n.tags apart) (λ here. (and_both _ _ (all here)).0) same
+    (λ v is. committed_last h g apart n.tags v ns (λ here. grow_head n ns grows h here) (grow_tail n ns grows) is)
+
+pub committed_exact : (g : ℕ) (m n : SlotMap) → AllGrow m → Lightened m g n → (os : List OpenGuess) → AllExact (tags_in m) os → AllExact (tags_in n) (after_commit g os)
+committed_exact g m n grows did [] all = tt
+committed_exact g m n grows did (o ∷ os) all =
+    let rest = committed_exact g m n grows did os all.1 in
+    elim (o.id == g) as (λ b. (o.id == g) ≡ b → AllExact (tags_in n) (map (without_tag g) (cond (not b) (o ∷ but g os) (but g os)))) [
+      | true ↦ λ _. rest
+      | false ↦ λ apart. ((λ e.
+          all.0 e
+          ∙ sym (committed_last o.id g apart [] [] (log_at m e) (λ none. absurd (false≢true none)) (grows e) refl)
+          ∙ ap (has o.id) (same_last [] (committed g (log_at m e)) (log_at n e) (did.logs e))), rest)
+    ] refl
+
+-- ---- a failure
+last_seen : (h : ℕ) (t : List ℕ) (ns : List (Note EntityState)) → has h t ≡ true → AllSeen h ns → has h (last_tags t ns) ≡ true
+last_seen h t [] here all = here
+last_seen h t (n ∷ ns) here all = let both = and_both _ _ all in last_seen h n.tags ns both.0 both.1
+
+left_from : (g h : ℕ) (t : List ℕ) (ns : List (Note EntityState)) → (has h t ≡ true → AllSeen h ns) → IsGrowing ns → has h (last_tags t (cut g ns)) ≡ true → has h (last_tags t ns) ≡ true
+left_from g h t [] all grows here = here
+left_from g h t (n ∷ ns) all grows here =
+    elim (has g n.tags) as (λ b. has h (last_tags t (cond b [] (n ∷ cut g ns))) ≡ true → has h (last_tags t (n ∷ ns)) ≡ true) [
+      | true ↦ λ here. last_seen h t (n ∷ ns) here (all here)
+      | false ↦ λ here. left_from g h n.tags ns (grow_head n ns grows h) (grow_tail n ns grows) here
     ] here
 
-before_noted : (g c : ℕ) (n : Note EntityState) (rest ns : List (Note EntityState)) (left : List ℕ) → without c n.tags ≡ left → (carries g rest ≡ true → carries g ns ≡ true) → carries g (noted true left n.before rest) ≡ true → (has g n.tags || carries g ns) ≡ true
-before_noted g c n rest ns [] is back here = or_right _ _ (back here)
-before_noted g c n rest ns (t ∷ left) is back here =
-    elim (or_cases (has g (t ∷ left)) (carries g rest) here) [
-      | inl now ↦ or_left _ _ (has_left g c n.tags (ap (has g) is ∙ now))
-      | inr later ↦ or_right _ _ (back later)
+uncut : (g : ℕ) (log : List (Note EntityState)) → carries g log ≡ false → cut g log ≡ log
+uncut g [] none = refl
+uncut g (n ∷ ns) none =
+    elim (has g n.tags) as (λ b. (b || carries g ns) ≡ false → cond b [] (n ∷ cut g ns) ≡ n ∷ ns) [
+      | true ↦ λ some. absurd (true≢false some)
+      | false ↦ λ none. ap (λ xs. n ∷ xs) (uncut g ns none)
+    ] none
+
+all_kept : {X : Type 0} (P : X → Type 0) (p : X → Bool) (xs : List X) → AllByRecursion P xs → AllByRecursion P (filter p xs)
+all_kept P p [] all = tt
+all_kept P p (x ∷ xs) all =
+    elim (p x) as (λ b. AllByRecursion P (cond b (x ∷ filter p xs) (filter p xs))) [ true ↦ (all.0, all_kept P p xs all.1) | false ↦ all_kept P p xs all.1 ]
+
+module _ (g : ℕ) (m n : SlotMap) (grows : AllGrow m) (did : Unwound m g n) where
+  still_among : (h : ℕ) (e : Entity) → has h (tags_in n e) ≡ true → has h (tags_in m e) ≡ true
+  still_among h e here = left_from g h [] (log_at m e) (λ none. absurd (false≢true none)) (grows e) (ap (λ log. has h (last_tags [] log)) (sym (did.logs e)) ∙ here)
+
+  untouched : (e : Entity) → has g (tags_in m e) ≡ false → tags_in m e ≡ tags_in n e
+  untouched e none =
+      ap (last_tags []) (sym (did.logs e ∙ uncut g (log_at m e) (elim (carries g (log_at m e)) as (λ b. carries g (log_at m e) ≡ b → b ≡ false) [
+        | true ↦ λ here. sym (rests_last g [] (log_at m e) (grows e g) here) ∙ none
+        | false ↦ λ _. refl
+      ] refl)))
+
+  almost_all : (es : List Entity) → ((e : Entity) → is_in entity_cmp es e ≡ has g (tags_in m e)) → (os : List OpenGuess) → AllExact (tags_in m) os → AllAlmostExact (tags_in n) es os
+  almost_all es just [] all = tt
+  almost_all es just (o ∷ os) all = (
+    record {
+      kept = λ e here. all.0 e ∙ still_among o.id e here;
+      others = λ e none. all.0 e ∙ ap (has o.id) (untouched e (sym (just e) ∙ none));
+    },
+    almost_all es just os all.1,
+  )
+
+  -- what the failed guess's list has is taken out of the lists of those that stay undecided
+  pub failed_almost : (os : List OpenGuess) → AllExact (tags_in m) os → has g (numbers (opens_of os)) ≡ true → AllAlmostExact (tags_in n) (dependents_of g os) (not_resting g (but g os))
+  failed_almost os all here =
+      let es = dependents_of g os in
+      all_kept (IsAlmostExact (tags_in n) es) (λ o. not (has g o.tags)) (but g os)
+      (all_kept (IsAlmostExact (tags_in n) es) (λ o. not (o.id == g)) os (almost_all es (exact_at (tags_in m) g os all here) os all))
+
+-- ---- the undecided guesses, as the machine has them
+pub commit_opens : (g : ℕ) (os : List OpenGuess) → opens_of (after_commit g os) ≡ still_open g (opens_of os)
+commit_opens g [] = refl
+commit_opens g (o ∷ os) =
+    elim (o.id == g) as (λ b. opens_of (map (without_tag g) (cond (not b) (o ∷ but g os) (but g os))) ≡ map (λ (p : Open). (p.0, without g p.1)) (cond (not b) ((o.id, o.tags) ∷ filter (λ (p : Open). not (p.0 == g)) (opens_of os)) (filter (λ (p : Open). not (p.0 == g)) (opens_of os)))) [
+      | true ↦ commit_opens g os
+      | false ↦ ap (λ xs. (o.id, without g o.tags) ∷ xs) (commit_opens g os)
     ]
 
-before_commit : (g c : ℕ) (log : List (Note EntityState)) → carries g (committed c log) ≡ true → carries g log ≡ true
-before_commit g c [] here = here
-before_commit g c (n ∷ ns) here = before_noted g c n (committed c ns) ns (without c n.tags) refl (before_commit g c ns) here
+-- one more than a rising list is not in it
+pub fresh : (xs : List ℕ) (y : ℕ) → IsStrictlySortedBy nat_cmp (xs ++ y ∷ []) → has y xs ≡ false
+unfolding IsStrictlySortedBy
+fresh [] y rises = refl
+fresh (x ∷ xs) y rises =
+    let less = above x (xs ++ y ∷ []) y rises.0 (list_any-append (λ t. t == y) xs (y ∷ []) ∙ or_right _ _ (or_left _ _ (eq-eqb y y refl))) in
+    elim (x == y) as (λ b. (x == y) ≡ b → (b || has y xs) ≡ false) [
+      | true ↦ λ is. let same = eqb-true x y is in absurd (omega arith)
+      | false ↦ λ _. fresh xs y rises.1
+    ] refl
 
--- what a log from which notes are left out rests on, the whole log rests on
-pub before_merged : (g : ℕ) (t : List ℕ) (ns ms : List (Note EntityState)) → Merges t ns ms → carries g ms ≡ true → carries g ns ≡ true
-before_merged g t [] [] h here = here
-before_merged g t [] (m ∷ ms) h here = absurd h
-before_merged g t (n ∷ ns) [] h here = absurd (false≢true here)
-before_merged g t (n ∷ ns) (m ∷ ms) (inl h) here = or_right _ _ (before_merged g t ns (m ∷ ms) h.1 here)
-before_merged g t (n ∷ ns) (m ∷ ms) (inr h) here =
-    elim (or_cases (has g m.tags) (carries g ms) here) [
-      | inl now ↦ or_left _ _ (ap (λ (x : Note EntityState). has g x.tags) (sym h.0) ∙ now)
-      | inr later ↦ or_right _ _ (before_merged g n.tags ns ms h.1 later)
-    ]
+-- ---- what a step adds
+pub depends_opens : (own tags : List ℕ) (x : Entity) (os new : List OpenGuess) → Depends own tags x os new → opens_of new ≡ opens_of os
+depends_opens own tags x os new (inl same) = ap opens_of same.1
+depends_opens own tags x os new (inr more) = ap opens_of more ∙ same_opens (depending tags x) (depending_keeps tags x) os
 
-pub unwound_listed : (c : ℕ) (m n : SlotMap) (ds : List Dependents) → AllListed m ds → Unwound m c n → AllListed n ds
-unwound_listed c m n ds all did g e here = all g e (before_cut g c (log_at m e) (sym (ap (carries g) (did.logs e)) ∙ here))
+pub depends_exact : (tags : List ℕ) (es : List Entity) (x : Entity) (base : Entity → List ℕ) (own : List ℕ) → own ≡ base x → ((g : ℕ) → has g (base x) ≡ true → has g tags ≡ true)
+    → (os new : List OpenGuess) → Depends own tags x os new → AllExact (with_tags tags es base) os → AllExact (with_tags tags (es ++ x ∷ []) base) new
+depends_exact tags es x base own is covers os new (inl same) all =
+    subst (AllExact (with_tags tags (es ++ x ∷ []) base)) (sym same.1) (depend_none tags es x base covers (λ g here. ap (has g) (sym is) ∙ same.0 g here) os all)
+depends_exact tags es x base own is covers os new (inr more) all = subst (AllExact (with_tags tags (es ++ x ∷ []) base)) (sym more) (depend_more tags es x base covers os all)
 
-pub committed_listed : (c : ℕ) (m n : SlotMap) (ds : List Dependents) → AllListed m ds → Lightened m c n → AllListed n ds
-committed_listed c m n ds all did g e here = all g e (before_commit g c (log_at m e) (before_merged g [] (committed c (log_at m e)) (log_at n e) (did.logs e) here))
+pub in_place : (es : List Entity) (i : ℕ) (x : Entity) → i < length es → x ≡ slice_index_or es i x → is_in entity_cmp es x ≡ true
+in_place [] i x lt is = absurd (omega arith)
+in_place (y ∷ es) zero x lt is = or_left _ _ (ap (λ z. eq_by_cmp entity_cmp x z) (sym is) ∙ (eq_by_cmp_equiv entity_total).refl x)
+in_place (y ∷ es) (suc i) x lt is = or_right _ _ (in_place es i x (omega arith) is)
 
-pub unwound_grows : (c : ℕ) (m n : SlotMap) → AllGrow m → Unwound m c n → AllGrow n
-unwound_grows c m n grows did e = subst IsGrowing (sym (did.logs e)) (grow_cut c (log_at m e) (grows e))
+-- ---- a step that was performed, and one that was not
+pub unperformed : (m n : SlotMap) (tags : List ℕ) (es : List Entity) → n ≡ m → Covers tags es (tags_in m) → (os : List OpenGuess) → AllExact (with_tags tags es (tags_in m)) os → AllAlmostExact (tags_in n) es os
+unperformed m n tags es same covers os all =
+    subst (λ k. AllAlmostExact (tags_in k) es os) (sym same) (almost_of tags es es (tags_in m) covers (λ e here. here) os all)
 
-pub committed_grows : (c : ℕ) (m n : SlotMap) → AllGrow m → Lightened m c n → AllGrow n
-committed_grows c m n grows did e = λ g. grow_in g [] (committed c (log_at m e)) (log_at n e) refl (did.logs e) (grow_commit c (log_at m e) (grows e) g)
+pub performed_exact : (m n : SlotMap) (tags : List ℕ) (es : List Entity) (ws : List (Entity × Option EntityState)) → es ≡ entities_of ws → IsClean m tags (entities_of ws) → Performed m tags ws n
+    → (os : List OpenGuess) → AllExact (with_tags tags es (tags_in m)) os → AllExact (tags_in n) os
+performed_exact m n tags es ws is clean did os all =
+    exact_as (with_tags tags (entities_of ws) (tags_in m)) (tags_in n) (tags_written m n tags ws clean did) os
+    (subst (λ xs. AllExact (with_tags tags xs (tags_in m)) os) is all)
 
--- a pass that leaves in each list from the decided guess on what rests on its guess, and drops empty lists
-some_in : (es : List Entity) (e : Entity) → is_in entity_cmp es e ≡ true → not (is_empty es) ≡ true
-some_in [] e here = absurd (false≢true here)
-some_in (x ∷ es) e here = refl
+pub guessed_exact : (m n : SlotMap) (tags : List ℕ) (es : List Entity) (ws : List (Entity × Option EntityState)) (o : OpenGuess) → es ≡ entities_of ws → IsClean m tags (entities_of ws) → Performed m tags ws n
+    → o.dependents ≡ with_entities [] es → has o.id tags ≡ true → ((e : Entity) → has o.id (tags_in m e) ≡ false)
+    → (os : List OpenGuess) → AllExact (with_tags tags es (tags_in m)) os → AllExact (tags_in n) (os ++ o ∷ [])
+guessed_exact m n tags es ws o is clean did begins own none os all =
+    exact_more (tags_in n) os o (performed_exact m n tags es ws is clean did os all)
+    (λ e.
+    ap (λ xs. is_in entity_cmp xs e) begins ∙ begun o.id tags es (tags_in m) own none e
+    ∙ ap (λ xs. has o.id (with_tags tags xs (tags_in m) e)) is ∙ ap (has o.id) (tags_written m n tags ws clean did e))
 
-left_in_turn : {S : Type 0} (R : S → Dependents → Bool → S → Dependents → Type 0) (m : SlotMap) (s : S)
-    → ((x : Dependents) (b : Bool) (t : S) (y : Dependents) → R s x b t y → (y.guess ≡ x.guess) × StayResting m x.guess x.entities.items y.entities.items × (b ≡ not (is_empty y.entities.items)) × (t ≡ s))
-    → (xs ys : List Dependents) → RetainsInTurn R s xs ys → (g : ℕ) (e : Entity) → is_in entity_cmp (listed_for g xs) e ≡ true → has g (last_tags [] (log_at m e)) ≡ true → is_in entity_cmp (listed_for g ys) e ≡ true
-left_in_turn R m s h [] ys told g e here rests = absurd (false≢true here)
-left_in_turn R m s h (x ∷ xs) ys (b, t, y, step, zs, later, is) g e here rests =
-    let says = h x b t y step in
-    let rest : is_in entity_cmp (listed_for g xs) e ≡ true → is_in entity_cmp (listed_for g zs) e ≡ true = λ there. left_in_turn R m s h xs zs (subst (λ u. RetainsInTurn R u xs zs) says.3 later) g e there rests in
-    subst (λ (ds : List Dependents). is_in entity_cmp (listed_for g ds) e ≡ true) (sym is)
-    (elim (x.guess == g) as (λ k. (x.guess == g) ≡ k → is_in entity_cmp (cond k x.entities.items (listed_for g xs)) e ≡ true → is_in entity_cmp (listed_for g (cond b (y ∷ zs) zs)) e ≡ true) [
-      | true ↦ λ own there.
-          let number : x.guess ≡ g = eqb-true x.guess g own in
-          let stays = says.1 e there (subst (λ n. has n (last_tags [] (log_at m e)) ≡ true) (sym number) rests) in
-          let keeps : b ≡ true = says.2 ∙ some_in y.entities.items e stays in
-          let first : (y.guess == g) ≡ true = eq-eqb y.guess g (says.0 ∙ number) in
-          ap (λ c. is_in entity_cmp (listed_for g (cond c (y ∷ zs) zs)) e) keeps ∙ ap (λ c. is_in entity_cmp (cond c y.entities.items (listed_for g zs)) e) first ∙ stays
-      | false ↦ λ other there.
-          let first : (y.guess == g) ≡ false = ap (λ n. n == g) says.0 ∙ other in
-          elim b as (λ c. is_in entity_cmp (listed_for g (cond c (y ∷ zs) zs)) e ≡ true) [
-            | true ↦ ap (λ c. is_in entity_cmp (cond c y.entities.items (listed_for g zs)) e) first ∙ rest there
-            | false ↦ rest there
-          ]
-    ] refl here)
+pub more_opens : (os : List OpenGuess) (o : OpenGuess) → opens_of (os ++ o ∷ []) ≡ opens_of os ++ (o.id, o.tags) ∷ []
+more_opens [] o = refl
+more_opens (x ∷ os) o = ap (λ xs. (x.id, x.tags) ∷ xs) (more_opens os o)
 
-pub forgotten : {S : Type 0} (R : S → Dependents → Bool → S → Dependents → Type 0) (m : SlotMap) (s : S)
-    → ((x : Dependents) (b : Bool) (t : S) (y : Dependents) → R s x b t y → (y.guess ≡ x.guess) × StayResting m x.guess x.entities.items y.entities.items × (b ≡ not (is_empty y.entities.items)) × (t ≡ s))
-    → (xs ys : List Dependents) → RetainsInTurn R s xs ys → AllListed m xs → AllGrow m → AllListed m ys
-forgotten R m s h xs ys told all grows g e here = left_in_turn R m s h xs ys told g e (all g e here) (rests_last g [] (log_at m e) (grows e g) here)
-
--- ---- writes
-of_noted : (g : ℕ) (v : Bool) (tags : List ℕ) (now : Option EntityState) → carries g (noted v tags now []) ≡ true → (v ≡ true) × (has g tags ≡ true)
-of_noted g false tags now here = absurd (false≢true here)
-of_noted g true [] now here = absurd (false≢true here)
-of_noted g true (t ∷ tags) now here = (refl, elim (or_cases (has g (t ∷ tags)) false here) [ inl is ↦ is | inr none ↦ absurd (false≢true none) ])
-
--- what these tags name has each of these listed
-abbrev pub AreListedFor : List ℕ → List Dependents → List Entity → Type 0
-AreListedFor tags ds es = (g : ℕ) (e : Entity) → has g tags ≡ true → is_in entity_cmp es e ≡ true → is_in entity_cmp (listed_for g ds) e ≡ true
-
-pub still_listed : (m : SlotMap) (old ds : List Dependents) → AllListed m old → StayListed old ds → AllListed m ds
-still_listed m old ds all kept g e here = kept g e (all g e here)
-
-pub performed_listed : (m n : SlotMap) (tags : List ℕ) (ws : List (Entity × Option EntityState)) (old ds : List Dependents) → AllListed m old → StayListed old ds → AreListedFor tags ds (entities_of ws) → Performed m tags ws n → AllListed n ds
-performed_listed m n tags ws old ds all kept writes did g e here =
-    let v = is_in entity_cmp (entities_of ws) e in
-    elim (or_cases (carries g (log_at m e)) (carries g (noted v tags (look_at m e) [])) (sym (list_any-append (λ k. has g k.tags) (log_at m e) (noted v tags (look_at m e) [])) ∙ before_merged g [] (log_at m e ++ noted v tags (look_at m e) []) (log_at n e) (did.logs e) here)) [
-      | inl before ↦ kept g e (all g e before)
-      | inr now ↦ let both = of_noted g v tags (look_at m e) now in writes g e both.1 both.0
-    ]
-
--- what was performed or refused
-pub either_listed : {A F : Type 0} (r : Result A F) (m n : SlotMap) (tags : List ℕ) (ws : List (Entity × Option EntityState)) (old ds : List Dependents) → AllListed m old → StayListed old ds → AreListedFor tags ds (entities_of ws)
-    → OnOk r (Performed m tags ws n) → OnErr r (n ≡ m) → AllListed n ds
-either_listed (Ok x) m n tags ws old ds all kept writes did same = performed_listed m n tags ws old ds all kept writes did
-either_listed (Err why) m n tags ws old ds all kept writes did same = subst (λ k. AllListed k ds) (sym same) (still_listed m old ds all kept)
+-- nothing rests on a guess that is not open
+pub not_known : (m : Parts) → IsTidy (undo_state_of m) → (g : ℕ) → has g (numbers m.opens) ≡ false → (e : Entity) → has g (tags_in m.slots e) ≡ false
+not_known m tidy g closed e =
+    elim (has g (tags_in m.slots e)) as (λ b. has g (tags_in m.slots e) ≡ b → b ≡ false) [
+      | true ↦ λ here. sym (tidy.known e g here) ∙ closed
+      | false ↦ λ _. refl
+    ] refl

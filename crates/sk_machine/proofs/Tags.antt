@@ -52,3 +52,13 @@ module _ (m : Parts) (n : EntryView) (plan : PlanView) where
   tags_are tags tidy opens_rise rises members =
       union_is_tags (undo_state_of m) (planned_effect m n plan) tidy tags opens_rise rises
       (λ g. members g ∙ or_assoc (is_marked n.guess g) (any_rests m g (read_by n.pid n.input plan.looks)) (any_rests m g (written_by n.pid plan.beside)) ∙ ap (λ b. is_marked n.guess g || b) (sym (touched_is g)))
+
+-- ---- what they have
+pub own_among : (a b c : Bool) → a ≡ true → ((a || b) || c) ≡ true
+own_among true b c is = refl
+own_among false b c is = absurd (true≢false (sym is))
+
+pub last_among : (a b c : Bool) → c ≡ true → ((a || b) || c) ≡ true
+last_among true b c is = refl
+last_among false true c is = refl
+last_among false false c is = is

@@ -1,26 +1,37 @@
--- The entities that are listed as resting on each guess.
-use Rattle.std.specs.Prelude.{◌≡◌, ◌==◌, ℕ, true, List, [], ◌∷◌, if◌then◌else◌}
+-- Lists of the entities that rest on each undecided guess.
+use Rattle.std.specs.Prelude.{◌≡◌, ◌⊎◌, ℕ, true, false, List, [], map, if◌then◌else◌}
+use Rattle.std.specs.List.{AllByRecursion}
 use Rattle.sk_record.specs.Effects.{is_in}
 use Rattle.sk_record.specs.Notes.{has, last_tags}
 use Rattle.sk_ids.specs.Entity.{entity_cmp}
 use Rattle.sk_ids.specs.declared.entity.Entity.{Entity}
+use Rattle.sk_guesses.specs.Opens.{OpenGuess, depending}
 use Rattle.sk_undo.specs.Logs.{SlotMap, log_at}
-use Rattle.sk_undo.specs.Decisions.{AreListed}
-use Rattle.sk_machine.specs.declared.dependents.Dependents.{Dependents}
 
--- the first list of a guess
-abbrev pub listed_for : ℕ → List Dependents → List Entity
-listed_for g [] = []
-listed_for g (d ∷ ds) = if d.guess == g then d.entities.items else listed_for g ds
+-- the guesses that an entity rests on
+abbrev pub tags_in : SlotMap → Entity → List ℕ
+tags_in m e = last_tags [] (log_at m e)
 
--- each entity of which a note rests on a guess is listed for it
-abbrev pub AllListed : SlotMap → List Dependents → Type 0
-AllListed m ds = (g : ℕ) → AreListed g m (listed_for g ds)
+-- the same, where these entities rest on these guesses
+abbrev pub with_tags : List ℕ → List Entity → (Entity → List ℕ) → Entity → List ℕ
+with_tags tags es before e = if is_in entity_cmp es e then tags else before e
 
--- what was listed is listed still
-abbrev pub StayListed : List Dependents → List Dependents → Type 0
-StayListed old new = (g : ℕ) (e : Entity) → is_in entity_cmp (listed_for g old) e ≡ true → is_in entity_cmp (listed_for g new) e ≡ true
+-- each list has just the entities that rest on its guess
+abbrev pub AllExact : (Entity → List ℕ) → List OpenGuess → Type 0
+AllExact tags os = AllByRecursion (λ o. (e : Entity) → is_in entity_cmp o.dependents e ≡ has o.id (tags e)) os
 
--- what was listed and rests on the guess is listed still
-abbrev pub StayResting : SlotMap → ℕ → List Entity → List Entity → Type 0
-StayResting m g old new = (e : Entity) → is_in entity_cmp old e ≡ true → has g (last_tags [] (log_at m e)) ≡ true → is_in entity_cmp new e ≡ true
+-- it has them, and no others but some of these
+pub record IsAlmostExact (tags : Entity → List ℕ) (es : List Entity) (o : OpenGuess) : Type 0 where
+  pub kept : (e : Entity) → has o.id (tags e) ≡ true → is_in entity_cmp o.dependents e ≡ true
+  pub others : (e : Entity) → is_in entity_cmp es e ≡ false → is_in entity_cmp o.dependents e ≡ has o.id (tags e)
+
+abbrev pub AllAlmostExact : (Entity → List ℕ) → List Entity → List OpenGuess → Type 0
+AllAlmostExact tags es os = AllByRecursion (IsAlmostExact tags es) os
+
+-- these entities rest on none but these guesses
+abbrev pub Covers : List ℕ → List Entity → (Entity → List ℕ) → Type 0
+Covers tags es before = (e : Entity) (g : ℕ) → is_in entity_cmp es e ≡ true → has g (before e) ≡ true → has g tags ≡ true
+
+-- an entity is added to the lists of these guesses, where it does not rest on all of them already
+abbrev pub Depends : List ℕ → List ℕ → Entity → List OpenGuess → List OpenGuess → Type 0
+Depends own tags e old new = (((g : ℕ) → has g tags ≡ true → has g own ≡ true) × (new ≡ old)) ⊎ (new ≡ map (depending tags e) old)

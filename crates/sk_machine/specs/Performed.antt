@@ -1,12 +1,8 @@
--- What the writes of a step leave, and the failure of a guess of the open ones.
-use Rattle.std.specs.Prelude.{◌≡◌, ℕ, Bool, true, false, not, ◌&&◌, ◌==◌, List, [], ◌∷◌, ◌++◌, map, Option, Some, None, if◌then◌else◌}
-use Rattle.std.specs.List.{list_any}
+-- What the writes of a step leave.
+use Rattle.std.specs.Prelude.{◌≡◌, ℕ, true, false, List, [], ◌∷◌, ◌++◌, map, Option}
 use Rattle.sk_record.specs.Effects.{is_in, written_value}
-use Rattle.sk_record.specs.Notes.{has, noted}
+use Rattle.sk_record.specs.Notes.{noted}
 use Rattle.sk_record.specs.Merged.{Merges}
-use Rattle.sk_record.specs.UndoState.{Open}
-use Rattle.sk_record.specs.declared.status.Status.{Status}
-use Rattle.sk_record.specs.declared.status.Status.TheVariants.{Struck}
 use Rattle.sk_ids.specs.Entity.{entity_cmp}
 use Rattle.sk_ids.specs.declared.entity.Entity.{Entity}
 use Rattle.sk_store.specs.declared.entity_state.EntityState.{EntityState}
@@ -28,11 +24,3 @@ IsClean m tags es = (e : Entity) → is_in entity_cmp es e ≡ true → tags ≡
 pub record Performed (old : SlotMap) (tags : List ℕ) (ws : List (Entity × Option EntityState)) (new : SlotMap) : Type 0 where
   pub look : (q : Entity) → look_at new q ≡ written_value entity_cmp ws q (look_at old q)
   pub logs : (q : Entity) → Merges [] (log_at old q ++ noted (is_in entity_cmp (entities_of ws) q) tags (look_at old q) []) (log_at new q)
-
--- whether the failure of g strikes an open guess: its own step rests on g, and it is another
-abbrev pub is_struck : ℕ → Open → Bool
-is_struck g o = not (o.0 == g) && has g o.1
-
--- the statuses where these are struck that the failure of g strikes
-abbrev pub with_struck : ℕ → List Open → (ℕ → Option Status) → ℕ → Option Status
-with_struck g os status h = if list_any (λ o. (o.0 == h) && is_struck g o) os then Some Struck else status h

@@ -4,12 +4,13 @@ ghost use Rattle.std.specs.List.Sorted.{IsStrictlySortedBy};
 ghost use Rattle.std.specs.Ordering.{nat_cmp};
 ghost use Rattle.sk_record.specs.UndoState.{IsTidy, numbers};
 ghost use Rattle.sk_ids.specs.declared.entity.Entity.TheVariants.{Proc};
+ghost use Rattle.sk_machine.specs.Dependents.{Covers, tags_in};
 ghost use Rattle.sk_machine.specs.HandsIn.{AreAlone, SetsProcess, HandsInProcess};
 ghost use Rattle.sk_machine.specs.Parts.{undo_state_of};
 ghost use Rattle.sk_machine.specs.Performed.{IsClean};
 
 use crate::Machine;
-use crate::dependents::list_all;
+use crate::lists::{depend_all, relieve_all};
 use sk_ids::{Entity, Pid, TagSet};
 use sk_script::Process;
 use sk_store::{EntityState, Keeper};
@@ -39,7 +40,8 @@ impl Machine {
     fn alone_tags(&self, pid: Pid) -> Result<TagSet, AllocError>
         requires tidy { IsTidy (undo_state_of self.now) }
         requires rising { IsStrictlySortedBy nat_cmp (numbers self.now.opens) }
-        ensures { IfOk result (AreAlone self.now pid) }
+        ensures alone { IfOk result (AreAlone self.now pid) }
+        ensures covers { IfOk result (λ tags. Covers tags (Proc pid ∷ []) (tags_in self.now.slots)) }
     {
         let touched = [Entity::Proc(pid), Entity::Sig(pid)];
         self.add_tags(TagSet::new(self.alloc), touched.as_slice())
@@ -56,13 +58,18 @@ impl Machine {
     {
         let tags = self.alone_tags(pid)?;
         let own = Entity::Proc(pid);
-        list_all(
-            self.alloc,
-            &mut self.dependents,
+        let entities = slice::from_ref(&own);
+        depend_all(
+            &mut self.guesses,
             &self.logs,
+            &self.untagged,
             &tags,
-            slice::from_ref(&own),
+            entities,
         )?;
-        set_process(&mut self.logs, tags, pid, process)
+        if set_process(&mut self.logs, tags, pid, process).is_err() {
+            relieve_all(&mut self.guesses, &self.logs, &self.untagged, entities);
+            return Err(AllocError);
+        }
+        Ok(())
     }
 }

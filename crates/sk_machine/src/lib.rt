@@ -1,11 +1,10 @@
 //! What a kernel keeps beside its trace, and what each event makes of it in place: what entities have
-//! with their undo logs, the open guesses, the status of each guess, and the texts of the terminals.
+//! with their undo logs, the status of each guess, what rests on each undecided one, and the texts of the
+//! terminals.
 #![tactic(auto)]
 
-mod dependents;
 pub mod hand_in;
+mod lists;
 pub mod machine;
-pub mod open;
 
 pub use machine::Machine;
-pub use open::Open;

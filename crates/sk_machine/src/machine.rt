@@ -1,15 +1,15 @@
 //! Values in place with their undo logs, the open guesses, statuses and texts.
-ghost use Rattle.std.specs.Prelude.{◌≡◌, ◌++◌, ◌||◌, ◌&&◌, ◌==◌, if◌then◌else◌, ℕ, length, get_or, true, false, is_some, IfOk, OnOk, OnErr, Ok, Some, None};
+ghost use Rattle.std.specs.Prelude.{◌≡◌, [], ◌++◌, ◌||◌, ◌&&◌, ◌==◌, if◌then◌else◌, ℕ, length, get_or, true, false, is_some, IfOk, OnOk, OnErr, Ok, Some, None};
 ghost use Rattle.std.specs.List.Sorted.{IsStrictlySortedBy};
 ghost use Rattle.std.specs.Ordering.{nat_cmp};
 ghost use Rattle.sk_record.specs.Notes.{has};
 ghost use Rattle.sk_record.specs.Step.{perform};
 ghost use Rattle.sk_record.specs.Trace.{marks};
 ghost use Rattle.sk_record.specs.Effects.{is_in, is_marked};
-ghost use Rattle.sk_record.specs.UndoState.{IsTidy, numbers, step_tags, still_open, not_struck, tags_at};
-ghost use Rattle.sk_record.specs.Machine.{Fails, with_failure};
+ghost use Rattle.sk_record.specs.UndoState.{IsTidy, numbers, step_tags, tags_at};
+ghost use Rattle.sk_record.specs.Machine.{Fails};
 ghost use Rattle.sk_record.specs.Merged.{MergedTakes, MergedCommits};
-ghost use Rattle.sk_record.specs.declared.status.Status.TheVariants.{Undecided, Committed, Struck};
+ghost use Rattle.sk_record.specs.declared.status.Status.TheVariants.{Undecided, Committed};
 ghost use Rattle.std.specs.Option.{option_copied};
 ghost use Rattle.std.specs.FinMap as map;
 ghost use Rattle.sk_guesses.specs.Calls.{redeemed};
@@ -23,12 +23,13 @@ ghost use Rattle.sk_store.specs.Start.{start_of};
 ghost use Rattle.sk_undo.specs.Logs.{look_at};
 ghost use Rattle.sk_plain.specs.Act.{act, plain};
 ghost use Rattle.sk_plain.specs.Planned.{IsBeside, effect_of, said_by, texts_after, writes_of};
-ghost use Rattle.sk_plain.specs.Seen.{CanPerform, seen_with};
+ghost use Rattle.sk_plain.specs.Seen.{CanPerform, seen_with, written_in};
 ghost use Rattle.sk_machine.specs.Parts.{any_rests, machine_of, planned_effect, undo_state_of};
-ghost use Rattle.sk_machine.specs.Performed.{entities_of, AreApart, IsClean, Performed, is_struck, with_struck};
+ghost use Rattle.sk_guesses.specs.Room.{HasRoom};
+ghost use Rattle.sk_machine.specs.Dependents.{Covers, tags_in};
+ghost use Rattle.sk_machine.specs.Performed.{entities_of, AreApart, IsClean, Performed};
 
-use crate::Open;
-use crate::dependents::{Dependents, forget, list_all, listed_for};
+use crate::lists::{depend_all, relieve_all, tags_of};
 use sk_guesses::{Guess, Guesses, Redeemed, Status};
 use sk_ids::{Entity, GuessId, Pid, TagSet};
 use sk_plain::{Plan, perform_plan};
@@ -44,25 +45,24 @@ use std::marker::Model;
 pub struct Machine {
     pub(crate) alloc: Global,
     pub(crate) logs: Logs,
-    pub(crate) dependents: Vec<Dependents>,
-    opens: Vec<Open>,
-    guesses: Guesses,
+    pub(crate) guesses: Guesses,
     terminals: Terminals,
-    untagged: TagSet,
+    pub(crate) untagged: TagSet,
 }
 
 impl Model for Machine {
     ghost use Rattle.std.specs.Prelude.{◌≡◌, []};
-    ghost use Rattle.sk_machine.specs.Dependents.{AllListed};
+    ghost use Rattle.sk_guesses.specs.Opens.{opens_of};
+    ghost use Rattle.sk_machine.specs.Dependents.{AllExact, tags_in};
     ghost use Rattle.sk_machine.specs.Parts.{Parts, parts_code};
 
     ghost Value = { Parts };
 
     ghost coded = { parts_code };
 
-    ghost view = { λ m. record { slots = m.logs.slots; opens = m.opens.items; guesses = m.guesses.view; texts = m.terminals } };
+    ghost view = { λ m. record { slots = m.logs.slots; opens = opens_of m.guesses.opens; guesses = m.guesses.view; texts = m.terminals } };
 
-    ghost invariant = { λ m. AllListed m.logs.slots m.dependents.items × (m.untagged ≡ []) };
+    ghost invariant = { λ m. AllExact (tags_in m.logs.slots) m.guesses.opens × (m.untagged ≡ []) };
 }
 
 impl Look for Machine {
@@ -98,59 +98,32 @@ fn perform(
     perform_plan(logs, terminals, scripts, pid, input, plan)
 }
 
-/// Takes a guess out of the open ones, and out of what the others rest on.
-fn close(opens: &mut Vec<Open>, id: GuessId)
-    ensures { opens.new.items ≡ still_open id opens.old.items }
+/// Makes room for the next guess and so many dependents of it, and performs its plan. Without memory
+/// nothing has changed.
+fn perform_guess(
+    guesses: &mut Guesses,
+    logs: &mut Logs,
+    terminals: &mut Terminals,
+    scripts: &Scripts,
+    pid: Pid,
+    input: &Input,
+    plan: &Plan,
+    tags: TagSet,
+    count: usize,
+) -> Result<(), AllocError>
+    requires can { CanPerform (look_at logs.old.slots) scripts.now pid input.now plan.now }
+    requires apart { AreApart (entities_of (writes_of (look_at logs.old.slots) pid (seen_with (look_at logs.old.slots) scripts.now pid input.now plan.now))) }
+    requires clean { IsClean logs.old.slots tags (entities_of (writes_of (look_at logs.old.slots) pid (seen_with (look_at logs.old.slots) scripts.now pid input.now plan.now))) }
+    ensures view { guesses.new.view ≡ guesses.old.view }
+    ensures opens { guesses.new.opens ≡ guesses.old.opens }
+    ensures room { OnOk result (HasRoom guesses.new count) }
+    ensures writes { OnOk result (Performed logs.old.slots tags (writes_of (look_at logs.old.slots) pid (seen_with (look_at logs.old.slots) scripts.now pid input.now plan.now)) logs.new.slots) }
+    ensures says { OnOk result (terminals.new ≡ texts_after terminals.old tags (said_by (seen_with (look_at logs.old.slots) scripts.now pid input.now plan.now))) }
+    ensures unwritten { OnErr result (logs.new.slots ≡ logs.old.slots) }
+    ensures unsaid { OnErr result (terminals.new ≡ terminals.old) }
 {
-    opens.retain_mut(|open: &mut Open| {
-        open.tags.without(id);
-        open.id != id
-    });
-}
-
-/// Takes the guesses out of the open ones whose own steps rest on a failed one.
-fn close_struck(opens: &mut Vec<Open>, id: GuessId)
-    ensures { opens.new.items ≡ not_struck id opens.old.items }
-{
-    opens.retain(|open: &Open| !open.tags.contains(id));
-}
-
-/// Strikes an open guess, if its own step rests on a failed one and it is another.
-fn strike_one(guesses: &mut Guesses, one: &Open, id: GuessId)
-    requires { is_struck id one.now ≡ true → status_of guesses.old.view one.now.0 ≡ Some Undecided }
-    ensures statuses { (g : ℕ) → status_of guesses.new.view g ≡ (if (one.now.0 == g) && is_struck id one.now then Some Struck else status_of guesses.old.view g) }
-    ensures kernel { guesses.new.view.kernel ≡ guesses.old.view.kernel }
-    ensures drawn { length guesses.new.view.statuses ≡ length guesses.old.view.statuses }
-{
-    if one.id != id && one.tags.contains(id) {
-        guesses.strike(one.id);
-    }
-}
-
-/// Strikes the open guesses whose own steps rest on a failed one, but for that one.
-fn strike_open(guesses: &mut Guesses, opens: &[Open], id: GuessId)
-    requires opens { (g : ℕ) → has g (numbers opens.now) ≡ true → (g == id) ≡ false → status_of guesses.old.view g ≡ Some Undecided }
-    requires rising { IsStrictlySortedBy nat_cmp (numbers opens.now) }
-    ensures statuses { (g : ℕ) → status_of guesses.new.view g ≡ with_struck id opens.now (status_of guesses.old.view) g }
-    ensures kernel { guesses.new.view.kernel ≡ guesses.old.view.kernel }
-    ensures drawn { length guesses.new.view.statuses ≡ length guesses.old.view.statuses }
-{
-    for open in opens {
-        strike_one(guesses, open, id);
-    }
-}
-
-/// A guess has failed, and the open guesses whose own steps rest on it are struck.
-fn strike_all(guesses: &mut Guesses, opens: &[Open], id: GuessId)
-    requires opens { (g : ℕ) → has g (numbers opens.now) ≡ true → status_of guesses.old.view g ≡ Some Undecided }
-    requires undecided { status_of guesses.old.view id ≡ Some Undecided }
-    requires rising { IsStrictlySortedBy nat_cmp (numbers opens.now) }
-    ensures statuses { (g : ℕ) → status_of guesses.new.view g ≡ with_failure id opens.now (status_of guesses.old.view) g }
-    ensures kernel { guesses.new.view.kernel ≡ guesses.old.view.kernel }
-    ensures drawn { length guesses.new.view.statuses ≡ length guesses.old.view.statuses }
-{
-    guesses.fail(id);
-    strike_open(guesses, opens, id);
+    guesses.reserve(count)?;
+    perform(logs, terminals, scripts, pid, input, plan, tags)
 }
 
 fn is_none(tags: &TagSet) -> bool
@@ -181,8 +154,6 @@ impl Machine {
         Ok(Machine {
             alloc,
             logs: Logs::open(store)?,
-            dependents: Vec::new(alloc),
-            opens: Vec::new(alloc),
             guesses: Guesses::new(alloc, number),
             terminals: Terminals::new(alloc),
             untagged: TagSet::new(alloc),
@@ -225,7 +196,9 @@ impl Machine {
     ) -> Result<TagSet, AllocError>
         requires tidy { IsTidy (undo_state_of self.now) }
         requires rising { IsStrictlySortedBy nat_cmp (numbers self.now.opens ++ marks own.now) }
-        ensures { IfOk result (λ tags. tags ≡ step_tags (undo_state_of self.now) (planned_effect self.now (record { pid = pid; input = input.now; guess = own.now }) (seen_with (look_at self.now.slots) scripts.now pid input.now plan.now))) }
+        ensures exact { IfOk result (λ tags. tags ≡ step_tags (undo_state_of self.now) (planned_effect self.now (record { pid = pid; input = input.now; guess = own.now }) (seen_with (look_at self.now.slots) scripts.now pid input.now plan.now))) }
+        ensures own { IfOk result (λ tags. (g : ℕ) → is_marked own.now g ≡ true → has g tags ≡ true) }
+        ensures covers { IfOk result (λ tags. Covers tags (written_in pid plan.now) (tags_in self.now.slots)) }
     {
         let own = self.own_tags(own);
         let read = self.add_tags(own, plan.reads(pid, input).as_slice())?;
@@ -251,14 +224,15 @@ impl Machine {
     {
         let tags = self.step_tags(scripts, pid, input, plan, &None)?;
         let written = plan.writes(pid);
-        list_all(
-            self.alloc,
-            &mut self.dependents,
+        let entities = written.as_slice();
+        depend_all(
+            &mut self.guesses,
             &self.logs,
+            &self.untagged,
             &tags,
-            written.as_slice(),
+            entities,
         )?;
-        perform(
+        if perform(
             &mut self.logs,
             &mut self.terminals,
             scripts,
@@ -267,6 +241,12 @@ impl Machine {
             plan,
             tags,
         )
+        .is_err()
+        {
+            relieve_all(&mut self.guesses, &self.logs, &self.untagged, entities);
+            return Err(AllocError);
+        }
+        Ok(())
     }
 
     /// Draws the next guess and takes its planned step. Without memory nothing has changed.
@@ -292,18 +272,18 @@ impl Machine {
             unreachable!();
         };
         let tags = self.step_tags(scripts, pid, input, plan, &Some(id))?;
-        let written = plan.writes(pid);
-        list_all(
-            self.alloc,
-            &mut self.dependents,
-            &self.logs,
-            &tags,
-            written.as_slice(),
-        )?;
         let own_tags = tags.copy()?;
-        self.opens.reserve(1)?;
-        self.guesses.reserve()?;
-        perform(
+        let written = plan.writes(pid);
+        let entities = written.as_slice();
+        depend_all(
+            &mut self.guesses,
+            &self.logs,
+            &self.untagged,
+            &tags,
+            entities,
+        )?;
+        let performed = perform_guess(
+            &mut self.guesses,
             &mut self.logs,
             &mut self.terminals,
             scripts,
@@ -311,11 +291,15 @@ impl Machine {
             input,
             plan,
             tags,
-        )?;
-        let Ok(guess) = self.guesses.draw() else {
+            entities.len(),
+        );
+        if performed.is_err() {
+            relieve_all(&mut self.guesses, &self.logs, &self.untagged, entities);
+            return Err(AllocError);
+        }
+        let Ok(guess) = self.guesses.draw(own_tags, entities) else {
             unreachable!();
         };
-        self.opens.push_reserved(Open { id, tags: own_tags });
         Ok(guess)
     }
 
@@ -327,9 +311,7 @@ impl Machine {
         ensures commits { MergedCommits (machine_of self.old) id (machine_of self.new) }
         ensures guesses { self.new.guesses ≡ decided self.old.guesses id Committed }
     {
-        self.logs.commit(id, listed_for(&self.dependents, id));
-        forget(&mut self.dependents, &self.logs, id);
-        close(&mut self.opens, id);
+        self.logs.commit(id, self.guesses.dependents(id));
         self.guesses.commit(id);
         self.terminals.commit(id);
     }
@@ -338,17 +320,21 @@ impl Machine {
     /// steps do are struck. This takes no memory.
     pub fn fail(&mut self, id: GuessId)
         requires grow { AllGrow self.old.slots }
-        requires opens { (g : ℕ) → has g (numbers self.old.opens) ≡ true → status_of self.old.guesses g ≡ Some Undecided }
         requires undecided { status_of self.old.guesses id ≡ Some Undecided }
-        requires rising { IsStrictlySortedBy nat_cmp (numbers self.old.opens) }
         ensures fails { Fails (machine_of self.old) id (machine_of self.new) }
         ensures kernel { self.new.guesses.kernel ≡ self.old.guesses.kernel }
         ensures drawn { length self.new.guesses.statuses ≡ length self.old.guesses.statuses }
     {
-        self.logs.unwind(id, listed_for(&self.dependents, id));
-        forget(&mut self.dependents, &self.logs, id);
-        strike_all(&mut self.guesses, &self.opens, id);
-        close_struck(&mut self.opens, id);
+        self.logs.unwind(id, self.guesses.dependents(id));
+        let freed = self.guesses.take_dependents(id);
+        self.guesses.fail(id);
+        self.guesses.strike_resting(id);
+        relieve_all(
+            &mut self.guesses,
+            &self.logs,
+            &self.untagged,
+            freed.as_slice(),
+        );
         self.terminals.drop_of(id);
     }
 
@@ -364,10 +350,16 @@ impl Machine {
     pub fn tags_of(&self, entity: &Entity) -> &TagSet
         ensures { result.now ≡ tags_at (undo_state_of self.now) entity.now }
     {
-        match self.logs.tags(*entity) {
-            Some(tags) => tags,
-            None => &self.untagged,
-        }
+        tags_of(&self.logs, &self.untagged, entity)
+    }
+
+    /// The entities that rest on a guess, by rising order; none where it is not undecided.
+    pub fn dependents(&self, id: GuessId) -> &[Entity]
+        ensures rising { IsStrictlySortedBy entity_cmp result.now }
+        ensures exact { has id (numbers self.now.opens) ≡ true → (e : Entity) → is_in entity_cmp result.now e ≡ has id (tags_at (undo_state_of self.now) e) }
+        ensures none { has id (numbers self.now.opens) ≡ false → result.now ≡ [] }
+    {
+        self.guesses.dependents(id)
     }
 
     /// What became of a guess; `None` where it was never drawn.
@@ -395,15 +387,15 @@ impl Machine {
     pub fn open_count(&self) -> usize
         ensures { result ≡ length self.now.opens }
     {
-        self.opens.len()
+        self.guesses.undecided()
     }
 
     /// The number of the oldest open guess, or of the next one where none is open.
     pub fn settled(&self) -> u64
         ensures { result ≡ get_or (numbers self.now.opens) 0 (next_of self.now.guesses) }
     {
-        match self.opens.first() {
-            Some(open) => open.id.number(),
+        match self.guesses.oldest() {
+            Some(id) => id.number(),
             None => self.guesses.next(),
         }
     }

@@ -1,29 +1,35 @@
--- The drawn guess is under its new key: from the lemmas on the list and on the slab.
-use Rattle.std.proofs.Common.{◌≡◌, ◌+◌, ◌≤◌, [], ◌∷◌, ◌++◌, length, length-append, arith, ap, ◌∙◌}
-use Rattle.std.proofs.lemmas.List.{length-map}
-use Rattle.std.specs.Prelude.{map}
-use Rattle.slab.specs.Slab.{slab_len}
+-- One undecided guess more.
+use Rattle.std.proofs.Common.{◌≡◌, ◌+◌, ◌≤◌, ◌∙◌, [], ◌∷◌, ◌++◌, true, length, length-append, map, refl, ap, sym, subst, arith}
+use Rattle.std.proofs.lemmas.List.{length-map, map-append}
+use Rattle.sk_record.specs.Notes.{has}
+use Rattle.sk_record.specs.declared.status.Status.TheVariants.{Undecided}
 use Rattle.sk_ids.specs.declared.guess.TheConstants.{LAST_GUESS}
 use Rattle.sk_guesses.specs.declared.guesses.TheConstants.{GUESS_LIMIT}
-use Rattle.sk_guesses.specs.Guesses.{GuessesView, next_of, undecided_of}
-use Rattle.sk_guesses.specs.Drawn.{shown}
-use Rattle.sk_guesses.specs.declared.guesses.Drawn.TheVariants as drawn
-use Rattle.sk_guesses.proofs.Open.{holds-draw, not_full, undecided-draw}
+use Rattle.sk_guesses.specs.Guesses.{GuessesView, drawn, is_full, next_of, undecided_of}
+use Rattle.sk_guesses.specs.Opens.{AreOpen, OpenGuess}
+use Rattle.sk_guesses.specs.EntitySet.{SetView}
+use Rattle.sk_guesses.specs.Room.{Listing, Roomy}
+use Rattle.sk_guesses.proofs.Opens.{guess_of, counted, not_full, open_more}
 use Rattle.sk_guesses.proofs.guesses.Guesses.draw.Goals as goal
 
 pub invariant_of-self : goal.invariant_of-self
 invariant_of-self c =
-    let all = c.self.inside.all.items in
-    let key = c.insert_reserved-key.result in
-    let s = c.insert_reserved-key.new.self in
-    let same : record { kernel = c.self.inside.kernel; statuses = map shown all } ≡ c.args.self.now.view = ap (λ g. g.view) c.self.view_is ∙ c.reserve.ensures.view in
+    let v : GuessesView = record { kernel = c.self.inside.kernel; statuses = c.self.inside.statuses.items } in
+    let ls = c.self.inside.opens.items in
+    let os = map guess_of ls in
+    let l : Listing = c.new-2.result in
+    let same : v ≡ c.args.self.now.view = ap (λ (g : Roomy). g.view) c.self.view_is ∙ c.reserve.ensures.view in
     let free = not_full c.args.self.now.view c.in-Some.ensures.some in
-    let number : c.in-Some.id ≡ length all + 1 = omega (arith, c.in-Some.ensures.value, ap next_of same, length-map all shown) in
-    let count : slab_len s ≡ undecided_of (map shown (all ++ drawn.Open key ∷ [])) = omega (arith, undecided-draw all key, c.insert_reserved-key.ensures.len, c.self.invariant.0.0) in
-    let few : slab_len s ≤ GUESS_LIMIT = omega (arith, free.0, c.insert_reserved-key.ensures.len, c.self.invariant.0.0, ap (λ (v : GuessesView). undecided_of v.statuses) same) in
-    let numbered : length all + 1 ≤ LAST_GUESS = omega (arith, free.1, ap next_of same, length-map all shown) in
-    rw c.push_reserved.ensures.items (
-      (count, holds-draw all c.self.inside.undecided s key c.in-Some.id c.self.invariant.0.1 c.insert_reserved-key.ensures.was_vacant c.insert_reserved-key.ensures.updates number),
-      few,
-      rw length-append numbered,
+    let next : c.in-Some.id ≡ next_of v = c.in-Some.ensures.value ∙ ap next_of (sym same) in
+    let number : l.guess.id ≡ next_of v = ap (λ (x : Listing). x.guess.id) c.new-2.ensures ∙ next in
+    let own : has l.guess.id l.guess.tags ≡ true =
+    ap (λ (x : Listing). has x.guess.id x.guess.tags) c.new-2.ensures ∙ ap (λ n. has n c.args.tags) c.in-Some.ensures.value ∙ c.requires free.2 in
+    let more : map guess_of c.push_reserved.new.self.items ≡ os ++ l.guess ∷ [] = ap (map guess_of) c.push_reserved.ensures.items ∙ rw map-append refl in
+    let few : length ls + 1 ≤ GUESS_LIMIT = omega (arith, free.0, counted v os c.self.invariant.0, length-map ls guess_of, ap (λ (w : GuessesView). undecided_of w.statuses) same) in
+    let numbered : length c.self.inside.statuses.items + 1 ≤ LAST_GUESS = omega (arith, free.1, ap next_of same) in (
+      subst (λ ss. AreOpen (record v { statuses = ss }) (map guess_of c.push_reserved.new.self.items)) (sym c.push_reserved-2.ensures.items)
+          (subst (AreOpen (drawn v)) (sym more) (open_more v os l.guess c.self.invariant.0 number own)),
+      rw c.push_reserved.ensures.items (rw length-append few),
+      rw c.push_reserved-2.ensures.items (rw length-append numbered),
+      ap (λ (s : SetView). s.entities) c.replace-dependents.ensures.after ∙ c.new.ensures,
     )

@@ -2,7 +2,7 @@
 use Rattle.std.proofs.Common.{Ok, [], refl, sym, ◌∙◌, ap}
 use Rattle.sk_trace.specs.declared.event.Event.TheVariants as events
 use Rattle.sk_kernel.specs.contracts.kernel.Kernel.{the_view}
-use Rattle.sk_kernel.proofs.Whole.{grows, open_undecided, opens_rise}
+use Rattle.sk_kernel.proofs.Whole.{grows}
 use Rattle.sk_kernel.proofs.Tokens.{token_undecided, stranger_back, nothing_left, decided_by, kept_place, failed_whole}
 use Rattle.sk_kernel.proofs.Opened.{still_opened}
 use Rattle.sk_kernel.proofs.kernel.Kernel.fail_speculation.Goals as goal
@@ -11,12 +11,6 @@ pub returns-in-Err : goal.returns-in-Err
 returns-in-Err c =
     let told = stranger_back (the_view c.self.inside) c.self.inside.machine c.self.inside.trace.room c.self.invariant.0 c.args.guess c.args.self.now c.self.view_is c.in-Err.guess (sym c.redeem.ensures ∙ c.in-Err.is) in
     (told.0, told.1, refl)
-
-pub fail-requires-clause-opens : goal.fail-requires-clause-opens
-fail-requires-clause-opens c = λ g. (open_undecided (the_view c.self.inside) c.self.inside.machine c.self.invariant.0.stands g).0
-
-pub fail-requires-clause-rising : goal.fail-requires-clause-rising
-fail-requires-clause-rising c = opens_rise (the_view c.self.inside) c.self.inside.machine c.self.invariant.0.stands
 
 pub fail-requires-clause-grow : goal.fail-requires-clause-grow
 fail-requires-clause-grow c = grows (the_view c.self.inside) c.self.inside.machine c.self.invariant.0.stands

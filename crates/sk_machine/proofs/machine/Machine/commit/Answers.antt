@@ -1,27 +1,43 @@
--- A commit of each part is the machine's.
-use Rattle.std.proofs.Common.{◌≡◌, Some, ap, ◌∙◌, subst, sym}
+-- A commit of each part is the machine's, and the lists stay exact.
+use Rattle.std.proofs.Common.{◌≡◌, List, Some, ap, ◌∙◌, subst, sym}
 use Rattle.sk_record.specs.Merged.{MergedCommits}
 use Rattle.sk_record.specs.declared.status.Status.TheVariants.{Undecided, Committed}
+use Rattle.sk_ids.specs.declared.entity.Entity.{Entity}
 use Rattle.sk_guesses.specs.Guesses.{status_of}
+use Rattle.sk_guesses.specs.Opens.{opens_of}
 use Rattle.sk_guesses.proofs.Statuses.{status-decided}
+use Rattle.sk_machine.specs.Dependents.{AllExact, tags_in}
 use Rattle.sk_machine.specs.Parts.{Parts, machine_of}
-use Rattle.sk_machine.proofs.Listed.{committed_listed, committed_grows}
-use Rattle.sk_undo.specs.Decisions.{AllGrow}
+use Rattle.sk_machine.proofs.Listed.{commit_opens, committed_exact, listed}
+use Rattle.sk_undo.specs.Decisions.{AllGrow, AreListed}
 use Rattle.sk_machine.proofs.Becomes.{commits_of}
 use Rattle.sk_machine.proofs.machine.Machine.commit.Goals as goal
 
+pub commit-requires-clause-listed : goal.commit-requires-clause-listed
+commit-requires-clause-listed c =
+    let m = c.self.inside.logs.slots in
+    let os = c.self.inside.guesses.opens in
+    let undecided : status_of c.self.inside.guesses.view c.args.id ≡ Some Undecided = ap (λ (p : Parts). status_of p.guesses c.args.id) c.self.view_is ∙ c.requires.undecided in
+    let grows = subst (λ (p : Parts). AllGrow p.slots) (sym c.self.view_is) c.requires.grow in
+    subst (λ (es : List Entity). AreListed c.args.id m es) (sym c.dependents.ensures.value) (listed c.args.id m os c.self.invariant.0 grows (c.dependents.ensures.known undecided))
+
+pub invariant_of-self : goal.invariant_of-self
+invariant_of-self c =
+    let m = c.self.inside.logs.slots in
+    let n = c.commit.new.self.slots in
+    let os = c.self.inside.guesses.opens in
+    let undecided : status_of c.self.inside.guesses.view c.args.id ≡ Some Undecided = ap (λ (p : Parts). status_of p.guesses c.args.id) c.self.view_is ∙ c.requires.undecided in
+    let grows = subst (λ (p : Parts). AllGrow p.slots) (sym c.self.view_is) c.requires.grow in
+    (subst (AllExact (tags_in n)) (sym (c.commit-2.ensures.undecided undecided).opens) (committed_exact c.args.id m n grows c.commit.ensures.slots os c.self.invariant.0), c.self.invariant.1)
+
 pub returns-clause-commits : goal.returns-clause-commits
 returns-clause-commits c =
-    let a : Parts = record { slots = c.self.inside.logs.slots; opens = c.self.inside.opens.items; guesses = c.self.inside.guesses.view; texts = c.self.inside.terminals } in
-    let b : Parts = record { slots = c.commit.new.self.slots; opens = c.close.new.opens.items; guesses = c.commit-2.new.self.view; texts = c.commit-3.new.self } in
+    let os = c.self.inside.guesses.opens in
+    let a : Parts = record { slots = c.self.inside.logs.slots; opens = opens_of os; guesses = c.self.inside.guesses.view; texts = c.self.inside.terminals } in
+    let b : Parts = record { slots = c.commit.new.self.slots; opens = opens_of c.commit-2.new.self.opens; guesses = c.commit-2.new.self.view; texts = c.commit-3.new.self } in
     let undecided : status_of a.guesses c.args.id ≡ Some Undecided = ap (λ (p : Parts). status_of p.guesses c.args.id) c.self.view_is ∙ c.requires.undecided in
+    let decided = c.commit-2.ensures.undecided undecided in
     subst (λ (p : Parts). MergedCommits (machine_of p) c.args.id (machine_of b)) c.self.view_is
-    (commits_of a b c.args.id c.commit.ensures.slots c.close.ensures
-    (λ h. ap (λ g. status_of g h) (c.commit-2.ensures.undecided undecided) ∙ status-decided a.guesses c.args.id Undecided Committed undecided h)
+    (commits_of a b c.args.id c.commit.ensures.slots (ap opens_of decided.opens ∙ commit_opens c.args.id os)
+    (λ h. ap (λ g. status_of g h) decided.view ∙ status-decided a.guesses c.args.id Undecided Committed undecided h)
     c.commit-3.ensures.texts)
-
-pub forget-requires-clause-listed : goal.forget-requires-clause-listed
-forget-requires-clause-listed c = committed_listed c.args.id c.self.inside.logs.slots c.commit.new.self.slots c.self.inside.dependents.items c.self.invariant.0 c.commit.ensures.slots
-
-pub forget-requires-clause-grow : goal.forget-requires-clause-grow
-forget-requires-clause-grow c = committed_grows c.args.id c.self.inside.logs.slots c.commit.new.self.slots (subst (λ (p : Parts). AllGrow p.slots) (sym c.self.view_is) c.requires.grow) c.commit.ensures.slots

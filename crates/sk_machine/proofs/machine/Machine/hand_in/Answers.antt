@@ -1,34 +1,66 @@
 -- What is written is listed for the guesses that it rests on, and is what is handed in.
-use Rattle.std.proofs.Common.{◌≡◌, [], ◌∷◌, List, Some, refl, sym, subst}
+use Rattle.std.proofs.Common.{◌≡◌, [], ◌∷◌, ◌∙◌, List, Some, refl, sym, subst}
 use Rattle.std.specs.FinMap as map
 use Rattle.sk_ids.specs.declared.entity.Entity.{Entity}
 use Rattle.sk_ids.specs.declared.entity.Entity.TheVariants.{Proc}
+use Rattle.sk_guesses.specs.Opens.{opens_of}
 use Rattle.sk_store.specs.declared.entity_state.EntityState.TheVariants as stored
+use Rattle.sk_machine.specs.Dependents.{Covers, tags_in}
 use Rattle.sk_machine.specs.HandsIn.{AreAlone, HandsInProcess}
 use Rattle.sk_machine.specs.Parts.{Parts}
-use Rattle.sk_machine.specs.Performed.{IsClean}
-use Rattle.sk_machine.proofs.Given.{on_ok}
-use Rattle.sk_machine.proofs.Listed.{AreListedFor, either_listed}
+use Rattle.sk_machine.specs.Performed.{IsClean, entities_of}
+use Rattle.sk_machine.proofs.Given.{for_err, from_ok, from_err}
+use Rattle.sk_machine.proofs.Becomes.{same_parts}
+use Rattle.sk_machine.proofs.Listed.{performed_exact, unperformed}
 use Rattle.sk_machine.proofs.Alone.{clean_alone, hands_in}
 use Rattle.sk_machine.proofs.machine.Machine.hand_in.Goals as goal
+
+pub depend_all-requires-clause-covers : goal.depend_all-requires-clause-covers
+depend_all-requires-clause-covers c =
+    subst (λ (es : List Entity). Covers c.in_ok-tags.tags es (tags_in c.self.inside.logs.slots)) (sym c.from_ref-entities.ensures.value)
+    (subst (λ (m : Parts). Covers c.in_ok-tags.tags (Proc c.args.pid ∷ []) (tags_in m.slots)) (sym c.self.view_is) c.in_ok-tags.ensures.covers)
 
 pub set_process-requires : goal.set_process-requires
 set_process-requires c =
     subst (λ (m : Parts). IsClean m.slots c.in_ok-tags.tags (Proc c.args.pid ∷ [])) (sym c.self.view_is)
-    (clean_alone c.args.self.now c.args.pid map.empty c.in_ok-tags.tags c.requires.tidy (c.in_ok-tags.ensures map.empty))
+    (clean_alone c.args.self.now c.args.pid map.empty c.in_ok-tags.tags c.requires.tidy (c.in_ok-tags.ensures.alone map.empty))
 
-pub invariant_of-self-2 : goal.invariant_of-self-2
-invariant_of-self-2 c =
+pub relieve_all-requires-clause-almost : goal.relieve_all-requires-clause-almost
+relieve_all-requires-clause-almost c =
+    let m = c.self.inside.logs.slots in
+    let covers = subst (λ (es : List Entity). Covers c.in_ok-tags.tags es (tags_in m)) (sym c.from_ref-entities.ensures.value)
+    (subst (λ (p : Parts). Covers c.in_ok-tags.tags (Proc c.args.pid ∷ []) (tags_in p.slots)) (sym c.self.view_is) c.in_ok-tags.ensures.covers) in
+    unperformed m c.set_process.new.logs.slots c.in_ok-tags.tags c.from_ref-entities.result.now (from_err c.set_process.result c.if-is_err.ensures.value c.set_process.ensures.err) covers c.depend_all.new.guesses.opens c.in_ok-depend_all.ensures.ok
+
+pub invariant_of-self-else-is_err : goal.invariant_of-self-else-is_err
+invariant_of-self-else-is_err c =
     let m = c.self.inside.logs.slots in
     let ws = (Proc c.args.pid, Some (stored.Process c.args.process.now)) ∷ [] in
-    let listed = subst (λ (es : List Entity). AreListedFor c.in_ok-tags.tags c.list_all.new.lists.items es) c.from_ref.ensures.value c.in_ok-list_all.ensures.listed in
-    (either_listed c.set_process.result m c.set_process.new.logs.slots c.in_ok-tags.tags ws c.self.inside.dependents.items c.list_all.new.lists.items c.self.invariant.0 c.list_all.ensures.kept listed c.set_process.ensures.ok c.set_process.ensures.err, c.self.invariant.1)
+    let written : c.from_ref-entities.result.now ≡ entities_of ws = c.from_ref-entities.ensures.value in
+    let clean = subst (λ (p : Parts). IsClean p.slots c.in_ok-tags.tags (Proc c.args.pid ∷ [])) (sym c.self.view_is)
+    (clean_alone c.args.self.now c.args.pid map.empty c.in_ok-tags.tags c.requires.tidy (c.in_ok-tags.ensures.alone map.empty)) in
+    let did = from_ok c.set_process.result c.if-is_err.ensures.value c.set_process.ensures.ok in
+    (performed_exact m c.set_process.new.logs.slots c.in_ok-tags.tags c.from_ref-entities.result.now ws written clean did c.depend_all.new.guesses.opens c.in_ok-depend_all.ensures.ok, c.self.invariant.1)
+
+pub returns-in_err-depend_all-clause-err : goal.returns-in_err-depend_all-clause-err
+returns-in_err-depend_all-clause-err c =
+    let old : Parts = record { slots = c.self.inside.logs.slots; opens = opens_of c.self.inside.guesses.opens; guesses = c.self.inside.guesses.view; texts = c.self.inside.terminals } in
+    let new : Parts = record { slots = c.self.inside.logs.slots; opens = opens_of c.depend_all.new.guesses.opens; guesses = c.depend_all.new.guesses.view; texts = c.self.inside.terminals } in
+    for_err c.from_residual-in_err-depend_all.result (same_parts new old refl c.depend_all.ensures.opens c.depend_all.ensures.view refl ∙ c.self.view_is)
+
+pub returns-then-is_err-clause-err : goal.returns-then-is_err-clause-err
+returns-then-is_err-clause-err c =
+    let opens = c.relieve_all.ensures.opens ∙ c.depend_all.ensures.opens in
+    let guesses = c.relieve_all.ensures.view ∙ c.depend_all.ensures.view in
+    let slots = from_err c.set_process.result c.if-is_err.ensures.value c.set_process.ensures.err in
+    let old : Parts = record { slots = c.self.inside.logs.slots; opens = opens_of c.self.inside.guesses.opens; guesses = c.self.inside.guesses.view; texts = c.self.inside.terminals } in
+    let new : Parts = record { slots = c.set_process.new.logs.slots; opens = opens_of c.relieve_all.new.guesses.opens; guesses = c.relieve_all.new.guesses.view; texts = c.self.inside.terminals } in
+    same_parts new old slots opens guesses refl ∙ c.self.view_is
 
 pub returns-clause-ok : goal.returns-clause-ok
 returns-clause-ok c =
-    let a : Parts = record { slots = c.self.inside.logs.slots; opens = c.self.inside.opens.items; guesses = c.self.inside.guesses.view; texts = c.self.inside.terminals } in
-    let b : Parts = record { slots = c.set_process.new.logs.slots; opens = c.self.inside.opens.items; guesses = c.self.inside.guesses.view; texts = c.self.inside.terminals } in
-    let tags : AreAlone a c.args.pid c.in_ok-tags.tags = subst (λ (p : Parts). AreAlone p c.args.pid c.in_ok-tags.tags) (sym c.self.view_is) c.in_ok-tags.ensures in
-    on_ok c.set_process.result c.set_process.ensures.ok c.set_process.ensures.ok (λ did _.
+    let a : Parts = record { slots = c.self.inside.logs.slots; opens = opens_of c.self.inside.guesses.opens; guesses = c.self.inside.guesses.view; texts = c.self.inside.terminals } in
+    let b : Parts = record { slots = c.set_process.new.logs.slots; opens = opens_of c.depend_all.new.guesses.opens; guesses = c.depend_all.new.guesses.view; texts = c.self.inside.terminals } in
+    let tags : AreAlone a c.args.pid c.in_ok-tags.tags = subst (λ (p : Parts). AreAlone p c.args.pid c.in_ok-tags.tags) (sym c.self.view_is) c.in_ok-tags.ensures.alone in
     subst (λ (p : Parts). HandsInProcess p c.args.pid c.args.process.now b) c.self.view_is
-    (λ scripts. hands_in scripts a b c.args.pid c.args.process.now c.in_ok-tags.tags (tags scripts) did refl refl refl))
+    (λ scripts. hands_in scripts a b c.args.pid c.args.process.now c.in_ok-tags.tags (tags scripts) (from_ok c.set_process.result c.if-is_err.ensures.value c.set_process.ensures.ok) c.depend_all.ensures.opens c.depend_all.ensures.view refl)

@@ -1,16 +1,19 @@
 -- The tags of what is read and of what is written, with the step's own, are the step's tags.
 use Rattle.std.proofs.Common.{◌||◌, sym, ◌∙◌}
-use Rattle.sk_trace.specs.Entry.{EntryView}
-use Rattle.sk_undo.specs.Logs.{look_at}
-use Rattle.sk_plain.specs.Seen.{seen_with}
+use Rattle.sk_record.specs.Notes.{has}
+use Rattle.sk_plain.specs.Seen.{seen_with, written_in}
 use Rattle.sk_plain.proofs.Plans.{written_is}
+use Rattle.sk_undo.specs.Logs.{look_at}
+use Rattle.sk_trace.specs.Entry.{EntryView}
+use Rattle.sk_machine.specs.Dependents.{tags_in}
 use Rattle.sk_machine.specs.Parts.{any_rests}
 use Rattle.sk_machine.proofs.Given.{if_ok}
-use Rattle.sk_machine.proofs.Tags.{tags_are}
+use Rattle.sk_machine.proofs.Listed.{any_of}
+use Rattle.sk_machine.proofs.Tags.{tags_are, own_among, last_among}
 use Rattle.sk_machine.proofs.machine.Machine.step_tags.Goals as goal
 
-pub returns : goal.returns
-returns c =
+pub returns-clause-exact : goal.returns-clause-exact
+returns-clause-exact c =
     let m = c.args.self.now in
     let n : EntryView = record { pid = c.args.pid; input = c.args.input.now; guess = c.args.own.now } in
     let scripts = c.args.scripts.now in
@@ -20,3 +23,18 @@ returns c =
     if_ok c.add_tags-2.result c.add_tags-2.ensures.members c.add_tags-2.ensures.rising (λ tags members rising.
     tags_are m n plan tags c.requires.tidy c.requires.rising rising
     (λ g. members g ∙ (λ i. ((c.in_ok-read.ensures.members g ∙ (λ j. c.own_tags-own.ensures g j || any_rests m g (read j))) i) || any_rests m g (written i))))
+
+pub returns-clause-own : goal.returns-clause-own
+returns-clause-own c =
+    let m = c.args.self.now in
+    if_ok c.add_tags-2.result c.add_tags-2.ensures.members c.add_tags-2.ensures.rising (λ tags members rising. λ g is.
+    members g ∙ (λ i. (c.in_ok-read.ensures.members g i) || any_rests m g c.as_slice-2.result.now)
+    ∙ own_among (has g c.own_tags-own.result) (any_rests m g c.as_slice.result.now) (any_rests m g c.as_slice-2.result.now) (c.own_tags-own.ensures g ∙ is))
+
+pub returns-clause-covers : goal.returns-clause-covers
+returns-clause-covers c =
+    let m = c.args.self.now in
+    let written = c.as_slice-2.ensures.value ∙ c.writes.ensures in
+    if_ok c.add_tags-2.result c.add_tags-2.ensures.members c.add_tags-2.ensures.rising (λ tags members rising. λ e g there rests.
+    members g ∙ (λ i. (c.in_ok-read.ensures.members g i) || any_rests m g (written i))
+    ∙ last_among (has g c.own_tags-own.result) (any_rests m g c.as_slice.result.now) (any_rests m g (written_in c.args.pid c.args.plan.now)) (any_of (tags_in m.slots) g (written_in c.args.pid c.args.plan.now) e there rests))

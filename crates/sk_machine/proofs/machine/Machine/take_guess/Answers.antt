@@ -1,34 +1,90 @@
 -- What was performed, with the guess that was drawn, is what the machine takes.
-use Rattle.std.proofs.Common.{◌≡◌, [], ◌∷◌, ◌++◌, List, Some, Ok, ap, ◌∙◌, subst, sym}
+use Rattle.std.proofs.Common.{◌≡◌, false, true, [], ◌∷◌, ◌++◌, List, Some, Ok, ap, refl, ◌∙◌, subst, sym}
+use Rattle.std.proofs.lemmas.Bool.{eq-eqb}
+use Rattle.sk_record.specs.Notes.{has}
 use Rattle.sk_record.specs.Step.{perform}
-use Rattle.sk_record.specs.UndoState.{step_tags}
+use Rattle.sk_record.specs.UndoState.{numbers, step_tags}
 use Rattle.sk_record.specs.Merged.{MergedTakes}
+use Rattle.sk_guesses.specs.EntitySet.{with_entities}
 use Rattle.sk_guesses.specs.Guesses.{drawn, next_of}
+use Rattle.sk_guesses.specs.Opens.{OpenGuess, opens_of}
 use Rattle.sk_ids.specs.declared.entity.Entity.{Entity}
 use Rattle.sk_trace.specs.Entry.{EntryView}
 use Rattle.sk_undo.specs.Logs.{look_at}
 use Rattle.sk_plain.specs.Act.{act, plain}
-use Rattle.sk_plain.specs.Planned.{effect_of, said_by, texts_after, writes_of}
-use Rattle.sk_plain.specs.Seen.{seen_with}
+use Rattle.sk_plain.specs.Planned.{effect_of, writes_of}
+use Rattle.sk_plain.specs.Seen.{seen_with, written_in}
 use Rattle.sk_plain.proofs.Plans.{written_is}
 use Rattle.sk_plain.proofs.Scan.{changed_are}
+use Rattle.sk_machine.specs.Dependents.{AllAlmostExact, AllExact, Covers, tags_in}
 use Rattle.sk_machine.specs.Parts.{Parts, machine_of, planned_effect, undo_state_of}
-use Rattle.sk_machine.specs.Performed.{AreApart, entities_of}
-use Rattle.sk_machine.proofs.Becomes.{takes_guess}
-use Rattle.sk_machine.proofs.Joins.{apart_of}
-use Rattle.sk_machine.proofs.Listed.{AreListedFor, performed_listed}
+use Rattle.sk_machine.specs.Performed.{AreApart, IsClean, entities_of}
+use Rattle.sk_machine.proofs.Given.{for_err, from_ok, from_err}
+use Rattle.sk_machine.proofs.Becomes.{same_parts, takes_guess}
+use Rattle.sk_machine.proofs.Joins.{apart_of, clean_of}
+use Rattle.sk_machine.proofs.Listed.{fresh, guessed_exact, more_opens, not_known, unperformed}
 use Rattle.sk_machine.proofs.machine.Machine.take_guess.Goals as goal
+
+pub depend_all-requires-clause-covers : goal.depend_all-requires-clause-covers
+depend_all-requires-clause-covers c =
+    subst (λ (es : List Entity). Covers c.in_ok-tags.tags es (tags_in c.self.inside.logs.slots)) (sym (c.as_slice-entities.ensures.value ∙ c.writes-written.ensures))
+    (subst (λ (m : Parts). Covers c.in_ok-tags.tags (written_in c.args.pid c.args.plan.now) (tags_in m.slots)) (sym c.self.view_is) c.in_ok-tags.ensures.covers)
+
+pub perform_guess-performed-requires-clause-clean : goal.perform_guess-performed-requires-clause-clean
+perform_guess-performed-requires-clause-clean c =
+    let n : EntryView = record { pid = c.args.pid; input = c.args.input.now; guess = Some c.in-Some.id } in
+    subst (λ (m : Parts). IsClean m.slots c.in_ok-tags.tags (entities_of (writes_of (look_at m.slots) c.args.pid (seen_with (look_at m.slots) c.args.scripts.now c.args.pid c.args.input.now c.args.plan.now)))) (sym c.self.view_is)
+    (clean_of c.args.self.now n (seen_with (look_at c.args.self.now.slots) c.args.scripts.now c.args.pid c.args.input.now c.args.plan.now) c.in_ok-tags.tags c.requires.tidy c.in_ok-tags.ensures.exact)
+
+pub relieve_all-requires-clause-almost : goal.relieve_all-requires-clause-almost
+relieve_all-requires-clause-almost c =
+    let m = c.self.inside.logs.slots in
+    let covers = subst (λ (es : List Entity). Covers c.in_ok-tags.tags es (tags_in m)) (sym (c.as_slice-entities.ensures.value ∙ c.writes-written.ensures))
+    (subst (λ (p : Parts). Covers c.in_ok-tags.tags (written_in c.args.pid c.args.plan.now) (tags_in p.slots)) (sym c.self.view_is) c.in_ok-tags.ensures.covers) in
+    subst (AllAlmostExact (tags_in c.perform_guess-performed.new.logs.slots) c.as_slice-entities.result.now) (sym c.perform_guess-performed.ensures.opens)
+    (unperformed m c.perform_guess-performed.new.logs.slots c.in_ok-tags.tags c.as_slice-entities.result.now (from_err c.perform_guess-performed.result c.if-is_err.ensures.value c.perform_guess-performed.ensures.unwritten) covers c.depend_all.new.guesses.opens c.in_ok-depend_all.ensures.ok)
 
 pub invariant_of-self-2 : goal.invariant_of-self-2
 invariant_of-self-2 c =
     let m = c.self.inside.logs.slots in
+    let id = c.in-Some.id in
+    let n : EntryView = record { pid = c.args.pid; input = c.args.input.now; guess = Some id } in
     let plan = seen_with (look_at m) c.args.scripts.now c.args.pid c.args.input.now c.args.plan.now in
     let ws = writes_of (look_at m) c.args.pid plan in
-    let written : c.as_slice.result.now ≡ entities_of ws =
-    c.as_slice.ensures.value ∙ c.writes-written.ensures ∙ sym (written_is (look_at m) c.args.scripts.now c.args.pid c.args.input.now c.args.plan.now)
-    ∙ sym (changed_are (look_at m) c.args.pid plan) in
-    let listed = subst (λ (es : List Entity). AreListedFor c.in_ok-tags.tags c.list_all.new.lists.items es) written c.in_ok-list_all.ensures.listed in
-    (performed_listed m c.perform.new.logs.slots c.in_ok-tags.tags ws c.self.inside.dependents.items c.list_all.new.lists.items c.self.invariant.0 c.list_all.ensures.kept listed c.in_ok-perform.ensures.writes, c.self.invariant.1)
+    let es = c.as_slice-entities.result.now in
+    let written : es ≡ entities_of ws = c.as_slice-entities.ensures.value ∙ c.writes-written.ensures
+    ∙ sym (written_is (look_at m) c.args.scripts.now c.args.pid c.args.input.now c.args.plan.now) ∙ sym (changed_are (look_at m) c.args.pid plan) in
+    let clean = subst (λ (p : Parts). IsClean p.slots c.in_ok-tags.tags (entities_of (writes_of (look_at p.slots) c.args.pid (seen_with (look_at p.slots) c.args.scripts.now c.args.pid c.args.input.now c.args.plan.now)))) (sym c.self.view_is)
+    (clean_of c.args.self.now n (seen_with (look_at c.args.self.now.slots) c.args.scripts.now c.args.pid c.args.input.now c.args.plan.now) c.in_ok-tags.tags c.requires.tidy c.in_ok-tags.ensures.exact) in
+    let did = from_ok c.perform_guess-performed.result c.if-is_err.ensures.value c.perform_guess-performed.ensures.writes in
+    let view = c.perform_guess-performed.ensures.view ∙ c.depend_all.ensures.view in
+    let next : next_of c.perform_guess-performed.new.guesses.view ≡ id = ap next_of view ∙ sym c.in-Some.ensures.value in
+    let o : OpenGuess = record { id = next_of c.perform_guess-performed.new.guesses.view; tags = c.in_ok-own_tags.own_tags; dependents = with_entities [] es } in
+    let own : has o.id c.in_ok-tags.tags ≡ true = ap (λ k. has k c.in_ok-tags.tags) next ∙ c.in_ok-tags.ensures.own id (eq-eqb id id refl) in
+    let none : (e : Entity) → has o.id (tags_in m e) ≡ false = λ e.
+    ap (λ k. has k (tags_in m e)) (next ∙ c.in-Some.ensures.value)
+    ∙ subst (λ (p : Parts). has (next_of c.self.inside.guesses.view) (tags_in p.slots e) ≡ false) (sym c.self.view_is)
+    (not_known c.args.self.now c.requires.tidy (next_of c.self.inside.guesses.view) (subst (λ (p : Parts). has (next_of p.guesses) (numbers c.args.self.now.opens) ≡ false) (sym c.self.view_is) (fresh (numbers c.args.self.now.opens) (next_of c.args.self.now.guesses) c.requires.rising)) e) in (
+      subst (AllExact (tags_in c.perform_guess-performed.new.logs.slots)) (sym (c.in-Ok.ensures.opens ∙ ap (λ os. os ++ o ∷ []) c.perform_guess-performed.ensures.opens))
+          (guessed_exact m c.perform_guess-performed.new.logs.slots c.in_ok-tags.tags es ws o written clean did refl own none c.depend_all.new.guesses.opens c.in_ok-depend_all.ensures.ok),
+      c.self.invariant.1,
+    )
+
+pub returns-in_err-depend_all-clause-err : goal.returns-in_err-depend_all-clause-err
+returns-in_err-depend_all-clause-err c =
+    let old : Parts = record { slots = c.self.inside.logs.slots; opens = opens_of c.self.inside.guesses.opens; guesses = c.self.inside.guesses.view; texts = c.self.inside.terminals } in
+    let new : Parts = record { slots = c.self.inside.logs.slots; opens = opens_of c.depend_all.new.guesses.opens; guesses = c.depend_all.new.guesses.view; texts = c.self.inside.terminals } in
+    for_err c.from_residual-in_err-depend_all.result (same_parts new old refl c.depend_all.ensures.opens c.depend_all.ensures.view refl ∙ c.self.view_is)
+
+pub returns-then-is_err-clause-err : goal.returns-then-is_err-clause-err
+returns-then-is_err-clause-err c =
+    let opens = c.relieve_all.ensures.opens ∙ ap opens_of c.perform_guess-performed.ensures.opens ∙ c.depend_all.ensures.opens in
+    let guesses = c.relieve_all.ensures.view ∙ c.perform_guess-performed.ensures.view ∙ c.depend_all.ensures.view in
+    let slots = from_err c.perform_guess-performed.result c.if-is_err.ensures.value c.perform_guess-performed.ensures.unwritten in
+    let texts = from_err c.perform_guess-performed.result c.if-is_err.ensures.value c.perform_guess-performed.ensures.unsaid in
+    let old : Parts = record { slots = c.self.inside.logs.slots; opens = opens_of c.self.inside.guesses.opens; guesses = c.self.inside.guesses.view; texts = c.self.inside.terminals } in
+    let new : Parts = record { slots = c.perform_guess-performed.new.logs.slots; opens = opens_of c.relieve_all.new.guesses.opens; guesses = c.relieve_all.new.guesses.view; texts = c.perform_guess-performed.new.terminals } in
+    same_parts new old slots opens guesses texts ∙ c.self.view_is
 
 pub returns-clause-ok : goal.returns-clause-ok
 returns-clause-ok c =
@@ -36,17 +92,22 @@ returns-clause-ok c =
     let plan = c.args.plan.now in
     let id = c.in-Some.id in
     let n : EntryView = record { pid = c.args.pid; input = c.args.input.now; guess = Some id } in
-    let a : Parts = record { slots = c.self.inside.logs.slots; opens = c.self.inside.opens.items; guesses = c.self.inside.guesses.view; texts = c.self.inside.terminals } in
-    let b : Parts = record { slots = c.perform.new.logs.slots; opens = c.push_reserved.new.self.items; guesses = c.draw.new.self.view; texts = c.perform.new.terminals } in
+    let a : Parts = record { slots = c.self.inside.logs.slots; opens = opens_of c.self.inside.guesses.opens; guesses = c.self.inside.guesses.view; texts = c.self.inside.terminals } in
+    let b : Parts = record { slots = c.perform_guess-performed.new.logs.slots; opens = opens_of c.draw.new.self.opens; guesses = c.draw.new.self.view; texts = c.perform_guess-performed.new.terminals } in
     let accepted = subst (λ (p : Parts). perform (look_at p.slots) (act scripts n.pid n.input) ≡ Ok (effect_of (look_at p.slots) n.pid n.input (seen_with (look_at p.slots) scripts n.pid n.input plan))) (sym c.self.view_is) c.requires.accepted in
-    let tags = subst (λ (p : Parts). c.in_ok-tags.tags ≡ step_tags (undo_state_of p) (planned_effect p n (seen_with (look_at p.slots) scripts n.pid n.input plan))) (sym c.self.view_is) c.in_ok-tags.ensures in
-    let opens = c.push_reserved.ensures.items ∙ (λ i. c.reserve.ensures.items i ++ (id, c.in_ok-own_tags.ensures i) ∷ []) in
-    let guesses = c.in-Ok.ensures.draws.2 ∙ ap drawn c.reserve-2.ensures.view in
+    let tags = subst (λ (p : Parts). c.in_ok-tags.tags ≡ step_tags (undo_state_of p) (planned_effect p n (seen_with (look_at p.slots) scripts n.pid n.input plan))) (sym c.self.view_is) c.in_ok-tags.ensures.exact in
+    let view = c.perform_guess-performed.ensures.view ∙ c.depend_all.ensures.view in
+    let next : next_of c.perform_guess-performed.new.guesses.view ≡ id = ap next_of view ∙ sym c.in-Some.ensures.value in
+    let opens : b.opens ≡ a.opens ++ (id, c.in_ok-tags.tags) ∷ [] =
+    ap opens_of c.in-Ok.ensures.opens ∙ more_opens c.perform_guess-performed.new.guesses.opens _
+    ∙ (λ i. (ap opens_of c.perform_guess-performed.ensures.opens ∙ c.depend_all.ensures.opens) i ++ (next i, c.in_ok-own_tags.ensures i) ∷ []) in
+    let guesses = c.in-Ok.ensures.draws.2 ∙ ap drawn view in
     subst (λ (p : Parts). MergedTakes (plain scripts) (machine_of p) (record { pid = n.pid; input = n.input; guess = Some (next_of p.guesses) }) (machine_of b)) c.self.view_is
-    (takes_guess scripts a b n.pid n.input id (seen_with (look_at a.slots) scripts n.pid n.input plan) c.in_ok-tags.tags c.in-Some.ensures.value accepted tags c.in_ok-perform.ensures.writes opens c.in_ok-perform.ensures.says guesses)
+    (takes_guess scripts a b n.pid n.input id (seen_with (look_at a.slots) scripts n.pid n.input plan) c.in_ok-tags.tags c.in-Some.ensures.value accepted tags (from_ok c.perform_guess-performed.result c.if-is_err.ensures.value c.perform_guess-performed.ensures.writes) opens
+    (from_ok c.perform_guess-performed.result c.if-is_err.ensures.value c.perform_guess-performed.ensures.says) guesses)
 
-pub perform-requires-clause-apart : goal.perform-requires-clause-apart
-perform-requires-clause-apart c =
+pub perform_guess-performed-requires-clause-apart : goal.perform_guess-performed-requires-clause-apart
+perform_guess-performed-requires-clause-apart c =
     let planned = λ (m : Parts). seen_with (look_at m.slots) c.args.scripts.now c.args.pid c.args.input.now c.args.plan.now in
     subst (λ (m : Parts). AreApart (entities_of (writes_of (look_at m.slots) c.args.pid (planned m)))) (sym c.self.view_is)
     (apart_of (look_at c.args.self.now.slots) c.args.pid (planned c.args.self.now) c.requires.beside)

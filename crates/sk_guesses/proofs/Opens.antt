@@ -1,0 +1,553 @@
+-- The undecided guesses after a draw, a decision and a strike.
+use Rattle.std.proofs.Common.{◌≡◌, ◌≢◌, ℕ, zero, suc, ◌<◌, ◌≤◌, ◌+◌, ◌-◌, length, length-set, take, drop, Bool, true, false, cond, not, ◌||◌, ◌&&◌, List, [], ◌∷◌, ◌++◌, map, Option, Some, None, refl, sym, ◌∙◌, ap, subst, arith}
+use Rattle.std.specs.Prelude.{◌==◌, ◌↔◌, slice_get, slice_set, slice_index_or, is_some}
+use Rattle.std.specs.Ordering.{nat_cmp}
+use Rattle.std.specs.declared.cmp.Ordering.TheVariants.{Less}
+use Rattle.std.specs.Cmp.{nat_cmp_is}
+use Rattle.std.specs.List.{AllByRecursion, filter, list_any, prefix_len}
+use Rattle.std.specs.List.Sorted.{IsStrictlySortedBy}
+use Rattle.std.specs.List.Retain.{RetainsInTurn}
+use Rattle.std.specs.Prelude.{nat_le, nat_lt}
+use Rattle.std.proofs.lemmas.Bool.{true≢false, eqb-true, eq-eqb, or_left, or_right, leb-false, ltb-false}
+use Rattle.sk_ids.specs.declared.guess.TheConstants.{LAST_GUESS}
+use Rattle.sk_guesses.specs.declared.guesses.TheConstants.{GUESS_LIMIT}
+use Rattle.std.proofs.lemmas.List.Folds.{list_any-append}
+use Rattle.std.proofs.lemmas.List.Kept.{IsStrictlySortedBy-filter}
+use Rattle.std.proofs.lemmas.Option.{slice_get_within}
+use Rattle.sk_record.specs.Notes.{has, without}
+use Rattle.sk_record.specs.Machine.{rests_on, with_failure, with_status}
+use Rattle.sk_record.specs.UndoState.{numbers, not_struck}
+use Rattle.sk_record.specs.declared.status.Status.{Status}
+use Rattle.sk_record.specs.declared.status.Status.TheVariants.{Undecided, Committed, Failed, Struck}
+use Rattle.sk_record.proofs.Machine.{has_filter}
+use Rattle.sk_record.proofs.Rising.{above}
+use Rattle.sk_guesses.specs.Guesses.{GuessesView, is_full, is_undecided, undecided_of, status_of, decided, drawn, next_of}
+use Rattle.sk_guesses.specs.Opens.{OpenGuess, AreOpen, opens_of, dependents_of, but, not_resting, after_commit, without_tag, struck_by, open_in, without_list, depending, relieved, left_to}
+use Rattle.sk_guesses.specs.EntitySet.{with_entity, without_entity}
+use Rattle.sk_ids.specs.declared.entity.Entity.{Entity}
+use Rattle.sk_guesses.specs.Room.{Listing}
+use Rattle.sk_guesses.proofs.Count.{count_of}
+use Rattle.sk_guesses.proofs.Statuses.{some_number, status-at, status-drawn, status-decided}
+
+abbrev pub guess_of : Listing → OpenGuess
+guess_of l = l.guess
+
+abbrev pub named : List OpenGuess → List ℕ
+named os = numbers (opens_of os)
+
+-- ---- passes over all
+pub in_turn : {S X Y : Type 0} (R : S → X → Bool → S → X → Type 0) (view : X → Y) (p : Y → Bool) (f : Y → Y) (s : S)
+    → ((x : X) (b : Bool) (t : S) (y : X) → R s x b t y → (b ≡ p (view x)) × (t ≡ s) × (view y ≡ f (view x)))
+    → (xs ys : List X) → RetainsInTurn R s xs ys → map view ys ≡ map f (filter p (map view xs))
+in_turn R view p f s h [] ys told = ap (map view) told
+in_turn R view p f s h (x ∷ xs) ys (b, t, y, step, zs, later, is) =
+    let says = h x b t y step in
+    let rest = in_turn R view p f s h xs zs (subst (λ u. RetainsInTurn R u xs zs) says.1 later) in
+    ap (map view) (is ∙ ap (λ c. cond c (y ∷ zs) zs) says.0)
+    ∙ elim (p (view x)) as (λ q. map view (cond q (y ∷ zs) zs) ≡ map f (cond q (view x ∷ filter p (map view xs)) (filter p (map view xs)))) [
+      | true ↦ λ i. says.2 i ∷ rest i
+      | false ↦ rest
+    ]
+
+pub all_in_turn : {S X Y : Type 0} (R : S → X → Bool → S → X → Type 0) (view : X → Y) (f : Y → Y) (s : S)
+    → ((x : X) (b : Bool) (t : S) (y : X) → R s x b t y → (b ≡ true) × (t ≡ s) × (view y ≡ f (view x)))
+    → (xs ys : List X) → RetainsInTurn R s xs ys → map view ys ≡ map f (map view xs)
+all_in_turn R view f s h [] ys told = ap (map view) told
+all_in_turn R view f s h (x ∷ xs) ys (b, t, y, step, zs, later, is) =
+    let says = h x b t y step in
+    let rest = all_in_turn R view f s h xs zs (subst (λ u. RetainsInTurn R u xs zs) says.1 later) in
+    ap (map view) (is ∙ ap (λ c. cond c (y ∷ zs) zs) says.0) ∙ (λ i. says.2 i ∷ rest i)
+
+-- a filter of what they are seen as
+pub seen_filter : {X Y : Type 0} (view : X → Y) (p : Y → Bool) (xs : List X) → map view (filter (λ x. p (view x)) xs) ≡ filter p (map view xs)
+seen_filter view p [] = refl
+seen_filter view p (x ∷ xs) =
+    elim (p (view x)) as (λ b. map view (cond b (x ∷ filter (λ x. p (view x)) xs) (filter (λ x. p (view x)) xs)) ≡ cond b (view x ∷ filter p (map view xs)) (filter p (map view xs))) [
+      | true ↦ ap (λ ys. view x ∷ ys) (seen_filter view p xs)
+      | false ↦ seen_filter view p xs
+    ]
+
+-- ---- their numbers
+but_named : (g : ℕ) (os : List OpenGuess) → named (but g os) ≡ without g (named os)
+but_named g [] = refl
+but_named g (o ∷ os) =
+    elim (not (o.id == g)) as (λ b. named (cond b (o ∷ but g os) (but g os)) ≡ cond b (o.id ∷ without g (named os)) (without g (named os))) [
+      | true ↦ ap (λ ns. o.id ∷ ns) (but_named g os)
+      | false ↦ but_named g os
+    ]
+
+same_named : (g : ℕ) (os : List OpenGuess) → named (map (without_tag g) os) ≡ named os
+same_named g [] = refl
+same_named g (o ∷ os) = ap (λ ns. o.id ∷ ns) (same_named g os)
+
+named_more : (os : List OpenGuess) (o : OpenGuess) → named (os ++ o ∷ []) ≡ named os ++ o.id ∷ []
+named_more [] o = refl
+named_more (x ∷ os) o = ap (λ ns. x.id ∷ ns) (named_more os o)
+
+pub as_many : (os : List OpenGuess) → length (named os) ≡ length os
+as_many [] = refl
+as_many (o ∷ os) = ap suc (as_many os)
+
+-- ---- statuses
+pub open_is : (o : Option Status) → open_in o ≡ true → o ≡ Some Undecided
+open_is None is = absurd (true≢false (sym is))
+open_is (Some Undecided) is = refl
+open_is (Some Committed) is = absurd (true≢false (sym is))
+open_is (Some Failed) is = absurd (true≢false (sym is))
+open_is (Some Struck) is = absurd (true≢false (sym is))
+
+pub counted : (v : GuessesView) (os : List OpenGuess) → AreOpen v os → undecided_of v.statuses ≡ length os
+counted v os are =
+    count_of v (named os) are.rising (λ g. ((λ here. open_is (status_of v g) (sym (are.tied g) ∙ here)), λ is. are.tied g ∙ ap open_in is)) ∙ as_many os
+
+-- where one stands among the statuses
+pub within : (v : GuessesView) (g : ℕ) (s : Status) → status_of v g ≡ Some s → g - 1 < length v.statuses
+within v g s is = slice_get_within v.statuses (g - 1) s (sym (status-at v g (some_number v g s is)) ∙ is)
+
+-- ---- one goes
+turned : (a b : ℕ) → (a == b) ≡ (b == a)
+turned a b =
+    elim (a == b) as (λ t. (a == b) ≡ t → t ≡ (b == a)) [
+      | true ↦ λ is. sym (eq-eqb b a (sym (eqb-true a b is)))
+      | false ↦ λ apart. elim (b == a) as (λ t. (b == a) ≡ t → false ≡ t) [ true ↦ λ is. sym apart ∙ eq-eqb a b (sym (eqb-true b a is)) | false ↦ λ _. refl ] refl
+    ] refl
+
+all_kept : {X : Type 0} (P : X → Type 0) (p : X → Bool) (xs : List X) → AllByRecursion P xs → AllByRecursion P (filter p xs)
+all_kept P p [] all = tt
+all_kept P p (x ∷ xs) all =
+    elim (p x) as (λ b. AllByRecursion P (cond b (x ∷ filter p xs) (filter p xs))) [ true ↦ (all.0, all_kept P p xs all.1) | false ↦ all_kept P p xs all.1 ]
+
+tied_but : (v : GuessesView) (os : List OpenGuess) (id : ℕ) (s : Status) → AreOpen v os → status_of v id ≡ Some Undecided → is_undecided s ≡ false
+    → (g : ℕ) → has g (named (but id os)) ≡ open_in (status_of (decided v id s) g)
+tied_but v os id s are was becomes g =
+    ap (has g) (but_named id os) ∙ has_filter (λ t. not (t == id)) g (named os) ∙ ap (λ b. not (g == id) && b) (are.tied g)
+    ∙ elim (g == id) as (λ b. (not b && open_in (status_of v g)) ≡ open_in (cond b (Some s) (status_of v g))) [ true ↦ sym becomes | false ↦ refl ]
+    ∙ ap open_in (sym (status-decided v id Undecided s was g))
+
+pub open_but : (v : GuessesView) (os : List OpenGuess) (id : ℕ) (s : Status) → AreOpen v os → status_of v id ≡ Some Undecided → is_undecided s ≡ false → AreOpen (decided v id s) (but id os)
+open_but v os id s are was becomes = record {
+  rising = subst (IsStrictlySortedBy nat_cmp) (sym (but_named id os)) (IsStrictlySortedBy-filter nat_cmp (λ t. not (t == id)) (named os) are.rising);
+  tied = tied_but v os id s are was becomes;
+  own = all_kept (λ (o : OpenGuess). has o.id o.tags ≡ true) (λ o. not (o.id == id)) os are.own;
+}
+
+own_left : (g : ℕ) (os : List OpenGuess) → AllByRecursion (λ (o : OpenGuess). has o.id o.tags ≡ true) os → AllByRecursion (λ (o : OpenGuess). has o.id o.tags ≡ true) (after_commit g os)
+own_left g [] all = tt
+own_left g (o ∷ os) all =
+    elim (not (o.id == g)) as (λ b. not (o.id == g) ≡ b → AllByRecursion (λ (o : OpenGuess). has o.id o.tags ≡ true) (map (without_tag g) (cond b (o ∷ but g os) (but g os)))) [
+      | true ↦ λ is. (has_filter (λ t. not (t == g)) o.id o.tags ∙ (λ i. is i && all.0 i), own_left g os all.1)
+      | false ↦ λ _. own_left g os all.1
+    ] refl
+
+pub open_committed : (v : GuessesView) (os : List OpenGuess) (id : ℕ) → AreOpen v os → status_of v id ≡ Some Undecided → AreOpen (decided v id Committed) (after_commit id os)
+open_committed v os id are was =
+    let left = open_but v os id Committed are was refl in
+    record {
+      rising = subst (IsStrictlySortedBy nat_cmp) (sym (same_named id (but id os))) left.rising;
+      tied = λ g. ap (has g) (same_named id (but id os)) ∙ left.tied g;
+      own = own_left id os are.own;
+    }
+
+-- ---- all go whose own steps rest on one
+none_named : (g h : ℕ) (os : List OpenGuess) → has h (named os) ≡ false → rests_on g (opens_of os) h ≡ false
+none_named g h [] none = refl
+none_named g h (o ∷ os) none =
+    elim (o.id == h) as (λ b. (b || has h (named os)) ≡ false → ((b && has g o.tags) || rests_on g (opens_of os) h) ≡ false) [
+      | true ↦ λ e. absurd (true≢false e)
+      | false ↦ λ e. none_named g h os e
+    ] none
+
+not_above : (x g : ℕ) (xs : List ℕ) → (x == g) ≡ true → AllByRecursion (λ y. nat_cmp x y ≡ Less) xs → has g xs ≡ false
+not_above x g xs is all =
+    elim (has g xs) as (λ b. has g xs ≡ b → b ≡ false) [
+      | true ↦ λ here. let more = above x xs g all here in let same = eqb-true x g is in absurd (omega arith)
+      | false ↦ λ _. refl
+    ] refl
+
+pub resting_named : (g h : ℕ) (os : List OpenGuess) → IsStrictlySortedBy nat_cmp (named os) → has h (named (not_resting g os)) ≡ (has h (named os) && not (rests_on g (opens_of os) h))
+unfolding IsStrictlySortedBy
+resting_named g h [] rises = refl
+resting_named g h (o ∷ os) rises =
+    let rest = resting_named g h os rises.1 in
+    elim (o.id == h) as (λ b. (o.id == h) ≡ b → has h (named (cond (not (has g o.tags)) (o ∷ not_resting g os) (not_resting g os))) ≡ ((b || has h (named os)) && not ((b && has g o.tags) || rests_on g (opens_of os) h))) [
+      | true ↦ λ is.
+          let no_more : has h (named os) ≡ false = not_above o.id h (named os) is rises.0 in
+          let none : rests_on g (opens_of os) h ≡ false = none_named g h os no_more in
+          let gone : has h (named (not_resting g os)) ≡ false = rest ∙ ap (λ b. b && not (rests_on g (opens_of os) h)) no_more in
+          elim (has g o.tags) as (λ t. has h (named (cond (not t) (o ∷ not_resting g os) (not_resting g os))) ≡ not (t || rests_on g (opens_of os) h)) [
+            | true ↦ gone
+            | false ↦ ap (λ b. b || has h (named (not_resting g os))) is ∙ sym (ap not none)
+          ]
+      | false ↦ λ apart.
+          elim (has g o.tags) as (λ t. has h (named (cond (not t) (o ∷ not_resting g os) (not_resting g os))) ≡ (has h (named os) && not (rests_on g (opens_of os) h))) [
+            | true ↦ rest
+            | false ↦ ap (λ b. b || has h (named (not_resting g os))) apart ∙ rest
+          ]
+    ] refl
+
+below_all : (x g : ℕ) (os : List OpenGuess) → AllByRecursion (λ y. nat_cmp x y ≡ Less) (named os) → AllByRecursion (λ y. nat_cmp x y ≡ Less) (named (not_resting g os))
+below_all x g [] all = tt
+below_all x g (o ∷ os) all =
+    elim (not (has g o.tags)) as (λ b. AllByRecursion (λ y. nat_cmp x y ≡ Less) (named (cond b (o ∷ not_resting g os) (not_resting g os)))) [ true ↦ (all.0, below_all x g os all.1) | false ↦ below_all x g os all.1 ]
+
+still_rises : (g : ℕ) (os : List OpenGuess) → IsStrictlySortedBy nat_cmp (named os) → IsStrictlySortedBy nat_cmp (named (not_resting g os))
+unfolding IsStrictlySortedBy
+still_rises g [] rises = tt
+still_rises g (o ∷ os) rises =
+    elim (not (has g o.tags)) as (λ b. IsStrictlySortedBy nat_cmp (named (cond b (o ∷ not_resting g os) (not_resting g os)))) [ true ↦ (below_all o.id g os rises.0, still_rises g os rises.1) | false ↦ still_rises g os rises.1 ]
+
+unless : (o : Option Status) (b : Bool) → (open_in o && not b) ≡ open_in (cond b (Some Struck) o)
+unless None true = refl
+unless None false = refl
+unless (Some Undecided) true = refl
+unless (Some Undecided) false = refl
+unless (Some Committed) true = refl
+unless (Some Committed) false = refl
+unless (Some Failed) true = refl
+unless (Some Failed) false = refl
+unless (Some Struck) true = refl
+unless (Some Struck) false = refl
+
+pub open_struck : (v w : GuessesView) (os : List OpenGuess) (id : ℕ) → AreOpen v os → ((g : ℕ) → status_of w g ≡ cond (rests_on id (opens_of os) g) (Some Struck) (status_of v g)) → AreOpen w (not_resting id os)
+open_struck v w os id are struck = record {
+  rising = still_rises id os are.rising;
+  tied = λ g.
+      resting_named id g os are.rising ∙ ap (λ b. b && not (rests_on id (opens_of os) g)) (are.tied g)
+      ∙ unless (status_of v g) (rests_on id (opens_of os) g) ∙ ap open_in (sym (struck g));
+  own = all_kept (λ (o : OpenGuess). has o.id o.tags ≡ true) (λ o. not (has id o.tags)) os are.own;
+}
+
+-- ---- the strikes
+abbrev pub AllDrawn : GuessesView → List OpenGuess → Type 0
+AllDrawn v os = AllByRecursion (λ (o : OpenGuess). is_some (status_of v o.id) ≡ true) os
+
+some_of : (o : Option Status) → is_some o ≡ true → (s : Status) × (o ≡ Some s)
+some_of None is = absurd (true≢false (sym is))
+some_of (Some s) is = (s, refl)
+
+open_some : (o : Option Status) → open_in o ≡ true → is_some o ≡ true
+open_some None is = absurd (true≢false (sym is))
+open_some (Some s) is = refl
+
+drawn_all : (v : GuessesView) (os : List OpenGuess) → ((g : ℕ) → has g (named os) ≡ true → is_some (status_of v g) ≡ true) → AllDrawn v os
+drawn_all v [] h = tt
+drawn_all v (o ∷ os) h = (h o.id (or_left _ _ (eq-eqb o.id o.id refl)), drawn_all v os (λ g here. h g (or_right _ _ here)))
+
+pub open_drawn : (v : GuessesView) (os : List OpenGuess) → AreOpen v os → AllDrawn v os
+open_drawn v os are = drawn_all v os (λ g here. open_some (status_of v g) (sym (are.tied g) ∙ here))
+
+still_some : (b : Bool) (o : Option Status) (s : Status) → is_some o ≡ true → is_some (cond b (Some s) o) ≡ true
+still_some true o s is = refl
+still_some false o s is = is
+
+still_drawn : (v : GuessesView) (id : ℕ) (was : Status) → status_of v id ≡ Some was → (os : List OpenGuess) → AllDrawn v os → AllDrawn (decided v id Struck) os
+still_drawn v id was is [] all = tt
+still_drawn v id was is (o ∷ os) all =
+    (ap is_some (status-decided v id was Struck is o.id) ∙ still_some (o.id == id) (status_of v o.id) Struck all.0, still_drawn v id was is os all.1)
+
+twice : (a r : Bool) (x y : Option Status) → cond r x (cond a x y) ≡ cond ((a && true) || r) x y
+twice true true x y = refl
+twice true false x y = refl
+twice false true x y = refl
+twice false false x y = refl
+
+once : (a r : Bool) (x y : Option Status) → cond r x y ≡ cond ((a && false) || r) x y
+once true r x y = refl
+once false r x y = refl
+
+pub struck_are : (v : GuessesView) (id : ℕ) (os : List OpenGuess) → AllDrawn v os
+    → (g : ℕ) → status_of (record v { statuses = struck_by id os v.statuses }) g ≡ cond (rests_on id (opens_of os) g) (Some Struck) (status_of v g)
+struck_are v id [] all g = refl
+struck_are v id (o ∷ os) all g =
+    let was = some_of (status_of v o.id) all.0 in
+    elim (has id o.tags) as (λ b. status_of (record v { statuses = struck_by id os (cond b (slice_set v.statuses (o.id - 1) Struck) v.statuses) }) g ≡ cond (((o.id == g) && b) || rests_on id (opens_of os) g) (Some Struck) (status_of v g)) [
+      | true ↦
+          struck_are (decided v o.id Struck) id os (still_drawn v o.id was.0 was.1 os all.1) g
+          ∙ ap (cond (rests_on id (opens_of os) g) (Some Struck)) (status-decided v o.id was.0 Struck was.1 g ∙ ap (λ b. cond b (Some Struck) (status_of v g)) (turned g o.id))
+          ∙ twice (o.id == g) (rests_on id (opens_of os) g) (Some Struck) (status_of v g)
+      | false ↦ struck_are v id os all.1 g ∙ once (o.id == g) (rests_on id (opens_of os) g) (Some Struck) (status_of v g)
+    ]
+
+pub in_range : (v : GuessesView) (ls : List Listing) → AllDrawn v (map guess_of ls) → (k : ℕ) (d : Listing) → k < length ls → (slice_index_or ls k d).guess.id - 1 < length v.statuses
+in_range v [] all k d lt = absurd (omega arith)
+in_range v (l ∷ ls) all zero d lt = let was = some_of (status_of v l.guess.id) all.0 in within v l.guess.id was.0 was.1
+in_range v (l ∷ ls) all (suc k) d lt = in_range v ls all.1 k d (omega arith)
+
+-- ---- one more
+all_below : (xs : List ℕ) (x y : ℕ) → AllByRecursion (λ z. nat_cmp x z ≡ Less) xs → nat_cmp x y ≡ Less → AllByRecursion (λ z. nat_cmp x z ≡ Less) (xs ++ y ∷ [])
+all_below [] x y all less = (less, tt)
+all_below (z ∷ xs) x y all less = (all.0, all_below xs x y all.1 less)
+
+-- a rising list with one number above all of its own
+pub more_rises : (xs : List ℕ) (y : ℕ) → IsStrictlySortedBy nat_cmp xs → ((x : ℕ) → has x xs ≡ true → x < y) → IsStrictlySortedBy nat_cmp (xs ++ y ∷ [])
+unfolding IsStrictlySortedBy
+more_rises [] y rises below = (tt, tt)
+more_rises (x ∷ xs) y rises below =
+    (all_below xs x y rises.0 (sym (nat_cmp_is x y Less (below x (or_left _ _ (eq-eqb x x refl))))), more_rises xs y rises.1 (λ z here. below z (or_right _ _ here)))
+
+pub status_below : (v : GuessesView) (g : ℕ) (s : Status) → status_of v g ≡ Some s → g < next_of v
+status_below v g s is = let less = within v g s is in let some = some_number v g s is in omega (arith, less, some)
+
+own_more : (os : List OpenGuess) (o : OpenGuess) → AllByRecursion (λ (o : OpenGuess). has o.id o.tags ≡ true) os → has o.id o.tags ≡ true → AllByRecursion (λ (o : OpenGuess). has o.id o.tags ≡ true) (os ++ o ∷ [])
+own_more [] o all own = (own, tt)
+own_more (x ∷ os) o all own = (all.0, own_more os o all.1 own)
+
+pub or_one : (a b : Bool) (o : Option Status) → a ≡ open_in o → (a || (b || false)) ≡ open_in (cond b (Some Undecided) o)
+or_one true true o is = refl
+or_one true false o is = is
+or_one false true o is = refl
+or_one false false o is = is
+
+pub open_more : (v : GuessesView) (os : List OpenGuess) (o : OpenGuess) → AreOpen v os → o.id ≡ next_of v → has o.id o.tags ≡ true → AreOpen (drawn v) (os ++ o ∷ [])
+open_more v os o are number own = record {
+  rising = subst (IsStrictlySortedBy nat_cmp) (sym (named_more os o))
+      (more_rises (named os) o.id are.rising (λ g here. subst (λ n. g < n) (sym number) (status_below v g Undecided (open_is (status_of v g) (sym (are.tied g) ∙ here)))));
+  tied = λ g.
+      ap (has g) (named_more os o) ∙ list_any-append (λ t. t == g) (named os) (o.id ∷ [])
+      ∙ or_one (has g (named os)) (o.id == g) (status_of v g) (are.tied g)
+      ∙ ap (λ b. open_in (cond b (Some Undecided) (status_of v g))) (ap (λ n. n == g) number ∙ turned (next_of v) g)
+      ∙ ap open_in (sym (status-drawn v g));
+  own = own_more os o are.own own;
+}
+
+-- ---- lists of what is decided
+pub none_there : (g : ℕ) (os : List OpenGuess) → has g (named os) ≡ false → dependents_of g os ≡ []
+none_there g [] none = refl
+none_there g (o ∷ os) none =
+    elim (o.id == g) as (λ b. (b || has g (named os)) ≡ false → cond b o.dependents (dependents_of g os) ≡ []) [
+      | true ↦ λ e. absurd (true≢false e)
+      | false ↦ λ e. none_there g os e
+    ] none
+
+pub emptied : (v : GuessesView) (os : List OpenGuess) (g : ℕ) → AreOpen v os → open_in (status_of v g) ≡ false → dependents_of g os ≡ []
+emptied v os g are closed = none_there g os (are.tied g ∙ closed)
+
+-- ---- the list of a guess
+abbrev pub is_other : ℕ → Listing → Bool
+is_other g l = not (l.guess.id == g)
+
+pub found : (g k : ℕ) (ls : List Listing) (l : Listing) → k ≡ prefix_len (is_other g) ls → k < length ls → l ≡ slice_index_or ls k l → l.guess.dependents ≡ dependents_of g (map guess_of ls)
+found g k [] l is lt at = absurd (omega arith)
+found g k (x ∷ ls) l is lt at =
+    elim (x.guess.id == g) as (λ b. k ≡ cond (not b) (1 + prefix_len (is_other g) ls) 0 → l.guess.dependents ≡ cond b x.guess.dependents (dependents_of g (map guess_of ls))) [
+      | true ↦ λ none. ap (λ (y : Listing). y.guess.dependents) (at ∙ ap (λ j. slice_index_or (x ∷ ls) j l) none)
+      | false ↦ λ more.
+          let next : k ≡ suc (prefix_len (is_other g) ls) = omega arith in
+          found g (prefix_len (is_other g) ls) ls l refl (omega arith) (at ∙ ap (λ j. slice_index_or (x ∷ ls) j l) next)
+    ] is
+
+pub missing : (g k : ℕ) (ls : List Listing) → k ≡ prefix_len (is_other g) ls → length ls ≤ k → [] ≡ dependents_of g (map guess_of ls)
+missing g k [] is le = refl
+missing g k (x ∷ ls) is le =
+    elim (x.guess.id == g) as (λ b. k ≡ cond (not b) (1 + prefix_len (is_other g) ls) 0 → [] ≡ cond b x.guess.dependents (dependents_of g (map guess_of ls))) [
+      | true ↦ λ none. absurd (omega arith)
+      | false ↦ λ more. missing g (prefix_len (is_other g) ls) ls refl (omega arith)
+    ] is
+
+pub none_taken : (g k : ℕ) (ls : List Listing) → k ≡ prefix_len (is_other g) ls → length ls ≤ k → map guess_of ls ≡ without_list g (map guess_of ls)
+none_taken g k [] is le = refl
+none_taken g k (x ∷ ls) is le =
+    elim (x.guess.id == g) as (λ b. k ≡ cond (not b) (1 + prefix_len (is_other g) ls) 0 → x.guess ∷ map guess_of ls ≡ cond b (record x.guess { dependents = [] } ∷ map guess_of ls) (x.guess ∷ without_list g (map guess_of ls))) [
+      | true ↦ λ none. absurd (omega arith)
+      | false ↦ λ more. ap (λ os. x.guess ∷ os) (none_taken g (prefix_len (is_other g) ls) ls refl (omega arith))
+    ] is
+
+pub taken : (g k : ℕ) (ls : List Listing) (l new : Listing) → k ≡ prefix_len (is_other g) ls → k < length ls → l ≡ slice_index_or ls k l → new.guess ≡ record l.guess { dependents = [] }
+    → map guess_of (slice_set ls k new) ≡ without_list g (map guess_of ls)
+taken g k [] l new is lt at left = absurd (omega arith)
+taken g zero (x ∷ ls) l new is lt at left =
+    elim (x.guess.id == g) as (λ b. zero ≡ cond (not b) (1 + prefix_len (is_other g) ls) 0 → new.guess ∷ map guess_of ls ≡ cond b (record x.guess { dependents = [] } ∷ map guess_of ls) (x.guess ∷ without_list g (map guess_of ls))) [
+      | true ↦ λ _. ap (λ o. o ∷ map guess_of ls) (left ∙ ap (λ (y : Listing). record y.guess { dependents = [] }) at)
+      | false ↦ λ more. absurd (omega arith)
+    ] is
+taken g (suc k) (x ∷ ls) l new is lt at left =
+    elim (x.guess.id == g) as (λ b. suc k ≡ cond (not b) (1 + prefix_len (is_other g) ls) 0 → x.guess ∷ map guess_of (slice_set ls k new) ≡ cond b (record x.guess { dependents = [] } ∷ map guess_of ls) (x.guess ∷ without_list g (map guess_of ls))) [
+      | true ↦ λ none. absurd (omega arith)
+      | false ↦ λ next. ap (λ os. x.guess ∷ os) (taken g k ls l new (omega arith) (omega arith) at left)
+    ] is
+
+-- what is changed of each but its number and the tags of its own step
+pub same_opens : (f : OpenGuess → OpenGuess) → ((o : OpenGuess) → (f o).id ≡ o.id × (f o).tags ≡ o.tags) → (os : List OpenGuess) → opens_of (map f os) ≡ opens_of os
+same_opens f h [] = refl
+same_opens f h (o ∷ os) = λ i. ((h o).0 i, (h o).1 i) ∷ same_opens f h os i
+
+pub taken_opens : (g : ℕ) (os : List OpenGuess) → opens_of (without_list g os) ≡ opens_of os
+taken_opens g [] = refl
+taken_opens g (o ∷ os) =
+    elim (o.id == g) as (λ b. opens_of (cond b (record o { dependents = [] } ∷ os) (o ∷ without_list g os)) ≡ (o.id, o.tags) ∷ opens_of os) [
+      | true ↦ refl
+      | false ↦ ap (λ xs. (o.id, o.tags) ∷ xs) (taken_opens g os)
+    ]
+
+own_same : (xs os : List OpenGuess) → opens_of xs ≡ opens_of os → AllByRecursion (λ (o : OpenGuess). has o.id o.tags ≡ true) os → AllByRecursion (λ (o : OpenGuess). has o.id o.tags ≡ true) xs
+own_same [] os is all = tt
+own_same (x ∷ xs) [] is all = cc
+own_same (x ∷ xs) (o ∷ os) is all =
+    (subst (λ (p : ℕ × List ℕ). has p.0 p.1 ≡ true) (sym (ap (head_or (o.id, o.tags)) is)) all.0, own_same xs os (ap rest_of is) all.1) where
+  head_or : ℕ × List ℕ → List (ℕ × List ℕ) → ℕ × List ℕ
+  head_or p [] = p
+  head_or p (q ∷ qs) = q
+  rest_of : List (ℕ × List ℕ) → List (ℕ × List ℕ)
+  rest_of [] = []
+  rest_of (q ∷ qs) = qs
+
+-- what keeps numbers and tags keeps how they stand
+pub open_same : (v : GuessesView) (xs os : List OpenGuess) → opens_of xs ≡ opens_of os → AreOpen v os → AreOpen v xs
+open_same v xs os is are = record {
+  rising = subst (λ ps. IsStrictlySortedBy nat_cmp (numbers ps)) (sym is) are.rising;
+  tied = λ g. ap (λ ps. has g (numbers ps)) is ∙ are.tied g;
+  own = own_same xs os is are.own;
+}
+
+pub open_taken : (v : GuessesView) (os : List OpenGuess) (g : ℕ) → AreOpen v os → AreOpen v (without_list g os)
+open_taken v os g are = open_same v (without_list g os) os (taken_opens g os) are
+
+-- ---- a failure, and the strikes after it
+pub struck_opens : (g : ℕ) (os : List OpenGuess) → AllByRecursion (λ (o : OpenGuess). has o.id o.tags ≡ true) os → opens_of (not_resting g (but g os)) ≡ not_struck g (opens_of os)
+struck_opens g [] all = refl
+struck_opens g (o ∷ os) all =
+    let rest = struck_opens g os all.1 in
+    elim (o.id == g) as (λ b. (o.id == g) ≡ b → opens_of (not_resting g (cond (not b) (o ∷ but g os) (but g os))) ≡ cond (not (has g o.tags)) ((o.id, o.tags) ∷ not_struck g (opens_of os)) (not_struck g (opens_of os))) [
+      | true ↦ λ is.
+          rest ∙ sym (ap (λ b. cond (not b) ((o.id, o.tags) ∷ not_struck g (opens_of os)) (not_struck g (opens_of os))) (ap (λ h. has h o.tags) (sym (eqb-true o.id g is)) ∙ all.0))
+      | false ↦ λ _.
+          elim (has g o.tags) as (λ b. opens_of (cond (not b) (o ∷ not_resting g (but g os)) (not_resting g (but g os))) ≡ cond (not b) ((o.id, o.tags) ∷ not_struck g (opens_of os)) (not_struck g (opens_of os))) [
+            | true ↦ rest
+            | false ↦ ap (λ xs. (o.id, o.tags) ∷ xs) rest
+          ]
+    ] refl
+
+pub but_taken : (g : ℕ) (os : List OpenGuess) → but g (without_list g os) ≡ but g os
+but_taken g [] = refl
+but_taken g (o ∷ os) =
+    elim (o.id == g) as (λ b. (o.id == g) ≡ b → but g (cond b (record o { dependents = [] } ∷ os) (o ∷ without_list g os)) ≡ cond (not b) (o ∷ but g os) (but g os)) [
+      | true ↦ λ is. ap (λ b. cond (not b) (record o { dependents = [] } ∷ but g os) (but g os)) is
+      | false ↦ λ apart. ap (λ b. cond (not b) (o ∷ but g (without_list g os)) (but g (without_list g os))) apart ∙ ap (λ xs. o ∷ xs) (but_taken g os)
+    ] refl
+
+rests_but : (g h : ℕ) → (h == g) ≡ false → (os : List OpenGuess) → rests_on g (opens_of (but g os)) h ≡ rests_on g (opens_of os) h
+rests_but g h apart [] = refl
+rests_but g h apart (o ∷ os) =
+    let rest = rests_but g h apart os in
+    elim (o.id == g) as (λ b. (o.id == g) ≡ b → rests_on g (opens_of (cond (not b) (o ∷ but g os) (but g os))) h ≡ (((o.id == h) && has g o.tags) || rests_on g (opens_of os) h)) [
+      | true ↦ λ is.
+          let other : (o.id == h) ≡ false = ap (λ n. n == h) (eqb-true o.id g is) ∙ turned g h ∙ apart in
+          rest ∙ sym (ap (λ b. (b && has g o.tags) || rests_on g (opens_of os) h) other)
+      | false ↦ λ _. ap (λ b. ((o.id == h) && has g o.tags) || b) rest
+    ] refl
+
+rests_itself : (g : ℕ) (os : List OpenGuess) → rests_on g (opens_of (but g os)) g ≡ false
+rests_itself g os =
+    none_named g g (but g os) (ap (has g) (but_named g os) ∙ has_filter (λ t. not (t == g)) g (named os) ∙ ap (λ b. not b && has g (named os)) (eq-eqb g g refl))
+
+pub failed_status : (v : GuessesView) (g : ℕ) (os : List OpenGuess) → status_of v g ≡ Some Undecided
+    → (h : ℕ) → cond (rests_on g (opens_of (but g os)) h) (Some Struck) (status_of (decided v g Failed) h) ≡ with_failure g (opens_of os) (status_of v) h
+failed_status v g os was h =
+    ap (cond (rests_on g (opens_of (but g os)) h) (Some Struck)) (status-decided v g Undecided Failed was h)
+    ∙ elim (h == g) as (λ b. (h == g) ≡ b → cond (rests_on g (opens_of (but g os)) h) (Some Struck) (cond b (Some Failed) (status_of v h)) ≡ cond b (Some Failed) (cond (rests_on g (opens_of os) h) (Some Struck) (status_of v h))) [
+      | true ↦ λ is. ap (λ b. cond b (Some Struck) (Some Failed)) (ap (rests_on g (opens_of (but g os))) (eqb-true h g is) ∙ rests_itself g os)
+      | false ↦ λ apart. ap (λ b. cond b (Some Struck) (status_of v h)) (rests_but g h apart os)
+    ] refl
+
+-- ---- what changes only the list
+pub depending_keeps : (tags : List ℕ) (e : Entity) (o : OpenGuess) → (depending tags e o).id ≡ o.id × (depending tags e o).tags ≡ o.tags
+depending_keeps tags e o = elim (has o.id tags) as (λ b. (cond b (record o { dependents = with_entity o.dependents e }) o).id ≡ o.id × (cond b (record o { dependents = with_entity o.dependents e }) o).tags ≡ o.tags) [ true ↦ (refl, refl) | false ↦ (refl, refl) ]
+
+pub relieved_keeps : (tags : List ℕ) (e : Entity) (o : OpenGuess) → (relieved tags e o).id ≡ o.id × (relieved tags e o).tags ≡ o.tags
+relieved_keeps tags e o = elim (has o.id tags) as (λ b. (cond b (record o { dependents = without_entity o.dependents e }) o).id ≡ o.id × (cond b (record o { dependents = without_entity o.dependents e }) o).tags ≡ o.tags) [ true ↦ (refl, refl) | false ↦ (refl, refl) ]
+
+pub left_to_keeps : (tags : List ℕ) (e : Entity) (o : OpenGuess) → (left_to tags e o).id ≡ o.id × (left_to tags e o).tags ≡ o.tags
+left_to_keeps tags e o = elim (has o.id tags) as (λ b. (cond b o (record o { dependents = without_entity o.dependents e })).id ≡ o.id × (cond b o (record o { dependents = without_entity o.dependents e })).tags ≡ o.tags) [ true ↦ (refl, refl) | false ↦ (refl, refl) ]
+
+-- where none is drawn
+no_numbers : IsStrictlySortedBy nat_cmp []
+unfolding IsStrictlySortedBy
+no_numbers = tt
+
+none_yet : (kernel g : ℕ) → false ≡ open_in (status_of (record { kernel = kernel; statuses = [] }) g)
+none_yet kernel zero = refl
+none_yet kernel (suc k) = ap open_in (sym (status-at (record { kernel = kernel; statuses = [] }) (suc k) (omega arith)))
+
+pub none_open : (kernel : ℕ) (statuses : List Status) (ls : List Listing) → statuses ≡ [] → ls ≡ [] → AreOpen (record { kernel = kernel; statuses = statuses }) (map guess_of ls)
+none_open kernel statuses ls none empty =
+    subst (λ ss. AreOpen (record { kernel = kernel; statuses = ss }) (map guess_of ls)) (sym none)
+    (subst (λ xs. AreOpen (record { kernel = kernel; statuses = [] }) (map guess_of xs)) (sym empty)
+    (record { rising = no_numbers; tied = none_yet kernel; own = tt }))
+
+-- ---- one place of all is changed
+pub set_same : (ls : List Listing) (i : ℕ) (l new : Listing) → i < length ls → l ≡ slice_index_or ls i l → new.guess ≡ l.guess → map guess_of (slice_set ls i new) ≡ map guess_of ls
+set_same [] i l new lt at same = absurd (omega arith)
+set_same (x ∷ ls) zero l new lt at same = ap (λ o. o ∷ map guess_of ls) (same ∙ ap guess_of at)
+set_same (x ∷ ls) (suc i) l new lt at same = ap (λ os. x.guess ∷ os) (set_same ls i l new (omega arith) at same)
+
+pub ready_more : (tags : List ℕ) (ls : List Listing) (i j : ℕ) (l new : Listing) → j ≡ suc i → i < length ls → l ≡ slice_index_or ls i l → new.guess ≡ l.guess → (has l.guess.id tags ≡ true → 0 < new.room)
+    → ((k : ℕ) (d : Listing) → k < i → has (slice_index_or ls k d).guess.id tags ≡ true → 0 < (slice_index_or ls k d).room)
+    → (k : ℕ) (d : Listing) → k < j → has (slice_index_or (slice_set ls i new) k d).guess.id tags ≡ true → 0 < (slice_index_or (slice_set ls i new) k d).room
+ready_more tags [] i j l new next lt at same room h k d below here = absurd (omega arith)
+ready_more tags (x ∷ ls) zero j l new next lt at same room h zero d below here = room (ap (λ (o : OpenGuess). has o.id tags) (sym same) ∙ here)
+ready_more tags (x ∷ ls) zero j l new next lt at same room h (suc k) d below here = absurd (omega (arith, next, below))
+ready_more tags (x ∷ ls) (suc i) j l new next lt at same room h zero d below here = h zero d (omega arith) here
+ready_more tags (x ∷ ls) (suc i) j l new next lt at same room h (suc k) d below here =
+    ready_more tags ls i (suc i) l new refl (omega arith) at same room (λ k d lt. h (suc k) d (omega arith)) k d (omega (arith, next, below)) here
+
+pub set_after : (ls : List Listing) (i k : ℕ) (d new : Listing) → suc i ≤ k → slice_index_or (slice_set ls i new) k d ≡ slice_index_or ls k d
+set_after [] i k d new le = refl
+set_after (x ∷ ls) i zero d new le = absurd (omega arith)
+set_after (x ∷ ls) zero (suc k) d new le = refl
+set_after (x ∷ ls) (suc i) (suc k) d new le = set_after ls i k d new (omega arith)
+
+pub done_more : (f : OpenGuess → OpenGuess) (os ls : List Listing) (i : ℕ) (l new : Listing) → i < length ls → length ls ≡ length os → l ≡ slice_index_or ls i l → new.guess ≡ f l.guess
+    → ((d : Listing) → slice_index_or ls i d ≡ slice_index_or os i d)
+    → map guess_of ls ≡ map f (map guess_of (take i os)) ++ map guess_of (drop i os)
+    → map guess_of (slice_set ls i new) ≡ map f (map guess_of (take (suc i) os)) ++ map guess_of (drop (suc i) os)
+done_more f os [] i l new lt as_long at is untouched so_far = absurd (omega arith)
+done_more f [] (x ∷ ls) i l new lt as_long at is untouched so_far = absurd (omega (arith, as_long))
+done_more f (o ∷ os) (x ∷ ls) zero l new lt as_long at is untouched so_far =
+    let tails : map guess_of ls ≡ map guess_of os = cc in
+    λ j. (is ∙ ap (λ (y : Listing). f y.guess) (at ∙ untouched l)) j ∷ tails j
+done_more f (o ∷ os) (x ∷ ls) (suc i) l new lt as_long at is untouched so_far =
+    let heads : x.guess ≡ f o.guess = cc in
+    let tails : map guess_of ls ≡ map f (map guess_of (take i os)) ++ map guess_of (drop i os) = cc in
+    let shorter : length ls ≡ length os = omega (arith, as_long) in
+    λ j. heads j ∷ done_more f os ls i l new (omega arith) shorter at is untouched tails j
+
+-- ---- lists of what is decided, once more
+pub closed_list : (g : ℕ) (os : List OpenGuess) → dependents_of g (but g os) ≡ []
+closed_list g os = none_there g (but g os) (ap (has g) (but_named g os) ∙ has_filter (λ t. not (t == g)) g (named os) ∙ ap (λ b. not b && has g (named os)) (eq-eqb g g refl))
+
+pub committed_list : (g : ℕ) (os : List OpenGuess) → dependents_of g (after_commit g os) ≡ []
+committed_list g os =
+    none_there g (after_commit g os)
+    (ap (has g) (same_named g (but g os) ∙ but_named g os) ∙ has_filter (λ t. not (t == g)) g (named os) ∙ ap (λ b. not b && has g (named os)) (eq-eqb g g refl))
+
+pub struck_length : (g : ℕ) (os : List OpenGuess) (ss : List Status) → length (struck_by g os ss) ≡ length ss
+struck_length g [] ss = refl
+struck_length g (o ∷ os) ss =
+    struck_length g os (cond (has g o.tags) (slice_set ss (o.id - 1) Struck) ss)
+    ∙ elim (has g o.tags) as (λ b. length (cond b (slice_set ss (o.id - 1) Struck) ss) ≡ length ss) [ true ↦ rw length-set refl | false ↦ refl ]
+
+-- one that is not undecided is not among them
+not_named : (v : GuessesView) (os : List OpenGuess) (g : ℕ) → AreOpen v os → open_in (status_of v g) ≡ false → has g (named os) ≡ false
+not_named v os g are closed = are.tied g ∙ closed
+
+pub none_closed : (g : ℕ) (os : List OpenGuess) → has g (named os) ≡ false → but g os ≡ os
+none_closed g [] none = refl
+none_closed g (o ∷ os) none =
+    elim (o.id == g) as (λ b. (b || has g (named os)) ≡ false → cond (not b) (o ∷ but g os) (but g os) ≡ o ∷ os) [
+      | true ↦ λ e. absurd (true≢false e)
+      | false ↦ λ e. ap (λ xs. o ∷ xs) (none_closed g os e)
+    ] none
+
+pub closed_resting : (v : GuessesView) (os : List OpenGuess) (g : ℕ) → AreOpen v os → open_in (status_of v g) ≡ false → opens_of (not_resting g os) ≡ not_struck g (opens_of os)
+closed_resting v os g are closed = ap (λ xs. opens_of (not_resting g xs)) (sym (none_closed g os (not_named v os g are closed))) ∙ struck_opens g os are.own
+
+-- ---- where they aren't full, there is a place and a number
+or_no : (a b : Bool) → true ≡ not (a || b) → (a ≡ false) × (b ≡ false) × ((a || b) ≡ false)
+or_no true b is = absurd (true≢false is)
+or_no false true is = absurd (true≢false is)
+or_no false false is = (refl, refl, refl)
+
+pub not_full : (v : GuessesView) → true ≡ not (is_full v) → (undecided_of v.statuses < GUESS_LIMIT) × (next_of v ≤ LAST_GUESS) × (is_full v ≡ false)
+not_full v is =
+    let no = or_no (nat_le GUESS_LIMIT (undecided_of v.statuses)) (nat_lt LAST_GUESS (next_of v)) is in
+    (leb-false GUESS_LIMIT (undecided_of v.statuses) no.0, ltb-false LAST_GUESS (next_of v) no.1, no.2)

@@ -1,0 +1,15 @@
+-- None is drawn.
+use Rattle.std.proofs.Common.{◌≡◌, ℕ, [], List, ◌≤◌, length, false, map, refl, sym, ap, subst, arith}
+use Rattle.sk_record.specs.declared.status.Status.{Status}
+use Rattle.sk_guesses.specs.Opens.{AreOpen, OpenGuess}
+use Rattle.sk_guesses.specs.Room.{Listing}
+use Rattle.sk_guesses.proofs.Opens.{guess_of, none_open}
+use Rattle.sk_guesses.proofs.guesses.Guesses.new.Goals as goal
+
+pub invariant_of-result : goal.invariant_of-result
+invariant_of-result c = (
+  none_open c.args.kernel c.new.result.items c.new-2.result.items c.new.ensures.items c.new-2.ensures.items,
+  omega (arith, ap length c.new-2.ensures.items),
+  omega (arith, ap length c.new.ensures.items),
+  c.new-3.ensures,
+)

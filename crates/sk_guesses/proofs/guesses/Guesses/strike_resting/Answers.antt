@@ -1,0 +1,45 @@
+-- The statuses and the undecided guesses after the strikes.
+use Rattle.std.proofs.Common.{◌≡◌, ◌<◌, ◌≤◌, ◌-◌, ◌∙◌, ℕ, List, Some, cond, ap, length, map, sym, subst, arith}
+use Rattle.std.specs.Prelude.{slice_index_or}
+use Rattle.sk_record.specs.Machine.{rests_on}
+use Rattle.sk_record.specs.declared.status.Status.{Status}
+use Rattle.sk_record.specs.declared.status.Status.TheVariants.{Struck}
+use Rattle.sk_guesses.specs.Guesses.{GuessesView, status_of}
+use Rattle.sk_guesses.specs.Opens.{AreOpen, OpenGuess, opens_of, struck_by}
+use Rattle.sk_guesses.specs.Room.{Listing, Roomy}
+use Rattle.sk_guesses.proofs.Opens.{guess_of, in_range, open_drawn, open_struck, struck_are, struck_length}
+use Rattle.sk_guesses.proofs.guesses.Guesses.strike_resting.Goals as goal
+
+pub strike_all-requires : goal.strike_all-requires
+strike_all-requires c =
+    let v : GuessesView = record { kernel = c.self.inside.kernel; statuses = c.self.inside.statuses.items } in
+    subst (λ ls. (k : ℕ) (d : Listing) → k < length ls → (slice_index_or ls k d).guess.id - 1 < length v.statuses) (sym c.as_slice.ensures.value)
+    (in_range v c.self.inside.opens.items (open_drawn v (map guess_of c.self.inside.opens.items) c.self.invariant.0))
+
+pub invariant_of-self : goal.invariant_of-self
+invariant_of-self c =
+    let v : GuessesView = record { kernel = c.self.inside.kernel; statuses = c.self.inside.statuses.items } in
+    let w : GuessesView = record { kernel = c.self.inside.kernel; statuses = c.strike_all.new.statuses.items } in
+    let os = map guess_of c.self.inside.opens.items in
+    let is : c.strike_all.new.statuses.items ≡ struck_by c.args.id os v.statuses = c.strike_all.ensures ∙ ap (λ ls. struck_by c.args.id (map guess_of ls) v.statuses) c.as_slice.ensures.value in
+    let as_many : length c.strike_all.new.statuses.items ≡ length v.statuses = ap length is ∙ struck_length c.args.id os v.statuses in (
+      subst (AreOpen w) (sym c.close_resting.ensures.opens)
+          (open_struck v w os c.args.id c.self.invariant.0 (λ g. ap (λ (ss : List Status). status_of (record v { statuses = ss }) g) is ∙ struck_are v c.args.id os (open_drawn v os c.self.invariant.0) g)),
+      omega (arith, c.self.invariant.1, c.close_resting.ensures.fewer),
+      omega (arith, c.self.invariant.2, as_many),
+      c.self.invariant.3,
+    )
+
+pub returns-clause-statuses : goal.returns-clause-statuses
+returns-clause-statuses c = λ g.
+    let v : GuessesView = record { kernel = c.self.inside.kernel; statuses = c.self.inside.statuses.items } in
+    let os = map guess_of c.self.inside.opens.items in
+    let is : c.strike_all.new.statuses.items ≡ struck_by c.args.id os v.statuses = c.strike_all.ensures ∙ ap (λ ls. struck_by c.args.id (map guess_of ls) v.statuses) c.as_slice.ensures.value in
+    ap (λ (ss : List Status). status_of (record v { statuses = ss }) g) is ∙ struck_are v c.args.id os (open_drawn v os c.self.invariant.0) g
+    ∙ ap (λ (r : Roomy). cond (rests_on c.args.id (opens_of r.opens) g) (Some Struck) (status_of r.view g)) c.self.view_is
+
+pub returns-clause-drawn : goal.returns-clause-drawn
+returns-clause-drawn c =
+    let os = map guess_of c.self.inside.opens.items in
+    let is : c.strike_all.new.statuses.items ≡ struck_by c.args.id os c.self.inside.statuses.items = c.strike_all.ensures ∙ ap (λ ls. struck_by c.args.id (map guess_of ls) c.self.inside.statuses.items) c.as_slice.ensures.value in
+    ap length is ∙ struck_length c.args.id os c.self.inside.statuses.items ∙ ap (λ (r : Roomy). length r.view.statuses) c.self.view_is

@@ -1,0 +1,15 @@
+-- Numbers and tags stay.
+use Rattle.std.proofs.Common.{◌≡◌, ap, map, sym, subst, arith}
+use Rattle.sk_guesses.specs.Guesses.{GuessesView}
+use Rattle.sk_guesses.specs.Opens.{AreOpen, OpenGuess}
+use Rattle.sk_guesses.proofs.Opens.{guess_of, open_taken}
+use Rattle.sk_guesses.proofs.guesses.Guesses.take_dependents.Goals as goal
+
+pub invariant_of-self : goal.invariant_of-self
+invariant_of-self c =
+    let v : GuessesView = record { kernel = c.self.inside.kernel; statuses = c.self.inside.statuses.items } in (
+      subst (AreOpen v) (sym c.take_list.ensures.opens) (open_taken v (map guess_of c.self.inside.opens.items) c.args.id c.self.invariant.0),
+      omega (arith, c.self.invariant.1, c.take_list.ensures.as_many),
+      c.self.invariant.2,
+      c.self.invariant.3,
+    )

@@ -1,0 +1,11 @@
+use Rattle.std.proofs.Common.{◌≡◌, take}
+use Rattle.sk_guesses.specs.Opens.{opens_of}
+use Rattle.sk_machine.specs.Dependents.{AllExact, tags_in, with_tags}
+use Rattle.sk_machine.proofs.lists.depend_all.Given as goal
+
+abbrev pub invariant-loop-entity : goal.invariant-loop-entity
+invariant-loop-entity l = record {
+  view : l.guesses.view ≡ l.fn.guesses.view;
+  opens : opens_of l.guesses.opens ≡ opens_of l.fn.guesses.opens;
+  exact : AllExact (with_tags l.tags (take l.entity-index l.entities) (tags_in l.logs.slots)) l.guesses.opens;
+}

@@ -1,0 +1,11 @@
+use Rattle.std.proofs.Common.{◌≡◌, drop}
+use Rattle.sk_guesses.specs.Opens.{opens_of}
+use Rattle.sk_machine.specs.Dependents.{AllAlmostExact, tags_in}
+use Rattle.sk_machine.proofs.lists.relieve_all.Given as goal
+
+abbrev pub invariant-loop-entity : goal.invariant-loop-entity
+invariant-loop-entity l = record {
+  view : l.guesses.view ≡ l.fn.guesses.view;
+  opens : opens_of l.guesses.opens ≡ opens_of l.fn.guesses.opens;
+  almost : AllAlmostExact (tags_in l.logs.slots) (drop l.entity-index l.entities) l.guesses.opens;
+}

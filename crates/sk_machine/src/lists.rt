@@ -1,0 +1,82 @@
+//! The lists of what rests on each undecided guess, as steps and failures change them.
+ghost use Rattle.std.specs.Prelude.{◌≡◌, OnOk, OnErr, []};
+ghost use Rattle.sk_guesses.specs.Opens.{opens_of};
+ghost use Rattle.sk_machine.specs.Dependents.{AllAlmostExact, AllExact, Covers, Depends, tags_in, with_tags};
+
+use sk_guesses::Guesses;
+use sk_ids::{Entity, TagSet};
+use sk_undo::Logs;
+use std::alloc::AllocError;
+
+/// The guesses that an entity rests on, where this is the set of none.
+pub(crate) fn tags_of<'a>(logs: &'a Logs, untagged: &'a TagSet, entity: &Entity) -> &'a TagSet
+    requires { untagged.now ≡ [] }
+    ensures { result.now ≡ tags_in logs.now.slots entity.now }
+{
+    match logs.tags(*entity) {
+        Some(tags) => tags,
+        None => untagged,
+    }
+}
+
+/// Adds an entity to the lists of these guesses. Most entities rest on just these already, and are there.
+fn depend(
+    guesses: &mut Guesses,
+    own: &TagSet,
+    tags: &TagSet,
+    entity: &Entity,
+) -> Result<(), AllocError>
+    ensures view { guesses.new.view ≡ guesses.old.view }
+    ensures ok { OnOk result (Depends own.now tags.now entity.now guesses.old.opens guesses.new.opens) }
+    ensures err { OnErr result (guesses.new.opens ≡ guesses.old.opens) }
+{
+    if own.covers(tags) {
+        return Ok(());
+    }
+    guesses.depend(tags, entity)
+}
+
+/// Adds what a step writes to the lists of the guesses that the step rests on. Without memory the lists
+/// have what they had.
+pub(crate) fn depend_all(
+    guesses: &mut Guesses,
+    logs: &Logs,
+    untagged: &TagSet,
+    tags: &TagSet,
+    entities: &[Entity],
+) -> Result<(), AllocError>
+    requires exact { AllExact (tags_in logs.now.slots) guesses.old.opens }
+    requires covers { Covers tags.now entities.now (tags_in logs.now.slots) }
+    requires untagged { untagged.now ≡ [] }
+    ensures view { guesses.new.view ≡ guesses.old.view }
+    ensures opens { opens_of guesses.new.opens ≡ opens_of guesses.old.opens }
+    ensures ok { OnOk result (AllExact (with_tags tags.now entities.now (tags_in logs.now.slots)) guesses.new.opens) }
+    ensures err { OnErr result (AllExact (tags_in logs.now.slots) guesses.new.opens) }
+{
+    for entity in entities {
+        let own = tags_of(logs, untagged, entity);
+        if depend(guesses, own, tags, entity).is_err() {
+            relieve_all(guesses, logs, untagged, entities);
+            return Err(AllocError);
+        }
+    }
+    Ok(())
+}
+
+/// Takes entities out of the lists of the guesses that they do not rest on.
+pub(crate) fn relieve_all(
+    guesses: &mut Guesses,
+    logs: &Logs,
+    untagged: &TagSet,
+    entities: &[Entity],
+)
+    requires almost { AllAlmostExact (tags_in logs.now.slots) entities.now guesses.old.opens }
+    requires untagged { untagged.now ≡ [] }
+    ensures view { guesses.new.view ≡ guesses.old.view }
+    ensures opens { opens_of guesses.new.opens ≡ opens_of guesses.old.opens }
+    ensures exact { AllExact (tags_in logs.now.slots) guesses.new.opens }
+{
+    for entity in entities {
+        guesses.leave_to(tags_of(logs, untagged, entity), entity);
+    }
+}

@@ -21,3 +21,4 @@ pub mod Accepted
 pub mod StoresApart
 pub mod AskedReplies
 pub mod Writes
+pub mod Lending

@@ -4,3 +4,4 @@ pub mod DeskCalls
 pub mod DeskInvariant
 pub mod WorldView
 pub mod LawWorld
+pub mod Leasing

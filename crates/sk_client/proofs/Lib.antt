@@ -22,3 +22,4 @@ pub mod StoresApart
 pub mod AskedReplies
 pub mod Writes
 pub mod Upcoming
+pub mod Lending

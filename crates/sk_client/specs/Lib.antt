@@ -5,3 +5,4 @@ pub mod DeskInvariant
 pub mod WorldView
 pub mod LawWorld
 pub mod Upcoming
+pub mod Leasing

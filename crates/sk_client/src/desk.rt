@@ -69,7 +69,7 @@ pub struct Pending(pub usize);
 /// A client's desk: a kernel, its requests without a reply, and answers that are kept for processes that were
 /// taken back. It can't be dropped: `shut` or `abandon` it.
 pub struct Desk {
-    holder: Holder,
+    pub(crate) holder: Holder,
     taken: VecDeque<PendingRequest>,
     waiting: VecDeque<Waiting>,
     next: u64,
@@ -300,7 +300,7 @@ impl Desk {
     }
 
     /// Whether a process waits for a reply.
-    fn asks_for(&self, pid: Pid) -> bool
+    pub(crate) fn asks_for(&self, pid: Pid) -> bool
         ensures { result ≡ asks_for pid (pending self.now) }
     {
         taken_for(&self.taken, pid) || waiting_for(&self.waiting, pid)
@@ -314,7 +314,7 @@ impl Desk {
     }
 
     /// The places of the trace that are free, with one kept for the step of each asked request.
-    fn free_places(&self) -> usize
+    pub(crate) fn free_places(&self) -> usize
         ensures { result ≡ room self.now.kernel - asked_count (pending self.now) }
     {
         let asked = asked_taken(&self.taken) + asked_waiting(&self.waiting);

@@ -3,6 +3,7 @@
 
 pub mod desk;
 pub mod laws;
+pub mod leasing;
 pub mod pending;
 pub mod rule;
 pub mod world;

@@ -102,7 +102,7 @@ module _ (k : KernelView) (sound : HasSoundTrace k) (l : LeaseView) (as_lent : I
   are_entries done = record {
     entries = entries_are k l.lent.pid l.count;
     process =
-      state_is l.count refl done (Proc l.lent.pid)
-      ∙ ap (λ b. cond b (Some (stored.Process l.now)) (map.get (state_at k) (Proc l.lent.pid))) ((eq_by_cmp_equiv entity_total).refl (Proc l.lent.pid));
+        state_is l.count refl done (Proc l.lent.pid)
+        ∙ ap (λ b. cond b (Some (stored.Process l.now)) (map.get (state_at k) (Proc l.lent.pid))) ((eq_by_cmp_equiv entity_total).refl (Proc l.lent.pid));
     others = λ e apart. state_is l.count refl done e ∙ ap (λ b. cond b (Some (stored.Process l.now)) (map.get (state_at k) e)) apart;
   }

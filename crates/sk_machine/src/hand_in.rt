@@ -20,12 +20,7 @@ use std::slice;
 
 /// Sets what a process has become, which rests on these guesses. Without memory nothing has changed.
 #[tactic(auto, using(crate::proofs::Writes::performed))]
-fn set_process(
-    logs: &mut Logs,
-    tags: TagSet,
-    pid: Pid,
-    process: &Process,
-) -> Result<(), AllocError>
+fn set_process(logs: &mut Logs, tags: TagSet, pid: Pid, process: &Process) -> Result<(), AllocError>
     requires { IsClean logs.old.slots tags (Proc pid ∷ []) }
     ensures ok { OnOk result (SetsProcess logs.old.slots tags pid process.now logs.new.slots) }
     ensures err { OnErr result (logs.new.slots ≡ logs.old.slots) }

@@ -142,15 +142,15 @@ module _ (look : Entity → Option EntityState) (scripts : Scripts) (pid : ℕ) 
         runs = ap (script_at scripts) keeps.script ∙ on.runs;
         undisturbed = as_before (look (Sig pid)) keeps ∙ on.undisturbed;
       } where
-    as_before : (o : Option EntityState) → Keeps p q → is_due q o ≡ is_due p o
-    as_before (Some (stored.Value (values.Signals queue))) keeps = λ i. list_any (λ n. n == KILL) queue || (not (length queue == 0) && (is_some (keeps.handler i) && not (is_some (keeps.saved i))))
-    as_before (Some (stored.Value (values.File bytes))) keeps = refl
-    as_before (Some (stored.Value (values.Dir links))) keeps = refl
-    as_before (Some (stored.Value (values.Pipe pipe))) keeps = refl
-    as_before (Some (stored.Value (values.Exit status))) keeps = refl
-    as_before (Some (stored.Value (values.Copy content))) keeps = refl
-    as_before (Some (stored.Process r)) keeps = refl
-    as_before None keeps = refl
+        as_before : (o : Option EntityState) → Keeps p q → is_due q o ≡ is_due p o
+        as_before (Some (stored.Value (values.Signals queue))) keeps = λ i. list_any (λ n. n == KILL) queue || (not (length queue == 0) && (is_some (keeps.handler i) && not (is_some (keeps.saved i))))
+        as_before (Some (stored.Value (values.File bytes))) keeps = refl
+        as_before (Some (stored.Value (values.Dir links))) keeps = refl
+        as_before (Some (stored.Value (values.Pipe pipe))) keeps = refl
+        as_before (Some (stored.Value (values.Exit status))) keeps = refl
+        as_before (Some (stored.Value (values.Copy content))) keeps = refl
+        as_before (Some (stored.Process r)) keeps = refl
+        as_before None keeps = refl
 
 -- the instructions counted from the first or from the last
 same_option : (o : Option Process) → o ≡ option_and_then (λ q. Some q) o

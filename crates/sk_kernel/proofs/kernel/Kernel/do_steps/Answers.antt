@@ -26,14 +26,13 @@ overflow_add-places c =
     search (rules, below)
 
 pub returns-then-is_err : goal.returns-then-is_err
-returns-then-is_err c =
-    (
-      c.requires.as_lent,
-      subst (λ n. n ≤ room c.args.self.now) c.requires.count c.requires.places,
-      subst (λ n. 0 < n) c.requires.count c.requires.some,
-      (λ i. record { number = c.self.inside.machine.guesses.kernel; scripts = c.self.inside.opening.start.scripts; start = c.self.inside.opening.start.state; limit = c.self.inside.opening.limit; trace = c.reserve.ensures.events i })
-          ∙ c.self.view_is,
-    )
+returns-then-is_err c = (
+  c.requires.as_lent,
+  subst (λ n. n ≤ room c.args.self.now) c.requires.count c.requires.places,
+  subst (λ n. 0 < n) c.requires.count c.requires.some,
+  (λ i. record { number = c.self.inside.machine.guesses.kernel; scripts = c.self.inside.opening.start.scripts; start = c.self.inside.opening.start.state; limit = c.self.inside.opening.limit; trace = c.reserve.ensures.events i })
+      ∙ c.self.view_is,
+)
 
 pub returns-then-is_err-2 : goal.returns-then-is_err-2
 returns-then-is_err-2 c =

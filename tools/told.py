@@ -10,8 +10,7 @@ import subprocess
 SECTIONS = ("steps", "world")
 WORD = re.compile(r'"(?:\\.|[^"\\])*"[^ \t]*|[^ \t]+')
 PROCESS = re.compile(r'at (\d+) regs \S+(?: \S+){7} buf (".*") kids .* ended (yes|no)')
-# The answers of the events that are in the kernel's trace.
-IN_TRACE = re.compile(r"(?:stepped|done|(?:guess|guessed|committed|failed|taken) \d+)")
+DECIDED = re.compile(r"(commit|fail)(?:ted|ed) (\d+)")
 
 
 class Fault(Exception):
@@ -128,15 +127,16 @@ class Event:
         drawn = re.fullmatch(r"guess(?:ed)? (\d+)", answer)
         if drawn:
             self.guess = int(drawn[1])
-
-    def list_as(self, entry, reads, writes, tags):
-        """Takes the four lines that the program lists for an event of the trace."""
-        words = entry.split(" ")
-        if words[0] in ("commit", "fail"):
+        found = DECIDED.fullmatch(answer)
+        if answer == "done":
             self.decided = (words[0], int(words[1]))
-            return
-        self.process = words[2] if words[0] == "guess" else words[1]
+        elif found:
+            self.decided = (found[1], int(found[2]))
+
+    def list_as(self, reads, writes, tags):
+        """Takes the three lines that the program lists for a step that was taken."""
         self.reads, self.writes = entities_in(reads), entities_in(writes)
+        self.process = self.reads[0].split(" ")[1]
         listed = tags.split(" ")[1]
         self.tags = set() if listed == "-" else set(map(int, listed.split(",")))
 
@@ -176,18 +176,17 @@ class Run:
     def __init__(self, program, text):
         self.scenario = Scenario(text)
         events = self.scenario.events
-        listed = played(program, self.scenario.beginning(len(events)), "--steps")
-        answers = [line.split(" ", 1)[1] for line in listed[: len(events)]]
-        entries = iter(listed[listed.index("events") + 1:])
+        listed = iter(played(program, self.scenario.beginning(len(events)), "--steps"))
         self.states = [State(played(program, self.scenario.beginning(count))[count:]) for count in range(len(events) + 1)]
         self.events, self.texts, self.guesses = [], [], {}
-        for number, (words, answer) in enumerate(zip(events, answers), 1):
-            event = Event(number, words, answer)
-            if IN_TRACE.fullmatch(answer):
-                event.list_as(*(next(entries) for _ in range(4)))
+        line = next(listed)
+        for number, words in enumerate(events, 1):
+            event = Event(number, words, line.split(" ", 1)[1])
+            line = next(listed)
+            if line.startswith("reads "):
+                event.list_as(line, next(listed), next(listed))
+                line = next(listed)
             self.take(event)
-        if next(entries, None):
-            raise Fault("the program lists more events than it answered")
 
     def take(self, event):
         before, after = self.states[event.number - 1:event.number + 1]

@@ -12,6 +12,7 @@ use Rattle.clap.specs.declared.builder.action.ArgAction.TheVariants.{Set, SetTru
 use Rattle.clap.specs.declared.builder.value_parser.ValueParser.TheVariants as parsers
 use Rattle.clap.specs.declared.error.kind.ErrorKind.{ErrorKind}
 use Rattle.sk_command.specs.declared.job.Job.{Job}
+use Rattle.sk_command.specs.declared.job.Shows.{Shows}
 use Rattle.sk_command.specs.declared.job.Job.TheVariants as jobs
 use Rattle.sk_command.specs.declared.end.End.{End}
 use Rattle.sk_command.specs.declared.end.End.TheVariants as ends
@@ -25,6 +26,10 @@ file_rule = record (new_rule (codes "FILE")) { required = true; action = Some Se
 abbrev pub trace_rule : Rule
 trace_rule = record (new_rule (codes "trace")) { long = Some (codes "trace"); action = Some SetTrue }
 
+-- the flag --steps
+abbrev pub steps_rule : Rule
+steps_rule = record (new_rule (codes "steps")) { long = Some (codes "steps"); action = Some SetTrue }
+
 -- the option --workers, a number from 1 to 8
 abbrev pub workers_rule : Rule
 workers_rule = record (new_rule (codes "workers")) { long = Some (codes "workers"); required = true; action = Some Set; value_names = 1; parser = Some (parsers.Unsigned 1 8) }
@@ -34,7 +39,7 @@ abbrev pub turns_rule : Rule
 turns_rule = record (new_rule (codes "turns")) { long = Some (codes "turns"); action = Some Set; value_names = 1; defaults = codes "100000" ∷ []; parser = Some (parsers.Unsigned 1 1000000) }
 
 abbrev pub play_command : App
-play_command = with_rule (with_rule (new_app (codes "play")) file_rule) trace_rule
+play_command = with_rule (with_rule (with_rule (new_app (codes "play")) file_rule) trace_rule) steps_rule
 
 abbrev pub plain_command : App
 plain_command = with_rule (new_app (codes "plain")) file_rule
@@ -59,29 +64,29 @@ command_line =
 
 -- ---- what words ask for
 
--- to play the scenario of a file, with its trace or without, to run plainly what the trace of a file leaves, to replay that trace, or to let
+-- to play the scenario of a file and show so much beside it, to run plainly what the trace of a file leaves, to replay that trace, or to let
 -- so many workers take at most so many turns each of a scenario's processes
 pub data Wish : Type 0 where
-  Play : Text → Bool → Wish
+  Play : Text → Shows → Wish
   Plain : Text → Wish
   Replay : Text → Wish
   Work : Text → ℕ → ℕ → Wish
 
 abbrev pub wish_file : Wish → Text
-wish_file (Play file trace) = file
+wish_file (Play file shows) = file
 wish_file (Plain file) = file
 wish_file (Replay file) = file
 wish_file (Work file workers turns) = file
 
 -- the wish is one for threads
 abbrev pub needs_threads : Wish → Bool
-needs_threads (Play file trace) = false
+needs_threads (Play file shows) = false
 needs_threads (Plain file) = false
 needs_threads (Replay file) = false
 needs_threads (Work file workers turns) = true
 
 abbrev pub wish_of : Job → Wish
-wish_of (jobs.Play file trace) = Play file.now trace
+wish_of (jobs.Play file shows) = Play file.now shows
 wish_of (jobs.Plain file) = Plain file.now
 wish_of (jobs.Replay file) = Replay file.now
 wish_of (jobs.Work file workers turns) = Work file.now workers turns
@@ -89,6 +94,10 @@ wish_of (jobs.Work file workers turns) = Work file.now workers turns
 -- whether a command was found with this flag
 abbrev pub has_flag : Text → List Row → Bool
 has_flag flag rows = option_map_or (λ value. bytes_eq value (codes "true")) (first_of flag rows) false
+
+-- what a command was found to want beside the answers and the report
+abbrev pub shows_found : List Row → Shows
+shows_found rows = record { steps = has_flag (codes "steps") rows; trace = has_flag (codes "trace") rows }
 
 -- the number that a text says, from 1 to a limit
 abbrev pub number_said : ℕ → Text → Option ℕ
@@ -106,7 +115,7 @@ wish_to_work rows file =
 -- what a command of this name asks for
 abbrev pub wish_for : Text → List Row → Text → Option Wish
 wish_for command rows file =
-    if bytes_eq command (codes "play") then Some (Play file (has_flag (codes "trace") rows))
+    if bytes_eq command (codes "play") then Some (Play file (shows_found rows))
     else if bytes_eq command (codes "plain") then Some (Plain file)
     else if bytes_eq command (codes "replay") then Some (Replay file)
     else if bytes_eq command (codes "work") then wish_to_work rows file else None
@@ -125,7 +134,7 @@ wished words = wish_found (subcommand_of command_line words)
 
 -- the workers of a job and their turns are within their bounds
 abbrev pub IsWithinBounds : Job → Type 0
-IsWithinBounds (jobs.Play file trace) = ⊤
+IsWithinBounds (jobs.Play file shows) = ⊤
 IsWithinBounds (jobs.Plain file) = ⊤
 IsWithinBounds (jobs.Replay file) = ⊤
 IsWithinBounds (jobs.Work file workers turns) = IsInRange 1 8 workers × IsInRange 1 1000000 turns

@@ -8,7 +8,7 @@ ghost use Rattle.clap.specs.Simple.{app_of, subcommand_rows_of};
 ghost use Rattle.clap.specs.Values.{kind_of};
 ghost use Rattle.clap.specs.Walk.{rows_of, rule_of};
 ghost use Rattle.clap.specs.declared.builder.command.Command.TheViews.{out-Command as fields_of};
-ghost use Rattle.sk_command.specs.CommandLine.{bare_command_line, command_line, play_command, plain_command, replay_command, work_command, file_rule, trace_rule, workers_rule, turns_rule, has_flag, number_said, number_found, wish_to_work, IsWithinBounds, wish_of, wish_found, wished, faults_of, wish_file, needs_threads};
+ghost use Rattle.sk_command.specs.CommandLine.{bare_command_line, command_line, play_command, plain_command, replay_command, work_command, file_rule, trace_rule, steps_rule, workers_rule, turns_rule, has_flag, shows_found, number_said, number_found, wish_to_work, IsWithinBounds, wish_of, wish_found, wished, faults_of, wish_file, needs_threads};
 ghost use Rattle.sk_command.specs.Ends.{EndsFor, EndsWithHelp, IsFlushed};
 
 use crate::end::{End, flushed};
@@ -19,13 +19,22 @@ use std::alloc::{AllocError, Global};
 use std::fmt;
 use std::io::{BufWriter, Write};
 
+/// What `play` prints beside the answers and the report.
+#[derive(Clone, Copy, Debug, PartialEq, Eq)]
+pub struct Shows {
+    /// What each step reads, writes and rests on, below its answer.
+    pub steps: bool,
+    /// The trace, behind the report.
+    pub trace: bool,
+}
+
 /// What the words ask for, with the name of the input; `-` is standard input.
 #[derive(Clone, Copy, Debug, PartialEq, Eq)]
 pub enum Job<'a> {
-    /// The steps of a scenario are played; its trace is printed where that is wanted.
+    /// The events of a scenario are played, and what is wanted beside it is printed.
     Play {
         file: &'a str,
-        trace: bool,
+        shows: Shows,
     },
     /// What a trace leaves is run without guesses.
     Plain {
@@ -131,6 +140,16 @@ fn trace_arg<'a>(alloc: Global) -> Arg<'a>
         .help("Prints the trace behind the report")
 }
 
+fn steps_arg<'a>(alloc: Global) -> Arg<'a>
+    ensures rule { rule_of result ≡ steps_rule }
+    ensures local { result.global ≡ false }
+{
+    Arg::new(alloc, "steps")
+        .long("steps")
+        .action(ArgAction::SetTrue)
+        .help("Prints what each step reads, writes and rests on below its answer")
+}
+
 fn workers_arg<'a>(alloc: Global) -> Arg<'a>
     ensures rule { rule_of result ≡ workers_rule }
     ensures local { result.global ≡ false }
@@ -165,7 +184,8 @@ fn play<'a>(alloc: Global) -> Result<Command<'a>, AllocError>
         .about(PLAY_HELP)
         .after_help(FORMS)
         .arg(file_arg(alloc))?
-        .arg(trace_arg(alloc))
+        .arg(trace_arg(alloc))?
+        .arg(steps_arg(alloc))
 }
 
 fn plain<'a>(alloc: Global) -> Result<Command<'a>, AllocError>
@@ -231,6 +251,16 @@ fn has_flag(words: &ArgMatches, flag: &str) -> bool
     }
 }
 
+/// What is wanted beside the answers and the report.
+fn shows_of(words: &ArgMatches) -> Shows
+    ensures { result ≡ shows_found (rows_of (found_of words.now)) }
+{
+    Shows {
+        steps: has_flag(words, "steps"),
+        trace: has_flag(words, "trace"),
+    }
+}
+
 /// The number that a text says, if it is one from 1 to this limit.
 fn number_said(text: &str, most: u32) -> Option<u32>
     ensures value { result ≡ number_said most text.now }
@@ -266,7 +296,7 @@ fn job_of<'a>(matches: &ArgMatches<'a>) -> Option<Job<'a>>
     match command {
         "play" => Some(Job::Play {
             file,
-            trace: has_flag(words, "trace"),
+            shows: shows_of(words),
         }),
         "plain" => Some(Job::Plain { file }),
         "replay" => Some(Job::Replay { file }),

@@ -2,3 +2,4 @@ pub mod Decided
 pub mod Turns
 pub mod Replayed
 pub mod Happened
+pub mod Foreseen

@@ -1,5 +1,5 @@
 -- One more step that is taken: from what the steps before it left.
-use Rattle.std.proofs.Common.{◌≡◌, ℕ, suc, ◌+◌, List, [], ◌∷◌, ◌++◌, length, Option, refl, sym, ap, ◌∙◌, arith}
+use Rattle.std.proofs.Common.{◌≡◌, ℕ, suc, ◌+◌, List, [], ◌∷◌, ◌++◌, length, Option, refl, sym, ap, subst, ◌∙◌, arith}
 use Rattle.std.specs.Io.KnownBytes.{Keeps}
 use Rattle.std.proofs.KnownBytes.{Appends-kept}
 use Rattle.std.proofs.lemmas.List.{append_assoc}
@@ -9,7 +9,7 @@ use Rattle.sk_kernel.specs.Kernel.{KernelView}
 use Rattle.sk_play.specs.declared.answer.Answer.{Answer}
 use Rattle.sk_play.specs.Session.{AnswerMatches, held_after}
 use Rattle.sk_play.specs.Played.{answer_line}
-use Rattle.sk_play.specs.Plays.{Plays, answer_lines, Reported}
+use Rattle.sk_play.specs.Plays.{Plays, Tells, Reported}
 
 pub plays_more : (ss : List Call) (bs : List Answer) (s : Call) (a : Answer) (ts us : List ℕ) (k mid last : KernelView) → Plays ss bs ts k us mid → AnswerMatches a s us mid last
     → Plays (ss ++ s ∷ []) (bs ++ a ∷ []) ts k (held_after a s us) last
@@ -18,21 +18,26 @@ plays_more [] (b ∷ bs) s a ts us k mid last p told = absurd p
 plays_more (x ∷ ss) [] s a ts us k mid last p told = absurd p
 plays_more (x ∷ ss) (b ∷ bs) s a ts us k mid last p told = (p.0, p.1, plays_more ss bs s a (held_after b x ts) us p.0 mid last p.2 told)
 
-pub one_each : (ss : List Call) (bs : List Answer) (ts us : List ℕ) (k last : KernelView) → Plays ss bs ts k us last → length bs ≡ length ss
-one_each [] [] ts us k last p = refl
-one_each [] (b ∷ bs) ts us k last p = absurd p
-one_each (x ∷ ss) [] ts us k last p = absurd p
-one_each (x ∷ ss) (b ∷ bs) ts us k last p = ap suc (one_each ss bs (held_after b x ts) us p.0 last p.2)
-
-pub lines_more : (n : ℕ) (bs : List Answer) (a : Answer) → answer_lines n (bs ++ a ∷ []) ≡ answer_lines n bs ++ answer_line (n + length bs) a
-lines_more n [] a =
+pub tells_more : (beside : KernelView → KernelView → List ℕ) (n : ℕ) (ss : List Call) (s : Call) (a : Answer) (ts us : List ℕ) (k mid last : KernelView) (text : List ℕ)
+    → Tells beside n ss ts k us mid text → AnswerMatches a s us mid last
+    → Tells beside n (ss ++ s ∷ []) ts k (held_after a s us) last (text ++ (answer_line (n + length ss) a ++ beside mid last))
+tells_more beside n [] s a ts us k mid last text p told =
     let here : n + 0 ≡ n = omega arith in
-    rw here (append-nil (answer_line n a))
-lines_more n (b ∷ bs) a =
-    let later : n + 1 + length bs ≡ n + length (b ∷ bs) = omega arith in
-    ap (λ ls. answer_line n b ++ ls) (lines_more (n + 1) bs a) ∙ sym (append_assoc (answer_line n b) (answer_lines (n + 1) bs) (answer_line (n + 1 + length bs) a))
-    ∙ ap (λ m. (answer_line n b ++ answer_lines (n + 1) bs) ++ answer_line m a) later
+    rw (p.2, here, ← p.0, ← p.1) (a, last, [], told, sym (append-nil (answer_line n a ++ beside mid last)), (refl, refl, refl))
+tells_more beside n (x ∷ ss) s a ts us k mid last text p told =
+    let later : n + 1 + length ss ≡ n + length (x ∷ ss) = omega arith in
+    let more = tells_more beside (n + 1) ss s a (held_after p.0 x ts) us p.1 mid last p.2 p.5 told in
+    let one = answer_line n p.0 ++ beside k p.1 in
+    let new = answer_line (n + length (x ∷ ss)) a ++ beside mid last in (
+      p.0,
+      p.1,
+      p.2 ++ new,
+      p.3,
+      ap (λ ls. ls ++ new) p.4 ∙ append_assoc one p.2 new,
+      subst (λ m. Tells beside (n + 1) (ss ++ s ∷ []) (held_after p.0 x ts) p.1 (held_after a s us) last (p.2 ++ (answer_line m a ++ beside mid last))) later more,
+    )
 
 -- what is kept of the bytes that were written
-pub reported_kept : (report : KernelView → List ℕ) (ss : List Call) (ts : List ℕ) (k : KernelView) (old mid new : Option (List ℕ)) → Reported report ss ts k old mid → Keeps mid new → Reported report ss ts k old new
-reported_kept report ss ts k old mid new r kept = (r.0, r.1, r.2, r.3, Appends-kept old mid new _ r.4 kept)
+pub reported_kept : (beside : KernelView → KernelView → List ℕ) (report : KernelView → List ℕ) (ss : List Call) (ts : List ℕ) (k : KernelView) (old mid new : Option (List ℕ))
+    → Reported beside report ss ts k old mid → Keeps mid new → Reported beside report ss ts k old new
+reported_kept beside report ss ts k old mid new r kept = (r.0, r.1, r.2, r.3, Appends-kept old mid new _ r.4 kept)

@@ -4,3 +4,4 @@ pub mod Plays
 pub mod Replays
 pub mod Told
 pub mod Worlds
+pub mod Upcoming

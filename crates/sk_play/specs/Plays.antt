@@ -20,16 +20,26 @@ Plays (s ∷ steps) [] held kernel left last = ⊥
 Plays (s ∷ steps) (a ∷ answers) held kernel left last =
     (next : KernelView) × AnswerMatches a s held kernel next × Plays steps answers (held_after a s held) next left last
 
--- a line for each answer, numbered from here
-abbrev pub answer_lines : ℕ → List Answer → List ℕ
-answer_lines number [] = []
-answer_lines number (a ∷ answers) = answer_line number a ++ answer_lines (number + 1) answers
+-- a step is answered, and a line of it is written, with what is told beside it of the kernels before and after it
+abbrev pub TellsOne :
+    (KernelView → KernelView → List ℕ) → ℕ → Call → List ℕ → KernelView → List ℕ → KernelView → Option (List ℕ) → Option (List ℕ) → Type 0
+TellsOne beside number s held kernel left next old new =
+    (a : Answer) × AnswerMatches a s held kernel next × (left ≡ held_after a s held) × Appends old new (answer_line number a ++ beside kernel next)
 
--- the steps are answered in turn, and a line for each answer is written
-abbrev pub Answered : List Call → List ℕ → KernelView → List ℕ → KernelView → Option (List ℕ) → Option (List ℕ) → Type 0
-Answered steps held kernel left last old new = (answers : List Answer) × Plays steps answers held kernel left last × Appends old new (answer_lines 1 answers)
+-- the steps are answered in turn, numbered from here, and this text is told of them
+abbrev pub Tells : (KernelView → KernelView → List ℕ) → ℕ → List Call → List ℕ → KernelView → List ℕ → KernelView → List ℕ → Type 0
+Tells beside number [] held kernel left last text = (left ≡ held) × (last ≡ kernel) × (text ≡ [])
+Tells beside number (s ∷ steps) held kernel left last text =
+    (a : Answer) × (next : KernelView) × (rest : List ℕ) × AnswerMatches a s held kernel next
+    × (text ≡ (answer_line number a ++ beside kernel next) ++ rest) × Tells beside (number + 1) steps (held_after a s held) next left last rest
+
+-- and it is written
+abbrev pub Answered :
+    (KernelView → KernelView → List ℕ) → List Call → List ℕ → KernelView → List ℕ → KernelView → Option (List ℕ) → Option (List ℕ) → Type 0
+Answered beside steps held kernel left last old new = (text : List ℕ) × Tells beside 1 steps held kernel left last text × Appends old new text
 
 -- and then what a report says of the kernel that they leave
-abbrev pub Reported : (KernelView → List ℕ) → List Call → List ℕ → KernelView → Option (List ℕ) → Option (List ℕ) → Type 0
-Reported report steps held kernel old new =
-    (answers : List Answer) × (left : List ℕ) × (last : KernelView) × Plays steps answers held kernel left last × Appends old new (answer_lines 1 answers ++ report last)
+abbrev pub Reported :
+    (KernelView → KernelView → List ℕ) → (KernelView → List ℕ) → List Call → List ℕ → KernelView → Option (List ℕ) → Option (List ℕ) → Type 0
+Reported beside report steps held kernel old new =
+    (text : List ℕ) × (left : List ℕ) × (last : KernelView) × Tells beside 1 steps held kernel left last text × Appends old new (text ++ report last)

@@ -14,6 +14,7 @@ use Rattle.sk_client.specs.declared.world.WorldAnswer.{WorldAnswer}
 use Rattle.sk_client.specs.declared.world.Cause.{Cause}
 use Rattle.sk_client.specs.declared.world.Cause.TheVariants as causes
 use Rattle.sk_scenario.specs.Declarations.{Declared}
+use Rattle.sk_kernel.specs.Kernel.{KernelView}
 use Rattle.sk_scenario.specs.declared.declarations.Remote.{Remote}
 use Rattle.sk_play.specs.Plays.{declared_kernel}
 use Rattle.sk_play.specs.Told.{told_line}
@@ -57,23 +58,24 @@ Happens told w e new = (came : Result WorldAnswer Cause) × (told_of came ≡ to
 
 -- ---- events in turn
 
--- from this world on, of each event this is told, refused or not, which leaves that world
-abbrev pub WorldPlays : List WorldEvent → List WorldTold → WorldView → WorldView → Type 0
-WorldPlays [] [] w last = last ≡ w
-WorldPlays [] (t ∷ ts) w last = ⊥
-WorldPlays (e ∷ es) [] w last = ⊥
-WorldPlays (e ∷ es) (t ∷ ts) w last = (next : WorldView) × Happens (Some t) w e next × WorldPlays es ts next last
+-- an event happens, refused or not, and a line of it is written, with what is told beside it of the kernels before and after it
+abbrev pub WorldTellsOne :
+    (KernelView → KernelView → List ℕ) → ℕ → WorldEvent → WorldView → WorldView → Option (List ℕ) → Option (List ℕ) → Type 0
+WorldTellsOne beside number e w next old new =
+    (t : WorldTold) × Happens (Some t) w e next × Appends old new (told_line number t ++ beside w.desk.kernel next.desk.kernel)
 
--- a line for each, numbered from here
-abbrev pub told_lines : ℕ → List WorldTold → List ℕ
-told_lines number [] = []
-told_lines number (t ∷ ts) = told_line number t ++ told_lines (number + 1) ts
+-- the events happen in turn, numbered from here, and this text is told of them
+abbrev pub WorldTells : (KernelView → KernelView → List ℕ) → ℕ → List WorldEvent → WorldView → WorldView → List ℕ → Type 0
+WorldTells beside number [] w last text = (last ≡ w) × (text ≡ [])
+WorldTells beside number (e ∷ es) w last text =
+    (t : WorldTold) × (next : WorldView) × (rest : List ℕ) × Happens (Some t) w e next
+    × (text ≡ (told_line number t ++ beside w.desk.kernel next.desk.kernel) ++ rest) × WorldTells beside (number + 1) es next last rest
 
--- the events happen in turn, and a line of each is written
-abbrev pub WorldAnswered : List WorldEvent → WorldView → WorldView → Option (List ℕ) → Option (List ℕ) → Type 0
-WorldAnswered events w last old new = (told : List WorldTold) × WorldPlays events told w last × Appends old new (told_lines 1 told)
+-- and it is written
+abbrev pub WorldAnswered : (KernelView → KernelView → List ℕ) → List WorldEvent → WorldView → WorldView → Option (List ℕ) → Option (List ℕ) → Type 0
+WorldAnswered beside events w last old new = (text : List ℕ) × WorldTells beside 1 events w last text × Appends old new text
 
 -- and then what a report says of the world that they leave
-abbrev pub WorldReported : (WorldView → List ℕ) → List WorldEvent → WorldView → Option (List ℕ) → Option (List ℕ) → Type 0
-WorldReported report events w old new =
-    (told : List WorldTold) × (last : WorldView) × WorldPlays events told w last × Appends old new (told_lines 1 told ++ report last)
+abbrev pub WorldReported : (KernelView → KernelView → List ℕ) → (WorldView → List ℕ) → List WorldEvent → WorldView → Option (List ℕ) → Option (List ℕ) → Type 0
+WorldReported beside report events w old new =
+    (text : List ℕ) × (last : WorldView) × WorldTells beside 1 events w last text × Appends old new (text ++ report last)

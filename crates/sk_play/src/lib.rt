@@ -2,12 +2,14 @@
 //! the world that it declares, joined or as its desk and its server, and what is told of its events.
 #![tactic(auto)]
 
+pub mod ahead;
 pub mod answer;
 pub mod replaying;
 pub mod session;
 pub mod told;
 pub mod worlds;
 
+pub use ahead::upcoming;
 pub use answer::{Answer, write_answer};
 pub use replaying::{Unreplayed, replay};
 pub use session::Session;

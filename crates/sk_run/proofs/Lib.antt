@@ -1,2 +1,3 @@
 pub mod Files
 mod Plainly
+pub mod Listed

@@ -1,6 +1,7 @@
 //! What the program does with a scenario where it needs no threads: its run, from its words or a text to its end.
 #![tactic(auto)]
 
+pub mod listing;
 pub mod playing;
 pub mod program;
 pub mod replaying;

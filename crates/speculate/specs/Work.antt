@@ -52,7 +52,7 @@ EndsWorkFile workers (Some bytes) end old new =
 
 -- a wish is done with the file that it names
 abbrev pub EndsThreadedWish : Wish → (List ℕ → Option (List ℕ)) → End → Option (List ℕ) → Option (List ℕ) → Type 0
-EndsThreadedWish (Play file trace) bytes_of end old new = EndsFile (Play file trace) (bytes_of file) end old new
+EndsThreadedWish (Play file shows) bytes_of end old new = EndsFile (Play file shows) (bytes_of file) end old new
 EndsThreadedWish (Plain file) bytes_of end old new = EndsFile (Plain file) (bytes_of file) end old new
 EndsThreadedWish (Replay file) bytes_of end old new = EndsFile (Replay file) (bytes_of file) end old new
 EndsThreadedWish (Work file workers turns) bytes_of end old new = EndsWorkFile workers (bytes_of file) end old new

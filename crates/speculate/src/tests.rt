@@ -1,7 +1,7 @@
 //! The program, run on inputs and outputs that are known or fail, which a stored run can't have.
 
 use sk_command::end::End;
-use sk_command::job::{Job, asked};
+use sk_command::job::{Job, Shows, asked};
 use sk_command::open_input::Open;
 use sk_command::read_all::{INPUT_LIMIT, READ_LIMIT, ReadFault, read_all};
 use sk_report::{Stop, write_workers};
@@ -586,13 +586,17 @@ fn every_refused_write_ends_the_play(rt: HostRuntime) -> Result<(), Fail> {
     let mut whole = String::from_str(alloc, REPORT)?;
     whole.push_str(TRACE)?;
     for (trace, text) in [(false, REPORT), (true, whole.as_str())] {
+        let shows = Shows {
+            steps: false,
+            trace,
+        };
         for room in 0..text.len() {
             let mut out = Paper::new(alloc, room);
             let played = play(
                 alloc,
                 &scenario.declarations,
                 steps.as_slice(),
-                trace,
+                shows,
                 &mut out,
             );
             assert_eq!(rt; played, Err(Stop::Output), "room {room}");
@@ -628,6 +632,7 @@ fn nothing_is_written_after_a_refusal(rt: HostRuntime) -> Result<(), Fail> {
     for (words, text) in [
         (["play", "-"].as_slice(), FIRST_GUESS_COMMITS),
         (["play", "--trace", "-"].as_slice(), FIRST_GUESS_COMMITS),
+        (["play", "--steps", "-"].as_slice(), FIRST_GUESS_COMMITS),
         (["plain", "-"].as_slice(), FIRST_GUESS_FAILED),
         (["--help"].as_slice(), ""),
     ] {

@@ -23,7 +23,7 @@ returns-in-play-clause-job c =
     let matches = c.args.matches.now in
     let command = c.in_ok-command.command.now in
     let wish = wish_in_rows (subcommand_rows_of matches) command (rows_of found) (name_in_rows matches command c.in_ok-command.ensures.name) c.in_ok-command.ensures.rows in
-    rw (wish, ← file, c.in-play.is, c.has_flag.ensures) refl
+    rw (wish, ← file, c.in-play.is, c.shows_of.ensures) refl
 
 pub returns-in-plain-clause-job : goal.returns-in-plain-clause-job
 returns-in-plain-clause-job c =

@@ -1,0 +1,27 @@
+-- What was foreseen is what is listed, since the call appends no other step.
+use Rattle.std.proofs.Common.{◌≡◌, ◌++◌, ◌∙◌, subst}
+use Rattle.std.specs.Io.KnownBytes.{Appends}
+use Rattle.std.proofs.KnownBytes.{Appends-trans}
+use Rattle.sk_report.specs.Footprints.{listed}
+use Rattle.sk_play.specs.Played.{answer_line}
+use Rattle.sk_play.specs.Upcoming.{upcoming}
+use Rattle.sk_play.proofs.Foreseen.{call_foreseen}
+use Rattle.sk_run.specs.Listing.{foreseen, foreseen_lines}
+use Rattle.sk_run.proofs.Listed.{lines_are}
+use Rattle.sk_run.proofs.playing.list_one.Goals as goal
+
+pub returns : goal.returns
+returns g c =
+    let old = c.args.session.now.holder in
+    let new = c.execute.new.self.holder.kernel in
+    let step = c.args.step.now in
+    let a = c.in_ok-answer.answer in
+    let is : foreseen_lines c.foresee-foreseen.result c.kernel-2.result.now ≡ listed old.kernel new =
+    (λ i. foreseen_lines ((c.foresee-foreseen.ensures ∙ (λ j. foreseen (c.kernel.ensures j) (c.upcoming.ensures j))) i) (c.kernel-2.ensures i))
+    ∙ lines_are (upcoming step) old.kernel new (call_foreseen a step old.held old.kernel new c.in_ok-answer.ensures.told) in (
+      a,
+      c.in_ok-answer.ensures.told,
+      c.in_ok-answer.ensures.held,
+      subst (λ ls. Appends (g.W.Write.contents c.args.out.now) (g.W.Write.contents c.write_foreseen.new.out) (answer_line c.args.number a ++ ls)) is
+          (Appends-trans _ _ _ _ _ c.in_ok-write_answer.ensures c.in_ok-write_foreseen.ensures),
+    )

@@ -1,0 +1,29 @@
+-- What was foreseen is what is listed, since the event appends no other step.
+use Rattle.std.proofs.Common.{◌≡◌, ◌++◌, ◌∙◌, Some, ap, subst}
+use Rattle.std.specs.Io.KnownBytes.{Appends}
+use Rattle.std.proofs.KnownBytes.{Appends-trans}
+use Rattle.sk_client.specs.Desk.{DeskView}
+use Rattle.sk_client.specs.Upcoming.{upcoming}
+use Rattle.sk_report.specs.Footprints.{listed}
+use Rattle.sk_play.specs.Told.{told_line}
+use Rattle.sk_play.proofs.Foreseen.{happening_foreseen}
+use Rattle.sk_run.specs.Listing.{foreseen, foreseen_lines}
+use Rattle.sk_run.proofs.Listed.{lines_are}
+use Rattle.sk_run.proofs.worlds.list_event.Goals as goal
+
+pub returns : goal.returns
+returns g c =
+    let old = c.args.world.now in
+    let new = c.happen.new.world in
+    let event = c.args.event.now in
+    let told = c.in_ok-told.told in
+    let before = c.kernel.ensures ∙ ap (λ (d : DeskView). d.kernel) c.desk.ensures in
+    let after = c.kernel-2.ensures ∙ ap (λ (d : DeskView). d.kernel) c.desk-2.ensures in
+    let is : foreseen_lines c.foresee-foreseen.result c.kernel-2.result.now ≡ listed old.desk.kernel new.desk.kernel =
+    (λ i. foreseen_lines ((c.foresee-foreseen.ensures ∙ (λ j. foreseen (before j) (c.upcoming.ensures j))) i) (after i))
+    ∙ lines_are (upcoming old event) old.desk.kernel new.desk.kernel (happening_foreseen (Some told) old event new c.in_ok-told.ensures) in (
+      told,
+      c.in_ok-told.ensures,
+      subst (λ ls. Appends (g.W.Write.contents c.args.out.now) (g.W.Write.contents c.write_foreseen.new.out) (told_line c.args.number told ++ ls)) is
+          (Appends-trans _ _ _ _ _ c.in_ok-write_told.ensures c.in_ok-write_foreseen.ensures),
+    )

@@ -2,7 +2,7 @@
 ghost use Rattle.std.specs.Prelude.{◌≡◌, ◌↔◌, Bool, true, false, IfOk, OnOk, OnErr, Err};
 
 use sk_ids::{Name, ObjId, Text};
-use sk_objects::{Content, File};
+use sk_objects::{Blocks, Content};
 use std::alloc::AllocError;
 use thiserror::Error;
 
@@ -36,12 +36,8 @@ pub enum Change {
 /// What puts a value back. It holds all that it needs, so that to use it takes no memory.
 #[derive(Drop)]
 pub enum Undo {
-    /// The bytes that stood at a place of a file, and the length that it had.
-    Unwrite { offset: u32, bytes: Text, len: u32 },
-    /// The file before bytes were cut off.
-    Uncut(File),
-    /// The length of a file before zeros came.
-    Shorten(u32),
+    /// The blocks that gave way in a file, and the length that it had.
+    Restore(Blocks),
     /// A name that was linked.
     DropName(Name),
     /// A name that was taken out, and its object.

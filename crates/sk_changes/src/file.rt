@@ -33,50 +33,32 @@ impl Invertible for File {
     ghost undone = { file_undone };
 
     fn apply(&mut self, change: Change) -> Result<Undo, NotApplied> {
-        let len = self.len() as u32;
+        let _len = self.len();
         match change {
             Change::WriteAt { offset, bytes } => {
                 if !is_write(offset as usize, bytes.len()) {
                     return Err(NotApplied::Unfit);
                 }
-                let old = self.part(offset as usize, bytes.len());
-                self.write_at(offset as usize, bytes.as_slice())?;
-                Ok(Undo::Unwrite {
-                    offset,
-                    bytes: old,
-                    len,
-                })
+                let old = self.write_at(offset as usize, bytes.as_slice())?;
+                Ok(Undo::Restore(old))
             }
             Change::CutTo(count) => {
                 if count as usize > FILE_LIMIT {
                     return Err(NotApplied::Unfit);
                 }
-                let undo = if count < len {
-                    Undo::Uncut(self.copy()?)
-                } else {
-                    Undo::Shorten(len)
-                };
-                self.cut_to(count as usize)?;
-                Ok(undo)
+                let old = self.cut_to(count as usize)?;
+                Ok(Undo::Restore(old))
             }
             _ => Err(NotApplied::Unfit),
         }
     }
 
     fn undo(&mut self, undo: Undo) {
-        match undo {
-            Undo::Unwrite { offset, bytes, len } => {
-                self.overwrite(offset as usize, bytes.as_slice());
-                self.truncate(len as usize);
-            }
-            Undo::Uncut(file) => *self = file,
-            Undo::Shorten(len) => self.truncate(len as usize),
-            _ => {}
+        if let Undo::Restore(old) = undo {
+            self.exchange(old);
         }
     }
 
-    ghost use Rattle.sk_ids.specs.declared.text.TheConstants.{TEXT_LIMIT};
-    ghost use Rattle.sk_objects.specs.declared.file.TheConstants.{FILE_LIMIT};
     ghost use Rattle.sk_changes.specs.FilesLaw.{file_restores};
 
     ghost restores = { file_restores };

@@ -1,8 +1,8 @@
 -- The bytes of a file, written over and cut.
 use Rattle.std.specs.Prelude.{ℕ, ◌+◌, ◌-◌, ◌/◌, List, ◌++◌, length, take, drop, replicate}
 
--- the bytes with others in the place of those that begin at `at`
-abbrev pub overwritten : List ℕ → ℕ → List ℕ → List ℕ
+-- the list with others in the place of those that begin at `at`
+abbrev pub overwritten : {A : Type 0} → List A → ℕ → List A → List A
 overwritten f at bytes = take at f ++ bytes ++ drop (at + length bytes) f
 
 -- the bytes, and zeros up to a length
@@ -21,6 +21,10 @@ cut f n = take n f ++ replicate (n - length f) 0
 abbrev pub blocks_of : ℕ → ℕ
 blocks_of size = (size + 511) / 512
 
--- up to so many bytes from a place on
-abbrev pub part : List ℕ → ℕ → ℕ → List ℕ
+-- up to so many from a place on
+abbrev pub part : {A : Type 0} → List A → ℕ → ℕ → List A
 part f at count = take count (drop at f)
+
+-- exactly so many bytes from a place on, with zeros past the end
+abbrev pub held : List ℕ → ℕ → ℕ → List ℕ
+held f at count = part (filled f (at + count)) at count

@@ -1,6 +1,9 @@
 pub mod Content
 pub mod File
+pub mod Blocks
+pub mod Slots
 pub mod Pipe
+pub mod Ring
 pub mod Signals
 pub mod Directory
 pub mod Value

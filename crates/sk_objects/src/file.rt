@@ -1,9 +1,17 @@
 //! Files.
-ghost use Rattle.std.specs.Prelude.{◌≡◌, ◌≤◌, ◌<◌, ◌+◌, ◌*◌, ◌↔◌, IsTrue, [], length, take, vec_len, IfOk, OnOk, OnErr};
+ghost use Rattle.std.specs.Prelude.{◌≡◌, ◌≤◌, ◌<◌, ◌+◌, ◌-◌, ◌*◌, ◌/◌, [], length, take, IfOk, OnErr, ◌↔◌, IsTrue};
+ghost use Rattle.sk_objects.specs.File.{written, cut, part, blocks_of};
 ghost use Rattle.sk_ids.specs.declared.text.TheConstants.{TEXT_LIMIT};
-ghost use Rattle.sk_objects.specs.File.{overwritten, written, cut, part, blocks_of};
+ghost use Rattle.sk_objects.specs.Blocks.{joined, AreBlocks};
 ghost use Rattle.sk_objects.specs.declared.file.TheConstants.{FILE_LIMIT};
+ghost use Rattle.sk_objects.specs.Slots.{under_write, under_cut, CanPut, with_blocks, replaced};
 
+use crate::block::BLOCK;
+use crate::slots::{
+    blocks_of, copy_slots, cut_blocks, empty_slots, exchange_blocks, read_text, same_slots,
+    written_blocks,
+};
+use crate::{Block, Blocks};
 use sk_ids::Text;
 use std::alloc::{AllocError, Global};
 use std::marker::Model;
@@ -11,50 +19,33 @@ use std::marker::Model;
 /// The greatest length of a file, in bytes.
 pub const FILE_LIMIT: usize = 32_768;
 
-/// The size of a block, in bytes.
-pub const BLOCK: usize = 512;
-
-/// The bytes of a file, at most 32,768.
+/// The bytes of a file, at most 32,768, in 64 slots of blocks.
 #[derive(Drop)]
 pub struct File {
-    bytes: Vec<u8>,
+    slots: Vec<Block>,
+    size: usize,
 }
 
 impl Model for File {
-    ghost use Rattle.std.specs.Prelude.{ℕ, List, ◌≤◌, length};
-    ghost use Rattle.sk_objects.specs.declared.file.TheConstants.{FILE_LIMIT};
+    ghost use Rattle.std.specs.Prelude.{ℕ, List, take};
+    ghost use Rattle.sk_objects.specs.Blocks.{joined};
+    ghost use Rattle.sk_objects.specs.Slots.{AreSlots};
 
     ghost Value = { List ℕ };
 
-    ghost view = { λ f. f.bytes.items };
+    ghost view = { λ f. take f.size (joined f.slots.items) };
 
-    ghost invariant = { λ f. length f.bytes.items ≤ FILE_LIMIT };
+    ghost invariant = { λ f. AreSlots f.slots.items f.size };
 }
 
-/// Writes over a part that is there.
-fn place(cells: &mut [u8], at: usize, bytes: &[u8])
-    requires { at + length bytes.now ≤ length cells.old }
-    ensures { cells.new ≡ overwritten cells.old at bytes.now }
+/// The first bytes of a block.
+fn block_start(slots: &[Block], index: usize, count: usize) -> &[u8]
+    requires there { index < length slots.now }
+    requires blocks { AreBlocks slots.now }
+    requires within { count ≤ 512 }
+    ensures { result.now ≡ part (joined slots.now) (512 * index) count }
 {
-    cells[at..at + bytes.len()].copy_from_slice(bytes);
-}
-
-/// Writes bytes at a place, with zeros in a gap. Only bytes past the end can want memory, and without
-/// memory nothing changes.
-fn write(cells: &mut Vec<u8>, at: usize, bytes: &[u8]) -> Result<(), AllocError>
-    requires end { at + length bytes.now ≤ FILE_LIMIT }
-    requires short { vec_len cells.old ≤ FILE_LIMIT }
-    ensures short { vec_len cells.new ≤ FILE_LIMIT }
-    ensures ok { OnOk result (cells.new.items ≡ written cells.old.items at bytes.now) }
-    ensures err { OnErr result (cells.new.items ≡ cells.old.items) }
-    ensures grows { OnErr result (vec_len cells.old < at + length bytes.now) }
-{
-    let end = at + bytes.len();
-    if end > cells.len() {
-        cells.resize(end, 0)?;
-    }
-    place(cells, at, bytes);
-    Ok(())
+    &slots[index].as_slice()[..count]
 }
 
 impl PartialEq for File {
@@ -71,7 +62,10 @@ impl PartialEq for File {
         ensures computed { result ≡ same_bytes self.now other.now }
         ensures exact { IsTrue result ↔ (self.now ≡ other.now) }
     {
-        self.bytes.as_slice() == other.bytes.as_slice()
+        if self.size != other.size {
+            return false;
+        }
+        same_slots(&self.slots, &other.slots)
     }
 }
 
@@ -85,28 +79,11 @@ impl Eq for File {
 
 impl File {
     /// The empty file.
-    pub fn new(alloc: Global) -> File
-        ensures { result ≡ [] }
+    pub fn new(alloc: Global) -> Result<File, AllocError>
+        ensures { IfOk result (λ file. file ≡ []) }
     {
-        File {
-            bytes: Vec::new(alloc),
-        }
-    }
-
-    /// The file of a text's bytes.
-    pub fn from_text(alloc: Global, bytes: &Text) -> Result<File, AllocError>
-        ensures { IfOk result (λ file. file ≡ bytes.now) }
-    {
-        let bytes = Vec::from_slice(alloc, bytes.as_slice())?;
-        Ok(File { bytes })
-    }
-
-    /// Another file of the same bytes.
-    pub fn copy(&self) -> Result<File, AllocError>
-        ensures { IfOk result (λ copy. copy ≡ self.now) }
-    {
-        let bytes = Vec::from_slice(*self.bytes.allocator(), self.bytes.as_slice())?;
-        Ok(File { bytes })
+        let slots = empty_slots(alloc)?;
+        Ok(File { slots, size: 0 })
     }
 
     /// The number of bytes.
@@ -114,7 +91,29 @@ impl File {
         ensures value { result ≡ length self.now }
         ensures limit { result ≤ FILE_LIMIT }
     {
-        self.bytes.len()
+        self.size
+    }
+
+    /// The file of a text's bytes.
+    pub fn from_text(alloc: Global, bytes: &Text) -> Result<File, AllocError>
+        ensures { IfOk result (λ file. file ≡ bytes.now) }
+    {
+        let mut file = File::new(alloc)?;
+        if bytes.len() > 0 {
+            file.write_at(0, bytes.as_slice())?;
+        }
+        Ok(file)
+    }
+
+    /// Another file of the same bytes.
+    pub fn copy(&self) -> Result<File, AllocError>
+        ensures { IfOk result (λ copy. copy ≡ self.now) }
+    {
+        let slots = copy_slots(*self.slots.allocator(), &self.slots)?;
+        Ok(File {
+            slots,
+            size: self.size,
+        })
     }
 
     /// Up to `count` bytes, at most 512, from a place on; none past the end.
@@ -122,16 +121,111 @@ impl File {
         requires { count ≤ TEXT_LIMIT }
         ensures { result ≡ part self.now at count }
     {
-        let rest = &self.bytes[at.min(self.bytes.len())..];
-        Text::new(&rest[..count.min(rest.len())]).unwrap()
+        if at >= self.size {
+            return Text::empty();
+        }
+        let rest = self.size - at;
+        if rest < count {
+            read_text(&self.slots, at, rest)
+        } else {
+            read_text(&self.slots, at, count)
+        }
     }
 
-    /// How many blocks of 512 hold the bytes.
+    /// The blocks under a write, as it leaves them.
+    fn after_write(&self, at: usize, bytes: &[u8]) -> Result<Blocks, AllocError>
+        requires some { 1 ≤ length bytes.now }
+        requires short { length bytes.now ≤ TEXT_LIMIT }
+        requires end { at + length bytes.now ≤ FILE_LIMIT }
+        ensures { IfOk result (λ blocks. blocks ≡ under_write (written self.now at bytes.now) at (length bytes.now)) }
+    {
+        let blocks = written_blocks(*self.slots.allocator(), &self.slots, at, bytes)?;
+        Ok(Blocks {
+            slot: at / BLOCK,
+            blocks,
+            size: self.size.max(at + bytes.len()),
+        })
+    }
+
+    /// Puts blocks into the slots, and answers those that stood there. This takes no memory.
+    pub fn exchange(&mut self, new: Blocks) -> Blocks
+        requires { CanPut self.old new }
+        ensures file { self.new ≡ with_blocks self.old new }
+        ensures old { result ≡ replaced self.old new }
+    {
+        let Blocks {
+            slot,
+            mut blocks,
+            size,
+        } = new;
+        exchange_blocks(&mut self.slots, slot, &mut blocks);
+        let old = Blocks {
+            slot,
+            blocks,
+            size: self.size,
+        };
+        self.size = size;
+        old
+    }
+
+    /// Writes bytes at a place, with zeros in a gap, and answers what puts the file back. Without
+    /// memory nothing changes.
+    pub fn write_at(&mut self, at: usize, bytes: &[u8]) -> Result<Blocks, AllocError>
+        requires some { 1 ≤ length bytes.now }
+        requires short { length bytes.now ≤ TEXT_LIMIT }
+        requires end { at + length bytes.now ≤ FILE_LIMIT }
+        ensures ok { IfOk result (λ old. (self.new ≡ written self.old at bytes.now) × (old ≡ under_write self.old at (length bytes.now))) }
+        ensures err { OnErr result (self.new ≡ self.old) }
+        ensures back { IfOk result (λ old. CanPut self.new old × (with_blocks self.new old ≡ self.old)) }
+    {
+        let _ = &self.slots;
+        let new = self.after_write(at, bytes)?;
+        Ok(self.exchange(new))
+    }
+
+    /// The blocks from a cut on, as it leaves them.
+    fn after_cut(&self, len: usize) -> Result<Blocks, AllocError>
+        requires { len ≤ FILE_LIMIT }
+        ensures ok { IfOk result (λ blocks. blocks ≡ under_cut (cut self.now len) len (length self.now)) }
+        ensures grows { OnErr result (len < length self.now) }
+    {
+        let alloc = *self.slots.allocator();
+        if len >= self.size {
+            return Ok(Blocks {
+                slot: 0,
+                blocks: Vec::new(alloc),
+                size: len,
+            });
+        }
+        let count = blocks_of(self.size) - len / BLOCK;
+        let blocks = cut_blocks(alloc, &self.slots, len, count)?;
+        Ok(Blocks {
+            slot: len / BLOCK,
+            blocks,
+            size: len,
+        })
+    }
+
+    /// Keeps the first `len` bytes, or appends zeros up to `len`, and answers what puts the file
+    /// back. Without memory nothing changes; only a cut within a block wants any for the file.
+    pub fn cut_to(&mut self, len: usize) -> Result<Blocks, AllocError>
+        requires { len ≤ FILE_LIMIT }
+        ensures grows { OnErr result (len < length self.old) }
+        ensures ok { IfOk result (λ old. (self.new ≡ cut self.old len) × (old ≡ under_cut self.old len (length self.old))) }
+        ensures err { OnErr result (self.new ≡ self.old) }
+        ensures back { IfOk result (λ old. CanPut self.new old × (with_blocks self.new old ≡ self.old)) }
+    {
+        let _ = &self.slots;
+        let new = self.after_cut(len)?;
+        Ok(self.exchange(new))
+    }
+
+    /// How many blocks hold the bytes.
     pub fn blocks(&self) -> usize
         ensures value { result ≡ blocks_of (length self.now) }
         ensures limit { result ≤ 64 }
     {
-        (self.bytes.len() + (BLOCK - 1)) / BLOCK
+        blocks_of(self.size)
     }
 
     /// The bytes of a block, fewer than 512 of the last alone.
@@ -139,52 +233,11 @@ impl File {
         requires { index < blocks_of (length self.now) }
         ensures { result.now ≡ part self.now (512 * index) 512 }
     {
-        let rest = &self.bytes[BLOCK * index..];
-        if rest.len() < BLOCK {
-            rest
+        let rest = self.size - BLOCK * index;
+        if rest < BLOCK {
+            block_start(&self.slots, index, rest)
         } else {
-            &rest[..BLOCK]
+            block_start(&self.slots, index, BLOCK)
         }
-    }
-
-    /// Writes bytes at a place, with zeros in a gap. Only bytes past the end can want memory, and
-    /// without memory nothing changes.
-    pub fn write_at(&mut self, at: usize, bytes: &[u8]) -> Result<(), AllocError>
-        requires { at + length bytes.now ≤ FILE_LIMIT }
-        ensures ok { OnOk result (self.new ≡ written self.old at bytes.now) }
-        ensures err { OnErr result (self.new ≡ self.old) }
-        ensures grows { OnErr result (length self.old < at + length bytes.now) }
-    {
-        write(&mut self.bytes, at, bytes)
-    }
-
-    /// Writes bytes over those that stand at a place, which takes no memory.
-    pub fn overwrite(&mut self, at: usize, bytes: &[u8])
-        requires { at + length bytes.now ≤ length self.old }
-        ensures { self.new ≡ overwritten self.old at bytes.now }
-    {
-        place(&mut self.bytes, at, bytes);
-    }
-
-    /// Keeps the first `len` bytes, or appends zeros up to `len`. Only zeros past the end can want
-    /// memory, and without memory nothing changes.
-    pub fn cut_to(&mut self, len: usize) -> Result<(), AllocError>
-        requires { len ≤ FILE_LIMIT }
-        ensures ok { OnOk result (self.new ≡ cut self.old len) }
-        ensures err { OnErr result (self.new ≡ self.old) }
-        ensures grows { OnErr result (length self.old < len) }
-    {
-        if len <= self.bytes.len() {
-            self.truncate(len);
-            return Ok(());
-        }
-        self.bytes.resize(len, 0)
-    }
-
-    /// Drops the bytes past a length, which takes no memory.
-    pub fn truncate(&mut self, len: usize)
-        ensures { self.new ≡ take len self.old }
-    {
-        self.bytes.truncate(len);
     }
 }

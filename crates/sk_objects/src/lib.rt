@@ -1,16 +1,20 @@
 //! The values that kernel objects have.
 #![tactic(auto)]
 
+pub mod block;
 pub mod content;
 pub mod directory;
 pub mod file;
 pub mod pipe;
 pub mod signals;
+pub mod slots;
 pub mod value;
 
+pub use block::Block;
 pub use content::Content;
 pub use directory::Directory;
 pub use file::File;
 pub use pipe::Pipe;
 pub use signals::Signals;
+pub use slots::Blocks;
 pub use value::{Kind, Value};

@@ -58,7 +58,7 @@ impl Value {
         ensures { IfOk result (λ value. value ≡ empty_of kind) }
     {
         Ok(match kind {
-            Kind::File => Value::File(File::new(alloc)),
+            Kind::File => Value::File(File::new(alloc)?),
             Kind::Dir => Value::Dir(Directory::new(alloc)?),
             Kind::Pipe => Value::Pipe(Pipe::new(alloc)?),
             Kind::Signals => Value::Signals(Signals::new(alloc)?),

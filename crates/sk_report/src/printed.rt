@@ -101,11 +101,10 @@ impl fmt::Display for MoreLinks<'_> {
     ghost output = { λ s. Some (flat_map (λ link. 32 ∷ link_text link) (drop 1 s.0.now)) };
 
     fn fmt<W: fmt::Write>(&self, f: &mut fmt::Formatter<W>) -> fmt::Result {
-        let mut place = 1;
-        while let Some((name, object)) = self.0.at(place) {
+        for index in 0..self.0.len().saturating_sub(1) {
+            let (name, object) = self.0.at(index + 1).unwrap();
             let link = PrintedLink(name, object);
             write!(f, " {link}")?;
-            place += 1;
         }
         Ok(())
     }

@@ -43,7 +43,7 @@ fn first_values(rt: HostRuntime) -> Result<(), Fail> {
 
 /// `abcdef`, written over from place 4 on.
 fn written(alloc: Global) -> Result<File, AllocError> {
-    let mut file = File::new(alloc);
+    let mut file = File::new(alloc)?;
     file.write_at(0, b"abcdef")?;
     file.write_at(4, b"XYZ")?;
     Ok(file)

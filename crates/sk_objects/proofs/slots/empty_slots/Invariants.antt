@@ -1,0 +1,11 @@
+use Rattle.std.proofs.Common.{◌≡◌, ◌≤◌, replicate, vec_len}
+use Rattle.std.specs.Vec.{vec_capacity}
+use Rattle.sk_objects.specs.Blocks.{blank}
+use Rattle.sk_objects.proofs.slots.empty_slots.Given as goal
+
+abbrev pub invariant-loop : goal.invariant-loop
+invariant-loop l = record {
+  items : l.slots.items ≡ replicate l.counter blank;
+  len : vec_len l.slots ≡ l.counter;
+  room : 64 ≤ vec_capacity l.slots;
+}

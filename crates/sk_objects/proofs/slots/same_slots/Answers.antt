@@ -1,0 +1,6 @@
+use Rattle.std.specs.Cmp.Lexicographic.{pointwise_decides}
+use Rattle.sk_objects.specs.SameLemma.{exact_bytes}
+use Rattle.sk_objects.proofs.slots.same_slots.Goals as goal
+
+pub returns : goal.returns
+returns c = rw c.eq.ensures (pointwise_decides exact_bytes c.args.one.now c.args.other.now)

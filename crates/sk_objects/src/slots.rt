@@ -1,0 +1,178 @@
+//! Blocks in slots.
+ghost use Rattle.std.specs.Prelude.{◌≡◌, ◌≤◌, ◌<◌, ◌+◌, ◌-◌, ◌*◌, ◌/◌, ◌++◌, List, ℕ, length, take, drop, replicate, IfOk, vec_len, ◌↔◌, IsTrue};
+ghost use Rattle.sk_objects.specs.File.{overwritten, part, held, blocks_of};
+ghost use Rattle.sk_objects.specs.Blocks.{joined, AreBlocks, blank};
+ghost use Rattle.sk_objects.specs.Slots.{blocks_under};
+
+use crate::Block;
+use crate::block::BLOCK;
+use sk_ids::Text;
+use std::alloc::{AllocError, Global};
+use std::marker::Model;
+
+/// The slots of a file.
+pub const SLOTS: usize = 64;
+
+/// Blocks that go into a file from a slot on, or stood there, and the length that the file has with
+/// them.
+#[derive(Drop)]
+pub struct Blocks {
+    pub(crate) slot: usize,
+    pub(crate) blocks: Vec<Block>,
+    pub(crate) size: usize,
+}
+
+impl Model for Blocks {
+    ghost use Rattle.std.specs.Prelude.{◌*◌};
+    ghost use Rattle.sk_objects.specs.Blocks.{BlocksView, joined, AreBlocks};
+
+    ghost Value = { BlocksView };
+
+    ghost view = { λ b. record { at = 512 * b.slot; bytes = joined b.blocks.items; size = b.size } };
+
+    ghost invariant = { λ b. AreBlocks b.blocks.items };
+}
+
+/// The slots of an empty file.
+pub(crate) fn empty_slots(alloc: Global) -> Result<Vec<Block>, AllocError>
+    ensures { IfOk result (λ slots. slots.items ≡ replicate 64 blank) }
+{
+    let mut slots = Vec::with_capacity(alloc, SLOTS)?;
+    for _ in 0..SLOTS {
+        slots.push_reserved(Block::new());
+    }
+    Ok(slots)
+}
+
+/// Blocks go into slots, and those that stood there come back.
+pub(crate) fn swap_blocks(slots: &mut [Block], slot: usize, blocks: &mut [Block])
+    requires { slot + length blocks.old ≤ length slots.old }
+    ensures slots { slots.new ≡ overwritten slots.old slot blocks.old }
+    ensures blocks { blocks.new ≡ part slots.old slot (length blocks.old) }
+{
+    slots[slot..slot + blocks.len()].swap_with_slice(blocks);
+}
+
+/// The same of vectors.
+pub(crate) fn exchange_blocks(slots: &mut Vec<Block>, slot: usize, blocks: &mut Vec<Block>)
+    requires { slot + length blocks.old.items ≤ length slots.old.items }
+    ensures slots { slots.new.items ≡ overwritten slots.old.items slot blocks.old.items }
+    ensures blocks { blocks.new.items ≡ part slots.old.items slot (length blocks.old.items) }
+{
+    swap_blocks(slots, slot, blocks);
+}
+
+/// How many blocks so many bytes take.
+pub(crate) fn blocks_of(size: usize) -> usize
+    requires { size ≤ 32768 }
+    ensures value { result ≡ blocks_of size }
+    ensures limit { result ≤ 64 }
+{
+    (size + (BLOCK - 1)) / BLOCK
+}
+
+/// The blocks under a write as it leaves them. It takes memory for them alone.
+pub(crate) fn written_blocks(
+    alloc: Global,
+    slots: &[Block],
+    at: usize,
+    bytes: &[u8],
+) -> Result<Vec<Block>, AllocError>
+    requires slots { length slots.now ≡ 64 }
+    requires blocks { AreBlocks slots.now }
+    requires some { 1 ≤ length bytes.now }
+    requires short { length bytes.now ≤ 512 }
+    requires end { at + length bytes.now ≤ 32768 }
+    ensures blocks { IfOk result (λ blocks. AreBlocks blocks.items) }
+    ensures bytes { IfOk result (λ blocks. joined blocks.items ≡ part (overwritten (joined slots.now) at bytes.now) (512 * (at / 512)) (512 * blocks_under at (length bytes.now))) }
+{
+    let slot = at / BLOCK;
+    let within = at % BLOCK;
+    let room = BLOCK - within;
+    if bytes.len() <= room {
+        let block = slots[slot].overwritten(alloc, within, bytes)?;
+        return Ok(Vec::from_array(alloc, [block])?);
+    }
+    let (front, back) = bytes.split_at(room);
+    let first = slots[slot].overwritten(alloc, within, front)?;
+    let second = slots[slot + 1].overwritten(alloc, 0, back)?;
+    Ok(Vec::from_array(alloc, [first, second])?)
+}
+
+/// The blocks from the one at a cut on, as the cut leaves them. It takes memory for them alone.
+pub(crate) fn cut_blocks(
+    alloc: Global,
+    slots: &[Block],
+    at: usize,
+    count: usize,
+) -> Result<Vec<Block>, AllocError>
+    requires slots { length slots.now ≡ 64 }
+    requires blocks { AreBlocks slots.now }
+    requires some { 1 ≤ count }
+    requires end { at / 512 + count ≤ 64 }
+    ensures blocks { IfOk result (λ blocks. AreBlocks blocks.items) }
+    ensures bytes { IfOk result (λ blocks. joined blocks.items ≡ held (take at (joined slots.now)) (512 * (at / 512)) (512 * count)) }
+{
+    let slot = at / BLOCK;
+    let mut blocks = Vec::with_capacity(alloc, count)?;
+    blocks.push_reserved(slots[slot].start(alloc, at % BLOCK)?);
+    for _ in 0..count - 1 {
+        blocks.push_reserved(Block::new());
+    }
+    Ok(blocks)
+}
+
+/// Another of each block.
+pub(crate) fn copy_slots(alloc: Global, slots: &[Block]) -> Result<Vec<Block>, AllocError>
+    ensures { IfOk result (λ copy. copy.items ≡ slots.now) }
+{
+    let mut copy = Vec::with_capacity(alloc, slots.len())?;
+    for block in slots {
+        copy.push_reserved(block.copy(alloc)?);
+    }
+    Ok(copy)
+}
+
+/// Reads as many bytes as there is room for, at most 512, from a place on.
+fn read_slots(slots: &[Block], at: usize, out: &mut [u8])
+    requires slots { length slots.now ≡ 64 }
+    requires blocks { AreBlocks slots.now }
+    requires short { length out.old ≤ 512 }
+    requires end { at + length out.old ≤ 32768 }
+    ensures { out.new ≡ part (joined slots.now) at (length out.old) }
+{
+    let count = out.len();
+    if count == 0 {
+        return;
+    }
+    let slot = at / BLOCK;
+    let within = at % BLOCK;
+    let room = BLOCK - within;
+    if count <= room {
+        out.copy_from_slice(&slots[slot].as_slice()[within..within + count]);
+        return;
+    }
+    let (front, back) = out.split_at_mut(room);
+    front.copy_from_slice(&slots[slot].as_slice()[within..]);
+    back.copy_from_slice(&slots[slot + 1].as_slice()[..count - room]);
+}
+
+/// So many bytes, at most 512, from a place on.
+pub(crate) fn read_text(slots: &[Block], at: usize, count: usize) -> Text
+    requires slots { length slots.now ≡ 64 }
+    requires blocks { AreBlocks slots.now }
+    requires short { count ≤ 512 }
+    requires end { at + count ≤ 32768 }
+    ensures { result ≡ part (joined slots.now) at count }
+{
+    let mut bytes = [0; 512];
+    read_slots(slots, at, &mut bytes[..count]);
+    Text::new(&bytes[..count]).unwrap()
+}
+
+/// Whether blocks are the same.
+pub(crate) fn same_slots(one: &[Block], other: &[Block]) -> bool
+    ensures { IsTrue result ↔ (one.now ≡ other.now) }
+{
+    one == other
+}

@@ -384,12 +384,13 @@ own_same [] os is all = tt
 own_same (x ∷ xs) [] is all = cc
 own_same (x ∷ xs) (o ∷ os) is all =
     (subst (λ (p : ℕ × List ℕ). has p.0 p.1 ≡ true) (sym (ap (head_or (o.id, o.tags)) is)) all.0, own_same xs os (ap rest_of is) all.1) where
-  head_or : ℕ × List ℕ → List (ℕ × List ℕ) → ℕ × List ℕ
-  head_or p [] = p
-  head_or p (q ∷ qs) = q
-  rest_of : List (ℕ × List ℕ) → List (ℕ × List ℕ)
-  rest_of [] = []
-  rest_of (q ∷ qs) = qs
+      head_or : ℕ × List ℕ → List (ℕ × List ℕ) → ℕ × List ℕ
+      head_or p [] = p
+      head_or p (q ∷ qs) = q
+
+      rest_of : List (ℕ × List ℕ) → List (ℕ × List ℕ)
+      rest_of [] = []
+      rest_of (q ∷ qs) = qs
 
 -- what keeps numbers and tags keeps how they stand
 pub open_same : (v : GuessesView) (xs os : List OpenGuess) → opens_of xs ≡ opens_of os → AreOpen v os → AreOpen v xs

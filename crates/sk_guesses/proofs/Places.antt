@@ -86,7 +86,6 @@ rises_with (x ∷ xs) e rises =
       | Greater ↦ λ is. ((turned x e is, all_after e x xs (turned x e is) rises.0), rises)
     ] refl
 
-
 -- ---- without an entity
 no_match : (o : Ordering) → o ≡ Less → is_eq o ≡ false
 no_match o is = ap is_eq is

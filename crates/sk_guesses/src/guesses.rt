@@ -67,7 +67,7 @@ impl Model for Guesses {
     } };
 
     ghost invariant = { λ a. AreOpen (record { kernel = a.kernel; statuses = a.statuses.items }) (map (λ l. l.guess) a.opens.items)
-      × (length a.opens.items ≤ GUESS_LIMIT) × (length a.statuses.items ≤ LAST_GUESS) × (a.next.entities ≡ []) };
+        × (length a.opens.items ≤ GUESS_LIMIT) × (length a.statuses.items ≤ LAST_GUESS) × (a.next.entities ≡ []) };
 }
 
 /// Makes room for one entity more in the lists of these guesses.
@@ -293,7 +293,8 @@ impl Guesses {
         }
         let mut dependents = std::mem::replace(&mut self.next, EntitySet::new(self.alloc));
         dependents.add_all(entities);
-        self.opens.push_reserved(OpenGuess::new(id, tags, dependents));
+        self.opens
+            .push_reserved(OpenGuess::new(id, tags, dependents));
         self.statuses.push_reserved(Status::Undecided);
         Ok(Guess::new(self.kernel, id))
     }

@@ -1,13 +1,13 @@
 //! The kernel of many speculations, for one thread.
 #![tactic(auto)]
 
-pub mod hand_in;
 pub mod footprint;
+pub mod hand_in;
 pub mod kernel;
 pub mod laws;
 pub mod opening;
 
-pub use hand_in::HandIn;
 pub use footprint::Footprint;
+pub use hand_in::HandIn;
 pub use kernel::{FailRefusal, Kernel, Outcome, Stranger};
 pub use opening::Opening;

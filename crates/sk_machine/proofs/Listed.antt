@@ -83,21 +83,27 @@ module _ (tags : List ℕ) (es : List Entity) (x : Entity) (base : Entity → Li
   depend_more covers (o ∷ os) all =
       let rest = depend_more covers os all.1 in
       elim (has o.id tags) as (λ b. has o.id tags ≡ b → AllExact (with_tags tags (es ++ x ∷ []) base) (cond b (record o { dependents = with_entity o.dependents x }) o ∷ map (depending tags x) os)) [
-        | true ↦ λ is. ((λ e.
-            with_in o.dependents x e ∙ ap (λ b. b || eq_by_cmp entity_cmp e x) (all.0 e ∙ before o.id e ∙ ap (λ t. cond (is_in entity_cmp es e) t (has o.id (base e))) is)
-            ∙ with_all (is_in entity_cmp es e) (eq_by_cmp entity_cmp e x) (has o.id (base e))
-            ∙ ap (λ t. cond (is_in entity_cmp es e || (eq_by_cmp entity_cmp e x || false)) t (has o.id (base e))) (sym is) ∙ sym (after o.id e)), rest)
-        | false ↦ λ is. ((λ e.
-            all.0 e ∙ before o.id e ∙ ap (λ t. cond (is_in entity_cmp es e) t (has o.id (base e))) is
-            ∙ with_none (is_in entity_cmp es e) (eq_by_cmp entity_cmp e x) (has o.id (base e)) (λ same. off o.id is e same)
-            ∙ ap (λ t. cond (is_in entity_cmp es e || (eq_by_cmp entity_cmp e x || false)) t (has o.id (base e))) (sym is) ∙ sym (after o.id e)), rest)
+        | true ↦ λ is. (
+          (λ e.
+              with_in o.dependents x e ∙ ap (λ b. b || eq_by_cmp entity_cmp e x) (all.0 e ∙ before o.id e ∙ ap (λ t. cond (is_in entity_cmp es e) t (has o.id (base e))) is)
+              ∙ with_all (is_in entity_cmp es e) (eq_by_cmp entity_cmp e x) (has o.id (base e))
+              ∙ ap (λ t. cond (is_in entity_cmp es e || (eq_by_cmp entity_cmp e x || false)) t (has o.id (base e))) (sym is) ∙ sym (after o.id e)),
+          rest,
+        )
+        | false ↦ λ is. (
+          (λ e.
+              all.0 e ∙ before o.id e ∙ ap (λ t. cond (is_in entity_cmp es e) t (has o.id (base e))) is
+              ∙ with_none (is_in entity_cmp es e) (eq_by_cmp entity_cmp e x) (has o.id (base e)) (λ same. off o.id is e same)
+              ∙ ap (λ t. cond (is_in entity_cmp es e || (eq_by_cmp entity_cmp e x || false)) t (has o.id (base e))) (sym is) ∙ sym (after o.id e)),
+          rest,
+        )
       ] refl where
-    off : (h : ℕ) → has h tags ≡ false → (e : Entity) → eq_by_cmp entity_cmp e x ≡ true → has h (base e) ≡ false
-    off h none e same =
-        elim (has h (base e)) as (λ b. has h (base e) ≡ b → b ≡ false) [
-          | true ↦ λ here. absurd (true≢false (sym (covers h (ap (λ y. has h (base y)) (sym (tied_is e x same)) ∙ here)) ∙ none))
-          | false ↦ λ _. refl
-        ] refl
+        off : (h : ℕ) → has h tags ≡ false → (e : Entity) → eq_by_cmp entity_cmp e x ≡ true → has h (base e) ≡ false
+        off h none e same =
+            elim (has h (base e)) as (λ b. has h (base e) ≡ b → b ≡ false) [
+              | true ↦ λ here. absurd (true≢false (sym (covers h (ap (λ y. has h (base y)) (sym (tied_is e x same)) ∙ here)) ∙ none))
+              | false ↦ λ _. refl
+            ] refl
 
   both_ways : (a b : Bool) → (a ≡ true → b ≡ true) → (b ≡ true → a ≡ true) → a ≡ b
   both_ways true b f g = sym (f refl)
@@ -107,12 +113,14 @@ module _ (tags : List ℕ) (es : List Entity) (x : Entity) (base : Entity → Li
   -- it is in them already
   pub depend_none : ((g : ℕ) → has g (base x) ≡ true → has g tags ≡ true) → ((g : ℕ) → has g tags ≡ true → has g (base x) ≡ true) → (os : List OpenGuess) → AllExact (with_tags tags es base) os → AllExact (with_tags tags (es ++ x ∷ []) base) os
   depend_none covers covered [] all = tt
-  depend_none covers covered (o ∷ os) all =
-      ((λ e.
-          all.0 e ∙ before o.id e
-          ∙ with_same (is_in entity_cmp es e) (eq_by_cmp entity_cmp e x) (has o.id tags) (has o.id (base e)) (λ same.
-          ap (λ y. has o.id (base y)) (tied_is e x same) ∙ both_ways (has o.id (base x)) (has o.id tags) (covers o.id) (covered o.id))
-          ∙ sym (after o.id e)), depend_none covers covered os all.1)
+  depend_none covers covered (o ∷ os) all = (
+    (λ e.
+        all.0 e ∙ before o.id e
+        ∙ with_same (is_in entity_cmp es e) (eq_by_cmp entity_cmp e x) (has o.id tags) (has o.id (base e)) (λ same.
+        ap (λ y. has o.id (base y)) (tied_is e x same) ∙ both_ways (has o.id (base x)) (has o.id tags) (covers o.id) (covered o.id))
+        ∙ sym (after o.id e)),
+    depend_none covers covered os all.1,
+  )
 
 -- ---- what is taken out again
 not_in : (a b : Bool) → (a ≡ true → b ≡ true) → b ≡ false → a ≡ false
@@ -290,10 +298,13 @@ committed_exact g m n grows did (o ∷ os) all =
     let rest = committed_exact g m n grows did os all.1 in
     elim (o.id == g) as (λ b. (o.id == g) ≡ b → AllExact (tags_in n) (map (without_tag g) (cond (not b) (o ∷ but g os) (but g os)))) [
       | true ↦ λ _. rest
-      | false ↦ λ apart. ((λ e.
-          all.0 e
-          ∙ sym (committed_last o.id g apart [] [] (log_at m e) (λ none. absurd (false≢true none)) (grows e) refl)
-          ∙ ap (has o.id) (same_last [] (committed g (log_at m e)) (log_at n e) (did.logs e))), rest)
+      | false ↦ λ apart. (
+        (λ e.
+            all.0 e
+            ∙ sym (committed_last o.id g apart [] [] (log_at m e) (λ none. absurd (false≢true none)) (grows e) refl)
+            ∙ ap (has o.id) (same_last [] (committed g (log_at m e)) (log_at n e) (did.logs e))),
+        rest,
+      )
     ] refl
 
 -- ---- a failure

@@ -3,7 +3,9 @@ use Rattle.std.proofs.Common.{◌≡◌, None, Ok, Err, sym, ◌∙◌, ap, subs
 use Rattle.sk_trace.specs.Entry.{EntryView}
 use Rattle.sk_undo.specs.Logs.{look_at}
 use Rattle.sk_plain.specs.Planned.{read_by}
+use Rattle.sk_plain.specs.Seen.{seen_with}
 use Rattle.sk_plain.proofs.Scan.{asked, changed_are}
+use Rattle.sk_plain.proofs.Plans.{written_is}
 use Rattle.sk_kernel.specs.Kernel.{KernelView, effect_at}
 use Rattle.sk_kernel.specs.Footprint.{footprint_of}
 use Rattle.sk_kernel.specs.contracts.kernel.Kernel.{the_view}
@@ -14,10 +16,11 @@ pub returns-in-Ok : goal.returns-in-Ok
 returns-in-Ok c =
     let n : EntryView = record { pid = c.args.pid; input = c.args.input.now; guess = None } in
     let look = look_at c.self.inside.machine.slots in
-    let plan = c.in-Ok.plan in
+    let scripts = c.self.inside.opening.start.scripts in
+    let plan = seen_with look scripts n.pid n.input c.in-Ok.plan in
     let same = same_effect (the_view c.self.inside) c.self.inside.machine c.self.invariant.0.stands n in
     let planned = ap footprint_of (sym same ∙ c.in-Ok.ensures.plans)
-    ∙ (λ i. Ok (record { reads = asked look (read_by n.pid n.input plan.looks) i; writes = changed_are look n.pid plan i })) in
+    ∙ (λ i. Ok (record { reads = asked look (read_by n.pid n.input plan.looks) i; writes = (changed_are look n.pid plan ∙ written_is look scripts n.pid n.input c.in-Ok.plan) i })) in
     subst (λ (k : KernelView). Ok (record { reads = c.reads.result; writes = c.writes.result }) ≡ footprint_of (effect_at k n)) c.self.view_is
     ((λ i. Ok (record { reads = c.reads.ensures i; writes = c.writes.ensures i })) ∙ sym planned)
 

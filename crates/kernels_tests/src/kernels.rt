@@ -58,7 +58,6 @@ fn refused_twice(rt: &impl Abort, kernel: &mut Kernel, token: Guess) -> Guess
     match kernel.fail_speculation(token) {
         Ok(outcome) => panic!(rt; "failed: {outcome:?}"),
         Err(FailRefusal::Stranger(guess)) => guess,
-        Err(FailRefusal::Memory(_guess)) => panic!(rt; "want of memory"),
     }
 }
 

@@ -149,7 +149,6 @@ fn failed(rt: &impl Abort, kernel: &mut Kernel, token: Guess) -> Outcome {
     match kernel.fail_speculation(token) {
         Ok(outcome) => outcome,
         Err(FailRefusal::Stranger(_guess)) => panic!(rt; "a stranger"),
-        Err(FailRefusal::Memory(_guess)) => panic!(rt; "want of memory"),
     }
 }
 

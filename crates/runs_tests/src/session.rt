@@ -112,7 +112,6 @@ fn decided(rt: &impl Abort, kernel: &mut Kernel, token: Guess, fails: bool) -> O
         match kernel.fail_speculation(token) {
             Ok(outcome) => outcome,
             Err(FailRefusal::Stranger(_guess)) => panic!(rt; "a stranger"),
-            Err(FailRefusal::Memory(_guess)) => panic!(rt; "want of memory"),
         }
     } else {
         match kernel.commit_speculation(token) {

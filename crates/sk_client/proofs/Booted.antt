@@ -136,4 +136,3 @@ pub after_fail : (result : Result Outcome FailRefusal) (token : Token) (old new 
 after_fail (Ok outcomes.Done) token old new h b = subst WasBooted (sym h.2) (fail_stays old b token.id h.1)
 after_fail (Ok outcomes.Gone) token old new h b = subst WasBooted (sym h.2) b
 after_fail (Err (refusals.Stranger guess)) token old new h b = subst WasBooted (sym h.2) b
-after_fail (Err (refusals.Memory guess)) token old new h b = absurd h

@@ -41,7 +41,6 @@ commits_keep (Err s) t old new others h out = subst (λ (k : KernelView). all_un
 pub fails_keep : (result : Result Outcome FailRefusal) (t : Token) (old new : KernelView) (others : List Token) → FailPost result t old new → Out old t others → all_unspent new others ≡ true
 fails_keep (Ok o) t old new others h out = decisions_keep o t (events.Fail t.id) old new others out.apart h out.rest
 fails_keep (Err (refusals.Stranger s)) t old new others h out = subst (λ (k : KernelView). all_unspent k others ≡ true) (sym h.2) out.rest
-fails_keep (Err (refusals.Memory s)) t old new others h out = absurd h
 
 -- and is not refused
 pub commit_taken : (result : Result Outcome Stranger) (s : Stranger) (t : Token) (old new : KernelView) → CommitPost result t old new → result ≡ Err s → IsUnspent old t → ⊥
@@ -51,4 +50,3 @@ commit_taken (Err x) s t old new h e unspent = no_stranger old t unspent h.0
 pub fail_taken : (result : Result Outcome FailRefusal) (why : FailRefusal) (t : Token) (old new : KernelView) → FailPost result t old new → result ≡ Err why → IsUnspent old t → ⊥
 fail_taken (Ok x) why t old new h e unspent = absurd cc
 fail_taken (Err (refusals.Stranger x)) why t old new h e unspent = no_stranger old t unspent h.0
-fail_taken (Err (refusals.Memory x)) why t old new h e unspent = h

@@ -68,7 +68,6 @@ CommitPost (Err stranger) token old new = IsStranger old token × (stranger.gues
 abbrev pub FailPost : Result Outcome FailRefusal → Token → KernelView → KernelView → Type 0
 FailPost (Ok outcome) token old new = DecisionPost outcome token (events.Fail token.id) old new
 FailPost (Err (refusals.Stranger guess)) token old new = IsStranger old token × (guess ≡ token) × (new ≡ old)
-FailPost (Err (refusals.Memory guess)) token old new = ⊥
 
 -- the texts of a terminal: those said to it, with what they depend on, of which the longest prefix that depends on no undecided guess is released
 pub record ShowsTerminal (k : KernelView) (t : ℕ) (texts : List TaggedText) : Type 0 where

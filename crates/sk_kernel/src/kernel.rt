@@ -48,8 +48,6 @@ pub struct Stranger {
 /// Why a failure was not taken; the token comes back, and nothing has changed.
 pub enum FailRefusal {
     Stranger(Guess),
-    /// This never comes.
-    Memory(Guess),
 }
 
 /// A kernel whose processes go on from guessed replies. Contracts see its number, what it was booted

@@ -288,6 +288,50 @@ def long_rows(meter):
     yield "the same, peak memory in kilobytes", meter.peak(guessed), meter.peak(plain), UNDER_A_GUESS
 
 
+BLOCK = "b" * 512
+
+
+def writing(size, body, count, guesses, decision=None):
+    """A file of so many bytes, and then `count` writes of `body` at its front, which rest on a guess or on none."""
+    filling = [line for at in range(0, size, 512) for line in (f"set r2 {at}", "write r1 r2")]
+    lead = ["look r1 r7 f", f'text "{BLOCK}"'] + filling + [f'text "{body}"', "set r2 0", "fetch /x", f'text "{body}"']
+    before = ["step 1 none"] * (len(lead) - 2) + [f"{'guess' if guesses else 'step'} 1 good", "step 1 none"]
+    ends = [f"{decision} 1"] if guesses and decision else []
+    return scenario(lead + looping(["write r1 r2"], 64), ["step 1 none"] * count + ends, objects=['file f ""', "dir d"], before=before)
+
+
+def looking(names, count):
+    """Looks at the last name of a directory of so many."""
+    lead = ["look r1 r7 f", "look r2 r7 d"] + [f"link r2 m{name:02} r1" for name in range(names)]
+    first = lead + looping([f"look r3 r2 m{names - 1:02}"], 64)
+    return scenario(first, ["step 1 none"] * count, objects=FILES, before=["step 1 none"] * len(lead))
+
+
+def piping(is_full, count):
+    """Rounds of 512 bytes that are taken out of a pipe and put into it, or the other way round."""
+    filling = ["put r1"] * (8 if is_full else 0)
+    lead = ["mkpipe r1", "set r2 512", f'text "{BLOCK}"'] + filling
+    body = ["take r1 r2", "put r1"] if is_full else ["put r1", "take r1 r2"]
+    return scenario(lead + looping(body, 32), ["step 1 none"] * count, before=["step 1 none"] * len(lead))
+
+
+def block_rows(meter):
+    """Blocks, rings and slots: how a change's cost depends on what stands there already, and what its undo costs."""
+    large, small, writes = 32_768, 512, 2048
+    write = lambda size, body, guesses: meter.each(lambda n: writing(size, body, n, guesses), writes, 2 * writes, 1)
+    noted, plain = write(large, BLOCK, True), write(large, BLOCK, False)
+    yield "write of 512 bytes into a file of 32,768: noted / not noted", noted, plain, 1.3
+    undone = lambda n: meter.played(writing(large, BLOCK, n, True, "fail")) - meter.played(writing(large, BLOCK, n, True))
+    yield "its undo / the write", (undone(2 * writes) - undone(writes)) / writes, noted, 1
+    yield "write of one byte: into a file of 32,768 / of 512", write(large, "c", False), write(small, "c", False), 1.1
+    kept = lambda guesses: meter.peak(writing(large, BLOCK, 20_000, guesses)) * 1024 / 20_000
+    yield "bytes that a noted write keeps, its new block aside / 600", kept(True) - kept(False) - 512, 600, 1
+    look = lambda names: meter.each(lambda n: looking(names, n), 600, 1200, 1)
+    yield "look in a directory: of 64 names / of 4", look(64), look(4), 2
+    pipe = lambda is_full: meter.each(lambda n: piping(is_full, n), 640, 1280, 1)
+    yield "take and put of 512 bytes: on a full pipe / on an empty one", pipe(True), pipe(False), 1.1
+
+
 def shown(cost, seconds):
     return f"{cost * 1e6:14,.2f}" if seconds else f"{cost:14,.0f}"
 
@@ -304,7 +348,7 @@ def main():
     unit = "microseconds" if words.seconds else "instructions"
     print(f"{'ratio':>7} {'limit':>6} {unit + ' left':>20} {'right':>14}  what")
     over = 0
-    for rows in (step_rows, long_rows, decision_rows, held_rows, nested_rows, text_rows):
+    for rows in (step_rows, long_rows, decision_rows, held_rows, nested_rows, text_rows, block_rows):
         if words.only and words.only not in rows.__name__:
             continue
         for name, left, right, limit in rows(meter):

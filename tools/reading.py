@@ -15,15 +15,14 @@ from sources import Index, ROOT, crates, imports_of, words_of
 
 PAGE = ROOT / "docs/HEADLINE.md"
 BEGIN, END = "<!-- tools/reading.py writes from here -->", "<!-- to here -->"
-KERNEL = ROOT / "crates/sk_kernel/src/kernel.rt"
+CALLS = [ROOT / "crates/sk_kernel/src" / name for name in ("kernel.rt", "hand_in.rt")]
 PARTS = (("The heart: dependence, striking, traces, statuses, what is released", ["sk_record"]),
          ("The kernel and its calls", ["sk_kernel", "sk_terminal", "sk_machine", "sk_guesses"]),
          ("The table: what a step does, and what entities have", None))
 
 
-def clauses():
-    """The lines of the clauses of the public functions of `Kernel`."""
-    text = KERNEL.read_text()
+def clauses(text):
+    """The lines of the clauses of the public functions of `Kernel` in one of its files."""
     body = text[text.index("\nimpl Kernel {"):]
     found, is_public = [], False
     for line in body[:body.index("\n}\n")].split("\n"):
@@ -36,9 +35,10 @@ def clauses():
 
 def reached(index):
     """The definitions that the clauses reach, in the order in which they are met."""
-    lines = clauses()
-    imports = imports_of(KERNEL.read_text().split("\n"))
-    words = words_of(lines, imports) + [("sk_kernel.specs.Kernel", "KernelView")]
+    words = []
+    for text in (file.read_text() for file in CALLS):
+        words += words_of(clauses(text), imports_of(text.split("\n")))
+    words.append(("sk_kernel.specs.Kernel", "KernelView"))
     found, waiting = [], [index.find(module or "sk_kernel.specs.Kernel", name) for module, name in words if module or name[0].isupper()]
     while waiting:
         it = waiting.pop(0)

@@ -1,24 +1,28 @@
 -- The laws of kernels, from those of records.
-use Rattle.std.proofs.Common.{◌≡◌, ℕ, ◌<◌, false, List, [], ◌∷◌, ◌++◌, map, Some, None, refl, sym, subst, arith}
-use Rattle.std.specs.List.{fold}
+use Rattle.std.proofs.Common.{◌≡◌, ℕ, ◌<◌, Bool, false, ◌||◌, List, [], ◌∷◌, ◌++◌, map, Some, None, refl, sym, subst, arith}
+use Rattle.std.specs.List.{fold, list_any}
 use Rattle.std.specs.FinMap as map
+use Rattle.sk_record.specs.Effects.{is_marked, written_value}
 use Rattle.sk_record.specs.Notes.{has}
 use Rattle.sk_record.specs.Run.{run}
+use Rattle.sk_record.specs.Step.{Effect}
 use Rattle.sk_record.specs.Trace.{Event as Happens, Taken, IsTagOf, IsAllowed, record_of, all_recorded, no_record, deps}
 use Rattle.sk_record.specs.declared.status.Status.TheVariants.{Undecided}
+use Rattle.sk_ids.specs.Entity.{entity_cmp}
 use Rattle.sk_ids.specs.declared.entity.Entity.{Entity}
 use Rattle.sk_ids.proofs.Entities.{entity_total, entity_exact}
 use Rattle.sk_script.specs.declared.instruction.Input.{Input}
 use Rattle.sk_trace.specs.Entry.{EntryView}
 use Rattle.sk_trace.specs.declared.event.Event.{Event}
 use Rattle.sk_trace.specs.declared.event.Event.TheVariants as events
-use Rattle.sk_plain.specs.Act.{plain}
+use Rattle.sk_store.specs.declared.entity_state.EntityState.{EntityState}
+use Rattle.sk_plain.specs.Act.{plain, Saying}
 use Rattle.sk_plain.specs.Replay.{image}
 use Rattle.sk_kernel.specs.Kernel.{KernelView, HasStatus, RestsOn, events_of, state_at, tags_at, number_after, next_guess, with_event}
-use Rattle.sk_kernel.specs.Laws.{HasSoundTrace, WasDrawn, KeepsUnwritten}
+use Rattle.sk_kernel.specs.Laws.{HasSoundTrace, WasDrawn, KeepsUnwritten, WritesAll}
 use Rattle.sk_kernel.proofs.Whole.{map_more, no_guess, some_same}
 use Rattle.sk_kernel.proofs.Numbers.{last_after, last_is_greatest}
-use Rattle.sk_kernel.proofs.Unwritten.{value_stays, tags_stay, none_rests, none_tagged}
+use Rattle.sk_kernel.proofs.Unwritten.{value_stays, tags_stay, value_written, tags_written, none_rests, none_tagged}
 
 module _ (k : KernelView) where
   last_same : (last : ℕ) (es : List Event) → fold number_after last es ≡ fold (last_after (plain k.scripts) k.start) last (map image es)
@@ -38,6 +42,10 @@ module _ (k : KernelView) where
   more : (e : Event) (P : List (Happens EntryView) → Type 0) → P (events_of k ++ image e ∷ []) → P (events_of (with_event k e))
   more e P p = subst P (sym (map_more k.trace e)) p
 
+  -- what rests on the guess after the step of an entry
+  abbrev tagged : EntryView → Effect Entity EntityState Saying → ℕ → Bool
+  tagged n f id = is_marked n.guess id || list_any (λ x. has id (tags_at k x)) (map (λ r. r.0) f.read ++ map (λ w. w.0) f.written)
+
   module _ (sound : HasSoundTrace k) where
     keeps : (n : EntryView) (e : Event) → image e ≡ Taken n → IsAllowed (plain k.scripts) k.start (events_of k) (Taken n) → KeepsUnwritten k n (with_event k e)
     keeps n e is allowed f q accepted out = record {
@@ -52,10 +60,28 @@ module _ (k : KernelView) where
     pub step_keeps : (pid : ℕ) (input : Input) → KeepsUnwritten k (record { pid = pid; input = input; guess = None }) (with_event k (events.Step pid input))
     step_keeps pid input = keeps (record { pid = pid; input = input; guess = None }) (events.Step pid input) refl (λ g h mark drawn. absurd (no_guess g mark))
 
+    writes : (n : EntryView) (e : Event) → image e ≡ Taken n → IsAllowed (plain k.scripts) k.start (events_of k) (Taken n) → WritesAll k n (with_event k e)
+    writes n e is allowed f q accepted here = record {
+      value = more e (λ es. map.get (run (plain k.scripts) k.start (record_of (plain k.scripts) k.start es)) q ≡ written_value entity_cmp f.written q (map.get (state_at k) q))
+          (subst (λ (x : Happens EntryView). map.get (run (plain k.scripts) k.start (record_of (plain k.scripts) k.start (events_of k ++ x ∷ []))) q ≡ written_value entity_cmp f.written q (map.get (state_at k) q)) (sym is)
+          (value_written (plain k.scripts) entity_total entity_exact k.start (events_of k) n f sound allowed accepted q));
+      tags = λ id. more e (λ es. has id (deps (plain k.scripts) k.start (all_recorded (plain k.scripts) k.start no_record es) q) ≡ tagged n f id)
+          (subst (λ (x : Happens EntryView). has id (deps (plain k.scripts) k.start (all_recorded (plain k.scripts) k.start no_record (events_of k ++ x ∷ [])) q) ≡ tagged n f id) (sym is)
+          (tags_written (plain k.scripts) entity_total entity_exact k.start (events_of k) n f sound allowed accepted q here id));
+    }
+
+    pub step_writes : (pid : ℕ) (input : Input) → WritesAll k (record { pid = pid; input = input; guess = None }) (with_event k (events.Step pid input))
+    step_writes pid input = writes (record { pid = pid; input = input; guess = None }) (events.Step pid input) refl (λ g h mark drawn. absurd (no_guess g mark))
+
+    fresh : (pid : ℕ) (input : Input) → IsAllowed (plain k.scripts) k.start (events_of k) (Taken (record { pid = pid; input = input; guess = Some (next_guess k) }))
+    fresh pid input = λ g h mark drawn. let own = some_same (next_guess k) g mark in let less = below_next sound h drawn in omega (arith, own, less)
+
+    pub guess_writes : (pid : ℕ) (input : Input) → WritesAll k (record { pid = pid; input = input; guess = Some (next_guess k) }) (with_event k (events.Guess (next_guess k) pid input))
+    guess_writes pid input = writes (record { pid = pid; input = input; guess = Some (next_guess k) }) (events.Guess (next_guess k) pid input) refl (fresh pid input)
+
     pub guess_keeps : (pid : ℕ) (input : Input) → KeepsUnwritten k (record { pid = pid; input = input; guess = Some (next_guess k) }) (with_event k (events.Guess (next_guess k) pid input))
     guess_keeps pid input =
-        keeps (record { pid = pid; input = input; guess = Some (next_guess k) }) (events.Guess (next_guess k) pid input) refl
-        (λ g h mark drawn. let own = some_same (next_guess k) g mark in let less = below_next sound h drawn in omega (arith, own, less))
+        keeps (record { pid = pid; input = input; guess = Some (next_guess k) }) (events.Guess (next_guess k) pid input) refl (fresh pid input)
 
   pub none_rests_on : (id : ℕ) (e : Entity) → RestsOn (with_event k (events.Fail id)) e id → ⊥
   none_rests_on id e rests =

@@ -1,22 +1,65 @@
--- What an accepted step does not write keeps its value and its tags; and a failed guess is no tag.
-use Rattle.std.proofs.Common.{◌≡◌, ℕ, false, List, [], ◌∷◌, ◌++◌, map, Ok, refl, sym, ◌∙◌, ap}
+-- What an accepted step writes has its values and its tags, what it does not write keeps its own; and a failed guess is no tag.
+use Rattle.std.proofs.Common.{◌≡◌, ℕ, Bool, true, false, ◌||◌, ◌&&◌, List, [], ◌∷◌, ◌++◌, map, Option, Some, None, Ok, inl, inr, refl, sym, ◌∙◌, ap}
+use Rattle.std.specs.List.{list_any, Contains}
+use Rattle.std.specs.Ordering.{eq_by_cmp}
 use Rattle.std.specs.Cmp.{IsTotalOrder}
 use Rattle.std.specs.FinMap.{FinMap, get, IsAntisymmetric}
-use Rattle.std.proofs.lemmas.Bool.{false_from_ne_true}
+use Rattle.std.proofs.lemmas.Bool.{or_cases, or_left, or_right, true≢false, false_from_ne_true}
 use Rattle.std.proofs.lemmas.List.{append-nil}
 use Rattle.std.proofs.lemmas.List.Elements.{Contains-push}
+use Rattle.std.proofs.lemmas.List.Folds.{list_any-append}
 use Rattle.sk_record.specs.Step.{Effect}
-use Rattle.sk_record.specs.Effects.{is_in}
+use Rattle.sk_record.specs.Effects.{MarkedEffect, is_in, is_marked, touches, written_value}
 use Rattle.sk_record.specs.Run.{System, marked_effect, outcome, run}
-use Rattle.sk_record.specs.Notes.{has, noted, last_tags}
+use Rattle.sk_record.specs.Notes.{Note, has, noted, last_tags}
 use Rattle.sk_record.specs.declared.status.Status.TheVariants.{Undecided}
-use Rattle.sk_record.specs.Trace.{Event, Taken, Fail, StatusIs, IsTagOf, IsAllowed, IsSound, record_of, all_recorded, no_record, deps}
-use Rattle.sk_record.specs.UndoState.{step_tags, tags_at}
+use Rattle.sk_record.specs.Trace.{Event, Taken, Fail, StatusIs, IsTagOf, IsAllowed, IsSound, record_of, all_recorded, no_record, deps, marks}
+use Rattle.sk_record.specs.UndoState.{UndoState, IsTidy, numbers, is_tag, step_tags, tags_at}
 use Rattle.sk_record.specs.Machine.{Machine, RepresentsTrace, took_by, machine_after}
+use Rattle.sk_record.proofs.Chains.{in_from}
+use Rattle.sk_record.proofs.Machine.{has_filter}
+use Rattle.sk_record.proofs.UndoStates.{tidy_clean}
 use Rattle.sk_record.proofs.Headline.{same_outcome, stands_taken, machine_stands, plain_run}
 use Rattle.sk_record.proofs.Sound.{sound_fail}
-use Rattle.sk_record.proofs.Tidy.{tags_are}
+use Rattle.sk_record.proofs.Tidy.{tags_are, tidy_of}
 use Rattle.sk_record.proofs.Values.{written_other}
+
+module _ {V : Type 0} where
+  last_pushed : (d : List ℕ) (log : List (Note V)) (n : Note V) → last_tags d (log ++ n ∷ []) ≡ n.tags
+  last_pushed d [] n = refl
+  last_pushed d (m ∷ log) n = last_pushed m.tags log n
+
+  -- after a write the last note has the write's tags
+  last_noted : (tags : List ℕ) (v : Option V) (log : List (Note V)) → (tags ≡ [] → log ≡ []) → last_tags [] (log ++ noted true tags v []) ≡ tags
+  last_noted [] v log clean = ap (λ l. last_tags [] (l ++ [])) (clean refl)
+  last_noted (t ∷ tags) v log clean = last_pushed [] log (record { tags = t ∷ tags; before = v })
+
+module _ {E V W : Type 0} (a : UndoState E V) (f : MarkedEffect E V W) (tidy : IsTidy a) (g : ℕ) where
+  known_at : (es : List E) → list_any (λ e. has g (tags_at a e)) es ≡ true → has g (numbers a.opens) ≡ true
+  known_at [] touched = absurd (true≢false (sym touched))
+  known_at (e ∷ es) touched =
+      elim (or_cases _ _ touched) [
+        | inl here ↦ tidy.known e g here
+        | inr later ↦ known_at es later
+      ]
+
+  marked_here : (mark : Option ℕ) → is_marked mark g ≡ true → has g (marks mark) ≡ true
+  marked_here None is = absurd (true≢false (sym is))
+  marked_here (Some h) is = or_left _ _ is
+
+  is_known : is_tag a f g ≡ true → has g (numbers a.opens ++ marks f.mark) ≡ true
+  is_known is =
+      list_any-append (λ t. t == g) (numbers a.opens) (marks f.mark)
+      ∙ elim (or_cases _ _ is) [
+        | inl own ↦ or_right _ _ (marked_here f.mark own)
+        | inr touched ↦ or_left _ _ (known_at (touches f) touched)
+      ]
+
+  -- a step rests on what something that it touches rests on, and on its own guess
+  in_step_tags : has g (step_tags a f) ≡ is_tag a f g
+  in_step_tags =
+      has_filter (is_tag a f) g (numbers a.opens ++ marks f.mark)
+      ∙ elim (is_tag a f g) as (λ b. is_tag a f g ≡ b → (b && has g (numbers a.opens ++ marks f.mark)) ≡ b) [ true ↦ λ is. is_known is | false ↦ λ _. refl ] refl
 
 module _ {E V W F N : Type 0} (K : System E V W F N) (total : IsTotalOrder K.order) (exact : IsAntisymmetric K.order) (start : FinMap K.order V) where
   -- the tags of an entity, computed on the trace
@@ -58,6 +101,28 @@ module _ {E V W F N : Type 0} (K : System E V W F N) (total : IsTotalOrder K.ord
         ∙ ap (λ b. last_tags [] (before.state.logs e ++ noted b (step_tags before.state (marked_effect K (K.mark n) (Ok f))) (before.state.look e) [])) out
         ∙ ap (last_tags []) (append-nil (before.state.logs e))
         ∙ computed_are es before stands e
+
+    pub value_written : (e : E) → get (run K start (record_of K start (es ++ Taken n ∷ []))) e ≡ written_value K.order f.written e (get (run K start (record_of K start es)) e)
+    value_written e =
+        sym ((plain_run K total exact start (es ++ Taken n ∷ []) after taken).values e)
+        ∙ ap (written_value K.order f.written e) ((plain_run K total exact start es before stands).values e)
+
+    abbrev left : MarkedEffect E V W
+    left = marked_effect K (K.mark n) (Ok f)
+
+    tidy : IsTidy before.state
+    tidy = tidy_of K total exact start (all_recorded K start no_record es) before.state stands.state
+
+    pub tags_written : (e : E) → is_in K.order (map (λ w. w.0) f.written) e ≡ true → (g : ℕ)
+        → has g (computed (es ++ Taken n ∷ []) e) ≡ (is_marked (K.mark n) g || list_any (λ x. has g (computed es x)) (touches left))
+    tags_written e here g =
+        let touched : Contains (touches left) e = in_from total exact (touches left) e (list_any-append (eq_by_cmp K.order e) (map (λ r. r.0) f.read) (map (λ w. w.0) f.written) ∙ or_right _ _ here) in
+        ap (has g)
+        (sym (computed_are (es ++ Taken n ∷ []) after taken e)
+        ∙ ap (λ b. last_tags [] (before.state.logs e ++ noted b (step_tags before.state left) (before.state.look e) [])) here
+        ∙ last_noted (step_tags before.state left) (before.state.look e) (before.state.logs e) (tidy_clean before.state left tidy e touched))
+        ∙ in_step_tags before.state left tidy g
+        ∙ (λ i. is_marked (K.mark n) g || list_any (λ x. has g (computed_are es before stands x i)) (touches left))
 
   module _ (es : List (Event N)) (g : ℕ) where
     -- a guess that has failed is not undecided

@@ -1,8 +1,10 @@
 -- What the laws of kernels say.
-use Rattle.std.specs.Prelude.{◌≡◌, ℕ, false, ◌++◌, replicate, map as each_of, Some, Ok}
+use Rattle.std.specs.Prelude.{◌≡◌, ℕ, true, false, ◌||◌, ◌++◌, replicate, map as each_of, Some, Ok}
+use Rattle.std.specs.List.{list_any}
 use Rattle.std.specs.FinMap as map
 use Rattle.std.specs.Ordering.{eq_by_cmp}
-use Rattle.sk_record.specs.Effects.{is_in}
+use Rattle.sk_record.specs.Effects.{is_in, is_marked, written_value}
+use Rattle.sk_record.specs.Notes.{has}
 use Rattle.sk_record.specs.Step.{Effect}
 use Rattle.sk_record.specs.Trace.{IsDrawn, IsSound}
 use Rattle.sk_ids.specs.Entity.{entity_cmp}
@@ -34,6 +36,17 @@ pub record IsUntouched (old new : KernelView) (e : Entity) : Type 0 where
 abbrev pub KeepsUnwritten : KernelView → EntryView → KernelView → Type 0
 KeepsUnwritten old n new =
     (f : Effect Entity EntityState Saying) (e : Entity) → effect_at old n ≡ Ok f → is_in entity_cmp (each_of (λ w. w.0) f.written) e ≡ false → IsUntouched old new e
+
+-- an entity has what the writes of a step leave it, and depends on just the undecided guesses that something read or written did, and on the step's own
+pub record IsWritten (old new : KernelView) (n : EntryView) (f : Effect Entity EntityState Saying) (e : Entity) : Type 0 where
+  pub value : map.get (state_at new) e ≡ written_value entity_cmp f.written e (map.get (state_at old) e)
+  pub tags : (id : ℕ) → has id (tags_at new e)
+      ≡ (is_marked n.guess id || list_any (λ x. has id (tags_at old x)) (each_of (λ r. r.0) f.read ++ each_of (λ w. w.0) f.written))
+
+-- so is each entity that the step of an entry writes, where it is accepted
+abbrev pub WritesAll : KernelView → EntryView → KernelView → Type 0
+WritesAll old n new =
+    (f : Effect Entity EntityState Saying) (e : Entity) → effect_at old n ≡ Ok f → is_in entity_cmp (each_of (λ w. w.0) f.written) e ≡ true → IsWritten old new n f e
 
 -- the instructions of a hand-in are as many entries more of the record, and leave the process as it became and all else as it was
 pub record AreEntries (old new : KernelView) (pid n : ℕ) (p : Process) : Type 0 where

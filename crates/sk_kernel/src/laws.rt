@@ -7,7 +7,7 @@ ghost use Rattle.sk_script.specs.declared.instruction.Input.{Input};
 ghost use Rattle.sk_script.specs.Lease.{LeaseView};
 ghost use Rattle.sk_trace.specs.declared.event.Event.TheVariants as events;
 ghost use Rattle.sk_kernel.specs.Kernel.{KernelView, HasStatus, RestsOn, next_guess, tags_at, with_event};
-ghost use Rattle.sk_kernel.specs.Laws.{HasSoundTrace, WasDrawn, KeepsUnwritten, HandsInEntries};
+ghost use Rattle.sk_kernel.specs.Laws.{HasSoundTrace, WasDrawn, KeepsUnwritten, WritesAll, HandsInEntries};
 
 /// The number of the next guess is above that of each guess that was made.
 pub fn numbers()
@@ -18,6 +18,12 @@ pub fn numbers()
 pub fn unwritten()
     ensures step { (k : KernelView) (pid : ℕ) (input : Input) → HasSoundTrace k → KeepsUnwritten k (record { pid = pid; input = input; guess = None }) (with_event k (events.Step pid input)) }
     ensures guess { (k : KernelView) (pid : ℕ) (input : Input) → HasSoundTrace k → KeepsUnwritten k (record { pid = pid; input = input; guess = Some (next_guess k) }) (with_event k (events.Guess (next_guess k) pid input)) }
+{}
+
+/// What an accepted step or guess writes has the value that the step gives it, and rests on just what the step rests on.
+pub fn written()
+    ensures step { (k : KernelView) (pid : ℕ) (input : Input) → HasSoundTrace k → WritesAll k (record { pid = pid; input = input; guess = None }) (with_event k (events.Step pid input)) }
+    ensures guess { (k : KernelView) (pid : ℕ) (input : Input) → HasSoundTrace k → WritesAll k (record { pid = pid; input = input; guess = Some (next_guess k) }) (with_event k (events.Guess (next_guess k) pid input)) }
 {}
 
 /// A hand-in of so many private instructions is as many entries of the record, and leaves the process as they do.

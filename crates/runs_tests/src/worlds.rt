@@ -70,7 +70,7 @@ struct Setting<'a> {
 
 /// What a world has come to.
 #[derive(Drop)]
-struct Course {
+pub struct Course {
     accepted: Vec<Accepted>,
     /// How many requests were made, answered by the server, and have their reply.
     made: u64,
@@ -83,12 +83,13 @@ struct Course {
 }
 
 /// Fine, or this is found.
-fn held(is_so: bool, otherwise: Finding) -> Result<(), Finding> {
+pub fn held(is_so: bool, otherwise: Finding) -> Result<(), Finding> {
     if is_so { Ok(()) } else { Err(otherwise) }
 }
 
 impl Course {
-    fn new(alloc: Global) -> Course {
+    /// Nothing has happened yet.
+    pub fn new(alloc: Global) -> Course {
         Course {
             accepted: Vec::new(alloc),
             made: 0,
@@ -98,6 +99,33 @@ impl Course {
             drawn: 0,
             seen: BTreeSet::new(alloc),
         }
+    }
+
+    /// How many requests were made.
+    pub fn made(&self) -> u64 {
+        self.made
+    }
+
+    /// How many requests had their reply.
+    pub fn replied(&self) -> u64 {
+        self.replied
+    }
+
+    /// How many requests have no reply.
+    pub fn pending(&self) -> u64 {
+        self.made.saturating_sub(self.replied)
+    }
+
+    /// Judges a kernel of this trace limit by what its trace comes to.
+    pub fn judge(
+        &mut self,
+        kernel: &Kernel,
+        reckoning: &Reckoning,
+        limit: u32,
+    ) -> Result<(), Finding> {
+        let trace = kernel.trace();
+        held(trace.events().len() == self.length, Finding::Events)?;
+        judge(kernel, reckoning, trace, limit, self.drawn, &mut self.seen)
     }
 
     /// Notes one more event of the trace, which has to be as it should.
@@ -112,7 +140,8 @@ impl Course {
         held(number == self.made, Finding::Answer)
     }
 
-    fn turned(&mut self, last: Option<&Event>, pid: Pid, turn: Turn) -> Result<(), Finding> {
+    /// Notes what a turn was answered, after which the trace ends so.
+    pub fn turned(&mut self, last: Option<&Event>, pid: Pid, turn: Turn) -> Result<(), Finding> {
         match turn {
             Turn::Stepped => self.appends(is_step_of(last, pid)),
             Turn::Asked(number) => self.makes(number),
@@ -124,7 +153,8 @@ impl Course {
         }
     }
 
-    fn gave(&mut self, last: Option<&Event>, given: Given) -> Result<(), Finding> {
+    /// Notes what a reply was answered, after which the trace ends so.
+    pub fn gave(&mut self, last: Option<&Event>, given: Given) -> Result<(), Finding> {
         self.replied = self.replied.saturating_add(1);
         match given {
             Given::Committed(id) => self.appends(is_event(last, &Event::Commit(id))),
@@ -336,20 +366,11 @@ fn happen(
         Err(cause) => held(course.refuses(event, cause), Finding::Answer)?,
     }
     course.note_changes(event, told.as_ref().ok(), &changes)?;
-    held(trace.events().len() == course.length, Finding::Events)?;
-    let pending = course.made.saturating_sub(course.replied);
-    held(world.desk().pending() as u64 == pending, Finding::Pending)?;
+    let pending = world.desk().pending() as u64;
+    held(pending == course.pending(), Finding::Pending)?;
     let declarations = setting.declarations;
     let reckoning = Reckoning::of(setting.alloc, declarations.boot(), trace)?;
-    let limit = declarations.limit();
-    judge(
-        kernel,
-        &reckoning,
-        trace,
-        limit,
-        course.drawn,
-        &mut course.seen,
-    )?;
+    course.judge(kernel, &reckoning, declarations.limit())?;
     if let WorldEvent::Reply = *event {
         judge_stores(course, &stores_of(setting, kernel)?)?;
     }

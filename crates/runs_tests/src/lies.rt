@@ -11,7 +11,8 @@ use sk_client::{Desk, Given, ReplyRefusal};
 use sk_guesses::Status;
 use sk_ids::{GuessId, Text};
 use sk_kernel::Kernel;
-use sk_objects::{Content, LAST_VERSION};
+use sk_objects::Content;
+use sk_objects::content::LAST_VERSION;
 use sk_plain::{Refusal, Trace};
 use sk_scenario::{Declarations, Scenario};
 use sk_server::{Answer, Ask, Reply, Request};
@@ -214,7 +215,7 @@ impl Talk<'_> {
 }
 
 /// So many things happen to a desk; says how many of its requests had a reply.
-fn talk(
+fn talk_to(
     alloc: Global,
     declarations: &Declarations,
     desk: &mut Desk,
@@ -245,7 +246,7 @@ fn desk(alloc: Global, number: u64, kind: Kind) -> Result<u64, Finding> {
     let kernel = Kernel::boot(alloc, declarations.number(), boot, limit)?;
     let mut desk = Desk::new(alloc, kernel);
     let count = 20 + rng.next_u32() % 60;
-    let told = talk(alloc, declarations, &mut desk, &mut rng, count);
+    let told = talk_to(alloc, declarations, &mut desk, &mut rng, count);
     desk.abandon();
     told
 }

@@ -22,7 +22,7 @@ use std::env::Env;
 use std::process::Abort;
 
 /// How many desks there are in a test.
-const DESKS: u64 = 1_250;
+const DESKS: u64 = 625;
 
 /// What has come of a desk, and the requests that were taken from it and have no reply.
 #[derive(Drop)]
@@ -265,41 +265,81 @@ fn desks<R: Abort + Env + Alloc>(rt: &R, alloc: Global, kind: Kind, from: u64) {
 }
 
 #[test]
-fn replies_that_lie_to_guesses(rt: HostRuntime) {
-    desks(&rt, rt.alloc(), Kind::Guessing, 1 + 0 * DESKS);
+fn replies_that_lie_1(rt: HostRuntime) {
+    desks(&rt, rt.alloc(), Kind::Any, 1);
 }
 
 #[test]
-fn replies_that_lie(rt: HostRuntime) {
-    desks(&rt, rt.alloc(), Kind::Any, 1 + 0 * DESKS);
-}
-
-#[test]
-fn replies_that_lie_to_guesses_again(rt: HostRuntime) {
-    desks(&rt, rt.alloc(), Kind::Guessing, 1 + 1 * DESKS);
-}
-
-#[test]
-fn replies_that_lie_again(rt: HostRuntime) {
+fn replies_that_lie_2(rt: HostRuntime) {
     desks(&rt, rt.alloc(), Kind::Any, 1 + 1 * DESKS);
 }
 
 #[test]
-fn replies_that_lie_to_guesses_a_third_time(rt: HostRuntime) {
-    desks(&rt, rt.alloc(), Kind::Guessing, 1 + 2 * DESKS);
-}
-
-#[test]
-fn replies_that_lie_a_third_time(rt: HostRuntime) {
+fn replies_that_lie_3(rt: HostRuntime) {
     desks(&rt, rt.alloc(), Kind::Any, 1 + 2 * DESKS);
 }
 
 #[test]
-fn replies_that_lie_to_guesses_a_fourth_time(rt: HostRuntime) {
+fn replies_that_lie_4(rt: HostRuntime) {
+    desks(&rt, rt.alloc(), Kind::Any, 1 + 3 * DESKS);
+}
+
+#[test]
+fn replies_that_lie_5(rt: HostRuntime) {
+    desks(&rt, rt.alloc(), Kind::Any, 1 + 4 * DESKS);
+}
+
+#[test]
+fn replies_that_lie_6(rt: HostRuntime) {
+    desks(&rt, rt.alloc(), Kind::Any, 1 + 5 * DESKS);
+}
+
+#[test]
+fn replies_that_lie_7(rt: HostRuntime) {
+    desks(&rt, rt.alloc(), Kind::Any, 1 + 6 * DESKS);
+}
+
+#[test]
+fn replies_that_lie_8(rt: HostRuntime) {
+    desks(&rt, rt.alloc(), Kind::Any, 1 + 7 * DESKS);
+}
+
+#[test]
+fn replies_that_lie_to_guesses_1(rt: HostRuntime) {
+    desks(&rt, rt.alloc(), Kind::Guessing, 1);
+}
+
+#[test]
+fn replies_that_lie_to_guesses_2(rt: HostRuntime) {
+    desks(&rt, rt.alloc(), Kind::Guessing, 1 + 1 * DESKS);
+}
+
+#[test]
+fn replies_that_lie_to_guesses_3(rt: HostRuntime) {
+    desks(&rt, rt.alloc(), Kind::Guessing, 1 + 2 * DESKS);
+}
+
+#[test]
+fn replies_that_lie_to_guesses_4(rt: HostRuntime) {
     desks(&rt, rt.alloc(), Kind::Guessing, 1 + 3 * DESKS);
 }
 
 #[test]
-fn replies_that_lie_a_fourth_time(rt: HostRuntime) {
-    desks(&rt, rt.alloc(), Kind::Any, 1 + 3 * DESKS);
+fn replies_that_lie_to_guesses_5(rt: HostRuntime) {
+    desks(&rt, rt.alloc(), Kind::Guessing, 1 + 4 * DESKS);
+}
+
+#[test]
+fn replies_that_lie_to_guesses_6(rt: HostRuntime) {
+    desks(&rt, rt.alloc(), Kind::Guessing, 1 + 5 * DESKS);
+}
+
+#[test]
+fn replies_that_lie_to_guesses_7(rt: HostRuntime) {
+    desks(&rt, rt.alloc(), Kind::Guessing, 1 + 6 * DESKS);
+}
+
+#[test]
+fn replies_that_lie_to_guesses_8(rt: HostRuntime) {
+    desks(&rt, rt.alloc(), Kind::Guessing, 1 + 7 * DESKS);
 }

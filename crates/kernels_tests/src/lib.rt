@@ -4,6 +4,8 @@
 #[cfg(test)]
 mod ample;
 #[cfg(test)]
+mod dependents;
+#[cfg(test)]
 mod kernels;
 #[cfg(test)]
 mod logs;

@@ -4,7 +4,7 @@ ghost use Rattle.std.specs.Prelude.{◌≡◌, vec_len};
 
 use crate::start::{Start, kernel_of, pid};
 use sk_guesses::Guess;
-use sk_ids::{Entity, Pid};
+use sk_ids::{Entity, GuessId, ObjId, Pid};
 use sk_kernel::{FailRefusal, Kernel, Outcome, Stranger};
 use sk_plain::{Refusal, View};
 use sk_script::Input;
@@ -40,6 +40,14 @@ pub enum Count {
     Room,
 }
 
+/// Something that can rest on a guess.
+#[derive(Clone, Copy)]
+pub enum Thing {
+    Process(u16),
+    /// An object of the boot.
+    Object(u32),
+}
+
 /// Something that is done, and what comes of it.
 #[derive(Clone, Copy)]
 pub enum Play {
@@ -57,6 +65,8 @@ pub enum Play {
     Rounds(u64, [Decision; 2]),
     /// How much there is.
     Has(Count, usize),
+    /// Just these rest on the guess of this number, by rising order.
+    Rests(u64, &'static [Thing]),
 }
 
 /// A kernel, and the tokens that are kept, the oldest first.
@@ -252,6 +262,29 @@ fn has(
     Ok(())
 }
 
+fn entity_of(thing: Thing) -> Result<Entity, Fail> {
+    Ok(match thing {
+        Thing::Process(number) => Entity::Proc(pid(number)?),
+        Thing::Object(count) => Entity::Obj(ObjId { maker: None, count }),
+    })
+}
+
+/// Just these rest on a guess, by rising order.
+fn rests(
+    rt: &impl Abort,
+    kernel: &Kernel,
+    place: usize,
+    number: u64,
+    want: &[Thing],
+) -> Result<(), Fail> {
+    let dependents = kernel.dependents(GuessId::new(number).ok_or("guess")?);
+    assert_eq!(rt; dependents.len(), want.len(), "play {place}");
+    for (entity, thing) in dependents.iter().zip(want) {
+        assert_eq!(rt; *entity, entity_of(*thing)?, "play {place}");
+    }
+    Ok(())
+}
+
 /// Does one thing.
 pub fn does(rt: &impl Abort, player: &mut Player, place: usize, play: Play) -> Result<(), Fail> {
     match play {
@@ -268,6 +301,7 @@ pub fn does(rt: &impl Abort, player: &mut Player, place: usize, play: Play) -> R
         }
         Play::Rounds(count, decisions) => rounds(rt, player, place, pid(1)?, count, decisions),
         Play::Has(count, want) => has(rt, &player.kernel, place, count, want),
+        Play::Rests(number, want) => rests(rt, &player.kernel, place, number, want),
     }
 }
 
@@ -292,10 +326,15 @@ fn spends(rt: &impl Abort, player: &mut Player)
 impl Player {
     /// A new kernel.
     pub fn new(alloc: Global, start: Start<'_>) -> Result<Player, Fail> {
-        Ok(Player {
-            kernel: kernel_of(alloc, start)?,
+        Ok(Player::with(alloc, kernel_of(alloc, start)?))
+    }
+
+    /// A kernel of which no guess is undecided.
+    pub fn with(alloc: Global, kernel: Kernel) -> Player {
+        Player {
+            kernel,
             tokens: Vec::new(alloc),
-        })
+        }
     }
 
     /// Spends the tokens that are left, and hands the kernel out.
@@ -313,10 +352,20 @@ impl Player {
     }
 }
 
-/// Plays with a new kernel.
-pub fn plays(rt: &impl Abort, alloc: Global, start: Start<'_>, plays: &[Play]) -> Result<(), Fail> {
-    let mut player = Player::new(alloc, start)?;
+/// Plays with a kernel of which no guess is undecided.
+pub fn plays_on(
+    rt: &impl Abort,
+    alloc: Global,
+    kernel: Kernel,
+    plays: &[Play],
+) -> Result<(), Fail> {
+    let mut player = Player::with(alloc, kernel);
     let done = does_all(rt, &mut player, plays);
     player.abandon(rt);
     done
+}
+
+/// Plays with a new kernel.
+pub fn plays(rt: &impl Abort, alloc: Global, start: Start<'_>, plays: &[Play]) -> Result<(), Fail> {
+    plays_on(rt, alloc, kernel_of(alloc, start)?, plays)
 }

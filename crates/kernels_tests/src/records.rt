@@ -1,5 +1,5 @@
 //! Records, stores and steps, and what a failure leaves of a record.
-use crate::start::{content, declares_copy, declares_script, name, pid};
+use crate::start::{content, declares_object, name, pid, two_processes};
 use sk_ids::{Entity, GuessId, Name, ObjId, Pid};
 use sk_plain::{Entry, Event, Refusal, Trace, apply_plan, plan_step, strike_guess};
 use sk_script::{Boot, Input, ObjectKind, ROOT, Register, Val};
@@ -7,23 +7,6 @@ use sk_store::{EntityState, Look, Store};
 use std::alloc::Global;
 use std::process::Abort;
 use std::test::Fail;
-
-/// Declares two processes with these scripts, and copies `/x` and `/y`.
-fn declares(alloc: Global, boot: &mut Boot, scripts: [&[u8]; 2]) -> Result<(), Fail> {
-    let (one, two) = (name(b"one")?, name(b"two")?);
-    declares_script(alloc, boot, &one, scripts[0])?;
-    declares_script(alloc, boot, &two, scripts[1])?;
-    declares_copy(boot, b"/x", 3, b"new")?;
-    declares_copy(boot, b"/y", 1, b"new")?;
-    boot.process(1, &one, 1)?;
-    Ok(boot.process(2, &two, 2)?)
-}
-
-fn two_processes(alloc: Global, scripts: [&[u8]; 2]) -> Result<Boot, Fail> {
-    let mut boot = Boot::new(alloc);
-    declares(alloc, &mut boot, scripts)?;
-    Ok(boot)
-}
 
 /// What a process does: a step without input, a fetch from the copy, one of the server's content where
 /// there is no copy, one where the copy is stale, and one that is guessed.
@@ -270,15 +253,9 @@ fn boot_object(count: u32) -> ObjId {
 }
 
 /// Declares a file and a pipe, where there is room.
-fn declares_both(boot: &mut Boot, file: Name, pipe: Name) -> Result<(), Fail> {
-    if boot.objects().len() >= 64 {
-        return Err("room".into());
-    }
-    boot.object(file, ObjectKind::File, b"f0")?;
-    if boot.objects().len() >= 64 {
-        return Err("room".into());
-    }
-    Ok(boot.object(pipe, ObjectKind::Pipe, b"ab")?)
+fn declares_both(boot: &mut Boot, file: &Name, pipe: &Name) -> Result<(), Fail> {
+    declares_object(boot, file, ObjectKind::File, b"f0")?;
+    declares_object(boot, pipe, ObjectKind::Pipe, b"ab")
 }
 
 /// What a store has under a name of its root; none where it is absent, or there is no root.
@@ -311,7 +288,7 @@ fn copied(alloc: Global, boot: &Boot) -> Result<Store, Fail> {
 /// A boot with two processes, and a file and a pipe of these names.
 fn with_both(alloc: Global, file: Name, pipe: Name) -> Result<Boot, Fail> {
     let mut boot = two_processes(alloc, [b"say\n", b""])?;
-    declares_both(&mut boot, file, pipe)?;
+    declares_both(&mut boot, &file, &pipe)?;
     Ok(boot)
 }
 

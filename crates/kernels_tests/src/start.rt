@@ -4,7 +4,7 @@ ghost use Rattle.std.specs.Prelude.{◌<◌};
 use sk_ids::{Name, Pid, Text};
 use sk_kernel::Kernel;
 use sk_objects::Content;
-use sk_script::{Boot, Script};
+use sk_script::{Boot, ObjectKind, Script};
 use std::alloc::{AllocError, Global};
 use std::test::Fail;
 
@@ -103,4 +103,35 @@ pub fn boot_of(alloc: Global, start: Start<'_>) -> Result<Boot, Fail> {
 pub fn kernel_of(alloc: Global, start: Start<'_>) -> Result<Kernel, Fail> {
     let boot = boot_of(alloc, start)?;
     Ok(Kernel::boot(alloc, start.number, &boot, start.limit)?)
+}
+
+/// Declares two processes with these scripts, and copies `/x` and `/y`.
+fn declares(alloc: Global, boot: &mut Boot, scripts: [&[u8]; 2]) -> Result<(), Fail> {
+    let (one, two) = (name(b"one")?, name(b"two")?);
+    declares_script(alloc, boot, &one, scripts[0])?;
+    declares_script(alloc, boot, &two, scripts[1])?;
+    declares_copy(boot, b"/x", 3, b"new")?;
+    declares_copy(boot, b"/y", 1, b"new")?;
+    boot.process(1, &one, 1)?;
+    Ok(boot.process(2, &two, 2)?)
+}
+
+/// A boot of both.
+pub fn two_processes(alloc: Global, scripts: [&[u8]; 2]) -> Result<Boot, Fail> {
+    let mut boot = Boot::new(alloc);
+    declares(alloc, &mut boot, scripts)?;
+    Ok(boot)
+}
+
+/// Declares an object, where there is room.
+pub fn declares_object(
+    boot: &mut Boot,
+    at: &Name,
+    kind: ObjectKind,
+    bytes: &[u8],
+) -> Result<(), Fail> {
+    if boot.objects().len() >= 64 {
+        return Err("room".into());
+    }
+    Ok(boot.object(*at, kind, bytes)?)
 }

@@ -1,0 +1,63 @@
+//! What rests on a guess, through files, until the guess is decided.
+use crate::plays::{Decision, Pick, Play, Thing, plays_on};
+use crate::start::{declares_object, name, two_processes};
+use sk_kernel::{Kernel, Outcome};
+use sk_script::{Boot, ObjectKind};
+use std::alloc::Global;
+use std::process::Abort;
+use std::test::Fail;
+
+/// Writes what it fetches to a file.
+const WRITER: &[u8] = b"look r1 r7 f\nfetch /x\nwrite r1 r2\n";
+
+/// Copies this file to another, and says something.
+const COPIER: &[u8] = b"look r1 r7 f\nlook r2 r7 g\nread r1 r3\nwrite r2 r3\ntext \"c\"\nsay\n";
+
+/// A file that has these bytes.
+fn declares_file(boot: &mut Boot, at: &[u8], bytes: &[u8]) -> Result<(), Fail> {
+    declares_object(boot, &name(at)?, ObjectKind::File, bytes)
+}
+
+/// Both processes, and three files.
+fn boot_of(alloc: Global) -> Result<Boot, Fail> {
+    let mut boot = two_processes(alloc, [WRITER, COPIER])?;
+    declares_file(&mut boot, b"f", b"f0")?;
+    declares_file(&mut boot, b"g", b"g0")?;
+    declares_file(&mut boot, b"h", b"h0")?;
+    Ok(boot)
+}
+
+/// Process 1 guesses and writes a file, and process 2 copies it to the next: both and the files rest on
+/// the guess until it is decided so.
+fn rest_until(rt: &impl Abort, alloc: Global, decision: Decision) -> Result<(), Fail> {
+    let boot = boot_of(alloc)?;
+    let kernel = Kernel::boot(alloc, 1, &boot, 100)?;
+    let table = [
+        Play::Steps(1, 1, Ok(())),
+        Play::Steps(2, 2, Ok(())),
+        Play::Rests(1, &[]),
+        Play::Guesses(1, 1, 1),
+        Play::Rests(1, &[Thing::Process(1)]),
+        Play::Steps(1, 1, Ok(())),
+        Play::Steps(2, 4, Ok(())),
+        Play::Rests(
+            1,
+            &[
+                Thing::Process(1),
+                Thing::Process(2),
+                Thing::Object(2),
+                Thing::Object(3),
+            ],
+        ),
+        Play::Rests(2, &[]),
+        Play::Decides(Pick::Oldest, decision, Outcome::Done),
+        Play::Rests(1, &[]),
+    ];
+    plays_on(rt, alloc, kernel, &table)
+}
+
+#[test]
+fn dependents_until_a_decision(rt: HostRuntime) -> Result<(), Fail> {
+    rest_until(&rt, rt.alloc(), Decision::Fail)?;
+    rest_until(&rt, rt.alloc(), Decision::Commit)
+}

@@ -15,6 +15,8 @@ pub enum Finding {
     Entities,
     Value,
     Tags,
+    /// What rests on a guess is not what has its tag.
+    Dependents,
     Status,
     Terminal,
     Undecided,

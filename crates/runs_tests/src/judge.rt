@@ -124,6 +124,34 @@ fn judge_statuses(
     }
 }
 
+/// Compares what rests on a guess, by rising order, with the entities that have its tag.
+fn judge_dependents(kernel: &Kernel, id: GuessId, seen: &BTreeSet<Entity>) -> Result<(), Finding> {
+    let mut left = kernel.dependents(id);
+    for entity in seen.iter() {
+        if kernel.tags_of(entity).contains(id) {
+            match left.split_first() {
+                Some((first, rest)) if *first == *entity => left = rest,
+                _ => return Err(Finding::Dependents),
+            }
+        }
+    }
+    if left.is_empty() {
+        Ok(())
+    } else {
+        Err(Finding::Dependents)
+    }
+}
+
+/// The same of each guess that was drawn, and of the next one.
+fn judge_lists(kernel: &Kernel, drawn: u64, seen: &BTreeSet<Entity>) -> Result<(), Finding> {
+    for number in 1..=drawn.saturating_add(1) {
+        if let Some(id) = GuessId::new(number) {
+            judge_dependents(kernel, id, seen)?;
+        }
+    }
+    Ok(())
+}
+
 /// Compares the trace, and what is counted.
 fn judge_counts(
     kernel: &Kernel,
@@ -145,7 +173,7 @@ fn judge_counts(
 }
 
 /// Compares a kernel with what its trace comes to: its entities with those seen before, its
-/// terminals, the first few of which are looked at, its guesses and its counts.
+/// terminals, the first few of which are looked at, its guesses with what rests on each, and its counts.
 pub fn judge(
     kernel: &Kernel,
     reckoning: &Reckoning,
@@ -162,5 +190,6 @@ pub fn judge(
     for number in 0..=4 {
         judge_terminal(kernel, reckoning, number)?;
     }
+    judge_lists(kernel, drawn, seen)?;
     judge_statuses(kernel, reckoning, trace, drawn)
 }

@@ -102,6 +102,13 @@ impl Plain {
         &self.scripts
     }
 
+    /// What all entities have.
+    pub fn state(&self) -> &Store
+        ensures { result.now ≡ self.now.state }
+    {
+        &self.store
+    }
+
     /// Takes the next step of a process with an input, and answers the text that it says. After a
     /// refusal nothing has changed.
     pub fn step(&mut self, pid: Pid, input: &Input) -> Result<Option<Text>, Refusal>

@@ -1,0 +1,48 @@
+-- The record along a trace, one event further.
+use Rattle.std.proofs.Common.{◌≡◌, ℕ, zero, suc, ◌+◌, ◌<◌, ◌≤◌, List, [], ◌∷◌, ◌++◌, length, map, take, get_or, refl, sym, ◌∙◌, ap, arith}
+use Rattle.std.specs.Prelude.{max}
+use Rattle.std.proofs.lemmas.List.{take_more}
+use Rattle.sk_record.specs.Trace.{Record, all_recorded, no_record, recorded}
+use Rattle.sk_record.proofs.Sound.{entries_are}
+use Rattle.sk_record.proofs.Tidy.{recorded_more}
+use Rattle.sk_trace.specs.Entry.{EntryView}
+use Rattle.sk_trace.specs.declared.event.Event.{Event}
+use Rattle.sk_plain.specs.Act.{plain}
+use Rattle.sk_plain.specs.Replay.{image}
+use Rattle.sk_kernel.specs.Kernel.{KernelView, record_at}
+use Rattle.sk_counts.specs.Counts.{most_up_to}
+
+pushed : {A B : Type 0} (f : A → B) (xs : List A) (x : A) → map f (xs ++ x ∷ []) ≡ map f xs ++ f x ∷ []
+pushed f [] x = refl
+pushed f (y ∷ xs) x = ap (λ rest. f y ∷ rest) (pushed f xs x)
+
+whole : {A : Type 0} (xs : List A) (i : ℕ) → length xs ≤ i → take i xs ≡ xs
+whole [] zero past = refl
+whole [] (suc i) past = refl
+whole (x ∷ xs) zero past = absurd (omega arith)
+whole (x ∷ xs) (suc i) past = ap (λ rest. x ∷ rest) (whole xs i (omega arith))
+
+module _ (k : KernelView) where
+  abbrev pub after_first : ℕ → Record EntryView
+  after_first i = all_recorded (plain k.scripts) k.start no_record (map image (take i k.trace))
+
+  pub one_more : (i : ℕ) (x : Event) → i < length k.trace → x ≡ get_or k.trace i x → after_first (i + 1) ≡ recorded (plain k.scripts) k.start (after_first i) (image x)
+  one_more i x lt is =
+      ap (λ (es : List Event). all_recorded (plain k.scripts) k.start no_record (map image es)) (take_more k.trace i x lt ∙ ap (λ (y : Event). take i k.trace ++ y ∷ []) (sym is))
+      ∙ ap (all_recorded (plain k.scripts) k.start no_record) (pushed image (take i k.trace) x)
+      ∙ recorded_more (plain k.scripts) k.start no_record (map image (take i k.trace)) (image x)
+
+  most_next : (i j most count new : ℕ) → j ≡ suc i → most ≡ most_up_to k i → count ≡ length (after_first j).undecided → new ≡ max most count → new ≡ most_up_to k j
+  most_next i j most count new next before here is =
+      is
+      ∙ ap (λ m. max m count) before
+      ∙ ap (λ n. max (most_up_to k i) n) (here ∙ ap (λ n. length (after_first n).undecided) next)
+      ∙ sym (ap (most_up_to k) next)
+
+  pub most_more : (i most count new : ℕ) → most ≡ most_up_to k i → count ≡ length (after_first (i + 1)).undecided → new ≡ max most count → new ≡ most_up_to k (i + 1)
+  most_more i most count new before here is = most_next i (i + 1) most count new (omega arith) before here is
+
+  pub all_entries : (i : ℕ) → length k.trace ≤ i → (after_first i).entries ≡ record_at k
+  all_entries i past =
+      ap (λ (es : List Event). (all_recorded (plain k.scripts) k.start no_record (map image es)).entries) (whole k.trace i past)
+      ∙ entries_are (plain k.scripts) k.start (map image k.trace)

@@ -1,0 +1,103 @@
+-- A guess is struck where it was made, no event decides it, and the record has its entry no more: the tests say what the status says.
+use Rattle.std.proofs.Common.{◌≡◌, ℕ, Bool, true, false, not, ◌&&◌, ◌||◌, List, [], ◌∷◌, map, Option, Some, None, inl, inr, refl, sym, ◌∙◌, ap}
+use Rattle.std.specs.Prelude.{◌↔◌, ◌⊎◌}
+use Rattle.std.specs.List.{list_any, Contains}
+use Rattle.std.proofs.lemmas.Bool.{and_from, or_cases, or_from, or_left, or_parts, true≢false, eq-eqb, false_from_ne_true, not_from_false}
+use Rattle.sk_record.specs.Trace.{Event as Happens, Commit, Fail, HasEntry, IsDrawn}
+use Rattle.sk_record.specs.declared.status.Status.{Status}
+use Rattle.sk_record.specs.declared.status.Status.TheVariants.{Undecided, Committed, Failed, Struck}
+use Rattle.sk_record.proofs.Sound.{any_from, draws, is_commit, is_fail, has_commit, has_fail, has_entry, is_drawn, marked_is, or_no}
+use Rattle.sk_record.proofs.UndoStates.{any_at}
+use Rattle.sk_script.specs.Scripts.{ScriptMap}
+use Rattle.sk_trace.specs.Entry.{EntryView}
+use Rattle.sk_trace.specs.declared.event.Event.{Event}
+use Rattle.sk_trace.specs.declared.event.Event.TheVariants as events
+use Rattle.sk_plain.specs.Act.{plain}
+use Rattle.sk_plain.specs.Replay.{image, is_made}
+use Rattle.sk_kernel.specs.Kernel.{KernelView, HasStatus, events_of, record_at}
+use Rattle.sk_counts.specs.Counts.{makes, decides, is_struck, is_struck_status}
+
+-- a test of events that is one of their images
+same_test : (p : Event → Bool) (q : Happens EntryView → Bool) → ((e : Event) → p e ≡ q (image e)) → (es : List Event) → list_any p es ≡ list_any q (map image es)
+same_test p q same [] = refl
+same_test p q same (e ∷ es) = λ i. same e i || same_test p q same es i
+
+makes_is : (scripts : ScriptMap) (g : ℕ) (e : Event) → makes g e ≡ draws (plain scripts) g (image e)
+makes_is scripts g (events.Step pid input) = refl
+makes_is scripts g (events.Guess id pid input) = refl
+makes_is scripts g (events.Commit id) = refl
+makes_is scripts g (events.Fail id) = refl
+
+abbrev is_decision : ℕ → Happens EntryView → Bool
+is_decision g e = is_commit g e || is_fail g e
+
+decides_is : (g : ℕ) (e : Event) → decides g e ≡ is_decision g (image e)
+decides_is g (events.Step pid input) = refl
+decides_is g (events.Guess id pid input) = refl
+decides_is g (events.Commit id) = sym (or_no _)
+decides_is g (events.Fail id) = refl
+
+and_parts : (x y : Bool) → (x && y) ≡ true → (x ≡ true) × (y ≡ true)
+and_parts true true h = (refl, refl)
+and_parts true false h = absurd (true≢false (sym h))
+and_parts false y h = absurd (true≢false (sym h))
+
+none_from : (x : Bool) → not x ≡ true → x ≡ false
+none_from true h = absurd (true≢false (sym h))
+none_from false h = refl
+
+module _ (k : KernelView) (g : ℕ) where
+  made_is : (list_any (makes g) k.trace ≡ true) ↔ IsDrawn (plain k.scripts) (events_of k) g
+  made_is =
+      let same = same_test (makes g) (draws (plain k.scripts) g) (makes_is k.scripts g) k.trace in
+      let is = is_drawn (plain k.scripts) (events_of k) g in
+      (λ h. is.0 (sym same ∙ h), λ d. same ∙ is.1 d)
+
+  decided_same : list_any (decides g) k.trace ≡ list_any (is_decision g) (events_of k)
+  decided_same = same_test (decides g) (is_decision g) (decides_is g) k.trace
+
+  decided_from : list_any (decides g) k.trace ≡ true → Contains (events_of k) (Commit g) ⊎ Contains (events_of k) (Fail g)
+  decided_from h =
+      let x = any_from (is_decision g) (events_of k) (sym decided_same ∙ h) in
+      elim (or_cases _ _ x.2) [
+        | inl commits ↦ inl ((has_commit (events_of k) g).0 (any_at (is_commit g) (events_of k) x.0 x.1 commits))
+        | inr fails ↦ inr ((has_fail (events_of k) g).0 (any_at (is_fail g) (events_of k) x.0 x.1 fails))
+      ]
+
+  by_commit : Contains (events_of k) (Commit g) → list_any (decides g) k.trace ≡ true
+  by_commit there = decided_same ∙ any_at (is_decision g) (events_of k) (Commit g) there (or_left _ _ (eq-eqb g g refl))
+
+  by_failure : Contains (events_of k) (Fail g) → list_any (decides g) k.trace ≡ true
+  by_failure there = decided_same ∙ any_at (is_decision g) (events_of k) (Fail g) there (eq-eqb g g refl)
+
+  entry_is : (is_made (record_at k) g ≡ true) ↔ HasEntry (plain k.scripts) (record_at k) g
+  entry_is =
+      let same = marked_is (plain k.scripts) k.start k.start (record_at k) g in
+      let is = has_entry (plain k.scripts) k.start (record_at k) g in
+      (λ h. is.0 (same ∙ h), λ d. sym same ∙ is.1 d)
+
+  pub struck_is : (is_struck k g ≡ true) ↔ HasStatus k g Struck
+  struck_is = (
+    λ h.
+        let parts = and_parts _ _ h in
+        let none = or_parts _ _ (none_from _ parts.1) in (
+          made_is.0 parts.0,
+          λ commits. true≢false (sym (by_commit commits) ∙ none.0),
+          λ fails. true≢false (sym (by_failure fails) ∙ none.0),
+          λ there. true≢false (sym (entry_is.1 there) ∙ none.1),
+        ),
+    λ s.
+        let undecided = false_from_ne_true (list_any (decides g) k.trace) (λ h. elim (decided_from h) [ inl commits ↦ s.1 commits | inr fails ↦ s.2 fails ]) in
+        let gone = false_from_ne_true (is_made (record_at k) g) (λ h. s.3 (entry_is.0 h)) in
+        and_from _ _ (made_is.1 s.0) (not_from_false _ (or_from _ _ undecided gone)),
+  )
+
+  never : (s : Option Status) → ((t : Status) → (s ≡ Some t) ↔ HasStatus k g t) → (s ≡ Some Struck → ⊥) → false ≡ is_struck k g
+  never s is other = sym (false_from_ne_true (is_struck k g) (λ h. other ((is Struck).1 (struck_is.0 h))))
+
+  pub status_test : (s : Option Status) → ((t : Status) → (s ≡ Some t) ↔ HasStatus k g t) → is_struck_status s ≡ is_struck k g
+  status_test (Some Struck) is = sym (struck_is.1 ((is Struck).0 refl))
+  status_test (Some Undecided) is = never (Some Undecided) is (λ e. absurd cc)
+  status_test (Some Committed) is = never (Some Committed) is (λ e. absurd cc)
+  status_test (Some Failed) is = never (Some Failed) is (λ e. absurd cc)
+  status_test None is = never None is (λ e. absurd cc)

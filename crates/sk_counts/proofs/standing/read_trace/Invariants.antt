@@ -1,0 +1,14 @@
+-- What stands after the first events is what the trace of these comes to.
+use Rattle.std.proofs.Common.{◌≡◌, map, take}
+use Rattle.sk_record.specs.Trace.{all_recorded, no_record}
+use Rattle.sk_plain.specs.Act.{plain}
+use Rattle.sk_plain.specs.Replay.{image}
+use Rattle.sk_counts.specs.Counts.{most_up_to}
+use Rattle.sk_counts.specs.Standing.{seen}
+use Rattle.sk_counts.proofs.standing.read_trace.Given as goal
+
+abbrev pub invariant-loop-event : goal.invariant-loop-event
+invariant-loop-event l = record {
+  standing : seen l.standing ≡ all_recorded (plain l.kernel.scripts) l.kernel.start no_record (map image (take l.event-index l.kernel.trace));
+  most : l.most ≡ most_up_to l.kernel l.event-index;
+}

@@ -1,0 +1,92 @@
+-- What is counted of a kernel, told on its trace.
+use Rattle.std.specs.Prelude.{ℕ, zero, suc, ◌-◌, max, Bool, true, false, ◌&&◌, ◌||◌, not, ◌==◌, List, length, take, count_by, Option, Some, None}
+use Rattle.std.specs.List.{list_any}
+use Rattle.sk_record.specs.declared.status.Status.{Status}
+use Rattle.sk_record.specs.declared.status.Status.TheVariants.{Undecided, Committed, Failed, Struck}
+use Rattle.sk_trace.specs.declared.event.Event.{Event}
+use Rattle.sk_trace.specs.declared.event.Event.TheVariants as events
+use Rattle.sk_plain.specs.Replay.{is_made}
+use Rattle.sk_kernel.specs.Kernel.{KernelView, record_at, undecided_at}
+use Rattle.sk_counts.specs.declared.counts.Counts.{Counts}
+
+-- whether an event takes a step, which may be a guess's
+abbrev pub is_step : Event → Bool
+is_step (events.Step pid input) = true
+is_step (events.Guess id pid input) = true
+is_step (events.Commit id) = false
+is_step (events.Fail id) = false
+
+-- whether it makes a guess
+abbrev pub is_guess : Event → Bool
+is_guess (events.Step pid input) = false
+is_guess (events.Guess id pid input) = true
+is_guess (events.Commit id) = false
+is_guess (events.Fail id) = false
+
+-- whether it commits one
+abbrev pub is_commit : Event → Bool
+is_commit (events.Step pid input) = false
+is_commit (events.Guess id pid input) = false
+is_commit (events.Commit id) = true
+is_commit (events.Fail id) = false
+
+-- whether it fails one
+abbrev pub is_failure : Event → Bool
+is_failure (events.Step pid input) = false
+is_failure (events.Guess id pid input) = false
+is_failure (events.Commit id) = false
+is_failure (events.Fail id) = true
+
+-- whether it makes this guess
+abbrev pub makes : ℕ → Event → Bool
+makes g (events.Step pid input) = false
+makes g (events.Guess id pid input) = id == g
+makes g (events.Commit id) = false
+makes g (events.Fail id) = false
+
+-- whether it decides this guess
+abbrev pub decides : ℕ → Event → Bool
+decides g (events.Step pid input) = false
+decides g (events.Guess id pid input) = false
+decides g (events.Commit id) = id == g
+decides g (events.Fail id) = id == g
+
+-- whether a guess was made and not decided, and its step is not in the record any more
+abbrev pub is_struck : KernelView → ℕ → Bool
+is_struck k g = list_any (makes g) k.trace && not (list_any (decides g) k.trace || is_made (record_at k) g)
+
+-- whether the status of a guess is that it was struck
+abbrev pub is_struck_status : Option Status → Bool
+is_struck_status (Some Struck) = true
+is_struck_status (Some Undecided) = false
+is_struck_status (Some Committed) = false
+is_struck_status (Some Failed) = false
+is_struck_status None = false
+
+-- whether an event makes a guess that was struck later
+abbrev pub makes_struck : KernelView → Event → Bool
+makes_struck k (events.Step pid input) = false
+makes_struck k (events.Guess id pid input) = is_struck k id
+makes_struck k (events.Commit id) = false
+makes_struck k (events.Fail id) = false
+
+-- how many guesses were undecided after the first n events
+abbrev pub open_after : KernelView → ℕ → ℕ
+open_after k n = length (undecided_at (record k { trace = take n k.trace }))
+
+-- the most that were undecided at once, up to there
+abbrev pub most_up_to : KernelView → ℕ → ℕ
+most_up_to k zero = 0
+most_up_to k (suc n) = max (most_up_to k n) (open_after k (suc n))
+
+-- the guesses by what became of them; the steps that were taken, and those of them that the record has no more; the most undecided guesses
+abbrev pub counts_of : KernelView → Counts
+counts_of k = record {
+  guesses = count_by is_guess k.trace;
+  committed = count_by is_commit k.trace;
+  failed = count_by is_failure k.trace;
+  struck = count_by (makes_struck k) k.trace;
+  steps = count_by is_step k.trace;
+  taken_back = count_by is_step k.trace - length (record_at k);
+  most_open = most_up_to k (length k.trace);
+}

@@ -1,0 +1,46 @@
+//! The counts of a kernel.
+ghost use Rattle.std.specs.Prelude.{◌≡◌, IfOk};
+ghost use Rattle.sk_counts.specs.Counts.{counts_of};
+
+use crate::kinds::{commits_in, failures_in, guesses_in, steps_in, struck_in};
+use crate::standing::read_trace;
+use sk_kernel::Kernel;
+use std::alloc::{AllocError, Global};
+
+/// What is counted of a kernel since it was booted.
+#[derive(Clone, Copy, Debug, PartialEq, Eq)]
+pub struct Counts {
+    /// The guesses that were made.
+    pub guesses: usize,
+    pub committed: usize,
+    pub failed: usize,
+    /// Those whose own step the failure of another took away.
+    pub struck: usize,
+    /// The steps that were taken, those of guesses among them.
+    pub steps: usize,
+    /// The steps that failures took back.
+    pub taken_back: usize,
+    /// The most guesses that were undecided at once.
+    pub most_open: usize,
+}
+
+impl Counts {
+    /// The counts of a kernel, from its trace. Each failure of the trace costs a run of the steps before it. Refused only
+    /// for want of memory.
+    pub fn of(alloc: Global, kernel: &Kernel) -> Result<Counts, AllocError>
+        ensures { IfOk result (λ counts. counts ≡ counts_of kernel.now) }
+    {
+        let (left, most_open) = read_trace(alloc, kernel)?;
+        let events = kernel.trace().events();
+        let steps = steps_in(events);
+        Ok(Counts {
+            guesses: guesses_in(events),
+            committed: commits_in(events),
+            failed: failures_in(events),
+            struck: struck_in(kernel),
+            steps,
+            taken_back: steps.saturating_sub(left),
+            most_open,
+        })
+    }
+}

@@ -1,8 +1,8 @@
 //! What rests on a guess, through files, until the guess is decided.
 use crate::plays::{Decision, Pick, Play, Thing, plays_on};
-use crate::start::{declares_object, name, two_processes};
+use crate::start::{declares_file, name, two_processes};
 use sk_kernel::{Kernel, Outcome};
-use sk_script::{Boot, ObjectKind};
+use sk_script::Boot;
 use std::alloc::Global;
 use std::process::Abort;
 use std::test::Fail;
@@ -13,17 +13,12 @@ const WRITER: &[u8] = b"look r1 r7 f\nfetch /x\nwrite r1 r2\n";
 /// Copies this file to another, and says something.
 const COPIER: &[u8] = b"look r1 r7 f\nlook r2 r7 g\nread r1 r3\nwrite r2 r3\ntext \"c\"\nsay\n";
 
-/// A file that has these bytes.
-fn declares_file(boot: &mut Boot, at: &[u8], bytes: &[u8]) -> Result<(), Fail> {
-    declares_object(boot, &name(at)?, ObjectKind::File, bytes)
-}
-
 /// Both processes, and three files.
 fn boot_of(alloc: Global) -> Result<Boot, Fail> {
     let mut boot = two_processes(alloc, [WRITER, COPIER])?;
-    declares_file(&mut boot, b"f", b"f0")?;
-    declares_file(&mut boot, b"g", b"g0")?;
-    declares_file(&mut boot, b"h", b"h0")?;
+    declares_file(&mut boot, &name(b"f")?, b"f0")?;
+    declares_file(&mut boot, &name(b"g")?, b"g0")?;
+    declares_file(&mut boot, &name(b"h")?, b"h0")?;
     Ok(boot)
 }
 

@@ -1,5 +1,5 @@
 //! Records, stores and steps, and what a failure leaves of a record.
-use crate::start::{content, declares_object, name, pid, two_processes};
+use crate::start::{content, declares_file, name, pid, two_processes};
 use sk_ids::{Entity, GuessId, Name, ObjId, Pid};
 use sk_plain::{Entry, Event, Refusal, Trace, apply_plan, plan_step, strike_guess};
 use sk_script::{Boot, Input, ObjectKind, ROOT, Register, Val};
@@ -254,8 +254,11 @@ fn boot_object(count: u32) -> ObjId {
 
 /// Declares a file and a pipe, where there is room.
 fn declares_both(boot: &mut Boot, file: &Name, pipe: &Name) -> Result<(), Fail> {
-    declares_object(boot, file, ObjectKind::File, b"f0")?;
-    declares_object(boot, pipe, ObjectKind::Pipe, b"ab")
+    declares_file(boot, file, b"f0")?;
+    if boot.objects().len() >= 64 {
+        return Err("room".into());
+    }
+    Ok(boot.object(*pipe, ObjectKind::Pipe, b"ab")?)
 }
 
 /// What a store has under a name of its root; none where it is absent, or there is no root.

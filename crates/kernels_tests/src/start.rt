@@ -123,15 +123,10 @@ pub fn two_processes(alloc: Global, scripts: [&[u8]; 2]) -> Result<Boot, Fail> {
     Ok(boot)
 }
 
-/// Declares an object, where there is room.
-pub fn declares_object(
-    boot: &mut Boot,
-    at: &Name,
-    kind: ObjectKind,
-    bytes: &[u8],
-) -> Result<(), Fail> {
-    if boot.objects().len() >= 64 {
+/// Declares a file, where there is room.
+pub fn declares_file(boot: &mut Boot, at: &Name, bytes: &[u8]) -> Result<(), Fail> {
+    if boot.objects().len() >= 64 || bytes.len() > 512 {
         return Err("room".into());
     }
-    Ok(boot.object(*at, kind, bytes)?)
+    Ok(boot.object(*at, ObjectKind::File, bytes)?)
 }

@@ -322,7 +322,7 @@ def block_rows(meter):
     noted, plain = write(large, BLOCK, True), write(large, BLOCK, False)
     yield "write of 512 bytes into a file of 32,768: noted / not noted", noted, plain, 1.3
     undone = lambda n: meter.played(writing(large, BLOCK, n, True, "fail")) - meter.played(writing(large, BLOCK, n, True))
-    yield "its undo / the write", (undone(2 * writes) - undone(writes)) / writes, noted, 1
+    yield "its undo, beside what letting go of the notes costs / the write", (undone(2 * writes) - undone(writes)) / writes, noted, 1
     yield "write of one byte: into a file of 32,768 / of 512", write(large, "c", False), write(small, "c", False), 1.1
     kept = lambda guesses: meter.peak(writing(large, BLOCK, 20_000, guesses)) * 1024 / 20_000
     yield "bytes that a noted write keeps, its new block aside / 600", kept(True) - kept(False) - 512, 600, 1

@@ -1,7 +1,8 @@
 // Refuses the N-th growth, read or write of a program: put before the C library by the loader, it counts the calls of the kind
 // that REFUSED_KIND names (growth, read or write), of all threads together, and fails the one whose number is REFUSED_NUMBER;
 // with number 0 none. Reads are those of descriptor 0 and writes those of descriptor 1. The kind `interrupt` fails each read
-// as interrupted. What was refused is told by the byte r on the descriptor that REFUSED_TOLD names, and each write of
+// as interrupted; the kind `during` fails every growth between the N-th empty write of descriptor 1 and the next write of it,
+// which is how a program tells where a call begins and ends that takes no memory. What was refused is told by the byte r on the descriptor that REFUSED_TOLD names, and each write of
 // descriptor 1 after a refused one by w.
 #define _GNU_SOURCE
 #include <errno.h>
@@ -21,6 +22,7 @@ static long number;
 static int told = -1;
 static atomic_long count;
 static atomic_int is_refused_once;
+static atomic_int is_during;
 
 __attribute__((constructor)) static void start(void) {
   const char *which = getenv("REFUSED_KIND"), *place = getenv("REFUSED_NUMBER"), *descriptor = getenv("REFUSED_TOLD");
@@ -43,10 +45,17 @@ static int refuses(char what, int error) {
   return 1;
 }
 
-void *malloc(size_t size) { return refuses('g', ENOMEM) ? NULL : __libc_malloc(size); }
-void *calloc(size_t items, size_t size) { return refuses('g', ENOMEM) ? NULL : __libc_calloc(items, size); }
-void *realloc(void *old, size_t size) { return refuses('g', ENOMEM) ? NULL : __libc_realloc(old, size); }
-void *memalign(size_t align, size_t size) { return refuses('g', ENOMEM) ? NULL : __libc_memalign(align, size); }
+static int refuses_growth(void) {
+  if (!atomic_load(&is_during)) return refuses('g', ENOMEM);
+  tell('r');
+  errno = ENOMEM;
+  return 1;
+}
+
+void *malloc(size_t size) { return refuses_growth() ? NULL : __libc_malloc(size); }
+void *calloc(size_t items, size_t size) { return refuses_growth() ? NULL : __libc_calloc(items, size); }
+void *realloc(void *old, size_t size) { return refuses_growth() ? NULL : __libc_realloc(old, size); }
+void *memalign(size_t align, size_t size) { return refuses_growth() ? NULL : __libc_memalign(align, size); }
 void *aligned_alloc(size_t align, size_t size) { return memalign(align, size); }
 
 int posix_memalign(void **to, size_t align, size_t size) {
@@ -68,18 +77,19 @@ ssize_t read(int descriptor, void *to, size_t size) {
 ssize_t __read(int, void *, size_t) __attribute__((alias("read")));
 
 // Whether a write of a descriptor is refused.
-static int refuses_write(int descriptor) {
+static int refuses_write(int descriptor, size_t size) {
   if (descriptor != 1) return 0;
+  if (kind == 'd') atomic_store(&is_during, size == 0 && atomic_fetch_add(&count, 1) + 1 == number);
   if (kind == 'w' && atomic_load(&is_refused_once)) tell('w');
   return refuses('w', ENOSPC);
 }
 
 ssize_t write(int descriptor, const void *from, size_t size) {
-  return refuses_write(descriptor) ? -1 : syscall(SYS_write, descriptor, from, size);
+  return refuses_write(descriptor, size) ? -1 : syscall(SYS_write, descriptor, from, size);
 }
 
 ssize_t __write(int, const void *, size_t) __attribute__((alias("write")));
 
 ssize_t writev(int descriptor, const struct iovec *from, int parts) {
-  return refuses_write(descriptor) ? -1 : syscall(SYS_writev, descriptor, from, parts);
+  return refuses_write(descriptor, 1) ? -1 : syscall(SYS_writev, descriptor, from, parts);
 }

@@ -1,6 +1,8 @@
 //! A history, run again.
 use crate::finding::Finding;
 use sk_client::Desk;
+use sk_ids::Pid;
+use sk_kernel::HandIn;
 use sk_server::{Reply, Request, Server, ServerRefusal};
 use sk_workers::{Answered, Call, Entry};
 use std::alloc::Global;
@@ -63,9 +65,34 @@ fn take_until(desk: &mut Desk, peer: &mut Peer, taken: u64) -> Result<(), Findin
     Ok(())
 }
 
-/// Makes a call, and tells the answer without a reply that came back.
-fn make(desk: &mut Desk, call: Call) -> Answered {
-    match call {
+/// Leases a process, runs so many of its private instructions and hands it in. Where it can't be
+/// leased or runs fewer, that is told as a stale lease is.
+fn hand_in(desk: &mut Desk, pid: Pid, count: u32) -> Result<(), HandIn> {
+    let Ok(mut lease) = desk.lease(pid) else {
+        return Err(HandIn::Stale);
+    };
+    lease.run(count);
+    if lease.count() != count {
+        lease.give_up();
+        return Err(HandIn::Stale);
+    }
+    match desk.hand_in(lease) {
+        Ok(()) => Ok(()),
+        Err((lease, why)) => {
+            lease.give_up();
+            Err(why)
+        }
+    }
+}
+
+/// Makes a call, and tells the answer without what came back. Of a stale lease nothing is known but
+/// that nothing changed.
+fn make(desk: &mut Desk, entry: &Entry) -> Answered {
+    match entry.call {
+        Call::HandIn { .. } if entry.answer == Answered::HandedIn(Err(HandIn::Stale)) => {
+            entry.answer
+        }
+        Call::HandIn { process, count } => Answered::HandedIn(hand_in(desk, process, count)),
         Call::Turn(pid) => Answered::Turned(desk.turn(pid)),
         Call::Reply(reply) => match desk.give_reply(reply) {
             Ok(given) => Answered::Replied(Ok(given)),
@@ -84,7 +111,7 @@ pub fn run_again(desk: &mut Desk, peer: &mut Peer, entries: &[Entry]) -> Result<
                 return Err(Finding::Reply(place));
             }
         }
-        if make(desk, entry.call) != entry.answer {
+        if make(desk, entry) != entry.answer {
             return Err(Finding::Entry(place));
         }
     }

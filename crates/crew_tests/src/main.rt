@@ -25,6 +25,9 @@ use std::process::ExitCode;
 use std::sync::Wait;
 use std::thread::Threads;
 
+/// How many private instructions a worker runs at most before each of its turns.
+const AHEAD: u32 = 64;
+
 /// How many crews there are, and how large each is.
 #[derive(Clone, Copy, Debug)]
 struct Wish {
@@ -43,7 +46,11 @@ fn wish_of(words: &[String]) -> Option<Wish>
     if workers < 1 || 8 < workers || turns < 1 {
         return None;
     }
-    let plan = Plan { workers, turns };
+    let plan = Plan {
+        workers,
+        turns,
+        ahead: AHEAD,
+    };
     Some(Wish { plan, crews })
 }
 

@@ -95,17 +95,23 @@ process 9 stores 5
 process 10 reads 5
 ";
 
-/// So many crews of this size, in which nothing is found.
+/// So many crews of this size, whose workers run so many private instructions ahead, in which
+/// nothing is found.
 fn crews<R: Threads + Wait + Sync + Abort>(
     rt: &R,
     alloc: Global,
     workers: u8,
+    ahead: u32,
 ) -> Result<(), Finding>
     requires { (1 ≤ workers) × (workers ≤ 8) }
 {
     let scenario = Scenario::parse(alloc, SCENARIO)?;
     let turns = 320;
-    let plan = Plan { workers, turns };
+    let plan = Plan {
+        workers,
+        turns,
+        ahead,
+    };
     let calls = judge_crews(rt, alloc, &scenario.declarations, plan, CREWS)?;
     assert!(rt; calls > 0);
     Ok(())
@@ -113,15 +119,15 @@ fn crews<R: Threads + Wait + Sync + Abort>(
 
 #[test]
 fn crews_of_two(rt: HostRuntime) -> Result<(), Finding> {
-    crews(&rt, rt.alloc(), 2)
+    crews(&rt, rt.alloc(), 2, 64)
 }
 
 #[test]
 fn crews_of_four(rt: HostRuntime) -> Result<(), Finding> {
-    crews(&rt, rt.alloc(), 4)
+    crews(&rt, rt.alloc(), 4, 2)
 }
 
 #[test]
 fn crews_of_eight(rt: HostRuntime) -> Result<(), Finding> {
-    crews(&rt, rt.alloc(), 8)
+    crews(&rt, rt.alloc(), 8, 64)
 }

@@ -40,28 +40,39 @@ struct Progress {
     /// Whether each turn of this round was answered `Ended`.
     is_ended: bool,
     has_stopped: bool,
+    /// Whether a lease was handed in since the last turn.
+    is_ahead: bool,
 }
 
 /// Whether a worker's turns go round its processes, one each, until a whole round was answered `Ended`, or for as many turns
-/// as the plan says.
+/// as the plan says; before each of them at most one lease of its process is handed in.
 fn judge_turns(own: &[Pid], plan: Plan, worker: u8, entries: &[Entry]) -> Result<(), Finding> {
     let mut progress = Progress {
         turns: 0,
         taken: 0,
         is_ended: true,
         has_stopped: own.is_empty(),
+        is_ahead: false,
     };
     for (place, entry) in entries.iter().enumerate() {
-        let Call::Turn(pid) = entry.call else {
-            continue;
-        };
         if entry.worker != worker {
             continue;
         }
+        let (pid, is_turn) = match entry.call {
+            Call::Turn(pid) => (pid, true),
+            Call::HandIn { process, .. } => (process, false),
+            Call::Reply(_) => continue,
+        };
         if progress.has_stopped || own.get(progress.taken) != Some(&pid) {
             return Err(Finding::Turn(place));
         }
-        progress.pass(own.len(), entry.answer);
+        if is_turn {
+            progress.pass(own.len(), entry.answer);
+        } else if progress.is_ahead {
+            return Err(Finding::Turn(place));
+        } else {
+            progress.is_ahead = true;
+        }
     }
     if progress.has_stopped || progress.turns == plan.turns {
         Ok(())
@@ -73,6 +84,7 @@ fn judge_turns(own: &[Pid], plan: Plan, worker: u8, entries: &[Entry]) -> Result
 impl Progress {
     /// Goes on after a turn of one of so many processes.
     fn pass(&mut self, count: usize, answer: Answered) {
+        self.is_ahead = false;
         self.turns = self.turns.saturating_add(1);
         self.taken = self.taken.saturating_add(1);
         self.is_ended = self.is_ended && answer == Answered::Turned(Err(Refusal::Ended));
@@ -96,6 +108,9 @@ pub fn judge_calls(
     for (place, entry) in entries.iter().enumerate() {
         let is_own = match entry.call {
             Call::Turn(_) => entry.worker < plan.workers,
+            Call::HandIn { count, .. } => {
+                entry.worker < plan.workers && 0 < count && count <= plan.ahead
+            }
             Call::Reply(_) => entry.worker == 0,
         };
         if !is_own {

@@ -8,6 +8,8 @@ mod dependents;
 #[cfg(test)]
 mod kernels;
 #[cfg(test)]
+mod leases;
+#[cfg(test)]
 mod logs;
 #[cfg(test)]
 mod openings;

@@ -35,7 +35,7 @@ fn write(offset: u32, bytes: &[u8]) -> Result<Change, Fail> {
 fn file(alloc: Global) -> Result<Value, Fail> {
     let change = write(0, b"abcdef")?;
     let mut file = Value::empty(alloc, Kind::File)?;
-    file.apply(change)?;
+    file.apply(alloc, change)?;
     Ok(file)
 }
 
@@ -47,7 +47,7 @@ fn writes(alloc: Global, value: &mut Value, log: &mut ObjectLog) -> Result<(), F
     let change = write(4, b"XYZ")?;
     let tags = tags(alloc, 1)?;
     log.reserve()?;
-    let undo = value.apply(change)?;
+    let undo = value.apply(alloc, change)?;
     log.note(tags, undo)?;
     Ok(())
 }

@@ -1,8 +1,20 @@
-//! What is passed about for each step is small.
+//! What is passed about for each step, and what is kept of it, is small.
 use sk_plain::Plan;
+use sk_store::PutBack;
+use sk_undo::{Held, Note, Slot};
 use std::mem::size_of;
 
 #[test]
 fn a_plan_is_a_few_words(rt: HostRuntime) {
     assert!(rt; size_of::<Plan>() <= 240);
+}
+
+#[test]
+fn a_note_is_a_few_words(rt: HostRuntime) {
+    assert!(rt; size_of::<Note<PutBack<Held>>>() <= 128);
+}
+
+#[test]
+fn a_slot_is_a_few_words(rt: HostRuntime) {
+    assert!(rt; size_of::<Slot>() <= 96);
 }

@@ -1,6 +1,6 @@
 //! Steps on a kernel.
 use crate::finding::Finding;
-use crate::sights::{Sight, printed, report, shows};
+use crate::sights::{Sight, begins, printed, report, shows};
 use crate::texts::tells_texts;
 use sk_play::{Answer, Session, write_answer};
 use sk_scenario::{Call, Declarations};
@@ -15,8 +15,14 @@ fn starts(alloc: Global, declarations: &Declarations) -> Result<Session, Finding
 }
 
 /// Makes a call, and makes it again where memory was wanted and nothing has changed.
-fn calls(alloc: Global, session: &mut Session, call: &Call) -> Result<Answer, Finding> {
+fn calls<W: Write>(
+    alloc: Global,
+    session: &mut Session,
+    call: &Call,
+    out: &mut W,
+) -> Result<Answer, Finding> {
     let before = Sight::of(alloc, session.kernel())?;
+    begins(out)?;
     match session.execute(call) {
         Ok(answer) => Ok(answer),
         Err(AllocError) => {
@@ -35,7 +41,7 @@ fn calls_all<W: Write>(
     out: &mut W,
 ) -> Result<(), Finding> {
     for (place, call) in steps.iter().enumerate() {
-        let answer = calls(alloc, session, call)?;
+        let answer = calls(alloc, session, call, out)?;
         write_answer(place + 1, &answer, out)?;
     }
     let kernel = session.kernel();

@@ -1,20 +1,28 @@
-//! `memory_tests < SCENARIO`: plays the steps or the world of a scenario, and prints what `speculate play - --trace` prints.
-//! Growths may be refused to it: whatever answers want of memory has then to be as it was before, and is done once more.
-//! At the end the first script, the printed trace and what is left of it go through the same.
+//! `memory_tests < SCENARIO`: plays the steps or the world of a scenario, and prints what
+//! `speculate play - --trace` prints. Growths may be refused to it: whatever answers want of memory
+//! has then to be as it was before, and is done once more. At the end the first script, the printed
+//! trace and what is left of it go through the same. `memory_tests leases < SCENARIO`: plays steps,
+//! on a kernel and on a desk, with a process leased during each. In place of a scenario the input may
+//! be the one line `blocks_restored`: then changes of a large file are taken back.
 #![tactic(auto)]
 
+mod blocks;
 mod finding;
 mod kernels;
+mod leases;
 mod sights;
 mod texts;
 mod worlds;
 
+use crate::blocks::plays_blocks;
 use crate::finding::Finding;
 use crate::kernels::plays_steps;
+use crate::leases::plays_leases;
 use crate::texts::scenario_of;
 use crate::worlds::plays_world;
 use sk_scenario::Section;
 use std::alloc::Global;
+use std::env;
 use std::io::{Read, Write};
 use std::process::ExitCode;
 
@@ -46,12 +54,34 @@ fn plays<W: Write>(alloc: Global, text: &[u8], out: &mut W) -> Result<(), Findin
     }
 }
 
+/// Plays the steps of a scenario with leases.
+fn lends<W: Write>(alloc: Global, text: &[u8], out: &mut W) -> Result<(), Finding> {
+    let scenario = scenario_of(alloc, text)?;
+    match &scenario.section {
+        Section::Steps(steps) => plays_leases(alloc, &scenario.declarations, steps.as_slice(), out),
+        Section::World(_) | Section::Trace(_) => Err(Finding::Scenario),
+    }
+}
+
+/// Whether the only word is `leases`.
+fn has_leases(rt: &HostRuntime) -> Result<bool, Finding> {
+    let words = env::args(rt)?.collect::<Vec<String>>(rt.alloc())?;
+    Ok(words.get(1).is_some_and(|word| word.as_str() == "leases"))
+}
+
 /// Plays the scenario on the standard input.
 fn plays_input(rt: &HostRuntime) -> Result<(), Finding> {
+    let leases = has_leases(rt).or_else(|_| has_leases(rt))?;
     let mut room = [0u8; ROOM];
     let count = fills(&mut rt.reader(), &mut room)?;
     let text = room.get(..count).ok_or(Finding::Input)?;
-    plays(rt.alloc(), text, &mut rt.stdout())
+    if leases {
+        return lends(rt.alloc(), text, &mut rt.stdout());
+    }
+    match text {
+        b"blocks_restored\n" => plays_blocks(rt.alloc(), &mut rt.stdout()),
+        _ => plays(rt.alloc(), text, &mut rt.stdout()),
+    }
 }
 
 fn main(rt: HostRuntime) -> ExitCode {

@@ -89,6 +89,12 @@ impl Sight {
     }
 }
 
+/// Tells by an empty write, which leaves the output as it is, that a call begins.
+pub fn begins<W: Write>(out: &mut W) -> Result<(), Finding> {
+    let _ = out.write(b"")?;
+    Ok(())
+}
+
 /// Writes a report, and the trace.
 pub fn shows<W: Write>(report: &[u8], trace: &[u8], out: &mut W) -> Result<(), Finding> {
     out.write_all(report)?;

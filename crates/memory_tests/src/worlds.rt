@@ -1,6 +1,6 @@
 //! Events of a world.
 use crate::finding::Finding;
-use crate::sights::{Sight, printed, shows, world_report};
+use crate::sights::{Sight, begins, printed, shows, world_report};
 use crate::texts::tells_texts;
 use sk_client::{World, WorldEvent};
 use sk_play::{WorldTold, happen, world_of, write_told};
@@ -16,8 +16,14 @@ fn starts(alloc: Global, declarations: &Declarations) -> Result<World, Finding> 
 }
 
 /// Lets an event happen, once more where memory was wanted and nothing has changed.
-fn happens(alloc: Global, world: &mut World, event: &WorldEvent) -> Result<WorldTold, Finding> {
+fn happens<W: Write>(
+    alloc: Global,
+    world: &mut World,
+    event: &WorldEvent,
+    out: &mut W,
+) -> Result<WorldTold, Finding> {
     let before = Sight::of_world(alloc, world)?;
+    begins(out)?;
     match happen(world, event) {
         Ok(told) => Ok(told),
         Err(AllocError) => {
@@ -36,7 +42,7 @@ fn happens_all<W: Write>(
     out: &mut W,
 ) -> Result<(), Finding> {
     for (place, event) in events.iter().enumerate() {
-        let told = happens(alloc, world, event)?;
+        let told = happens(alloc, world, event, out)?;
         write_told(place + 1, &told, out)?;
     }
     let kernel = world.desk().kernel();

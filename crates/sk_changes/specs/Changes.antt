@@ -6,9 +6,9 @@ use Rattle.sk_changes.specs.declared.change.Change.{Change}
 use Rattle.sk_changes.specs.declared.change.Undo.{Undo}
 use Rattle.sk_changes.specs.Files.{file_fits, file_grows, file_after, file_undo, CanUndoFile, file_undone}
 use Rattle.sk_changes.specs.Directories.{directory_fits, directory_after, directory_undo, CanUndoDirectory, directory_undone}
-use Rattle.sk_changes.specs.Pipes.{pipe_fits, pipe_after, pipe_undo, CanUndoPipe, pipe_undone}
+use Rattle.sk_changes.specs.Pipes.{pipe_fits, pipe_grows, pipe_after, pipe_undo, CanUndoPipe, pipe_undone}
 use Rattle.sk_changes.specs.Queues.{queue_fits, queue_after, queue_undo, CanUndoQueue, queue_undone}
-use Rattle.sk_changes.specs.Slots.{exit_fits, exit_after, exit_undo, CanUndoExit, exit_undone, copy_fits, copy_after, copy_undo, CanUndoCopy, copy_undone}
+use Rattle.sk_changes.specs.Slots.{exit_fits, exit_after, exit_undo, CanUndoExit, exit_undone, copy_fits, copy_grows, copy_after, copy_undo, CanUndoCopy, copy_undone}
 
 -- whether a change fits a value
 abbrev pub value_fits : Value → Change → Bool
@@ -19,9 +19,11 @@ value_fits (Signals s) c = queue_fits s c
 value_fits (Exit e) c = exit_fits e c
 value_fits (Copy v) c = copy_fits v c
 
--- whether a change that fits can want memory: only files grow
+-- whether a change that fits can want memory: for blocks of a file, or for what the undo holds of a pipe or a copy
 abbrev pub value_grows : Value → Change → Bool
 value_grows (File f) c = file_grows f c
+value_grows (Pipe p) c = pipe_grows p c
+value_grows (Copy v) c = copy_grows v c
 value_grows _ c = false
 
 -- the value after a change that fits

@@ -15,6 +15,11 @@ pipe_fits p (Take n) = nat_le 1 n && (nat_le n TEXT_LIMIT && nat_le n (length p.
 pipe_fits p Shut = not p.shut
 pipe_fits p _ = false
 
+-- the bytes that are taken out are held by the undo, for which memory is wanted
+abbrev pub pipe_grows : PipeView → Change → Bool
+pipe_grows p (Take n) = true
+pipe_grows p _ = false
+
 -- the pipe after a change
 abbrev pub pipe_after : PipeView → Change → PipeView
 pipe_after p (Put bytes) = record p { bytes = p.bytes ++ bytes }

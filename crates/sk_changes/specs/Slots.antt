@@ -34,6 +34,11 @@ abbrev pub copy_fits : ContentView → Change → Bool
 copy_fits c (SetCopy content) = true
 copy_fits c _ = false
 
+-- the content that gives way is held by the undo, for which memory is wanted
+abbrev pub copy_grows : ContentView → Change → Bool
+copy_grows c (SetCopy content) = true
+copy_grows c _ = false
+
 -- the copy after a change
 abbrev pub copy_after : ContentView → Change → ContentView
 copy_after c (SetCopy content) = content

@@ -1,9 +1,10 @@
 //! What a change is, what takes it back, and what each value promises of them.
 ghost use Rattle.std.specs.Prelude.{◌≡◌, ◌↔◌, Bool, true, false, IfOk, OnOk, OnErr, Err};
 
+use crate::{HeldBytes, HeldContent};
 use sk_ids::{Name, ObjId, Text};
 use sk_objects::{Blocks, Content};
-use std::alloc::AllocError;
+use std::alloc::{AllocError, Global};
 use thiserror::Error;
 
 /// A change of one value.
@@ -33,7 +34,8 @@ pub enum Change {
     SetCopy(Content),
 }
 
-/// What puts a value back. It holds all that it needs, so that to use it takes no memory.
+/// What puts a value back. It holds all that it needs, so that to use it takes no memory; what is
+/// long stands on the heap, so that an undo is a few words.
 #[derive(Drop)]
 pub enum Undo {
     /// The blocks that gave way in a file, and the length that it had.
@@ -45,7 +47,7 @@ pub enum Undo {
     /// The number of bytes that a pipe held.
     Unput(u32),
     /// The bytes that left the front of a pipe.
-    Untake(Text),
+    Untake(HeldBytes),
     /// A pipe was not shut.
     Reopen,
     /// The signal at the back is new.
@@ -55,7 +57,7 @@ pub enum Undo {
     /// An exit slot was not set.
     ClearExit,
     /// The content that a copy had.
-    Recopy(Content),
+    Recopy(HeldContent),
 }
 
 /// Why a change was not made.
@@ -103,9 +105,9 @@ pub trait Invertible {
     /// The value after that.
     ghost undone: { Self → Undo → Self };
 
-    /// Makes the change. After an `Err` nothing has changed. Want of memory is told only of a change
-    /// that fits and can want it.
-    fn apply(&mut self, change: Change) -> Result<Undo, NotApplied>
+    /// Makes the change, with memory for its undo from `alloc`. After an `Err` nothing has changed.
+    /// Want of memory is told only of a change that fits and can want it.
+    fn apply(&mut self, alloc: Global, change: Change) -> Result<Undo, NotApplied>
         ensures known { valid self.old }
         ensures fit { OnOk result (fits self.old change ≡ true) }
         ensures ok { IfOk result (λ undo. (self.new ≡ applied self.old change) × (undo ≡ undo_of self.old change)) }

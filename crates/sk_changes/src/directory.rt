@@ -7,6 +7,7 @@ ghost use Rattle.sk_changes.specs.Directories.{directory_fits, directory_after, 
 use crate::{Change, Invertible, NotApplied, Undo};
 use sk_objects::Directory;
 use sk_objects::directory::DIRECTORY_LIMIT;
+use std::alloc::Global;
 
 impl Invertible for Directory {
     ghost valid = { λ d. IsRising d × (length d ≤ DIRECTORY_LIMIT) };
@@ -23,7 +24,7 @@ impl Invertible for Directory {
 
     ghost undone = { directory_undone };
 
-    fn apply(&mut self, change: Change) -> Result<Undo, NotApplied> {
+    fn apply(&mut self, _alloc: Global, change: Change) -> Result<Undo, NotApplied> {
         let len = self.len();
         match change {
             Change::Link(name, object) => {

@@ -7,6 +7,7 @@ ghost use Rattle.sk_changes.specs.Files.{file_fits, file_grows, file_after, file
 use crate::{Change, Invertible, NotApplied, Undo};
 use sk_objects::File;
 use sk_objects::file::FILE_LIMIT;
+use std::alloc::Global;
 
 /// Whether a write of so many bytes, at most a text's, fits.
 fn is_write(at: usize, count: usize) -> bool
@@ -32,7 +33,7 @@ impl Invertible for File {
 
     ghost undone = { file_undone };
 
-    fn apply(&mut self, change: Change) -> Result<Undo, NotApplied> {
+    fn apply(&mut self, _alloc: Global, change: Change) -> Result<Undo, NotApplied> {
         let _len = self.len();
         match change {
             Change::WriteAt { offset, bytes } => {

@@ -4,6 +4,7 @@
 pub mod change;
 pub mod directory;
 pub mod file;
+pub mod held;
 pub mod pipe;
 pub mod run;
 pub mod signals;
@@ -11,3 +12,4 @@ pub mod slots;
 pub mod value;
 
 pub use change::{Change, Invertible, NotApplied, Undo};
+pub use held::{HeldBytes, HeldContent};

@@ -2,12 +2,13 @@
 ghost use Rattle.std.specs.Prelude.{false, ◌≡◌, ◌≤◌, ◌+◌, ◌&&◌, not, nat_le, length};
 ghost use Rattle.sk_ids.specs.declared.text.TheConstants.{TEXT_LIMIT};
 ghost use Rattle.sk_objects.specs.declared.pipe.TheConstants.{PIPE_LIMIT};
-ghost use Rattle.sk_changes.specs.Pipes.{pipe_fits, pipe_after, pipe_undo, CanUndoPipe, pipe_undone};
+ghost use Rattle.sk_changes.specs.Pipes.{pipe_fits, pipe_grows, pipe_after, pipe_undo, CanUndoPipe, pipe_undone};
 
-use crate::{Change, Invertible, NotApplied, Undo};
+use crate::{Change, HeldBytes, Invertible, NotApplied, Undo};
 use sk_ids::text::TEXT_LIMIT;
 use sk_objects::Pipe;
 use sk_objects::pipe::PIPE_LIMIT;
+use std::alloc::Global;
 
 /// Whether so many bytes, at most a text's, may be put where so many are held.
 fn is_put(shut: bool, held: usize, count: usize) -> bool
@@ -23,7 +24,7 @@ impl Invertible for Pipe {
 
     ghost fits = { pipe_fits };
 
-    ghost grows = { λ v c. false };
+    ghost grows = { pipe_grows };
 
     ghost applied = { pipe_after };
 
@@ -33,7 +34,7 @@ impl Invertible for Pipe {
 
     ghost undone = { pipe_undone };
 
-    fn apply(&mut self, change: Change) -> Result<Undo, NotApplied> {
+    fn apply(&mut self, alloc: Global, change: Change) -> Result<Undo, NotApplied> {
         let held = self.len();
         match change {
             Change::Put(bytes) => {
@@ -47,7 +48,7 @@ impl Invertible for Pipe {
                 if count == 0 || count as usize > TEXT_LIMIT || count as usize > held {
                     return Err(NotApplied::Unfit);
                 }
-                let bytes = self.front(count as usize);
+                let bytes = HeldBytes::new(alloc, &self.front(count as usize))?;
                 self.advance(count as usize);
                 Ok(Undo::Untake(bytes))
             }

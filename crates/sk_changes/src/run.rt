@@ -18,11 +18,12 @@ pub fn apply_all<V: Invertible>(
     ensures back { back V.undone value.new undos.new.items ≡ back V.undone value.old undos.old.items }
     ensures can { CanGoBack V.undone V.can_undo value.old undos.old.items → CanGoBack V.undone V.can_undo value.new undos.new.items }
 {
+    let alloc = *undos.allocator();
     for change in changes {
         if undos.reserve(1).is_err() {
             return Err(NotApplied::Memory);
         }
-        let undo = value.apply(*change)?;
+        let undo = value.apply(alloc, *change)?;
         undos.push_reserved(undo);
     }
     Ok(())

@@ -7,6 +7,7 @@ ghost use Rattle.sk_changes.specs.Queues.{queue_fits, queue_after, queue_undo, C
 use crate::{Change, Invertible, NotApplied, Undo};
 use sk_objects::Signals;
 use sk_objects::signals::{LAST_SIGNAL, SIGNALS_LIMIT};
+use std::alloc::Global;
 
 impl Invertible for Signals {
     ghost valid = { λ s. (length s ≤ SIGNALS_LIMIT) × All IsSignal s };
@@ -23,7 +24,7 @@ impl Invertible for Signals {
 
     ghost undone = { queue_undone };
 
-    fn apply(&mut self, change: Change) -> Result<Undo, NotApplied> {
+    fn apply(&mut self, _alloc: Global, change: Change) -> Result<Undo, NotApplied> {
         let len = self.len();
         match change {
             Change::PushSignal(signal) => {

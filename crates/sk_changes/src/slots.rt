@@ -1,10 +1,11 @@
 //! Changes of exit slots and of cached copies.
 ghost use Rattle.std.specs.Prelude.{false, ◌≡◌};
 ghost use Rattle.sk_objects.specs.Value.{IsStatus, IsContent};
-ghost use Rattle.sk_changes.specs.Slots.{exit_fits, exit_after, exit_undo, CanUndoExit, exit_undone, copy_fits, copy_after, copy_undo, CanUndoCopy, copy_undone};
+ghost use Rattle.sk_changes.specs.Slots.{exit_fits, exit_after, exit_undo, CanUndoExit, exit_undone, copy_fits, copy_grows, copy_after, copy_undo, CanUndoCopy, copy_undone};
 
-use crate::{Change, Invertible, NotApplied, Undo};
+use crate::{Change, HeldContent, Invertible, NotApplied, Undo};
 use sk_objects::Content;
+use std::alloc::Global;
 
 /// What holds of every exit slot, for proofs.
 fn known(slot: Option<u8>)
@@ -29,7 +30,7 @@ impl Invertible for Option<u8> {
 
     ghost undone = { exit_undone };
 
-    fn apply(&mut self, change: Change) -> Result<Undo, NotApplied> {
+    fn apply(&mut self, _alloc: Global, change: Change) -> Result<Undo, NotApplied> {
         known(*self);
         let Change::SetExit(status) = change else {
             return Err(NotApplied::Unfit);
@@ -58,7 +59,7 @@ impl Invertible for Content {
 
     ghost fits = { copy_fits };
 
-    ghost grows = { λ v c. false };
+    ghost grows = { copy_grows };
 
     ghost applied = { copy_after };
 
@@ -68,19 +69,19 @@ impl Invertible for Content {
 
     ghost undone = { copy_undone };
 
-    fn apply(&mut self, change: Change) -> Result<Undo, NotApplied> {
+    fn apply(&mut self, alloc: Global, change: Change) -> Result<Undo, NotApplied> {
         self.known();
         let Change::SetCopy(content) = change else {
             return Err(NotApplied::Unfit);
         };
-        let old = *self;
+        let old = HeldContent::new(alloc, *self)?;
         *self = content;
         Ok(Undo::Recopy(old))
     }
 
     fn undo(&mut self, undo: Undo) {
-        if let Undo::Recopy(content) = undo {
-            *self = content;
+        if let Undo::Recopy(old) = undo {
+            *self = old.content();
         }
     }
 

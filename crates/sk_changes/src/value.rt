@@ -5,6 +5,7 @@ ghost use Rattle.sk_changes.specs.Changes.{value_fits, value_grows, value_after,
 
 use crate::{Change, Invertible, NotApplied, Undo};
 use sk_objects::Value;
+use std::alloc::Global;
 
 impl Invertible for Value {
     ghost valid = { IsValue };
@@ -21,14 +22,14 @@ impl Invertible for Value {
 
     ghost undone = { value_undone };
 
-    fn apply(&mut self, change: Change) -> Result<Undo, NotApplied> {
+    fn apply(&mut self, alloc: Global, change: Change) -> Result<Undo, NotApplied> {
         match self {
-            Value::File(file) => file.apply(change),
-            Value::Dir(directory) => directory.apply(change),
-            Value::Pipe(pipe) => pipe.apply(change),
-            Value::Signals(signals) => signals.apply(change),
-            Value::Exit(status) => status.apply(change),
-            Value::Copy(content) => content.apply(change),
+            Value::File(file) => file.apply(alloc, change),
+            Value::Dir(directory) => directory.apply(alloc, change),
+            Value::Pipe(pipe) => pipe.apply(alloc, change),
+            Value::Signals(signals) => signals.apply(alloc, change),
+            Value::Exit(status) => status.apply(alloc, change),
+            Value::Copy(content) => content.apply(alloc, change),
         }
     }
 

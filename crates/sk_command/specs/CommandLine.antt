@@ -30,6 +30,10 @@ trace_rule = record (new_rule (codes "trace")) { long = Some (codes "trace"); ac
 abbrev pub steps_rule : Rule
 steps_rule = record (new_rule (codes "steps")) { long = Some (codes "steps"); action = Some SetTrue }
 
+-- the flag --counts
+abbrev pub counts_rule : Rule
+counts_rule = record (new_rule (codes "counts")) { long = Some (codes "counts"); action = Some SetTrue }
+
 -- the option --workers, a number from 1 to 8
 abbrev pub workers_rule : Rule
 workers_rule = record (new_rule (codes "workers")) { long = Some (codes "workers"); required = true; action = Some Set; value_names = 1; parser = Some (parsers.Unsigned 1 8) }
@@ -38,8 +42,11 @@ workers_rule = record (new_rule (codes "workers")) { long = Some (codes "workers
 abbrev pub turns_rule : Rule
 turns_rule = record (new_rule (codes "turns")) { long = Some (codes "turns"); action = Some Set; value_names = 1; defaults = codes "100000" ∷ []; parser = Some (parsers.Unsigned 1 1000000) }
 
+abbrev pub play_of_file : App
+play_of_file = with_rule (with_rule (new_app (codes "play")) file_rule) trace_rule
+
 abbrev pub play_command : App
-play_command = with_rule (with_rule (with_rule (new_app (codes "play")) file_rule) trace_rule) steps_rule
+play_command = with_rule (with_rule play_of_file steps_rule) counts_rule
 
 abbrev pub plain_command : App
 plain_command = with_rule (new_app (codes "plain")) file_rule
@@ -97,7 +104,7 @@ has_flag flag rows = option_map_or (λ value. bytes_eq value (codes "true")) (fi
 
 -- what a command was found to want beside the answers and the report
 abbrev pub shows_found : List Row → Shows
-shows_found rows = record { steps = has_flag (codes "steps") rows; trace = has_flag (codes "trace") rows }
+shows_found rows = record { steps = has_flag (codes "steps") rows; counts = has_flag (codes "counts") rows; trace = has_flag (codes "trace") rows }
 
 -- the number that a text says, from 1 to a limit
 abbrev pub number_said : ℕ → Text → Option ℕ

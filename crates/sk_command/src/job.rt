@@ -8,7 +8,7 @@ ghost use Rattle.clap.specs.Simple.{app_of, subcommand_rows_of};
 ghost use Rattle.clap.specs.Values.{kind_of};
 ghost use Rattle.clap.specs.Walk.{rows_of, rule_of};
 ghost use Rattle.clap.specs.declared.builder.command.Command.TheViews.{out-Command as fields_of};
-ghost use Rattle.sk_command.specs.CommandLine.{bare_command_line, command_line, play_command, plain_command, replay_command, work_command, file_rule, trace_rule, steps_rule, workers_rule, turns_rule, has_flag, shows_found, number_said, number_found, wish_to_work, IsWithinBounds, wish_of, wish_found, wished, faults_of, wish_file, needs_threads};
+ghost use Rattle.sk_command.specs.CommandLine.{bare_command_line, command_line, play_of_file, play_command, plain_command, replay_command, work_command, file_rule, trace_rule, steps_rule, counts_rule, workers_rule, turns_rule, has_flag, shows_found, number_said, number_found, wish_to_work, IsWithinBounds, wish_of, wish_found, wished, faults_of, wish_file, needs_threads};
 ghost use Rattle.sk_command.specs.Ends.{EndsFor, EndsWithHelp, IsFlushed};
 
 use crate::end::{End, flushed};
@@ -24,7 +24,9 @@ use std::io::{BufWriter, Write};
 pub struct Shows {
     /// What each step reads, writes and rests on, below its answer.
     pub steps: bool,
-    /// The trace, behind the report.
+    /// The counts, behind the report.
+    pub counts: bool,
+    /// The trace, behind these.
     pub trace: bool,
 }
 
@@ -150,6 +152,16 @@ fn steps_arg<'a>(alloc: Global) -> Arg<'a>
         .help("Prints what each step reads, writes and rests on below its answer")
 }
 
+fn counts_arg<'a>(alloc: Global) -> Arg<'a>
+    ensures rule { rule_of result ≡ counts_rule }
+    ensures local { result.global ≡ false }
+{
+    Arg::new(alloc, "counts")
+        .long("counts")
+        .action(ArgAction::SetTrue)
+        .help("Prints how many guesses and steps there were behind the report")
+}
+
 fn workers_arg<'a>(alloc: Global) -> Arg<'a>
     ensures rule { rule_of result ≡ workers_rule }
     ensures local { result.global ≡ false }
@@ -176,16 +188,25 @@ fn turns_arg<'a>(alloc: Global) -> Arg<'a>
         .help("The greatest number of turns of each worker, 1 to 1000000")
 }
 
-fn play<'a>(alloc: Global) -> Result<Command<'a>, AllocError>
-    ensures app { IfOk result (λ command. app_of command ≡ play_command) }
+/// The command `play` with the file and the trace alone.
+fn play_of_file<'a>(alloc: Global) -> Result<Command<'a>, AllocError>
+    ensures app { IfOk result (λ command. app_of command ≡ play_of_file) }
     ensures local { IfOk result (λ command. (fields_of command).has_globals ≡ false) }
 {
     Command::new(alloc, "play")
         .about(PLAY_HELP)
         .after_help(FORMS)
         .arg(file_arg(alloc))?
-        .arg(trace_arg(alloc))?
-        .arg(steps_arg(alloc))
+        .arg(trace_arg(alloc))
+}
+
+fn play<'a>(alloc: Global) -> Result<Command<'a>, AllocError>
+    ensures app { IfOk result (λ command. app_of command ≡ play_command) }
+    ensures local { IfOk result (λ command. (fields_of command).has_globals ≡ false) }
+{
+    play_of_file(alloc)?
+        .arg(steps_arg(alloc))?
+        .arg(counts_arg(alloc))
 }
 
 fn plain<'a>(alloc: Global) -> Result<Command<'a>, AllocError>
@@ -257,6 +278,7 @@ fn shows_of(words: &ArgMatches) -> Shows
 {
     Shows {
         steps: has_flag(words, "steps"),
+        counts: has_flag(words, "counts"),
         trace: has_flag(words, "trace"),
     }
 }

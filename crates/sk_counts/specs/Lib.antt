@@ -1,3 +1,4 @@
 pub mod Counts
 pub mod Standing
 pub mod Laws
+pub mod Text

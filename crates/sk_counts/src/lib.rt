@@ -5,5 +5,7 @@ pub mod counts;
 pub mod kinds;
 pub mod laws;
 pub mod standing;
+pub mod text;
 
 pub use counts::Counts;
+pub use text::write_counts;

@@ -1,3 +1,4 @@
 pub mod Faults
 pub mod Rounds
 pub mod Processes
+pub mod Ahead

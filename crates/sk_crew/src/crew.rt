@@ -29,11 +29,13 @@ pub enum CrewFault {
     Close(CloseRefusal),
 }
 
-/// How many workers there are, 1 to 8, and how many turns each of them takes at most.
+/// How many workers there are, 1 to 8, how many turns each of them takes at most, and how many
+/// private instructions it runs at most outside the lock before each turn.
 #[derive(Clone, Copy, Debug, PartialEq, Eq)]
 pub struct Plan {
     pub workers: u8,
     pub turns: u32,
+    pub ahead: u32,
 }
 
 /// The crew works until all is served. All workers come back in their order.
@@ -98,10 +100,12 @@ fn run_served<L: Ledger + Send + Sync, R: Threads + Wait + Sync, G: Gate + Sync>
     }
 }
 
-/// Runs workers, each in a thread of its own, on a desk on which nothing was done, and a server beside them; then closes
-/// the desk. Worker k has the processes whose places, by rising number from 0, are k modulo the number of workers, and
-/// takes a turn of each in rounds, until each turn of a round was answered `Ended`, or for so many turns as the plan says.
-/// Worker 0 carries requests and replies. What is left is served at the end.
+/// Runs workers, each in a thread of its own, on a desk on which nothing was done, and a server
+/// beside them; then closes the desk. Worker k has the processes whose places, by rising number
+/// from 0, are k modulo the number of workers, and takes a turn of each in rounds, until each turn
+/// of a round was answered `Ended`, or for so many turns as the plan says. Before each turn it runs
+/// the process's private instructions on a lease, and hands it in. That is no turn. Worker 0
+/// carries requests and replies. What is left is served at the end.
 pub fn run_crew<L: Ledger + Send + Sync, R: Threads + Wait + Sync, G: Gate + Sync>(
     rt: &R,
     alloc: Global,

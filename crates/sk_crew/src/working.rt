@@ -1,9 +1,10 @@
 //! The threads of a crew.
-ghost use Rattle.std.specs.Prelude.{◌≡◌, ◌⊎◌, Err, vec_len, vec_capacity, slice_get, option_and_then};
+ghost use Rattle.std.specs.Prelude.{◌≡◌, ◌⊎◌, ◌<◌, ◌≤◌, Err, IfSome, vec_len, vec_capacity, slice_get, option_and_then};
 ghost use Rattle.std.specs.Thread.{IsSync};
 ghost use Rattle.sk_workers.specs.History.{Told};
 ghost use Rattle.sk_workers.specs.Closing.{begins_turn, numbers};
 ghost use Rattle.sk_crew.specs.Rounds.{due, after, is_ended};
+ghost use Rattle.sk_crew.specs.Ahead.{RunsAhead};
 
 use crate::clerk::Clerk;
 use crate::crew::Plan;
@@ -12,6 +13,7 @@ use crate::service::Service;
 use sk_client::Turn;
 use sk_ids::Pid;
 use sk_plain::Refusal;
+use sk_script::Lease;
 use sk_workers::{Answered, Call, Gate, Shared, Worker};
 use std::sync::Wait;
 use std::sync::atomic::{AtomicBool, Ordering};
@@ -24,6 +26,70 @@ fn due(rounds: &Rounds, processes: &[Pid]) -> Option<Pid>
     ensures { result ≡ option_and_then (slice_get processes.now) (due rounds.now) }
 {
     processes.get(rounds.due()?).copied()
+}
+
+/// Lends a worker a process, with up to so many of its private instructions done, outside the lock.
+fn lease<L: Ledger, R: Wait>(
+    rt: &R,
+    shared: &Shared<L>,
+    worker: Worker<L>,
+    pid: Pid,
+    ahead: u32,
+) -> (Worker<L>, Option<Lease>)
+    ensures same { result.0 ≡ worker }
+    ensures count { IfSome result.1 (λ lease. lease.count ≤ ahead) }
+{
+    let (worker, lent) = shared.lease(rt, worker, pid);
+    let Ok(mut lease) = lent else {
+        return (worker, None);
+    };
+    lease.run(ahead);
+    (worker, Some(lease))
+}
+
+/// A worker hands in a lease of some private instructions. After any refusal they are left to the
+/// process's turns.
+#[tactic(auto, using(crate::proofs::Ahead::handed_ahead))]
+fn hand_in<L: Ledger, R: Wait>(
+    rt: &R,
+    shared: &Shared<L>,
+    worker: Worker<L>,
+    lease: Lease,
+) -> Worker<L>
+    requires { 0 < lease.count }
+    ensures { RunsAhead lease.count worker result }
+{
+    let (worker, done) = shared.hand_in(rt, worker, lease);
+    if let Err((lease, _why)) = done {
+        lease.give_up();
+    }
+    worker
+}
+
+/// A worker runs up to so many private instructions of a process outside the lock, and hands them
+/// in where it ran some. This is no turn.
+#[tactic(auto, using(crate::proofs::Ahead::widened))]
+fn run_ahead<L: Ledger, R: Wait>(
+    rt: &R,
+    shared: &Shared<L>,
+    worker: Worker<L>,
+    pid: Pid,
+    ahead: u32,
+) -> Worker<L>
+    ensures { RunsAhead ahead worker result }
+{
+    if ahead == 0 {
+        return worker;
+    }
+    let (worker, lent) = lease(rt, shared, worker, pid, ahead);
+    let Some(lease) = lent else {
+        return worker;
+    };
+    if lease.count() == 0 {
+        lease.give_up();
+        return worker;
+    }
+    hand_in(rt, shared, worker, lease)
 }
 
 /// A worker takes a turn of a process, and its rounds go on by the answer.
@@ -64,13 +130,14 @@ fn work<L: Ledger, R: Wait, G: Gate>(
         let Some(pid) = due(&rounds, processes) else {
             break;
         };
-        let (back, _) = take_turn(rt, shared, worker, pid, &mut rounds, gate);
+        let ready = run_ahead(rt, shared, worker, pid, plan.ahead);
+        let (back, _) = take_turn(rt, shared, ready, pid, &mut rounds, gate);
         worker = back;
     }
     worker
 }
 
-/// Makes the rounds of worker 0, which carries before each of its turns.
+/// Makes the rounds of worker 0, which carries before each of its turns, and before it runs ahead.
 fn lead<'a, L: Ledger, R: Wait, G: Gate>(
     rt: &R,
     shared: &Shared<L>,
@@ -91,7 +158,8 @@ fn lead<'a, L: Ledger, R: Wait, G: Gate>(
         };
         let (back, carrier) = clerk.carry(rt, shared, worker);
         clerk = back;
-        let (back, _) = take_turn(rt, shared, carrier, pid, &mut rounds, gate);
+        let ready = run_ahead(rt, shared, carrier, pid, plan.ahead);
+        let (back, _) = take_turn(rt, shared, ready, pid, &mut rounds, gate);
         worker = back;
     }
     (worker, clerk)

@@ -56,9 +56,10 @@ fn change_in(store: &mut Store, entity: &Entity, change: Change) -> Result<Undo,
     ensures back { IfOk result (λ undo. put_back_at store.new entity.now (PutBack.Changed undo) ≡ store.old) }
     ensures err { OnErr result (store.new ≡ store.old) }
 {
+    let alloc = store.alloc();
     match store.get_mut(entity) {
         Some(stored) => {
-            let undo = stored.change(change)?;
+            let undo = stored.change(alloc, change)?;
             Ok(undo)
         }
         None => unreachable!(),

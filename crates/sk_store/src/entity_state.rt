@@ -5,7 +5,7 @@ use crate::Becoming;
 use sk_changes::{Change, Invertible, Undo};
 use sk_objects::Value;
 use sk_script::Process;
-use std::alloc::AllocError;
+use std::alloc::{AllocError, Global};
 
 /// What an entity has: a process, or a value of a kernel object.
 #[derive(Drop, PartialEq, Eq)]
@@ -28,8 +28,9 @@ impl EntityState {
         }
     }
 
-    /// Changes the value that it is, where it stands. Without memory nothing has changed.
-    pub fn change(&mut self, change: Change) -> Result<Undo, AllocError>
+    /// Changes the value that it is, where it stands, with memory for the undo from `alloc`. Without
+    /// memory nothing has changed.
+    pub fn change(&mut self, alloc: Global, change: Change) -> Result<Undo, AllocError>
         requires { FitsAt (Some self.old) change }
         ensures ok { OnOk result (self.new ≡ changed (Some self.old) change) }
         ensures can { IfOk result (λ undo. StateFits self.new undo) }
@@ -37,7 +38,7 @@ impl EntityState {
         ensures err { OnErr result (self.new ≡ self.old) }
     {
         match self {
-            EntityState::Value(value) => match value.apply(change) {
+            EntityState::Value(value) => match value.apply(alloc, change) {
                 Ok(undo) => Ok(undo),
                 Err(_) => Err(AllocError),
             },

@@ -3,12 +3,14 @@
 #![tactic(auto)]
 
 pub mod entity_logs;
+pub mod held;
 pub mod log;
 pub mod logs;
 pub mod slot;
 pub mod slots;
 
 pub use entity_logs::{ObjectLog, ProcessLog};
+pub use held::Held;
 pub use log::{Kept, Log, Note, put_back};
 pub use logs::{Back, Logs};
 pub use slot::Slot;

@@ -10,37 +10,18 @@ ghost use Rattle.sk_store.specs.declared.back.PutBack.TheVariants as PutBack;
 ghost use Rattle.sk_undo.specs.Log.{is_empty, seen, CanGoBack};
 ghost use Rattle.sk_undo.specs.Slot.{undone, Fits, is_bare, slot_of, slot_wrote, slot_back, CanGoBackOnce, goes_unnoted, is_stable_raw};
 
-use crate::{Kept, Log, put_back};
+use crate::{Held, Log, put_back};
 use sk_changes::{Change, Undo};
 use sk_ids::{GuessId, TagSet};
 use sk_store::{Becoming, EntityState, PutBack};
 use std::alloc::{AllocError, Global};
 use std::marker::Model;
 
-impl Kept for EntityState {
-    ghost use Rattle.sk_store.specs.Changed.{StateFits, state_undone};
-    ghost use Rattle.sk_undo.specs.Slot.{is_process};
-
-    ghost fits = { StateFits };
-
-    ghost undone = { state_undone };
-
-    ghost is_whole = { is_process };
-
-    fn change_back(&mut self, undo: Undo) {
-        self.undo(undo);
-    }
-
-    fn is_whole(&self) -> bool {
-        matches!(self, EntityState::Process(_))
-    }
-}
-
 /// What an entity has, and the writes that can be undone.
 #[derive(Drop)]
 pub struct Slot {
-    value: Option<EntityState>,
-    log: Log<EntityState>,
+    value: Option<Held>,
+    log: Log<Held>,
 }
 
 impl Model for Slot {
@@ -58,7 +39,7 @@ impl Model for Slot {
 }
 
 /// Whether nothing is noted.
-fn is_unnoted(value: &Option<EntityState>, log: &Log<EntityState>) -> bool
+fn is_unnoted(value: &Option<Held>, log: &Log<Held>) -> bool
     ensures seen { result ≡ is_empty (seen undone value.now (reverse log.now.notes.items)) }
     ensures none { result ≡ true → log.now.notes.items ≡ [] }
 {
@@ -66,7 +47,7 @@ fn is_unnoted(value: &Option<EntityState>, log: &Log<EntityState>) -> bool
 }
 
 /// Whether a write is not noted.
-fn goes_unnoted(tags: &TagSet, value: &Option<EntityState>, log: &Log<EntityState>) -> bool
+fn goes_unnoted(tags: &TagSet, value: &Option<Held>, log: &Log<Held>) -> bool
     requires { CanGoBack Fits undone value.now (reverse log.now.notes.items) }
     ensures seen { result ≡ goes_unnoted tags.now (seen undone value.now (reverse log.now.notes.items)) }
     ensures stable { result ≡ true → is_stable_raw (reverse log.now.notes.items) ≡ true }
@@ -75,14 +56,14 @@ fn goes_unnoted(tags: &TagSet, value: &Option<EntityState>, log: &Log<EntityStat
 }
 
 /// Whether there is neither a value nor a note.
-fn is_bare(value: &Option<EntityState>, log: &Log<EntityState>) -> bool
+fn is_bare(value: &Option<Held>, log: &Log<Held>) -> bool
     ensures { result ≡ (is_none value.now && is_empty (seen undone value.now (reverse log.now.notes.items))) }
 {
     value.is_none() && is_unnoted(value, log)
 }
 
 /// Changes a value where it stands. Without memory nothing has changed.
-fn change_in(value: &mut Option<EntityState>, change: Change) -> Result<Undo, AllocError>
+fn change_in(value: &mut Option<Held>, change: Change) -> Result<Undo, AllocError>
     requires { FitsAt value.old change }
     ensures ok { OnOk result (value.new ≡ Some (changed value.old change)) }
     ensures can { IfOk result (λ undo. Fits (PutBack.Changed undo) value.new) }
@@ -99,7 +80,7 @@ fn change_in(value: &mut Option<EntityState>, change: Change) -> Result<Undo, Al
 }
 
 /// Changes the process that is there, where it stands.
-fn become_in<C: Becoming>(value: &mut Option<EntityState>, by: &C)
+fn become_in<C: Becoming>(value: &mut Option<Held>, by: &C)
     requires { CanBecome (C.can by.now) value.old }
     ensures { value.new ≡ Some (became (C.after by.now) value.old) }
 {
@@ -109,20 +90,21 @@ fn become_in<C: Becoming>(value: &mut Option<EntityState>, by: &C)
     }
 }
 
-/// Another of the process that is there.
-fn process_copy(value: &Option<EntityState>) -> Option<EntityState>
+/// Another of the process that is there, in a box of its own.
+fn process_copy(alloc: Global, value: &Option<Held>) -> Result<Option<Held>, AllocError>
     requires { IsProcess value.now }
-    ensures { result ≡ value.now }
+    ensures { IfOk result (λ copy. copy ≡ value.now) }
 {
-    match value {
-        Some(EntityState::Process(process)) => Some(EntityState::Process(*process)),
-        _ => unreachable!(),
-    }
+    let Some(held) = value else {
+        unreachable!();
+    };
+    let state = held.state().copy()?;
+    Ok(Some(Held::new(alloc, state)?))
 }
 
 /// The tags of the newest note.
 #[tactic(auto, using(crate::proofs::SeenNotes::tags_seen))]
-fn tags_in<'a>(value: &Option<EntityState>, log: &'a Log<EntityState>) -> &'a TagSet
+fn tags_in<'a>(value: &Option<Held>, log: &'a Log<Held>) -> &'a TagSet
     ensures { result.now ≡ last_tags [] (reverse (seen undone value.now (reverse log.now.notes.items))) }
 {
     log.tags()
@@ -130,7 +112,7 @@ fn tags_in<'a>(value: &Option<EntityState>, log: &'a Log<EntityState>) -> &'a Ta
 
 impl Slot {
     /// The slot of an entity that has this, of which nothing is noted.
-    pub fn new(alloc: Global, value: Option<EntityState>) -> Slot
+    pub fn new(alloc: Global, value: Option<Held>) -> Slot
         ensures { result ≡ slot_of value }
     {
         Slot {
@@ -142,15 +124,18 @@ impl Slot {
     pub fn value(&self) -> Option<&EntityState>
         ensures { option_copied result ≡ self.now.now }
     {
-        self.value.as_ref()
+        match &self.value {
+            Some(held) => Some(held.state()),
+            None => None,
+        }
     }
 
     /// Sets what is there, and answers what takes it back where that is not noted.
     pub fn set(
         &mut self,
         tags: &TagSet,
-        value: Option<EntityState>,
-    ) -> Result<Option<PutBack<EntityState>>, AllocError>
+        value: Option<Held>,
+    ) -> Result<Option<PutBack<Held>>, AllocError>
         ensures ok { OnOk result (self.new ≡ slot_wrote tags.now self.old value) }
         ensures can { IfOk result (λ back. CanGoBackOnce self.new back) }
         ensures back { IfOk result (λ back. slot_back self.new back ≡ self.old) }
@@ -169,7 +154,12 @@ impl Slot {
     }
 
     /// Changes the process that is there, where it stands.
-    pub fn change_process<C: Becoming>(&mut self, tags: &TagSet, by: &C) -> Result<(), AllocError>
+    pub fn change_process<C: Becoming>(
+        &mut self,
+        alloc: Global,
+        tags: &TagSet,
+        by: &C,
+    ) -> Result<(), AllocError>
         requires { CanBecome (C.can by.now) self.old.now }
         ensures ok { OnOk result (self.new ≡ slot_wrote tags.now self.old (Some (became (C.after by.now) self.old.now))) }
         ensures err { OnErr result (self.new ≡ self.old) }
@@ -180,7 +170,7 @@ impl Slot {
         }
         let tags = tags.copy()?;
         self.log.reserve()?;
-        let undo = PutBack::Was(process_copy(&self.value));
+        let undo = PutBack::Was(process_copy(alloc, &self.value)?);
         become_in(&mut self.value, by);
         self.log.note_reserved(tags, undo);
         Ok(())
@@ -200,7 +190,7 @@ impl Slot {
         &mut self,
         tags: &TagSet,
         change: Change,
-    ) -> Result<Option<PutBack<EntityState>>, AllocError>
+    ) -> Result<Option<PutBack<Held>>, AllocError>
         requires { FitsAt self.old.now change }
         ensures ok { OnOk result (self.new ≡ slot_wrote tags.now self.old (Some (changed self.old.now change))) }
         ensures can { IfOk result (λ back. CanGoBackOnce self.new back) }
@@ -219,7 +209,7 @@ impl Slot {
     }
 
     /// Takes the newest write back, which takes no memory.
-    pub fn take_back(&mut self, back: Option<PutBack<EntityState>>)
+    pub fn take_back(&mut self, back: Option<PutBack<Held>>)
         requires { CanGoBackOnce self.old back }
         ensures { self.new ≡ slot_back self.old back }
     {

@@ -19,7 +19,7 @@ ghost use Rattle.sk_undo.specs.Decisions.{ChangedAt, SlotUnwound, SlotCommitted,
 ghost use Rattle.sk_undo.specs.contracts.slots.Slots.{the_row as slots_row};
 ghost use Rattle.sk_undo.specs.contracts.slot.Slot.{the_row as slot_row};
 
-use crate::Slot;
+use crate::{Held, Slot};
 use sk_changes::Change;
 use sk_ids::{Entity, GuessId, Pid, TagSet};
 use sk_store::{Becoming, EntityState, PutBack, Store};
@@ -32,7 +32,7 @@ use std::marker::Model;
 pub enum TakeBack {
     /// The entity had no slot.
     DropSlot,
-    UndoLast(Option<PutBack<EntityState>>),
+    UndoLast(Option<PutBack<Held>>),
 }
 
 /// The slots of entities. One without a slot is absent, and nothing is noted of it.
@@ -54,12 +54,22 @@ impl Model for Slots {
 }
 
 /// The slot of an entity that had none.
-fn born(alloc: Global, tags: &TagSet, value: Option<EntityState>) -> Result<Slot, AllocError>
+fn born(alloc: Global, tags: &TagSet, value: Option<Held>) -> Result<Slot, AllocError>
     ensures { IfOk result (λ slot. slot ≡ slot_wrote tags.now (slot_of None) value) }
 {
     let mut slot = Slot::new(alloc, None);
     slot.set(tags, value)?;
     Ok(slot)
+}
+
+/// What an entity has, if anything, in a box of its own.
+fn held(alloc: Global, value: Option<EntityState>) -> Result<Option<Held>, AllocError>
+    ensures { IfOk result (λ held. held ≡ value) }
+{
+    match value {
+        Some(state) => Ok(Some(Held::new(alloc, state)?)),
+        None => Ok(None),
+    }
 }
 
 /// Moves what an entity has out of the store, into a slot of which nothing is noted.
@@ -68,7 +78,7 @@ fn move_over(store: &mut Store, slots: &mut Slots, entity: &Entity) -> Result<()
     ensures others { (e : Entity) → eq_by_cmp entity_cmp e entity.now ≡ false → map.get store.new e ≡ map.get store.old e }
 {
     let alloc = slots.alloc();
-    let value = store.remove(*entity);
+    let value = held(alloc, store.remove(*entity))?;
     slots.put(*entity, Slot::new(alloc, value))
 }
 
@@ -168,6 +178,7 @@ impl Slots {
         ensures back { IfOk result (λ how. slots_back self.new entity.now how ≡ self.old) }
         ensures err { OnErr result (self.new ≡ self.old) }
     {
+        let value = Held::new(self.alloc, value)?;
         if let Some(slot) = self.slot_mut(entity) {
             let back = slot.set(tags, Some(value))?;
             return Ok(TakeBack::UndoLast(back));
@@ -188,9 +199,10 @@ impl Slots {
         ensures ok { OnOk result (self.new ≡ slots_wrote tags.now self.old (Proc pid) (Some (became (C.after by.now) (look_at self.old (Proc pid))))) }
         ensures err { OnErr result (self.new ≡ self.old) }
     {
+        let alloc = self.alloc;
         match self.slot_mut(&Entity::Proc(pid)) {
             Some(slot) => {
-                slot.change_process(tags, by)?;
+                slot.change_process(alloc, tags, by)?;
                 Ok(())
             }
             None => unreachable!(),

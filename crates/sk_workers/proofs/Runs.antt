@@ -1,8 +1,10 @@
 -- A legal history stays legal where a call is entered, and where a request is taken.
-use Rattle.std.proofs.Common.{◌≡◌, ℕ, suc, List, [], ◌∷◌, ◌++◌, ◌+◌, ◌<◌, length, length-append, arith, refl, sym, ap, ◌∙◌, subst}
+use Rattle.std.proofs.Common.{◌≡◌, ℕ, zero, suc, List, [], ◌∷◌, ◌++◌, ◌+◌, ◌<◌, length, length-append, arith, refl, sym, ap, ◌∙◌, subst}
+use Rattle.std.specs.Prelude.{Some, slice_get}
 use Rattle.sk_client.specs.Desk.{DeskView, first_taken, requests_taken}
 use Rattle.sk_workers.specs.declared.entry.Entry.{Entry}
-use Rattle.sk_workers.specs.History.{as_opened, Step, Runs, IsLegal}
+use Rattle.sk_workers.specs.declared.entry.Receipt.{Receipt}
+use Rattle.sk_workers.specs.History.{as_opened, Step, Runs, IsLegal, AreOwn}
 use Rattle.sk_workers.proofs.Steps.{step_keeps, taken_keeps}
 
 -- one call more at the end
@@ -39,3 +41,20 @@ took d d' es legal is =
     let e = first_taken d d.waiting in
     let run : Runs (as_opened d) es e = runs_take (as_opened d) es d legal in
     subst (λ (x : DeskView). IsLegal es x) (sym is) (subst (λ (x : DeskView). Runs x es e) (sym (taken_keeps d d.waiting)) run)
+
+own_push : (n : ℕ) (rs : List Receipt) (r : Receipt) → AreOwn n rs → r.entry.worker ≡ n → AreOwn n (rs ++ r ∷ [])
+own_push n [] r own is zero s at =
+    let same : r ≡ s = cc in
+    subst (λ (x : Receipt). x.entry.worker ≡ n) same is
+own_push n [] r own is (suc k) s at = absurd (cc)
+own_push n (x ∷ rs) r own is zero s at = own zero s at
+own_push n (x ∷ rs) r own is (suc k) s at = own_push n rs r (λ j t has. own (suc j) t has) is k s at
+
+-- a worker with a receipt more, as many as its share counts
+pub received : (n amount amount' : ℕ) (rs rs' : List Receipt) (r : Receipt)
+    → amount ≡ length rs → AreOwn n rs → amount' ≡ amount + 1 → rs' ≡ rs ++ r ∷ [] → r.entry.worker ≡ n → (amount' ≡ length rs') × AreOwn n rs'
+received n amount amount' rs rs' r before own more is mine =
+    let grown : AreOwn n (rs ++ r ∷ []) = own_push n rs r own mine in (
+      omega (arith, more, before, ap length is, length-append rs (r ∷ [])),
+      subst (λ (x : List Receipt). AreOwn n x) (sym is) grown,
+    )

@@ -4,7 +4,10 @@ use Rattle.sk_plain.specs.declared.refusal.Refusal.{Refusal}
 use Rattle.sk_script.specs.declared.instruction.Input.{Input}
 use Rattle.sk_server.specs.declared.reply.Reply.{Reply}
 use Rattle.sk_server.specs.declared.reply.Answer.{Answer}
+use Rattle.sk_script.specs.Lease.{LeaseView, after_private}
 use Rattle.sk_record.specs.Notes.{has}
+use Rattle.sk_kernel.specs.declared.hand_in.HandIn.{HandIn}
+use Rattle.sk_kernel.specs.declared.hand_in.HandIn.TheVariants.{Stale, TraceFull, Memory}
 use Rattle.sk_kernel.specs.Kernel.{undecided_at, step_refused}
 use Rattle.sk_client.specs.declared.pending.PendingRequest.{PendingRequest}
 use Rattle.sk_client.specs.declared.rule.Rule.{Rule}
@@ -14,11 +17,12 @@ use Rattle.sk_client.specs.declared.desk.Given.{Given}
 use Rattle.sk_client.specs.declared.desk.ReplyRefusal.{ReplyRefusal}
 use Rattle.sk_client.specs.Desk.{DeskView, rule, turned, given, given_to, decided, answered, stepped, is_void, input_of, entry, first_taken}
 use Rattle.sk_client.specs.DeskCalls.{TurnPost, ByRule, ReplyPost}
+use Rattle.sk_client.specs.Leasing.{DeskTakesIn, DeskHandInPost}
 use Rattle.sk_workers.specs.declared.entry.Call.{Call}
 use Rattle.sk_workers.specs.declared.entry.Call.TheVariants as calls
 use Rattle.sk_workers.specs.declared.entry.Answered.{Answered}
-use Rattle.sk_workers.specs.declared.entry.Answered.TheVariants.{Turned, Replied}
-use Rattle.sk_workers.specs.History.{as_opened, Step, with_reply, without_reply}
+use Rattle.sk_workers.specs.declared.entry.Answered.TheVariants.{Turned, Replied, HandedIn}
+use Rattle.sk_workers.specs.History.{as_opened, Leases, HandsIn, Step, with_reply, without_reply, without_lease}
 
 -- the opening stays
 abbrev Keeps : DeskView → DeskView → Type 0
@@ -62,13 +66,34 @@ reply_keeps : (d e : DeskView) (r : Reply) (answer : Result Given (Reply × Repl
 reply_keeps d e r (Ok told) post = ap as_opened post.2 ∙ given_keeps d r d.taken
 reply_keeps d e r (Err back) post = ap as_opened post.2
 
+-- ---- hand-ins
+
+hand_in_keeps : (d e : DeskView) (pid count : ℕ) (r : Result (Unit {0}) HandIn) → HandsIn r d pid count e → Keeps d e
+hand_in_keeps d e pid count (Ok u) is = ap as_opened is.2.2
+hand_in_keeps d e pid count (Err Stale) is = ap as_opened is
+hand_in_keeps d e pid count (Err TraceFull) is = ap as_opened is.2.2
+hand_in_keeps d e pid count (Err Memory) is = ap as_opened is.2.3
+
+-- what the desk does with a lease is what is entered of it
+pub hands_in : (d e : DeskView) (l : LeaseView) (answer : Result (Unit {0}) (LeaseView × HandIn))
+    → after_private l.script l.count l.lent ≡ Some l.now → DeskHandInPost answer l d e → HandsIn (without_lease answer) d l.lent.pid l.count e
+hands_in d e l (Ok u) done post = (l, (post.0, refl, refl, done), post)
+hands_in d e l (Err (back, Stale)) done post = post.1.1
+hands_in d e l (Err (back, TraceFull)) done post = (l, (post.1.0, refl, refl, done), post.1)
+hands_in d e l (Err (back, Memory)) done post = (l, (post.1.0, refl, refl, done), post.1)
+
 -- ---- calls
 
 pub step_keeps : (d e : DeskView) (call : Call) (answer : Answered) → Step d call answer e → as_opened e ≡ as_opened d
 step_keeps d e (calls.Turn pid) (Turned r) step = by_rule_keeps d e pid r (rule d pid) step.0
 step_keeps d e (calls.Reply reply) (Replied r) step = reply_keeps d e reply (with_reply reply r) step.0
+step_keeps d e (calls.HandIn pid count) (HandedIn r) step = hand_in_keeps d e pid count r step.0
 step_keeps d e (calls.Turn pid) (Replied r) step = absurd step
+step_keeps d e (calls.Turn pid) (HandedIn r) step = absurd step
 step_keeps d e (calls.Reply reply) (Turned r) step = absurd step
+step_keeps d e (calls.Reply reply) (HandedIn r) step = absurd step
+step_keeps d e (calls.HandIn pid count) (Turned r) step = absurd step
+step_keeps d e (calls.HandIn pid count) (Replied r) step = absurd step
 
 pub taken_keeps : (d : DeskView) (qs : List PendingRequest) → as_opened (first_taken d qs) ≡ as_opened d
 taken_keeps d [] = refl

@@ -1,16 +1,21 @@
 -- Histories of a desk, and receipts for their entries.
-use Rattle.std.specs.Prelude.{◌≡◌, ◌≢◌, ℕ, zero, suc, List, [], ◌∷◌, ◌++◌, length, Some, Result, Ok, Err, slice_get}
+use Rattle.std.specs.Prelude.{◌≡◌, ◌≢◌, ◌⊎◌, ℕ, zero, suc, List, [], ◌∷◌, ◌++◌, length, Some, Result, Ok, Err, slice_get}
+use Rattle.sk_script.specs.Lease.{LeaseView, after_private}
 use Rattle.sk_plain.specs.declared.refusal.Refusal.TheVariants as refusals
 use Rattle.sk_server.specs.declared.reply.Reply.{Reply}
 use Rattle.sk_client.specs.Desk.{DeskView, opened, first_taken, requests_taken}
+use Rattle.sk_kernel.specs.HandIn.{IsAsLent}
+use Rattle.sk_kernel.specs.declared.hand_in.HandIn.{HandIn}
+use Rattle.sk_kernel.specs.declared.hand_in.HandIn.TheVariants as hand_ins
 use Rattle.sk_client.specs.DeskCalls.{TurnPost, ReplyPost}
+use Rattle.sk_client.specs.Leasing.{DeskTakesIn, DeskHandInPost}
 use Rattle.sk_client.specs.declared.desk.Given.{Given}
 use Rattle.sk_client.specs.declared.desk.ReplyRefusal.{ReplyRefusal}
 use Rattle.sk_client.specs.declared.desk.ReplyRefusal.TheVariants.{Memory}
 use Rattle.sk_workers.specs.declared.entry.Call.{Call}
 use Rattle.sk_workers.specs.declared.entry.Call.TheVariants as calls
 use Rattle.sk_workers.specs.declared.entry.Answered.{Answered}
-use Rattle.sk_workers.specs.declared.entry.Answered.TheVariants.{Turned, Replied}
+use Rattle.sk_workers.specs.declared.entry.Answered.TheVariants.{Turned, Replied, HandedIn}
 use Rattle.sk_workers.specs.declared.entry.Entry.{Entry}
 use Rattle.sk_workers.specs.declared.entry.Receipt.{Receipt}
 use Rattle.sk_workers.specs.Views.{BookView, WorkerView}
@@ -30,16 +35,32 @@ abbrev pub without_reply : Result Given (Reply × ReplyRefusal) → Result Given
 without_reply (Ok given) = Ok given
 without_reply (Err back) = Err back.1
 
+-- an answer without the lease that comes back
+abbrev pub without_lease : Result (Unit {0}) (LeaseView × HandIn) → Result (Unit {0}) HandIn
+without_lease (Ok u) = Ok u
+without_lease (Err back) = Err back.1
+
 -- ---- histories
 
 -- a desk as it was opened: over the kernel at its start, before any request
 abbrev pub as_opened : DeskView → DeskView
 as_opened d = opened (record d.kernel { trace = [] })
 
+-- a lease of so many instructions on the process of this number as it stands: its script, no signal due, and each of them private
+abbrev pub Leases : DeskView → ℕ → ℕ → LeaseView → Type 0
+Leases d pid count l =
+    IsAsLent d.kernel l × (l.lent.pid ≡ pid) × (l.count ≡ count) × (after_private l.script l.count l.lent ≡ Some l.now)
+
+-- a hand-in does what the desk promises of it with such a lease; of a stale one nothing is said but that nothing changed
+abbrev pub HandsIn : Result (Unit {0}) HandIn → DeskView → ℕ → ℕ → DeskView → Type 0
+HandsIn (Err hand_ins.Stale) d pid count d' = d' ≡ d
+HandsIn r d pid count d' = (l : LeaseView) × Leases d pid count l × DeskTakesIn r l d d'
+
 -- a call does what the desk promises of it; want of memory is no answer
 abbrev pub Step : DeskView → Call → Answered → DeskView → Type 0
 Step d (calls.Turn pid) (Turned r) d' = TurnPost r d pid d' × (r ≢ Err refusals.Memory)
 Step d (calls.Reply reply) (Replied r) d' = ReplyPost (with_reply reply r) d reply d' × (r ≢ Err Memory)
+Step d (calls.HandIn pid count) (HandedIn r) d' = HandsIn r d pid count d' × (r ≢ Err hand_ins.Memory)
 Step d call answer d' = ⊥
 
 -- the oldest request that waits is taken, so many times
@@ -71,10 +92,17 @@ Adds b w call answer b' w' =
     × (b'.history ≡ b.history ++ e ∷ [])
     × (w' ≡ record w { receipts = w.receipts ++ receipt (length b.history) e ∷ [] })
 
+-- memory wants for a hand-in, and nothing has changed; or it is the desk's, and the history's next entry and the worker's next receipt
+abbrev pub HandInAdds : Result (Unit {0}) (LeaseView × HandIn) → BookView → WorkerView → LeaseView → BookView → WorkerView → Type 0
+HandInAdds r b w l b' w' =
+    ((without_lease r ≡ Err hand_ins.Memory) × (b' ≡ b) × (w' ≡ w))
+    ⊎ (DeskHandInPost r l b.desk b'.desk × Adds b w (calls.HandIn l.lent.pid l.count) (HandedIn (without_lease r)) b' w')
+
 -- want of memory is no answer
 abbrev pub IsAnswer : Answered → Type 0
 IsAnswer (Turned r) = r ≢ Err refusals.Memory
 IsAnswer (Replied r) = r ≢ Err Memory
+IsAnswer (HandedIn r) = r ≢ Err hand_ins.Memory
 
 -- an answer and one receipt more, for this call and answer, at some place and after so many requests
 abbrev pub Told : WorkerView → Call → Answered → WorkerView → Type 0

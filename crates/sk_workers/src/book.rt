@@ -1,13 +1,18 @@
 //! A desk with the history of its calls.
 ghost use Rattle.std.specs.Prelude.{◌≡◌, ◌⊎◌, ◌↔◌, ◌+◌, ◌<◌, ◌≤◌, [], ◌∷◌, ◌++◌, length, vec_len, vec_capacity, Ok, Err, IfOk, IfErr, OnOk, MatchOption, IsTrue};
+ghost use Rattle.sk_script.specs.Lease.{after_private};
+ghost use Rattle.sk_plain.specs.Leased.{Lends};
 ghost use Rattle.sk_client.specs.Desk.{opened, first_sent, first_taken};
-ghost use Rattle.sk_workers.specs.History.{Step, Adds, AreFresh, IsLegal, receipt, without_reply};
+ghost use Rattle.sk_client.specs.Leasing.{desk_lease, DeskHandInPost};
+ghost use Rattle.sk_workers.specs.History.{Step, Adds, HandInAdds, AreFresh, IsLegal, receipt, without_reply, without_lease};
 
 use crate::entry::{Answered, Call, Entry, Receipt};
 use crate::worker::Worker;
 use sk_client::{Desk, Given, ReplyRefusal, Turn};
 use sk_ids::Pid;
+use sk_kernel::HandIn;
 use sk_plain::Refusal;
+use sk_script::Lease;
 use sk_server::{Reply, Request};
 use std::alloc::{AllocError, Global};
 use std::marker::Model;
@@ -139,6 +144,53 @@ impl<L: Ledger> Book<L> {
         (worker, given)
     }
 
+    /// Lends a process, for a worker, as the desk does. It makes no entry.
+    pub fn lease(&mut self, worker: Worker<L>, pid: Pid) -> (Worker<L>, Result<Lease, Refusal>)
+        ensures lease { Lends result.1 (desk_lease self.old.desk pid) }
+        ensures same { (self.new ≡ self.old) × (result.0 ≡ worker) }
+        ensures legal { IsLegal self.old.history self.old.desk }
+    {
+        (worker, self.desk.lease(pid))
+    }
+
+    /// Takes a lease in, for a worker, as the desk does. Where memory runs out, first of all for
+    /// the entry and the receipt, the answer is `Memory` and nothing has changed; every other
+    /// answer is entered. After a refusal the lease comes back.
+    pub fn hand_in(
+        &mut self,
+        worker: Worker<L>,
+        lease: Lease,
+    ) -> (Worker<L>, Result<(), (Lease, HandIn)>)
+        ensures back { IfErr result.1 (λ back. back.0 ≡ lease) }
+        ensures entered { HandInAdds result.1 self.old worker lease self.new result.0 }
+    {
+        let mut worker = worker;
+        if make_room(&mut self.history, &mut worker.receipts).is_err() {
+            return (worker, Err((lease, HandIn::Memory)));
+        }
+        let taken = self.desk.requests_taken();
+        let call = call_with(&lease);
+        let done = self.desk.hand_in(lease);
+        let answer = without_lease(&done);
+        if is_short(&answer) {
+            return (worker, done);
+        }
+        let entry = Entry {
+            worker: worker.number,
+            call,
+            answer: Answered::HandedIn(answer),
+            taken,
+        };
+        enter(
+            &mut self.history,
+            &mut self.tally,
+            &mut worker.receipts,
+            &mut worker.share,
+            &entry,
+        );
+        (worker, done)
+    }
+
     /// Takes the desk's oldest request that waits; `None` where none does. This takes no memory and makes no entry.
     pub fn next_request(&mut self) -> Option<Request>
         ensures request { result ≡ first_sent self.old.desk.waiting }
@@ -216,6 +268,18 @@ fn call_of(reply: &Reply) -> Call
     Call::Reply(*reply)
 }
 
+/// The call that hands a lease in, whose instructions were all private.
+fn call_with(lease: &Lease) -> Call
+    ensures call { result ≡ Call.HandIn lease.now.lent.pid lease.now.count }
+    ensures done { after_private lease.now.script lease.now.count lease.now.lent ≡ Some lease.now.now }
+{
+    let _ = lease.now();
+    Call::HandIn {
+        process: lease.lent().pid,
+        count: lease.count(),
+    }
+}
+
 /// What is entered of the answer to a turn.
 fn turned(answer: &Result<Turn, Refusal>) -> Answered
     ensures { result ≡ Answered.Turned answer.now }
@@ -255,5 +319,22 @@ fn without_reply(given: &Result<Given, (Reply, ReplyRefusal)>) -> Result<Given, 
     match given {
         Ok(given) => Ok(*given),
         Err((_reply, why)) => Err(*why),
+    }
+}
+
+/// Whether a lease came back for want of memory.
+fn is_short(answer: &Result<(), HandIn>) -> bool
+    ensures { IsTrue result ↔ (answer.now ≡ Err HandIn.Memory) }
+{
+    matches!(answer, Err(HandIn::Memory))
+}
+
+/// The answer to a hand-in, without the lease that comes back.
+fn without_lease(done: &Result<(), (Lease, HandIn)>) -> Result<(), HandIn>
+    ensures { result ≡ without_lease done.now }
+{
+    match done {
+        Ok(()) => Ok(()),
+        Err((_lease, why)) => Err(*why),
     }
 }

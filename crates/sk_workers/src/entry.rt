@@ -3,6 +3,7 @@ ghost use Rattle.std.specs.Prelude.{◌≡◌, ◌↔◌, IsTrue};
 
 use sk_client::{Given, ReplyRefusal, Turn};
 use sk_ids::Pid;
+use sk_kernel::HandIn;
 use sk_objects::Content;
 use sk_plain::Refusal;
 use sk_server::{Answer, Reply};
@@ -14,13 +15,16 @@ pub enum Call {
     /// A turn of a process.
     Turn(Pid),
     Reply(Reply),
+    /// A lease of this process is handed in, with so many private instructions done.
+    HandIn { process: Pid, count: u32 },
 }
 
-/// What the desk answered, without a reply that came back.
+/// What the desk answered, without a reply or a lease that came back.
 #[derive(Clone, Copy, Debug, PartialEq, Eq)]
 pub enum Answered {
     Turned(Result<Turn, Refusal>),
     Replied(Result<Given, ReplyRefusal>),
+    HandedIn(Result<(), HandIn>),
 }
 
 /// A call of a worker and its answer.
@@ -61,6 +65,13 @@ impl Call {
         match (self, other) {
             (Call::Turn(pid), Call::Turn(other)) => *pid == *other,
             (Call::Reply(reply), Call::Reply(other)) => is_same_reply(reply, other),
+            (
+                Call::HandIn { process, count },
+                Call::HandIn {
+                    process: other,
+                    count: times,
+                },
+            ) => *process == *other && *count == *times,
             _ => false,
         }
     }

@@ -1,10 +1,12 @@
 //! A book under a lock.
 ghost use Rattle.std.specs.Prelude.{◌≡◌, ◌⊎◌, ◌≤◌, List, [], vec_len, Err, IfOk, IfErr};
 ghost use Rattle.sk_kernel.specs.Opening.{opening_of};
+ghost use Rattle.sk_plain.specs.Leased.{Lends};
 ghost use Rattle.sk_client.specs.Desk.{first_number, opened};
+ghost use Rattle.sk_client.specs.Leasing.{desk_lease};
 ghost use Rattle.sk_workers.specs.declared.entry.Entry.{Entry};
 ghost use Rattle.sk_workers.specs.Views.{BookView};
-ghost use Rattle.sk_workers.specs.History.{AreFresh, IsLegal, Told, without_reply};
+ghost use Rattle.sk_workers.specs.History.{AreFresh, IsLegal, Told, without_reply, without_lease};
 ghost use Rattle.sk_workers.specs.Closing.{AreDistinct, IsClosed, Refuses, begins_turn};
 
 use crate::book::Book;
@@ -13,8 +15,9 @@ use crate::entry::{Answered, Call, CloseRefusal};
 use crate::worker::Worker;
 use sk_client::{Desk, Given, ReplyRefusal, Turn};
 use sk_ids::Pid;
-use sk_kernel::Opening;
+use sk_kernel::{HandIn, Opening};
 use sk_plain::Refusal;
+use sk_script::Lease;
 use sk_server::{Reply, Request};
 use std::alloc::{AllocError, Global};
 use std::marker::Model;
@@ -102,6 +105,34 @@ impl<L: Ledger> Shared<L> {
         ensures receipt { ((without_reply result.1 ≡ Err ReplyRefusal.Memory) × (result.0 ≡ worker)) ⊎ Told worker (Call.Reply reply) (Answered.Replied (without_reply result.1)) result.0 }
     {
         self.book.lock(rt).reply(worker, reply)
+    }
+
+    /// Lends a process, for a worker. There is no receipt.
+    pub fn lease<R: Wait>(
+        &self,
+        rt: &R,
+        worker: Worker<L>,
+        pid: Pid,
+    ) -> (Worker<L>, Result<Lease, Refusal>)
+        ensures lease { (book : BookView) × IsLegal book.history book.desk × Lends result.1 (desk_lease book.desk pid) }
+        ensures same { result.0 ≡ worker }
+    {
+        self.book.lock(rt).lease(worker, pid)
+    }
+
+    /// Takes a lease in, for a worker; after a refusal it comes back. Where memory runs out there
+    /// is no receipt.
+    pub fn hand_in<R: Wait>(
+        &self,
+        rt: &R,
+        worker: Worker<L>,
+        lease: Lease,
+    ) -> (Worker<L>, Result<(), (Lease, HandIn)>)
+        ensures back { IfErr result.1 (λ back. back.0 ≡ lease) }
+        ensures receipt { ((without_lease result.1 ≡ Err HandIn.Memory) × (result.0 ≡ worker))
+            ⊎ Told worker (Call.HandIn lease.lent.pid lease.count) (Answered.HandedIn (without_lease result.1)) result.0 }
+    {
+        self.book.lock(rt).hand_in(worker, lease)
     }
 
     /// Takes the desk's oldest request that waits; `None` where none does. This takes no memory.

@@ -587,6 +587,7 @@ fn every_refused_write_ends_the_play(rt: HostRuntime) -> Result<(), Fail> {
     whole.push_str(TRACE)?;
     for (trace, text) in [(false, REPORT), (true, whole.as_str())] {
         let shows = Shows {
+            counts: false,
             steps: false,
             trace,
         };

@@ -27,6 +27,9 @@ use std::sync::ledger::Blank;
 use std::thread::Threads;
 use thiserror::Error;
 
+/// How many private instructions a worker runs at most before each of its turns.
+const AHEAD: u32 = 64;
+
 /// Runs the program on its words, of which the first is its own name. Of `work` each worker has a thread of its own and
 /// passes the gate before its turns, and the server has another; other commands are done as `run` does them. After a refused
 /// write of the output nothing more is written to it.
@@ -54,7 +57,11 @@ pub fn run_work<R: Threads + Wait + Sync, O: Open, W: Write + Drop, E: Write, G:
             workers,
             turns,
         } => {
-            let plan = Plan { workers, turns };
+            let plan = Plan {
+                workers,
+                turns,
+                ahead: AHEAD,
+            };
             work_file(rt, alloc, plan, file, inputs, gate, out, err)
         }
         Job::Play { .. } | Job::Plain { .. } | Job::Replay { .. } => {

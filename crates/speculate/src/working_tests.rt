@@ -7,7 +7,7 @@ use sk_workers::Gate;
 use std::alloc::Global;
 use std::io::BufWriter;
 use std::sync::Wait;
-use std::sync::atomic::{AtomicBool, Ordering};
+use std::sync::atomic::{AtomicBool, AtomicU64, Ordering};
 use std::test::Fail;
 use std::thread::Threads;
 use std::{io, thread};
@@ -90,14 +90,6 @@ fn run_known<R: Threads + Wait + Sync, O: Open, G: Gate + Sync>(
 }
 
 #[test]
-fn two_workers_report(rt: HostRuntime) -> Result<(), Fail> {
-    let bytes = TWO_WORKERS.as_bytes();
-    let words = ["work", "-", "--workers", "2"];
-    let ran = run_known(&rt, rt.alloc(), &words, &Known { bytes }, &NoWait)?;
-    check(&rt, &ran, 0, TWO_WORKERS_REPORT, "")
-}
-
-#[test]
 fn two_workers_meet(rt: HostRuntime) -> Result<(), Fail> {
     let (zero, one) = (AtomicBool::new(false), AtomicBool::new(false));
     let ran_out = AtomicBool::new(false);
@@ -111,6 +103,36 @@ fn two_workers_meet(rt: HostRuntime) -> Result<(), Fail> {
     let ran = run_known(&rt, rt.alloc(), &words, &Known { bytes }, &gate)?;
     assert!(rt; zero.load(Ordering::SeqCst) && one.load(Ordering::SeqCst));
     assert!(rt; !ran_out.load(Ordering::SeqCst));
+    check(&rt, &ran, 0, TWO_WORKERS_REPORT, "")
+}
+
+/// Counts the turns of each of two workers.
+#[derive(Drop)]
+struct Counting<'a> {
+    zero: &'a AtomicU64,
+    one: &'a AtomicU64,
+}
+
+impl Gate for Counting<'_> {
+    fn before(&self, worker: u8, _turn: u64) {
+        let came = if worker == 0 { self.zero } else { self.one };
+        came.fetch_add(1, Ordering::SeqCst);
+    }
+}
+
+/// The private instruction of each process is handed in, so that three turns are left of it.
+#[test]
+fn two_workers_report(rt: HostRuntime) -> Result<(), Fail> {
+    let (zero, one) = (AtomicU64::new(0), AtomicU64::new(0));
+    let gate = Counting {
+        zero: &zero,
+        one: &one,
+    };
+    let bytes = TWO_WORKERS.as_bytes();
+    let words = ["work", "-", "--workers", "2"];
+    let ran = run_known(&rt, rt.alloc(), &words, &Known { bytes }, &gate)?;
+    assert_eq!(rt; zero.load(Ordering::SeqCst), 3);
+    assert_eq!(rt; one.load(Ordering::SeqCst), 3);
     check(&rt, &ran, 0, TWO_WORKERS_REPORT, "")
 }
 

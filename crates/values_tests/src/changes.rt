@@ -2,7 +2,7 @@
 ghost use Rattle.std.specs.Prelude.{◌<◌};
 
 use crate::values::assert_same;
-use sk_changes::run::{apply_all, try_all, undo_all};
+use sk_changes::run::{apply_all, undo_all};
 use sk_changes::{Change, Invertible, NotApplied};
 use sk_ids::{Name, ObjId, Text};
 use sk_objects::{Content, Directory, File, Kind, Pipe, Signals, Value};
@@ -14,12 +14,13 @@ use std::test::Fail;
 /// still, as it was.
 fn assert_leaves(
     rt: &impl Abort,
+    alloc: Global,
     value: &mut Value,
     change: Change,
     want: Option<&Value>,
 ) -> Result<(), AllocError> {
     let before = value.copy()?;
-    match value.apply(change) {
+    match value.apply(alloc, change) {
         Ok(undo) => {
             match want {
                 Some(want) => assert_same(rt, value, want),
@@ -66,8 +67,8 @@ fn file_row(
 ) -> Result<(), AllocError> {
     let mut value = file(alloc, text(first))?;
     match want {
-        Some(bytes) => assert_leaves(rt, &mut value, change, Some(&file(alloc, bytes)?)),
-        None => assert_leaves(rt, &mut value, change, None),
+        Some(bytes) => assert_leaves(rt, alloc, &mut value, change, Some(&file(alloc, bytes)?)),
+        None => assert_leaves(rt, alloc, &mut value, change, None),
     }
 }
 
@@ -98,7 +99,7 @@ fn changes_table_of_files(rt: HostRuntime) -> Result<(), Fail> {
 /// The sizes of a file after a write at this place, and after its undo; `None` where it doesn't fit.
 fn sizes(alloc: Global, offset: u32, bytes: &[u8]) -> Result<Option<(u32, u32)>, AllocError> {
     let mut value = Value::empty(alloc, Kind::File)?;
-    let Ok(undo) = value.apply(write(offset, bytes)) else {
+    let Ok(undo) = value.apply(alloc, write(offset, bytes)) else {
         return Ok(None);
     };
     let size = value.size().unwrap_or(0);
@@ -129,9 +130,15 @@ fn pipe_row(
     let mut value = pipe(alloc, text(b"AB"), shut)?;
     match want {
         Some((bytes, shut)) => {
-            assert_leaves(rt, &mut value, change, Some(&pipe(alloc, bytes, shut)?))
+            assert_leaves(
+                rt,
+                alloc,
+                &mut value,
+                change,
+                Some(&pipe(alloc, bytes, shut)?),
+            )
         }
-        None => assert_leaves(rt, &mut value, change, None),
+        None => assert_leaves(rt, alloc, &mut value, change, None),
     }
 }
 
@@ -188,9 +195,9 @@ fn directory_row(
     let mut value = directory(alloc, count, with_last)?;
     if fits {
         let want = directory(alloc, count, !with_last)?;
-        assert_leaves(rt, &mut value, change, Some(&want))
+        assert_leaves(rt, alloc, &mut value, change, Some(&want))
     } else {
-        assert_leaves(rt, &mut value, change, None)
+        assert_leaves(rt, alloc, &mut value, change, None)
     }
 }
 
@@ -230,8 +237,14 @@ fn queue_row(
 ) -> Result<(), AllocError> {
     let mut value = queue(alloc, first)?;
     match want {
-        Some(numbers) => assert_leaves(rt, &mut value, change, Some(&queue(alloc, numbers)?)),
-        None => assert_leaves(rt, &mut value, change, None),
+        Some(numbers) => assert_leaves(
+            rt,
+            alloc,
+            &mut value,
+            change,
+            Some(&queue(alloc, numbers)?),
+        ),
+        None => assert_leaves(rt, alloc, &mut value, change, None),
     }
 }
 
@@ -270,27 +283,32 @@ fn content(version: u64, bytes: &[u8]) -> Option<Content> {
     Content::new(version, text(bytes))
 }
 
-fn exit_row(rt: &impl Abort, first: Option<u8>, fits: bool) -> Result<(), AllocError> {
+fn exit_row(
+    rt: &impl Abort,
+    alloc: Global,
+    first: Option<u8>,
+    fits: bool,
+) -> Result<(), AllocError> {
     let mut value = Value::Exit(first);
     let want = Value::Exit(Some(3));
     let want = if fits { Some(&want) } else { None };
-    assert_leaves(rt, &mut value, Change::SetExit(3), want)
+    assert_leaves(rt, alloc, &mut value, Change::SetExit(3), want)
 }
 
-fn copy_row(rt: &impl Abort, old: Content, new: Content) -> Result<(), AllocError> {
+fn copy_row(rt: &impl Abort, alloc: Global, old: Content, new: Content) -> Result<(), AllocError> {
     let want = Value::Copy(new);
     let mut value = Value::Copy(old);
-    assert_leaves(rt, &mut value, Change::SetCopy(new), Some(&want))
+    assert_leaves(rt, alloc, &mut value, Change::SetCopy(new), Some(&want))
 }
 
 #[test]
 fn changes_table_of_slots(rt: HostRuntime) -> Result<(), Fail> {
-    exit_row(&rt, None, true)?;
-    exit_row(&rt, Some(3), false)?;
+    exit_row(&rt, rt.alloc(), None, true)?;
+    exit_row(&rt, rt.alloc(), Some(3), false)?;
     let old = content(3, b"old").ok_or("old")?;
     let new = content(4, b"new").ok_or("new")?;
-    copy_row(&rt, old, new)?;
-    copy_row(&rt, new, old)?;
+    copy_row(&rt, rt.alloc(), old, new)?;
+    copy_row(&rt, rt.alloc(), new, old)?;
     Ok(())
 }
 
@@ -343,138 +361,5 @@ fn pipe_order_restored(rt: HostRuntime) -> Result<(), Fail> {
     assert_eq!(rt; apply_all(&mut value, &eight_puts(), &mut undos), Ok(()));
     assert_blocks(&rt, &value, b"ABCDEFGH");
     turns_back(&rt, rt.alloc(), &mut value);
-    Ok(())
-}
-
-/// A linear congruential generator.
-#[derive(Drop)]
-struct Draws {
-    state: u32,
-}
-
-impl Draws {
-    fn below(&mut self, limit: u32) -> u32
-        requires { 0 < limit }
-        ensures { result < limit }
-    {
-        self.state = self
-            .state
-            .wrapping_mul(1_664_525)
-            .wrapping_add(1_013_904_223);
-        (self.state >> 8) % limit
-    }
-
-    fn text(&mut self) -> Text {
-        let len = self.below(514) as usize;
-        let letter = b'a' + self.below(26) as u8;
-        text(&[letter; 514][..len])
-    }
-
-    fn name(&mut self) -> Option<Name> {
-        Name::new(&[b'a' + self.below(3) as u8, b'a' + self.below(26) as u8])
-    }
-
-    /// A change of a directory, or of another kind of value in place of a bad name.
-    fn of_directory(&mut self) -> Change {
-        match self.name() {
-            Some(name) if self.below(2) == 0 => Change::Link(name, object(self.below(9))),
-            Some(name) => Change::Unlink(name),
-            None => Change::TakeSignal,
-        }
-    }
-
-    fn copy(&mut self) -> Change {
-        match Content::new(7, self.text()) {
-            Some(content) => Change::SetCopy(content),
-            None => Change::TakeSignal,
-        }
-    }
-
-    fn change(&mut self) -> Change {
-        if self.below(300) == 0 {
-            return Change::Shut;
-        }
-        match self.below(10) {
-            0 => Change::WriteAt {
-                offset: self.below(32_800),
-                bytes: self.text(),
-            },
-            1 => Change::CutTo(self.below(33_000)),
-            2 | 3 => self.of_directory(),
-            4 => Change::Put(self.text()),
-            5 => Change::Take(self.below(514)),
-            6 => Change::PushSignal(self.below(33) as u8),
-            7 => Change::TakeSignal,
-            8 => Change::SetExit(self.below(256) as u8),
-            _ => self.copy(),
-        }
-    }
-
-    fn ten(&mut self) -> [Change; 10] {
-        [
-            self.change(),
-            self.change(),
-            self.change(),
-            self.change(),
-            self.change(),
-            self.change(),
-            self.change(),
-            self.change(),
-            self.change(),
-            self.change(),
-        ]
-    }
-}
-
-/// Makes those of the changes that fit, and tells which they were.
-fn fitting(alloc: Global, mut value: Value, changes: &[Change]) -> Result<Vec<Change>, AllocError> {
-    let mut made = Vec::new(alloc);
-    for change in changes {
-        match value.apply(*change) {
-            Ok(_) => made.push(*change)?,
-            Err(NotApplied::Unfit) => {}
-            Err(NotApplied::Memory) => return Err(AllocError),
-        }
-    }
-    Ok(made)
-}
-
-/// Those of the changes that fit leave the value as it was, once they are taken back; they are then
-/// made for good.
-fn goes_back(
-    rt: &impl Abort,
-    alloc: Global,
-    value: &mut Value,
-    changes: &[Change],
-) -> Result<(), AllocError> {
-    let before = value.copy()?;
-    let made = fitting(alloc, value.copy()?, changes)?;
-    assert_eq!(rt; try_all(alloc, value, &made), Ok(()));
-    assert_same(rt, value, &before);
-    let mut undos = Vec::new(alloc);
-    assert_eq!(rt; apply_all(value, &made, &mut undos), Ok(()));
-    Ok(())
-}
-
-/// Forty times ten changes of a value of this kind are taken back.
-fn all_go_back(
-    rt: &impl Abort,
-    alloc: Global,
-    draws: &mut Draws,
-    kind: Kind,
-) -> Result<(), AllocError> {
-    let mut value = Value::empty(alloc, kind)?;
-    for _ in 0..40 {
-        goes_back(rt, alloc, &mut value, &draws.ten())?;
-    }
-    Ok(())
-}
-
-#[test]
-fn many_changes_and_back(rt: HostRuntime) -> Result<(), Fail> {
-    let mut draws = Draws { state: 7 };
-    for kind in [Kind::File, Kind::Dir, Kind::Pipe, Kind::Signals, Kind::Copy] {
-        all_go_back(&rt, rt.alloc(), &mut draws, kind)?;
-    }
     Ok(())
 }

@@ -6,4 +6,10 @@ mod changes;
 #[cfg(test)]
 mod ids;
 #[cfg(test)]
+mod lists;
+#[cfg(test)]
+mod random;
+#[cfg(test)]
+mod sizes;
+#[cfg(test)]
 mod values;

@@ -1,0 +1,74 @@
+//! A process is leased, and handed in.
+use crate::start::{declares_script, name, pid};
+use sk_ids::{Entity, Pid};
+use sk_kernel::{HandIn, Kernel};
+use sk_plain::View;
+use sk_script::{Boot, Input};
+use std::alloc::Global;
+use std::process::Abort;
+use std::test::Fail;
+
+/// A kernel of a process with two private instructions and one that is not, and of one that ends it
+/// by a signal.
+fn kernel(alloc: Global) -> Result<Kernel, Fail> {
+    let mut boot = Boot::new(alloc);
+    let (sets, kills) = (name(b"sets")?, name(b"kills")?);
+    declares_script(alloc, &mut boot, &sets, b"set r1 1\nset r2 2\nsay\n")?;
+    declares_script(
+        alloc,
+        &mut boot,
+        &kills,
+        b"boot r1 1\nset r2 9\nkill r1 r2\n",
+    )?;
+    boot.process(1, &sets, 1)?;
+    boot.process(2, &kills, 2)?;
+    Ok(Kernel::boot(alloc, 0, &boot, 1_000)?)
+}
+
+/// Process 1 is leased and runs its private instructions; then so many steps of a process are
+/// taken, and it is handed in.
+fn hands_in(
+    rt: &impl Abort,
+    kernel: &mut Kernel,
+    leased: Pid,
+    between: Pid,
+    steps: u32,
+) -> Result<Result<(), HandIn>, Fail> {
+    let mut lease = kernel.lease(leased)?;
+    lease.run(10);
+    assert_eq!(rt; lease.count(), 2);
+    for _ in 0..steps {
+        assert_eq!(rt; kernel.step(between, Input::None), Ok(()));
+    }
+    let is_as_lent = kernel.as_lent(&lease);
+    let answer = match kernel.hand_in(lease) {
+        Ok(()) => Ok(()),
+        Err((lease, why)) => {
+            lease.give_up();
+            Err(why)
+        }
+    };
+    assert_eq!(rt; is_as_lent, answer != Err(HandIn::Stale));
+    Ok(answer)
+}
+
+#[test]
+fn lease_and_hand_in(rt: HostRuntime) -> Result<(), Fail> {
+    let stale = Err(HandIn::Stale);
+    let leased = pid(1)?;
+    for (between, steps, want, events, at) in [
+        (2, 0, Ok(()), 2, 2),
+        (2, 3, stale, 3, 0),
+        (1, 1, stale, 1, 1),
+    ] {
+        let mut kernel = kernel(rt.alloc())?;
+        let answer = hands_in(&rt, &mut kernel, leased, pid(between)?, steps)?;
+        assert_eq!(rt; answer, want);
+        assert_eq!(rt; kernel.trace().events().len(), events);
+        match kernel.value(&Entity::Proc(leased)) {
+            Some(View::Process(process)) => assert_eq!(rt; process.place, at),
+            _ => panic!(rt; "no process"),
+        }
+    }
+    Ok(())
+}

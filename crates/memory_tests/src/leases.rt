@@ -1,0 +1,247 @@
+//! Leases between the steps of a scenario, on a kernel and on a desk.
+ghost use Rattle.std.specs.Prelude.{◌≡◌, IfOk};
+ghost use Rattle.sk_play.specs.Plays.{declared_kernel};
+
+use crate::finding::Finding;
+use crate::sights::{Sight, printed, report, shows};
+use sk_client::Desk;
+use sk_holder::Holder;
+use sk_ids::Pid;
+use sk_kernel::{HandIn, Kernel};
+use sk_plain::Refusal;
+use sk_scenario::{Call, Declarations};
+use sk_script::Lease;
+use std::alloc::{AllocError, Global};
+use std::io::Write;
+
+/// How many private instructions a lease is to run at most.
+const AHEAD: u32 = 2;
+
+/// What lends processes and takes them in again.
+trait Lender {
+    fn kernel(&self) -> &Kernel;
+
+    fn lease(&self, pid: Pid) -> Result<Lease, Refusal>;
+
+    fn hand_in(&mut self, lease: Lease) -> Result<(), (Lease, HandIn)>;
+    /// Makes a call, or takes the turn of its process.
+    fn call(&mut self, call: &Call) -> Result<(), Refusal>;
+}
+
+impl Lender for Holder {
+    fn kernel(&self) -> &Kernel {
+        Holder::kernel(self)
+    }
+
+    fn lease(&self, pid: Pid) -> Result<Lease, Refusal> {
+        Holder::kernel(self).lease(pid)
+    }
+
+    fn hand_in(&mut self, lease: Lease) -> Result<(), (Lease, HandIn)> {
+        Holder::hand_in(self, lease)
+    }
+
+    fn call(&mut self, call: &Call) -> Result<(), Refusal> {
+        match call {
+            Call::Step(pid, input) => return self.step(*pid, *input),
+            Call::Guess(pid, input) => {
+                self.guess(*pid, *input)?;
+            }
+            Call::Commit(id) => {
+                self.commit(*id);
+            }
+            Call::Fail(id) => {
+                self.fail(*id);
+            }
+        }
+        Ok(())
+    }
+}
+
+impl Lender for Desk {
+    fn kernel(&self) -> &Kernel {
+        Desk::kernel(self)
+    }
+
+    fn lease(&self, pid: Pid) -> Result<Lease, Refusal> {
+        Desk::lease(self, pid)
+    }
+
+    fn hand_in(&mut self, lease: Lease) -> Result<(), (Lease, HandIn)> {
+        Desk::hand_in(self, lease)
+    }
+
+    fn call(&mut self, call: &Call) -> Result<(), Refusal> {
+        match call {
+            Call::Step(pid, _) | Call::Guess(pid, _) => {
+                self.turn(*pid)?;
+            }
+            Call::Commit(_) | Call::Fail(_) => {}
+        }
+        Ok(())
+    }
+}
+
+/// Puts a lease out.
+fn put(out: &mut Option<Lease>, lease: Lease) {
+    if let Some(before) = out.replace(lease) {
+        before.give_up();
+    }
+}
+
+/// Leases a process, and runs its private instructions.
+fn lends<L: Lender>(lender: &L, pid: Pid, out: &mut Option<Lease>) -> Result<(), Finding> {
+    let lent = match lender.lease(pid) {
+        Err(Refusal::Memory) => lender.lease(pid),
+        told => told,
+    };
+    match lent {
+        Ok(mut lease) => {
+            lease.run(AHEAD);
+            put(out, lease);
+            Ok(())
+        }
+        Err(Refusal::Memory) => Err(Finding::Memory),
+        Err(_) => Ok(()),
+    }
+}
+
+/// Makes a call, once more where memory was wanted and nothing has changed.
+fn calls<L: Lender>(alloc: Global, lender: &mut L, call: &Call) -> Result<(), Finding> {
+    let before = Sight::of(alloc, lender.kernel())?;
+    if let Err(Refusal::Memory) = lender.call(call) {
+        Sight::of(alloc, lender.kernel())?.same(&before)?;
+        if let Err(Refusal::Memory) = lender.call(call) {
+            return Err(Finding::Memory);
+        }
+    }
+    Ok(())
+}
+
+/// Hands in the lease that is out. It stays out where memory was wanted, and is given up where it
+/// comes back otherwise.
+fn tries<L: Lender>(lender: &mut L, out: &mut Option<Lease>) -> Result<(), HandIn> {
+    let Some(lease) = out.take() else {
+        return Ok(());
+    };
+    match lender.hand_in(lease) {
+        Ok(()) => Ok(()),
+        Err((lease, HandIn::Memory)) => {
+            put(out, lease);
+            Err(HandIn::Memory)
+        }
+        Err((lease, why)) => {
+            lease.give_up();
+            Err(why)
+        }
+    }
+}
+
+/// Hands in the lease that is out, once more where memory was wanted and nothing has changed.
+fn hands_in<L: Lender>(
+    alloc: Global,
+    lender: &mut L,
+    out: &mut Option<Lease>,
+) -> Result<Result<(), HandIn>, Finding> {
+    let before = Sight::of(alloc, lender.kernel())?;
+    let told = tries(lender, out);
+    if told != Err(HandIn::Memory) {
+        return Ok(told);
+    }
+    Sight::of(alloc, lender.kernel())?.same(&before)?;
+    match tries(lender, out) {
+        Err(HandIn::Memory) => Err(Finding::Memory),
+        told => Ok(told),
+    }
+}
+
+/// Makes the calls. Before each of them a process is leased, one after the other, and handed in
+/// after it.
+fn lends_all<L: Lender, W: Write>(
+    alloc: Global,
+    lender: &mut L,
+    pids: &[Pid],
+    steps: &[Call],
+    out: &mut Option<Lease>,
+    to: &mut W,
+) -> Result<(), Finding> {
+    for (pid, call) in pids.iter().cycle().zip(steps.iter()) {
+        lends(lender, *pid, out)?;
+        let count = match out {
+            Some(lease) => lease.count(),
+            None => 0,
+        };
+        calls(alloc, lender, call)?;
+        let answer = hands_in(alloc, lender, out)?;
+        writeln!(to, "leased {count}, {answer:?}")?;
+    }
+    let trace = printed(alloc, lender.kernel().trace())?;
+    shows(&report(alloc, lender.kernel())?, &trace, to)
+}
+
+/// The same, and gives up the lease that is out at the end.
+fn lends_between<L: Lender, W: Write>(
+    alloc: Global,
+    lender: &mut L,
+    pids: &[Pid],
+    steps: &[Call],
+    to: &mut W,
+) -> Result<(), Finding> {
+    let mut out = None;
+    let told = lends_all(alloc, lender, pids, steps, &mut out, to);
+    if let Some(lease) = out {
+        lease.give_up();
+    }
+    told
+}
+
+fn try_kernel(alloc: Global, declarations: &Declarations) -> Result<Kernel, AllocError>
+    ensures { IfOk result (λ kernel. kernel ≡ declared_kernel declarations.now) }
+{
+    let boot = declarations.boot();
+    Kernel::boot(alloc, declarations.number(), boot, declarations.limit())
+}
+
+fn kernel_of(alloc: Global, declarations: &Declarations) -> Result<Kernel, Finding>
+    ensures { IfOk result (λ kernel. kernel ≡ declared_kernel declarations.now) }
+{
+    match try_kernel(alloc, declarations) {
+        Ok(kernel) => Ok(kernel),
+        Err(AllocError) => Ok(try_kernel(alloc, declarations)?),
+    }
+}
+
+fn try_pids(alloc: Global, declarations: &Declarations) -> Result<Vec<Pid>, AllocError> {
+    let mut pids = Vec::new(alloc);
+    for process in declarations.boot().processes() {
+        if let Some(pid) = Pid::boot(process.number) {
+            pids.push(pid)?;
+        }
+    }
+    Ok(pids)
+}
+
+fn pids_of(alloc: Global, declarations: &Declarations) -> Result<Vec<Pid>, Finding> {
+    match try_pids(alloc, declarations) {
+        Ok(pids) => Ok(pids),
+        Err(AllocError) => Ok(try_pids(alloc, declarations)?),
+    }
+}
+
+/// Plays steps with leases between them on a kernel, and the turns of their processes on a desk.
+pub fn plays_leases<W: Write>(
+    alloc: Global,
+    declarations: &Declarations,
+    steps: &[Call],
+    out: &mut W,
+) -> Result<(), Finding> {
+    let pids = pids_of(alloc, declarations)?;
+    let mut holder = Holder::new(alloc, kernel_of(alloc, declarations)?);
+    let played = lends_between(alloc, &mut holder, &pids, steps, out);
+    holder.abandon();
+    played?;
+    let mut desk = Desk::new(alloc, kernel_of(alloc, declarations)?);
+    let played = lends_between(alloc, &mut desk, &pids, steps, out);
+    desk.abandon();
+    played
+}

@@ -1,0 +1,185 @@
+//! A worker leases a process, and hands it in.
+ghost use Rattle.std.specs.Prelude.{◌≡◌, ◌<◌, [], IfOk};
+ghost use Rattle.sk_kernel.specs.Kernel.{undecided_at};
+ghost use Rattle.sk_client.specs.Desk.{opened};
+
+use sk_client::{Desk, Turn};
+use sk_ids::{Name, Pid};
+use sk_kernel::{HandIn, Kernel};
+use sk_script::{Boot, Script};
+use sk_workers::{Answered, Call, Gate, Shared, Worker};
+use std::alloc::Global;
+use std::marker::Brand;
+use std::process::Abort;
+use std::sync::Wait;
+use std::sync::ledger::{Blank, Ledger};
+use std::test::Fail;
+
+/// Waits for nothing.
+#[derive(Drop)]
+struct Open;
+
+impl Gate for Open {
+    fn before(&self, _worker: u8, _turn: u64) {}
+}
+
+/// The process that is leased, the turns between the lease and the hand-in, and what that is
+/// answered.
+#[derive(Clone, Copy)]
+struct Between {
+    leased: Pid,
+    other: Pid,
+    turns: u32,
+    answer: Result<(), HandIn>,
+}
+
+/// Declares a process of this number, with a script of its own and a terminal.
+fn declare(
+    alloc: Global,
+    boot: &mut Boot,
+    number: u16,
+    name: &[u8],
+    text: &[u8],
+) -> Result<(), Fail>
+    requires { 0 < number }
+{
+    let name = Name::new(name).ok_or("name")?;
+    boot.script(name, Script::parse(alloc, text)?)?;
+    boot.process(number, &name, number)?;
+    Ok(())
+}
+
+/// A kernel of a process with two private instructions and one that is not, and of one that ends it
+/// by a signal.
+fn kernel(alloc: Global) -> Result<Kernel, Fail>
+    ensures undecided { IfOk result (λ kernel. undecided_at kernel ≡ []) }
+    ensures trace { IfOk result (λ kernel. kernel.trace ≡ []) }
+{
+    let mut boot = Boot::new(alloc);
+    declare(alloc, &mut boot, 1, b"sets", b"set r1 1\nset r2 2\nsay\n")?;
+    declare(
+        alloc,
+        &mut boot,
+        2,
+        b"kills",
+        b"boot r1 1\nset r2 9\nkill r1 r2\n",
+    )?;
+    Ok(Kernel::boot(alloc, 0, &boot, 1_000_000)?)
+}
+
+/// The desk of that kernel, on which nothing was done.
+fn desk(alloc: Global) -> Result<Desk, Fail>
+    ensures opened { IfOk result (λ desk. desk ≡ opened desk.kernel) }
+    ensures trace { IfOk result (λ desk. desk.kernel.trace ≡ []) }
+{
+    Ok(Desk::new(alloc, kernel(alloc)?))
+}
+
+/// Takes so many turns of a process, each of which is a step.
+fn steps<L: Ledger, R: Wait + Abort>(
+    rt: &R,
+    shared: &Shared<L>,
+    worker: Worker<L>,
+    pid: Pid,
+    turns: u32,
+) -> Worker<L> {
+    let mut worker = worker;
+    for _ in 0..turns {
+        let (back, answer) = shared.turn(rt, worker, pid, &Open);
+        worker = back;
+        assert_eq!(rt; answer, Ok(Turn::Stepped));
+    }
+    worker
+}
+
+/// A worker leases a process, runs its two private instructions, and hands it in after those turns.
+fn leases<L: Ledger, R: Wait + Abort>(
+    rt: &R,
+    shared: &Shared<L>,
+    worker: Worker<L>,
+    between: &Between,
+) -> Worker<L> {
+    let (worker, lent) = shared.lease(rt, worker, between.leased);
+    let Ok(mut lease) = lent else {
+        panic!(rt; "not lent");
+    };
+    lease.run(10);
+    assert_eq!(rt; lease.count(), 2);
+    let worker = steps(rt, shared, worker, between.other, between.turns);
+    let (worker, done) = shared.hand_in(rt, worker, lease);
+    let answer = match done {
+        Ok(()) => Ok(()),
+        Err((lease, why)) => {
+            lease.give_up();
+            Err(why)
+        }
+    };
+    assert_eq!(rt; answer, between.answer);
+    worker
+}
+
+/// Looks at a worker's last receipt: it is for the hand-in.
+fn looks<L: Ledger>(rt: &impl Abort, worker: &Worker<L>, between: &Between) {
+    let Some(receipt) = worker.receipts().last() else {
+        panic!(rt; "no receipt");
+    };
+    assert_eq!(rt; receipt.place, u64::from(between.turns));
+    let process = between.leased;
+    assert_eq!(rt; receipt.entry.call, Call::HandIn { process, count: 2 });
+    assert_eq!(rt; receipt.entry.answer, Answered::HandedIn(between.answer));
+}
+
+/// One worker's lease on a desk of its own: how many steps the trace has in the end.
+fn leased<L: Ledger, R: Wait + Abort>(
+    rt: &R,
+    alloc: Global,
+    blank: Blank,
+    desk: Desk,
+    between: &Between,
+) -> usize
+    requires ledger { (blank.name ≡ L.name) × (blank.parts ≡ L.parts) × (L.parts ≡ 1) }
+    requires opened { desk ≡ opened desk.kernel }
+    requires trace { desk.kernel.trace ≡ [] }
+{
+    let (shared, mut workers) = match Shared::<L>::new(alloc, blank, desk, 1) {
+        Ok(made) => made,
+        Err((_blank, desk, _error)) => {
+            desk.abandon();
+            panic!(rt; "out of memory")
+        }
+    };
+    let Some(worker) = workers.pop() else {
+        unreachable!()
+    };
+    let worker = leases(rt, &shared, worker, between);
+    looks(rt, &worker, between);
+    let desk = shared.reopen();
+    let steps = desk.kernel().trace().events().len();
+    desk.abandon();
+    steps
+}
+
+#[test]
+fn lease_and_hand_in(rt: HostRuntime) -> Result<(), Fail> {
+    let alloc = rt.alloc();
+    let sets = Pid::boot(1).ok_or("pid")?;
+    let kills = Pid::boot(2).ok_or("pid")?;
+    let stale = Err(HandIn::Stale);
+    for (other, turns, answer, steps) in [
+        (kills, 0, Ok(()), 2),
+        (kills, 2, Ok(()), 4),
+        (kills, 3, stale, 3),
+        (sets, 1, stale, 1),
+    ] {
+        let between = Between {
+            leased: sets,
+            other,
+            turns,
+            answer,
+        };
+        let blank = Blank::new(1);
+        let all = leased::<Brand, _>(&rt, alloc, blank, desk(alloc)?, &between);
+        assert_eq!(rt; all, steps);
+    }
+    Ok(())
+}

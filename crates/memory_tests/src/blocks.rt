@@ -41,12 +41,7 @@ fn changes(alloc: Global, value: &mut Value, change: &Change) -> Result<Undo, Fi
     }
 }
 
-fn written(
-    alloc: Global,
-    value: &mut Value,
-    offset: u32,
-    bytes: &[u8],
-) -> Result<Undo, Finding>
+fn written(alloc: Global, value: &mut Value, offset: u32, bytes: &[u8]) -> Result<Undo, Finding>
     ensures { IfOk result (λ undo. CanUndo value.new undo × (value_undone value.new undo ≡ value.old)) }
 {
     let bytes = Text::new(bytes).ok_or(Finding::Changed)?;

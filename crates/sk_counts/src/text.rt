@@ -15,7 +15,10 @@ fn write_guesses<W: Write>(counts: &Counts, out: &mut W) -> io::Result<()>
     let committed = counts.committed;
     let failed = counts.failed;
     let struck = counts.struck;
-    writeln!(out, "guesses {guesses} committed {committed} failed {failed} struck {struck}")
+    writeln!(
+        out,
+        "guesses {guesses} committed {committed} failed {failed} struck {struck}"
+    )
 }
 
 #[tactic(auto, unfolding(crate::specs::Text::steps_text))]

@@ -13,5 +13,5 @@ returns g c =
     let is = c.kernel.ensures ∙ ap (λ (d : DeskView). d.kernel) c.desk.ensures in
     on_ok_weaker c.write_behind.result
     (λ written. Appends-trans _ _ _ _ _ c.in_ok-write_world_report.ensures
-        (subst (λ (k : KernelView). Appends (g.W.Write.contents c.write_world_report.new.out) (g.W.Write.contents c.write_behind.new.out) (behind_text c.args.shows k)) is written))
+    (subst (λ (k : KernelView). Appends (g.W.Write.contents c.write_world_report.new.out) (g.W.Write.contents c.write_behind.new.out) (behind_text c.args.shows k)) is written))
     c.write_behind.ensures

@@ -219,13 +219,17 @@ def held_rounds(count, decision, held, amount):
 
 
 def held_rows(meter):
-    for held in ("notes", "noted files", "files", "waiting texts", "waiting texts there", "terminals", "open guesses"):
-        for decision in ("commit", "fail"):
-            lines = 3 if decision == "commit" else 2
-            cost = lambda amount: meter.each(lambda n: held_rounds(n, decision, held, amount), 100, 200, lines)
+    """What is held, beside nothing; and what rests on another guess, beside as much that rests on nothing."""
+    limits = {"open guesses": BESIDE_OPEN}
+    for decision in ("commit", "fail"):
+        lines = 3 if decision == "commit" else 2
+        cost = lambda held, amount: meter.each(lambda n: held_rounds(n, decision, held, amount), 100, 200, lines)
+        none, costs = cost("files", 0), {}
+        for held in ("notes", "noted files", "files", "waiting texts", "waiting texts there", "terminals", "open guesses"):
             amount = 62 if held == "open guesses" else 1000
-            limit = {"open guesses": BESIDE_OPEN, "noted files": BESIDE_OTHERS}.get(held, LOOSE)
-            yield f"guess and {decision}: {amount} {held} held / none", cost(amount), cost(0), limit
+            costs[held] = cost(held, amount)
+            yield f"guess and {decision}: {amount} {held} held / none", costs[held], none, limits.get(held, LOOSE)
+        yield f"guess and {decision}: 1000 noted files / 1000 files", costs["noted files"], costs["files"], BESIDE_OTHERS
 
 
 def nested(count, decision, kind):
@@ -324,7 +328,9 @@ def block_rows(meter):
     undone = lambda n: meter.played(writing(large, BLOCK, n, True, "fail")) - meter.played(writing(large, BLOCK, n, True))
     yield "its undo, beside what letting go of the notes costs / the write", (undone(2 * writes) - undone(writes)) / writes, noted, 1
     yield "write of one byte: into a file of 32,768 / of 512", write(large, "c", False), write(small, "c", False), 1.1
-    kept = lambda guesses: meter.peak(writing(large, BLOCK, 20_000, guesses)) * 1024 / 20_000
+    # So many that the peak is the program's own, above that of this script, from which it is started.
+    many = 400_000
+    kept = lambda guesses: meter.peak(writing(large, BLOCK, many, guesses)) * 1024 / many
     yield "bytes that a noted write keeps, its new block aside / 600", kept(True) - kept(False) - 512, 600, 1
     look = lambda names: meter.each(lambda n: looking(names, n), 600, 1200, 1)
     yield "look in a directory: of 64 names / of 4", look(64), look(4), 2

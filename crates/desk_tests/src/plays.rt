@@ -364,10 +364,11 @@ fn ends_stale(
     version: u64,
     bytes: &[u8],
 ) -> Result<(), Fail> {
-    let step = Event::Step {
-        pid: pid(number)?,
-        input: Input::Stale(content(version, bytes)?),
-    };
+    let pid = pid(number)?;
+    let input = kernel
+        .trace()
+        .keep(&Input::Stale(content(version, bytes)?))?;
+    let step = Event::Step { pid, input };
     assert_eq!(rt; kernel.trace().events().last(), Some(&step));
     Ok(())
 }

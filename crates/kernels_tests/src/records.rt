@@ -1,7 +1,7 @@
 //! Records, stores and steps, and what a failure leaves of a record.
 use crate::start::{content, declares_file, name, pid, two_processes};
 use sk_ids::{Entity, GuessId, Name, ObjId, Pid};
-use sk_plain::{Entry, Event, Refusal, Trace, apply_plan, plan_step, strike_guess};
+use sk_plain::{Entry, Event, KeptInput, Refusal, Trace, apply_plan, plan_step, strike_guess};
 use sk_script::{Boot, Input, ObjectKind, ROOT, Register, Val};
 use sk_store::{EntityState, Look, Store};
 use std::alloc::Global;
@@ -308,6 +308,7 @@ fn starts_with_what_is_declared(rt: HostRuntime) -> Result<(), Fail> {
 fn two_events(alloc: Global, pid: Pid, input: Input) -> Result<Trace, Fail> {
     let mut trace = Trace::new(alloc);
     trace.reserve(2)?;
+    let input = trace.keep(&input)?;
     trace.push(Event::Step { pid, input });
     trace.push(Event::Commit(first_guess()?));
     Ok(trace)
@@ -316,11 +317,11 @@ fn two_events(alloc: Global, pid: Pid, input: Input) -> Result<Trace, Fail> {
 #[test]
 fn keeps_events(rt: HostRuntime) -> Result<(), Fail> {
     let step = entry_of(Did::Steps(1))?;
-    let (pid, input) = (step.pid, step.input);
+    let (pid, input) = (step.pid, KeptInput::keep(rt.alloc(), &step.input)?);
     let want = [Event::Step { pid, input }, Event::Commit(first_guess()?)];
     let entries = [want[0].entry(), want[1].entry()];
     assert_eq!(rt; entries, [Some(step), None]);
-    let trace = two_events(rt.alloc(), pid, input)?;
+    let trace = two_events(rt.alloc(), pid, step.input)?;
     assert_eq!(rt; trace.events(), want.as_slice());
     Ok(())
 }

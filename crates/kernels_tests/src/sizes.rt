@@ -1,5 +1,5 @@
 //! What is passed about for each step, and what is kept of it, is small.
-use sk_plain::Plan;
+use sk_plain::{Event, Plan};
 use sk_store::PutBack;
 use sk_undo::{Held, Note, Slot};
 use std::mem::size_of;
@@ -7,6 +7,11 @@ use std::mem::size_of;
 #[test]
 fn a_plan_is_a_few_words(rt: HostRuntime) {
     assert!(rt; size_of::<Plan>() <= 240);
+}
+
+#[test]
+fn an_event_is_a_few_words(rt: HostRuntime) {
+    assert!(rt; size_of::<Event>() <= 48);
 }
 
 #[test]

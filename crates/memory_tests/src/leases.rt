@@ -43,9 +43,9 @@ impl Lender for Holder {
 
     fn call(&mut self, call: &Call) -> Result<(), Refusal> {
         match call {
-            Call::Step(pid, input) => return self.step(*pid, *input),
+            Call::Step(pid, input) => return self.step(*pid, input.input()),
             Call::Guess(pid, input) => {
-                self.guess(*pid, *input)?;
+                self.guess(*pid, input.input())?;
             }
             Call::Commit(id) => {
                 self.commit(*id);

@@ -6,9 +6,10 @@ use rand_pcg::Pcg32;
 use sk_guesses::Status;
 use sk_ids::{Entity, GuessId, Pid, Text};
 use sk_objects::Content;
-use sk_plain::{Plan, Refusal, Trace, View, plan_step};
+use sk_plain::{KeptInput, Plan, Refusal, Trace, View, plan_step};
 use sk_scenario::Call;
 use sk_script::{Input, Scripts};
+use std::alloc::AllocError;
 
 /// How often a run decides its guesses: so many calls of 128.
 #[derive(Clone, Copy, Debug)]
@@ -72,17 +73,22 @@ pub fn process(rng: &mut Pcg32, reckoning: &Reckoning, present: &[Entity]) -> Op
 }
 
 /// A step of a process, which is a guess wherever a random reply fits.
-fn step(rng: &mut Pcg32, reckoning: &Reckoning, scripts: &Scripts, pid: Pid) -> Call {
+fn step(
+    rng: &mut Pcg32,
+    reckoning: &Reckoning,
+    scripts: &Scripts,
+    pid: Pid,
+) -> Result<Call, AllocError> {
     let input = reply(rng);
     let fits = plan_step(&reckoning.store, scripts, pid, &input).is_ok();
-    match (fits, rng.next_u32() % 16) {
-        (true, 0) => Call::Step(pid, input),
-        (true, 1) | (false, 2) => Call::Step(pid, Input::None),
+    let input = KeptInput::keep(reckoning.alloc, &input)?;
+    Ok(match (fits, rng.next_u32() % 16) {
+        (true, 0) | (false, 1) => Call::Step(pid, input),
+        (true, 1) => Call::Step(pid, KeptInput::none()),
         (true, _) | (false, 0) => Call::Guess(pid, input),
-        (false, 1) => Call::Step(pid, input),
-        (false, 3) => Call::Guess(pid, Input::None),
-        (false, _) => Call::Step(pid, Input::None),
-    }
+        (false, 3) => Call::Guess(pid, KeptInput::none()),
+        (false, _) => Call::Step(pid, KeptInput::none()),
+    })
 }
 
 /// Any guess: mostly one whose token is held, and seldom any that was drawn.
@@ -113,16 +119,18 @@ pub fn call(
     present: &[Entity],
     held: &[GuessId],
     drawn: u64,
-) -> Option<Call> {
+) -> Result<Option<Call>, AllocError> {
     let roll = rng.next_u32() % 128;
     if let Some(id) = decided(rng, held, drawn) {
         let decision = decision(roll, habit, id);
         if decision.is_some() {
-            return decision;
+            return Ok(decision);
         }
     }
-    let pid = process(rng, reckoning, present)?;
-    Some(step(rng, reckoning, scripts, pid))
+    let Some(pid) = process(rng, reckoning, present) else {
+        return Ok(None);
+    };
+    Ok(Some(step(rng, reckoning, scripts, pid)?))
 }
 
 /// What a step is answered that the plain kernel plans so, where this much room is left.
@@ -181,11 +189,13 @@ pub fn answer(
         .saturating_sub(undecided);
     match call {
         Call::Step(pid, input) => {
-            step_answer(plan_step(&reckoning.store, scripts, *pid, input), room)
+            let planned = plan_step(&reckoning.store, scripts, *pid, &input.input());
+            step_answer(planned, room)
         }
         Call::Guess(pid, input) => {
-            let planned = plan_step(&reckoning.store, scripts, *pid, input);
-            guess_answer(planned, input, undecided, room, next)
+            let input = input.input();
+            let planned = plan_step(&reckoning.store, scripts, *pid, &input);
+            guess_answer(planned, &input, undecided, room, next)
         }
         Call::Commit(id) | Call::Fail(id) => {
             decision_answer(reckoning.status(trace, *id), held.contains(id))

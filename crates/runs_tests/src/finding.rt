@@ -9,6 +9,8 @@ use std::alloc::{AllocError, AllocFailed};
 pub enum Finding {
     /// A call is not answered as it should be.
     Answer,
+    /// A lease or its hand-in is not answered as it should be.
+    HandIn,
     /// The trace is not what was answered so far.
     Events,
     /// Other entities are present.

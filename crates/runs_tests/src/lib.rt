@@ -9,6 +9,8 @@ mod finding;
 #[cfg(test)]
 mod judge;
 #[cfg(test)]
+mod leasing;
+#[cfg(test)]
 mod lies;
 #[cfg(test)]
 mod numbers;

@@ -1,20 +1,22 @@
 //! Random desks whose server lies: replies of the wrong number or kind, replies that are false, twice or late.
 use crate::calls::{any_of, process};
 use crate::finding::Finding;
+use crate::leasing::{Tally, any_count, given_up, hand_in_answer, lease_refusal};
 use crate::numbers::runs_after;
 use crate::reckoning::Reckoning;
 use crate::scenarios::{Kind, scenario};
 use crate::worlds::{Course, held};
 use rand_core::Rng;
 use rand_pcg::Pcg32;
-use sk_client::{Desk, Given, ReplyRefusal};
+use sk_client::{Desk, Given, ReplyRefusal, Turn};
 use sk_guesses::Status;
-use sk_ids::{GuessId, Text};
-use sk_kernel::Kernel;
+use sk_ids::{GuessId, Pid, Text};
+use sk_kernel::{HandIn, Kernel};
 use sk_objects::Content;
 use sk_objects::content::LAST_VERSION;
 use sk_plain::{Refusal, Trace};
 use sk_scenario::{Declarations, Scenario};
+use sk_script::Lease;
 use sk_server::{Answer, Ask, Reply, Request};
 use std::alloc::{Alloc, Global};
 use std::collections::VecDeque;
@@ -24,6 +26,13 @@ use std::process::Abort;
 /// How many desks there are in a test.
 const DESKS: u64 = 625;
 
+/// A process that waits for the reply to a request, which it made without a guess.
+#[derive(Clone, Copy, Debug)]
+struct Asked {
+    pid: Pid,
+    number: u64,
+}
+
 /// What has come of a desk, and the requests that were taken from it and have no reply.
 #[derive(Drop)]
 struct Talk<'a> {
@@ -31,7 +40,9 @@ struct Talk<'a> {
     declarations: &'a Declarations,
     sent: VecDeque<Request>,
     taken: u64,
+    asked: Vec<Asked>,
     course: Course,
+    hand_ins: Tally,
 }
 
 /// Any content, also of the last version.
@@ -135,6 +146,7 @@ impl Talk<'_> {
         match (desk.give_reply(reply), foreseen) {
             (Ok(given), Ok(foreseen)) => {
                 self.sent.pop_front();
+                self.asked.retain(|asked| asked.number != reply.number);
                 held(given == foreseen, Finding::Answer)?;
                 let last = desk.kernel().trace().events().last();
                 self.course.gave(last, given)
@@ -173,11 +185,89 @@ impl Talk<'_> {
         };
         match desk.turn(pid) {
             Ok(turn) => {
+                if let Turn::Asked(number) = turn {
+                    self.asked.push(Asked { pid, number })?;
+                }
                 let last = desk.kernel().trace().events().last();
                 self.course.turned(last, pid, turn)
             }
             Err(refusal) => held(refusal != Refusal::Memory, Finding::Answer),
         }
+    }
+
+    /// Leases any process, which is answered as foreseen.
+    fn lend(
+        &self,
+        desk: &Desk,
+        rng: &mut Pcg32,
+        reckoning: &Reckoning,
+    ) -> Result<Option<Lease>, Finding> {
+        let present = reckoning.plain.entities()?;
+        let Some(pid) = process(rng, reckoning, &present) else {
+            return Ok(None);
+        };
+        let waits = self.asked.iter().any(|asked| asked.pid == pid);
+        let blocked = waits.then_some(Refusal::Blocked);
+        let foreseen = lease_refusal(reckoning, pid).or(blocked);
+        match desk.lease(pid) {
+            Ok(lease) if foreseen.is_none() => {
+                let mut lease = lease;
+                lease.run(any_count(rng));
+                Ok(Some(lease))
+            }
+            Ok(lease) => {
+                lease.give_up();
+                Err(Finding::HandIn)
+            }
+            Err(why) => {
+                held(foreseen == Some(why), Finding::HandIn)?;
+                Ok(None)
+            }
+        }
+    }
+
+    /// Hands in a lease, which is answered as foreseen.
+    fn hand_in(
+        &mut self,
+        desk: &mut Desk,
+        reckoning: &Reckoning,
+        lease: Lease,
+    ) -> Result<(), Finding> {
+        let places = desk.kernel().room().saturating_sub(self.asked.len());
+        let foreseen = hand_in_answer(reckoning, &lease, places);
+        let (pid, count) = (lease.lent().pid, lease.count());
+        let is_as_lent = desk.kernel().as_lent(&lease);
+        let answer = given_up(desk.hand_in(lease));
+        held(answer == foreseen, Finding::HandIn)?;
+        held(
+            is_as_lent == (answer != Err(HandIn::Stale)),
+            Finding::HandIn,
+        )?;
+        self.hand_ins.note(count, answer);
+        if answer.is_err() {
+            return Ok(());
+        }
+        let events = desk.kernel().trace().events();
+        self.course.handed_in(events, pid, count)
+    }
+
+    /// Hands in the lease that is out, or leases any process where none is.
+    fn leases(
+        &mut self,
+        desk: &mut Desk,
+        rng: &mut Pcg32,
+        reckoning: &Reckoning,
+        out: &mut Option<Lease>,
+    ) -> Result<(), Finding> {
+        if let Some(lease) = out.take() {
+            return self.hand_in(desk, reckoning, lease);
+        }
+        if let Some(lease) = self.lend(desk, rng, reckoning)?
+            && let Some(before) = out.replace(lease)
+        {
+            before.give_up();
+        }
+        Ok(())
     }
 
     /// Judges a kernel and its requests by the plain kernel.
@@ -194,50 +284,66 @@ impl Talk<'_> {
         Ok(reckoning)
     }
 
-    /// One thing more that happens to a desk: a request is taken, a reply given, or a turn taken.
+    /// One thing more that happens to a desk: a request is taken, a reply given, a process leased,
+    /// a lease handed in, or a turn taken.
     fn happen(
         &mut self,
         desk: &mut Desk,
         rng: &mut Pcg32,
         reckoning: &Reckoning,
+        out: &mut Option<Lease>,
     ) -> Result<Reckoning, Finding> {
-        match rng.next_u32() % 8 {
-            0 => self.take(desk)?,
-            1 | 2 => {
+        match rng.next_u32() % 16 {
+            0 | 1 => self.take(desk)?,
+            2..=5 => {
                 if let Some(reply) = lie(rng, self.due()) {
                     self.give(desk, reckoning, reply)?;
                 }
             }
+            6 | 7 => self.leases(desk, rng, reckoning, out)?,
             _ => self.turn(desk, rng, reckoning)?,
         }
         self.judge(desk)
     }
 }
 
-/// So many things happen to a desk; says how many of its requests had a reply.
+/// How many requests of a desk had a reply, and how many hand-ins there were.
+#[derive(Clone, Copy, Debug)]
+struct Talked {
+    replied: u64,
+    hand_ins: Tally,
+}
+
+/// So many things happen to a desk.
 fn talk_to(
     alloc: Global,
     declarations: &Declarations,
     desk: &mut Desk,
     rng: &mut Pcg32,
     count: u32,
-) -> Result<u64, Finding> {
+    out: &mut Option<Lease>,
+) -> Result<Talked, Finding> {
     let mut talk = Talk {
         alloc,
         declarations,
         sent: VecDeque::new(alloc),
         taken: 0,
+        asked: Vec::new(alloc),
         course: Course::new(alloc),
+        hand_ins: Tally::default(),
     };
     let mut reckoning = talk.judge(desk)?;
     for _ in 0..count {
-        reckoning = talk.happen(desk, rng, &reckoning)?;
+        reckoning = talk.happen(desk, rng, &reckoning, out)?;
     }
-    Ok(talk.course.replied())
+    Ok(Talked {
+        replied: talk.course.replied(),
+        hand_ins: talk.hand_ins,
+    })
 }
 
 /// The desk of a number.
-fn desk(alloc: Global, number: u64, kind: Kind) -> Result<u64, Finding> {
+fn desk(alloc: Global, number: u64, kind: Kind) -> Result<Talked, Finding> {
     let mut rng = Pcg32::new(number, 5);
     let text = scenario(alloc, &mut rng, kind)?;
     let scenario = Scenario::parse(alloc, &text)?;
@@ -246,22 +352,32 @@ fn desk(alloc: Global, number: u64, kind: Kind) -> Result<u64, Finding> {
     let kernel = Kernel::boot(alloc, declarations.number(), boot, limit)?;
     let mut desk = Desk::new(alloc, kernel);
     let count = 20 + rng.next_u32() % 60;
-    let told = talk_to(alloc, declarations, &mut desk, &mut rng, count);
+    let mut out = None;
+    let told = talk_to(alloc, declarations, &mut desk, &mut rng, count, &mut out);
+    if let Some(lease) = out {
+        lease.give_up();
+    }
     desk.abandon();
     told
 }
 
-/// So many desks from a number on, in each of which nothing is found; some requests in them have replies.
+/// So many desks from a number on, in each of which nothing is found; some requests in them have
+/// replies, some hand-ins are taken, and some are stale.
 fn desks<R: Abort + Env + Alloc>(rt: &R, alloc: Global, kind: Kind, from: u64) {
     let mut replied = 0u64;
+    let mut hand_ins = Tally::default();
     let first = runs_after(rt).saturating_add(from);
     for number in first..first.saturating_add(DESKS) {
         match desk(alloc, number, kind) {
-            Ok(count) => replied = replied.saturating_add(count),
+            Ok(talked) => {
+                replied = replied.saturating_add(talked.replied);
+                hand_ins.add(talked.hand_ins);
+            }
             Err(finding) => panic!(rt; "desk {number}, {kind:?}: {finding:?}"),
         }
     }
     assert!(rt; replied > 0, "no reply was given");
+    assert!(rt; hand_ins.taken > 0 && hand_ins.stale > 0, "{hand_ins:?}");
 }
 
 #[test]

@@ -27,7 +27,7 @@ pub struct Said {
 /// What a trace comes to.
 #[derive(Drop)]
 pub struct Reckoning {
-    alloc: Global,
+    pub alloc: Global,
     entries: Vec<Entry>,
     /// The plain kernel after the struck record.
     pub plain: Plain,

@@ -1,15 +1,17 @@
 //! The runs.
-use crate::calls::{Habit, answer, call};
+use crate::calls::{Habit, answer, call, process};
 use crate::finding::Finding;
 use crate::judge::judge;
+use crate::leasing::{Tally, any_count, hand_in_answer, lease_refusal};
 use crate::numbers::runs_after;
 use crate::reckoning::Reckoning;
 use crate::scenarios::{Kind, scenario};
 use crate::session::{Answer, Session};
 use rand_core::Rng;
 use rand_pcg::Pcg32;
-use sk_ids::{Entity, GuessId};
-use sk_plain::{Event, Trace};
+use sk_ids::{Entity, GuessId, Pid};
+use sk_kernel::HandIn;
+use sk_plain::{Event, KeptInput, Trace};
 use sk_scenario::{Call, Declarations, Scenario};
 use std::alloc::{Alloc, AllocError, Global};
 use std::collections::BTreeSet;
@@ -30,6 +32,7 @@ struct Course {
     held: Vec<GuessId>,
     drawn: u64,
     seen: BTreeSet<Entity>,
+    hand_ins: Tally,
 }
 
 impl Course {
@@ -39,7 +42,27 @@ impl Course {
             held: Vec::new(alloc),
             drawn: 0,
             seen: BTreeSet::new(alloc),
+            hand_ins: Tally::default(),
         }
+    }
+
+    /// Notes what a hand-in of so many instructions of a process was answered.
+    fn handed_in(
+        &mut self,
+        pid: Pid,
+        count: u32,
+        answer: Result<(), HandIn>,
+    ) -> Result<(), AllocError> {
+        self.hand_ins.note(count, answer);
+        if answer.is_err() {
+            return Ok(());
+        }
+        for _ in 0..count {
+            self.trace.reserve(1)?;
+            let input = KeptInput::none();
+            self.trace.push(Event::Step { pid, input });
+        }
+        Ok(())
     }
 
     /// Notes what a call was answered.
@@ -48,19 +71,14 @@ impl Course {
         match call {
             Call::Step(pid, input) => {
                 if told == Answer::Stepped {
-                    self.trace.push(Event::Step {
-                        pid: *pid,
-                        input: *input,
-                    });
+                    let (pid, input) = (*pid, self.trace.keep(&input.input())?);
+                    self.trace.push(Event::Step { pid, input });
                 }
             }
             Call::Guess(pid, input) => {
                 if let Answer::Guessed(id) = told {
-                    self.trace.push(Event::Guess {
-                        id,
-                        pid: *pid,
-                        input: *input,
-                    });
+                    let (pid, input) = (*pid, self.trace.keep(&input.input())?);
+                    self.trace.push(Event::Guess { id, pid, input });
                     self.held.push(id)?;
                     self.drawn = id.number();
                 }
@@ -80,6 +98,33 @@ impl Course {
         }
         Ok(())
     }
+}
+
+/// Hands in the lease that is out, or leases any process where none is, and judges the answer.
+fn leases(
+    rng: &mut Pcg32,
+    session: &mut Session,
+    course: &mut Course,
+    reckoning: &Reckoning,
+) -> Result<(), Finding> {
+    if let Some(lease) = session.lent() {
+        let want = hand_in_answer(reckoning, lease, session.kernel().room());
+        let (pid, count) = (lease.lent().pid, lease.count());
+        let is_as_lent = session.kernel().as_lent(lease);
+        if session.hand_in() != want || is_as_lent != (want != Err(HandIn::Stale)) {
+            return Err(Finding::HandIn);
+        }
+        course.handed_in(pid, count, want)?;
+        return Ok(());
+    }
+    let present = reckoning.plain.entities()?;
+    let Some(pid) = process(rng, reckoning, &present) else {
+        return Ok(());
+    };
+    if session.lease(pid, any_count(rng)).err() != lease_refusal(reckoning, pid) {
+        return Err(Finding::HandIn);
+    }
+    Ok(())
 }
 
 /// Makes a random call, and judges its answer and what it leaves.
@@ -103,7 +148,8 @@ fn one_call(
         &present,
         &course.held,
         course.drawn,
-    ) else {
+    )?
+    else {
         return Ok(());
     };
     let next = GuessId::new(course.drawn.saturating_add(1)).unwrap_or_default();
@@ -124,7 +170,7 @@ fn one_call(
     Ok(())
 }
 
-/// Makes so many random calls.
+/// Makes so many random calls, leases and hand-ins; says how many hand-ins there were.
 fn play(
     rt: &impl Abort,
     alloc: Global,
@@ -133,19 +179,23 @@ fn play(
     declarations: &Declarations,
     session: &mut Session,
     calls: u32,
-) -> Result<(), Finding> {
+) -> Result<Tally, Finding> {
     let mut course = Course::new(alloc);
     let mut reckoning = Reckoning::of(alloc, declarations.boot(), &course.trace)?;
     for _ in 0..calls {
-        one_call(
-            rt,
-            rng,
-            habit,
-            declarations,
-            session,
-            &mut course,
-            &reckoning,
-        )?;
+        if rng.next_u32() % 6 == 0 {
+            leases(rng, session, &mut course, &reckoning)?;
+        } else {
+            one_call(
+                rt,
+                rng,
+                habit,
+                declarations,
+                session,
+                &mut course,
+                &reckoning,
+            )?;
+        }
         reckoning = Reckoning::of(alloc, declarations.boot(), &course.trace)?;
         judge(
             session.kernel(),
@@ -156,7 +206,7 @@ fn play(
             &mut course.seen,
         )?;
     }
-    Ok(())
+    Ok(course.hand_ins)
 }
 
 /// What all runs of a kind have in common.
@@ -170,7 +220,7 @@ struct Manner {
 }
 
 /// The run of a number.
-fn run(rt: &impl Abort, alloc: Global, number: u64, manner: Manner) -> Result<(), Finding> {
+fn run(rt: &impl Abort, alloc: Global, number: u64, manner: Manner) -> Result<Tally, Finding> {
     let mut rng = Pcg32::new(number, 1);
     let text = scenario(alloc, &mut rng, manner.kind)?;
     let scenario = Scenario::parse(alloc, &text)?;
@@ -191,16 +241,18 @@ fn run(rt: &impl Abort, alloc: Global, number: u64, manner: Manner) -> Result<()
     told
 }
 
-/// So many runs, in each of which the kernel is what its trace comes to after each call.
+/// So many runs, in each of which the kernel is what its trace comes to after each call. Some
+/// hand-ins in them are taken, and some are stale.
 fn runs<R: Abort + Env + Alloc>(rt: &R, alloc: Global, count: u64, manner: Manner) {
+    let mut hand_ins = Tally::default();
     let first = runs_after(rt).saturating_add(1);
     for number in first..first.saturating_add(count) {
-        assert_eq!(rt;
-            run(rt, alloc, number, manner),
-            Ok(()),
-            "run {number}, {manner:?}"
-        );
+        match run(rt, alloc, number, manner) {
+            Ok(tally) => hand_ins.add(tally),
+            Err(finding) => panic!(rt; "run {number}, {manner:?}: {finding:?}"),
+        }
     }
+    assert!(rt; hand_ins.taken > 0 && hand_ins.stale > 0, "{hand_ins:?}");
 }
 
 /// Short runs of a kind with these habits.

@@ -1,11 +1,13 @@
 //! A kernel at play, with the tokens of its guesses.
 ghost use Rattle.std.specs.Prelude.{◌≡◌, ℕ, vec_len};
 
+use crate::leasing::given_up;
 use sk_guesses::Guess;
-use sk_ids::GuessId;
-use sk_kernel::{FailRefusal, Kernel, Outcome, Stranger};
+use sk_ids::{GuessId, Pid};
+use sk_kernel::{FailRefusal, HandIn, Kernel, Outcome, Stranger};
 use sk_plain::Refusal;
 use sk_scenario::{Call, Declarations};
+use sk_script::Lease;
 use std::alloc::{AllocError, Global};
 use std::process::Abort;
 
@@ -21,10 +23,11 @@ pub enum Answer {
     Refused(Refusal),
 }
 
-/// A kernel and the tokens that are not spent.
+/// A kernel, the tokens that are not spent, and a lease that is out.
 pub struct Session {
     kernel: Kernel,
     tokens: Vec<Guess>,
+    lease: Option<Lease>,
 }
 
 impl Session {
@@ -39,6 +42,7 @@ impl Session {
         Ok(Session {
             kernel,
             tokens: Vec::new(alloc),
+            lease: None,
         })
     }
 
@@ -47,16 +51,40 @@ impl Session {
         &self.kernel
     }
 
+    /// The lease that is out.
+    pub fn lent(&self) -> Option<&Lease> {
+        self.lease.as_ref()
+    }
+
+    /// Leases a process, and runs up to so many of its private instructions. A lease that is out is
+    /// given up.
+    pub fn lease(&mut self, pid: Pid, count: u32) -> Result<(), Refusal> {
+        let mut lease = self.kernel.lease(pid)?;
+        lease.run(count);
+        if let Some(before) = self.lease.replace(lease) {
+            before.give_up();
+        }
+        Ok(())
+    }
+
+    /// Hands in the lease that is out, where one is; it is given up where it comes back.
+    pub fn hand_in(&mut self) -> Result<(), HandIn> {
+        match self.lease.take() {
+            Some(lease) => given_up(self.kernel.hand_in(lease)),
+            None => Ok(()),
+        }
+    }
+
     /// Makes a call.
     pub fn execute(&mut self, rt: &impl Abort, call: &Call) -> Result<Answer, AllocError> {
         match call {
-            Call::Step(pid, input) => Ok(match self.kernel.step(*pid, *input) {
+            Call::Step(pid, input) => Ok(match self.kernel.step(*pid, input.input()) {
                 Ok(()) => Answer::Stepped,
                 Err(refusal) => Answer::Refused(refusal),
             }),
             Call::Guess(pid, input) => {
                 self.tokens.reserve(1)?;
-                Ok(match self.kernel.create_speculation(*pid, *input) {
+                Ok(match self.kernel.create_speculation(*pid, input.input()) {
                     Ok(token) => {
                         let id = token.id();
                         self.tokens.push_reserved(token);
@@ -90,12 +118,19 @@ impl Session {
         }
     }
 
-    /// Spends the tokens that are left by commits, and ends.
+    /// Spends the tokens that are left by commits, gives up the lease that is out, and ends.
     pub fn end(self, rt: &impl Abort) {
         let mut session = self;
         session.spend(rt);
-        let Session { kernel: _, tokens } = session;
+        let Session {
+            kernel: _,
+            tokens,
+            lease,
+        } = session;
         tokens.destroy_empty();
+        if let Some(lease) = lease {
+            lease.give_up();
+        }
     }
 }
 

@@ -13,7 +13,7 @@ use sk_client::{Cause, Desk, Given, Turn, World, WorldAnswer, WorldEvent};
 use sk_ids::{Entity, GuessId, Name, Pid, Text};
 use sk_kernel::Kernel;
 use sk_objects::{Content, Value};
-use sk_plain::{Entry, Event, Plain, Refusal, View, strike};
+use sk_plain::{Entry, Event, KeptInput, Plain, Refusal, View, strike};
 use sk_scenario::{Declarations, Remote, Scenario};
 use sk_script::Input;
 use sk_server::{Answer, EditRefusal, Reply, Server};
@@ -153,6 +153,18 @@ impl Course {
         }
     }
 
+    /// Notes a hand-in of so many steps of a process, with which these events end.
+    pub fn handed_in(&mut self, events: &[Event], pid: Pid, count: u32) -> Result<(), Finding> {
+        let last = events.iter().rev().take(count as usize);
+        let step = Event::Step {
+            pid,
+            input: KeptInput::none(),
+        };
+        let steps = last.filter(|event| **event == step).count();
+        self.length = self.length.saturating_add(count as usize);
+        held(steps == count as usize, Finding::Events)
+    }
+
     /// Notes what a reply was answered, after which the trace ends so.
     pub fn gave(&mut self, last: Option<&Event>, given: Given) -> Result<(), Finding> {
         self.replied = self.replied.saturating_add(1);
@@ -250,8 +262,16 @@ fn is_step_of(last: Option<&Event>, process: Pid) -> bool {
 }
 
 fn is_guess_of(last: Option<&Event>, pid: Pid, id: GuessId) -> bool {
-    let input = Input::Good;
-    is_event(last, &Event::Guess { id, pid, input })
+    match last {
+        Some(
+            Event::Guess {
+                id: number,
+                pid: process,
+                input,
+            },
+        ) => *number == id && *process == pid && input.input() == Input::Good,
+        _ => false,
+    }
 }
 
 /// The copy of a name.

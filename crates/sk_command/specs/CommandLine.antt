@@ -48,6 +48,9 @@ play_of_file = with_rule (with_rule (new_app (codes "play")) file_rule) trace_ru
 abbrev pub play_command : App
 play_command = with_rule (with_rule play_of_file steps_rule) counts_rule
 
+abbrev pub talk_command : App
+talk_command = with_rule (new_app (codes "talk")) file_rule
+
 abbrev pub plain_command : App
 plain_command = with_rule (new_app (codes "plain")) file_rule
 
@@ -67,20 +70,22 @@ bare_command_line = on_top wants_command (new_app (codes "speculate"))
 
 abbrev pub command_line : App
 command_line =
-    with_subcommand (with_subcommand (with_subcommand (with_subcommand bare_command_line play_command.top) plain_command.top) replay_command.top) work_command.top
+    with_subcommand (with_subcommand (with_subcommand (with_subcommand (with_subcommand bare_command_line play_command.top) talk_command.top) plain_command.top) replay_command.top) work_command.top
 
 -- ---- what words ask for
 
--- to play the scenario of a file and show so much beside it, to run plainly what the trace of a file leaves, to replay that trace, or to let
+-- to play the scenario of a file and show so much beside it, to play what it declares by the lines of the standard input, to run plainly what the trace of a file leaves, to replay that trace, or to let
 -- so many workers take at most so many turns each of a scenario's processes
 pub data Wish : Type 0 where
   Play : Text → Shows → Wish
+  Talk : Text → Wish
   Plain : Text → Wish
   Replay : Text → Wish
   Work : Text → ℕ → ℕ → Wish
 
 abbrev pub wish_file : Wish → Text
 wish_file (Play file shows) = file
+wish_file (Talk file) = file
 wish_file (Plain file) = file
 wish_file (Replay file) = file
 wish_file (Work file workers turns) = file
@@ -88,12 +93,14 @@ wish_file (Work file workers turns) = file
 -- the wish is one for threads
 abbrev pub needs_threads : Wish → Bool
 needs_threads (Play file shows) = false
+needs_threads (Talk file) = false
 needs_threads (Plain file) = false
 needs_threads (Replay file) = false
 needs_threads (Work file workers turns) = true
 
 abbrev pub wish_of : Job → Wish
 wish_of (jobs.Play file shows) = Play file.now shows
+wish_of (jobs.Talk file) = Talk file.now
 wish_of (jobs.Plain file) = Plain file.now
 wish_of (jobs.Replay file) = Replay file.now
 wish_of (jobs.Work file workers turns) = Work file.now workers turns
@@ -123,6 +130,7 @@ wish_to_work rows file =
 abbrev pub wish_for : Text → List Row → Text → Option Wish
 wish_for command rows file =
     if bytes_eq command (codes "play") then Some (Play file (shows_found rows))
+    else if bytes_eq command (codes "talk") then Some (Talk file)
     else if bytes_eq command (codes "plain") then Some (Plain file)
     else if bytes_eq command (codes "replay") then Some (Replay file)
     else if bytes_eq command (codes "work") then wish_to_work rows file else None
@@ -142,6 +150,7 @@ wished words = wish_found (subcommand_of command_line words)
 -- the workers of a job and their turns are within their bounds
 abbrev pub IsWithinBounds : Job → Type 0
 IsWithinBounds (jobs.Play file shows) = ⊤
+IsWithinBounds (jobs.Talk file) = ⊤
 IsWithinBounds (jobs.Plain file) = ⊤
 IsWithinBounds (jobs.Replay file) = ⊤
 IsWithinBounds (jobs.Work file workers turns) = IsInRange 1 8 workers × IsInRange 1 1000000 turns

@@ -8,7 +8,7 @@ ghost use Rattle.clap.specs.Simple.{app_of, subcommand_rows_of};
 ghost use Rattle.clap.specs.Values.{kind_of};
 ghost use Rattle.clap.specs.Walk.{rows_of, rule_of};
 ghost use Rattle.clap.specs.declared.builder.command.Command.TheViews.{out-Command as fields_of};
-ghost use Rattle.sk_command.specs.CommandLine.{bare_command_line, command_line, play_of_file, play_command, plain_command, replay_command, work_command, file_rule, trace_rule, steps_rule, counts_rule, workers_rule, turns_rule, has_flag, shows_found, number_said, number_found, wish_to_work, IsWithinBounds, wish_of, wish_found, wished, faults_of, wish_file, needs_threads};
+ghost use Rattle.sk_command.specs.CommandLine.{bare_command_line, command_line, play_of_file, play_command, talk_command, plain_command, replay_command, work_command, file_rule, trace_rule, steps_rule, counts_rule, workers_rule, turns_rule, has_flag, shows_found, number_said, number_found, wish_to_work, IsWithinBounds, wish_of, wish_found, wished, faults_of, wish_file, needs_threads};
 ghost use Rattle.sk_command.specs.Ends.{EndsFor, EndsWithHelp, IsFlushed};
 
 use crate::end::{End, flushed};
@@ -38,6 +38,10 @@ pub enum Job<'a> {
         file: &'a str,
         shows: Shows,
     },
+    /// What a scenario declares is played by the lines of the standard input.
+    Talk {
+        file: &'a str,
+    },
     /// What a trace leaves is run without guesses.
     Plain {
         file: &'a str,
@@ -61,6 +65,7 @@ impl<'a> Job<'a> {
     {
         match self {
             Job::Play { file, .. }
+            | Job::Talk { file }
             | Job::Plain { file }
             | Job::Replay { file }
             | Job::Work { file, .. } => file,
@@ -73,13 +78,15 @@ impl<'a> Job<'a> {
     {
         match self {
             Job::Work { .. } => true,
-            Job::Play { .. } | Job::Plain { .. } | Job::Replay { .. } => false,
+            Job::Play { .. } | Job::Talk { .. } | Job::Plain { .. } | Job::Replay { .. } => false,
         }
     }
 }
 
 const PLAY_HELP: &str =
     "Plays the events of a scenario and prints each answer, and then the report.";
+
+const TALK_HELP: &str = "Answers the events of standard input one by one, each at once.";
 
 const PLAIN_HELP: &str =
     "Strikes a trace, runs what it leaves without guesses and prints the report.";
@@ -114,6 +121,8 @@ For `plain` and `replay` then comes the line `trace`, and below it what happened
   guess G PID INPUT     the process took a step on a guessed input
   commit G              the guess was right
   fail G                the guess was wrong
+For `talk` the file ends there, or with the line `world`. Then each event is a
+line of standard input; the line `report` prints the report, and `end` ends.
 `work` takes any section, and runs none of its lines.
 INPUT is none, good, fresh V LIT or stale V LIT.
 
@@ -209,6 +218,16 @@ fn play<'a>(alloc: Global) -> Result<Command<'a>, AllocError>
         .arg(counts_arg(alloc))
 }
 
+fn talk<'a>(alloc: Global) -> Result<Command<'a>, AllocError>
+    ensures app { IfOk result (λ command. app_of command ≡ talk_command) }
+    ensures local { IfOk result (λ command. (fields_of command).has_globals ≡ false) }
+{
+    Command::new(alloc, "talk")
+        .about(TALK_HELP)
+        .after_help(FORMS)
+        .arg(file_arg(alloc))
+}
+
 fn plain<'a>(alloc: Global) -> Result<Command<'a>, AllocError>
     ensures app { IfOk result (λ command. app_of command ≡ plain_command) }
     ensures local { IfOk result (λ command. (fields_of command).has_globals ≡ false) }
@@ -257,6 +276,7 @@ fn command<'a>(alloc: Global) -> Result<Command<'a>, AllocError>
 {
     without_commands(alloc)
         .subcommand(play(alloc)?)?
+        .subcommand(talk(alloc)?)?
         .subcommand(plain(alloc)?)?
         .subcommand(replay(alloc)?)?
         .subcommand(work(alloc)?)
@@ -320,6 +340,7 @@ fn job_of<'a>(matches: &ArgMatches<'a>) -> Option<Job<'a>>
             file,
             shows: shows_of(words),
         }),
+        "talk" => Some(Job::Talk { file }),
         "plain" => Some(Job::Plain { file }),
         "replay" => Some(Job::Replay { file }),
         "work" => work_on(file, words),

@@ -8,6 +8,7 @@ use sk_kernel::Kernel;
 use std::alloc::{AllocError, Global};
 
 /// What is counted of a kernel since it was booted.
+#[repr(C)]
 #[derive(Clone, Copy, Debug, PartialEq, Eq)]
 pub struct Counts {
     /// The guesses that were made.

@@ -61,18 +61,18 @@ fn go_on(
     ensures { OnOk result (seen standing.new
         ≡ recorded (plain scripts.now) start.now (seen standing.old) (image event.now)) }
 {
-    match *event {
+    match event {
         Event::Step { pid, input } => {
-            let guess = None;
+            let (pid, input, guess) = (*pid, input.input(), None);
             standing.entries.push(Entry { pid, input, guess })?;
         }
         Event::Guess { id, pid, input } => {
-            let guess = Some(id);
+            let (pid, input, guess) = (*pid, input.input(), Some(*id));
             standing.entries.push(Entry { pid, input, guess })?;
-            standing.undecided.push(id)?;
+            standing.undecided.push(*id)?;
         }
-        Event::Commit(id) => standing.undecided.retain(|other| *other != id),
-        Event::Fail(id) => return fail(alloc, start, scripts, standing, id),
+        Event::Commit(id) => standing.undecided.retain(|other| *other != *id),
+        Event::Fail(id) => return fail(alloc, start, scripts, standing, *id),
     }
     Ok(())
 }

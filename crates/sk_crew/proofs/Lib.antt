@@ -1,1 +1,2 @@
 mod Ahead
+mod Duties

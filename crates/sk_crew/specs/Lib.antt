@@ -1,4 +1,5 @@
-pub mod Faults
+pub mod Crewed
 pub mod Rounds
 pub mod Processes
 pub mod Ahead
+pub mod Duties

@@ -1,5 +1,6 @@
 //! What worker 0 does beside its turns.
 ghost use Rattle.std.specs.Prelude.{◌≡◌};
+ghost use Rattle.sk_crew.specs.Duties.{OnlyReplies};
 
 use crate::ends::{Inbox, Outbox};
 use sk_server::{Reply, Request};
@@ -26,7 +27,8 @@ impl<'a> Clerk<'a> {
         shared: &Shared<L>,
         worker: Worker<L>,
     ) -> (Clerk<'a>, Worker<L>)
-        ensures { result.1.number ≡ worker.number }
+        ensures number { result.1.number ≡ worker.number }
+        ensures replies { OnlyReplies worker result.1 }
     {
         self.move_out(rt, shared).move_in(rt, shared, worker)
     }
@@ -59,7 +61,8 @@ impl<'a> Clerk<'a> {
         shared: &Shared<L>,
         worker: Worker<L>,
     ) -> (Clerk<'a>, Worker<L>)
-        ensures { result.1.number ≡ worker.number }
+        ensures number { result.1.number ≡ worker.number }
+        ensures replies { OnlyReplies worker result.1 }
     {
         let Clerk {
             requests,
@@ -89,7 +92,8 @@ fn give<L: Ledger, R: Wait>(
     worker: Worker<L>,
     reply: Option<Reply>,
 ) -> (Worker<L>, Option<Reply>)
-    ensures { result.0.number ≡ worker.number }
+    ensures number { result.0.number ≡ worker.number }
+    ensures replies { OnlyReplies worker result.0 }
 {
     let Some(reply) = reply else {
         return (worker, None);

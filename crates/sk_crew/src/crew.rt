@@ -1,9 +1,10 @@
 //! A crew, from its desk and server to the history of its calls.
 ghost use Rattle.std.specs.Prelude.{◌≡◌, ◌≤◌, ◌<◌, [], vec_len, IfOk, IfErr};
 ghost use Rattle.sk_client.specs.Desk.{opened, pending};
-ghost use Rattle.sk_workers.specs.History.{Runs};
+ghost use Rattle.sk_workers.specs.History.{Runs, AreFresh};
 ghost use Rattle.sk_workers.specs.Closing.{numbers, AreDistinct, IsClosed};
-ghost use Rattle.sk_crew.specs.Faults.{start_of, HasCause};
+ghost use Rattle.sk_crew.specs.Crewed.{IsCrewed, IsRefused, HasCause};
+ghost use Rattle.sk_crew.specs.Duties.{AllKeepTo};
 
 use crate::clerk::Clerk;
 use crate::ends::{Inbox, Line, Outbox};
@@ -51,6 +52,7 @@ fn run_served<L: Ledger + Send + Sync, R: Threads + Wait + Sync, G: Gate + Sync>
     requires { 0 < vec_len workers }
     ensures numbers { IfOk result (λ back. numbers back.0.items ≡ numbers workers.items) }
     ensures count { IfOk result (λ back. vec_len back.0 ≡ vec_len workers) }
+    ensures duties { IfOk result (λ back. AreFresh plan.workers workers.items → AllKeepTo plan.workers ground.processes.items back.0.items) }
     ensures fault { IfErr result (λ fault. fault ≡ CrewFault.Memory) }
 {
     let Ground {
@@ -119,9 +121,10 @@ pub fn run_crew<L: Ledger + Send + Sync, R: Threads + Wait + Sync, G: Gate + Syn
     requires count { (1 ≤ plan.workers) × (plan.workers ≤ 8) }
     requires opened { desk ≡ opened desk.kernel }
     requires trace { desk.kernel.trace ≡ [] }
+    ensures crewed { IfOk result (λ done. IsCrewed plan.workers desk done.0.entries.items done.0.desk) }
     ensures legal { IfOk result (λ done. Runs desk done.0.entries.items done.0.desk) }
     ensures settled { IfOk result (λ done. pending done.0.desk ≡ []) }
-    ensures fault { IfErr result (HasCause (start_of desk)) }
+    ensures fault { IfErr result (HasCause plan.workers desk) }
 {
     let ground = match Ground::new(alloc, &desk) {
         Ok(ground) => ground,
@@ -138,7 +141,10 @@ pub fn run_crew<L: Ledger + Send + Sync, R: Threads + Wait + Sync, G: Gate + Syn
         }
     };
     match run_served(rt, &shared, workers, server, ground, plan, gate) {
-        Ok((workers, server)) => Ok((close(shared, workers)?, server)),
+        Ok((workers, server)) => match close(shared, workers) {
+            Ok(history) => Ok((history, server)),
+            Err(fault) => Err(fault),
+        },
         Err(fault) => {
             shared.reopen().abandon();
             Err(fault)
@@ -151,7 +157,7 @@ fn close<L: Ledger>(shared: Shared<L>, workers: Vec<Worker<L>>) -> Result<Histor
     requires workers { vec_len workers ≡ L.parts }
     requires distinct { AreDistinct workers.items }
     ensures closed { IfOk result (λ history. IsClosed shared workers.items history.entries.items history.desk) }
-    ensures fault { IfErr result (HasCause shared) }
+    ensures fault { IfErr result (IsRefused shared workers.items) }
 {
     match shared.close(workers) {
         Ok(history) => Ok(history),

@@ -2,6 +2,7 @@
 ghost use Rattle.std.specs.Prelude.{◌≡◌, flat_map, IfOk};
 ghost use Rattle.std.specs.FinMap as map;
 ghost use Rattle.sk_kernel.specs.Kernel.{state_at};
+ghost use Rattle.sk_crew.specs.Duties.{processes_of};
 ghost use Rattle.sk_crew.specs.Processes.{process_of};
 
 use crate::ends::Line;
@@ -34,7 +35,9 @@ fn processes(alloc: Global, kernel: &Kernel) -> Result<Vec<Pid>, AllocError>
 }
 
 impl Ground {
-    pub(crate) fn new(alloc: Global, desk: &Desk) -> Result<Ground, AllocError> {
+    pub(crate) fn new(alloc: Global, desk: &Desk) -> Result<Ground, AllocError>
+        ensures { IfOk result (λ ground. ground.processes.items ≡ processes_of desk.now) }
+    {
         let first = desk.first();
         Ok(Ground {
             processes: processes(alloc, desk.kernel())?,

@@ -1,5 +1,6 @@
 //! What is left when all threads have ended is served by rising number.
 ghost use Rattle.std.specs.Prelude.{◌≡◌, IfOk, IfErr};
+ghost use Rattle.sk_crew.specs.Duties.{OnlyReplies};
 
 use crate::clerk::Clerk;
 use crate::crew::CrewFault;
@@ -18,6 +19,7 @@ fn give<L: Ledger, R: Wait>(
     reply: Reply,
 ) -> Result<Worker<L>, CrewFault>
     ensures number { IfOk result (λ back. back.number ≡ worker.number) }
+    ensures replies { IfOk result (OnlyReplies worker) }
     ensures fault { IfErr result (λ fault. fault ≡ CrewFault.Memory) }
 {
     match shared.reply(rt, worker, reply) {
@@ -35,12 +37,49 @@ fn serve<L: Ledger, R: Wait>(
     request: Request,
 ) -> Result<Worker<L>, CrewFault>
     ensures number { IfOk result (λ back. back.number ≡ worker.number) }
+    ensures replies { IfOk result (OnlyReplies worker) }
     ensures fault { IfErr result (λ fault. fault ≡ CrewFault.Memory) }
 {
     match server.answer(request) {
         Ok(reply) => give(rt, shared, worker, reply),
         Err((_, ServerRefusal::Memory)) => Err(CrewFault::Memory),
         Err(_) => Ok(worker),
+    }
+}
+
+/// Gives the desk a reply, if there is one.
+fn give_kept<L: Ledger, R: Wait>(
+    rt: &R,
+    shared: &Shared<L>,
+    worker: Worker<L>,
+    reply: Option<Reply>,
+) -> Result<Worker<L>, CrewFault>
+    ensures number { IfOk result (λ back. back.number ≡ worker.number) }
+    ensures replies { IfOk result (OnlyReplies worker) }
+    ensures fault { IfErr result (λ fault. fault ≡ CrewFault.Memory) }
+{
+    match reply {
+        Some(reply) => give(rt, shared, worker, reply),
+        None => Ok(worker),
+    }
+}
+
+/// Goes on with what the server kept, if that is something.
+fn serve_kept<L: Ledger, R: Wait>(
+    rt: &R,
+    shared: &Shared<L>,
+    worker: Worker<L>,
+    server: &mut Server,
+    kept: Option<Unfinished>,
+) -> Result<Worker<L>, CrewFault>
+    ensures number { IfOk result (λ back. back.number ≡ worker.number) }
+    ensures replies { IfOk result (OnlyReplies worker) }
+    ensures fault { IfErr result (λ fault. fault ≡ CrewFault.Memory) }
+{
+    match kept {
+        Some(Unfinished::Reply(reply)) => give(rt, shared, worker, reply),
+        Some(Unfinished::Request(request)) => serve(rt, shared, worker, server, request),
+        None => Ok(worker),
     }
 }
 
@@ -52,6 +91,7 @@ fn give_received<L: Ledger, R: Wait>(
     clerk: Clerk,
 ) -> Result<(Worker<L>, Option<Request>), CrewFault>
     ensures number { IfOk result (λ back. back.0.number ≡ worker.number) }
+    ensures replies { IfOk result (λ back. OnlyReplies worker back.0) }
     ensures fault { IfErr result (λ fault. fault ≡ CrewFault.Memory) }
 {
     let Clerk {
@@ -60,19 +100,15 @@ fn give_received<L: Ledger, R: Wait>(
         request,
         reply,
     } = clerk;
-    let mut worker = worker;
+    let mut worker = give_kept(rt, shared, worker, reply)?;
     let mut replies = replies;
-    let mut next = reply;
     for _ in rt.forever() {
-        if let Some(reply) = next {
-            worker = give(rt, shared, worker, reply)?;
-        }
         let (back, reply) = replies.receive(rt);
         replies = back;
-        next = reply;
-        if next.is_none() {
+        let Some(reply) = reply else {
             break;
-        }
+        };
+        worker = give(rt, shared, worker, reply)?;
     }
     Ok((worker, request))
 }
@@ -85,6 +121,7 @@ fn serve_received<L: Ledger, R: Wait>(
     service: Service,
 ) -> Result<(Worker<L>, Server), CrewFault>
     ensures number { IfOk result (λ back. back.0.number ≡ worker.number) }
+    ensures replies { IfOk result (λ back. OnlyReplies worker back.0) }
     ensures fault { IfErr result (λ fault. fault ≡ CrewFault.Memory) }
 {
     let Service {
@@ -93,11 +130,7 @@ fn serve_received<L: Ledger, R: Wait>(
         replies: _,
         kept,
     } = service;
-    let mut worker = match kept {
-        Some(Unfinished::Reply(reply)) => give(rt, shared, worker, reply)?,
-        Some(Unfinished::Request(request)) => serve(rt, shared, worker, &mut server, request)?,
-        None => worker,
-    };
+    let mut worker = serve_kept(rt, shared, worker, &mut server, kept)?;
     let mut requests = requests;
     for _ in rt.forever() {
         let (back, request) = requests.receive(rt);
@@ -119,18 +152,19 @@ fn serve_unsent<L: Ledger, R: Wait>(
     request: Option<Request>,
 ) -> Result<Worker<L>, CrewFault>
     ensures number { IfOk result (λ back. back.number ≡ worker.number) }
+    ensures replies { IfOk result (OnlyReplies worker) }
     ensures fault { IfErr result (λ fault. fault ≡ CrewFault.Memory) }
 {
-    let mut worker = worker;
-    let mut next = request;
+    let kept = match request {
+        Some(request) => Some(Unfinished::Request(request)),
+        None => None,
+    };
+    let mut worker = serve_kept(rt, shared, worker, server, kept)?;
     for _ in rt.forever() {
-        if let Some(request) = next {
-            worker = serve(rt, shared, worker, server, request)?;
-        }
-        next = shared.next_request(rt);
-        if next.is_none() {
+        let Some(request) = shared.next_request(rt) else {
             break;
-        }
+        };
+        worker = serve(rt, shared, worker, server, request)?;
     }
     Ok(worker)
 }
@@ -144,6 +178,7 @@ pub(crate) fn settle<L: Ledger, R: Wait>(
     service: Service,
 ) -> Result<(Worker<L>, Server), CrewFault>
     ensures number { IfOk result (λ back. back.0.number ≡ worker.number) }
+    ensures replies { IfOk result (λ back. OnlyReplies worker back.0) }
     ensures fault { IfErr result (λ fault. fault ≡ CrewFault.Memory) }
 {
     let (worker, request) = give_received(rt, shared, worker, clerk)?;

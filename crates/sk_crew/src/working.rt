@@ -5,6 +5,7 @@ ghost use Rattle.sk_workers.specs.History.{Told};
 ghost use Rattle.sk_workers.specs.Closing.{begins_turn, numbers};
 ghost use Rattle.sk_crew.specs.Rounds.{due, after, is_ended};
 ghost use Rattle.sk_crew.specs.Ahead.{RunsAhead};
+ghost use Rattle.sk_crew.specs.Duties.{KeepsTo, AllKeepTo, OnlyReplies};
 
 use crate::clerk::Clerk;
 use crate::crew::Plan;
@@ -122,7 +123,8 @@ fn work<L: Ledger, R: Wait, G: Gate>(
     plan: Plan,
     gate: &G,
 ) -> Worker<L>
-    ensures { result.number ≡ worker.number }
+    ensures number { result.number ≡ worker.number }
+    ensures duties { KeepsTo plan.workers processes.now worker → KeepsTo plan.workers processes.now result }
 {
     let mut worker = worker;
     let mut rounds = Rounds::new(worker.number(), plan.workers, processes.len());
@@ -147,7 +149,8 @@ fn lead<'a, L: Ledger, R: Wait, G: Gate>(
     plan: Plan,
     gate: &G,
 ) -> (Worker<L>, Clerk<'a>)
-    ensures { result.0.number ≡ worker.number }
+    ensures number { result.0.number ≡ worker.number }
+    ensures duties { worker.number ≡ 0 → KeepsTo plan.workers processes.now worker → KeepsTo plan.workers processes.now result.0 }
 {
     let mut worker = worker;
     let mut clerk = clerk;
@@ -173,7 +176,8 @@ fn carry_on<'a, L: Ledger, R: Wait>(
     clerk: Clerk<'a>,
     have_stopped: &AtomicBool,
 ) -> (Worker<L>, Clerk<'a>)
-    ensures { result.0.number ≡ worker.number }
+    ensures number { result.0.number ≡ worker.number }
+    ensures replies { OnlyReplies worker result.0 }
 {
     let mut worker = worker;
     let mut clerk = clerk;
@@ -199,6 +203,7 @@ fn work_all<L: Ledger + Send + Sync, R: Threads + Wait + Sync, G: Gate + Sync>(
     gate: &G,
 ) -> Vec<Worker<L>>
     ensures numbers { numbers result.items ≡ numbers workers.items }
+    ensures duties { AllKeepTo plan.workers processes.now workers.items → AllKeepTo plan.workers processes.now result.items }
     ensures count { vec_len result ≡ vec_len workers }
     ensures room { vec_capacity result ≡ vec_capacity workers }
 {
@@ -209,11 +214,12 @@ fn work_all<L: Ledger + Send + Sync, R: Threads + Wait + Sync, G: Gate + Sync>(
     let (one, mut all) = thread::join(
         rt,
         move || -> Worker<L>
-            ensures { result.number ≡ last.number }
+            ensures { (result.number ≡ last.number) × (KeepsTo plan.workers processes.entry.now last → KeepsTo plan.workers processes.entry.now result) }
         { work(rt, shared, last, processes, plan, gate) },
         move || -> Vec<Worker<L>>
             requires { IsSync R.row × IsSync G.row }
-            ensures { (numbers result.items ≡ numbers rest.items) × (vec_len result ≡ vec_len rest) × (vec_capacity result ≡ vec_capacity rest) }
+            ensures { (numbers result.items ≡ numbers rest.items) × (vec_len result ≡ vec_len rest) × (vec_capacity result ≡ vec_capacity rest)
+                × (AllKeepTo plan.workers processes.entry.now rest.items → AllKeepTo plan.workers processes.entry.now result.items) }
         { work_all(rt, shared, rest, processes, plan, gate) },
     );
     all.push_reserved(one);
@@ -234,20 +240,24 @@ fn work_together<'a, L: Ledger + Send + Sync, R: Threads + Wait + Sync, G: Gate 
     ensures first { result.0.number ≡ first.number }
     ensures others { numbers result.1.items ≡ numbers others.items }
     ensures count { vec_len result.1 ≡ vec_len others }
+    ensures leads { first.number ≡ 0 → KeepsTo plan.workers processes.now first → KeepsTo plan.workers processes.now result.0 }
+    ensures duties { AllKeepTo plan.workers processes.now others.items → AllKeepTo plan.workers processes.now result.1.items }
 {
     let have_stopped = AtomicBool::new(false);
     let have_stopped = &have_stopped;
     let ((first, clerk), others) = thread::join(
         rt,
         move || -> (Worker<L>, Clerk)
-            ensures { result.0.number ≡ first.number }
+            ensures { (result.0.number ≡ first.number)
+                × (first.number ≡ 0 → KeepsTo plan.workers processes.entry.now first → KeepsTo plan.workers processes.entry.now result.0) }
         {
             let (first, clerk) = lead(rt, shared, first, clerk, processes, plan, gate);
             carry_on(rt, shared, first, clerk, have_stopped)
         },
         move || -> Vec<Worker<L>>
             requires { IsSync R.row × IsSync G.row }
-            ensures { (numbers result.items ≡ numbers others.items) × (vec_len result ≡ vec_len others) }
+            ensures { (numbers result.items ≡ numbers others.items) × (vec_len result ≡ vec_len others)
+                × (AllKeepTo plan.workers processes.entry.now others.items → AllKeepTo plan.workers processes.entry.now result.items) }
         {
             let others = work_all(rt, shared, others, processes, plan, gate);
             have_stopped.store(true, Ordering::SeqCst);
@@ -257,7 +267,8 @@ fn work_together<'a, L: Ledger + Send + Sync, R: Threads + Wait + Sync, G: Gate 
     (first, others, clerk)
 }
 
-/// Makes the rounds of all workers, and has the server answer at once, until they have stopped.
+/// Makes the rounds of all workers, and has the server answer at once, until they have stopped. Where no thread can be made,
+/// the second of two closures is run first: that is the one for which the other waits, here and above.
 pub(crate) fn work_served<'a, L: Ledger + Send + Sync, R: Threads + Wait + Sync, G: Gate + Sync>(
     rt: &R,
     shared: &Shared<L>,
@@ -272,20 +283,26 @@ pub(crate) fn work_served<'a, L: Ledger + Send + Sync, R: Threads + Wait + Sync,
     ensures first { result.0.number ≡ first.number }
     ensures others { numbers result.1.items ≡ numbers others.items }
     ensures count { vec_len result.1 ≡ vec_len others }
+    ensures leads { first.number ≡ 0 → KeepsTo plan.workers processes.now first → KeepsTo plan.workers processes.now result.0 }
+    ensures duties { AllKeepTo plan.workers processes.now others.items → AllKeepTo plan.workers processes.now result.1.items }
 {
     let stop = AtomicBool::new(false);
     let stop = &stop;
-    let ((first, others, clerk), service) = thread::join(
+    let (service, (first, others, clerk)) = thread::join(
         rt,
+        move || -> Service
+            requires { IsSync R.row }
+        { service.serve(rt, stop) },
         move || -> (Worker<L>, Vec<Worker<L>>, Clerk)
             requires { IsSync R.row × IsSync G.row × IsSync L.row }
-            ensures { (result.0.number ≡ first.number) × (numbers result.1.items ≡ numbers others.items) × (vec_len result.1 ≡ vec_len others) }
+            ensures { (result.0.number ≡ first.number) × (numbers result.1.items ≡ numbers others.items) × (vec_len result.1 ≡ vec_len others)
+                × (first.number ≡ 0 → KeepsTo plan.workers processes.entry.now first → KeepsTo plan.workers processes.entry.now result.0)
+                × (AllKeepTo plan.workers processes.entry.now others.items → AllKeepTo plan.workers processes.entry.now result.1.items) }
         {
             let worked = work_together(rt, shared, first, others, clerk, processes, plan, gate);
             stop.store(true, Ordering::SeqCst);
             worked
         },
-        move || -> Service { service.serve(rt, stop) },
     );
     (first, others, clerk, service)
 }

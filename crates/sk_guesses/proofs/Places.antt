@@ -1,5 +1,5 @@
 -- What a binary search finds among entities that rise.
-use Rattle.std.proofs.Common.{◌≡◌, ℕ, zero, suc, ◌+◌, ◌<◌, ◌≤◌, ltb, length, take, drop, Bool, true, false, cond, not, ◌||◌, ◌&&◌, List, [], ◌∷◌, ◌++◌, refl, sym, ◌∙◌, ap, subst, arith}
+use Rattle.std.proofs.Common.{◌≡◌, ℕ, zero, suc, ◌+◌, ◌-◌, ◌<◌, ◌≤◌, ltb, length, take, drop, Bool, true, false, cond, not, ◌||◌, ◌&&◌, List, [], ◌∷◌, ◌++◌, refl, sym, ◌∙◌, ap, subst, arith}
 use Rattle.std.specs.Prelude.{slice_index_or}
 use Rattle.std.specs.List.{AllByRecursion, filter, insert, remove}
 use Rattle.std.specs.List.Sorted.{IsStrictlySortedBy}
@@ -36,6 +36,22 @@ less_all : (e x : Entity) (xs : List Entity) (i : ℕ) (d : Entity) → AllByRec
 less_all e x [] i d all lt = absurd (omega arith)
 less_all e x (y ∷ xs) zero d all lt = all.0
 less_all e x (y ∷ xs) (suc i) d all lt = less_all e x xs i d all.1 (omega arith)
+
+-- where the last is less, all are
+index_zero : (o : Ordering) → ordering_index o ≤ 0 → o ≡ Less
+index_zero Less le = refl
+index_zero Equal le = absurd (omega arith)
+index_zero Greater le = absurd (omega arith)
+
+pub all_before : (e : Entity) (xs : List Entity) (last : Entity) → ((d : Entity) → slice_index_or xs (length xs - 1) d ≡ last) → entity_cmp last e ≡ Less
+    → IsNonDecreasingBy (λ y. ordering_index (entity_cmp y e)) xs
+    → ((k : ℕ) (d : Entity) → 0 ≤ k → k < length xs → entity_cmp (slice_index_or xs k d) e ≡ Less)
+    × ((k : ℕ) (d : Entity) → length xs ≤ k → k < length xs → entity_cmp (slice_index_or xs k d) e ≡ Greater)
+all_before e xs last at less rises = (
+  λ k d low high. index_zero (entity_cmp (slice_index_or xs k d) e)
+      (subst (λ n. ordering_index (entity_cmp (slice_index_or xs k d) e) ≤ n) (ap (λ y. ordering_index (entity_cmp y e)) (at d) ∙ ap ordering_index less) (rises k (length xs - 1) d (omega arith) (omega arith))),
+  λ k d low high. absurd (omega arith),
+)
 
 -- an entity that is there stays there once
 pub there_already : (e : Entity) (xs : List Entity) (i : ℕ) → IsStrictlySortedBy entity_cmp xs → i < length xs → ((d : Entity) → entity_cmp (slice_index_or xs i d) e ≡ Equal) → xs ≡ with_entity xs e

@@ -1,11 +1,13 @@
 //! Sets of entities.
 ghost use Rattle.std.specs.Prelude.{◌≡◌, ◌<◌, ◌≤◌, ◌+◌, [], length, OnOk, OnErr, IsOk};
-ghost use Rattle.std.specs.List.Sorted.{IsStrictlySortedBy};
+ghost use Rattle.std.specs.List.Sorted.{IsStrictlySortedBy, IsSearchInRange, IsBinarySearchResult};
 ghost use Rattle.sk_ids.specs.Entity.{entity_cmp};
 ghost use Rattle.sk_guesses.specs.EntitySet.{with_entity, with_entities, without_entity};
 
 use sk_ids::Entity;
+use sk_ids::entity::compared;
 use std::alloc::{AllocError, Global};
+use std::cmp::Ordering;
 use std::marker::Model;
 
 /// Entities by rising order, each once.
@@ -25,6 +27,19 @@ impl Model for EntitySet {
     ghost view = { λ s. record { entities = s.entities.items; room = vec_capacity s.entities - vec_len s.entities } };
 
     ghost invariant = { λ s. IsStrictlySortedBy entity_cmp s.entities.items };
+}
+
+/// Where an entity is, or where it would stand. Behind all others it is found at once, as most new ones are.
+fn find(entities: &[Entity], entity: &Entity) -> Result<usize, usize>
+    ensures bound { IsSearchInRange result (length entities.now) }
+    ensures position { IsBinarySearchResult (λ y. entity_cmp y entity.now) entities.now result }
+{
+    if let Some(last) = entities.last() {
+        if let Ordering::Less = compared(last, entity) {
+            return Err(entities.len());
+        }
+    }
+    entities.binary_search(entity)
 }
 
 impl EntitySet {
@@ -60,7 +75,7 @@ impl EntitySet {
         ensures entities { self.new.entities ≡ with_entity self.old.entities entity.now }
         ensures room { self.old.room ≤ self.new.room + 1 }
     {
-        if let Err(place) = self.entities.as_slice().binary_search(entity) {
+        if let Err(place) = find(self.entities.as_slice(), entity) {
             let Ok(()) = self.entities.insert(place, *entity) else {
                 unreachable!();
             };
@@ -81,7 +96,7 @@ impl EntitySet {
     pub fn remove(&mut self, entity: &Entity)
         ensures { self.new.entities ≡ without_entity self.old.entities entity.now }
     {
-        if let Ok(place) = self.entities.as_slice().binary_search(entity) {
+        if let Ok(place) = find(self.entities.as_slice(), entity) {
             self.entities.remove(place);
         }
     }

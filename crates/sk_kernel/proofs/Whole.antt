@@ -1,5 +1,5 @@
 -- What the parts of a kernel say of its trace.
-use Rattle.std.proofs.Common.{Bor, ◌≡◌, ℕ, zero, suc, ◌<◌, ◌≤◌, length, true, false, not, List, [], ◌∷◌, ◌++◌, map, Option, Some, None, refl, sym, ◌∙◌, ap, subst, arith}
+use Rattle.std.proofs.Common.{Bor, ◌≡◌, ℕ, zero, suc, ◌+◌, ◌<◌, ◌≤◌, length, true, false, not, List, [], ◌∷◌, ◌++◌, map, Option, Some, None, refl, sym, ◌∙◌, ap, subst, arith}
 use Rattle.std.specs.Prelude.{◌↔◌, is_some, slice_get, MatchOption}
 use Rattle.std.specs.declared.cmp.Ordering.TheVariants.{Less}
 use Rattle.std.specs.Cmp.{nat_cmp_is}
@@ -43,8 +43,8 @@ use Rattle.sk_plain.specs.Act.{plain, act, Saying}
 use Rattle.sk_plain.specs.Replay.{image}
 use Rattle.sk_machine.specs.Parts.{Parts, machine_of, undo_state_of, said_at}
 use Rattle.sk_guesses.proofs.Count.{at_place, count_of}
-use Rattle.sk_kernel.specs.Kernel.{KernelView, events_of, record_at, state_at, undecided_at, tags_at, texts_at, HasStatus, RestsOn, effect_at, number_after, last_guess, with_event, room}
-use Rattle.sk_kernel.specs.Calls.{ShowsTerminal, LeavesTexts}
+use Rattle.sk_kernel.specs.Kernel.{KernelView, events_of, record_at, state_at, undecided_at, tags_at, texts_at, said_by_record, HasStatus, RestsOn, effect_at, number_after, last_guess, with_event, room}
+use Rattle.sk_kernel.specs.Calls.{ShowsTerminal, SaysNothing, LeavesTexts}
 use Rattle.sk_kernel.proofs.Clear.{AllClear, all_clear, clear_released}
 use Rattle.sk_terminal.specs.Terminals.{released_at}
 use Rattle.sk_kernel.specs.Invariant.{IsWhole}
@@ -57,7 +57,7 @@ use Rattle.sk_machine.specs.Noted.{IsAtStart}
 use Rattle.sk_kernel.specs.Kernel.{booted}
 use Rattle.sk_plain.specs.Act.{Scripts}
 use Rattle.std.proofs.lemmas.List.{append-nil}
-use Rattle.sk_terminal.specs.Terminal.{TaggedText}
+use Rattle.sk_terminal.specs.Terminal.{TaggedText, waiting_of}
 use Rattle.std.specs.Option.{option_copied, unwrap_or}
 
 pub map_more : (es : List Event) (e : Event) → map image (es ++ e ∷ []) ≡ map image es ++ image e ∷ []
@@ -100,6 +100,24 @@ more_rises (x ∷ xs) y rises below =
     (all_below xs x y rises.0 (sym (nat_cmp_is x y Less (below x (or_left _ _ (eq-eqb x x refl))))), more_rises xs y rises.1 (λ z here. below z (or_right _ _ here)))
 
 -- what is released of the texts of a terminal
+released_short : (xs : List TaggedText) → length (released xs) ≤ length xs
+released_short [] = omega arith
+released_short ((text, []) ∷ xs) = let rest = released_short xs in omega (arith, rest)
+released_short ((text, g ∷ tags) ∷ xs) = omega arith
+
+as_many_said : (t : ℕ) (xs : List TaggedText) → length (map (λ s. s.0) (said_at t xs)) ≡ length xs
+as_many_said t [] = refl
+as_many_said t (x ∷ xs) = let rest = as_many_said t xs in omega (arith, rest)
+
+as_many_released : (t : ℕ) (xs : List TaggedText) → length (released (said_at t xs)) ≡ length (released xs)
+as_many_released t [] = refl
+as_many_released t ((text, []) ∷ xs) = let rest = as_many_released t xs in omega (arith, rest)
+as_many_released t ((text, g ∷ tags) ∷ xs) = refl
+
+-- what is not released waits
+waiting_is : (t : ℕ) (xs : List TaggedText) → waiting_of xs + length (released (said_at t xs)) ≡ length (map (λ s. s.0) (said_at t xs))
+waiting_is t xs = omega (arith, as_many_said t xs, as_many_released t xs, released_short xs)
+
 released_said : (t : ℕ) (xs : List TaggedText) → released (said_at t xs) ≡ map (λ text. record { to = t; text = text }) (released xs)
 released_said t [] = refl
 released_said t ((text, []) ∷ xs) = ap (λ (ws : List Saying). record { to = t; text = text } ∷ ws) (released_said t xs)
@@ -232,12 +250,20 @@ module _ (k : KernelView) (m : Parts) (stands : MergedStands (plain k.scripts) k
   next_rises = more_rises (numbers m.opens) (next_of m.guesses) opens_rise (λ g here. status_below m.guesses g Undecided ((open_undecided g).0 here))
 
   -- ---- what a terminal shows
-  pub terminal_shown : (t : ℕ) (r : Option (Bor (List TaggedText))) → option_copied r ≡ map.get m.texts t → MatchOption r (texts_at k t ≡ []) (λ x. ShowsTerminal k t x.now)
-  terminal_shown t None none = sym (texts_are t) ∙ ap (λ o. said_at t (unwrap_or o [])) (sym none)
+  recorded : (t : ℕ) → map (λ x. x.0) (said_at t (texts_in m.texts t)) ≡ said_by_record k t
+  recorded t = is_plain.texts t
+
+  pub terminal_shown : (t : ℕ) (r : Option (Bor (List TaggedText))) → option_copied r ≡ map.get m.texts t → MatchOption r (SaysNothing k t) (λ x. ShowsTerminal k t x.now)
+  terminal_shown t None none = record {
+    said = sym (texts_are t) ∙ ap (λ o. said_at t (unwrap_or o [])) (sym none);
+    all = sym (recorded t) ∙ ap (λ o. map (λ x. x.0) (said_at t (unwrap_or o []))) (sym none);
+  }
   terminal_shown t (Some x) some =
       let here : texts_in m.texts t ≡ x.now = ap (λ o. unwrap_or o []) (sym some) in
       record {
         said = ap (said_at t) (sym here) ∙ texts_are t;
+        all = ap (λ xs. map (λ s. s.0) (said_at t xs)) (sym here) ∙ recorded t;
+        waiting = waiting_is t x.now ∙ ap (λ xs. length (map (λ s. s.0) (said_at t xs))) (sym here) ∙ ap length (recorded t);
         released = subst (λ xs. IsReleased (plain k.scripts) k.start (events_of k) t (released (said_at t xs))) here (releases t);
       }
 

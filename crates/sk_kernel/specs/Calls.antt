@@ -1,11 +1,11 @@
 -- What the kernel's calls answer.
-use Rattle.std.specs.Prelude.{◌≡◌, ℕ, ◌<◌, List, map, Option, Some, None, Result, Ok, Err}
+use Rattle.std.specs.Prelude.{◌≡◌, ℕ, ◌+◌, ◌<◌, List, [], length, map, Option, Some, None, Result, Ok, Err}
 use Rattle.sk_record.specs.declared.status.Status.TheVariants.{Undecided, Struck}
 use Rattle.sk_record.specs.Machine.{released}
 use Rattle.sk_record.specs.Trace.{IsDrawn}
 use Rattle.sk_record.specs.Release.{IsReleased}
 use Rattle.sk_guesses.specs.Token.{Token}
-use Rattle.sk_terminal.specs.Terminal.{TaggedText}
+use Rattle.sk_terminal.specs.Terminal.{TaggedText, waiting_of}
 use Rattle.sk_machine.specs.Parts.{said_at}
 use Rattle.sk_script.specs.declared.instruction.Input.{Input}
 use Rattle.sk_trace.specs.declared.event.Event.{Event}
@@ -20,7 +20,7 @@ use Rattle.sk_plain.specs.Seen.{CanPerform, seen_with}
 use Rattle.sk_plain.specs.declared.plan.Plan.{Plan}
 use Rattle.sk_plain.specs.Refusal.{cause}
 use Rattle.sk_plain.specs.declared.refusal.Refusal.{Refusal}
-use Rattle.sk_kernel.specs.Kernel.{KernelView, HasStatus, events_of, texts_at, next_guess, with_event, guess_misfits}
+use Rattle.sk_kernel.specs.Kernel.{KernelView, HasStatus, events_of, said_by_record, texts_at, next_guess, with_event, guess_misfits}
 use Rattle.sk_kernel.specs.declared.kernel.Outcome.{Outcome}
 use Rattle.sk_kernel.specs.declared.kernel.Outcome.TheVariants as outcomes
 use Rattle.sk_kernel.specs.declared.kernel.Stranger.{Stranger}
@@ -69,10 +69,17 @@ abbrev pub FailPost : Result Outcome FailRefusal → Token → KernelView → Ke
 FailPost (Ok outcome) token old new = DecisionPost outcome token (events.Fail token.id) old new
 FailPost (Err (refusals.Stranger guess)) token old new = IsStranger old token × (guess ≡ token) × (new ≡ old)
 
--- the texts of a terminal: those said to it, with what they depend on, of which the longest prefix that depends on no undecided guess is released
+-- the texts of a terminal: those that the record says to it, with what they depend on, of which the longest prefix that depends on no undecided guess is released, and the others wait
 pub record ShowsTerminal (k : KernelView) (t : ℕ) (texts : List TaggedText) : Type 0 where
   pub said : said_at t texts ≡ texts_at k t
+  pub all : map (λ x. x.0) (said_at t texts) ≡ said_by_record k t
+  pub waiting : waiting_of texts + length (released (said_at t texts)) ≡ length (said_by_record k t)
   pub released : IsReleased (plain k.scripts) k.start (events_of k) t (released (said_at t texts))
+
+-- the record says nothing to a terminal
+pub record SaysNothing (k : KernelView) (t : ℕ) : Type 0 where
+  pub said : texts_at k t ≡ []
+  pub all : said_by_record k t ≡ []
 
 -- the texts that a shut kernel leaves for a terminal: all that was said to it by the steps that count, and all of it is released
 pub record LeavesTexts (k : KernelView) (t : ℕ) (texts : List (List ℕ)) : Type 0 where

@@ -9,7 +9,7 @@ use Rattle.sk_record.specs.Notes.{tags_along}
 use Rattle.sk_record.specs.Trace.{Event as Happens, StatusIs, IsTagOf, record_of, undecided_of, all_recorded, no_record, deps}
 use Rattle.sk_record.specs.Machine.{Tagged}
 use Rattle.sk_record.specs.declared.status.Status.{Status}
-use Rattle.sk_record.specs.Release.{said_with}
+use Rattle.sk_record.specs.Release.{said, said_with}
 use Rattle.sk_ids.specs.declared.entity.Entity.{Entity}
 use Rattle.sk_ids.specs.contracts.entity.Entity as entity
 use Rattle.sk_ids.specs.declared.guess.TheConstants.{LAST_GUESS}
@@ -88,6 +88,10 @@ abbrev pub texts_at : KernelView → ℕ → List (Tagged Saying)
 texts_at k t =
     let ran = effects (plain k.scripts) k.start (record_at k) in
     said_with (plain k.scripts) t (tags_along (plain k.scripts).order (undecided_at k) (λ g. []) ran) ran
+
+-- the texts that the record's steps say to a terminal, in their order
+abbrev pub said_by_record : KernelView → ℕ → List Saying
+said_by_record k t = map (λ x. x.0) (said (plain k.scripts) k.start (events_of k) t)
 
 -- the places of the trace that are free, one kept for the decision of each undecided guess
 abbrev pub room : KernelView → ℕ

@@ -7,8 +7,8 @@ ghost use Rattle.sk_kernel.specs.HandIn.{alone_step, IsAsLent, TakesIn, HandInPo
 
 use crate::Kernel;
 use sk_ids::Pid;
-use sk_plain::{Event, Refusal, Trace, is_as_lent, lease_of};
-use sk_script::{Input, Lease};
+use sk_plain::{Event, KeptInput, Refusal, Trace, is_as_lent, lease_of};
+use sk_script::Lease;
 
 /// Why a lease came back, in the order in which the causes are tried; nothing has changed.
 #[derive(Clone, Copy, Debug, PartialEq, Eq)]
@@ -28,10 +28,8 @@ fn append(trace: &mut Trace, pid: Pid, count: u32)
     ensures room { trace.new.room + count ≡ trace.old.room }
 {
     for _ in 0..count {
-        trace.push(Event::Step {
-            pid,
-            input: Input::None,
-        });
+        let input = KeptInput::none();
+        trace.push(Event::Step { pid, input });
     }
 }
 

@@ -12,11 +12,11 @@ ghost use Rattle.sk_plain.specs.Seen.{PlansStep};
 ghost use Rattle.sk_plain.specs.Refusal.{cause};
 ghost use Rattle.sk_plain.specs.View.{Shows};
 ghost use Rattle.sk_trace.specs.declared.event.Event.TheVariants as events;
-ghost use Rattle.sk_kernel.specs.Kernel.{booted, state_at, undecided_at, tags_at, texts_at, room, next_guess, settled, effect_at, or_else, guess_misfits, too_many, step_refused, guess_refused, HasStatus, RestsOn};
+ghost use Rattle.sk_kernel.specs.Kernel.{booted, state_at, undecided_at, tags_at, room, next_guess, settled, effect_at, or_else, guess_misfits, too_many, step_refused, guess_refused, HasStatus, RestsOn};
 ghost use Rattle.sk_kernel.specs.Footprint.{footprint_of};
 ghost use Rattle.sk_kernel.specs.Opening.{opening_of};
 ghost use Rattle.sk_kernel.specs.Laws.{HasSoundTrace};
-ghost use Rattle.sk_kernel.specs.Calls.{StepPost, GuessPost, CommitPost, FailPost, ShowsTerminal, LeavesTexts, PlansGuess};
+ghost use Rattle.sk_kernel.specs.Calls.{StepPost, GuessPost, CommitPost, FailPost, ShowsTerminal, SaysNothing, LeavesTexts, PlansGuess};
 ghost use Rattle.sk_record.specs.declared.status.Status.{Status};
 ghost use Rattle.sk_undo.specs.Logs.{look_at};
 ghost use Rattle.sk_terminal.specs.Terminals.{released_at};
@@ -159,7 +159,7 @@ impl Kernel {
 
     /// The texts of a terminal; `None` where none was said that counts.
     pub fn terminal(&self, number: u16) -> Option<&Terminal>
-        ensures { MatchOption result (texts_at self.now number ≡ []) (λ terminal. ShowsTerminal self.now number terminal.now) }
+        ensures { MatchOption result (SaysNothing self.now number) (λ terminal. ShowsTerminal self.now number terminal.now) }
     {
         self.machine.terminal(number)
     }
@@ -264,6 +264,10 @@ impl Kernel {
         if self.trace.reserve(self.machine.open_count() + 1).is_err() {
             return Err(Refusal::Memory);
         }
+        let kept = match self.trace.keep(&input) {
+            Ok(kept) => kept,
+            Err(_) => return Err(Refusal::Memory),
+        };
         if self
             .machine
             .take_step(self.opening.scripts(), pid, &input, &plan)
@@ -271,7 +275,7 @@ impl Kernel {
         {
             return Err(Refusal::Memory);
         }
-        self.trace.push(Event::Step { pid, input });
+        self.trace.push(Event::Step { pid, input: kept });
         Ok(())
     }
 
@@ -294,6 +298,10 @@ impl Kernel {
         if self.trace.reserve(self.machine.open_count() + 2).is_err() {
             return Err(Refusal::Memory);
         }
+        let kept = match self.trace.keep(&input) {
+            Ok(kept) => kept,
+            Err(_) => return Err(Refusal::Memory),
+        };
         let Ok(guess) = self
             .machine
             .take_guess(self.opening.scripts(), pid, &input, &plan)
@@ -301,6 +309,7 @@ impl Kernel {
             return Err(Refusal::Memory);
         };
         let id = guess.id();
+        let input = kept;
         self.trace.push(Event::Guess { id, pid, input });
         Ok(guess)
     }

@@ -19,7 +19,9 @@ use Rattle.sk_trace.specs.declared.event.Event.{Event}
 use Rattle.sk_plain.specs.declared.replay.Replay.{Replay}
 use Rattle.sk_plain.specs.declared.replay.Fault.{Fault}
 use Rattle.sk_plain.specs.declared.replay.Fault.TheVariants as faults
-use Rattle.sk_plain.specs.Replay.{is_above, newest, IsGreatest, IsReplay, HasTaken, StepFault, HasCommitted, HasFailed, DecisionFault, Goes, image, IsFirstFault}
+use Rattle.sk_plain.specs.declared.replay.TraceFault.{TraceFault}
+use Rattle.sk_plain.specs.declared.replay.TraceFault.TheVariants.{Refused, UnknownGuess, Memory}
+use Rattle.sk_plain.specs.Replay.{is_above, newest, IsGreatest, IsReplay, HasTaken, StepFault, HasCommitted, HasFailed, DecisionFault, Goes, image, IsFirstFault, FaultIn, StopsIn}
 
 abbrev Events : Type 0
 Events = List (Happens EntryView)
@@ -171,7 +173,10 @@ module _ (scripts : Scripts) (es : Events) (old new : Replay) (r : IsReplay scri
     λ refused. not_both _ (subst (λ (s : State). IsOk (outcome (plain scripts) s n)) now_is fault.0) refused,
     λ allowed. not_allowed scripts old.start es n old.greatest n.guess refl r.greatest fault.1 allowed,
   )
-  taken_goes n (Err faults.Memory) t fault = tt
+  taken_goes n (Err faults.Memory) t fault = (
+    λ refused. not_both _ (subst (λ (s : State). IsOk (outcome (plain scripts) s n)) now_is fault.0) refused,
+    allowed_from scripts old.start es n old.greatest r.greatest fault.1,
+  )
 
   not_open : (g : ℕ) → has g old.undecided.items ≡ false → StatusIs (plain scripts) old.start es g Undecided → ⊥
   not_open g unknown is = true≢false (sym ((undecided_is (plain scripts) old.start es r.sound g).1 is) ∙ ap (has g) (sym r.undecided) ∙ unknown)
@@ -180,13 +185,13 @@ module _ (scripts : Scripts) (es : Events) (old new : Replay) (r : IsReplay scri
   commit_goes g (Ok u) c fault = (committed g c, c.start)
   commit_goes g (Err faults.Refused) c fault = absurd fault
   commit_goes g (Err faults.Unknown) c fault = (λ refused. refused, λ allowed. not_open g fault allowed)
-  commit_goes g (Err faults.Memory) c fault = tt
+  commit_goes g (Err faults.Memory) c fault = (λ refused. refused, is_open g fault)
 
   pub fail_goes : (g : ℕ) (result : Result (Unit {0}) Fault) → OnOk result (HasFailed scripts old g new) → IfErr result (DecisionFault old g) → Goes scripts es (Fail g) old new result
   fail_goes g (Ok u) f fault = (failed g f, f.start)
   fail_goes g (Err faults.Refused) f fault = absurd fault
   fail_goes g (Err faults.Unknown) f fault = (λ refused. refused, λ allowed. not_open g fault allowed)
-  fail_goes g (Err faults.Memory) f fault = tt
+  fail_goes g (Err faults.Memory) f fault = (λ refused. refused, is_open g fault)
 
 -- where nothing has happened yet
 pub begins : (scripts : Scripts) (r : Replay) → r.now ≡ r.start → r.entries.items ≡ [] → r.undecided.items ≡ [] → r.greatest ≡ None → IsReplay scripts [] r
@@ -224,3 +229,9 @@ first_fault scripts start es i at x r HasFault within item place same replay fau
   sound = subst (λ (s : State). IsSound (plain scripts) s (map image (take i es))) same replay.sound;
   fault = fault;
 }
+
+-- what is told of the events is told of the whole replay
+pub stops_in : (scripts : Scripts) (start : State) (es : Events) (why : TraceFault) → StopsIn scripts start es why → FaultIn scripts start es why
+stops_in scripts start es (Refused at) h = h
+stops_in scripts start es (UnknownGuess at) h = h
+stops_in scripts start es Memory h = tt

@@ -1,5 +1,5 @@
 -- One planned step of a record, read from left to right: whether it depends on the guess, and what is left after it. From the plan's reads and writes.
-use Rattle.std.proofs.Common.{◌≡◌, ℕ, Bool, true, false, cond, ◌||◌, List, [], ◌∷◌, ◌++◌, map, Option, Some, None, Result, Ok, Err, IsOk, refl, sym, ◌∙◌, ap, subst}
+use Rattle.std.proofs.Common.{arith, zero, suc, ◌<◌, get_or, length, ◌≡◌, ℕ, Bool, true, false, cond, ◌||◌, List, [], ◌∷◌, ◌++◌, map, Option, Some, None, Result, Ok, Err, IsOk, refl, sym, ◌∙◌, ap, subst}
 use Rattle.std.specs.Prelude.{OnOk}
 use Rattle.std.specs.List.{list_any}
 use Rattle.std.specs.FinMap.{get}
@@ -14,7 +14,7 @@ use Rattle.sk_ids.specs.Entity.{entity_cmp}
 use Rattle.sk_store.specs.State.{State}
 use Rattle.sk_trace.specs.Entry.{EntryView}
 use Rattle.sk_plain.specs.Act.{Scripts, Saying, plain}
-use Rattle.sk_plain.specs.Remaining.{depends, remaining, first_refusal, refusal_in, EndsBy}
+use Rattle.sk_plain.specs.Remaining.{depends, remaining, first_refusal, refusal_in, BeginsWell, EndsBy}
 use Rattle.sk_plain.specs.Planned.{written_beside, gone_in, writes_of, wrote_all, effect_of, read_by, written_by}
 use Rattle.sk_store.specs.declared.entity_state.EntityState.{EntityState}
 use Rattle.sk_store.specs.declared.entity_state.EntityState.TheVariants as stored
@@ -113,3 +113,10 @@ told first Blocked is = is
 told first TooMany is = is
 told first TraceFull is = is
 told first Memory is = tt
+
+-- a step that is not refused begins a record well, or one before it did
+pub begins_here : (scripts : Scripts) (s start : State) (ns : List EntryView) (i : ℕ) (n : EntryView) → i < length ns → n ≡ get_or ns i n → (i ≡ 0 → s ≡ start) → (0 < i → BeginsWell scripts start ns)
+    → IsOk (outcome (plain scripts) s n) → BeginsWell scripts start ns
+begins_here scripts s start [] i n lt item same before ok = absurd (omega (arith, lt))
+begins_here scripts s start (m ∷ ns) zero n lt item same before ok = subst (λ (x : EntryView). IsOk (outcome (plain scripts) start x)) item (subst (λ (t : State). IsOk (outcome (plain scripts) t n)) (same refl) ok)
+begins_here scripts s start (m ∷ ns) (suc i) n lt item same before ok = before (omega arith)

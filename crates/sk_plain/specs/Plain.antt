@@ -1,8 +1,9 @@
 -- The plain kernel as it is seen: what entities have, and the texts that were said.
-use Rattle.std.specs.Prelude.{◌≡◌, ℕ, List, [], Option, Result, Ok, Err, refl}
+use Rattle.std.specs.Prelude.{◌≡◌, ℕ, List, [], map, Option, Result, Ok, Err, refl}
+use Rattle.std.specs.List.{AllByRecursion}
 use Rattle.std.specs.Coded.{Coded, code_by, coded×}
 use Rattle.std.specs.Option.{option_map}
-use Rattle.std.specs.FinMap as map
+use Rattle.std.specs.FinMap as maps
 use Rattle.sk_record.specs.Step.{Effect, perform}
 use Rattle.sk_record.specs.Run.{put_all}
 use Rattle.sk_ids.specs.declared.entity.Entity.{Entity}
@@ -32,15 +33,23 @@ plain_code =
 
 -- at its start
 abbrev pub plain_start : BootView → PlainView
-plain_start boot = record { scripts = boot.scripts; state = start_of boot; texts = map.empty }
+plain_start boot = record { scripts = boot.scripts; state = start_of boot; texts = maps.empty }
 
 -- the texts said to a terminal so far
 abbrev pub texts_said : PlainView → ℕ → List (List ℕ)
 texts_said k t = released (texts_at k.texts t)
 
+-- all texts said to a terminal so far, whatever they rest on
+abbrev pub all_said : PlainView → ℕ → List (List ℕ)
+all_said k t = map (λ x. x.0) (texts_at k.texts t)
+
+-- none of the texts rests on a guess
+abbrev pub AllClear : TerminalMap → Type 0
+AllClear m = (t : ℕ) → AllByRecursion (λ x. x.1 ≡ []) (texts_at m t)
+
 -- what the next step of a process does with an input
 abbrev pub step_of : PlainView → ℕ → Input → Result (Effect Entity EntityState Saying) Refusal
-step_of k pid input = perform (map.get k.state) (act k.scripts pid input)
+step_of k pid input = perform (maps.get k.state) (act k.scripts pid input)
 
 -- after an accepted step
 abbrev pub with_said : TerminalMap → Option Saying → TerminalMap

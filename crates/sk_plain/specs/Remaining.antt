@@ -1,5 +1,5 @@
 -- What is left of a record when a guess fails, read from left to right.
-use Rattle.std.specs.Prelude.{◌≡◌, ℕ, Bool, ◌||◌, List, [], ◌∷◌, Option, Some, None, Result, Ok, Err}
+use Rattle.std.specs.Prelude.{◌≡◌, ℕ, Bool, ◌||◌, List, [], ◌∷◌, Option, Some, None, Result, Ok, Err, IsOk}
 use Rattle.std.specs.List.{list_any}
 use Rattle.sk_record.specs.Effects.{is_in, is_marked, hits, keep}
 use Rattle.sk_record.specs.Step.{Effect}
@@ -34,6 +34,11 @@ first_refusal (Err why) later = Some why
 abbrev pub refusal_in : Scripts → State → List EntryView → Option Refusal
 refusal_in scripts s [] = None
 refusal_in scripts s (n ∷ ns) = first_refusal (outcome (plain scripts) s n) (refusal_in scripts (after (plain scripts) (outcome (plain scripts) s n) s) ns)
+
+-- the first step of a record is not refused
+abbrev pub BeginsWell : Scripts → State → List EntryView → Type 0
+BeginsWell scripts s [] = ⊥
+BeginsWell scripts s (n ∷ ns) = IsOk (outcome (plain scripts) s n)
 
 -- why a record is not read to its end: want of memory, or the first refusal of its steps
 abbrev pub EndsBy : Option Refusal → Refusal → Type 0

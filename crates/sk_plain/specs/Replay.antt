@@ -36,7 +36,11 @@ module _ (scripts : Scripts) (start : State) where
   abbrev pub IsUnknown : List (Happens EntryView) → Happens EntryView → Type 0
   IsUnknown before e = (¬ (IsRefused before e)) × (¬ (IsAllowed (plain scripts) start before e))
 
-  -- the events before the one at this place, from 1, are sound, and it has the fault
+  -- it has no fault: the step is not refused, and each guess that it names may stand there
+  abbrev pub IsTaken : List (Happens EntryView) → Happens EntryView → Type 0
+  IsTaken before e = (¬ (IsRefused before e)) × IsAllowed (plain scripts) start before e
+
+  -- the events before the one at this place, from 1, are sound, and this holds of it
   pub record IsFirstFault (es : List (Happens EntryView)) (at : ℕ) (HasFault : List (Happens EntryView) → Happens EntryView → Type 0) : Type 0 where
     pub before : List (Happens EntryView)
     pub event : Happens EntryView
@@ -46,11 +50,18 @@ module _ (scripts : Scripts) (start : State) where
     pub sound : IsSound (plain scripts) start before
     pub fault : HasFault before event
 
-  -- what a fault tells of these events
+  -- What a fault tells of these events. Of want of memory the place is not told, and before the first event it can
+  -- always be.
   abbrev pub FaultIn : List (Happens EntryView) → TraceFault → Type 0
   FaultIn es (Refused at) = IsFirstFault es at IsRefused
   FaultIn es (UnknownGuess at) = IsFirstFault es at IsUnknown
   FaultIn es Memory = Unit {0}
+
+  -- what a fault among the events tells: want of memory is told at one that has no fault
+  abbrev pub StopsIn : List (Happens EntryView) → TraceFault → Type 0
+  StopsIn es (Refused at) = IsFirstFault es at IsRefused
+  StopsIn es (UnknownGuess at) = IsFirstFault es at IsUnknown
+  StopsIn es Memory = (at : ℕ) × IsFirstFault es at IsTaken
 
 -- ---- a replay, event by event
 
@@ -92,11 +103,11 @@ pub record HasTaken (scripts : Scripts) (old : Replay) (n : EntryView) (new : Re
   pub undecided : new.undecided.items ≡ old.undecided.items ++ marks n.guess
   pub greatest : new.greatest ≡ newest old.greatest n.guess
 
--- or why not
+-- or why not; memory is wanted only where nothing else is wrong
 abbrev pub StepFault : Scripts → Replay → EntryView → Fault → Type 0
 StepFault scripts old n faults.Refused = IsErr (outcome (plain scripts) old.now n)
 StepFault scripts old n faults.Unknown = IsOk (outcome (plain scripts) old.now n) × (is_above old.greatest n.guess ≡ false)
-StepFault scripts old n faults.Memory = Unit {0}
+StepFault scripts old n faults.Memory = IsOk (outcome (plain scripts) old.now n) × (is_above old.greatest n.guess ≡ true)
 
 -- a guess was decided, which was undecided
 pub record HasCommitted (old : Replay) (g : ℕ) (new : Replay) : Type 0 where
@@ -119,16 +130,16 @@ pub record HasFailed (scripts : Scripts) (old : Replay) (g : ℕ) (new : Replay)
 abbrev pub DecisionFault : Replay → ℕ → Fault → Type 0
 DecisionFault old g faults.Refused = ⊥
 DecisionFault old g faults.Unknown = has g old.undecided.items ≡ false
-DecisionFault old g faults.Memory = Unit {0}
+DecisionFault old g faults.Memory = has g old.undecided.items ≡ true
 
 -- the replay goes on with an event, or tells its fault
 abbrev pub Goes : Scripts → List (Happens EntryView) → Happens EntryView → Replay → Replay → Result (Unit {0}) Fault → Type 0
 Goes scripts es e old new (Ok u) = IsReplay scripts (es ++ e ∷ []) new × (new.start ≡ old.start)
 Goes scripts es e old new (Err faults.Refused) = IsRefused scripts old.start es e
 Goes scripts es e old new (Err faults.Unknown) = IsUnknown scripts old.start es e
-Goes scripts es e old new (Err faults.Memory) = Unit {0}
+Goes scripts es e old new (Err faults.Memory) = IsTaken scripts old.start es e
 
 -- after all these events, or the first fault among them
 abbrev pub Replays : Scripts → List (Happens EntryView) → State → Replay → Result (Unit {0}) TraceFault → Type 0
 Replays scripts es start new (Ok u) = IsReplay scripts es new × (new.start ≡ start)
-Replays scripts es start new (Err fault) = FaultIn scripts start es fault
+Replays scripts es start new (Err fault) = StopsIn scripts start es fault

@@ -8,7 +8,7 @@ ghost use Rattle.sk_store.specs.Processes.{IsProcess};
 ghost use Rattle.sk_plain.specs.Planned.{said_by};
 ghost use Rattle.sk_plain.specs.Seen.{seen_with};
 ghost use Rattle.sk_plain.specs.View.{Shows};
-ghost use Rattle.sk_plain.specs.Plain.{plain_start, texts_said, step_of, Steps};
+ghost use Rattle.sk_plain.specs.Plain.{plain_start, texts_said, all_said, step_of, Steps};
 
 use crate::{Plan, Refusal, View, perform_plan, plan_step};
 use sk_ids::{Entity, Pid, Text};
@@ -27,13 +27,15 @@ pub struct Plain {
 }
 
 impl Model for Plain {
-    ghost use Rattle.sk_plain.specs.Plain.{PlainView, plain_code};
+    ghost use Rattle.sk_plain.specs.Plain.{PlainView, plain_code, AllClear};
 
     ghost Value = { PlainView };
 
     ghost coded = { plain_code };
 
     ghost view = { λ k. record { scripts = k.scripts; state = k.store; texts = k.texts } };
+
+    ghost invariant = { λ k. AllClear k.texts };
 }
 
 impl PartialEq for Plain {
@@ -140,9 +142,10 @@ impl Plain {
         }
     }
 
-    /// The texts said to a terminal so far.
+    /// All texts said to a terminal so far: each is released as it is said.
     pub fn said(&self, terminal: u16) -> &[Text]
-        ensures { result.now ≡ texts_said self.now terminal }
+        ensures released { result.now ≡ texts_said self.now terminal }
+        ensures all { result.now ≡ all_said self.now terminal }
     {
         match self.texts.get(terminal) {
             Some(terminal) => terminal.released(),

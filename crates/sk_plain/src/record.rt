@@ -1,9 +1,9 @@
 //! The record without what depends on a guess, read from left to right.
-ghost use Rattle.std.specs.Prelude.{◌≡◌, ◌∷◌, ◌++◌, [], List, IsSome, OnOk, IfOk, IfErr, if◌then◌else◌};
+ghost use Rattle.std.specs.Prelude.{◌≡◌, ◌∷◌, ◌++◌, [], List, IsSome, IsOk, OnOk, IfOk, IfErr, if◌then◌else◌};
 ghost use Rattle.std.specs.List.{list_any};
 ghost use Rattle.std.specs.FinMap as map;
 ghost use Rattle.sk_record.specs.Effects.{is_in, is_marked};
-ghost use Rattle.sk_record.specs.Run.{IsLegal, run, put_all};
+ghost use Rattle.sk_record.specs.Run.{IsLegal, outcome, run, put_all};
 ghost use Rattle.sk_record.specs.Strike.{strike};
 ghost use Rattle.sk_ids.specs.Entity.{entity_cmp};
 ghost use Rattle.sk_trace.specs.Entry.{EntryView};
@@ -11,7 +11,7 @@ ghost use Rattle.sk_plain.specs.Act.{plain};
 ghost use Rattle.sk_plain.specs.Planned.{writes_of};
 ghost use Rattle.sk_plain.specs.Seen.{CanPerform, seen_with, written_in};
 ghost use Rattle.sk_plain.specs.declared.refusal.Refusal.TheVariants.{Memory};
-ghost use Rattle.sk_plain.specs.Remaining.{depends, remaining, refusal_in, EndsBy};
+ghost use Rattle.sk_plain.specs.Remaining.{depends, remaining, refusal_in, EndsBy, BeginsWell};
 
 use crate::{Entry, Plan, Refusal, apply_plan, plan_step};
 use sk_ids::{Entity, GuessId, Pid};
@@ -110,6 +110,7 @@ fn one_entry(
     ensures run { OnOk result ((rest : List EntryView) → run (plain scripts.now) store.new rest ≡ run (plain scripts.now) store.old (entry.now ∷ rest)) }
     ensures passed { OnOk result ((rest : List EntryView) → refusal_in scripts.now store.new rest ≡ refusal_in scripts.now store.old (entry.now ∷ rest)) }
     ensures refused { IfErr result (λ why. (rest : List EntryView) → EndsBy (refusal_in scripts.now store.old (entry.now ∷ rest)) why) }
+    ensures memory { IfErr result (λ why. why ≡ Memory → IsOk (outcome (plain scripts.now) store.old entry.now)) }
 {
     let plan = match plan_step(store, scripts, entry.pid, &entry.input) {
         Ok(plan) => plan,
@@ -131,6 +132,7 @@ pub fn strike_guess(
     ensures legal { OnOk result (IsLegal (plain scripts.now) store.old entries.now) }
     ensures run { OnOk result (store.new ≡ run (plain scripts.now) store.old entries.now) }
     ensures refused { IfErr result (λ why. EndsBy (refusal_in scripts.now store.old entries.now) why) }
+    ensures memory { IfErr result (λ why. why ≡ Memory → BeginsWell scripts.now store.old entries.now) }
 {
     let mut dirty: Vec<Entity> = Vec::new(alloc);
     let mut kept: Vec<Entry> = Vec::new(alloc);

@@ -202,17 +202,17 @@ fn take_event(
 ) -> Result<(), Fault>
     ensures { (es : List (Happens EntryView)) → IsReplay scripts.now es replay.old → Goes scripts.now es (image event.now) replay.old replay.new result }
 {
-    match *event {
+    match event {
         Event::Step { pid, input } => {
-            let guess = None;
+            let (pid, input, guess) = (*pid, input.input(), None);
             take_entry(replay, scripts, &Entry { pid, input, guess })
         }
         Event::Guess { id, pid, input } => {
-            let guess = Some(id);
+            let (pid, input, guess) = (*pid, input.input(), Some(*id));
             take_entry(replay, scripts, &Entry { pid, input, guess })
         }
-        Event::Commit(id) => commit(replay, id),
-        Event::Fail(id) => fail(alloc, replay, scripts, id),
+        Event::Commit(id) => commit(replay, *id),
+        Event::Fail(id) => fail(alloc, replay, scripts, *id),
     }
 }
 

@@ -10,8 +10,8 @@ use sk_script::Input;
 pub fn upcoming(call: &Call) -> Option<(Pid, Input)>
     ensures { result ≡ upcoming call.now }
 {
-    match *call {
-        Call::Step(pid, input) | Call::Guess(pid, input) => Some((pid, input)),
+    match call {
+        Call::Step(pid, input) | Call::Guess(pid, input) => Some((*pid, input.input())),
         Call::Commit(_) | Call::Fail(_) => None,
     }
 }

@@ -1,6 +1,7 @@
 //! Replaying a trace on a session.
-ghost use Rattle.std.specs.Prelude.{◌≡◌};
+ghost use Rattle.std.specs.Prelude.{◌≡◌, IfOk};
 ghost use Rattle.sk_play.specs.Replays.{call_of, told_by, ReplaysSo};
+ghost use Rattle.sk_play.specs.Session.{held_after, AnswerMatches};
 
 use crate::{Answer, Session};
 use sk_scenario::Call;
@@ -29,14 +30,16 @@ impl From<AllocError> for Unreplayed {
     }
 }
 
-fn call_of(event: &Event) -> Call
-    ensures { result ≡ call_of event.now }
+/// Makes the call of an event.
+fn call_again(session: &mut Session, event: &Event) -> Result<Answer, AllocError>
+    ensures held { IfOk result (λ answer. session.new.holder.held ≡ held_after answer (call_of event.now) session.old.holder.held) }
+    ensures told { IfOk result (λ answer. AnswerMatches answer (call_of event.now) session.old.holder.held session.old.holder.kernel session.new.holder.kernel) }
 {
-    match *event {
-        Event::Step { pid, input } => Call::Step(pid, input),
-        Event::Guess { pid, input, .. } => Call::Guess(pid, input),
-        Event::Commit(id) => Call::Commit(id),
-        Event::Fail(id) => Call::Fail(id),
+    match event {
+        Event::Step { pid, input } => session.step(*pid, input.input()),
+        Event::Guess { pid, input, .. } => session.guess(*pid, input.input()),
+        Event::Commit(id) => session.execute(&Call::Commit(*id)),
+        Event::Fail(id) => session.execute(&Call::Fail(*id)),
     }
 }
 
@@ -44,9 +47,9 @@ fn call_of(event: &Event) -> Call
 fn told_by(event: &Event) -> Answer
     ensures { result ≡ told_by event.now }
 {
-    match *event {
+    match event {
         Event::Step { .. } => Answer::Stepped,
-        Event::Guess { id, .. } => Answer::Guessed(id),
+        Event::Guess { id, .. } => Answer::Guessed(*id),
         Event::Commit(_) | Event::Fail(_) => Answer::Done,
     }
 }
@@ -57,7 +60,7 @@ pub fn replay(session: &mut Session, events: &[Event]) -> Result<(), Unreplayed>
     ensures { ReplaysSo result events.now session.old.holder.held session.old.holder.kernel session.new.holder.held session.new.holder.kernel }
 {
     for (place, event) in events.iter().enumerate() {
-        let answer = session.execute(&call_of(event))?;
+        let answer = call_again(session, event)?;
         if answer != told_by(event) {
             return Err(Unreplayed::Entry(place + 1));
         }

@@ -64,14 +64,14 @@ impl Session {
             (λ _. CanWantMemory step.now self.old.holder.kernel × (self.new.holder ≡ self.old.holder)) }
     {
         match step {
-            Call::Step(pid, input) => self.step(*pid, *input),
-            Call::Guess(pid, input) => self.guess(*pid, *input),
+            Call::Step(pid, input) => self.step(*pid, input.input()),
+            Call::Guess(pid, input) => self.guess(*pid, input.input()),
             Call::Commit(id) => Ok(answer_of(self.holder.commit(*id))),
             Call::Fail(id) => Ok(answer_of(self.holder.fail(*id))),
         }
     }
 
-    fn step(&mut self, pid: Pid, input: Input) -> Result<Answer, AllocError>
+    pub(crate) fn step(&mut self, pid: Pid, input: Input) -> Result<Answer, AllocError>
         ensures held { self.new.holder.held ≡ self.old.holder.held }
         ensures told { let refused = step_refused self.old.holder.kernel (entry pid input None) in
             MatchResult result (λ answer. StepTold answer refused (events.Step pid input) self.old.holder.kernel self.new.holder.kernel)
@@ -83,7 +83,7 @@ impl Session {
         }
     }
 
-    fn guess(&mut self, pid: Pid, input: Input) -> Result<Answer, AllocError>
+    pub(crate) fn guess(&mut self, pid: Pid, input: Input) -> Result<Answer, AllocError>
         ensures held { IfOk result (λ answer. self.new.holder.held ≡ with_guess answer self.old.holder.held) }
         ensures told { let next = next_guess self.old.holder.kernel in
             let refused = guess_refused self.old.holder.kernel (entry pid input (Some next)) in

@@ -1,3 +1,4 @@
 pub mod Files
+pub mod Talked
 mod Plainly
 pub mod Listed

@@ -6,6 +6,7 @@ pub mod playing;
 pub mod program;
 pub mod replaying;
 pub mod striking;
+pub mod talking;
 pub mod worlds;
 
 pub use program::{run, run_file, run_text};

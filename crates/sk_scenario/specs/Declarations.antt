@@ -15,7 +15,6 @@ use Rattle.sk_words.specs.declared.fault.FaultKind.TheVariants as kinds
 use Rattle.sk_words.specs.Faults.{◌>>=◌}
 use Rattle.sk_words.specs.Literals.{literal}
 use Rattle.sk_words.specs.Operands.{name, natural, index, short, none_of, one_of, two_of, three_of}
-use Rattle.sk_words.specs.Reading.{TellsKind}
 use Rattle.sk_words.specs.Tables.{Rule, rule_in, unknown}
 use Rattle.sk_scenario.specs.declared.declarations.Heading.{Heading}
 use Rattle.sk_scenario.specs.declared.declarations.Heading.TheVariants as headings
@@ -138,7 +137,13 @@ abbrev pub line_said : Declared → Option (List ℕ × List (List ℕ)) → Res
 line_said d None = Ok (says.Declared, d)
 line_said d (Some x) = says_next d x.0 x.1
 
+-- The kind that is told of a line of which this is said: that of its fault, or want of memory where it declares
+-- something. A heading takes no memory.
+abbrev pub TellsNext : FaultKind → Result (Said × Declared) FaultKind → Type 0
+TellsNext e (Ok x) = (e ≡ kinds.Memory) × (x.0 ≡ says.Declared)
+TellsNext e (Err k) = e ≡ k
+
 -- a function answers what is said, and leaves what is declared then, or a kind is told and nothing has changed
 abbrev pub SaysNext : Result Said FaultKind → Result (Said × Declared) FaultKind → Declared → Declared → Type 0
 SaysNext (Ok s) said old new = said ≡ Ok (s, new)
-SaysNext (Err e) said old new = TellsKind e said × (new ≡ old)
+SaysNext (Err e) said old new = TellsNext e said × (new ≡ old)

@@ -1,5 +1,6 @@
 -- What a whole scenario says: its declarations, with the scripts between them, and the section below.
-use Rattle.std.specs.Prelude.{◌≡◌, ℕ, ◌+◌, ◌-◌, Bool, false, List, [], ◌∷◌, ◌++◌, drop, Option, Some, None, Result, Ok, Err, codes, bytes_eq, if◌then◌else◌}
+use Rattle.std.specs.Prelude.{◌≡◌, ◌≤◌, ◌<◌, ◌⊎◌, ℕ, ◌+◌, ◌-◌, Bool, true, false, not, List, [], ◌∷◌, ◌++◌, length, drop, Option, Some, None, Result, Ok, Err, codes, bytes_eq, if◌then◌else◌}
+use Rattle.std.specs.List.{list_all}
 use Rattle.std.specs.Str.Lines.{lines}
 use Rattle.sk_words.specs.declared.fault.FaultKind.{FaultKind}
 use Rattle.sk_words.specs.declared.fault.FaultKind.TheVariants as kinds
@@ -7,9 +8,9 @@ use Rattle.sk_words.specs.declared.fault.Fault.{Fault}
 use Rattle.sk_words.specs.Faults.{◌>>=◌}
 use Rattle.sk_words.specs.Words.{words, first_of}
 use Rattle.sk_words.specs.Operands.{none_of}
-use Rattle.sk_words.specs.Reading.{at, read_from}
+use Rattle.sk_words.specs.Reading.{at, read_from, Tells}
 use Rattle.sk_script.specs.declared.instruction.Instruction.{Instruction}
-use Rattle.sk_script.specs.Scripting.{script_from, TellsScript}
+use Rattle.sk_script.specs.Scripting.{script_from}
 use Rattle.sk_scenario.specs.declared.declarations.Heading.{Heading}
 use Rattle.sk_scenario.specs.declared.declarations.Heading.TheVariants as headings
 use Rattle.sk_scenario.specs.declared.declarations.Said.{Said}
@@ -108,25 +109,71 @@ scenario_from d (Some b) number (l ∷ ls) =
 abbrev pub scenario_of : List ℕ → Result ScenarioView Fault
 scenario_of text = scenario_from nothing_declared None 1 (lines text)
 
--- the scenario, or the fault that is told of it, whose last line has this number
-abbrev pub Says : Result Scenario Fault → Result ScenarioView Fault → ℕ → Type 0
-Says (Ok s) said last = said ≡ Ok (scenario_view s)
-Says (Err f) said last = TellsScript last f said
+-- ---- the fault that is told
+
+-- whether the first word of a line is `script`
+abbrev pub begins_script_of : List (List ℕ) → Bool
+begins_script_of [] = false
+begins_script_of (w ∷ ws) = bytes_eq (codes "script") w
+
+abbrev pub begins_script : List ℕ → Bool
+begins_script line = begins_script_of (words line)
+
+-- none of the lines ends a script
+abbrev pub NoEnd : List (List ℕ) → Type 0
+NoEnd ls = list_all (λ line. not (is_end line)) ls ≡ true
+
+-- A line of a script whose fault is told behind something else: its first, before which all its labels are collected,
+-- or its last where none ends it, whose fault that is.
+abbrev pub IsEdge : ℕ → ℕ → List (List ℕ) → ℕ → Type 0
+IsEdge first last ls n = (n ≡ first) ⊎ ((first ≤ n) × (n ≡ last) × NoEnd ls)
+
+-- such a line of a script in a text, behind whose heading these lines stand
+pub record IsScriptEdge (text : List (List ℕ)) (n : ℕ) : Type 0 where
+  pub before : List (List ℕ)
+  pub heading : List ℕ
+  pub behind : List (List ℕ)
+  pub cut : text ≡ before ++ heading ∷ behind
+  pub begins : begins_script heading ≡ true
+  pub edge : IsEdge (length before + 2) (length text) behind n
+
+-- Want of memory is told before a fault: at one of the lines before it, or at its own line where that is an edge.
+abbrev pub ComesBefore : (ℕ → Type 0) → Fault → Fault → Type 0
+ComesBefore Edge f g = (f.line < g.line) ⊎ ((f.line ≡ g.line) × Edge f.line)
+
+-- The fault that is told of lines of which this is said, the first and the last of them having these numbers: the
+-- first fault, or want of memory before it.
+abbrev pub TellsUpTo : {S : Type 0} → (ℕ → Type 0) → ℕ → ℕ → Fault → Result S Fault → Type 0
+TellsUpTo Edge first last f (Ok s) = (f.kind ≡ kinds.Memory) × (first ≤ f.line) × (f.line ≤ last)
+TellsUpTo Edge first last f (Err g) = (f ≡ g) ⊎ ((f.kind ≡ kinds.Memory) × (first ≤ f.line) × ComesBefore Edge f g)
+
+-- the scenario of these lines, or the fault that is told of it
+abbrev pub Says : Result Scenario Fault → Result ScenarioView Fault → List (List ℕ) → Type 0
+Says (Ok s) said text = said ≡ Ok (scenario_view s)
+Says (Err f) said text = TellsUpTo (IsScriptEdge text) 1 (length text) f said
 
 -- ---- what functions answer, in these words
 
--- what was said is what the rest says, or a fault is told of it
-abbrev pub Goes : Result (Unit {0}) Fault → Result ScenarioView Fault → Result ScenarioView Fault → ℕ → Type 0
-Goes (Ok u) said rest last = said ≡ rest
-Goes (Err f) said rest last = TellsScript last f said
+-- what is said of a script's lines, or a fault is told of it
+abbrev pub Goes : Result (Unit {0}) Fault → Result ScenarioView Fault → Result ScenarioView Fault → ℕ → ℕ → List (List ℕ) → Type 0
+Goes (Ok u) said rest first last ls = said ≡ rest
+Goes (Err f) said rest first last ls = TellsUpTo (IsEdge first last ls) first last f said
 
--- the same where a section may end the scenario
-abbrev pub GoesOn : Result (Option Section) Fault → Result ScenarioView Fault → Declared → Result ScenarioView Fault → ℕ → Type 0
-GoesOn (Ok None) said d rest last = said ≡ rest
-GoesOn (Ok (Some section)) said d rest last = said ≡ Ok (record { declarations = d; section = section_view section })
-GoesOn (Err f) said d rest last = TellsScript last f said
+-- the edges of what a line began
+abbrev pub IsEdgeOf : Said → ℕ → ℕ → List (List ℕ) → ℕ → Type 0
+IsEdgeOf s first last ls n = (name : List ℕ) × (s ≡ says.Script name) × IsEdge first last ls n
+
+-- what is said of what a line began, where a section ends the scenario
+abbrev pub GoesOn : Result (Option Section) Fault → Said → Result ScenarioView Fault → Declared → Result ScenarioView Fault → ℕ → ℕ → List (List ℕ) → Type 0
+GoesOn (Ok None) s said d rest first last ls = said ≡ rest
+GoesOn (Ok (Some section)) s said d rest first last ls = said ≡ Ok (record { declarations = d; section = section_view section })
+GoesOn (Err f) s said d rest first last ls = TellsUpTo (IsEdgeOf s first last ls) first last f said
 
 -- a section, or a fault is told
-abbrev pub SaysSection : Result Section Fault → Result ScenarioView Fault → Declared → ℕ → Type 0
-SaysSection (Ok section) said d last = said ≡ Ok (record { declarations = d; section = section_view section })
-SaysSection (Err f) said d last = TellsScript last f said
+abbrev pub SaysSection : Result Section Fault → Result ScenarioView Fault → Declared → ℕ → ℕ → Type 0
+SaysSection (Ok section) said d first last = said ≡ Ok (record { declarations = d; section = section_view section })
+SaysSection (Err f) said d first last = Tells first last f said
+
+-- the first lines are the last of the second
+abbrev pub AreLeft : List (List ℕ) → List (List ℕ) → Type 0
+AreLeft left ls = (before : List (List ℕ)) × (ls ≡ before ++ left)

@@ -5,17 +5,17 @@ ghost use Rattle.sk_words.specs.Tables.{with_said};
 ghost use Rattle.sk_scenario.specs.Calls.{call};
 
 use sk_ids::{GuessId, Pid};
-use sk_script::Input;
+use sk_trace::KeptInput;
 use sk_trace::line::step;
 use sk_words::{FaultKind, Reader, Words, first_word, one};
 use std::alloc::Global;
 use std::marker::Model;
 
-/// One call of the kernel.
-#[derive(Clone, Copy, Debug, PartialEq, Eq)]
+/// One call of the kernel, in a few words.
+#[derive(Debug, PartialEq, Eq, Drop)]
 pub enum Call {
-    Step(Pid, Input),
-    Guess(Pid, Input),
+    Step(Pid, KeptInput),
+    Guess(Pid, KeptInput),
     Commit(GuessId),
     Fail(GuessId),
 }
@@ -71,11 +71,13 @@ impl Calls {
             "step" => {
                 let (pid, input) = step(words)?;
                 self.steps.reserve(1)?;
+                let input = KeptInput::keep(*self.steps.allocator(), &input)?;
                 self.steps.push_reserved(Call::Step(pid, input));
             }
             "guess" => {
                 let (pid, input) = step(words)?;
                 self.steps.reserve(1)?;
+                let input = KeptInput::keep(*self.steps.allocator(), &input)?;
                 self.steps.push_reserved(Call::Guess(pid, input));
             }
             "commit" => {

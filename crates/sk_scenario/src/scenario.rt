@@ -5,7 +5,7 @@ ghost use Rattle.sk_words.specs.Lines.{last_line};
 ghost use Rattle.std.specs.List.{list_all};
 ghost use Rattle.sk_words.specs.Reading.{Leaves};
 ghost use Rattle.sk_scenario.specs.Declarations.{Declared};
-ghost use Rattle.sk_scenario.specs.Scenario.{is_end, ended, goes_on, section_from, scenario_from, scenario_of, Says, SaysSection, Goes, GoesOn};
+ghost use Rattle.sk_scenario.specs.Scenario.{is_end, ended, goes_on, section_from, scenario_from, scenario_of, Says, SaysSection, Goes, GoesOn, NoEnd, AreLeft};
 
 use crate::call::Calls;
 use crate::declarations::{Declarations, Heading, Said};
@@ -37,7 +37,7 @@ pub struct Scenario {
 impl Scenario {
     /// The scenario that a text says, or its first faulty line.
     pub fn parse(alloc: Global, text: &[u8]) -> Result<Scenario, Fault>
-        ensures { Says result (scenario_of text.now) (length (lines text.now)) }
+        ensures { Says result (scenario_of text.now) (lines text.now) }
     {
         let mut declarations = Declarations::new(alloc);
         let mut cursor = Cursor::of(text);
@@ -69,7 +69,8 @@ fn go_on(
 ) -> Result<Option<Section>, Fault>
     ensures left { length cursor.new.lines ≤ length cursor.old.lines }
     ensures last { last_line cursor.new ≡ last_line cursor.old }
-    ensures said { GoesOn result (goes_on said declarations.old (cursor.old.line + 1) cursor.old.lines (λ begun. scenario_from declarations.old begun (cursor.old.line + 1) cursor.old.lines)) declarations.new (scenario_from declarations.new None (cursor.new.line + 1) cursor.new.lines) (last_line cursor.old) }
+    ensures rest { AreLeft cursor.new.lines cursor.old.lines }
+    ensures said { GoesOn result said (goes_on said declarations.old (cursor.old.line + 1) cursor.old.lines (λ begun. scenario_from declarations.old begun (cursor.old.line + 1) cursor.old.lines)) declarations.new (scenario_from declarations.new None (cursor.new.line + 1) cursor.new.lines) (cursor.old.line + 1) (last_line cursor.old) cursor.old.lines }
 {
     match said {
         Said::Declared => Ok(None),
@@ -101,7 +102,7 @@ fn is_end(line: &[u8]) -> bool
 /// Takes a script's lines, up to the first whose first word is `end`.
 fn take_script<'a>(cursor: &mut Cursor<'a>) -> ScriptLines<'a>
     ensures first { result.lines.line ≡ cursor.old.line }
-    ensures none { list_all (λ line. not (is_end line)) result.lines.lines ≡ true }
+    ensures none { NoEnd result.lines.lines }
     ensures end { MatchOption result.end (cursor.old.lines ≡ result.lines.lines × cursor.new.lines ≡ []) (λ line. (cursor.old.lines ≡ result.lines.lines ++ line.now ∷ cursor.new.lines) × (is_end line.now ≡ true)) }
     ensures line { MatchOption result.end (cursor.new.line ≡ cursor.old.line + length result.lines.lines) (λ line. cursor.new.line ≡ cursor.old.line + length result.lines.lines + 1) }
 {
@@ -132,7 +133,8 @@ fn script(
 ) -> Result<(), Fault>
     ensures left { length cursor.new.lines ≤ length cursor.old.lines }
     ensures last { last_line cursor.new ≡ last_line cursor.old }
-    ensures goes { Goes result (scenario_from declarations.old (Some (record { name = name; first = cursor.old.line + 1; lines = [] })) (cursor.old.line + 1) cursor.old.lines) (scenario_from declarations.new None (cursor.new.line + 1) cursor.new.lines) (last_line cursor.old) }
+    ensures rest { AreLeft cursor.new.lines cursor.old.lines }
+    ensures goes { Goes result (scenario_from declarations.old (Some (record { name = name; first = cursor.old.line + 1; lines = [] })) (cursor.old.line + 1) cursor.old.lines) (scenario_from declarations.new None (cursor.new.line + 1) cursor.new.lines) (cursor.old.line + 1) (last_line cursor.old) cursor.old.lines }
 {
     let taken = take_script(cursor);
     let script = Script::parse_lines(alloc, &taken.lines)?;
@@ -162,7 +164,7 @@ fn ended(
 
 /// The section below a heading.
 fn section_of(alloc: Global, heading: Heading, lines: &Cursor) -> Result<Section, Fault>
-    ensures { (d : Declared) → SaysSection result (section_from d heading (lines.now.line + 1) lines.now.lines) d (last_line lines.now) }
+    ensures { (d : Declared) → SaysSection result (section_from d heading (lines.now.line + 1) lines.now.lines) d (lines.now.line + 1) (last_line lines.now) }
 {
     match heading {
         Heading::Steps => Ok(Section::Steps(read(Calls::new(alloc), lines)?)),

@@ -1,5 +1,5 @@
 -- What a script says: its instructions in order, or its first fault and the line where it stands.
-use Rattle.std.specs.Prelude.{◌≡◌, ◌≤◌, ◌⊎◌, ℕ, ◌+◌, ◌-◌, min, List, [], ◌∷◌, ◌++◌, Option, Some, None, Result, Ok, Err, length, take, slice_index, ◌==◌, if◌then◌else◌, refl}
+use Rattle.std.specs.Prelude.{◌≡◌, ◌<◌, ◌≤◌, ◌⊎◌, ℕ, ◌+◌, ◌-◌, min, List, [], ◌∷◌, ◌++◌, Option, Some, None, Result, Ok, Err, length, take, slice_index, ◌==◌, if◌then◌else◌, refl}
 use Rattle.std.specs.Str.Lines as text
 use Rattle.std.specs.Coded.{Coded, code_by, coded×, coded_ℕ, coded_list}
 use Rattle.sk_words.specs.declared.fault.FaultKind.{FaultKind}
@@ -121,17 +121,21 @@ script_of bytes = script_from 1 (text.lines bytes)
 
 -- ---- what functions answer, in these words
 
--- The fault that is told of a script of which this is said, whose last line has this number: the first fault, or want
--- of memory at a line before which none has a fault. All labels are collected before the first line is read, so
--- that this line may have a fault of its own.
-abbrev pub TellsScript : {S : Type 0} → ℕ → Fault → Result S Fault → Type 0
-TellsScript last f (Ok s) = (f.kind ≡ kinds.Memory) × (f.line ≤ last)
-TellsScript last f (Err g) = (f ≡ g) ⊎ ((f.kind ≡ kinds.Memory) × (f.line ≤ g.line))
+-- Want of memory is told before a fault: at one of the lines before it, or at the first. All labels are collected
+-- before the first line is read, so that this line may have a fault of its own.
+abbrev pub ComesFirst : ℕ → Fault → Fault → Type 0
+ComesFirst first f g = (f.line ≡ first) ⊎ ((first ≤ f.line) × (f.line < g.line))
+
+-- The fault that is told of a script of which this is said, whose first and last lines have these numbers: the first
+-- fault, or want of memory before it.
+abbrev pub TellsScript : {S : Type 0} → ℕ → ℕ → Fault → Result S Fault → Type 0
+TellsScript first last f (Ok s) = (f.kind ≡ kinds.Memory) × (first ≤ f.line) × (f.line ≤ last)
+TellsScript first last f (Err g) = (f ≡ g) ⊎ ((f.kind ≡ kinds.Memory) × ComesFirst first f g)
 
 -- the script, or the fault that is told of it
-abbrev pub Parses : Result (List Instruction) Fault → Result (List Instruction) Fault → ℕ → Type 0
-Parses (Ok s) said last = said ≡ Ok s
-Parses (Err f) said last = TellsScript last f said
+abbrev pub Parses : Result (List Instruction) Fault → Result (List Instruction) Fault → ℕ → ℕ → Type 0
+Parses (Ok s) said first last = said ≡ Ok s
+Parses (Err f) said first last = TellsScript first last f said
 
 abbrev pub seen : code.Line → Line
 seen cases.Ignored = Ignored

@@ -156,14 +156,14 @@ impl Reader for Reading {
 impl Script {
     /// The script that a text says, or its first faulty line, from 1 on, with what is wrong there.
     pub fn parse(alloc: Global, text: &[u8]) -> Result<Script, Fault>
-        ensures { Parses result (script_of text.now) (length (lines text.now)) }
+        ensures { Parses result (script_of text.now) 1 (length (lines text.now)) }
     {
         Script::parse_lines(alloc, &Cursor::of(text))
     }
 
     /// The script that these lines say, or their first faulty line.
     pub fn parse_lines(alloc: Global, lines: &Cursor) -> Result<Script, Fault>
-        ensures { Parses result (script_from (lines.now.line + 1) lines.now.lines) (last_line lines.now) }
+        ensures { Parses result (script_from (lines.now.line + 1) lines.now.lines) (lines.now.line + 1) (last_line lines.now) }
     {
         let Ok(all) = labels_of(alloc, lines) else {
             return Err(Fault {

@@ -14,6 +14,10 @@ abbrev pub listed_for : ℕ → List Resting → List ℕ
 listed_for g [] = []
 listed_for g (r ∷ rs) = if r.guess == g then r.terminals.items else listed_for g rs
 
+-- some terminal is listed for a guess
+abbrev pub IsListed : ℕ → List Resting → Type 0
+IsListed g rs = ¬ (listed_for g rs ≡ [])
+
 -- each terminal at which a text rests on a guess is listed for it
 abbrev pub AllListed : TerminalMap → List Resting → Type 0
 AllListed m rs = (g t : ℕ) → rests_at g m t ≡ true → has t (listed_for g rs) ≡ true

@@ -1,8 +1,9 @@
 //! What was said to each terminal.
-ghost use Rattle.std.specs.Prelude.{◌≡◌, ◌↔◌, ℕ, IsTrue, OnOk, OnErr};
+ghost use Rattle.std.specs.Prelude.{◌≡◌, ◌↔◌, ◌<◌, [], ℕ, IsTrue, OnOk, OnErr};
 ghost use Rattle.std.specs.Option.{option_copied, option_map};
 ghost use Rattle.std.specs.FinMap as map;
 ghost use Rattle.sk_record.specs.Machine.{lightened, not_dropped};
+ghost use Rattle.sk_terminal.specs.Resting.{listed_for, AllListed, IsListed, NoneRests};
 ghost use Rattle.sk_terminal.specs.Terminals.{texts_at, said_to};
 
 use crate::Terminal;
@@ -103,9 +104,20 @@ impl Terminals {
         ensures terminals { (t : ℕ) → map.get self.new t ≡ option_map (not_dropped id) (map.get self.old t) }
         ensures texts { (t : ℕ) → texts_at self.new t ≡ not_dropped id (texts_at self.old t) }
     {
-        if let Some(numbers) = take_list(&mut self.lists, id) {
-            self.numbered.drop_of(numbers.as_slice(), id);
-            forget(&mut self.lists, &self.numbered, id);
-        }
+        throw_away(&mut self.numbered, &mut self.lists, id);
+    }
+}
+
+/// Throws away the texts that rest on a guess, its list, and those of the guesses that its failure
+/// struck.
+fn throw_away(numbered: &mut Numbered, lists: &mut Vec<Resting>, id: GuessId)
+    requires { AllListed numbered.old lists.old.items }
+    ensures terminals { (t : ℕ) → map.get numbered.new t ≡ option_map (not_dropped id) (map.get numbered.old t) }
+    ensures listed { AllListed numbered.new lists.new.items }
+    ensures gone { IsListed id lists.old.items → (g : ℕ) → id < g → NoneRests g numbered.new → listed_for g lists.new.items ≡ [] }
+{
+    if let Some(numbers) = take_list(lists, id) {
+        numbered.drop_of(numbers.as_slice(), id);
+        forget(lists, numbered, id);
     }
 }

@@ -24,7 +24,8 @@ use Rattle.sk_script.specs.declared.instruction.Input.TheVariants as inputs
 use Rattle.sk_script.specs.StepInput.{content, input, content_words, input_words}
 use Rattle.sk_trace.specs.declared.event.Event.{Event}
 use Rattle.sk_trace.specs.declared.event.Event.TheVariants as events
-use Rattle.sk_trace.specs.Event.{IsInput, IsEvent}
+use Rattle.sk_trace.specs.Event.{IsEvent}
+use Rattle.sk_trace.specs.Kept.{IsInput}
 use Rattle.sk_trace.specs.Lines.{step, numbered_step, event, event_line, trace_of}
 use Rattle.sk_trace.specs.Text.{event_words, event_text, trace_text}
 

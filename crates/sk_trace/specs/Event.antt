@@ -2,11 +2,8 @@
 use Rattle.std.specs.Prelude.{Option, Some, None}
 use Rattle.sk_ids.specs.Pid.{IsPath}
 use Rattle.sk_ids.specs.Guess.{IsGuessNumber}
-use Rattle.sk_objects.specs.Value.{IsContent}
-use Rattle.sk_words.specs.Printed.{AreBytes}
-use Rattle.sk_script.specs.declared.instruction.Input.{Input}
-use Rattle.sk_script.specs.declared.instruction.Input.TheVariants as inputs
 use Rattle.sk_trace.specs.Entry.{EntryView}
+use Rattle.sk_trace.specs.Kept.{IsInput}
 use Rattle.sk_trace.specs.declared.event.Event.{Event}
 use Rattle.sk_trace.specs.declared.event.Event.TheVariants as events
 
@@ -18,12 +15,6 @@ entry_of (events.Commit id) = None
 entry_of (events.Fail id) = None
 
 -- ---- what holds of every event
-
-abbrev pub IsInput : Input → Type 0
-IsInput inputs.None = Unit {0}
-IsInput inputs.Good = Unit {0}
-IsInput (inputs.Fresh c) = IsContent c × AreBytes c.bytes
-IsInput (inputs.Stale c) = IsContent c × AreBytes c.bytes
 
 abbrev pub IsEvent : Event → Type 0
 IsEvent (events.Step pid input) = IsPath pid × IsInput input

@@ -1,4 +1,5 @@
 pub mod Entry
+pub mod Kept
 pub mod Event
 pub mod Trace
 pub mod Lines

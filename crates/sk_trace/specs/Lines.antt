@@ -57,6 +57,6 @@ abbrev pub trace_of : List ℕ → Result (List Event) Fault
 trace_of text = trace_from 1 (lines text)
 
 -- a trace has the events that are said, or the fault is told of them
-abbrev pub Says : Result TraceView Fault → Result (List Event) Fault → ℕ → Type 0
-Says (Ok t) said last = said ≡ Ok t.events
-Says (Err f) said last = Tells last f said
+abbrev pub Says : Result TraceView Fault → Result (List Event) Fault → ℕ → ℕ → Type 0
+Says (Ok t) said first last = said ≡ Ok t.events
+Says (Err f) said first last = Tells first last f said

@@ -1,8 +1,8 @@
 //! What happens in a kernel: steps, guesses and their decisions.
 ghost use Rattle.std.specs.Prelude.{◌≡◌};
-ghost use Rattle.sk_words.specs.Printed.{AreBytes};
-ghost use Rattle.sk_trace.specs.Event.{entry_of, IsInput, IsEvent};
+ghost use Rattle.sk_trace.specs.Event.{entry_of, IsEvent};
 
+use crate::KeptInput;
 use sk_ids::{GuessId, Pid};
 use sk_script::Input;
 use std::marker::Model;
@@ -27,13 +27,20 @@ impl Model for Entry {
     ghost inverse = { λ e. record { pid = e.pid; input = e.input; guess = e.guess } };
 }
 
-/// Something that happened in a kernel.
-#[derive(Clone, Copy, Debug, PartialEq, Eq)]
+/// Something that happened in a kernel, in a few words.
+#[derive(Debug, PartialEq, Eq, Drop)]
 pub enum Event {
     /// A step that made no guess.
-    Step { pid: Pid, input: Input },
+    Step {
+        pid: Pid,
+        input: KeptInput,
+    },
     /// A step that made this guess.
-    Guess { id: GuessId, pid: Pid, input: Input },
+    Guess {
+        id: GuessId,
+        pid: Pid,
+        input: KeptInput,
+    },
     Commit(GuessId),
     Fail(GuessId),
 }
@@ -43,16 +50,16 @@ impl Event {
     pub fn entry(&self) -> Option<Entry>
         ensures { result ≡ entry_of self.now }
     {
-        match *self {
+        match self {
             Event::Step { pid, input } => Some(Entry {
-                pid,
-                input,
+                pid: *pid,
+                input: input.input(),
                 guess: None,
             }),
             Event::Guess { id, pid, input } => Some(Entry {
-                pid,
-                input,
-                guess: Some(id),
+                pid: *pid,
+                input: input.input(),
+                guess: Some(*id),
             }),
             Event::Commit(_) | Event::Fail(_) => None,
         }
@@ -62,15 +69,15 @@ impl Event {
     pub fn known(&self)
         ensures { IsEvent self.now }
     {
-        match *self {
+        match self {
             Event::Step { pid, input } => {
                 pid.path();
-                known_input(&input);
+                input.known();
             }
             Event::Guess { id, pid, input } => {
                 id.number();
                 pid.path();
-                known_input(&input);
+                input.known();
             }
             Event::Commit(id) | Event::Fail(id) => {
                 id.number();
@@ -78,21 +85,3 @@ impl Event {
         }
     }
 }
-
-/// What holds of every input, for proofs.
-fn known_input(input: &Input)
-    ensures { IsInput input.now }
-{
-    match input {
-        Input::None | Input::Good => {}
-        Input::Fresh(content) | Input::Stale(content) => {
-            content.known();
-            known_bytes(content.bytes().as_slice());
-        }
-    }
-}
-
-/// What holds of all bytes, for proofs.
-fn known_bytes(bytes: &[u8])
-    ensures { AreBytes bytes.now }
-{}

@@ -2,10 +2,12 @@
 #![tactic(auto)]
 
 pub mod event;
+pub mod kept;
 pub mod laws;
 pub mod line;
 pub mod print;
 pub mod trace;
 
 pub use event::{Entry, Event};
+pub use kept::KeptInput;
 pub use trace::Trace;

@@ -5,8 +5,8 @@ ghost use Rattle.sk_words.specs.Tables.{with_said};
 ghost use Rattle.sk_trace.specs.Event.{IsEvent};
 ghost use Rattle.sk_trace.specs.Lines.{step, numbered_step, event};
 
-use crate::Event;
 use crate::trace::add;
+use crate::{Event, KeptInput};
 use sk_ids::{GuessId, Pid};
 use sk_script::Input;
 use sk_script::step_input::input;
@@ -93,22 +93,24 @@ impl Events {
             "step" => {
                 let (pid, input) = step(words)?;
                 self.events.reserve(1)?;
-                add(&mut self.events, &Event::Step { pid, input });
+                let input = KeptInput::keep(*self.events.allocator(), &input)?;
+                add(&mut self.events, Event::Step { pid, input });
             }
             "guess" => {
                 let (id, pid, input) = numbered_step(words)?;
                 self.events.reserve(1)?;
-                add(&mut self.events, &Event::Guess { id, pid, input });
+                let input = KeptInput::keep(*self.events.allocator(), &input)?;
+                add(&mut self.events, Event::Guess { id, pid, input });
             }
             "commit" => {
                 let id = one(words)?;
                 self.events.reserve(1)?;
-                add(&mut self.events, &Event::Commit(id));
+                add(&mut self.events, Event::Commit(id));
             }
             "fail" => {
                 let id = one(words)?;
                 self.events.reserve(1)?;
-                add(&mut self.events, &Event::Fail(id));
+                add(&mut self.events, Event::Fail(id));
             }
             _ => return Err(FaultKind::Word),
         }

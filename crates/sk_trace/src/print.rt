@@ -11,14 +11,14 @@ impl fmt::Display for Event {
     ghost output = { λ e. Some (event_text e) };
 
     fn fmt<W: fmt::Write>(&self, f: &mut fmt::Formatter<W>) -> fmt::Result {
-        match *self {
+        match self {
             Event::Step { pid, input } => {
-                let pid = Printed(pid);
+                let pid = Printed(*pid);
                 write!(f, "step {pid} {input}")
             }
             Event::Guess { id, pid, input } => {
                 let id = id.number();
-                let pid = Printed(pid);
+                let pid = Printed(*pid);
                 write!(f, "guess {id} {pid} {input}")
             }
             Event::Commit(id) => {

@@ -3,11 +3,13 @@ ghost use Rattle.std.specs.Prelude.{◌≡◌, ◌<◌, ◌+◌, ◌≤◌, ◌�
 ghost use Rattle.std.specs.Str.Lines.{lines};
 ghost use Rattle.sk_words.specs.Lines.{last_line};
 ghost use Rattle.sk_trace.specs.Event.{IsEvent};
+ghost use Rattle.sk_trace.specs.Kept.{HasContent};
 ghost use Rattle.sk_trace.specs.Lines.{trace_from, trace_of, Says};
 ghost use Rattle.sk_trace.specs.Text.{trace_text};
 
-use crate::Event;
 use crate::line::Events;
+use crate::{Event, KeptInput};
+use sk_script::Input;
 use sk_words::{Cursor, Fault, read};
 use std::alloc::{AllocError, Global};
 use std::fmt::Write;
@@ -33,21 +35,15 @@ impl Model for Trace {
     ghost invariant = { λ t. All IsEvent t.events.items };
 }
 
-/// Adds an event, for which there is room. Each variant is made anew, since the prover does not follow
-/// an event that is moved as a whole.
-pub(crate) fn add(events: &mut Vec<Event>, event: &Event)
+/// Adds an event, for which there is room. It moves: this takes no memory.
+pub(crate) fn add(events: &mut Vec<Event>, event: Event)
     requires { vec_len events.old < vec_capacity events.old }
-    ensures items { events.new.items ≡ events.old.items ++ event.now ∷ [] }
+    ensures items { events.new.items ≡ events.old.items ++ event ∷ [] }
     ensures capacity { vec_capacity events.new ≡ vec_capacity events.old }
-    ensures limits { IsEvent event.now }
+    ensures limits { IsEvent event }
 {
     event.known();
-    match *event {
-        Event::Step { pid, input } => events.push_reserved(Event::Step { pid, input }),
-        Event::Guess { id, pid, input } => events.push_reserved(Event::Guess { id, pid, input }),
-        Event::Commit(id) => events.push_reserved(Event::Commit(id)),
-        Event::Fail(id) => events.push_reserved(Event::Fail(id)),
-    }
+    events.push_reserved(event);
 }
 
 impl Trace {
@@ -62,14 +58,14 @@ impl Trace {
 
     /// The trace that a text says, or its first faulty line.
     pub fn parse(alloc: Global, text: &[u8]) -> Result<Trace, Fault>
-        ensures { Says result (trace_of text.now) (length (lines text.now)) }
+        ensures { Says result (trace_of text.now) 1 (length (lines text.now)) }
     {
         Trace::read(alloc, &Cursor::of(text))
     }
 
     /// The trace that the lines left of a text say, or the first of them that is faulty.
     pub fn read(alloc: Global, lines: &Cursor) -> Result<Trace, Fault>
-        ensures { Says result (trace_from (lines.now.line + 1) lines.now.lines) (last_line lines.now) }
+        ensures { Says result (trace_from (lines.now.line + 1) lines.now.lines) (lines.now.line + 1) (last_line lines.now) }
     {
         let events = read(Events::new(alloc), lines)?;
         Ok(Trace {
@@ -113,12 +109,20 @@ impl Trace {
         self.events.reserve(more)
     }
 
-    /// Adds an event, for which there is room.
+    /// Keeps an input for an event of this trace. It takes memory only for a content.
+    pub fn keep(&self, input: &Input) -> Result<KeptInput, AllocError>
+        ensures ok { IfOk result (λ kept. kept ≡ input.now) }
+        ensures err { OnErr result (HasContent input.now) }
+    {
+        KeptInput::keep(*self.events.allocator(), input)
+    }
+
+    /// Adds an event, for which there is room. This takes no memory.
     pub fn push(&mut self, event: Event)
         requires { 0 < self.old.room }
         ensures events { self.new.events ≡ self.old.events ++ event ∷ [] }
         ensures room { self.new.room + 1 ≡ self.old.room }
     {
-        add(&mut self.events, &event);
+        add(&mut self.events, event);
     }
 }

@@ -10,3 +10,4 @@ mod NewestNotes
 pub mod Joins
 pub mod Stable
 pub mod Runs
+mod GivenBack

@@ -4,6 +4,7 @@
 
 pub mod entity_logs;
 pub mod held;
+pub mod laws;
 pub mod log;
 pub mod logs;
 pub mod slot;

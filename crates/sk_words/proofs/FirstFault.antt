@@ -69,13 +69,13 @@ abbrev pub fault_at : ℕ → FaultKind → Fault
 fault_at n k = record { line = n; kind = k }
 
 -- what is told of the first line that is left is told of all of them
-pub told_here : {S : Type 0} (line : S → List ℕ → Result S FaultKind) (s : S) (n last : ℕ) (l : List ℕ) (ls : List (List ℕ)) (k : FaultKind) → n ≤ last → TellsKind k (line s l) → Tells last (fault_at n k) (read_from line s n (l ∷ ls))
-told_here line s n last l ls k within =
-    elim (line s l) as (λ said. TellsKind k said → Tells last (fault_at n k) (at n said (λ t. read_from line t (n + 1) ls))) [
+pub told_here : {S : Type 0} (line : S → List ℕ → Result S FaultKind) (s : S) (first n last : ℕ) (l : List ℕ) (ls : List (List ℕ)) (k : FaultKind) → first ≤ n → n ≤ last → TellsKind k (line s l) → Tells first last (fault_at n k) (read_from line s n (l ∷ ls))
+told_here line s first n last l ls k from within =
+    elim (line s l) as (λ said. TellsKind k said → Tells first last (fault_at n k) (at n said (λ t. read_from line t (n + 1) ls))) [
       | Err e ↦ λ h. inl (ap (fault_at n) h)
       | Ok t ↦ λ h.
-          elim (read_from line t (n + 1) ls) as (λ r. read_from line t (n + 1) ls ≡ r → Tells last (fault_at n k) r) [
-            | Ok u ↦ λ e. (h, within)
-            | Err g ↦ λ e. inr (h, omega (arith, fault_is_behind line t (n + 1) ls g e))
+          elim (read_from line t (n + 1) ls) as (λ r. read_from line t (n + 1) ls ≡ r → Tells first last (fault_at n k) r) [
+            | Ok u ↦ λ e. (h, from, within)
+            | Err g ↦ λ e. inr (h, from, omega (arith, fault_is_behind line t (n + 1) ls g e))
           ] refl
     ]

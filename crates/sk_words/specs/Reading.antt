@@ -25,16 +25,16 @@ abbrev pub Leaves : {S : Type 0} → Result (Unit {0}) FaultKind → Result S Fa
 Leaves (Ok u) said old new = said ≡ Ok new
 Leaves (Err e) said old new = TellsKind e said × (new ≡ old)
 
--- The fault that is told of lines of which this is said, the last of them having this number: the first fault, or
--- want of memory at a line that is before the first that has a fault.
-abbrev pub Tells : {S : Type 0} → ℕ → Fault → Result S Fault → Type 0
-Tells last f (Ok s) = (f.kind ≡ kinds.Memory) × (f.line ≤ last)
-Tells last f (Err g) = (f ≡ g) ⊎ ((f.kind ≡ kinds.Memory) × (f.line < g.line))
+-- The fault that is told of lines of which this is said, the first and the last of them having these numbers: the
+-- first fault, or want of memory at one of the lines before the first that has a fault.
+abbrev pub Tells : {S : Type 0} → ℕ → ℕ → Fault → Result S Fault → Type 0
+Tells first last f (Ok s) = (f.kind ≡ kinds.Memory) × (first ≤ f.line) × (f.line ≤ last)
+Tells first last f (Err g) = (f ≡ g) ⊎ ((f.kind ≡ kinds.Memory) × (first ≤ f.line) × (f.line < g.line))
 
 -- what is read of lines is what they say, or the fault is told
-abbrev pub Reads : {S : Type 0} → Result S Fault → Result S Fault → ℕ → Type 0
-Reads (Ok s) said last = said ≡ Ok s
-Reads (Err f) said last = Tells last f said
+abbrev pub Reads : {S : Type 0} → Result S Fault → Result S Fault → ℕ → ℕ → Type 0
+Reads (Ok s) said first last = said ≡ Ok s
+Reads (Err f) said first last = Tells first last f said
 
 -- The first line that has a fault: there is none before it, and it has this one.
 pub record IsFirstFault {S : Type 0} (line : S → List ℕ → Result S FaultKind) (s : S) (first : ℕ) (ls : List (List ℕ)) (f : Fault) : Type 0 where

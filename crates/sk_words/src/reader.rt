@@ -22,7 +22,7 @@ pub trait Reader: Sized + Drop {
 
 /// Takes in lines up to the first that has a fault.
 pub fn read<R: Reader>(reader: R, lines: &Cursor) -> Result<R, Fault>
-    ensures { Reads result (read_from R.said reader (lines.now.line + 1) lines.now.lines) (last_line lines.now) }
+    ensures { Reads result (read_from R.said reader (lines.now.line + 1) lines.now.lines) (lines.now.line + 1) (last_line lines.now) }
 {
     let mut reader = reader;
     let mut lines = lines.again();

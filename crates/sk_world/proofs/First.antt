@@ -106,6 +106,7 @@ module _ {E V W F P M D : Type 0} (S : Table E V W F P M D) (start : FinMap S.or
         above = λ y h. absurd (none_open y h);
         entries = record {
           own = λ n g there mark above. absurd (let le = is.drawn g (entry_drawn K start w.trace is.sound g (n, there, mark)) in omega arith);
+          its = λ n q there cause. (let both : Before ≡ For q = sym (is.before n there) ∙ cause in cc);
           tags = λ y h. absurd (none_open y h);
           sets = each_all _ (record_of K start w.trace) (effects K start (record_of K start w.trace)) (λ n f there q cause good. (let both : Before ≡ For q = sym (is.before n there) ∙ cause in cc));
         };
@@ -150,7 +151,7 @@ module _ {E V W F P M D : Type 0} (S : Table E V W F P M D) (start : FinMap S.or
   pub step_stands : (w : World P M D) → Holds S start table w → (q : Request P M D) → HasStep S start (record_of (kernel S) start w.trace) q → Stands S start w q
   step_stands w i q h =
       let at = entry_at (kernel S) _ start (record_of (kernel S) start w.trace) i.entries.sets h.0 h.1 in
-      record { entry = h.0; marked_effect = at.0; there = at.1; cause = h.2; input = h.3; sets = at.2 q h.2 h.3 }
+      record { entry = h.0; marked_effect = at.0; there = at.1; cause = h.2; process = i.entries.its h.0 q h.1 h.2; input = h.3; sets = at.2 q h.2 h.3 }
 
   -- what holds of the requests at the beginning
   facts_first : (w : World P M D) → IsFirst S start w → HasFacts S start table w w w
@@ -275,6 +276,7 @@ module _ {E V W F P M D : Type 0} (S : Table E V W F P M D) (start : FinMap S.or
       record {
         steps = its_reply first is w all;
         sets = λ n f q there cause good. each_at _ (record_of (kernel S) start w.trace) (effects (kernel S) start (record_of (kernel S) start w.trace)) all.0.entries.sets n f there q cause good;
+        its = all.0.entries.its;
         replies = λ q m v b there ask.
             let h = store_stands w all.0 q m v b (all.0.within (q, Yes) there) ask (inr there) in
             let o = t.owners.owner h.0 q h.1 h.2 in (

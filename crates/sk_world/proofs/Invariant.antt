@@ -62,6 +62,8 @@ module _ {E V W F P M D : Type 0} (S : Table E V W F P M D) (start : FinMap S.or
   pub record Entries (made : ℕ → Request P M D) (base : ℕ) (ns : List (Entry P M D)) (us : List ℕ) : Type 0 where
     -- a guess's entry is its request's
     pub own : (n : Entry P M D) (g : ℕ) → Contains ns n → n.guess ≡ Some g → base < g → (n.cause ≡ For (made g)) × (n.input ≡ Good)
+    -- a request's step is its process's
+    pub its : (n : Entry P M D) (q : Request P M D) → Contains ns n → n.cause ≡ For q → n.process ≡ q.process
     -- the tags of a request's step are among those that the request rests on
     pub tags : (y : ℕ) → has y us ≡ true → Each (λ n b. b ≡ true → Allowed n y) ns (struck (kernel S) start ns y)
     -- what it sets

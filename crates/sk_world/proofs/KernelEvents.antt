@@ -47,10 +47,11 @@ module _ {E V W F P M D : Type 0} (S : Table E V W F P M D) (start : FinMap S.or
       (n : Entry P M D) (f : Effect E V W) → Invariant S start es d served given pending waiting memory
       → outcome (kernel S) (run (kernel S) start (record_of (kernel S) start es)) n ≡ Ok f → n.guess ≡ None
       → ((y : ℕ) → has y (undecided_of (kernel S) start es) ≡ true → hit S.order y (dirt S.order y [] (effects (kernel S) start (record_of (kernel S) start es))) (marked_effect (kernel S) n.guess (Ok f)) ≡ true → Allowed n y)
+      → ((q : Request P M D) → n.cause ≡ For q → n.process ≡ q.process)
       → ((q : Request P M D) → n.cause ≡ For q → n.input ≡ Good → Sets S q.ask Good f.written)
       → ((q : Request P M D) → Contains pending q → q.guess ≡ None → Ready S start (record_of (kernel S) start es) (undecided_of (kernel S) start es) q → Quiet S start table f q.process (name_of q.ask))
       → Invariant S start (es ++ Taken n ∷ []) d served given pending waiting memory
-  inv_plain es d served given pending waiting memory n f i is none tags sets quiet =
+  inv_plain es d served given pending waiting memory n f i is none tags its sets quiet =
       let K = kernel S in
       let ns = record_of K start es in
       let us = undecided_of K start es in
@@ -72,7 +73,7 @@ module _ {E V W F P M D : Type 0} (S : Table E V W F P M D) (start : FinMap S.or
         above = λ y there. i.above y (fewer y there);
         entries = subst (λ ns. Entries S start i.made i.base ns vs) (sym same)
             (entries_taken S start table i.made i.made i.base ns us vs n f i.entries is (λ x g there mark above. refl) (λ y there. inl (fewer y there))
-            (λ y mark. absurd (no_guess n.guess y none mark)) (λ g mark above. absurd (no_guess n.guess g none mark)) (λ y there. tags y (fewer y there)) sets);
+            (λ y mark. absurd (no_guess n.guess y none mark)) (λ g mark above. absurd (no_guess n.guess g none mark)) (λ y there. tags y (fewer y there)) its sets);
         guesses = subst (Guesses S start i.made i.bad i.base i.a d (es ++ Taken n ∷ [])) (sym same) (record {
           own = i.guesses.own;
           stand = λ x above le. elim (i.guesses.stand x above le) [ inl there ↦ inl (entry_more ns n x there) | inr rests_on ↦ inr rests_on ];

@@ -39,9 +39,10 @@ module _ {E V W F P M D : Type 0} (S : Table E V W F P M D) (start : FinMap S.or
       → ((y : ℕ) → n.guess ≡ Some y → still_marked (effects (kernel S) start ns) y ≡ false)
       → ((g : ℕ) → n.guess ≡ Some g → base < g → (n.cause ≡ For (after g)) × (n.input ≡ Good))
       → ((y : ℕ) → has y vs ≡ true → hit S.order y (dirt S.order y [] (effects (kernel S) start ns)) (marked_effect (kernel S) n.guess (Ok f)) ≡ true → Allowed n y)
+      → ((q : Request P M D) → n.cause ≡ For q → n.process ≡ q.process)
       → ((q : Request P M D) → n.cause ≡ For q → n.input ≡ Good → Sets S q.ask Good f.written)
       → Entries S start after base (ns ++ n ∷ []) vs
-  entries_taken made after base ns us vs n f old is same fewer fresh own tags sets =
+  entries_taken made after base ns us vs n f old is same fewer fresh own tags its sets =
       let K = kernel S in
       record {
         own = λ x g there mark above.
@@ -49,6 +50,10 @@ module _ {E V W F P M D : Type 0} (S : Table E V W F P M D) (start : FinMap S.or
               | inl before ↦ let o = old.own x g before mark above in (o.0 ∙ ap For (sym (same x g before mark above)), o.1)
               | inr is_n ↦ subst (λ (x : Entry P M D). (x.cause ≡ For (after g)) × (x.input ≡ Good)) is_n (own g (ap (λ (x : Entry P M D). x.guess) is_n ∙ mark) above)
             ];
+        its = λ x q there cause. elim (Contains-push_cases ns n x there) [
+          | inl before ↦ old.its x q before cause
+          | inr is_n ↦ subst (λ (x : Entry P M D). x.cause ≡ For q → x.process ≡ q.process) is_n (its q) cause
+        ];
         tags = λ y there.
             each_hits_more K y (λ n b. b ≡ true → Allowed n y) [] start ns n
             (elim (fewer y there) [
@@ -82,7 +87,7 @@ module _ {E V W F P M D : Type 0} (S : Table E V W F P M D) (start : FinMap S.or
   -- ---- a commit, and a failure
   pub entries_fewer : (made : ℕ → Request P M D) (base : ℕ) (ns : List (Entry P M D)) (us vs : List ℕ) → ((y : ℕ) → has y vs ≡ true → has y us ≡ true)
       → Entries S start made base ns us → Entries S start made base ns vs
-  entries_fewer made base ns us vs fewer old = record { own = old.own; tags = λ y there. old.tags y (fewer y there); sets = old.sets }
+  entries_fewer made base ns us vs fewer old = record { own = old.own; its = old.its; tags = λ y there. old.tags y (fewer y there); sets = old.sets }
 
   pub entries_failed : (made : ℕ → Request P M D) (base : ℕ) (ns : List (Entry P M D)) (us vs : List ℕ) → IsLegal (kernel S) start ns → (h : ℕ)
       → ((y : ℕ) → has y vs ≡ true → has y us ≡ true) → Entries S start made base ns us → Entries S start made base (strike (kernel S) start ns h) vs
@@ -90,6 +95,7 @@ module _ {E V W F P M D : Type 0} (S : Table E V W F P M D) (start : FinMap S.or
       let K = kernel S in
       record {
         own = λ n g there mark above. old.own n g (kept_was (struck K start ns h) ns n there) mark above;
+        its = λ n q there cause. old.its n q (kept_was (struck K start ns h) ns n there) cause;
         tags = λ y there. each_hits_left K start table.total table.exact ns legal h y (λ n b. b ≡ true → Allowed n y) (old.tags y (fewer y there));
         sets = each_effects_left K start table.total table.exact ns legal h _ old.sets;
       }

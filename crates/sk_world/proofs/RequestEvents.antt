@@ -166,6 +166,7 @@ module _ {E V W F P M D : Type 0} (S : Table E V W F P M D) (start : FinMap S.or
               | inl carries ↦ inl carries
               | inr its ↦ inr (guess ∙ sym mark ∙ its)
             ]))
+            (λ r is. ap (λ (n : Entry P M D). n.process) entry ∙ ap (λ (r : Request P M D). r.process) (same_request q r (sym cause ∙ is)))
             (λ r is good. subst (λ (r : Request P M D). Sets S r.ask Good f.written) (same_request q r (sym cause ∙ is)) t.sets));
         guesses = subst (Guesses S start after i.bad i.base i.a (suc d) (es ++ Taken n ∷ [])) (sym same) (record {
           own = λ x above le. elim (cases_eq x (suc d)) [

@@ -214,7 +214,7 @@ module _ {E V W F P M D : Type 0} (S : Table E V W F P M D) (start : FinMap S.or
             elim (outcome (kernel S) (state S start w.trace) (own p x)) as (λ o. outcome (kernel S) (state S start w.trace) (own p x) ≡ o → All (used_by S start w p x o)) [
               | Ok f ↦ λ is. (
                 inv_plain S start table w.trace w.drawn (served w) w.given (pending w) w.waiting w.server.refused (own p x) f i.0 is refl
-                    (λ y there hits q cause. cc) (λ q cause good. cc) (quiet_turn S start table w p x f is (legal_of (kernel S) start w.trace i.0.sound) due none clear),
+                    (λ y there hits q cause. cc) (λ q cause. cc) (λ q cause good. cc) (quiet_turn S start table w p x f is (legal_of (kernel S) start w.trace i.0.sound) due none clear),
                 facts_kept S start first old (w.trace ++ Taken (own p x) ∷ []) w.drawn w.kept w.next (served w) w.given w.waiting
                     (facts_own S start first old w.trace w.drawn w.kept w.next (served w) w.given w.waiting i.1 (own p x) refl bad)
                     (kept_for S p None w.kept) (kept_none w i.1 p),
@@ -230,7 +230,7 @@ module _ {E V W F P M D : Type 0} (S : Table E V W F P M D) (start : FinMap S.or
       elim (outcome (kernel S) (state S start w.trace) (own p x)) as (λ o. outcome (kernel S) (state S start w.trace) (own p x) ≡ o → All (stepped_by S start w (own p x) o)) [
         | Ok f ↦ λ is. (
           inv_plain S start table w.trace w.drawn (served w) w.given (pending w) w.waiting w.server.refused (own p x) f i.0 is refl
-              (λ y there hits q cause. cc) (λ q cause good. cc) (quiet_turn S start table w p x f is (legal_of (kernel S) start w.trace i.0.sound) due none clear),
+              (λ y there hits q cause. cc) (λ q cause. cc) (λ q cause good. cc) (quiet_turn S start table w p x f is (legal_of (kernel S) start w.trace i.0.sound) due none clear),
           facts_own S start first old w.trace w.drawn w.kept w.next (served w) w.given w.waiting i.1 (own p x) refl bad,
           i.2,
           room_step w (own p x) room refl,
@@ -475,6 +475,7 @@ module _ {E V W F P M D : Type 0} (S : Table E V W F P M D) (start : FinMap S.or
       let same : q ≡ r = cc in
       subst (λ (r : Request P M D). (has y r.rests ≡ true) ⊎ (r.guess ≡ Some y)) same
       (elim (tags_of_step S start table ns us q.process (name_of q.ask) q.rests None t.effect t.reads t.writes ready.covers y (inl there) hits) [ inl carries ↦ inl carries | inr none ↦ cc ]))
+      (λ r cause. (let same : q ≡ r = cc in ap (λ (r : Request P M D). r.process) same))
       (λ r cause good. (let same : q ≡ r = cc in subst (λ (r : Request P M D). Sets S r.ask Good t.effect.written) same (subst (λ x. Sets S q.ask x t.effect.written) good t.sets)))
       (λ r there r_asks _.
       let own = i.holds.apart.0 r there asks r_asks in (

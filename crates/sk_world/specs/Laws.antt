@@ -41,10 +41,12 @@ abbrev pub IsDueStep : {P M D : Type 0} → World P M D → Request P M D → Ty
 IsDueStep w q = ((g : ℕ) × (q.guess ≡ Some g)) ⊎ Contains w.given (q, Yes)
 
 module _ {E V W F P M D : Type 0} (S : Table E V W F P M D) where
-  -- what a fetch or store with Good writes: a store sets the copy, a fetch leaves it
+  -- what a fetch or store with Good writes: a store sets the copy, a fetch of a copy that is there leaves it, and one of a copy that is not
+  -- never gets Good
   abbrev pub Sets : Ask M D → Input D → List (E × Option V) → Type 0
   Sets (Store m v b) Good ws = Contains ws (S.copy m, Some (S.content (suc v, b)))
   Sets (Check m v) Good ws = Contains (map (λ w. w.0) ws) (S.copy m) → ⊥
+  Sets (Get m) Good ws = ⊥
   Sets ask x ws = Unit {0}
 
   -- an entity is the process or the copy
@@ -124,12 +126,13 @@ module _ {E V W F P M D : Type 0} (S : Table E V W F P M D) where
         let entries = record_of (kernel S) start w.trace in
         paired entries (effects (kernel S) start entries)
 
-    -- a step of the record that was taken for this request, with Good, and sets what the request says
+    -- a step of the record that was taken for this request, by its process and with Good, and sets what the request says
     pub record Stands (w : World P M D) (q : Request P M D) : Type 0 where
       pub entry : Entry P M D
       pub marked_effect : MarkedEffect E V W
       pub there : Contains (record_now w) (entry, marked_effect)
       pub cause : entry.cause ≡ For q
+      pub process : entry.process ≡ q.process
       pub input : entry.input ≡ Good
       pub sets : Sets q.ask Good marked_effect.written
 
@@ -192,10 +195,14 @@ module _ {E V W F P M D : Type 0} (S : Table E V W F P M D) where
       pub steps :
           (n : Entry P M D) → Contains (record_of (kernel S) start w.trace) n → n.input ≡ Good → Counts w n
           → (n.cause ≡ Before) ⊎ ((q : Request P M D) × (n.cause ≡ For q) × Contains w.given (q, Yes))
-      -- it sets its copy just where its request is a store
+      -- its request is a store and it sets the copy, or a check and it leaves the copy
       pub sets :
           (n : Entry P M D) (f : MarkedEffect E V W) (q : Request P M D) → Contains (record_now w) (n, f)
           → n.cause ≡ For q → n.input ≡ Good → Sets q.ask Good f.written
+      -- a request's step is its process's
+      pub its :
+          (n : Entry P M D) (q : Request P M D) → Contains (record_of (kernel S) start w.trace) n → n.cause ≡ For q
+          → n.process ≡ q.process
       -- each accepted store that has its reply has such a step
       pub replies :
           (q : Request P M D) (m : M) (v : ℕ) (b : D) → Contains w.given (q, Yes) → q.ask ≡ Store m v b

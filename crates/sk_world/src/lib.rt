@@ -24,7 +24,8 @@ pub fn stores()
 {}
 
 /// The steps with Good that were asked or whose guess committed, and the accepted requests whose reply was given, are one
-/// for one. Such a step sets its copy just where its request is a store.
+/// for one. Such a step is by its request's process. Its request is a store, and it sets the copy; or a check, and it
+/// leaves the copy: none is a fetch of a copy that is not there.
 pub fn replied()
     ensures { (S : Table ℕ ℕ ℕ ℕ ℕ ℕ ℕ) (start : FinMap S.order ℕ)
         → IsTable S start → StoresAreReplied S start }

@@ -1,5 +1,5 @@
 -- What workers' runs come to.
-use Rattle.std.proofs.Common.{◌≡◌, ◌≢◌, ◌≤◌, inr, ℕ, List, length, Option, Some, None, Result, Ok, Err, sym, subst}
+use Rattle.std.proofs.Common.{◌≡◌, ◌≢◌, ◌≤◌, inl, inr, ℕ, List, length, Option, Some, None, Result, Ok, Err, sym, subst}
 use Rattle.std.specs.Prelude.{IfSome}
 use Rattle.std.specs.Io.KnownBytes.{Keeps}
 use Rattle.std.proofs.KnownBytes.{Appends-kept}
@@ -16,11 +16,11 @@ use Rattle.sk_run.proofs.Files.{fault_no_usage}
 -- what workers did, once the buffer is written out
 pub worked_out : (workers : ℕ) (d : Declared) (end : End) (buffer : List ℕ) (old mid new : Option (List ℕ)) → IsWritten end buffer
     → IsWorked workers d old mid → Keeps mid new → EndsWork workers d end old new
-worked_out workers d ends.Done buffer old mid new written w kept = (w.0, w.1, w.2, w.3, w.4, Appends-kept old mid new _ w.5 kept)
+worked_out workers d ends.Done buffer old mid new written w kept = (w.0, w.1, w.2, w.3, w.4, w.5, Appends-kept old mid new _ w.6 kept)
 worked_out workers d ends.Fault buffer old mid new written w kept = absurd written
 worked_out workers d ends.Usage buffer old mid new written w kept = written
-worked_out workers d ends.Trouble buffer old mid new written w kept = tt
-worked_out workers d ends.OutputRefused buffer old mid new written w kept = tt
+worked_out workers d ends.Trouble buffer old mid new written w kept = inl (w.0, w.1, w.3)
+worked_out workers d ends.OutputRefused buffer old mid new written w kept = (w.0, w.1, w.3)
 
 read_no_usage : (workers : ℕ) (read : Result Scenario Fault) (old new : Option (List ℕ)) → EndsWorkRead workers read ends.Usage old new → ⊥
 read_no_usage workers (Ok s) old new h = h

@@ -2,6 +2,8 @@
 #![tactic(auto)]
 
 #[cfg(test)]
+mod talking_tests;
+#[cfg(test)]
 mod tests;
 pub mod working;
 #[cfg(test)]

@@ -37,7 +37,7 @@ impl<'a> Open for Known<'a> {
 
 /// What a read gives.
 #[derive(Clone, Copy)]
-enum Gives<'a> {
+pub(crate) enum Gives<'a> {
     /// These bytes, one a read.
     Bytes(&'a [u8]),
     /// An interruption, and then these bytes, one a read.
@@ -62,8 +62,8 @@ impl<'a> Open for Gives<'a> {
 
 /// An input, with what it gives from now on.
 #[derive(Drop)]
-struct Source<'a> {
-    gives: Gives<'a>,
+pub(crate) struct Source<'a> {
+    pub(crate) gives: Gives<'a>,
 }
 
 impl<'a> Read for Source<'a> {
@@ -148,9 +148,9 @@ impl Write for Paper {
 
 /// Refuses the first write, and takes all later ones.
 #[derive(Drop)]
-struct RefusesOnce {
-    text: Vec<u8>,
-    refused: bool,
+pub(crate) struct RefusesOnce {
+    pub(crate) text: Vec<u8>,
+    pub(crate) refused: bool,
 }
 
 impl Write for RefusesOnce {
@@ -209,7 +209,7 @@ pub(crate) fn check(
     Ok(())
 }
 
-const FIRST_GUESS_COMMITS: &str = "script main
+pub(crate) const FIRST_GUESS_COMMITS: &str = "script main
 text \"a\"
 say
 fetch /x
@@ -382,7 +382,7 @@ fn too_long_script(rt: HostRuntime) -> Result<(), Fail> {
 }
 
 const NO_SUBCOMMAND: &str = "error: 'speculate' requires a subcommand but one was not provided
-  [subcommands: play, plain, replay, work]
+  [subcommands: play, talk, plain, replay, work]
 
 Usage: speculate <COMMAND>
 
@@ -506,7 +506,8 @@ fn work_needs_threads(rt: HostRuntime) -> Result<(), Fail> {
     };
     let mut out = BufWriter::new(alloc, Vec::new(alloc))?;
     let mut err = Vec::new(alloc);
-    let end = run_text(alloc, job, b"world\n", &mut out, &mut err);
+    let inputs = Known { bytes: b"" };
+    let end = run_text(alloc, job, b"world\n", &inputs, &mut out, &mut err);
     let (out, _unwritten) = out.into_parts();
     check(&rt, &Ran { end, out, err }, 2, "", told)
 }
@@ -526,6 +527,7 @@ fn help(rt: HostRuntime) -> Result<(), Fail> {
     for (words, begins) in [
         (["--help"].as_slice(), "A kernel that runs"),
         (["play", "-h"].as_slice(), "Plays the events"),
+        (["talk", "-h"].as_slice(), "Answers the events"),
         (["plain", "-h"].as_slice(), "Strikes a trace"),
         (["work", "-h"].as_slice(), "Lets workers take"),
     ] {
@@ -620,7 +622,7 @@ fn every_refused_write_ends_the_plain_run(rt: HostRuntime) -> Result<(), Fail> {
     for room in 0..PLAIN_REPORT.len() {
         let mut out = Paper::new(alloc, room);
         let ran = run_left(alloc, scenario.declarations.boot(), trace, &mut out);
-        assert_eq!(rt; ran, Err(Unrun::Output), "room {room}");
+        assert_eq!(rt; ran, Err(Unrun::Report(Stop::Output)), "room {room}");
         assert_eq!(rt; out.refused, 1, "room {room}");
         assert!(rt; PLAIN_REPORT.as_bytes().starts_with(&out.text));
     }

@@ -6,7 +6,9 @@ ghost use Rattle.sk_command.specs.Ends.{IsFlushed};
 ghost use Rattle.sk_client.specs.Desk.{opened, pending};
 ghost use Rattle.sk_workers.specs.History.{Runs};
 ghost use Rattle.sk_report.specs.Report.{desk_report_text, workers_line};
-ghost use Rattle.speculate.specs.Work.{IsWorked, EndsWork, EndsWorkFile, EndsWorkText, EndsThreadedWords};
+ghost use Rattle.sk_crew.specs.Crewed.{IsCrewed};
+ghost use Rattle.sk_report.specs.declared.stop.Stop.{Stop};
+ghost use Rattle.speculate.specs.Work.{IsWorked, HasWorked, EndsWork, EndsWorkFile, EndsWorkText, EndsThreadedWords};
 
 use sk_client::Desk;
 use sk_command::end::{End, flushed, tell_fault};
@@ -64,7 +66,7 @@ pub fn run_work<R: Threads + Wait + Sync, O: Open, W: Write + Drop, E: Write, G:
             };
             work_file(rt, alloc, plan, file, inputs, gate, out, err)
         }
-        Job::Play { .. } | Job::Plain { .. } | Job::Replay { .. } => {
+        Job::Play { .. } | Job::Talk { .. } | Job::Plain { .. } | Job::Replay { .. } => {
             run_file(alloc, job, inputs, out, err)
         }
     }
@@ -129,7 +131,8 @@ fn work_on<R: Threads + Wait + Sync, W: Write + Drop, G: Gate + Sync>(
 {
     match work(rt, alloc, plan, declarations, gate, out) {
         Ok(()) => flushed(out),
-        Err(Unworked::Crew | Unworked::Report(Stop::Memory)) => {
+        Err(Unworked::Crew) => End::Trouble,
+        Err(Unworked::Report(Stop::Memory)) => {
             let _ = out.flush();
             End::Trouble
         }
@@ -159,6 +162,7 @@ fn work<R: Threads + Wait + Sync, W: Write, G: Gate + Sync>(
 ) -> Result<(), Unworked>
     requires { (1 ≤ plan.workers) × (plan.workers ≤ 8) }
     ensures done { OnOk result (IsWorked plan.workers declarations.now (W.contents out.old) (W.contents out.new)) }
+    ensures crewed { (why : Stop) → result ≡ Err (Unworked.Report why) → HasWorked plan.workers declarations.now }
     ensures unwritten { result ≡ Err Unworked.Crew → out.new ≡ out.old }
 {
     let Ok((desk, server)) = desk_of(alloc, declarations) else {
@@ -188,6 +192,7 @@ fn crew<R: Threads + Wait + Sync, G: Gate + Sync>(
     requires count { (1 ≤ plan.workers) × (plan.workers ≤ 8) }
     requires opened { desk ≡ opened desk.kernel }
     requires trace { desk.kernel.trace ≡ [] }
+    ensures crewed { IfOk result (λ done. IsCrewed plan.workers desk done.0.entries.items done.0.desk) }
     ensures legal { IfOk result (λ done. Runs desk done.0.entries.items done.0.desk) }
     ensures settled { IfOk result (λ done. pending done.0.desk ≡ []) }
 {

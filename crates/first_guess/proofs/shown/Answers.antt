@@ -1,5 +1,5 @@
 -- As many texts are released of a terminal's as of the record's: by recursion over the texts.
-use Rattle.std.proofs.Common.{◌≡◌, ℕ, suc, List, [], ◌∷◌, length, ap, refl, ◌∙◌}
+use Rattle.std.proofs.Common.{◌≡◌, ℕ, suc, List, [], ◌∷◌, length, ap, refl, sym, ◌∙◌}
 use Rattle.hidewillow.specs.Machine.{released}
 use Rattle.hidewillow.specs.Parts.{said_at}
 use Rattle.hidewillow.specs.Terminal.{TaggedText}
@@ -12,3 +12,6 @@ as_many t ((text, g ∷ tags) ∷ texts) = refl
 
 pub returns-in-Some : goal.returns-in-Some
 returns-in-Some c = ap length c.released.ensures ∙ as_many 1 c.in-Some.terminal.now ∙ ap (λ texts. length (released texts)) c.in-Some.ensures.said
+
+pub returns-in-None : goal.returns-in-None
+returns-in-None c = ap (λ texts. length (released texts)) (sym c.in-None.ensures.said)

@@ -2,12 +2,13 @@
 use Rattle.std.proofs.Common.{◌∙◌, ◌≡◌, ap, ap₂}
 use Rattle.std.proofs.lemmas.Result.{IfOk-weaker}
 use Rattle.clap.specs.Simple.{App, app_of, with_subcommand}
-use Rattle.sk_command.specs.CommandLine.{bare_command_line, play_command, plain_command, replay_command}
+use Rattle.sk_command.specs.CommandLine.{bare_command_line, play_command, talk_command, plain_command, replay_command}
 use Rattle.sk_command.proofs.job.command.Goals as goal
 
 pub returns : goal.returns
 returns c =
     let first = c.in_ok-subcommand.ensures.shape c.in_ok-play.ensures.local ∙ ap₂ with_subcommand c.without_commands.ensures (ap (λ (a : App). a.top) c.in_ok-play.ensures.app) in
-    let second = c.in_ok-subcommand-2.ensures.shape c.in_ok-plain.ensures.local ∙ ap₂ with_subcommand first (ap (λ (a : App). a.top) c.in_ok-plain.ensures.app) in
-    let third = c.in_ok-subcommand-3.ensures.shape c.in_ok-replay.ensures.local ∙ ap₂ with_subcommand second (ap (λ (a : App). a.top) c.in_ok-replay.ensures.app) in
-    IfOk-weaker c.subcommand-4.result _ _ (λ command adds. adds.shape c.in_ok-work.ensures.local ∙ ap₂ with_subcommand third (ap (λ (a : App). a.top) c.in_ok-work.ensures.app)) c.subcommand-4.ensures
+    let second = c.in_ok-subcommand-2.ensures.shape c.in_ok-talk.ensures.local ∙ ap₂ with_subcommand first (ap (λ (a : App). a.top) c.in_ok-talk.ensures.app) in
+    let third = c.in_ok-subcommand-3.ensures.shape c.in_ok-plain.ensures.local ∙ ap₂ with_subcommand second (ap (λ (a : App). a.top) c.in_ok-plain.ensures.app) in
+    let fourth = c.in_ok-subcommand-4.ensures.shape c.in_ok-replay.ensures.local ∙ ap₂ with_subcommand third (ap (λ (a : App). a.top) c.in_ok-replay.ensures.app) in
+    IfOk-weaker c.subcommand-5.result _ _ (λ command adds. adds.shape c.in_ok-work.ensures.local ∙ ap₂ with_subcommand fourth (ap (λ (a : App). a.top) c.in_ok-work.ensures.app)) c.subcommand-5.ensures

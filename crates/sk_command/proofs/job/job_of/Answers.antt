@@ -25,6 +25,15 @@ returns-in-play-clause-job c =
     let wish = wish_in_rows (subcommand_rows_of matches) command (rows_of found) (name_in_rows matches command c.in_ok-command.ensures.name) c.in_ok-command.ensures.rows in
     rw (wish, ← file, c.in-play.is, c.shows_of.ensures) refl
 
+pub returns-in-talk-clause-job : goal.returns-in-talk-clause-job
+returns-in-talk-clause-job c =
+    let found = found_of c.in_ok-command.words.now in
+    let file = c.in_ok-file.ensures ∙ first_value-rows found (codes "FILE") in
+    let matches = c.args.matches.now in
+    let command = c.in_ok-command.command.now in
+    let wish = wish_in_rows (subcommand_rows_of matches) command (rows_of found) (name_in_rows matches command c.in_ok-command.ensures.name) c.in_ok-command.ensures.rows in
+    rw (wish, ← file, c.in-talk.is) refl
+
 pub returns-in-plain-clause-job : goal.returns-in-plain-clause-job
 returns-in-plain-clause-job c =
     let found = found_of c.in_ok-command.words.now in

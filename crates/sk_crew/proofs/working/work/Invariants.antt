@@ -1,5 +1,11 @@
 use Rattle.std.proofs.Common.{◌≡◌}
+use Rattle.sk_crew.specs.Duties.{KeepsTo}
+use Rattle.sk_crew.proofs.Duties.{IsAt}
 use Rattle.sk_crew.proofs.working.work.Given as goal
 
 abbrev pub invariant-loop : goal.invariant-loop
-invariant-loop g l = l.worker.number ≡ l.fn.worker.number
+invariant-loop g l = record {
+  number : l.worker.number ≡ l.fn.worker.number;
+  at : IsAt l.plan.workers l.fn.worker.number l.rounds;
+  duties : KeepsTo l.plan.workers l.processes l.fn.worker → KeepsTo l.plan.workers l.processes l.worker;
+}

@@ -1,4 +1,5 @@
 -- Each event goes on, or has its fault, as its own call says.
+use Rattle.std.proofs.Common.{sym}
 use Rattle.std.specs.Prelude.{Some, None}
 use Rattle.sk_trace.specs.Entry.{EntryView}
 use Rattle.sk_plain.proofs.Replays.{taken_goes, commit_goes, fail_goes}
@@ -14,10 +15,10 @@ returns-in-Fail c = λ es r.
 
 pub returns-in-Step : goal.returns-in-Step
 returns-in-Step c = λ es r.
-    let n : EntryView = record { pid = c.in-Step.pid; input = c.in-Step.input; guess = None } in
-    rw c.in-Step.is (taken_goes c.args.scripts.now es c.args.replay.now c.take_entry.new.replay r n c.take_entry.result c.take_entry.ensures.ok c.take_entry.ensures.err)
+    let n : EntryView = record { pid = c.in-Step.pid; input = c.input-input.result; guess = None } in
+    rw (c.in-Step.is, sym c.input-input.ensures) (taken_goes c.args.scripts.now es c.args.replay.now c.take_entry.new.replay r n c.take_entry.result c.take_entry.ensures.ok c.take_entry.ensures.err)
 
 pub returns-in-Guess : goal.returns-in-Guess
 returns-in-Guess c = λ es r.
-    let n : EntryView = record { pid = c.in-Guess.pid; input = c.in-Guess.input; guess = Some c.in-Guess.id } in
-    rw c.in-Guess.is (taken_goes c.args.scripts.now es c.args.replay.now c.take_entry-in-Guess.new.replay r n c.take_entry-in-Guess.result c.take_entry-in-Guess.ensures.ok c.take_entry-in-Guess.ensures.err)
+    let n : EntryView = record { pid = c.in-Guess.pid; input = c.input-input-in-Guess.result; guess = Some c.in-Guess.id } in
+    rw (c.in-Guess.is, sym c.input-input-in-Guess.ensures) (taken_goes c.args.scripts.now es c.args.replay.now c.take_entry-in-Guess.new.replay r n c.take_entry-in-Guess.result c.take_entry-in-Guess.ensures.ok c.take_entry-in-Guess.ensures.err)

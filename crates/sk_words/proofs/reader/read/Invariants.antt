@@ -1,11 +1,12 @@
 -- The lines that are left say of the state so far what all lines say of the first, and the last of them stays.
-use Rattle.std.proofs.Common.{◌≡◌, ◌+◌, length}
+use Rattle.std.proofs.Common.{◌≡◌, ◌≤◌, ◌+◌, length}
 use Rattle.sk_words.specs.Reading.{read_from}
 use Rattle.sk_words.proofs.reader.read.Given as goal
 
 abbrev pub invariant-loop-line : goal.invariant-loop-line
 invariant-loop-line g l = record {
   same : read_from g.R.Reader.said l.fn.reader (l.fn.lines.line + 1) l.fn.lines.lines ≡ read_from g.R.Reader.said l.reader (l.lines.line + 1) l.lines.lines;
+  first : l.fn.lines.line ≤ l.lines.line;
   last : l.lines.line + length l.lines.lines ≡ l.fn.lines.line + length l.fn.lines.lines;
 }
 

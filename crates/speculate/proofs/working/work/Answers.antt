@@ -3,6 +3,7 @@ use Rattle.std.proofs.Common.{◌≡◌, ℕ, ◌++◌, length, subst, arith}
 use Rattle.std.specs.Io.KnownBytes.{Appends}
 use Rattle.sk_client.specs.Desk.{DeskView}
 use Rattle.sk_workers.specs.History.{Runs}
+use Rattle.sk_crew.specs.Crewed.{IsCrewed}
 use Rattle.sk_report.specs.Report.{desk_report_text, workers_line}
 use Rattle.speculate.proofs.working.work.Goals as goal
 
@@ -17,7 +18,17 @@ returns-in-Ok-written-clause-done g c =
       h.entries.items,
       h.desk,
       c.in-Ok-crew.server,
+      subst (λ (d : DeskView). IsCrewed c.args.plan.workers d h.entries.items h.desk) c.in-Ok.ensures.desk c.in-Ok-crew.ensures.crewed,
       from,
       c.in-Ok-crew.ensures.settled,
       subst (λ (n : ℕ). Appends old new (report ++ workers_line c.args.plan.workers n)) calls c.in-Ok-written.ensures,
+    )
+
+-- There is a history, whatever becomes of its report.
+pub returns-clause-crewed : goal.returns-clause-crewed
+returns-clause-crewed g c = λ why is.
+    let h = c.in-Ok-crew.history in (
+      h.entries.items,
+      h.desk,
+      subst (λ (d : DeskView). IsCrewed c.args.plan.workers d h.entries.items h.desk) c.in-Ok.ensures.desk c.in-Ok-crew.ensures.crewed,
     )

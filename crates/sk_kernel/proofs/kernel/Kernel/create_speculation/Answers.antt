@@ -59,6 +59,16 @@ returns-then-is_err c =
           ∙ c.self.view_is,
     )
 
+pub returns-in-Err-keep : goal.returns-in-Err-keep
+returns-in-Err-keep c =
+    let n : EntryView = record { pid = c.args.pid; input = c.args.input; guess = Some (next_guess c.args.self.now) } in (
+      subst (λ (k : KernelView). guess_refused k n ≡ None) c.self.view_is
+          (guess_free (the_view c.self.inside) c.self.inside.machine c.self.inside.trace.room c.self.invariant.0 n c.in-Ok.ensures.1 (sym c.is_full.ensures ∙ c.if-is_full.false)
+          c.room.result (c.room.ensures ∙ ap room (sym c.self.view_is)) c.if-room-lt2.false),
+      (λ i. record { number = c.self.inside.machine.guesses.kernel; scripts = c.self.inside.opening.start.scripts; start = c.self.inside.opening.start.state; limit = c.self.inside.opening.limit; trace = c.reserve.ensures.events i })
+          ∙ c.self.view_is,
+    )
+
 pub returns-in_default : goal.returns-in_default
 returns-in_default c =
     let n : EntryView = record { pid = c.args.pid; input = c.args.input; guess = Some (next_guess c.args.self.now) } in
@@ -80,7 +90,7 @@ invariant_of-self-2 c =
     let number = c.id-id.ensures ∙ ap (λ t. t.id) c.in-Ok-take_guess.ensures.token in (
       guessed_whole (the_view c.self.inside) c.self.inside.machine c.self.inside.trace.room c.self.invariant.0 c.take_guess.new.self c.push.new.self.room c.args.pid c.args.input c.id-id.result c.push.new.self.events
           takes c.in-Ok-take_guess.ensures.guesses number
-          (c.push.ensures.events ∙ ap (λ es. es ++ events.Guess c.id-id.result c.args.pid c.args.input ∷ []) c.reserve.ensures.events)
+          (c.push.ensures.events ∙ (λ i. c.reserve.ensures.events i ++ events.Guess c.id-id.result c.args.pid (c.in-Ok-keep.ensures.ok i) ∷ []))
           (omega (arith, reserved, pushed, counted)),
       still_opened (the_view c.self.inside) _ c.push.new.self.events _ c.self.invariant.1 (ap (λ v. v.kernel) c.in-Ok-take_guess.ensures.guesses),
     )
@@ -90,7 +100,7 @@ returns c =
     let n : EntryView = record { pid = c.args.pid; input = c.args.input; guess = Some (next_guess c.args.self.now) } in
     let next = next_is (the_view c.self.inside) c.self.inside.machine c.self.inside.trace.room c.self.invariant.0 ∙ ap next_guess c.self.view_is in
     let number = c.id-id.ensures ∙ ap (λ t. t.id) c.in-Ok-take_guess.ensures.token ∙ next in
-    let more = c.push.ensures.events ∙ ap (λ es. es ++ events.Guess c.id-id.result c.args.pid c.args.input ∷ []) c.reserve.ensures.events ∙ ap (λ g. c.self.inside.trace.events ++ events.Guess g c.args.pid c.args.input ∷ []) number in
+    let more = c.push.ensures.events ∙ (λ i. c.reserve.ensures.events i ++ events.Guess c.id-id.result c.args.pid (c.in-Ok-keep.ensures.ok i) ∷ []) ∙ ap (λ g. c.self.inside.trace.events ++ events.Guess g c.args.pid c.args.input ∷ []) number in
     let left =
     (λ i. record { number = (c.in-Ok-take_guess.ensures.guesses i).kernel; scripts = c.self.inside.opening.start.scripts; start = c.self.inside.opening.start.state; limit = c.self.inside.opening.limit; trace = more i })
     ∙ ap (λ (k : KernelView). with_event k (events.Guess (next_guess c.args.self.now) c.args.pid c.args.input)) c.self.view_is in

@@ -39,6 +39,15 @@ returns-then-is_err c =
           ∙ c.self.view_is,
     )
 
+pub returns-in-Err-keep : goal.returns-in-Err-keep
+returns-in-Err-keep c =
+    let n : EntryView = record { pid = c.args.pid; input = c.args.input; guess = None } in (
+      subst (λ (k : KernelView). step_refused k n ≡ None) c.self.view_is
+          (step_free (the_view c.self.inside) c.self.inside.machine c.self.inside.trace.room c.self.invariant.0 n _ c.room.result c.in-Ok.ensures.plans (c.room.ensures ∙ ap room (sym c.self.view_is)) c.if-room-lt1.false),
+      (λ i. record { number = c.self.inside.machine.guesses.kernel; scripts = c.self.inside.opening.start.scripts; start = c.self.inside.opening.start.state; limit = c.self.inside.opening.limit; trace = c.reserve.ensures.events i })
+          ∙ c.self.view_is,
+    )
+
 pub take_step-requires-clause-tidy : goal.take_step-requires-clause-tidy
 take_step-requires-clause-tidy c = tidy (the_view c.self.inside) c.self.inside.machine c.self.invariant.0.stands
 
@@ -65,7 +74,7 @@ invariant_of-self-2 c =
     let counted = c.open_count.ensures in (
       stepped_whole (the_view c.self.inside) c.self.inside.machine c.take_step.new.self c.self.inside.trace.room c.push.new.self.room c.args.pid c.args.input c.push.new.self.events c.self.invariant.0
           takes c.take_step.ensures.guesses
-          (c.push.ensures.events ∙ ap (λ es. es ++ events.Step c.args.pid c.args.input ∷ []) c.reserve.ensures.events)
+          (c.push.ensures.events ∙ (λ i. c.reserve.ensures.events i ++ events.Step c.args.pid (c.in-Ok-keep.ensures.ok i) ∷ []))
           (omega (arith, opens, reserved, pushed, counted)),
       still_opened (the_view c.self.inside) _ c.push.new.self.events _ c.self.invariant.1 (ap (λ v. v.kernel) c.take_step.ensures.guesses),
     )
@@ -73,7 +82,7 @@ invariant_of-self-2 c =
 pub returns : goal.returns
 returns c =
     let n : EntryView = record { pid = c.args.pid; input = c.args.input; guess = None } in
-    let more = c.push.ensures.events ∙ ap (λ es. es ++ events.Step c.args.pid c.args.input ∷ []) c.reserve.ensures.events in (
+    let more = c.push.ensures.events ∙ (λ i. c.reserve.ensures.events i ++ events.Step c.args.pid (c.in-Ok-keep.ensures.ok i) ∷ []) in (
       subst (λ (k : KernelView). step_refused k n ≡ None) c.self.view_is
           (step_free (the_view c.self.inside) c.self.inside.machine c.self.inside.trace.room c.self.invariant.0 n _ c.room.result c.in-Ok.ensures.plans (c.room.ensures ∙ ap room (sym c.self.view_is)) c.if-room-lt1.false),
       (λ i. record { number = (c.take_step.ensures.guesses i).kernel; scripts = c.self.inside.opening.start.scripts; start = c.self.inside.opening.start.state; limit = c.self.inside.opening.limit; trace = more i })

@@ -1,13 +1,13 @@
 -- What a terminal has are the texts of the trace.
-use Rattle.std.proofs.Common.{◌≡◌, [], subst}
+use Rattle.std.proofs.Common.{subst}
 use Rattle.std.specs.Prelude.{MatchOption}
-use Rattle.sk_kernel.specs.Kernel.{KernelView, texts_at}
-use Rattle.sk_kernel.specs.Calls.{ShowsTerminal}
+use Rattle.sk_kernel.specs.Kernel.{KernelView}
+use Rattle.sk_kernel.specs.Calls.{ShowsTerminal, SaysNothing}
 use Rattle.sk_kernel.specs.contracts.kernel.Kernel.{the_view}
 use Rattle.sk_kernel.proofs.Whole.{terminal_shown}
 use Rattle.sk_kernel.proofs.kernel.Kernel.terminal.Goals as goal
 
 pub returns : goal.returns
 returns c =
-    subst (λ (k : KernelView). MatchOption c.terminal.result (texts_at k c.args.number ≡ []) (λ x. ShowsTerminal k c.args.number x.now)) c.self.view_is
+    subst (λ (k : KernelView). MatchOption c.terminal.result (SaysNothing k c.args.number) (λ x. ShowsTerminal k c.args.number x.now)) c.self.view_is
     (terminal_shown (the_view c.self.inside) c.self.inside.machine c.self.invariant.0.stands c.args.number c.terminal.result c.terminal.ensures)

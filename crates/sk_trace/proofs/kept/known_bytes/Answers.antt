@@ -1,5 +1,5 @@
 use Rattle.std.proofs.Common.{arith}
-use Rattle.sk_trace.proofs.event.known_bytes.Goals as goal
+use Rattle.sk_trace.proofs.kept.known_bytes.Goals as goal
 
 pub returns : goal.returns
 returns c = λ i. omega (arith, c.type_inv.bytes i)

@@ -1,0 +1,129 @@
+/* Hidewillow for C: a kernel whose processes go on from guessed replies, or a world of such a
+ * kernel and a server.
+ *
+ * What is at play is held by a handle, which begins as {0}, and holds nothing then. A handle is
+ * passed by its address, never copied or written, and used by one thread, that which opened it;
+ * hidewillow_close lets go of what it holds, after which it may be opened again. Memory comes from
+ * malloc, realloc and free. No call keeps a pointer that it was given, starts a thread, waits, or
+ * ends the process.
+ *
+ * What the proofs take for granted, and nothing tests: a handle is {0} or as the last call left it;
+ * no pointer is null, not where a length is 0 either; what one call is given does not overlap; a
+ * room is set before the call, to any bytes, and so are the counts.
+ *
+ * A text that a call gives goes into the caller's room, without a zero byte behind it; `bytes` of
+ * what the call is told is the text's whole length, of which the room has the first bytes. What of
+ * the room the text does not reach is as it was.
+ */
+#ifndef HIDEWILLOW_H
+#define HIDEWILLOW_H
+
+#include <stddef.h>
+#include <stdint.h>
+
+#ifdef __cplusplus
+extern "C" {
+#endif
+
+typedef struct { void *at; } hidewillow_handle;
+
+enum hidewillow_answer {
+    /* of a line of a kernel */
+    HIDEWILLOW_STEPPED = 0,        /* the step is taken; also of a world's `turn` */
+    HIDEWILLOW_GUESSED = 1,        /* taken on a guess, `number`; also of a world's `turn` */
+    HIDEWILLOW_DONE = 2,           /* the guess is decided */
+    HIDEWILLOW_GONE = 3,           /* another guess's failure had struck it; of a world's `reply`
+                                      `number` is the guess */
+    HIDEWILLOW_NO_TOKEN = 4,       /* the guess was never drawn, or is decided */
+    HIDEWILLOW_REFUSED = 5,        /* nothing has changed; `number` is the refusal: 1 no process,
+                                      2 ended, 3 mismatch, 4 needs a reply, 5 blocked, 6 too many
+                                      guesses, 7 the trace is full */
+    /* of any line, and of a text to be opened */
+    HIDEWILLOW_FAULT = 6,          /* nothing has changed; of a line `number` is 1 word, 2 operand,
+                                      3 label, 4 too long; of hidewillow_open the first faulty line,
+                                      or 0 where the section is a trace or has a line */
+    HIDEWILLOW_MEMORY = 7,         /* want of memory: nothing has changed, but that a world may have
+                                      taken a request */
+    HIDEWILLOW_NOTHING = 8,        /* the line is blank or a comment: nothing has changed */
+    /* of the other calls */
+    HIDEWILLOW_OPENED = 9,         /* the handle holds what the text declares */
+    HIDEWILLOW_SHOWN = 10,         /* what was asked for is in the room, or in the counts */
+    HIDEWILLOW_ABSENT = 11,        /* no entity that is present has this name */
+    /* of a line of a world */
+    HIDEWILLOW_ASKED = 12,         /* the process waits for the reply to request `number` */
+    HIDEWILLOW_YES = 13,           /* the server found the copy good */
+    HIDEWILLOW_NO = 14,            /* the server found the copy stale, and sent version `number` */
+    HIDEWILLOW_COPY = 15,          /* the server sent version `number` */
+    HIDEWILLOW_DROPPED = 16,       /* the server took note that a request is forgotten */
+    HIDEWILLOW_COMMITTED = 17,     /* the reply committed guess `number` */
+    HIDEWILLOW_FAILED = 18,        /* the reply failed guess `number` */
+    HIDEWILLOW_TAKEN = 19,         /* the reply is there for request `number` */
+    HIDEWILLOW_FORGOTTEN = 20,     /* the reply is of request `number`, which was forgotten */
+    HIDEWILLOW_EDITED = 21,        /* the file has version `number` now */
+    HIDEWILLOW_IDLE = 22,          /* no request is to be served, or no reply to be given */
+    HIDEWILLOW_OTHER_VERSION = 23, /* the file has another version than the edit expects, or the
+                                      last one: nothing has changed */
+    /* of a handle */
+    HIDEWILLOW_HELD = 24,          /* the handle to open holds something: nothing has changed */
+    HIDEWILLOW_CLOSED = 25         /* the handle holds nothing, of which anything could be told */
+};
+
+typedef struct {
+    uint32_t answer; /* one of the above */
+    uint64_t number; /* what the answer names, or 0 */
+    size_t bytes;    /* the whole length of the text, or 0 */
+} hidewillow_told;
+
+typedef struct {
+    size_t guesses;    /* made */
+    size_t committed;
+    size_t failed;
+    size_t struck;     /* by the failure of another */
+    size_t steps;      /* taken, those of guesses among them */
+    size_t taken_back; /* by failures */
+    size_t most_open;  /* the most guesses that were undecided at once */
+} hidewillow_counted;
+
+/* Opens what a scenario's declarations say, at its start: a world where the text ends with the line
+ * `world`, else a kernel. The section has no line that says something. Told: OPENED, and the handle
+ * holds it; FAULT or MEMORY, and it holds nothing; or HELD. */
+hidewillow_told hidewillow_open(hidewillow_handle *handle, const uint8_t *text, size_t text_bytes);
+
+/* Makes the call that a line of the section says: `step PID INPUT`, `guess PID INPUT`, `commit G`
+ * or `fail G`; of a world `turn PID`, `serve`, `reply` or `edit NAME VERSION BYTES`. The text is
+ * the answer as the program prints it behind the number of the event; it has at most 40 bytes.
+ * Without memory for it there is none, and the answer holds all the same. */
+hidewillow_told hidewillow_line(hidewillow_handle *handle, const uint8_t *line, size_t line_bytes,
+                                uint8_t *room, size_t room_bytes);
+
+/* Shows the report that `speculate play` prints behind the answers. Told: SHOWN, MEMORY, or
+ * CLOSED. */
+hidewillow_told hidewillow_report(hidewillow_handle *handle, uint8_t *room, size_t room_bytes);
+
+/* Shows what an entity has, as the report prints it behind its name. The name is the report's:
+ * `proc 1`, `obj 1:1`, `copy /x`. It goes through all entities. Told: SHOWN, ABSENT, MEMORY, or
+ * CLOSED. */
+hidewillow_told hidewillow_value(hidewillow_handle *handle, const uint8_t *name, size_t name_bytes,
+                                 uint8_t *room, size_t room_bytes);
+
+/* Shows the undecided guesses that an entity rests on, as `1,3`, or `-`. Told: as of its value. */
+hidewillow_told hidewillow_tags(hidewillow_handle *handle, const uint8_t *name, size_t name_bytes,
+                                uint8_t *room, size_t room_bytes);
+
+/* Shows the lines of a terminal, as the report has them: how many texts are released and how many
+ * wait, and those that are released. Told: SHOWN, MEMORY, or CLOSED. */
+hidewillow_told hidewillow_terminal(hidewillow_handle *handle, uint16_t number, uint8_t *room,
+                                    size_t room_bytes);
+
+/* Counts the guesses and the steps so far; each failure so far costs a run of the steps before it.
+ * Told: SHOWN; or MEMORY or CLOSED, and the counts are as they were. */
+hidewillow_told hidewillow_counts(hidewillow_handle *handle, hidewillow_counted *counts);
+
+/* Ends what the handle holds, if anything, and frees its memory; guesses that are left are
+ * committed. The handle holds nothing then. */
+void hidewillow_close(hidewillow_handle *handle);
+
+#ifdef __cplusplus
+}
+#endif
+#endif

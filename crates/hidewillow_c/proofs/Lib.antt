@@ -1,0 +1,2 @@
+mod Heap
+mod Pointer

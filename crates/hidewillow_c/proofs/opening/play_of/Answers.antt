@@ -1,0 +1,10 @@
+-- The scenario opens nothing.
+use Rattle.std.proofs.Common.{rules, ◌≡◌, None}
+use Rattle.sk_scenario.specs.Scenario.{scenario_view}
+use Rattle.hidewillow_c.specs.Opening.{opening}
+use Rattle.hidewillow_c.proofs.opening.play_of.Goals as goal
+
+pub returns-in-Ok-None : goal.returns-in-Ok-None
+returns-in-Ok-None c =
+    let none : opening (scenario_view c.in-Ok.scenario) ≡ None = search rules in
+    (scenario_view c.in-Ok.scenario, c.in-Ok.ensures, none)

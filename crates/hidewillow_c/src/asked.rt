@@ -1,0 +1,160 @@
+//! What is asked of what is at play, which changes nothing.
+ghost use Rattle.std.specs.Prelude.{◌≡◌, Some, IfOk};
+ghost use Rattle.std.specs.List.{find};
+ghost use Rattle.sk_report.specs.Report.{terminal_said};
+ghost use Rattle.sk_talk.specs.Played.{kernel_of};
+ghost use Rattle.hidewillow_c.specs.Asked.{is_named, named, of_named, value_text, tags_text_of, report_shown, value_shown, tags_shown, terminal_shown, Reads, ShowsText, ShowsRead, CountsKernel};
+
+use crate::codes::{ABSENT, MEMORY, SHOWN};
+use crate::room::put;
+use crate::told::Told;
+use sk_counts::Counts;
+use sk_ids::Entity;
+use sk_kernel::Kernel;
+use sk_report::{PrintedEntity, PrintedTags, PrintedView, Stop, Subject};
+use sk_talk::Play;
+use std::alloc::Global;
+use std::io::Write;
+
+/// Shows the report in the room.
+pub fn tell_report(play: &Play, alloc: Global, room: &mut [u8]) -> Told
+    ensures { ShowsText result (report_shown play.now) room.old room.new }
+{
+    shown(report(play, alloc), room)
+}
+
+fn report(play: &Play, alloc: Global) -> Result<Option<Vec<u8>>, Stop>
+    ensures { Reads result (report_shown play.now) }
+{
+    let text = play.report(alloc)?;
+    Ok(Some(text))
+}
+
+/// Shows what an entity has that the report names so.
+pub fn tell_value(play: &Play, alloc: Global, name: &[u8], room: &mut [u8]) -> Told
+    ensures { ShowsText result (value_shown name.now play.now) room.old room.new }
+{
+    shown(value(alloc, play.kernel(), name), room)
+}
+
+/// Shows the undecided guesses that an entity rests on, which the report names so.
+pub fn tell_tags(play: &Play, alloc: Global, name: &[u8], room: &mut [u8]) -> Told
+    ensures { ShowsText result (tags_shown name.now play.now) room.old room.new }
+{
+    shown(tags(alloc, play.kernel(), name), room)
+}
+
+/// Shows what a terminal has released, and how many texts wait.
+pub fn tell_terminal(play: &Play, alloc: Global, number: u16, room: &mut [u8]) -> Told
+    ensures { ShowsText result (terminal_shown number play.now) room.old room.new }
+{
+    shown(terminal(alloc, play.kernel(), number), room)
+}
+
+/// Counts the guesses and the steps so far.
+pub fn tell_counts(play: &Play, alloc: Global, counts: &mut Counts) -> Told
+    ensures { CountsKernel result (kernel_of play.now) counts.old counts.new }
+{
+    match Counts::of(alloc, play.kernel()) {
+        Ok(counted) => {
+            *counts = counted;
+            Told::of(SHOWN, 0)
+        }
+        Err(_) => Told::of(MEMORY, 0),
+    }
+}
+
+/// Whether the report names an entity so.
+fn is_named(alloc: Global, entity: Entity, name: &[u8]) -> Result<bool, Stop>
+    ensures { IfOk result (λ is. is ≡ is_named name.now entity) }
+{
+    let mut text = Vec::new(alloc);
+    let entity = PrintedEntity(entity);
+    write!(text, "{entity}")?;
+    Ok(text.as_slice() == name)
+}
+
+/// The first of these that the report names so.
+fn find_named(alloc: Global, entities: &[Entity], name: &[u8]) -> Result<Option<Entity>, Stop>
+    ensures { IfOk result (λ found. found ≡ find (is_named name.now) entities.now) }
+{
+    for entity in entities {
+        if is_named(alloc, *entity, name)? {
+            return Ok(Some(*entity));
+        }
+    }
+    Ok(None)
+}
+
+/// The entity that the report names so.
+fn named(alloc: Global, kernel: &Kernel, name: &[u8]) -> Result<Option<Entity>, Stop>
+    ensures { IfOk result (λ found. found ≡ named kernel.now name.now) }
+{
+    let entities = kernel.entities()?;
+    find_named(alloc, &entities, name)
+}
+
+fn value(alloc: Global, kernel: &Kernel, name: &[u8]) -> Result<Option<Vec<u8>>, Stop>
+    ensures { Reads result (of_named (value_text kernel.now) (named kernel.now name.now)) }
+{
+    match named(alloc, kernel, name) {
+        Ok(Some(entity)) => value_of(alloc, kernel, entity),
+        Ok(None) => Ok(None),
+        Err(why) => Err(why),
+    }
+}
+
+/// What an entity has.
+fn value_of(alloc: Global, kernel: &Kernel, entity: Entity) -> Result<Option<Vec<u8>>, Stop>
+    ensures { Reads result (value_text kernel.now entity) }
+{
+    let Some(view) = kernel.value(&entity) else {
+        return Ok(None);
+    };
+    let mut text = Vec::new(alloc);
+    let view = PrintedView(view);
+    write!(text, "{view}")?;
+    Ok(Some(text))
+}
+
+fn tags(alloc: Global, kernel: &Kernel, name: &[u8]) -> Result<Option<Vec<u8>>, Stop>
+    ensures { Reads result (of_named (tags_text_of kernel.now) (named kernel.now name.now)) }
+{
+    match named(alloc, kernel, name) {
+        Ok(Some(entity)) => tags_of(alloc, kernel, entity),
+        Ok(None) => Ok(None),
+        Err(why) => Err(why),
+    }
+}
+
+/// The undecided guesses that an entity rests on.
+fn tags_of(alloc: Global, kernel: &Kernel, entity: Entity) -> Result<Option<Vec<u8>>, Stop>
+    ensures { Reads result (tags_text_of kernel.now entity) }
+{
+    let mut text = Vec::new(alloc);
+    let tags = PrintedTags(kernel.tags_of(&entity));
+    write!(text, "{tags}")?;
+    Ok(Some(text))
+}
+
+fn terminal(alloc: Global, kernel: &Kernel, number: u16) -> Result<Option<Vec<u8>>, Stop>
+    ensures { Reads result (Some (terminal_said kernel.now number)) }
+{
+    let mut text = Vec::new(alloc);
+    kernel.write_terminal(number, &mut text)?;
+    Ok(Some(text))
+}
+
+/// A text in the room, where there is one.
+fn shown(text: Result<Option<Vec<u8>>, Stop>, room: &mut [u8]) -> Told
+    ensures { ShowsRead result text room.old room.new }
+{
+    match text {
+        Ok(Some(text)) => {
+            put(&text, room);
+            Told::of(SHOWN, 0).with_text(text.len())
+        }
+        Ok(None) => Told::of(ABSENT, 0),
+        Err(_) => Told::of(MEMORY, 0),
+    }
+}

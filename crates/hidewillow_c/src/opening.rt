@@ -1,0 +1,53 @@
+//! What a text opens, and what its lines are told.
+ghost use Rattle.std.specs.Prelude.{MatchResult};
+ghost use Rattle.std.specs.Str.Lines.{lines};
+ghost use Rattle.sk_scenario.specs.Scenario.{scenario_of};
+ghost use Rattle.hidewillow_c.specs.Opening.{OpenedBy, UnopenedBy};
+ghost use Rattle.hidewillow_c.specs.Lines.{TakesLine, TellsLine};
+
+use crate::room::put;
+use crate::told::{Told, Unopened};
+use sk_scenario::Scenario;
+use sk_talk::{LineTold, Play};
+use std::alloc::{AllocError, Global};
+use std::io::Write;
+
+/// What a text declares, at its start.
+pub fn play_of(alloc: Global, text: &[u8]) -> Result<Box<Play>, Unopened>
+    ensures { MatchResult result (λ play. OpenedBy play.value (scenario_of text.now))
+        (λ why. UnopenedBy why (scenario_of text.now) (lines text.now)) }
+{
+    let scenario = match Scenario::parse(alloc, text) {
+        Ok(scenario) => scenario,
+        Err(fault) => return Err(Unopened::Fault(fault)),
+    };
+    let play = match Play::of(alloc, &scenario.declarations, &scenario.section) {
+        Ok(Some(play)) => play,
+        Ok(None) => return Err(Unopened::Section),
+        Err(AllocError) => return Err(Unopened::Memory),
+    };
+    match Box::new(alloc, play) {
+        Ok(play) => Ok(play),
+        Err(_) => Err(Unopened::Memory),
+    }
+}
+
+/// Makes the call that a line says, and shows its text in the room.
+pub fn tell_line(play: &mut Play, alloc: Global, line: &[u8], room: &mut [u8]) -> Told
+    ensures { TakesLine result line.now play.old play.new room.old room.new }
+{
+    let told = play.line(alloc, line);
+    tell(alloc, told, room)
+}
+
+/// What a line is told, with its text in the room; without memory for the text it has none.
+fn tell(alloc: Global, told: LineTold, room: &mut [u8]) -> Told
+    ensures { TellsLine result told room.old room.new }
+{
+    let mut text = Vec::new(alloc);
+    if write!(text, "{told}").is_err() {
+        return Told::of_line(told);
+    }
+    put(&text, room);
+    Told::of_line(told).with_text(text.len())
+}

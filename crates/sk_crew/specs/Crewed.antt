@@ -1,0 +1,34 @@
+-- What a crew leaves, and why it has no history.
+use Rattle.std.specs.Prelude.{ℕ, List, ⊤}
+use Rattle.sk_kernel.specs.Opening.{opening_of}
+use Rattle.sk_client.specs.Desk.{DeskView, first_number}
+use Rattle.sk_workers.specs.declared.entry.Entry.{Entry}
+use Rattle.sk_workers.specs.Views.{SharedView, BookView, WorkerView}
+use Rattle.sk_workers.specs.History.{IsLegal}
+use Rattle.sk_workers.specs.Closing.{IsClosed, Refuses}
+use Rattle.sk_crew.specs.declared.crew.CrewFault.{CrewFault}
+use Rattle.sk_crew.specs.declared.crew.CrewFault.TheVariants.{Memory, Close}
+use Rattle.sk_crew.specs.Duties.{AreNumbered, AllKeepTo, processes_of}
+
+-- where a desk begins
+abbrev pub start_of : DeskView → SharedView
+start_of d = record { opening = opening_of d.kernel; first = first_number }
+
+-- so many workers, numbered from 0, have a receipt for each call of one legal history from the opening of this desk to the last one, on which
+-- nothing is pending; and each call is its worker's to make
+pub record IsCrewed (workers : ℕ) (d : DeskView) (history : List Entry) (last : DeskView) : Type 0 where
+  pub crew : List WorkerView
+  pub numbered : AreNumbered workers crew
+  pub closed : IsClosed (start_of d) crew history last
+  pub duties : AllKeepTo workers (processes_of d) crew
+
+-- a close that some book with a legal history refuses to these workers
+abbrev pub IsRefused : SharedView → List WorkerView → CrewFault → Type 0
+IsRefused s workers Memory = ⊥
+IsRefused s workers (Close why) = (book : BookView) × IsLegal book.history book.desk × Refuses s workers book why
+
+-- want of memory, or such a close to so many workers, numbered from 0, each of whose calls is its worker's to make
+abbrev pub HasCause : ℕ → DeskView → CrewFault → Type 0
+HasCause workers d Memory = ⊤
+HasCause workers d (Close why) =
+    (crew : List WorkerView) × AreNumbered workers crew × AllKeepTo workers (processes_of d) crew × IsRefused (start_of d) crew (Close why)

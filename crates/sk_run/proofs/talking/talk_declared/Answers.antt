@@ -1,0 +1,11 @@
+-- Memory runs out before a line is answered.
+use Rattle.std.proofs.Common.{codes}
+use Rattle.std.specs.Io.Buffered.{writer_contents}
+use Rattle.sk_scenario.specs.Scenario.{section_view}
+use Rattle.sk_talk.specs.Played.{opened_in}
+use Rattle.sk_run.proofs.Talked.{not_opened}
+use Rattle.sk_run.proofs.talking.talk_declared.Goals as goal
+
+pub returns-in-Err-clause-end : goal.returns-in-Err-clause-end
+returns-in-Err-clause-end g c =
+    not_opened (opened_in c.args.declarations.now (section_view c.args.section.now)) (g.O.Open.bytes_of c.args.inputs.now (codes "-")) (writer_contents g.W.Write.contents c.args.out.now) c.in-Err.ensures

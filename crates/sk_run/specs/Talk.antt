@@ -1,0 +1,113 @@
+-- What a talk comes to: the lines of an input, each answered before the next one is read.
+use Rattle.std.specs.Prelude.{◌≡◌, ◌⊎◌, ℕ, ◌+◌, Bool, true, false, List, [], ◌∷◌, ◌++◌, codes, bytes_eq, if◌then◌else◌, ⊤, Option, Some, None, IfSome}
+use Rattle.std.specs.Str.Lines.{lines}
+use Rattle.std.specs.Io.KnownBytes.{Appends}
+use Rattle.sk_words.specs.Words.{words}
+use Rattle.sk_words.specs.declared.fault.FaultKind.{FaultKind}
+use Rattle.sk_words.specs.declared.fault.FaultKind.TheVariants as kinds
+use Rattle.sk_play.specs.Played.{answer_line}
+use Rattle.sk_play.specs.Told.{told_line}
+use Rattle.sk_talk.specs.Played.{report_of}
+use Rattle.sk_talk.specs.Lines.{LineTaken}
+use Rattle.sk_talk.specs.declared.play.Play.{Play}
+use Rattle.sk_talk.specs.declared.line.LineTold.{LineTold}
+use Rattle.sk_talk.specs.declared.line.LineTold.TheVariants as tells
+use Rattle.sk_command.specs.declared.end.End.{End}
+use Rattle.sk_command.specs.declared.end.End.TheVariants as ends
+use Rattle.sk_command.specs.declared.message.Message.TheVariants as messages
+use Rattle.sk_command.specs.Ends.{EndsUnwritten}
+use Rattle.sk_command.specs.Messages.{message_text}
+use Rattle.sk_run.specs.declared.talking.Talk.{Talk}
+
+-- ---- the lines of a talk
+
+-- whether this word stands alone on a line of these words
+abbrev pub is_alone : List ℕ → List (List ℕ) → Bool
+is_alone word [] = false
+is_alone word (w ∷ []) = bytes_eq w word
+is_alone word (w ∷ x ∷ xs) = false
+
+abbrev pub is_report : List ℕ → Bool
+is_report line = is_alone (codes "report") (words line)
+
+abbrev pub is_end : List ℕ → Bool
+is_end line = is_alone (codes "end") (words line)
+
+-- the lines of a talk are those before the first line `end`
+abbrev pub talked : List (List ℕ) → List (List ℕ)
+talked [] = []
+talked (l ∷ ls) = if is_end l then [] else l ∷ talked ls
+
+-- ---- what they are answered
+
+-- a fault is told with the number of its line; want of memory is not told
+abbrev pub fault_line : ℕ → FaultKind → Option (List ℕ)
+fault_line line kinds.Memory = None
+fault_line line kind = Some (message_text (messages.Fault line kind) ++ 10 ∷ [])
+
+-- what is written of a line of this number that is told so, the next event having that number
+abbrev pub told_as : ℕ → ℕ → LineTold → Option (List ℕ)
+told_as line number (tells.Answered a) = Some (answer_line number a)
+told_as line number (tells.Happened t) = Some (told_line number t)
+told_as line number tells.Nothing = Some []
+told_as line number (tells.Fault kind) = fault_line line kind
+
+-- the number of the event behind it
+abbrev pub number_behind : LineTold → ℕ → ℕ
+number_behind (tells.Answered a) number = number + 1
+number_behind (tells.Happened t) number = number + 1
+number_behind tells.Nothing number = number
+number_behind (tells.Fault kind) number = number
+
+-- a line that is `report` is answered with the report, any other as what is at play takes it
+abbrev pub AnswersAs : Bool → ℕ → List ℕ → Talk → Talk → List ℕ → Type 0
+AnswersAs true number line old new text = (new ≡ old) × (text ≡ report_of old.play)
+AnswersAs false number line old new text =
+    (told : LineTold) × LineTaken told line old.play new.play × (told_as number old.number told ≡ Some text) × (new.number ≡ number_behind told old.number)
+
+abbrev pub Answers : ℕ → List ℕ → Talk → Talk → List ℕ → Type 0
+Answers number line old new text = AnswersAs (is_report line) number line old new text
+
+-- a line can want memory: it is `report`, or has no fault
+abbrev pub WantsMemory : List ℕ → Play → Play → Type 0
+WantsMemory line old new = (is_report line ≡ true) ⊎ LineTaken (tells.Fault kinds.Memory) line old new
+
+-- the lines in turn, numbered from here, and this text is their answers
+abbrev pub Talks : ℕ → List (List ℕ) → Talk → Talk → List ℕ → Type 0
+Talks number [] old new text = (new ≡ old) × (text ≡ [])
+Talks number (l ∷ ls) old new text =
+    (mid : Talk) × (answer : List ℕ) × (rest : List ℕ) × Answers number l old mid answer × Talks (number + 1) ls mid new rest × (text ≡ answer ++ rest)
+
+-- ---- a talk
+
+-- at its start
+abbrev pub begun : Play → Talk
+begun play = record { play = play; number = 1 }
+
+-- the output has grown by the answers to these lines
+abbrev pub Talked : Play → List (List ℕ) → Option (List ℕ) → Option (List ℕ) → Type 0
+Talked play ls old new = (last : Talk) × (text : List ℕ) × Talks 1 ls (begun play) last text × Appends old new text
+
+-- where it ends well, the output has the answers to all lines of the input, where that is known, before its first `end`; where memory ran out or
+-- a read failed, to the first of them
+abbrev pub EndsTalk : Play → Option (List ℕ) → End → Option (List ℕ) → Option (List ℕ) → Type 0
+EndsTalk play input ends.Done old new = (ls : List (List ℕ)) × IfSome input (λ bytes. ls ≡ talked (lines bytes)) × Talked play ls old new
+EndsTalk play input ends.Fault old new = ⊥
+EndsTalk play input ends.Usage old new = ⊥
+EndsTalk play input ends.Trouble old new =
+    (ls : List (List ℕ)) × IfSome input (λ bytes. (rest : List (List ℕ)) × (talked (lines bytes) ≡ ls ++ rest)) × Talked play ls old new
+EndsTalk play input ends.OutputRefused old new = ⊤
+
+-- what declarations open is talked to; where they open nothing, the section is wrong
+abbrev pub EndsOpened : Option Play → Option (List ℕ) → End → Option (List ℕ) → Option (List ℕ) → Type 0
+EndsOpened None input end old new = EndsUnwritten ends.Fault end old new
+EndsOpened (Some play) input end old new = EndsTalk play input end old new
+
+-- ---- what functions answer, in these words
+
+-- the next line was taken from a reader, or there is none
+abbrev pub TakesLine : Option (List ℕ) → Option (List ℕ) → List (List ℕ) → Type 0
+TakesLine None new ls = ⊤
+TakesLine (Some xs) None ls = ⊥
+TakesLine (Some xs) (Some ys) [] = lines xs ≡ []
+TakesLine (Some xs) (Some ys) (l ∷ ls) = lines xs ≡ l ∷ lines ys

@@ -1,0 +1,250 @@
+//! Talking: what a scenario declares is played by the lines of a reader, each of which is answered before the next one
+//! is read.
+ghost use Rattle.std.specs.Prelude.{◌≡◌, ◌<◌, ◌≤◌, ◌^◌, ◌-◌, ◌+◌, ℕ, List, [], false, Some, Err, OnOk, codes};
+ghost use Rattle.std.specs.Str.Lines.{lines};
+ghost use Rattle.std.specs.Io.KnownBytes.{Appends};
+ghost use Rattle.std.specs.Io.Buffered.{writer_buffer, writer_contents};
+ghost use Rattle.sk_words.specs.Words.{words};
+ghost use Rattle.sk_command.specs.Ends.{IsFlushed};
+ghost use Rattle.sk_scenario.specs.Scenario.{section_view};
+ghost use Rattle.sk_talk.specs.Played.{opened_in, report_of};
+ghost use Rattle.sk_words.specs.declared.fault.FaultKind.TheVariants as kinds;
+ghost use Rattle.sk_talk.specs.declared.line.LineTold.TheVariants as tells;
+ghost use Rattle.sk_report.specs.declared.stop.Stop.TheVariants as stops;
+ghost use Rattle.sk_run.specs.Talk.{is_alone, is_report, fault_line, told_as, number_behind, AnswersAs, Answers, EndsTalk, EndsOpened, TakesLine, WantsMemory};
+
+use sk_command::end::{End, flushed, tell_unread, tell_wrong_section};
+use sk_command::message::{Message, write_message};
+use sk_command::open_input::Open;
+use sk_command::read_all::ReadFault;
+use sk_play::{write_answer, write_told};
+use sk_report::Stop;
+use sk_scenario::{Declarations, Section};
+use sk_talk::{LineTold, Play};
+use sk_words::{Cursor, FaultKind, Words};
+use std::alloc::{AllocError, Global};
+use std::io;
+use std::io::{BufRead, BufReader, BufWriter, ErrorKind, Write};
+
+/// What is at play, and the number of its next event, from 1 on.
+#[derive(Drop)]
+pub struct Talk {
+    play: Play,
+    number: usize,
+}
+
+/// Whether a line has this word alone.
+fn is_alone(word: &[u8], line: &[u8]) -> bool
+    ensures { result ≡ is_alone word.now (words line.now) }
+{
+    let mut words = Words::of(line);
+    match words.next() {
+        Some(first) => first == word && words.next().is_none(),
+        None => false,
+    }
+}
+
+/// Reads the next line of a reader, with its end.
+fn next_line<R: BufRead>(reader: &mut R, line: &mut Vec<u8>) -> io::Result<()>
+    ensures { OnOk result (TakesLine (R.remaining reader.old) (R.remaining reader.new) (lines line.new.items)) }
+{
+    line.clear();
+    reader.read_until(b'\n', line)?;
+    Ok(())
+}
+
+/// Why a read failed.
+fn read_fault(error: &io::Error) -> ReadFault {
+    match error.kind() {
+        ErrorKind::OutOfMemory => ReadFault::Memory,
+        kind => ReadFault::Failed(kind),
+    }
+}
+
+/// Tells the fault of the line of this number; of want of memory nothing is told.
+fn write_fault<W: Write>(line: u64, kind: FaultKind, out: &mut W) -> Result<(), Stop>
+    ensures written { OnOk result ((text : List ℕ) × (fault_line line kind ≡ Some text) × Appends (W.contents out.old) (W.contents out.new) text) }
+    ensures memory { result ≡ Err stops.Memory → (kind ≡ kinds.Memory) × (out.new ≡ out.old) }
+{
+    match kind {
+        FaultKind::Memory => Err(Stop::Memory),
+        _ => {
+            write_message(&Message::Fault { line, kind }, out)?;
+            Ok(())
+        }
+    }
+}
+
+/// Writes what the line of this number is told, as that of the next event.
+fn write_line<W: Write>(line: u64, number: usize, told: &LineTold, out: &mut W) -> Result<(), Stop>
+    ensures written { OnOk result ((text : List ℕ) × (told_as line number told.now ≡ Some text) × Appends (W.contents out.old) (W.contents out.new) text) }
+    ensures memory { result ≡ Err stops.Memory → (told.now ≡ tells.Fault kinds.Memory) × (out.new ≡ out.old) }
+{
+    match told {
+        LineTold::Answered(answer) => {
+            write_answer(number, answer, out)?;
+            Ok(())
+        }
+        LineTold::Happened(told) => {
+            write_told(number, told, out)?;
+            Ok(())
+        }
+        LineTold::Nothing => Ok(()),
+        LineTold::Fault(kind) => write_fault(line, *kind, out),
+    }
+}
+
+/// The number of the event behind a line that was told so.
+fn number_behind(told: &LineTold, number: usize) -> usize
+    requires { number < 2 ^ 64 - 1 }
+    ensures { result ≡ number_behind told.now number }
+{
+    match told {
+        LineTold::Answered(_) | LineTold::Happened(_) => number + 1,
+        LineTold::Nothing | LineTold::Fault(_) => number,
+    }
+}
+
+impl Talk {
+    /// Writes the report.
+    fn report<W: Write>(&self, alloc: Global, out: &mut W) -> Result<(), Stop>
+        ensures written { OnOk result (Appends (W.contents out.old) (W.contents out.new) (report_of self.now.play)) }
+        ensures memory { result ≡ Err stops.Memory → out.new ≡ out.old }
+    {
+        let text = self.play.report(alloc)?;
+        out.write_all(&text)?;
+        Ok(())
+    }
+
+    /// Makes the call that the line of this number says, and writes what it is told.
+    fn take<W: Write>(
+        &mut self,
+        alloc: Global,
+        number: u64,
+        line: &[u8],
+        out: &mut W,
+    ) -> Result<(), Stop>
+        requires { self.old.number < 2 ^ 64 - 1 }
+        ensures written { OnOk result ((text : List ℕ) × AnswersAs false number line.now self.old self.new text × Appends (W.contents out.old) (W.contents out.new) text) }
+        ensures memory { result ≡ Err stops.Memory → WantsMemory line.now self.old.play self.new.play × (out.new ≡ out.old) }
+    {
+        let told = self.play.line(alloc, line);
+        write_line(number, self.number, &told, out)?;
+        self.number = number_behind(&told, self.number);
+        Ok(())
+    }
+
+    /// Writes the answer to the line of this number.
+    fn tell<W: Write>(
+        &mut self,
+        alloc: Global,
+        number: u64,
+        line: &[u8],
+        out: &mut W,
+    ) -> Result<(), Stop>
+        requires { self.old.number < 2 ^ 64 - 1 }
+        ensures written { OnOk result ((text : List ℕ) × Answers number line.now self.old self.new text × Appends (W.contents out.old) (W.contents out.new) text) }
+        ensures memory { result ≡ Err stops.Memory → WantsMemory line.now self.old.play self.new.play × (out.new ≡ out.old) }
+    {
+        if is_alone(b"report", line) {
+            self.report(alloc, out)
+        } else {
+            self.take(alloc, number, line, out)
+        }
+    }
+
+    /// Writes the answer to the line of this number, and writes out what the output buffers.
+    fn answer<W: Write + Drop>(
+        &mut self,
+        alloc: Global,
+        number: u64,
+        line: &[u8],
+        out: &mut BufWriter<W>,
+    ) -> Result<(), Stop>
+        requires { self.old.number < 2 ^ 64 - 1 }
+        ensures written { OnOk result ((text : List ℕ) × Answers number line.now self.old self.new text
+            × Appends (writer_contents W.contents out.old) (writer_contents W.contents out.new) text) }
+        ensures flushed { OnOk result (writer_buffer out.new ≡ []) }
+        ensures memory { result ≡ Err stops.Memory → WantsMemory line.now self.old.play self.new.play × (out.new ≡ out.old) }
+    {
+        self.tell(alloc, number, line, out)?;
+        out.flush()?;
+        Ok(())
+    }
+}
+
+/// Answers the lines of a reader one by one, each before the next is read, up to a line `end` or the reader's end.
+pub fn answer_lines<R: BufRead, W: Write + Drop, E: Write>(
+    alloc: Global,
+    play: Play,
+    reader: &mut R,
+    out: &mut BufWriter<W>,
+    err: &mut E,
+) -> End
+    ensures end { EndsTalk play (R.remaining reader.old) result
+        (writer_contents W.contents out.old) (writer_contents W.contents out.new) }
+    ensures flushed { IsFlushed result (writer_buffer out.new) }
+    ensures at_once { writer_buffer out.old ≡ [] → result ≡ End.Trouble → writer_buffer out.new ≡ [] }
+{
+    let mut talk = Talk { play, number: 1 };
+    let mut line = Vec::new(alloc);
+    for number in 1..u64::MAX {
+        if let Err(error) = next_line(reader, &mut line) {
+            return tell_unread(read_fault(&error), "-", err);
+        }
+        let Some(text) = Cursor::of(&line).next() else {
+            return flushed(out);
+        };
+        if is_alone(b"end", text) {
+            return flushed(out);
+        }
+        match talk.answer(alloc, number, text, out) {
+            Ok(()) => {}
+            Err(Stop::Memory) => return End::Trouble,
+            Err(Stop::Output) => return End::OutputRefused,
+        }
+    }
+    tell_unread(ReadFault::NoEnd, "-", err)
+}
+
+/// Talks by the lines of the standard input.
+fn talk_input<O: Open, W: Write + Drop, E: Write>(
+    alloc: Global,
+    play: Play,
+    inputs: &O,
+    out: &mut BufWriter<W>,
+    err: &mut E,
+) -> End
+    ensures end { EndsTalk play (O.bytes_of inputs.now (codes "-")) result
+        (writer_contents W.contents out.old) (writer_contents W.contents out.new) }
+    ensures flushed { IsFlushed result (writer_buffer out.new) }
+{
+    let reader = match inputs.open("-") {
+        Ok(reader) => reader,
+        Err(error) => return tell_unread(read_fault(&error), "-", err),
+    };
+    match BufReader::new(alloc, reader) {
+        Ok(mut lines) => answer_lines(alloc, play, &mut lines, out, err),
+        Err(_) => End::Trouble,
+    }
+}
+
+/// Talks to what is declared, by the lines of the standard input, or tells that the section is wrong.
+pub fn talk_declared<O: Open, W: Write + Drop, E: Write>(
+    alloc: Global,
+    declarations: &Declarations,
+    section: &Section,
+    inputs: &O,
+    out: &mut BufWriter<W>,
+    err: &mut E,
+) -> End
+    ensures end { EndsOpened (opened_in declarations.now (section_view section.now)) (O.bytes_of inputs.now (codes "-")) result
+        (writer_contents W.contents out.old) (writer_contents W.contents out.new) }
+    ensures flushed { IsFlushed result (writer_buffer out.new) }
+{
+    match Play::of(alloc, declarations, section) {
+        Ok(Some(play)) => talk_input(alloc, play, inputs, out, err),
+        Ok(None) => tell_wrong_section(err),
+        Err(AllocError) => End::Trouble,
+    }
+}

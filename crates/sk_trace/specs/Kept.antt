@@ -1,0 +1,38 @@
+-- What is seen of an input that is kept, and what holds of every input.
+use Rattle.std.specs.Prelude.{Bool}
+use Rattle.std.specs.Coded.{Coded}
+use Rattle.sk_objects.specs.Value.{IsContent}
+use Rattle.sk_words.specs.Printed.{AreBytes}
+use Rattle.sk_script.specs.declared.instruction.Input.{Input}
+use Rattle.sk_script.specs.declared.instruction.Input.TheVariants as inputs
+use Rattle.sk_script.specs.contracts.instruction.Input as input
+use Rattle.sk_script.specs.contracts.instruction.InputPartialEq.TheImpl as test
+use Rattle.sk_trace.specs.declared.kept.Words.{Words}
+use Rattle.sk_trace.specs.declared.kept.Words.TheVariants.{None, Good, Fresh, Stale}
+
+-- the input, with its content out of its box
+abbrev pub input_of : Words → Input
+input_of None = inputs.None
+input_of Good = inputs.Good
+input_of (Fresh b) = inputs.Fresh b.value
+input_of (Stale b) = inputs.Stale b.value
+
+abbrev pub input_code : Coded Input
+input_code = input.the_row.coded
+
+-- the test of inputs
+abbrev pub same_input : Input → Input → Bool
+same_input = (test.ghosts).eq
+
+-- an input that brings a content, for which alone memory is wanted
+abbrev pub HasContent : Input → Type 0
+HasContent inputs.None = ⊥
+HasContent inputs.Good = ⊥
+HasContent (inputs.Fresh c) = Unit {0}
+HasContent (inputs.Stale c) = Unit {0}
+
+abbrev pub IsInput : Input → Type 0
+IsInput inputs.None = Unit {0}
+IsInput inputs.Good = Unit {0}
+IsInput (inputs.Fresh c) = IsContent c × AreBytes c.bytes
+IsInput (inputs.Stale c) = IsContent c × AreBytes c.bytes

@@ -1,0 +1,124 @@
+//! Inputs as events keep them: a few words, with what is long in a box.
+ghost use Rattle.std.specs.Prelude.{◌≡◌, IfOk, OnErr};
+ghost use Rattle.sk_script.specs.declared.instruction.Input.TheVariants as inputs;
+ghost use Rattle.sk_trace.specs.Kept.{HasContent, IsInput};
+ghost use Rattle.sk_words.specs.Printed.{AreBytes};
+
+use sk_objects::Content;
+use sk_script::Input;
+use std::alloc::{AllocError, Global};
+use std::fmt;
+use std::marker::Model;
+
+/// An input, with its content in a box.
+#[derive(Debug, Drop)]
+enum Words {
+    None,
+    Good,
+    Fresh(Box<Content>),
+    Stale(Box<Content>),
+}
+
+/// An input that is kept, of which contracts see what they see of an `Input`.
+#[derive(Debug, Drop)]
+pub struct KeptInput {
+    words: Words,
+}
+
+impl Model for KeptInput {
+    ghost use Rattle.sk_script.specs.declared.instruction.Input.{Input};
+    ghost use Rattle.sk_trace.specs.Kept.{input_of, input_code};
+
+    ghost Value = { Input };
+
+    ghost coded = { input_code };
+
+    ghost view = { λ k. input_of k.words };
+}
+
+impl PartialEq for KeptInput {
+    ghost use Rattle.std.specs.Cmp.{partial_equiv_from_equiv};
+    ghost use Rattle.sk_script.specs.contracts.instruction.InputEq.TheImpl.Laws.{laws-law as input_laws};
+    ghost use Rattle.sk_trace.specs.Kept.{same_input};
+
+    ghost eq = { same_input };
+
+    ghost laws = { partial_equiv_from_equiv input_laws };
+
+    fn eq(&self, other: &KeptInput) -> bool {
+        self.input() == other.input()
+    }
+}
+
+impl Eq for KeptInput {
+    ghost use Rattle.sk_script.specs.contracts.instruction.InputEq.TheImpl.Laws.{laws-law as input_laws};
+
+    ghost laws = { input_laws };
+}
+
+impl KeptInput {
+    /// No input. This takes no memory.
+    pub fn none() -> KeptInput
+        ensures { result ≡ inputs.None }
+    {
+        KeptInput { words: Words::None }
+    }
+
+    /// Keeps an input. It takes memory only for a content.
+    pub fn keep(alloc: Global, input: &Input) -> Result<KeptInput, AllocError>
+        ensures ok { IfOk result (λ kept. kept ≡ input.now) }
+        ensures err { OnErr result (HasContent input.now) }
+    {
+        let words = match input {
+            Input::None => Words::None,
+            Input::Good => Words::Good,
+            Input::Fresh(content) => Words::Fresh(Box::new(alloc, *content)?),
+            Input::Stale(content) => Words::Stale(Box::new(alloc, *content)?),
+        };
+        Ok(KeptInput { words })
+    }
+
+    /// The input.
+    pub fn input(&self) -> Input
+        ensures { result ≡ self.now }
+    {
+        match &self.words {
+            Words::None => Input::None,
+            Words::Good => Input::Good,
+            Words::Fresh(content) => Input::Fresh(**content),
+            Words::Stale(content) => Input::Stale(**content),
+        }
+    }
+
+    /// What holds of every input, for proofs.
+    pub fn known(&self)
+        ensures { IsInput self.now }
+    {
+        match &self.words {
+            Words::None | Words::Good => {}
+            Words::Fresh(content) | Words::Stale(content) => {
+                content.known();
+                known_bytes(content.bytes().as_slice());
+            }
+        }
+    }
+}
+
+/// What holds of all bytes, for proofs.
+fn known_bytes(bytes: &[u8])
+    ensures { AreBytes bytes.now }
+{}
+
+/// The words that say the input, with single spaces.
+impl fmt::Display for KeptInput {
+    ghost use Rattle.std.specs.Prelude.{Some};
+    ghost use Rattle.sk_words.specs.Spelling.{spaced};
+    ghost use Rattle.sk_script.specs.StepInput.{input_words};
+
+    ghost output = { λ i. Some (spaced (input_words i)) };
+
+    fn fmt<W: fmt::Write>(&self, f: &mut fmt::Formatter<W>) -> fmt::Result {
+        let input = self.input();
+        write!(f, "{input}")
+    }
+}

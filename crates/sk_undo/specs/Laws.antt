@@ -1,0 +1,34 @@
+-- What notes are for: a guess that is taken back gives each entity what it had before the first write that rests on it.
+use Rattle.std.specs.Prelude.{◌≡◌, ℕ, true, false, not, ◌||◌, List, [], ◌∷◌, Option}
+use Rattle.std.specs.List.{list_all}
+use Rattle.std.specs.Ordering.{eq_by_cmp}
+use Rattle.sk_ids.specs.Entity.{entity_cmp}
+use Rattle.sk_ids.specs.declared.entity.Entity.{Entity}
+use Rattle.sk_record.specs.Notes.{has}
+use Rattle.sk_store.specs.declared.entity_state.EntityState.{EntityState}
+use Rattle.sk_undo.specs.Log.{carries}
+use Rattle.sk_undo.specs.Logs.{SlotMap, look_at, log_at, slots_wrote}
+use Rattle.sk_undo.specs.Decisions.{Unwound}
+
+-- a write: the guesses that it rests on, its entity, and what that has after it
+pub record Write : Type 0 where
+  pub tags : List ℕ
+  pub entity : Entity
+  pub value : Option EntityState
+
+-- after these writes in order
+abbrev pub all_wrote : SlotMap → List Write → SlotMap
+all_wrote m [] = m
+all_wrote m (w ∷ ws) = all_wrote (slots_wrote w.tags m w.entity w.value) ws
+
+-- each of these writes to the entity rests on the guess; writes to others may or may not
+abbrev pub AllRestOn : ℕ → Entity → List Write → Type 0
+AllRestOn g e ws = list_all (λ w. not (eq_by_cmp entity_cmp e w.entity) || has g w.tags) ws ≡ true
+
+-- no note of the entity rests on the guess; then writes are made; then the guess is taken back: the entity has what it had before these writes,
+-- and its notes are those of then
+abbrev pub GivesBack : Type 0
+GivesBack =
+    (old : SlotMap) (ws : List Write) (g : ℕ) (new : SlotMap) (e : Entity)
+    → carries g (log_at old e) ≡ false → AllRestOn g e ws → Unwound (all_wrote old ws) g new
+    → (look_at new e ≡ look_at old e) × (log_at new e ≡ log_at old e)

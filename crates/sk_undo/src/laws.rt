@@ -1,0 +1,8 @@
+//! What the logs are for. The law is the contract of a function that does nothing.
+ghost use Rattle.sk_undo.specs.Laws.{GivesBack};
+
+/// A write is noted with the value that stood there. So, whatever is written to all entities while each write to one
+/// rests on a guess, `unwind` of the guess gives that entity the value that it had before, and its notes.
+pub fn given_back()
+    ensures { GivesBack }
+{}

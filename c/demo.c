@@ -37,7 +37,7 @@ static int look(hidewillow_handle *kernel)
     told = hidewillow_terminal(kernel, 1, room, sizeof room);
     printf("%.*s", (int)told.bytes, (const char *)room);
     told = hidewillow_counts(kernel, &counts);
-    printf("guesses %zu steps %zu most open %zu\n", counts.guesses, counts.steps, counts.most_open);
+    printf("guesses %zu steps %zu most open %zu notes %zu\n", counts.guesses, counts.steps, counts.most_open, counts.notes);
     return told.answer == HIDEWILLOW_SHOWN;
 }
 

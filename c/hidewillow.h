@@ -82,6 +82,7 @@ typedef struct {
     size_t steps;      /* taken, those of guesses among them */
     size_t taken_back; /* by failures */
     size_t most_open;  /* the most guesses that were undecided at once */
+    size_t notes;      /* held now for what may be taken back */
 } hidewillow_counted;
 
 /* Opens what a scenario's declarations say, at its start: a world where the text ends with the line

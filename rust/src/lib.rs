@@ -31,6 +31,8 @@ pub struct Counts {
     pub taken_back: usize,
     /// The most guesses that were undecided at once.
     pub most_open: usize,
+    /// The notes that are held now for what may be taken back.
+    pub notes: usize,
 }
 
 type Asks = unsafe extern "C" fn(*mut Handle, *const u8, usize, *mut u8, usize) -> Told;

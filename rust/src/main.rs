@@ -19,8 +19,8 @@ fn look(kernel: &mut Play) -> Result<(), Error> {
     print!("{}", kernel.terminal(1)?);
     let counts = kernel.counts()?;
     println!(
-        "guesses {} steps {} most open {}",
-        counts.guesses, counts.steps, counts.most_open
+        "guesses {} steps {} most open {} notes {}",
+        counts.guesses, counts.steps, counts.most_open, counts.notes
     );
     Ok(())
 }

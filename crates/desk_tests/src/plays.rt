@@ -6,7 +6,7 @@ use sk_client::{Desk, Given, ReplyRefusal, Turn};
 use sk_ids::{Entity, GuessId, Name, Pid};
 use sk_kernel::Kernel;
 use sk_objects::{Content, Value};
-use sk_plain::{Event, Refusal, View};
+use sk_plain::{Event, InputRef, Refusal, View};
 use sk_script::{Input, Process, Register, Val};
 use sk_server::{Reply, Request, Server};
 use std::alloc::Global;
@@ -365,9 +365,8 @@ fn ends_stale(
     bytes: &[u8],
 ) -> Result<(), Fail> {
     let pid = pid(number)?;
-    let input = kernel
-        .trace()
-        .keep(&Input::Stale(content(version, bytes)?))?;
+    let content = content(version, bytes)?;
+    let input = kernel.trace().keep(InputRef::Stale(&content))?;
     let step = Event::Step { pid, input };
     assert_eq!(rt; kernel.trace().events().last(), Some(&step));
     Ok(())

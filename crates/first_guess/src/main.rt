@@ -6,7 +6,7 @@ ghost use Rattle.hidewillow.specs.Kernel.{texts_at};
 ghost use Rattle.hidewillow.specs.Holder.{holding};
 ghost use Rattle.hidewillow.specs.Machine.{released};
 
-use hidewillow::{Fault, FaultKind, Holder, Input, Kernel, Pid, Refusal, Scenario};
+use hidewillow::{Fault, FaultKind, Holder, InputRef, Kernel, Pid, Refusal, Scenario};
 use std::alloc::Global;
 
 /// Process 1 reads a remote file, of which it has a copy, and says what it read to terminal 1.
@@ -44,8 +44,8 @@ pub fn shown(kernel: &Kernel) -> usize
 pub fn go_on(holder: &mut Holder, pid: Pid, is_right: bool) -> Result<(usize, usize), Refusal>
     ensures shown { IfOk result (λ seen. seen.1 ≡ length (released (texts_at holder.new.kernel 1))) }
 {
-    let guess = holder.guess(pid, Input::Good)?;
-    holder.step(pid, Input::None)?;
+    let guess = holder.guess(pid, InputRef::Good)?;
+    holder.step(pid, InputRef::None)?;
     let on_the_guess = shown(holder.kernel());
     if is_right {
         holder.commit(guess);

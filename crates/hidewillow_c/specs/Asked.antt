@@ -7,7 +7,7 @@ use Rattle.std.specs.declared.alloc.Global.{Global}
 use Rattle.sk_ids.specs.declared.entity.Entity.{Entity}
 use Rattle.sk_store.specs.declared.entity_state.EntityState.{EntityState}
 use Rattle.sk_kernel.specs.Kernel.{KernelView, state_at, tags_at}
-use Rattle.sk_counts.specs.Counts.{counts_of}
+use Rattle.sk_counts.specs.Counts.{AreCounts}
 use Rattle.sk_counts.specs.declared.counts.Counts.{Counts}
 use Rattle.sk_report.specs.declared.stop.Stop.{Stop}
 use Rattle.sk_report.specs.Printed.{entity_text, tags_text}
@@ -80,4 +80,4 @@ ShowsText told None old new = ((told ≡ just ABSENT 0) × (new ≡ old)) ⊎ ((
 
 -- the counts of a kernel; without memory they are as they were
 abbrev pub CountsKernel : Told → KernelView → Counts → Counts → Type 0
-CountsKernel told k old new = ((told ≡ just SHOWN 0) × (new ≡ counts_of k)) ⊎ ((told ≡ just MEMORY 0) × (new ≡ old))
+CountsKernel told k old new = ((told ≡ just SHOWN 0) × AreCounts k new) ⊎ ((told ≡ just MEMORY 0) × (new ≡ old))

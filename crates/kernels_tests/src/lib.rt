@@ -12,6 +12,8 @@ mod leases;
 #[cfg(test)]
 mod logs;
 #[cfg(test)]
+mod notes;
+#[cfg(test)]
 mod openings;
 #[cfg(test)]
 mod plays;

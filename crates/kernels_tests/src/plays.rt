@@ -38,6 +38,8 @@ pub enum Count {
     Undecided,
     /// The places of the trace that are free.
     Room,
+    /// The notes that are held.
+    Notes,
 }
 
 /// Something that can rest on a guess.
@@ -246,6 +248,7 @@ fn counted(kernel: &Kernel, count: Count) -> Result<Option<usize>, Fail> {
         Count::Events => Ok(Some(kernel.trace().events().len())),
         Count::Undecided => Ok(Some(kernel.undecided())),
         Count::Room => Ok(Some(kernel.room())),
+        Count::Notes => Ok(Some(kernel.notes())),
     }
 }
 

@@ -1,7 +1,9 @@
 //! Records, stores and steps, and what a failure leaves of a record.
 use crate::start::{content, declares_file, name, pid, two_processes};
 use sk_ids::{Entity, GuessId, Name, ObjId, Pid};
-use sk_plain::{Entry, Event, KeptInput, Refusal, Trace, apply_plan, plan_step, strike_guess};
+use sk_plain::{
+    Entry, Event, InputRef, KeptInput, Refusal, Trace, apply_plan, plan_step, strike_guess,
+};
 use sk_script::{Boot, Input, ObjectKind, ROOT, Register, Val};
 use sk_store::{EntityState, Look, Store};
 use std::alloc::Global;
@@ -134,11 +136,11 @@ fn writer_before_the_guess(rt: HostRuntime) -> Result<(), Fail> {
 /// Takes so many steps of a process, each without input.
 fn steps(store: &mut Store, boot: &Boot, pid: Pid, count: usize) -> Result<(), Refusal> {
     for _ in 0..count {
-        let plan = match plan_step(store, boot.scripts(), pid, &Input::None) {
+        let plan = match plan_step(store, boot.scripts(), pid, InputRef::None) {
             Ok(plan) => plan,
             Err(why) => return Err(why),
         };
-        apply_plan(store, boot.scripts(), pid, &Input::None, &plan)?;
+        apply_plan(store, boot.scripts(), pid, InputRef::None, &plan)?;
     }
     Ok(())
 }
@@ -201,7 +203,7 @@ fn errors_of_steps(rt: HostRuntime) -> Result<(), Fail> {
 
 /// Why a step of a process is refused.
 fn refusal(store: &Store, boot: &Boot, entry: &Entry) -> Option<Refusal> {
-    match plan_step(store, boot.scripts(), entry.pid, &entry.input) {
+    match plan_step(store, boot.scripts(), entry.pid, InputRef::of(&entry.input)) {
         Ok(_) => None,
         Err(why) => Some(why),
     }
@@ -308,7 +310,7 @@ fn starts_with_what_is_declared(rt: HostRuntime) -> Result<(), Fail> {
 fn two_events(alloc: Global, pid: Pid, input: Input) -> Result<Trace, Fail> {
     let mut trace = Trace::new(alloc);
     trace.reserve(2)?;
-    let input = trace.keep(&input)?;
+    let input = trace.keep(InputRef::of(&input))?;
     trace.push(Event::Step { pid, input });
     trace.push(Event::Commit(first_guess()?));
     Ok(trace)
@@ -317,7 +319,10 @@ fn two_events(alloc: Global, pid: Pid, input: Input) -> Result<Trace, Fail> {
 #[test]
 fn keeps_events(rt: HostRuntime) -> Result<(), Fail> {
     let step = entry_of(Did::Steps(1))?;
-    let (pid, input) = (step.pid, KeptInput::keep(rt.alloc(), &step.input)?);
+    let (pid, input) = (
+        step.pid,
+        KeptInput::keep(rt.alloc(), InputRef::of(&step.input))?,
+    );
     let want = [Event::Step { pid, input }, Event::Commit(first_guess()?)];
     let entries = [want[0].entry(), want[1].entry()];
     assert_eq!(rt; entries, [Some(step), None]);

@@ -43,9 +43,9 @@ impl Lender for Holder {
 
     fn call(&mut self, call: &Call) -> Result<(), Refusal> {
         match call {
-            Call::Step(pid, input) => return self.step(*pid, input.input()),
+            Call::Step(pid, input) => return self.step(*pid, input.lend()),
             Call::Guess(pid, input) => {
-                self.guess(*pid, input.input())?;
+                self.guess(*pid, input.lend())?;
             }
             Call::Commit(id) => {
                 self.commit(*id);

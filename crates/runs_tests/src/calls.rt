@@ -6,7 +6,7 @@ use rand_pcg::Pcg32;
 use sk_guesses::Status;
 use sk_ids::{Entity, GuessId, Pid, Text};
 use sk_objects::Content;
-use sk_plain::{KeptInput, Plan, Refusal, Trace, View, plan_step};
+use sk_plain::{InputRef, KeptInput, Plan, Refusal, Trace, View, plan_step};
 use sk_scenario::Call;
 use sk_script::{Input, Scripts};
 use std::alloc::AllocError;
@@ -80,8 +80,8 @@ fn step(
     pid: Pid,
 ) -> Result<Call, AllocError> {
     let input = reply(rng);
-    let fits = plan_step(&reckoning.store, scripts, pid, &input).is_ok();
-    let input = KeptInput::keep(reckoning.alloc, &input)?;
+    let fits = plan_step(&reckoning.store, scripts, pid, InputRef::of(&input)).is_ok();
+    let input = KeptInput::keep(reckoning.alloc, InputRef::of(&input))?;
     Ok(match (fits, rng.next_u32() % 16) {
         (true, 0) | (false, 1) => Call::Step(pid, input),
         (true, 1) => Call::Step(pid, KeptInput::none()),
@@ -189,12 +189,12 @@ pub fn answer(
         .saturating_sub(undecided);
     match call {
         Call::Step(pid, input) => {
-            let planned = plan_step(&reckoning.store, scripts, *pid, &input.input());
+            let planned = plan_step(&reckoning.store, scripts, *pid, input.lend());
             step_answer(planned, room)
         }
         Call::Guess(pid, input) => {
             let input = input.input();
-            let planned = plan_step(&reckoning.store, scripts, *pid, &input);
+            let planned = plan_step(&reckoning.store, scripts, *pid, InputRef::of(&input));
             guess_answer(planned, &input, undecided, room, next)
         }
         Call::Commit(id) | Call::Fail(id) => {

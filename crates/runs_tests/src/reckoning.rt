@@ -3,7 +3,7 @@
 use crate::finding::Finding;
 use sk_guesses::Status;
 use sk_ids::{Entity, GuessId, Pid, TagSet, Text};
-use sk_plain::{Entry, Event, Plain, Plan, Trace, apply_plan, plan_step, strike};
+use sk_plain::{Entry, Event, InputRef, Plain, Plan, Trace, apply_plan, plan_step, strike};
 use sk_script::{Boot, Scripts};
 use sk_store::{EntityState, Look, Store};
 use std::alloc::{AllocError, Global};
@@ -66,7 +66,7 @@ fn touches(dirt: &Dirt, entities: &[Entity]) -> bool {
 
 /// Marks what a step writes, where it depends on the guess; says whether it does.
 fn follow_one(dirt: &mut Dirt, entry: &Entry, plan: &Plan) -> Result<bool, AllocError> {
-    let reads = plan.reads(entry.pid, &entry.input);
+    let reads = plan.reads(entry.pid, InputRef::of(&entry.input));
     let writes = plan.writes(entry.pid);
     let depends = entry.guess == Some(dirt.guess)
         || touches(dirt, reads.as_slice())
@@ -122,11 +122,12 @@ impl Reckoning {
 
     /// Takes a step.
     fn take(&mut self, scripts: &Scripts, entry: &Entry) -> Result<(), Finding> {
-        let plan = match plan_step(&self.store, scripts, entry.pid, &entry.input) {
+        let input = InputRef::of(&entry.input);
+        let plan = match plan_step(&self.store, scripts, entry.pid, input) {
             Ok(plan) => plan,
             Err(why) => return Err(Finding::from(why)),
         };
-        apply_plan(&mut self.store, scripts, entry.pid, &entry.input, &plan)?;
+        apply_plan(&mut self.store, scripts, entry.pid, input, &plan)?;
         let is_held = follow(&mut self.dirt, entry, &plan)?;
         let text = self.plain.step(entry.pid, &entry.input)?;
         if let Some(text) = text {

@@ -71,13 +71,13 @@ impl Course {
         match call {
             Call::Step(pid, input) => {
                 if told == Answer::Stepped {
-                    let (pid, input) = (*pid, self.trace.keep(&input.input())?);
+                    let (pid, input) = (*pid, self.trace.keep(input.lend())?);
                     self.trace.push(Event::Step { pid, input });
                 }
             }
             Call::Guess(pid, input) => {
                 if let Answer::Guessed(id) = told {
-                    let (pid, input) = (*pid, self.trace.keep(&input.input())?);
+                    let (pid, input) = (*pid, self.trace.keep(input.lend())?);
                     self.trace.push(Event::Guess { id, pid, input });
                     self.held.push(id)?;
                     self.drawn = id.number();

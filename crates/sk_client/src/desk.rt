@@ -4,6 +4,7 @@ ghost use Rattle.std.specs.VecDeque.{deque_capacity};
 ghost use Rattle.sk_plain.specs.Refusal.{cause};
 ghost use Rattle.sk_kernel.specs.Kernel.{undecided_at, room};
 ghost use Rattle.sk_server.specs.declared.server.TheConstants.{LAST_REQUEST};
+ghost use Rattle.sk_trace.specs.Kept.{input_in};
 ghost use Rattle.sk_client.specs.Desk.{first_number, opened, pending, requests_taken, asks_for, asks_on, asked_count, kept_for, forgotten, kept_after, answer_kept, cached, buffer, rule, rule_next, guess_refused_at, rests_of, request_of, first_sent, first_taken, first_guess, expected, fits_ask, reply_refused, is_lost, lost_by, is_void, given, given_answer, decision_answer, input_of};
 ghost use Rattle.sk_client.specs.Upcoming.{turn_step, reply_step};
 ghost use Rattle.sk_client.specs.DeskCalls.{TurnPost, RulePost, ReplyPost, ShutPost};
@@ -16,7 +17,7 @@ use sk_ids::{Entity, GuessId, Name, Pid, TagSet, Text};
 use sk_kernel::{Kernel, Outcome};
 use sk_objects::Value;
 use sk_objects::content::LAST_VERSION;
-use sk_plain::{Next, Refusal, Trace, View};
+use sk_plain::{InputRef, Next, Refusal, Trace, View};
 use sk_script::Input;
 use sk_server::{Answer, Ask, LAST_REQUEST, Reply, Request};
 use sk_terminal::Texts;
@@ -404,18 +405,18 @@ impl Desk {
         ensures { TurnPost result self.old pid self.new }
     {
         match self.rule(pid)? {
-            Rule::Steps(input) => self.take_step(pid, input),
+            Rule::Steps(input) => self.take_step(pid, InputRef::of(&input)),
             Rule::Guesses(ask) => self.guess(pid, ask),
             Rule::Asks(ask) => self.ask(pid, ask),
         }
     }
 
     /// A step, which takes or forgets the kept answer of its process.
-    fn take_step(&mut self, pid: Pid, input: Input) -> Result<Turn, Refusal>
-        ensures { RulePost result self.old pid (Rule.Steps input) self.new }
+    fn take_step(&mut self, pid: Pid, input: InputRef<'_>) -> Result<Turn, Refusal>
+        ensures { RulePost result self.old pid (Rule.Steps (input_in input.entry)) self.new }
     {
         if self.free_places() < 1 {
-            let why = self.kernel().step_refusal(pid, &input);
+            let why = self.kernel().step_refusal(pid, input);
             return Err(why.unwrap_or(Refusal::TraceFull));
         }
         if let Err(why) = self.holder.step(pid, input) {
@@ -465,7 +466,7 @@ impl Desk {
         ensures refusal { result ≡ guess_refused_at self.now pid }
         ensures told { IfSome result (λ why. cause why ≡ Some why) }
     {
-        if let Some(why) = self.kernel().guess_refusal(pid, &Input::Good) {
+        if let Some(why) = self.kernel().guess_refusal(pid, InputRef::Good) {
             return Some(why);
         }
         if self.is_numbered_out() {
@@ -490,7 +491,7 @@ impl Desk {
         let Ok(()) = make_room(&mut self.taken, &mut self.waiting, &mut self.kept) else {
             return Err(Refusal::Memory);
         };
-        let id = match self.holder.guess(pid, Input::Good) {
+        let id = match self.holder.guess(pid, InputRef::Good) {
             Ok(id) => id,
             Err(why) => return Err(why),
         };
@@ -630,7 +631,7 @@ impl Desk {
                 return Ok(Given::Forgotten(number));
             }
         };
-        if let Err(Refusal::Memory) = self.holder.step(process, input) {
+        if let Err(Refusal::Memory) = self.holder.step(process, InputRef::of(&input)) {
             return Err((reply, ReplyRefusal::Memory));
         }
         self.taken.pop_front();

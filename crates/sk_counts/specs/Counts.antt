@@ -1,5 +1,5 @@
--- What is counted of a kernel, told on its trace.
-use Rattle.std.specs.Prelude.{ℕ, zero, suc, ◌-◌, max, Bool, true, false, ◌&&◌, ◌||◌, not, ◌==◌, List, length, take, count_by, Option, Some, None}
+-- What is counted of a kernel, told on its trace but for the notes that it holds.
+use Rattle.std.specs.Prelude.{◌≡◌, ℕ, zero, suc, ◌-◌, max, Bool, true, false, ◌&&◌, ◌||◌, not, ◌==◌, List, length, take, count_by, Option, Some, None}
 use Rattle.std.specs.List.{list_any}
 use Rattle.sk_record.specs.declared.status.Status.{Status}
 use Rattle.sk_record.specs.declared.status.Status.TheVariants.{Undecided, Committed, Failed, Struck}
@@ -7,6 +7,7 @@ use Rattle.sk_trace.specs.declared.event.Event.{Event}
 use Rattle.sk_trace.specs.declared.event.Event.TheVariants as events
 use Rattle.sk_plain.specs.Replay.{is_made}
 use Rattle.sk_kernel.specs.Kernel.{KernelView, record_at, undecided_at}
+use Rattle.sk_kernel.specs.Notes.{CanHold}
 use Rattle.sk_counts.specs.declared.counts.Counts.{Counts}
 
 -- whether an event takes a step, which may be a guess's
@@ -79,9 +80,10 @@ abbrev pub most_up_to : KernelView → ℕ → ℕ
 most_up_to k zero = 0
 most_up_to k (suc n) = max (most_up_to k n) (open_after k (suc n))
 
--- the guesses by what became of them; the steps that were taken, and those of them that the record has no more; the most undecided guesses
-abbrev pub counts_of : KernelView → Counts
-counts_of k = record {
+-- the guesses by what became of them; the steps that were taken, and those of them that the record has no more; the most undecided guesses;
+-- and so many notes
+abbrev pub counts_of : KernelView → ℕ → Counts
+counts_of k notes = record {
   guesses = count_by is_guess k.trace;
   committed = count_by is_commit k.trace;
   failed = count_by is_failure k.trace;
@@ -89,4 +91,9 @@ counts_of k = record {
   steps = count_by is_step k.trace;
   taken_back = count_by is_step k.trace - length (record_at k);
   most_open = most_up_to k (length k.trace);
+  notes = notes;
 }
+
+-- these are the counts of a kernel, with a number of notes that it can hold
+abbrev pub AreCounts : KernelView → Counts → Type 0
+AreCounts k c = (c ≡ counts_of k c.notes) × CanHold k c.notes

@@ -13,6 +13,10 @@ unfoldable pub steps_text : Counts → List ℕ
 steps_text c =
     codes "steps " ++ decimal c.steps ++ codes " back " ++ decimal c.taken_back ++ codes " open " ++ decimal c.most_open ++ 10 ∷ []
 
+-- the notes that are held
+unfoldable pub notes_text : Counts → List ℕ
+notes_text c = codes "notes " ++ decimal c.notes ++ 10 ∷ []
+
 -- a line of each
 abbrev pub counts_text : Counts → List ℕ
-counts_text c = guesses_text c ++ steps_text c
+counts_text c = guesses_text c ++ steps_text c ++ notes_text c

@@ -1,6 +1,6 @@
 //! The counts of a kernel.
-ghost use Rattle.std.specs.Prelude.{◌≡◌, IfOk};
-ghost use Rattle.sk_counts.specs.Counts.{counts_of};
+ghost use Rattle.std.specs.Prelude.{IfOk};
+ghost use Rattle.sk_counts.specs.Counts.{AreCounts};
 
 use crate::kinds::{commits_in, failures_in, guesses_in, steps_in, struck_in};
 use crate::standing::read_trace;
@@ -23,13 +23,15 @@ pub struct Counts {
     pub taken_back: usize,
     /// The most guesses that were undecided at once.
     pub most_open: usize,
+    /// The notes that are held now for what may be taken back.
+    pub notes: usize,
 }
 
 impl Counts {
-    /// The counts of a kernel, from its trace. Each failure of the trace costs a run of the steps before it. Refused only
-    /// for want of memory.
+    /// The counts of a kernel, from its trace, and the notes that it holds. Each failure of the trace costs a run of the steps
+    /// before it. Refused only for want of memory.
     pub fn of(alloc: Global, kernel: &Kernel) -> Result<Counts, AllocError>
-        ensures { IfOk result (λ counts. counts ≡ counts_of kernel.now) }
+        ensures { IfOk result (λ counts. AreCounts kernel.now counts) }
     {
         let (left, most_open) = read_trace(alloc, kernel)?;
         let events = kernel.trace().events();
@@ -42,6 +44,7 @@ impl Counts {
             steps,
             taken_back: steps.saturating_sub(left),
             most_open,
+            notes: kernel.notes(),
         })
     }
 }

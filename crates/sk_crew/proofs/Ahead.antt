@@ -1,5 +1,5 @@
 -- What is handed in before a turn is a lease of no more instructions than the worker was to run.
-use Rattle.std.specs.Prelude.{◌≡◌, ◌⊎◌, ◌<◌, ◌≤◌, ◌+◌, ◌==◌, ℕ, zero, suc, Bool, true, false, List, Option, Some, None, Result, Ok, Err, if◌then◌else◌}
+use Rattle.std.specs.Prelude.{◌≡◌, ◌⊎◌, ◌<◌, ◌≤◌, ◌+◌, ◌==◌, ℕ, zero, suc, Bool, true, false, List, Option, Some, None, IfSome, Result, Ok, Err, if◌then◌else◌}
 use Rattle.std.proofs.Common.{inl, inr, arith, ap, subst}
 use Rattle.std.specs.FinMap as map
 use Rattle.sk_ids.specs.declared.entity.Entity.TheVariants.{Proc}
@@ -16,13 +16,10 @@ use Rattle.sk_plain.specs.declared.refusal.Refusal.{Refusal}
 use Rattle.sk_plain.specs.declared.refusal.Refusal.TheVariants as refusals
 use Rattle.sk_kernel.specs.Kernel.{state_at}
 use Rattle.sk_kernel.specs.declared.hand_in.HandIn.{HandIn}
-use Rattle.sk_kernel.specs.declared.hand_in.HandIn.TheVariants.{Memory}
 use Rattle.sk_client.specs.Desk.{DeskView, pending, asks_for}
 use Rattle.sk_client.specs.Leasing.{unless_asked, desk_lease}
-use Rattle.sk_workers.specs.declared.entry.Call.TheVariants as calls
-use Rattle.sk_workers.specs.declared.entry.Answered.TheVariants.{HandedIn}
-use Rattle.sk_workers.specs.Views.{BookView, WorkerView}
-use Rattle.sk_workers.specs.History.{IsLegal, Told, without_lease}
+use Rattle.sk_workers.specs.Views.{WorkerView}
+use Rattle.sk_workers.specs.History.{Told, HandInTold, AnyTold, IsLentAny}
 use Rattle.sk_crew.specs.Ahead.{RunsAhead}
 
 -- ---- the count of a lease that ran
@@ -63,24 +60,30 @@ fresh d pid l scripts (Some (stored.Value v)) lends = absurd lends
 fresh d pid l scripts (Some (stored.Process p)) lends =
     unless_ended d pid l p (script_at scripts p.script) p.ended lends
 
--- a lease that a desk lent and that ran up to n instructions has at most n
-pub ran_within : (n pid : ℕ) (r : Result LeaseView Refusal) (l l' : LeaseView)
-    → ((book : BookView) × IsLegal book.history book.desk × Lends r (desk_lease book.desk pid))
-    → r ≡ Ok l → l' ≡ ran n l → l'.count ≤ n
-ran_within n pid r l l' lent is_lent is =
+-- what a desk with a legal history lent has no instruction done
+pub lent_fresh : (r : Option (Result LeaseView Refusal)) (pid : Option ℕ) (l : LeaseView) → IsLentAny r pid → r ≡ Some (Ok l) → l.count ≡ 0
+lent_fresh None pid l lent is = absurd (cc)
+lent_fresh (Some r) None l lent is = absurd lent.2
+lent_fresh (Some r) (Some pid) l lent is =
     let d = lent.0.desk in
-    let lends = subst (λ (x : Result LeaseView Refusal). Lends x (desk_lease d pid)) is_lent lent.2 in
-    let none = fresh d pid l d.kernel.scripts (map.get (state_at d.kernel) (Proc pid)) lends in
-    omega (arith, ran_from n l, none, ap (λ (x : LeaseView). x.count) is)
+    let ok : r ≡ Ok l = cc in
+    let lends = subst (λ (x : Result LeaseView Refusal). Lends x (desk_lease d pid)) ok lent.2 in
+    fresh d pid l d.kernel.scripts (map.get (state_at d.kernel) (Proc pid)) lends
+
+-- one that ran up to n has at most n
+pub ran_within : (n : ℕ) (l l' : LeaseView) → l.count ≡ 0 → l' ≡ ran n l → l'.count ≤ n
+ran_within n l l' none is = omega (arith, ran_from n l, none, ap (λ (x : LeaseView). x.count) is)
 
 -- ---- what a worker did
 
-pub handed_ahead : (r : Result (Unit {0}) (LeaseView × HandIn)) (l : LeaseView) (w w' : WorkerView) → 0 < l.count
-    → ((without_lease r ≡ Err Memory) × (w' ≡ w)) ⊎ Told w (calls.HandIn l.lent.pid l.count) (HandedIn (without_lease r)) w'
-    → RunsAhead l.count w w'
-handed_ahead r l w w' some (inl none) = inl none.1
-handed_ahead r l w w' some (inr told) = inr (l.lent.pid, l.count, without_lease r, some, omega arith, told)
+handed_ahead : (n : ℕ) (r : Result (Unit {0}) HandIn) (w : WorkerView) (l : LeaseView) (w' : WorkerView) → (0 < l.count) × (l.count ≤ n)
+    → HandInTold r w l w' → RunsAhead n w w'
+handed_ahead n r w l w' within (inl none) = inl none.1
+handed_ahead n r w l w' within (inr told) = inr (l.lent.pid, l.count, r, within.0, within.1, told)
 
-pub widened : (n m : ℕ) (w w' : WorkerView) → n ≤ m → RunsAhead n w w' → RunsAhead m w w'
-widened n m w w' within (inl same) = inl same
-widened n m w w' within (inr ran) = inr (ran.0, ran.1, ran.2, ran.3, omega (arith, ran.4, within), ran.5)
+pub told_ahead : (n : ℕ) (r : Option (Result (Unit {0}) HandIn)) (w : WorkerView) (l : Option LeaseView) (w' : WorkerView)
+    → IfSome l (λ m. (0 < m.count) × (m.count ≤ n)) → AnyTold r w l w' → RunsAhead n w w'
+told_ahead n None w None w' within told = inl told
+told_ahead n (Some r) w (Some l) w' within told = handed_ahead n r w l w' within told
+told_ahead n None w (Some l) w' within told = absurd told
+told_ahead n (Some r) w None w' within told = absurd told

@@ -1,5 +1,5 @@
 -- Each call of a worker is its own to make.
-use Rattle.std.specs.Prelude.{◌≡◌, ◌⊎◌, ℕ, zero, suc, ◌+◌, ◌*◌, Bool, true, false, ◌&&◌, nat_lt, List, [], ◌∷◌, ◌++◌, length, take, Some, None, slice_get, option_and_then, if◌then◌else◌}
+use Rattle.std.specs.Prelude.{◌≡◌, ◌⊎◌, ℕ, zero, suc, ◌+◌, ◌*◌, Bool, true, false, ◌&&◌, nat_lt, List, [], ◌∷◌, ◌++◌, length, take, Result, Some, None, slice_get, option_and_then, if◌then◌else◌}
 use Rattle.std.proofs.Common.{inl, inr, refl, sym, ap, ◌∙◌, subst, arith}
 use Rattle.std.specs.List.{Contains}
 use native.Mathlib.Numerals.{unary_clauses}
@@ -12,17 +12,20 @@ use Rattle.sk_client.specs.Desk.{DeskView, first_number}
 use Rattle.sk_workers.specs.declared.entry.Call.{Call}
 use Rattle.sk_workers.specs.declared.entry.Call.TheVariants as calls
 use Rattle.sk_workers.specs.declared.entry.Answered.{Answered}
+use Rattle.sk_workers.specs.declared.entry.Answered.TheVariants.{Turned}
 use Rattle.sk_workers.specs.declared.entry.Receipt.{Receipt}
 use Rattle.sk_workers.specs.declared.entry.Entry.{Entry}
 use Rattle.sk_workers.specs.Views.{WorkerView, SharedView}
-use Rattle.sk_workers.specs.History.{Told, AreFresh, entry, receipt}
+use Rattle.sk_workers.specs.History.{Told, TurnTold, AreFresh, entry, receipt}
 use Rattle.sk_workers.specs.Closing.{numbers, begins_turn, IsClosed}
 use Rattle.sk_crew.specs.declared.crew.CrewFault.{CrewFault}
 use Rattle.sk_crew.specs.declared.crew.CrewFault.TheVariants.{Memory, Close}
 use Rattle.sk_crew.specs.Crewed.{start_of, IsCrewed, IsRefused, HasCause}
 use Rattle.sk_crew.specs.declared.rounds.Rounds.{Rounds}
 use Rattle.sk_crew.specs.Rounds.{fresh, due, after}
-use Rattle.sk_crew.specs.Ahead.{RunsAhead}
+use Rattle.sk_plain.specs.declared.refusal.Refusal.{Refusal}
+use Rattle.sk_client.specs.declared.desk.Turn.{Turn}
+use Rattle.sk_crew.specs.Ahead.{RunsAhead, TakesTurn}
 use Rattle.sk_crew.specs.Duties.{processes_of, IsOf, IsDuty, KeepsTo, AllKeepTo, IsReply, OnlyReplies, AreNumbered}
 
 -- ---- the places of a worker's turns
@@ -150,21 +153,27 @@ pub ahead_number : (n : ℕ) (w w' : WorkerView) → RunsAhead n w w' → w'.num
 ahead_number n w w' (inl same) = ap (λ (x : WorkerView). x.number) same
 ahead_number n w w' (inr ran) = ap (λ (x : WorkerView). x.number) ran.5.3
 
-turn_keeps : {P : Type 0} (answer : Answered) (workers : ℕ) (processes : List ℕ) (pid : ℕ) (w w' : WorkerView)
-    → (P × (w' ≡ begins_turn w)) ⊎ Told (begins_turn w) (calls.Turn pid) answer w' → IsOf workers w.number processes pid
-    → KeepsTo workers processes w → KeepsTo workers processes w'
-turn_keeps answer workers processes pid w w' (inl none) its keeps = subst (KeepsTo workers processes) (sym none.1) keeps
-turn_keeps answer workers processes pid w w' (inr told) its keeps = told_keeps workers processes (begins_turn w) w' (calls.Turn pid) answer told its keeps
+told_number : (answer : Result Turn Refusal) (w : WorkerView) (pid : ℕ) (w' : WorkerView) → TurnTold answer w pid w' → w'.number ≡ w.number
+told_number answer w pid w' (inl none) = ap (λ (x : WorkerView). x.number) none.1
+told_number answer w pid w' (inr told) = ap (λ (x : WorkerView). x.number) told.3
 
--- a worker that goes on from v runs ahead to w, and takes a turn
-pub round_keeps : {P : Type 0} (answer : Answered) (workers : ℕ) (processes : List ℕ) (number n pid : ℕ) (r : Rounds) (v w w' : WorkerView)
-    → v.number ≡ number → IsAt workers number r → option_and_then (slice_get processes) (due r) ≡ Some pid → RunsAhead n v w
-    → (P × (w' ≡ begins_turn w)) ⊎ Told (begins_turn w) (calls.Turn pid) answer w'
-    → KeepsTo workers processes v → KeepsTo workers processes w'
-round_keeps answer workers processes number n pid r v w w' same at is ahead told keeps =
+pub turn_number : (n : ℕ) (answer : Result Turn Refusal) (w : WorkerView) (pid : ℕ) (w' : WorkerView) → TakesTurn n answer w pid w' → w'.number ≡ w.number
+turn_number n answer w pid w' took = told_number answer took.0 pid w' took.2 ∙ ahead_number n (begins_turn w) took.0 took.1
+
+turn_keeps : (workers : ℕ) (processes : List ℕ) (answer : Result Turn Refusal) (w : WorkerView) (pid : ℕ) (w' : WorkerView) → TurnTold answer w pid w'
+    → IsOf workers w.number processes pid → KeepsTo workers processes w → KeepsTo workers processes w'
+turn_keeps workers processes answer w pid w' (inl none) its keeps = subst (KeepsTo workers processes) (sym none.1) keeps
+turn_keeps workers processes answer w pid w' (inr told) its keeps = told_keeps workers processes w w' (calls.Turn pid) (Turned answer) told its keeps
+
+-- a worker runs ahead and takes the turn that is due
+pub round_keeps : (workers : ℕ) (processes : List ℕ) (number n pid : ℕ) (r : Rounds) (answer : Result Turn Refusal) (w w' : WorkerView)
+    → w.number ≡ number → IsAt workers number r → option_and_then (slice_get processes) (due r) ≡ Some pid → TakesTurn n answer w pid w'
+    → KeepsTo workers processes w → KeepsTo workers processes w'
+round_keeps workers processes number n pid r answer w w' same at is took keeps =
     let its = is_its workers number processes r pid at is in
-    turn_keeps answer workers processes pid w w' told (subst (λ m. IsOf workers m processes pid) (sym (ahead_number n v w ahead ∙ same)) its)
-    (ahead_keeps workers processes n v w ahead keeps)
+    turn_keeps workers processes answer took.0 pid w' took.2
+    (subst (λ m. IsOf workers m processes pid) (sym (ahead_number n (begins_turn w) took.0 took.1 ∙ same)) its)
+    (ahead_keeps workers processes n (begins_turn w) took.0 took.1 keeps)
 
 -- ---- the crew
 

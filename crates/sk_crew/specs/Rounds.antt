@@ -13,6 +13,10 @@ fresh number workers count = record { count = count; first = number; step = work
 abbrev pub due : Rounds → Option ℕ
 due r = if r.is_over then None else Some r.at
 
+-- the place of the process whose turn comes after this one, where the worker goes on
+abbrev pub next : Rounds → ℕ
+next r = if nat_lt (r.at + r.step) r.count then r.at + r.step else r.first
+
 -- after a turn that was answered `Ended`, or was not: behind the last process the round is over, and the worker stops where each turn of it was
 abbrev pub after : Bool → Rounds → Rounds
 after ended r =

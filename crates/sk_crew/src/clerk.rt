@@ -8,6 +8,9 @@ use sk_workers::{Shared, Worker};
 use std::sync::Wait;
 use std::sync::ledger::Ledger;
 
+/// How many requests, and how many replies, are carried at most between two turns.
+const CARRIED: u32 = 16;
+
 /// Carries requests from the desk to one wire, and replies from the other to the desk.
 #[derive(Drop)]
 pub(crate) struct Clerk<'a> {
@@ -17,10 +20,12 @@ pub(crate) struct Clerk<'a> {
     pub(crate) request: Option<Request>,
     /// A reply that was received, and which the desk did not take yet.
     pub(crate) reply: Option<Reply>,
+    /// How many requests were sent whose replies were not received yet.
+    pub(crate) awaited: u64,
 }
 
 impl<'a> Clerk<'a> {
-    /// Moves at most one request out and one reply in.
+    /// Moves requests out and replies in, one of each and again, until there are none or enough were moved.
     pub(crate) fn carry<L: Ledger, R: Wait>(
         self,
         rt: &R,
@@ -30,37 +35,63 @@ impl<'a> Clerk<'a> {
         ensures number { result.1.number ≡ worker.number }
         ensures replies { OnlyReplies worker result.1 }
     {
-        self.move_out(rt, shared).move_in(rt, shared, worker)
+        if self.is_idle() && !shared.may_wait() {
+            return (self, worker);
+        }
+        let mut clerk = self;
+        let mut worker = worker;
+        let mut moves = true;
+        for _ in 0..CARRIED {
+            if !moves {
+                break;
+            }
+            let (back, sent) = clerk.move_out(rt, shared);
+            let (back, carrier, given) = back.move_in(rt, shared, worker);
+            clerk = back;
+            worker = carrier;
+            moves = sent || given;
+        }
+        (clerk, worker)
     }
 
-    /// Sends the oldest request that is not sent yet, if there is one.
-    fn move_out<L: Ledger, R: Wait>(self, rt: &R, shared: &Shared<L>) -> Clerk<'a> {
+    /// Whether it has nothing to send or to give, and no reply is on its way.
+    fn is_idle(&self) -> bool {
+        self.awaited == 0 && self.request.is_none() && self.reply.is_none()
+    }
+
+    /// Sends the oldest request that is not sent yet, if there is one; whether it did.
+    fn move_out<L: Ledger, R: Wait>(self, rt: &R, shared: &Shared<L>) -> (Clerk<'a>, bool) {
         let Clerk {
             requests,
             replies,
             request,
             reply,
+            awaited,
         } = self;
         let next = match request {
             Some(request) => Some(request),
             None => shared.next_request(rt),
         };
+        let was_some = next.is_some();
         let (requests, request) = requests.post(rt, next);
-        Clerk {
+        let sent = was_some && request.is_none();
+        let clerk = Clerk {
             requests,
             replies,
             request,
             reply,
-        }
+            awaited: awaited.saturating_add(u64::from(sent)),
+        };
+        (clerk, sent)
     }
 
-    /// Gives the desk the oldest reply that it did not take yet, if there is one.
+    /// Gives the desk the oldest reply that it did not take yet, if there is one; whether it took it.
     fn move_in<L: Ledger, R: Wait>(
         self,
         rt: &R,
         shared: &Shared<L>,
         worker: Worker<L>,
-    ) -> (Clerk<'a>, Worker<L>)
+    ) -> (Clerk<'a>, Worker<L>, bool)
         ensures number { result.1.number ≡ worker.number }
         ensures replies { OnlyReplies worker result.1 }
     {
@@ -69,19 +100,25 @@ impl<'a> Clerk<'a> {
             replies,
             request,
             reply,
+            awaited,
         } = self;
+        let is_new = reply.is_none();
         let (replies, next) = match reply {
             Some(reply) => (replies, Some(reply)),
             None => replies.receive(rt),
         };
+        let was_some = next.is_some();
+        let awaited = awaited.saturating_sub(u64::from(is_new && was_some));
         let (worker, reply) = give(rt, shared, worker, next);
+        let given = was_some && reply.is_none();
         let clerk = Clerk {
             requests,
             replies,
             request,
             reply,
+            awaited,
         };
-        (clerk, worker)
+        (clerk, worker, given)
     }
 }
 

@@ -77,6 +77,7 @@ fn run_served<L: Ledger + Send + Sync, R: Threads + Wait + Sync, G: Gate + Sync>
         replies: Inbox::new(&replies, gets),
         request: None,
         reply: None,
+        awaited: 0,
     };
     let service = Service {
         server,

@@ -1,6 +1,6 @@
 //! The rounds that a worker makes of its processes.
 ghost use Rattle.std.specs.Prelude.{◌≡◌};
-ghost use Rattle.sk_crew.specs.Rounds.{fresh, due, after, is_ended};
+ghost use Rattle.sk_crew.specs.Rounds.{fresh, due, next, after, is_ended};
 
 use sk_client::Turn;
 use sk_plain::Refusal;
@@ -45,6 +45,18 @@ impl Rounds {
             return None;
         }
         Some(self.at)
+    }
+
+    /// The place of the process whose turn comes after this one, where the worker goes on.
+    pub(crate) fn next(&self) -> usize
+        ensures { result ≡ next self.now }
+    {
+        let further = self.at.saturating_add(self.step);
+        if further < self.count {
+            further
+        } else {
+            self.first
+        }
     }
 
     /// Goes on after a turn that was answered `Ended`, or was not.

@@ -99,6 +99,7 @@ fn give_received<L: Ledger, R: Wait>(
         replies,
         request,
         reply,
+        awaited: _,
     } = clerk;
     let mut worker = give_kept(rt, shared, worker, reply)?;
     let mut replies = replies;

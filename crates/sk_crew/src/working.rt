@@ -1,10 +1,10 @@
 //! The threads of a crew.
-ghost use Rattle.std.specs.Prelude.{◌≡◌, ◌⊎◌, ◌<◌, ◌≤◌, Err, IfSome, vec_len, vec_capacity, slice_get, option_and_then};
+ghost use Rattle.std.specs.Prelude.{◌≡◌, ◌<◌, ◌≤◌, IfSome, vec_len, vec_capacity, slice_get, option_and_then};
 ghost use Rattle.std.specs.Thread.{IsSync};
-ghost use Rattle.sk_workers.specs.History.{Told};
-ghost use Rattle.sk_workers.specs.Closing.{begins_turn, numbers};
+ghost use Rattle.sk_workers.specs.History.{IsLentAny};
+ghost use Rattle.sk_workers.specs.Closing.{numbers};
 ghost use Rattle.sk_crew.specs.Rounds.{due, after, is_ended};
-ghost use Rattle.sk_crew.specs.Ahead.{RunsAhead};
+ghost use Rattle.sk_crew.specs.Ahead.{TakesTurn};
 ghost use Rattle.sk_crew.specs.Duties.{KeepsTo, AllKeepTo, OnlyReplies};
 
 use crate::clerk::Clerk;
@@ -15,7 +15,7 @@ use sk_client::Turn;
 use sk_ids::Pid;
 use sk_plain::Refusal;
 use sk_script::Lease;
-use sk_workers::{Answered, Call, Gate, Shared, Worker};
+use sk_workers::{Gate, Leased, Shared, Worker};
 use std::sync::Wait;
 use std::sync::atomic::{AtomicBool, Ordering};
 use std::sync::ledger::Ledger;
@@ -29,89 +29,127 @@ fn due(rounds: &Rounds, processes: &[Pid]) -> Option<Pid>
     processes.get(rounds.due()?).copied()
 }
 
-/// Lends a worker a process, with up to so many of its private instructions done, outside the lock.
+/// The process whose turn comes after this one in a worker's rounds, where the worker runs ahead.
+fn following(rounds: &Rounds, processes: &[Pid], ahead: u32) -> Option<Pid> {
+    if ahead == 0 {
+        return None;
+    }
+    processes.get(rounds.next()).copied()
+}
+
+/// What was lent; `None` after a refusal.
+#[tactic(auto, using(crate::proofs::Ahead::lent_fresh))]
+fn kept(lent: Option<Result<Lease, Refusal>>, pid: Option<Pid>) -> Option<Lease>
+    requires { IsLentAny lent pid }
+    ensures { IfSome result (λ lease. lease.count ≡ 0) }
+{
+    match lent {
+        Some(Ok(lease)) => Some(lease),
+        Some(Err(_)) | None => None,
+    }
+}
+
+/// Lends a worker the process whose turn is first, where it runs ahead.
 fn lease<L: Ledger, R: Wait>(
     rt: &R,
     shared: &Shared<L>,
     worker: Worker<L>,
-    pid: Pid,
+    pid: Option<Pid>,
     ahead: u32,
 ) -> (Worker<L>, Option<Lease>)
     ensures same { result.0 ≡ worker }
-    ensures count { IfSome result.1 (λ lease. lease.count ≤ ahead) }
+    ensures fresh { IfSome result.1 (λ lease. lease.count ≡ 0) }
 {
-    let (worker, lent) = shared.lease(rt, worker, pid);
-    let Ok(mut lease) = lent else {
+    let Some(pid) = pid else {
         return (worker, None);
     };
-    lease.run(ahead);
-    (worker, Some(lease))
-}
-
-/// A worker hands in a lease of some private instructions. After any refusal they are left to the
-/// process's turns.
-#[tactic(auto, using(crate::proofs::Ahead::handed_ahead))]
-fn hand_in<L: Ledger, R: Wait>(
-    rt: &R,
-    shared: &Shared<L>,
-    worker: Worker<L>,
-    lease: Lease,
-) -> Worker<L>
-    requires { 0 < lease.count }
-    ensures { RunsAhead lease.count worker result }
-{
-    let (worker, done) = shared.hand_in(rt, worker, lease);
-    if let Err((lease, _why)) = done {
-        lease.give_up();
-    }
-    worker
-}
-
-/// A worker runs up to so many private instructions of a process outside the lock, and hands them
-/// in where it ran some. This is no turn.
-#[tactic(auto, using(crate::proofs::Ahead::widened))]
-fn run_ahead<L: Ledger, R: Wait>(
-    rt: &R,
-    shared: &Shared<L>,
-    worker: Worker<L>,
-    pid: Pid,
-    ahead: u32,
-) -> Worker<L>
-    ensures { RunsAhead ahead worker result }
-{
     if ahead == 0 {
-        return worker;
+        return (worker, None);
     }
-    let (worker, lent) = lease(rt, shared, worker, pid, ahead);
-    let Some(lease) = lent else {
-        return worker;
+    let (worker, lent) = shared.lease(rt, worker, pid);
+    (worker, kept(Some(lent), Some(pid)))
+}
+
+/// Runs up to so many private instructions on a lease, outside the lock. One that ran none is given up.
+#[tactic(auto, using(crate::proofs::Ahead::ran_within))]
+fn run_ahead(lease: Option<Lease>, ahead: u32) -> Option<Lease>
+    requires { IfSome lease (λ lease. lease.count ≡ 0) }
+    ensures { IfSome result (λ lease. (0 < lease.count) × (lease.count ≤ ahead)) }
+{
+    let Some(mut lease) = lease else {
+        return None;
     };
+    lease.run(ahead);
     if lease.count() == 0 {
         lease.give_up();
-        return worker;
+        return None;
     }
-    hand_in(rt, shared, worker, lease)
+    Some(lease)
 }
 
-/// A worker takes a turn of a process, and its rounds go on by the answer.
+/// Gives up a lease, if there is one.
+fn give_up(lease: Option<Lease>) {
+    if let Some(lease) = lease {
+        lease.give_up();
+    }
+}
+
+/// A worker hands in what it ran ahead, takes a turn of the process, and is lent the next, with the lock held once; its
+/// rounds go on by the answer. After any refusal the instructions are left to the process's turns.
+#[tactic(auto, using(crate::proofs::Ahead::told_ahead, crate::proofs::Ahead::lent_fresh))]
 fn take_turn<L: Ledger, R: Wait, G: Gate>(
     rt: &R,
     shared: &Shared<L>,
     worker: Worker<L>,
+    lease: Option<Lease>,
     pid: Pid,
+    next: Option<Pid>,
     rounds: &mut Rounds,
     gate: &G,
-) -> (Worker<L>, Result<Turn, Refusal>)
-    ensures number { result.0.number ≡ worker.number }
-    ensures told { ((result.1 ≡ Err Refusal.Memory) × (result.0 ≡ begins_turn worker)) ⊎ Told (begins_turn worker) (Call.Turn pid) (Answered.Turned result.1) result.0 }
+    ahead: u32,
+) -> (Worker<L>, Result<Turn, Refusal>, Option<Lease>)
+    requires { IfSome lease (λ lease. (0 < lease.count) × (lease.count ≤ ahead)) }
+    ensures told { TakesTurn ahead result.1 worker pid result.0 }
     ensures rounds { rounds.new ≡ after (is_ended result.1) rounds.old }
+    ensures lent { IfSome result.2 (λ lease. lease.count ≡ 0) }
 {
-    let (worker, answer) = shared.turn(rt, worker, pid, gate);
+    let (worker, leased) = shared.turn_with_leases(rt, worker, lease, pid, next, gate);
+    let Leased {
+        handed: _handed,
+        answer,
+        lent,
+    } = leased;
+    let lease = match lent {
+        Some(Ok(lease)) => Some(lease),
+        Some(Err(_)) | None => None,
+    };
     rounds.take(is_ended(&answer));
     if answer.is_err() {
         thread::yield_now();
     }
-    (worker, answer)
+    (worker, answer, lease)
+}
+
+/// A worker runs ahead on the lease that it has, and takes the turn that is due.
+fn go_on<L: Ledger, R: Wait, G: Gate>(
+    rt: &R,
+    shared: &Shared<L>,
+    worker: Worker<L>,
+    lease: Option<Lease>,
+    pid: Pid,
+    processes: &[Pid],
+    rounds: &mut Rounds,
+    gate: &G,
+    ahead: u32,
+) -> (Worker<L>, Result<Turn, Refusal>, Option<Lease>)
+    requires { IfSome lease (λ lease. lease.count ≡ 0) }
+    ensures told { TakesTurn ahead result.1 worker pid result.0 }
+    ensures rounds { rounds.new ≡ after (is_ended result.1) rounds.old }
+    ensures lent { IfSome result.2 (λ lease. lease.count ≡ 0) }
+{
+    let next = following(rounds, processes, ahead);
+    let lease = run_ahead(lease, ahead);
+    take_turn(rt, shared, worker, lease, pid, next, rounds, gate, ahead)
 }
 
 /// Makes a worker's rounds.
@@ -126,16 +164,28 @@ fn work<L: Ledger, R: Wait, G: Gate>(
     ensures number { result.number ≡ worker.number }
     ensures duties { KeepsTo plan.workers processes.now worker → KeepsTo plan.workers processes.now result }
 {
-    let mut worker = worker;
     let mut rounds = Rounds::new(worker.number(), plan.workers, processes.len());
+    let first = due(&rounds, processes);
+    let (mut worker, mut ahead) = lease(rt, shared, worker, first, plan.ahead);
     for _ in 0..plan.turns {
         let Some(pid) = due(&rounds, processes) else {
             break;
         };
-        let ready = run_ahead(rt, shared, worker, pid, plan.ahead);
-        let (back, _) = take_turn(rt, shared, ready, pid, &mut rounds, gate);
+        let (back, _, next) = go_on(
+            rt,
+            shared,
+            worker,
+            ahead,
+            pid,
+            processes,
+            &mut rounds,
+            gate,
+            plan.ahead,
+        );
         worker = back;
+        ahead = next;
     }
+    give_up(ahead);
     worker
 }
 
@@ -152,19 +202,31 @@ fn lead<'a, L: Ledger, R: Wait, G: Gate>(
     ensures number { result.0.number ≡ worker.number }
     ensures duties { worker.number ≡ 0 → KeepsTo plan.workers processes.now worker → KeepsTo plan.workers processes.now result.0 }
 {
-    let mut worker = worker;
     let mut clerk = clerk;
     let mut rounds = Rounds::new(worker.number(), plan.workers, processes.len());
+    let first = due(&rounds, processes);
+    let (mut worker, mut ahead) = lease(rt, shared, worker, first, plan.ahead);
     for _ in 0..plan.turns {
         let Some(pid) = due(&rounds, processes) else {
             break;
         };
         let (back, carrier) = clerk.carry(rt, shared, worker);
         clerk = back;
-        let ready = run_ahead(rt, shared, carrier, pid, plan.ahead);
-        let (back, _) = take_turn(rt, shared, ready, pid, &mut rounds, gate);
+        let (back, _, next) = go_on(
+            rt,
+            shared,
+            carrier,
+            ahead,
+            pid,
+            processes,
+            &mut rounds,
+            gate,
+            plan.ahead,
+        );
         worker = back;
+        ahead = next;
     }
+    give_up(ahead);
     (worker, clerk)
 }
 

@@ -6,14 +6,15 @@ ghost use Rattle.sk_kernel.specs.Kernel.{undecided_at, next_guess, step_refused,
 ghost use Rattle.sk_kernel.specs.Calls.{StepPost, LeavesTexts};
 ghost use Rattle.sk_kernel.specs.HandIn.{HandInPost};
 ghost use Rattle.sk_terminal.specs.Terminals.{released_at};
+ghost use Rattle.sk_trace.specs.Kept.{input_in};
 ghost use Rattle.sk_trace.specs.declared.event.Event.TheVariants as events;
 ghost use Rattle.sk_holder.specs.Holder.{holding, GuessesPost, DecidesPost};
 
 use sk_guesses::Guess;
 use sk_ids::{GuessId, Pid};
 use sk_kernel::{HandIn, Kernel, Outcome};
-use sk_plain::{Refusal, Trace};
-use sk_script::{Input, Lease};
+use sk_plain::{InputRef, Refusal, Trace};
+use sk_script::Lease;
 use sk_terminal::Texts;
 use std::alloc::Global;
 use std::marker::Model;
@@ -58,8 +59,8 @@ impl Holder {
     }
 
     /// The first cause against a guess for which there is no memory.
-    fn guess_refusal(&self, pid: Pid, input: &Input) -> Refusal
-        ensures { guess_refused self.now.kernel (record { pid = pid; input = input.now; guess = Some (next_guess self.now.kernel) }) ≡ cause result }
+    fn guess_refusal(&self, pid: Pid, input: InputRef<'_>) -> Refusal
+        ensures { guess_refused self.now.kernel (record { pid = pid; input = (input_in input.entry); guess = Some (next_guess self.now.kernel) }) ≡ cause result }
     {
         if let Some(why) = self.kernel.guess_refusal(pid, input) {
             return why;
@@ -84,11 +85,11 @@ impl Holder {
     }
 
     /// Takes a step, as the kernel does.
-    pub fn step(&mut self, pid: Pid, input: Input) -> Result<(), Refusal>
-        ensures kernel { StepPost result (step_refused self.old.kernel (record { pid = pid; input = input; guess = None })) (events.Step pid input) self.old.kernel self.new.kernel }
+    pub fn step(&mut self, pid: Pid, input: InputRef<'_>) -> Result<(), Refusal>
+        ensures kernel { StepPost result (step_refused self.old.kernel (record { pid = pid; input = (input_in input.entry); guess = None })) (events.Step pid (input_in input.entry)) self.old.kernel self.new.kernel }
         ensures held { self.new.held ≡ self.old.held }
     {
-        self.kernel.step(pid, input)
+        self.kernel.step_lent(pid, input)
     }
 
     /// Takes a lease in, as the kernel does.
@@ -100,13 +101,13 @@ impl Holder {
     }
 
     /// Draws the next guess and takes its step, as the kernel does, and keeps its token.
-    pub fn guess(&mut self, pid: Pid, input: Input) -> Result<GuessId, Refusal>
-        ensures { GuessesPost result (guess_refused self.old.kernel (record { pid = pid; input = input; guess = Some (next_guess self.old.kernel) })) pid input self.old self.new }
+    pub fn guess(&mut self, pid: Pid, input: InputRef<'_>) -> Result<GuessId, Refusal>
+        ensures { GuessesPost result (guess_refused self.old.kernel (record { pid = pid; input = (input_in input.entry); guess = Some (next_guess self.old.kernel) })) pid (input_in input.entry) self.old self.new }
     {
         if self.tokens.reserve(1).is_err() {
-            return Err(self.guess_refusal(pid, &input));
+            return Err(self.guess_refusal(pid, input));
         }
-        let token = self.kernel.create_speculation(pid, input)?;
+        let token = self.kernel.speculate_lent(pid, input)?;
         let id = token.id();
         self.tokens.push_reserved(token);
         Ok(id)
@@ -164,7 +165,10 @@ impl Holder {
     pub fn abandon(self) {
         let mut holder = self;
         holder.spend();
-        let Holder { kernel: _, tokens } = holder;
+        let Holder {
+            kernel: _kernel,
+            tokens,
+        } = holder;
         tokens.destroy_empty();
     }
 }

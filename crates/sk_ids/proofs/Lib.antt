@@ -1,4 +1,5 @@
 pub mod Cells
+pub mod Fronts
 pub mod GuessSets
 pub mod Entities
 pub mod Views

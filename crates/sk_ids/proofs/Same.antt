@@ -1,18 +1,15 @@
--- The tests that texts and identifiers derive are exact.
-use Rattle.std.specs.Prelude.{◌≡◌, ℕ, true, List, length, take, nat_eq}
-use Rattle.std.proofs.Common.{ap, sym, ◌∙◌}
-use Rattle.std.proofs.Math.Seq.{take-append_seam}
+-- The tests of texts and identifiers are exact.
+use Rattle.std.specs.Prelude.{◌≡◌, true, nat_eq}
+use Rattle.std.proofs.Common.{ap}
 use Rattle.std.specs.Option.{option_eq}
 use Rattle.std.specs.Cmp.{unsigned_Decides, first_so, second_so}
 use Rattle.std.specs.Cmp.Lexicographic.{pointwise, pointwise_decides}
 use Rattle.sk_record.specs.Same.{IsExact}
 use Rattle.sk_record.proofs.Exact.{exact_from, exact_option}
-use Rattle.sk_ids.specs.Padded.{padded}
 use Rattle.sk_ids.specs.declared.pid.ObjId.{ObjId}
 use Rattle.sk_ids.specs.declared.entity.Entity.{Entity}
 use Rattle.sk_ids.specs.declared.entity.Entity.TheVariants.{Proc, Sig, Exit, Obj, Copy}
 use Rattle.sk_ids.specs.contracts.text.TextPartialEq.TheImpl as text
-use Rattle.sk_ids.specs.contracts.text.TextEq.TheImpl.Laws.{laws-law as text_laws}
 use Rattle.sk_ids.specs.contracts.pid.ObjIdPartialEq.TheImpl as object
 use Rattle.sk_ids.specs.contracts.pid.ObjIdEq.TheImpl.Laws.{laws-law as object_laws}
 use Rattle.sk_ids.specs.contracts.pid.PidPartialEq.TheImpl as pid
@@ -22,14 +19,8 @@ use Rattle.sk_ids.specs.contracts.entity.EntityEq.TheImpl.Laws.{laws-law as enti
 pub exact_bytes : IsExact (pointwise nat_eq)
 exact_bytes = pointwise_decides unsigned_Decides
 
-text_from : (s t : List ℕ) → (text.ghosts).eq s t ≡ true → s ≡ t
-text_from s t h =
-    let long : length s ≡ length t = (unsigned_Decides (length s) (length t)).0 (first_so (nat_eq (length s) (length t)) (pointwise nat_eq (padded s) (padded t)) h) in
-    let cells : padded s ≡ padded t = (exact_bytes (padded s) (padded t)).0 (second_so (nat_eq (length s) (length t)) (pointwise nat_eq (padded s) (padded t)) h) in
-    sym (take-append_seam s _) ∙ (λ i. take (long i) (cells i)) ∙ take-append_seam t _
-
 pub exact_text : IsExact (text.ghosts).eq
-exact_text = exact_from (text.ghosts).eq text_laws.refl text_from
+exact_text = exact_bytes
 
 pub exact_pid : IsExact (pid.ghosts).eq
 exact_pid = unsigned_Decides

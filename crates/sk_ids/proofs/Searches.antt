@@ -12,7 +12,7 @@ use Rattle.sk_record.specs.Notes.{has, without}
 use Rattle.sk_ids.proofs.Newest.{other, without_none}
 
 -- a number that is there, at a place
-found : (g : ℕ) (xs : List ℕ) (i : ℕ) → i < length xs → get_or xs i 0 ≡ g → has g xs ≡ true
+pub found : (g : ℕ) (xs : List ℕ) (i : ℕ) → i < length xs → get_or xs i 0 ≡ g → has g xs ≡ true
 found g [] i lt is = absurd (omega arith)
 found g (x ∷ xs) zero lt is = or_left _ _ (eq-eqb x g is)
 found g (x ∷ xs) (suc i) lt is = or_right _ _ (found g xs i (omega arith) is)
@@ -56,8 +56,8 @@ module _ (g : ℕ) (xs : List ℕ) (rises : IsStrictlySortedBy nat_cmp xs) where
   tells (Err i) h = let at = searched xs g (Err i) h up in sym (missing g xs i at.1 at.2)
 
   -- taken out at its place
-  pub taken_at : (i : ℕ) → IsBinarySearchResult (λ y. nat_cmp y g) xs (Ok i) → remove xs i ≡ without g xs
-  taken_at i h = let at = searched xs g (Ok i) h up in go xs i at.0 at.1 less where
+  pub taken_at : (i : ℕ) → i < length xs → get_or xs i 0 ≡ g → remove xs i ≡ without g xs
+  taken_at i lt is = go xs i lt is less where
     go : (ys : List ℕ) (i : ℕ) → i < length ys → get_or ys i 0 ≡ g → ((i j : ℕ) → i < j → j < length ys → get_or ys i 0 < get_or ys j 0) → remove ys i ≡ without g ys
     go [] i lt is less = absurd (omega arith)
     go (y ∷ ys) zero lt is less =

@@ -1,5 +1,5 @@
 //! Sets of guesses.
-ghost use Rattle.std.specs.Prelude.{◌≡◌, ◌||◌, ◌∷◌, ℕ, IfOk, [], true, false};
+ghost use Rattle.std.specs.Prelude.{◌≡◌, ◌||◌, ◌<◌, ◌∷◌, ℕ, IfOk, IfSome, None, [], true, false, length, get_or};
 ghost use Rattle.std.specs.Ordering.{nat_cmp};
 ghost use Rattle.std.specs.List.Sorted.{IsStrictlySortedBy};
 ghost use Rattle.sk_record.specs.Notes.{has, without};
@@ -7,15 +7,16 @@ ghost use Rattle.sk_record.specs.Merged.{same_tags};
 ghost use Rattle.std.specs.List.{list_all};
 
 use crate::GuessId;
+use crate::front::Fronted;
 use smallvec::SmallVec;
 use std::alloc::{AllocError, Global};
 use std::marker::Model;
 
 /// A set of guesses, kept as a list that rises strictly; contracts see the list. Up to four take no
-/// memory.
+/// memory, and the oldest is taken out without moving the others.
 #[derive(Drop)]
 pub struct TagSet {
-    ids: SmallVec<GuessId, 4>,
+    ids: Fronted,
 }
 
 impl Model for TagSet {
@@ -25,9 +26,9 @@ impl Model for TagSet {
 
     ghost Value = { List ℕ };
 
-    ghost view = { λ a. a.ids.items };
+    ghost view = { λ a. a.ids };
 
-    ghost invariant = { λ a. IsStrictlySortedBy nat_cmp a.ids.items };
+    ghost invariant = { λ a. IsStrictlySortedBy nat_cmp a.ids };
 }
 
 impl TagSet {
@@ -36,7 +37,7 @@ impl TagSet {
         ensures { result ≡ [] }
     {
         TagSet {
-            ids: SmallVec::new(alloc),
+            ids: Fronted::new(alloc),
         }
     }
 
@@ -46,7 +47,9 @@ impl TagSet {
     {
         let mut ids = SmallVec::new(alloc);
         ids.push_reserved(id);
-        TagSet { ids }
+        TagSet {
+            ids: Fronted::of(ids),
+        }
     }
 
     /// Whether a guess of the set has at least this number. Most sets that are asked for a guess have only
@@ -60,11 +63,31 @@ impl TagSet {
         }
     }
 
+    /// Where a guess stands in the list. Mostly it is the oldest, or the newest.
+    fn place_of(&self, id: GuessId) -> Option<usize>
+        ensures there { IfSome result (λ place. (place < length self.now) × (get_or self.now place 0 ≡ id)) }
+        ensures none { result ≡ None → has id self.now ≡ false }
+    {
+        let ids = self.ids.as_slice();
+        match ids.first() {
+            Some(oldest) if *oldest == id => return Some(0),
+            _ => {}
+        }
+        match ids.last() {
+            Some(newest) if *newest == id => return Some(ids.len() - 1),
+            _ => {}
+        }
+        if !self.reaches(id) {
+            return None;
+        }
+        ids.binary_search(&id).ok()
+    }
+
     /// Whether a guess is in the set.
     pub fn contains(&self, id: GuessId) -> bool
         ensures { result ≡ has id self.now }
     {
-        self.reaches(id) && self.ids.as_slice().binary_search(&id).is_ok()
+        self.place_of(id).is_some()
     }
 
     /// Whether both sets have the same guesses.
@@ -99,10 +122,7 @@ impl TagSet {
     pub fn without(&mut self, id: GuessId)
         ensures { self.new ≡ without id self.old }
     {
-        if !self.reaches(id) {
-            return;
-        }
-        if let Ok(place) = self.ids.as_slice().binary_search(&id) {
+        if let Some(place) = self.place_of(id) {
             self.ids.remove(place);
         }
     }
@@ -111,7 +131,7 @@ impl TagSet {
     pub fn copy(&self) -> Result<TagSet, AllocError>
         ensures { IfOk result (λ copy. copy ≡ self.now) }
     {
-        let ids = SmallVec::from_slice(*self.ids.allocator(), self.ids.as_slice())?;
+        let ids = Fronted::of(self.ids.copied()?);
         Ok(TagSet { ids })
     }
 
@@ -120,10 +140,11 @@ impl TagSet {
         ensures members { IfOk result (λ all. (id : ℕ) → has id all ≡ (has id self.now || has id other.now)) }
         ensures rising { IfOk result (λ all. IsStrictlySortedBy nat_cmp all) }
     {
-        let mut ids = SmallVec::from_slice(*self.ids.allocator(), self.ids.as_slice())?;
+        let mut ids = self.ids.copied()?;
         ids.extend_from_slice(other.ids.as_slice())?;
         ids.sort_unstable();
         ids.dedup();
+        let ids = Fronted::of(ids);
         Ok(TagSet { ids })
     }
 }

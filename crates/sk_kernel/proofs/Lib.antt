@@ -11,3 +11,4 @@ mod Opened
 pub mod HandedIn
 pub mod Entries
 pub mod Appended
+pub mod Noted

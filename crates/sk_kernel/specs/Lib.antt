@@ -6,3 +6,4 @@ pub mod Laws
 pub mod Opening
 pub mod OpeningLemma
 pub mod HandIn
+pub mod Notes

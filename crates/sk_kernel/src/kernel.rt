@@ -11,6 +11,7 @@ ghost use Rattle.sk_plain.specs.Planned.{refusal_of};
 ghost use Rattle.sk_plain.specs.Seen.{PlansStep};
 ghost use Rattle.sk_plain.specs.Refusal.{cause};
 ghost use Rattle.sk_plain.specs.View.{Shows};
+ghost use Rattle.sk_trace.specs.Kept.{input_in};
 ghost use Rattle.sk_trace.specs.declared.event.Event.TheVariants as events;
 ghost use Rattle.sk_kernel.specs.Kernel.{booted, state_at, undecided_at, tags_at, room, next_guess, settled, effect_at, or_else, guess_misfits, too_many, step_refused, guess_refused, HasStatus, RestsOn};
 ghost use Rattle.sk_kernel.specs.Footprint.{footprint_of};
@@ -25,7 +26,7 @@ use crate::{Footprint, Opening};
 use sk_guesses::{Guess, Redeemed, Status};
 use sk_ids::{Entity, GuessId, Pid, TagSet};
 use sk_machine::Machine;
-use sk_plain::{Event, Next, Plan, Refusal, Trace, View, next_of, plan_step};
+use sk_plain::{Event, InputRef, Next, Plan, Refusal, Trace, View, next_of, plan_step};
 use sk_script::{Boot, Input};
 use sk_store::Look;
 use sk_terminal::{Terminal, Texts};
@@ -75,8 +76,13 @@ impl Model for Kernel {
 }
 
 /// What a step with an input will do, or why it is refused, by the scripts of the opening.
-fn plan_at(machine: &Machine, opening: &Opening, pid: Pid, input: &Input) -> Result<Plan, Refusal>
-    ensures { PlansStep (look_at machine.now.slots) opening.now.start.scripts pid input.now result }
+fn plan_at(
+    machine: &Machine,
+    opening: &Opening,
+    pid: Pid,
+    input: InputRef<'_>,
+) -> Result<Plan, Refusal>
+    ensures { PlansStep (look_at machine.now.slots) opening.now.start.scripts pid (input_in input.entry) result }
 {
     plan_step(machine, opening.scripts(), pid, input)
 }
@@ -86,12 +92,12 @@ fn plan_guess(
     machine: &Machine,
     opening: &Opening,
     pid: Pid,
-    input: &Input,
+    input: InputRef<'_>,
 ) -> Result<Plan, Refusal>
-    ensures { PlansGuess (look_at machine.now.slots) opening.now.start.scripts pid input.now result }
+    ensures { PlansGuess (look_at machine.now.slots) opening.now.start.scripts pid (input_in input.entry) result }
 {
     let planned = plan_at(machine, opening, pid, input);
-    if let Input::None = input {
+    if let InputRef::None = input {
         return Err(match planned {
             Err(Refusal::NoProcess) => Refusal::NoProcess,
             Err(Refusal::Ended) => Refusal::Ended,
@@ -204,8 +210,8 @@ impl Kernel {
     }
 
     /// Why a step would be refused, the trace's limit and want of memory aside.
-    pub fn step_refusal(&self, pid: Pid, input: &Input) -> Option<Refusal>
-        ensures exact { result ≡ refusal_of (effect_at self.now (record { pid = pid; input = input.now; guess = None })) }
+    pub fn step_refusal(&self, pid: Pid, input: InputRef<'_>) -> Option<Refusal>
+        ensures exact { result ≡ refusal_of (effect_at self.now (record { pid = pid; input = (input_in input.entry); guess = None })) }
         ensures told { IfSome result (λ why. cause why ≡ Some why) }
     {
         match plan_at(&self.machine, &self.opening, pid, input) {
@@ -215,8 +221,8 @@ impl Kernel {
     }
 
     /// Why a guess would be refused, the trace's limit and want of memory aside.
-    pub fn guess_refusal(&self, pid: Pid, input: &Input) -> Option<Refusal>
-        ensures exact { result ≡ or_else (guess_misfits input.now (effect_at self.now (record { pid = pid; input = input.now; guess = Some (next_guess self.now) }))) (too_many self.now) }
+    pub fn guess_refusal(&self, pid: Pid, input: InputRef<'_>) -> Option<Refusal>
+        ensures exact { result ≡ or_else (guess_misfits (input_in input.entry) (effect_at self.now (record { pid = pid; input = (input_in input.entry); guess = Some (next_guess self.now) }))) (too_many self.now) }
         ensures told { IfSome result (λ why. cause why ≡ Some why) }
     {
         if let Err(why) = plan_guess(&self.machine, &self.opening, pid, input) {
@@ -230,8 +236,8 @@ impl Kernel {
 
     /// What the next step of a process with an input would read and write. Refused as the step would be, the
     /// trace's limit aside. This takes no memory.
-    pub fn footprint(&self, pid: Pid, input: &Input) -> Result<Footprint, Refusal>
-        ensures { result ≡ footprint_of (effect_at self.now (record { pid = pid; input = input.now; guess = None })) }
+    pub fn footprint(&self, pid: Pid, input: InputRef<'_>) -> Result<Footprint, Refusal>
+        ensures { result ≡ footprint_of (effect_at self.now (record { pid = pid; input = (input_in input.entry); guess = None })) }
     {
         match plan_at(&self.machine, &self.opening, pid, input) {
             Ok(plan) => Ok(Footprint {
@@ -253,7 +259,22 @@ impl Kernel {
     pub fn step(&mut self, pid: Pid, input: Input) -> Result<(), Refusal>
         ensures { StepPost result (step_refused self.old (record { pid = pid; input = input; guess = None })) (events.Step pid input) self.old self.new }
     {
-        let plan = match plan_at(&self.machine, &self.opening, pid, &input) {
+        self.step_lent(pid, InputRef::of(&input))
+    }
+
+    /// Draws the next guess and takes its step with the guessed input. After a refusal the kernel is
+    /// as it was.
+    pub fn create_speculation(&mut self, pid: Pid, input: Input) -> Result<Guess, Refusal>
+        ensures { GuessPost result (guess_refused self.old (record { pid = pid; input = input; guess = Some (next_guess self.old) })) pid input self.old self.new }
+    {
+        self.speculate_lent(pid, InputRef::of(&input))
+    }
+
+    /// Takes a step of a process with an input that is lent, as `step` does. After a refusal the kernel is as it was.
+    pub fn step_lent(&mut self, pid: Pid, input: InputRef<'_>) -> Result<(), Refusal>
+        ensures { StepPost result (step_refused self.old (record { pid = pid; input = (input_in input.entry); guess = None })) (events.Step pid (input_in input.entry)) self.old self.new }
+    {
+        let plan = match plan_at(&self.machine, &self.opening, pid, input) {
             Ok(plan) => plan,
             Err(why) => return Err(why),
         };
@@ -264,13 +285,13 @@ impl Kernel {
         if self.trace.reserve(self.machine.open_count() + 1).is_err() {
             return Err(Refusal::Memory);
         }
-        let kept = match self.trace.keep(&input) {
+        let kept = match self.trace.keep(input) {
             Ok(kept) => kept,
             Err(_) => return Err(Refusal::Memory),
         };
         if self
             .machine
-            .take_step(self.opening.scripts(), pid, &input, &plan)
+            .take_step(self.opening.scripts(), pid, input, &plan)
             .is_err()
         {
             return Err(Refusal::Memory);
@@ -279,12 +300,12 @@ impl Kernel {
         Ok(())
     }
 
-    /// Draws the next guess and takes its step with the guessed input. After a refusal the kernel is
+    /// Draws the next guess and takes its step with a guessed input that is lent. After a refusal the kernel is
     /// as it was.
-    pub fn create_speculation(&mut self, pid: Pid, input: Input) -> Result<Guess, Refusal>
-        ensures { GuessPost result (guess_refused self.old (record { pid = pid; input = input; guess = Some (next_guess self.old) })) pid input self.old self.new }
+    pub fn speculate_lent(&mut self, pid: Pid, input: InputRef<'_>) -> Result<Guess, Refusal>
+        ensures { GuessPost result (guess_refused self.old (record { pid = pid; input = (input_in input.entry); guess = Some (next_guess self.old) })) pid (input_in input.entry) self.old self.new }
     {
-        let plan = match plan_guess(&self.machine, &self.opening, pid, &input) {
+        let plan = match plan_guess(&self.machine, &self.opening, pid, input) {
             Ok(plan) => plan,
             Err(why) => return Err(why),
         };
@@ -298,13 +319,13 @@ impl Kernel {
         if self.trace.reserve(self.machine.open_count() + 2).is_err() {
             return Err(Refusal::Memory);
         }
-        let kept = match self.trace.keep(&input) {
+        let kept = match self.trace.keep(input) {
             Ok(kept) => kept,
             Err(_) => return Err(Refusal::Memory),
         };
         let Ok(guess) = self
             .machine
-            .take_guess(self.opening.scripts(), pid, &input, &plan)
+            .take_guess(self.opening.scripts(), pid, input, &plan)
         else {
             return Err(Refusal::Memory);
         };

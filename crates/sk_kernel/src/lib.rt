@@ -5,6 +5,7 @@ pub mod footprint;
 pub mod hand_in;
 pub mod kernel;
 pub mod laws;
+pub mod notes;
 pub mod opening;
 
 pub use footprint::Footprint;

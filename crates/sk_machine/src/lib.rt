@@ -6,5 +6,6 @@
 pub mod hand_in;
 mod lists;
 pub mod machine;
+pub mod notes;
 
 pub use machine::Machine;

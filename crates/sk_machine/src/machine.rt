@@ -21,6 +21,7 @@ ghost use Rattle.sk_ids.specs.Entity.{entity_cmp};
 ghost use Rattle.sk_ids.specs.declared.entity.Entity.{Entity};
 ghost use Rattle.sk_store.specs.Start.{start_of};
 ghost use Rattle.sk_undo.specs.Logs.{look_at};
+ghost use Rattle.sk_trace.specs.Kept.{input_in};
 ghost use Rattle.sk_plain.specs.Act.{act, plain};
 ghost use Rattle.sk_plain.specs.Planned.{IsBeside, effect_of, said_by, texts_after, writes_of};
 ghost use Rattle.sk_plain.specs.Seen.{CanPerform, seen_with, written_in};
@@ -32,8 +33,8 @@ ghost use Rattle.sk_machine.specs.Performed.{entities_of, AreApart, IsClean, Per
 use crate::lists::{depend_all, relieve_all, tags_of};
 use sk_guesses::{Guess, Guesses, Redeemed, Status};
 use sk_ids::{Entity, GuessId, Pid, TagSet};
-use sk_plain::{Plan, perform_plan};
-use sk_script::{Boot, Input, Scripts};
+use sk_plain::{InputRef, Plan, perform_plan};
+use sk_script::{Boot, Scripts};
 use sk_store::{EntityState, Look, Store};
 use sk_terminal::{Terminal, Terminals, Texts};
 use sk_undo::Logs;
@@ -82,15 +83,15 @@ fn perform(
     terminals: &mut Terminals,
     scripts: &Scripts,
     pid: Pid,
-    input: &Input,
+    input: InputRef<'_>,
     plan: &Plan,
     tags: TagSet,
 ) -> Result<(), AllocError>
-    requires can { CanPerform (look_at logs.old.slots) scripts.now pid input.now plan.now }
-    requires apart { AreApart (entities_of (writes_of (look_at logs.old.slots) pid (seen_with (look_at logs.old.slots) scripts.now pid input.now plan.now))) }
-    requires clean { IsClean logs.old.slots tags (entities_of (writes_of (look_at logs.old.slots) pid (seen_with (look_at logs.old.slots) scripts.now pid input.now plan.now))) }
-    ensures writes { OnOk result (Performed logs.old.slots tags (writes_of (look_at logs.old.slots) pid (seen_with (look_at logs.old.slots) scripts.now pid input.now plan.now)) logs.new.slots) }
-    ensures says { OnOk result (terminals.new ≡ texts_after terminals.old tags (said_by (seen_with (look_at logs.old.slots) scripts.now pid input.now plan.now))) }
+    requires can { CanPerform (look_at logs.old.slots) scripts.now pid (input_in input) plan.now }
+    requires apart { AreApart (entities_of (writes_of (look_at logs.old.slots) pid (seen_with (look_at logs.old.slots) scripts.now pid (input_in input) plan.now))) }
+    requires clean { IsClean logs.old.slots tags (entities_of (writes_of (look_at logs.old.slots) pid (seen_with (look_at logs.old.slots) scripts.now pid (input_in input) plan.now))) }
+    ensures writes { OnOk result (Performed logs.old.slots tags (writes_of (look_at logs.old.slots) pid (seen_with (look_at logs.old.slots) scripts.now pid (input_in input.entry) plan.now)) logs.new.slots) }
+    ensures says { OnOk result (terminals.new ≡ texts_after terminals.old tags (said_by (seen_with (look_at logs.old.slots) scripts.now pid (input_in input.entry) plan.now))) }
     ensures unwritten { OnErr result (logs.new.slots ≡ logs.old.slots) }
     ensures unsaid { OnErr result (terminals.new ≡ terminals.old) }
 {
@@ -106,19 +107,19 @@ fn perform_guess(
     terminals: &mut Terminals,
     scripts: &Scripts,
     pid: Pid,
-    input: &Input,
+    input: InputRef<'_>,
     plan: &Plan,
     tags: TagSet,
     count: usize,
 ) -> Result<(), AllocError>
-    requires can { CanPerform (look_at logs.old.slots) scripts.now pid input.now plan.now }
-    requires apart { AreApart (entities_of (writes_of (look_at logs.old.slots) pid (seen_with (look_at logs.old.slots) scripts.now pid input.now plan.now))) }
-    requires clean { IsClean logs.old.slots tags (entities_of (writes_of (look_at logs.old.slots) pid (seen_with (look_at logs.old.slots) scripts.now pid input.now plan.now))) }
+    requires can { CanPerform (look_at logs.old.slots) scripts.now pid (input_in input) plan.now }
+    requires apart { AreApart (entities_of (writes_of (look_at logs.old.slots) pid (seen_with (look_at logs.old.slots) scripts.now pid (input_in input) plan.now))) }
+    requires clean { IsClean logs.old.slots tags (entities_of (writes_of (look_at logs.old.slots) pid (seen_with (look_at logs.old.slots) scripts.now pid (input_in input) plan.now))) }
     ensures view { guesses.new.view ≡ guesses.old.view }
     ensures opens { guesses.new.opens ≡ guesses.old.opens }
     ensures room { OnOk result (HasRoom guesses.new count) }
-    ensures writes { OnOk result (Performed logs.old.slots tags (writes_of (look_at logs.old.slots) pid (seen_with (look_at logs.old.slots) scripts.now pid input.now plan.now)) logs.new.slots) }
-    ensures says { OnOk result (terminals.new ≡ texts_after terminals.old tags (said_by (seen_with (look_at logs.old.slots) scripts.now pid input.now plan.now))) }
+    ensures writes { OnOk result (Performed logs.old.slots tags (writes_of (look_at logs.old.slots) pid (seen_with (look_at logs.old.slots) scripts.now pid (input_in input.entry) plan.now)) logs.new.slots) }
+    ensures says { OnOk result (terminals.new ≡ texts_after terminals.old tags (said_by (seen_with (look_at logs.old.slots) scripts.now pid (input_in input.entry) plan.now))) }
     ensures unwritten { OnErr result (logs.new.slots ≡ logs.old.slots) }
     ensures unsaid { OnErr result (terminals.new ≡ terminals.old) }
 {
@@ -190,13 +191,13 @@ impl Machine {
         &self,
         scripts: &Scripts,
         pid: Pid,
-        input: &Input,
+        input: InputRef<'_>,
         plan: &Plan,
         own: &Option<GuessId>,
     ) -> Result<TagSet, AllocError>
         requires tidy { IsTidy (undo_state_of self.now) }
         requires rising { IsStrictlySortedBy nat_cmp (numbers self.now.opens ++ marks own.now) }
-        ensures exact { IfOk result (λ tags. tags ≡ step_tags (undo_state_of self.now) (planned_effect self.now (record { pid = pid; input = input.now; guess = own.now }) (seen_with (look_at self.now.slots) scripts.now pid input.now plan.now))) }
+        ensures exact { IfOk result (λ tags. tags ≡ step_tags (undo_state_of self.now) (planned_effect self.now (record { pid = pid; input = (input_in input.entry); guess = own.now }) (seen_with (look_at self.now.slots) scripts.now pid (input_in input.entry) plan.now))) }
         ensures own { IfOk result (λ tags. (g : ℕ) → is_marked own.now g ≡ true → has g tags ≡ true) }
         ensures covers { IfOk result (λ tags. Covers tags (written_in pid plan.now) (tags_in self.now.slots)) }
     {
@@ -210,15 +211,15 @@ impl Machine {
         &mut self,
         scripts: &Scripts,
         pid: Pid,
-        input: &Input,
+        input: InputRef<'_>,
         plan: &Plan,
     ) -> Result<(), AllocError>
-        requires accepted { perform (look_at self.old.slots) (act scripts.now pid input.now) ≡ Ok (effect_of (look_at self.old.slots) pid input.now (seen_with (look_at self.old.slots) scripts.now pid input.now plan.now)) }
-        requires can { CanPerform (look_at self.old.slots) scripts.now pid input.now plan.now }
-        requires beside { IsBeside pid (seen_with (look_at self.old.slots) scripts.now pid input.now plan.now).beside }
+        requires accepted { perform (look_at self.old.slots) (act scripts.now pid (input_in input)) ≡ Ok (effect_of (look_at self.old.slots) pid (input_in input) (seen_with (look_at self.old.slots) scripts.now pid (input_in input) plan.now)) }
+        requires can { CanPerform (look_at self.old.slots) scripts.now pid (input_in input) plan.now }
+        requires beside { IsBeside pid (seen_with (look_at self.old.slots) scripts.now pid (input_in input) plan.now).beside }
         requires tidy { IsTidy (undo_state_of self.old) }
         requires rising { IsStrictlySortedBy nat_cmp (numbers self.old.opens) }
-        ensures ok { OnOk result (MergedTakes (plain scripts.now) (machine_of self.old) (record { pid = pid; input = input.now; guess = None }) (machine_of self.new)) }
+        ensures ok { OnOk result (MergedTakes (plain scripts.now) (machine_of self.old) (record { pid = pid; input = (input_in input.entry); guess = None }) (machine_of self.new)) }
         ensures guesses { self.new.guesses ≡ self.old.guesses }
         ensures err { OnErr result (self.new ≡ self.old) }
     {
@@ -254,17 +255,17 @@ impl Machine {
         &mut self,
         scripts: &Scripts,
         pid: Pid,
-        input: &Input,
+        input: InputRef<'_>,
         plan: &Plan,
     ) -> Result<Guess, AllocError>
-        requires accepted { perform (look_at self.old.slots) (act scripts.now pid input.now) ≡ Ok (effect_of (look_at self.old.slots) pid input.now (seen_with (look_at self.old.slots) scripts.now pid input.now plan.now)) }
-        requires can { CanPerform (look_at self.old.slots) scripts.now pid input.now plan.now }
-        requires beside { IsBeside pid (seen_with (look_at self.old.slots) scripts.now pid input.now plan.now).beside }
+        requires accepted { perform (look_at self.old.slots) (act scripts.now pid (input_in input)) ≡ Ok (effect_of (look_at self.old.slots) pid (input_in input) (seen_with (look_at self.old.slots) scripts.now pid (input_in input) plan.now)) }
+        requires can { CanPerform (look_at self.old.slots) scripts.now pid (input_in input) plan.now }
+        requires beside { IsBeside pid (seen_with (look_at self.old.slots) scripts.now pid (input_in input) plan.now).beside }
         requires tidy { IsTidy (undo_state_of self.old) }
         requires rising { IsStrictlySortedBy nat_cmp (numbers self.old.opens ++ marks (Some (next_of self.old.guesses))) }
         requires free { is_full self.old.guesses ≡ false }
         ensures token { IfOk result (λ guess. guess ≡ record { kernel = self.old.guesses.kernel; id = next_of self.old.guesses }) }
-        ensures ok { OnOk result (MergedTakes (plain scripts.now) (machine_of self.old) (record { pid = pid; input = input.now; guess = Some (next_of self.old.guesses) }) (machine_of self.new)) }
+        ensures ok { OnOk result (MergedTakes (plain scripts.now) (machine_of self.old) (record { pid = pid; input = (input_in input.entry); guess = Some (next_of self.old.guesses) }) (machine_of self.new)) }
         ensures guesses { OnOk result (self.new.guesses ≡ drawn self.old.guesses) }
         ensures err { OnErr result (self.new ≡ self.old) }
     {

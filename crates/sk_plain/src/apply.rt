@@ -6,6 +6,7 @@ ghost use Rattle.sk_objects.specs.declared.content.TheConstants.{LAST_VERSION};
 ghost use Rattle.sk_objects.specs.declared.value.Value.TheVariants as values;
 ghost use Rattle.sk_script.specs.Private.{moved};
 ghost use Rattle.sk_terminal.specs.Terminals.{said_to};
+ghost use Rattle.sk_trace.specs.Kept.{input_in};
 ghost use Rattle.sk_store.specs.declared.entity_state.EntityState.TheVariants as stored;
 ghost use Rattle.sk_store.specs.Processes.{CanBecome as CanBecomeThere, became, process_in, IsProcess};
 ghost use Rattle.sk_plain.specs.Act.{next_in};
@@ -16,11 +17,11 @@ ghost use Rattle.sk_plain.specs.Forked.{CanFork, forked};
 
 use crate::becomes::{Filling, Forking};
 use crate::step::instruction_at;
-use crate::{Becomes, Beside, Errno, Looks, Plan, ProcessChange, Row, Writes};
+use crate::{Becomes, Beside, Errno, InputRef, Looks, Plan, ProcessChange, Row, Writes};
 use sk_changes::Change;
 use sk_ids::{Entity, Name, Pid, Text};
 use sk_objects::{Content, Kind, Value};
-use sk_script::{Input, Instruction, Process, Register, Scripts, Val};
+use sk_script::{Instruction, Process, Register, Scripts, Val};
 use sk_store::{Becoming, EntityState, Keeper, Look};
 use sk_terminal::Terminals;
 use std::alloc::AllocError;
@@ -197,16 +198,16 @@ fn receive<K: Keeper>(
     keeper: &mut K,
     pid: Pid,
     name: &Name,
-    input: &Input,
+    input: InputRef<'_>,
 ) -> Result<(), AllocError>
     requires there { IsProcess (K.look keeper.old (Proc pid)) }
     requires place { (process_in (K.look keeper.old (Proc pid))).place + 1 < 2 ^ 32 }
-    requires content { HasContent input.now }
-    ensures ok { OnOk result (keeper.new ≡ K.wrote (K.wrote keeper.old (Copy name.now) (Some (stored.Value (values.Copy (content_in input.now))))) (Proc pid) (Some (stored.Process (process_given (process_in (K.look keeper.old (Proc pid))) input.now)))) }
+    requires content { HasContent (input_in input) }
+    ensures ok { OnOk result (keeper.new ≡ K.wrote (K.wrote keeper.old (Copy name.now) (Some (stored.Value (values.Copy (content_in (input_in input.entry)))))) (Proc pid) (Some (stored.Process (process_given (process_in (K.look keeper.old (Proc pid))) (input_in input.entry))))) }
     ensures err { OnErr result (keeper.new ≡ keeper.old) }
 {
     match input {
-        Input::Fresh(content) => {
+        InputRef::Fresh(content) => {
             content.known();
             let filling = Filling {
                 text: content.bytes(),
@@ -214,12 +215,12 @@ fn receive<K: Keeper>(
             };
             write_copy(keeper, pid, name, content, &filling)
         }
-        Input::Stale(content) => {
+        InputRef::Stale(content) => {
             let error = Val::Num(Errno::StaleCopy.answer());
             let failed = Becomes::Gives(Register::ANSWER, error);
             write_copy(keeper, pid, name, content, &failed)
         }
-        Input::None | Input::Good => unreachable!(),
+        InputRef::None | InputRef::Good => unreachable!(),
     }
 }
 
@@ -300,11 +301,11 @@ pub fn apply_plan<K: Keeper>(
     keeper: &mut K,
     scripts: &Scripts,
     pid: Pid,
-    input: &Input,
+    input: InputRef<'_>,
     plan: &Plan,
 ) -> Result<(), AllocError>
-    requires { CanPerform (K.look keeper.old) scripts.now pid input.now plan.now }
-    ensures ok { OnOk result (keeper.new ≡ wrote_all K.wrote (writes_of (K.look keeper.old) pid (seen_with (K.look keeper.old) scripts.now pid input.now plan.now)) keeper.old) }
+    requires { CanPerform (K.look keeper.old) scripts.now pid (input_in input) plan.now }
+    ensures ok { OnOk result (keeper.new ≡ wrote_all K.wrote (writes_of (K.look keeper.old) pid (seen_with (K.look keeper.old) scripts.now pid (input_in input.entry) plan.now)) keeper.old) }
     ensures err { OnErr result (keeper.new ≡ keeper.old) }
 {
     match plan {
@@ -367,12 +368,12 @@ pub fn perform_plan<K: Keeper>(
     terminals: &mut Terminals,
     scripts: &Scripts,
     pid: Pid,
-    input: &Input,
+    input: InputRef<'_>,
     plan: &Plan,
 ) -> Result<(), AllocError>
-    requires { CanPerform (K.look keeper.old) scripts.now pid input.now plan.now }
-    ensures writes { OnOk result (keeper.new ≡ wrote_all K.wrote (writes_of (K.look keeper.old) pid (seen_with (K.look keeper.old) scripts.now pid input.now plan.now)) keeper.old) }
-    ensures says { OnOk result (terminals.new ≡ texts_after terminals.old (K.step_tags keeper.old) (said_by (seen_with (K.look keeper.old) scripts.now pid input.now plan.now))) }
+    requires { CanPerform (K.look keeper.old) scripts.now pid (input_in input) plan.now }
+    ensures writes { OnOk result (keeper.new ≡ wrote_all K.wrote (writes_of (K.look keeper.old) pid (seen_with (K.look keeper.old) scripts.now pid (input_in input.entry) plan.now)) keeper.old) }
+    ensures says { OnOk result (terminals.new ≡ texts_after terminals.old (K.step_tags keeper.old) (said_by (seen_with (K.look keeper.old) scripts.now pid (input_in input.entry) plan.now))) }
     ensures unwritten { OnErr result (keeper.new ≡ keeper.old) }
     ensures unsaid { OnErr result (terminals.new ≡ terminals.old) }
 {

@@ -6,10 +6,10 @@ ghost use Rattle.sk_plain.specs.Next.{takes_signal, is_due, is_private, waits, n
 
 use crate::processes::is_killed;
 use crate::step::{instruction_at, plan_step};
-use crate::{Refusal, step};
+use crate::{InputRef, Refusal, step};
 use sk_ids::{Entity, Name, Pid};
 use sk_objects::{Signals, Value};
-use sk_script::{Input, Instruction, Process, Scripts};
+use sk_script::{Instruction, Process, Scripts};
 use sk_store::{EntityState, Look};
 
 /// What a process does next.
@@ -60,7 +60,7 @@ fn waits<S: Look>(store: &S, scripts: &Scripts, pid: Pid) -> bool
     ensures { result ≡ waits (S.look store.now) scripts.now pid }
 {
     matches!(
-        plan_step(store, scripts, pid, &Input::None),
+        plan_step(store, scripts, pid, InputRef::None),
         Err(Refusal::Blocked)
     )
 }

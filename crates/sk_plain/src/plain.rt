@@ -5,12 +5,13 @@ ghost use Rattle.std.specs.FinMap as map;
 ghost use Rattle.sk_ids.specs.Entity.{entity_cmp};
 ghost use Rattle.sk_ids.specs.declared.entity.Entity.TheVariants.{Proc};
 ghost use Rattle.sk_store.specs.Processes.{IsProcess};
+ghost use Rattle.sk_trace.specs.Kept.{input_in};
 ghost use Rattle.sk_plain.specs.Planned.{said_by};
 ghost use Rattle.sk_plain.specs.Seen.{seen_with};
 ghost use Rattle.sk_plain.specs.View.{Shows};
 ghost use Rattle.sk_plain.specs.Plain.{plain_start, texts_said, all_said, step_of, Steps};
 
-use crate::{Plan, Refusal, View, perform_plan, plan_step};
+use crate::{InputRef, Plan, Refusal, View, perform_plan, plan_step};
 use sk_ids::{Entity, Pid, Text};
 use sk_script::{Boot, Input, Scripts};
 use sk_store::{EntityState, Look, Store};
@@ -72,9 +73,15 @@ impl Eq for Plain {
 
 /// The text that a planned step will say: the buffer of its process.
 #[tactic(auto, using(crate::proofs::Plans::row_quiet))]
-fn text_of(store: &Store, _scripts: &Scripts, pid: Pid, _input: &Input, plan: &Plan) -> Option<Text>
+fn text_of(
+    store: &Store,
+    _scripts: &Scripts,
+    pid: Pid,
+    _input: InputRef<'_>,
+    plan: &Plan,
+) -> Option<Text>
     requires { IsProcess (map.get store.now (Proc pid)) }
-    ensures { result ≡ option_map (λ s. s.text) (said_by (seen_with (map.get store.now) _scripts.now pid _input.now plan.now)) }
+    ensures { result ≡ option_map (λ s. s.text) (said_by (seen_with (map.get store.now) _scripts.now pid (input_in _input.entry) plan.now)) }
 {
     let Plan::Speaks = plan else {
         return None;
@@ -116,6 +123,7 @@ impl Plain {
     pub fn step(&mut self, pid: Pid, input: &Input) -> Result<Option<Text>, Refusal>
         ensures { Steps result (step_of self.old pid input.now) self.old self.new }
     {
+        let input = InputRef::of(input);
         let plan = match plan_step(&self.store, &self.scripts, pid, input) {
             Ok(plan) => plan,
             Err(why) => return Err(why),

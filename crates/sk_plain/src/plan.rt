@@ -1,12 +1,13 @@
 //! What a step will do, in a few words: nothing here holds a process, or bytes that stand elsewhere.
 ghost use Rattle.std.specs.Prelude.{◌≡◌};
 ghost use Rattle.sk_plain.specs.Planned.{read_by};
+ghost use Rattle.sk_trace.specs.Kept.{input_in};
 ghost use Rattle.sk_plain.specs.Seen.{looked, looks_of, written_in, written_row};
 
-use crate::{Becomes, Entities};
+use crate::{Becomes, Entities, InputRef};
 use sk_ids::{Entity, Name, ObjId, Pid};
 use sk_objects::Kind;
-use sk_script::{Input, Register};
+use sk_script::Register;
 
 /// The entity beside the process that a step looks at.
 #[derive(Clone, Copy)]
@@ -86,8 +87,8 @@ pub enum Plan {
 
 impl Plan {
     /// The entities that the step reads, with this input.
-    pub fn reads(&self, pid: Pid, input: &Input) -> Entities
-        ensures { result ≡ read_by pid input.now (looked (looks_of self.now)) }
+    pub fn reads(&self, pid: Pid, input: InputRef<'_>) -> Entities
+        ensures { result ≡ read_by pid (input_in input.entry) (looked (looks_of self.now)) }
     {
         match self {
             Plan::Acts(row) => read_entities(pid, input, &row.looks),
@@ -121,11 +122,11 @@ impl Plan {
 }
 
 /// The entities that a step with this input reads.
-fn read_entities(pid: Pid, input: &Input, looks: &Looks) -> Entities
-    ensures { result ≡ read_by pid input.now (looked looks.now) }
+fn read_entities(pid: Pid, input: InputRef<'_>, looks: &Looks) -> Entities
+    ensures { result ≡ read_by pid (input_in input.entry) (looked looks.now) }
 {
     let mut all = Entities::one(Entity::Proc(pid));
-    if let Input::None = input {
+    if let InputRef::None = input {
         all.push(Entity::Sig(pid));
     }
     if let Looks::At(entity) = looks {

@@ -13,7 +13,7 @@ ghost use Rattle.sk_plain.specs.Seen.{CanPerform, seen_with, written_in};
 ghost use Rattle.sk_plain.specs.declared.refusal.Refusal.TheVariants.{Memory};
 ghost use Rattle.sk_plain.specs.Remaining.{depends, remaining, refusal_in, EndsBy, BeginsWell};
 
-use crate::{Entry, Plan, Refusal, apply_plan, plan_step};
+use crate::{Entry, InputRef, Plan, Refusal, apply_plan, plan_step};
 use sk_ids::{Entity, GuessId, Pid};
 use sk_script::Scripts;
 use sk_store::Store;
@@ -65,7 +65,7 @@ fn depends(dirty: &[Entity], guess: GuessId, entry: &Entry, plan: &Plan) -> bool
     if is_guess(entry, guess) {
         return true;
     }
-    let read = plan.reads(entry.pid, &entry.input);
+    let read = plan.reads(entry.pid, InputRef::of(&entry.input));
     let written = plan.writes(entry.pid);
     touches(dirty, read.as_slice()) || touches(dirty, written.as_slice())
 }
@@ -86,7 +86,7 @@ fn take(
     ensures memory { IfErr result (λ why. why ≡ Memory) }
     ensures kept { OnOk result (kept.new.items ≡ (if depends guess dirty.old.items entry.now plan.now then kept.old.items else kept.old.items ++ entry.now ∷ [])) }
 {
-    apply_plan(store, scripts, entry.pid, &entry.input, plan)?;
+    apply_plan(store, scripts, entry.pid, InputRef::of(&entry.input), plan)?;
     if depends(dirty, guess, entry, plan) {
         let written = plan.writes(entry.pid);
         mark(dirty, written.as_slice())?;
@@ -112,7 +112,8 @@ fn one_entry(
     ensures refused { IfErr result (λ why. (rest : List EntryView) → EndsBy (refusal_in scripts.now store.old (entry.now ∷ rest)) why) }
     ensures memory { IfErr result (λ why. why ≡ Memory → IsOk (outcome (plain scripts.now) store.old entry.now)) }
 {
-    let plan = match plan_step(store, scripts, entry.pid, &entry.input) {
+    let input = InputRef::of(&entry.input);
+    let plan = match plan_step(store, scripts, entry.pid, input) {
         Ok(plan) => plan,
         Err(why) => return Err(why),
     };

@@ -10,7 +10,7 @@ ghost use Rattle.sk_plain.specs.Act.{plain};
 ghost use Rattle.sk_plain.specs.Replay.{image, is_above, is_made, IsReplay, HasTaken, StepFault, HasCommitted, HasFailed, DecisionFault, Goes, FaultIn, Replays};
 
 use crate::record::{is_guess, strike_guess};
-use crate::{Entry, Event, Refusal, Trace, apply_plan, plan_step};
+use crate::{Entry, Event, InputRef, Refusal, Trace, apply_plan, plan_step};
 use sk_ids::GuessId;
 use sk_script::{Boot, Scripts};
 use sk_store::Store;
@@ -95,13 +95,14 @@ fn take_entry(replay: &mut Replay, scripts: &Scripts, entry: &Entry) -> Result<(
     ensures ok { OnOk result (HasTaken scripts.now replay.old entry.now replay.new) }
     ensures err { IfErr result (StepFault scripts.now replay.old entry.now) }
 {
-    let Ok(plan) = plan_step(&replay.now, scripts, entry.pid, &entry.input) else {
+    let input = InputRef::of(&entry.input);
+    let Ok(plan) = plan_step(&replay.now, scripts, entry.pid, input) else {
         return Err(Fault::Refused);
     };
     if !is_above(replay.greatest, entry.guess) {
         return Err(Fault::Unknown);
     }
-    apply_plan(&mut replay.now, scripts, entry.pid, &entry.input, &plan)?;
+    apply_plan(&mut replay.now, scripts, entry.pid, input, &plan)?;
     replay.entries.push(*entry)?;
     if let Some(guess) = entry.guess {
         replay.undecided.push(guess)?;
@@ -140,11 +141,12 @@ fn commit(replay: &mut Replay, guess: GuessId) -> Result<(), Fault>
 fn take_again(store: &mut Store, scripts: &Scripts, entry: &Entry) -> Result<(), Refusal>
     ensures { OnOk result ((rest : List EntryView) → run (plain scripts.now) store.new rest ≡ run (plain scripts.now) store.old (entry.now ∷ rest)) }
 {
-    let plan = match plan_step(store, scripts, entry.pid, &entry.input) {
+    let input = InputRef::of(&entry.input);
+    let plan = match plan_step(store, scripts, entry.pid, input) {
         Ok(plan) => plan,
         Err(why) => return Err(why),
     };
-    apply_plan(store, scripts, entry.pid, &entry.input, &plan)?;
+    apply_plan(store, scripts, entry.pid, input, &plan)?;
     Ok(())
 }
 

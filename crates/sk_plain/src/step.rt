@@ -4,7 +4,9 @@ ghost use Rattle.std.specs.Option.{option_copied};
 ghost use Rattle.sk_ids.specs.declared.entity.Entity.TheVariants.{Sig};
 ghost use Rattle.sk_objects.specs.declared.value.Value.TheVariants as values;
 ghost use Rattle.sk_store.specs.declared.entity_state.EntityState.TheVariants as stored;
+ghost use Rattle.sk_script.specs.declared.instruction.Input.TheVariants as Input;
 ghost use Rattle.sk_script.specs.Private.{private_step};
+ghost use Rattle.sk_trace.specs.Kept.{input_in};
 ghost use Rattle.sk_plain.specs.Act.{row, does, next_in, handled as handled_row, with_signals, with_input};
 ghost use Rattle.sk_plain.specs.Planned.{signals_read, IsReply, said_by};
 ghost use Rattle.sk_plain.specs.declared.plan.Beside.TheVariants as Beside;
@@ -13,10 +15,12 @@ ghost use Rattle.sk_plain.specs.Seen.{PlansAfter, PlansStep, plan_of, seen, seen
 
 use crate::processes::{ends, fork, is_killed, kill, status_of, wait};
 use crate::shapes::{alone, wrote};
-use crate::{Becomes, Plan, ProcessChange, Refusal, Row, Writes, files, names, pipes, replies};
+use crate::{
+    Becomes, InputRef, Plan, ProcessChange, Refusal, Row, Writes, files, names, pipes, replies,
+};
 use sk_ids::{Entity, Pid};
 use sk_objects::{Kind, Signals, Value};
-use sk_script::{Input, Instruction, Process, Scripts};
+use sk_script::{Instruction, Process, Scripts};
 use sk_store::{EntityState, Look};
 
 /// The status of a process that a signal ended.
@@ -165,16 +169,16 @@ fn with_input<S: Look>(
     scripts: &Scripts,
     pid: Pid,
     process: &Process,
-    input: &Input,
+    input: InputRef<'_>,
 ) -> Result<Plan, Refusal>
-    ensures row { PlansAfter (S.look store.now) (next_in scripts.now process.now) input.now process.now (signals_read pid input.now) pid (with_input pid process.now (next_in scripts.now process.now) input.now) result }
-    ensures quiet { IsReply input.now → IfOk result (λ plan. said_by (seen (S.look store.now) (next_in scripts.now process.now) input.now process.now plan) ≡ None) }
+    ensures row { PlansAfter (S.look store.now) (next_in scripts.now process.now) (input_in input.entry) process.now (signals_read pid (input_in input.entry)) pid (with_input pid process.now (next_in scripts.now process.now) (input_in input.entry)) result }
+    ensures quiet { IsReply (input_in input.entry) → IfOk result (λ plan. said_by (seen (S.look store.now) (next_in scripts.now process.now) (input_in input.entry) process.now plan) ≡ None) }
 {
     match input {
-        Input::None => with_signals(store, scripts, pid, process),
-        Input::Good => plan_of(replies::good(store, scripts, pid, process)),
-        Input::Fresh(content) => replies::fresh(store, scripts, pid, process, content),
-        Input::Stale(content) => replies::stale(store, scripts, pid, process, content),
+        InputRef::None => with_signals(store, scripts, pid, process),
+        InputRef::Good => plan_of(replies::good(store, scripts, pid, process)),
+        InputRef::Fresh(content) => replies::fresh(store, scripts, pid, process, content),
+        InputRef::Stale(content) => replies::stale(store, scripts, pid, process, content),
     }
 }
 
@@ -195,10 +199,10 @@ pub fn plan_step<S: Look>(
     store: &S,
     scripts: &Scripts,
     pid: Pid,
-    input: &Input,
+    input: InputRef<'_>,
 ) -> Result<Plan, Refusal>
-    ensures step { PlansStep (S.look store.now) scripts.now pid input.now result }
-    ensures quiet { IsReply input.now → IfOk result (λ plan. said_by (seen_with (S.look store.now) scripts.now pid input.now plan) ≡ None) }
+    ensures step { PlansStep (S.look store.now) scripts.now pid (input_in input.entry) result }
+    ensures quiet { IsReply (input_in input.entry) → IfOk result (λ plan. said_by (seen_with (S.look store.now) scripts.now pid (input_in input.entry) plan) ≡ None) }
 {
     let process = match store.value(Entity::Proc(pid)) {
         Some(EntityState::Process(process)) => process,

@@ -30,6 +30,6 @@ tells_more beside n (x ∷ es) e t w mid last text p happens =
     )
 
 -- what is kept of the bytes that were written
-pub world_reported_kept : (beside : KernelView → KernelView → List ℕ) (report : WorldView → List ℕ) (es : List WorldEvent) (w : WorldView) (old mid new : Option (List ℕ))
-    → WorldReported beside report es w old mid → Keeps mid new → WorldReported beside report es w old new
-world_reported_kept beside report es w old mid new r kept = (r.0, r.1, r.2, Appends-kept old mid new _ r.3 kept)
+pub world_reported_kept : (beside : KernelView → KernelView → List ℕ) (IsReport : WorldView → List ℕ → Type 0) (es : List WorldEvent) (w : WorldView) (old mid new : Option (List ℕ))
+    → WorldReported beside IsReport es w old mid → Keeps mid new → WorldReported beside IsReport es w old new
+world_reported_kept beside IsReport es w old mid new r kept = (r.0, r.1, r.2, r.3, r.4, Appends-kept old mid new _ r.5 kept)

@@ -38,6 +38,6 @@ tells_more beside n (x ∷ ss) s a ts us k mid last text p told =
     )
 
 -- what is kept of the bytes that were written
-pub reported_kept : (beside : KernelView → KernelView → List ℕ) (report : KernelView → List ℕ) (ss : List Call) (ts : List ℕ) (k : KernelView) (old mid new : Option (List ℕ))
-    → Reported beside report ss ts k old mid → Keeps mid new → Reported beside report ss ts k old new
-reported_kept beside report ss ts k old mid new r kept = (r.0, r.1, r.2, r.3, Appends-kept old mid new _ r.4 kept)
+pub reported_kept : (beside : KernelView → KernelView → List ℕ) (IsReport : KernelView → List ℕ → Type 0) (ss : List Call) (ts : List ℕ) (k : KernelView) (old mid new : Option (List ℕ))
+    → Reported beside IsReport ss ts k old mid → Keeps mid new → Reported beside IsReport ss ts k old new
+reported_kept beside IsReport ss ts k old mid new r kept = (r.0, r.1, r.2, r.3, r.4, r.5, Appends-kept old mid new _ r.6 kept)

@@ -38,8 +38,9 @@ abbrev pub Answered :
     (KernelView → KernelView → List ℕ) → List Call → List ℕ → KernelView → List ℕ → KernelView → Option (List ℕ) → Option (List ℕ) → Type 0
 Answered beside steps held kernel left last old new = (text : List ℕ) × Tells beside 1 steps held kernel left last text × Appends old new text
 
--- and then what a report says of the kernel that they leave
+-- and then a report of the kernel that they leave
 abbrev pub Reported :
-    (KernelView → KernelView → List ℕ) → (KernelView → List ℕ) → List Call → List ℕ → KernelView → Option (List ℕ) → Option (List ℕ) → Type 0
-Reported beside report steps held kernel old new =
-    (text : List ℕ) × (left : List ℕ) × (last : KernelView) × Tells beside 1 steps held kernel left last text × Appends old new (text ++ report last)
+    (KernelView → KernelView → List ℕ) → (KernelView → List ℕ → Type 0) → List Call → List ℕ → KernelView → Option (List ℕ) → Option (List ℕ) → Type 0
+Reported beside IsReport steps held kernel old new =
+    (text : List ℕ) × (left : List ℕ) × (last : KernelView) × (report : List ℕ) × Tells beside 1 steps held kernel left last text
+    × IsReport last report × Appends old new (text ++ report)

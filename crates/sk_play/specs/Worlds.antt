@@ -75,7 +75,8 @@ WorldTells beside number (e ∷ es) w last text =
 abbrev pub WorldAnswered : (KernelView → KernelView → List ℕ) → List WorldEvent → WorldView → WorldView → Option (List ℕ) → Option (List ℕ) → Type 0
 WorldAnswered beside events w last old new = (text : List ℕ) × WorldTells beside 1 events w last text × Appends old new text
 
--- and then what a report says of the world that they leave
-abbrev pub WorldReported : (KernelView → KernelView → List ℕ) → (WorldView → List ℕ) → List WorldEvent → WorldView → Option (List ℕ) → Option (List ℕ) → Type 0
-WorldReported beside report events w old new =
-    (text : List ℕ) × (last : WorldView) × WorldTells beside 1 events w last text × Appends old new (text ++ report last)
+-- and then a report of the world that they leave
+abbrev pub WorldReported : (KernelView → KernelView → List ℕ) → (WorldView → List ℕ → Type 0) → List WorldEvent → WorldView → Option (List ℕ) → Option (List ℕ) → Type 0
+WorldReported beside IsReport events w old new =
+    (text : List ℕ) × (last : WorldView) × (report : List ℕ) × WorldTells beside 1 events w last text × IsReport last report
+    × Appends old new (text ++ report)

@@ -25,14 +25,14 @@ impl fmt::Display for Answer {
 
     fn fmt<W: fmt::Write>(&self, f: &mut fmt::Formatter<W>) -> fmt::Result {
         match self {
-            Answer::Stepped => write!(f, "stepped"),
+            Answer::Stepped => f.write_str("stepped"),
             Answer::Guessed(id) => {
                 let number = id.number();
                 write!(f, "guess {number}")
             }
-            Answer::Done => write!(f, "done"),
-            Answer::Gone => write!(f, "gone"),
-            Answer::NoToken => write!(f, "no token"),
+            Answer::Done => f.write_str("done"),
+            Answer::Gone => f.write_str("gone"),
+            Answer::NoToken => f.write_str("no token"),
             Answer::Refused(refusal) => {
                 let refusal = PrintedRefusal(*refusal);
                 write!(f, "refused {refusal}")

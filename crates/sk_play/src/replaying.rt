@@ -36,8 +36,8 @@ fn call_again(session: &mut Session, event: &Event) -> Result<Answer, AllocError
     ensures told { IfOk result (λ answer. AnswerMatches answer (call_of event.now) session.old.holder.held session.old.holder.kernel session.new.holder.kernel) }
 {
     match event {
-        Event::Step { pid, input } => session.step(*pid, input.input()),
-        Event::Guess { pid, input, .. } => session.guess(*pid, input.input()),
+        Event::Step { pid, input } => session.step(*pid, input.lend()),
+        Event::Guess { pid, input, .. } => session.guess(*pid, input.lend()),
         Event::Commit(id) => session.execute(&Call::Commit(*id)),
         Event::Fail(id) => session.execute(&Call::Fail(*id)),
     }

@@ -4,6 +4,7 @@ ghost use Rattle.sk_holder.specs.Holder.{holding};
 ghost use Rattle.sk_play.specs.Session.{decision_told, entry, with_guess, held_after, AnswerMatches, CanWantMemory, StepTold, GuessTold};
 ghost use Rattle.sk_play.specs.Plays.{declared_kernel};
 ghost use Rattle.sk_kernel.specs.Kernel.{step_refused, guess_refused, next_guess};
+ghost use Rattle.sk_trace.specs.Kept.{input_in};
 ghost use Rattle.sk_trace.specs.declared.event.Event.TheVariants as events;
 ghost use Rattle.sk_plain.specs.Refusal.{cause};
 
@@ -11,9 +12,8 @@ use crate::answer::Answer;
 use sk_holder::Holder;
 use sk_ids::Pid;
 use sk_kernel::{Kernel, Outcome};
-use sk_plain::Refusal;
+use sk_plain::{InputRef, Refusal};
 use sk_scenario::{Call, Declarations};
-use sk_script::Input;
 use std::alloc::{AllocError, Global};
 
 /// A kernel with the tokens of its guesses, as a scenario calls it: each call is answered as the report tells it, of
@@ -64,17 +64,17 @@ impl Session {
             (λ _. CanWantMemory step.now self.old.holder.kernel × (self.new.holder ≡ self.old.holder)) }
     {
         match step {
-            Call::Step(pid, input) => self.step(*pid, input.input()),
-            Call::Guess(pid, input) => self.guess(*pid, input.input()),
+            Call::Step(pid, input) => self.step(*pid, input.lend()),
+            Call::Guess(pid, input) => self.guess(*pid, input.lend()),
             Call::Commit(id) => Ok(answer_of(self.holder.commit(*id))),
             Call::Fail(id) => Ok(answer_of(self.holder.fail(*id))),
         }
     }
 
-    pub(crate) fn step(&mut self, pid: Pid, input: Input) -> Result<Answer, AllocError>
+    pub(crate) fn step(&mut self, pid: Pid, input: InputRef<'_>) -> Result<Answer, AllocError>
         ensures held { self.new.holder.held ≡ self.old.holder.held }
-        ensures told { let refused = step_refused self.old.holder.kernel (entry pid input None) in
-            MatchResult result (λ answer. StepTold answer refused (events.Step pid input) self.old.holder.kernel self.new.holder.kernel)
+        ensures told { let refused = step_refused self.old.holder.kernel (entry pid (input_in input.entry) None) in
+            MatchResult result (λ answer. StepTold answer refused (events.Step pid (input_in input.entry)) self.old.holder.kernel self.new.holder.kernel)
             (λ _. (refused ≡ None) × (self.new.holder ≡ self.old.holder)) }
     {
         match self.holder.step(pid, input) {
@@ -83,11 +83,11 @@ impl Session {
         }
     }
 
-    pub(crate) fn guess(&mut self, pid: Pid, input: Input) -> Result<Answer, AllocError>
+    pub(crate) fn guess(&mut self, pid: Pid, input: InputRef<'_>) -> Result<Answer, AllocError>
         ensures held { IfOk result (λ answer. self.new.holder.held ≡ with_guess answer self.old.holder.held) }
         ensures told { let next = next_guess self.old.holder.kernel in
-            let refused = guess_refused self.old.holder.kernel (entry pid input (Some next)) in
-            MatchResult result (λ answer. GuessTold answer refused (events.Guess next pid input) self.old.holder.kernel self.new.holder.kernel)
+            let refused = guess_refused self.old.holder.kernel (entry pid (input_in input.entry) (Some next)) in
+            MatchResult result (λ answer. GuessTold answer refused (events.Guess next pid (input_in input.entry)) self.old.holder.kernel self.new.holder.kernel)
             (λ _. (refused ≡ None) × (self.new.holder ≡ self.old.holder)) }
     {
         match self.holder.guess(pid, input) {

@@ -30,7 +30,7 @@ impl fmt::Display for PrintedTurn {
 
     fn fmt<W: fmt::Write>(&self, f: &mut fmt::Formatter<W>) -> fmt::Result {
         match self.0 {
-            Turn::Stepped => write!(f, "stepped"),
+            Turn::Stepped => f.write_str("stepped"),
             Turn::Guessed(id) => {
                 let number = id.number();
                 write!(f, "guessed {number}")
@@ -49,7 +49,7 @@ impl fmt::Display for PrintedReply {
 
     fn fmt<W: fmt::Write>(&self, f: &mut fmt::Formatter<W>) -> fmt::Result {
         match self.0 {
-            Answer::Yes => write!(f, "yes"),
+            Answer::Yes => f.write_str("yes"),
             Answer::No(content) => {
                 let version = content.version();
                 write!(f, "no {version}")
@@ -58,7 +58,7 @@ impl fmt::Display for PrintedReply {
                 let version = content.version();
                 write!(f, "copy {version}")
             }
-            Answer::Dropped => write!(f, "dropped"),
+            Answer::Dropped => f.write_str("dropped"),
         }
     }
 }
@@ -113,7 +113,7 @@ impl fmt::Display for WorldTold {
     fn fmt<W: fmt::Write>(&self, f: &mut fmt::Formatter<W>) -> fmt::Result {
         match self {
             WorldTold::Answered(answer) => write!(f, "{}", PrintedAnswer(*answer)),
-            WorldTold::Idle => write!(f, "idle"),
+            WorldTold::Idle => f.write_str("idle"),
             WorldTold::Refused(refusal) => {
                 let refusal = PrintedRefusal(*refusal);
                 write!(f, "refused {refusal}")

@@ -7,7 +7,7 @@ use sk_ids::{Entity, Pid};
 use sk_kernel::{Footprint, Kernel};
 use sk_report::write_footprint;
 use sk_script::Input;
-use sk_trace::Event;
+use sk_trace::{Event, InputRef};
 use std::io;
 use std::io::Write;
 
@@ -24,7 +24,7 @@ pub(crate) fn foresee(kernel: &Kernel, upcoming: Option<(Pid, Input)>) -> Forese
 {
     let place = kernel.trace().events().len();
     let footprint = match upcoming {
-        Some((pid, input)) => kernel.footprint(pid, &input).ok(),
+        Some((pid, input)) => kernel.footprint(pid, InputRef::of(&input)).ok(),
         None => None,
     };
     Foreseen { place, footprint }

@@ -6,7 +6,7 @@ ghost use Rattle.sk_scenario.specs.Calls.{call};
 
 use sk_ids::{GuessId, Pid};
 use sk_trace::KeptInput;
-use sk_trace::line::step;
+use sk_trace::line::kept_step;
 use sk_words::{FaultKind, Reader, Words, first_word, one};
 use std::alloc::Global;
 use std::marker::Model;
@@ -69,15 +69,13 @@ impl Calls {
     {
         match word {
             "step" => {
-                let (pid, input) = step(words)?;
+                let (pid, input) = kept_step(*self.steps.allocator(), words)?;
                 self.steps.reserve(1)?;
-                let input = KeptInput::keep(*self.steps.allocator(), &input)?;
                 self.steps.push_reserved(Call::Step(pid, input));
             }
             "guess" => {
-                let (pid, input) = step(words)?;
+                let (pid, input) = kept_step(*self.steps.allocator(), words)?;
                 self.steps.reserve(1)?;
-                let input = KeptInput::keep(*self.steps.allocator(), &input)?;
                 self.steps.push_reserved(Call::Guess(pid, input));
             }
             "commit" => {

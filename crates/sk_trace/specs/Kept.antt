@@ -7,6 +7,8 @@ use Rattle.sk_script.specs.declared.instruction.Input.{Input}
 use Rattle.sk_script.specs.declared.instruction.Input.TheVariants as inputs
 use Rattle.sk_script.specs.contracts.instruction.Input as input
 use Rattle.sk_script.specs.contracts.instruction.InputPartialEq.TheImpl as test
+use Rattle.sk_trace.specs.declared.kept.InputRef.{InputRef}
+use Rattle.sk_trace.specs.declared.kept.InputRef.TheVariants as lent
 use Rattle.sk_trace.specs.declared.kept.Words.{Words}
 use Rattle.sk_trace.specs.declared.kept.Words.TheVariants.{None, Good, Fresh, Stale}
 
@@ -16,6 +18,13 @@ input_of None = inputs.None
 input_of Good = inputs.Good
 input_of (Fresh b) = inputs.Fresh b.value
 input_of (Stale b) = inputs.Stale b.value
+
+-- the input that is lent
+abbrev pub input_in : InputRef → Input
+input_in lent.None = inputs.None
+input_in lent.Good = inputs.Good
+input_in (lent.Fresh c) = inputs.Fresh c.now
+input_in (lent.Stale c) = inputs.Stale c.now
 
 abbrev pub input_code : Coded Input
 input_code = input.the_row.coded

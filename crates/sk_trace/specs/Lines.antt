@@ -6,7 +6,7 @@ use Rattle.sk_words.specs.declared.fault.Fault.{Fault}
 use Rattle.sk_words.specs.Faults.{◌>>=◌}
 use Rattle.sk_words.specs.Words.{words, first_of}
 use Rattle.sk_words.specs.Operands.{closed, next_word, one_of, pid, positive}
-use Rattle.sk_words.specs.Reading.{read_from, Tells}
+use Rattle.sk_words.specs.Reading.{read_from, Tells, TellsKind}
 use Rattle.sk_words.specs.Tables.{Rule, rule_in, unknown, with_line}
 use Rattle.sk_script.specs.declared.instruction.Input.{Input}
 use Rattle.sk_script.specs.StepInput.{input}
@@ -22,6 +22,11 @@ step ws = do
   i ← input p.1
   who ← pid p.0
   Ok (who, i)
+
+-- what is read is what words say, or the kind of their fault is told, and want of memory only of words without one
+abbrev pub IsRead : {S : Type 0} → Result S FaultKind → Result S FaultKind → Type 0
+IsRead (Ok s) said = said ≡ Ok s
+IsRead (Err e) said = TellsKind e said
 
 -- the number of a guess before them, which is looked at last
 unfoldable pub numbered_step : Rule (ℕ × ℕ × Input)

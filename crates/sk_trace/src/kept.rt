@@ -1,7 +1,7 @@
 //! Inputs as events keep them: a few words, with what is long in a box.
 ghost use Rattle.std.specs.Prelude.{◌≡◌, IfOk, OnErr};
 ghost use Rattle.sk_script.specs.declared.instruction.Input.TheVariants as inputs;
-ghost use Rattle.sk_trace.specs.Kept.{HasContent, IsInput};
+ghost use Rattle.sk_trace.specs.Kept.{HasContent, IsInput, input_in};
 ghost use Rattle.sk_words.specs.Printed.{AreBytes};
 
 use sk_objects::Content;
@@ -9,6 +9,29 @@ use sk_script::Input;
 use std::alloc::{AllocError, Global};
 use std::fmt;
 use std::marker::Model;
+
+/// An input where it stands: its content is lent.
+#[derive(Clone, Copy, Debug)]
+pub enum InputRef<'a> {
+    None,
+    Good,
+    Fresh(&'a Content),
+    Stale(&'a Content),
+}
+
+impl<'a> InputRef<'a> {
+    /// Lends an input.
+    pub fn of(input: &'a Input) -> InputRef<'a>
+        ensures { input_in result ≡ input.now }
+    {
+        match input {
+            Input::None => InputRef::None,
+            Input::Good => InputRef::Good,
+            Input::Fresh(content) => InputRef::Fresh(content),
+            Input::Stale(content) => InputRef::Stale(content),
+        }
+    }
+}
 
 /// An input, with its content in a box.
 #[derive(Debug, Drop)]
@@ -64,16 +87,23 @@ impl KeptInput {
         KeptInput { words: Words::None }
     }
 
+    /// That a cached copy is good. This takes no memory.
+    pub fn good() -> KeptInput
+        ensures { result ≡ inputs.Good }
+    {
+        KeptInput { words: Words::Good }
+    }
+
     /// Keeps an input. It takes memory only for a content.
-    pub fn keep(alloc: Global, input: &Input) -> Result<KeptInput, AllocError>
-        ensures ok { IfOk result (λ kept. kept ≡ input.now) }
-        ensures err { OnErr result (HasContent input.now) }
+    pub fn keep(alloc: Global, input: InputRef<'_>) -> Result<KeptInput, AllocError>
+        ensures ok { IfOk result (λ kept. kept ≡ input_in input.entry) }
+        ensures err { OnErr result (HasContent (input_in input.entry)) }
     {
         let words = match input {
-            Input::None => Words::None,
-            Input::Good => Words::Good,
-            Input::Fresh(content) => Words::Fresh(Box::new(alloc, *content)?),
-            Input::Stale(content) => Words::Stale(Box::new(alloc, *content)?),
+            InputRef::None => Words::None,
+            InputRef::Good => Words::Good,
+            InputRef::Fresh(content) => Words::Fresh(Box::new(alloc, *content)?),
+            InputRef::Stale(content) => Words::Stale(Box::new(alloc, *content)?),
         };
         Ok(KeptInput { words })
     }
@@ -87,6 +117,18 @@ impl KeptInput {
             Words::Good => Input::Good,
             Words::Fresh(content) => Input::Fresh(**content),
             Words::Stale(content) => Input::Stale(**content),
+        }
+    }
+
+    /// Lends the input.
+    pub fn lend(&self) -> InputRef<'_>
+        ensures { input_in result ≡ self.now }
+    {
+        match &self.words {
+            Words::None => InputRef::None,
+            Words::Good => InputRef::Good,
+            Words::Fresh(content) => InputRef::Fresh(content),
+            Words::Stale(content) => InputRef::Stale(content),
         }
     }
 

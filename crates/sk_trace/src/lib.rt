@@ -9,5 +9,5 @@ pub mod print;
 pub mod trace;
 
 pub use event::{Entry, Event};
-pub use kept::KeptInput;
+pub use kept::{InputRef, KeptInput};
 pub use trace::Trace;

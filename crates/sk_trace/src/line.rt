@@ -1,16 +1,17 @@
 //! What the lines of a trace say.
-ghost use Rattle.std.specs.Prelude.{◌≡◌, [], All};
+ghost use Rattle.std.specs.Prelude.{◌≡◌, [], All, Ok, IfSome};
+ghost use Rattle.sk_script.specs.StepInput.{input};
 ghost use Rattle.sk_words.specs.Reading.{Leaves};
 ghost use Rattle.sk_words.specs.Tables.{with_said};
 ghost use Rattle.sk_trace.specs.Event.{IsEvent};
-ghost use Rattle.sk_trace.specs.Lines.{step, numbered_step, event};
+ghost use Rattle.sk_trace.specs.Lines.{step, numbered_step, event, IsRead};
 
 use crate::trace::add;
-use crate::{Event, KeptInput};
+use crate::{Event, InputRef, KeptInput};
 use sk_ids::{GuessId, Pid};
 use sk_script::Input;
 use sk_script::step_input::input;
-use sk_words::{FaultKind, Operand, Reader, Words, closed, first_word, next_word, one};
+use sk_words::{FaultKind, Operand, Reader, Words, closed, first_word, next_word, none, one};
 use std::alloc::Global;
 use std::marker::Model;
 
@@ -23,6 +24,44 @@ pub fn step(words: &Words) -> Result<(Pid, Input), FaultKind>
     let pid = next_word(&mut words)?;
     let input = input(&words)?;
     let pid = Operand::read(pid)?;
+    Ok((pid, input))
+}
+
+/// The input that all these words say, where it has no content.
+#[tactic(auto, unfolding(sk_script::specs::StepInput::input))]
+fn bare_input(words: &Words) -> Option<KeptInput>
+    ensures { IfSome result (λ kept. input words.now ≡ Ok kept) }
+{
+    let mut words = words.again();
+    let Ok(word) = str::from_utf8(words.next()?) else {
+        return None;
+    };
+    match word {
+        "none" => {
+            none(&words).ok()?;
+            Some(KeptInput::none())
+        }
+        "good" => {
+            none(&words).ok()?;
+            Some(KeptInput::good())
+        }
+        _ => None,
+    }
+}
+
+/// A process and the input of its step, kept. Want of memory is told last.
+#[tactic(auto, unfolding(crate::specs::Lines::step))]
+pub fn kept_step(alloc: Global, words: &Words) -> Result<(Pid, KeptInput), FaultKind>
+    ensures { IsRead result (step words.now) }
+{
+    let mut rest = closed(words)?;
+    let pid = next_word(&mut rest)?;
+    if let Some(input) = bare_input(&rest) {
+        let pid = Operand::read(pid)?;
+        return Ok((pid, input));
+    }
+    let (pid, input) = step(words)?;
+    let input = KeptInput::keep(alloc, InputRef::of(&input))?;
     Ok((pid, input))
 }
 
@@ -91,15 +130,14 @@ impl Events {
     {
         match word {
             "step" => {
-                let (pid, input) = step(words)?;
+                let (pid, input) = kept_step(*self.events.allocator(), words)?;
                 self.events.reserve(1)?;
-                let input = KeptInput::keep(*self.events.allocator(), &input)?;
                 add(&mut self.events, Event::Step { pid, input });
             }
             "guess" => {
                 let (id, pid, input) = numbered_step(words)?;
                 self.events.reserve(1)?;
-                let input = KeptInput::keep(*self.events.allocator(), &input)?;
+                let input = KeptInput::keep(*self.events.allocator(), InputRef::of(&input))?;
                 add(&mut self.events, Event::Guess { id, pid, input });
             }
             "commit" => {

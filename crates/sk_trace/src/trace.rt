@@ -3,13 +3,12 @@ ghost use Rattle.std.specs.Prelude.{◌≡◌, ◌<◌, ◌+◌, ◌≤◌, ◌�
 ghost use Rattle.std.specs.Str.Lines.{lines};
 ghost use Rattle.sk_words.specs.Lines.{last_line};
 ghost use Rattle.sk_trace.specs.Event.{IsEvent};
-ghost use Rattle.sk_trace.specs.Kept.{HasContent};
+ghost use Rattle.sk_trace.specs.Kept.{HasContent, input_in};
 ghost use Rattle.sk_trace.specs.Lines.{trace_from, trace_of, Says};
 ghost use Rattle.sk_trace.specs.Text.{trace_text};
 
 use crate::line::Events;
-use crate::{Event, KeptInput};
-use sk_script::Input;
+use crate::{Event, InputRef, KeptInput};
 use sk_words::{Cursor, Fault, read};
 use std::alloc::{AllocError, Global};
 use std::fmt::Write;
@@ -110,9 +109,9 @@ impl Trace {
     }
 
     /// Keeps an input for an event of this trace. It takes memory only for a content.
-    pub fn keep(&self, input: &Input) -> Result<KeptInput, AllocError>
-        ensures ok { IfOk result (λ kept. kept ≡ input.now) }
-        ensures err { OnErr result (HasContent input.now) }
+    pub fn keep(&self, input: InputRef<'_>) -> Result<KeptInput, AllocError>
+        ensures ok { IfOk result (λ kept. kept ≡ input_in input.entry) }
+        ensures err { OnErr result (HasContent (input_in input.entry)) }
     {
         KeptInput::keep(*self.events.allocator(), input)
     }

@@ -11,3 +11,4 @@ pub mod Joins
 pub mod Stable
 pub mod Runs
 mod GivenBack
+pub mod Counted

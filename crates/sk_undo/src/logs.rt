@@ -1,5 +1,5 @@
 //! What performs the writes of steps, and notes what takes them back with the guesses that they rest on.
-ghost use Rattle.std.specs.Prelude.{◌≡◌, [], not, is_some, IfOk};
+ghost use Rattle.std.specs.Prelude.{◌≡◌, ◌↔◌, [], min, ◌-◌, ◌^◌, not, is_some, IfOk};
 ghost use Rattle.std.specs.FinMap as map;
 ghost use Rattle.std.specs.List.Sorted.{IsStrictlySortedBy};
 ghost use Rattle.sk_ids.specs.Entity.{entity_cmp};
@@ -8,6 +8,7 @@ ghost use Rattle.sk_undo.specs.Logs.{look_at, log_at};
 ghost use Rattle.std.specs.Option.{option_copied, unwrap_or};
 ghost use Rattle.sk_record.specs.Effects.{is_in};
 ghost use Rattle.sk_record.specs.Notes.{last_tags};
+ghost use Rattle.sk_undo.specs.Count.{AreUnnoted, notes_in};
 ghost use Rattle.sk_undo.specs.Log.{is_empty};
 ghost use Rattle.sk_undo.specs.Decisions.{Unwound, Lightened, AreListed, AllRest, AllGrow, NoneBare};
 
@@ -91,6 +92,14 @@ impl Logs {
         ensures present { IfOk result (λ all. (e : Entity) → is_in entity_cmp all.items e ≡ is_some (look_at self.now.slots e)) }
     {
         self.slots.entities()
+    }
+
+    /// How many notes all entities have, or the largest number where there are more. This takes no memory.
+    pub fn notes(&self) -> usize
+        ensures count { result ≡ min (notes_in self.now.slots) (2 ^ 64 - 1) }
+        ensures none { (result ≡ 0) ↔ AreUnnoted self.now.slots }
+    {
+        self.slots.notes()
     }
 
     /// The tags of the next step.

@@ -1,5 +1,5 @@
 //! What an entity has, with its undo log.
-ghost use Rattle.std.specs.Prelude.{◌≡◌, [], OnOk, OnErr, IfOk, Some, None, is_none, true, not, ◌&&◌, reverse};
+ghost use Rattle.std.specs.Prelude.{◌≡◌, [], OnOk, OnErr, IfOk, Some, None, is_none, true, not, ◌&&◌, length, reverse};
 ghost use Rattle.std.specs.Option.{option_copied};
 ghost use Rattle.sk_record.specs.Notes.{last_tags, unwound, cut, committed};
 ghost use Rattle.sk_record.specs.Merged.{Merges};
@@ -7,6 +7,7 @@ ghost use Rattle.sk_record.specs.UndoState.{IsGrowing};
 ghost use Rattle.sk_store.specs.Changed.{FitsAt, changed};
 ghost use Rattle.sk_store.specs.Processes.{CanBecome, IsProcess, became};
 ghost use Rattle.sk_store.specs.declared.back.PutBack.TheVariants as PutBack;
+ghost use Rattle.sk_undo.specs.Count.{note_count};
 ghost use Rattle.sk_undo.specs.Log.{is_empty, seen, CanGoBack};
 ghost use Rattle.sk_undo.specs.Slot.{undone, Fits, is_bare, slot_of, slot_wrote, slot_back, CanGoBackOnce, goes_unnoted, is_stable_raw};
 
@@ -108,6 +109,14 @@ fn tags_in<'a>(value: &Option<Held>, log: &'a Log<Held>) -> &'a TagSet
     ensures { result.now ≡ last_tags [] (reverse (seen undone value.now (reverse log.now.notes.items))) }
 {
     log.tags()
+}
+
+/// How many notes there are.
+#[tactic(auto, using(crate::proofs::Counted::as_many_seen))]
+fn count(value: &Option<Held>, log: &Log<Held>) -> usize
+    ensures { result ≡ length (seen undone value.now (reverse log.now.notes.items)) }
+{
+    log.len()
 }
 
 impl Slot {
@@ -224,6 +233,13 @@ impl Slot {
         ensures { result.now ≡ last_tags [] (reverse self.now.log) }
     {
         tags_in(&self.value, &self.log)
+    }
+
+    /// How many notes there are.
+    pub fn notes(&self) -> usize
+        ensures { result ≡ note_count self.now }
+    {
+        count(&self.value, &self.log)
     }
 
     /// Whether there is neither a value nor a note.

@@ -1,5 +1,5 @@
 //! All entities with their undo logs, in one map.
-ghost use Rattle.std.specs.Prelude.{◌≡◌, [], false, not, OnOk, OnErr, IfOk, OnSome, Some, None, is_some};
+ghost use Rattle.std.specs.Prelude.{◌≡◌, [], false, not, min, ◌-◌, ◌^◌, OnOk, OnErr, IfOk, OnSome, Some, None, is_some};
 ghost use Rattle.std.specs.Option.{option_copied, option_copied_mut, unwrap_or};
 ghost use Rattle.std.specs.FinMap as map;
 ghost use Rattle.std.specs.List.Sorted.{IsStrictlySortedBy};
@@ -12,6 +12,7 @@ ghost use Rattle.sk_record.specs.Effects.{is_in};
 ghost use Rattle.sk_record.specs.Notes.{last_tags};
 ghost use Rattle.sk_store.specs.Changed.{FitsAt, changed};
 ghost use Rattle.sk_store.specs.Processes.{CanBecome, became};
+ghost use Rattle.sk_undo.specs.Count.{notes_in};
 ghost use Rattle.sk_undo.specs.Log.{is_empty};
 ghost use Rattle.sk_undo.specs.Slot.{slot_of, slot_wrote};
 ghost use Rattle.sk_undo.specs.Logs.{look_at, log_at, slot_in, slots_wrote, slots_back, CanTakeBack};
@@ -143,6 +144,17 @@ impl Slots {
         let mut all: Vec<Entity> = self.slots.keys().copied().collect(self.alloc)?;
         all.retain(|entity: &Entity| self.value(*entity).is_some());
         Ok(all)
+    }
+
+    /// How many notes there are, or the largest number where there are more. This takes no memory.
+    pub fn notes(&self) -> usize
+        ensures { result ≡ min (notes_in self.now) (2 ^ 64 - 1) }
+    {
+        let mut total = 0usize;
+        for slot in self.slots.values() {
+            total = total.saturating_add(slot.notes());
+        }
+        total
     }
 
     fn slot_mut(&mut self, entity: &Entity) -> Option<&mut Slot>

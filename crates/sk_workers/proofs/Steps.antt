@@ -1,5 +1,5 @@
 -- What no call of a desk changes.
-use Rattle.std.proofs.Common.{ℕ, ◌≡◌, Bool, true, false, cond, List, [], ◌∷◌, Option, Some, None, Result, Ok, Err, refl, sym, ap, ◌∙◌, subst}
+use Rattle.std.proofs.Common.{ℕ, ◌≡◌, inl, inr, length, Bool, true, false, cond, List, [], ◌∷◌, Option, Some, None, Result, Ok, Err, refl, sym, ap, ◌∙◌, subst}
 use Rattle.sk_plain.specs.declared.refusal.Refusal.{Refusal}
 use Rattle.sk_script.specs.declared.instruction.Input.{Input}
 use Rattle.sk_server.specs.declared.reply.Reply.{Reply}
@@ -15,14 +15,15 @@ use Rattle.sk_client.specs.declared.rule.Rule.TheVariants as rules
 use Rattle.sk_client.specs.declared.desk.Turn.{Turn}
 use Rattle.sk_client.specs.declared.desk.Given.{Given}
 use Rattle.sk_client.specs.declared.desk.ReplyRefusal.{ReplyRefusal}
-use Rattle.sk_client.specs.Desk.{DeskView, rule, turned, given, given_to, decided, answered, stepped, is_void, input_of, entry, first_taken}
+use Rattle.sk_client.specs.Desk.{DeskView, rule, turned, given, given_to, decided, answered, stepped, is_void, input_of, entry, first_taken, requests_taken}
 use Rattle.sk_client.specs.DeskCalls.{TurnPost, ByRule, ReplyPost}
 use Rattle.sk_client.specs.Leasing.{DeskTakesIn, DeskHandInPost}
 use Rattle.sk_workers.specs.declared.entry.Call.{Call}
 use Rattle.sk_workers.specs.declared.entry.Call.TheVariants as calls
 use Rattle.sk_workers.specs.declared.entry.Answered.{Answered}
 use Rattle.sk_workers.specs.declared.entry.Answered.TheVariants.{Turned, Replied, HandedIn}
-use Rattle.sk_workers.specs.History.{as_opened, Leases, HandsIn, Step, with_reply, without_reply, without_lease}
+use Rattle.sk_workers.specs.Views.{BookView, WorkerView}
+use Rattle.sk_workers.specs.History.{as_opened, Leases, HandsIn, Step, HandInAdds, TurnAdds, TakesAny, TurnTold, HandInTold, AnyTold, with_reply, without_reply, without_lease}
 
 -- the opening stays
 abbrev Keeps : DeskView → DeskView → Type 0
@@ -119,3 +120,24 @@ with_back d e reply (Err back) r post is = subst (λ (x : Result Given ReplyRefu
 pub back_leaves : (d e : DeskView) (reply : Reply) (answer : Result Given (Reply × ReplyRefusal)) (why : ReplyRefusal) → ReplyPost answer d reply e → without_reply answer ≡ Err why → e ≡ d
 back_leaves d e reply (Ok told) why post is = absurd (cc)
 back_leaves d e reply (Err back) why post is = post.2
+
+-- ---- receipts
+
+-- a turn that is entered has its receipt
+pub turn_told : (r : Result Turn Refusal) (b : BookView) (w : WorkerView) (pid : ℕ) (b' : BookView) (w' : WorkerView) → TurnAdds r b w pid b' w' → TurnTold r w pid w'
+turn_told r b w pid b' w' (inl none) = inl (none.0, none.2)
+turn_told r b w pid b' w' (inr adds) = inr (adds.0.1, length b.history, requests_taken b.desk, adds.2)
+
+hand_in_told : (done : Result (Unit {0}) (LeaseView × HandIn)) (b : BookView) (w : WorkerView) (l : LeaseView) (b' : BookView) (w' : WorkerView)
+    → HandInAdds done b w l b' w' → HandInTold (without_lease done) w l w'
+hand_in_told done b w l b' w' (inl none) = inl (none.0, none.2)
+hand_in_told done b w l b' w' (inr adds) = inr (adds.1.0.1, length b.history, requests_taken b.desk, adds.1.2)
+
+-- so has a lease that is handed in, where there is one
+pub any_told : (r : Option (Result (Unit {0}) HandIn)) (b : BookView) (w : WorkerView) (l : Option LeaseView) (b' : BookView) (w' : WorkerView)
+    → TakesAny r b w l b' w' → AnyTold r w l w'
+any_told None b w None b' w' takes = takes.1
+any_told (Some r) b w (Some l) b' w' takes =
+    subst (λ (x : Result (Unit {0}) HandIn). HandInTold x w l w') takes.1 (hand_in_told takes.0 b w l b' w' takes.2)
+any_told None b w (Some l) b' w' takes = absurd takes
+any_told (Some r) b w None b' w' takes = absurd takes

@@ -1,6 +1,8 @@
 -- Histories of a desk, and receipts for their entries.
-use Rattle.std.specs.Prelude.{◌≡◌, ◌≢◌, ◌⊎◌, ℕ, zero, suc, List, [], ◌∷◌, ◌++◌, length, Some, Result, Ok, Err, slice_get}
+use Rattle.std.specs.Prelude.{◌≡◌, ◌≢◌, ◌⊎◌, ℕ, zero, suc, List, [], ◌∷◌, ◌++◌, length, Option, Some, None, Result, Ok, Err, slice_get}
 use Rattle.sk_script.specs.Lease.{LeaseView, after_private}
+use Rattle.sk_plain.specs.Leased.{Lends}
+use Rattle.sk_plain.specs.declared.refusal.Refusal.{Refusal}
 use Rattle.sk_plain.specs.declared.refusal.Refusal.TheVariants as refusals
 use Rattle.sk_server.specs.declared.reply.Reply.{Reply}
 use Rattle.sk_client.specs.Desk.{DeskView, opened, first_taken, requests_taken}
@@ -8,7 +10,8 @@ use Rattle.sk_kernel.specs.HandIn.{IsAsLent}
 use Rattle.sk_kernel.specs.declared.hand_in.HandIn.{HandIn}
 use Rattle.sk_kernel.specs.declared.hand_in.HandIn.TheVariants as hand_ins
 use Rattle.sk_client.specs.DeskCalls.{TurnPost, ReplyPost}
-use Rattle.sk_client.specs.Leasing.{DeskTakesIn, DeskHandInPost}
+use Rattle.sk_client.specs.Leasing.{DeskTakesIn, DeskHandInPost, desk_lease}
+use Rattle.sk_client.specs.declared.desk.Turn.{Turn}
 use Rattle.sk_client.specs.declared.desk.Given.{Given}
 use Rattle.sk_client.specs.declared.desk.ReplyRefusal.{ReplyRefusal}
 use Rattle.sk_client.specs.declared.desk.ReplyRefusal.TheVariants.{Memory}
@@ -98,6 +101,22 @@ HandInAdds r b w l b' w' =
     ((without_lease r ≡ Err hand_ins.Memory) × (b' ≡ b) × (w' ≡ w))
     ⊎ (DeskHandInPost r l b.desk b'.desk × Adds b w (calls.HandIn l.lent.pid l.count) (HandedIn (without_lease r)) b' w')
 
+-- memory wants for a turn, and nothing has changed; or it is the history's next entry and the worker's next receipt
+abbrev pub TurnAdds : Result Turn Refusal → BookView → WorkerView → ℕ → BookView → WorkerView → Type 0
+TurnAdds r b w pid b' w' = ((r ≡ Err refusals.Memory) × (b' ≡ b) × (w' ≡ w)) ⊎ Adds b w (calls.Turn pid) (Turned r) b' w'
+
+-- a lease is handed in, where there is one, and given up where it is refused
+abbrev pub TakesAny : Option (Result (Unit {0}) HandIn) → BookView → WorkerView → Option LeaseView → BookView → WorkerView → Type 0
+TakesAny None b w None b' w' = (b' ≡ b) × (w' ≡ w)
+TakesAny (Some r) b w (Some l) b' w' = (done : Result (Unit {0}) (LeaseView × HandIn)) × (without_lease done ≡ r) × HandInAdds done b w l b' w'
+TakesAny r b w l b' w' = ⊥
+
+-- a process is lent, where one is asked for
+abbrev pub LendsAny : Option (Result LeaseView Refusal) → DeskView → Option ℕ → Type 0
+LendsAny None d None = Unit {0}
+LendsAny (Some r) d (Some pid) = Lends r (desk_lease d pid)
+LendsAny r d pid = ⊥
+
 -- want of memory is no answer
 abbrev pub IsAnswer : Answered → Type 0
 IsAnswer (Turned r) = r ≢ Err refusals.Memory
@@ -108,6 +127,24 @@ IsAnswer (HandedIn r) = r ≢ Err hand_ins.Memory
 abbrev pub Told : WorkerView → Call → Answered → WorkerView → Type 0
 Told w call answer w' =
     IsAnswer answer × (place : ℕ) × (taken : ℕ) × (w' ≡ record w { receipts = w.receipts ++ receipt place (entry w.number call answer taken) ∷ [] })
+
+-- memory wants for a turn, or it is answered, with a receipt
+abbrev pub TurnTold : Result Turn Refusal → WorkerView → ℕ → WorkerView → Type 0
+TurnTold r w pid w' = ((r ≡ Err refusals.Memory) × (w' ≡ w)) ⊎ Told w (calls.Turn pid) (Turned r) w'
+
+-- memory wants for a hand-in, or it is answered, with a receipt
+abbrev pub HandInTold : Result (Unit {0}) HandIn → WorkerView → LeaseView → WorkerView → Type 0
+HandInTold r w l w' = ((r ≡ Err hand_ins.Memory) × (w' ≡ w)) ⊎ Told w (calls.HandIn l.lent.pid l.count) (HandedIn r) w'
+
+-- so it is with a lease, where there is one
+abbrev pub AnyTold : Option (Result (Unit {0}) HandIn) → WorkerView → Option LeaseView → WorkerView → Type 0
+AnyTold None w None w' = w' ≡ w
+AnyTold (Some r) w (Some l) w' = HandInTold r w l w'
+AnyTold r w l w' = ⊥
+
+-- a process is lent, where one is asked for, as a desk with a legal history lends it
+abbrev pub IsLentAny : Option (Result LeaseView Refusal) → Option ℕ → Type 0
+IsLentAny r pid = (book : BookView) × IsLegal book.history book.desk × LendsAny r book.desk pid
 
 -- ---- workers
 

@@ -4,7 +4,8 @@ ghost use Rattle.sk_script.specs.Lease.{after_private};
 ghost use Rattle.sk_plain.specs.Leased.{Lends};
 ghost use Rattle.sk_client.specs.Desk.{opened, first_sent, first_taken};
 ghost use Rattle.sk_client.specs.Leasing.{desk_lease, DeskHandInPost};
-ghost use Rattle.sk_workers.specs.History.{Step, Adds, HandInAdds, AreFresh, IsLegal, receipt, without_reply, without_lease};
+ghost use Rattle.sk_workers.specs.History.{Step, Adds, TurnAdds, HandInAdds, TakesAny, LendsAny, AreFresh, IsLegal, receipt, without_reply, without_lease};
+ghost use Rattle.sk_workers.specs.Views.{BookView, WorkerView};
 
 use crate::entry::{Answered, Call, Entry, Receipt};
 use crate::worker::Worker;
@@ -17,6 +18,15 @@ use sk_server::{Reply, Request};
 use std::alloc::{AllocError, Global};
 use std::marker::Model;
 use std::sync::ledger::{self, Blank, Ledger, Share};
+
+/// What a turn with leases came to.
+pub struct Leased {
+    /// The answer to the hand-in before the turn, where there was one.
+    pub handed: Option<Result<(), HandIn>>,
+    pub answer: Result<Turn, Refusal>,
+    /// What was lent after it, where it was asked for.
+    pub lent: Option<Result<Lease, Refusal>>,
+}
 
 /// A desk, the history of the calls that workers made of it, and a ledger's count of them. It can't be dropped:
 /// `reopen` it.
@@ -81,7 +91,7 @@ impl<L: Ledger> Book<L> {
     /// The desk's turn of a process, for a worker. Where memory runs out, first of all for the entry and the receipt,
     /// the answer is `Memory` and nothing has changed; every other answer is entered.
     pub fn turn(&mut self, worker: Worker<L>, pid: Pid) -> (Worker<L>, Result<Turn, Refusal>)
-        ensures { ((result.1 ≡ Err Refusal.Memory) × (self.new ≡ self.old) × (result.0 ≡ worker)) ⊎ Adds self.old worker (Call.Turn pid) (Answered.Turned result.1) self.new result.0 }
+        ensures { TurnAdds result.1 self.old worker pid self.new result.0 }
     {
         let mut worker = worker;
         if make_room(&mut self.history, &mut worker.receipts).is_err() {
@@ -189,6 +199,57 @@ impl<L: Ledger> Book<L> {
             &entry,
         );
         (worker, done)
+    }
+
+    /// Takes in a lease, if there is one. A refused one is given up.
+    fn take_any(
+        &mut self,
+        worker: Worker<L>,
+        lease: Option<Lease>,
+    ) -> (Worker<L>, Option<Result<(), HandIn>>)
+        ensures { TakesAny result.1 self.old worker lease self.new result.0 }
+    {
+        let Some(lease) = lease else {
+            return (worker, None);
+        };
+        let (worker, done) = self.hand_in(worker, lease);
+        (worker, Some(given_up(done)))
+    }
+
+    /// Lends a process, if one is asked for.
+    fn lend_any(&self, pid: Option<Pid>) -> Option<Result<Lease, Refusal>>
+        ensures lent { LendsAny result self.now.desk pid }
+        ensures legal { IsLegal self.now.history self.now.desk }
+    {
+        let desk = &self.desk;
+        match pid {
+            Some(pid) => Some(desk.lease(pid)),
+            None => None,
+        }
+    }
+
+    /// `hand_in` of a lease, if there is one, which is given up where it is refused; then the `turn` of a process; then the
+    /// `lease` of the next, if there is one.
+    pub fn turn_with_leases(
+        &mut self,
+        worker: Worker<L>,
+        lease: Option<Lease>,
+        pid: Pid,
+        next: Option<Pid>,
+    ) -> (Worker<L>, Leased)
+        ensures calls { (b : BookView) × (v : WorkerView) × TakesAny result.1.handed self.old worker lease b v × TurnAdds result.1.answer b v pid self.new result.0 }
+        ensures lent { LendsAny result.1.lent self.new.desk next }
+        ensures legal { IsLegal self.new.history self.new.desk }
+    {
+        let (worker, handed) = self.take_any(worker, lease);
+        let (worker, answer) = self.turn(worker, pid);
+        let lent = self.lend_any(next);
+        let leased = Leased {
+            handed,
+            answer,
+            lent,
+        };
+        (worker, leased)
     }
 
     /// Takes the desk's oldest request that waits; `None` where none does. This takes no memory and makes no entry.
@@ -336,5 +397,18 @@ fn without_lease(done: &Result<(), (Lease, HandIn)>) -> Result<(), HandIn>
     match done {
         Ok(()) => Ok(()),
         Err((_lease, why)) => Err(*why),
+    }
+}
+
+/// The answer to a hand-in; a lease that comes back is given up.
+fn given_up(done: Result<(), (Lease, HandIn)>) -> Result<(), HandIn>
+    ensures { result ≡ without_lease done }
+{
+    match done {
+        Ok(()) => Ok(()),
+        Err((lease, why)) => {
+            lease.give_up();
+            Err(why)
+        }
     }
 }

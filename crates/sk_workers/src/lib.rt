@@ -9,7 +9,7 @@ pub mod entry;
 pub mod shared;
 pub mod worker;
 
-pub use book::Book;
+pub use book::{Book, Leased};
 pub use closing::History;
 pub use entry::{Answered, Call, CloseRefusal, Entry, Receipt};
 pub use shared::{Gate, Shared};

@@ -5,11 +5,11 @@ ghost use Rattle.sk_plain.specs.Leased.{Lends};
 ghost use Rattle.sk_client.specs.Desk.{first_number, opened};
 ghost use Rattle.sk_client.specs.Leasing.{desk_lease};
 ghost use Rattle.sk_workers.specs.declared.entry.Entry.{Entry};
-ghost use Rattle.sk_workers.specs.Views.{BookView};
-ghost use Rattle.sk_workers.specs.History.{AreFresh, IsLegal, Told, without_reply, without_lease};
+ghost use Rattle.sk_workers.specs.Views.{BookView, WorkerView};
+ghost use Rattle.sk_workers.specs.History.{AreFresh, IsLegal, Told, TurnTold, HandInTold, AnyTold, IsLentAny, without_reply, without_lease};
 ghost use Rattle.sk_workers.specs.Closing.{AreDistinct, IsClosed, Refuses, begins_turn};
 
-use crate::book::Book;
+use crate::book::{Book, Leased};
 use crate::closing::History;
 use crate::entry::{Answered, Call, CloseRefusal};
 use crate::worker::Worker;
@@ -20,9 +20,21 @@ use sk_plain::Refusal;
 use sk_script::Lease;
 use sk_server::{Reply, Request};
 use std::alloc::{AllocError, Global};
+use std::hint::spin_loop;
 use std::marker::Model;
+use std::sync::atomic::{AtomicBool, Ordering};
 use std::sync::ledger::{Blank, Ledger};
-use std::sync::{Mutex, Wait};
+use std::sync::{Mutex, MutexGuard, Wait};
+use std::thread::yield_now;
+
+/// How often a thread tries to take the lock before it waits asleep, which costs far more than a call under it.
+const TRIES: u32 = 400;
+
+/// After how many tries the thread lets others run first.
+const YIELDS: u32 = 100;
+
+/// How long a thread pauses between two tries.
+const PAUSES: u32 = 8;
 
 /// What a worker passes before its turn takes the lock.
 pub trait Gate {
@@ -36,6 +48,8 @@ pub struct Shared<L: Ledger> {
     book: Mutex<Book<L>>,
     opening: Opening,
     first: u64,
+    /// Whether a request may wait. It is set after a turn that made one, and cleared before one is looked for.
+    may_wait: AtomicBool,
 }
 
 impl<L: Ledger> Model for Shared<L> {
@@ -75,6 +89,7 @@ impl<L: Ledger> Shared<L> {
             book: Mutex::new(book),
             opening,
             first,
+            may_wait: AtomicBool::new(false),
         };
         Ok((shared, workers))
     }
@@ -87,11 +102,52 @@ impl<L: Ledger> Shared<L> {
         pid: Pid,
         gate: &G,
     ) -> (Worker<L>, Result<Turn, Refusal>)
-        ensures { ((result.1 ≡ Err Refusal.Memory) × (result.0 ≡ begins_turn worker)) ⊎ Told (begins_turn worker) (Call.Turn pid) (Answered.Turned result.1) result.0 }
+        ensures { TurnTold result.1 (begins_turn worker) pid result.0 }
     {
         let (number, turn, worker) = worker.begin_turn();
         gate.before(number, turn);
-        self.book.lock(rt).turn(worker, pid)
+        let (worker, answer) = self.hold(rt).turn(worker, pid);
+        self.note(&answer);
+        (worker, answer)
+    }
+
+    /// `hand_in` of a lease, if there is one, which is given up where it is refused; then the `turn` of a process; then the
+    /// `lease` of the next, if there is one: behind the gate, and with the lock held once.
+    pub fn turn_with_leases<R: Wait, G: Gate>(
+        &self,
+        rt: &R,
+        worker: Worker<L>,
+        lease: Option<Lease>,
+        pid: Pid,
+        next: Option<Pid>,
+        gate: &G,
+    ) -> (Worker<L>, Leased)
+        ensures calls { (v : WorkerView) × AnyTold result.1.handed (begins_turn worker) lease v × TurnTold result.1.answer v pid result.0 }
+        ensures lent { IsLentAny result.1.lent next }
+    {
+        let (number, turn, worker) = worker.begin_turn();
+        gate.before(number, turn);
+        let (worker, leased) = self.hold(rt).turn_with_leases(worker, lease, pid, next);
+        self.note(&leased.answer);
+        (worker, leased)
+    }
+
+    /// Takes the lock.
+    fn hold<R: Wait>(&self, rt: &R) -> MutexGuard<'_, Book<L>> {
+        for tries in 0..TRIES {
+            if let Some(book) = self.book.try_lock() {
+                return book;
+            }
+            pause(tries);
+        }
+        self.book.lock(rt)
+    }
+
+    /// Notes that a request may wait, after a turn that made one.
+    fn note(&self, answer: &Result<Turn, Refusal>) {
+        if matches!(answer, Ok(Turn::Guessed(_) | Turn::Asked(_))) {
+            self.may_wait.store(true, Ordering::SeqCst);
+        }
     }
 
     /// Gives the desk a reply, for a worker. Where memory runs out there is no receipt.
@@ -104,7 +160,7 @@ impl<L: Ledger> Shared<L> {
         ensures back { IfErr result.1 (λ back. back.0 ≡ reply) }
         ensures receipt { ((without_reply result.1 ≡ Err ReplyRefusal.Memory) × (result.0 ≡ worker)) ⊎ Told worker (Call.Reply reply) (Answered.Replied (without_reply result.1)) result.0 }
     {
-        self.book.lock(rt).reply(worker, reply)
+        self.hold(rt).reply(worker, reply)
     }
 
     /// Lends a process, for a worker. There is no receipt.
@@ -117,7 +173,7 @@ impl<L: Ledger> Shared<L> {
         ensures lease { (book : BookView) × IsLegal book.history book.desk × Lends result.1 (desk_lease book.desk pid) }
         ensures same { result.0 ≡ worker }
     {
-        self.book.lock(rt).lease(worker, pid)
+        self.hold(rt).lease(worker, pid)
     }
 
     /// Takes a lease in, for a worker; after a refusal it comes back. Where memory runs out there
@@ -129,15 +185,27 @@ impl<L: Ledger> Shared<L> {
         lease: Lease,
     ) -> (Worker<L>, Result<(), (Lease, HandIn)>)
         ensures back { IfErr result.1 (λ back. back.0 ≡ lease) }
-        ensures receipt { ((without_lease result.1 ≡ Err HandIn.Memory) × (result.0 ≡ worker))
-            ⊎ Told worker (Call.HandIn lease.lent.pid lease.count) (Answered.HandedIn (without_lease result.1)) result.0 }
+        ensures receipt { HandInTold (without_lease result.1) worker lease result.0 }
     {
-        self.book.lock(rt).hand_in(worker, lease)
+        self.hold(rt).hand_in(worker, lease)
     }
 
-    /// Takes the desk's oldest request that waits; `None` where none does. This takes no memory.
+    /// Whether a request may wait. It does not say that one does.
+    pub fn may_wait(&self) -> bool {
+        self.may_wait.load(Ordering::SeqCst)
+    }
+
+    /// Takes the desk's oldest request that waits; `None` where none does. This takes no memory, and the lock only
+    /// where one may wait.
     pub fn next_request<R: Wait>(&self, rt: &R) -> Option<Request> {
-        self.book.lock(rt).next_request()
+        if !self.may_wait.swap(false, Ordering::SeqCst) {
+            return None;
+        }
+        let request = self.hold(rt).next_request();
+        if request.is_some() {
+            self.may_wait.store(true, Ordering::SeqCst);
+        }
+        request
     }
 
     /// Ends the sharing, where `Book::close` does: one legal history has the calls of all workers. Else all come
@@ -156,6 +224,7 @@ impl<L: Ledger> Shared<L> {
             book,
             opening,
             first,
+            may_wait: _,
         } = self;
         match book.into_inner().close(workers, &opening, first) {
             Ok(history) => Ok(history),
@@ -164,6 +233,7 @@ impl<L: Ledger> Shared<L> {
                     book: Mutex::new(book),
                     opening,
                     first,
+                    may_wait: AtomicBool::new(true),
                 };
                 Err((shared, workers, refusal))
             }
@@ -178,7 +248,19 @@ impl<L: Ledger> Shared<L> {
             book,
             opening: _,
             first: _,
+            may_wait: _,
         } = self;
         book.into_inner().reopen()
+    }
+}
+
+/// Pauses before the next try; now and then the thread lets others run first.
+fn pause(tries: u32) {
+    if tries % YIELDS == YIELDS - 1 {
+        yield_now();
+        return;
+    }
+    for _ in 0..PAUSES {
+        spin_loop();
     }
 }

@@ -4,7 +4,7 @@ use rand_pcg::Pcg32;
 use sk_ids::{GuessId, Pid, Text};
 use sk_objects::Content;
 use sk_script::Input;
-use sk_trace::{Event, KeptInput, Trace};
+use sk_trace::{Event, InputRef, KeptInput, Trace};
 use sk_words::FaultKind::{Operand as Malformed, Word};
 use sk_words::{Cursor, Fault, FaultKind};
 use std::alloc::Global;
@@ -21,7 +21,7 @@ fn trace_text(rt: HostRuntime) -> Result<(), Fail> {
     let text = b"step 1 none\nstep 1 none\nguess 1 1 good\nstep 1 none\nstep 1 none\nfail 1\n";
     let pid = Pid::boot(1).ok_or("pid")?;
     let id = GuessId::new(1).ok_or("guess")?;
-    let input = KeptInput::keep(rt.alloc(), &Input::Good)?;
+    let input = KeptInput::keep(rt.alloc(), InputRef::Good)?;
     let want = [
         step_of(pid),
         step_of(pid),
@@ -158,7 +158,7 @@ fn happens(trace: &mut Trace, rng: &mut Pcg32) -> Result<(), Fail> {
     let kind = rng.next_u32() % 4;
     let id = guess(rng)?;
     let pid = process(rng)?;
-    let input = trace.keep(&input(rng)?)?;
+    let input = trace.keep(InputRef::of(&input(rng)?))?;
     trace.reserve(1)?;
     match kind {
         0 => trace.push(Event::Step { pid, input }),
@@ -202,7 +202,7 @@ fn long_trace(alloc: Global, pid: Pid, len: u32) -> Result<Trace, Fail> {
     let mut trace = Trace::new(alloc);
     for number in 0..len {
         let id = GuessId::new(u64::from(number / 3 + 1)).ok_or("guess")?;
-        let input = trace.keep(&Input::Good)?;
+        let input = trace.keep(InputRef::Good)?;
         trace.reserve(1)?;
         match number % 3 {
             0 => trace.push(Event::Guess { id, pid, input }),

@@ -6,8 +6,8 @@ ghost use Rattle.sk_client.specs.Desk.{opened};
 use sk_client::{Desk, Turn};
 use sk_ids::{Name, Pid};
 use sk_kernel::{HandIn, Kernel};
-use sk_script::{Boot, Script};
-use sk_workers::{Answered, Call, Gate, Shared, Worker};
+use sk_script::{Boot, Lease, Script};
+use sk_workers::{Answered, Call, Gate, Leased, Shared, Worker};
 use std::alloc::Global;
 use std::marker::Brand;
 use std::process::Abort;
@@ -181,5 +181,133 @@ fn lease_and_hand_in(rt: HostRuntime) -> Result<(), Fail> {
         let all = leased::<Brand, _>(&rt, alloc, blank, desk(alloc)?, &between);
         assert_eq!(rt; all, steps);
     }
+    Ok(())
+}
+
+/// A worker leases a process and runs its private instructions.
+fn runs<L: Ledger, R: Wait + Abort>(
+    rt: &R,
+    shared: &Shared<L>,
+    worker: Worker<L>,
+    pid: Pid,
+) -> (Worker<L>, Lease) {
+    let (worker, lent) = shared.lease(rt, worker, pid);
+    let Ok(mut lease) = lent else {
+        panic!(rt; "not lent");
+    };
+    lease.run(10);
+    assert_eq!(rt; lease.count(), 2);
+    (worker, lease)
+}
+
+/// Looks at what a turn with a lease before it came to, and at the lease that came back; it is of this process, with nothing
+/// done.
+fn looks_at<R: Abort>(rt: &R, leased: Leased, answer: Result<(), HandIn>, next: Option<Pid>) {
+    let Leased {
+        handed,
+        answer: turn,
+        lent,
+    } = leased;
+    assert_eq!(rt; turn, Ok(Turn::Stepped));
+    assert_eq!(rt; handed, Some(answer));
+    match (lent, next) {
+        (Some(Ok(lease)), Some(pid)) => {
+            let (lent, count) = (lease.lent().pid, lease.count());
+            lease.give_up();
+            assert_eq!(rt; (lent, count), (pid, 0));
+        }
+        (None, None) => {}
+        (Some(Ok(lease)), None) => {
+            lease.give_up();
+            panic!(rt; "lent unasked")
+        }
+        (Some(Err(_)) | None, _) => panic!(rt; "not lent"),
+    }
+}
+
+/// A turn with a lease that is taken in before it and one that is lent after it; then one whose lease is stale.
+fn turns_with_leases<L: Ledger, R: Wait + Abort>(
+    rt: &R,
+    shared: &Shared<L>,
+    worker: Worker<L>,
+    sets: Pid,
+    kills: Pid,
+) -> Worker<L> {
+    let (worker, lease) = runs(rt, shared, worker, sets);
+    let (worker, leased) = shared.turn_with_leases(
+        rt,
+        worker,
+        Some(lease),
+        sets,
+        Some(kills),
+        &Open,
+    );
+    looks_at(rt, leased, Ok(()), Some(kills));
+    let (worker, lease) = runs(rt, shared, worker, kills);
+    let worker = steps(rt, shared, worker, kills, 1);
+    let (worker, leased) = shared.turn_with_leases(rt, worker, Some(lease), kills, None, &Open);
+    looks_at(rt, leased, Err(HandIn::Stale), None);
+    worker
+}
+
+/// Looks at the receipts of these turns.
+fn looks_back<L: Ledger>(rt: &impl Abort, worker: &Worker<L>, sets: Pid, kills: Pid) {
+    let calls = [
+        Call::HandIn {
+            process: sets,
+            count: 2,
+        },
+        Call::Turn(sets),
+        Call::Turn(kills),
+        Call::HandIn {
+            process: kills,
+            count: 2,
+        },
+        Call::Turn(kills),
+    ];
+    assert_eq!(rt; worker.receipts().len(), calls.len());
+    for (receipt, call) in worker.receipts().iter().zip(calls.iter()) {
+        assert_eq!(rt; receipt.entry.call, *call);
+    }
+}
+
+/// One worker's turns with leases on a desk of its own: how many steps the trace has in the end.
+fn turned<L: Ledger, R: Wait + Abort>(
+    rt: &R,
+    alloc: Global,
+    blank: Blank,
+    desk: Desk,
+    sets: Pid,
+    kills: Pid,
+) -> usize
+    requires ledger { (blank.name ≡ L.name) × (blank.parts ≡ L.parts) × (L.parts ≡ 1) }
+    requires opened { desk ≡ opened desk.kernel }
+    requires trace { desk.kernel.trace ≡ [] }
+{
+    let (shared, mut workers) = match Shared::<L>::new(alloc, blank, desk, 1) {
+        Ok(made) => made,
+        Err((_blank, desk, _error)) => {
+            desk.abandon();
+            panic!(rt; "out of memory")
+        }
+    };
+    let Some(worker) = workers.pop() else {
+        unreachable!()
+    };
+    let worker = turns_with_leases(rt, &shared, worker, sets, kills);
+    looks_back(rt, &worker, sets, kills);
+    let desk = shared.reopen();
+    let steps = desk.kernel().trace().events().len();
+    desk.abandon();
+    steps
+}
+
+#[test]
+fn turn_between_leases(rt: HostRuntime) -> Result<(), Fail> {
+    let alloc = rt.alloc();
+    let sets = Pid::boot(1).ok_or("pid")?;
+    let kills = Pid::boot(2).ok_or("pid")?;
+    let all = turned::<Brand, _>(&rt, alloc, Blank::new(1), desk(alloc)?, sets, kills);
+    assert_eq!(rt; all, 5);
     Ok(())
 }

@@ -1,6 +1,8 @@
 -- The turn is of the process at the worker's place, and what it carries are replies.
-use Rattle.std.proofs.Common.{◌∙◌, sym, subst}
-use Rattle.sk_crew.proofs.Duties.{IsAt, goes_on_at, ahead_number, replies_keep, round_keeps}
+use Rattle.std.proofs.Common.{rules, ap, ◌∙◌, sym, subst}
+use Rattle.sk_workers.specs.Views.{WorkerView}
+use Rattle.sk_crew.specs.Duties.{KeepsTo}
+use Rattle.sk_crew.proofs.Duties.{IsAt, goes_on_at, turn_number, replies_keep, round_keeps}
 use Rattle.sk_crew.proofs.working.lead.Goals as goal
 
 pub loop-preserved : goal.loop-preserved
@@ -10,11 +12,21 @@ loop-preserved g c =
     let before = c.loop.invariant in
     let carrier = c.carry-back.result.1 in
     let carried = c.carry-back.ensures.number ∙ before.number in
+    let turn = c.go_on-back in
     record {
-      number = c.take_turn-back.ensures.number ∙ ahead_number c.args.plan.ahead carrier c.run_ahead-ready.result c.run_ahead-ready.ensures ∙ carried;
-      at = subst (IsAt n number) (sym c.take_turn-back.ensures.rounds) (goes_on_at n number _ c.loop.rounds before.at);
+      number = turn_number c.args.plan.ahead turn.result.1 carrier c.in-Some.pid turn.result.0 turn.ensures.told ∙ carried;
+      at = subst (IsAt n number) (sym turn.ensures.rounds) (goes_on_at n number _ c.loop.rounds before.at);
+      fresh = turn.ensures.lent;
       duties = λ first keeps.
-          round_keeps _ n c.args.processes.now number c.args.plan.ahead c.in-Some.pid c.loop.rounds carrier c.run_ahead-ready.result c.take_turn-back.result.0
-          carried before.at (sym c.due.ensures ∙ c.in-Some.is) c.run_ahead-ready.ensures c.take_turn-back.ensures.told
+          round_keeps n c.args.processes.now number c.args.plan.ahead c.in-Some.pid c.loop.rounds turn.result.1 carrier turn.result.0
+          carried before.at (sym c.due.ensures ∙ c.in-Some.is) turn.ensures.told
           (replies_keep n c.args.processes.now c.loop.worker carrier c.carry-back.ensures.number (before.number ∙ first) c.carry-back.ensures.replies (before.duties first keeps));
     }
+
+pub loop-init : goal.loop-init
+loop-init g c = record {
+  number = ap (λ (w : WorkerView). w.number) c.lease-worker.ensures.same;
+  at = search (rules, c.new-rounds.ensures, c.number.ensures);
+  fresh = c.lease-worker.ensures.fresh;
+  duties = λ first keeps. subst (KeepsTo c.args.plan.workers c.args.processes.now) (sym c.lease-worker.ensures.same) keeps;
+}

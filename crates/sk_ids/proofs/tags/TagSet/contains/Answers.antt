@@ -1,13 +1,13 @@
--- The search tells whether the guess is there.
-use Rattle.std.proofs.Common.{◌∙◌, ap, subst}
-use Rattle.std.specs.Ordering.{nat_cmp}
-use Rattle.std.specs.List.Sorted.{IsBinarySearchResult}
+-- A guess that has a place is there.
+use Rattle.std.proofs.Common.{◌≡◌, ◌<◌, ℕ, false, Some, None, List, length, refl, sym, ◌∙◌}
+use Rattle.std.specs.Prelude.{Option, IfSome, get_or, is_some}
+use Rattle.sk_ids.proofs.Searches.{found}
 use Rattle.sk_record.specs.Notes.{has}
-use Rattle.sk_ids.proofs.Searches.{tells}
 use Rattle.sk_ids.proofs.tags.TagSet.contains.Goals as goal
 
-pub returns-then-reaches : goal.returns-then-reaches
-returns-then-reaches c =
-    let xs = c.self.inside.ids.items in
-    let there = subst (λ ys. IsBinarySearchResult (λ y. nat_cmp y c.args.id) ys c.binary_search.result) c.as_slice.ensures c.binary_search.ensures.position in
-    c.is_ok.ensures.value ∙ tells c.args.id xs c.self.invariant c.binary_search.result there ∙ ap (has c.args.id) c.self.view_is
+placed : (g : ℕ) (xs : List ℕ) (r : Option ℕ) → IfSome r (λ i. (i < length xs) × (get_or xs i 0 ≡ g)) → (r ≡ None → has g xs ≡ false) → is_some r ≡ has g xs
+placed g xs (Some i) at none = sym (found g xs i at.0 at.1)
+placed g xs None at none = sym (none refl)
+
+pub returns : goal.returns
+returns c = c.is_some.ensures ∙ placed c.args.id c.args.self.now c.place_of.result c.place_of.ensures.there c.place_of.ensures.none

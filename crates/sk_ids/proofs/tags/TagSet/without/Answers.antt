@@ -1,33 +1,25 @@
 -- The guess is taken out at its place, and the list rises still.
-use Rattle.std.proofs.Common.{◌≡◌, false, sym, ◌∙◌, ap, subst}
-use Rattle.std.specs.Prelude.{Ok, eqb, not, is_ok}
+use Rattle.std.proofs.Common.{◌≡◌, refl, sym, ◌∙◌, ap, subst}
+use Rattle.std.specs.Prelude.{eqb, not}
 use Rattle.std.specs.Ordering.{nat_cmp}
-use Rattle.std.specs.List.Sorted.{IsStrictlySortedBy, IsBinarySearchResult}
+use Rattle.std.specs.List.{remove}
+use Rattle.std.specs.List.Sorted.{IsStrictlySortedBy}
 use Rattle.std.proofs.lemmas.List.Kept.{IsStrictlySortedBy-filter}
-use Rattle.sk_record.specs.Notes.{has, without}
+use Rattle.sk_record.specs.Notes.{without}
 use Rattle.sk_ids.proofs.Newest.{without_none}
-use Rattle.sk_ids.proofs.Searches.{tells, taken_at}
+use Rattle.sk_ids.proofs.Searches.{taken_at}
 use Rattle.sk_ids.proofs.tags.TagSet.without.Goals as goal
-
-pub returns-then-not-reaches : goal.returns-then-not-reaches
-returns-then-not-reaches c = sym (without_none c.args.id c.args.self.now (c.reaches.ensures c.if-not-reaches.true))
 
 pub invariant_of-self : goal.invariant_of-self
 invariant_of-self c =
-    let xs = c.self.inside.ids.items in
-    let there = subst (λ ys. IsBinarySearchResult (λ y. nat_cmp y c.args.id) ys (Ok c.in-Ok.place)) c.as_slice.ensures c.in-Ok.ensures.position in
-    let left = c.remove.ensures.items ∙ taken_at c.args.id xs c.self.invariant c.in-Ok.place there in
-    subst (IsStrictlySortedBy nat_cmp) (sym left) (IsStrictlySortedBy-filter nat_cmp (λ y. not (eqb y c.args.id)) xs c.self.invariant)
+    let rises = subst (IsStrictlySortedBy nat_cmp) c.self.view_is c.self.invariant in
+    let left : c.remove.new.self ≡ without c.args.id c.args.self.now = c.remove.ensures ∙ ap (λ xs. remove xs c.in-Some.place) c.self.view_is ∙ taken_at c.args.id c.args.self.now rises c.in-Some.place c.in-Some.ensures.there.0 c.in-Some.ensures.there.1 in
+    subst (IsStrictlySortedBy nat_cmp) (sym left) (IsStrictlySortedBy-filter nat_cmp (λ y. not (eqb y c.args.id)) c.args.self.now rises)
 
-pub returns-in-Ok : goal.returns-in-Ok
-returns-in-Ok c =
-    let xs = c.self.inside.ids.items in
-    let there = subst (λ ys. IsBinarySearchResult (λ y. nat_cmp y c.args.id) ys (Ok c.in-Ok.place)) c.as_slice.ensures c.in-Ok.ensures.position in
-    c.remove.ensures.items ∙ taken_at c.args.id xs c.self.invariant c.in-Ok.place there ∙ ap (without c.args.id) c.self.view_is
+pub returns-in-Some : goal.returns-in-Some
+returns-in-Some c =
+    let rises = subst (IsStrictlySortedBy nat_cmp) c.self.view_is c.self.invariant in
+    c.remove.ensures ∙ ap (λ xs. remove xs c.in-Some.place) c.self.view_is ∙ taken_at c.args.id c.args.self.now rises c.in-Some.place c.in-Some.ensures.there.0 c.in-Some.ensures.there.1
 
 pub returns-in_default : goal.returns-in_default
-returns-in_default c =
-    let xs = c.self.inside.ids.items in
-    let there = subst (λ ys. IsBinarySearchResult (λ y. nat_cmp y c.args.id) ys c.binary_search.result) c.as_slice.ensures c.binary_search.ensures.position in
-    let told : false ≡ has c.args.id xs = sym (ap is_ok c.in_default.is) ∙ tells c.args.id xs c.self.invariant c.binary_search.result there in
-    sym (without_none c.args.id c.args.self.now (ap (has c.args.id) (sym c.self.view_is) ∙ sym told))
+returns-in_default c = sym (without_none c.args.id c.args.self.now (c.in_default.ensures.none refl))

@@ -1,6 +1,7 @@
 -- The plan's entities are those of the effect that the plain kernel has there.
 use Rattle.std.proofs.Common.{◌≡◌, None, Ok, Err, sym, ◌∙◌, ap, subst}
 use Rattle.sk_trace.specs.Entry.{EntryView}
+use Rattle.sk_trace.specs.Kept.{input_in}
 use Rattle.sk_undo.specs.Logs.{look_at}
 use Rattle.sk_plain.specs.Planned.{read_by}
 use Rattle.sk_plain.specs.Seen.{seen_with}
@@ -14,7 +15,7 @@ use Rattle.sk_kernel.proofs.kernel.Kernel.footprint.Goals as goal
 
 pub returns-in-Ok : goal.returns-in-Ok
 returns-in-Ok c =
-    let n : EntryView = record { pid = c.args.pid; input = c.args.input.now; guess = None } in
+    let n : EntryView = record { pid = c.args.pid; input = input_in c.args.input; guess = None } in
     let look = look_at c.self.inside.machine.slots in
     let scripts = c.self.inside.opening.start.scripts in
     let plan = seen_with look scripts n.pid n.input c.in-Ok.plan in
@@ -26,6 +27,6 @@ returns-in-Ok c =
 
 pub returns-in-Err : goal.returns-in-Err
 returns-in-Err c =
-    let n : EntryView = record { pid = c.args.pid; input = c.args.input.now; guess = None } in
+    let n : EntryView = record { pid = c.args.pid; input = input_in c.args.input; guess = None } in
     let same = same_effect (the_view c.self.inside) c.self.inside.machine c.self.invariant.0.stands n in
     subst (λ (k : KernelView). Err c.in-Err.why ≡ footprint_of (effect_at k n)) c.self.view_is (sym (ap footprint_of (sym same ∙ c.in-Err.ensures.plans)))

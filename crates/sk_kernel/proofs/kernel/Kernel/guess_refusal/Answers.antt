@@ -1,6 +1,7 @@
 -- The plan tells why the plain kernel refuses the guess's step, and the guesses whether one can be drawn.
 use Rattle.std.proofs.Common.{◌≡◌, true, false, Some, None, refl, sym, ◌∙◌, subst}
 use Rattle.sk_trace.specs.Entry.{EntryView}
+use Rattle.sk_trace.specs.Kept.{input_in}
 use Rattle.sk_plain.specs.declared.refusal.Refusal.TheVariants.{TooMany}
 use Rattle.sk_kernel.specs.Kernel.{KernelView, effect_at, or_else, guess_misfits, too_many, next_guess}
 use Rattle.sk_kernel.specs.contracts.kernel.Kernel.{the_view}
@@ -9,18 +10,18 @@ use Rattle.sk_kernel.proofs.kernel.Kernel.guess_refusal.Goals as goal
 
 pub returns-in-Err-clause-exact : goal.returns-in-Err-clause-exact
 returns-in-Err-clause-exact c =
-    let n : EntryView = record { pid = c.args.pid; input = c.args.input.now; guess = Some (next_guess c.args.self.now) } in
+    let n : EntryView = record { pid = c.args.pid; input = input_in c.args.input; guess = Some (next_guess c.args.self.now) } in
     subst (λ (k : KernelView). Some c.in-Err.why ≡ or_else (guess_misfits n.input (effect_at k n)) (too_many k)) c.self.view_is
     (sym (guess_why (the_view c.self.inside) c.self.inside.machine c.self.inside.trace.room c.self.invariant.0 n (Some c.in-Err.why) c.in-Err.ensures.0 _ refl))
 
 pub returns-then-is_full-clause-exact : goal.returns-then-is_full-clause-exact
 returns-then-is_full-clause-exact c =
-    let n : EntryView = record { pid = c.args.pid; input = c.args.input.now; guess = Some (next_guess c.args.self.now) } in
+    let n : EntryView = record { pid = c.args.pid; input = input_in c.args.input; guess = Some (next_guess c.args.self.now) } in
     subst (λ (k : KernelView). Some TooMany ≡ or_else (guess_misfits n.input (effect_at k n)) (too_many k)) c.self.view_is
     (sym (guess_why (the_view c.self.inside) c.self.inside.machine c.self.inside.trace.room c.self.invariant.0 n None c.in_default.ensures.1 true (sym c.is_full.ensures ∙ c.if-is_full.true)))
 
 pub returns-clause-exact : goal.returns-clause-exact
 returns-clause-exact c =
-    let n : EntryView = record { pid = c.args.pid; input = c.args.input.now; guess = Some (next_guess c.args.self.now) } in
+    let n : EntryView = record { pid = c.args.pid; input = input_in c.args.input; guess = Some (next_guess c.args.self.now) } in
     subst (λ (k : KernelView). None ≡ or_else (guess_misfits n.input (effect_at k n)) (too_many k)) c.self.view_is
     (sym (guess_why (the_view c.self.inside) c.self.inside.machine c.self.inside.trace.room c.self.invariant.0 n None c.in_default.ensures.1 false (sym c.is_full.ensures ∙ c.if-is_full.false)))

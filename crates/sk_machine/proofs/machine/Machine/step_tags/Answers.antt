@@ -4,6 +4,7 @@ use Rattle.sk_record.specs.Notes.{has}
 use Rattle.sk_plain.specs.Seen.{seen_with, written_in}
 use Rattle.sk_plain.proofs.Plans.{written_is}
 use Rattle.sk_undo.specs.Logs.{look_at}
+use Rattle.sk_trace.specs.Kept.{input_in}
 use Rattle.sk_trace.specs.Entry.{EntryView}
 use Rattle.sk_machine.specs.Dependents.{tags_in}
 use Rattle.sk_machine.specs.Parts.{any_rests}
@@ -15,7 +16,7 @@ use Rattle.sk_machine.proofs.machine.Machine.step_tags.Goals as goal
 pub returns-clause-exact : goal.returns-clause-exact
 returns-clause-exact c =
     let m = c.args.self.now in
-    let n : EntryView = record { pid = c.args.pid; input = c.args.input.now; guess = c.args.own.now } in
+    let n : EntryView = record { pid = c.args.pid; input = (input_in c.args.input); guess = c.args.own.now } in
     let scripts = c.args.scripts.now in
     let plan = seen_with (look_at m.slots) scripts n.pid n.input c.args.plan.now in
     let read = c.as_slice.ensures.value ∙ c.reads.ensures in

@@ -9,6 +9,7 @@ use Rattle.sk_guesses.specs.EntitySet.{with_entities}
 use Rattle.sk_guesses.specs.Guesses.{drawn, next_of}
 use Rattle.sk_guesses.specs.Opens.{OpenGuess, opens_of}
 use Rattle.sk_ids.specs.declared.entity.Entity.{Entity}
+use Rattle.sk_trace.specs.Kept.{input_in}
 use Rattle.sk_trace.specs.Entry.{EntryView}
 use Rattle.sk_undo.specs.Logs.{look_at}
 use Rattle.sk_plain.specs.Act.{act, plain}
@@ -32,9 +33,9 @@ depend_all-requires-clause-covers c =
 
 pub perform_guess-performed-requires-clause-clean : goal.perform_guess-performed-requires-clause-clean
 perform_guess-performed-requires-clause-clean c =
-    let n : EntryView = record { pid = c.args.pid; input = c.args.input.now; guess = Some c.in-Some.id } in
-    subst (λ (m : Parts). IsClean m.slots c.in_ok-tags.tags (entities_of (writes_of (look_at m.slots) c.args.pid (seen_with (look_at m.slots) c.args.scripts.now c.args.pid c.args.input.now c.args.plan.now)))) (sym c.self.view_is)
-    (clean_of c.args.self.now n (seen_with (look_at c.args.self.now.slots) c.args.scripts.now c.args.pid c.args.input.now c.args.plan.now) c.in_ok-tags.tags c.requires.tidy c.in_ok-tags.ensures.exact)
+    let n : EntryView = record { pid = c.args.pid; input = (input_in c.args.input); guess = Some c.in-Some.id } in
+    subst (λ (m : Parts). IsClean m.slots c.in_ok-tags.tags (entities_of (writes_of (look_at m.slots) c.args.pid (seen_with (look_at m.slots) c.args.scripts.now c.args.pid (input_in c.args.input) c.args.plan.now)))) (sym c.self.view_is)
+    (clean_of c.args.self.now n (seen_with (look_at c.args.self.now.slots) c.args.scripts.now c.args.pid (input_in c.args.input) c.args.plan.now) c.in_ok-tags.tags c.requires.tidy c.in_ok-tags.ensures.exact)
 
 pub relieve_all-requires-clause-almost : goal.relieve_all-requires-clause-almost
 relieve_all-requires-clause-almost c =
@@ -48,14 +49,14 @@ pub invariant_of-self-2 : goal.invariant_of-self-2
 invariant_of-self-2 c =
     let m = c.self.inside.logs.slots in
     let id = c.in-Some.id in
-    let n : EntryView = record { pid = c.args.pid; input = c.args.input.now; guess = Some id } in
-    let plan = seen_with (look_at m) c.args.scripts.now c.args.pid c.args.input.now c.args.plan.now in
+    let n : EntryView = record { pid = c.args.pid; input = (input_in c.args.input); guess = Some id } in
+    let plan = seen_with (look_at m) c.args.scripts.now c.args.pid (input_in c.args.input) c.args.plan.now in
     let ws = writes_of (look_at m) c.args.pid plan in
     let es = c.as_slice-entities.result.now in
     let written : es ≡ entities_of ws = c.as_slice-entities.ensures.value ∙ c.writes-written.ensures
-    ∙ sym (written_is (look_at m) c.args.scripts.now c.args.pid c.args.input.now c.args.plan.now) ∙ sym (changed_are (look_at m) c.args.pid plan) in
-    let clean = subst (λ (p : Parts). IsClean p.slots c.in_ok-tags.tags (entities_of (writes_of (look_at p.slots) c.args.pid (seen_with (look_at p.slots) c.args.scripts.now c.args.pid c.args.input.now c.args.plan.now)))) (sym c.self.view_is)
-    (clean_of c.args.self.now n (seen_with (look_at c.args.self.now.slots) c.args.scripts.now c.args.pid c.args.input.now c.args.plan.now) c.in_ok-tags.tags c.requires.tidy c.in_ok-tags.ensures.exact) in
+    ∙ sym (written_is (look_at m) c.args.scripts.now c.args.pid (input_in c.args.input) c.args.plan.now) ∙ sym (changed_are (look_at m) c.args.pid plan) in
+    let clean = subst (λ (p : Parts). IsClean p.slots c.in_ok-tags.tags (entities_of (writes_of (look_at p.slots) c.args.pid (seen_with (look_at p.slots) c.args.scripts.now c.args.pid (input_in c.args.input) c.args.plan.now)))) (sym c.self.view_is)
+    (clean_of c.args.self.now n (seen_with (look_at c.args.self.now.slots) c.args.scripts.now c.args.pid (input_in c.args.input) c.args.plan.now) c.in_ok-tags.tags c.requires.tidy c.in_ok-tags.ensures.exact) in
     let did = from_ok c.perform_guess-performed.result c.if-is_err.ensures.value c.perform_guess-performed.ensures.writes in
     let view = c.perform_guess-performed.ensures.view ∙ c.depend_all.ensures.view in
     let next : next_of c.perform_guess-performed.new.guesses.view ≡ id = ap next_of view ∙ sym c.in-Some.ensures.value in
@@ -91,7 +92,7 @@ returns-clause-ok c =
     let scripts = c.args.scripts.now in
     let plan = c.args.plan.now in
     let id = c.in-Some.id in
-    let n : EntryView = record { pid = c.args.pid; input = c.args.input.now; guess = Some id } in
+    let n : EntryView = record { pid = c.args.pid; input = (input_in c.args.input); guess = Some id } in
     let a : Parts = record { slots = c.self.inside.logs.slots; opens = opens_of c.self.inside.guesses.opens; guesses = c.self.inside.guesses.view; texts = c.self.inside.terminals } in
     let b : Parts = record { slots = c.perform_guess-performed.new.logs.slots; opens = opens_of c.draw.new.self.opens; guesses = c.draw.new.self.view; texts = c.perform_guess-performed.new.terminals } in
     let accepted = subst (λ (p : Parts). perform (look_at p.slots) (act scripts n.pid n.input) ≡ Ok (effect_of (look_at p.slots) n.pid n.input (seen_with (look_at p.slots) scripts n.pid n.input plan))) (sym c.self.view_is) c.requires.accepted in
@@ -108,6 +109,6 @@ returns-clause-ok c =
 
 pub perform_guess-performed-requires-clause-apart : goal.perform_guess-performed-requires-clause-apart
 perform_guess-performed-requires-clause-apart c =
-    let planned = λ (m : Parts). seen_with (look_at m.slots) c.args.scripts.now c.args.pid c.args.input.now c.args.plan.now in
+    let planned = λ (m : Parts). seen_with (look_at m.slots) c.args.scripts.now c.args.pid (input_in c.args.input) c.args.plan.now in
     subst (λ (m : Parts). AreApart (entities_of (writes_of (look_at m.slots) c.args.pid (planned m)))) (sym c.self.view_is)
     (apart_of (look_at c.args.self.now.slots) c.args.pid (planned c.args.self.now) c.requires.beside)

@@ -7,6 +7,7 @@ use Rattle.sk_record.specs.Merged.{MergedTakes}
 use Rattle.sk_ids.specs.declared.entity.Entity.{Entity}
 use Rattle.sk_guesses.specs.Guesses.{status_of}
 use Rattle.sk_guesses.specs.Opens.{opens_of}
+use Rattle.sk_trace.specs.Kept.{input_in}
 use Rattle.sk_trace.specs.Entry.{EntryView}
 use Rattle.sk_undo.specs.Logs.{look_at}
 use Rattle.sk_plain.specs.Act.{act, plain}
@@ -30,9 +31,9 @@ depend_all-requires-clause-covers c =
 
 pub perform-requires-clause-clean : goal.perform-requires-clause-clean
 perform-requires-clause-clean c =
-    let n : EntryView = record { pid = c.args.pid; input = c.args.input.now; guess = None } in
-    subst (λ (m : Parts). IsClean m.slots c.in_ok-tags.tags (entities_of (writes_of (look_at m.slots) c.args.pid (seen_with (look_at m.slots) c.args.scripts.now c.args.pid c.args.input.now c.args.plan.now)))) (sym c.self.view_is)
-    (clean_of c.args.self.now n (seen_with (look_at c.args.self.now.slots) c.args.scripts.now c.args.pid c.args.input.now c.args.plan.now) c.in_ok-tags.tags c.requires.tidy c.in_ok-tags.ensures.exact)
+    let n : EntryView = record { pid = c.args.pid; input = (input_in c.args.input); guess = None } in
+    subst (λ (m : Parts). IsClean m.slots c.in_ok-tags.tags (entities_of (writes_of (look_at m.slots) c.args.pid (seen_with (look_at m.slots) c.args.scripts.now c.args.pid (input_in c.args.input) c.args.plan.now)))) (sym c.self.view_is)
+    (clean_of c.args.self.now n (seen_with (look_at c.args.self.now.slots) c.args.scripts.now c.args.pid (input_in c.args.input) c.args.plan.now) c.in_ok-tags.tags c.requires.tidy c.in_ok-tags.ensures.exact)
 
 pub relieve_all-requires-clause-almost : goal.relieve_all-requires-clause-almost
 relieve_all-requires-clause-almost c =
@@ -44,13 +45,13 @@ relieve_all-requires-clause-almost c =
 pub invariant_of-self-else-is_err : goal.invariant_of-self-else-is_err
 invariant_of-self-else-is_err c =
     let m = c.self.inside.logs.slots in
-    let n : EntryView = record { pid = c.args.pid; input = c.args.input.now; guess = None } in
-    let plan = seen_with (look_at m) c.args.scripts.now c.args.pid c.args.input.now c.args.plan.now in
+    let n : EntryView = record { pid = c.args.pid; input = (input_in c.args.input); guess = None } in
+    let plan = seen_with (look_at m) c.args.scripts.now c.args.pid (input_in c.args.input) c.args.plan.now in
     let ws = writes_of (look_at m) c.args.pid plan in
     let written : c.as_slice-entities.result.now ≡ entities_of ws = c.as_slice-entities.ensures.value ∙ c.writes-written.ensures
-    ∙ sym (written_is (look_at m) c.args.scripts.now c.args.pid c.args.input.now c.args.plan.now) ∙ sym (changed_are (look_at m) c.args.pid plan) in
-    let clean = subst (λ (p : Parts). IsClean p.slots c.in_ok-tags.tags (entities_of (writes_of (look_at p.slots) c.args.pid (seen_with (look_at p.slots) c.args.scripts.now c.args.pid c.args.input.now c.args.plan.now)))) (sym c.self.view_is)
-    (clean_of c.args.self.now n (seen_with (look_at c.args.self.now.slots) c.args.scripts.now c.args.pid c.args.input.now c.args.plan.now) c.in_ok-tags.tags c.requires.tidy c.in_ok-tags.ensures.exact) in
+    ∙ sym (written_is (look_at m) c.args.scripts.now c.args.pid (input_in c.args.input) c.args.plan.now) ∙ sym (changed_are (look_at m) c.args.pid plan) in
+    let clean = subst (λ (p : Parts). IsClean p.slots c.in_ok-tags.tags (entities_of (writes_of (look_at p.slots) c.args.pid (seen_with (look_at p.slots) c.args.scripts.now c.args.pid (input_in c.args.input) c.args.plan.now)))) (sym c.self.view_is)
+    (clean_of c.args.self.now n (seen_with (look_at c.args.self.now.slots) c.args.scripts.now c.args.pid (input_in c.args.input) c.args.plan.now) c.in_ok-tags.tags c.requires.tidy c.in_ok-tags.ensures.exact) in
     let did = from_ok c.perform.result c.if-is_err.ensures.value c.perform.ensures.writes in
     (performed_exact m c.perform.new.logs.slots c.in_ok-tags.tags c.as_slice-entities.result.now ws written clean did c.depend_all.new.guesses.opens c.in_ok-depend_all.ensures.ok, c.self.invariant.1)
 
@@ -74,7 +75,7 @@ pub returns-clause-ok : goal.returns-clause-ok
 returns-clause-ok c =
     let scripts = c.args.scripts.now in
     let plan = c.args.plan.now in
-    let n : EntryView = record { pid = c.args.pid; input = c.args.input.now; guess = None } in
+    let n : EntryView = record { pid = c.args.pid; input = (input_in c.args.input); guess = None } in
     let a : Parts = record { slots = c.self.inside.logs.slots; opens = opens_of c.self.inside.guesses.opens; guesses = c.self.inside.guesses.view; texts = c.self.inside.terminals } in
     let b : Parts = record { slots = c.perform.new.logs.slots; opens = opens_of c.depend_all.new.guesses.opens; guesses = c.depend_all.new.guesses.view; texts = c.perform.new.terminals } in
     let accepted = subst (λ (p : Parts). perform (look_at p.slots) (act scripts n.pid n.input) ≡ Ok (effect_of (look_at p.slots) n.pid n.input (seen_with (look_at p.slots) scripts n.pid n.input plan))) (sym c.self.view_is) c.requires.accepted in
@@ -86,6 +87,6 @@ returns-clause-ok c =
 
 pub perform-requires-clause-apart : goal.perform-requires-clause-apart
 perform-requires-clause-apart c =
-    let planned = λ (m : Parts). seen_with (look_at m.slots) c.args.scripts.now c.args.pid c.args.input.now c.args.plan.now in
+    let planned = λ (m : Parts). seen_with (look_at m.slots) c.args.scripts.now c.args.pid (input_in c.args.input) c.args.plan.now in
     subst (λ (m : Parts). AreApart (entities_of (writes_of (look_at m.slots) c.args.pid (planned m)))) (sym c.self.view_is)
     (apart_of (look_at c.args.self.now.slots) c.args.pid (planned c.args.self.now) c.requires.beside)

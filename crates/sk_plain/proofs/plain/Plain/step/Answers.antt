@@ -1,6 +1,7 @@
 -- A text that is said rests on no guess.
 use Rattle.std.proofs.Common.{subst, sym}
 use Rattle.std.specs.FinMap as map
+use Rattle.sk_trace.specs.Kept.{input_in}
 use Rattle.sk_plain.specs.Planned.{said_by}
 use Rattle.sk_plain.specs.Plain.{AllClear}
 use Rattle.sk_plain.specs.Seen.{seen_with}
@@ -9,5 +10,5 @@ use Rattle.sk_plain.proofs.plain.Plain.step.Goals as goal
 
 pub invariant_of-self-2 : goal.invariant_of-self-2
 invariant_of-self-2 c =
-    let plan = seen_with (map.get c.self.inside.store) c.self.inside.scripts c.args.pid c.args.input.now c.in-Ok.plan in
+    let plan = seen_with (map.get c.self.inside.store) c.self.inside.scripts c.args.pid (input_in c.of-input.result) c.in-Ok.plan in
     subst AllClear (sym c.in_ok-perform_plan.ensures.says) (said_clear c.self.inside.texts (said_by plan) c.self.invariant)

@@ -4,6 +4,7 @@ use Rattle.sk_record.specs.Merged.{MergedTakes}
 use Rattle.sk_machine.specs.Parts.{machine_of}
 use Rattle.sk_plain.specs.Act.{plain}
 use Rattle.sk_trace.specs.Entry.{EntryView}
+use Rattle.sk_trace.specs.Kept.{input_in}
 use Rattle.sk_trace.specs.declared.event.Event.TheVariants as events
 use Rattle.sk_plain.specs.declared.refusal.Refusal.TheVariants.{TraceFull}
 use Rattle.sk_kernel.specs.Kernel.{KernelView, step_refused, room, with_event}
@@ -12,11 +13,11 @@ use Rattle.sk_machine.proofs.Given.{from_ok, from_err}
 use Rattle.sk_kernel.proofs.Whole.{tidy, opens_rise, stepped_whole, no_more_opens}
 use Rattle.sk_kernel.proofs.Refusals.{step_misfits, step_without_room, step_free}
 use Rattle.sk_kernel.proofs.Opened.{still_opened, few_open}
-use Rattle.sk_kernel.proofs.kernel.Kernel.step.Goals as goal
+use Rattle.sk_kernel.proofs.kernel.Kernel.step_lent.Goals as goal
 
 pub returns-in-Err : goal.returns-in-Err
 returns-in-Err c =
-    let n : EntryView = record { pid = c.args.pid; input = c.args.input; guess = None } in
+    let n : EntryView = record { pid = c.args.pid; input = (input_in c.args.input); guess = None } in
     let why = c.in-Err.why in
     let refused = subst (λ (k : KernelView). step_refused k n ≡ Some why) c.self.view_is
     (step_misfits (the_view c.self.inside) c.self.inside.machine c.self.inside.trace.room c.self.invariant.0 n why c.in-Err.ensures.plans) in
@@ -24,7 +25,7 @@ returns-in-Err c =
 
 pub returns-then-room-lt1 : goal.returns-then-room-lt1
 returns-then-room-lt1 c =
-    let n : EntryView = record { pid = c.args.pid; input = c.args.input; guess = None } in (
+    let n : EntryView = record { pid = c.args.pid; input = (input_in c.args.input); guess = None } in (
       subst (λ (k : KernelView). step_refused k n ≡ Some TraceFull) c.self.view_is
           (step_without_room (the_view c.self.inside) c.self.inside.machine c.self.inside.trace.room c.self.invariant.0 n _ c.room.result c.in-Ok.ensures.plans (c.room.ensures ∙ ap room (sym c.self.view_is)) c.if-room-lt1.true),
       refl,
@@ -32,7 +33,7 @@ returns-then-room-lt1 c =
 
 pub returns-then-is_err : goal.returns-then-is_err
 returns-then-is_err c =
-    let n : EntryView = record { pid = c.args.pid; input = c.args.input; guess = None } in (
+    let n : EntryView = record { pid = c.args.pid; input = (input_in c.args.input); guess = None } in (
       subst (λ (k : KernelView). step_refused k n ≡ None) c.self.view_is
           (step_free (the_view c.self.inside) c.self.inside.machine c.self.inside.trace.room c.self.invariant.0 n _ c.room.result c.in-Ok.ensures.plans (c.room.ensures ∙ ap room (sym c.self.view_is)) c.if-room-lt1.false),
       (λ i. record { number = c.self.inside.machine.guesses.kernel; scripts = c.self.inside.opening.start.scripts; start = c.self.inside.opening.start.state; limit = c.self.inside.opening.limit; trace = c.reserve.ensures.events i })
@@ -41,7 +42,7 @@ returns-then-is_err c =
 
 pub returns-in-Err-keep : goal.returns-in-Err-keep
 returns-in-Err-keep c =
-    let n : EntryView = record { pid = c.args.pid; input = c.args.input; guess = None } in (
+    let n : EntryView = record { pid = c.args.pid; input = (input_in c.args.input); guess = None } in (
       subst (λ (k : KernelView). step_refused k n ≡ None) c.self.view_is
           (step_free (the_view c.self.inside) c.self.inside.machine c.self.inside.trace.room c.self.invariant.0 n _ c.room.result c.in-Ok.ensures.plans (c.room.ensures ∙ ap room (sym c.self.view_is)) c.if-room-lt1.false),
       (λ i. record { number = c.self.inside.machine.guesses.kernel; scripts = c.self.inside.opening.start.scripts; start = c.self.inside.opening.start.state; limit = c.self.inside.opening.limit; trace = c.reserve.ensures.events i })
@@ -56,7 +57,7 @@ take_step-requires-clause-rising c = opens_rise (the_view c.self.inside) c.self.
 
 pub returns-then-is_err-2 : goal.returns-then-is_err-2
 returns-then-is_err-2 c =
-    let n : EntryView = record { pid = c.args.pid; input = c.args.input; guess = None } in
+    let n : EntryView = record { pid = c.args.pid; input = (input_in c.args.input); guess = None } in
     let same = from_err c.take_step.result c.if-is_err-2.ensures.value c.take_step.ensures.err in (
       subst (λ (k : KernelView). step_refused k n ≡ None) c.self.view_is
           (step_free (the_view c.self.inside) c.self.inside.machine c.self.inside.trace.room c.self.invariant.0 n _ c.room.result c.in-Ok.ensures.plans (c.room.ensures ∙ ap room (sym c.self.view_is)) c.if-room-lt1.false),
@@ -66,13 +67,13 @@ returns-then-is_err-2 c =
 
 pub invariant_of-self-2 : goal.invariant_of-self-2
 invariant_of-self-2 c =
-    let n : EntryView = record { pid = c.args.pid; input = c.args.input; guess = None } in
+    let n : EntryView = record { pid = c.args.pid; input = (input_in c.args.input); guess = None } in
     let takes = subst (λ s. MergedTakes (plain s) (machine_of c.self.inside.machine) n (machine_of c.take_step.new.self)) c.scripts.ensures (from_ok c.take_step.result c.if-is_err-2.ensures.value c.take_step.ensures.ok) in
-    let opens = no_more_opens c.self.inside.opening.start.scripts c.self.inside.machine c.take_step.new.self c.args.pid c.args.input takes in
+    let opens = no_more_opens c.self.inside.opening.start.scripts c.self.inside.machine c.take_step.new.self c.args.pid (input_in c.args.input) takes in
     let reserved = from_ok c.reserve.result c.if-is_err.ensures.value c.reserve.ensures.room in
     let pushed = c.push.ensures.room in
     let counted = c.open_count.ensures in (
-      stepped_whole (the_view c.self.inside) c.self.inside.machine c.take_step.new.self c.self.inside.trace.room c.push.new.self.room c.args.pid c.args.input c.push.new.self.events c.self.invariant.0
+      stepped_whole (the_view c.self.inside) c.self.inside.machine c.take_step.new.self c.self.inside.trace.room c.push.new.self.room c.args.pid (input_in c.args.input) c.push.new.self.events c.self.invariant.0
           takes c.take_step.ensures.guesses
           (c.push.ensures.events ∙ (λ i. c.reserve.ensures.events i ++ events.Step c.args.pid (c.in-Ok-keep.ensures.ok i) ∷ []))
           (omega (arith, opens, reserved, pushed, counted)),
@@ -81,12 +82,12 @@ invariant_of-self-2 c =
 
 pub returns : goal.returns
 returns c =
-    let n : EntryView = record { pid = c.args.pid; input = c.args.input; guess = None } in
+    let n : EntryView = record { pid = c.args.pid; input = (input_in c.args.input); guess = None } in
     let more = c.push.ensures.events ∙ (λ i. c.reserve.ensures.events i ++ events.Step c.args.pid (c.in-Ok-keep.ensures.ok i) ∷ []) in (
       subst (λ (k : KernelView). step_refused k n ≡ None) c.self.view_is
           (step_free (the_view c.self.inside) c.self.inside.machine c.self.inside.trace.room c.self.invariant.0 n _ c.room.result c.in-Ok.ensures.plans (c.room.ensures ∙ ap room (sym c.self.view_is)) c.if-room-lt1.false),
       (λ i. record { number = (c.take_step.ensures.guesses i).kernel; scripts = c.self.inside.opening.start.scripts; start = c.self.inside.opening.start.state; limit = c.self.inside.opening.limit; trace = more i })
-          ∙ ap (λ (k : KernelView). with_event k (events.Step c.args.pid c.args.input)) c.self.view_is,
+          ∙ ap (λ (k : KernelView). with_event k (events.Step c.args.pid (input_in c.args.input))) c.self.view_is,
     )
 
 pub overflow_add-open_count : goal.overflow_add-open_count

@@ -5,6 +5,7 @@ use Rattle.sk_guesses.specs.Guesses.{next_of}
 use Rattle.sk_machine.specs.Parts.{machine_of}
 use Rattle.sk_plain.specs.Act.{plain}
 use Rattle.sk_trace.specs.Entry.{EntryView}
+use Rattle.sk_trace.specs.Kept.{input_in}
 use Rattle.sk_trace.specs.declared.event.Event.TheVariants as events
 use Rattle.sk_plain.specs.declared.refusal.Refusal.TheVariants.{TooMany, TraceFull}
 use Rattle.sk_kernel.specs.Kernel.{KernelView, guess_refused, next_guess, room, with_event}
@@ -15,11 +16,11 @@ use Rattle.sk_kernel.proofs.Whole.{tidy, next_rises}
 use Rattle.sk_kernel.proofs.Tokens.{next_is, guess_new, guessed_whole}
 use Rattle.sk_kernel.proofs.Refusals.{guess_misfit, guess_too_many, guess_without_room, guess_free}
 use Rattle.sk_kernel.proofs.Opened.{still_opened, few_open}
-use Rattle.sk_kernel.proofs.kernel.Kernel.create_speculation.Goals as goal
+use Rattle.sk_kernel.proofs.kernel.Kernel.speculate_lent.Goals as goal
 
 pub returns-in-Err : goal.returns-in-Err
 returns-in-Err c =
-    let n : EntryView = record { pid = c.args.pid; input = c.args.input; guess = Some (next_guess c.args.self.now) } in
+    let n : EntryView = record { pid = c.args.pid; input = (input_in c.args.input); guess = Some (next_guess c.args.self.now) } in
     let why = c.in-Err.why in
     let refused = subst (λ (k : KernelView). guess_refused k n ≡ Some why) c.self.view_is
     (guess_misfit (the_view c.self.inside) c.self.inside.machine c.self.inside.trace.room c.self.invariant.0 n why c.in-Err.ensures.0) in
@@ -34,7 +35,7 @@ take_guess-requires-clause-rising c = next_rises (the_view c.self.inside) c.self
 
 pub returns-then-is_full : goal.returns-then-is_full
 returns-then-is_full c =
-    let n : EntryView = record { pid = c.args.pid; input = c.args.input; guess = Some (next_guess c.args.self.now) } in (
+    let n : EntryView = record { pid = c.args.pid; input = (input_in c.args.input); guess = Some (next_guess c.args.self.now) } in (
       subst (λ (k : KernelView). guess_refused k n ≡ Some TooMany) c.self.view_is
           (guess_too_many (the_view c.self.inside) c.self.inside.machine c.self.inside.trace.room c.self.invariant.0 n c.in-Ok.ensures.1 (sym c.is_full.ensures ∙ c.if-is_full.true)),
       refl,
@@ -42,7 +43,7 @@ returns-then-is_full c =
 
 pub returns-then-room-lt2 : goal.returns-then-room-lt2
 returns-then-room-lt2 c =
-    let n : EntryView = record { pid = c.args.pid; input = c.args.input; guess = Some (next_guess c.args.self.now) } in (
+    let n : EntryView = record { pid = c.args.pid; input = (input_in c.args.input); guess = Some (next_guess c.args.self.now) } in (
       subst (λ (k : KernelView). guess_refused k n ≡ Some TraceFull) c.self.view_is
           (guess_without_room (the_view c.self.inside) c.self.inside.machine c.self.inside.trace.room c.self.invariant.0 n c.in-Ok.ensures.1 (sym c.is_full.ensures ∙ c.if-is_full.false)
           c.room.result (c.room.ensures ∙ ap room (sym c.self.view_is)) c.if-room-lt2.true),
@@ -51,7 +52,7 @@ returns-then-room-lt2 c =
 
 pub returns-then-is_err : goal.returns-then-is_err
 returns-then-is_err c =
-    let n : EntryView = record { pid = c.args.pid; input = c.args.input; guess = Some (next_guess c.args.self.now) } in (
+    let n : EntryView = record { pid = c.args.pid; input = (input_in c.args.input); guess = Some (next_guess c.args.self.now) } in (
       subst (λ (k : KernelView). guess_refused k n ≡ None) c.self.view_is
           (guess_free (the_view c.self.inside) c.self.inside.machine c.self.inside.trace.room c.self.invariant.0 n c.in-Ok.ensures.1 (sym c.is_full.ensures ∙ c.if-is_full.false)
           c.room.result (c.room.ensures ∙ ap room (sym c.self.view_is)) c.if-room-lt2.false),
@@ -61,7 +62,7 @@ returns-then-is_err c =
 
 pub returns-in-Err-keep : goal.returns-in-Err-keep
 returns-in-Err-keep c =
-    let n : EntryView = record { pid = c.args.pid; input = c.args.input; guess = Some (next_guess c.args.self.now) } in (
+    let n : EntryView = record { pid = c.args.pid; input = (input_in c.args.input); guess = Some (next_guess c.args.self.now) } in (
       subst (λ (k : KernelView). guess_refused k n ≡ None) c.self.view_is
           (guess_free (the_view c.self.inside) c.self.inside.machine c.self.inside.trace.room c.self.invariant.0 n c.in-Ok.ensures.1 (sym c.is_full.ensures ∙ c.if-is_full.false)
           c.room.result (c.room.ensures ∙ ap room (sym c.self.view_is)) c.if-room-lt2.false),
@@ -71,7 +72,7 @@ returns-in-Err-keep c =
 
 pub returns-in_default : goal.returns-in_default
 returns-in_default c =
-    let n : EntryView = record { pid = c.args.pid; input = c.args.input; guess = Some (next_guess c.args.self.now) } in
+    let n : EntryView = record { pid = c.args.pid; input = (input_in c.args.input); guess = Some (next_guess c.args.self.now) } in
     let same = c.in_default.ensures.err in (
       subst (λ (k : KernelView). guess_refused k n ≡ None) c.self.view_is
           (guess_free (the_view c.self.inside) c.self.inside.machine c.self.inside.trace.room c.self.invariant.0 n c.in-Ok.ensures.1 (sym c.is_full.ensures ∙ c.if-is_full.false)
@@ -82,13 +83,13 @@ returns-in_default c =
 
 pub invariant_of-self-2 : goal.invariant_of-self-2
 invariant_of-self-2 c =
-    let drawn_entry : EntryView = record { pid = c.args.pid; input = c.args.input; guess = Some (next_of c.self.inside.machine.guesses) } in
+    let drawn_entry : EntryView = record { pid = c.args.pid; input = (input_in c.args.input); guess = Some (next_of c.self.inside.machine.guesses) } in
     let takes = subst (λ s. MergedTakes (plain s) (machine_of c.self.inside.machine) drawn_entry (machine_of c.take_guess.new.self)) c.scripts.ensures c.in-Ok-take_guess.ensures.ok in
     let reserved = from_ok c.reserve.result c.if-is_err.ensures.value c.reserve.ensures.room in
     let pushed = c.push.ensures.room in
     let counted = c.open_count.ensures in
     let number = c.id-id.ensures ∙ ap (λ t. t.id) c.in-Ok-take_guess.ensures.token in (
-      guessed_whole (the_view c.self.inside) c.self.inside.machine c.self.inside.trace.room c.self.invariant.0 c.take_guess.new.self c.push.new.self.room c.args.pid c.args.input c.id-id.result c.push.new.self.events
+      guessed_whole (the_view c.self.inside) c.self.inside.machine c.self.inside.trace.room c.self.invariant.0 c.take_guess.new.self c.push.new.self.room c.args.pid (input_in c.args.input) c.id-id.result c.push.new.self.events
           takes c.in-Ok-take_guess.ensures.guesses number
           (c.push.ensures.events ∙ (λ i. c.reserve.ensures.events i ++ events.Guess c.id-id.result c.args.pid (c.in-Ok-keep.ensures.ok i) ∷ []))
           (omega (arith, reserved, pushed, counted)),
@@ -97,18 +98,18 @@ invariant_of-self-2 c =
 
 pub returns : goal.returns
 returns c =
-    let n : EntryView = record { pid = c.args.pid; input = c.args.input; guess = Some (next_guess c.args.self.now) } in
+    let n : EntryView = record { pid = c.args.pid; input = (input_in c.args.input); guess = Some (next_guess c.args.self.now) } in
     let next = next_is (the_view c.self.inside) c.self.inside.machine c.self.inside.trace.room c.self.invariant.0 ∙ ap next_guess c.self.view_is in
     let number = c.id-id.ensures ∙ ap (λ t. t.id) c.in-Ok-take_guess.ensures.token ∙ next in
-    let more = c.push.ensures.events ∙ (λ i. c.reserve.ensures.events i ++ events.Guess c.id-id.result c.args.pid (c.in-Ok-keep.ensures.ok i) ∷ []) ∙ ap (λ g. c.self.inside.trace.events ++ events.Guess g c.args.pid c.args.input ∷ []) number in
+    let more = c.push.ensures.events ∙ (λ i. c.reserve.ensures.events i ++ events.Guess c.id-id.result c.args.pid (c.in-Ok-keep.ensures.ok i) ∷ []) ∙ ap (λ g. c.self.inside.trace.events ++ events.Guess g c.args.pid (input_in c.args.input) ∷ []) number in
     let left =
     (λ i. record { number = (c.in-Ok-take_guess.ensures.guesses i).kernel; scripts = c.self.inside.opening.start.scripts; start = c.self.inside.opening.start.state; limit = c.self.inside.opening.limit; trace = more i })
-    ∙ ap (λ (k : KernelView). with_event k (events.Guess (next_guess c.args.self.now) c.args.pid c.args.input)) c.self.view_is in
-    let drawn_entry : EntryView = record { pid = c.args.pid; input = c.args.input; guess = Some (next_of c.self.inside.machine.guesses) } in
+    ∙ ap (λ (k : KernelView). with_event k (events.Guess (next_guess c.args.self.now) c.args.pid (input_in c.args.input))) c.self.view_is in
+    let drawn_entry : EntryView = record { pid = c.args.pid; input = (input_in c.args.input); guess = Some (next_of c.self.inside.machine.guesses) } in
     let takes = subst (λ s. MergedTakes (plain s) (machine_of c.self.inside.machine) drawn_entry (machine_of c.take_guess.new.self)) c.scripts.ensures c.in-Ok-take_guess.ensures.ok in
     let fresh =
-    subst (λ (k : KernelView). IsNew k (with_event k (events.Guess (next_guess k) c.args.pid c.args.input))) c.self.view_is
-    (guess_new (the_view c.self.inside) c.self.inside.machine c.self.inside.trace.room c.self.invariant.0 c.take_guess.new.self c.args.pid c.args.input takes) in (
+    subst (λ (k : KernelView). IsNew k (with_event k (events.Guess (next_guess k) c.args.pid (input_in c.args.input)))) c.self.view_is
+    (guess_new (the_view c.self.inside) c.self.inside.machine c.self.inside.trace.room c.self.invariant.0 c.take_guess.new.self c.args.pid (input_in c.args.input) takes) in (
       subst (λ (k : KernelView). guess_refused k n ≡ None) c.self.view_is
           (guess_free (the_view c.self.inside) c.self.inside.machine c.self.inside.trace.room c.self.invariant.0 n c.in-Ok.ensures.1 (sym c.is_full.ensures ∙ c.if-is_full.false)
           c.room.result (c.room.ensures ∙ ap room (sym c.self.view_is)) c.if-room-lt2.false),

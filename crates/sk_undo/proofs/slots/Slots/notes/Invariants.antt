@@ -1,0 +1,11 @@
+-- The notes that were counted, with those of the slots that are left, are all of them.
+use Rattle.std.proofs.Common.{◌≡◌, ◌≤◌, ◌+◌, min, ◌-◌, ◌^◌}
+use Rattle.std.specs.List.{sum_by}
+use Rattle.sk_undo.specs.Count.{note_count}
+use Rattle.sk_undo.proofs.slots.Slots.notes.Given as goal
+
+abbrev pub invariant-loop-slot : goal.invariant-loop-slot
+invariant-loop-slot l = record {
+  all : min (l.total + sum_by note_count l.slot-iterator) (2 ^ 64 - 1) ≡ min (sum_by note_count l.initial.slot-iterator) (2 ^ 64 - 1);
+  fits : l.total ≤ 2 ^ 64 - 1;
+}

@@ -1,0 +1,18 @@
+-- How many notes slots hold.
+use Rattle.std.specs.Prelude.{◌≡◌, ℕ, List, [], length}
+use Rattle.std.specs.List.{sum_by}
+use Rattle.std.specs.FinMap as map
+use Rattle.sk_ids.specs.declared.entity.Entity.{Entity}
+use Rattle.sk_undo.specs.Slot.{SlotView}
+use Rattle.sk_undo.specs.Logs.{SlotMap, log_at}
+
+abbrev pub note_count : SlotView → ℕ
+note_count s = length s.log
+
+-- those of all entities together
+abbrev pub notes_in : SlotMap → ℕ
+notes_in m = sum_by note_count (map.values m)
+
+-- no entity has a note
+abbrev pub AreUnnoted : SlotMap → Type 0
+AreUnnoted m = (e : Entity) → log_at m e ≡ []

@@ -16,7 +16,7 @@ fn an_event_is_a_few_words(rt: HostRuntime) {
 
 #[test]
 fn a_note_is_a_few_words(rt: HostRuntime) {
-    assert!(rt; size_of::<Note<PutBack<Held>>>() <= 128);
+    assert!(rt; size_of::<Note<PutBack<Held>>>() <= 136);
 }
 
 #[test]

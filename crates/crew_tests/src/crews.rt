@@ -1,6 +1,6 @@
 //! Crews, one after the other.
 ghost use Rattle.std.specs.Prelude.{◌≡◌, ◌≤◌, [], IfOk};
-ghost use Rattle.sk_client.specs.Desk.{opened};
+ghost use Rattle.sk_client.specs.Desk.{opened_at};
 
 use crate::again::{Peer, run_again};
 use crate::finding::Finding;
@@ -35,7 +35,7 @@ fn crew<R: Threads + Wait + Sync>(
     plan: Plan,
 ) -> Result<(History, Server), Finding>
     requires count { (1 ≤ plan.workers) × (plan.workers ≤ 8) }
-    requires opened { desk ≡ opened desk.kernel }
+    requires opened { desk ≡ opened_at desk.kernel desk.first }
     requires trace { desk.kernel.trace ≡ [] }
 {
     let blank = Blank::new(u64::from(plan.workers));

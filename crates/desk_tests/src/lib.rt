@@ -8,6 +8,8 @@ mod asking;
 #[cfg(test)]
 mod desk;
 #[cfg(test)]
+mod epochs;
+#[cfg(test)]
 mod leases;
 #[cfg(test)]
 mod plays;

@@ -4,7 +4,7 @@ use crate::asking::{Told, Wish, answer_of, content, is_asked, name, pid, text};
 use crate::start::{Start, kernel_of, server_of};
 use sk_client::{Desk, Given, ReplyRefusal, Turn};
 use sk_ids::{Entity, GuessId, Name, Pid};
-use sk_kernel::Kernel;
+use sk_kernel::{EpochRefusal, Kernel};
 use sk_objects::{Content, Value};
 use sk_plain::{Event, InputRef, Refusal, View};
 use sk_script::{Input, Process, Register, Val};
@@ -61,6 +61,8 @@ pub enum Play<'a> {
     Reply(u64, Told<'a>, Came),
     /// Another client's edit of a file of this version.
     Edit(&'a [u8], u64, &'a [u8]),
+    /// A new epoch, for which so many events are handed out.
+    Epoch(Result<usize, EpochRefusal>),
     /// A look at what there is.
     See(Sight<'a>),
 }
@@ -72,6 +74,8 @@ pub enum Sight<'a> {
     Pending(usize),
     /// The number of the request whose reply is next.
     Expected(u64),
+    /// The number of the first request of the epoch, and how many were taken since.
+    Requests(u64, u64),
     /// Each reply of the server was given.
     NoReply,
     /// A process's place and its r0.
@@ -350,6 +354,28 @@ fn expects(rt: &impl Abort, desk: &Desk, number: u64) -> Result<(), Fail> {
     Ok(())
 }
 
+/// The first request of the epoch has this number, and so many were taken since.
+fn counts_from(rt: &impl Abort, desk: &Desk, first: u64, taken: u64) -> Result<(), Fail> {
+    assert_eq!(rt; desk.first(), first);
+    assert_eq!(rt; desk.requests_taken(), taken);
+    Ok(())
+}
+
+/// A new epoch comes to this.
+fn begins(
+    rt: &impl Abort,
+    desk: &mut Desk,
+    place: usize,
+    want: Result<usize, EpochRefusal>,
+) -> Result<(), Fail> {
+    let answer = match desk.new_epoch() {
+        Ok((trace, _texts)) => Ok(trace.events().len()),
+        Err(why) => Err(why),
+    };
+    assert_eq!(rt; answer, want, "play {place}");
+    Ok(())
+}
+
 /// Each reply of the server was given.
 fn is_quiet(rt: &impl Abort, far: &Far) -> Result<(), Fail> {
     assert!(rt; far.replies.is_empty());
@@ -377,6 +403,7 @@ fn sees(rt: &impl Abort, desk: &Desk, far: &Far, sight: Sight<'_>) -> Result<(),
     match sight {
         Sight::Pending(count) => waits(rt, desk, count),
         Sight::Expected(number) => expects(rt, desk, number),
+        Sight::Requests(first, taken) => counts_from(rt, desk, first, taken),
         Sight::NoReply => is_quiet(rt, far),
         Sight::Stands(number, place, answer) => stands(rt, desk.kernel(), number, place, answer),
         Sight::Buffer(number, bytes) => buffers(rt, desk.kernel(), number, bytes),
@@ -405,6 +432,7 @@ fn does(
         Play::Give(came) => gives(rt, desk, far, place, came),
         Play::Reply(number, told, came) => replies(rt, desk, place, number, told, came),
         Play::Edit(at, version, bytes) => edits(rt, far, at, version, bytes),
+        Play::Epoch(want) => begins(rt, desk, place, want),
         Play::See(sight) => sees(rt, desk, far, sight),
     }
 }

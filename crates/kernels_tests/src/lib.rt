@@ -6,6 +6,8 @@ mod ample;
 #[cfg(test)]
 mod dependents;
 #[cfg(test)]
+mod epochs;
+#[cfg(test)]
 mod kernels;
 #[cfg(test)]
 mod leases;

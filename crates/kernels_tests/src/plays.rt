@@ -3,9 +3,9 @@
 ghost use Rattle.std.specs.Prelude.{◌≡◌, vec_len};
 
 use crate::start::{Start, kernel_of, pid};
-use sk_guesses::Guess;
+use sk_guesses::{Guess, Status};
 use sk_ids::{Entity, GuessId, ObjId, Pid};
-use sk_kernel::{FailRefusal, Kernel, Outcome, Stranger};
+use sk_kernel::{EpochRefusal, FailRefusal, Kernel, Outcome, Stranger};
 use sk_plain::{Refusal, View};
 use sk_script::Input;
 use std::alloc::Global;
@@ -55,6 +55,8 @@ pub enum Thing {
 pub enum Play {
     /// So many steps of a process, each without input, up to the first that is refused.
     Steps(u16, usize, Result<(), Refusal>),
+    /// A step of a process with the input `good`.
+    Good(u16),
     /// So many steps of each process from 1 on to this one, of which none is refused.
     AllStep(u16, usize),
     /// The guesses of a process from this number on to that; their tokens are kept.
@@ -69,6 +71,10 @@ pub enum Play {
     Has(Count, usize),
     /// Just these rest on the guess of this number, by rising order.
     Rests(u64, &'static [Thing]),
+    /// A new epoch: how many events are handed out, and how many texts of terminal 1; or why there is none.
+    Epoch(Result<(usize, usize), EpochRefusal>),
+    /// What became of the guess of this number.
+    Became(u64, Option<Status>),
 }
 
 /// A kernel, and the tokens that are kept, the oldest first.
@@ -287,12 +293,41 @@ fn rests(
     Ok(())
 }
 
+/// A new epoch comes to this.
+fn epoch(
+    rt: &impl Abort,
+    kernel: &mut Kernel,
+    place: usize,
+    want: Result<(usize, usize), EpochRefusal>,
+) -> Result<(), Fail> {
+    let answer = match kernel.new_epoch() {
+        Ok((trace, texts)) => Ok((trace.events().len(), texts.of(1).len())),
+        Err(why) => Err(why),
+    };
+    assert_eq!(rt; answer, want, "play {place}");
+    Ok(())
+}
+
+/// This became of a guess.
+fn became(
+    rt: &impl Abort,
+    kernel: &Kernel,
+    place: usize,
+    number: u64,
+    want: Option<Status>,
+) -> Result<(), Fail> {
+    let status = kernel.status(GuessId::new(number).ok_or("guess")?);
+    assert_eq!(rt; status, want, "play {place}");
+    Ok(())
+}
+
 /// Does one thing.
 pub fn does(rt: &impl Abort, player: &mut Player, place: usize, play: Play) -> Result<(), Fail> {
     match play {
         Play::Steps(number, count, want) => {
             steps(rt, &mut player.kernel, place, number, count, want)
         }
+        Play::Good(number) => Ok(player.kernel.step(pid(number)?, Input::Good)?),
         Play::AllStep(last, count) => all_step(rt, &mut player.kernel, place, last, count),
         Play::Guesses(number, first, last) => {
             guesses(rt, player, place, pid(number)?, first, last)
@@ -304,6 +339,8 @@ pub fn does(rt: &impl Abort, player: &mut Player, place: usize, play: Play) -> R
         Play::Rounds(count, decisions) => rounds(rt, player, place, pid(1)?, count, decisions),
         Play::Has(count, want) => has(rt, &player.kernel, place, count, want),
         Play::Rests(number, want) => rests(rt, &player.kernel, place, number, want),
+        Play::Epoch(want) => epoch(rt, &mut player.kernel, place, want),
+        Play::Became(number, want) => became(rt, &player.kernel, place, number, want),
     }
 }
 

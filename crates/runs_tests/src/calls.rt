@@ -173,20 +173,18 @@ fn decision_answer(status: Status, is_held: bool) -> Answer {
     }
 }
 
-/// What a call should be answered after this trace, where these tokens are held.
+/// What a call should be answered after this whole trace, where the epoch's trace has so many places and these tokens are held.
 pub fn answer(
     call: &Call,
     reckoning: &Reckoning,
     scripts: &Scripts,
     trace: &Trace,
-    limit: u32,
+    places: usize,
     held: &[GuessId],
     next: GuessId,
 ) -> Answer {
     let undecided = reckoning.undecided();
-    let room = (limit as usize)
-        .saturating_sub(trace.events().len())
-        .saturating_sub(undecided);
+    let room = places.saturating_sub(undecided);
     match call {
         Call::Step(pid, input) => {
             let planned = plan_step(&reckoning.store, scripts, *pid, input.lend());

@@ -11,6 +11,8 @@ pub enum Finding {
     Answer,
     /// A lease or its hand-in is not answered as it should be.
     HandIn,
+    /// An epoch does not begin where it should, or something else is handed out.
+    Epoch,
     /// The trace is not what was answered so far.
     Events,
     /// Other entities are present.

@@ -1,6 +1,7 @@
 //! Whether a kernel is what its trace comes to.
+use crate::epochs::Before;
 use crate::finding::Finding;
-use crate::reckoning::Reckoning;
+use crate::reckoning::{Reckoning, Said};
 use sk_ids::{Entity, GuessId, Text};
 use sk_kernel::Kernel;
 use sk_plain::{Trace, View};
@@ -57,10 +58,10 @@ fn is_next(texts: &mut &[Text], text: &Text) -> bool {
 
 /// Whether a terminal has released the texts before the first that depends on a guess, and how many
 /// others wait.
-fn is_shown(reckoning: &Reckoning, number: u16, released: &[Text], waiting: usize) -> bool {
+fn is_shown(texts: &[Said], number: u16, released: &[Text], waiting: usize) -> bool {
     let mut out = released;
     let mut held = 0usize;
-    for said in reckoning.said() {
+    for said in texts {
         if said.terminal != number {
             continue;
         }
@@ -73,34 +74,45 @@ fn is_shown(reckoning: &Reckoning, number: u16, released: &[Text], waiting: usiz
     out.is_empty() && held == waiting
 }
 
-/// Whether the plain kernel says the released texts first, and so many more.
-fn is_said(reckoning: &Reckoning, number: u16, released: &[Text], waiting: usize) -> bool {
-    let said = reckoning.plain.said(number);
+/// Whether the plain kernel says the released texts first behind so many, and so many more.
+fn is_said(said: &[Text], skipped: usize, released: &[Text], waiting: usize) -> bool {
+    let said = said.get(skipped..).unwrap_or(&[]);
     said.starts_with(released) && said.len().saturating_sub(released.len()) == waiting
 }
 
-/// Compares the released texts of a terminal, and how many wait.
-fn judge_texts(
+/// Compares the texts that a terminal has released since the epoch began, and how many wait.
+pub fn judge_texts(
     reckoning: &Reckoning,
+    before: Before,
     number: u16,
     released: &[Text],
     waiting: usize,
 ) -> Result<(), Finding> {
-    if !is_shown(reckoning, number, released, waiting) {
+    let said = reckoning.said();
+    let since = said.get(before.texts..).unwrap_or(&[]);
+    if !is_shown(since, number, released, waiting) {
         return Err(Finding::Terminal);
     }
-    if !is_said(reckoning, number, released, waiting) {
+    let old = said.get(..before.texts).unwrap_or(&[]);
+    let skipped = old.iter().filter(|said| said.terminal == number).count();
+    if !is_said(reckoning.plain.said(number), skipped, released, waiting) {
         return Err(Finding::Terminal);
     }
     Ok(())
 }
 
-fn judge_terminal(kernel: &Kernel, reckoning: &Reckoning, number: u16) -> Result<(), Finding> {
+fn judge_terminal(
+    kernel: &Kernel,
+    reckoning: &Reckoning,
+    before: Before,
+    number: u16,
+) -> Result<(), Finding> {
     match kernel.terminal(number) {
         Some(terminal) => {
-            judge_texts(reckoning, number, terminal.released(), terminal.waiting())
+            let (released, waiting) = (terminal.released(), terminal.waiting());
+            judge_texts(reckoning, before, number, released, waiting)
         }
-        None => judge_texts(reckoning, number, &[], 0),
+        None => judge_texts(reckoning, before, number, &[], 0),
     }
 }
 
@@ -157,38 +169,41 @@ fn judge_counts(
     kernel: &Kernel,
     reckoning: &Reckoning,
     trace: &Trace,
+    before: Before,
     limit: u32,
 ) -> Result<(), Finding> {
-    if kernel.trace().events() != trace.events() {
+    let since = trace.events().get(before.events..).unwrap_or(&[]);
+    if kernel.trace().events() != since {
         return Err(Finding::Events);
     }
     if kernel.undecided() != reckoning.undecided() {
         return Err(Finding::Undecided);
     }
-    let used = trace.events().len().saturating_add(reckoning.undecided());
+    let used = since.len().saturating_add(reckoning.undecided());
     if kernel.room() != (limit as usize).saturating_sub(used) {
         return Err(Finding::Room);
     }
     Ok(())
 }
 
-/// Compares a kernel with what its trace comes to: its entities with those seen before, its
+/// Compares a kernel with what its whole trace comes to: its entities with those seen before, its
 /// terminals, the first few of which are looked at, its guesses with what rests on each, and its counts.
 pub fn judge(
     kernel: &Kernel,
     reckoning: &Reckoning,
     trace: &Trace,
+    before: Before,
     limit: u32,
     drawn: u64,
     seen: &mut BTreeSet<Entity>,
 ) -> Result<(), Finding> {
-    judge_counts(kernel, reckoning, trace, limit)?;
+    judge_counts(kernel, reckoning, trace, before, limit)?;
     judge_present(kernel, reckoning, seen)?;
     for entity in seen.iter() {
         judge_entity(kernel, reckoning, entity)?;
     }
     for number in 0..=4 {
-        judge_terminal(kernel, reckoning, number)?;
+        judge_terminal(kernel, reckoning, before, number)?;
     }
     judge_lists(kernel, drawn, seen)?;
     judge_statuses(kernel, reckoning, trace, drawn)

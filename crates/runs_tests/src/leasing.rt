@@ -11,11 +11,12 @@ use sk_script::{Lease, Process};
 /// The signal that ends a process whatever its handler.
 const KILL: u8 = 9;
 
-/// How many of the hand-ins that had something done were taken, and how many were stale.
+/// How many of the hand-ins that had something done were taken, how many were stale, and how many epochs began.
 #[derive(Clone, Copy, Debug, Default)]
 pub struct Tally {
     pub taken: u64,
     pub stale: u64,
+    pub epochs: u64,
 }
 
 impl Tally {
@@ -33,6 +34,7 @@ impl Tally {
     pub fn add(&mut self, other: Tally) {
         self.taken = self.taken.saturating_add(other.taken);
         self.stale = self.stale.saturating_add(other.stale);
+        self.epochs = self.epochs.saturating_add(other.epochs);
     }
 }
 

@@ -5,6 +5,8 @@
 #[cfg(test)]
 mod calls;
 #[cfg(test)]
+mod epochs;
+#[cfg(test)]
 mod finding;
 #[cfg(test)]
 mod judge;

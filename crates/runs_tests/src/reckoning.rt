@@ -146,6 +146,11 @@ impl Reckoning {
         &self.said
     }
 
+    /// The struck record.
+    pub fn entries(&self) -> &[Entry] {
+        &self.entries
+    }
+
     /// How many guesses are undecided.
     pub fn undecided(&self) -> usize {
         self.dirt.len()

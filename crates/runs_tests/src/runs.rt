@@ -1,5 +1,6 @@
 //! The runs.
 use crate::calls::{Habit, answer, call, process};
+use crate::epochs::{Before, begins};
 use crate::finding::Finding;
 use crate::judge::judge;
 use crate::leasing::{Tally, any_count, hand_in_answer, lease_refusal};
@@ -10,7 +11,7 @@ use crate::session::{Answer, Session};
 use rand_core::Rng;
 use rand_pcg::Pcg32;
 use sk_ids::{Entity, GuessId, Pid};
-use sk_kernel::HandIn;
+use sk_kernel::{HandIn, Kernel};
 use sk_plain::{Event, KeptInput, Trace};
 use sk_scenario::{Call, Declarations, Scenario};
 use std::alloc::{Alloc, AllocError, Global};
@@ -27,23 +28,45 @@ const LONG_RUNS: u64 = 25;
 /// What a run has come to.
 #[derive(Drop)]
 struct Course {
+    /// All that was done, whatever epochs began.
     trace: Trace,
+    before: Before,
     /// The guesses whose tokens are not spent.
     held: Vec<GuessId>,
     drawn: u64,
     seen: BTreeSet<Entity>,
-    hand_ins: Tally,
+    tally: Tally,
 }
 
 impl Course {
     fn new(alloc: Global) -> Course {
         Course {
             trace: Trace::new(alloc),
+            before: Before::default(),
             held: Vec::new(alloc),
             drawn: 0,
             seen: BTreeSet::new(alloc),
-            hand_ins: Tally::default(),
+            tally: Tally::default(),
         }
+    }
+
+    /// The events of a trace with this limit that the epoch has places for yet.
+    fn places(&self, limit: u32) -> usize {
+        let used = self.trace.events().len().saturating_sub(self.before.events);
+        (limit as usize).saturating_sub(used)
+    }
+
+    /// Judges a kernel of this trace limit by what all that was done comes to.
+    fn judge(&mut self, kernel: &Kernel, reckoning: &Reckoning, limit: u32) -> Result<(), Finding> {
+        judge(
+            kernel,
+            reckoning,
+            &self.trace,
+            self.before,
+            limit,
+            self.drawn,
+            &mut self.seen,
+        )
     }
 
     /// Notes what a hand-in of so many instructions of a process was answered.
@@ -53,7 +76,7 @@ impl Course {
         count: u32,
         answer: Result<(), HandIn>,
     ) -> Result<(), AllocError> {
-        self.hand_ins.note(count, answer);
+        self.tally.note(count, answer);
         if answer.is_err() {
             return Ok(());
         }
@@ -127,6 +150,21 @@ fn leases(
     Ok(())
 }
 
+/// Begins an epoch where no guess is undecided, and judges the answer.
+fn epoch(session: &mut Session, course: &mut Course, reckoning: &Reckoning) -> Result<(), Finding> {
+    let begun = begins(
+        session.kernel_mut(),
+        &course.trace,
+        reckoning,
+        course.before,
+    )?;
+    if let Some(before) = begun {
+        course.before = before;
+        course.tally.epochs = course.tally.epochs.saturating_add(1);
+    }
+    Ok(())
+}
+
 /// Makes a random call, and judges its answer and what it leaves.
 fn one_call(
     rt: &impl Abort,
@@ -138,7 +176,7 @@ fn one_call(
     reckoning: &Reckoning,
 ) -> Result<(), Finding> {
     let scripts = declarations.boot().scripts();
-    let limit = declarations.limit();
+    let places = course.places(declarations.limit());
     let present = reckoning.plain.entities()?;
     let Some(call) = call(
         rng,
@@ -158,7 +196,7 @@ fn one_call(
         reckoning,
         scripts,
         &course.trace,
-        limit,
+        places,
         &course.held,
         next,
     );
@@ -170,7 +208,7 @@ fn one_call(
     Ok(())
 }
 
-/// Makes so many random calls, leases and hand-ins; says how many hand-ins there were.
+/// Makes so many random calls, leases, hand-ins and epochs; says how many hand-ins and epochs there were.
 fn play(
     rt: &impl Abort,
     alloc: Global,
@@ -183,8 +221,11 @@ fn play(
     let mut course = Course::new(alloc);
     let mut reckoning = Reckoning::of(alloc, declarations.boot(), &course.trace)?;
     for _ in 0..calls {
-        if rng.next_u32() % 6 == 0 {
+        let roll = rng.next_u32() % 12;
+        if roll < 2 {
             leases(rng, session, &mut course, &reckoning)?;
+        } else if roll == 2 {
+            epoch(session, &mut course, &reckoning)?;
         } else {
             one_call(
                 rt,
@@ -197,16 +238,9 @@ fn play(
             )?;
         }
         reckoning = Reckoning::of(alloc, declarations.boot(), &course.trace)?;
-        judge(
-            session.kernel(),
-            &reckoning,
-            &course.trace,
-            declarations.limit(),
-            course.drawn,
-            &mut course.seen,
-        )?;
+        course.judge(session.kernel(), &reckoning, declarations.limit())?;
     }
-    Ok(course.hand_ins)
+    Ok(course.tally)
 }
 
 /// What all runs of a kind have in common.
@@ -241,18 +275,18 @@ fn run(rt: &impl Abort, alloc: Global, number: u64, manner: Manner) -> Result<Ta
     told
 }
 
-/// So many runs, in each of which the kernel is what its trace comes to after each call. Some
-/// hand-ins in them are taken, and some are stale.
+/// So many runs, in each of which the kernel is what its whole trace comes to after each call, as if no epoch had
+/// begun. Some hand-ins in them are taken, some are stale, and some epochs begin.
 fn runs<R: Abort + Env + Alloc>(rt: &R, alloc: Global, count: u64, manner: Manner) {
-    let mut hand_ins = Tally::default();
+    let mut all = Tally::default();
     let first = runs_after(rt).saturating_add(1);
     for number in first..first.saturating_add(count) {
         match run(rt, alloc, number, manner) {
-            Ok(tally) => hand_ins.add(tally),
+            Ok(tally) => all.add(tally),
             Err(finding) => panic!(rt; "run {number}, {manner:?}: {finding:?}"),
         }
     }
-    assert!(rt; hand_ins.taken > 0 && hand_ins.stale > 0, "{hand_ins:?}");
+    assert!(rt; all.taken > 0 && all.stale > 0 && all.epochs > 0, "{all:?}");
 }
 
 /// Short runs of a kind with these habits.

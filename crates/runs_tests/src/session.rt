@@ -51,6 +51,11 @@ impl Session {
         &self.kernel
     }
 
+    /// The kernel, for an epoch.
+    pub fn kernel_mut(&mut self) -> &mut Kernel {
+        &mut self.kernel
+    }
+
     /// The lease that is out.
     pub fn lent(&self) -> Option<&Lease> {
         self.lease.as_ref()

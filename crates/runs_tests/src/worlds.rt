@@ -2,6 +2,7 @@
 ghost use Rattle.std.specs.Prelude.{◌≡◌, IfOk};
 
 use crate::calls::{any_of, process};
+use crate::epochs::Before;
 use crate::finding::Finding;
 use crate::judge::judge;
 use crate::numbers::runs_after;
@@ -125,7 +126,16 @@ impl Course {
     ) -> Result<(), Finding> {
         let trace = kernel.trace();
         held(trace.events().len() == self.length, Finding::Events)?;
-        judge(kernel, reckoning, trace, limit, self.drawn, &mut self.seen)
+        let before = Before::default();
+        judge(
+            kernel,
+            reckoning,
+            trace,
+            before,
+            limit,
+            self.drawn,
+            &mut self.seen,
+        )
     }
 
     /// Notes one more event of the trace, which has to be as it should.

@@ -96,7 +96,7 @@ ready_table k r =
 
 pub begins : (k : KernelView) (files : Bytes → Content Bytes) → IsReady k → IsFirst (table k.scripts k.limit) k.start (begun k files)
 begins k files r = record {
-  sound = sound_bare bare (plain k.scripts) k.start (map event_before (events_of k)) (subst (IsSound (plain k.scripts) k.start) (sym (back (events_of k))) r.0.sound);
+  sound = sound_bare bare (plain k.scripts) k.start (map event_before (events_of k)) (subst (IsSound (plain k.scripts) k.start) (sym (back (events_of k))) r.0.sound.sound);
   drawn = λ g d.
       let there = subst (λ es. Contains es (Taken (bare d.0))) (back (events_of k)) (in_map (bare_event bare) (map event_before (events_of k)) (Taken d.0) d.1) in
       let below = below_next k r.0.sound g (bare d.0, there, d.2) in

@@ -1,12 +1,13 @@
 -- A kernel that was booted is such after each of its calls.
-use Rattle.std.proofs.Common.{◌≡◌, ℕ, suc, ◌+◌, ◌≤◌, ◌<◌, Bool, true, false, cond, [], ◌∷◌, ◌++◌, length, Some, None, Result, Ok, Err, refl, sym, ap, subst, arith}
+use Rattle.std.proofs.Common.{◌≡◌, ℕ, suc, ◌+◌, ◌≤◌, ◌<◌, Bool, true, false, cond, [], ◌∷◌, ◌++◌, length, Some, None, Result, Ok, Err, refl, sym, ◌∙◌, ap, subst, arith}
 use Rattle.std.specs.Prelude.{is_ok, nat_lt}
 use Rattle.std.proofs.lemmas.Bool.{ltb-false}
 use Rattle.std.proofs.lemmas.List.{map-append}
 use Rattle.sk_record.specs.Notes.{has}
-use Rattle.sk_record.specs.Trace.{IsSound, IsDrawn, undecided_of}
+use Rattle.sk_record.specs.Trace.{StatusIs, IsSound, IsDrawn, undecided_of}
 use Rattle.sk_record.specs.declared.status.Status.TheVariants.{Undecided}
-use Rattle.sk_record.proofs.Sound.{sound_first, sound_taken, sound_commit, sound_fail}
+use Rattle.sk_record.proofs.Sound.{sound_first, sound_taken, sound_commit, sound_fail, undecided_is as is_undecided}
+use Rattle.sk_guesses.proofs.Statuses.{nothing_in}
 use Rattle.sk_guesses.specs.Token.{Token}
 use Rattle.sk_ids.proofs.Entities.{entity_total, entity_exact}
 use Rattle.sk_script.specs.Boot.{BootView}
@@ -27,6 +28,8 @@ use Rattle.sk_kernel.specs.declared.kernel.Outcome.TheVariants as outcomes
 use Rattle.sk_kernel.specs.declared.kernel.Stranger.{Stranger}
 use Rattle.sk_kernel.specs.declared.kernel.FailRefusal.{FailRefusal}
 use Rattle.sk_kernel.specs.declared.kernel.FailRefusal.TheVariants as refusals
+use Rattle.sk_kernel.specs.Laws.{HasSoundTrace}
+use Rattle.sk_kernel.proofs.Further.{epoch_step, epoch_guess, epoch_commit, epoch_fail}
 use Rattle.sk_kernel.proofs.Lawful.{below_next}
 use Rattle.sk_kernel.proofs.Undecided.{undecided_is}
 use Rattle.sk_world.proofs.PlaceFacts.{length_push, opens_taken, opens_commit, opens_fail}
@@ -42,7 +45,11 @@ was_booted number boot limit numbered = record {
   numbered = numbered;
   scripts = refl;
   start = refl;
-  sound = sound_first (plain boot.scripts) (start_of boot);
+  sound = record {
+    sound = sound_first (plain boot.scripts) (start_of boot);
+    decided = λ g is. (let none : None ≡ Some Undecided = sym (nothing_in g) ∙ is in cc);
+    above = λ g drawn. (let below = drawn.1.1 in absurd (omega arith));
+  };
   place = omega arith;
 }
 
@@ -58,19 +65,22 @@ fits (inputs.Stale content) does h = h
 
 module _ (k : KernelView) (b : WasBooted k) where
   -- one event more
-  longer : (e : Event) → IsSound (plain k.scripts) k.start (events_of k ++ image e ∷ [])
+  longer : (e : Event) → HasSoundTrace (with_event k e)
       → suc (length k.trace) + length (undecided_of (plain k.scripts) k.start (events_of k ++ image e ∷ [])) ≤ k.limit → WasBooted (with_event k e)
   longer e sound place = record {
     boot = b.boot;
     numbered = b.numbered;
     scripts = b.scripts;
     start = b.start;
-    sound = subst (IsSound (plain k.scripts) k.start) (sym (map-append image k.trace (e ∷ []))) sound;
+    sound = sound;
     place =
         (let long = length_push k.trace e in
         let opens = ap (λ es. length (undecided_of (plain k.scripts) k.start es)) (map-append image k.trace (e ∷ [])) in
         omega (arith, place, long, opens));
   }
+
+  sound_more : (e : Event) → IsSound (plain k.scripts) k.start (events_of k ++ image e ∷ []) → IsSound (plain k.scripts) k.start (events_of (with_event k e))
+  sound_more e is = subst (IsSound (plain k.scripts) k.start) (sym (map-append image k.trace (e ∷ []))) is
 
   places_left : (n : ℕ) → trace_full k n ≡ None → n ≤ room k
   places_left n free = ltb-false (room k) n (not_full (nat_lt (room k) n) free)
@@ -81,7 +91,7 @@ module _ (k : KernelView) (b : WasBooted k) where
       let does = ok_of (effect_at k n) (none_first (refusal_of (effect_at k n)) (trace_full k 1) h) in
       let least = places_left 1 (none_later (refusal_of (effect_at k n)) (trace_full k 1) h) in
       let opens = opens_taken (plain k.scripts) k.start (events_of k) n in
-      longer (events.Step pid input) (sound_taken (plain k.scripts) k.start (events_of k) n b.sound (λ g h mark drawn. absurd cc) (ap is_ok does.1)) (omega (arith, least, opens))
+      longer (events.Step pid input) (epoch_step k b.sound pid input (sound_more (events.Step pid input) (sound_taken (plain k.scripts) k.start (events_of k) n b.sound.sound (λ g h mark drawn. absurd cc) (ap is_ok does.1)))) (omega (arith, least, opens))
 
   above : (g h : ℕ) → Some (next_guess k) ≡ Some g → IsDrawn (plain k.scripts) (events_of k) h → h < g
   above g h mark drawn =
@@ -96,24 +106,27 @@ module _ (k : KernelView) (b : WasBooted k) where
       let does = ok_of (effect_at k n) (fits input (effect_at k n) (none_first (guess_misfits input (effect_at k n)) later h)) in
       let least = places_left 2 (none_later (too_many k) (trace_full k 2) (none_later (guess_misfits input (effect_at k n)) later h)) in
       let opens = opens_taken (plain k.scripts) k.start (events_of k) n in
-      longer (events.Guess (next_guess k) pid input) (sound_taken (plain k.scripts) k.start (events_of k) n b.sound above (ap is_ok does.1)) (omega (arith, least, opens))
+      longer (events.Guess (next_guess k) pid input) (epoch_guess k b.sound pid input (sound_more (events.Guess (next_guess k) pid input) (sound_taken (plain k.scripts) k.start (events_of k) n b.sound.sound above (ap is_ok does.1)))) (omega (arith, least, opens))
 
   module _ (g : ℕ) (status : HasStatus k g Undecided) where
     here : has g (undecided_at k) ≡ true
     here = (undecided_is k b.sound g).1 status
 
+    status_here : StatusIs (plain k.scripts) k.start (events_of k) g Undecided
+    status_here = (is_undecided (plain k.scripts) k.start (events_of k) b.sound.sound g).0 here
+
     commit_stays : WasBooted (with_event k (events.Commit g))
     commit_stays =
         let was = b.place in
         let less = opens_commit (plain k.scripts) k.start (events_of k) g here in
-        longer (events.Commit g) (sound_commit (plain k.scripts) k.start (events_of k) g b.sound status) (omega (arith, was, less))
+        longer (events.Commit g) (epoch_commit k b.sound g (sound_more (events.Commit g) (sound_commit (plain k.scripts) k.start (events_of k) g b.sound.sound status_here))) (omega (arith, was, less))
 
     fail_stays : WasBooted (with_event k (events.Fail g))
     fail_stays =
         let was = b.place in
-        let sound = sound_fail (plain k.scripts) k.start entity_total entity_exact (events_of k) g b.sound status in
+        let sound = sound_fail (plain k.scripts) k.start entity_total entity_exact (events_of k) g b.sound.sound status_here in
         let less = opens_fail (plain k.scripts) k.start (events_of k) g sound here in
-        longer (events.Fail g) sound (omega (arith, was, less))
+        longer (events.Fail g) (epoch_fail k b.sound g (sound_more (events.Fail g) sound)) (omega (arith, was, less))
 
 -- ---- each call
 

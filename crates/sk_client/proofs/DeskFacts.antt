@@ -1,5 +1,5 @@
 -- What the definitions of a desk come to.
-use Rattle.std.proofs.Common.{Bor, map, drop, get_or, ◌≡◌, ℕ, ◌+◌, ◌-◌, ◌<◌, ◌≤◌, Bool, true, false, not, ◌&&◌, ◌||◌, cond, List, [], ◌∷◌, ◌++◌, length, Option, Some, None, Result, Ok, Err, inl, inr, refl, sym, ◌∙◌, ap, arith}
+use Rattle.std.proofs.Common.{Bor, map, drop, get_or, ◌≡◌, ℕ, ◌+◌, ◌-◌, ◌<◌, ◌≤◌, Bool, true, false, not, ◌&&◌, ◌||◌, cond, List, [], ◌∷◌, ◌++◌, length, Option, Some, None, Result, Ok, Err, inl, inr, refl, sym, ◌∙◌, ap, subst, arith}
 use Rattle.std.specs.Prelude.{◌↔◌, ◌==◌, nat_lt, IfOk}
 use Rattle.std.specs.declared.alloc.AllocError.{AllocError}
 use Rattle.std.specs.Ordering.{nat_cmp}
@@ -11,10 +11,11 @@ use Rattle.std.proofs.lemmas.List.{length-append, append_assoc, append-nil, drop
 use Rattle.std.proofs.lemmas.List.Kept.{IsStrictlySortedBy-filter}
 use Rattle.std.proofs.lemmas.List.Elements.{filter-append}
 use Rattle.sk_record.specs.Notes.{has}
-use Rattle.sk_record.specs.Trace.{Event as Happens, marks}
+use Rattle.sk_record.specs.Trace.{Event as Happens, StatusIs, marks}
 use Rattle.sk_record.specs.declared.status.Status.{Status}
 use Rattle.sk_record.specs.declared.status.Status.TheVariants.{Undecided, Committed, Failed, Struck}
-use Rattle.sk_record.proofs.Sound.{is_commit, has_commit}
+use Rattle.sk_record.proofs.Sound.{is_commit, has_commit, undecided_is as is_undecided}
+use Rattle.sk_record.proofs.Statuses.{one_status}
 use Rattle.sk_record.proofs.Machine.{has_filter}
 use Rattle.sk_record.proofs.Rising.{same_rising}
 use Rattle.sk_script.specs.declared.instruction.Input.{Input}
@@ -27,6 +28,7 @@ use Rattle.sk_store.specs.declared.entity_state.EntityState.TheVariants as store
 use Rattle.sk_trace.specs.Entry.{EntryView}
 use Rattle.sk_trace.specs.declared.event.Event.{Event}
 use Rattle.sk_trace.specs.declared.event.Event.TheVariants as events
+use Rattle.sk_plain.specs.Act.{plain}
 use Rattle.sk_plain.specs.Replay.{image}
 use Rattle.sk_plain.specs.View.{Shows}
 use Rattle.sk_plain.specs.declared.view.View.TheVariants as views
@@ -35,7 +37,9 @@ use Rattle.sk_plain.specs.declared.refusal.Refusal.{Refusal}
 use Rattle.sk_plain.specs.declared.refusal.Refusal.TheVariants.{TraceFull}
 use Rattle.sk_kernel.specs.Kernel.{KernelView, HasStatus, events_of, tags_at, undecided_at, room, effect_at, or_else, trace_full, step_refused, guess_refused, guess_misfits, too_many, next_guess}
 use Rattle.sk_kernel.specs.Laws.{HasSoundTrace}
-use Rattle.sk_kernel.proofs.Undecided.{undecided_is, undecided_sorted}
+use Rattle.sk_record.specs.Epoch.{StatusOr}
+use Rattle.sk_record.proofs.Epoch.{beyond}
+use Rattle.sk_kernel.proofs.Undecided.{undecided_sorted}
 use Rattle.sk_client.specs.declared.pending.PendingRequest.{PendingRequest}
 use Rattle.sk_client.specs.declared.rule.Rule.TheVariants as rules
 use Rattle.sk_holder.specs.Tokens.{commits}
@@ -125,9 +129,21 @@ module _ (k : KernelView) (sound : HasSoundTrace k) where
   never true h = absurd (h refl)
   never false h = refl
 
-  module _ (g : ℕ) (r : Option Status) (is : (s : Status) → (r ≡ Some s) ↔ HasStatus k g s) where
+  -- a guess of an earlier epoch is none of the trace
+  pub earlier_lost : (g : ℕ) → g < length k.earlier + 1 → true ≡ is_lost k g
+  earlier_lost g early =
+      let here : (s : Status) → StatusIs (plain k.scripts) k.start (events_of k) g s → ⊥ =
+      λ s is. let later = sound.above g ((one_status (plain k.scripts) k.start (events_of k) sound.sound g).0.1 (s, is)) in absurd (omega (arith, later, early)) in
+      let decided : has g (undecided_at k) ≡ false = never _ (λ there. here Undecided ((is_undecided (plain k.scripts) k.start (events_of k) sound.sound g).0 there)) in
+      let uncommitted : list_any (commits g) k.trace ≡ false = never _ (λ there. here Committed ((has_commit (events_of k) g).0 (sym (committed_is g) ∙ there))) in
+      sym (λ i. not (decided i) && not (uncommitted i))
+
+  module _ (g : ℕ) (later : length k.earlier < g) (r : Option Status) (told : (s : Status) → (r ≡ Some s) ↔ HasStatus k g s) where
+    is : (s : Status) → (r ≡ Some s) ↔ StatusIs (plain k.scripts) k.start (events_of k) g s
+    is s = subst (λ o. (r ≡ Some s) ↔ StatusOr (plain k.scripts) k.start o (events_of k) g s) (beyond k.earlier g later) (told s)
+
     undecided_not_lost : r ≡ Some Undecided → is_lost k g ≡ false
-    undecided_not_lost here = ap (λ b. not b && not (list_any (commits g) k.trace)) ((undecided_is k sound g).1 ((is Undecided).0 here))
+    undecided_not_lost here = ap (λ b. not b && not (list_any (commits g) k.trace)) ((is_undecided (plain k.scripts) k.start (events_of k) sound.sound g).1 ((is Undecided).0 here))
 
     committed_not_lost : r ≡ Some Committed → is_lost k g ≡ false
     committed_not_lost here =
@@ -136,7 +152,7 @@ module _ (k : KernelView) (sound : HasSoundTrace k) where
 
     others_lost : (r ≡ Some Undecided → ⊥) → (r ≡ Some Committed → ⊥) → is_lost k g ≡ true
     others_lost open_not commit_not =
-        let decided : has g (undecided_at k) ≡ false = never _ (λ here. open_not ((is Undecided).1 ((undecided_is k sound g).0 here))) in
+        let decided : has g (undecided_at k) ≡ false = never _ (λ here. open_not ((is Undecided).1 ((is_undecided (plain k.scripts) k.start (events_of k) sound.sound g).0 here))) in
         let uncommitted : list_any (commits g) k.trace ≡ false = never _ (λ here. commit_not ((is Committed).1 ((has_commit (events_of k) g).0 (sym (committed_is g) ∙ here)))) in
         (λ i. not (decided i) && not (uncommitted i))
 

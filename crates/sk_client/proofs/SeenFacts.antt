@@ -21,7 +21,8 @@ use Rattle.sk_plain.specs.Act.{plain}
 use Rattle.sk_plain.specs.Replay.{image}
 use Rattle.sk_kernel.specs.Kernel.{KernelView, events_of, record_at, state_at, tags_at, undecided_at, next_guess, settled}
 use Rattle.sk_kernel.specs.Laws.{HasSoundTrace}
-use Rattle.sk_kernel.proofs.Undecided.{undecided_is, undecided_sorted}
+use Rattle.sk_record.proofs.Sound.{undecided_is as is_undecided}
+use Rattle.sk_kernel.proofs.Undecided.{undecided_sorted}
 use Rattle.sk_kernel.proofs.Lawful.{below_next}
 use Rattle.sk_holder.specs.Tokens.{commits}
 use Rattle.sk_server.specs.declared.reply.Reply.{Reply}
@@ -174,7 +175,7 @@ module _ (xs : Exchanges) (w : World ℕ Bytes Bytes) (v : WorldView) (seen : Is
       let next : suc w.drawn ≡ next_guess K = (let same = seen.drawn in omega (arith, same)) in
       (λ i. least (next i) (undecided_seen i))
       ∙ least_is_first (next_guess K) (undecided_at K) (undecided_sorted K sound)
-      (λ y there. (let less = below_next K sound y (entry_drawn (plain K.scripts) K.start (events_of K) sound y ((undecided_is K sound y).0 there).2) in omega (arith, less)))
+      (λ y there. (let less = below_next K sound y (entry_drawn (plain K.scripts) K.start (events_of K) sound.sound y ((is_undecided (plain K.scripts) K.start (events_of K) sound.sound y).0 there).2) in omega (arith, less)))
 
   -- ---- places of the trace
 

@@ -5,9 +5,9 @@ use Rattle.std.specs.List.{filter}
 use Rattle.std.proofs.lemmas.Bool.{le-ltb, true≢false}
 use Rattle.std.proofs.lemmas.List.{append_assoc, map-append}
 use Rattle.sk_record.specs.Notes.{has}
-use Rattle.sk_record.specs.Trace.{Event as Happens, Taken, Commit, Fail, IsSound}
+use Rattle.sk_record.specs.Trace.{Event as Happens, Taken, Commit, Fail, StatusIs, IsSound}
 use Rattle.sk_record.specs.declared.status.Status.TheVariants.{Undecided}
-use Rattle.sk_record.proofs.Sound.{eqb_turned, sound_commit, sound_fail}
+use Rattle.sk_record.proofs.Sound.{eqb_turned, sound_commit, sound_fail, undecided_is as is_undecided}
 use Rattle.sk_ids.proofs.Entities.{entity_total, entity_exact}
 use Rattle.sk_script.specs.declared.instruction.Input.{Input}
 use Rattle.sk_script.specs.declared.instruction.Input.TheVariants as inputs
@@ -19,7 +19,8 @@ use Rattle.sk_plain.specs.Replay.{image}
 use Rattle.sk_plain.specs.declared.refusal.Refusal.{Refusal}
 use Rattle.sk_plain.specs.declared.refusal.Refusal.TheVariants.{TraceFull}
 use Rattle.sk_kernel.specs.Kernel.{KernelView, HasStatus, events_of, undecided_at, last_guess, number_after, room, effect_at, or_else, trace_full, step_refused, with_event}
-use Rattle.sk_kernel.proofs.Undecided.{undecided_is}
+use Rattle.sk_kernel.specs.Laws.{HasSoundTrace}
+use Rattle.sk_kernel.proofs.Further.{epoch_commit, epoch_fail}
 use Rattle.sk_server.specs.declared.request.Ask.{Ask}
 use Rattle.sk_server.specs.declared.request.Ask.TheVariants as asks
 use Rattle.sk_server.specs.declared.reply.Answer.{Answer}
@@ -76,13 +77,13 @@ module _ (xs : Exchanges) (w : World ℕ Bytes Bytes) (v : WorldView) (f : Fits 
 
   -- ---- a decision
 
-  decision_fits : (e : Event) (n : Happens Caused) (kept : List Kept) (law : ℕ → Option (LawInput Bytes)) → bare_event bare n ≡ image e → number_after (last_guess v.desk.kernel.trace) e ≡ last_guess v.desk.kernel.trace
-      → IsSound (plain v.desk.kernel.scripts) v.desk.kernel.start (events_of v.desk.kernel ++ image e ∷ []) → ((pid : ℕ) → law pid ≡ law_kept (kept_for pid kept))
+  decision_fits : (e : Event) (n : Happens Caused) (kept : List Kept) (law : ℕ → Option (LawInput Bytes)) → bare_event bare n ≡ image e → number_after (last_guess v.desk.kernel) e ≡ last_guess v.desk.kernel
+      → HasSoundTrace (with_event v.desk.kernel e) → ((pid : ℕ) → law pid ≡ law_kept (kept_for pid kept))
       → Fits xs (with_kept (with_trace w (w.trace ++ n ∷ [])) law) (record v { desk = record v.desk { kernel = with_event v.desk.kernel e; kept = kept } })
   decision_fits e n kept law same number sound answers = record {
     seen = record {
       trace = map-append (bare_event bare) w.trace (n ∷ []) ∙ (λ i. f.seen.trace i ++ same i ∷ []) ∙ sym (map-append image K.trace (e ∷ []));
-      drawn = f.seen.drawn ∙ sym number ∙ sym (last_more K.trace e);
+      drawn = f.seen.drawn ∙ sym number ∙ sym (last_more K e);
       next = f.seen.next;
       kept = answers;
       taken = f.seen.taken;
@@ -91,19 +92,22 @@ module _ (xs : Exchanges) (w : World ℕ Bytes Bytes) (v : WorldView) (f : Fits 
       refused = f.seen.refused;
       answered = f.seen.answered;
     };
-    sound = subst (IsSound (plain K.scripts) K.start) (sym (map-append image K.trace (e ∷ []))) sound;
+    sound = sound;
     kinds = f.kinds;
   }
 
   module _ (g : ℕ) (here : has g (undecided_at v.desk.kernel) ≡ true) where
-    status : HasStatus v.desk.kernel g Undecided
-    status = (undecided_is K f.sound g).0 here
+    status : StatusIs (plain v.desk.kernel.scripts) v.desk.kernel.start (events_of v.desk.kernel) g Undecided
+    status = (is_undecided (plain K.scripts) K.start (events_of K) f.sound.sound g).0 here
+
+    sound_more : (e : Event) → IsSound (plain v.desk.kernel.scripts) v.desk.kernel.start (events_of v.desk.kernel ++ image e ∷ []) → IsSound (plain v.desk.kernel.scripts) v.desk.kernel.start (events_of (with_event v.desk.kernel e))
+    sound_more e is = subst (IsSound (plain K.scripts) K.start) (sym (map-append image K.trace (e ∷ []))) is
 
     commits_so : Fits xs (with_trace w (w.trace ++ Commit g ∷ [])) (record v { desk = record v.desk { kernel = with_event v.desk.kernel (events.Commit g) } })
-    commits_so = decision_fits (events.Commit g) (Commit g) v.desk.kept w.kept refl refl (sound_commit (plain K.scripts) K.start (events_of K) g f.sound status) f.seen.kept
+    commits_so = decision_fits (events.Commit g) (Commit g) v.desk.kept w.kept refl refl (epoch_commit K f.sound g (sound_more (events.Commit g) (sound_commit (plain K.scripts) K.start (events_of K) g f.sound.sound status))) f.seen.kept
 
-    fail_sound : IsSound (plain v.desk.kernel.scripts) v.desk.kernel.start (events_of v.desk.kernel ++ Fail g ∷ [])
-    fail_sound = sound_fail (plain K.scripts) K.start entity_total entity_exact (events_of K) g f.sound status
+    fail_sound : HasSoundTrace (with_event v.desk.kernel (events.Fail g))
+    fail_sound = epoch_fail K f.sound g (sound_more (events.Fail g) (sound_fail (plain K.scripts) K.start entity_total entity_exact (events_of K) g f.sound.sound status))
 
     fails_so : Fits xs (with_trace w (w.trace ++ Fail g ∷ [])) (record v { desk = record v.desk { kernel = with_event v.desk.kernel (events.Fail g) } })
     fails_so = decision_fits (events.Fail g) (Fail g) v.desk.kept w.kept refl refl fail_sound f.seen.kept

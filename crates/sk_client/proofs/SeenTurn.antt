@@ -28,7 +28,9 @@ use Rattle.sk_plain.specs.declared.next.Next.TheVariants as nexts
 use Rattle.sk_plain.specs.declared.refusal.Refusal.{Refusal}
 use Rattle.sk_plain.specs.declared.refusal.Refusal.TheVariants.{Blocked, TooMany, TraceFull}
 use Rattle.sk_kernel.specs.Kernel.{KernelView, events_of, state_at, undecided_at, next_guess, last_guess, number_after, room, effect_at, or_else, guess_misfits, too_many, with_event}
+use Rattle.sk_kernel.specs.Laws.{HasSoundTrace}
 use Rattle.sk_kernel.proofs.Lawful.{below_next}
+use Rattle.sk_kernel.proofs.Further.{epoch_step, epoch_guess}
 use Rattle.sk_server.specs.declared.request.Ask.{Ask}
 use Rattle.sk_server.specs.declared.request.Ask.TheVariants as asks
 use Rattle.sk_server.specs.declared.server.TheConstants.{LAST_REQUEST}
@@ -96,8 +98,8 @@ law_kept_none false o = refl
 
 -- ---- numbers of guesses
 
-pub last_more : (es : List Event) (e : Event) → last_guess (es ++ e ∷ []) ≡ number_after (last_guess es) e
-last_more es e = fold-append number_after 0 es (e ∷ [])
+pub last_more : (k : KernelView) (e : Event) → last_guess (with_event k e) ≡ number_after (last_guess k) e
+last_more k e = fold-append number_after (length k.earlier) k.trace (e ∷ [])
 
 module _ (xs : Exchanges) (w : World ℕ Bytes Bytes) (v : WorldView) (f : Fits xs w v) where
   abbrev K : KernelView
@@ -139,7 +141,7 @@ module _ (xs : Exchanges) (w : World ℕ Bytes Bytes) (v : WorldView) (f : Fits 
   sound_step p input h =
       let g = ok_of (effect_at K (entry p input None)) h in
       subst (IsSound (plain K.scripts) K.start) (sym (map-append image K.trace (events.Step p input ∷ [])))
-      (sound_taken (plain K.scripts) K.start (events_of K) (entry p input None) f.sound (λ g h mark drawn. absurd cc) (ap is_ok g.1))
+      (sound_taken (plain K.scripts) K.start (events_of K) (entry p input None) f.sound.sound (λ g h mark drawn. absurd cc) (ap is_ok g.1))
 
   pub step_fits : (p : ℕ) (input : Input) (n : Entry ℕ Bytes Bytes) (kept : ℕ → Option (LawInput Bytes)) (desk : DeskView) → bare n ≡ entry p input None → desk.taken ≡ v.desk.taken → desk.waiting ≡ v.desk.waiting
       → desk.next ≡ v.desk.next → desk.kernel ≡ with_event v.desk.kernel (events.Step p input) → ((pid : ℕ) → kept pid ≡ law_kept (kept_for pid desk.kept))
@@ -147,7 +149,7 @@ module _ (xs : Exchanges) (w : World ℕ Bytes Bytes) (v : WorldView) (f : Fits 
   step_fits p input n kept desk same t q number k answers h = record {
     seen = record {
       trace = trace_more n (events.Step p input) (ap Taken same) ∙ ap events_of (sym k);
-      drawn = f.seen.drawn ∙ sym (last_more K.trace (events.Step p input)) ∙ ap (λ (x : KernelView). last_guess x.trace) (sym k);
+      drawn = f.seen.drawn ∙ sym (last_more K (events.Step p input)) ∙ ap last_guess (sym k);
       next = f.seen.next ∙ sym number;
       kept = answers;
       taken = f.seen.taken ∙ (λ i. law_served (sym t i) v.replies);
@@ -156,7 +158,7 @@ module _ (xs : Exchanges) (w : World ℕ Bytes Bytes) (v : WorldView) (f : Fits 
       refused = f.seen.refused;
       answered = f.seen.answered;
     };
-    sound = subst (λ (x : KernelView). IsSound (plain x.scripts) x.start (events_of x)) (sym k) (sound_step p input h);
+    sound = subst (λ (x : KernelView). HasSoundTrace x) (sym k) (epoch_step K f.sound p input (sound_step p input h));
     kinds = subst AreFor (λ i. sym t i ++ sym q i) f.kinds;
   }
 
@@ -263,14 +265,14 @@ module _ (xs : Exchanges) (w : World ℕ Bytes Bytes) (v : WorldView) (f : Fits 
       → IsSound (plain v.desk.kernel.scripts) v.desk.kernel.start (events_of (with_event v.desk.kernel (events.Guess (next_guess v.desk.kernel) p inputs.Good)))
   sound_guess p does is =
       subst (IsSound (plain K.scripts) K.start) (sym (map-append image K.trace (events.Guess (next_guess K) p inputs.Good ∷ [])))
-      (sound_taken (plain K.scripts) K.start (events_of K) (entry p inputs.Good (Some (next_guess K))) f.sound drawn_below (ap is_ok is))
+      (sound_taken (plain K.scripts) K.start (events_of K) (entry p inputs.Good (Some (next_guess K))) f.sound.sound drawn_below (ap is_ok is))
 
   guessing_fits : (p : ℕ) (ask : Ask) (does : Did) → IsFor (Some (next_guess v.desk.kernel)) ask → effect_at v.desk.kernel (entry p inputs.Good (Some (next_guess v.desk.kernel))) ≡ Ok does
       → Fits xs (guessing p (law_ask ask)) (record v { desk = turned v.desk p (rules.Guesses ask) })
   guessing_fits p ask does kind is = record {
     seen = record {
       trace = trace_more (guess_entry (table K.scripts K.limit) K.start w p (law_ask ask)) (events.Guess (next_guess K) p inputs.Good) (λ i. Taken (entry p inputs.Good (Some (next_same i))));
-      drawn = next_same ∙ sym (last_more K.trace (events.Guess (next_guess K) p inputs.Good));
+      drawn = next_same ∙ sym (last_more K (events.Guess (next_guess K) p inputs.Good));
       next = next_more;
       kept = f.seen.kept;
       taken = f.seen.taken;
@@ -279,7 +281,7 @@ module _ (xs : Exchanges) (w : World ℕ Bytes Bytes) (v : WorldView) (f : Fits 
       refused = f.seen.refused;
       answered = f.seen.answered;
     };
-    sound = sound_guess p does is;
+    sound = epoch_guess K f.sound p inputs.Good (sound_guess p does is);
     kinds = kinds_more (request_of v.desk p ask (Some (next_guess K))) kind;
   }
 

@@ -42,36 +42,41 @@ use Rattle.sk_client.specs.declared.desk.Given.TheVariants as gives
 use Rattle.sk_client.specs.declared.desk.ReplyRefusal.{ReplyRefusal}
 use Rattle.sk_client.specs.declared.desk.ReplyRefusal.TheVariants.{OutOfTurn, WrongKind}
 
--- the kernel; the requests without a reply, those that were taken and those that wait to be, the oldest first; the number of
--- the next request to be made; and the kept answers
+-- the kernel; the requests without a reply, those that were taken and those that wait to be, the oldest first; the numbers of
+-- the first request of the epoch and of the next one to be made; and the kept answers
 pub record DeskView : Type 0 where
   pub kernel : KernelView
   pub taken : List PendingRequest
   pub waiting : List PendingRequest
+  pub first : ℕ
   pub next : ℕ
   pub kept : List Kept
 
 abbrev pub desk_code : Coded DeskView
 desk_code =
-    code_by (KernelView × (List PendingRequest × (List PendingRequest × (ℕ × List Kept))))
-    (coded× kernel_code (coded× (coded_list pending_row.the_row.coded) (coded× (coded_list pending_row.the_row.coded) (coded× coded_ℕ (coded_list kept_row.the_row.coded)))))
-    (λ d. (d.kernel, (d.taken, (d.waiting, (d.next, d.kept)))))
-    (λ p. record { kernel = p.0; taken = p.1.0; waiting = p.1.1.0; next = p.1.1.1.0; kept = p.1.1.1.1 }) (λ _. refl)
+    code_by (KernelView × (List PendingRequest × (List PendingRequest × (ℕ × (ℕ × List Kept)))))
+    (coded× kernel_code (coded× (coded_list pending_row.the_row.coded) (coded× (coded_list pending_row.the_row.coded) (coded× coded_ℕ (coded× coded_ℕ (coded_list kept_row.the_row.coded))))))
+    (λ d. (d.kernel, (d.taken, (d.waiting, (d.first, (d.next, d.kept))))))
+    (λ p. record { kernel = p.0; taken = p.1.0; waiting = p.1.1.0; first = p.1.1.1.0; next = p.1.1.1.1.0; kept = p.1.1.1.1.1 }) (λ _. refl)
 
 -- the number of the first request that a desk makes
 abbrev pub first_number : ℕ
 first_number = 1
 
+-- over a kernel, before any request of an epoch whose first one has this number
+abbrev pub opened_at : KernelView → ℕ → DeskView
+opened_at k first = record { kernel = k; taken = []; waiting = []; first = first; next = first; kept = [] }
+
 -- over a kernel, before any request
 abbrev pub opened : KernelView → DeskView
-opened k = record { kernel = k; taken = []; waiting = []; next = first_number; kept = [] }
+opened k = opened_at k first_number
 
 abbrev pub pending : DeskView → List PendingRequest
 pending d = d.taken ++ d.waiting
 
--- how many requests were taken: those that were made, but for those that wait
+-- how many requests of the epoch were taken: those that were made, but for those that wait
 abbrev pub requests_taken : DeskView → ℕ
-requests_taken d = d.next - 1 - length d.waiting
+requests_taken d = d.next - d.first - length d.waiting
 
 -- ---- asked requests
 

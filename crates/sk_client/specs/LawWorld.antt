@@ -122,7 +122,7 @@ answered_here x = (x.0.number, (law_ask x.0.ask, (x.0.guess, law_answer x.1.answ
 -- behind these exchanges, a world of the laws, whose entries have causes besides, is seen so
 pub record IsSeen (served : Exchanges) (w : World ℕ Bytes Bytes) (v : WorldView) : Type 0 where
   pub trace : map (bare_event bare) w.trace ≡ events_of v.desk.kernel
-  pub drawn : w.drawn ≡ last_guess v.desk.kernel.trace
+  pub drawn : w.drawn ≡ last_guess v.desk.kernel
   pub next : w.next ≡ v.desk.next
   pub kept : (pid : ℕ) → w.kept pid ≡ law_kept (kept_for pid v.desk.kept)
   pub taken : w.taken ≡ law_served v.desk.taken v.replies
@@ -146,7 +146,7 @@ event_before (Fail g) = Fail g
 abbrev pub begun : KernelView → (Bytes → Content Bytes) → World ℕ Bytes Bytes
 begun k files = record {
   trace = map event_before (events_of k);
-  drawn = last_guess k.trace;
+  drawn = last_guess k;
   next = 1;
   kept = λ pid. None;
   taken = [];

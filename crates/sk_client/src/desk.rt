@@ -5,16 +5,16 @@ ghost use Rattle.sk_plain.specs.Refusal.{cause};
 ghost use Rattle.sk_kernel.specs.Kernel.{undecided_at, room};
 ghost use Rattle.sk_server.specs.declared.server.TheConstants.{LAST_REQUEST};
 ghost use Rattle.sk_trace.specs.Kept.{input_in};
-ghost use Rattle.sk_client.specs.Desk.{first_number, opened, pending, requests_taken, asks_for, asks_on, asked_count, kept_for, forgotten, kept_after, answer_kept, cached, buffer, rule, rule_next, guess_refused_at, rests_of, request_of, first_sent, first_taken, first_guess, expected, fits_ask, reply_refused, is_lost, lost_by, is_void, given, given_answer, decision_answer, input_of};
+ghost use Rattle.sk_client.specs.Desk.{opened, pending, requests_taken, asks_for, asks_on, asked_count, kept_for, forgotten, kept_after, answer_kept, cached, buffer, rule, rule_next, guess_refused_at, rests_of, request_of, first_sent, first_taken, first_guess, expected, fits_ask, reply_refused, is_lost, lost_by, is_void, given, given_answer, decision_answer, input_of};
 ghost use Rattle.sk_client.specs.Upcoming.{turn_step, reply_step};
-ghost use Rattle.sk_client.specs.DeskCalls.{TurnPost, RulePost, ReplyPost, ShutPost};
+ghost use Rattle.sk_client.specs.DeskCalls.{TurnPost, RulePost, ReplyPost, ShutPost, DeskEpochPost};
 
 use crate::pending::{Kept, PendingRequest, Waiting, name_of};
 use crate::rule::{Rule, fetch_rule, store_rule, unless_kept};
 use sk_guesses::Status;
 use sk_holder::Holder;
 use sk_ids::{Entity, GuessId, Name, Pid, TagSet, Text};
-use sk_kernel::{Kernel, Outcome};
+use sk_kernel::{EpochRefusal, Kernel, Outcome};
 use sk_objects::Value;
 use sk_objects::content::LAST_VERSION;
 use sk_plain::{InputRef, Next, Refusal, Trace, View};
@@ -73,6 +73,7 @@ pub struct Desk {
     pub(crate) holder: Holder,
     taken: VecDeque<PendingRequest>,
     waiting: VecDeque<Waiting>,
+    first: u64,
     next: u64,
     kept: Vec<Kept>,
 }
@@ -87,7 +88,7 @@ impl Model for Desk {
 
     ghost coded = { desk_code };
 
-    ghost view = { λ d. record { kernel = d.holder.kernel; taken = d.taken.items; waiting = d.waiting.items; next = d.next; kept = d.kept.items } };
+    ghost view = { λ d. record { kernel = d.holder.kernel; taken = d.taken.items; waiting = d.waiting.items; first = d.first; next = d.next; kept = d.kept.items } };
 
     ghost invariant = { λ d. IsTidy d.holder.held d.taken.items d.waiting.items (deque_capacity d.taken) (length d.kept.items) (vec_capacity d.kept) };
 }
@@ -174,11 +175,14 @@ fn kept_for(kept: &[Kept], pid: Pid) -> Option<Input>
     None
 }
 
-/// Whether a guess failed or was struck.
+/// Whether a guess failed or was struck; true of one that an earlier epoch made, on which nothing rests.
 fn is_lost(kernel: &Kernel, id: GuessId) -> bool
     ensures { result ≡ is_lost kernel.now id }
 {
     let _sound = kernel.trace();
+    if id.number() < kernel.opening().guess() {
+        return true;
+    }
     lost_by(kernel.status(id))
 }
 
@@ -266,16 +270,17 @@ impl Desk {
             holder: Holder::new(alloc, kernel),
             taken: VecDeque::new(alloc),
             waiting: VecDeque::new(alloc),
+            first: FIRST_REQUEST,
             next: FIRST_REQUEST,
             kept: Vec::new(alloc),
         }
     }
 
-    /// The number of the first request since the desk was made. This takes no memory.
+    /// The number of the first request since the desk was made, or since its last epoch began. This takes no memory.
     pub fn first(&self) -> u64
-        ensures { result ≡ first_number }
+        ensures { result ≡ self.now.first }
     {
-        FIRST_REQUEST
+        self.first
     }
 
     /// The kernel.
@@ -292,11 +297,11 @@ impl Desk {
         self.taken.len() + self.waiting.len()
     }
 
-    /// How many requests were taken, with or without a reply by now.
+    /// How many requests were taken since then, with or without a reply by now.
     pub fn requests_taken(&self) -> u64
         ensures { result ≡ requests_taken self.now }
     {
-        let made = self.next.saturating_sub(1);
+        let made = self.next.saturating_sub(self.first);
         made.saturating_sub(self.waiting.len() as u64)
     }
 
@@ -638,6 +643,22 @@ impl Desk {
         Ok(Given::Taken(number))
     }
 
+    /// Begins a new epoch of the kernel where no request is pending: the trace, and what terminals have released,
+    /// are handed out, and kept answers are forgotten. Numbers of requests go on: `first` is the next one. Refusals:
+    /// `Undecided` with the number of pending requests, then `Memory`; nothing has changed.
+    pub fn new_epoch(&mut self) -> Result<(Trace, Texts), EpochRefusal>
+        ensures { DeskEpochPost result self.old self.new }
+    {
+        let count = self.pending();
+        if count > 0 {
+            return Err(EpochRefusal::Undecided(count));
+        }
+        let left = self.holder.new_epoch()?;
+        self.kept.clear();
+        self.first = self.next;
+        Ok(left)
+    }
+
     /// Ends a desk of which no request is pending: its trace, and what its terminals have released. Refused
     /// where requests are pending. This takes no memory.
     pub fn shut(self) -> Result<(Trace, Texts), (Desk, Pending)>
@@ -651,6 +672,7 @@ impl Desk {
             holder,
             taken: _,
             waiting: _,
+            first: _,
             next: _,
             kept: _,
         } = self;
@@ -663,6 +685,7 @@ impl Desk {
             holder,
             taken: _,
             waiting: _,
+            first: _,
             next: _,
             kept: _,
         } = self;

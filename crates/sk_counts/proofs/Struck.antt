@@ -1,9 +1,11 @@
 -- A guess is struck where it was made, no event decides it, and the record has its entry no more: the tests say what the status says.
-use Rattle.std.proofs.Common.{◌≡◌, ℕ, Bool, true, false, not, ◌&&◌, ◌||◌, List, [], ◌∷◌, map, Option, Some, None, inl, inr, refl, sym, ◌∙◌, ap}
+use Rattle.std.proofs.Common.{◌≡◌, ℕ, ◌<◌, ◌+◌, length, subst, arith, Bool, true, false, not, ◌&&◌, ◌||◌, List, [], ◌∷◌, map, Option, Some, None, inl, inr, refl, sym, ◌∙◌, ap}
 use Rattle.std.specs.Prelude.{◌↔◌, ◌⊎◌}
 use Rattle.std.specs.List.{list_any, Contains}
 use Rattle.std.proofs.lemmas.Bool.{and_from, or_cases, or_from, or_left, or_parts, true≢false, eq-eqb, false_from_ne_true, not_from_false}
-use Rattle.sk_record.specs.Trace.{Event as Happens, Commit, Fail, HasEntry, IsDrawn}
+use Rattle.sk_record.specs.Trace.{Event as Happens, Commit, Fail, HasEntry, IsDrawn, StatusIs}
+use Rattle.sk_record.specs.Epoch.{status_in, StatusOr}
+use Rattle.sk_record.proofs.Epoch.{beyond}
 use Rattle.sk_record.specs.declared.status.Status.{Status}
 use Rattle.sk_record.specs.declared.status.Status.TheVariants.{Undecided, Committed, Failed, Struck}
 use Rattle.sk_record.proofs.Sound.{any_from, draws, is_commit, is_fail, has_commit, has_fail, has_entry, is_drawn, marked_is, or_no}
@@ -15,6 +17,7 @@ use Rattle.sk_trace.specs.declared.event.Event.TheVariants as events
 use Rattle.sk_plain.specs.Act.{plain}
 use Rattle.sk_plain.specs.Replay.{image, is_made}
 use Rattle.sk_kernel.specs.Kernel.{KernelView, HasStatus, events_of, record_at}
+use Rattle.sk_kernel.specs.Laws.{HasSoundTrace}
 use Rattle.sk_counts.specs.Counts.{makes, decides, is_struck, is_struck_status}
 
 -- a test of events that is one of their images
@@ -76,8 +79,8 @@ module _ (k : KernelView) (g : ℕ) where
       let is = has_entry (plain k.scripts) k.start (record_at k) g in
       (λ h. is.0 (same ∙ h), λ d. sym same ∙ is.1 d)
 
-  pub struck_is : (is_struck k g ≡ true) ↔ HasStatus k g Struck
-  struck_is = (
+  struck_here : (is_struck k g ≡ true) ↔ StatusIs (plain k.scripts) k.start (events_of k) g Struck
+  struck_here = (
     λ h.
         let parts = and_parts _ _ h in
         let none = or_parts _ _ (none_from _ parts.1) in (
@@ -92,12 +95,22 @@ module _ (k : KernelView) (g : ℕ) where
         and_from _ _ (made_is.1 s.0) (not_from_false _ (or_from _ _ undecided gone)),
   )
 
-  never : (s : Option Status) → ((t : Status) → (s ≡ Some t) ↔ HasStatus k g t) → (s ≡ Some Struck → ⊥) → false ≡ is_struck k g
-  never s is other = sym (false_from_ne_true (is_struck k g) (λ h. other ((is Struck).1 (struck_is.0 h))))
+  pub struck_is : length k.earlier < g → (is_struck k g ≡ true) ↔ HasStatus k g Struck
+  struck_is later =
+      let none : status_in k.earlier g ≡ None = beyond k.earlier g later in
+      subst (λ o. (is_struck k g ≡ true) ↔ StatusOr (plain k.scripts) k.start o (events_of k) g Struck) (sym none) struck_here
 
-  pub status_test : (s : Option Status) → ((t : Status) → (s ≡ Some t) ↔ HasStatus k g t) → is_struck_status s ≡ is_struck k g
-  status_test (Some Struck) is = sym (struck_is.1 ((is Struck).0 refl))
-  status_test (Some Undecided) is = never (Some Undecided) is (λ e. absurd cc)
-  status_test (Some Committed) is = never (Some Committed) is (λ e. absurd cc)
-  status_test (Some Failed) is = never (Some Failed) is (λ e. absurd cc)
-  status_test None is = never None is (λ e. absurd cc)
+  -- a guess of an earlier epoch is none of the trace
+  pub none_earlier : HasSoundTrace k → g < length k.earlier + 1 → false ≡ is_struck k g
+  none_earlier sound early = sym (false_from_ne_true (is_struck k g) (λ h. let later = sound.above g (struck_here.0 h).0 in absurd (omega (arith, later, early))))
+
+  module _ (later : length k.earlier < g) where
+    never : (s : Option Status) → ((t : Status) → (s ≡ Some t) ↔ HasStatus k g t) → (s ≡ Some Struck → ⊥) → false ≡ is_struck k g
+    never s is other = sym (false_from_ne_true (is_struck k g) (λ h. other ((is Struck).1 ((struck_is later).0 h))))
+
+    pub status_test : (s : Option Status) → ((t : Status) → (s ≡ Some t) ↔ HasStatus k g t) → is_struck_status s ≡ is_struck k g
+    status_test (Some Struck) is = sym ((struck_is later).1 ((is Struck).0 refl))
+    status_test (Some Undecided) is = never (Some Undecided) is (λ e. absurd cc)
+    status_test (Some Committed) is = never (Some Committed) is (λ e. absurd cc)
+    status_test (Some Failed) is = never (Some Failed) is (λ e. absurd cc)
+    status_test None is = never None is (λ e. absurd cc)

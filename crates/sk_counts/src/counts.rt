@@ -7,7 +7,7 @@ use crate::standing::read_trace;
 use sk_kernel::Kernel;
 use std::alloc::{AllocError, Global};
 
-/// What is counted of a kernel since it was booted.
+/// What is counted of a kernel since its boot, or since the last epoch ended.
 #[repr(C)]
 #[derive(Clone, Copy, Debug, PartialEq, Eq)]
 pub struct Counts {

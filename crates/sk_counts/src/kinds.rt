@@ -1,7 +1,8 @@
 //! The kinds of events that are counted.
 ghost use Rattle.std.specs.Prelude.{◌≡◌, count_by};
-ghost use Rattle.sk_counts.specs.Counts.{is_step, is_guess, is_commit, is_failure, is_struck_status, makes_struck};
+ghost use Rattle.sk_counts.specs.Counts.{is_step, is_guess, is_commit, is_failure, is_struck, is_struck_status, makes_struck};
 
+use sk_ids::GuessId;
 use sk_kernel::Kernel;
 use sk_record::Status;
 use sk_trace::Event;
@@ -56,12 +57,23 @@ fn is_struck(status: Option<Status>) -> bool
     }
 }
 
+/// Whether a guess of the trace was struck; false of one that an earlier epoch made.
+fn is_struck_here(kernel: &Kernel, id: GuessId) -> bool
+    ensures { result ≡ is_struck kernel.now id }
+{
+    let _sound = kernel.trace();
+    if id.number() < kernel.opening().guess() {
+        return false;
+    }
+    is_struck(kernel.status(id))
+}
+
 /// Whether it makes a guess that was struck later.
 pub(crate) fn makes_struck(kernel: &Kernel, event: &Event) -> bool
     ensures { result ≡ makes_struck kernel.now event.now }
 {
     match event {
-        Event::Guess { id, .. } => is_struck(kernel.status(*id)),
+        Event::Guess { id, .. } => is_struck_here(kernel, *id),
         Event::Step { .. } | Event::Commit(_) | Event::Fail(_) => false,
     }
 }

@@ -7,8 +7,9 @@ use Rattle.std.proofs.lemmas.List.Elements.{Contains-push, Contains-push_cases, 
 use Rattle.std.proofs.lemmas.Option.{slice_get-get_or}
 use Rattle.std.proofs.lemmas.List.{take-append-drop}
 use Rattle.std.specs.Prelude.{drop}
-use Rattle.sk_kernel.specs.Opening.{opening_of}
-use Rattle.sk_client.specs.Desk.{DeskView, first_number}
+use Rattle.sk_kernel.specs.Kernel.{KernelView}
+use Rattle.sk_kernel.specs.Opening.{OpeningView, opening_of}
+use Rattle.sk_client.specs.Desk.{DeskView, opened_at}
 use Rattle.sk_workers.specs.declared.entry.Call.{Call}
 use Rattle.sk_workers.specs.declared.entry.Call.TheVariants as calls
 use Rattle.sk_workers.specs.declared.entry.Answered.{Answered}
@@ -16,7 +17,7 @@ use Rattle.sk_workers.specs.declared.entry.Answered.TheVariants.{Turned}
 use Rattle.sk_workers.specs.declared.entry.Receipt.{Receipt}
 use Rattle.sk_workers.specs.declared.entry.Entry.{Entry}
 use Rattle.sk_workers.specs.Views.{WorkerView, SharedView}
-use Rattle.sk_workers.specs.History.{Told, TurnTold, AreFresh, entry, receipt}
+use Rattle.sk_workers.specs.History.{Runs, Told, TurnTold, AreFresh, entry, receipt}
 use Rattle.sk_workers.specs.Closing.{numbers, begins_turn, IsClosed}
 use Rattle.sk_crew.specs.declared.crew.CrewFault.{CrewFault}
 use Rattle.sk_crew.specs.declared.crew.CrewFault.TheVariants.{Memory, Close}
@@ -211,11 +212,36 @@ served_keep n processes ws kept others rest back first lead last are is_front is
     (push_keeps n processes rest last (λ w there. in_front w (Contains-append_left rest (first ∷ []) w there)) (replies_keep n processes lead last number (same ∙ zero_is) replies led))
     (does in_back)
 
-from_start : (d : DeskView) (s : SharedView) → (s.opening ≡ opening_of d.kernel) × (s.first ≡ first_number) → s ≡ start_of d
+-- a kernel without earlier guesses is fixed by its opening
+none_earlier : {A : Type 0} (xs : List A) → length xs + 1 ≡ 1 → xs ≡ []
+none_earlier [] is = refl
+none_earlier (x ∷ xs) is = absurd (omega (arith, is))
+
+same_kernel : (k l : KernelView) → opening_of l ≡ opening_of k → k.earlier ≡ [] → k.trace ≡ [] → record l { trace = [] } ≡ k
+same_kernel k l same first none =
+    let e : l.earlier ≡ [] = none_earlier l.earlier (ap (λ (o : OpeningView). o.guess) same ∙ ap (λ n. n + 1) (ap length first)) in
+    λ i. record {
+      number = (same i).number;
+      scripts = (same i).start.scripts;
+      start = (same i).start.state;
+      limit = (same i).limit;
+      earlier = (e ∙ sym first) i;
+      trace = sym none i;
+    }
+
+-- so that the history of a close leads from the desk that was shared
+pub runs_from : (d : DeskView) (s : SharedView) (ws : List WorkerView) (history : List Entry) (last : DeskView) → d ≡ opened_at d.kernel d.first → d.kernel.trace ≡ []
+    → (s.opening ≡ opening_of d.kernel) × (s.first ≡ d.first) → IsClosed s ws history last → d.kernel.earlier ≡ [] → Runs d history last
+runs_from d s ws history last is none from closed first =
+    let kernel = same_kernel d.kernel last.kernel (closed.from.0 ∙ from.0) first none in
+    let number : last.first ≡ d.first = closed.from.1 ∙ from.1 in
+    subst (λ (x : DeskView). Runs x history last) ((λ i. opened_at (kernel i) (number i)) ∙ sym is) closed.legal
+
+from_start : (d : DeskView) (s : SharedView) → (s.opening ≡ opening_of d.kernel) × (s.first ≡ d.first) → s ≡ start_of d
 from_start d s from = λ i. record { opening = from.0 i; first = from.1 i }
 
 pub crewed : (n : ℕ) (d : DeskView) (s : SharedView) (ws us : List WorkerView) (processes : List ℕ) (history : List Entry) (last : DeskView)
-    → (s.opening ≡ opening_of d.kernel) × (s.first ≡ first_number) → AreFresh n us → numbers ws ≡ numbers us → processes ≡ processes_of d
+    → (s.opening ≡ opening_of d.kernel) × (s.first ≡ d.first) → AreFresh n us → numbers ws ≡ numbers us → processes ≡ processes_of d
     → (AreFresh n us → AllKeepTo n processes ws) → IsClosed s ws history last → IsCrewed n d history last
 crewed n d s ws us processes history last from are same is keeps closed = record {
   crew = ws;
@@ -225,7 +251,7 @@ crewed n d s ws us processes history last from are same is keeps closed = record
 }
 
 pub has_cause : (n : ℕ) (d : DeskView) (s : SharedView) (ws us : List WorkerView) (processes : List ℕ) (fault : CrewFault)
-    → (s.opening ≡ opening_of d.kernel) × (s.first ≡ first_number) → AreFresh n us → numbers ws ≡ numbers us → processes ≡ processes_of d
+    → (s.opening ≡ opening_of d.kernel) × (s.first ≡ d.first) → AreFresh n us → numbers ws ≡ numbers us → processes ≡ processes_of d
     → (AreFresh n us → AllKeepTo n processes ws) → IsRefused s ws fault → HasCause n d fault
 has_cause n d s ws us processes Memory from are same is keeps refused = tt
 has_cause n d s ws us processes (Close why) from are same is keeps refused = (

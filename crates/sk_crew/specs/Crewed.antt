@@ -1,7 +1,7 @@
 -- What a crew leaves, and why it has no history.
 use Rattle.std.specs.Prelude.{ℕ, List, ⊤}
 use Rattle.sk_kernel.specs.Opening.{opening_of}
-use Rattle.sk_client.specs.Desk.{DeskView, first_number}
+use Rattle.sk_client.specs.Desk.{DeskView}
 use Rattle.sk_workers.specs.declared.entry.Entry.{Entry}
 use Rattle.sk_workers.specs.Views.{SharedView, BookView, WorkerView}
 use Rattle.sk_workers.specs.History.{IsLegal}
@@ -12,7 +12,7 @@ use Rattle.sk_crew.specs.Duties.{AreNumbered, AllKeepTo, processes_of}
 
 -- where a desk begins
 abbrev pub start_of : DeskView → SharedView
-start_of d = record { opening = opening_of d.kernel; first = first_number }
+start_of d = record { opening = opening_of d.kernel; first = d.first }
 
 -- so many workers, numbered from 0, have a receipt for each call of one legal history from the opening of this desk to the last one, on which
 -- nothing is pending; and each call is its worker's to make

@@ -1,6 +1,6 @@
 //! A crew, from its desk and server to the history of its calls.
 ghost use Rattle.std.specs.Prelude.{◌≡◌, ◌≤◌, ◌<◌, [], vec_len, IfOk, IfErr};
-ghost use Rattle.sk_client.specs.Desk.{opened, pending};
+ghost use Rattle.sk_client.specs.Desk.{opened_at, pending};
 ghost use Rattle.sk_workers.specs.History.{Runs, AreFresh};
 ghost use Rattle.sk_workers.specs.Closing.{numbers, AreDistinct, IsClosed};
 ghost use Rattle.sk_crew.specs.Crewed.{IsCrewed, IsRefused, HasCause};
@@ -103,7 +103,7 @@ fn run_served<L: Ledger + Send + Sync, R: Threads + Wait + Sync, G: Gate + Sync>
     }
 }
 
-/// Runs workers, each in a thread of its own, on a desk on which nothing was done, and a server
+/// Runs workers, each in a thread of its own, on a desk on which nothing was done in its epoch, and a server
 /// beside them; then closes the desk. Worker k has the processes whose places, by rising number
 /// from 0, are k modulo the number of workers, and takes a turn of each in rounds, until each turn
 /// of a round was answered `Ended`, or for so many turns as the plan says. Before each turn it runs
@@ -120,10 +120,10 @@ pub fn run_crew<L: Ledger + Send + Sync, R: Threads + Wait + Sync, G: Gate + Syn
 ) -> Result<(History, Server), CrewFault>
     requires ledger { (blank.name ≡ L.name) × (blank.parts ≡ L.parts) × (L.parts ≡ plan.workers) }
     requires count { (1 ≤ plan.workers) × (plan.workers ≤ 8) }
-    requires opened { desk ≡ opened desk.kernel }
+    requires opened { desk ≡ opened_at desk.kernel desk.first }
     requires trace { desk.kernel.trace ≡ [] }
     ensures crewed { IfOk result (λ done. IsCrewed plan.workers desk done.0.entries.items done.0.desk) }
-    ensures legal { IfOk result (λ done. Runs desk done.0.entries.items done.0.desk) }
+    ensures legal { IfOk result (λ done. desk.kernel.earlier ≡ [] → Runs desk done.0.entries.items done.0.desk) }
     ensures settled { IfOk result (λ done. pending done.0.desk ≡ []) }
     ensures fault { IfErr result (HasCause plan.workers desk) }
 {

@@ -3,3 +3,4 @@ pub mod Decided
 pub mod Opens
 pub mod Places
 pub mod Statuses
+mod Fours

@@ -21,13 +21,14 @@ use Rattle.sk_record.specs.declared.status.Status.{Status}
 use Rattle.sk_record.specs.declared.status.Status.TheVariants.{Undecided, Committed, Failed, Struck}
 use Rattle.sk_record.proofs.Machine.{has_filter}
 use Rattle.sk_record.proofs.Rising.{above}
-use Rattle.sk_guesses.specs.Guesses.{GuessesView, is_full, is_undecided, undecided_of, status_of, decided, drawn, next_of}
+use Rattle.sk_record.specs.Epoch.{status_in}
+use Rattle.sk_guesses.specs.Guesses.{GuessesView, is_full, is_undecided, undecided_of, status_since, decided, drawn, next_of}
 use Rattle.sk_guesses.specs.Opens.{OpenGuess, AreOpen, opens_of, dependents_of, but, not_resting, after_commit, without_tag, struck_by, open_in, without_list, depending, relieved, left_to}
 use Rattle.sk_guesses.specs.EntitySet.{with_entity, without_entity}
 use Rattle.sk_ids.specs.declared.entity.Entity.{Entity}
 use Rattle.sk_guesses.specs.Room.{Listing}
 use Rattle.sk_guesses.proofs.Count.{count_of}
-use Rattle.sk_guesses.proofs.Statuses.{some_number, status-at, status-drawn, status-decided}
+use Rattle.sk_guesses.proofs.Statuses.{at-place, some_number, nothing_in, drawn-since, status-drawn, status-decided}
 
 abbrev pub guess_of : Listing → OpenGuess
 guess_of l = l.guess
@@ -98,11 +99,13 @@ open_is (Some Struck) is = absurd (true≢false (sym is))
 
 pub counted : (v : GuessesView) (os : List OpenGuess) → AreOpen v os → undecided_of v.statuses ≡ length os
 counted v os are =
-    count_of v (named os) are.rising (λ g. ((λ here. open_is (status_of v g) (sym (are.tied g) ∙ here)), λ is. are.tied g ∙ ap open_in is)) ∙ as_many os
+    count_of v (named os) are.rising (λ g. ((λ here. open_is (status_since v g) (sym (are.tied g) ∙ here)), λ is. are.tied g ∙ ap open_in is)) ∙ as_many os
 
 -- where one stands among the statuses
-pub within : (v : GuessesView) (g : ℕ) (s : Status) → status_of v g ≡ Some s → g - 1 < length v.statuses
-within v g s is = slice_get_within v.statuses (g - 1) s (sym (status-at v g (some_number v g s is)) ∙ is)
+pub within : (v : GuessesView) (g : ℕ) (s : Status) → status_since v g ≡ Some s → g - length v.earlier - 1 < length v.statuses
+within v g s is =
+    let n = g - length v.earlier in
+    slice_get_within v.statuses (n - 1) s (sym (at-place v.statuses n (some_number v.statuses n s is)) ∙ is)
 
 -- ---- one goes
 turned : (a b : ℕ) → (a == b) ≡ (b == a)
@@ -117,14 +120,14 @@ all_kept P p [] all = tt
 all_kept P p (x ∷ xs) all =
     elim (p x) as (λ b. AllByRecursion P (cond b (x ∷ filter p xs) (filter p xs))) [ true ↦ (all.0, all_kept P p xs all.1) | false ↦ all_kept P p xs all.1 ]
 
-tied_but : (v : GuessesView) (os : List OpenGuess) (id : ℕ) (s : Status) → AreOpen v os → status_of v id ≡ Some Undecided → is_undecided s ≡ false
-    → (g : ℕ) → has g (named (but id os)) ≡ open_in (status_of (decided v id s) g)
+tied_but : (v : GuessesView) (os : List OpenGuess) (id : ℕ) (s : Status) → AreOpen v os → status_since v id ≡ Some Undecided → is_undecided s ≡ false
+    → (g : ℕ) → has g (named (but id os)) ≡ open_in (status_since (decided v id s) g)
 tied_but v os id s are was becomes g =
     ap (has g) (but_named id os) ∙ has_filter (λ t. not (t == id)) g (named os) ∙ ap (λ b. not (g == id) && b) (are.tied g)
-    ∙ elim (g == id) as (λ b. (not b && open_in (status_of v g)) ≡ open_in (cond b (Some s) (status_of v g))) [ true ↦ sym becomes | false ↦ refl ]
+    ∙ elim (g == id) as (λ b. (not b && open_in (status_since v g)) ≡ open_in (cond b (Some s) (status_since v g))) [ true ↦ sym becomes | false ↦ refl ]
     ∙ ap open_in (sym (status-decided v id Undecided s was g))
 
-pub open_but : (v : GuessesView) (os : List OpenGuess) (id : ℕ) (s : Status) → AreOpen v os → status_of v id ≡ Some Undecided → is_undecided s ≡ false → AreOpen (decided v id s) (but id os)
+pub open_but : (v : GuessesView) (os : List OpenGuess) (id : ℕ) (s : Status) → AreOpen v os → status_since v id ≡ Some Undecided → is_undecided s ≡ false → AreOpen (decided v id s) (but id os)
 open_but v os id s are was becomes = record {
   rising = subst (IsStrictlySortedBy nat_cmp) (sym (but_named id os)) (IsStrictlySortedBy-filter nat_cmp (λ t. not (t == id)) (named os) are.rising);
   tied = tied_but v os id s are was becomes;
@@ -139,7 +142,7 @@ own_left g (o ∷ os) all =
       | false ↦ λ _. own_left g os all.1
     ] refl
 
-pub open_committed : (v : GuessesView) (os : List OpenGuess) (id : ℕ) → AreOpen v os → status_of v id ≡ Some Undecided → AreOpen (decided v id Committed) (after_commit id os)
+pub open_committed : (v : GuessesView) (os : List OpenGuess) (id : ℕ) → AreOpen v os → status_since v id ≡ Some Undecided → AreOpen (decided v id Committed) (after_commit id os)
 open_committed v os id are was =
     let left = open_but v os id Committed are was refl in
     record {
@@ -208,18 +211,18 @@ unless (Some Failed) false = refl
 unless (Some Struck) true = refl
 unless (Some Struck) false = refl
 
-pub open_struck : (v w : GuessesView) (os : List OpenGuess) (id : ℕ) → AreOpen v os → ((g : ℕ) → status_of w g ≡ cond (rests_on id (opens_of os) g) (Some Struck) (status_of v g)) → AreOpen w (not_resting id os)
+pub open_struck : (v w : GuessesView) (os : List OpenGuess) (id : ℕ) → AreOpen v os → ((g : ℕ) → status_since w g ≡ cond (rests_on id (opens_of os) g) (Some Struck) (status_since v g)) → AreOpen w (not_resting id os)
 open_struck v w os id are struck = record {
   rising = still_rises id os are.rising;
   tied = λ g.
       resting_named id g os are.rising ∙ ap (λ b. b && not (rests_on id (opens_of os) g)) (are.tied g)
-      ∙ unless (status_of v g) (rests_on id (opens_of os) g) ∙ ap open_in (sym (struck g));
+      ∙ unless (status_since v g) (rests_on id (opens_of os) g) ∙ ap open_in (sym (struck g));
   own = all_kept (λ (o : OpenGuess). has o.id o.tags ≡ true) (λ o. not (has id o.tags)) os are.own;
 }
 
 -- ---- the strikes
 abbrev pub AllDrawn : GuessesView → List OpenGuess → Type 0
-AllDrawn v os = AllByRecursion (λ (o : OpenGuess). is_some (status_of v o.id) ≡ true) os
+AllDrawn v os = AllByRecursion (λ (o : OpenGuess). is_some (status_since v o.id) ≡ true) os
 
 some_of : (o : Option Status) → is_some o ≡ true → (s : Status) × (o ≡ Some s)
 some_of None is = absurd (true≢false (sym is))
@@ -229,21 +232,21 @@ open_some : (o : Option Status) → open_in o ≡ true → is_some o ≡ true
 open_some None is = absurd (true≢false (sym is))
 open_some (Some s) is = refl
 
-drawn_all : (v : GuessesView) (os : List OpenGuess) → ((g : ℕ) → has g (named os) ≡ true → is_some (status_of v g) ≡ true) → AllDrawn v os
+drawn_all : (v : GuessesView) (os : List OpenGuess) → ((g : ℕ) → has g (named os) ≡ true → is_some (status_since v g) ≡ true) → AllDrawn v os
 drawn_all v [] h = tt
 drawn_all v (o ∷ os) h = (h o.id (or_left _ _ (eq-eqb o.id o.id refl)), drawn_all v os (λ g here. h g (or_right _ _ here)))
 
 pub open_drawn : (v : GuessesView) (os : List OpenGuess) → AreOpen v os → AllDrawn v os
-open_drawn v os are = drawn_all v os (λ g here. open_some (status_of v g) (sym (are.tied g) ∙ here))
+open_drawn v os are = drawn_all v os (λ g here. open_some (status_since v g) (sym (are.tied g) ∙ here))
 
 still_some : (b : Bool) (o : Option Status) (s : Status) → is_some o ≡ true → is_some (cond b (Some s) o) ≡ true
 still_some true o s is = refl
 still_some false o s is = is
 
-still_drawn : (v : GuessesView) (id : ℕ) (was : Status) → status_of v id ≡ Some was → (os : List OpenGuess) → AllDrawn v os → AllDrawn (decided v id Struck) os
+still_drawn : (v : GuessesView) (id : ℕ) (was : Status) → status_since v id ≡ Some was → (os : List OpenGuess) → AllDrawn v os → AllDrawn (decided v id Struck) os
 still_drawn v id was is [] all = tt
 still_drawn v id was is (o ∷ os) all =
-    (ap is_some (status-decided v id was Struck is o.id) ∙ still_some (o.id == id) (status_of v o.id) Struck all.0, still_drawn v id was is os all.1)
+    (ap is_some (status-decided v id was Struck is o.id) ∙ still_some (o.id == id) (status_since v o.id) Struck all.0, still_drawn v id was is os all.1)
 
 twice : (a r : Bool) (x y : Option Status) → cond r x (cond a x y) ≡ cond ((a && true) || r) x y
 twice true true x y = refl
@@ -256,21 +259,21 @@ once true r x y = refl
 once false r x y = refl
 
 pub struck_are : (v : GuessesView) (id : ℕ) (os : List OpenGuess) → AllDrawn v os
-    → (g : ℕ) → status_of (record v { statuses = struck_by id os v.statuses }) g ≡ cond (rests_on id (opens_of os) g) (Some Struck) (status_of v g)
+    → (g : ℕ) → status_since (record v { statuses = struck_by (length v.earlier) id os v.statuses }) g ≡ cond (rests_on id (opens_of os) g) (Some Struck) (status_since v g)
 struck_are v id [] all g = refl
 struck_are v id (o ∷ os) all g =
-    let was = some_of (status_of v o.id) all.0 in
-    elim (has id o.tags) as (λ b. status_of (record v { statuses = struck_by id os (cond b (slice_set v.statuses (o.id - 1) Struck) v.statuses) }) g ≡ cond (((o.id == g) && b) || rests_on id (opens_of os) g) (Some Struck) (status_of v g)) [
+    let was = some_of (status_since v o.id) all.0 in
+    elim (has id o.tags) as (λ b. status_since (record v { statuses = struck_by (length v.earlier) id os (cond b (slice_set v.statuses (o.id - length v.earlier - 1) Struck) v.statuses) }) g ≡ cond (((o.id == g) && b) || rests_on id (opens_of os) g) (Some Struck) (status_since v g)) [
       | true ↦
           struck_are (decided v o.id Struck) id os (still_drawn v o.id was.0 was.1 os all.1) g
-          ∙ ap (cond (rests_on id (opens_of os) g) (Some Struck)) (status-decided v o.id was.0 Struck was.1 g ∙ ap (λ b. cond b (Some Struck) (status_of v g)) (turned g o.id))
-          ∙ twice (o.id == g) (rests_on id (opens_of os) g) (Some Struck) (status_of v g)
-      | false ↦ struck_are v id os all.1 g ∙ once (o.id == g) (rests_on id (opens_of os) g) (Some Struck) (status_of v g)
+          ∙ ap (cond (rests_on id (opens_of os) g) (Some Struck)) (status-decided v o.id was.0 Struck was.1 g ∙ ap (λ b. cond b (Some Struck) (status_since v g)) (turned g o.id))
+          ∙ twice (o.id == g) (rests_on id (opens_of os) g) (Some Struck) (status_since v g)
+      | false ↦ struck_are v id os all.1 g ∙ once (o.id == g) (rests_on id (opens_of os) g) (Some Struck) (status_since v g)
     ]
 
-pub in_range : (v : GuessesView) (ls : List Listing) → AllDrawn v (map guess_of ls) → (k : ℕ) (d : Listing) → k < length ls → (slice_index_or ls k d).guess.id - 1 < length v.statuses
+pub in_range : (v : GuessesView) (ls : List Listing) → AllDrawn v (map guess_of ls) → (k : ℕ) (d : Listing) → k < length ls → (slice_index_or ls k d).guess.id - length v.earlier - 1 < length v.statuses
 in_range v [] all k d lt = absurd (omega arith)
-in_range v (l ∷ ls) all zero d lt = let was = some_of (status_of v l.guess.id) all.0 in within v l.guess.id was.0 was.1
+in_range v (l ∷ ls) all zero d lt = let was = some_of (status_since v l.guess.id) all.0 in within v l.guess.id was.0 was.1
 in_range v (l ∷ ls) all (suc k) d lt = in_range v ls all.1 k d (omega arith)
 
 -- ---- one more
@@ -285,8 +288,8 @@ more_rises [] y rises below = (tt, tt)
 more_rises (x ∷ xs) y rises below =
     (all_below xs x y rises.0 (sym (nat_cmp_is x y Less (below x (or_left _ _ (eq-eqb x x refl))))), more_rises xs y rises.1 (λ z here. below z (or_right _ _ here)))
 
-pub status_below : (v : GuessesView) (g : ℕ) (s : Status) → status_of v g ≡ Some s → g < next_of v
-status_below v g s is = let less = within v g s is in let some = some_number v g s is in omega (arith, less, some)
+pub status_below : (v : GuessesView) (g : ℕ) (s : Status) → status_since v g ≡ Some s → g < next_of v
+status_below v g s is = let less = within v g s is in let some = drawn-since v g s is in omega (arith, less, some)
 
 own_more : (os : List OpenGuess) (o : OpenGuess) → AllByRecursion (λ (o : OpenGuess). has o.id o.tags ≡ true) os → has o.id o.tags ≡ true → AllByRecursion (λ (o : OpenGuess). has o.id o.tags ≡ true) (os ++ o ∷ [])
 own_more [] o all own = (own, tt)
@@ -301,11 +304,11 @@ or_one false false o is = is
 pub open_more : (v : GuessesView) (os : List OpenGuess) (o : OpenGuess) → AreOpen v os → o.id ≡ next_of v → has o.id o.tags ≡ true → AreOpen (drawn v) (os ++ o ∷ [])
 open_more v os o are number own = record {
   rising = subst (IsStrictlySortedBy nat_cmp) (sym (named_more os o))
-      (more_rises (named os) o.id are.rising (λ g here. subst (λ n. g < n) (sym number) (status_below v g Undecided (open_is (status_of v g) (sym (are.tied g) ∙ here)))));
+      (more_rises (named os) o.id are.rising (λ g here. subst (λ n. g < n) (sym number) (status_below v g Undecided (open_is (status_since v g) (sym (are.tied g) ∙ here)))));
   tied = λ g.
       ap (has g) (named_more os o) ∙ list_any-append (λ t. t == g) (named os) (o.id ∷ [])
-      ∙ or_one (has g (named os)) (o.id == g) (status_of v g) (are.tied g)
-      ∙ ap (λ b. open_in (cond b (Some Undecided) (status_of v g))) (ap (λ n. n == g) number ∙ turned (next_of v) g)
+      ∙ or_one (has g (named os)) (o.id == g) (status_since v g) (are.tied g)
+      ∙ ap (λ b. open_in (cond b (Some Undecided) (status_since v g))) (ap (λ n. n == g) number ∙ turned (next_of v) g)
       ∙ ap open_in (sym (status-drawn v g));
   own = own_more os o are.own own;
 }
@@ -319,7 +322,7 @@ none_there g (o ∷ os) none =
       | false ↦ λ e. none_there g os e
     ] none
 
-pub emptied : (v : GuessesView) (os : List OpenGuess) (g : ℕ) → AreOpen v os → open_in (status_of v g) ≡ false → dependents_of g os ≡ []
+pub emptied : (v : GuessesView) (os : List OpenGuess) (g : ℕ) → AreOpen v os → open_in (status_since v g) ≡ false → dependents_of g os ≡ []
 emptied v os g are closed = none_there g os (are.tied g ∙ closed)
 
 -- ---- the list of a guess
@@ -441,13 +444,13 @@ rests_itself : (g : ℕ) (os : List OpenGuess) → rests_on g (opens_of (but g o
 rests_itself g os =
     none_named g g (but g os) (ap (has g) (but_named g os) ∙ has_filter (λ t. not (t == g)) g (named os) ∙ ap (λ b. not b && has g (named os)) (eq-eqb g g refl))
 
-pub failed_status : (v : GuessesView) (g : ℕ) (os : List OpenGuess) → status_of v g ≡ Some Undecided
-    → (h : ℕ) → cond (rests_on g (opens_of (but g os)) h) (Some Struck) (status_of (decided v g Failed) h) ≡ with_failure g (opens_of os) (status_of v) h
+pub failed_status : (v : GuessesView) (g : ℕ) (os : List OpenGuess) → status_since v g ≡ Some Undecided
+    → (h : ℕ) → cond (rests_on g (opens_of (but g os)) h) (Some Struck) (status_since (decided v g Failed) h) ≡ with_failure g (opens_of os) (status_since v) h
 failed_status v g os was h =
     ap (cond (rests_on g (opens_of (but g os)) h) (Some Struck)) (status-decided v g Undecided Failed was h)
-    ∙ elim (h == g) as (λ b. (h == g) ≡ b → cond (rests_on g (opens_of (but g os)) h) (Some Struck) (cond b (Some Failed) (status_of v h)) ≡ cond b (Some Failed) (cond (rests_on g (opens_of os) h) (Some Struck) (status_of v h))) [
+    ∙ elim (h == g) as (λ b. (h == g) ≡ b → cond (rests_on g (opens_of (but g os)) h) (Some Struck) (cond b (Some Failed) (status_since v h)) ≡ cond b (Some Failed) (cond (rests_on g (opens_of os) h) (Some Struck) (status_since v h))) [
       | true ↦ λ is. ap (λ b. cond b (Some Struck) (Some Failed)) (ap (rests_on g (opens_of (but g os))) (eqb-true h g is) ∙ rests_itself g os)
-      | false ↦ λ apart. ap (λ b. cond b (Some Struck) (status_of v h)) (rests_but g h apart os)
+      | false ↦ λ apart. ap (λ b. cond b (Some Struck) (status_since v h)) (rests_but g h apart os)
     ] refl
 
 -- ---- what changes only the list
@@ -465,15 +468,19 @@ no_numbers : IsStrictlySortedBy nat_cmp []
 unfolding IsStrictlySortedBy
 no_numbers = tt
 
-none_yet : (kernel g : ℕ) → false ≡ open_in (status_of (record { kernel = kernel; statuses = [] }) g)
-none_yet kernel zero = refl
-none_yet kernel (suc k) = ap open_in (sym (status-at (record { kernel = kernel; statuses = [] }) (suc k) (omega arith)))
+none_yet : (v : GuessesView) → v.statuses ≡ [] → (g : ℕ) → false ≡ open_in (status_since v g)
+none_yet v none g = ap open_in (sym (ap (λ ss. status_in ss (g - length v.earlier)) none ∙ nothing_in (g - length v.earlier)))
 
-pub none_open : (kernel : ℕ) (statuses : List Status) (ls : List Listing) → statuses ≡ [] → ls ≡ [] → AreOpen (record { kernel = kernel; statuses = statuses }) (map guess_of ls)
-none_open kernel statuses ls none empty =
-    subst (λ ss. AreOpen (record { kernel = kernel; statuses = ss }) (map guess_of ls)) (sym none)
-    (subst (λ xs. AreOpen (record { kernel = kernel; statuses = [] }) (map guess_of xs)) (sym empty)
-    (record { rising = no_numbers; tied = none_yet kernel; own = tt }))
+pub none_open : (v : GuessesView) (os : List OpenGuess) → v.statuses ≡ [] → os ≡ [] → AreOpen v os
+none_open v os none empty = subst (AreOpen v) (sym empty) (record { rising = no_numbers; tied = none_yet v none; own = tt })
+
+no_places : (os : List OpenGuess) → 0 ≡ length os → os ≡ []
+no_places [] none = refl
+no_places (o ∷ os) none = absurd (omega (arith, none))
+
+-- where an epoch ends none is open
+pub settled_open : (v w : GuessesView) (os : List OpenGuess) → AreOpen v os → undecided_of v.statuses ≡ 0 → w.statuses ≡ [] → AreOpen w os
+settled_open v w os are none empty = none_open w os empty (no_places os (sym none ∙ counted v os are))
 
 -- ---- one place of all is changed
 pub set_same : (ls : List Listing) (i : ℕ) (l new : Listing) → i < length ls → l ≡ slice_index_or ls i l → new.guess ≡ l.guess → map guess_of (slice_set ls i new) ≡ map guess_of ls
@@ -521,14 +528,14 @@ committed_list g os =
     none_there g (after_commit g os)
     (ap (has g) (same_named g (but g os) ∙ but_named g os) ∙ has_filter (λ t. not (t == g)) g (named os) ∙ ap (λ b. not b && has g (named os)) (eq-eqb g g refl))
 
-pub struck_length : (g : ℕ) (os : List OpenGuess) (ss : List Status) → length (struck_by g os ss) ≡ length ss
-struck_length g [] ss = refl
-struck_length g (o ∷ os) ss =
-    struck_length g os (cond (has g o.tags) (slice_set ss (o.id - 1) Struck) ss)
-    ∙ elim (has g o.tags) as (λ b. length (cond b (slice_set ss (o.id - 1) Struck) ss) ≡ length ss) [ true ↦ rw length-set refl | false ↦ refl ]
+pub struck_length : (before g : ℕ) (os : List OpenGuess) (ss : List Status) → length (struck_by before g os ss) ≡ length ss
+struck_length before g [] ss = refl
+struck_length before g (o ∷ os) ss =
+    struck_length before g os (cond (has g o.tags) (slice_set ss (o.id - before - 1) Struck) ss)
+    ∙ elim (has g o.tags) as (λ b. length (cond b (slice_set ss (o.id - before - 1) Struck) ss) ≡ length ss) [ true ↦ rw length-set refl | false ↦ refl ]
 
 -- one that is not undecided is not among them
-not_named : (v : GuessesView) (os : List OpenGuess) (g : ℕ) → AreOpen v os → open_in (status_of v g) ≡ false → has g (named os) ≡ false
+not_named : (v : GuessesView) (os : List OpenGuess) (g : ℕ) → AreOpen v os → open_in (status_since v g) ≡ false → has g (named os) ≡ false
 not_named v os g are closed = are.tied g ∙ closed
 
 pub none_closed : (g : ℕ) (os : List OpenGuess) → has g (named os) ≡ false → but g os ≡ os
@@ -539,7 +546,7 @@ none_closed g (o ∷ os) none =
       | false ↦ λ e. ap (λ xs. o ∷ xs) (none_closed g os e)
     ] none
 
-pub closed_resting : (v : GuessesView) (os : List OpenGuess) (g : ℕ) → AreOpen v os → open_in (status_of v g) ≡ false → opens_of (not_resting g os) ≡ not_struck g (opens_of os)
+pub closed_resting : (v : GuessesView) (os : List OpenGuess) (g : ℕ) → AreOpen v os → open_in (status_since v g) ≡ false → opens_of (not_resting g os) ≡ not_struck g (opens_of os)
 closed_resting v os g are closed = ap (λ xs. opens_of (not_resting g xs)) (sym (none_closed g os (not_named v os g are closed))) ∙ struck_opens g os are.own
 
 -- ---- where they aren't full, there is a place and a number

@@ -4,3 +4,4 @@ pub mod EntitySet
 pub mod Opens
 pub mod Room
 pub mod Calls
+pub mod Four

@@ -8,7 +8,7 @@ use Rattle.sk_record.specs.UndoState.{Open, numbers}
 use Rattle.sk_record.specs.declared.status.Status.{Status}
 use Rattle.sk_record.specs.declared.status.Status.TheVariants.{Struck}
 use Rattle.sk_ids.specs.declared.entity.Entity.{Entity}
-use Rattle.sk_guesses.specs.Guesses.{GuessesView, is_undecided, status_of}
+use Rattle.sk_guesses.specs.Guesses.{GuessesView, is_undecided, status_since}
 use Rattle.sk_guesses.specs.EntitySet.{with_entity, without_entity}
 
 -- an undecided guess, the guesses that its own step rests on, itself among them, and the entities that rest on it, by rising order
@@ -59,10 +59,10 @@ not_resting g os = filter (λ o. not (has g o.tags)) os
 abbrev pub after_commit : ℕ → List OpenGuess → List OpenGuess
 after_commit g os = map (without_tag g) (but g os)
 
--- the statuses where those are struck whose own steps rest on a guess
-abbrev pub struck_by : ℕ → List OpenGuess → List Status → List Status
-struck_by g [] ss = ss
-struck_by g (o ∷ os) ss = struck_by g os (if has g o.tags then slice_set ss (o.id - 1) Struck else ss)
+-- the statuses where those are struck whose own steps rest on a guess, where so many guesses were drawn before
+abbrev pub struck_by : ℕ → ℕ → List OpenGuess → List Status → List Status
+struck_by before g [] ss = ss
+struck_by before g (o ∷ os) ss = struck_by before g os (if has g o.tags then slice_set ss (o.id - before - 1) Struck else ss)
 
 -- ---- how they stand to the statuses
 
@@ -73,5 +73,5 @@ open_in (Some s) = is_undecided s
 pub record AreOpen (v : GuessesView) (os : List OpenGuess) : Type 0 where
   pub rising : IsStrictlySortedBy nat_cmp (numbers (opens_of os))
   -- they are just the undecided guesses
-  pub tied : (g : ℕ) → has g (numbers (opens_of os)) ≡ open_in (status_of v g)
+  pub tied : (g : ℕ) → has g (numbers (opens_of os)) ≡ open_in (status_since v g)
   pub own : AllByRecursion (λ o. has o.id o.tags ≡ true) os

@@ -11,13 +11,14 @@ ghost use Rattle.sk_record.specs.declared.status.Status.{Status};
 ghost use Rattle.sk_record.specs.declared.status.Status.TheVariants.{Undecided, Committed, Failed, Struck};
 ghost use Rattle.sk_ids.specs.declared.guess.TheConstants.{LAST_GUESS};
 ghost use Rattle.sk_guesses.specs.declared.guesses.TheConstants.{GUESS_LIMIT};
-ghost use Rattle.sk_guesses.specs.Guesses.{opened, next_of, undecided_of, is_full, is_undecided, status_of, decided};
+ghost use Rattle.sk_guesses.specs.Guesses.{opened, next_of, undecided_of, is_full, is_undecided, status_of, status_since, decided, settled};
 ghost use Rattle.sk_guesses.specs.EntitySet.{with_entities};
 ghost use Rattle.sk_guesses.specs.Opens.{opens_of, dependents_of, depending, relieved, left_to, but, not_resting, after_commit, open_in, struck_by, without_list};
 ghost use Rattle.sk_guesses.specs.Room.{HasRoom, Listing, DecidedSo};
 ghost use Rattle.sk_guesses.specs.Calls.{Draws, redeemed};
 
 use crate::open_guess::OpenGuess;
+use crate::settled::{Settled, status_at};
 use crate::{EntitySet, Guess, Redeemed, Status};
 use sk_ids::{Entity, GuessId, TagSet};
 use std::alloc::{AllocError, Global};
@@ -36,12 +37,14 @@ pub enum DrawRefusal {
     Memory,
 }
 
-/// The guesses of one kernel, numbered from 1 in the order in which they were drawn, and what is known
-/// of each undecided one. All calls but `reserve`, `draw` and `depend` take no memory.
+/// The guesses of one kernel, numbered from 1 in the order in which they were drawn: what became of those of
+/// earlier epochs, and of the others, and what is known of each undecided one. All calls but `reserve`, `draw`,
+/// `depend` and `settle` take no memory.
 #[derive(Drop)]
 pub struct Guesses {
     alloc: Global,
     kernel: u64,
+    earlier: Settled,
     statuses: Vec<Status>,
     /// The undecided guesses, by rising number.
     opens: Vec<OpenGuess>,
@@ -50,7 +53,7 @@ pub struct Guesses {
 }
 
 impl Model for Guesses {
-    ghost use Rattle.std.specs.Prelude.{◌≡◌, ◌≤◌, [], length, map, vec_capacity};
+    ghost use Rattle.std.specs.Prelude.{◌≡◌, ◌≤◌, ◌+◌, [], length, map, vec_capacity};
     ghost use Rattle.sk_ids.specs.declared.guess.TheConstants.{LAST_GUESS};
     ghost use Rattle.sk_guesses.specs.declared.guesses.TheConstants.{GUESS_LIMIT};
     ghost use Rattle.sk_guesses.specs.Opens.{AreOpen};
@@ -59,15 +62,15 @@ impl Model for Guesses {
     ghost Value = { Roomy };
 
     ghost view = { λ a. record {
-      view = record { kernel = a.kernel; statuses = a.statuses.items };
+      view = record { kernel = a.kernel; earlier = a.earlier.statuses; statuses = a.statuses.items };
       opens = map (λ l. l.guess) a.opens.items;
       places = vec_capacity a.statuses;
       keys = vec_capacity a.opens;
       next = a.next.room;
     } };
 
-    ghost invariant = { λ a. AreOpen (record { kernel = a.kernel; statuses = a.statuses.items }) (map (λ l. l.guess) a.opens.items)
-        × (length a.opens.items ≤ GUESS_LIMIT) × (length a.statuses.items ≤ LAST_GUESS) × (a.next.entities ≡ []) };
+    ghost invariant = { λ a. AreOpen (record { kernel = a.kernel; earlier = a.earlier.statuses; statuses = a.statuses.items }) (map (λ l. l.guess) a.opens.items)
+        × (length a.opens.items ≤ GUESS_LIMIT) × (length a.earlier.statuses + length a.statuses.items ≤ LAST_GUESS) × (a.next.entities ≡ []) };
 }
 
 /// Makes room for one entity more in the lists of these guesses.
@@ -147,24 +150,32 @@ fn close_resting(opens: &mut Vec<OpenGuess>, id: GuessId)
     opens.retain(|open: &OpenGuess| !open.rests_on(id));
 }
 
-/// Strikes an undecided guess, if its own step rests on a guess.
-fn strike_one(statuses: &mut Vec<Status>, open: &OpenGuess, id: GuessId)
-    requires { open.now.guess.id - 1 < length statuses.old.items }
-    ensures statuses { statuses.new.items ≡ (if has id open.now.guess.tags then slice_set statuses.old.items (open.now.guess.id - 1) Struck else statuses.old.items) }
+/// Where a guess stands among those that were drawn after so many.
+fn place_after(before: usize, id: GuessId) -> usize
+    ensures { result ≡ id - before - 1 }
+{
+    let number = id.number().saturating_sub(before as u64);
+    number.saturating_sub(1) as usize
+}
+
+/// Strikes an undecided guess, if its own step rests on a guess. So many were drawn before these.
+fn strike_one(statuses: &mut Vec<Status>, before: usize, open: &OpenGuess, id: GuessId)
+    requires { open.now.guess.id - before - 1 < length statuses.old.items }
+    ensures statuses { statuses.new.items ≡ (if has id open.now.guess.tags then slice_set statuses.old.items (open.now.guess.id - before - 1) Struck else statuses.old.items) }
     ensures drawn { length statuses.new.items ≡ length statuses.old.items }
 {
     if open.rests_on(id) {
-        statuses[(open.id().number() - 1) as usize] = Status::Struck;
+        statuses[place_after(before, open.id())] = Status::Struck;
     }
 }
 
 /// The undecided guesses whose own steps rest on a guess are struck.
-fn strike_all(statuses: &mut Vec<Status>, opens: &[OpenGuess], id: GuessId)
-    requires { (k : ℕ) (d : Listing) → k < length opens.now → (slice_index_or opens.now k d).guess.id - 1 < length statuses.old.items }
-    ensures { statuses.new.items ≡ struck_by id (map (λ l. l.guess) opens.now) statuses.old.items }
+fn strike_all(statuses: &mut Vec<Status>, before: usize, opens: &[OpenGuess], id: GuessId)
+    requires { (k : ℕ) (d : Listing) → k < length opens.now → (slice_index_or opens.now k d).guess.id - before - 1 < length statuses.old.items }
+    ensures { statuses.new.items ≡ struck_by before id (map (λ l. l.guess) opens.now) statuses.old.items }
 {
     for open in opens {
-        strike_one(statuses, open, id);
+        strike_one(statuses, before, open, id);
     }
 }
 
@@ -177,6 +188,7 @@ impl Guesses {
         Guesses {
             alloc,
             kernel,
+            earlier: Settled::new(alloc),
             statuses: Vec::new(alloc),
             opens: Vec::new(alloc),
             next: EntitySet::new(alloc),
@@ -195,7 +207,7 @@ impl Guesses {
         ensures value { result ≡ next_of self.now.view }
         ensures limit { result ≤ LAST_GUESS + 1 }
     {
-        self.statuses.len() as u64 + 1
+        self.earlier.len() as u64 + self.statuses.len() as u64 + 1
     }
 
     /// How many guesses are undecided.
@@ -221,7 +233,7 @@ impl Guesses {
     pub fn dependents(&self, id: GuessId) -> &[Entity]
         ensures value { result.now ≡ dependents_of id self.now.opens }
         ensures rising { IsStrictlySortedBy entity_cmp result.now }
-        ensures known { status_of self.now.view id ≡ Some Undecided → has id (numbers (opens_of self.now.opens)) ≡ true }
+        ensures known { status_since self.now.view id ≡ Some Undecided → has id (numbers (opens_of self.now.opens)) ≡ true }
     {
         let place = place_of(self.opens.as_slice(), id);
         if place >= self.opens.len() {
@@ -261,7 +273,32 @@ impl Guesses {
     pub fn status(&self, id: GuessId) -> Option<Status>
         ensures { result ≡ status_of self.now.view id }
     {
-        self.statuses.get((id.number() - 1) as usize).copied()
+        match self.earlier.status(id.number()) {
+            Some(status) => Some(status),
+            None => self.status_since(id),
+        }
+    }
+
+    /// What became of a guess that was drawn since the last epoch ended.
+    fn status_since(&self, id: GuessId) -> Option<Status>
+        ensures { result ≡ status_since self.now.view id }
+    {
+        let number = id.number().saturating_sub(self.earlier.len() as u64);
+        status_at(&self.statuses, number)
+    }
+
+    /// Ends an epoch, in which no guess is undecided: each keeps its status. Without memory everything is as
+    /// it was.
+    pub fn settle(&mut self) -> Result<(), AllocError>
+        requires { undecided_of self.old.view.statuses ≡ 0 }
+        ensures ok { OnOk result (self.new.view ≡ settled self.old.view) }
+        ensures err { OnErr result (self.new.view ≡ self.old.view) }
+        ensures opens { self.new.opens ≡ self.old.opens }
+    {
+        self.earlier.reserve(self.statuses.len())?;
+        self.earlier.push_all(&self.statuses);
+        self.statuses.clear();
+        Ok(())
     }
 
     /// Makes room for the next draw, with so many entities.
@@ -350,29 +387,29 @@ impl Guesses {
 
     /// Whether a guess is undecided.
     fn is_open(&self, id: GuessId) -> bool
-        ensures { result ≡ open_in (status_of self.now.view id) }
+        ensures { result ≡ open_in (status_since self.now.view id) }
     {
-        self.status(id) == Some(Status::Undecided)
+        self.status_since(id) == Some(Status::Undecided)
     }
 
     /// Commits a guess, and takes it out of what the steps of undecided ones rest on; one that is not
     /// undecided stays as it is.
     pub fn commit(&mut self, id: GuessId)
-        ensures undecided { status_of self.old.view id ≡ Some Undecided → DecidedSo self.old self.new id Committed (after_commit id self.old.opens) }
-        ensures other { status_of self.old.view id ≢ Some Undecided → self.new ≡ self.old }
+        ensures undecided { status_since self.old.view id ≡ Some Undecided → DecidedSo self.old self.new id Committed (after_commit id self.old.opens) }
+        ensures other { status_since self.old.view id ≢ Some Undecided → self.new ≡ self.old }
         ensures emptied { dependents_of id self.new.opens ≡ [] }
     {
         if !self.is_open(id) {
             return;
         }
         close_committed(&mut self.opens, id);
-        self.statuses[(id.number() - 1) as usize] = Status::Committed;
+        self.statuses[place_after(self.earlier.len(), id)] = Status::Committed;
     }
 
     /// Fails a guess; one that is not undecided stays as it is.
     pub fn fail(&mut self, id: GuessId)
-        ensures undecided { status_of self.old.view id ≡ Some Undecided → DecidedSo self.old self.new id Failed (but id self.old.opens) }
-        ensures other { status_of self.old.view id ≢ Some Undecided → self.new ≡ self.old }
+        ensures undecided { status_since self.old.view id ≡ Some Undecided → DecidedSo self.old self.new id Failed (but id self.old.opens) }
+        ensures other { status_since self.old.view id ≢ Some Undecided → self.new ≡ self.old }
         ensures emptied { dependents_of id self.new.opens ≡ [] }
         ensures resting { opens_of (not_resting id self.new.opens) ≡ not_struck id (opens_of self.old.opens) }
     {
@@ -382,8 +419,8 @@ impl Guesses {
     /// Strikes a guess, whose step another's failure took away; one that is not undecided stays as it
     /// is.
     pub fn strike(&mut self, id: GuessId)
-        ensures undecided { status_of self.old.view id ≡ Some Undecided → DecidedSo self.old self.new id Struck (but id self.old.opens) }
-        ensures other { status_of self.old.view id ≢ Some Undecided → self.new ≡ self.old }
+        ensures undecided { status_since self.old.view id ≡ Some Undecided → DecidedSo self.old self.new id Struck (but id self.old.opens) }
+        ensures other { status_since self.old.view id ≢ Some Undecided → self.new ≡ self.old }
         ensures emptied { dependents_of id self.new.opens ≡ [] }
     {
         self.decide(id, Status::Struck);
@@ -391,8 +428,8 @@ impl Guesses {
 
     fn decide(&mut self, id: GuessId, to: Status)
         requires { is_undecided to ≡ false }
-        ensures undecided { status_of self.old.view id ≡ Some Undecided → DecidedSo self.old self.new id to (but id self.old.opens) }
-        ensures other { status_of self.old.view id ≢ Some Undecided → self.new ≡ self.old }
+        ensures undecided { status_since self.old.view id ≡ Some Undecided → DecidedSo self.old self.new id to (but id self.old.opens) }
+        ensures other { status_since self.old.view id ≢ Some Undecided → self.new ≡ self.old }
         ensures emptied { dependents_of id self.new.opens ≡ [] }
         ensures resting { opens_of (not_resting id self.new.opens) ≡ not_struck id (opens_of self.old.opens) }
     {
@@ -400,17 +437,23 @@ impl Guesses {
             return;
         }
         close(&mut self.opens, id);
-        self.statuses[(id.number() - 1) as usize] = to;
+        self.statuses[place_after(self.earlier.len(), id)] = to;
     }
 
     /// Strikes the undecided guesses whose own steps rest on a guess.
     pub fn strike_resting(&mut self, id: GuessId)
-        ensures statuses { (g : ℕ) → status_of self.new.view g ≡ (if rests_on id (opens_of self.old.opens) g then Some Struck else status_of self.old.view g) }
+        ensures statuses { (g : ℕ) → status_since self.new.view g ≡ (if rests_on id (opens_of self.old.opens) g then Some Struck else status_since self.old.view g) }
         ensures kernel { self.new.view.kernel ≡ self.old.view.kernel }
+        ensures earlier { self.new.view.earlier ≡ self.old.view.earlier }
         ensures drawn { length self.new.view.statuses ≡ length self.old.view.statuses }
         ensures opens { self.new.opens ≡ not_resting id self.old.opens }
     {
-        strike_all(&mut self.statuses, self.opens.as_slice(), id);
+        strike_all(
+            &mut self.statuses,
+            self.earlier.len(),
+            self.opens.as_slice(),
+            id,
+        );
         close_resting(&mut self.opens, id);
     }
 }

@@ -44,10 +44,10 @@ module _ (k : KernelView) (ts others : List Token) (t : Token) (place id : ℕ) 
   out = out_of k place ts t others within value rest held.unspent
 
   pub commit_met : (result : Result Outcome Stranger) (s : Stranger) (new : KernelView) → CommitPost result t k new → result ≡ Err s → ⊥
-  commit_met result s new h e = commit_taken result s t k new h e out.unspent
+  commit_met result s new h e = commit_taken result s t k new sound h e out.unspent
 
   pub fail_met : (result : Result Outcome FailRefusal) (why : FailRefusal) (new : KernelView) → FailPost result t k new → result ≡ Err why → ⊥
-  fail_met result why new h e = fail_taken result why t k new h e out.unspent
+  fail_met result why new h e = fail_taken result why t k new sound h e out.unspent
 
   pub commit_holds : (result : Result Outcome Stranger) (o : Outcome) (new : KernelView) → CommitPost result t k new → result ≡ Ok o → IsHeld new others
   commit_holds result o new h e = record {

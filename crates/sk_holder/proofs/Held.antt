@@ -5,7 +5,10 @@ use Rattle.std.proofs.lemmas.Bool.{ne_eqb, eq-eqb, eqb-true, true≢false}
 use Rattle.std.proofs.lemmas.List.Folds.{list_any-append}
 use Rattle.std.specs.Prelude.{slice_get}
 use Rattle.sk_record.specs.Notes.{has}
-use Rattle.sk_record.specs.Trace.{Event as Happens, Commit, Fail}
+use Rattle.sk_record.specs.Trace.{Event as Happens, Commit, Fail, StatusIs}
+use Rattle.sk_record.specs.Epoch.{status_in}
+use Rattle.sk_record.specs.declared.status.Status.TheVariants.{Undecided, Struck}
+use Rattle.sk_record.proofs.Epoch.{in_trace}
 use Rattle.sk_record.proofs.Sound.{draws, is_commit, is_fail, has_commit, has_fail, is_drawn}
 use Rattle.sk_guesses.specs.Token.{Token}
 use Rattle.sk_script.specs.declared.instruction.Input.{Input}
@@ -16,6 +19,8 @@ use Rattle.sk_plain.specs.Act.{plain}
 use Rattle.sk_plain.specs.Replay.{image}
 use Rattle.sk_kernel.specs.Kernel.{KernelView, events_of, next_guess, with_event}
 use Rattle.sk_kernel.specs.Calls.{IsNew, IsStranger}
+use Rattle.sk_kernel.specs.Laws.{HasSoundTrace}
+use Rattle.sk_kernel.proofs.Undecided.{drawn_here}
 use Rattle.sk_holder.specs.Tokens.{makes, commits, fails, is_unspent, all_unspent, none_of, is_held}
 use Rattle.sk_holder.specs.Holder.{ids, but}
 
@@ -213,17 +218,18 @@ with_new k new (t ∷ ts) fresh old kept u =
       rest = with_new k new ts fresh a.rest b.rest u;
     })
 
-pub drawn_unspent : (k : KernelView) (pid : ℕ) (input : Input) (ts : List Token) → IsNew k (with_event k (events.Guess (next_guess k) pid input)) → all_unspent k ts ≡ true
+pub drawn_unspent : (k : KernelView) (pid : ℕ) (input : Input) (ts : List Token) → HasSoundTrace k → IsNew k (with_event k (events.Guess (next_guess k) pid input)) → all_unspent k ts ≡ true
     → all_unspent (with_event k (events.Guess (next_guess k) pid input)) (ts ++ drawn_token k ∷ []) ≡ true
-drawn_unspent k pid input ts fresh u =
+drawn_unspent k pid input ts sound fresh u =
     let e : Event = events.Guess (next_guess k) pid input in
     let id = next_guess k in
     let new = with_event k e in
+    let undecided : StatusIs (plain k.scripts) k.start (events_of new) id Undecided = in_trace (plain k.scripts) k.start (status_in k.earlier id) (events_of new) id (sound.decided id) fresh.undecided in
     with_new k new ts fresh u (more_unspent k e ts tt u) (record {
       own = refl;
       made = list_any-append (makes id) k.trace (e ∷ []) ∙ or_last (list_any (makes id) k.trace) (id == id) (eq-eqb id id refl);
-      uncommitted = never _ (λ some. fresh.undecided.0 ((has_commit (events_of new) id).0 (sym (mapped (commits id) (is_commit id) (commits_is id) new.trace) ∙ some)));
-      unfailed = never _ (λ some. fresh.undecided.1 ((has_fail (events_of new) id).0 (sym (mapped (fails id) (is_fail id) (fails_is id) new.trace) ∙ some)));
+      uncommitted = never _ (λ some. undecided.0 ((has_commit (events_of new) id).0 (sym (mapped (commits id) (is_commit id) (commits_is id) new.trace) ∙ some)));
+      unfailed = never _ (λ some. undecided.1 ((has_fail (events_of new) id).0 (sym (mapped (fails id) (is_fail id) (fails_is id) new.trace) ∙ some)));
     }) where
       or_last : (a b : Bool) → b ≡ true → (a || (b || false)) ≡ true
       or_last true b is = refl
@@ -231,13 +237,13 @@ drawn_unspent k pid input ts fresh u =
       or_last false false is = absurd cc
 
 -- ---- a token that is not spent is no stranger
-pub no_stranger : (k : KernelView) (t : Token) → IsUnspent k t → IsStranger k t → ⊥
-no_stranger k t u stranger =
+pub no_stranger : (k : KernelView) (t : Token) → HasSoundTrace k → IsUnspent k t → IsStranger k t → ⊥
+no_stranger k t sound u stranger =
     let neither = stranger u.own in
     let drawn = (is_drawn (plain k.scripts) (events_of k) t.id).0 (sym (mapped (makes t.id) (draws (plain k.scripts) t.id) (makes_is k t.id) k.trace) ∙ u.made) in
     let uncommitted : ¬ (Contains (events_of k) (Commit t.id)) = λ there. true≢false (sym ((has_commit (events_of k) t.id).1 there) ∙ sym (mapped (commits t.id) (is_commit t.id) (commits_is t.id) k.trace) ∙ u.uncommitted) in
     let unfailed : ¬ (Contains (events_of k) (Fail t.id)) = λ there. true≢false (sym ((has_fail (events_of k) t.id).1 there) ∙ sym (mapped (fails t.id) (is_fail t.id) (fails_is t.id) k.trace) ∙ u.unfailed) in
-    neither.1 (drawn, uncommitted, unfailed, λ there. neither.0 (uncommitted, unfailed, there))
+    neither.1 (drawn_here k sound t.id Struck drawn (drawn, uncommitted, unfailed, λ there. neither.0 (drawn_here k sound t.id Undecided drawn (uncommitted, unfailed, there))))
 
 -- ---- the token at a place
 

@@ -10,6 +10,8 @@ use Rattle.sk_record.specs.Run.{effects}
 use Rattle.sk_record.specs.Strike.{strike}
 use Rattle.sk_record.specs.Trace.{Fail, Record, IsSound, all_recorded, no_record, recorded, undecided_of, still_marked}
 use Rattle.sk_record.specs.declared.status.Status.TheVariants.{Undecided}
+use Rattle.sk_record.specs.Epoch.{status_in}
+use Rattle.sk_record.proofs.Epoch.{in_trace}
 use Rattle.sk_record.proofs.Machine.{nil_right, has_filter}
 use Rattle.sk_record.proofs.UndoStates.{and_both}
 use Rattle.sk_record.proofs.Tidy.{recorded_more}
@@ -63,7 +65,7 @@ module _ (k : KernelView) where
   failed : HasSoundTrace k → (id : ℕ) → HasStatus k id Undecided → has id (undecided_at (with_event k (events.Fail id))) ≡ false
   failed sound id is_open =
       let after : IsSound (plain k.scripts) k.start (events_of (with_event k (events.Fail id))) =
-      subst (IsSound (plain k.scripts) k.start) (sym (map_more k.trace (events.Fail id))) (sound_fail (plain k.scripts) k.start entity_total entity_exact (events_of k) id sound is_open) in
+      subst (IsSound (plain k.scripts) k.start) (sym (map_more k.trace (events.Fail id))) (sound_fail (plain k.scripts) k.start entity_total entity_exact (events_of k) id sound.sound (in_trace (plain k.scripts) k.start (status_in k.earlier id) (events_of k) id (sound.decided id) is_open)) in
       false_from_ne_true _ (λ is.
       ((is_undecided (plain k.scripts) k.start (events_of (with_event k (events.Fail id))) after id).0 is).1
       (subst (λ es. Contains es (Fail id)) (sym (map_more k.trace (events.Fail id))) (Contains-push (events_of k) (Fail id))))

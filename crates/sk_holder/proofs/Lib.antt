@@ -3,3 +3,4 @@ pub mod Settled
 pub mod Kept
 pub mod Decided
 pub mod HandedIn
+mod Epochs

@@ -1,9 +1,9 @@
 //! A kernel with the tokens of its guesses.
-ghost use Rattle.std.specs.Prelude.{◌≡◌, ℕ, [], None, Some, IfSome, is_some, slice_get};
+ghost use Rattle.std.specs.Prelude.{◌≡◌, ℕ, [], None, Some, IfSome, IfErr, is_some, slice_get};
 ghost use Rattle.sk_record.specs.Notes.{has};
 ghost use Rattle.sk_plain.specs.Refusal.{cause};
 ghost use Rattle.sk_kernel.specs.Kernel.{undecided_at, next_guess, step_refused, guess_refused};
-ghost use Rattle.sk_kernel.specs.Calls.{StepPost, LeavesTexts};
+ghost use Rattle.sk_kernel.specs.Calls.{StepPost, EpochPost, LeavesTexts};
 ghost use Rattle.sk_kernel.specs.HandIn.{HandInPost};
 ghost use Rattle.sk_terminal.specs.Terminals.{released_at};
 ghost use Rattle.sk_trace.specs.Kept.{input_in};
@@ -12,7 +12,7 @@ ghost use Rattle.sk_holder.specs.Holder.{holding, GuessesPost, DecidesPost};
 
 use sk_guesses::Guess;
 use sk_ids::{GuessId, Pid};
-use sk_kernel::{HandIn, Kernel, Outcome};
+use sk_kernel::{EpochRefusal, HandIn, Kernel, Outcome};
 use sk_plain::{InputRef, Refusal, Trace};
 use sk_script::Lease;
 use sk_terminal::Texts;
@@ -107,6 +107,7 @@ impl Holder {
         if self.tokens.reserve(1).is_err() {
             return Err(self.guess_refusal(pid, input));
         }
+        let _sound = self.kernel.trace();
         let token = self.kernel.speculate_lent(pid, input)?;
         let id = token.id();
         self.tokens.push_reserved(token);
@@ -137,6 +138,16 @@ impl Holder {
             Ok(outcome) => Some(outcome),
             Err(_refusal) => unreachable!(),
         }
+    }
+
+    /// Begins a new epoch where no guess is held, as the kernel does; refused only for want of memory.
+    pub fn new_epoch(&mut self) -> Result<(Trace, Texts), EpochRefusal>
+        requires { self.old.held ≡ [] }
+        ensures kernel { EpochPost result self.old.kernel self.new.kernel }
+        ensures memory { IfErr result (λ why. why ≡ EpochRefusal.Memory) }
+        ensures held { self.new.held ≡ [] }
+    {
+        self.kernel.new_epoch()
     }
 
     /// Ends a kernel of which no guess is held: its trace, and what its terminals have released. This takes no

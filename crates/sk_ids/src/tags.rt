@@ -63,22 +63,22 @@ impl TagSet {
         }
     }
 
-    /// Where a guess stands in the list. Mostly it is the oldest, or the newest.
+    /// Where a guess stands in the list. Mostly it is the newest, or the oldest.
     fn place_of(&self, id: GuessId) -> Option<usize>
         ensures there { IfSome result (λ place. (place < length self.now) × (get_or self.now place 0 ≡ id)) }
         ensures none { result ≡ None → has id self.now ≡ false }
     {
         let ids = self.ids.as_slice();
-        match ids.first() {
-            Some(oldest) if *oldest == id => return Some(0),
-            _ => {}
+        if !self.reaches(id) {
+            return None;
         }
         match ids.last() {
             Some(newest) if *newest == id => return Some(ids.len() - 1),
             _ => {}
         }
-        if !self.reaches(id) {
-            return None;
+        match ids.first() {
+            Some(oldest) if *oldest == id => return Some(0),
+            _ => {}
         }
         ids.binary_search(&id).ok()
     }

@@ -52,7 +52,7 @@ module _ (k : KernelView) (sound : HasSoundTrace k) (pid : ℕ) (p : Process) wh
   before_stands : MergedStands (plain k.scripts) k.start (events_of k) before
   before_stands = record {
     full = before;
-    stands = machine_stands (plain k.scripts) entity_total entity_exact k.start (events_of k) sound;
+    stands = machine_stands (plain k.scripts) entity_total entity_exact k.start (events_of k) sound.sound;
     merged = record { look = λ e. refl; logs = λ e. all_kept [] (before.state.logs e); opens = refl; status = λ g. refl; texts = λ t. refl };
   }
 

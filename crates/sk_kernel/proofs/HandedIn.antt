@@ -4,6 +4,7 @@ use Rattle.std.specs.Prelude.{replicate}
 use Rattle.std.proofs.lemmas.List.Sums.{fold-append}
 use Rattle.std.specs.List.{fold}
 use Rattle.std.specs.FinMap as map
+use Rattle.sk_record.specs.Epoch.{status_in}
 use Rattle.sk_record.specs.Trace.{Taken}
 use Rattle.sk_record.specs.Merged.{MergedStands, HandsIn, StepsAlone, last_of, each}
 use Rattle.sk_record.specs.Machine.{Machine}
@@ -25,10 +26,10 @@ use Rattle.sk_plain.specs.Replay.{image}
 use Rattle.sk_plain.proofs.Alone.{GoesOn, alone_run, runs_same}
 use Rattle.sk_machine.specs.Parts.{Parts, machine_of}
 use Rattle.sk_kernel.specs.Kernel.{KernelView, events_of, state_at, undecided_at, room, number_after, last_guess}
-use Rattle.sk_kernel.proofs.Whole.{open_count}
+use Rattle.sk_kernel.proofs.Whole.{after_event, open_count}
 use Rattle.std.proofs.lemmas.List.{append-nil}
 use Rattle.sk_kernel.specs.HandIn.{IsAsLent, alone_step, alone_entry, with_steps}
-use Rattle.sk_kernel.specs.Invariant.{IsWhole}
+use Rattle.sk_kernel.specs.Invariant.{IsWhole, Stands}
 
 -- ---- the events of a hand-in
 each_is : {A B : Type 0} (b : B) (xs : List A) → each b xs ≡ replicate (length xs) b
@@ -48,8 +49,8 @@ none_drawn : (n last pid : ℕ) → fold number_after last (replicate n (alone_s
 none_drawn zero last pid = refl
 none_drawn (suc n) last pid = none_drawn n last pid
 
-pub same_last : (es : List Event) (n pid : ℕ) → last_guess (es ++ replicate n (alone_step pid)) ≡ last_guess es
-same_last es n pid = fold-append number_after 0 es (replicate n (alone_step pid)) ∙ none_drawn n (last_guess es) pid
+pub same_last : (k : KernelView) (n pid : ℕ) → last_guess (with_steps k pid n) ≡ last_guess k
+same_last k n pid = fold-append number_after (length k.earlier) k.trace (replicate n (alone_step pid)) ∙ none_drawn n (last_guess k) pid
 
 -- ---- the machine
 abbrev Kernels : Type 0
@@ -92,13 +93,23 @@ pub handed_whole : (k : KernelView) (m b : Parts) (place left : ℕ) (l : LeaseV
     → IsAsLent k l → after_private l.script l.count l.lent ≡ Some q → 0 < l.count
     → HandsIn (plain k.scripts) (machine_of m) (Proc l.lent.pid) (alone_reads l.lent.pid) (stored.Process q) (machine_of b)
     → b.guesses ≡ m.guesses → es ≡ k.trace ++ replicate l.count (alone_step l.lent.pid) → length b.opens ≤ left
-    → IsWhole (record { number = b.guesses.kernel; scripts = k.scripts; start = k.start; limit = k.limit; trace = es }) b left
-handed_whole k m b place left l q es whole as_lent done some hands same trace room = record {
-  stands = subst (λ (xs : List Event). MergedStands (plain k.scripts) k.start (each_of image xs) (machine_of b)) (sym trace) (stands_handed k (machine_of m) whole.stands l q (machine_of b) as_lent done some hands);
-  number = refl;
-  drawn = ap (λ v. length v.statuses) same ∙ whole.drawn ∙ sym (ap last_guess trace ∙ same_last k.trace l.count l.lent.pid);
-  place = room;
-}
+    → IsWhole (after_event k b es) b left
+handed_whole k m b place left l q es whole as_lent done some hands same trace room =
+    let earlier : b.guesses.earlier ≡ k.earlier = ap (λ v. v.earlier) same ∙ whole.stands.earlier in
+    let last : last_guess (after_event k b es) ≡ last_guess k = (λ i. fold number_after (length (earlier i)) (trace i)) ∙ same_last k l.count l.lent.pid in
+    let long = ap length earlier in
+    let count : length b.guesses.statuses ≡ length m.guesses.statuses = ap (λ v. length v.statuses) same in
+    let drawn = whole.drawn in
+    record {
+      stands = record {
+        trace = subst (λ (xs : List Event). MergedStands (plain k.scripts) k.start (each_of image xs) (machine_of b)) (sym trace) (stands_handed k (machine_of m) whole.stands.trace l q (machine_of b) as_lent done some hands);
+        earlier = refl;
+        decided = λ g is. whole.stands.decided g (ap (λ ss. status_in ss g) (sym earlier) ∙ is);
+      };
+      number = refl;
+      drawn = omega (arith, last, long, count, drawn);
+      place = room;
+    }
 
 -- a hand-in opens no guess
 pub same_opens : (scripts : Scripts) (a b : Parts) (pid : ℕ) (p : Process) → HandsIn (plain scripts) (machine_of a) (Proc pid) (alone_reads pid) (stored.Process p) (machine_of b) → length b.opens ≡ length a.opens
@@ -109,7 +120,7 @@ pub no_step : (k : KernelView) (pid : ℕ) → with_steps k pid zero ≡ k
 no_step k pid = ap (λ es. record k { trace = es }) (append-nil k.trace)
 
 -- the open guesses and the steps of a hand-in have places in the trace
-pub fits_places : (k : KernelView) (m : Parts) → MergedStands (plain k.scripts) k.start (events_of k) (machine_of m) → (n : ℕ) → n ≤ room k → 0 < n → length m.opens + n ≤ k.limit
+pub fits_places : (k : KernelView) (m : Parts) → Stands k m → (n : ℕ) → n ≤ room k → 0 < n → length m.opens + n ≤ k.limit
 fits_places k m stands n free some =
     let opens : length m.opens ≡ length (undecided_at k) = open_count k m stands in
     let places : n ≤ k.limit - length k.trace - length (undecided_at k) = free in

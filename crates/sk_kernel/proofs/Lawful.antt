@@ -1,5 +1,5 @@
 -- The laws of kernels, from those of records.
-use Rattle.std.proofs.Common.{◌≡◌, ℕ, ◌<◌, Bool, false, ◌||◌, List, [], ◌∷◌, ◌++◌, map, Some, None, refl, sym, subst, arith}
+use Rattle.std.proofs.Common.{◌≡◌, ℕ, ◌<◌, length, Bool, false, ◌||◌, List, [], ◌∷◌, ◌++◌, map, Some, None, refl, sym, subst, arith}
 use Rattle.std.specs.List.{fold, list_any}
 use Rattle.std.specs.FinMap as map
 use Rattle.sk_record.specs.Effects.{is_marked, written_value}
@@ -8,6 +8,8 @@ use Rattle.sk_record.specs.Run.{run}
 use Rattle.sk_record.specs.Step.{Effect}
 use Rattle.sk_record.specs.Trace.{Event as Happens, Taken, IsTagOf, IsAllowed, record_of, all_recorded, no_record, deps}
 use Rattle.sk_record.specs.declared.status.Status.TheVariants.{Undecided}
+use Rattle.sk_record.specs.Epoch.{status_in}
+use Rattle.sk_record.proofs.Epoch.{in_trace}
 use Rattle.sk_ids.specs.Entity.{entity_cmp}
 use Rattle.sk_ids.specs.declared.entity.Entity.{Entity}
 use Rattle.sk_ids.proofs.Entities.{entity_total, entity_exact}
@@ -25,7 +27,7 @@ use Rattle.sk_kernel.proofs.Numbers.{last_after, last_is_greatest}
 use Rattle.sk_kernel.proofs.Unwritten.{value_stays, tags_stay, value_written, tags_written, none_rests, none_tagged}
 
 module _ (k : KernelView) where
-  last_same : (last : ℕ) (es : List Event) → fold number_after last es ≡ fold (last_after (plain k.scripts) k.start) last (map image es)
+  pub last_same : (last : ℕ) (es : List Event) → fold number_after last es ≡ fold (last_after (plain k.scripts)) last (map image es)
   last_same last [] = refl
   last_same last (events.Step pid input ∷ es) = last_same last es
   last_same last (events.Guess id pid input ∷ es) = last_same id es
@@ -34,8 +36,8 @@ module _ (k : KernelView) where
 
   pub below_next : HasSoundTrace k → (id : ℕ) → WasDrawn k id → id < next_guess k
   below_next sound id drawn =
-      let least = last_is_greatest (plain k.scripts) k.start (events_of k) sound id drawn in
-      let same = last_same 0 k.trace in
+      let least = last_is_greatest (plain k.scripts) k.start (length k.earlier) (events_of k) sound.sound id drawn in
+      let same = last_same (length k.earlier) k.trace in
       omega (arith, least, same)
 
   -- one event more
@@ -51,10 +53,10 @@ module _ (k : KernelView) where
     keeps n e is allowed f q accepted out = record {
       value = more e (λ es. map.get (run (plain k.scripts) k.start (record_of (plain k.scripts) k.start es)) q ≡ map.get (state_at k) q)
           (subst (λ (x : Happens EntryView). map.get (run (plain k.scripts) k.start (record_of (plain k.scripts) k.start (events_of k ++ x ∷ []))) q ≡ map.get (state_at k) q) (sym is)
-          (value_stays (plain k.scripts) entity_total entity_exact k.start (events_of k) n f sound allowed accepted q out));
+          (value_stays (plain k.scripts) entity_total entity_exact k.start (events_of k) n f sound.sound allowed accepted q out));
       tags = more e (λ es. deps (plain k.scripts) k.start (all_recorded (plain k.scripts) k.start no_record es) q ≡ tags_at k q)
           (subst (λ (x : Happens EntryView). deps (plain k.scripts) k.start (all_recorded (plain k.scripts) k.start no_record (events_of k ++ x ∷ [])) q ≡ tags_at k q) (sym is)
-          (tags_stay (plain k.scripts) entity_total entity_exact k.start (events_of k) n f sound allowed accepted q out));
+          (tags_stay (plain k.scripts) entity_total entity_exact k.start (events_of k) n f sound.sound allowed accepted q out));
     }
 
     pub step_keeps : (pid : ℕ) (input : Input) → KeepsUnwritten k (record { pid = pid; input = input; guess = None }) (with_event k (events.Step pid input))
@@ -64,10 +66,10 @@ module _ (k : KernelView) where
     writes n e is allowed f q accepted here = record {
       value = more e (λ es. map.get (run (plain k.scripts) k.start (record_of (plain k.scripts) k.start es)) q ≡ written_value entity_cmp f.written q (map.get (state_at k) q))
           (subst (λ (x : Happens EntryView). map.get (run (plain k.scripts) k.start (record_of (plain k.scripts) k.start (events_of k ++ x ∷ []))) q ≡ written_value entity_cmp f.written q (map.get (state_at k) q)) (sym is)
-          (value_written (plain k.scripts) entity_total entity_exact k.start (events_of k) n f sound allowed accepted q));
+          (value_written (plain k.scripts) entity_total entity_exact k.start (events_of k) n f sound.sound allowed accepted q));
       tags = λ id. more e (λ es. has id (deps (plain k.scripts) k.start (all_recorded (plain k.scripts) k.start no_record es) q) ≡ tagged n f id)
           (subst (λ (x : Happens EntryView). has id (deps (plain k.scripts) k.start (all_recorded (plain k.scripts) k.start no_record (events_of k ++ x ∷ [])) q) ≡ tagged n f id) (sym is)
-          (tags_written (plain k.scripts) entity_total entity_exact k.start (events_of k) n f sound allowed accepted q here id));
+          (tags_written (plain k.scripts) entity_total entity_exact k.start (events_of k) n f sound.sound allowed accepted q here id));
     }
 
     pub step_writes : (pid : ℕ) (input : Input) → WritesAll k (record { pid = pid; input = input; guess = None }) (with_event k (events.Step pid input))
@@ -90,4 +92,4 @@ module _ (k : KernelView) where
   pub no_tag : (id : ℕ) (e : Entity) → HasSoundTrace k → HasStatus k id Undecided → has id (tags_at (with_event k (events.Fail id)) e) ≡ false
   no_tag id e sound undecided =
       more (events.Fail id) (λ es. has id (deps (plain k.scripts) k.start (all_recorded (plain k.scripts) k.start no_record es) e) ≡ false)
-      (none_tagged (plain k.scripts) entity_total entity_exact k.start (events_of k) id sound undecided e)
+      (none_tagged (plain k.scripts) entity_total entity_exact k.start (events_of k) id sound.sound (in_trace (plain k.scripts) k.start (status_in k.earlier id) (events_of k) id (sound.decided id) undecided) e)

@@ -3,11 +3,10 @@ use Rattle.std.proofs.Common.{◌≡◌, ℕ, Bool, true, false, List, [], ◌�
 use Rattle.std.specs.Prelude.{◌↔◌}
 use Rattle.std.proofs.lemmas.Bool.{true≢false, or_left, eq-eqb}
 use Rattle.sk_record.specs.Notes.{has, last_tags}
-use Rattle.sk_record.specs.Merged.{MergedStands}
 use Rattle.sk_undo.specs.Count.{AreUnnoted}
-use Rattle.sk_machine.specs.Parts.{Parts, machine_of}
-use Rattle.sk_plain.specs.Act.{plain}
-use Rattle.sk_kernel.specs.Kernel.{KernelView, events_of, undecided_at, tags_at}
+use Rattle.sk_machine.specs.Parts.{Parts}
+use Rattle.sk_kernel.specs.Kernel.{KernelView, undecided_at, tags_at}
+use Rattle.sk_kernel.specs.Invariant.{Stands}
 use Rattle.sk_kernel.specs.Notes.{NothingRests, CanHold}
 use Rattle.sk_kernel.proofs.Whole.{tags_computed, tidy, opens_are}
 
@@ -19,7 +18,7 @@ not_true : (b : Bool) → (b ≡ true → ⊥) → b ≡ false
 not_true true h = absurd (h refl)
 not_true false h = refl
 
-module _ (k : KernelView) (m : Parts) (stands : MergedStands (plain k.scripts) k.start (events_of k) (machine_of m)) where
+module _ (k : KernelView) (m : Parts) (stands : Stands k m) where
   unnoted_rest : AreUnnoted m.slots → NothingRests k
   unnoted_rest none e = sym (tags_computed k m stands e) ∙ ap (last_tags []) (none e)
 

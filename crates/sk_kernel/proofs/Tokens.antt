@@ -4,31 +4,33 @@ use Rattle.std.specs.Prelude.{◌==◌, nat_le, nat_lt}
 use Rattle.std.specs.List.{filter}
 use Rattle.std.proofs.lemmas.Bool.{false_from_ne_true, true≢false, eqb-true, eq-eqb, or_cases, or_parts}
 use Rattle.std.proofs.lemmas.List.{length-set}
-use Rattle.std.proofs.lemmas.List.Sums.{fold-append}
 use Rattle.sk_record.specs.Notes.{has, without}
 use Rattle.sk_record.specs.UndoState.{Open, numbers}
 use Rattle.sk_record.specs.Machine.{Fails, rests_on}
-use Rattle.sk_record.specs.Merged.{MergedStands, MergedTakes, MergedCommits}
+use Rattle.sk_record.specs.Merged.{MergedTakes, MergedCommits}
 use Rattle.sk_record.specs.declared.status.Status.{Status}
 use Rattle.sk_record.specs.declared.status.Status.TheVariants.{Undecided, Committed, Failed, Struck}
 use Rattle.sk_ids.specs.declared.guess.TheConstants.{LAST_GUESS}
 use Rattle.sk_guesses.specs.declared.guesses.TheConstants.{GUESS_LIMIT}
 use Rattle.sk_guesses.specs.Token.{Token}
-use Rattle.sk_guesses.specs.Guesses.{GuessesView, status_of, decided, drawn, next_of, is_full}
+use Rattle.sk_guesses.specs.Guesses.{GuessesView, status_of, status_since, decided, drawn, next_of, is_full}
 use Rattle.sk_guesses.specs.Calls.{redeemed, redeemed_at}
 use Rattle.sk_guesses.specs.declared.guess.Redeemed.TheVariants as redeemed_as
 use Rattle.sk_script.specs.declared.instruction.Input.{Input}
 use Rattle.sk_trace.specs.declared.event.Event.{Event}
 use Rattle.sk_trace.specs.declared.event.Event.TheVariants as events
 use Rattle.sk_plain.specs.Act.{plain}
-use Rattle.sk_plain.specs.Replay.{image}
 use Rattle.sk_plain.specs.declared.refusal.Refusal.TheVariants.{TooMany}
 use Rattle.sk_machine.specs.Parts.{Parts, machine_of}
-use Rattle.sk_kernel.specs.Kernel.{KernelView, HasStatus, number_after, last_guess, next_guess, with_event, too_many}
+use Rattle.sk_kernel.specs.Kernel.{KernelView, HasStatus, events_of, next_guess, with_event, too_many}
 use Rattle.sk_kernel.specs.Calls.{IsNew, IsStranger, DecisionPost}
 use Rattle.sk_kernel.specs.declared.kernel.Outcome.TheVariants as outcomes
 use Rattle.sk_kernel.specs.Invariant.{IsWhole}
-use Rattle.sk_kernel.proofs.Whole.{status_is, open_undecided, undecided_counted, stands_committed, stands_failed, stands_guessed, drawn_below}
+use Rattle.sk_kernel.proofs.Whole.{status_is, undecided_since, open_undecided, undecided_counted, stands_committed, stands_failed, stands_guessed, drawn_below, after_event, stands_more, stands_after, last_after_event, earlier_long}
+use Rattle.sk_record.specs.Epoch.{StatusOr}
+use Rattle.sk_record.proofs.Epoch.{beyond}
+use Rattle.sk_record.proofs.Merged as merged
+use Rattle.sk_ids.proofs.Entities.{entity_total, entity_exact}
 
 -- ---- what a redeemed token says
 
@@ -133,7 +135,7 @@ length_without g (o ∷ os) = ap suc (length_without g os)
 
 module _ (k : KernelView) (m b : Parts) (place left : ℕ) (g : ℕ) (es : List Event) (whole : IsWhole k m place) (undecided : HasStatus k g Undecided) where
   is_open : has g (numbers m.opens) ≡ true
-  is_open = (open_undecided k m whole.stands g).1 ((status_is k m whole.stands g Undecided).1 undecided)
+  is_open = (open_undecided k m whole.stands g).1 (undecided_since k m whole.stands g undecided)
 
   some_open : (os : List Open) → has g (numbers os) ≡ true → 1 ≤ length os
   some_open [] here = absurd (true≢false (sym here))
@@ -144,37 +146,49 @@ module _ (k : KernelView) (m b : Parts) (place left : ℕ) (g : ℕ) (es : List 
   kept_place = let some = some_open m.opens is_open in let room = whole.place in omega (arith, some, room)
 
   pub committed_whole : MergedCommits (machine_of m) g (machine_of b) → b.guesses ≡ decided m.guesses g Committed → es ≡ k.trace ++ events.Commit g ∷ [] → left + 1 ≡ place
-      → IsWhole (record { number = b.guesses.kernel; scripts = k.scripts; start = k.start; limit = k.limit; trace = es }) b left
+      → IsWhole (after_event k b es) b left
   committed_whole commits guesses trace room =
-      let stands = stands_committed k m whole.stands g b undecided commits in
-      let status : status_of b.guesses g ≡ Some Committed = commits.status g ∙ ap (λ x. cond x (Some Committed) (status_of m.guesses g)) (eq-eqb g g refl) in
-      let gone : has g (numbers b.opens) ≡ false = false_from_ne_true _ (λ here. let both : Some Committed ≡ Some Undecided = sym status ∙ (open_undecided (with_event k (events.Commit g)) b stands g).0 here in cc) in
+      let earlier : b.guesses.earlier ≡ m.guesses.earlier = ap (λ v. v.earlier) guesses in
+      let e = events.Commit g in
+      let represents = stands_committed k m whole.stands g b undecided commits in
+      let stands = stands_more k m b whole.stands earlier es e trace represents in
+      let status : status_since b.guesses g ≡ Some Committed = commits.status g ∙ ap (λ x. cond x (Some Committed) (status_since m.guesses g)) (eq-eqb g g refl) in
+      let gone : has g (numbers b.opens) ≡ false = false_from_ne_true _ (λ here. let both : Some Committed ≡ Some Undecided = sym status ∙ (open_undecided (with_event k e) b stands g).0 here in cc) in
       let p : Open → Bool = λ o. not (o.0 == g) in
       let same : numbers b.opens ≡ numbers (filter p m.opens) = ap numbers commits.opens ∙ numbers_without g (filter p m.opens) in
       let less = fewer p m.opens g is_open (sym (ap (has g) same) ∙ gone) in
       let long : length b.opens ≡ length (filter p m.opens) = ap length commits.opens ∙ length_without g (filter p m.opens) in
       let enough = whole.place in
+      let last = last_after_event k m b whole.stands earlier es e trace in
+      let before = earlier_long k m b whole.stands earlier es e trace in
+      let count : length b.guesses.statuses ≡ length m.guesses.statuses = ap (λ v. length v.statuses) guesses ∙ length-set m.guesses.statuses _ Committed in
+      let drawn = whole.drawn in
       record {
-        stands = subst (λ (xs : List Event). MergedStands (plain k.scripts) k.start (map image xs) (machine_of b)) (sym trace) stands;
+        stands = stands_after k m b whole.stands earlier es e trace represents;
         number = refl;
-        drawn = ap (λ v. length v.statuses) guesses ∙ length-set m.guesses.statuses _ Committed ∙ whole.drawn ∙ sym (ap last_guess trace ∙ fold-append number_after 0 k.trace (events.Commit g ∷ []));
+        drawn = omega (arith, last, before, count, drawn);
         place = omega (arith, less, long, room, enough);
       }
 
-  pub failed_whole : Fails (machine_of m) g (machine_of b) → length b.guesses.statuses ≡ length m.guesses.statuses → es ≡ k.trace ++ events.Fail g ∷ [] → left + 1 ≡ place
-      → IsWhole (record { number = b.guesses.kernel; scripts = k.scripts; start = k.start; limit = k.limit; trace = es }) b left
-  failed_whole fails drawn trace room =
-      let stands = stands_failed k m whole.stands g b undecided fails in
-      let status : status_of b.guesses g ≡ Some Failed = fails.status g ∙ ap (λ x. cond x (Some Failed) (cond (rests_on g m.opens g) (Some Struck) (status_of m.guesses g))) (eq-eqb g g refl) in
-      let gone : has g (numbers b.opens) ≡ false = false_from_ne_true _ (λ here. let both : Some Failed ≡ Some Undecided = sym status ∙ (open_undecided (with_event k (events.Fail g)) b stands g).0 here in cc) in
+  pub failed_whole : Fails (machine_of m) g (machine_of b) → b.guesses.earlier ≡ m.guesses.earlier → length b.guesses.statuses ≡ length m.guesses.statuses → es ≡ k.trace ++ events.Fail g ∷ [] → left + 1 ≡ place
+      → IsWhole (after_event k b es) b left
+  failed_whole fails earlier count trace room =
+      let e = events.Fail g in
+      let represents = stands_failed k m whole.stands g b undecided fails in
+      let stands = stands_more k m b whole.stands earlier es e trace represents in
+      let status : status_since b.guesses g ≡ Some Failed = fails.status g ∙ ap (λ x. cond x (Some Failed) (cond (rests_on g m.opens g) (Some Struck) (status_since m.guesses g))) (eq-eqb g g refl) in
+      let gone : has g (numbers b.opens) ≡ false = false_from_ne_true _ (λ here. let both : Some Failed ≡ Some Undecided = sym status ∙ (open_undecided (with_event k e) b stands g).0 here in cc) in
       let p : Open → Bool = λ o. not (has g o.1) in
       let less = fewer p m.opens g is_open (sym (ap (λ os. has g (numbers os)) fails.state.opens) ∙ gone) in
       let long : length b.opens ≡ length (filter p m.opens) = ap length fails.state.opens in
       let enough = whole.place in
+      let last = last_after_event k m b whole.stands earlier es e trace in
+      let before = earlier_long k m b whole.stands earlier es e trace in
+      let drawn = whole.drawn in
       record {
-        stands = subst (λ (xs : List Event). MergedStands (plain k.scripts) k.start (map image xs) (machine_of b)) (sym trace) stands;
+        stands = stands_after k m b whole.stands earlier es e trace represents;
         number = refl;
-        drawn = drawn ∙ whole.drawn ∙ sym (ap last_guess trace ∙ fold-append number_after 0 k.trace (events.Fail g ∷ []));
+        drawn = omega (arith, last, before, count, drawn);
         place = omega (arith, less, long, room, enough);
       }
 
@@ -186,15 +200,19 @@ length_more (y ∷ xs) x = let rest = length_more xs x in omega (arith, rest)
 
 module _ (k : KernelView) (m : Parts) (place : ℕ) (whole : IsWhole k m place) where
   pub next_is : next_of m.guesses ≡ next_guess k
-  next_is = ap (λ n. n + 1) whole.drawn
+  next_is = (λ i. length (whole.stands.earlier i) + length m.guesses.statuses + 1) ∙ ap (λ n. n + 1) whole.drawn
 
   -- its number is above each that was drawn, and it is undecided
   pub guess_new : (b : Parts) (pid : ℕ) (input : Input) → MergedTakes (plain k.scripts) (machine_of m) (record { pid = pid; input = input; guess = Some (next_of m.guesses) }) (machine_of b)
       → IsNew k (with_event k (events.Guess (next_guess k) pid input))
   guess_new b pid input takes =
       let next = next_of m.guesses in
-      let status : status_of b.guesses next ≡ Some Undecided = takes.status next ∙ ap (λ x. cond x (Some Undecided) (status_of m.guesses next)) (eq-eqb next next refl) in
-      let undecided = (status_is (with_event k (events.Guess next pid input)) b (stands_guessed k m whole.stands pid input b takes) next Undecided).0 status in
+      let k' = with_event k (events.Guess next pid input) in
+      let status : status_since b.guesses next ≡ Some Undecided = takes.status next ∙ ap (λ x. cond x (Some Undecided) (status_since m.guesses next)) (eq-eqb next next refl) in
+      let here = (merged.merged_run (plain k.scripts) entity_total entity_exact k.start (events_of k') (machine_of b) (stands_guessed k m whole.stands pid input b takes)).statuses next Undecided in
+      let long = ap length whole.stands.earlier in
+      let above : length k.earlier < next = omega (arith, long) in
+      let undecided : HasStatus k' next Undecided = subst (λ o. StatusOr (plain k.scripts) k.start o (events_of k') next Undecided) (sym (beyond k.earlier next above)) (here.0 status) in
       record {
         above = λ h drawn. subst (λ n. h < n) next_is (drawn_below k m whole.stands h drawn);
         undecided = subst (λ n. HasStatus (with_event k (events.Guess n pid input)) n Undecided) next_is undecided;
@@ -207,13 +225,19 @@ module _ (k : KernelView) (m : Parts) (place : ℕ) (whole : IsWhole k m place) 
   pub guessed_whole : (b : Parts) (left : ℕ) (pid : ℕ) (input : Input) (id : ℕ) (es : List Event)
       → MergedTakes (plain k.scripts) (machine_of m) (record { pid = pid; input = input; guess = Some (next_of m.guesses) }) (machine_of b)
       → b.guesses ≡ drawn m.guesses → id ≡ next_of m.guesses → es ≡ k.trace ++ events.Guess id pid input ∷ [] → length m.opens + 1 ≤ left
-      → IsWhole (record { number = b.guesses.kernel; scripts = k.scripts; start = k.start; limit = k.limit; trace = es }) b left
+      → IsWhole (after_event k b es) b left
   guessed_whole b left pid input id es takes guesses number trace room =
-      let events_are : es ≡ k.trace ++ events.Guess (next_of m.guesses) pid input ∷ [] = trace ∙ ap (λ n. k.trace ++ events.Guess n pid input ∷ []) number in
+      let earlier : b.guesses.earlier ≡ m.guesses.earlier = ap (λ v. v.earlier) guesses in
+      let e = events.Guess (next_of m.guesses) pid input in
+      let events_are : es ≡ k.trace ++ e ∷ [] = trace ∙ ap (λ n. k.trace ++ events.Guess n pid input ∷ []) number in
       let opens : length b.opens ≡ length m.opens + 1 = ap length takes.opens ∙ length_more m.opens _ in
+      let last = last_after_event k m b whole.stands earlier es e events_are in
+      let before = earlier_long k m b whole.stands earlier es e events_are in
+      let was = ap length whole.stands.earlier in
+      let count : length b.guesses.statuses ≡ length m.guesses.statuses + 1 = ap (λ v. length v.statuses) guesses ∙ length_more m.guesses.statuses Undecided in
       record {
-        stands = subst (λ (xs : List Event). MergedStands (plain k.scripts) k.start (map image xs) (machine_of b)) (sym events_are) (stands_guessed k m whole.stands pid input b takes);
+        stands = stands_after k m b whole.stands earlier es e events_are (stands_guessed k m whole.stands pid input b takes);
         number = refl;
-        drawn = ap (λ v. length v.statuses) guesses ∙ length_more m.guesses.statuses Undecided ∙ sym (ap last_guess events_are ∙ fold-append number_after 0 k.trace (events.Guess (next_of m.guesses) pid input ∷ []));
+        drawn = omega (arith, last, before, was, count);
         place = omega (arith, opens, room);
       }

@@ -1,11 +1,11 @@
 -- What the parts of a kernel say of its trace.
-use Rattle.std.proofs.Common.{Bor, ◌≡◌, ℕ, zero, suc, ◌+◌, ◌<◌, ◌≤◌, length, true, false, not, List, [], ◌∷◌, ◌++◌, map, Option, Some, None, refl, sym, ◌∙◌, ap, subst, arith}
-use Rattle.std.specs.Prelude.{◌↔◌, is_some, slice_get, MatchOption}
+use Rattle.std.proofs.Common.{Bor, ◌≡◌, ℕ, zero, suc, ◌<◌, ◌≤◌, ◌-◌, ◌+◌, length, cond, true, false, not, List, [], ◌∷◌, ◌++◌, map, Option, Some, None, refl, sym, ◌∙◌, ap, subst, arith}
+use Rattle.std.specs.Prelude.{◌↔◌, ◌==◌, is_some, slice_get, MatchOption}
 use Rattle.std.specs.declared.cmp.Ordering.TheVariants.{Less}
 use Rattle.std.specs.Cmp.{nat_cmp_is}
 use Rattle.std.proofs.lemmas.Bool.{eq-eqb, or_left, or_right}
 use Rattle.std.specs.Ordering.{nat_cmp}
-use Rattle.std.specs.List.{AllByRecursion, list_all}
+use Rattle.std.specs.List.{AllByRecursion, list_all, fold}
 use Rattle.std.specs.List.Sorted.{IsStrictlySortedBy}
 use Rattle.std.specs.FinMap as map
 use Rattle.std.proofs.lemmas.Map.Keys.{sorted_from_strictly_increasing}
@@ -14,7 +14,7 @@ use Rattle.sk_record.specs.Step.{perform}
 use Rattle.sk_record.specs.Run.{effects}
 use Rattle.sk_record.specs.Notes.{Note, has, tags_along}
 use Rattle.sk_record.specs.Release.{IsReleased, said_with}
-use Rattle.sk_record.specs.Trace.{IsDrawn, all_recorded, no_record}
+use Rattle.sk_record.specs.Trace.{IsDrawn, StatusIs, all_recorded, no_record}
 use Rattle.sk_record.specs.UndoState.{Open, numbers, tags_at as tags_in, IsTidy, IsGrowing}
 use Rattle.sk_record.specs.declared.status.Status.{Status}
 use Rattle.sk_record.specs.declared.status.Status.TheVariants.{Undecided}
@@ -31,7 +31,12 @@ use Rattle.sk_ids.specs.declared.entity.Entity.{Entity}
 use Rattle.sk_record.specs.Effects.{is_in}
 use Rattle.sk_kernel.proofs.Keys.{keys_are}
 use Rattle.sk_ids.proofs.Entities.{entity_total, entity_exact}
-use Rattle.sk_guesses.specs.Guesses.{GuessesView, status_of, undecided_of as undecided_count, next_of}
+use Rattle.sk_guesses.specs.Guesses.{GuessesView, status_of, status_since, undecided_of as undecided_count, next_of}
+use Rattle.sk_guesses.proofs.Statuses.{drawn-since, nothing_in}
+use Rattle.sk_guesses.proofs.Decided.{place-of}
+use Rattle.sk_record.specs.Epoch.{status_in, or_since}
+use Rattle.sk_record.proofs.Epoch.{either_is, in_trace}
+use Rattle.sk_kernel.specs.Laws.{HasSoundTrace}
 use Rattle.sk_store.specs.declared.entity_state.EntityState.{EntityState}
 use Rattle.sk_terminal.specs.Terminals.{texts_at as texts_in}
 use Rattle.sk_undo.specs.Logs.{look_at, log_at}
@@ -47,7 +52,7 @@ use Rattle.sk_kernel.specs.Kernel.{KernelView, events_of, record_at, state_at, u
 use Rattle.sk_kernel.specs.Calls.{ShowsTerminal, SaysNothing, LeavesTexts}
 use Rattle.sk_kernel.proofs.Clear.{AllClear, all_clear, clear_released}
 use Rattle.sk_terminal.specs.Terminals.{released_at}
-use Rattle.sk_kernel.specs.Invariant.{IsWhole}
+use Rattle.sk_kernel.specs.Invariant.{IsWhole, Stands}
 use Rattle.sk_guesses.specs.Guesses.{opened}
 use Rattle.sk_record.specs.Machine.{Machine, machine_at_start}
 use Rattle.sk_script.specs.Boot.{BootView}
@@ -84,9 +89,11 @@ got_below [] i s is = cc
 got_below (x ∷ ss) zero s is = omega arith
 got_below (x ∷ ss) (suc i) s is = let less = got_below ss i s is in omega (arith, less)
 
-status_below : (v : GuessesView) (g : ℕ) (s : Status) → status_of v g ≡ Some s → g < next_of v
-status_below v zero s is = omega arith
-status_below v (suc i) s is = let less = got_below v.statuses i s (sym (at_place v i) ∙ is) in omega (arith, less)
+status_below : (v : GuessesView) (g : ℕ) (s : Status) → status_since v g ≡ Some s → g < next_of v
+status_below v g s is =
+    let above = drawn-since v g s is in
+    let less = got_below v.statuses (g - length v.earlier - 1) s (place-of v v g g s refl refl is) in
+    omega (arith, above, less)
 
 -- a rising list with one number above all of its own
 all_below : (xs : List ℕ) (x y : ℕ) → AllByRecursion (λ z. nat_cmp x z ≡ Less) xs → nat_cmp x y ≡ Less → AllByRecursion (λ z. nat_cmp x z ≡ Less) (xs ++ y ∷ [])
@@ -123,9 +130,9 @@ released_said t [] = refl
 released_said t ((text, []) ∷ xs) = ap (λ (ws : List Saying). record { to = t; text = text } ∷ ws) (released_said t xs)
 released_said t ((text, g ∷ tags) ∷ xs) = refl
 
-module _ (k : KernelView) (m : Parts) (stands : MergedStands (plain k.scripts) k.start (events_of k) (machine_of m)) where
+module _ (k : KernelView) (m : Parts) (stands : Stands k m) where
   is_plain : IsPlainRun (plain k.scripts) k.start (events_of k) (machine_of m)
-  is_plain = merged.merged_run (plain k.scripts) entity_total entity_exact k.start (events_of k) (machine_of m) stands
+  is_plain = merged.merged_run (plain k.scripts) entity_total entity_exact k.start (events_of k) (machine_of m) stands.trace
 
   -- ---- what there is to see
   pub look_is : (e : Entity) → look_at m.slots e ≡ map.get (state_at k) e
@@ -136,14 +143,38 @@ module _ (k : KernelView) (m : Parts) (stands : MergedStands (plain k.scripts) k
 
   pub tags_computed : (e : Entity) → tags_in (undo_state_of m) e ≡ tags_at k e
   tags_computed e =
-      merged.same_tags stands.full (machine_of m) stands.merged e
-      ∙ tags_are (plain k.scripts) entity_total entity_exact k.start (all_recorded (plain k.scripts) k.start no_record (events_of k)) stands.full.state stands.stands.state e
+      merged.same_tags stands.trace.full (machine_of m) stands.trace.merged e
+      ∙ tags_are (plain k.scripts) entity_total entity_exact k.start (all_recorded (plain k.scripts) k.start no_record (events_of k)) stands.trace.full.state stands.trace.stands.state e
 
   pub tags_exact : (e : Entity) (g : ℕ) → (has g (tags_in (undo_state_of m) e) ≡ true) ↔ RestsOn k e g
   tags_exact e g = is_plain.tags e g
 
+  since_is : (g : ℕ) (s : Status) → (status_since m.guesses g ≡ Some s) ↔ StatusIs (plain k.scripts) k.start (events_of k) g s
+  since_is g s = is_plain.statuses g s
+
   pub status_is : (g : ℕ) (s : Status) → (status_of m.guesses g ≡ Some s) ↔ HasStatus k g s
-  status_is g s = is_plain.statuses g s
+  status_is g s =
+      subst (λ e. (or_since (status_in e g) (status_since m.guesses g) ≡ Some s) ↔ HasStatus k g s) (sym stands.earlier)
+      (either_is (plain k.scripts) k.start (status_in k.earlier g) (status_since m.guesses g) (events_of k) g s (since_is g s))
+
+  -- an undecided guess is one of this epoch
+  pub is_here : (g : ℕ) → HasStatus k g Undecided → StatusIs (plain k.scripts) k.start (events_of k) g Undecided
+  is_here g is = in_trace (plain k.scripts) k.start (status_in k.earlier g) (events_of k) g (stands.decided g) is
+
+  pub undecided_since : (g : ℕ) → HasStatus k g Undecided → status_since m.guesses g ≡ Some Undecided
+  undecided_since g is = (since_is g Undecided).1 (is_here g is)
+
+  -- the trace is one of this epoch
+  pub epoch_of : HasSoundTrace k
+  epoch_of = record {
+    sound = stands.trace.stands.sound;
+    decided = stands.decided;
+    above = λ g drawn.
+        let some = (one_status (plain k.scripts) k.start (events_of k) stands.trace.stands.sound g).0.0 drawn in
+        let since = drawn-since m.guesses g some.0 ((since_is g some.0).1 some.1) in
+        let same = ap length stands.earlier in
+        omega (arith, since, same);
+  }
 
   pub opens_are : numbers m.opens ≡ undecided_at k
   opens_are = is_plain.opens
@@ -159,17 +190,17 @@ module _ (k : KernelView) (m : Parts) (stands : MergedStands (plain k.scripts) k
   opens_rise = sorted_from_strictly_increasing (numbers m.opens) is_plain.rising
 
   -- an open guess is undecided, and an undecided one is open
-  pub open_undecided : (g : ℕ) → (has g (numbers m.opens) ≡ true) ↔ (status_of m.guesses g ≡ Some Undecided)
+  pub open_undecided : (g : ℕ) → (has g (numbers m.opens) ≡ true) ↔ (status_since m.guesses g ≡ Some Undecided)
   open_undecided g =
-      let open_is = subst (λ (os : List Open). (has g (numbers os) ≡ true) ↔ HasStatus k g Undecided) (sym stands.merged.opens) (headline.open_is (plain k.scripts) entity_total entity_exact k.start (events_of k) stands.full stands.stands g) in
-      ((λ here. (status_is g Undecided).1 (open_is.0 here)), λ is. open_is.1 ((status_is g Undecided).0 is))
+      let open_is = subst (λ (os : List Open). (has g (numbers os) ≡ true) ↔ StatusIs (plain k.scripts) k.start (events_of k) g Undecided) (sym stands.trace.merged.opens) (headline.open_is (plain k.scripts) entity_total entity_exact k.start (events_of k) stands.trace.full stands.trace.stands g) in
+      ((λ here. (since_is g Undecided).1 (open_is.0 here)), λ is. open_is.1 ((since_is g Undecided).0 is))
 
   pub undecided_counted : undecided_count m.guesses.statuses ≡ length (undecided_at k)
   undecided_counted = count_of m.guesses (numbers m.opens) opens_rise open_undecided ∙ ap length opens_are
 
   pub texts_are : (t : ℕ) → said_at t (texts_in m.texts t) ≡ texts_at k t
   texts_are t =
-      stands.merged.texts t ∙ stands.stands.texts t
+      stands.trace.merged.texts t ∙ stands.trace.stands.texts t
       ∙ ap (λ ns. let ran = effects (plain k.scripts) k.start ns in said_with (plain k.scripts) t (tags_along (plain k.scripts).order (undecided_at k) (λ g. []) ran) ran) (entries_are (plain k.scripts) k.start (events_of k))
 
   pub releases : (t : ℕ) → IsReleased (plain k.scripts) k.start (events_of k) t (released (said_at t (texts_in m.texts t)))
@@ -178,24 +209,24 @@ module _ (k : KernelView) (m : Parts) (stands : MergedStands (plain k.scripts) k
   -- ---- what a step asks for
   pub tidy : IsTidy (undo_state_of m)
   tidy =
-      merged.tidy_in stands.full (machine_of m) stands.merged
-      (tidy_of (plain k.scripts) entity_total entity_exact k.start (all_recorded (plain k.scripts) k.start no_record (events_of k)) stands.full.state stands.stands.state)
+      merged.tidy_in stands.trace.full (machine_of m) stands.trace.merged
+      (tidy_of (plain k.scripts) entity_total entity_exact k.start (all_recorded (plain k.scripts) k.start no_record (events_of k)) stands.trace.full.state stands.trace.stands.state)
 
   pub grows : (e : Entity) → IsGrowing (log_at m.slots e)
   grows e =
-      merged.growing_in stands.full (machine_of m) stands.merged e
-      (grows_of (plain k.scripts) entity_total entity_exact k.start (all_recorded (plain k.scripts) k.start no_record (events_of k)) stands.full.state stands.stands.state e)
+      merged.growing_in stands.trace.full (machine_of m) stands.trace.merged e
+      (grows_of (plain k.scripts) entity_total entity_exact k.start (all_recorded (plain k.scripts) k.start no_record (events_of k)) stands.trace.full.state stands.trace.stands.state e)
 
   pub rests : (e : Entity) → list_all (λ n. not (is_empty n.tags)) (log_at m.slots e) ≡ true
   rests e =
       all_rest (log_at m.slots e)
-      (merged.some_in [] (stands.full.state.logs e) (log_at m.slots e) (stands.merged.logs e)
-      (rests_of (plain k.scripts) entity_total entity_exact k.start (all_recorded (plain k.scripts) k.start no_record (events_of k)) stands.full.state stands.stands.state e))
+      (merged.some_in [] (stands.trace.full.state.logs e) (log_at m.slots e) (stands.trace.merged.logs e)
+      (rests_of (plain k.scripts) entity_total entity_exact k.start (all_recorded (plain k.scripts) k.start no_record (events_of k)) stands.trace.full.state stands.trace.stands.state e))
 
   pub same_effect : (n : EntryView) → perform (look_at m.slots) (act k.scripts n.pid n.input) ≡ effect_at k n
   same_effect n =
-      (λ i. perform (λ e. stands.merged.look e i) (act k.scripts n.pid n.input))
-      ∙ headline.same_outcome (plain k.scripts) entity_total entity_exact k.start (events_of k) stands.full stands.stands n
+      (λ i. perform (λ e. stands.trace.merged.look e i) (act k.scripts n.pid n.input))
+      ∙ headline.same_outcome (plain k.scripts) entity_total entity_exact k.start (events_of k) stands.trace.full stands.trace.stands n
 
   -- the list of a guess has just the entities that rest on it
   pub dependents_are : (id : ℕ) (es : List Entity) → (has id (numbers m.opens) ≡ true → (e : Entity) → is_in entity_cmp es e ≡ has id (tags_in (undo_state_of m) e)) → (has id (numbers m.opens) ≡ false → es ≡ [])
@@ -217,32 +248,32 @@ module _ (k : KernelView) (m : Parts) (stands : MergedStands (plain k.scripts) k
   stands_stepped pid input b takes =
       let n : EntryView = record { pid = pid; input = input; guess = None } in
       subst (λ es. MergedStands (plain k.scripts) k.start es (machine_of b)) (sym (map_more k.trace (events.Step pid input)))
-      (merged.merged_taken (plain k.scripts) entity_total entity_exact k.start (events_of k) (machine_of m) n (machine_of b) stands (λ g h no_mark drawn. absurd (no_guess g no_mark)) takes)
+      (merged.merged_taken (plain k.scripts) entity_total entity_exact k.start (events_of k) (machine_of m) n (machine_of b) stands.trace (λ g h no_mark drawn. absurd (no_guess g no_mark)) takes)
 
   pub stands_committed : (g : ℕ) (b : Parts) → HasStatus k g Undecided → MergedCommits (machine_of m) g (machine_of b)
       → MergedStands (plain k.scripts) k.start (events_of (with_event k (events.Commit g))) (machine_of b)
   stands_committed g b undecided commits =
       subst (λ es. MergedStands (plain k.scripts) k.start es (machine_of b)) (sym (map_more k.trace (events.Commit g)))
-      (merged.merged_committed (plain k.scripts) entity_total entity_exact k.start (events_of k) (machine_of m) g (machine_of b) stands undecided commits)
+      (merged.merged_committed (plain k.scripts) entity_total entity_exact k.start (events_of k) (machine_of m) g (machine_of b) stands.trace (is_here g undecided) commits)
 
   pub stands_failed : (g : ℕ) (b : Parts) → HasStatus k g Undecided → Fails (machine_of m) g (machine_of b)
       → MergedStands (plain k.scripts) k.start (events_of (with_event k (events.Fail g))) (machine_of b)
   stands_failed g b undecided fails =
       subst (λ es. MergedStands (plain k.scripts) k.start es (machine_of b)) (sym (map_more k.trace (events.Fail g)))
-      (merged.merged_failed (plain k.scripts) entity_total entity_exact k.start (events_of k) (machine_of m) g (machine_of b) stands undecided fails)
+      (merged.merged_failed (plain k.scripts) entity_total entity_exact k.start (events_of k) (machine_of m) g (machine_of b) stands.trace (is_here g undecided) fails)
 
   -- every guess that was drawn has a number below the next
   pub drawn_below : (h : ℕ) → IsDrawn (plain k.scripts) (events_of k) h → h < next_of m.guesses
   drawn_below h drawn =
-      let has_status = (one_status (plain k.scripts) k.start (events_of k) stands.stands.sound h).0.0 drawn in
-      status_below m.guesses h has_status.0 ((status_is h has_status.0).1 has_status.1)
+      let has_status = (one_status (plain k.scripts) k.start (events_of k) stands.trace.stands.sound h).0.0 drawn in
+      status_below m.guesses h has_status.0 ((since_is h has_status.0).1 has_status.1)
 
   pub stands_guessed : (pid : ℕ) (input : Input) (b : Parts) → MergedTakes (plain k.scripts) (machine_of m) (record { pid = pid; input = input; guess = Some (next_of m.guesses) }) (machine_of b)
       → MergedStands (plain k.scripts) k.start (events_of (with_event k (events.Guess (next_of m.guesses) pid input))) (machine_of b)
   stands_guessed pid input b takes =
       let n : EntryView = record { pid = pid; input = input; guess = Some (next_of m.guesses) } in
       subst (λ es. MergedStands (plain k.scripts) k.start es (machine_of b)) (sym (map_more k.trace (events.Guess (next_of m.guesses) pid input)))
-      (merged.merged_taken (plain k.scripts) entity_total entity_exact k.start (events_of k) (machine_of m) n (machine_of b) stands
+      (merged.merged_taken (plain k.scripts) entity_total entity_exact k.start (events_of k) (machine_of m) n (machine_of b) stands.trace
       (λ g h mark drawn. let own = some_same (next_of m.guesses) g mark in let less = drawn_below h drawn in omega (arith, own, less)) takes)
 
   -- with the next number they rise still
@@ -279,17 +310,48 @@ module _ (k : KernelView) (m : Parts) (stands : MergedStands (plain k.scripts) k
         released = subst (IsReleased (plain k.scripts) k.start (events_of k) t) same (releases t);
       }
 
+-- a kernel with these parts where its trace has one event more
+abbrev pub after_event : KernelView → Parts → List Event → KernelView
+after_event k b es = record { number = b.guesses.kernel; scripts = k.scripts; start = k.start; limit = k.limit; earlier = b.guesses.earlier; trace = es }
+
+module _ (k : KernelView) (m b : Parts) (whole : Stands k m) (same : b.guesses.earlier ≡ m.guesses.earlier) (es : List Event) (e : Event) (trace : es ≡ k.trace ++ e ∷ []) where
+  earlier_is : b.guesses.earlier ≡ k.earlier
+  earlier_is = same ∙ whole.earlier
+
+  pub stands_more : MergedStands (plain k.scripts) k.start (events_of (with_event k e)) (machine_of b) → Stands (with_event k e) b
+  stands_more stands = record { trace = stands; earlier = earlier_is; decided = whole.decided }
+
+  pub stands_after : MergedStands (plain k.scripts) k.start (events_of (with_event k e)) (machine_of b) → Stands (after_event k b es) b
+  stands_after stands = record {
+    trace = subst (λ (xs : List Event). MergedStands (plain k.scripts) k.start (map image xs) (machine_of b)) (sym trace) stands;
+    earlier = refl;
+    decided = λ g is. whole.decided g (ap (λ ss. status_in ss g) (sym earlier_is) ∙ is);
+  }
+
+  pub last_after_event : last_guess (after_event k b es) ≡ number_after (last_guess k) e
+  last_after_event = (λ i. fold number_after (length (earlier_is i)) (trace i)) ∙ fold-append number_after (length k.earlier) k.trace (e ∷ [])
+
+  pub earlier_long : length b.guesses.earlier ≡ length k.earlier
+  earlier_long = ap length earlier_is
+
 -- what stands after a step
 pub stepped_whole : (k : KernelView) (m b : Parts) (place left : ℕ) (pid : ℕ) (input : Input) (es : List Event) → IsWhole k m place
     → MergedTakes (plain k.scripts) (machine_of m) (record { pid = pid; input = input; guess = None }) (machine_of b)
     → b.guesses ≡ m.guesses → es ≡ k.trace ++ events.Step pid input ∷ [] → length b.opens ≤ left
-    → IsWhole (record { number = b.guesses.kernel; scripts = k.scripts; start = k.start; limit = k.limit; trace = es }) b left
-stepped_whole k m b place left pid input es whole takes same trace room = record {
-  stands = subst (λ (xs : List Event). MergedStands (plain k.scripts) k.start (map image xs) (machine_of b)) (sym trace) (stands_stepped k m whole.stands pid input b takes);
-  number = refl;
-  drawn = ap (λ v. length v.statuses) same ∙ whole.drawn ∙ sym (ap last_guess trace ∙ fold-append number_after 0 k.trace (events.Step pid input ∷ []));
-  place = room;
-}
+    → IsWhole (after_event k b es) b left
+stepped_whole k m b place left pid input es whole takes same trace room =
+    let earlier : b.guesses.earlier ≡ m.guesses.earlier = ap (λ v. v.earlier) same in
+    let e = events.Step pid input in
+    let last = last_after_event k m b whole.stands earlier es e trace in
+    let long = earlier_long k m b whole.stands earlier es e trace in
+    let drawn = whole.drawn in
+    let count : length b.guesses.statuses ≡ length m.guesses.statuses = ap (λ v. length v.statuses) same in
+    record {
+      stands = stands_after k m b whole.stands earlier es e trace (stands_stepped k m whole.stands pid input b takes);
+      number = refl;
+      drawn = omega (arith, last, long, drawn, count);
+      place = room;
+    }
 
 -- a step that is no guess opens none
 pub no_more_opens : (scripts : Scripts) (a b : Parts) (pid : ℕ) (input : Input) → MergedTakes (plain scripts) (machine_of a) (record { pid = pid; input = input; guess = None }) (machine_of b) → length b.opens ≡ length a.opens
@@ -297,14 +359,13 @@ no_more_opens scripts a b pid input takes = ap length (takes.opens ∙ append-ni
 
 -- ---- at the start
 
-none_drawn : (number g : ℕ) → status_of (opened number) g ≡ None
-none_drawn number zero = refl
-none_drawn number (suc i) = at_place (opened number) i
+none_drawn : (number g : ℕ) → status_since (opened number) g ≡ None
+none_drawn number g = nothing_in (g - 0)
 
 pub started : (scripts : Scripts) (start : State) (number : ℕ) (m : Parts) → IsAtStart number start m → machine_of m ≡ machine_at_start (plain scripts) start
 started scripts start number m at = λ i. record {
   state = record { look = λ e. at.look e i; logs = λ e. at.logs e i; opens = at.opens i };
-  status = λ g. (ap (λ v. status_of v g) at.guesses ∙ none_drawn number g) i;
+  status = λ g. (ap (λ v. status_since v g) at.guesses ∙ none_drawn number g) i;
   texts = λ t. (ap (λ x. said_at t (texts_in x t)) at.texts ∙ ap (λ o. said_at t (unwrap_or o [])) (map.get-empty nat_cmp t)) i;
 }
 
@@ -320,8 +381,12 @@ pub booted_whole : (number limit place : ℕ) (boot : BootView) (m : Parts) → 
 booted_whole number limit place boot m at =
     let none : length m.opens ≡ 0 = ap length at.opens in
     record {
-      stands = subst (λ x. MergedStands (plain boot.scripts) (start_of boot) [] x) (sym (started boot.scripts (start_of boot) number m at)) (none_merged boot _ (headline.stands_first (plain boot.scripts) entity_total entity_exact (start_of boot)));
+      stands = record {
+        trace = subst (λ x. MergedStands (plain boot.scripts) (start_of boot) [] x) (sym (started boot.scripts (start_of boot) number m at)) (none_merged boot _ (headline.stands_first (plain boot.scripts) entity_total entity_exact (start_of boot)));
+        earlier = ap (λ v. v.earlier) at.guesses;
+        decided = λ g is. (let none : None ≡ Some Undecided = sym (nothing_in g) ∙ is in cc);
+      };
       number = ap (λ v. v.kernel) at.guesses;
-      drawn = ap (λ v. length v.statuses) at.guesses;
+      drawn = (let count = ap (λ v. length v.statuses) at.guesses in omega (arith, count));
       place = omega (arith, none);
     }

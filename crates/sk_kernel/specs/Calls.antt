@@ -1,5 +1,5 @@
 -- What the kernel's calls answer.
-use Rattle.std.specs.Prelude.{◌≡◌, ℕ, ◌+◌, ◌<◌, List, [], length, map, Option, Some, None, Result, Ok, Err}
+use Rattle.std.specs.Prelude.{◌≡◌, ℕ, ◌+◌, ◌<◌, ◌↔◌, List, [], length, map, Option, Some, None, Result, Ok, Err}
 use Rattle.sk_record.specs.declared.status.Status.TheVariants.{Undecided, Struck}
 use Rattle.sk_record.specs.Machine.{released}
 use Rattle.sk_record.specs.Trace.{IsDrawn}
@@ -20,7 +20,12 @@ use Rattle.sk_plain.specs.Seen.{CanPerform, seen_with}
 use Rattle.sk_plain.specs.declared.plan.Plan.{Plan}
 use Rattle.sk_plain.specs.Refusal.{cause}
 use Rattle.sk_plain.specs.declared.refusal.Refusal.{Refusal}
-use Rattle.sk_kernel.specs.Kernel.{KernelView, HasStatus, events_of, said_by_record, texts_at, next_guess, with_event, guess_misfits}
+use Rattle.sk_record.specs.declared.status.Status.{Status}
+use Rattle.sk_trace.specs.Trace.{TraceView}
+use Rattle.sk_terminal.specs.Terminals.{TerminalMap, released_at}
+use Rattle.sk_kernel.specs.Kernel.{KernelView, HasStatus, events_of, state_at, undecided_at, said_by_record, texts_at, last_guess, next_guess, with_event, guess_misfits}
+use Rattle.sk_kernel.specs.declared.kernel.EpochRefusal.{EpochRefusal}
+use Rattle.sk_kernel.specs.declared.kernel.EpochRefusal.TheVariants as epoch_refusals
 use Rattle.sk_kernel.specs.declared.kernel.Outcome.{Outcome}
 use Rattle.sk_kernel.specs.declared.kernel.Outcome.TheVariants as outcomes
 use Rattle.sk_kernel.specs.declared.kernel.Stranger.{Stranger}
@@ -85,3 +90,16 @@ pub record SaysNothing (k : KernelView) (t : ℕ) : Type 0 where
 pub record LeavesTexts (k : KernelView) (t : ℕ) (texts : List (List ℕ)) : Type 0 where
   pub all : map (λ text. record { to = t; text = text }) texts ≡ map (λ said. said.0) (texts_at k t)
   pub released : IsReleased (plain k.scripts) k.start (events_of k) t (map (λ text. record { to = t; text = text }) texts)
+
+-- the next epoch of a kernel: its state now becomes the start, its trace is empty, and each guess keeps its status
+pub record IsNextEpoch (old new : KernelView) : Type 0 where
+  pub view : new ≡ record { number = old.number; scripts = old.scripts; start = state_at old; limit = old.limit; earlier = new.earlier; trace = [] }
+  pub drawn : length new.earlier ≡ last_guess old
+  pub statuses : (id : ℕ) (s : Status) → HasStatus new id s ↔ HasStatus old id s
+
+-- where no guess is undecided a new epoch begins, and what was done and released is handed out; else nothing changes
+abbrev pub EpochPost : Result (TraceView × TerminalMap) EpochRefusal → KernelView → KernelView → Type 0
+EpochPost (Ok left) old new =
+    (undecided_at old ≡ []) × (left.0.events ≡ old.trace) × ((t : ℕ) → LeavesTexts old t (released_at left.1 t)) × IsNextEpoch old new
+EpochPost (Err (epoch_refusals.Undecided n)) old new = (n ≡ length (undecided_at old)) × (0 < n) × (new ≡ old)
+EpochPost (Err epoch_refusals.Memory) old new = (undecided_at old ≡ []) × (new ≡ old)

@@ -6,9 +6,11 @@ use Rattle.std.specs.FinMap as map
 use Rattle.sk_record.specs.Step.{Effect}
 use Rattle.sk_record.specs.Run.{run, outcome, effects}
 use Rattle.sk_record.specs.Notes.{tags_along}
-use Rattle.sk_record.specs.Trace.{Event as Happens, StatusIs, IsTagOf, record_of, undecided_of, all_recorded, no_record, deps}
+use Rattle.sk_record.specs.Trace.{Event as Happens, IsTagOf, record_of, undecided_of, all_recorded, no_record, deps}
 use Rattle.sk_record.specs.Machine.{Tagged}
+use Rattle.sk_record.specs.Epoch.{StatusSince}
 use Rattle.sk_record.specs.declared.status.Status.{Status}
+use Rattle.sk_record.specs.contracts.status.Status as status
 use Rattle.sk_record.specs.Release.{said, said_with}
 use Rattle.sk_ids.specs.declared.entity.Entity.{Entity}
 use Rattle.sk_ids.specs.contracts.entity.Entity as entity
@@ -36,9 +38,12 @@ pub record KernelView : Type 0 where
   pub number : ℕ
   -- what it was booted with
   pub scripts : ScriptMap
+  -- where its trace begins
   pub start : State
   -- the most events that its trace may have
   pub limit : ℕ
+  -- what became of the guesses of earlier epochs, which are 1, 2 and so on
+  pub earlier : List Status
   pub trace : List Event
 
 abbrev pub state_code : Coded State
@@ -46,12 +51,14 @@ state_code = map.code entity.the_row.coded stored_row.the_row.coded
 
 abbrev pub kernel_code : Coded KernelView
 kernel_code =
-    code_by (ℕ × (ScriptMap × (State × (ℕ × List Event)))) (coded× coded_ℕ (coded× script_map_code (coded× state_code (coded× coded_ℕ (coded_list event_code)))))
-    (λ k. (k.number, (k.scripts, (k.start, (k.limit, k.trace))))) (λ p. record { number = p.0; scripts = p.1.0; start = p.1.1.0; limit = p.1.1.1.0; trace = p.1.1.1.1 }) (λ _. refl)
+    code_by (ℕ × (ScriptMap × (State × (ℕ × (List Status × List Event)))))
+    (coded× coded_ℕ (coded× script_map_code (coded× state_code (coded× coded_ℕ (coded× (coded_list status.the_row.coded) (coded_list event_code))))))
+    (λ k. (k.number, (k.scripts, (k.start, (k.limit, (k.earlier, k.trace))))))
+    (λ p. record { number = p.0; scripts = p.1.0; start = p.1.1.0; limit = p.1.1.1.0; earlier = p.1.1.1.1.0; trace = p.1.1.1.1.1 }) (λ _. refl)
 
 -- at its start
 abbrev pub booted : ℕ → BootView → ℕ → KernelView
-booted number boot limit = record { number = number; scripts = boot.scripts; start = start_of boot; limit = limit; trace = [] }
+booted number boot limit = record { number = number; scripts = boot.scripts; start = start_of boot; limit = limit; earlier = []; trace = [] }
 
 -- ---- what there is to see, by the definitions on the trace
 
@@ -73,7 +80,7 @@ undecided_at k = undecided_of (plain k.scripts) k.start (events_of k)
 
 -- a guess has this status
 abbrev pub HasStatus : KernelView → ℕ → Status → Type 0
-HasStatus k id s = StatusIs (plain k.scripts) k.start (events_of k) id s
+HasStatus k id s = StatusSince (plain k.scripts) k.start k.earlier (events_of k) id s
 
 -- an entity depends on an undecided guess
 abbrev pub RestsOn : KernelView → Entity → ℕ → Type 0
@@ -97,18 +104,18 @@ said_by_record k t = map (λ x. x.0) (said (plain k.scripts) k.start (events_of 
 abbrev pub room : KernelView → ℕ
 room k = k.limit - length k.trace - length (undecided_at k)
 
--- the number of the last guess, 0 before the first
+-- the number of the last guess
 abbrev pub number_after : ℕ → Event → ℕ
 number_after last (events.Step pid input) = last
 number_after last (events.Guess id pid input) = id
 number_after last (events.Commit id) = last
 number_after last (events.Fail id) = last
 
-abbrev pub last_guess : List Event → ℕ
-last_guess es = fold number_after 0 es
+abbrev pub last_guess : KernelView → ℕ
+last_guess k = fold number_after (length k.earlier) k.trace
 
 abbrev pub next_guess : KernelView → ℕ
-next_guess k = last_guess k.trace + 1
+next_guess k = last_guess k + 1
 
 -- the oldest undecided guess, or the next one: every guess below is decided
 abbrev pub settled : KernelView → ℕ

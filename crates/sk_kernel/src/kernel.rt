@@ -17,7 +17,7 @@ ghost use Rattle.sk_kernel.specs.Kernel.{booted, state_at, undecided_at, tags_at
 ghost use Rattle.sk_kernel.specs.Footprint.{footprint_of};
 ghost use Rattle.sk_kernel.specs.Opening.{opening_of};
 ghost use Rattle.sk_kernel.specs.Laws.{HasSoundTrace};
-ghost use Rattle.sk_kernel.specs.Calls.{StepPost, GuessPost, CommitPost, FailPost, ShowsTerminal, SaysNothing, LeavesTexts, PlansGuess};
+ghost use Rattle.sk_kernel.specs.Calls.{StepPost, GuessPost, CommitPost, FailPost, EpochPost, ShowsTerminal, SaysNothing, LeavesTexts, PlansGuess};
 ghost use Rattle.sk_record.specs.declared.status.Status.{Status};
 ghost use Rattle.sk_undo.specs.Logs.{look_at};
 ghost use Rattle.sk_terminal.specs.Terminals.{released_at};
@@ -32,6 +32,7 @@ use sk_store::Look;
 use sk_terminal::{Terminal, Texts};
 use std::alloc::{AllocError, Global};
 use std::marker::Model;
+use std::mem;
 
 /// What a decision came to.
 #[derive(Clone, Copy, Debug, PartialEq, Eq)]
@@ -51,8 +52,9 @@ pub enum FailRefusal {
     Stranger(Guess),
 }
 
-/// A kernel whose processes go on from guessed replies. Contracts see its number, what it was booted
-/// with, its trace limit and its trace, from which all else follows by definition.
+/// A kernel whose processes go on from guessed replies. Contracts see its number, its scripts, the state that its
+/// trace begins at, its trace limit, what became of the guesses of earlier epochs, and its trace, from which all
+/// else follows by definition.
 #[derive(Drop)]
 pub struct Kernel {
     pub(crate) opening: Opening,
@@ -70,9 +72,19 @@ impl Model for Kernel {
 
     ghost coded = { kernel_code };
 
-    ghost view = { λ k. begun_at k.opening k.machine.guesses.kernel k.trace.events };
+    ghost view = { λ k. begun_at k.opening k.machine.guesses.kernel k.machine.guesses.earlier k.trace.events };
 
-    ghost invariant = { λ k. IsWhole (begun_at k.opening k.machine.guesses.kernel k.trace.events) k.machine k.trace.room × (k.opening ≡ opening_of (begun_at k.opening k.machine.guesses.kernel k.trace.events)) };
+    ghost invariant = { λ k.
+        let v = begun_at k.opening k.machine.guesses.kernel k.machine.guesses.earlier k.trace.events in
+        IsWhole v k.machine k.trace.room × (k.opening ≡ opening_of v) };
+}
+
+/// Why no epoch was begun; nothing has changed.
+#[derive(Clone, Copy, Debug, PartialEq, Eq)]
+pub enum EpochRefusal {
+    /// So many guesses are undecided.
+    Undecided(usize),
+    Memory,
 }
 
 /// What a step with an input will do, or why it is refused, by the scripts of the opening.
@@ -121,8 +133,8 @@ impl Kernel {
         })
     }
 
-    /// Where the trace begins: what the kernel was booted with, its number, its trace limit, and the guess 1.
-    /// This takes no memory.
+    /// Where the trace begins: at the boot, or where the last epoch began. Its state, the kernel's number, its trace
+    /// limit, and the next guess there. This takes no memory.
     pub fn opening(&self) -> &Opening
         ensures { result.now ≡ opening_of self.now }
     {
@@ -170,7 +182,7 @@ impl Kernel {
         self.machine.terminal(number)
     }
 
-    /// All that was done, in order: a sound trace.
+    /// All that was done since the epoch began, in order: a sound trace.
     pub fn trace(&self) -> &Trace
         ensures events { result.now.events ≡ self.now.trace }
         ensures sound { HasSoundTrace self.now }
@@ -379,5 +391,34 @@ impl Kernel {
         ensures texts { (t : ℕ) → LeavesTexts self t (released_at result.1 t) }
     {
         (self.trace, self.machine.into_texts())
+    }
+
+    /// The opening of an epoch that begins now.
+    fn next_opening(&self) -> Result<Opening, AllocError>
+        ensures { IfOk result (λ opening. opening ≡ record { start = record { scripts = self.now.scripts; state = state_at self.now; texts = map.empty }; number = self.now.number; limit = self.now.limit; guess = next_guess self.now }) }
+    {
+        let store = self.machine.present()?;
+        self.opening.later(store, self.machine.next_number())
+    }
+
+    /// Begins a new epoch where no guess is undecided: what entities have now is the start, and what was done
+    /// and released is handed out. Numbers of guesses go on, and each guess keeps its status. It copies the state,
+    /// while the old start is still there.
+    pub fn new_epoch(&mut self) -> Result<(Trace, Texts), EpochRefusal>
+        ensures { EpochPost result self.old self.new }
+    {
+        let undecided = self.undecided();
+        if undecided > 0 {
+            return Err(EpochRefusal::Undecided(undecided));
+        }
+        let Ok(opening) = self.next_opening() else {
+            return Err(EpochRefusal::Memory);
+        };
+        let Ok(texts) = self.machine.settle() else {
+            return Err(EpochRefusal::Memory);
+        };
+        self.opening = opening;
+        let trace = mem::replace(&mut self.trace, Trace::new(self.machine.alloc()));
+        Ok((trace, texts))
     }
 }

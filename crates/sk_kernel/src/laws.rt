@@ -1,17 +1,26 @@
 //! What the definitions of kernels come to. Each law is the contract of a function that does nothing.
-ghost use Rattle.std.specs.Prelude.{◌≡◌, ◌<◌, ℕ, false, None, Some};
+ghost use Rattle.std.specs.Prelude.{◌≡◌, ◌<◌, ◌↔◌, ℕ, false, List, [], None, Some};
 ghost use Rattle.sk_record.specs.Notes.{has};
 ghost use Rattle.sk_record.specs.declared.status.Status.TheVariants.{Undecided};
 ghost use Rattle.sk_ids.specs.declared.entity.Entity.{Entity};
 ghost use Rattle.sk_script.specs.declared.instruction.Input.{Input};
 ghost use Rattle.sk_script.specs.Lease.{LeaseView};
+ghost use Rattle.sk_trace.specs.declared.event.Event.{Event};
 ghost use Rattle.sk_trace.specs.declared.event.Event.TheVariants as events;
-ghost use Rattle.sk_kernel.specs.Kernel.{KernelView, HasStatus, RestsOn, next_guess, tags_at, with_event};
-ghost use Rattle.sk_kernel.specs.Laws.{HasSoundTrace, WasDrawn, KeepsUnwritten, WritesAll, HandsInEntries};
+ghost use Rattle.sk_kernel.specs.Kernel.{KernelView, HasStatus, RestsOn, next_guess, tags_at, undecided_at, with_event};
+ghost use Rattle.sk_kernel.specs.Calls.{IsNextEpoch};
+ghost use Rattle.sk_kernel.specs.Laws.{HasSoundTrace, AnswersAlike, with_events, WasDrawn, KeepsUnwritten, WritesAll, HandsInEntries};
 
 /// The number of the next guess is above that of each guess that was made.
 pub fn numbers()
     ensures { (k : KernelView) (id : ℕ) → HasSoundTrace k → WasDrawn k id → id < next_guess k }
+{}
+
+/// A kernel behind a new epoch goes on as the one without it: after the same events it answers each call alike, but for the
+/// trace, its room and the texts.
+pub fn epochs()
+    ensures sound { (old new : KernelView) (later : List Event) → HasSoundTrace old → undecided_at old ≡ [] → IsNextEpoch old new → HasSoundTrace (with_events old later) ↔ HasSoundTrace (with_events new later) }
+    ensures alike { (old new : KernelView) (later : List Event) → HasSoundTrace (with_events old later) → undecided_at old ≡ [] → IsNextEpoch old new → AnswersAlike (with_events old later) (with_events new later) }
 {}
 
 /// What an accepted step or guess does not write keeps its value and its tags.

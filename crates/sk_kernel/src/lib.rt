@@ -10,5 +10,5 @@ pub mod opening;
 
 pub use footprint::Footprint;
 pub use hand_in::HandIn;
-pub use kernel::{FailRefusal, Kernel, Outcome, Stranger};
+pub use kernel::{EpochRefusal, FailRefusal, Kernel, Outcome, Stranger};
 pub use opening::Opening;

@@ -11,7 +11,7 @@ use Rattle.sk_record.specs.Merged.{Merges, MergedTakes, MergedCommits}
 use Rattle.sk_record.specs.Effects.{is_in}
 use Rattle.sk_record.specs.Release.{said_by}
 use Rattle.sk_record.specs.declared.status.Status.TheVariants.{Committed}
-use Rattle.sk_guesses.specs.Guesses.{status_of, drawn, next_of}
+use Rattle.sk_guesses.specs.Guesses.{status_since, drawn, next_of}
 use Rattle.sk_guesses.proofs.Statuses.{status-drawn}
 use Rattle.sk_script.specs.declared.instruction.Input.{Input}
 use Rattle.sk_terminal.specs.Terminal.{TaggedText}
@@ -66,7 +66,7 @@ pub takes_of : (scripts : Scripts) (a b : Parts) (n : EntryView) (plan : PlanVie
     → tags ≡ step_tags (undo_state_of a) (planned_effect a n plan)
     → Performed a.slots tags (writes_of (look_at a.slots) n.pid plan) b.slots
     → b.opens ≡ a.opens ++ opened n.guess tags
-    → ((g : ℕ) → status_of b.guesses g ≡ with_drawn n.guess (status_of a.guesses) g)
+    → ((g : ℕ) → status_since b.guesses g ≡ with_drawn n.guess (status_since a.guesses) g)
     → b.texts ≡ texts_after a.texts tags (said_in_plan plan)
     → MergedTakes (plain scripts) (machine_of a) n (machine_of b)
 takes_of scripts a b n plan tags accepted is did opens status texts = record {
@@ -94,11 +94,11 @@ pub takes_guess : (scripts : Scripts) (a b : Parts) (pid : ℕ) (input : Input) 
 takes_guess scripts a b pid input id plan tags number accepted is did opens texts guesses =
     subst (λ k. MergedTakes (plain scripts) (machine_of a) (record { pid = pid; input = input; guess = Some k }) (machine_of b)) number
     (takes_of scripts a b (record { pid = pid; input = input; guess = Some id }) plan tags accepted is did opens
-    (λ g. ap (λ v. status_of v g) guesses ∙ status-drawn a.guesses g ∙ ap (λ k. with_drawn (Some k) (status_of a.guesses) g) (sym number))
+    (λ g. ap (λ v. status_since v g) guesses ∙ status-drawn a.guesses g ∙ ap (λ k. with_drawn (Some k) (status_since a.guesses) g) (sym number))
     texts)
 
 pub commits_of : (a b : Parts) (g : ℕ) → Lightened a.slots g b.slots → b.opens ≡ still_open g a.opens
-    → ((h : ℕ) → status_of b.guesses h ≡ with_status g Committed (status_of a.guesses) h)
+    → ((h : ℕ) → status_since b.guesses h ≡ with_status g Committed (status_since a.guesses) h)
     → ((t : ℕ) → texts_at b.texts t ≡ lightened g (texts_at a.texts t))
     → MergedCommits (machine_of a) g (machine_of b)
 commits_of a b g did opens status texts = record {
@@ -110,7 +110,7 @@ commits_of a b g did opens status texts = record {
 }
 
 pub fails_of : (a b : Parts) (g : ℕ) → Unwound a.slots g b.slots → b.opens ≡ not_struck g a.opens
-    → ((h : ℕ) → status_of b.guesses h ≡ with_failure g a.opens (status_of a.guesses) h)
+    → ((h : ℕ) → status_since b.guesses h ≡ with_failure g a.opens (status_since a.guesses) h)
     → ((t : ℕ) → texts_at b.texts t ≡ not_dropped g (texts_at a.texts t))
     → Fails (machine_of a) g (machine_of b)
 fails_of a b g did opens status texts = record {

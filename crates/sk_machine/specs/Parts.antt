@@ -9,7 +9,7 @@ use Rattle.sk_record.specs.UndoState.{Open, UndoState, tags_at}
 use Rattle.sk_record.specs.declared.status.Status.{Status}
 use Rattle.sk_record.specs.contracts.status.Status as status
 use Rattle.sk_ids.specs.declared.entity.Entity.{Entity}
-use Rattle.sk_guesses.specs.Guesses.{GuessesView, status_of}
+use Rattle.sk_guesses.specs.Guesses.{GuessesView, status_since}
 use Rattle.sk_terminal.specs.Terminal.{TaggedText}
 use Rattle.sk_terminal.specs.Terminals.{TerminalMap, terminals_code, texts_at}
 use Rattle.sk_store.specs.declared.entity_state.EntityState.{EntityState}
@@ -32,7 +32,9 @@ abbrev pub open_code : Coded Open
 open_code = coded× coded_ℕ (coded_list coded_ℕ)
 
 abbrev pub guesses_code : Coded GuessesView
-guesses_code = code_by (ℕ × List Status) (coded× coded_ℕ (coded_list status.the_row.coded)) (λ g. (g.kernel, g.statuses)) (λ p. record { kernel = p.0; statuses = p.1 }) (λ _. refl)
+guesses_code =
+    code_by (ℕ × (List Status × List Status)) (coded× coded_ℕ (coded× (coded_list status.the_row.coded) (coded_list status.the_row.coded)))
+    (λ g. (g.kernel, (g.earlier, g.statuses))) (λ p. record { kernel = p.0; earlier = p.1.0; statuses = p.1.1 }) (λ _. refl)
 
 abbrev pub parts_code : Coded Parts
 parts_code =
@@ -47,9 +49,9 @@ undo_state_of m = undo_state m.slots m.opens
 abbrev pub said_at : ℕ → List TaggedText → List (Tagged Saying)
 said_at t texts = map (λ x. (record { to = t; text = x.0 }, x.1)) texts
 
--- the machine of records that these parts are
+-- the machine of records that these parts are in this epoch
 abbrev pub machine_of : Parts → Machine Entity EntityState Saying
-machine_of m = record { state = undo_state_of m; status = status_of m.guesses; texts = λ t. said_at t (texts_at m.texts t) }
+machine_of m = record { state = undo_state_of m; status = status_since m.guesses; texts = λ t. said_at t (texts_at m.texts t) }
 
 -- what the planned step of an entry does
 abbrev pub planned_effect : Parts → EntryView → PlanView → MarkedEffect Entity EntityState Saying

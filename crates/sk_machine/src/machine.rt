@@ -13,7 +13,7 @@ ghost use Rattle.sk_record.specs.declared.status.Status.TheVariants.{Undecided, 
 ghost use Rattle.std.specs.Option.{option_copied};
 ghost use Rattle.std.specs.FinMap as map;
 ghost use Rattle.sk_guesses.specs.Calls.{redeemed};
-ghost use Rattle.sk_guesses.specs.Guesses.{decided, drawn, is_full, next_of, status_of};
+ghost use Rattle.sk_guesses.specs.Guesses.{decided, drawn, is_full, next_of, settled, status_of, status_since, undecided_of};
 ghost use Rattle.sk_undo.specs.Log.{is_empty};
 ghost use Rattle.sk_undo.specs.Decisions.{AllGrow, AllRest};
 ghost use Rattle.sk_machine.specs.Noted.{IsAtStart};
@@ -40,6 +40,7 @@ use sk_terminal::{Terminal, Terminals, Texts};
 use sk_undo::Logs;
 use std::alloc::{AllocError, Global};
 use std::marker::Model;
+use std::mem;
 
 /// What a kernel keeps beside its trace.
 #[derive(Drop)]
@@ -308,7 +309,7 @@ impl Machine {
     pub fn commit(&mut self, id: GuessId)
         requires grow { AllGrow self.old.slots }
         requires rest { AllRest self.old.slots }
-        requires undecided { status_of self.old.guesses id ≡ Some Undecided }
+        requires undecided { status_since self.old.guesses id ≡ Some Undecided }
         ensures commits { MergedCommits (machine_of self.old) id (machine_of self.new) }
         ensures guesses { self.new.guesses ≡ decided self.old.guesses id Committed }
     {
@@ -321,9 +322,10 @@ impl Machine {
     /// steps do are struck. This takes no memory.
     pub fn fail(&mut self, id: GuessId)
         requires grow { AllGrow self.old.slots }
-        requires undecided { status_of self.old.guesses id ≡ Some Undecided }
+        requires undecided { status_since self.old.guesses id ≡ Some Undecided }
         ensures fails { Fails (machine_of self.old) id (machine_of self.new) }
         ensures kernel { self.new.guesses.kernel ≡ self.old.guesses.kernel }
+        ensures earlier { self.new.guesses.earlier ≡ self.old.guesses.earlier }
         ensures drawn { length self.new.guesses.statuses ≡ length self.old.guesses.statuses }
     {
         self.logs.unwind(id, self.guesses.dependents(id));
@@ -382,6 +384,38 @@ impl Machine {
         ensures { result ≡ self.texts }
     {
         Texts::new(self.terminals)
+    }
+
+    /// A copy of what entities have now.
+    pub fn present(&self) -> Result<Store, AllocError>
+        ensures { IfOk result (λ store. (e : Entity) → map.get store e ≡ look_at self.now.slots e) }
+    {
+        self.logs.present()
+    }
+
+    /// Ends an epoch: what was said is handed out, and each guess keeps its status. Without memory nothing
+    /// has changed.
+    pub fn settle(&mut self) -> Result<Texts, AllocError>
+        requires { undecided_of self.old.guesses.statuses ≡ 0 }
+        ensures texts { IfOk result (λ texts. texts ≡ self.old.texts) }
+        ensures ok { OnOk result (self.new ≡ record self.old { guesses = settled self.old.guesses; texts = map.empty }) }
+        ensures err { OnErr result (self.new ≡ self.old) }
+    {
+        self.guesses.settle()?;
+        let said = mem::replace(&mut self.terminals, Terminals::new(self.alloc));
+        Ok(Texts::new(said))
+    }
+
+    /// The number of the guess that is drawn next.
+    pub fn next_number(&self) -> u64
+        ensures { result ≡ next_of self.now.guesses }
+    {
+        self.guesses.next()
+    }
+
+    /// What it takes its memory from.
+    pub fn alloc(&self) -> Global {
+        self.alloc
     }
 
     /// How many guesses are open.

@@ -104,6 +104,18 @@ impl Plain {
         })
     }
 
+    /// The kernel with these scripts where entities have this, and nothing is said. This takes no memory.
+    pub fn of(scripts: Scripts, store: Store) -> Plain
+        ensures { result ≡ record { scripts = scripts; state = store; texts = map.empty } }
+    {
+        let texts = Terminals::new(store.alloc());
+        Plain {
+            scripts,
+            store,
+            texts,
+        }
+    }
+
     /// The scripts that it was booted with.
     pub fn scripts(&self) -> &Scripts
         ensures { result.now ≡ self.now.scripts }

@@ -10,7 +10,7 @@ ghost use Rattle.sk_plain.specs.Act.{plain};
 ghost use Rattle.sk_plain.specs.Replay.{image, is_above, is_made, IsReplay, HasTaken, StepFault, HasCommitted, HasFailed, DecisionFault, Goes, FaultIn, Replays};
 
 use crate::record::{is_guess, strike_guess};
-use crate::{Entry, Event, InputRef, Refusal, Trace, apply_plan, plan_step};
+use crate::{Entry, Event, InputRef, Plain, Refusal, Trace, apply_plan, plan_step};
 use sk_ids::GuessId;
 use sk_script::{Boot, Scripts};
 use sk_store::Store;
@@ -241,14 +241,17 @@ fn take_events(
     Ok(())
 }
 
-/// The entries that a trace leaves: its steps and guesses, without those that depend on a guess that
-/// failed. Of a trace that is not sound, the first fault.
-pub fn strike(alloc: Global, boot: &Boot, trace: &Trace) -> Result<Vec<Entry>, TraceFault>
-    ensures sound { OnOk result (IsSound (plain boot.now.scripts) (start_of boot.now) (map image trace.now.events)) }
-    ensures left { IfOk result (λ entries. entries.items ≡ record_of (plain boot.now.scripts) (start_of boot.now) (map image trace.now.events)) }
-    ensures fault { IfErr result (FaultIn boot.now.scripts (start_of boot.now) (map image trace.now.events)) }
+/// The entries that a trace leaves from a start.
+fn strike_at(
+    alloc: Global,
+    start: Store,
+    scripts: &Scripts,
+    trace: &Trace,
+) -> Result<Vec<Entry>, TraceFault>
+    ensures sound { OnOk result (IsSound (plain scripts.now) start (map image trace.now.events)) }
+    ensures left { IfOk result (λ entries. entries.items ≡ record_of (plain scripts.now) start (map image trace.now.events)) }
+    ensures fault { IfErr result (FaultIn scripts.now start (map image trace.now.events)) }
 {
-    let start = Store::start(alloc, boot)?;
     let now = start.copy()?;
     let mut replay = Replay {
         start,
@@ -257,6 +260,27 @@ pub fn strike(alloc: Global, boot: &Boot, trace: &Trace) -> Result<Vec<Entry>, T
         undecided: Vec::new(alloc),
         greatest: None,
     };
-    take_events(alloc, &mut replay, boot.scripts(), trace.events())?;
+    take_events(alloc, &mut replay, scripts, trace.events())?;
     Ok(replay.entries)
+}
+
+/// The entries that a trace leaves: its steps and guesses, without those that depend on a guess that
+/// failed. Of a trace that is not sound, the first fault.
+pub fn strike(alloc: Global, boot: &Boot, trace: &Trace) -> Result<Vec<Entry>, TraceFault>
+    ensures sound { OnOk result (IsSound (plain boot.now.scripts) (start_of boot.now) (map image trace.now.events)) }
+    ensures left { IfOk result (λ entries. entries.items ≡ record_of (plain boot.now.scripts) (start_of boot.now) (map image trace.now.events)) }
+    ensures fault { IfErr result (FaultIn boot.now.scripts (start_of boot.now) (map image trace.now.events)) }
+{
+    let start = Store::start(alloc, boot)?;
+    strike_at(alloc, start, boot.scripts(), trace)
+}
+
+/// The same where the trace begins at the state of a plain kernel, with its scripts.
+pub fn strike_from(alloc: Global, from: &Plain, trace: &Trace) -> Result<Vec<Entry>, TraceFault>
+    ensures sound { OnOk result (IsSound (plain from.now.scripts) from.now.state (map image trace.now.events)) }
+    ensures left { IfOk result (λ entries. entries.items ≡ record_of (plain from.now.scripts) from.now.state (map image trace.now.events)) }
+    ensures fault { IfErr result (FaultIn from.now.scripts from.now.state (map image trace.now.events)) }
+{
+    let start = from.state().copy()?;
+    strike_at(alloc, start, from.scripts(), trace)
 }

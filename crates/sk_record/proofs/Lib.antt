@@ -23,3 +23,4 @@ pub mod Laws
 pub mod Exact
 pub mod Merged
 pub mod Handed
+pub mod Epoch

@@ -75,7 +75,7 @@ module _ {E : Type 0} (R : E → E → Ordering) {V W : Type 0} where
       λ i. noted (is_in R (writes f) e) (same i) v (new_guess gs h (next_dirty R (gs ++ h ∷ []) dirty f) ts e (written_value R f.written e v) parts.1 i)
 
 module _ {E V W F N : Type 0} (K : System E V W F N) where
-  run_append : (s : FinMap K.order V) (ns ms : List N) → run K s (ns ++ ms) ≡ run K (run K s ns) ms
+  pub run_append : (s : FinMap K.order V) (ns ms : List N) → run K s (ns ++ ms) ≡ run K (run K s ns) ms
   run_append s [] ms = refl
   run_append s (n ∷ ns) ms = run_append (after K (outcome K s n) s) ns ms
 

@@ -10,3 +10,4 @@ pub mod Machine
 pub mod Laws
 pub mod Same
 pub mod Merged
+pub mod Epoch

@@ -10,6 +10,7 @@ use Rattle.sk_words.specs.Reading.{read_from, Tells, TellsKind}
 use Rattle.sk_words.specs.Tables.{Rule, rule_in, unknown, with_line}
 use Rattle.sk_script.specs.declared.instruction.Input.{Input}
 use Rattle.sk_script.specs.StepInput.{input}
+use Rattle.sk_trace.specs.Kept.{HasContent}
 use Rattle.sk_trace.specs.declared.event.Event.{Event}
 use Rattle.sk_trace.specs.declared.event.Event.TheVariants as events
 use Rattle.sk_trace.specs.Trace.{TraceView}
@@ -27,6 +28,11 @@ step ws = do
 abbrev pub IsRead : {S : Type 0} → Result S FaultKind → Result S FaultKind → Type 0
 IsRead (Ok s) said = said ≡ Ok s
 IsRead (Err e) said = TellsKind e said
+
+-- where the words are right and nothing is read, the input has a content, which alone takes memory
+abbrev pub WantsContent : FaultKind → Result (ℕ × Input) FaultKind → Type 0
+WantsContent e (Ok s) = HasContent s.1
+WantsContent e (Err k) = Unit {0}
 
 -- the number of a guess before them, which is looked at last
 unfoldable pub numbered_step : Rule (ℕ × ℕ × Input)

@@ -1,10 +1,10 @@
 //! What the lines of a trace say.
-ghost use Rattle.std.specs.Prelude.{◌≡◌, [], All, Ok, IfSome};
+ghost use Rattle.std.specs.Prelude.{◌≡◌, [], All, Ok, IfSome, IfErr};
 ghost use Rattle.sk_script.specs.StepInput.{input};
 ghost use Rattle.sk_words.specs.Reading.{Leaves};
 ghost use Rattle.sk_words.specs.Tables.{with_said};
 ghost use Rattle.sk_trace.specs.Event.{IsEvent};
-ghost use Rattle.sk_trace.specs.Lines.{step, numbered_step, event, IsRead};
+ghost use Rattle.sk_trace.specs.Lines.{step, numbered_step, event, IsRead, WantsContent};
 
 use crate::trace::add;
 use crate::{Event, InputRef, KeptInput};
@@ -52,7 +52,8 @@ fn bare_input(words: &Words) -> Option<KeptInput>
 /// A process and the input of its step, kept. Want of memory is told last.
 #[tactic(auto, unfolding(crate::specs::Lines::step))]
 pub fn kept_step(alloc: Global, words: &Words) -> Result<(Pid, KeptInput), FaultKind>
-    ensures { IsRead result (step words.now) }
+    ensures read { IsRead result (step words.now) }
+    ensures content { IfErr result (λ e. WantsContent e (step words.now)) }
 {
     let mut rest = closed(words)?;
     let pid = next_word(&mut rest)?;

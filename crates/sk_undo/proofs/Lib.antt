@@ -12,3 +12,4 @@ pub mod Stable
 pub mod Runs
 mod GivenBack
 pub mod Counted
+mod Copying

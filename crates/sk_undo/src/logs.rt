@@ -102,6 +102,13 @@ impl Logs {
         self.slots.notes()
     }
 
+    /// A copy of what entities have now.
+    pub fn present(&self) -> Result<Store, AllocError>
+        ensures { IfOk result (λ store. (e : Entity) → map.get store e ≡ look_at self.now.slots e) }
+    {
+        self.slots.present()
+    }
+
     /// The tags of the next step.
     pub fn set_tags(&mut self, tags: TagSet)
         ensures { self.new ≡ record { slots = self.old.slots; tags = tags } }

@@ -9,6 +9,7 @@ ghost use Rattle.sk_ids.specs.Entity.{entity_cmp};
 ghost use Rattle.sk_ids.specs.declared.entity.Entity.{Entity};
 ghost use Rattle.sk_ids.specs.declared.entity.Entity.TheVariants.{Proc};
 ghost use Rattle.sk_record.specs.Effects.{is_in};
+ghost use Rattle.sk_record.specs.Run.{put};
 ghost use Rattle.sk_record.specs.Notes.{last_tags};
 ghost use Rattle.sk_store.specs.Changed.{FitsAt, changed};
 ghost use Rattle.sk_store.specs.Processes.{CanBecome, became};
@@ -83,6 +84,19 @@ fn move_over(store: &mut Store, slots: &mut Slots, entity: &Entity) -> Result<()
     slots.put(*entity, Slot::new(alloc, value))
 }
 
+/// Copies what an entity has now into a store.
+fn copy_over(slots: &Slots, store: &mut Store, entity: &Entity) -> Result<(), AllocError>
+    ensures { OnOk result (store.new ≡ put store.old entity.now (look_at slots.now entity.now)) }
+{
+    match slots.value(*entity) {
+        Some(state) => store.put(*entity, state.copy()?),
+        None => {
+            store.remove(*entity);
+            Ok(())
+        }
+    }
+}
+
 impl Slots {
     pub fn new(alloc: Global) -> Slots
         ensures { result ≡ map.empty }
@@ -109,6 +123,18 @@ impl Slots {
             move_over(&mut store, &mut slots, entity)?;
         }
         Ok(slots)
+    }
+
+    /// A copy of what entities have now.
+    pub fn present(&self) -> Result<Store, AllocError>
+        ensures { IfOk result (λ store. (e : Entity) → map.get store e ≡ look_at self.now e) }
+    {
+        let mut store = Store::new(self.alloc);
+        let entities = self.entities()?;
+        for entity in &entities {
+            copy_over(self, &mut store, entity)?;
+        }
+        Ok(store)
     }
 
     fn slot(&self, entity: Entity) -> Option<&Slot>

@@ -2,13 +2,12 @@
 use Rattle.std.proofs.Common.{◌≡◌, ℕ, zero, suc, ◌<◌, List, [], ◌∷◌, ◌++◌, length, refl, sym, ap, ◌∙◌, subst}
 use Rattle.std.specs.Prelude.{Option, Some, None, MatchOption, slice_get}
 use Rattle.std.proofs.lemmas.Option.{slice_get_within}
-use Rattle.sk_kernel.specs.Opening.{opening_of}
-use Rattle.sk_client.specs.Desk.{DeskView, pending, first_number}
+use Rattle.sk_client.specs.Desk.{DeskView, pending}
 use Rattle.sk_workers.specs.declared.entry.Entry.{Entry}
 use Rattle.sk_workers.specs.declared.entry.Receipt.{Receipt}
 use Rattle.sk_workers.specs.Views.{BookView, WorkerView, SharedView}
-use Rattle.sk_workers.specs.History.{AreOwn, AreFresh, IsLegal, Runs}
-use Rattle.sk_workers.specs.Closing.{Agrees, Stands, AllStand, AreDistinct, AreApart, IsFrom, IsClosed, begun, receipts_of, numbers}
+use Rattle.sk_workers.specs.History.{AreOwn, AreFresh, IsLegal}
+use Rattle.sk_workers.specs.Closing.{Agrees, Stands, AllStand, AreDistinct, AreApart, IsFrom, IsClosed, receipts_of, numbers}
 
 -- what was found of a worker's receipts, or that all stand
 pub found : (h : List Entry) (w : WorkerView) (rs : List Receipt) (o : Option ℕ) → rs ≡ w.receipts → AreOwn w.number w.receipts
@@ -35,9 +34,7 @@ pub closed : (s : SharedView) (b : BookView) (ws : List WorkerView) (h : List En
     → IsLegal b.history b.desk → length b.history ≡ receipts_of ws → (pending b.desk ≡ []) × AllStand b.history ws × IsFrom s b.desk → AreDistinct ws
     → IsClosed s ws h d
 closed s b ws h d is at legal count ok distinct =
-    let from : begun (record { opening = opening_of b.desk.kernel; first = first_number }) ≡ begun s = (λ i. begun (record { opening = ok.2.0 i; first = ok.2.1 i })) in
-    let run : Runs (begun s) b.history b.desk = subst (λ (x : DeskView). Runs x b.history b.desk) from legal in
-    let done : IsClosed s ws b.history b.desk = record { legal = run; done = ok.0; stand = ok.1; apart = apart b.history ws ok.1 distinct; count = count } in
+    let done : IsClosed s ws b.history b.desk = record { legal = legal; from = ok.2; done = ok.0; stand = ok.1; apart = apart b.history ws ok.1 distinct; count = count } in
     subst (λ (x : List Entry × DeskView). IsClosed s ws x.0 x.1) (λ i. (sym is i, sym at i)) done
 
 at_number : (ws us : List WorkerView) (i : ℕ) (v : WorkerView) → numbers ws ≡ numbers us → slice_get ws i ≡ Some v → (u : WorkerView) × (slice_get us i ≡ Some u) × (v.number ≡ u.number)

@@ -1,24 +1,20 @@
 -- When a book may be closed, and what its close promises of the history and of the workers.
 use Rattle.std.specs.Prelude.{◌≡◌, ◌≢◌, ℕ, ◌+◌, ◌<◌, List, [], length, map, Some, slice_get, nat_lt, ◌^◌, if◌then◌else◌}
 use Rattle.std.specs.List.{sum_by}
-use Rattle.sk_kernel.specs.Opening.{opening_of, begun_at}
-use Rattle.sk_client.specs.Desk.{DeskView, opened, pending, first_number}
+use Rattle.sk_kernel.specs.Opening.{opening_of}
+use Rattle.sk_client.specs.Desk.{DeskView, pending}
 use Rattle.sk_workers.specs.declared.entry.Entry.{Entry}
 use Rattle.sk_workers.specs.declared.entry.Receipt.{Receipt}
 use Rattle.sk_workers.specs.declared.entry.CloseRefusal.{CloseRefusal}
 use Rattle.sk_workers.specs.declared.entry.CloseRefusal.TheVariants.{Pending, Disagree, Other}
 use Rattle.sk_workers.specs.Views.{BookView, WorkerView, SharedView}
-use Rattle.sk_workers.specs.History.{Runs, AreOwn}
+use Rattle.sk_workers.specs.History.{IsLegal, AreOwn}
 
 -- ---- where a desk began
 
--- over the kernel at its opening, nothing done, and the first request will have this number
-abbrev pub begun : SharedView → DeskView
-begun s = record (opened (begun_at s.opening s.opening.number [])) { next = s.first }
-
 -- a desk began there
 abbrev pub IsFrom : SharedView → DeskView → Type 0
-IsFrom s d = (opening_of d.kernel ≡ s.opening) × (first_number ≡ s.first)
+IsFrom s d = (opening_of d.kernel ≡ s.opening) × (d.first ≡ s.first)
 
 -- ---- receipts that stand
 
@@ -63,10 +59,11 @@ begins_turn w = record w { turns = next_turn w.turns }
 
 -- ---- a close
 
--- one legal history from this opening to the desk, on which nothing is pending, has the calls of all workers, each at its receipt's place, and
--- no others
+-- one legal history leads to the desk, which began at this opening and on which nothing is pending; it has the calls of all workers, each at
+-- its receipt's place, and no others
 pub record IsClosed (s : SharedView) (ws : List WorkerView) (history : List Entry) (d : DeskView) : Type 0 where
-  pub legal : Runs (begun s) history d
+  pub legal : IsLegal history d
+  pub from : IsFrom s d
   pub done : pending d ≡ []
   pub stand : AllStand history ws
   pub apart : AreApart ws

@@ -5,7 +5,7 @@ use Rattle.sk_plain.specs.Leased.{Lends}
 use Rattle.sk_plain.specs.declared.refusal.Refusal.{Refusal}
 use Rattle.sk_plain.specs.declared.refusal.Refusal.TheVariants as refusals
 use Rattle.sk_server.specs.declared.reply.Reply.{Reply}
-use Rattle.sk_client.specs.Desk.{DeskView, opened, first_taken, requests_taken}
+use Rattle.sk_client.specs.Desk.{DeskView, opened_at, first_taken, requests_taken}
 use Rattle.sk_kernel.specs.HandIn.{IsAsLent}
 use Rattle.sk_kernel.specs.declared.hand_in.HandIn.{HandIn}
 use Rattle.sk_kernel.specs.declared.hand_in.HandIn.TheVariants as hand_ins
@@ -45,9 +45,9 @@ without_lease (Err back) = Err back.1
 
 -- ---- histories
 
--- a desk as it was opened: over the kernel at its start, before any request
+-- a desk as it was when its epoch began: over the kernel at its start, before any request
 abbrev pub as_opened : DeskView → DeskView
-as_opened d = opened (record d.kernel { trace = [] })
+as_opened d = opened_at (record d.kernel { trace = [] }) d.first
 
 -- a lease of so many instructions on the process of this number as it stands: its script, no signal due, and each of them private
 abbrev pub Leases : DeskView → ℕ → ℕ → LeaseView → Type 0

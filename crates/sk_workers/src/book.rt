@@ -2,7 +2,7 @@
 ghost use Rattle.std.specs.Prelude.{◌≡◌, ◌⊎◌, ◌↔◌, ◌+◌, ◌<◌, ◌≤◌, [], ◌∷◌, ◌++◌, length, vec_len, vec_capacity, Ok, Err, IfOk, IfErr, OnOk, MatchOption, IsTrue};
 ghost use Rattle.sk_script.specs.Lease.{after_private};
 ghost use Rattle.sk_plain.specs.Leased.{Lends};
-ghost use Rattle.sk_client.specs.Desk.{opened, first_sent, first_taken};
+ghost use Rattle.sk_client.specs.Desk.{opened_at, first_sent, first_taken};
 ghost use Rattle.sk_client.specs.Leasing.{desk_lease, DeskHandInPost};
 ghost use Rattle.sk_workers.specs.History.{Step, Adds, TurnAdds, HandInAdds, TakesAny, LendsAny, AreFresh, IsLegal, receipt, without_reply, without_lease};
 ghost use Rattle.sk_workers.specs.Views.{BookView, WorkerView};
@@ -51,7 +51,7 @@ impl<L: Ledger> Model for Book<L> {
 }
 
 impl<L: Ledger> Book<L> {
-    /// A book round a desk on which nothing was done, and n workers, 1 to 8, numbered from 0. Where memory runs out
+    /// A book round a desk on which nothing was done in its epoch, and n workers, 1 to 8, numbered from 0. Where memory runs out
     /// the ledger and the desk come back.
     pub fn new(
         alloc: Global,
@@ -61,7 +61,7 @@ impl<L: Ledger> Book<L> {
     ) -> Result<(Book<L>, Vec<Worker<L>>), (Blank, Desk, AllocError)>
         requires ledger { (blank.name ≡ L.name) × (blank.parts ≡ L.parts) × (L.parts ≡ n) }
         requires count { (1 ≤ n) × (n ≤ 8) }
-        requires opened { desk ≡ opened desk.kernel }
+        requires opened { desk ≡ opened_at desk.kernel desk.first }
         requires trace { desk.kernel.trace ≡ [] }
         ensures ok { IfOk result (λ made. (made.0 ≡ record { desk = desk; history = [] }) × AreFresh n made.1.items) }
         ensures err { IfErr result (λ back. (back.0 ≡ blank) × (back.1 ≡ desk)) }

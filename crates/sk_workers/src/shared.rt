@@ -2,7 +2,7 @@
 ghost use Rattle.std.specs.Prelude.{◌≡◌, ◌⊎◌, ◌≤◌, List, [], vec_len, Err, IfOk, IfErr};
 ghost use Rattle.sk_kernel.specs.Opening.{opening_of};
 ghost use Rattle.sk_plain.specs.Leased.{Lends};
-ghost use Rattle.sk_client.specs.Desk.{first_number, opened};
+ghost use Rattle.sk_client.specs.Desk.{opened_at};
 ghost use Rattle.sk_client.specs.Leasing.{desk_lease};
 ghost use Rattle.sk_workers.specs.declared.entry.Entry.{Entry};
 ghost use Rattle.sk_workers.specs.Views.{BookView, WorkerView};
@@ -63,7 +63,7 @@ impl<L: Ledger> Model for Shared<L> {
 }
 
 impl<L: Ledger> Shared<L> {
-    /// Shares a desk on which nothing was done among n workers, 1 to 8, numbered from 0. Where memory runs out the
+    /// Shares a desk on which nothing was done in its epoch among n workers, 1 to 8, numbered from 0. Where memory runs out the
     /// ledger and the desk come back.
     pub fn new(
         alloc: Global,
@@ -73,9 +73,9 @@ impl<L: Ledger> Shared<L> {
     ) -> Result<(Shared<L>, Vec<Worker<L>>), (Blank, Desk, AllocError)>
         requires ledger { (blank.name ≡ L.name) × (blank.parts ≡ L.parts) × (L.parts ≡ n) }
         requires count { (1 ≤ n) × (n ≤ 8) }
-        requires opened { desk ≡ opened desk.kernel }
+        requires opened { desk ≡ opened_at desk.kernel desk.first }
         requires trace { desk.kernel.trace ≡ [] }
-        ensures shared { IfOk result (λ made. (made.0.opening ≡ opening_of desk.kernel) × (made.0.first ≡ first_number)) }
+        ensures shared { IfOk result (λ made. (made.0.opening ≡ opening_of desk.kernel) × (made.0.first ≡ desk.first)) }
         ensures workers { IfOk result (λ made. AreFresh n made.1.items) }
         ensures err { IfErr result (λ back. (back.0 ≡ blank) × (back.1 ≡ desk)) }
     {

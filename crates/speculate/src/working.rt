@@ -3,7 +3,7 @@ ghost use Rattle.std.specs.Prelude.{◌≡◌, ◌≤◌, ◌++◌, [], map, str
 ghost use Rattle.std.specs.Io.KnownBytes.{Appends};
 ghost use Rattle.std.specs.Io.Buffered.{writer_buffer, writer_contents};
 ghost use Rattle.sk_command.specs.Ends.{IsFlushed};
-ghost use Rattle.sk_client.specs.Desk.{opened, pending};
+ghost use Rattle.sk_client.specs.Desk.{opened_at, pending};
 ghost use Rattle.sk_workers.specs.History.{Runs};
 ghost use Rattle.sk_report.specs.Report.{desk_report_text, workers_line};
 ghost use Rattle.sk_crew.specs.Crewed.{IsCrewed};
@@ -190,10 +190,10 @@ fn crew<R: Threads + Wait + Sync, G: Gate + Sync>(
     gate: &G,
 ) -> Result<(History, Server), CrewFault>
     requires count { (1 ≤ plan.workers) × (plan.workers ≤ 8) }
-    requires opened { desk ≡ opened desk.kernel }
+    requires opened { desk ≡ opened_at desk.kernel desk.first }
     requires trace { desk.kernel.trace ≡ [] }
     ensures crewed { IfOk result (λ done. IsCrewed plan.workers desk done.0.entries.items done.0.desk) }
-    ensures legal { IfOk result (λ done. Runs desk done.0.entries.items done.0.desk) }
+    ensures legal { IfOk result (λ done. desk.kernel.earlier ≡ [] → Runs desk done.0.entries.items done.0.desk) }
     ensures settled { IfOk result (λ done. pending done.0.desk ≡ []) }
 {
     let blank = Blank::new(u64::from(plan.workers));

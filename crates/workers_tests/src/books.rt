@@ -1,7 +1,7 @@
 //! Two workers on one desk.
 ghost use Rattle.std.specs.Prelude.{◌≡◌, [], IfOk};
 ghost use Rattle.sk_kernel.specs.Kernel.{undecided_at};
-ghost use Rattle.sk_client.specs.Desk.{opened};
+ghost use Rattle.sk_client.specs.Desk.{opened_at};
 
 use sk_client::{Desk, Given, Turn};
 use sk_ids::{GuessId, Name, Pid, Text};
@@ -41,7 +41,7 @@ fn kernel(alloc: Global) -> Result<Kernel, Fail>
 
 /// The desk of that kernel, on which nothing was done.
 fn desk(alloc: Global) -> Result<Desk, Fail>
-    ensures opened { IfOk result (λ desk. desk ≡ opened desk.kernel) }
+    ensures opened { IfOk result (λ desk. desk ≡ opened_at desk.kernel desk.first) }
     ensures trace { IfOk result (λ desk. desk.kernel.trace ≡ []) }
 {
     Ok(Desk::new(alloc, kernel(alloc)?))
@@ -89,7 +89,7 @@ fn looks<L: Ledger>(rt: &impl Abort, worker: &Worker<L>, first: u64, pid: Pid) {
 /// Both workers take turns of the first process; then a guess is made and committed.
 fn works<L: Ledger>(rt: &impl Abort, alloc: Global, blank: Blank, desk: Desk, pids: (Pid, Pid))
     requires ledger { (blank.name ≡ L.name) × (blank.parts ≡ L.parts) × (L.parts ≡ 2) }
-    requires opened { desk ≡ opened desk.kernel }
+    requires opened { desk ≡ opened_at desk.kernel desk.first }
     requires trace { desk.kernel.trace ≡ [] }
 {
     let (mut book, mut workers) = match Book::<L>::new(alloc, blank, desk, 2) {
@@ -144,7 +144,7 @@ fn stays_open_elsewhere<L: Ledger>(
     opening: &Opening,
 )
     requires ledger { (blank.name ≡ L.name) × (blank.parts ≡ L.parts) × (L.parts ≡ 2) }
-    requires opened { desk ≡ opened desk.kernel }
+    requires opened { desk ≡ opened_at desk.kernel desk.first }
     requires trace { desk.kernel.trace ≡ [] }
 {
     let (book, workers) = match Book::<L>::new(alloc, blank, desk, 2) {

@@ -1,7 +1,7 @@
 //! A worker leases a process, and hands it in.
 ghost use Rattle.std.specs.Prelude.{◌≡◌, ◌<◌, [], IfOk};
 ghost use Rattle.sk_kernel.specs.Kernel.{undecided_at};
-ghost use Rattle.sk_client.specs.Desk.{opened};
+ghost use Rattle.sk_client.specs.Desk.{opened_at};
 
 use sk_client::{Desk, Turn};
 use sk_ids::{Name, Pid};
@@ -69,7 +69,7 @@ fn kernel(alloc: Global) -> Result<Kernel, Fail>
 
 /// The desk of that kernel, on which nothing was done.
 fn desk(alloc: Global) -> Result<Desk, Fail>
-    ensures opened { IfOk result (λ desk. desk ≡ opened desk.kernel) }
+    ensures opened { IfOk result (λ desk. desk ≡ opened_at desk.kernel desk.first) }
     ensures trace { IfOk result (λ desk. desk.kernel.trace ≡ []) }
 {
     Ok(Desk::new(alloc, kernel(alloc)?))
@@ -138,7 +138,7 @@ fn leased<L: Ledger, R: Wait + Abort>(
     between: &Between,
 ) -> usize
     requires ledger { (blank.name ≡ L.name) × (blank.parts ≡ L.parts) × (L.parts ≡ 1) }
-    requires opened { desk ≡ opened desk.kernel }
+    requires opened { desk ≡ opened_at desk.kernel desk.first }
     requires trace { desk.kernel.trace ≡ [] }
 {
     let (shared, mut workers) = match Shared::<L>::new(alloc, blank, desk, 1) {
@@ -281,7 +281,7 @@ fn turned<L: Ledger, R: Wait + Abort>(
     kills: Pid,
 ) -> usize
     requires ledger { (blank.name ≡ L.name) × (blank.parts ≡ L.parts) × (L.parts ≡ 1) }
-    requires opened { desk ≡ opened desk.kernel }
+    requires opened { desk ≡ opened_at desk.kernel desk.first }
     requires trace { desk.kernel.trace ≡ [] }
 {
     let (shared, mut workers) = match Shared::<L>::new(alloc, blank, desk, 1) {

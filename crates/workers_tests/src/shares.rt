@@ -1,7 +1,7 @@
 //! Workers in threads of their own share a desk.
 ghost use Rattle.std.specs.Prelude.{◌≡◌, ◌<◌, [], vec_len, IfOk};
 ghost use Rattle.sk_kernel.specs.Kernel.{undecided_at};
-ghost use Rattle.sk_client.specs.Desk.{opened};
+ghost use Rattle.sk_client.specs.Desk.{opened_at};
 ghost use Rattle.sk_workers.specs.Closing.{AreDistinct};
 
 use sk_client::{Desk, Given, Turn};
@@ -105,7 +105,7 @@ fn kernel(alloc: Global) -> Result<Kernel, Fail>
 
 /// The desk of that kernel, on which nothing was done.
 fn desk(alloc: Global) -> Result<Desk, Fail>
-    ensures opened { IfOk result (λ desk. desk ≡ opened desk.kernel) }
+    ensures opened { IfOk result (λ desk. desk ≡ opened_at desk.kernel desk.first) }
     ensures trace { IfOk result (λ desk. desk.kernel.trace ≡ []) }
 {
     Ok(Desk::new(alloc, kernel(alloc)?))
@@ -189,7 +189,7 @@ fn two_workers<L: Ledger + Send + Sync, R: Threads + Wait + Sync + Abort>(
     pids: (Pid, Pid),
 ) -> History
     requires ledger { (blank.name ≡ L.name) × (blank.parts ≡ L.parts) × (L.parts ≡ 2) }
-    requires opened { desk ≡ opened desk.kernel }
+    requires opened { desk ≡ opened_at desk.kernel desk.first }
     requires trace { desk.kernel.trace ≡ [] }
 {
     let (shared, mut workers) = match Shared::<L>::new(alloc, blank, desk, 2) {
@@ -252,7 +252,7 @@ fn waits_for_the_reply<L: Ledger, R: Wait + Abort>(
     pid: Pid,
 ) -> History
     requires ledger { (blank.name ≡ L.name) × (blank.parts ≡ L.parts) × (L.parts ≡ 1) }
-    requires opened { desk ≡ opened desk.kernel }
+    requires opened { desk ≡ opened_at desk.kernel desk.first }
     requires trace { desk.kernel.trace ≡ [] }
 {
     let (shared, mut workers) = match Shared::<L>::new(alloc, blank, desk, 1) {
@@ -290,6 +290,47 @@ fn waits_for_the_reply<L: Ledger, R: Wait + Abort>(
     assert_eq!(rt; given, Ok(Given::Committed(id)));
     workers.push_reserved(worker);
     closes(rt, shared, workers)
+}
+
+/// Begins an epoch of a desk, for which so many events are handed out.
+fn next_epoch(rt: &impl Abort, desk: Desk, events: usize) -> Desk
+    ensures opened { result ≡ opened_at result.kernel result.first }
+    ensures trace { result.kernel.trace ≡ [] }
+{
+    let mut desk = desk;
+    match desk.new_epoch() {
+        Ok((trace, _texts)) => {
+            assert_eq!(rt; trace.events().len(), events);
+            desk
+        }
+        Err(why) => {
+            desk.abandon();
+            panic!(rt; "{why:?}")
+        }
+    }
+}
+
+/// Two workers close a desk, which is shared again in each of two more epochs.
+#[test]
+fn shared_again_in_the_next_epoch(rt: HostRuntime) -> Result<(), Fail> {
+    let alloc = rt.alloc();
+    let first = Pid::boot(1).ok_or("pid")?;
+    let second = Pid::boot(2).ok_or("pid")?;
+    let third = Pid::boot(3).ok_or("pid")?;
+    let desk = desk(alloc)?;
+    let History { entries, desk } =
+        two_workers::<Brand, _>(&rt, alloc, Blank::new(2), desk, (first, second));
+    assert_eq!(rt; entries.len(), 5);
+    let desk = next_epoch(&rt, desk, 5);
+    assert_eq!(rt; desk.first(), 1);
+    let History { entries, desk } =
+        waits_for_the_reply::<Brand, _>(&rt, alloc, Blank::new(1), desk, third);
+    assert_eq!(rt; entries.len(), 2);
+    let desk = next_epoch(&rt, desk, 2);
+    assert_eq!(rt; desk.first(), 2);
+    assert_eq!(rt; desk.kernel().opening().guess(), 2);
+    desk.abandon();
+    Ok(())
 }
 
 #[test]

@@ -1,5 +1,5 @@
 -- The history that the crew left, and what was written of it.
-use Rattle.std.proofs.Common.{◌≡◌, ℕ, ◌++◌, length, subst, arith}
+use Rattle.std.proofs.Common.{◌≡◌, ℕ, ◌++◌, length, ap, subst, arith}
 use Rattle.std.specs.Io.KnownBytes.{Appends}
 use Rattle.sk_client.specs.Desk.{DeskView}
 use Rattle.sk_workers.specs.History.{Runs}
@@ -10,7 +10,7 @@ use Rattle.speculate.proofs.working.work.Goals as goal
 pub returns-in-Ok-written-clause-done : goal.returns-in-Ok-written-clause-done
 returns-in-Ok-written-clause-done g c =
     let h = c.in-Ok-crew.history in
-    let from = subst (λ (d : DeskView). Runs d h.entries.items h.desk) c.in-Ok.ensures.desk c.in-Ok-crew.ensures.legal in
+    let from = subst (λ (d : DeskView). Runs d h.entries.items h.desk) c.in-Ok.ensures.desk (c.in-Ok-crew.ensures.legal (ap (λ (d : DeskView). d.kernel.earlier) c.in-Ok.ensures.desk)) in
     let old = g.W.Write.contents c.args.out.now in
     let new = g.W.Write.contents c.write_worked-written.new.out in
     let report = desk_report_text h.desk c.in-Ok-crew.server in

@@ -32,6 +32,7 @@ returns-in-Err c =
         kernel = (c.in-Err.ensures.1 i).kernel;
         taken = c.in-Ok-make_room.ensures.taken i;
         waiting = c.in-Ok-make_room.ensures.waiting i;
+        first = c.self.inside.first;
         next = c.self.inside.next;
         kept = c.in-Ok-make_room.ensures.kept i;
       })

@@ -8,7 +8,7 @@ use Rattle.sk_guesses.proofs.guesses.Guesses.depend.Goals as goal
 
 pub invariant_of-self-2 : goal.invariant_of-self-2
 invariant_of-self-2 c =
-    let v : GuessesView = record { kernel = c.self.inside.kernel; statuses = c.self.inside.statuses.items } in
+    let v : GuessesView = record { kernel = c.self.inside.kernel; earlier = c.self.inside.earlier.statuses; statuses = c.self.inside.statuses.items } in
     let os = map guess_of c.self.inside.opens.items in
     let f = depending c.args.tags.now c.args.entity.now in
     let is : map guess_of c.depend_on.new.opens.items ≡ map f os = c.depend_on.ensures ∙ ap (map f) c.make_room.ensures.same in

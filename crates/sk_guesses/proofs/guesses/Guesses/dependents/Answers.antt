@@ -6,7 +6,7 @@ use Rattle.sk_ids.specs.Entity.{entity_cmp}
 use Rattle.sk_record.specs.Notes.{has}
 use Rattle.sk_record.specs.UndoState.{numbers}
 use Rattle.sk_record.specs.declared.status.Status.TheVariants.{Undecided}
-use Rattle.sk_guesses.specs.Guesses.{status_of}
+use Rattle.sk_guesses.specs.Guesses.{status_since}
 use Rattle.sk_guesses.specs.Opens.{dependents_of, open_in, opens_of}
 use Rattle.sk_guesses.specs.Room.{Roomy}
 use Rattle.sk_guesses.proofs.Opens.{is_other, found, missing}
@@ -31,8 +31,8 @@ returns-clause-value c =
 
 pub returns-then-place-len-clause-known : goal.returns-then-place-len-clause-known
 returns-then-place-len-clause-known c = λ was.
-    subst (λ (g : Roomy). status_of g.view c.args.id ≡ Some Undecided → has c.args.id (numbers (opens_of g.opens)) ≡ true) c.self.view_is (λ is. c.self.invariant.0.tied c.args.id ∙ ap open_in is) was
+    subst (λ (g : Roomy). status_since g.view c.args.id ≡ Some Undecided → has c.args.id (numbers (opens_of g.opens)) ≡ true) c.self.view_is (λ is. c.self.invariant.0.tied c.args.id ∙ ap open_in is) was
 
 pub returns-clause-known : goal.returns-clause-known
 returns-clause-known c = λ was.
-    subst (λ (g : Roomy). status_of g.view c.args.id ≡ Some Undecided → has c.args.id (numbers (opens_of g.opens)) ≡ true) c.self.view_is (λ is. c.self.invariant.0.tied c.args.id ∙ ap open_in is) was
+    subst (λ (g : Roomy). status_since g.view c.args.id ≡ Some Undecided → has c.args.id (numbers (opens_of g.opens)) ≡ true) c.self.view_is (λ is. c.self.invariant.0.tied c.args.id ∙ ap open_in is) was

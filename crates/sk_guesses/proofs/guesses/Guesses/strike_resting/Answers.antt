@@ -1,10 +1,10 @@
 -- The statuses and the undecided guesses after the strikes.
-use Rattle.std.proofs.Common.{◌≡◌, ◌<◌, ◌≤◌, ◌-◌, ◌∙◌, ℕ, List, Some, cond, ap, length, map, sym, subst, arith}
+use Rattle.std.proofs.Common.{◌≡◌, ◌<◌, ◌≤◌, ◌+◌, ◌-◌, ◌∙◌, ℕ, List, Some, cond, ap, length, map, sym, subst, arith}
 use Rattle.std.specs.Prelude.{slice_index_or}
 use Rattle.sk_record.specs.Machine.{rests_on}
 use Rattle.sk_record.specs.declared.status.Status.{Status}
 use Rattle.sk_record.specs.declared.status.Status.TheVariants.{Struck}
-use Rattle.sk_guesses.specs.Guesses.{GuessesView, status_of}
+use Rattle.sk_guesses.specs.Guesses.{GuessesView, status_since}
 use Rattle.sk_guesses.specs.Opens.{AreOpen, OpenGuess, opens_of, struck_by}
 use Rattle.sk_guesses.specs.Room.{Listing, Roomy}
 use Rattle.sk_guesses.proofs.Opens.{guess_of, in_range, open_drawn, open_struck, struck_are, struck_length}
@@ -12,19 +12,21 @@ use Rattle.sk_guesses.proofs.guesses.Guesses.strike_resting.Goals as goal
 
 pub strike_all-requires : goal.strike_all-requires
 strike_all-requires c =
-    let v : GuessesView = record { kernel = c.self.inside.kernel; statuses = c.self.inside.statuses.items } in
-    subst (λ ls. (k : ℕ) (d : Listing) → k < length ls → (slice_index_or ls k d).guess.id - 1 < length v.statuses) (sym c.as_slice.ensures.value)
-    (in_range v c.self.inside.opens.items (open_drawn v (map guess_of c.self.inside.opens.items) c.self.invariant.0))
+    let v : GuessesView = record { kernel = c.self.inside.kernel; earlier = c.self.inside.earlier.statuses; statuses = c.self.inside.statuses.items } in
+    subst (λ (n : ℕ). (k : ℕ) (d : Listing) → k < length c.as_slice.result.now → (slice_index_or c.as_slice.result.now k d).guess.id - n - 1 < length v.statuses) (sym c.len.ensures)
+    (subst (λ ls. (k : ℕ) (d : Listing) → k < length ls → (slice_index_or ls k d).guess.id - length v.earlier - 1 < length v.statuses) (sym c.as_slice.ensures.value)
+    (in_range v c.self.inside.opens.items (open_drawn v (map guess_of c.self.inside.opens.items) c.self.invariant.0)))
 
 pub invariant_of-self : goal.invariant_of-self
 invariant_of-self c =
-    let v : GuessesView = record { kernel = c.self.inside.kernel; statuses = c.self.inside.statuses.items } in
-    let w : GuessesView = record { kernel = c.self.inside.kernel; statuses = c.strike_all.new.statuses.items } in
+    let v : GuessesView = record { kernel = c.self.inside.kernel; earlier = c.self.inside.earlier.statuses; statuses = c.self.inside.statuses.items } in
+    let w : GuessesView = record v { statuses = c.strike_all.new.statuses.items } in
     let os = map guess_of c.self.inside.opens.items in
-    let is : c.strike_all.new.statuses.items ≡ struck_by c.args.id os v.statuses = c.strike_all.ensures ∙ ap (λ ls. struck_by c.args.id (map guess_of ls) v.statuses) c.as_slice.ensures.value in
-    let as_many : length c.strike_all.new.statuses.items ≡ length v.statuses = ap length is ∙ struck_length c.args.id os v.statuses in (
+    let is : c.strike_all.new.statuses.items ≡ struck_by (length v.earlier) c.args.id os v.statuses =
+    c.strike_all.ensures ∙ (λ j. struck_by (c.len.ensures j) c.args.id (map guess_of (c.as_slice.ensures.value j)) v.statuses) in
+    let as_many : length c.strike_all.new.statuses.items ≡ length v.statuses = ap length is ∙ struck_length (length v.earlier) c.args.id os v.statuses in (
       subst (AreOpen w) (sym c.close_resting.ensures.opens)
-          (open_struck v w os c.args.id c.self.invariant.0 (λ g. ap (λ (ss : List Status). status_of (record v { statuses = ss }) g) is ∙ struck_are v c.args.id os (open_drawn v os c.self.invariant.0) g)),
+          (open_struck v w os c.args.id c.self.invariant.0 (λ g. ap (λ (ss : List Status). status_since (record v { statuses = ss }) g) is ∙ struck_are v c.args.id os (open_drawn v os c.self.invariant.0) g)),
       omega (arith, c.self.invariant.1, c.close_resting.ensures.fewer),
       omega (arith, c.self.invariant.2, as_many),
       c.self.invariant.3,
@@ -32,14 +34,17 @@ invariant_of-self c =
 
 pub returns-clause-statuses : goal.returns-clause-statuses
 returns-clause-statuses c = λ g.
-    let v : GuessesView = record { kernel = c.self.inside.kernel; statuses = c.self.inside.statuses.items } in
+    let v : GuessesView = record { kernel = c.self.inside.kernel; earlier = c.self.inside.earlier.statuses; statuses = c.self.inside.statuses.items } in
     let os = map guess_of c.self.inside.opens.items in
-    let is : c.strike_all.new.statuses.items ≡ struck_by c.args.id os v.statuses = c.strike_all.ensures ∙ ap (λ ls. struck_by c.args.id (map guess_of ls) v.statuses) c.as_slice.ensures.value in
-    ap (λ (ss : List Status). status_of (record v { statuses = ss }) g) is ∙ struck_are v c.args.id os (open_drawn v os c.self.invariant.0) g
-    ∙ ap (λ (r : Roomy). cond (rests_on c.args.id (opens_of r.opens) g) (Some Struck) (status_of r.view g)) c.self.view_is
+    let is : c.strike_all.new.statuses.items ≡ struck_by (length v.earlier) c.args.id os v.statuses =
+    c.strike_all.ensures ∙ (λ j. struck_by (c.len.ensures j) c.args.id (map guess_of (c.as_slice.ensures.value j)) v.statuses) in
+    ap (λ (ss : List Status). status_since (record v { statuses = ss }) g) is ∙ struck_are v c.args.id os (open_drawn v os c.self.invariant.0) g
+    ∙ ap (λ (r : Roomy). cond (rests_on c.args.id (opens_of r.opens) g) (Some Struck) (status_since r.view g)) c.self.view_is
 
 pub returns-clause-drawn : goal.returns-clause-drawn
 returns-clause-drawn c =
+    let before = length c.self.inside.earlier.statuses in
     let os = map guess_of c.self.inside.opens.items in
-    let is : c.strike_all.new.statuses.items ≡ struck_by c.args.id os c.self.inside.statuses.items = c.strike_all.ensures ∙ ap (λ ls. struck_by c.args.id (map guess_of ls) c.self.inside.statuses.items) c.as_slice.ensures.value in
-    ap length is ∙ struck_length c.args.id os c.self.inside.statuses.items ∙ ap (λ (r : Roomy). length r.view.statuses) c.self.view_is
+    let is : c.strike_all.new.statuses.items ≡ struck_by before c.args.id os c.self.inside.statuses.items =
+    c.strike_all.ensures ∙ (λ j. struck_by (c.len.ensures j) c.args.id (map guess_of (c.as_slice.ensures.value j)) c.self.inside.statuses.items) in
+    ap length is ∙ struck_length before c.args.id os c.self.inside.statuses.items ∙ ap (λ (r : Roomy). length r.view.statuses) c.self.view_is

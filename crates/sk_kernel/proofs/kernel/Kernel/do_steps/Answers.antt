@@ -30,7 +30,7 @@ returns-then-is_err c = (
   c.requires.as_lent,
   subst (λ n. n ≤ room c.args.self.now) c.requires.count c.requires.places,
   subst (λ n. 0 < n) c.requires.count c.requires.some,
-  (λ i. record { number = c.self.inside.machine.guesses.kernel; scripts = c.self.inside.opening.start.scripts; start = c.self.inside.opening.start.state; limit = c.self.inside.opening.limit; trace = c.reserve.ensures.events i })
+  (λ i. record { number = c.self.inside.machine.guesses.kernel; scripts = c.self.inside.opening.start.scripts; start = c.self.inside.opening.start.state; limit = c.self.inside.opening.limit; earlier = c.self.inside.machine.guesses.earlier; trace = c.reserve.ensures.events i })
       ∙ c.self.view_is,
 )
 
@@ -40,7 +40,7 @@ returns-then-is_err-2 c =
       c.requires.as_lent,
       subst (λ n. n ≤ room c.args.self.now) c.requires.count c.requires.places,
       subst (λ n. 0 < n) c.requires.count c.requires.some,
-      (λ i. record { number = (same i).guesses.kernel; scripts = c.self.inside.opening.start.scripts; start = c.self.inside.opening.start.state; limit = c.self.inside.opening.limit; trace = c.reserve.ensures.events i })
+      (λ i. record { number = (same i).guesses.kernel; scripts = c.self.inside.opening.start.scripts; start = c.self.inside.opening.start.state; limit = c.self.inside.opening.limit; earlier = (same i).guesses.earlier; trace = c.reserve.ensures.events i })
           ∙ c.self.view_is,
     )
 
@@ -68,7 +68,7 @@ invariant_of-self-2 c =
           (subst (λ (x : KernelView). IsAsLent x l) (sym c.self.view_is) c.requires.as_lent)
           c.now-process.ensures.done (subst (λ n. 0 < n) c.requires.count c.requires.some) (hands k.scripts) c.hand_in.ensures.guesses trace
           (omega (arith, opens, reserved, appended, counted)),
-      still_opened k _ c.append.new.trace.events _ c.self.invariant.1 (ap (λ v. v.kernel) c.hand_in.ensures.guesses),
+      still_opened k _ _ c.append.new.trace.events _ c.self.invariant.1 (ap (λ v. v.kernel) c.hand_in.ensures.guesses) (ap (λ v. v.earlier) c.hand_in.ensures.guesses),
     )
 
 pub returns : goal.returns
@@ -78,6 +78,6 @@ returns c =
     let trace = c.append.ensures.events ∙ (λ i. c.reserve.ensures.events i ++ replicate (c.requires.count i) (alone_step (own i))) in (
       c.requires.as_lent,
       subst (λ n. n ≤ room c.args.self.now) c.requires.count c.requires.places,
-      (λ i. record { number = (c.hand_in.ensures.guesses i).kernel; scripts = c.self.inside.opening.start.scripts; start = c.self.inside.opening.start.state; limit = c.self.inside.opening.limit; trace = trace i })
+      (λ i. record { number = (c.hand_in.ensures.guesses i).kernel; scripts = c.self.inside.opening.start.scripts; start = c.self.inside.opening.start.state; limit = c.self.inside.opening.limit; earlier = (c.hand_in.ensures.guesses i).earlier; trace = trace i })
           ∙ ap (λ (k : KernelView). with_steps k l.lent.pid l.count) c.self.view_is,
     )

@@ -2,7 +2,7 @@
 use Rattle.std.proofs.Common.{Ok, [], refl, sym, ◌∙◌, ap}
 use Rattle.sk_trace.specs.declared.event.Event.TheVariants as events
 use Rattle.sk_kernel.specs.contracts.kernel.Kernel.{the_view}
-use Rattle.sk_kernel.proofs.Whole.{grows}
+use Rattle.sk_kernel.proofs.Whole.{grows, undecided_since}
 use Rattle.sk_kernel.proofs.Tokens.{token_undecided, stranger_back, nothing_left, decided_by, kept_place, failed_whole}
 use Rattle.sk_kernel.proofs.Opened.{still_opened}
 use Rattle.sk_kernel.proofs.kernel.Kernel.fail_speculation.Goals as goal
@@ -11,6 +11,11 @@ pub returns-in-Err : goal.returns-in-Err
 returns-in-Err c =
     let told = stranger_back (the_view c.self.inside) c.self.inside.machine c.self.inside.trace.room c.self.invariant.0 c.args.guess c.args.self.now c.self.view_is c.in-Err.guess (sym c.redeem.ensures ∙ c.in-Err.is) in
     (told.0, told.1, refl)
+
+pub fail-requires-clause-undecided : goal.fail-requires-clause-undecided
+fail-requires-clause-undecided c =
+    undecided_since (the_view c.self.inside) c.self.inside.machine c.self.invariant.0.stands c.in-Undecided.id
+    (token_undecided (the_view c.self.inside) c.self.inside.machine c.self.inside.trace.room c.self.invariant.0 c.args.guess c.in-Undecided.id (sym c.redeem.ensures ∙ c.in-Ok.is ∙ ap Ok c.in-Undecided.is))
 
 pub fail-requires-clause-grow : goal.fail-requires-clause-grow
 fail-requires-clause-grow c = grows (the_view c.self.inside) c.self.inside.machine c.self.invariant.0.stands
@@ -24,8 +29,8 @@ pub invariant_of-self : goal.invariant_of-self
 invariant_of-self c = (
   failed_whole (the_view c.self.inside) c.self.inside.machine c.fail.new.self c.self.inside.trace.room c.push.new.self.room c.in-Undecided.id c.push.new.self.events c.self.invariant.0
       (token_undecided (the_view c.self.inside) c.self.inside.machine c.self.inside.trace.room c.self.invariant.0 c.args.guess c.in-Undecided.id (sym c.redeem.ensures ∙ c.in-Ok.is ∙ ap Ok c.in-Undecided.is))
-      c.fail.ensures.fails c.fail.ensures.drawn c.push.ensures.events c.push.ensures.room,
-  still_opened (the_view c.self.inside) _ c.push.new.self.events _ c.self.invariant.1 c.fail.ensures.kernel,
+      c.fail.ensures.fails c.fail.ensures.earlier c.fail.ensures.drawn c.push.ensures.events c.push.ensures.room,
+  still_opened (the_view c.self.inside) _ _ c.push.new.self.events _ c.self.invariant.1 c.fail.ensures.kernel c.fail.ensures.earlier,
 )
 
 pub returns-in-Struck : goal.returns-in-Struck
@@ -36,4 +41,4 @@ returns-in-Struck c =
 pub returns-in-Undecided : goal.returns-in-Undecided
 returns-in-Undecided c =
     decided_by (the_view c.self.inside) c.self.inside.machine c.self.inside.trace.room c.self.invariant.0 c.args.guess c.args.self.now c.self.view_is c.in-Undecided.id events.Fail _ (sym c.redeem.ensures ∙ c.in-Ok.is ∙ ap Ok c.in-Undecided.is)
-    (λ i. record { number = c.fail.ensures.kernel i; scripts = c.self.inside.opening.start.scripts; start = c.self.inside.opening.start.state; limit = c.self.inside.opening.limit; trace = c.push.ensures.events i })
+    (λ i. record { number = c.fail.ensures.kernel i; scripts = c.self.inside.opening.start.scripts; start = c.self.inside.opening.start.state; limit = c.self.inside.opening.limit; earlier = c.fail.ensures.earlier i; trace = c.push.ensures.events i })

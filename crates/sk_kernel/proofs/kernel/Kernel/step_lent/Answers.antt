@@ -36,7 +36,7 @@ returns-then-is_err c =
     let n : EntryView = record { pid = c.args.pid; input = (input_in c.args.input); guess = None } in (
       subst (λ (k : KernelView). step_refused k n ≡ None) c.self.view_is
           (step_free (the_view c.self.inside) c.self.inside.machine c.self.inside.trace.room c.self.invariant.0 n _ c.room.result c.in-Ok.ensures.plans (c.room.ensures ∙ ap room (sym c.self.view_is)) c.if-room-lt1.false),
-      (λ i. record { number = c.self.inside.machine.guesses.kernel; scripts = c.self.inside.opening.start.scripts; start = c.self.inside.opening.start.state; limit = c.self.inside.opening.limit; trace = c.reserve.ensures.events i })
+      (λ i. record { number = c.self.inside.machine.guesses.kernel; scripts = c.self.inside.opening.start.scripts; start = c.self.inside.opening.start.state; limit = c.self.inside.opening.limit; earlier = c.self.inside.machine.guesses.earlier; trace = c.reserve.ensures.events i })
           ∙ c.self.view_is,
     )
 
@@ -45,7 +45,7 @@ returns-in-Err-keep c =
     let n : EntryView = record { pid = c.args.pid; input = (input_in c.args.input); guess = None } in (
       subst (λ (k : KernelView). step_refused k n ≡ None) c.self.view_is
           (step_free (the_view c.self.inside) c.self.inside.machine c.self.inside.trace.room c.self.invariant.0 n _ c.room.result c.in-Ok.ensures.plans (c.room.ensures ∙ ap room (sym c.self.view_is)) c.if-room-lt1.false),
-      (λ i. record { number = c.self.inside.machine.guesses.kernel; scripts = c.self.inside.opening.start.scripts; start = c.self.inside.opening.start.state; limit = c.self.inside.opening.limit; trace = c.reserve.ensures.events i })
+      (λ i. record { number = c.self.inside.machine.guesses.kernel; scripts = c.self.inside.opening.start.scripts; start = c.self.inside.opening.start.state; limit = c.self.inside.opening.limit; earlier = c.self.inside.machine.guesses.earlier; trace = c.reserve.ensures.events i })
           ∙ c.self.view_is,
     )
 
@@ -61,7 +61,7 @@ returns-then-is_err-2 c =
     let same = from_err c.take_step.result c.if-is_err-2.ensures.value c.take_step.ensures.err in (
       subst (λ (k : KernelView). step_refused k n ≡ None) c.self.view_is
           (step_free (the_view c.self.inside) c.self.inside.machine c.self.inside.trace.room c.self.invariant.0 n _ c.room.result c.in-Ok.ensures.plans (c.room.ensures ∙ ap room (sym c.self.view_is)) c.if-room-lt1.false),
-      (λ i. record { number = (same i).guesses.kernel; scripts = c.self.inside.opening.start.scripts; start = c.self.inside.opening.start.state; limit = c.self.inside.opening.limit; trace = c.reserve.ensures.events i })
+      (λ i. record { number = (same i).guesses.kernel; scripts = c.self.inside.opening.start.scripts; start = c.self.inside.opening.start.state; limit = c.self.inside.opening.limit; earlier = (same i).guesses.earlier; trace = c.reserve.ensures.events i })
           ∙ c.self.view_is,
     )
 
@@ -77,7 +77,7 @@ invariant_of-self-2 c =
           takes c.take_step.ensures.guesses
           (c.push.ensures.events ∙ (λ i. c.reserve.ensures.events i ++ events.Step c.args.pid (c.in-Ok-keep.ensures.ok i) ∷ []))
           (omega (arith, opens, reserved, pushed, counted)),
-      still_opened (the_view c.self.inside) _ c.push.new.self.events _ c.self.invariant.1 (ap (λ v. v.kernel) c.take_step.ensures.guesses),
+      still_opened (the_view c.self.inside) _ _ c.push.new.self.events _ c.self.invariant.1 (ap (λ v. v.kernel) c.take_step.ensures.guesses) (ap (λ v. v.earlier) c.take_step.ensures.guesses),
     )
 
 pub returns : goal.returns
@@ -86,7 +86,7 @@ returns c =
     let more = c.push.ensures.events ∙ (λ i. c.reserve.ensures.events i ++ events.Step c.args.pid (c.in-Ok-keep.ensures.ok i) ∷ []) in (
       subst (λ (k : KernelView). step_refused k n ≡ None) c.self.view_is
           (step_free (the_view c.self.inside) c.self.inside.machine c.self.inside.trace.room c.self.invariant.0 n _ c.room.result c.in-Ok.ensures.plans (c.room.ensures ∙ ap room (sym c.self.view_is)) c.if-room-lt1.false),
-      (λ i. record { number = (c.take_step.ensures.guesses i).kernel; scripts = c.self.inside.opening.start.scripts; start = c.self.inside.opening.start.state; limit = c.self.inside.opening.limit; trace = more i })
+      (λ i. record { number = (c.take_step.ensures.guesses i).kernel; scripts = c.self.inside.opening.start.scripts; start = c.self.inside.opening.start.state; limit = c.self.inside.opening.limit; earlier = (c.take_step.ensures.guesses i).earlier; trace = more i })
           ∙ ap (λ (k : KernelView). with_event k (events.Step c.args.pid (input_in c.args.input))) c.self.view_is,
     )
 

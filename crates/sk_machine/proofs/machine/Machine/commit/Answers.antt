@@ -3,7 +3,7 @@ use Rattle.std.proofs.Common.{◌≡◌, List, Some, ap, ◌∙◌, subst, sym}
 use Rattle.sk_record.specs.Merged.{MergedCommits}
 use Rattle.sk_record.specs.declared.status.Status.TheVariants.{Undecided, Committed}
 use Rattle.sk_ids.specs.declared.entity.Entity.{Entity}
-use Rattle.sk_guesses.specs.Guesses.{status_of}
+use Rattle.sk_guesses.specs.Guesses.{status_since}
 use Rattle.sk_guesses.specs.Opens.{opens_of}
 use Rattle.sk_guesses.proofs.Statuses.{status-decided}
 use Rattle.sk_machine.specs.Dependents.{AllExact, tags_in}
@@ -17,7 +17,7 @@ pub commit-requires-clause-listed : goal.commit-requires-clause-listed
 commit-requires-clause-listed c =
     let m = c.self.inside.logs.slots in
     let os = c.self.inside.guesses.opens in
-    let undecided : status_of c.self.inside.guesses.view c.args.id ≡ Some Undecided = ap (λ (p : Parts). status_of p.guesses c.args.id) c.self.view_is ∙ c.requires.undecided in
+    let undecided : status_since c.self.inside.guesses.view c.args.id ≡ Some Undecided = ap (λ (p : Parts). status_since p.guesses c.args.id) c.self.view_is ∙ c.requires.undecided in
     let grows = subst (λ (p : Parts). AllGrow p.slots) (sym c.self.view_is) c.requires.grow in
     subst (λ (es : List Entity). AreListed c.args.id m es) (sym c.dependents.ensures.value) (listed c.args.id m os c.self.invariant.0 grows (c.dependents.ensures.known undecided))
 
@@ -26,7 +26,7 @@ invariant_of-self c =
     let m = c.self.inside.logs.slots in
     let n = c.commit.new.self.slots in
     let os = c.self.inside.guesses.opens in
-    let undecided : status_of c.self.inside.guesses.view c.args.id ≡ Some Undecided = ap (λ (p : Parts). status_of p.guesses c.args.id) c.self.view_is ∙ c.requires.undecided in
+    let undecided : status_since c.self.inside.guesses.view c.args.id ≡ Some Undecided = ap (λ (p : Parts). status_since p.guesses c.args.id) c.self.view_is ∙ c.requires.undecided in
     let grows = subst (λ (p : Parts). AllGrow p.slots) (sym c.self.view_is) c.requires.grow in
     (subst (AllExact (tags_in n)) (sym (c.commit-2.ensures.undecided undecided).opens) (committed_exact c.args.id m n grows c.commit.ensures.slots os c.self.invariant.0), c.self.invariant.1)
 
@@ -35,9 +35,9 @@ returns-clause-commits c =
     let os = c.self.inside.guesses.opens in
     let a : Parts = record { slots = c.self.inside.logs.slots; opens = opens_of os; guesses = c.self.inside.guesses.view; texts = c.self.inside.terminals } in
     let b : Parts = record { slots = c.commit.new.self.slots; opens = opens_of c.commit-2.new.self.opens; guesses = c.commit-2.new.self.view; texts = c.commit-3.new.self } in
-    let undecided : status_of a.guesses c.args.id ≡ Some Undecided = ap (λ (p : Parts). status_of p.guesses c.args.id) c.self.view_is ∙ c.requires.undecided in
+    let undecided : status_since a.guesses c.args.id ≡ Some Undecided = ap (λ (p : Parts). status_since p.guesses c.args.id) c.self.view_is ∙ c.requires.undecided in
     let decided = c.commit-2.ensures.undecided undecided in
     subst (λ (p : Parts). MergedCommits (machine_of p) c.args.id (machine_of b)) c.self.view_is
     (commits_of a b c.args.id c.commit.ensures.slots (ap opens_of decided.opens ∙ commit_opens c.args.id os)
-    (λ h. ap (λ g. status_of g h) decided.view ∙ status-decided a.guesses c.args.id Undecided Committed undecided h)
+    (λ h. ap (λ g. status_since g h) decided.view ∙ status-decided a.guesses c.args.id Undecided Committed undecided h)
     c.commit-3.ensures.texts)

@@ -5,7 +5,7 @@ use Rattle.sk_record.specs.Step.{perform}
 use Rattle.sk_record.specs.UndoState.{step_tags}
 use Rattle.sk_record.specs.Merged.{MergedTakes}
 use Rattle.sk_ids.specs.declared.entity.Entity.{Entity}
-use Rattle.sk_guesses.specs.Guesses.{status_of}
+use Rattle.sk_guesses.specs.Guesses.{status_since}
 use Rattle.sk_guesses.specs.Opens.{opens_of}
 use Rattle.sk_trace.specs.Kept.{input_in}
 use Rattle.sk_trace.specs.Entry.{EntryView}
@@ -82,7 +82,7 @@ returns-clause-ok c =
     let tags = subst (λ (p : Parts). c.in_ok-tags.tags ≡ step_tags (undo_state_of p) (planned_effect p n (seen_with (look_at p.slots) scripts n.pid n.input plan))) (sym c.self.view_is) c.in_ok-tags.ensures.exact in
     subst (λ (p : Parts). MergedTakes (plain scripts) (machine_of p) n (machine_of b)) c.self.view_is
     (takes_of scripts a b n (seen_with (look_at a.slots) scripts n.pid n.input plan) c.in_ok-tags.tags accepted tags (from_ok c.perform.result c.if-is_err.ensures.value c.perform.ensures.writes) (c.depend_all.ensures.opens ∙ sym (append-nil a.opens))
-    (λ g. ap (λ v. status_of v g) c.depend_all.ensures.view)
+    (λ g. ap (λ v. status_since v g) c.depend_all.ensures.view)
     (from_ok c.perform.result c.if-is_err.ensures.value c.perform.ensures.says))
 
 pub perform-requires-clause-apart : goal.perform-requires-clause-apart

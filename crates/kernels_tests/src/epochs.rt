@@ -1,0 +1,162 @@
+//! Epochs: what is handed out, and what is known of the guesses of earlier ones.
+use crate::plays::{Count, Decision, Pick, Play, Player, does_all, plays};
+use crate::start::{Start, kernel_of};
+use sk_guesses::Status;
+use sk_kernel::{EpochRefusal, Kernel, Outcome};
+use sk_plain::{Refusal, strike_from};
+use std::alloc::Global;
+use std::process::Abort;
+use std::test::Fail;
+
+/// The only process of a kernel of number 1.
+fn one_process<'a>(script: &'a [(&'a [u8], usize)], limit: u32) -> Start<'a> {
+    Start {
+        number: 1,
+        script,
+        processes: 1,
+        limit,
+    }
+}
+
+/// The entries that the trace leaves where it begins at the opening's state.
+fn leaves(rt: &impl Abort, alloc: Global, kernel: &Kernel, want: usize) -> Result<(), Fail> {
+    let entries = strike_from(alloc, kernel.opening().start(), kernel.trace())?;
+    assert_eq!(rt; entries.len(), want);
+    Ok(())
+}
+
+/// Plays with a new kernel, whose trace leaves so many entries in the end.
+fn plays_to(
+    rt: &impl Abort,
+    alloc: Global,
+    start: Start<'_>,
+    table: &[Play],
+    want: usize,
+) -> Result<(), Fail> {
+    let mut player = Player::new(alloc, start)?;
+    let done = does_all(rt, &mut player, table);
+    let kernel = player.end(rt);
+    done?;
+    leaves(rt, alloc, &kernel, want)
+}
+
+const COMMITS: Play = Play::Decides(Pick::Oldest, Decision::Commit, Outcome::Done);
+
+const FAILS: Play = Play::Decides(Pick::Oldest, Decision::Fail, Outcome::Done);
+
+const GONE: Play = Play::Decides(Pick::Oldest, Decision::Commit, Outcome::Gone);
+
+/// A full trace is handed out, and there is room again.
+#[test]
+fn epoch_hands_out(rt: HostRuntime) -> Result<(), Fail> {
+    let table = [
+        Play::Guesses(1, 1, 1),
+        Play::Good(1),
+        Play::Steps(1, 1, Err(Refusal::TraceFull)),
+        Play::Epoch(Err(EpochRefusal::Undecided(1))),
+        COMMITS,
+        Play::Has(Count::Room, 0),
+        Play::Epoch(Ok((3, 0))),
+        Play::Has(Count::Events, 0),
+        Play::Has(Count::Room, 3),
+        Play::Became(1, Some(Status::Committed)),
+        Play::Steps(1, 1, Ok(())),
+        Play::Has(Count::Events, 1),
+        Play::Has(Count::Place(1), 2),
+        Play::Steps(1, 1, Err(Refusal::Ended)),
+    ];
+    plays_to(
+        &rt,
+        rt.alloc(),
+        one_process(&[(b"fetch /01\n", 2)], 3),
+        &table,
+        1,
+    )
+}
+
+/// A guess that was struck in an earlier epoch has nothing to decide.
+#[test]
+fn epoch_and_old_tokens(rt: HostRuntime) -> Result<(), Fail> {
+    let table = [
+        Play::Guesses(1, 1, 2),
+        Play::Steps(1, 1, Ok(())),
+        FAILS,
+        Play::Epoch(Ok((4, 0))),
+        GONE,
+        Play::Has(Count::Events, 0),
+        Play::Became(1, Some(Status::Failed)),
+        Play::Became(2, Some(Status::Struck)),
+        Play::Became(3, None),
+        Play::Guesses(1, 3, 3),
+        Play::Became(3, Some(Status::Undecided)),
+    ];
+    let script: [(&[u8], usize); 2] = [(b"fetch /01\n", 2), (b"say\n", 1)];
+    plays_to(&rt, rt.alloc(), one_process(&script, 100), &table, 1)
+}
+
+/// Texts go with the epoch in which they were said.
+#[test]
+fn texts_of_two_epochs(rt: HostRuntime) -> Result<(), Fail> {
+    let table = [
+        Play::Steps(1, 2, Ok(())),
+        Play::Has(Count::Released(1), 2),
+        Play::Epoch(Ok((2, 2))),
+        Play::Epoch(Ok((0, 0))),
+        Play::Has(Count::Place(1), 2),
+        Play::Steps(1, 1, Ok(())),
+        Play::Has(Count::Released(1), 1),
+        Play::Epoch(Ok((1, 1))),
+    ];
+    plays(&rt, rt.alloc(), one_process(&[(b"say\n", 3)], 2), &table)
+}
+
+/// An epoch directly after the boot changes nothing.
+#[test]
+fn epoch_after_the_boot(rt: HostRuntime) -> Result<(), Fail> {
+    let mut kernel = kernel_of(rt.alloc(), one_process(&[(b"say\n", 1)], 10))?;
+    let before = kernel.opening().copy()?;
+    assert!(rt; kernel.new_epoch().is_ok());
+    assert!(rt; *kernel.opening() == before);
+    assert_eq!(rt; kernel.trace().events().len(), 0);
+    Ok(())
+}
+
+/// A guess, its decision and a new epoch.
+fn one_epoch(rt: &impl Abort, player: &mut Player, number: u64) -> Result<(), Fail> {
+    let decides = if number % 3 == 0 { FAILS } else { COMMITS };
+    let table = [
+        Play::Guesses(1, number, number),
+        decides,
+        Play::Epoch(Ok((2, 0))),
+    ];
+    does_all(rt, player, &table)
+}
+
+/// What became of the guess of an epoch.
+fn told(rt: &impl Abort, player: &mut Player, number: u64) -> Result<(), Fail> {
+    let status = if number % 3 == 0 {
+        Status::Failed
+    } else {
+        Status::Committed
+    };
+    does_all(rt, player, &[Play::Became(number, Some(status))])
+}
+
+fn epochs(rt: &impl Abort, player: &mut Player, count: u64) -> Result<(), Fail> {
+    for number in 1..=count {
+        one_epoch(rt, player, number)?;
+    }
+    for number in 1..=count {
+        told(rt, player, number)?;
+    }
+    Ok(())
+}
+
+#[test]
+fn three_hundred_epochs(rt: HostRuntime) -> Result<(), Fail> {
+    let start = one_process(&[(b"fetch /01\n", 201)], 2);
+    let mut player = Player::new(rt.alloc(), start)?;
+    let done = epochs(&rt, &mut player, 300);
+    player.abandon(&rt);
+    done
+}

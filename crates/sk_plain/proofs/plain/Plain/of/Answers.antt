@@ -1,0 +1,8 @@
+-- Nothing was said.
+use Rattle.std.proofs.Common.{subst, sym}
+use Rattle.sk_plain.specs.Plain.{AllClear}
+use Rattle.sk_plain.proofs.Clear.{none_said}
+use Rattle.sk_plain.proofs.plain.Plain.of.Goals as goal
+
+pub invariant_of-result : goal.invariant_of-result
+invariant_of-result c = subst AllClear (sym c.new-texts.ensures) none_said

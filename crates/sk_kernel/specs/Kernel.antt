@@ -1,4 +1,4 @@
--- The kernel as its callers see it: its number, what it was booted with, its trace limit, and what was done. All else follows by definition.
+-- The kernel as its callers see it: its number, scripts, start, trace limit, the statuses of earlier epochs, and what was done in this one. All else follows by definition.
 use Rattle.std.specs.Prelude.{ℕ, ◌+◌, ◌-◌, ◌||◌, nat_le, nat_lt, List, [], ◌∷◌, ◌++◌, map, length, get_or, Option, Some, None, Result, Err, refl, if◌then◌else◌}
 use Rattle.std.specs.Coded.{Coded, code_by, coded×, coded_ℕ, coded_list}
 use Rattle.std.specs.List.{fold}

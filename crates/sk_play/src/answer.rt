@@ -45,5 +45,9 @@ impl fmt::Display for Answer {
 pub fn write_answer<W: Write>(number: usize, answer: &Answer, out: &mut W) -> io::Result<()>
     ensures { OnOk result (Appends (W.contents out.old) (W.contents out.new) (answer_line number answer.now)) }
 {
-    writeln!(out, "{number} {answer}")
+    match answer {
+        Answer::Stepped => write!(out, "{number} stepped\n"),
+        Answer::Done => write!(out, "{number} done\n"),
+        _ => writeln!(out, "{number} {answer}"),
+    }
 }

@@ -1,5 +1,5 @@
 //! What the lines of a section of steps say.
-ghost use Rattle.std.specs.Prelude.{◌≡◌, []};
+ghost use Rattle.std.specs.Prelude.{◌≡◌, [], ◌∷◌, ◌++◌, Ok};
 ghost use Rattle.sk_words.specs.Reading.{Leaves};
 ghost use Rattle.sk_words.specs.Tables.{with_said};
 ghost use Rattle.sk_scenario.specs.Calls.{call};
@@ -52,45 +52,39 @@ impl Calls {
         &self.steps
     }
 
-    /// Adds what a line says whose first word these bytes are.
-    fn add_in(&mut self, word: &[u8], words: &Words) -> Result<(), FaultKind>
-        ensures { Leaves result (with_said self.old (call word.now words.now)) self.old self.new }
+    /// Adds a call.
+    fn push(&mut self, call: Call) -> Result<(), FaultKind>
+        ensures { Leaves result (Ok (self.old ++ call ∷ [])) self.old self.new }
     {
-        match str::from_utf8(word) {
-            Ok(word) => self.add(word, words),
-            Err(_) => Err(FaultKind::Word),
-        }
+        self.steps.reserve(1)?;
+        self.steps.push_reserved(call);
+        Ok(())
     }
 
     /// Adds what a line says whose first word this is.
     #[tactic(auto, unfolding(crate::specs::Calls::call))]
-    fn add(&mut self, word: &str, words: &Words) -> Result<(), FaultKind>
+    fn add(&mut self, word: &[u8], words: &Words) -> Result<(), FaultKind>
         ensures { Leaves result (with_said self.old (call word.now words.now)) self.old self.new }
     {
         match word {
-            "step" => {
+            [b's', b't', b'e', b'p'] => {
                 let (pid, input) = kept_step(*self.steps.allocator(), words)?;
-                self.steps.reserve(1)?;
-                self.steps.push_reserved(Call::Step(pid, input));
+                self.push(Call::Step(pid, input))
             }
-            "guess" => {
+            [b'g', b'u', b'e', b's', b's'] => {
                 let (pid, input) = kept_step(*self.steps.allocator(), words)?;
-                self.steps.reserve(1)?;
-                self.steps.push_reserved(Call::Guess(pid, input));
+                self.push(Call::Guess(pid, input))
             }
-            "commit" => {
+            [b'c', b'o', b'm', b'm', b'i', b't'] => {
                 let id = one(words)?;
-                self.steps.reserve(1)?;
-                self.steps.push_reserved(Call::Commit(id));
+                self.push(Call::Commit(id))
             }
-            "fail" => {
+            [b'f', b'a', b'i', b'l'] => {
                 let id = one(words)?;
-                self.steps.reserve(1)?;
-                self.steps.push_reserved(Call::Fail(id));
+                self.push(Call::Fail(id))
             }
-            _ => return Err(FaultKind::Word),
+            _ => Err(FaultKind::Word),
         }
-        Ok(())
     }
 }
 
@@ -102,7 +96,7 @@ impl Reader for Calls {
     /// Adds what a line says.
     fn line(&mut self, line: &[u8]) -> Result<(), FaultKind> {
         match first_word(line) {
-            Some((first, words)) => self.add_in(first, &words),
+            Some((first, words)) => self.add(first, &words),
             None => Ok(()),
         }
     }

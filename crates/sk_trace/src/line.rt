@@ -28,23 +28,18 @@ pub fn step(words: &Words) -> Result<(Pid, Input), FaultKind>
 }
 
 /// The input that all these words say, where it has no content.
-#[tactic(auto, unfolding(sk_script::specs::StepInput::input))]
+#[tactic(auto, unfolding(sk_script::specs::StepInput::input, sk_words::specs::Operands::none_of))]
 fn bare_input(words: &Words) -> Option<KeptInput>
     ensures { IfSome result (λ kept. input words.now ≡ Ok kept) }
 {
     let mut words = words.again();
-    let Ok(word) = str::from_utf8(words.next()?) else {
+    let word = words.next()?;
+    if words.next().is_some() {
         return None;
-    };
+    }
     match word {
-        "none" => {
-            none(&words).ok()?;
-            Some(KeptInput::none())
-        }
-        "good" => {
-            none(&words).ok()?;
-            Some(KeptInput::good())
-        }
+        [b'n', b'o', b'n', b'e'] => Some(KeptInput::none()),
+        [b'g', b'o', b'o', b'd'] => Some(KeptInput::good()),
         _ => None,
     }
 }
@@ -57,10 +52,18 @@ pub fn kept_step(alloc: Global, words: &Words) -> Result<(Pid, KeptInput), Fault
 {
     let mut rest = closed(words)?;
     let pid = next_word(&mut rest)?;
-    if let Some(input) = bare_input(&rest) {
-        let pid = Operand::read(pid)?;
-        return Ok((pid, input));
+    match bare_input(&rest) {
+        Some(input) => Ok((Operand::read(pid)?, input)),
+        None => kept_content(alloc, words),
     }
+}
+
+/// The same of any input, apart since what it reads is large.
+#[inline(never)]
+fn kept_content(alloc: Global, words: &Words) -> Result<(Pid, KeptInput), FaultKind>
+    ensures read { IsRead result (step words.now) }
+    ensures content { IfErr result (λ e. WantsContent e (step words.now)) }
+{
     let (pid, input) = step(words)?;
     let input = KeptInput::keep(alloc, InputRef::of(&input))?;
     Ok((pid, input))

@@ -1,6 +1,6 @@
 -- How the words of a line come apart at its front, for the loop that looks for a word's end: from the definition
 -- of words, byte by byte.
-use Rattle.std.proofs.Common.{◌≡◌, ◌≢◌, ℕ, ◌+◌, ◌<◌, List, [], ◌∷◌, ◌++◌, true, length, take, drop, get_or, refl, ap, ◌∙◌, add-one, drop-cons}
+use Rattle.std.proofs.Common.{◌≡◌, ◌≢◌, ℕ, ◌+◌, ◌<◌, List, [], ◌∷◌, ◌++◌, true, false, length, take, drop, get_or, refl, ap, ◌∙◌, add-one, drop-cons}
 use Rattle.std.proofs.lemmas.Grind.{take_at_read}
 use Rattle.std.specs.List.{onto_first}
 use Rattle.sk_words.specs.declared.line.Place.{Place}
@@ -30,6 +30,18 @@ goes_on from place next line i lt h step =
     let more = onto_more (take i line) (get_or line i 0) (words_from next (drop (i + 1) line)) in
     let parts : take (i + 1) line ≡ take i line ++ get_or line i 0 ∷ [] = (take_at_read line i 0 lt).1 in
     rw (parts, more, ← step (drop (i + 1) line), ← cut) h
+
+bare_goes_on : (b : ℕ) (bs : List ℕ) → is_blank b ≡ false → words_from Word (b ∷ bs) ≡ onto_first b (words_from Word bs)
+bare_goes_on b bs h = rw h refl
+
+pub goes_on_bare : (line : List ℕ) (i : ℕ) → i < length line → Within Word line i Word → is_blank (get_or line i 0) ≡ false → Within Word line (i + 1) Word
+goes_on_bare line i lt h plain = goes_on Word Word Word line i lt h (λ bs. bare_goes_on (get_or line i 0) bs plain)
+
+no_word_is_between : Word ≡ Between → ⊥
+no_word_is_between e = absurd cc
+
+pub word_is_inside : Word ≢ Between
+word_is_inside = no_word_is_between
 
 blank_ends : (b : ℕ) (bs : List ℕ) → is_blank b ≡ true → words_from Word (b ∷ bs) ≡ [] ∷ words (b ∷ bs)
 blank_ends b bs h = rw h refl

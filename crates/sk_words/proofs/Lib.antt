@@ -1,4 +1,5 @@
 pub mod Cut
+pub mod Quoteless
 pub mod Parts
 pub mod Numbers
 pub mod Bytes

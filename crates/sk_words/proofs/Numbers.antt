@@ -83,3 +83,12 @@ parsed w r h plus =
 pub no_plus : (w : List ℕ) → starts_with eqb w (43 ∷ []) ≡ false → get_or w 0 0 ≢ 43
 no_plus [] h e = absurd (omega arith)
 no_plus (b ∷ bs) h e = let said : true ≡ false = rw e at h in absurd cc
+
+-- digits are no minus, and say their number
+pub few : (w : List ℕ) (n : ℕ) → 0 < length w → all_ascii_digits w ≡ true → digits_value 10 w ≡ n → n < 2 ^ 63 → integer w ≡ Ok (pos n)
+few [] n some h value small = absurd (omega (arith, some))
+few (d ∷ ds) n some h value small =
+    elim (eqb d 45) as (λ b. eqb d 45 ≡ b → integer (d ∷ ds) ≡ Ok (pos n)) [
+      | true ↦ λ e. let bad : false ≡ true = rw (eqb-true d 45 e) at h in absurd cc
+      | false ↦ λ e. rw (e, number_is (d ∷ ds) h some, value, lt-ltb n (2 ^ 63) small) refl
+    ] refl

@@ -37,6 +37,11 @@ is_open_from Escape (b ∷ bs) = is_open_from Literal bs
 abbrev pub is_open : List ℕ → Bool
 is_open word = is_open_from Between word
 
+-- whether a quote is among some bytes
+abbrev pub has_quote : List ℕ → Bool
+has_quote [] = false
+has_quote (b ∷ bs) = b == 34 || has_quote bs
+
 -- the first word of a line and the words behind it; none where the line has no word, or its first begins with #
 abbrev pub first_of : List (List ℕ) → Option (List ℕ × List (List ℕ))
 first_of [] = None

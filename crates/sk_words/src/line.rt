@@ -1,7 +1,7 @@
 //! The words of a line.
 ghost use Rattle.std.specs.Prelude.{◌≡◌, List, [], ◌∷◌, ◌≢◌, ℕ, length, drop, ◌≤◌, ◌<◌, MatchOption, Some, None, take, slice_index, false};
 ghost use Rattle.std.specs.List.{onto_first, list_any};
-ghost use Rattle.sk_words.specs.Words.{words, words_from, is_open, is_open_from, is_blank, first_of};
+ghost use Rattle.sk_words.specs.Words.{words, words_from, is_open, is_open_from, is_blank, has_quote, first_of};
 ghost use Rattle.sk_words.specs.declared.line.Place.TheVariants.{Between, Word, Literal, Escape};
 
 use std::marker::Model;
@@ -71,6 +71,19 @@ fn behind(place: Place, byte: u8) -> Place
     }
 }
 
+/// The number of bytes up to the first blank.
+fn bare_len(line: &[u8]) -> usize
+    ensures within { result ≤ length line.now }
+    ensures cut { words_from Word line.now ≡ take result line.now ∷ words (drop result line.now) }
+{
+    for (i, byte) in line.iter().enumerate() {
+        if is_blank(*byte) {
+            return i;
+        }
+    }
+    line.len()
+}
+
 /// The number of bytes up to the end of the word that goes on here.
 fn word_len(line: &[u8], from: Place) -> usize
     requires { from ≢ Between }
@@ -111,12 +124,11 @@ impl<'a> Words<'a> {
         let [first, more @ ..] = rest else {
             return None;
         };
-        let from = if *first == b'"' {
-            Place::Literal
+        let len = if *first == b'"' {
+            1 + word_len(more, Place::Literal)
         } else {
-            Place::Word
+            1 + bare_len(more)
         };
-        let len = 1 + word_len(more, from);
         let (word, rest) = rest.split_at(len);
         self.rest = rest;
         Some(word)
@@ -126,6 +138,9 @@ impl<'a> Words<'a> {
     pub fn has_open_literal(&self) -> bool
         ensures { result ≡ list_any is_open self.now }
     {
+        if !has_quote(self.rest) {
+            return false;
+        }
         let mut words = Words { rest: self.rest };
         while let Some(word) = words.next() {
             if is_open(word) {
@@ -146,6 +161,20 @@ pub fn first_word(line: &[u8]) -> Option<(&[u8], Words<'_>)>
         return None;
     }
     Some((first, words))
+}
+
+/// Whether a quote is among these bytes.
+fn has_quote(bytes: &[u8]) -> bool
+    ensures { result ≡ has_quote bytes.now }
+{
+    let mut rest = bytes;
+    while let [byte, tail @ ..] = rest {
+        if *byte == b'"' {
+            return true;
+        }
+        rest = tail;
+    }
+    false
 }
 
 fn is_open(word: &[u8]) -> bool

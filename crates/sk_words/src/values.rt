@@ -1,5 +1,5 @@
 //! Values that one word says.
-ghost use Rattle.std.specs.Prelude.{◌≡◌, ◌≤◌};
+ghost use Rattle.std.specs.Prelude.{◌≡◌, ◌≤◌, ◌<◌, ◌^◌, pos, Ok, IfSome};
 ghost use Rattle.std.specs.List.{list_all};
 ghost use Rattle.sk_words.specs.Operands.{integer, is_label_byte, index, child, SaysSome};
 
@@ -18,7 +18,37 @@ impl Operand for i64 {
     }
 }
 
+/// The number that a word of few digits says, which is found without `parse`; `None` for every other word.
+fn few_digits(word: &[u8]) -> Option<u64>
+    ensures { IfSome result (λ n. (integer word.now ≡ Ok (pos n)) × (n < 2 ^ 63)) }
+{
+    let [_, ..] = word else {
+        return None;
+    };
+    let mut number = 0;
+    let mut rest = word;
+    while let [digit, tail @ ..] = rest {
+        if number > 99_999_999 || !digit.is_ascii_digit() {
+            return None;
+        }
+        number = number * 10 + u64::from(*digit - b'0');
+        rest = tail;
+    }
+    Some(number)
+}
+
 fn integer(word: &[u8]) -> Option<i64>
+    ensures { SaysSome result (integer word.now) }
+{
+    match few_digits(word) {
+        Some(number) => Some(number as i64),
+        None => parsed_integer(word),
+    }
+}
+
+/// What `parse` reads.
+#[inline(never)]
+fn parsed_integer(word: &[u8]) -> Option<i64>
     ensures { SaysSome result (integer word.now) }
 {
     let Ok(text) = str::from_utf8(word) else {

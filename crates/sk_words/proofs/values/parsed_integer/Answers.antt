@@ -1,7 +1,7 @@
 -- A word is a number just where std reads it as one, a plus sign aside.
 use Rattle.std.proofs.Common.{rules, ◌≡◌, ◌≢◌, get_or, sym, ◌∙◌}
 use Rattle.sk_words.proofs.Numbers.{no_text, parsed, no_plus}
-use Rattle.sk_words.proofs.values.integer.Goals as goal
+use Rattle.sk_words.proofs.values.parsed_integer.Goals as goal
 
 pub returns-in_default : goal.returns-in_default
 returns-in_default c = no_text c.args.word.now c.in_default.ensures.cases.0

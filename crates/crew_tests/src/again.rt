@@ -88,13 +88,13 @@ fn hand_in(desk: &mut Desk, pid: Pid, count: u32) -> Result<(), HandIn> {
 /// Makes a call, and tells the answer without what came back. Of a stale lease nothing is known but
 /// that nothing changed.
 fn make(desk: &mut Desk, entry: &Entry) -> Answered {
-    match entry.call {
+    match &entry.call {
         Call::HandIn { .. } if entry.answer == Answered::HandedIn(Err(HandIn::Stale)) => {
             entry.answer
         }
-        Call::HandIn { process, count } => Answered::HandedIn(hand_in(desk, process, count)),
-        Call::Turn(pid) => Answered::Turned(desk.turn(pid)),
-        Call::Reply(reply) => match desk.give_reply(reply) {
+        Call::HandIn { process, count } => Answered::HandedIn(hand_in(desk, *process, *count)),
+        Call::Turn(pid) => Answered::Turned(desk.turn(*pid)),
+        Call::Reply(reply) => match desk.give_reply(reply.reply()) {
             Ok(given) => Answered::Replied(Ok(given)),
             Err((_, why)) => Answered::Replied(Err(why)),
         },
@@ -106,8 +106,8 @@ fn make(desk: &mut Desk, entry: &Entry) -> Answered {
 pub fn run_again(desk: &mut Desk, peer: &mut Peer, entries: &[Entry]) -> Result<(), Finding> {
     for (place, entry) in entries.iter().enumerate() {
         take_until(desk, peer, entry.taken)?;
-        if let Call::Reply(reply) = entry.call {
-            if !peer.gives(&reply) {
+        if let Call::Reply(reply) = &entry.call {
+            if !peer.gives(&reply.reply()) {
                 return Err(Finding::Reply(place));
             }
         }

@@ -58,9 +58,9 @@ fn judge_turns(own: &[Pid], plan: Plan, worker: u8, entries: &[Entry]) -> Result
         if entry.worker != worker {
             continue;
         }
-        let (pid, is_turn) = match entry.call {
-            Call::Turn(pid) => (pid, true),
-            Call::HandIn { process, .. } => (process, false),
+        let (pid, is_turn) = match &entry.call {
+            Call::Turn(pid) => (*pid, true),
+            Call::HandIn { process, .. } => (*process, false),
             Call::Reply(_) => continue,
         };
         if progress.has_stopped || own.get(progress.taken) != Some(&pid) {
@@ -106,10 +106,10 @@ pub fn judge_calls(
     requires { 1 ≤ plan.workers }
 {
     for (place, entry) in entries.iter().enumerate() {
-        let is_own = match entry.call {
+        let is_own = match &entry.call {
             Call::Turn(_) => entry.worker < plan.workers,
             Call::HandIn { count, .. } => {
-                entry.worker < plan.workers && 0 < count && count <= plan.ahead
+                entry.worker < plan.workers && 0 < *count && *count <= plan.ahead
             }
             Call::Reply(_) => entry.worker == 0,
         };

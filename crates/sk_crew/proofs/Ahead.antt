@@ -60,15 +60,21 @@ fresh d pid l scripts (Some (stored.Value v)) lends = absurd lends
 fresh d pid l scripts (Some (stored.Process p)) lends =
     unless_ended d pid l p (script_at scripts p.script) p.ended lends
 
--- what a desk with a legal history lent has no instruction done
-pub lent_fresh : (r : Option (Result LeaseView Refusal)) (pid : Option ℕ) (l : LeaseView) → IsLentAny r pid → r ≡ Some (Ok l) → l.count ≡ 0
-lent_fresh None pid l lent is = absurd (cc)
-lent_fresh (Some r) None l lent is = absurd lent.2
-lent_fresh (Some r) (Some pid) l lent is =
-    let d = lent.0.desk in
-    let ok : r ≡ Ok l = cc in
-    let lends = subst (λ (x : Result LeaseView Refusal). Lends x (desk_lease d pid)) ok lent.2 in
+-- what a desk lends has no instruction done
+pub lease_fresh : (r : Result LeaseView Refusal) (pid : ℕ) (l : LeaseView) → (d : DeskView) × Lends r (desk_lease d pid) → r ≡ Ok l → l.count ≡ 0
+lease_fresh r pid l lent ok =
+    let d = lent.0 in
+    let lends = subst (λ (x : Result LeaseView Refusal). Lends x (desk_lease d pid)) ok lent.1 in
     fresh d pid l d.kernel.scripts (map.get (state_at d.kernel) (Proc pid)) lends
+
+pub lent_fresh : (r : Option (Result (Unit {0}) Refusal)) (place : Option LeaseView) (pid : Option ℕ) → IsLentAny r place pid → IfSome place (λ l. l.count ≡ 0)
+lent_fresh r None pid lent = tt
+lent_fresh (Some (Ok u)) (Some l) (Some pid) lent =
+    let d = lent.0.desk in
+    fresh d pid l d.kernel.scripts (map.get (state_at d.kernel) (Proc pid)) lent.2
+lent_fresh (Some (Ok u)) (Some l) None lent = absurd lent.2
+lent_fresh (Some (Err why)) (Some l) pid lent = absurd lent.2
+lent_fresh None (Some l) pid lent = absurd lent.2
 
 -- one that ran up to n has at most n
 pub ran_within : (n : ℕ) (l l' : LeaseView) → l.count ≡ 0 → l' ≡ ran n l → l'.count ≤ n

@@ -23,6 +23,17 @@ pub(crate) struct Service<'a> {
     pub(crate) kept: Option<Unfinished>,
 }
 
+/// How long the server rests between two looks for a request.
+const RESTS: u32 = 600;
+
+/// Rests where there is nothing to answer, and lets others run.
+fn rest(stop: &AtomicBool) {
+    for _ in 0..RESTS {
+        let _ = stop.load(Ordering::Relaxed);
+    }
+    thread::yield_now();
+}
+
 /// The reply to a request, or the request where it is not answered.
 fn answer(server: &mut Server, request: Request) -> Unfinished {
     match server.answer(request) {
@@ -41,7 +52,7 @@ impl<'a> Service<'a> {
             }
             service = service.go_on(rt);
             if service.kept.is_none() {
-                thread::yield_now();
+                rest(stop);
             }
         }
         service

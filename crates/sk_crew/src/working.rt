@@ -1,7 +1,9 @@
 //! The threads of a crew.
 ghost use Rattle.std.specs.Prelude.{◌≡◌, ◌<◌, ◌≤◌, IfSome, vec_len, vec_capacity, slice_get, option_and_then};
 ghost use Rattle.std.specs.Thread.{IsSync};
-ghost use Rattle.sk_workers.specs.History.{IsLentAny};
+ghost use Rattle.sk_plain.specs.Leased.{Lends};
+ghost use Rattle.sk_client.specs.Desk.{DeskView};
+ghost use Rattle.sk_client.specs.Leasing.{desk_lease};
 ghost use Rattle.sk_workers.specs.Closing.{numbers};
 ghost use Rattle.sk_crew.specs.Rounds.{due, after, is_ended};
 ghost use Rattle.sk_crew.specs.Ahead.{TakesTurn};
@@ -38,15 +40,12 @@ fn following(rounds: &Rounds, processes: &[Pid], ahead: u32) -> Option<Pid> {
 }
 
 /// What was lent; `None` after a refusal.
-#[tactic(auto, using(crate::proofs::Ahead::lent_fresh))]
-fn kept(lent: Option<Result<Lease, Refusal>>, pid: Option<Pid>) -> Option<Lease>
-    requires { IsLentAny lent pid }
+#[tactic(auto, using(crate::proofs::Ahead::lease_fresh))]
+fn kept(lent: Result<Lease, Refusal>, pid: Pid) -> Option<Lease>
+    requires { (desk : DeskView) × Lends lent (desk_lease desk pid) }
     ensures { IfSome result (λ lease. lease.count ≡ 0) }
 {
-    match lent {
-        Some(Ok(lease)) => Some(lease),
-        Some(Err(_)) | None => None,
-    }
+    lent.ok()
 }
 
 /// Lends a worker the process whose turn is first, where it runs ahead.
@@ -67,24 +66,22 @@ fn lease<L: Ledger, R: Wait>(
         return (worker, None);
     }
     let (worker, lent) = shared.lease(rt, worker, pid);
-    (worker, kept(Some(lent), Some(pid)))
+    (worker, kept(lent, pid))
 }
 
-/// Runs up to so many private instructions on a lease, outside the lock. One that ran none is given up.
+/// Runs up to so many private instructions on the lease in its place, outside the lock. One that ran none is given up.
 #[tactic(auto, using(crate::proofs::Ahead::ran_within))]
-fn run_ahead(lease: Option<Lease>, ahead: u32) -> Option<Lease>
-    requires { IfSome lease (λ lease. lease.count ≡ 0) }
-    ensures { IfSome result (λ lease. (0 < lease.count) × (lease.count ≤ ahead)) }
+fn run_ahead(place: &mut Option<Lease>, ahead: u32)
+    requires { IfSome place.old (λ lease. lease.count ≡ 0) }
+    ensures { IfSome place.new (λ lease. (0 < lease.count) × (lease.count ≤ ahead)) }
 {
-    let Some(mut lease) = lease else {
-        return None;
+    let Some(lease) = place else {
+        return;
     };
     lease.run(ahead);
     if lease.count() == 0 {
-        lease.give_up();
-        return None;
+        give_up(place.take());
     }
-    Some(lease)
 }
 
 /// Gives up a lease, if there is one.
@@ -94,40 +91,36 @@ fn give_up(lease: Option<Lease>) {
     }
 }
 
-/// A worker hands in what it ran ahead, takes a turn of the process, and is lent the next, with the lock held once; its
-/// rounds go on by the answer. After any refusal the instructions are left to the process's turns.
+/// A worker hands in what it ran ahead, takes a turn of the process, and is lent the next into the same place, with the lock
+/// held once; its rounds go on by the answer. After any refusal the instructions are left to the process's turns.
 #[tactic(auto, using(crate::proofs::Ahead::told_ahead, crate::proofs::Ahead::lent_fresh))]
 fn take_turn<L: Ledger, R: Wait, G: Gate>(
     rt: &R,
     shared: &Shared<L>,
     worker: Worker<L>,
-    lease: Option<Lease>,
+    place: &mut Option<Lease>,
     pid: Pid,
     next: Option<Pid>,
     rounds: &mut Rounds,
     gate: &G,
     ahead: u32,
-) -> (Worker<L>, Result<Turn, Refusal>, Option<Lease>)
-    requires { IfSome lease (λ lease. (0 < lease.count) × (lease.count ≤ ahead)) }
+) -> (Worker<L>, Result<Turn, Refusal>)
+    requires { IfSome place.old (λ lease. (0 < lease.count) × (lease.count ≤ ahead)) }
     ensures told { TakesTurn ahead result.1 worker pid result.0 }
     ensures rounds { rounds.new ≡ after (is_ended result.1) rounds.old }
-    ensures lent { IfSome result.2 (λ lease. lease.count ≡ 0) }
+    ensures lent { IfSome place.new (λ lease. lease.count ≡ 0) }
 {
-    let (worker, leased) = shared.turn_with_leases(rt, worker, lease, pid, next, gate);
+    let (worker, leased) = shared.turn_with_leases(rt, worker, place, pid, next, gate);
     let Leased {
         handed: _handed,
         answer,
-        lent,
+        lent: _lent,
     } = leased;
-    let lease = match lent {
-        Some(Ok(lease)) => Some(lease),
-        Some(Err(_)) | None => None,
-    };
     rounds.take(is_ended(&answer));
     if answer.is_err() {
         thread::yield_now();
     }
-    (worker, answer, lease)
+    (worker, answer)
 }
 
 /// A worker runs ahead on the lease that it has, and takes the turn that is due.
@@ -135,21 +128,21 @@ fn go_on<L: Ledger, R: Wait, G: Gate>(
     rt: &R,
     shared: &Shared<L>,
     worker: Worker<L>,
-    lease: Option<Lease>,
+    place: &mut Option<Lease>,
     pid: Pid,
     processes: &[Pid],
     rounds: &mut Rounds,
     gate: &G,
     ahead: u32,
-) -> (Worker<L>, Result<Turn, Refusal>, Option<Lease>)
-    requires { IfSome lease (λ lease. lease.count ≡ 0) }
+) -> (Worker<L>, Result<Turn, Refusal>)
+    requires { IfSome place.old (λ lease. lease.count ≡ 0) }
     ensures told { TakesTurn ahead result.1 worker pid result.0 }
     ensures rounds { rounds.new ≡ after (is_ended result.1) rounds.old }
-    ensures lent { IfSome result.2 (λ lease. lease.count ≡ 0) }
+    ensures lent { IfSome place.new (λ lease. lease.count ≡ 0) }
 {
     let next = following(rounds, processes, ahead);
-    let lease = run_ahead(lease, ahead);
-    take_turn(rt, shared, worker, lease, pid, next, rounds, gate, ahead)
+    run_ahead(place, ahead);
+    take_turn(rt, shared, worker, place, pid, next, rounds, gate, ahead)
 }
 
 /// Makes a worker's rounds.
@@ -171,11 +164,11 @@ fn work<L: Ledger, R: Wait, G: Gate>(
         let Some(pid) = due(&rounds, processes) else {
             break;
         };
-        let (back, _, next) = go_on(
+        let (back, _) = go_on(
             rt,
             shared,
             worker,
-            ahead,
+            &mut ahead,
             pid,
             processes,
             &mut rounds,
@@ -183,7 +176,6 @@ fn work<L: Ledger, R: Wait, G: Gate>(
             plan.ahead,
         );
         worker = back;
-        ahead = next;
     }
     give_up(ahead);
     worker
@@ -212,11 +204,11 @@ fn lead<'a, L: Ledger, R: Wait, G: Gate>(
         };
         let (back, carrier) = clerk.carry(rt, shared, worker);
         clerk = back;
-        let (back, _, next) = go_on(
+        let (back, _) = go_on(
             rt,
             shared,
             carrier,
-            ahead,
+            &mut ahead,
             pid,
             processes,
             &mut rounds,
@@ -224,7 +216,6 @@ fn lead<'a, L: Ledger, R: Wait, G: Gate>(
             plan.ahead,
         );
         worker = back;
-        ahead = next;
     }
     give_up(ahead);
     (worker, clerk)

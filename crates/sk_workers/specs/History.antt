@@ -111,11 +111,12 @@ TakesAny None b w None b' w' = (b' ≡ b) × (w' ≡ w)
 TakesAny (Some r) b w (Some l) b' w' = (done : Result (Unit {0}) (LeaseView × HandIn)) × (without_lease done ≡ r) × HandInAdds done b w l b' w'
 TakesAny r b w l b' w' = ⊥
 
--- a process is lent, where one is asked for
-abbrev pub LendsAny : Option (Result LeaseView Refusal) → DeskView → Option ℕ → Type 0
-LendsAny None d None = Unit {0}
-LendsAny (Some r) d (Some pid) = Lends r (desk_lease d pid)
-LendsAny r d pid = ⊥
+-- a process is lent into its place, where one is asked for; else the place stays empty
+abbrev pub LendsAny : Option (Result (Unit {0}) Refusal) → Option LeaseView → DeskView → Option ℕ → Type 0
+LendsAny None None d None = Unit {0}
+LendsAny (Some (Ok u)) (Some l) d (Some pid) = Lends (Ok l) (desk_lease d pid)
+LendsAny (Some (Err why)) None d (Some pid) = Lends (Err why) (desk_lease d pid)
+LendsAny r place d pid = ⊥
 
 -- want of memory is no answer
 abbrev pub IsAnswer : Answered → Type 0
@@ -143,8 +144,8 @@ AnyTold (Some r) w (Some l) w' = HandInTold r w l w'
 AnyTold r w l w' = ⊥
 
 -- a process is lent, where one is asked for, as a desk with a legal history lends it
-abbrev pub IsLentAny : Option (Result LeaseView Refusal) → Option ℕ → Type 0
-IsLentAny r pid = (book : BookView) × IsLegal book.history book.desk × LendsAny r book.desk pid
+abbrev pub IsLentAny : Option (Result (Unit {0}) Refusal) → Option LeaseView → Option ℕ → Type 0
+IsLentAny r place pid = (book : BookView) × IsLegal book.history book.desk × LendsAny r place book.desk pid
 
 -- ---- workers
 

@@ -8,6 +8,7 @@ ghost use Rattle.sk_workers.specs.History.{Step, Adds, TurnAdds, HandInAdds, Tak
 ghost use Rattle.sk_workers.specs.Views.{BookView, WorkerView};
 
 use crate::entry::{Answered, Call, Entry, Receipt};
+use crate::kept_reply::KeptReply;
 use crate::worker::Worker;
 use sk_client::{Desk, Given, ReplyRefusal, Turn};
 use sk_ids::Pid;
@@ -24,8 +25,8 @@ pub struct Leased {
     /// The answer to the hand-in before the turn, where there was one.
     pub handed: Option<Result<(), HandIn>>,
     pub answer: Result<Turn, Refusal>,
-    /// What was lent after it, where it was asked for.
-    pub lent: Option<Result<Lease, Refusal>>,
+    /// Whether a process was lent after it, where that was asked for.
+    pub lent: Option<Result<(), Refusal>>,
 }
 
 /// A desk, the history of the calls that workers made of it, and a ledger's count of them. It can't be dropped:
@@ -112,7 +113,8 @@ impl<L: Ledger> Book<L> {
             &mut self.tally,
             &mut worker.receipts,
             &mut worker.share,
-            &entry,
+            entry,
+            Call::Turn(pid),
         );
         (worker, answer)
     }
@@ -131,8 +133,10 @@ impl<L: Ledger> Book<L> {
         if make_room(&mut self.history, &mut worker.receipts).is_err() {
             return (worker, Err((reply, ReplyRefusal::Memory)));
         }
+        let Ok((call, again)) = calls_of(*self.history.allocator(), &reply) else {
+            return (worker, Err((reply, ReplyRefusal::Memory)));
+        };
         let taken = self.desk.requests_taken();
-        let call = call_of(&reply);
         let given = self.desk.give_reply(reply);
         let answer = without_reply(&given);
         if wants_memory(&answer) {
@@ -149,7 +153,8 @@ impl<L: Ledger> Book<L> {
             &mut self.tally,
             &mut worker.receipts,
             &mut worker.share,
-            &entry,
+            entry,
+            again,
         );
         (worker, given)
     }
@@ -179,7 +184,7 @@ impl<L: Ledger> Book<L> {
             return (worker, Err((lease, HandIn::Memory)));
         }
         let taken = self.desk.requests_taken();
-        let call = call_with(&lease);
+        let (call, again) = calls_with(&lease);
         let done = self.desk.hand_in(lease);
         let answer = without_lease(&done);
         if is_short(&answer) {
@@ -196,54 +201,60 @@ impl<L: Ledger> Book<L> {
             &mut self.tally,
             &mut worker.receipts,
             &mut worker.share,
-            &entry,
+            entry,
+            again,
         );
         (worker, done)
     }
 
-    /// Takes in a lease, if there is one. A refused one is given up.
+    /// Takes in a lease out of its place, if there is one. A refused one is given up.
     fn take_any(
         &mut self,
         worker: Worker<L>,
-        lease: Option<Lease>,
+        lease: &mut Option<Lease>,
     ) -> (Worker<L>, Option<Result<(), HandIn>>)
-        ensures { TakesAny result.1 self.old worker lease self.new result.0 }
+        ensures taken { TakesAny result.1 self.old worker lease.old self.new result.0 }
+        ensures none { lease.new ≡ None }
     {
-        let Some(lease) = lease else {
+        let Some(lease) = lease.take() else {
             return (worker, None);
         };
         let (worker, done) = self.hand_in(worker, lease);
         (worker, Some(given_up(done)))
     }
 
-    /// Lends a process, if one is asked for.
-    fn lend_any(&self, pid: Option<Pid>) -> Option<Result<Lease, Refusal>>
-        ensures lent { LendsAny result self.now.desk pid }
+    /// Lends a process into an empty place, if one is asked for.
+    fn lend_any(&self, pid: Option<Pid>, lease: &mut Option<Lease>) -> Option<Result<(), Refusal>>
+        requires none { lease.old ≡ None }
+        ensures lent { LendsAny result lease.new self.now.desk pid }
         ensures legal { IsLegal self.now.history self.now.desk }
     {
         let desk = &self.desk;
-        match pid {
-            Some(pid) => Some(desk.lease(pid)),
-            None => None,
+        match desk.lease(pid?) {
+            Ok(lent) => {
+                put(lease, lent);
+                Some(Ok(()))
+            }
+            Err(why) => Some(Err(why)),
         }
     }
 
-    /// `hand_in` of a lease, if there is one, which is given up where it is refused; then the `turn` of a process; then the
-    /// `lease` of the next, if there is one.
+    /// `hand_in` of the lease in its place, if there is one, which is given up where it is refused; then the `turn` of a
+    /// process; then the `lease` of the next into the same place, if there is one.
     pub fn turn_with_leases(
         &mut self,
         worker: Worker<L>,
-        lease: Option<Lease>,
+        lease: &mut Option<Lease>,
         pid: Pid,
         next: Option<Pid>,
     ) -> (Worker<L>, Leased)
-        ensures calls { (b : BookView) × (v : WorkerView) × TakesAny result.1.handed self.old worker lease b v × TurnAdds result.1.answer b v pid self.new result.0 }
-        ensures lent { LendsAny result.1.lent self.new.desk next }
+        ensures calls { (b : BookView) × (v : WorkerView) × TakesAny result.1.handed self.old worker lease.old b v × TurnAdds result.1.answer b v pid self.new result.0 }
+        ensures lent { LendsAny result.1.lent lease.new self.new.desk next }
         ensures legal { IsLegal self.new.history self.new.desk }
     {
         let (worker, handed) = self.take_any(worker, lease);
         let (worker, answer) = self.turn(worker, pid);
-        let lent = self.lend_any(next);
+        let lent = self.lend_any(next, lease);
         let leased = Leased {
             handed,
             answer,
@@ -297,48 +308,58 @@ fn make_room(history: &mut Vec<Entry>, receipts: &mut Vec<Receipt>) -> Result<()
     receipts.reserve(1)
 }
 
-/// Adds an entry to the history, and a receipt for it, and counts both.
+/// Adds an entry to the history, and a receipt for it with the same call, and counts both.
 fn enter<L: Ledger>(
     history: &mut Vec<Entry>,
     tally: &mut ledger::Book<L>,
     receipts: &mut Vec<Receipt>,
     share: &mut Share<L>,
-    entry: &Entry,
+    entry: Entry,
+    again: Call,
 )
+    requires call { again ≡ entry.call }
     requires history { vec_len history.old < vec_capacity history.old }
     requires receipts { vec_len receipts.old < vec_capacity receipts.old }
     requires part { 0 < share.old.parts }
-    ensures history { history.new.items ≡ history.old.items ++ entry.now ∷ [] }
-    ensures receipts { receipts.new.items ≡ receipts.old.items ++ receipt (length history.old.items) entry.now ∷ [] }
+    ensures history { history.new.items ≡ history.old.items ++ entry ∷ [] }
+    ensures receipts { receipts.new.items ≡ receipts.old.items ++ receipt (length history.old.items) entry ∷ [] }
     ensures tally { tally.new.total ≡ tally.old.total + 1 }
     ensures share { (share.new.amount ≡ share.old.amount + 1) × (share.new.parts ≡ share.old.parts) }
 {
     let place = history.len() as u64;
-    receipts.push_reserved(Receipt {
-        place,
-        entry: *entry,
-    });
-    history.push_reserved(*entry);
+    let told = Entry {
+        worker: entry.worker,
+        call: again,
+        answer: entry.answer,
+        taken: entry.taken,
+    };
+    receipts.push_reserved(Receipt { place, entry: told });
+    history.push_reserved(entry);
     tally.add(share, 1);
 }
 
-/// The call that gives a reply.
-fn call_of(reply: &Reply) -> Call
-    ensures { result ≡ Call.Reply reply.now }
+/// The call that gives a reply, for the history and for the receipt.
+fn calls_of(alloc: Global, reply: &Reply) -> Result<(Call, Call), AllocError>
+    ensures { IfOk result (λ calls. (calls.0 ≡ Call.Reply reply.now) × (calls.1 ≡ Call.Reply reply.now)) }
 {
-    Call::Reply(*reply)
+    let call = Call::Reply(KeptReply::keep(alloc, reply)?);
+    let again = Call::Reply(KeptReply::keep(alloc, reply)?);
+    Ok((call, again))
 }
 
-/// The call that hands a lease in, whose instructions were all private.
-fn call_with(lease: &Lease) -> Call
-    ensures call { result ≡ Call.HandIn lease.now.lent.pid lease.now.count }
+/// The call that hands a lease in, whose instructions were all private, for the history and for the receipt.
+fn calls_with(lease: &Lease) -> (Call, Call)
+    ensures call { result.0 ≡ Call.HandIn lease.now.lent.pid lease.now.count }
+    ensures again { result.1 ≡ Call.HandIn lease.now.lent.pid lease.now.count }
     ensures done { after_private lease.now.script lease.now.count lease.now.lent ≡ Some lease.now.now }
 {
     let _ = lease.now();
-    Call::HandIn {
-        process: lease.lent().pid,
-        count: lease.count(),
-    }
+    let process = lease.lent().pid;
+    let count = lease.count();
+    (
+        Call::HandIn { process, count },
+        Call::HandIn { process, count },
+    )
 }
 
 /// What is entered of the answer to a turn.
@@ -410,5 +431,14 @@ fn given_up(done: Result<(), (Lease, HandIn)>) -> Result<(), HandIn>
             lease.give_up();
             Err(why)
         }
+    }
+}
+
+/// Puts a lease into its place; one that was there is given up.
+fn put(place: &mut Option<Lease>, lease: Lease)
+    ensures { place.new ≡ Some lease }
+{
+    if let Some(old) = place.replace(lease) {
+        old.give_up();
     }
 }

@@ -158,8 +158,8 @@ fn agrees(history: &[Entry], receipts: &[Receipt], k: usize) -> bool
     requires { k < length receipts.now }
     ensures { IsTrue result ↔ Agrees history.now receipts.now k }
 {
-    let this = receipts[k];
-    stands(history, &this) && (k == 0 || receipts[k - 1].place < this.place)
+    let this = &receipts[k];
+    stands(history, this) && (k == 0 || receipts[k - 1].place < this.place)
 }
 
 /// Whether a receipt stands in the history.

@@ -1,20 +1,19 @@
 //! Entries of a history, and receipts for them.
 ghost use Rattle.std.specs.Prelude.{◌≡◌, ◌↔◌, IsTrue};
 
+use crate::kept_reply::KeptReply;
 use sk_client::{Given, ReplyRefusal, Turn};
 use sk_ids::Pid;
 use sk_kernel::HandIn;
-use sk_objects::Content;
 use sk_plain::Refusal;
-use sk_server::{Answer, Reply};
 use thiserror::Error;
 
 /// A call of the desk.
-#[derive(Clone, Copy, Debug, PartialEq, Eq)]
+#[derive(Debug, PartialEq, Eq, Drop)]
 pub enum Call {
     /// A turn of a process.
     Turn(Pid),
-    Reply(Reply),
+    Reply(KeptReply),
     /// A lease of this process is handed in, with so many private instructions done.
     HandIn { process: Pid, count: u32 },
 }
@@ -28,7 +27,7 @@ pub enum Answered {
 }
 
 /// A call of a worker and its answer.
-#[derive(Clone, Copy, Debug, PartialEq, Eq)]
+#[derive(Debug, PartialEq, Eq, Drop)]
 pub struct Entry {
     /// The worker's number, from 0.
     pub worker: u8,
@@ -39,7 +38,7 @@ pub struct Entry {
 }
 
 /// An entry, and its place in the history, from 0.
-#[derive(Clone, Copy, Debug, PartialEq, Eq)]
+#[derive(Debug, PartialEq, Eq, Drop)]
 pub struct Receipt {
     pub place: u64,
     pub entry: Entry,
@@ -64,7 +63,7 @@ impl Call {
     {
         match (self, other) {
             (Call::Turn(pid), Call::Turn(other)) => *pid == *other,
-            (Call::Reply(reply), Call::Reply(other)) => is_same_reply(reply, other),
+            (Call::Reply(reply), Call::Reply(other)) => reply.is_same(other),
             (
                 Call::HandIn { process, count },
                 Call::HandIn {
@@ -75,31 +74,6 @@ impl Call {
             _ => false,
         }
     }
-}
-
-/// Whether both replies are the same.
-fn is_same_reply(reply: &Reply, other: &Reply) -> bool
-    ensures { IsTrue result ↔ (reply.now ≡ other.now) }
-{
-    if reply.number != other.number {
-        return false;
-    }
-    match (&reply.answer, &other.answer) {
-        (Answer::Yes, Answer::Yes) | (Answer::Dropped, Answer::Dropped) => true,
-        (Answer::No(content), Answer::No(other)) => is_same_content(content, other),
-        (Answer::Copy(content), Answer::Copy(other)) => is_same_content(content, other),
-        _ => false,
-    }
-}
-
-/// Whether both contents are the same.
-fn is_same_content(content: &Content, other: &Content) -> bool
-    ensures { IsTrue result ↔ (content.now ≡ other.now) }
-{
-    if content.version() != other.version() {
-        return false;
-    }
-    content.bytes() == other.bytes()
 }
 
 impl Answered {

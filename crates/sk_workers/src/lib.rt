@@ -6,12 +6,14 @@
 pub mod book;
 pub mod closing;
 pub mod entry;
+pub mod kept_reply;
 pub mod shared;
 pub mod worker;
 
 pub use book::{Book, Leased};
 pub use closing::History;
 pub use entry::{Answered, Call, CloseRefusal, Entry, Receipt};
+pub use kept_reply::KeptReply;
 pub use shared::{Gate, Shared};
 pub use sk_wire::{Wire, WirePass};
 pub use worker::Worker;

@@ -20,7 +20,6 @@ use sk_plain::Refusal;
 use sk_script::Lease;
 use sk_server::{Reply, Request};
 use std::alloc::{AllocError, Global};
-use std::hint::spin_loop;
 use std::marker::Model;
 use std::sync::atomic::{AtomicBool, Ordering};
 use std::sync::ledger::{Blank, Ledger};
@@ -28,13 +27,13 @@ use std::sync::{Mutex, MutexGuard, Wait};
 use std::thread::yield_now;
 
 /// How often a thread tries to take the lock before it waits asleep, which costs far more than a call under it.
-const TRIES: u32 = 400;
+const TRIES: u32 = 200;
 
 /// After how many tries the thread lets others run first.
-const YIELDS: u32 = 100;
+const YIELDS: u32 = 50;
 
 /// How long a thread pauses between two tries.
-const PAUSES: u32 = 8;
+const PAUSES: u32 = 600;
 
 /// What a worker passes before its turn takes the lock.
 pub trait Gate {
@@ -111,19 +110,19 @@ impl<L: Ledger> Shared<L> {
         (worker, answer)
     }
 
-    /// `hand_in` of a lease, if there is one, which is given up where it is refused; then the `turn` of a process; then the
-    /// `lease` of the next, if there is one: behind the gate, and with the lock held once.
+    /// `hand_in` of the lease in its place, if there is one, which is given up where it is refused; then the `turn` of a
+    /// process; then the `lease` of the next into the same place, if there is one: behind the gate, with the lock held once.
     pub fn turn_with_leases<R: Wait, G: Gate>(
         &self,
         rt: &R,
         worker: Worker<L>,
-        lease: Option<Lease>,
+        lease: &mut Option<Lease>,
         pid: Pid,
         next: Option<Pid>,
         gate: &G,
     ) -> (Worker<L>, Leased)
-        ensures calls { (v : WorkerView) × AnyTold result.1.handed (begins_turn worker) lease v × TurnTold result.1.answer v pid result.0 }
-        ensures lent { IsLentAny result.1.lent next }
+        ensures calls { (v : WorkerView) × AnyTold result.1.handed (begins_turn worker) lease.old v × TurnTold result.1.answer v pid result.0 }
+        ensures lent { IsLentAny result.1.lent lease.new next }
     {
         let (number, turn, worker) = worker.begin_turn();
         gate.before(number, turn);
@@ -138,9 +137,21 @@ impl<L: Ledger> Shared<L> {
             if let Some(book) = self.book.try_lock() {
                 return book;
             }
-            pause(tries);
+            self.pause(tries);
         }
         self.book.lock(rt)
+    }
+
+    /// Pauses before the next try, with no look at the lock, which its holder writes; now and then the thread lets others run
+    /// first.
+    fn pause(&self, tries: u32) {
+        if tries % YIELDS == YIELDS - 1 {
+            yield_now();
+            return;
+        }
+        for _ in 0..PAUSES {
+            let _ = self.may_wait.load(Ordering::Relaxed);
+        }
     }
 
     /// Notes that a request may wait, after a turn that made one.
@@ -251,16 +262,5 @@ impl<L: Ledger> Shared<L> {
             may_wait: _,
         } = self;
         book.into_inner().reopen()
-    }
-}
-
-/// Pauses before the next try; now and then the thread lets others run first.
-fn pause(tries: u32) {
-    if tries % YIELDS == YIELDS - 1 {
-        yield_now();
-        return;
-    }
-    for _ in 0..PAUSES {
-        spin_loop();
     }
 }

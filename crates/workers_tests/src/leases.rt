@@ -200,9 +200,15 @@ fn runs<L: Ledger, R: Wait + Abort>(
     (worker, lease)
 }
 
-/// Looks at what a turn with a lease before it came to, and at the lease that came back; it is of this process, with nothing
+/// Looks at what a turn with a lease before it came to, and at the lease in its place; it is of this process, with nothing
 /// done.
-fn looks_at<R: Abort>(rt: &R, leased: Leased, answer: Result<(), HandIn>, next: Option<Pid>) {
+fn looks_at<R: Abort>(
+    rt: &R,
+    leased: Leased,
+    place: Option<Lease>,
+    answer: Result<(), HandIn>,
+    next: Option<Pid>,
+) {
     let Leased {
         handed,
         answer: turn,
@@ -210,18 +216,19 @@ fn looks_at<R: Abort>(rt: &R, leased: Leased, answer: Result<(), HandIn>, next: 
     } = leased;
     assert_eq!(rt; turn, Ok(Turn::Stepped));
     assert_eq!(rt; handed, Some(answer));
-    match (lent, next) {
-        (Some(Ok(lease)), Some(pid)) => {
-            let (lent, count) = (lease.lent().pid, lease.count());
+    match (place, next) {
+        (Some(lease), Some(pid)) => {
+            let (process, count) = (lease.lent().pid, lease.count());
             lease.give_up();
-            assert_eq!(rt; (lent, count), (pid, 0));
+            assert_eq!(rt; lent, Some(Ok(())));
+            assert_eq!(rt; (process, count), (pid, 0));
         }
-        (None, None) => {}
-        (Some(Ok(lease)), None) => {
+        (None, None) => assert!(rt; lent.is_none()),
+        (Some(lease), None) => {
             lease.give_up();
             panic!(rt; "lent unasked")
         }
-        (Some(Err(_)) | None, _) => panic!(rt; "not lent"),
+        (None, Some(_)) => panic!(rt; "not lent"),
     }
 }
 
@@ -234,19 +241,21 @@ fn turns_with_leases<L: Ledger, R: Wait + Abort>(
     kills: Pid,
 ) -> Worker<L> {
     let (worker, lease) = runs(rt, shared, worker, sets);
+    let mut place = Some(lease);
     let (worker, leased) = shared.turn_with_leases(
         rt,
         worker,
-        Some(lease),
+        &mut place,
         sets,
         Some(kills),
         &Open,
     );
-    looks_at(rt, leased, Ok(()), Some(kills));
+    looks_at(rt, leased, place, Ok(()), Some(kills));
     let (worker, lease) = runs(rt, shared, worker, kills);
     let worker = steps(rt, shared, worker, kills, 1);
-    let (worker, leased) = shared.turn_with_leases(rt, worker, Some(lease), kills, None, &Open);
-    looks_at(rt, leased, Err(HandIn::Stale), None);
+    let mut place = Some(lease);
+    let (worker, leased) = shared.turn_with_leases(rt, worker, &mut place, kills, None, &Open);
+    looks_at(rt, leased, place, Err(HandIn::Stale), None);
     worker
 }
 

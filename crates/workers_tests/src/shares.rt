@@ -318,13 +318,23 @@ fn shared_again_in_the_next_epoch(rt: HostRuntime) -> Result<(), Fail> {
     let second = Pid::boot(2).ok_or("pid")?;
     let third = Pid::boot(3).ok_or("pid")?;
     let desk = desk(alloc)?;
-    let History { entries, desk } =
-        two_workers::<Brand, _>(&rt, alloc, Blank::new(2), desk, (first, second));
+    let History { entries, desk } = two_workers::<Brand, _>(
+        &rt,
+        alloc,
+        Blank::new(2),
+        desk,
+        (first, second),
+    );
     assert_eq!(rt; entries.len(), 5);
     let desk = next_epoch(&rt, desk, 5);
     assert_eq!(rt; desk.first(), 1);
-    let History { entries, desk } =
-        waits_for_the_reply::<Brand, _>(&rt, alloc, Blank::new(1), desk, third);
+    let History { entries, desk } = waits_for_the_reply::<Brand, _>(
+        &rt,
+        alloc,
+        Blank::new(1),
+        desk,
+        third,
+    );
     assert_eq!(rt; entries.len(), 2);
     let desk = next_epoch(&rt, desk, 2);
     assert_eq!(rt; desk.first(), 2);

@@ -5,8 +5,8 @@ use Rattle.sk_script.specs.Lease.{LeaseView}
 use Rattle.sk_crew.proofs.Ahead.{ran_within}
 use Rattle.sk_crew.proofs.working.run_ahead.Goals as goal
 
-pub returns : goal.returns
-returns c =
+pub returns-else-count-eq0 : goal.returns-else-count-eq0
+returns-else-count-eq0 c =
     let fresh : c.in-Some.lease.count ≡ 0 = subst (λ o. IfSome o (λ (l : LeaseView). l.count ≡ 0)) c.in-Some.is c.requires in (
       omega (c.count.ensures, c.if-count-eq0.false, arith),
       ran_within c.args.ahead c.in-Some.lease c.run.new.self fresh c.run.ensures,

@@ -14,7 +14,7 @@ use Rattle.sk_workers.proofs.book.Book.hand_in.Goals as goal
 pub invariant_of-worker-2 : goal.invariant_of-worker-2
 invariant_of-worker-2 g c =
     let old = c.worker.inside in
-    let e = entry old.number c.call_with-call.result (HandedIn c.without_lease-answer.result) c.requests_taken-taken.result in
+    let e = entry old.number c.calls_with-call.result.0 (HandedIn c.without_lease-answer.result) c.requests_taken-taken.result in
     let r = receipt (length c.make_room.new.history.items) e in
     let more =
     received old.number old.share.amount c.enter.new.share.amount old.receipts.items c.enter.new.receipts.items r c.worker.invariant.1 c.worker.invariant.2
@@ -29,12 +29,12 @@ invariant_of-self-2 g c =
     let left = c.hand_in-done.new.self in
     let lease = c.args.lease in
     let answer = c.without_lease-answer.result in
-    let e = entry c.worker.inside.number c.call_with-call.result (HandedIn answer) c.requests_taken-taken.result in
-    let done = hands_in old.desk left lease c.hand_in-done.result c.call_with-call.ensures.done c.hand_in-done.ensures in
+    let e = entry c.worker.inside.number c.calls_with-call.result.0 (HandedIn answer) c.requests_taken-taken.result in
+    let done = hands_in old.desk left lease c.hand_in-done.result c.calls_with-call.ensures.done c.hand_in-done.ensures in
     let told = subst (λ (r : Result (Unit {0}) HandIn). HandsIn r old.desk lease.lent.pid lease.count left) (sym c.without_lease-answer.ensures) done in
     entered old.desk left old.history.items c.enter.new.history.items e old.tally.total c.enter.new.tally.total g.L.Ledger.parts
     c.self.invariant c.requests_taken-taken.ensures
-    (subst (λ (call : Call). Step old.desk call (HandedIn answer) left) (sym c.call_with-call.ensures.call)
+    (subst (λ (call : Call). Step old.desk call (HandedIn answer) left) (sym c.calls_with-call.ensures.call)
     (told, λ memory. false≢true (sym c.if-is_short.false ∙ c.is_short.ensures.1 memory)))
     (c.enter.ensures.history ∙ ap (λ (es : List Entry). es ++ e ∷ []) c.make_room.ensures.history)
     c.enter.ensures.tally

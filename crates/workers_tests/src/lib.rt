@@ -7,3 +7,5 @@ mod books;
 mod leases;
 #[cfg(test)]
 mod shares;
+#[cfg(test)]
+mod sizes;

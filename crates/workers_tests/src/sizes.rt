@@ -1,0 +1,13 @@
+//! What is kept of each call is small.
+use sk_workers::{Entry, Receipt};
+use std::mem::size_of;
+
+#[test]
+fn an_entry_is_a_few_words(rt: HostRuntime) {
+    assert!(rt; size_of::<Entry>() <= 88);
+}
+
+#[test]
+fn a_receipt_is_a_few_words(rt: HostRuntime) {
+    assert!(rt; size_of::<Receipt>() <= 96);
+}

@@ -311,6 +311,12 @@ def looking(names, count):
     return scenario(first, ["step 1 none"] * count, objects=FILES, before=["step 1 none"] * len(lead))
 
 
+def relinking(names, count):
+    """Links and takes out one name in a directory of so many others."""
+    lead = ["look r1 r7 f", "look r2 r7 d"] + [f"link r2 m{name:02} r1" for name in range(names)]
+    return scenario(lead + looping(["link r2 z r1", "unlink r2 z"], 32), ["step 1 none"] * count, objects=FILES, before=["step 1 none"] * len(lead))
+
+
 def piping(is_full, count):
     """Rounds of 512 bytes that are taken out of a pipe and put into it, or the other way round."""
     filling = ["put r1"] * (8 if is_full else 0)
@@ -333,7 +339,9 @@ def block_rows(meter):
     kept = lambda guesses: meter.peak(writing(large, BLOCK, many, guesses)) * 1024 / many
     yield "bytes that a noted write keeps, its new block aside / 600", kept(True) - kept(False) - 512, 600, 1
     look = lambda names: meter.each(lambda n: looking(names, n), 600, 1200, 1)
-    yield "look in a directory: of 64 names / of 4", look(64), look(4), 2
+    yield "look in a directory: of 64 names / of 4", look(64), look(4), 1.1
+    link = lambda names: meter.each(lambda n: relinking(names, n), 640, 1280, 1)
+    yield "link and unlink in a directory: of 60 names / of 2", link(60), link(2), 1.1
     pipe = lambda is_full: meter.each(lambda n: piping(is_full, n), 640, 1280, 1)
     yield "take and put of 512 bytes: on a full pipe / on an empty one", pipe(True), pipe(False), 1.1
 

@@ -37,7 +37,7 @@ enum hidewillow_answer {
     HIDEWILLOW_NO_TOKEN = 4,       /* the guess was never drawn, or is decided */
     HIDEWILLOW_REFUSED = 5,        /* nothing has changed; `number` is the refusal: 1 no process,
                                       2 ended, 3 mismatch, 4 needs a reply, 5 blocked, 6 too many
-                                      guesses, 7 the trace is full */
+                                      guesses, 7 the trace is full, 9 no room for another name */
     /* of any line, and of a text to be opened */
     HIDEWILLOW_FAULT = 6,          /* nothing has changed; of a line `number` is 1 word, 2 operand,
                                       3 label, 4 too long; of hidewillow_open the first faulty line,

@@ -23,7 +23,7 @@ PROGRAM = os.path.join(os.path.dirname(HERE), "crates/speculate/out/speculate")
 INK, SOFT, RULE, GREY, RED, GREEN = "#1f2328", "#6e7781", "#d8dee4", "#8c959f", "#cf222e", "#1a7f37"
 HUES = ["#2f6fde", "#8250df", "#0b8a94", "#c76a00", "#bf3989", "#57713a", "#4b5fa8", "#9a5b34"]
 FACE = "Inter, Helvetica, Arial, DejaVu Sans, sans-serif"
-HEIGHT = {"proc": 74, "obj": 52, "copy": 52, "sig": 46, "exit": 46, "term": 46, "server": 64}
+HEIGHT = {"proc": 74, "obj": 52, "link": 46, "copy": 52, "sig": 46, "exit": 46, "term": 46, "server": 64}
 LEFT, WIDEST, TIGHT = 158, 2000, 46
 # What of a lane is drawn, besides its bands, stands this far from its middle line at most.
 CLEAR = 34
@@ -193,6 +193,9 @@ class Layout:
         if kind == "server":
             files = self.run.states[0].entities.items()
             return "server", ", ".join(f"{key[7:]} {value[0]}" for key, value in files if key.startswith("remote "))
+        if kind == "link":
+            at, _, link = name.partition(" ")
+            return f"name {link}", "" if at == "0:1" else f"in {self.link_of(at) or at}"
         more = shown(first) if kind == "copy" else ""
         return {"sig": "signals of", "exit": "status of", "copy": "copy of", "term": "terminal"}[kind] + f" {name}", more
 

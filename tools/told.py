@@ -95,7 +95,7 @@ class State:
                 self.entities[f"remote {words[1]}"] = (" ".join(words[2:]), ())
             else:
                 value, tags = line.rsplit(" tags ", 1)
-                key, value = " ".join(value.split(" ")[:2]), " ".join(value.split(" ")[2:])
+                key, value = split_entity(value.split(" "))
                 self.entities[key] = (value, () if tags == "-" else tuple(map(int, tags.split(","))))
 
     def value(self, key):
@@ -150,9 +150,18 @@ class Event:
         return " ".join(self.words)
 
 
+def split_entity(words):
+    """The entity in front, of two words, or of three where it is a name of a directory, and what is behind it."""
+    own = 3 if words[0] == "link" else 2
+    return " ".join(words[:own]), " ".join(words[own:])
+
+
 def entities_in(line):
-    words = line.split(" ")[1:]
-    return [] if words == ["-"] else [" ".join(words[at:at + 2]) for at in range(0, len(words), 2)]
+    rest, entities = line.split(" ", 1)[1], []
+    while rest and rest != "-":
+        entity, rest = split_entity(rest.split(" "))
+        entities.append(entity)
+    return entities
 
 
 class Text:

@@ -11,7 +11,8 @@ use Rattle.sk_counts.specs.Counts.{AreCounts}
 use Rattle.sk_counts.specs.declared.counts.Counts.{Counts}
 use Rattle.sk_report.specs.declared.stop.Stop.{Stop}
 use Rattle.sk_report.specs.Printed.{entity_text, tags_text}
-use Rattle.sk_report.specs.Report.{stored_text, terminal_said}
+use Rattle.sk_report.specs.Directories.{gathered}
+use Rattle.sk_report.specs.Report.{terminal_said}
 use Rattle.sk_talk.specs.Played.{kernel_of, report_of}
 use Rattle.sk_talk.specs.declared.play.Play.{Play}
 use Rattle.hidewillow_c.specs.declared.codes.TheConstants.{SHOWN, ABSENT, MEMORY}
@@ -32,12 +33,12 @@ of_named text None = None
 of_named text (Some e) = text e
 
 -- what it has, as the report prints it
-abbrev pub stored_shown : Option EntityState → Option (List ℕ)
-stored_shown None = None
-stored_shown (Some s) = Some (stored_text s)
+abbrev pub stored_shown : (Entity → Option EntityState) → List Entity → Entity → Option EntityState → Option (List ℕ)
+stored_shown look es e None = None
+stored_shown look es e (Some s) = Some (gathered look es e s)
 
 abbrev pub value_text : KernelView → Entity → Option (List ℕ)
-value_text k e = stored_shown (map.get (state_at k) e)
+value_text k e = stored_shown (map.get (state_at k)) (map.keys (state_at k)) e (map.get (state_at k) e)
 
 -- the undecided guesses that it rests on
 abbrev pub tags_text_of : KernelView → Entity → Option (List ℕ)

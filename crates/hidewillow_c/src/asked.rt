@@ -11,7 +11,7 @@ use crate::told::Told;
 use sk_counts::Counts;
 use sk_ids::Entity;
 use sk_kernel::Kernel;
-use sk_report::{PrintedEntity, PrintedTags, PrintedView, Stop, Subject};
+use sk_report::{PrintedEntity, PrintedTags, Stop, Subject, write_held};
 use sk_talk::Play;
 use std::alloc::Global;
 use std::io::Write;
@@ -108,12 +108,12 @@ fn value(alloc: Global, kernel: &Kernel, name: &[u8]) -> Result<Option<Vec<u8>>,
 fn value_of(alloc: Global, kernel: &Kernel, entity: Entity) -> Result<Option<Vec<u8>>, Stop>
     ensures { Reads result (value_text kernel.now entity) }
 {
-    let Some(view) = kernel.value(&entity) else {
+    if kernel.value(&entity).is_none() {
         return Ok(None);
-    };
+    }
+    let entities = kernel.entities()?;
     let mut text = Vec::new(alloc);
-    let view = PrintedView(view);
-    write!(text, "{view}")?;
+    write_held(kernel, &entities, &entity, &mut text)?;
     Ok(Some(text))
 }
 

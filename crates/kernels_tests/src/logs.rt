@@ -1,5 +1,5 @@
 //! The undo logs of an object and of a process: one note, and what two failures make of it; and the runs of a process.
-ghost use Rattle.std.specs.Prelude.{◌≡◌, ◌∷◌, [], Some, OnOk, IfOk, reverse};
+ghost use Rattle.std.specs.Prelude.{◌≡◌, ◌∷◌, [], Some, None, OnOk, IfOk, reverse};
 ghost use Rattle.sk_record.specs.Notes.{last_tags};
 ghost use Rattle.sk_undo.specs.Kept.{object_undone, ObjectFits, runs_of};
 ghost use Rattle.sk_undo.specs.Log.{CanGoBack, Covers};
@@ -107,6 +107,33 @@ fn small_calls_of_an_object_log(rt: HostRuntime) -> Result<(), Fail> {
     let mut log = ObjectLog::new(rt.alloc());
     let mut value = Some(written(rt.alloc(), &mut log)?);
     unwinds_both(&rt, &mut log, &mut value)
+}
+
+/// Notes on guess 1 that a file goes, in a log that has no notes.
+fn goes(alloc: Global, before: Value, log: &mut ObjectLog) -> Result<(), Fail>
+    requires { log.old.log.notes.items ≡ [] }
+    ensures { OnOk result (CanGoBack ObjectFits object_undone None (reverse log.new.log.notes.items)) }
+{
+    let tags = tags(alloc, 1)?;
+    log.reserve()?;
+    log.note_death(tags, before)?;
+    Ok(())
+}
+
+/// The failure of guess 1 brings back what went.
+fn comes_back(rt: &impl Abort, log: &mut ObjectLog, value: &mut Option<Value>) -> Result<(), Fail>
+    requires { CanGoBack ObjectFits object_undone value.old (reverse log.old.log.notes.items) }
+{
+    rests_on(rt, log, &[guess(1)?])?;
+    unwinds(rt, log, value, 1, b"abcdef")?;
+    rests_on(rt, log, &[])
+}
+
+#[test]
+fn a_death_is_taken_back(rt: HostRuntime) -> Result<(), Fail> {
+    let mut log = ObjectLog::new(rt.alloc());
+    goes(rt.alloc(), file(rt.alloc())?, &mut log)?;
+    comes_back(&rt, &mut log, &mut None)
 }
 
 /// A process at this place.

@@ -263,10 +263,10 @@ fn declares_both(boot: &mut Boot, file: &Name, pipe: &Name) -> Result<(), Fail> 
     Ok(boot.object(*pipe, ObjectKind::Pipe, b"ab")?)
 }
 
-/// What a store has under a name of its root; none where it is absent, or there is no root.
+/// The object of a name of the root; none where the name is absent.
 fn named(store: &Store, name: &Name) -> Option<ObjId> {
-    match store.value(Entity::Obj(ROOT)) {
-        Some(EntityState::Value(root)) => root.look(name).flatten(),
+    match store.value(Entity::Link(ROOT, *name)) {
+        Some(EntityState::Value(link)) => link.target(),
         _ => None,
     }
 }
@@ -303,7 +303,7 @@ fn starts_with_what_is_declared(rt: HostRuntime) -> Result<(), Fail> {
     let found = [boot_object(2), boot_object(3)];
     let boot = with_both(rt.alloc(), file, pipe)?;
     let store = copied(rt.alloc(), &boot)?;
-    starts_with(&rt, &store, [&file, &pipe], found, 11)
+    starts_with(&rt, &store, [&file, &pipe], found, 13)
 }
 
 /// A trace of a step and a commit.

@@ -6,7 +6,7 @@ use std::mem::size_of;
 
 #[test]
 fn a_plan_is_a_few_words(rt: HostRuntime) {
-    assert!(rt; size_of::<Plan>() <= 240);
+    assert!(rt; size_of::<Plan>() <= 248);
 }
 
 #[test]

@@ -1,5 +1,5 @@
 //! Random calls, and what each of them should be answered.
-use crate::reckoning::Reckoning;
+use crate::reckoning::{Reckoning, names_in};
 use crate::session::Answer;
 use rand_core::Rng;
 use rand_pcg::Pcg32;
@@ -133,10 +133,24 @@ pub fn call(
     Ok(Some(step(rng, reckoning, scripts, pid)?))
 }
 
-/// What a step is answered that the plain kernel plans so, where this much room is left.
-fn step_answer(planned: Result<Plan, Refusal>, room: usize) -> Answer {
+/// Whether a plan adds a name to a directory that has 64 or more.
+fn is_crowded(reckoning: &Reckoning, planned: &Result<Plan, Refusal>) -> Result<bool, AllocError> {
+    let Ok(plan) = planned else {
+        return Ok(false);
+    };
+    let Some(directory) = plan.adds() else {
+        return Ok(false);
+    };
+    let present = reckoning.plain.entities()?;
+    Ok(names_in(&present, &directory) >= 64)
+}
+
+/// What a step is answered that the plain kernel plans so, where this much room is left, and a directory that it
+/// would add a name to has no room.
+fn step_answer(planned: Result<Plan, Refusal>, is_crowded: bool, room: usize) -> Answer {
     match planned {
         Err(refusal) => Answer::Refused(refusal),
+        Ok(_) if is_crowded => Answer::Refused(Refusal::NoRoom),
         Ok(_) if room < 1 => Answer::Refused(Refusal::TraceFull),
         Ok(_) => Answer::Stepped,
     }
@@ -182,13 +196,14 @@ pub fn answer(
     places: usize,
     held: &[GuessId],
     next: GuessId,
-) -> Answer {
+) -> Result<Answer, AllocError> {
     let undecided = reckoning.undecided();
     let room = places.saturating_sub(undecided);
-    match call {
+    Ok(match call {
         Call::Step(pid, input) => {
             let planned = plan_step(&reckoning.store, scripts, *pid, input.lend());
-            step_answer(planned, room)
+            let is_crowded = is_crowded(reckoning, &planned)?;
+            step_answer(planned, is_crowded, room)
         }
         Call::Guess(pid, input) => {
             let input = input.input();
@@ -198,5 +213,5 @@ pub fn answer(
         Call::Commit(id) | Call::Fail(id) => {
             decision_answer(reckoning.status(trace, *id), held.contains(id))
         }
-    }
+    })
 }

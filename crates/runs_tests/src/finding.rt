@@ -19,6 +19,8 @@ pub enum Finding {
     Entities,
     Value,
     Tags,
+    /// A directory has another number of names.
+    Names,
     /// What rests on a guess is not what has its tag.
     Dependents,
     Status,

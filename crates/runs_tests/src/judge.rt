@@ -1,7 +1,7 @@
 //! Whether a kernel is what its trace comes to.
 use crate::epochs::Before;
 use crate::finding::Finding;
-use crate::reckoning::{Reckoning, Said};
+use crate::reckoning::{Reckoning, Said, names_in};
 use sk_ids::{Entity, GuessId, Text};
 use sk_kernel::Kernel;
 use sk_plain::{Trace, View};
@@ -186,6 +186,19 @@ fn judge_counts(
     Ok(())
 }
 
+/// Compares how many names each object has.
+fn judge_names(kernel: &Kernel, reckoning: &Reckoning) -> Result<(), Finding> {
+    let present = reckoning.plain.entities()?;
+    for entity in &present {
+        if let Entity::Obj(directory) = entity
+            && kernel.names_of(directory) != names_in(&present, directory)
+        {
+            return Err(Finding::Names);
+        }
+    }
+    Ok(())
+}
+
 /// Compares a kernel with what its whole trace comes to: its entities with those seen before, its
 /// terminals, the first few of which are looked at, its guesses with what rests on each, and its counts.
 pub fn judge(
@@ -199,6 +212,7 @@ pub fn judge(
 ) -> Result<(), Finding> {
     judge_counts(kernel, reckoning, trace, before, limit)?;
     judge_present(kernel, reckoning, seen)?;
+    judge_names(kernel, reckoning)?;
     for entity in seen.iter() {
         judge_entity(kernel, reckoning, entity)?;
     }

@@ -2,7 +2,7 @@
 //! kernel, and what depends on each undecided guess is followed from step to step.
 use crate::finding::Finding;
 use sk_guesses::Status;
-use sk_ids::{Entity, GuessId, Pid, TagSet, Text};
+use sk_ids::{Entity, GuessId, ObjId, Pid, TagSet, Text};
 use sk_plain::{Entry, Event, InputRef, Plain, Plan, Trace, apply_plan, plan_step, strike};
 use sk_script::{Boot, Scripts};
 use sk_store::{EntityState, Look, Store};
@@ -36,6 +36,15 @@ pub struct Reckoning {
     /// By rising number.
     dirt: Vec<Dirt>,
     said: Vec<Said>,
+}
+
+/// How many of these entities are names of a directory.
+pub fn names_in(entities: &[Entity], directory: &ObjId) -> usize {
+    let names = entities.iter().filter(|entity| match entity {
+        Entity::Link(at, _) => *at == *directory,
+        _ => false,
+    });
+    names.count()
 }
 
 /// The terminal of a process; 0 where there is none.

@@ -22,6 +22,9 @@ use std::process::Abort;
 /// How many short runs of each manner there are.
 const RUNS: u64 = 1_250;
 
+/// How many runs over names there are.
+const NAMING_RUNS: u64 = 60;
+
 /// How many long runs of each manner there are.
 const LONG_RUNS: u64 = 25;
 
@@ -199,7 +202,7 @@ fn one_call(
         places,
         &course.held,
         next,
-    );
+    )?;
     let told = session.execute(rt, &call)?;
     if told != want {
         return Err(Finding::Answer);
@@ -337,6 +340,11 @@ fn hardly_any_commits(rt: HostRuntime) {
 #[test]
 fn many_guesses(rt: HostRuntime) {
     runs(&rt, rt.alloc(), RUNS, short(Kind::Guessing, 6, 6));
+}
+
+#[test]
+fn names_up_to_the_limit(rt: HostRuntime) {
+    runs(&rt, rt.alloc(), NAMING_RUNS, short(Kind::Naming, 8, 12));
 }
 
 #[test]

@@ -11,6 +11,8 @@ pub enum Kind {
     Any,
     /// Mostly fetches and stores.
     Guessing,
+    /// Mostly names of two directories, of which one is nearly full.
+    Naming,
 }
 
 /// The lines of scripts, those that come often more than once. A capital letter stands for any of
@@ -113,6 +115,9 @@ fn operands(letter: u8) -> &'static [&'static str] {
         b'L' => &["a", "b", "c", "h"],
         b'X' => &["/x", "/x", "/y", "/z"],
         b'F' => &["f", "f", "g", "p", "d", "n"],
+        b'E' => &[
+            "a", "b", "c", "e", "e", "f", "d", "k00", "k01", "k02", "k03",
+        ],
         b'B' => &["1", "2", "3", "4"],
         b'V' => &[
             "0",
@@ -247,6 +252,42 @@ fn guessing_script(rng: &mut Pcg32, text: &mut Vec<u8>) -> Result<(), AllocError
     text.extend_from_slice(b"jump a\n")
 }
 
+/// The lines of scripts that do little but link, take out and look up names.
+const NAMING_LINES: [&str; 14] = [
+    "link r7 E r1",
+    "link r7 E r1",
+    "link r7 E r1",
+    "link r3 E r1",
+    "unlink r7 E",
+    "unlink r7 E",
+    "unlink r3 E",
+    "look r2 r7 E",
+    "look r2 r3 E",
+    "fetch X",
+    "mkfile r1",
+    "set r4 V",
+    "add r4 r4",
+    "jump a",
+];
+
+/// Writes the lines of a script that goes round and round over names.
+fn naming_script(rng: &mut Pcg32, text: &mut Vec<u8>) -> Result<(), AllocError> {
+    text.extend_from_slice(b"mkfile r1\nlook r3 r7 d\na:\nfetch /x\n")?;
+    lines(rng, &NAMING_LINES, 10, text)?;
+    text.extend_from_slice(b"jump a\n")
+}
+
+/// Writes 58 boot objects, with which the root has 62 names.
+fn names(text: &mut Vec<u8>) -> Result<(), AllocError> {
+    for number in 0..58u8 {
+        text.extend_from_slice(b"file k")?;
+        text.push(b'0' + number / 10)?;
+        text.push(b'0' + number % 10)?;
+        text.extend_from_slice(b" \"\"\n")?;
+    }
+    Ok(())
+}
+
 /// The text of a random scenario, without its steps.
 pub fn scenario(alloc: Global, rng: &mut Pcg32, kind: Kind) -> Result<Vec<u8>, AllocError> {
     let mut text = Vec::new(alloc);
@@ -255,8 +296,12 @@ pub fn scenario(alloc: Global, rng: &mut Pcg32, kind: Kind) -> Result<Vec<u8>, A
         match kind {
             Kind::Any => script(rng, &mut text)?,
             Kind::Guessing => guessing_script(rng, &mut text)?,
+            Kind::Naming => naming_script(rng, &mut text)?,
         }
         line(rng, "end", &mut text)?;
+    }
+    if let Kind::Naming = kind {
+        names(&mut text)?;
     }
     others(rng, &mut text)?;
     Ok(text)

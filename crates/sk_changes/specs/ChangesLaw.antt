@@ -1,11 +1,11 @@
 -- A change of any value and its undo give the value before.
 use Rattle.std.specs.Prelude.{◌≡◌, true}
 use Rattle.std.proofs.Common.{ap}
+use Rattle.std.proofs.lemmas.Bool.{false≢true}
 use Rattle.sk_objects.specs.declared.value.Value.{Value}
-use Rattle.sk_objects.specs.declared.value.Value.TheVariants.{File, Dir, Pipe, Signals, Exit, Copy}
+use Rattle.sk_objects.specs.declared.value.Value.TheVariants.{File, Dir, Link, Pipe, Signals, Exit, Copy}
 use Rattle.sk_changes.specs.declared.change.Change.{Change}
 use Rattle.sk_changes.specs.FilesLaw.{file_restores}
-use Rattle.sk_changes.specs.DirectoriesLaw.{directory_restores}
 use Rattle.sk_changes.specs.PipesLaw.{pipe_restores}
 use Rattle.sk_changes.specs.QueuesLaw.{queue_restores}
 use Rattle.sk_changes.specs.SlotsLaw.{exit_restores, copy_restores}
@@ -14,7 +14,8 @@ use Rattle.sk_changes.specs.Changes.{value_fits, value_after, value_undo, CanUnd
 
 pub value_restores : (v : Value) (c : Change) → IsValue v → value_fits v c ≡ true → CanUndo (value_after v c) (value_undo v c) × (value_undone (value_after v c) (value_undo v c) ≡ v)
 value_restores (File f) c valid fits = let law = file_restores f c valid fits in (law.0, ap File law.1)
-value_restores (Dir d) c valid fits = let law = directory_restores d c valid fits in (law.0, ap Dir law.1)
+value_restores Dir c valid fits = absurd (false≢true fits)
+value_restores (Link o) c valid fits = absurd (false≢true fits)
 value_restores (Pipe p) c valid fits = let law = pipe_restores p c valid fits in (law.0, ap Pipe law.1)
 value_restores (Signals s) c valid fits = let law = queue_restores s c valid fits in (law.0, ap Signals law.1)
 value_restores (Exit e) c valid fits = let law = exit_restores e c valid fits in (law.0, ap Exit law.1)

@@ -1,7 +1,5 @@
 pub mod Files
 pub mod FilesLaw
-pub mod Directories
-pub mod DirectoriesLaw
 pub mod Pipes
 pub mod PipesLaw
 pub mod Queues

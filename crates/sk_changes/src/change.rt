@@ -2,7 +2,7 @@
 ghost use Rattle.std.specs.Prelude.{◌≡◌, ◌↔◌, Bool, true, false, IfOk, OnOk, OnErr, Err};
 
 use crate::{HeldBytes, HeldContent};
-use sk_ids::{Name, ObjId, Text};
+use sk_ids::Text;
 use sk_objects::{Blocks, Content};
 use std::alloc::{AllocError, Global};
 use thiserror::Error;
@@ -14,10 +14,6 @@ pub enum Change {
     WriteAt { offset: u32, bytes: Text },
     /// A file's first bytes, so many, or all of them and zeros up to there; at most 32,768.
     CutTo(u32),
-    /// A name that a directory of under 64 does not have, for an object.
-    Link(Name, ObjId),
-    /// A name that a directory has, taken out.
-    Unlink(Name),
     /// 1 to 512 bytes at the end of a pipe that is not shut and then holds at most 4,096.
     Put(Text),
     /// So many bytes from the front of a pipe, 1 to 512 and at most what it holds.
@@ -40,10 +36,6 @@ pub enum Change {
 pub enum Undo {
     /// The blocks that gave way in a file, and the length that it had.
     Restore(Blocks),
-    /// A name that was linked.
-    DropName(Name),
-    /// A name that was taken out, and its object.
-    Relink(Name, ObjId),
     /// The number of bytes that a pipe held.
     Unput(u32),
     /// The bytes that left the front of a pipe.

@@ -2,7 +2,6 @@
 #![tactic(auto)]
 
 pub mod change;
-pub mod directory;
 pub mod file;
 pub mod held;
 pub mod pipe;

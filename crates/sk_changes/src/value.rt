@@ -25,7 +25,7 @@ impl Invertible for Value {
     fn apply(&mut self, alloc: Global, change: Change) -> Result<Undo, NotApplied> {
         match self {
             Value::File(file) => file.apply(alloc, change),
-            Value::Dir(directory) => directory.apply(alloc, change),
+            Value::Dir | Value::Link(_) => Err(NotApplied::Unfit),
             Value::Pipe(pipe) => pipe.apply(alloc, change),
             Value::Signals(signals) => signals.apply(alloc, change),
             Value::Exit(status) => status.apply(alloc, change),
@@ -36,7 +36,7 @@ impl Invertible for Value {
     fn undo(&mut self, undo: Undo) {
         match self {
             Value::File(file) => file.undo(undo),
-            Value::Dir(directory) => directory.undo(undo),
+            Value::Dir | Value::Link(_) => {}
             Value::Pipe(pipe) => pipe.undo(undo),
             Value::Signals(signals) => signals.undo(undo),
             Value::Exit(status) => status.undo(undo),

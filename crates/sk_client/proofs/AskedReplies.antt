@@ -26,6 +26,7 @@ use Rattle.sk_world.proofs.Each.{cons_first}
 use Rattle.sk_world.proofs.AskedSteps.{answered_whole, asked_are_taken}
 use Rattle.sk_world.proofs.First.{places_are_kept}
 use Rattle.sk_client.specs.Table.{Bytes, table}
+use Rattle.sk_client.proofs.DeskFacts.{reply_free, given_reply}
 use Rattle.sk_client.specs.Desk.{DeskView, opened, entry, fits_ask, is_void, input_of, stepped, answered, given_to, given, decision_answer, step_answer, answer_to, given_answer}
 use Rattle.sk_client.specs.LawWorld.{Exchanges, Leads, law_content, begun, IsReady, law_input, law_kept, law_ask, law_answer, law_request, law_served, TakesStep, StepsAreTaken, ForgottenAreDropped}
 use Rattle.sk_client.specs.WorldView.{WorldView, joined, IsJoined, Replies}
@@ -162,7 +163,8 @@ module _ (k : KernelView) (ready : IsReady k) (server : ServerView) where
           let there : is_ok (outcome (kernel (table K.scripts K.limit)) (state (table K.scripts K.limit) K.start w.trace) (asked_entry (law_request o.request) (law_input input))) ≡ true =
           subst (λ (c : ScriptMap × (State × ℕ)). is_ok (outcome (kernel (table c.0 c.1.1)) (state (table c.0 c.1.1) c.1.0 w.trace) (asked_entry (law_request o.request) (law_input input))) ≡ true) same_boot law.0 in
           let here : is_ok (effect_at K (entry o.request.process input None)) ≡ true = sym (ap is_ok (does_seen xs w v r.fits o.request.process input)) ∙ there in
-          (λ i. or_else (not_refused (effect_at K (entry o.request.process input None)) here i) (has_place xs w v r.fits p rs is o placed none i))
+          let free = reply_free K o.request.process input (given_reply p.answer input given) (effect_at K (entry o.request.process input None)) refl in
+          (λ i. or_else (or_else (not_refused (effect_at K (entry o.request.process input None)) here i) (free i)) (has_place xs w v r.fits p rs is o placed none i))
 
       whole : (p.answer ≡ answers.Dropped → ⊥) → is_void v.desk.kernel o.request ≡ true → ⊥
       whole kept void =

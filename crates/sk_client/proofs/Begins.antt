@@ -7,7 +7,7 @@ use Rattle.std.proofs.lemmas.List.Elements.{All-head, All-tail}
 use Rattle.sk_record.specs.Run.{put}
 use Rattle.sk_ids.specs.Entity.{entity_cmp}
 use Rattle.sk_ids.specs.declared.entity.Entity.{Entity}
-use Rattle.sk_ids.specs.declared.entity.Entity.TheVariants.{Proc, Sig, Exit, Obj, Copy}
+use Rattle.sk_ids.specs.declared.entity.Entity.TheVariants.{Proc, Sig, Exit, Obj, Link, Copy}
 use Rattle.sk_objects.specs.Content.{ContentView}
 use Rattle.sk_objects.specs.declared.value.Value.TheVariants as values
 use Rattle.sk_script.specs.Boot.{BootView}
@@ -15,7 +15,7 @@ use Rattle.sk_script.specs.Process.{root, beginning}
 use Rattle.sk_script.specs.declared.boot.BootObject.{BootObject}
 use Rattle.sk_script.specs.declared.boot.BootProcess.{BootProcess}
 use Rattle.sk_store.specs.State.{State}
-use Rattle.sk_store.specs.Start.{boot_object, first_value, with_names, with_objects, with_process, with_processes, with_copies, with_root, start_of}
+use Rattle.sk_store.specs.Start.{boot_object, first_value, with_objects, with_links, with_process, with_processes, with_copies, with_root, start_of}
 use Rattle.sk_store.specs.declared.entity_state.EntityState.{EntityState}
 use Rattle.sk_store.specs.declared.entity_state.EntityState.TheVariants as stored
 use Rattle.sk_client.specs.Table.{HasNumber, IsNumbered}
@@ -58,6 +58,11 @@ new_objects s n [] h = h
 new_objects s n (o ∷ os) h =
     new_objects (put s (Obj (boot_object n)) (Some (stored.Value (first_value o.kind o.bytes)))) (n + 1) os (new_place s (Obj (boot_object n)) (stored.Value (first_value o.kind o.bytes)) tt h)
 
+new_links : (s : State) (n : ℕ) (os : List BootObject) → IsNew s → IsNew (with_links s n os)
+new_links s n [] h = h
+new_links s n (o ∷ os) h =
+    new_links (put s (Link root o.name) (Some (stored.Value (values.Link (boot_object n))))) (n + 1) os (new_place s (Link root o.name) (stored.Value (values.Link (boot_object n))) tt h)
+
 new_processes : (s : State) (ps : List BootProcess) → All HasNumber ps → IsNew s → IsNew (with_processes s ps)
 new_processes s [] all h = h
 new_processes s (p ∷ ps) all h =
@@ -75,10 +80,11 @@ new_copies s (c ∷ cs) h = new_copies (put s (Copy c.0) (Some (stored.Value (va
 
 pub tidy_start : (boot : BootView) → IsNumbered boot → IsTidy (start_of boot)
 tidy_start boot numbered =
-    let names = stored.Value (values.Dir (with_names [] 2 boot.objects)) in
+    let bare = stored.Value values.Dir in
     let new = new_copies (with_processes (with_root boot.objects) boot.processes) boot.copies
     (new_processes (with_root boot.objects) boot.processes numbered
-    (new_place (with_objects empty 2 boot.objects) (Obj root) names tt (new_objects empty 2 boot.objects new_empty))) in
+    (new_links (put (with_objects empty 2 boot.objects) (Obj root) (Some bare)) 2 boot.objects
+    (new_place (with_objects empty 2 boot.objects) (Obj root) bare tt (new_objects empty 2 boot.objects new_empty)))) in
     record {
       placed = λ c is. (let fits = new.numbers c is in let low = fits.0 in let high = fits.1 in record { some = low; counted = λ child. absurd (omega arith) });
       copies = new.copies;

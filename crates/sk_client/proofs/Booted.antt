@@ -21,7 +21,7 @@ use Rattle.sk_plain.specs.Planned.{refusal_of}
 use Rattle.sk_plain.specs.Replay.{image}
 use Rattle.sk_plain.specs.declared.refusal.Refusal.{Refusal}
 use Rattle.sk_plain.specs.declared.refusal.Refusal.TheVariants.{TraceFull}
-use Rattle.sk_kernel.specs.Kernel.{KernelView, booted, events_of, undecided_at, HasStatus, next_guess, room, effect_at, or_else, trace_full, step_refused, guess_misfits, too_many, guess_refused, with_event}
+use Rattle.sk_kernel.specs.Kernel.{KernelView, booted, events_of, undecided_at, HasStatus, next_guess, room, effect_at, or_else, state_at, no_room, step_misfit, trace_full, step_refused, guess_misfits, too_many, guess_refused, with_event}
 use Rattle.sk_kernel.specs.Calls.{StepPost, GuessPost, CommitPost, FailPost}
 use Rattle.sk_kernel.specs.declared.kernel.Outcome.{Outcome}
 use Rattle.sk_kernel.specs.declared.kernel.Outcome.TheVariants as outcomes
@@ -88,8 +88,8 @@ module _ (k : KernelView) (b : WasBooted k) where
   step_stays : (pid : ℕ) (input : Input) → step_refused k (entry pid input None) ≡ None → WasBooted (with_event k (events.Step pid input))
   step_stays pid input h =
       let n = entry pid input None in
-      let does = ok_of (effect_at k n) (none_first (refusal_of (effect_at k n)) (trace_full k 1) h) in
-      let least = places_left 1 (none_later (refusal_of (effect_at k n)) (trace_full k 1) h) in
+      let does = ok_of (effect_at k n) (none_first (refusal_of (effect_at k n)) (no_room (state_at k) (effect_at k n)) (none_first (step_misfit k n) (trace_full k 1) h)) in
+      let least = places_left 1 (none_later (step_misfit k n) (trace_full k 1) h) in
       let opens = opens_taken (plain k.scripts) k.start (events_of k) n in
       longer (events.Step pid input) (epoch_step k b.sound pid input (sound_more (events.Step pid input) (sound_taken (plain k.scripts) k.start (events_of k) n b.sound.sound (λ g h mark drawn. absurd cc) (ap is_ok does.1)))) (omega (arith, least, opens))
 

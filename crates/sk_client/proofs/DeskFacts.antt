@@ -10,7 +10,9 @@ use Rattle.std.proofs.lemmas.Bool.{true≢false, lt-ltb, le-ltb, ltb-false, or_c
 use Rattle.std.proofs.lemmas.List.{length-append, append_assoc, append-nil, drop_more}
 use Rattle.std.proofs.lemmas.List.Kept.{IsStrictlySortedBy-filter}
 use Rattle.std.proofs.lemmas.List.Elements.{filter-append}
+use Rattle.std.specs.FinMap.{get}
 use Rattle.sk_record.specs.Notes.{has}
+use Rattle.sk_record.specs.Step.{Effect}
 use Rattle.sk_record.specs.Trace.{Event as Happens, StatusIs, marks}
 use Rattle.sk_record.specs.declared.status.Status.{Status}
 use Rattle.sk_record.specs.declared.status.Status.TheVariants.{Undecided, Committed, Failed, Struck}
@@ -18,6 +20,8 @@ use Rattle.sk_record.proofs.Sound.{is_commit, has_commit, undecided_is as is_und
 use Rattle.sk_record.proofs.Statuses.{one_status}
 use Rattle.sk_record.proofs.Machine.{has_filter}
 use Rattle.sk_record.proofs.Rising.{same_rising}
+use Rattle.sk_server.specs.declared.reply.Answer.{Answer}
+use Rattle.sk_server.specs.declared.reply.Answer.TheVariants as answers
 use Rattle.sk_script.specs.declared.instruction.Input.{Input}
 use Rattle.sk_script.specs.declared.instruction.Input.TheVariants as inputs
 use Rattle.sk_ids.specs.declared.entity.Entity.{Entity}
@@ -28,14 +32,15 @@ use Rattle.sk_store.specs.declared.entity_state.EntityState.TheVariants as store
 use Rattle.sk_trace.specs.Entry.{EntryView}
 use Rattle.sk_trace.specs.declared.event.Event.{Event}
 use Rattle.sk_trace.specs.declared.event.Event.TheVariants as events
-use Rattle.sk_plain.specs.Act.{plain}
+use Rattle.sk_plain.specs.Act.{plain, Saying}
 use Rattle.sk_plain.specs.Replay.{image}
 use Rattle.sk_plain.specs.View.{Shows}
 use Rattle.sk_plain.specs.declared.view.View.TheVariants as views
-use Rattle.sk_plain.specs.Planned.{refusal_of}
+use Rattle.sk_plain.specs.Planned.{IsReply}
+use Rattle.sk_plain.proofs.Adds.{NoneAdded, reply_adds}
 use Rattle.sk_plain.specs.declared.refusal.Refusal.{Refusal}
 use Rattle.sk_plain.specs.declared.refusal.Refusal.TheVariants.{TraceFull}
-use Rattle.sk_kernel.specs.Kernel.{KernelView, HasStatus, events_of, tags_at, undecided_at, room, effect_at, or_else, trace_full, step_refused, guess_refused, guess_misfits, too_many, next_guess}
+use Rattle.sk_kernel.specs.Kernel.{KernelView, HasStatus, events_of, tags_at, undecided_at, room, state_at, effect_at, crowded, no_room, or_else, trace_full, step_misfit, step_refused, guess_refused, guess_misfits, too_many, next_guess}
 use Rattle.sk_kernel.specs.Laws.{HasSoundTrace}
 use Rattle.sk_record.specs.Epoch.{StatusOr}
 use Rattle.sk_record.proofs.Epoch.{beyond}
@@ -46,7 +51,7 @@ use Rattle.sk_holder.specs.Tokens.{commits}
 use Rattle.sk_client.specs.Table.{buffer_of}
 use Rattle.sk_client.specs.declared.pending.Kept.{Kept}
 use Rattle.sk_client.specs.DeskInvariant.{guesses_of, IsTidy}
-use Rattle.sk_client.specs.Desk.{DeskView, pending, is_asked, asked_count, no_place, rule_refused, rests_of, is_lost, lost_by, guess_refused_at, no_number, kept_for, entry}
+use Rattle.sk_client.specs.Desk.{DeskView, pending, is_asked, asked_count, no_place, rule_refused, rests_of, is_lost, lost_by, guess_refused_at, no_number, kept_for, entry, input_of}
 
 -- ---- asked requests
 
@@ -71,7 +76,18 @@ module _ (d : DeskView) (free : ℕ) (is : free ≡ room d.kernel - asked_count 
   same_refusal pid input least =
       let large : nat_lt (room d.kernel) 1 ≡ false = le-ltb (room d.kernel) 1 (omega (arith, is, least)) in
       let kernels : trace_full d.kernel 1 ≡ None = ap (λ b. cond b (Some TraceFull) None) large in
-      ap (or_else (refusal_of (effect_at d.kernel (entry pid input None)))) (kernels ∙ sym (enough 1 least))
+      ap (or_else (step_misfit d.kernel (entry pid input None))) (kernels ∙ sym (enough 1 least))
+
+-- a step with a reply adds no name, so it needs no room
+pub reply_free : (k : KernelView) (pid : ℕ) (input : Input) → IsReply input → (r : Result (Effect Entity EntityState Saying) Refusal) → effect_at k (entry pid input None) ≡ r → no_room (state_at k) r ≡ None
+reply_free k pid input reply (Err why) is = refl
+reply_free k pid input reply (Ok does) is = ap (crowded (state_at k)) (subst NoneAdded is (reply_adds (get (state_at k)) k.scripts pid input reply))
+
+pub given_reply : (a : Answer) (input : Input) → input_of a ≡ Some input → IsReply input
+given_reply answers.Yes input is = (let same : inputs.Good ≡ input = cc in subst IsReply same tt)
+given_reply (answers.No c) input is = (let same : inputs.Stale c ≡ input = cc in subst IsReply same tt)
+given_reply (answers.Copy c) input is = (let same : inputs.Fresh c ≡ input = cc in subst IsReply same tt)
+given_reply answers.Dropped input is = cc
 
 -- ---- what a request rests on
 

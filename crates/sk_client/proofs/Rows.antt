@@ -11,9 +11,8 @@ use Rattle.sk_ids.specs.Pid.{boot_pid}
 use Rattle.sk_ids.specs.declared.text.TheConstants.{TEXT_LIMIT}
 use Rattle.sk_ids.specs.declared.pid.ObjId.{ObjId}
 use Rattle.sk_ids.specs.declared.entity.Entity.{Entity}
-use Rattle.sk_ids.specs.declared.entity.Entity.TheVariants.{Proc, Sig, Exit, Obj, Copy}
+use Rattle.sk_ids.specs.declared.entity.Entity.TheVariants.{Proc, Sig, Exit, Obj, Link, Copy}
 use Rattle.sk_objects.specs.Content.{ContentView}
-use Rattle.sk_objects.specs.Directory.{Link, looked_up}
 use Rattle.sk_objects.specs.declared.signals.TheConstants.{LAST_SIGNAL}
 use Rattle.sk_objects.specs.declared.value.Kind.{Kind}
 use Rattle.sk_objects.specs.declared.value.Kind.TheVariants as kinds
@@ -32,10 +31,11 @@ use Rattle.sk_store.specs.State.{State}
 use Rattle.sk_store.specs.declared.entity_state.EntityState.{EntityState}
 use Rattle.sk_store.specs.declared.entity_state.EntityState.TheVariants as stored
 use Rattle.sk_plain.specs.declared.refusal.Refusal.{Refusal}
+use Rattle.sk_plain.specs.declared.refusal.Errno.{Errno}
 use Rattle.sk_plain.specs.declared.refusal.Errno.TheVariants.{Again}
-use Rattle.sk_plain.specs.Rows.{StepTree, Saying, object_in, number_in, number_to, who_in, failed, alone, with_write, on_object, on_number}
+use Rattle.sk_plain.specs.Rows.{StepTree, Saying, object_in, number_in, number_to, who_in, failed, alone, with_write, with_removal, on_object, on_number}
 use Rattle.sk_plain.specs.Files.{on_file, made, size, write, read, cut}
-use Rattle.sk_plain.specs.Names.{on_directory, named, look, link_to, linking, link, unlink_from, unlink}
+use Rattle.sk_plain.specs.Names.{no_directory, unless_error, on_directory, target_at, named, look, link_to, linking, link, unlink_from, unlink}
 use Rattle.sk_plain.specs.Pipes.{on_pipe, put_in, put as pipe_put, take_none, take_out, shut}
 use Rattle.sk_plain.specs.Processes.{LEVEL_FOUR, LAST_CHILD, next_child, forked, parent_of, born, fork, signalled, kill, waited, wait, returned}
 use Rattle.sk_plain.specs.Replies.{from_copy, over_copy, good, fresh, stale}
@@ -100,6 +100,14 @@ module _ (can : List ℕ → Type 0) (pid : ℕ) (p : Process) where
         (tidy_place s e (Some (stored.Value v)) place h);
   }
 
+  gone_fine : (e : Entity) (q : Process) → IsPlace e → q.children ≡ p.children → Fine (with_removal pid e q)
+  unfolding Fine
+  gone_fine e q place same = record {
+    processes = λ c is. elim (one_of_two (Proc pid) e (Proc c) is) [ inl own ↦ inl (own_number pid c own) | inr at ↦ absurd (subst IsPlace at place) ];
+    copies = λ name is. elim (one_of_two (Proc pid) e (Copy name) is) [ inl own ↦ cc | inr at ↦ absurd (subst IsPlace at place) ];
+    tidy = λ s there h. tidy_place (put s (Proc pid) (Some (stored.Process q))) e None place (tidy_own s pid p q there (omega arith) h);
+  }
+
   copy_fine : (name : List ℕ) (c : ContentView) (q : Process) → can name → q.children ≡ p.children → Fine (with_write pid (Copy name) (values.Copy c) q)
   unfolding Fine
   copy_fine name c q may same = record {
@@ -147,9 +155,12 @@ module _ (can : List ℕ → Type 0) (pid : ℕ) (p : Process) where
   file_fine row (Some (stored.Value (values.File bytes))) h = h bytes
   file_fine row v h = alone_fine _ refl
 
-  directory_fine : (row : List Link → StepTree) (v : Option EntityState) → ((links : List Link) → Fine (row links)) → Fine (on_directory pid p row v)
-  directory_fine row (Some (stored.Value (values.Dir links))) h = h links
-  directory_fine row v h = alone_fine _ refl
+  unless_fine : (row : StepTree) (error : Option Errno) → Fine row → Fine (unless_error pid p row error)
+  unless_fine row None h = h
+  unless_fine row (Some error) h = alone_fine _ refl
+
+  directory_fine : (row : StepTree) (v : Option EntityState) → Fine row → Fine (on_directory pid p row v)
+  directory_fine row v h = unless_fine row (no_directory v) h
 
   pipe_fine : (row : PipeView → StepTree) (v : Option EntityState) → ((held : PipeView) → Fine (row held)) → Fine (on_pipe pid p row v)
   pipe_fine row (Some (stored.Value (values.Pipe held))) h = h held
@@ -181,25 +192,25 @@ module _ (can : List ℕ → Type 0) (pid : ℕ) (p : Process) where
   named_fine r None = alone_fine _ refl
 
   look_fine : (r : ℕ) (d : Option ObjId) (name : List ℕ) → Fine (look pid p r d name)
-  look_fine r d name = object_fine _ d (λ d v. directory_fine _ v (λ links. named_fine r (looked_up links name)))
+  look_fine r d name = object_fine _ d (λ d v. directory_fine _ v (ask_fine _ _ (λ there. named_fine r (target_at there))))
 
-  link_to_fine : (d : ObjId) (links : List Link) (name : List ℕ) (object : ObjId) (linked : Option ObjId) → Fine (link_to pid p d links name object linked)
-  link_to_fine d links name object (Some linked) = alone_fine _ refl
-  link_to_fine d links name object None = if_fine _ _ _ (write_fine _ _ _ tt refl) (alone_fine _ refl)
+  link_to_fine : (d : ObjId) (name : List ℕ) (object : ObjId) (there : Option EntityState) → Fine (link_to pid p d name object there)
+  link_to_fine d name object (Some there) = alone_fine _ refl
+  link_to_fine d name object None = write_fine (Link d name) _ _ tt refl
 
   linking_fine : (d : ObjId) (name : List ℕ) (object : Option ObjId) (v : Option EntityState) → Fine (linking pid p d name object v)
-  linking_fine d name (Some object) v = directory_fine _ v (λ links. link_to_fine d links name object (looked_up links name))
+  linking_fine d name (Some object) v = directory_fine _ v (ask_fine _ _ (λ there. link_to_fine d name object there))
   linking_fine d name None v = alone_fine _ refl
 
   link_fine : (d : Option ObjId) (name : List ℕ) (object : Option ObjId) → Fine (link pid p d name object)
   link_fine d name object = object_fine _ d (λ d v. linking_fine d name object v)
 
-  unlink_from_fine : (d : ObjId) (links : List Link) (name : List ℕ) (linked : Option ObjId) → Fine (unlink_from pid p d links name linked)
-  unlink_from_fine d links name (Some linked) = write_fine _ _ _ tt refl
-  unlink_from_fine d links name None = alone_fine _ refl
+  unlink_from_fine : (d : ObjId) (name : List ℕ) (there : Option EntityState) → Fine (unlink_from pid p d name there)
+  unlink_from_fine d name (Some there) = gone_fine (Link d name) _ tt refl
+  unlink_from_fine d name None = alone_fine _ refl
 
   unlink_fine : (d : Option ObjId) (name : List ℕ) → Fine (unlink pid p d name)
-  unlink_fine d name = object_fine _ d (λ d v. directory_fine _ v (λ links. unlink_from_fine d links name (looked_up links name)))
+  unlink_fine d name = object_fine _ d (λ d v. directory_fine _ v (ask_fine _ _ (λ there. unlink_from_fine d name there)))
 
   -- ---- pipes
 

@@ -14,11 +14,11 @@ use Rattle.sk_script.specs.declared.instruction.Input.TheVariants as inputs
 use Rattle.sk_trace.specs.declared.event.Event.{Event}
 use Rattle.sk_trace.specs.declared.event.Event.TheVariants as events
 use Rattle.sk_plain.specs.Act.{plain}
-use Rattle.sk_plain.specs.Planned.{refusal_of}
+use Rattle.sk_plain.specs.Planned.{refusal_of, IsReply}
 use Rattle.sk_plain.specs.Replay.{image}
 use Rattle.sk_plain.specs.declared.refusal.Refusal.{Refusal}
 use Rattle.sk_plain.specs.declared.refusal.Refusal.TheVariants.{TraceFull}
-use Rattle.sk_kernel.specs.Kernel.{KernelView, HasStatus, events_of, undecided_at, last_guess, number_after, room, effect_at, or_else, trace_full, step_refused, with_event}
+use Rattle.sk_kernel.specs.Kernel.{KernelView, HasStatus, events_of, undecided_at, last_guess, number_after, room, effect_at, state_at, no_room, or_else, trace_full, step_refused, with_event}
 use Rattle.sk_kernel.specs.Laws.{HasSoundTrace}
 use Rattle.sk_kernel.proofs.Further.{epoch_commit, epoch_fail}
 use Rattle.sk_server.specs.declared.request.Ask.{Ask}
@@ -30,6 +30,7 @@ use Rattle.sk_world.specs.Requests.{Input as LawInput}
 use Rattle.sk_world.specs.World.{World, Reply as Replies, pending as law_pending, places, with_trace, with_kept, with_given, kept_for as law_kept_for, asked_entry, stepped as law_stepped, stepped_by, failed_with, decided as law_decided, stepped_for, given_to as law_given_to, reply, event, input_of as law_input_of}
 use Rattle.sk_world.specs.Labels.{bare_event}
 use Rattle.sk_client.specs.Table.{Bytes, Caused, bare, table}
+use Rattle.sk_client.proofs.DeskFacts.{reply_free}
 use Rattle.sk_client.specs.Desk.{DeskView, pending, asked_count, kept_for, forgotten, with_kept as kept_with, entry, fits_ask, decided, input_of, stepped, answered, given_to, given, is_void, is_asked}
 use Rattle.sk_client.specs.LawWorld.{Exchanges, answered_there, law_input, law_kept, law_ask, law_answer, law_request, law_served, unanswered}
 use Rattle.sk_client.specs.WorldView.{WorldView}
@@ -141,16 +142,16 @@ module _ (xs : Exchanges) (w : World ℕ Bytes Bytes) (v : WorldView) (f : Fits 
 
   -- ---- the step of an asked request
 
-  module _ (full : trace_full v.desk.kernel 1 ≡ None) (q : PendingRequest) (input : Input) where
+  module _ (full : trace_full v.desk.kernel 1 ≡ None) (q : PendingRequest) (input : Input) (reply : IsReply input) where
     abbrev n : Caused
     n = asked_entry (law_request q) (law_input input)
 
     by_result : (r : Result Did Refusal) → effect_at v.desk.kernel (entry q.process input None) ≡ r
         → Fits xs (stepped_by (table v.desk.kernel.scripts v.desk.kernel.limit) v.desk.kernel.start w (asked_entry (law_request q) (law_input input)) r)
-        (record v { desk = record v.desk { kernel = stepped v.desk.kernel q.process input (or_else (refusal_of r) (trace_full v.desk.kernel 1)) } })
+        (record v { desk = record v.desk { kernel = stepped v.desk.kernel q.process input (or_else (or_else (refusal_of r) (no_room (state_at v.desk.kernel) r)) (trace_full v.desk.kernel 1)) } })
     by_result (Err why) is = f
     by_result (Ok does) is =
-        subst (λ (o : Option Refusal). Fits xs (with_trace w (w.trace ++ Taken n ∷ [])) (record v { desk = record v.desk { kernel = stepped K q.process input o } })) (sym full)
+        subst (λ (o : Option Refusal). Fits xs (with_trace w (w.trace ++ Taken n ∷ [])) (record v { desk = record v.desk { kernel = stepped K q.process input o } })) (sym (ap (λ o. or_else (or_else None o) (trace_full K 1)) (reply_free K q.process input reply (Ok does) is) ∙ full))
         (step_fits xs w v f q.process input n w.kept (record v.desk { kernel = with_event K (events.Step q.process input) }) (λ i. entry q.process (input_back input i) None) refl refl refl refl f.seen.kept (ap refusal_of is))
 
     asked_fits : Fits xs (law_stepped (table v.desk.kernel.scripts v.desk.kernel.limit) v.desk.kernel.start w (asked_entry (law_request q) (law_input input)))
@@ -164,11 +165,11 @@ module _ (xs : Exchanges) (w : World ℕ Bytes Bytes) (v : WorldView) (f : Fits 
       (record v { desk = answered v.desk (record q { ask = ask }) (input_of a) })
   by_answer full q (asks.Get name) answers.Yes kind fits = absurd (true≢false (sym fits))
   by_answer full q (asks.Get name) (answers.No c) kind fits = absurd (true≢false (sym fits))
-  by_answer full q (asks.Get name) (answers.Copy c) kind fits = asked_fits full (record q { ask = asks.Get name }) (inputs.Fresh c)
+  by_answer full q (asks.Get name) (answers.Copy c) kind fits = asked_fits full (record q { ask = asks.Get name }) (inputs.Fresh c) tt
   by_answer full q (asks.Get name) answers.Dropped kind fits = f
   by_answer full q (asks.Check name version) a kind fits = absurd kind
-  by_answer full q (asks.Store name version bytes) answers.Yes kind fits = asked_fits full (record q { ask = asks.Store name version bytes }) inputs.Good
-  by_answer full q (asks.Store name version bytes) (answers.No c) kind fits = asked_fits full (record q { ask = asks.Store name version bytes }) (inputs.Stale c)
+  by_answer full q (asks.Store name version bytes) answers.Yes kind fits = asked_fits full (record q { ask = asks.Store name version bytes }) inputs.Good tt
+  by_answer full q (asks.Store name version bytes) (answers.No c) kind fits = asked_fits full (record q { ask = asks.Store name version bytes }) (inputs.Stale c) tt
   by_answer full q (asks.Store name version bytes) (answers.Copy c) kind fits = absurd (true≢false (sym fits))
   by_answer full q (asks.Store name version bytes) answers.Dropped kind fits = f
 

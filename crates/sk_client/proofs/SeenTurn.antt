@@ -1,6 +1,6 @@
 -- A turn in a world of the laws, and in one that is seen so.
 use Rattle.std.proofs.Common.{◌≡◌, ℕ, suc, ◌+◌, ◌-◌, ◌≤◌, ◌<◌, Bool, true, false, ◌&&◌, ◌||◌, cond, List, [], ◌∷◌, ◌++◌, map, length, Option, Some, None, Result, Ok, Err, refl, sym, ◌∙◌, ap, subst, arith}
-use Rattle.std.specs.Prelude.{◌==◌, nat_le, nat_lt, is_ok, not}
+use Rattle.std.specs.Prelude.{◌==◌, nat_le, nat_lt, is_ok, is_some, not}
 use Rattle.std.specs.FinMap.{get}
 use Rattle.std.proofs.lemmas.Bool.{ltb-false, leb-false, le-leb, lt-ltb, eqb-true, eq-eqb}
 use Rattle.std.proofs.lemmas.List.{append_assoc, map-append}
@@ -27,7 +27,7 @@ use Rattle.sk_plain.specs.declared.next.Next.{Next}
 use Rattle.sk_plain.specs.declared.next.Next.TheVariants as nexts
 use Rattle.sk_plain.specs.declared.refusal.Refusal.{Refusal}
 use Rattle.sk_plain.specs.declared.refusal.Refusal.TheVariants.{Blocked, TooMany, TraceFull}
-use Rattle.sk_kernel.specs.Kernel.{KernelView, events_of, state_at, undecided_at, next_guess, last_guess, number_after, room, effect_at, or_else, guess_misfits, too_many, with_event}
+use Rattle.sk_kernel.specs.Kernel.{KernelView, events_of, state_at, undecided_at, next_guess, last_guess, number_after, room, effect_at, or_else, is_other, or_full, no_room, step_misfit, guess_misfits, too_many, with_event}
 use Rattle.sk_kernel.specs.Laws.{HasSoundTrace}
 use Rattle.sk_kernel.proofs.Lawful.{below_next}
 use Rattle.sk_kernel.proofs.Further.{epoch_step, epoch_guess}
@@ -60,6 +60,21 @@ input_back inputs.None = refl
 input_back inputs.Good = refl
 input_back (inputs.Fresh c) = refl
 input_back (inputs.Stale c) = refl
+
+full_next : (d : DeskView) (pid : ℕ) (some : Bool) (next : Next) → rule_next d pid (cond (is_other next && some) nexts.Full next) ≡ rule_next d pid next
+full_next d pid true nexts.Other = refl
+full_next d pid false nexts.Other = refl
+full_next d pid some nexts.Full = refl
+full_next d pid some nexts.Waits = refl
+full_next d pid some nexts.Private = refl
+full_next d pid some nexts.Signal = refl
+full_next d pid some (nexts.Fetch name) = refl
+full_next d pid some (nexts.Store name) = refl
+
+-- a step without room has the rule of any other
+rule_full : (d : DeskView) (pid : ℕ) (full : Option Refusal) (r : Result Next Refusal) → rule_of d pid (or_full full r) ≡ rule_of d pid r
+rule_full d pid full (Err why) = refl
+rule_full d pid full (Ok next) = ap (cond (asks_for pid (pending d)) (Err Blocked)) (full_next d pid (is_some full) next)
 
 pub ok_of : (r : Result Did Refusal) → refusal_of r ≡ None → (g : Did) × (r ≡ Ok g)
 ok_of (Ok g) h = (g, refl)
@@ -171,8 +186,8 @@ module _ (xs : Exchanges) (w : World ℕ Bytes Bytes) (v : WorldView) (f : Fits 
   steps_fit : (p : ℕ) (input : Input) → rule_refused v.desk p (rules.Steps input) ≡ None
       → Fits xs (used (table v.desk.kernel.scripts v.desk.kernel.limit) v.desk.kernel.start w p (law_input input)) (record v { desk = turned v.desk p (rules.Steps input) })
   steps_fit p input h =
-      let none = none_first (refusal_of (effect_at K (entry p input None))) (no_place v.desk 1) h in
-      let room = places_free 1 (omega arith) (none_later (refusal_of (effect_at K (entry p input None))) (no_place v.desk 1) h) in
+      let none = none_first (refusal_of (effect_at K (entry p input None))) (no_room (state_at K) (effect_at K (entry p input None))) (none_first (step_misfit K (entry p input None)) (no_place v.desk 1) h) in
+      let room = places_free 1 (omega arith) (none_later (step_misfit K (entry p input None)) (no_place v.desk 1) h) in
       let g = ok_of (effect_at K (entry p input None)) none in
       let same : used (table K.scripts K.limit) K.start w p (law_input input) ≡ with_kept (stepping p (law_input input)) (law_kept_for (table K.scripts K.limit) p None w.kept) =
       (λ i. cond (room i) (used_by (table K.scripts K.limit) K.start w p (law_input input) ((does_seen p input ∙ g.1) i)) w) in
@@ -191,8 +206,8 @@ module _ (xs : Exchanges) (w : World ℕ Bytes Bytes) (v : WorldView) (f : Fits 
   plain_fits : (p : ℕ) → kept_for p v.desk.kept ≡ None → rule_refused v.desk p (rules.Steps inputs.None) ≡ None
       → Fits xs (other (table v.desk.kernel.scripts v.desk.kernel.limit) v.desk.kernel.start w p None) (record v { desk = turned v.desk p (rules.Steps inputs.None) })
   plain_fits p empty h =
-      let none = none_first (refusal_of (effect_at K (entry p inputs.None None))) (no_place v.desk 1) h in
-      let room = places_free 1 (omega arith) (none_later (refusal_of (effect_at K (entry p inputs.None None))) (no_place v.desk 1) h) in
+      let none = none_first (refusal_of (effect_at K (entry p inputs.None None))) (no_room (state_at K) (effect_at K (entry p inputs.None None))) (none_first (step_misfit K (entry p inputs.None None)) (no_place v.desk 1) h) in
+      let room = places_free 1 (omega arith) (none_later (step_misfit K (entry p inputs.None None)) (no_place v.desk 1) h) in
       let g = ok_of (effect_at K (entry p inputs.None None)) none in
       let same : other (table K.scripts K.limit) K.start w p None ≡ stepping p Nothing =
       (λ i. cond (room i) (stepped_by (table K.scripts K.limit) K.start w (own p Nothing) ((does_seen p inputs.None ∙ g.1) i)) w) in
@@ -400,6 +415,7 @@ module _ (xs : Exchanges) (w : World ℕ Bytes Bytes) (v : WorldView) (f : Fits 
         (by_name (asks_on name (pending v.desk)) (unless_kept kept (store_rule name bytes (cached K name))) (stored (table K.scripts K.limit) K.start w p name bytes (law_kept kept) (cached K name)) (by_store name bytes kept (cached K name)) h)
     by_next nexts.Private h = by_else h
     by_next nexts.Waits h = by_else h
+    by_next nexts.Full h = by_else h
     by_next nexts.Other h = by_else h
 
     by_result : (n : Result Next Refusal) → ByRule (Ok turn) v.desk p new (rule_of v.desk p n)
@@ -417,4 +433,5 @@ module _ (xs : Exchanges) (w : World ℕ Bytes Bytes) (v : WorldView) (f : Fits 
         let same : event (table K.scripts K.limit) K.start w (Turn p)
         ≡ cond (asks_for p (pending v.desk)) w (law_turned (table K.scripts K.limit) K.start w p (turn_of (buffer K p) (next_of (get (state_at K)) K.scripts p))) =
         (λ i. cond (asks_for_seen xs w v f.seen p i) w (law_turned (table K.scripts K.limit) K.start w p (turn_of (buffer_of (get (state_seen xs w v f.seen i) (Proc p))) (next_of (get (state_seen xs w v f.seen i)) K.scripts p)))) in
-        subst (λ (x : World ℕ Bytes Bytes). Fits xs x (record v { desk = new })) (sym same) (by_result (next_of (get (state_at K)) K.scripts p) h)
+        subst (λ (x : World ℕ Bytes Bytes). Fits xs x (record v { desk = new })) (sym same)
+        (by_result (next_of (get (state_at K)) K.scripts p) (subst (ByRule (Ok turn) v.desk p new) (rule_full v.desk p (no_room (state_at K) (effect_at K (entry p inputs.None None))) (next_of (get (state_at K)) K.scripts p)) h))

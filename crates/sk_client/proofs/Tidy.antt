@@ -11,7 +11,7 @@ use Rattle.sk_record.specs.Run.{put}
 use Rattle.sk_record.proofs.Sets.{get-put}
 use Rattle.sk_ids.specs.Entity.{entity_cmp}
 use Rattle.sk_ids.specs.declared.entity.Entity.{Entity}
-use Rattle.sk_ids.specs.declared.entity.Entity.TheVariants.{Proc, Sig, Exit, Obj, Copy}
+use Rattle.sk_ids.specs.declared.entity.Entity.TheVariants.{Proc, Sig, Exit, Obj, Link, Copy}
 use Rattle.sk_ids.proofs.Entities.{entity_total, entity_exact}
 use Rattle.sk_objects.specs.Content.{ContentView}
 use Rattle.sk_objects.specs.declared.value.Value.TheVariants as values
@@ -108,6 +108,7 @@ IsPlace (Proc p) = ⊥
 IsPlace (Sig p) = Unit {0}
 IsPlace (Exit p) = Unit {0}
 IsPlace (Obj o) = Unit {0}
+IsPlace (Link o n) = Unit {0}
 IsPlace (Copy n) = ⊥
 
 pub tidy_place : (s : State) (e : Entity) (o : Option EntityState) → IsPlace e → IsTidy s → IsTidy (put s e o)

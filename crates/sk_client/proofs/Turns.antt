@@ -13,7 +13,7 @@ use Rattle.sk_store.specs.declared.entity_state.EntityState.TheVariants as store
 use Rattle.sk_plain.specs.declared.refusal.Refusal.{Refusal}
 use Rattle.sk_plain.specs.declared.refusal.Refusal.TheVariants.{NoProcess, Ended}
 use Rattle.sk_plain.specs.declared.next.Next.{Next}
-use Rattle.sk_plain.specs.declared.next.Next.TheVariants.{Signal, Fetch, Store, Private, Waits, Other}
+use Rattle.sk_plain.specs.declared.next.Next.TheVariants.{Signal, Fetch, Store, Private, Waits, Full, Other}
 use Rattle.sk_plain.specs.Act.{Scripts}
 use Rattle.sk_plain.specs.Next.{is_due, is_private, waits, next_instruction, next_going, next_at, next_of}
 use Rattle.sk_world.specs.World.{Next as Turn, Halted, Due, Fetches, Stores}
@@ -29,6 +29,7 @@ IsElse (Fetch name) = ⊥
 IsElse (Store name) = ⊥
 IsElse Private = Unit {0}
 IsElse Waits = Unit {0}
+IsElse Full = Unit {0}
 IsElse Other = Unit {0}
 
 abbrev IsNextAt : Option Instruction → Next → Type 0
@@ -64,6 +65,7 @@ fetch_turn buffer (Fetch other) name is = (let same : other ≡ name = cc in ap 
 fetch_turn buffer (Store other) name is = cc
 fetch_turn buffer Private name is = cc
 fetch_turn buffer Waits name is = cc
+fetch_turn buffer Full name is = cc
 fetch_turn buffer Other name is = cc
 
 store_turn : (buffer : Bytes) (n : Next) (name b : Bytes) → turn_of buffer (Ok n) ≡ Stores name b → (n ≡ Store name) × (buffer ≡ b)
@@ -72,6 +74,7 @@ store_turn buffer (Fetch other) name b is = cc
 store_turn buffer (Store other) name b is = (let same : other ≡ name = cc in let bytes : buffer ≡ b = cc in (ap Store same, bytes))
 store_turn buffer Private name b is = cc
 store_turn buffer Waits name b is = cc
+store_turn buffer Full name b is = cc
 store_turn buffer Other name b is = cc
 
 not_due : (buffer : Bytes) (due : Bool) (n : Next) (t : Turn Bytes Bytes) → (t ≡ Due → ⊥) → turn_of buffer (Ok (cond due Signal n)) ≡ t → turn_of buffer (Ok n) ≡ t

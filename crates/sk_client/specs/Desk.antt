@@ -13,13 +13,11 @@ use Rattle.sk_script.specs.declared.instruction.Input.TheVariants as inputs
 use Rattle.sk_trace.specs.Entry.{EntryView}
 use Rattle.sk_trace.specs.declared.event.Event.{Event}
 use Rattle.sk_trace.specs.declared.event.Event.TheVariants as events
-use Rattle.sk_plain.specs.Next.{next_of}
-use Rattle.sk_plain.specs.Planned.{refusal_of}
 use Rattle.sk_plain.specs.declared.next.Next.{Next}
 use Rattle.sk_plain.specs.declared.next.Next.TheVariants as nexts
 use Rattle.sk_plain.specs.declared.refusal.Refusal.{Refusal}
 use Rattle.sk_plain.specs.declared.refusal.Refusal.TheVariants.{Blocked, TooMany, TraceFull}
-use Rattle.sk_kernel.specs.Kernel.{KernelView, kernel_code, state_at, tags_at, undecided_at, next_guess, settled, room, effect_at, or_else, guess_misfits, too_many, step_refused, with_event}
+use Rattle.sk_kernel.specs.Kernel.{KernelView, kernel_code, state_at, tags_at, undecided_at, next_guess, settled, room, effect_at, next_at, or_else, guess_misfits, too_many, step_misfit, step_refused, with_event}
 use Rattle.sk_holder.specs.Tokens.{commits}
 use Rattle.sk_server.specs.declared.request.Ask.{Ask}
 use Rattle.sk_server.specs.declared.request.Ask.TheVariants.{Get, Check, Store}
@@ -145,7 +143,7 @@ rule_of d pid (Err why) = Err why
 rule_of d pid (Ok next) = if asks_for pid (pending d) then Err Blocked else rule_next d pid next
 
 abbrev pub rule : DeskView → ℕ → Result Rule Refusal
-rule d pid = rule_of d pid (next_of (get (state_at d.kernel)) d.kernel.scripts pid)
+rule d pid = rule_of d pid (next_at d.kernel pid)
 
 -- ---- why a turn is refused: the first cause, want of memory aside
 
@@ -164,7 +162,7 @@ guess_refused_at d pid =
     (or_else (too_many d.kernel) (or_else (no_number d) (no_place d 2)))
 
 abbrev pub rule_refused : DeskView → ℕ → Rule → Option Refusal
-rule_refused d pid (rules.Steps input) = or_else (refusal_of (effect_at d.kernel (entry pid input None))) (no_place d 1)
+rule_refused d pid (rules.Steps input) = or_else (step_misfit d.kernel (entry pid input None)) (no_place d 1)
 rule_refused d pid (rules.Guesses ask) = guess_refused_at d pid
 rule_refused d pid (rules.Asks ask) = or_else (no_number d) (no_place d 1)
 

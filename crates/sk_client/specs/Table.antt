@@ -16,7 +16,7 @@ use Rattle.sk_store.specs.declared.entity_state.EntityState.TheVariants as store
 use Rattle.sk_trace.specs.Entry.{EntryView}
 use Rattle.sk_plain.specs.declared.refusal.Refusal.{Refusal}
 use Rattle.sk_plain.specs.declared.next.Next.{Next}
-use Rattle.sk_plain.specs.declared.next.Next.TheVariants.{Signal, Fetch, Store, Private, Waits, Other}
+use Rattle.sk_plain.specs.declared.next.Next.TheVariants.{Signal, Fetch, Store, Private, Waits, Full, Other}
 use Rattle.sk_plain.specs.Act.{Scripts, Saying, act}
 use Rattle.sk_plain.specs.Next.{next_of}
 use Rattle.sk_world.specs.Requests.{Input as Reply, Content, Nothing, Good, Fresh, Stale, Entry}
@@ -57,6 +57,7 @@ turn_of buffer (Ok (Fetch name)) = Fetches name
 turn_of buffer (Ok (Store name)) = Stores name buffer
 turn_of buffer (Ok Private) = Else
 turn_of buffer (Ok Waits) = Else
+turn_of buffer (Ok Full) = Else
 turn_of buffer (Ok Other) = Else
 turn_of buffer (Err why) = Halted
 

@@ -366,7 +366,7 @@ impl Desk {
                 }
                 store_rule(name, self.buffer(pid), self.cached(&name))
             }
-            Next::Private | Next::Waits | Next::Other => Rule::Steps(Input::None),
+            Next::Private | Next::Waits | Next::Full | Next::Other => Rule::Steps(Input::None),
         };
         Ok(unless_kept(kept_for(&self.kept, pid), rule))
     }

@@ -8,7 +8,7 @@ use Rattle.sk_record.specs.Same.{IsExact}
 use Rattle.sk_record.proofs.Exact.{exact_from, exact_option}
 use Rattle.sk_ids.specs.declared.pid.ObjId.{ObjId}
 use Rattle.sk_ids.specs.declared.entity.Entity.{Entity}
-use Rattle.sk_ids.specs.declared.entity.Entity.TheVariants.{Proc, Sig, Exit, Obj, Copy}
+use Rattle.sk_ids.specs.declared.entity.Entity.TheVariants.{Proc, Sig, Exit, Obj, Link, Copy}
 use Rattle.sk_ids.specs.contracts.text.TextPartialEq.TheImpl as text
 use Rattle.sk_ids.specs.contracts.pid.ObjIdPartialEq.TheImpl as object
 use Rattle.sk_ids.specs.contracts.pid.ObjIdEq.TheImpl.Laws.{laws-law as object_laws}
@@ -39,6 +39,10 @@ entity_from (Proc p) (Proc q) h = ap Proc ((unsigned_Decides p q).0 h)
 entity_from (Sig p) (Sig q) h = ap Sig ((unsigned_Decides p q).0 h)
 entity_from (Exit p) (Exit q) h = ap Exit ((unsigned_Decides p q).0 h)
 entity_from (Obj p) (Obj q) h = ap Obj ((exact_object p q).0 h)
+entity_from (Link o n) (Link u m) h =
+    let at = (exact_object o u).0 (first_so ((object.ghosts).eq o u) (pointwise nat_eq n m) h) in
+    let name = (exact_bytes n m).0 (second_so ((object.ghosts).eq o u) (pointwise nat_eq n m) h) in
+    λ i. Link (at i) (name i)
 entity_from (Copy p) (Copy q) h = ap Copy ((exact_bytes p q).0 h)
 entity_from _ _ h = cc
 

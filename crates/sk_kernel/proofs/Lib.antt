@@ -16,3 +16,4 @@ pub mod Appended
 pub mod Noted
 mod Epochs
 pub mod Further
+mod Rooms

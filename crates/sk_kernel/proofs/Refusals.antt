@@ -1,21 +1,27 @@
 -- Why a step or a guess is refused, or that it is not, from what the machine does at its entry.
-use Rattle.std.proofs.Common.{◌≡◌, ℕ, ◌<◌, ◌≤◌, Bool, true, false, cond, Option, Some, None, Result, Ok, Err, sym, ◌∙◌, ap, arith}
+use Rattle.std.proofs.Common.{◌≡◌, ℕ, ◌<◌, ◌≤◌, Bool, true, false, cond, Option, Some, None, Result, Ok, Err, sym, ◌∙◌, ap, subst, arith}
 use Rattle.std.specs.Prelude.{nat_lt}
+use Rattle.std.specs.FinMap as map
 use Rattle.std.proofs.lemmas.Bool.{lt-ltb, le-ltb}
 use Rattle.sk_record.specs.Step.{Effect, perform}
 use Rattle.sk_ids.specs.declared.entity.Entity.{Entity}
+use Rattle.sk_ids.specs.declared.pid.ObjId.{ObjId}
 use Rattle.sk_guesses.specs.Guesses.{is_full}
 use Rattle.sk_store.specs.declared.entity_state.EntityState.{EntityState}
+use Rattle.sk_store.specs.Names.{IsCount, name_there, names_in}
+use Rattle.sk_store.proofs.Names.{names_counted}
 use Rattle.sk_undo.specs.Logs.{look_at}
 use Rattle.sk_trace.specs.Entry.{EntryView}
 use Rattle.sk_plain.specs.Act.{act, Saying}
+use Rattle.sk_plain.specs.Adds.{adds_in}
 use Rattle.sk_plain.specs.Planned.{refusal_of}
 use Rattle.sk_plain.specs.declared.refusal.Refusal.{Refusal}
-use Rattle.sk_plain.specs.declared.refusal.Refusal.TheVariants.{TooMany, TraceFull}
+use Rattle.sk_plain.specs.declared.refusal.Refusal.TheVariants.{NoRoom, TooMany, TraceFull}
 use Rattle.sk_machine.specs.Parts.{Parts}
-use Rattle.sk_kernel.specs.Kernel.{KernelView, or_else, trace_full, room, effect_at, step_refused, guess_misfits, too_many, guess_refused}
+use Rattle.sk_kernel.specs.Kernel.{KernelView, or_else, trace_full, room, effect_at, state_at, crowded, no_room, step_misfit, step_refused, guess_misfits, too_many, guess_refused}
 use Rattle.sk_kernel.specs.Invariant.{IsWhole}
-use Rattle.sk_kernel.proofs.Whole.{same_effect}
+use Rattle.sk_kernel.specs.Room.{TellsRoom}
+use Rattle.sk_kernel.proofs.Whole.{look_is, same_effect}
 use Rattle.sk_kernel.proofs.Tokens.{full_is}
 
 short_of_room : (k : KernelView) (n r : ℕ) → r ≡ room k → r < n → trace_full k n ≡ Some TraceFull
@@ -32,20 +38,38 @@ module _ (k : KernelView) (m : Parts) (place : ℕ) (whole : IsWhole k m place) 
   no_place places = trace_full k places
 
   -- ---- a step
-  step_by : (r : Result (Effect Entity EntityState Saying) Refusal) → does ≡ r → step_refused k n ≡ or_else (refusal_of r) (no_place 1)
-  step_by r is = ap (λ r. or_else (refusal_of r) (no_place 1)) (sym (same_effect k m whole.stands n) ∙ is)
+  step_by : (r : Result (Effect Entity EntityState Saying) Refusal) → does ≡ r → step_refused k n ≡ or_else (or_else (refusal_of r) (no_room (state_at k) r)) (no_place 1)
+  step_by r is = ap (λ r. or_else (or_else (refusal_of r) (no_room (state_at k) r)) (no_place 1)) (sym (same_effect k m whole.stands n) ∙ is)
+
+  -- how many names a directory has is what the machine counts
+  room_is : (d : Option ObjId) (b : Bool) → TellsRoom m.slots d b → crowded (state_at k) d ≡ cond b (Some NoRoom) None
+  room_is None b tells = ap (λ b. cond b (Some NoRoom) None) (sym tells)
+  room_is (Some d) b tells =
+      let counted = names_in (state_at k) d in
+      let look : map.get (state_at k) ≡ look_at m.slots = (λ i e. sym (look_is k m whole.stands e) i) in
+      ap (λ b. cond b (Some NoRoom) None) (sym (tells counted (subst (λ (l : Entity → Option EntityState). IsCount (name_there l) d counted) look (names_counted (state_at k) d))))
+
+  pub step_room : (f : Effect Entity EntityState Saying) (d : Option ObjId) (b : Bool) → adds_in f.written ≡ d → TellsRoom m.slots d b → no_room (state_at k) (Ok f) ≡ cond b (Some NoRoom) None
+  step_room f d b adds tells = ap (crowded (state_at k)) adds ∙ room_is d b tells
+
+  pub step_crowded : (f : Effect Entity EntityState Saying) → does ≡ Ok f → no_room (state_at k) (Ok f) ≡ Some NoRoom → step_refused k n ≡ Some NoRoom
+  step_crowded f is none = step_by (Ok f) is ∙ ap (λ o. or_else (or_else None o) (no_place 1)) none
 
   pub step_misfits : (why : Refusal) → does ≡ Err why → step_refused k n ≡ Some why
   step_misfits why is = step_by (Err why) is
 
-  pub step_without_room : (f : Effect Entity EntityState Saying) (r : ℕ) → does ≡ Ok f → r ≡ room k → r < 1 → step_refused k n ≡ Some TraceFull
-  step_without_room f r is has_room less = step_by (Ok f) is ∙ short_of_room k 1 r has_room less
+  pub step_without_room : (f : Effect Entity EntityState Saying) (r : ℕ) → does ≡ Ok f → no_room (state_at k) (Ok f) ≡ None → r ≡ room k → r < 1 → step_refused k n ≡ Some TraceFull
+  step_without_room f r is free has_room less = step_by (Ok f) is ∙ ap (λ o. or_else (or_else None o) (no_place 1)) free ∙ short_of_room k 1 r has_room less
 
-  pub step_free : (f : Effect Entity EntityState Saying) (r : ℕ) → does ≡ Ok f → r ≡ room k → 1 ≤ r → step_refused k n ≡ None
-  step_free f r is has_room least = step_by (Ok f) is ∙ room_enough k 1 r has_room least
+  pub step_free : (f : Effect Entity EntityState Saying) (r : ℕ) → does ≡ Ok f → no_room (state_at k) (Ok f) ≡ None → r ≡ room k → 1 ≤ r → step_refused k n ≡ None
+  step_free f r is free has_room least = step_by (Ok f) is ∙ ap (λ o. or_else (or_else None o) (no_place 1)) free ∙ room_enough k 1 r has_room least
 
-  pub step_why : (r : Result (Effect Entity EntityState Saying) Refusal) → does ≡ r → refusal_of (effect_at k n) ≡ refusal_of r
-  step_why r is = ap refusal_of (sym (same_effect k m whole.stands n) ∙ is)
+  pub step_why : (r : Result (Effect Entity EntityState Saying) Refusal) → does ≡ r → step_misfit k n ≡ or_else (refusal_of r) (no_room (state_at k) r)
+  step_why r is = ap (λ r. or_else (refusal_of r) (no_room (state_at k) r)) (sym (same_effect k m whole.stands n) ∙ is)
+
+  -- the room of a step, where it is asked for alone
+  pub room_why : (r : Result (Effect Entity EntityState Saying) Refusal) → does ≡ r → no_room (state_at k) (effect_at k n) ≡ no_room (state_at k) r
+  room_why r is = ap (no_room (state_at k)) (sym (same_effect k m whole.stands n) ∙ is)
 
   -- ---- a guess
   guess_by : (o : Option Refusal) → guess_misfits n.input does ≡ o → guess_refused k n ≡ or_else o (or_else (too_many k) (no_place 2))

@@ -1,5 +1,5 @@
 -- The kernel as its callers see it: its number, scripts, start, trace limit, the statuses of earlier epochs, and what was done in this one. All else follows by definition.
-use Rattle.std.specs.Prelude.{ℕ, ◌+◌, ◌-◌, ◌||◌, nat_le, nat_lt, List, [], ◌∷◌, ◌++◌, map, length, get_or, Option, Some, None, Result, Err, refl, if◌then◌else◌}
+use Rattle.std.specs.Prelude.{ℕ, ◌+◌, ◌-◌, ◌||◌, ◌&&◌, Bool, true, false, is_some, nat_le, nat_lt, List, [], ◌∷◌, ◌++◌, map, length, get_or, Option, Some, None, Result, Ok, Err, refl, if◌then◌else◌}
 use Rattle.std.specs.Coded.{Coded, code_by, coded×, coded_ℕ, coded_list}
 use Rattle.std.specs.List.{fold}
 use Rattle.std.specs.FinMap as map
@@ -15,12 +15,15 @@ use Rattle.sk_record.specs.Release.{said, said_with}
 use Rattle.sk_ids.specs.declared.entity.Entity.{Entity}
 use Rattle.sk_ids.specs.contracts.entity.Entity as entity
 use Rattle.sk_ids.specs.declared.guess.TheConstants.{LAST_GUESS}
+use Rattle.sk_ids.specs.declared.pid.ObjId.{ObjId}
+use Rattle.sk_kernel.specs.declared.room.TheConstants.{DIRECTORY_LIMIT}
 use Rattle.sk_guesses.specs.declared.guesses.TheConstants.{GUESS_LIMIT}
 use Rattle.sk_script.specs.Scripts.{ScriptMap, script_map_code}
 use Rattle.sk_script.specs.Boot.{BootView}
 use Rattle.sk_script.specs.declared.instruction.Input.{Input}
 use Rattle.sk_script.specs.declared.instruction.Input.TheVariants as inputs
 use Rattle.sk_store.specs.State.{State}
+use Rattle.sk_store.specs.Names.{names_in}
 use Rattle.sk_store.specs.Start.{start_of}
 use Rattle.sk_store.specs.declared.entity_state.EntityState.{EntityState}
 use Rattle.sk_store.specs.contracts.entity_state.EntityState as stored_row
@@ -29,10 +32,14 @@ use Rattle.sk_trace.specs.Trace.{event_code}
 use Rattle.sk_trace.specs.declared.event.Event.{Event}
 use Rattle.sk_trace.specs.declared.event.Event.TheVariants as events
 use Rattle.sk_plain.specs.Act.{plain, Saying}
+use Rattle.sk_plain.specs.Adds.{adds_in}
+use Rattle.sk_plain.specs.Next.{next_of}
+use Rattle.sk_plain.specs.declared.next.Next.{Next}
+use Rattle.sk_plain.specs.declared.next.Next.TheVariants as nexts
 use Rattle.sk_plain.specs.Planned.{refusal_of}
 use Rattle.sk_plain.specs.Replay.{image}
 use Rattle.sk_plain.specs.declared.refusal.Refusal.{Refusal}
-use Rattle.sk_plain.specs.declared.refusal.Refusal.TheVariants.{NoProcess, Ended, Mismatch, TooMany, TraceFull}
+use Rattle.sk_plain.specs.declared.refusal.Refusal.TheVariants.{NoProcess, Ended, Mismatch, NoRoom, TooMany, TraceFull}
 
 pub record KernelView : Type 0 where
   pub number : ℕ
@@ -131,11 +138,44 @@ or_else None later = later
 abbrev pub effect_at : KernelView → EntryView → Result (Effect Entity EntityState Saying) Refusal
 effect_at k n = outcome (plain k.scripts) (state_at k) n
 
+-- a directory that has as many names as may be gets no other
+abbrev pub crowded : State → Option ObjId → Option Refusal
+crowded s None = None
+crowded s (Some d) = if nat_le DIRECTORY_LIMIT (names_in s d) then Some NoRoom else None
+
+-- a step that would add a name to such a directory
+abbrev pub no_room : State → Result (Effect Entity EntityState Saying) Refusal → Option Refusal
+no_room s (Err why) = None
+no_room s (Ok f) = crowded s (adds_in f.written)
+
+abbrev pub is_other : Next → Bool
+is_other nexts.Other = true
+is_other nexts.Signal = false
+is_other (nexts.Fetch name) = false
+is_other (nexts.Store name) = false
+is_other nexts.Private = false
+is_other nexts.Waits = false
+is_other nexts.Full = false
+
+-- where a step without input that has no room is told apart
+abbrev pub or_full : Option Refusal → Result Next Refusal → Result Next Refusal
+or_full full (Ok next) = Ok (if is_other next && is_some full then nexts.Full else next)
+or_full full (Err why) = Err why
+
+-- what a process does next
+abbrev pub next_at : KernelView → ℕ → Result Next Refusal
+next_at k pid =
+    or_full (no_room (state_at k) (effect_at k (record { pid = pid; input = inputs.None; guess = None }))) (next_of (map.get (state_at k)) k.scripts pid)
+
 abbrev pub trace_full : KernelView → ℕ → Option Refusal
 trace_full k places = if nat_lt (room k) places then Some TraceFull else None
 
+-- the trace's limit aside
+abbrev pub step_misfit : KernelView → EntryView → Option Refusal
+step_misfit k n = or_else (refusal_of (effect_at k n)) (no_room (state_at k) (effect_at k n))
+
 abbrev pub step_refused : KernelView → EntryView → Option Refusal
-step_refused k n = or_else (refusal_of (effect_at k n)) (trace_full k 1)
+step_refused k n = or_else (step_misfit k n) (trace_full k 1)
 
 -- a guess needs an input
 abbrev pub misfit : Result (Effect Entity EntityState Saying) Refusal → Refusal

@@ -7,3 +7,4 @@ pub mod Opening
 pub mod OpeningLemma
 pub mod HandIn
 pub mod Notes
+pub mod Room

@@ -1,5 +1,5 @@
 //! The speculative kernel.
-ghost use Rattle.std.specs.Prelude.{◌≡◌, ◌↔◌, ℕ, true, length, IfOk, IfSome, MatchOption, None, Some, []};
+ghost use Rattle.std.specs.Prelude.{◌≡◌, ◌↔◌, ℕ, true, is_some, length, IfOk, IfSome, MatchOption, None, Some, []};
 ghost use Rattle.std.specs.FinMap as map;
 ghost use Rattle.std.specs.List.Sorted.{IsStrictlySortedBy};
 ghost use Rattle.sk_ids.specs.Entity.{entity_cmp};
@@ -7,13 +7,14 @@ ghost use Rattle.sk_record.specs.Effects.{is_in};
 ghost use Rattle.sk_record.specs.Notes.{has};
 ghost use Rattle.sk_ids.specs.declared.entity.Entity.{Entity};
 ghost use Rattle.sk_plain.specs.Next.{next_of};
-ghost use Rattle.sk_plain.specs.Planned.{refusal_of};
 ghost use Rattle.sk_plain.specs.Seen.{PlansStep};
 ghost use Rattle.sk_plain.specs.Refusal.{cause};
 ghost use Rattle.sk_plain.specs.View.{Shows};
+ghost use Rattle.sk_script.specs.declared.instruction.Input.TheVariants as inputs;
+ghost use Rattle.sk_store.specs.Names.{names_in};
 ghost use Rattle.sk_trace.specs.Kept.{input_in};
 ghost use Rattle.sk_trace.specs.declared.event.Event.TheVariants as events;
-ghost use Rattle.sk_kernel.specs.Kernel.{booted, state_at, undecided_at, tags_at, room, next_guess, settled, effect_at, or_else, guess_misfits, too_many, step_refused, guess_refused, HasStatus, RestsOn};
+ghost use Rattle.sk_kernel.specs.Kernel.{booted, state_at, undecided_at, tags_at, room, next_guess, settled, effect_at, is_other, next_at, no_room, step_misfit, or_else, guess_misfits, too_many, step_refused, guess_refused, HasStatus, RestsOn};
 ghost use Rattle.sk_kernel.specs.Footprint.{footprint_of};
 ghost use Rattle.sk_kernel.specs.Opening.{opening_of};
 ghost use Rattle.sk_kernel.specs.Laws.{HasSoundTrace};
@@ -22,9 +23,10 @@ ghost use Rattle.sk_record.specs.declared.status.Status.{Status};
 ghost use Rattle.sk_undo.specs.Logs.{look_at};
 ghost use Rattle.sk_terminal.specs.Terminals.{released_at};
 
+use crate::room::is_crowded;
 use crate::{Footprint, Opening};
 use sk_guesses::{Guess, Redeemed, Status};
-use sk_ids::{Entity, GuessId, Pid, TagSet};
+use sk_ids::{Entity, GuessId, ObjId, Pid, TagSet};
 use sk_machine::Machine;
 use sk_plain::{Event, InputRef, Next, Plan, Refusal, Trace, View, next_of, plan_step};
 use sk_script::{Boot, Input};
@@ -117,6 +119,13 @@ fn plan_guess(
         });
     }
     planned
+}
+
+/// Whether a process does next what has no name of its own.
+fn is_other(next: &Next) -> bool
+    ensures { result ≡ is_other next.now }
+{
+    matches!(next, Next::Other)
 }
 
 impl Kernel {
@@ -223,11 +232,11 @@ impl Kernel {
 
     /// Why a step would be refused, the trace's limit and want of memory aside.
     pub fn step_refusal(&self, pid: Pid, input: InputRef<'_>) -> Option<Refusal>
-        ensures exact { result ≡ refusal_of (effect_at self.now (record { pid = pid; input = (input_in input.entry); guess = None })) }
+        ensures exact { result ≡ step_misfit self.now (record { pid = pid; input = (input_in input.entry); guess = None }) }
         ensures told { IfSome result (λ why. cause why ≡ Some why) }
     {
         match plan_at(&self.machine, &self.opening, pid, input) {
-            Ok(_) => None,
+            Ok(plan) => is_crowded(&self.machine, &plan).then_some(Refusal::NoRoom),
             Err(why) => Some(why),
         }
     }
@@ -247,7 +256,7 @@ impl Kernel {
     }
 
     /// What the next step of a process with an input would read and write. Refused as the step would be, the
-    /// trace's limit aside. This takes no memory.
+    /// limits of the trace and of directories aside. This takes no memory.
     pub fn footprint(&self, pid: Pid, input: InputRef<'_>) -> Result<Footprint, Refusal>
         ensures { result ≡ footprint_of (effect_at self.now (record { pid = pid; input = (input_in input.entry); guess = None })) }
     {
@@ -260,11 +269,43 @@ impl Kernel {
         }
     }
 
-    /// What a process does next. Refused with `NoProcess` or `Ended`. This takes no memory.
-    pub fn next_of(&self, pid: Pid) -> Result<Next, Refusal>
+    /// What a process does next in the plain kernel.
+    fn plain_next(&self, pid: Pid) -> Result<Next, Refusal>
         ensures { result ≡ next_of (map.get (state_at self.now)) self.now.scripts pid }
     {
         next_of(&self.machine, self.opening.scripts(), pid)
+    }
+
+    /// What a process does next. Refused with `NoProcess` or `Ended`. This takes no memory.
+    pub fn next_of(&self, pid: Pid) -> Result<Next, Refusal>
+        ensures { result ≡ next_at self.now pid }
+    {
+        match self.plain_next(pid) {
+            Ok(next) => {
+                if is_other(&next) && self.lacks_room(pid) {
+                    return Ok(Next::Full);
+                }
+                Ok(next)
+            }
+            Err(why) => Err(why),
+        }
+    }
+
+    /// Whether the step of a process without input would add a name to a directory that has no room for it.
+    fn lacks_room(&self, pid: Pid) -> bool
+        ensures { result ≡ is_some (no_room (state_at self.now) (effect_at self.now (record { pid = pid; input = inputs.None; guess = None }))) }
+    {
+        match plan_at(&self.machine, &self.opening, pid, InputRef::None) {
+            Ok(plan) => is_crowded(&self.machine, &plan),
+            Err(_) => false,
+        }
+    }
+
+    /// How many names of a directory are there. This takes no memory.
+    pub fn names_of(&self, directory: &ObjId) -> usize
+        ensures { result ≡ names_in (state_at self.now) directory.now }
+    {
+        self.machine.names(directory)
     }
 
     /// Takes a step of a process with an input. After a refusal the kernel is as it was.
@@ -290,6 +331,9 @@ impl Kernel {
             Ok(plan) => plan,
             Err(why) => return Err(why),
         };
+        if is_crowded(&self.machine, &plan) {
+            return Err(Refusal::NoRoom);
+        }
         let _limit = self.opening.limit();
         if self.room() < 1 {
             return Err(Refusal::TraceFull);

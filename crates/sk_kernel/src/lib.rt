@@ -7,6 +7,7 @@ pub mod kernel;
 pub mod laws;
 pub mod notes;
 pub mod opening;
+pub mod room;
 
 pub use footprint::Footprint;
 pub use hand_in::HandIn;

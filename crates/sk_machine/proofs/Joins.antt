@@ -5,7 +5,7 @@ use Rattle.std.specs.Ordering.{eq_by_cmp}
 use Rattle.std.specs.Cmp.{Equal-is}
 use Rattle.sk_ids.specs.Entity.{entity_cmp}
 use Rattle.sk_ids.specs.declared.entity.Entity.{Entity}
-use Rattle.sk_ids.specs.declared.entity.Entity.TheVariants.{Proc, Sig, Exit, Obj, Copy}
+use Rattle.sk_ids.specs.declared.entity.Entity.TheVariants.{Proc, Sig, Exit, Obj, Link, Copy}
 use Rattle.sk_script.specs.declared.process.Process.{Process}
 use Rattle.sk_plain.specs.Planned.{written_beside, gone_in}
 use Rattle.sk_ids.proofs.Entities.{entity_exact}
@@ -47,6 +47,7 @@ process_apart (Proc p) pid h = absurd h
 process_apart (Sig p) pid h = refl
 process_apart (Exit p) pid h = refl
 process_apart (Obj o) pid h = refl
+process_apart (Link o n) pid h = refl
 process_apart (Copy n) pid h = refl
 
 process_first : (e : Entity) (pid : ℕ) → IsNoProcess e → eq_by_cmp entity_cmp (Proc pid) e ≡ false
@@ -54,6 +55,7 @@ process_first (Proc p) pid h = absurd h
 process_first (Sig p) pid h = refl
 process_first (Exit p) pid h = refl
 process_first (Obj o) pid h = refl
+process_first (Link o n) pid h = refl
 process_first (Copy n) pid h = refl
 
 abbrev pid_of : Entity → ℕ
@@ -61,6 +63,7 @@ pid_of (Proc p) = p
 pid_of (Sig p) = p
 pid_of (Exit p) = p
 pid_of (Obj o) = 0
+pid_of (Link o n) = 0
 pid_of (Copy n) = 0
 
 child_apart : (child pid : ℕ) → pid < child → eq_by_cmp entity_cmp (Proc child) (Proc pid) ≡ false

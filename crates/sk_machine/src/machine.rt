@@ -19,6 +19,7 @@ ghost use Rattle.sk_undo.specs.Decisions.{AllGrow, AllRest};
 ghost use Rattle.sk_machine.specs.Noted.{IsAtStart};
 ghost use Rattle.sk_ids.specs.Entity.{entity_cmp};
 ghost use Rattle.sk_ids.specs.declared.entity.Entity.{Entity};
+ghost use Rattle.sk_store.specs.Names.{IsCount, name_there};
 ghost use Rattle.sk_store.specs.Start.{start_of};
 ghost use Rattle.sk_undo.specs.Logs.{look_at};
 ghost use Rattle.sk_trace.specs.Kept.{input_in};
@@ -32,7 +33,7 @@ ghost use Rattle.sk_machine.specs.Performed.{entities_of, AreApart, IsClean, Per
 
 use crate::lists::{depend_all, relieve_all, tags_of};
 use sk_guesses::{Guess, Guesses, Redeemed, Status};
-use sk_ids::{Entity, GuessId, Pid, TagSet};
+use sk_ids::{Entity, GuessId, ObjId, Pid, TagSet};
 use sk_plain::{InputRef, Plan, perform_plan};
 use sk_script::{Boot, Scripts};
 use sk_store::{EntityState, Look, Store};
@@ -411,6 +412,13 @@ impl Machine {
         ensures { result ≡ next_of self.now.guesses }
     {
         self.guesses.next()
+    }
+
+    /// How many names of a directory are there. This takes no memory.
+    pub fn names(&self, directory: &ObjId) -> usize
+        ensures { IsCount (name_there (look_at self.now.slots)) directory.now result }
+    {
+        self.logs.names(directory)
     }
 
     /// What it takes its memory from.

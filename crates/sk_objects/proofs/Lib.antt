@@ -1,7 +1,6 @@
 pub mod Bytes
 pub mod FileLaw
 pub mod Joined
-pub mod Links
 pub mod Rings
 pub mod Same
 pub mod Seen

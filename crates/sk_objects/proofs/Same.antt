@@ -1,15 +1,15 @@
 -- The test that values derive is exact.
-use Rattle.std.specs.Prelude.{◌≡◌, true, nat_eq}
+use Rattle.std.specs.Prelude.{◌≡◌, true, nat_eq, refl}
 use Rattle.std.proofs.Common.{ap}
 use Rattle.std.specs.Cmp.{unsigned_Decides, first_so, second_so}
 use Rattle.sk_record.specs.Same.{IsExact}
 use Rattle.sk_record.proofs.Exact.{exact_from, exact_option}
 use Rattle.sk_ids.specs.contracts.text.TextPartialEq.TheImpl as text
-use Rattle.sk_ids.proofs.Same.{exact_text}
+use Rattle.sk_ids.proofs.Same.{exact_text, exact_object}
 use Rattle.sk_objects.specs.Content.{ContentView}
-use Rattle.sk_objects.specs.SameLemma.{exact_bytes, exact_pipe, exact_links}
+use Rattle.sk_objects.specs.SameLemma.{exact_bytes, exact_pipe}
 use Rattle.sk_objects.specs.declared.value.Value.{Value}
-use Rattle.sk_objects.specs.declared.value.Value.TheVariants.{File, Dir, Pipe, Signals, Exit, Copy}
+use Rattle.sk_objects.specs.declared.value.Value.TheVariants.{File, Dir, Link, Pipe, Signals, Exit, Copy}
 use Rattle.sk_objects.specs.contracts.content.ContentPartialEq.TheImpl as content
 use Rattle.sk_objects.specs.contracts.content.ContentEq.TheImpl.Laws.{laws-law as content_laws}
 use Rattle.sk_objects.specs.contracts.value.ValuePartialEq.TheImpl as value
@@ -26,7 +26,8 @@ exact_content = exact_from (content.ghosts).eq content_laws.refl content_from
 
 value_from : (a b : Value) → (value.ghosts).eq a b ≡ true → a ≡ b
 value_from (File f) (File g) h = ap File ((exact_bytes f g).0 h)
-value_from (Dir d) (Dir e) h = ap Dir ((exact_links d e).0 h)
+value_from Dir Dir h = refl
+value_from (Link a) (Link b) h = ap Link ((exact_object a b).0 h)
 value_from (Pipe p) (Pipe q) h = ap Pipe ((exact_pipe p q).0 h)
 value_from (Signals s) (Signals t) h = ap Signals ((exact_bytes s t).0 h)
 value_from (Exit s) (Exit t) h = ap Exit ((exact_option unsigned_Decides s t).0 h)

@@ -5,7 +5,6 @@ pub mod Slots
 pub mod Pipe
 pub mod Ring
 pub mod Signals
-pub mod Directory
 pub mod Value
 pub mod Same
 pub mod SameLemma

@@ -5,10 +5,8 @@ use Rattle.sk_ids.specs.declared.pid.ObjId.{ObjId}
 use Rattle.sk_ids.specs.declared.text.TheConstants.{TEXT_LIMIT}
 use Rattle.sk_objects.specs.File.{part}
 use Rattle.sk_objects.specs.Content.{ContentView}
-use Rattle.sk_objects.specs.Directory.{Link, IsRising, looked_up}
 use Rattle.sk_objects.specs.Signals.{IsSignal}
 use Rattle.sk_objects.specs.declared.file.TheConstants.{FILE_LIMIT}
-use Rattle.sk_objects.specs.declared.directory.TheConstants.{DIRECTORY_LIMIT}
 use Rattle.sk_objects.specs.declared.pipe.TheConstants.{PIPE_LIMIT}
 use Rattle.sk_objects.specs.declared.signals.TheConstants.{SIGNALS_LIMIT}
 use Rattle.sk_objects.specs.declared.content.TheConstants.{LAST_VERSION}
@@ -16,21 +14,23 @@ use Rattle.sk_objects.specs.declared.value.TheConstants.{LAST_STATUS}
 use Rattle.sk_objects.specs.declared.value.Kind.{Kind}
 use Rattle.sk_objects.specs.declared.value.Kind.TheVariants as kinds
 use Rattle.sk_objects.specs.declared.value.Value.{Value}
-use Rattle.sk_objects.specs.declared.value.Value.TheVariants.{File, Dir, Pipe, Signals, Exit, Copy}
+use Rattle.sk_objects.specs.declared.value.Value.TheVariants.{File, Dir, Link, Pipe, Signals, Exit, Copy}
 
 -- the kind of a value
 abbrev pub kind_of : Value → Kind
 kind_of (File f) = kinds.File
-kind_of (Dir d) = kinds.Dir
+kind_of Dir = kinds.Dir
+kind_of (Link o) = kinds.Link
 kind_of (Pipe p) = kinds.Pipe
 kind_of (Signals s) = kinds.Signals
 kind_of (Exit e) = kinds.Exit
 kind_of (Copy c) = kinds.Copy
 
--- the first value of a kind: nothing in it, open, not set, version 0
+-- the first value of a kind: nothing in it, open, not set, version 0 (a link has none: its case is never met)
 abbrev pub empty_of : Kind → Value
 empty_of kinds.File = File []
-empty_of kinds.Dir = Dir []
+empty_of kinds.Dir = Dir
+empty_of kinds.Link = Link (record { maker = None; count = 0 })
 empty_of kinds.Pipe = Pipe (record { bytes = []; shut = false })
 empty_of kinds.Signals = Signals []
 empty_of kinds.Exit = Exit None
@@ -56,15 +56,10 @@ abbrev pub shut_of : Value → Option Bool
 shut_of (Pipe p) = Some p.shut
 shut_of _ = None
 
--- the object of a name of a directory, where it is linked
-abbrev pub look_in : Value → List ℕ → Option (Option ObjId)
-look_in (Dir d) name = Some (looked_up d name)
-look_in _ name = None
-
--- the name at a place of a directory, by rising bytes, with its object
-abbrev pub link_at : Value → ℕ → Option Link
-link_at (Dir d) i = slice_get d i
-link_at _ i = None
+-- the object that a name is linked to
+abbrev pub target_of : Value → Option ObjId
+target_of (Link o) = Some o
+target_of _ = None
 
 -- the signal at a place of a queue, the oldest first
 abbrev pub queued_at : Value → ℕ → Option ℕ
@@ -94,7 +89,8 @@ IsContent c = (c.version ≤ LAST_VERSION) × (length c.bytes ≤ TEXT_LIMIT)
 
 abbrev pub IsValue : Value → Type 0
 IsValue (File f) = length f ≤ FILE_LIMIT
-IsValue (Dir d) = IsRising d × (length d ≤ DIRECTORY_LIMIT)
+IsValue Dir = Unit {0}
+IsValue (Link o) = Unit {0}
 IsValue (Pipe p) = length p.bytes ≤ PIPE_LIMIT
 IsValue (Signals s) = (length s ≤ SIGNALS_LIMIT) × All IsSignal s
 IsValue (Exit e) = IsStatus e

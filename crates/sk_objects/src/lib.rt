@@ -3,7 +3,6 @@
 
 pub mod block;
 pub mod content;
-pub mod directory;
 pub mod file;
 pub mod pipe;
 pub mod signals;
@@ -12,7 +11,6 @@ pub mod value;
 
 pub use block::Block;
 pub use content::Content;
-pub use directory::Directory;
 pub use file::File;
 pub use pipe::Pipe;
 pub use signals::Signals;

@@ -1,14 +1,14 @@
 //! What an entity holds.
-ghost use Rattle.std.specs.Prelude.{◌≡◌, ◌≤◌, min, IfOk, IfSome};
+ghost use Rattle.std.specs.Prelude.{◌≡◌, ◌≢◌, ◌≤◌, min, IfOk, IfSome};
 ghost use Rattle.sk_objects.specs.Content.{LAST_VERSION};
 ghost use Rattle.sk_ids.specs.declared.text.TheConstants.{TEXT_LIMIT};
 ghost use Rattle.sk_objects.specs.File.{part as bytes_part};
 ghost use Rattle.sk_objects.specs.declared.file.TheConstants.{FILE_LIMIT};
-ghost use Rattle.sk_objects.specs.Value.{kind_of, empty_of, bytes_from, size_of, shut_of, look_in, link_at, queued_at, status_of, version_of};
+ghost use Rattle.sk_objects.specs.Value.{kind_of, empty_of, bytes_from, size_of, shut_of, target_of, queued_at, status_of, version_of};
 
-use crate::{Content, Directory, File, Pipe, Signals};
+use crate::{Content, File, Pipe, Signals};
 use sk_ids::text::TEXT_LIMIT;
-use sk_ids::{Name, ObjId, Text};
+use sk_ids::{ObjId, Text};
 use std::alloc::{AllocError, Global};
 
 /// The greatest status of an exit slot.
@@ -19,8 +19,10 @@ pub const LAST_STATUS: u8 = u8::MAX;
 pub enum Value {
     /// A file.
     File(File),
-    /// A directory.
-    Dir(Directory),
+    /// A directory. Its names are entities of their own.
+    Dir,
+    /// A name of a directory: the object that it is linked to.
+    Link(ObjId),
     /// A pipe.
     Pipe(Pipe),
     /// A queue of signals.
@@ -36,6 +38,7 @@ pub enum Value {
 pub enum Kind {
     File,
     Dir,
+    Link,
     Pipe,
     Signals,
     Exit,
@@ -52,19 +55,28 @@ fn part(text: &Text, at: usize, count: usize) -> Text
 }
 
 impl Value {
-    /// The first value of a kind: empty, open, not set, version 0. The room that a directory, a pipe
+    /// The first value of a kind that is no link: empty, open, not set, version 0. The room that a pipe
     /// or a queue may need is made here.
     pub fn empty(alloc: Global, kind: Kind) -> Result<Value, AllocError>
+        requires { kind ≢ Kind.Link }
         ensures { IfOk result (λ value. value ≡ empty_of kind) }
     {
         Ok(match kind {
             Kind::File => Value::File(File::new(alloc)?),
-            Kind::Dir => Value::Dir(Directory::new(alloc)?),
+            Kind::Dir => Value::Dir,
+            Kind::Link => unreachable!(),
             Kind::Pipe => Value::Pipe(Pipe::new(alloc)?),
             Kind::Signals => Value::Signals(Signals::new(alloc)?),
             Kind::Exit => Value::Exit(None),
             Kind::Copy => Value::Copy(Content::new(0, Text::empty()).unwrap()),
         })
+    }
+
+    /// A name that is linked to this object. This takes no memory.
+    pub fn link(object: ObjId) -> Value
+        ensures { result ≡ Value.Link object }
+    {
+        Value::Link(object)
     }
 
     /// Another value that holds the same.
@@ -73,7 +85,8 @@ impl Value {
     {
         Ok(match self {
             Value::File(file) => Value::File(file.copy()?),
-            Value::Dir(directory) => Value::Dir(directory.copy()?),
+            Value::Dir => Value::Dir,
+            Value::Link(object) => Value::Link(*object),
             Value::Pipe(pipe) => Value::Pipe(pipe.copy()?),
             Value::Signals(signals) => Value::Signals(signals.copy()?),
             Value::Exit(status) => Value::Exit(*status),
@@ -87,7 +100,8 @@ impl Value {
     {
         match self {
             Value::File(_) => Kind::File,
-            Value::Dir(_) => Kind::Dir,
+            Value::Dir => Kind::Dir,
+            Value::Link(_) => Kind::Link,
             Value::Pipe(_) => Kind::Pipe,
             Value::Signals(_) => Kind::Signals,
             Value::Exit(_) => Kind::Exit,
@@ -133,24 +147,12 @@ impl Value {
         }
     }
 
-    /// The object that a directory has under a name, `Some(None)` where the name is not linked;
-    /// `None` for another kind.
-    pub fn look(&self, name: &Name) -> Option<Option<ObjId>>
-        ensures { result ≡ look_in self.now name.now }
+    /// The object that a name is linked to; `None` for another kind.
+    pub fn target(&self) -> Option<ObjId>
+        ensures { result ≡ target_of self.now }
     {
         match self {
-            Value::Dir(directory) => Some(directory.look(name)),
-            _ => None,
-        }
-    }
-
-    /// The name at a place of a directory, by rising bytes, with its object; `None` past the last,
-    /// and for another kind.
-    pub fn name_at(&self, place: usize) -> Option<(Name, ObjId)>
-        ensures { result ≡ link_at self.now place }
-    {
-        match self {
-            Value::Dir(directory) => directory.at(place),
+            Value::Link(object) => Some(*object),
             _ => None,
         }
     }

@@ -1,5 +1,5 @@
 -- A private instruction of a lease is a step of its process without input, which looks at the process and its signals and writes the process alone.
-use Rattle.std.proofs.Common.{◌≡◌, ℕ, zero, suc, length, Bool, true, false, cond, not, ◌&&◌, ◌||◌, List, [], ◌∷◌, map, Option, Some, None, Ok, refl, sym, ◌∙◌, ap, subst, arith}
+use Rattle.std.proofs.Common.{◌≡◌, ℕ, zero, suc, length, Bool, true, false, cond, not, ◌&&◌, ◌||◌, List, [], ◌∷◌, Option, Some, None, Ok, refl, sym, ◌∙◌, ap, subst, arith}
 use Rattle.std.specs.Prelude.{◌==◌, is_some, slice_get, option_and_then, unwrap_or, if◌then◌else◌}
 use Rattle.std.specs.List.{list_any}
 use Rattle.std.specs.FinMap.{get}
@@ -25,9 +25,9 @@ use Rattle.sk_script.specs.Registers.{held}
 use Rattle.sk_ids.specs.Pid.{boot_pid}
 use Rattle.sk_store.specs.declared.entity_state.EntityState.{EntityState}
 use Rattle.sk_store.specs.declared.entity_state.EntityState.TheVariants as stored
-use Rattle.sk_plain.specs.Act.{Scripts, act, plain, goes_on, with_input, with_signals, due, handled, does, private_or, instruction_of, row}
+use Rattle.sk_plain.specs.Act.{Scripts, act, plain, goes_on, with_input, with_signals, handled, does, private_or, instruction_of, row}
 use Rattle.sk_plain.specs.Rows.{alone}
-use Rattle.sk_plain.specs.Next.{is_due, takes_signal}
+use Rattle.sk_plain.specs.Next.{is_due}
 use Rattle.sk_plain.specs.Processes.{KILL, KILLED, ended_with}
 
 -- the process runs this script, and no signal is due
@@ -92,7 +92,8 @@ undisturbed_does pid p i (Some (stored.Value (values.Signals queue))) h =
     let parts = or_parts _ _ h in
     ap (λ b. cond b (ended_with pid p KILLED) (handled pid p i queue p.handler p.saved)) parts.0 ∙ not_due pid p i queue p.handler p.saved parts.1
 undisturbed_does pid p i (Some (stored.Value (values.File bytes))) h = refl
-undisturbed_does pid p i (Some (stored.Value (values.Dir links))) h = refl
+undisturbed_does pid p i (Some (stored.Value values.Dir)) h = refl
+undisturbed_does pid p i (Some (stored.Value (values.Link object))) h = refl
 undisturbed_does pid p i (Some (stored.Value (values.Pipe pipe))) h = refl
 undisturbed_does pid p i (Some (stored.Value (values.Exit status))) h = refl
 undisturbed_does pid p i (Some (stored.Value (values.Copy content))) h = refl
@@ -145,7 +146,8 @@ module _ (look : Entity → Option EntityState) (scripts : Scripts) (pid : ℕ) 
         as_before : (o : Option EntityState) → Keeps p q → is_due q o ≡ is_due p o
         as_before (Some (stored.Value (values.Signals queue))) keeps = λ i. list_any (λ n. n == KILL) queue || (not (length queue == 0) && (is_some (keeps.handler i) && not (is_some (keeps.saved i))))
         as_before (Some (stored.Value (values.File bytes))) keeps = refl
-        as_before (Some (stored.Value (values.Dir links))) keeps = refl
+        as_before (Some (stored.Value values.Dir)) keeps = refl
+        as_before (Some (stored.Value (values.Link object))) keeps = refl
         as_before (Some (stored.Value (values.Pipe pipe))) keeps = refl
         as_before (Some (stored.Value (values.Exit status))) keeps = refl
         as_before (Some (stored.Value (values.Copy content))) keeps = refl

@@ -1,5 +1,5 @@
 -- A process after a write of another entity, on whatever performs writes.
-use Rattle.std.proofs.Common.{◌≡◌, ◌<◌, ℕ, Bool, true, false, Option, Some, Result, Ok, Err, refl, sym, ap, subst, ◌∙◌, arith}
+use Rattle.std.proofs.Common.{◌≡◌, ◌<◌, ℕ, true, false, Option, Some, Result, Ok, Err, refl, sym, ap, subst, ◌∙◌, arith}
 use Rattle.std.specs.Prelude.{OnOk}
 use Rattle.std.specs.Ordering.{eq_by_cmp}
 use Rattle.std.specs.Cmp.{Equal-is}
@@ -7,7 +7,7 @@ use Rattle.std.specs.Result.{is_err}
 use Rattle.std.proofs.lemmas.Bool.{true≢false}
 use Rattle.sk_ids.proofs.Entities.{entity_exact}
 use Rattle.sk_ids.specs.declared.entity.Entity.{Entity}
-use Rattle.sk_ids.specs.declared.entity.Entity.TheVariants.{Proc, Sig, Exit, Obj, Copy}
+use Rattle.sk_ids.specs.declared.entity.Entity.TheVariants.{Proc, Sig, Exit, Obj, Link, Copy}
 use Rattle.sk_ids.specs.Entity.{entity_cmp}
 use Rattle.sk_script.specs.declared.process.Process.{Process}
 use Rattle.sk_store.specs.Processes.{CanBecome, became}
@@ -24,6 +24,7 @@ apart_from pid (Proc p) h = absurd h
 apart_from pid (Sig p) h = refl
 apart_from pid (Exit p) h = refl
 apart_from pid (Obj o) h = refl
+apart_from pid (Link o n) h = refl
 apart_from pid (Copy n) h = refl
 
 pub from_ok : {A E P : Type 0} (r : Result A E) → false ≡ is_err r → OnOk r P → P
@@ -35,6 +36,7 @@ pid_of (Proc p) = p
 pid_of (Sig p) = p
 pid_of (Exit p) = p
 pid_of (Obj o) = 0
+pid_of (Link o n) = 0
 pid_of (Copy n) = 0
 
 -- nor is a greater one

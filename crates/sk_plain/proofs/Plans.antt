@@ -24,16 +24,18 @@ use Rattle.sk_plain.specs.declared.plan.Plan.{Plan}
 use Rattle.sk_plain.specs.declared.plan.Plan.TheVariants.{Private, Speaks, Received, Forks, Acts}
 use Rattle.sk_plain.specs.declared.plan.Row.{Row}
 use Rattle.sk_plain.specs.declared.plan.Beside.{Beside}
-use Rattle.sk_plain.specs.declared.plan.Beside.TheVariants.{Nothing, One}
+use Rattle.sk_plain.specs.declared.plan.Beside.TheVariants.{Nothing, One, Gone}
 
 -- a row says nothing
 pub row_quiet : (q p : Process) (b : Beside) → said_in q (beside_of p b) ≡ None
 row_quiet q p Nothing = refl
 row_quiet q p (One e w) = refl
+row_quiet q p (Gone e) = refl
 
 row_written : (p : Process) (pid : ℕ) (b : Beside) → written_by pid (beside_of p b) ≡ written_row pid b
 row_written p pid Nothing = refl
 row_written p pid (One e w) = refl
+row_written p pid (Gone e) = refl
 
 -- what a plan writes
 pub written_is : (look : Entity → Option EntityState) (scripts : Scripts) (pid : ℕ) (input : Input) (plan : Plan) → written_by pid (seen_with look scripts pid input plan).beside ≡ written_in pid plan

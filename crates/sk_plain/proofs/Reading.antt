@@ -1,17 +1,12 @@
 -- The bytes that come to a process's buffer.
-use Rattle.std.proofs.Common.{◌≡◌, ℕ, ◌+◌, ◌<◌, ◌≤◌, ◌^◌, List, [], ◌∷◌, length, take, min, Option, Some, None, Ok, refl, sym, ◌∙◌, ap, arith}
+use Rattle.std.proofs.Common.{◌≡◌, ℕ, ◌+◌, ◌<◌, ◌≤◌, ◌^◌, List, [], ◌∷◌, length, Option, Some, None, Ok, sym, ◌∙◌, ap}
 use Rattle.std.proofs.lemmas.List.{take_all}
 use Rattle.sk_record.specs.Step.{Ask, perform, with_read}
 use Rattle.sk_ids.specs.declared.entity.Entity.{Entity}
-use Rattle.sk_ids.specs.declared.entity.Entity.TheVariants.{Proc, Copy, Obj}
-use Rattle.sk_ids.specs.declared.pid.ObjId.{ObjId}
+use Rattle.sk_ids.specs.declared.entity.Entity.TheVariants.{Proc, Copy}
 use Rattle.sk_objects.specs.Content.{ContentView}
-use Rattle.sk_objects.specs.Pipe.{PipeView}
 use Rattle.sk_objects.specs.declared.value.Value.TheVariants as values
-use Rattle.sk_changes.specs.declared.change.Change.TheVariants as changes
-use Rattle.sk_changes.specs.Changes.{value_after}
 use Rattle.sk_script.specs.declared.process.Process.{Process}
-use Rattle.sk_store.specs.Changed.{changed}
 use Rattle.sk_store.specs.declared.entity_state.EntityState.{EntityState}
 use Rattle.sk_store.specs.declared.entity_state.EntityState.TheVariants as stored
 use Rattle.sk_plain.specs.Rows.{filled}

@@ -19,7 +19,7 @@ use Rattle.sk_plain.specs.Planned.{written_beside, gone_in, writes_of, wrote_all
 use Rattle.sk_store.specs.declared.entity_state.EntityState.{EntityState}
 use Rattle.sk_store.specs.declared.entity_state.EntityState.TheVariants as stored
 use Rattle.sk_plain.specs.declared.refusal.Refusal.{Refusal}
-use Rattle.sk_plain.specs.declared.refusal.Refusal.TheVariants.{NoProcess, Ended, Mismatch, NeedsReply, Blocked, TooMany, TraceFull, Memory}
+use Rattle.sk_plain.specs.declared.refusal.Refusal.TheVariants.{NoProcess, Ended, Mismatch, NeedsReply, Blocked, NoRoom, TooMany, TraceFull, Memory}
 use Rattle.sk_plain.specs.declared.plan.Plan.{Plan}
 use Rattle.sk_plain.specs.Plan.{PlanView, BesideView, Nothing, Says, One, Birth, Gone}
 use Rattle.sk_plain.specs.Seen.{seen_with, looked, looks_of, written_in}
@@ -110,6 +110,7 @@ told first Ended is = is
 told first Mismatch is = is
 told first NeedsReply is = is
 told first Blocked is = is
+told first NoRoom is = is
 told first TooMany is = is
 told first TraceFull is = is
 told first Memory is = tt

@@ -107,7 +107,8 @@ due pid p i queue =
 abbrev pub with_signals : ℕ → Process → Option Instruction → Option EntityState → StepTree
 with_signals pid p i (Some (stored.Value (values.Signals queue))) = due pid p i queue
 with_signals pid p i (Some (stored.Value (values.File bytes))) = does pid p i
-with_signals pid p i (Some (stored.Value (values.Dir links))) = does pid p i
+with_signals pid p i (Some (stored.Value values.Dir)) = does pid p i
+with_signals pid p i (Some (stored.Value (values.Link object))) = does pid p i
 with_signals pid p i (Some (stored.Value (values.Pipe held))) = does pid p i
 with_signals pid p i (Some (stored.Value (values.Exit status))) = does pid p i
 with_signals pid p i (Some (stored.Value (values.Copy content))) = does pid p i

@@ -48,7 +48,7 @@ made pid p r kind =
 -- the bytes of the file that is there: the error 9 where there is no object, 21 at a directory, 22 at a pipe
 abbrev pub file_in : Option EntityState → Result (List ℕ) Errno
 file_in (Some (stored.Value (values.File bytes))) = Ok bytes
-file_in (Some (stored.Value (values.Dir links))) = Err IsDirectory
+file_in (Some (stored.Value values.Dir)) = Err IsDirectory
 file_in (Some (stored.Value (values.Pipe held))) = Err Invalid
 file_in _ = Err BadObject
 

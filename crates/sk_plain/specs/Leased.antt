@@ -2,7 +2,6 @@
 use Rattle.std.specs.Prelude.{◌≡◌, ℕ, false, List, [], ◌∷◌, Option, Some, Result, Ok, Err, if◌then◌else◌}
 use Rattle.sk_ids.specs.declared.entity.Entity.{Entity}
 use Rattle.sk_ids.specs.declared.entity.Entity.TheVariants.{Proc, Sig}
-use Rattle.sk_script.specs.declared.process.Process.{Process}
 use Rattle.sk_script.specs.Scripts.{script_at}
 use Rattle.sk_script.specs.Lease.{LeaseView, leased}
 use Rattle.sk_store.specs.declared.entity_state.EntityState.{EntityState}

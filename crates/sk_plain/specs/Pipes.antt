@@ -20,7 +20,7 @@ use Rattle.sk_plain.specs.Rows.{StepTree, answered, failed, filled, alone, with_
 abbrev pub pipe_in : Option EntityState → Result PipeView Errno
 pipe_in (Some (stored.Value (values.Pipe held))) = Ok held
 pipe_in (Some (stored.Value (values.File bytes))) = Err Invalid
-pipe_in (Some (stored.Value (values.Dir links))) = Err Invalid
+pipe_in (Some (stored.Value values.Dir)) = Err Invalid
 pipe_in _ = Err BadObject
 
 -- a row about a pipe

@@ -1,6 +1,7 @@
 -- What a step will do, seen with the process that it is for: the process as it becomes, what else is looked at, and what else is done.
-use Rattle.std.specs.Prelude.{ℕ, List, Option}
+use Rattle.std.specs.Prelude.{ℕ, List}
 use Rattle.sk_ids.specs.declared.entity.Entity.{Entity}
+use Rattle.sk_ids.specs.declared.pid.ObjId.{ObjId}
 use Rattle.sk_objects.specs.Content.{ContentView}
 use Rattle.sk_objects.specs.declared.value.Kind.{Kind}
 use Rattle.sk_changes.specs.declared.change.Change.{Change}
@@ -13,10 +14,12 @@ pub data LooksView : Type 0 where
   At : (entity : Entity) → LooksView
   AtBoth : (first : Entity) → (second : Entity) → LooksView
 
--- what an entity becomes: a value of a kind with nothing in it, an exit slot with a status, a cached copy, or what it was, changed
+-- what an entity becomes: a value of a kind with nothing in it, an exit slot with a status, a name of an object, a cached copy, or what it
+-- was, changed
 pub data BecomesView : Type 0 where
   Empty : (kind : Kind) → BecomesView
   Exited : (status : ℕ) → BecomesView
+  Linked : (object : ObjId) → BecomesView
   Cached : (content : ContentView) → BecomesView
   Changed : (change : Change) → BecomesView
 

@@ -1,21 +1,22 @@
 -- What a plan stands for: the step's reads, writes and text.
-use Rattle.std.specs.Prelude.{◌≡◌, ◌<◌, ℕ, List, [], ◌∷◌, ◌++◌, map, false, Option, Some, None, Result, Ok, Err, IfOk, IfErr}
-use Rattle.sk_record.specs.Step.{Effect, perform}
+use Rattle.std.specs.Prelude.{◌≢◌, ◌<◌, ℕ, List, [], ◌∷◌, ◌++◌, map, false, Option, Some, None, Result, Ok, Err}
+use Rattle.sk_record.specs.Step.{Effect}
 use Rattle.sk_ids.specs.declared.entity.Entity.{Entity}
-use Rattle.sk_ids.specs.declared.entity.Entity.TheVariants.{Proc, Sig, Exit, Obj, Copy}
+use Rattle.sk_ids.specs.declared.entity.Entity.TheVariants.{Proc, Sig, Exit, Obj, Link, Copy}
 use Rattle.sk_objects.specs.Value.{empty_of}
+use Rattle.sk_objects.specs.declared.value.Kind.TheVariants as kinds
 use Rattle.sk_objects.specs.declared.value.Value.TheVariants as values
 use Rattle.sk_script.specs.declared.process.Process.{Process}
 use Rattle.sk_script.specs.declared.instruction.Input.{Input}
 use Rattle.sk_script.specs.declared.instruction.Input.TheVariants as inputs
 use Rattle.sk_terminal.specs.Terminals.{TerminalMap, said_to}
-use Rattle.sk_plain.specs.Act.{Scripts, StepTree, Saying, act}
+use Rattle.sk_plain.specs.Act.{Saying}
 use Rattle.sk_store.specs.Changed.{changed, FitsAt}
 use Rattle.sk_store.specs.declared.entity_state.EntityState.{EntityState}
 use Rattle.sk_store.specs.declared.entity_state.EntityState.TheVariants as stored
 use Rattle.sk_plain.specs.declared.refusal.Refusal.{Refusal}
-use Rattle.sk_plain.specs.declared.refusal.Refusal.TheVariants.{NoProcess, Ended, Mismatch, NeedsReply, Blocked, TooMany, TraceFull, Memory}
-use Rattle.sk_plain.specs.Plan.{PlanView, LooksView, Nowhere, At, AtBoth, BecomesView, Empty, Exited, Cached, Changed, BesideView, Nothing, Says, One, Birth, Gone, Child}
+use Rattle.sk_plain.specs.declared.refusal.Refusal.TheVariants.{NoProcess, Ended, Mismatch, NeedsReply, Blocked, NoRoom, TooMany, TraceFull, Memory}
+use Rattle.sk_plain.specs.Plan.{PlanView, LooksView, Nowhere, At, AtBoth, BecomesView, Empty, Exited, Linked, Cached, Changed, BesideView, Nothing, Says, One, Birth, Gone, Child}
 
 -- the entities that are looked at, in their order
 abbrev pub looked_at : LooksView → List Entity
@@ -27,6 +28,7 @@ looked_at (AtBoth d e) = d ∷ e ∷ []
 abbrev pub value_of : Option EntityState → BecomesView → EntityState
 value_of now (Empty kind) = stored.Value (empty_of kind)
 value_of now (Exited status) = stored.Value (values.Exit (Some status))
+value_of now (Linked object) = stored.Value (values.Link object)
 value_of now (Cached content) = stored.Value (values.Copy content)
 value_of now (Changed change) = changed now change
 
@@ -95,10 +97,11 @@ abbrev pub planned : List Entity → (Entity → Option EntityState) → ℕ →
 planned reads look pid (Ok plan) = Ok (effect_after reads look pid plan)
 planned reads look pid (Err why) = Err why
 
--- a change that is planned fits what is there
+-- a change that is planned fits what is there, and a link is not made empty
 abbrev pub CanBecome : Option EntityState → BecomesView → Type 0
-CanBecome now (Empty kind) = Unit {0}
+CanBecome now (Empty kind) = kind ≢ kinds.Link
 CanBecome now (Exited status) = Unit {0}
+CanBecome now (Linked object) = Unit {0}
 CanBecome now (Cached content) = Unit {0}
 CanBecome now (Changed change) = FitsAt now change
 
@@ -114,6 +117,7 @@ IsNoProcess (Proc p) = ⊥
 IsNoProcess (Sig p) = Unit {0}
 IsNoProcess (Exit p) = Unit {0}
 IsNoProcess (Obj o) = Unit {0}
+IsNoProcess (Link o n) = Unit {0}
 IsNoProcess (Copy n) = Unit {0}
 
 -- what is written beside a process is not the process
@@ -131,6 +135,7 @@ IsPlainRefusal Ended = Unit {0}
 IsPlainRefusal Mismatch = Unit {0}
 IsPlainRefusal NeedsReply = Unit {0}
 IsPlainRefusal Blocked = Unit {0}
+IsPlainRefusal NoRoom = ⊥
 IsPlainRefusal TooMany = ⊥
 IsPlainRefusal TraceFull = ⊥
 IsPlainRefusal Memory = ⊥

@@ -14,7 +14,7 @@ use Rattle.sk_plain.specs.Seen.{looked, looks_of, written_in}
 use Rattle.sk_plain.specs.declared.plan.Plan.{Plan}
 use Rattle.sk_store.specs.declared.entity_state.EntityState.{EntityState}
 use Rattle.sk_plain.specs.declared.refusal.Refusal.{Refusal}
-use Rattle.sk_plain.specs.declared.refusal.Refusal.TheVariants.{NoProcess, Ended, Mismatch, NeedsReply, Blocked, TooMany, TraceFull, Memory}
+use Rattle.sk_plain.specs.declared.refusal.Refusal.TheVariants.{NoProcess, Ended, Mismatch, NeedsReply, Blocked, NoRoom, TooMany, TraceFull, Memory}
 
 -- whether the planned step of an entry is the guess, or reads or writes what is dirty
 abbrev pub depends : ℕ → List Entity → EntryView → Plan → Bool
@@ -48,5 +48,6 @@ EndsBy first Ended = first ≡ Some Ended
 EndsBy first Mismatch = first ≡ Some Mismatch
 EndsBy first NeedsReply = first ≡ Some NeedsReply
 EndsBy first Blocked = first ≡ Some Blocked
+EndsBy first NoRoom = first ≡ Some NoRoom
 EndsBy first TooMany = first ≡ Some TooMany
 EndsBy first TraceFull = first ≡ Some TraceFull

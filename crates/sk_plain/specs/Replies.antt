@@ -24,7 +24,8 @@ fetched p c = filled p c.bytes c.version
 abbrev pub from_copy : ℕ → Process → Option EntityState → StepTree
 from_copy pid p (Some (stored.Value (values.Copy content))) = alone pid (fetched p content)
 from_copy pid p (Some (stored.Value (values.File bytes))) = Refuse Mismatch
-from_copy pid p (Some (stored.Value (values.Dir links))) = Refuse Mismatch
+from_copy pid p (Some (stored.Value values.Dir)) = Refuse Mismatch
+from_copy pid p (Some (stored.Value (values.Link object))) = Refuse Mismatch
 from_copy pid p (Some (stored.Value (values.Pipe held))) = Refuse Mismatch
 from_copy pid p (Some (stored.Value (values.Signals queue))) = Refuse Mismatch
 from_copy pid p (Some (stored.Value (values.Exit status))) = Refuse Mismatch
@@ -41,7 +42,8 @@ over_copy pid p name (Some (stored.Value (values.Copy content))) =
     (answered p (content.version + 1))
     else Refuse Mismatch
 over_copy pid p name (Some (stored.Value (values.File bytes))) = Refuse Mismatch
-over_copy pid p name (Some (stored.Value (values.Dir links))) = Refuse Mismatch
+over_copy pid p name (Some (stored.Value values.Dir)) = Refuse Mismatch
+over_copy pid p name (Some (stored.Value (values.Link object))) = Refuse Mismatch
 over_copy pid p name (Some (stored.Value (values.Pipe held))) = Refuse Mismatch
 over_copy pid p name (Some (stored.Value (values.Signals queue))) = Refuse Mismatch
 over_copy pid p name (Some (stored.Value (values.Exit status))) = Refuse Mismatch

@@ -76,6 +76,10 @@ alone pid p = Done ((Proc pid, Some (stored.Process p)) ∷ []) None
 abbrev pub with_write : ℕ → Entity → Value → Process → StepTree
 with_write pid e v p = Done ((e, Some (stored.Value v)) ∷ (Proc pid, Some (stored.Process p)) ∷ []) None
 
+-- another entity is made absent after it
+abbrev pub with_removal : ℕ → Entity → Process → StepTree
+with_removal pid e p = Done ((Proc pid, Some (stored.Process p)) ∷ (e, None) ∷ []) None
+
 -- ---- what a row asks first
 
 -- a row that looks at an object: the error 9 where the register holds none

@@ -1,7 +1,7 @@
 -- A plan, seen with the process that it is for.
-use Rattle.std.specs.Prelude.{true, ◌≡◌, ◌≤◌, ◌+◌, ◌<◌, ◌^◌, ℕ, List, [], ◌∷◌, Option, Some, None, Result, Ok, Err, IfOk, IfErr, length, unwrap_or, slice_set, IsSome, false}
+use Rattle.std.specs.Prelude.{true, ◌≡◌, ◌≤◌, ◌+◌, ◌<◌, ◌^◌, ℕ, List, [], ◌∷◌, Option, Some, None, Result, Ok, Err, IfOk, IfErr, length, unwrap_or, slice_set, IsSome}
 use Rattle.sk_ids.specs.declared.entity.Entity.{Entity}
-use Rattle.sk_ids.specs.declared.entity.Entity.TheVariants.{Proc, Sig, Exit, Copy}
+use Rattle.sk_ids.specs.declared.entity.Entity.TheVariants.{Proc, Sig, Exit, Obj, Link, Copy}
 use Rattle.sk_objects.specs.Content.{ContentView}
 use Rattle.sk_objects.specs.declared.content.TheConstants.{LAST_VERSION}
 use Rattle.sk_objects.specs.Value.{bytes_from}
@@ -15,12 +15,12 @@ use Rattle.sk_script.specs.Private.{moved, given, private_step}
 use Rattle.sk_store.specs.Processes.{IsProcess, process_in}
 use Rattle.sk_store.specs.declared.entity_state.EntityState.{EntityState}
 use Rattle.sk_store.specs.declared.entity_state.EntityState.TheVariants as stored
-use Rattle.sk_plain.specs.Act.{Scripts, StepTree, Saying, act, next_in}
+use Rattle.sk_plain.specs.Act.{Scripts, StepTree, act, next_in}
 use Rattle.sk_plain.specs.Rows.{failed, filled}
 use Rattle.sk_plain.specs.Processes.{with_handler, returned, handling}
 use Rattle.sk_plain.specs.Replies.{fetched}
-use Rattle.sk_record.specs.Step.{Effect, perform}
-use Rattle.sk_plain.specs.Plan.{PlanView, LooksView, Nowhere, At, BecomesView, Empty, Exited, Cached, Changed, BesideView, Nothing, Says, One, Birth}
+use Rattle.sk_record.specs.Step.{perform}
+use Rattle.sk_plain.specs.Plan.{PlanView, LooksView, Nowhere, At, AtBoth, BecomesView, Empty, Exited, Linked, Cached, Changed, BesideView, Nothing, Says, One, Birth, Gone}
 use Rattle.sk_plain.specs.Planned.{planned, signals_read, CanDo, IsBeside, IsPlainRefusal}
 use Rattle.sk_plain.specs.declared.refusal.Refusal.{Refusal}
 use Rattle.sk_plain.specs.declared.refusal.Errno.TheVariants.{StaleCopy}
@@ -67,6 +67,7 @@ text_at None at count = []
 abbrev pub text_in : (Entity → Option EntityState) → Looks → ℕ → ℕ → List ℕ
 text_in look looks.Nowhere at count = []
 text_in look (looks.At e) at count = text_at (look e) at count
+text_in look (looks.AtName d name) at count = []
 
 -- what is answered with a text: a number, or its length
 abbrev pub number_of : Option ℕ → List ℕ → ℕ
@@ -85,6 +86,7 @@ CanChange p (Fills from count n) = (p.place + 1 < 2 ^ 32) × (number_of n [] < 2
 abbrev pub looked : Looks → LooksView
 looked looks.Nowhere = Nowhere
 looked (looks.At e) = At e
+looked (looks.AtName d name) = AtBoth (Obj d) (Link d name)
 
 -- what an entity becomes, where the bytes that are written are the buffer of the process
 abbrev pub written : Process → Writes → BecomesView
@@ -94,8 +96,7 @@ written p writes.First = Cached (record { version = 1; bytes = p.buffer })
 written p (writes.Over version) = Changed (changes.SetCopy (record { version = version; bytes = p.buffer }))
 written p (writes.At offset) = Changed (changes.WriteAt offset p.buffer)
 written p (writes.Cut size) = Changed (changes.CutTo size)
-written p (writes.Link name object) = Changed (changes.Link name object)
-written p (writes.Unlink name) = Changed (changes.Unlink name)
+written p (writes.Linked object) = Linked object
 written p writes.Put = Changed (changes.Put p.buffer)
 written p (writes.Take count) = Changed (changes.Take count)
 written p writes.Shut = Changed changes.Shut
@@ -105,6 +106,7 @@ written p writes.TakeSignal = Changed changes.TakeSignal
 abbrev pub beside_of : Process → Beside → BesideView
 beside_of p beside.Nothing = Nothing
 beside_of p (beside.One e w) = One e (written p w)
+beside_of p (beside.Gone e) = Gone e
 
 -- a version that a content can have
 abbrev pub IsWritable : Beside → Type 0
@@ -123,6 +125,7 @@ rows_seen look p (Err why) = Err why
 abbrev pub written_row : ℕ → Beside → List Entity
 written_row pid beside.Nothing = Proc pid ∷ []
 written_row pid (beside.One e w) = e ∷ Proc pid ∷ []
+written_row pid (beside.Gone e) = Proc pid ∷ e ∷ []
 
 -- the entities that a plan writes
 abbrev pub written_in : ℕ → Plan → List Entity

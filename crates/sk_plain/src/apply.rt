@@ -88,6 +88,9 @@ fn write_one<K: Keeper>(
         Writes::Exited(status) => {
             return keeper.write(entity, EntityState::Value(Value::Exit(Some(*status))));
         }
+        Writes::Linked(object) => {
+            return keeper.write(entity, EntityState::Value(Value::link(*object)));
+        }
         Writes::First => {
             let content = version_of(keeper, pid, 1);
             return keeper.write(entity, EntityState::Value(Value::Copy(content)));
@@ -98,8 +101,6 @@ fn write_one<K: Keeper>(
             bytes: process_at(keeper, pid).buffer,
         },
         Writes::Cut(size) => Change::CutTo(*size),
-        Writes::Link(name, object) => Change::Link(*name, *object),
-        Writes::Unlink(name) => Change::Unlink(*name),
         Writes::Put => Change::Put(process_at(keeper, pid).buffer),
         Writes::Take(count) => Change::Take(*count),
         Writes::Shut => Change::Shut,
@@ -129,7 +130,37 @@ fn write_last<K: Keeper, C: Becoming>(
     Ok(())
 }
 
-/// What a row writes beside its process, and then the process.
+/// A process as it becomes.
+fn changed<C: Becoming>(process: &Process, by: &C) -> Process
+    requires { C.can by.now process.now }
+    ensures { result ≡ C.after by.now process.now }
+{
+    let mut process = *process;
+    by.change(&mut process);
+    process
+}
+
+/// The process, and then an entity is made absent. Where that wants memory the process is taken back.
+fn write_gone<K: Keeper, C: Becoming>(
+    keeper: &mut K,
+    pid: Pid,
+    entity: Entity,
+    by: &C,
+) -> Result<(), AllocError>
+    requires { CanBecomeThere (C.can by.now) (K.look keeper.old (Proc pid)) }
+    ensures ok { OnOk result (keeper.new ≡ K.wrote (K.wrote keeper.old (Proc pid) (Some (became (C.after by.now) (K.look keeper.old (Proc pid))))) entity None) }
+    ensures err { OnErr result (keeper.new ≡ keeper.old) }
+{
+    let process = changed(process_at(keeper, pid), by);
+    let back = keeper.write(Entity::Proc(pid), EntityState::Process(process))?;
+    if keeper.remove(entity).is_err() {
+        keeper.take_back(back);
+        return Err(AllocError);
+    }
+    Ok(())
+}
+
+/// What a row writes beside its process, with the process: it is last, or before what is made absent.
 fn write_beside<K: Keeper, C: Becoming>(
     keeper: &mut K,
     pid: Pid,
@@ -143,11 +174,14 @@ fn write_beside<K: Keeper, C: Becoming>(
     ensures ok { OnOk result (keeper.new ≡ wrote_all K.wrote (writes_of (K.look keeper.old) pid (record { process = C.after by.now (process_in (K.look keeper.old (Proc pid))); looks = Nowhere; beside = beside_of (process_in (K.look keeper.old (Proc pid))) beside.now })) keeper.old) }
     ensures err { OnErr result (keeper.new ≡ keeper.old) }
 {
-    let Beside::One(entity, writes) = beside else {
-        return keeper.change_process(pid, by);
-    };
-    let back = write_one(keeper, pid, *entity, writes)?;
-    write_last(keeper, back, pid, by)
+    match beside {
+        Beside::Nothing => keeper.change_process(pid, by),
+        Beside::One(entity, writes) => {
+            let back = write_one(keeper, pid, *entity, writes)?;
+            write_last(keeper, back, pid, by)
+        }
+        Beside::Gone(entity) => write_gone(keeper, pid, *entity, by),
+    }
 }
 
 /// A row, as it was planned.

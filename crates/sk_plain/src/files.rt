@@ -1,5 +1,5 @@
 //! What the instructions on new objects and on files will do.
-ghost use Rattle.std.specs.Prelude.{◌≡◌, ◌+◌, ◌<◌, ◌^◌, Some, Ok};
+ghost use Rattle.std.specs.Prelude.{◌≡◌, ◌≢◌, ◌+◌, ◌<◌, ◌^◌, Some, Ok};
 ghost use Rattle.sk_record.specs.Step.{Ask};
 ghost use Rattle.sk_ids.specs.declared.entity.Entity.TheVariants.{Obj};
 ghost use Rattle.sk_objects.specs.declared.value.Value.TheVariants as values;
@@ -27,7 +27,8 @@ pub(crate) fn made<S: Look>(
     register: Register,
     kind: Kind,
 ) -> Row
-    requires { process.now.place + 1 < 2 ^ 32 }
+    requires place { process.now.place + 1 < 2 ^ 32 }
+    requires kind { kind ≢ Kind.Link }
     ensures { PlansRow (S.look _store.now) process.now pid (made_row pid process.now register kind) (Ok result) }
 {
     if process.objects >= u32::MAX {

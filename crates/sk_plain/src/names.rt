@@ -1,21 +1,16 @@
-//! What the instructions on directories will do.
-ghost use Rattle.std.specs.Prelude.{◌≡◌, ◌+◌, ◌<◌, ◌^◌, Some, Ok};
+//! What the instructions on names of directories will do.
+ghost use Rattle.std.specs.Prelude.{◌≡◌, ◌+◌, ◌<◌, ◌^◌, Ok};
 ghost use Rattle.sk_record.specs.Step.{Ask};
-ghost use Rattle.sk_ids.specs.declared.entity.Entity.TheVariants.{Obj};
-ghost use Rattle.sk_objects.specs.Directory.{looked_up};
-ghost use Rattle.sk_objects.specs.declared.value.Value.TheVariants as values;
-ghost use Rattle.sk_store.specs.declared.entity_state.EntityState.TheVariants as stored;
+ghost use Rattle.sk_ids.specs.declared.entity.Entity.TheVariants.{Obj, Link};
 ghost use Rattle.sk_script.specs.Registers.{held};
 ghost use Rattle.sk_plain.specs.Rows.{object_in};
-ghost use Rattle.sk_plain.specs.Names.{look as look_row, link_to, link as link_row, unlink_from, unlink as unlink_row};
+ghost use Rattle.sk_plain.specs.Names.{look as look_row, link_to, link as link_row, unlink as unlink_row};
 ghost use Rattle.sk_plain.specs.Seen.{PlansRow};
 
-use crate::shapes::{alone, answered, changed, failed, given, looked};
-use crate::values::{directory_at, object_at};
-use crate::{Errno, Row, Writes};
+use crate::shapes::{alone, answered, failed, given, linked, looked, looked_up, unlinked};
+use crate::values::{no_directory, object_at, target_at};
+use crate::{Errno, Row};
 use sk_ids::{Entity, Name, ObjId, Pid};
-use sk_objects::Directory;
-use sk_objects::directory::DIRECTORY_LIMIT;
 use sk_script::{Process, Register, Val};
 use sk_store::Look;
 
@@ -32,40 +27,35 @@ pub(crate) fn look<S: Look>(
     ensures { PlansRow (S.look store.now) process.now pid (look_row pid process.now register (object_in (held process.now.registers directory)) name.now) (Ok result) }
 {
     let held = object_at(process, directory);
-    let Some(object) = &held else {
+    let Some(at) = &held else {
         return alone(failed(Errno::BadObject));
     };
-    let change = match directory_at(store, object) {
-        Ok(directory) => match directory.look(name) {
-            Some(found) => given(register, Val::Obj(found)),
-            None => failed(Errno::NotLinked),
-        },
-        Err(error) => failed(error),
+    if let Some(error) = no_directory(store, at) {
+        return looked(failed(error), Entity::Obj(*at));
+    }
+    let change = match target_at(store, at, name) {
+        Some(object) => given(register, Val::Obj(object)),
+        None => failed(Errno::NotLinked),
     };
-    looked(change, Entity::Obj(*object))
+    looked_up(change, at, name)
 }
 
 /// A name linked in a directory.
 fn link_to<S: Look>(
-    _store: &S,
+    store: &S,
     pid: Pid,
     process: &Process,
     at: &ObjId,
-    directory: &Directory,
     name: &Name,
     object: &ObjId,
 ) -> Row
-    requires place { process.now.place + 1 < 2 ^ 32 }
-    requires there { S.look _store.now (Obj at.now) ≡ Some (stored.Value (values.Dir directory.now)) }
-    ensures { PlansRow (S.look _store.now) process.now pid (Ask (Obj at.now) (λ v. link_to pid process.now at.now directory.now name.now object.now (looked_up directory.now name.now))) (Ok result) }
+    requires { process.now.place + 1 < 2 ^ 32 }
+    ensures { PlansRow (S.look store.now) process.now pid (Ask (Obj at.now) (λ v. Ask (Link at.now name.now) (link_to pid process.now at.now name.now object.now))) (Ok result) }
 {
-    if directory.look(name).is_some() {
-        return looked(failed(Errno::Exists), Entity::Obj(*at));
+    if store.value(Entity::Link(*at, *name)).is_some() {
+        return looked_up(failed(Errno::Exists), at, name);
     }
-    if directory.len() >= DIRECTORY_LIMIT {
-        return looked(failed(Errno::NoSpace), Entity::Obj(*at));
-    }
-    changed(answered(0), &Entity::Obj(*at), Writes::Link(*name, *object))
+    linked(answered(0), at, name, object)
 }
 
 /// `link rD NAME rA`
@@ -86,10 +76,10 @@ pub(crate) fn link<S: Look>(
     let Some(object) = object_at(process, object) else {
         return looked(failed(Errno::BadObject), Entity::Obj(at));
     };
-    match directory_at(store, &at) {
-        Ok(directory) => link_to(store, pid, process, &at, directory, name, &object),
-        Err(error) => looked(failed(error), Entity::Obj(at)),
+    if let Some(error) = no_directory(store, &at) {
+        return looked(failed(error), Entity::Obj(at));
     }
+    link_to(store, pid, process, &at, name, &object)
 }
 
 /// `unlink rD NAME`
@@ -107,14 +97,11 @@ pub(crate) fn unlink<S: Look>(
     let Some(at) = &held else {
         return alone(failed(Errno::BadObject));
     };
-    let error = match directory_at(store, at) {
-        Ok(directory) => {
-            if directory.look(name).is_some() {
-                return changed(answered(0), &Entity::Obj(*at), Writes::Unlink(*name));
-            }
-            Errno::NotLinked
-        }
-        Err(error) => error,
-    };
-    looked(failed(error), Entity::Obj(*at))
+    if let Some(error) = no_directory(store, at) {
+        return looked(failed(error), Entity::Obj(*at));
+    }
+    if store.value(Entity::Link(*at, *name)).is_none() {
+        return looked_up(failed(Errno::NotLinked), at, name);
+    }
+    unlinked(answered(0), at, name)
 }

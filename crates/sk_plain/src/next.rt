@@ -23,6 +23,8 @@ pub enum Next {
     Private,
     /// A step without input would be blocked.
     Waits,
+    /// A step without input would add a name to a directory that is full. This a kernel alone tells.
+    Full,
     /// Anything else.
     Other,
 }

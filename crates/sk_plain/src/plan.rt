@@ -1,5 +1,6 @@
 //! What a step will do, in a few words: nothing here holds a process, or bytes that stand elsewhere.
 ghost use Rattle.std.specs.Prelude.{◌≡◌};
+ghost use Rattle.sk_plain.specs.Adds.{adds_beside, adds_of};
 ghost use Rattle.sk_plain.specs.Planned.{read_by};
 ghost use Rattle.sk_trace.specs.Kept.{input_in};
 ghost use Rattle.sk_plain.specs.Seen.{looked, looks_of, written_in, written_row};
@@ -9,11 +10,13 @@ use sk_ids::{Entity, Name, ObjId, Pid};
 use sk_objects::Kind;
 use sk_script::Register;
 
-/// The entity beside the process that a step looks at.
+/// What a step looks at beside the process.
 #[derive(Clone, Copy)]
 pub enum Looks {
     Nowhere,
     At(Entity),
+    /// A directory, and then a name of it.
+    AtName(ObjId, Name),
 }
 
 /// What becomes of the process.
@@ -44,8 +47,8 @@ pub enum Writes {
     At(u32),
     /// A file of another size.
     Cut(u32),
-    Link(Name, ObjId),
-    Unlink(Name),
+    /// A name of an object.
+    Linked(ObjId),
     /// A pipe with the bytes at its end.
     Put,
     /// A pipe without so many at its front.
@@ -55,11 +58,13 @@ pub enum Writes {
     TakeSignal,
 }
 
-/// The entity that a step writes beside its process.
+/// What a step writes beside its process.
 #[derive(Clone, Copy)]
 pub enum Beside {
     Nothing,
     One(Entity, Writes),
+    /// An entity is absent then.
+    Gone(Entity),
 }
 
 /// What a row of the table does.
@@ -98,6 +103,16 @@ impl Plan {
         }
     }
 
+    /// The directory that the step adds a name to.
+    pub fn adds(&self) -> Option<ObjId>
+        ensures { result ≡ adds_of self.now }
+    {
+        match self {
+            Plan::Acts(row) => added_directory(&row.beside),
+            Plan::Private | Plan::Speaks | Plan::Received(_) | Plan::Forks(..) => None,
+        }
+    }
+
     /// The entities that the step writes.
     pub fn writes(&self, pid: Pid) -> Entities
         ensures { result ≡ written_in pid self.now }
@@ -129,10 +144,25 @@ fn read_entities(pid: Pid, input: InputRef<'_>, looks: &Looks) -> Entities
     if let InputRef::None = input {
         all.push(Entity::Sig(pid));
     }
-    if let Looks::At(entity) = looks {
-        all.push(*entity);
+    match looks {
+        Looks::Nowhere => {}
+        Looks::At(entity) => all.push(*entity),
+        Looks::AtName(directory, name) => {
+            all.push(Entity::Obj(*directory));
+            all.push(Entity::Link(*directory, *name));
+        }
     }
     all
+}
+
+/// The directory that a row adds a name to.
+fn added_directory(beside: &Beside) -> Option<ObjId>
+    ensures { result ≡ adds_beside beside.now }
+{
+    match beside {
+        Beside::One(Entity::Link(directory, _), _) => Some(*directory),
+        Beside::One(..) | Beside::Nothing | Beside::Gone(_) => None,
+    }
 }
 
 /// The entities that a row writes.
@@ -144,6 +174,11 @@ fn written_entities(pid: Pid, beside: &Beside) -> Entities
         Beside::One(entity, _) => {
             let mut all = Entities::one(*entity);
             all.push(Entity::Proc(pid));
+            all
+        }
+        Beside::Gone(entity) => {
+            let mut all = Entities::one(Entity::Proc(pid));
+            all.push(*entity);
             all
         }
     }

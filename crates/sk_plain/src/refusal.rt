@@ -18,6 +18,8 @@ pub enum Refusal {
     NeedsReply,
     #[error("the step waits")]
     Blocked,
+    #[error("the directory has no room for another name")]
+    NoRoom,
     #[error("too many guesses are undecided, or no number is remaining")]
     TooMany,
     #[error("the trace is full")]
@@ -27,7 +29,7 @@ pub enum Refusal {
 }
 
 impl Refusal {
-    /// Its number, from 1 in the order of the causes.
+    /// Its number.
     pub fn number(self) -> u8
         ensures { result ≡ refusal_number self }
     {
@@ -40,6 +42,7 @@ impl Refusal {
             Refusal::TooMany => 6,
             Refusal::TraceFull => 7,
             Refusal::Memory => 8,
+            Refusal::NoRoom => 9,
         }
     }
 }

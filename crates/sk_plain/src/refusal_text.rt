@@ -32,6 +32,7 @@ fn name_of(refusal: Refusal) -> &'static str
         Refusal::Mismatch => "Mismatch",
         Refusal::NeedsReply => "NeedsReply",
         Refusal::Blocked => "Blocked",
+        Refusal::NoRoom => "NoRoom",
         Refusal::TooMany => "TooMany",
         Refusal::TraceFull => "TraceFull",
         Refusal::Memory => "Memory",

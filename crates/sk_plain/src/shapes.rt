@@ -1,10 +1,11 @@
 //! The shapes that rows have.
 ghost use Rattle.std.specs.Prelude.{◌≡◌, ◌<◌, ◌^◌, pos, neg_ℤ};
 ghost use Rattle.sk_script.specs.declared.register.Val.TheVariants as vals;
+ghost use Rattle.sk_ids.specs.declared.entity.Entity.TheVariants.{Link};
 ghost use Rattle.sk_plain.specs.Refusal.{error_number};
 
 use crate::{Becomes, Beside, Errno, Looks, ProcessChange, Row, Writes};
-use sk_ids::Entity;
+use sk_ids::{Entity, Name, ObjId};
 use sk_script::{Register, Val};
 
 /// The process is at its next instruction, with a value in a register.
@@ -48,6 +49,39 @@ pub(crate) fn looked(change: ProcessChange, entity: Entity) -> Row
         change,
         looks: Looks::At(entity),
         beside: Beside::Nothing,
+    }
+}
+
+/// The same after a name of a directory was looked at.
+pub(crate) fn looked_up(change: ProcessChange, directory: &ObjId, name: &Name) -> Row
+    ensures { result ≡ record { change = change; looks = Looks.AtName directory.now name.now; beside = Beside.Nothing } }
+{
+    Row {
+        change,
+        looks: Looks::AtName(*directory, *name),
+        beside: Beside::Nothing,
+    }
+}
+
+/// A name that was looked at is linked.
+pub(crate) fn linked(change: ProcessChange, directory: &ObjId, name: &Name, object: &ObjId) -> Row
+    ensures { result ≡ record { change = change; looks = Looks.AtName directory.now name.now; beside = Beside.One (Link directory.now name.now) (Writes.Linked object.now) } }
+{
+    Row {
+        change,
+        looks: Looks::AtName(*directory, *name),
+        beside: Beside::One(Entity::Link(*directory, *name), Writes::Linked(*object)),
+    }
+}
+
+/// A name that was looked at is taken out.
+pub(crate) fn unlinked(change: ProcessChange, directory: &ObjId, name: &Name) -> Row
+    ensures { result ≡ record { change = change; looks = Looks.AtName directory.now name.now; beside = Beside.Gone (Link directory.now name.now) } }
+{
+    Row {
+        change,
+        looks: Looks::AtName(*directory, *name),
+        beside: Beside::Gone(Entity::Link(*directory, *name)),
     }
 }
 

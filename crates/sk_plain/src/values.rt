@@ -1,17 +1,17 @@
 //! What a register's value stands for, and what the object is that a row is about.
 ghost use Rattle.std.specs.Prelude.{◌≡◌, ◌≤◌, IfSome, IfOk, IfErr, Some, Err};
-ghost use Rattle.sk_ids.specs.declared.entity.Entity.TheVariants.{Obj};
+ghost use Rattle.sk_ids.specs.declared.entity.Entity.TheVariants.{Obj, Link};
 ghost use Rattle.sk_objects.specs.declared.value.Value.TheVariants as values;
 ghost use Rattle.sk_store.specs.declared.entity_state.EntityState.TheVariants as stored;
 ghost use Rattle.sk_script.specs.Registers.{held};
 ghost use Rattle.sk_plain.specs.Rows.{object_in, number_in, number_to, who_in};
 ghost use Rattle.sk_plain.specs.Files.{file_in};
-ghost use Rattle.sk_plain.specs.Names.{directory_in};
+ghost use Rattle.sk_plain.specs.Names.{no_directory, target_at};
 ghost use Rattle.sk_plain.specs.Pipes.{pipe_in};
 
 use crate::Errno;
-use sk_ids::{Entity, ObjId, Pid};
-use sk_objects::{Directory, File, Pipe, Value};
+use sk_ids::{Entity, Name, ObjId, Pid};
+use sk_objects::{File, Pipe, Value};
 use sk_script::{Process, Register, Val};
 use sk_store::{EntityState, Look};
 
@@ -63,24 +63,30 @@ pub(crate) fn file_at<'a, S: Look>(store: &'a S, object: &ObjId) -> Result<&'a F
 {
     match store.value(Entity::Obj(*object)) {
         Some(EntityState::Value(Value::File(file))) => Ok(file),
-        Some(EntityState::Value(Value::Dir(_))) => Err(Errno::IsDirectory),
+        Some(EntityState::Value(Value::Dir)) => Err(Errno::IsDirectory),
         Some(EntityState::Value(Value::Pipe(_))) => Err(Errno::Invalid),
         _ => Err(Errno::BadObject),
     }
 }
 
-/// The directory that an object is, or the error of a row that is about one.
-pub(crate) fn directory_at<'a, S: Look>(
-    store: &'a S,
-    object: &ObjId,
-) -> Result<&'a Directory, Errno>
-    ensures ok { IfOk result (λ directory. S.look store.now (Obj object.now) ≡ Some (stored.Value (values.Dir directory.now))) }
-    ensures err { IfErr result (λ error. directory_in (S.look store.now (Obj object.now)) ≡ Err error) }
+/// Why an object is no directory.
+pub(crate) fn no_directory<S: Look>(store: &S, object: &ObjId) -> Option<Errno>
+    ensures { result ≡ no_directory (S.look store.now (Obj object.now)) }
 {
     match store.value(Entity::Obj(*object)) {
-        Some(EntityState::Value(Value::Dir(directory))) => Ok(directory),
-        Some(EntityState::Value(Value::File(_) | Value::Pipe(_))) => Err(Errno::NotDirectory),
-        _ => Err(Errno::BadObject),
+        Some(EntityState::Value(Value::Dir)) => None,
+        Some(EntityState::Value(Value::File(_) | Value::Pipe(_))) => Some(Errno::NotDirectory),
+        _ => Some(Errno::BadObject),
+    }
+}
+
+/// The object that a name of a directory is linked to.
+pub(crate) fn target_at<S: Look>(store: &S, directory: &ObjId, name: &Name) -> Option<ObjId>
+    ensures { result ≡ target_at (S.look store.now (Link directory.now name.now)) }
+{
+    match store.value(Entity::Link(*directory, *name)) {
+        Some(EntityState::Value(value)) => value.target(),
+        _ => None,
     }
 }
 
@@ -91,7 +97,7 @@ pub(crate) fn pipe_at<'a, S: Look>(store: &'a S, object: &ObjId) -> Result<&'a P
 {
     match store.value(Entity::Obj(*object)) {
         Some(EntityState::Value(Value::Pipe(pipe))) => Ok(pipe),
-        Some(EntityState::Value(Value::File(_) | Value::Dir(_))) => Err(Errno::Invalid),
+        Some(EntityState::Value(Value::File(_) | Value::Dir)) => Err(Errno::Invalid),
         _ => Err(Errno::BadObject),
     }
 }

@@ -1,3 +1,4 @@
 pub mod Footprints
 pub mod Printed
+pub mod Directories
 pub mod Report

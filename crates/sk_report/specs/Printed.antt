@@ -3,7 +3,6 @@ use Rattle.std.specs.Prelude.{ℕ, Bool, List, [], ◌∷◌, ◌++◌, flat_map
 use Rattle.sk_ids.specs.declared.entity.Entity.{Entity}
 use Rattle.sk_ids.specs.declared.entity.Entity.TheVariants as entity
 use Rattle.sk_objects.specs.Content.{ContentView}
-use Rattle.sk_objects.specs.Directory.{Link}
 use Rattle.sk_objects.specs.declared.value.Value.{Value}
 use Rattle.sk_objects.specs.declared.value.Value.TheVariants as value
 use Rattle.sk_plain.specs.declared.view.View.{View}
@@ -29,14 +28,6 @@ tags_text ids = joined 44 decimal ids
 -- signals from the front
 abbrev pub signals_text : List ℕ → List ℕ
 signals_text signals = joined 44 decimal signals
-
--- a name and its object
-abbrev pub link_text : Link → List ℕ
-link_text link = link.0 ++ 61 ∷ object_word link.1
-
--- the links of a directory
-abbrev pub links_text : List Link → List ℕ
-links_text links = joined 32 link_text links
 
 -- a number that may be missing
 abbrev pub option_text : Option ℕ → List ℕ
@@ -68,10 +59,11 @@ process_text p = held_text p ++ 32 ∷ made_text p
 abbrev pub content_text : ContentView → List ℕ
 content_text content = decimal content.version ++ 32 ∷ spelled content.bytes
 
--- a value, behind its entity
+-- a value, behind its entity; of a directory its names are entities of their own
 abbrev pub value_text : Value → List ℕ
 value_text (value.File bytes) = codes "file " ++ decimal (length bytes) ++ 32 ∷ spelled bytes
-value_text (value.Dir links) = codes "dir " ++ links_text links
+value_text value.Dir = codes "dir"
+value_text (value.Link object) = object_word object
 value_text (value.Pipe pipe) = codes "pipe " ++ (if pipe.shut then codes "shut " else codes "open ") ++ spelled pipe.bytes
 value_text (value.Signals signals) = signals_text signals
 value_text (value.Exit status) = option_text status
@@ -88,4 +80,5 @@ entity_text (entity.Proc pid) = codes "proc " ++ pid_word pid
 entity_text (entity.Sig pid) = codes "sig " ++ pid_word pid
 entity_text (entity.Exit pid) = codes "exit " ++ pid_word pid
 entity_text (entity.Obj id) = codes "obj " ++ object_word id
+entity_text (entity.Link d name) = codes "link " ++ object_word d ++ 32 ∷ name
 entity_text (entity.Copy name) = codes "copy " ++ name

@@ -16,25 +16,20 @@ use Rattle.sk_server.specs.Files.{FileMap}
 use Rattle.sk_server.specs.Server.{ServerView}
 use Rattle.sk_client.specs.Desk.{DeskView, pending}
 use Rattle.sk_client.specs.WorldView.{WorldView}
-use Rattle.sk_report.specs.Printed.{tags_text, process_text, content_text, value_text, entity_text}
+use Rattle.sk_report.specs.Printed.{tags_text, content_text, entity_text}
+use Rattle.sk_report.specs.Directories.{gathered}
 
--- what an entity has, behind its name
-abbrev pub stored_text : EntityState → List ℕ
-stored_text (stored.Process p) = process_text p
-stored_text (stored.Value v) = value_text v
+-- the line of an entity among these, with what stands at its end; none where it is absent
+abbrev pub line_with : (Entity → Option EntityState) → List Entity → Option EntityState → Entity → List ℕ → List ℕ
+line_with look es None e end = []
+line_with look es (Some s) e end = entity_text e ++ 32 ∷ gathered look es e s ++ end ++ 10 ∷ []
 
--- the line of an entity with what stands at its end, none where it is absent
-abbrev pub line_with : Option EntityState → Entity → List ℕ → List ℕ
-line_with None e end = []
-line_with (Some s) e end = entity_text e ++ 32 ∷ stored_text s ++ end ++ 10 ∷ []
+abbrev pub line_of : (Entity → Option EntityState) → (Entity → List ℕ) → List Entity → Entity → List ℕ
+line_of look end es e = line_with look es (look e) e (end e)
 
--- an entity with its tags
-abbrev pub entity_line : KernelView → Entity → List ℕ
-entity_line k e = line_with (finmap.get (state_at k) e) e (codes " tags " ++ tags_text (tags_at k e))
-
--- an entity of a plain kernel
-abbrev pub plain_entity_line : PlainView → Entity → List ℕ
-plain_entity_line k e = line_with (finmap.get k.state e) e []
+-- the guesses that an entity depends on
+abbrev pub entity_end : KernelView → Entity → List ℕ
+entity_end k e = codes " tags " ++ tags_text (tags_at k e)
 
 -- the released texts, a literal a line
 abbrev pub texts_lines : List (List ℕ) → List ℕ
@@ -81,11 +76,11 @@ with_terminals look numbers (e ∷ es) = with_terminals look (with_terminal numb
 
 -- the lines of the terminals of all processes among these entities, and then those of the entities
 abbrev pub body_text : (Entity → Option EntityState) → (ℕ → List ℕ) → (Entity → List ℕ) → List Entity → List ℕ
-body_text look terminal entity es = flat_map terminal (with_terminals look [] es) ++ flat_map entity es
+body_text look terminal end es = flat_map terminal (with_terminals look [] es) ++ flat_map (line_of look end es) es
 
 -- the terminals, and the entities that are present by their order
 abbrev pub kernel_text : KernelView → List ℕ
-kernel_text k = body_text (finmap.get (state_at k)) (terminal_said k) (entity_line k) (finmap.keys (state_at k))
+kernel_text k = body_text (finmap.get (state_at k)) (terminal_said k) (entity_end k) (finmap.keys (state_at k))
 
 -- these, and the last line
 abbrev pub report_text : KernelView → List ℕ
@@ -93,7 +88,7 @@ report_text k = kernel_text k ++ last_line k
 
 -- the same of a plain kernel that has run so many steps
 abbrev pub plain_report_text : PlainView → ℕ → List ℕ
-plain_report_text k steps = body_text (finmap.get k.state) (plain_terminal_said k) (plain_entity_line k) (finmap.keys k.state) ++ steps_line steps
+plain_report_text k steps = body_text (finmap.get k.state) (plain_terminal_said k) (λ e. []) (finmap.keys k.state) ++ steps_line steps
 
 -- ---- a world
 

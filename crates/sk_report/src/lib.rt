@@ -2,6 +2,7 @@
 //! line of workers; and how entities and what they have are printed.
 #![tactic(auto)]
 
+pub mod directories;
 pub mod footprints;
 pub mod printed;
 pub mod report;
@@ -9,6 +10,7 @@ pub mod stop;
 pub mod subject;
 pub mod world_report;
 
+pub use directories::write_held;
 pub use footprints::{PrintedEntities, write_footprint};
 pub use printed::{
     PrintedContent, PrintedEntity, PrintedProcess, PrintedTags, PrintedValue, PrintedView,

@@ -1,11 +1,11 @@
 //! How entities and what they have are printed.
-ghost use Rattle.std.specs.Prelude.{◌≡◌, ◌<◌, ◌∷◌, Some, drop, flat_map, decimal};
-ghost use Rattle.sk_report.specs.Printed.{tags_text, signals_text, links_text, link_text, option_text, registers_text, held_text, made_text, yes_or_no, process_text, content_text, value_text, view_text, entity_text};
+ghost use Rattle.std.specs.Prelude.{◌≡◌, ◌<◌, ◌∷◌, Some, flat_map, decimal};
+ghost use Rattle.sk_report.specs.Printed.{tags_text, signals_text, option_text, registers_text, held_text, made_text, yes_or_no, process_text, content_text, value_text, view_text, entity_text};
 ghost use Rattle.sk_script.specs.Registers.{held};
 ghost use Rattle.sk_words.specs.Spelling.{spelled};
 
-use sk_ids::{Entity, GuessId, Name, ObjId, TagSet};
-use sk_objects::{Content, Directory, File, Pipe, Signals, Value};
+use sk_ids::{Entity, GuessId, TagSet};
+use sk_objects::{Content, File, Pipe, Signals, Value};
 use sk_plain::View;
 use sk_script::words::{Literal, Printed, Unquoted};
 use sk_script::{Process, Register, Registers, Val};
@@ -73,56 +73,6 @@ impl fmt::Display for PrintedSignals<'_> {
             [] => write!(f, "-"),
             [first, others @ ..] => {
                 let others = MoreSignals(others);
-                write!(f, "{first}{others}")
-            }
-        }
-    }
-}
-
-/// A name and its object.
-#[derive(Clone, Copy)]
-struct PrintedLink(Name, ObjId);
-
-impl fmt::Display for PrintedLink {
-    ghost output = { λ s. Some (link_text (s.0, s.1)) };
-
-    fn fmt<W: fmt::Write>(&self, f: &mut fmt::Formatter<W>) -> fmt::Result {
-        let name = Printed(self.0);
-        let object = Printed(self.1);
-        write!(f, "{name}={object}")
-    }
-}
-
-/// The links of a directory behind the first, each behind a space.
-#[derive(Drop)]
-struct MoreLinks<'a>(&'a Directory);
-
-impl fmt::Display for MoreLinks<'_> {
-    ghost output = { λ s. Some (flat_map (λ link. 32 ∷ link_text link) (drop 1 s.0.now)) };
-
-    fn fmt<W: fmt::Write>(&self, f: &mut fmt::Formatter<W>) -> fmt::Result {
-        for index in 0..self.0.len().saturating_sub(1) {
-            let (name, object) = self.0.at(index + 1).unwrap();
-            let link = PrintedLink(name, object);
-            write!(f, " {link}")?;
-        }
-        Ok(())
-    }
-}
-
-/// The links of a directory by rising bytes; `-` where there is none.
-#[derive(Drop)]
-struct PrintedLinks<'a>(&'a Directory);
-
-impl fmt::Display for PrintedLinks<'_> {
-    ghost output = { λ s. Some (links_text s.0.now) };
-
-    fn fmt<W: fmt::Write>(&self, f: &mut fmt::Formatter<W>) -> fmt::Result {
-        match self.0.at(0) {
-            None => write!(f, "-"),
-            Some((name, object)) => {
-                let first = PrintedLink(name, object);
-                let others = MoreLinks(self.0);
                 write!(f, "{first}{others}")
             }
         }
@@ -279,7 +229,7 @@ impl fmt::Display for PrintedPipe<'_> {
     }
 }
 
-/// A value, behind its entity.
+/// A value, behind its entity. Of a directory its names are entities of their own.
 #[derive(Drop)]
 pub struct PrintedValue<'a>(pub &'a Value);
 
@@ -293,10 +243,8 @@ impl fmt::Display for PrintedValue<'_> {
                 let bytes = PrintedFile(file);
                 write!(f, "file {size} {bytes}")
             }
-            Value::Dir(directory) => {
-                let links = PrintedLinks(directory);
-                write!(f, "dir {links}")
-            }
+            Value::Dir => write!(f, "dir"),
+            Value::Link(object) => write!(f, "{}", Printed(*object)),
             Value::Pipe(pipe) => {
                 let state = if pipe.is_shut() { "shut" } else { "open" };
                 let bytes = PrintedPipe(pipe);
@@ -337,6 +285,11 @@ impl fmt::Display for PrintedEntity {
             Entity::Sig(pid) => write!(f, "sig {}", Printed(pid)),
             Entity::Exit(pid) => write!(f, "exit {}", Printed(pid)),
             Entity::Obj(id) => write!(f, "obj {}", Printed(id)),
+            Entity::Link(directory, name) => {
+                let directory = Printed(directory);
+                let name = Printed(name);
+                write!(f, "link {directory} {name}")
+            }
             Entity::Copy(name) => write!(f, "copy {}", Printed(name)),
         }
     }

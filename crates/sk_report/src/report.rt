@@ -1,9 +1,11 @@
 //! The report of a kernel, and that of a plain kernel.
 ghost use Rattle.std.specs.Prelude.{◌≡◌, ◌++◌, [], flat_map, OnOk, IfOk};
 ghost use Rattle.std.specs.Io.KnownBytes.{Appends};
-ghost use Rattle.sk_report.specs.Report.{last_line, steps_line, with_terminals, body_text, kernel_text, report_text, plain_report_text};
+ghost use Rattle.std.specs.List.Sorted.{IsStrictlySortedBy};
+ghost use Rattle.sk_ids.specs.Entity.{entity_cmp};
+ghost use Rattle.sk_report.specs.Report.{last_line, steps_line, line_of, with_terminals, body_text, kernel_text, report_text, plain_report_text};
 
-use crate::{Stop, Subject};
+use crate::{PrintedEntity, Stop, Subject, write_held};
 use sk_ids::Entity;
 use sk_kernel::Kernel;
 use sk_plain::{Plain, View};
@@ -56,8 +58,9 @@ fn write_body<S: Subject, W: Write>(
     entities: &[Entity],
     out: &mut W,
 ) -> Result<(), Stop>
+    requires { IsStrictlySortedBy entity_cmp entities.now }
     ensures { OnOk result (Appends (W.contents out.old) (W.contents out.new)
-        (body_text (S.look subject.now) (S.terminal_lines subject.now) (S.line_of subject.now)
+        (body_text (S.look subject.now) (S.terminal_lines subject.now) (S.end_of subject.now)
         entities.now)) }
 {
     let terminals = terminals_of(alloc, subject, entities)?;
@@ -85,13 +88,35 @@ fn write_entities<S: Subject, W: Write>(
     entities: &[Entity],
     out: &mut W,
 ) -> io::Result<()>
+    requires { IsStrictlySortedBy entity_cmp entities.now }
     ensures { OnOk result (Appends (W.contents out.old) (W.contents out.new)
-        (flat_map (S.line_of subject.now) entities.now)) }
+        (flat_map (line_of (S.look subject.now) (S.end_of subject.now) entities.now) entities.now)) }
 {
     for entity in entities {
-        subject.write_entity(entity, out)?;
+        write_entity(subject, entities, entity, out)?;
     }
     Ok(())
+}
+
+/// Writes an entity and what it has, where it is there.
+fn write_entity<S: Subject, W: Write>(
+    subject: &S,
+    entities: &[Entity],
+    entity: &Entity,
+    out: &mut W,
+) -> io::Result<()>
+    requires { IsStrictlySortedBy entity_cmp entities.now }
+    ensures { OnOk result (Appends (W.contents out.old) (W.contents out.new)
+        (line_of (S.look subject.now) (S.end_of subject.now) entities.now entity.now)) }
+{
+    if subject.show(entity).is_none() {
+        return Ok(());
+    }
+    let printed = PrintedEntity(*entity);
+    write!(out, "{printed} ")?;
+    write_held(subject, entities, entity, out)?;
+    subject.write_end(entity, out)?;
+    writeln!(out)
 }
 
 /// Writes the number of events and of undecided guesses.

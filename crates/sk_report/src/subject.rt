@@ -1,11 +1,11 @@
 //! The kernels of which a report is written.
-ghost use Rattle.std.specs.Prelude.{OnOk};
+ghost use Rattle.std.specs.Prelude.{OnOk, []};
 ghost use Rattle.std.specs.Io.KnownBytes.{Appends};
 ghost use Rattle.std.specs.FinMap as map;
 ghost use Rattle.sk_kernel.specs.Kernel.{state_at};
-ghost use Rattle.sk_report.specs.Report.{counts_line, terminal_lines, terminal_said, texts_lines, entity_line, plain_terminal_said, plain_entity_line};
+ghost use Rattle.sk_report.specs.Report.{counts_line, terminal_lines, terminal_said, texts_lines, entity_end, plain_terminal_said};
 
-use crate::{PrintedEntity, PrintedTags, PrintedView};
+use crate::PrintedTags;
 use sk_ids::{Entity, Text};
 use sk_kernel::Kernel;
 use sk_plain::{Plain, View};
@@ -28,8 +28,8 @@ pub trait Subject {
     /// The lines of a terminal.
     ghost terminal_lines: { Self → ℕ → List ℕ };
 
-    /// The line of an entity.
-    ghost line_of: { Self → Entity → List ℕ };
+    /// What stands at the end of the line of an entity.
+    ghost end_of: { Self → Entity → List ℕ };
 
     /// What an entity has; `None` where it is absent.
     fn show(&self, entity: &Entity) -> Option<View<'_>>
@@ -40,10 +40,10 @@ pub trait Subject {
         ensures { OnOk result (Appends (W.contents out.old) (W.contents out.new)
             (terminal_lines self.now number)) };
 
-    /// Writes an entity and what it has.
-    fn write_entity<W: Write>(&self, entity: &Entity, out: &mut W) -> io::Result<()>
+    /// Writes the end of the line of an entity.
+    fn write_end<W: Write>(&self, entity: &Entity, out: &mut W) -> io::Result<()>
         ensures { OnOk result (Appends (W.contents out.old) (W.contents out.new)
-            (line_of self.now entity.now)) };
+            (end_of self.now entity.now)) };
 }
 
 impl Subject for Kernel {
@@ -51,7 +51,7 @@ impl Subject for Kernel {
 
     ghost terminal_lines = { terminal_said };
 
-    ghost line_of = { entity_line };
+    ghost end_of = { entity_end };
 
     fn show(&self, entity: &Entity) -> Option<View<'_>> {
         self.value(entity)
@@ -64,16 +64,9 @@ impl Subject for Kernel {
         }
     }
 
-    fn write_entity<W: Write>(&self, entity: &Entity, out: &mut W) -> io::Result<()> {
-        match self.value(entity) {
-            Some(view) => {
-                let tags = PrintedTags(self.tags_of(entity));
-                let entity = PrintedEntity(*entity);
-                let view = PrintedView(view);
-                writeln!(out, "{entity} {view} tags {tags}")
-            }
-            None => Ok(()),
-        }
+    fn write_end<W: Write>(&self, entity: &Entity, out: &mut W) -> io::Result<()> {
+        let tags = PrintedTags(self.tags_of(entity));
+        write!(out, " tags {tags}")
     }
 }
 
@@ -82,7 +75,7 @@ impl Subject for Plain {
 
     ghost terminal_lines = { plain_terminal_said };
 
-    ghost line_of = { plain_entity_line };
+    ghost end_of = { λ k e. [] };
 
     fn show(&self, entity: &Entity) -> Option<View<'_>> {
         self.value(entity)
@@ -95,15 +88,8 @@ impl Subject for Plain {
         write_texts(texts, out)
     }
 
-    fn write_entity<W: Write>(&self, entity: &Entity, out: &mut W) -> io::Result<()> {
-        match self.value(entity) {
-            Some(view) => {
-                let entity = PrintedEntity(*entity);
-                let view = PrintedView(view);
-                writeln!(out, "{entity} {view}")
-            }
-            None => Ok(()),
-        }
+    fn write_end<W: Write>(&self, _entity: &Entity, _out: &mut W) -> io::Result<()> {
+        Ok(())
     }
 }
 

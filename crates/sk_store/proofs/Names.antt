@@ -1,36 +1,73 @@
--- Which names a directory lacks, and how many it has, when one more is linked.
-use Rattle.std.proofs.Common.{◌≡◌, ◌≢◌, ℕ, zero, suc, Bool, true, false, cond, nat_eq, List, [], ◌∷◌, length, take, drop, Option, Some, None, arith, refl, ◌∙◌}
-use Rattle.std.specs.Option.{option_map}
-use Rattle.std.specs.Cmp.Lexicographic.{pointwise, bytes_decides}
-use Rattle.std.specs.List.{insert, count_by, find}
-use Rattle.std.proofs.lemmas.List.{length-append, length-take, length-drop}
+-- A directory has one count of names, which goes up and down with them, and which a state's names have.
+use Rattle.std.proofs.Common.{◌≡◌, ◌≤◌, ℕ, ◌+◌, ◌-◌, Bool, true, false, not, cond, ◌&&◌, ◌||◌, List, [], ◌∷◌, Option, Some, None, refl, sym, ◌∙◌, ap}
+use Rattle.std.specs.Prelude.{is_some}
+use Rattle.std.specs.declared.cmp.Ordering.{Ordering}
+use Rattle.std.specs.declared.cmp.Ordering.TheVariants.{Less, Equal, Greater}
+use Rattle.std.specs.Ordering.{nat_cmp, eq_by_cmp, is_eq, ordering_then}
+use Rattle.std.specs.List.{list_any}
+use Rattle.std.specs.Cmp.{IsTotalOrder}
+use Rattle.std.specs.Cmp.Lexicographic.{nat_list_cmp_total}
+use Rattle.std.specs.FinMap as map
+use Rattle.std.specs.FinSet.{FinSet, contains, insert, remove, len, from_list, contains-insert, contains-remove, contains-from_list, len-insert, len-remove, same_set}
+use Rattle.std.proofs.lemmas.Map.Lookups.{exact_bytes}
+use Rattle.sk_ids.specs.Name.{name_order}
+use Rattle.sk_ids.specs.Entity.{entity_cmp, object_cmp}
 use Rattle.sk_ids.specs.declared.pid.ObjId.{ObjId}
-use Rattle.sk_objects.specs.Directory.{Link, is_named, is_before, looked_up, linked}
+use Rattle.sk_ids.specs.declared.entity.Entity.{Entity}
+use Rattle.sk_ids.specs.declared.entity.Entity.TheVariants.{Proc, Sig, Exit, Obj, Link, Copy}
+use Rattle.sk_store.specs.State.{State}
+use Rattle.sk_store.specs.Names.{IsCount, name_there, name_of, with_name, names_among, names_in}
 
-split : (found : Bool) (e : Link) (rest : Option Link) → option_map (λ link. link.1) (cond found (Some e) rest) ≡ None → (found ≡ false) × (option_map (λ link. link.1) rest ≡ None)
-split true e rest h = absurd (cc)
-split false e rest h = (refl, h)
+total : IsTotalOrder name_order
+total = nat_list_cmp_total
 
--- a name that a directory lacks is neither the first nor among the others
-lacks : (e : Link) (d : List Link) (n : List ℕ) → looked_up (e ∷ d) n ≡ None → (is_named n e ≡ false) × (looked_up d n ≡ None)
-lacks e d n h = split (is_named n e) e (find (is_named n) d) h
+pub one_count : (there : ObjId → List ℕ → Bool) (d : ObjId) (m n : ℕ) → IsCount there d m → IsCount there d n → m ≡ n
+one_count there d m n a b = sym a.count ∙ ap len (same_set total exact_bytes a.names b.names (λ q. a.all q ∙ sym (b.all q))) ∙ b.count
 
-not_true : (b : Bool) → (b ≡ true → ⊥) → b ≡ false
-not_true true h = absurd (h refl)
-not_true false h = refl
+-- a name appears
+pub one_more : (there after : ObjId → List ℕ → Bool) (d : ObjId) (name : List ℕ) (n : ℕ) → there d name ≡ false → ((q : List ℕ) → after d q ≡ (eq_by_cmp name_order q name || there d q))
+    → IsCount there d n → IsCount after d (n + 1)
+one_more there after d name n absent all a = record {
+  names = insert a.names name;
+  all = λ q. contains-insert total a.names name q ∙ ap (λ b. eq_by_cmp name_order q name || b) (a.all q) ∙ sym (all q);
+  count = len-insert total a.names name ∙ ap (λ b. cond b (len a.names) (len a.names + 1)) (a.all name ∙ absent) ∙ ap (λ (k : ℕ). k + 1) a.count;
+}
 
-lacks_inserted : (d : List Link) (i : ℕ) (n m : List ℕ) (o : ObjId) → looked_up d m ≡ None → pointwise nat_eq n m ≡ false → looked_up (insert d i (n, o)) m ≡ None
-lacks_inserted [] zero n m o h other = rw other refl
-lacks_inserted [] (suc i) n m o h other = rw other refl
-lacks_inserted (e ∷ d) zero n m o h other = rw other h
-lacks_inserted (e ∷ d) (suc i) n m o h other = rw (lacks e d m h).0 (lacks_inserted d i n m o (lacks e d m h).1 other)
+-- a name goes
+pub one_less : (there after : ObjId → List ℕ → Bool) (d : ObjId) (name : List ℕ) (n : ℕ) → there d name ≡ true → ((q : List ℕ) → after d q ≡ (not (eq_by_cmp name_order q name) && there d q))
+    → IsCount there d n → IsCount after d (n - 1)
+one_less there after d name n present all a = record {
+  names = remove a.names name;
+  all = λ q. contains-remove total a.names name q ∙ ap (λ b. not (eq_by_cmp name_order q name) && b) (a.all q) ∙ sym (all q);
+  count = len-remove total a.names name ∙ ap (λ b. cond b (len a.names - 1) (len a.names)) (a.all name ∙ present) ∙ ap (λ (k : ℕ). k - 1) a.count;
+}
 
--- it still lacks a name when another is linked
-pub lacks_linked : (d : List Link) (n m : List ℕ) (o : ObjId) → looked_up d m ≡ None → n ≢ m → looked_up (linked d n o) m ≡ None
-lacks_linked d n m o h other = lacks_inserted d (count_by (is_before n) d) n m o h (not_true (pointwise nat_eq n m) (λ e. other ((bytes_decides n m).0 e)))
+-- the same names are there
+pub as_many : (there after : ObjId → List ℕ → Bool) (d : ObjId) (n : ℕ) → ((q : List ℕ) → after d q ≡ there d q) → IsCount there d n → IsCount after d n
+as_many there after d n same a = record { names = a.names; all = λ q. a.all q ∙ sym (same q); count = a.count }
 
--- one more name
-pub length_linked : (d : List Link) (n : List ℕ) (o : ObjId) → length (linked d n o) ≡ suc (length d)
-length_linked d n o =
-    let i = count_by (is_before n) d in
-    length-append (take i d) ((n, o) ∷ drop i d) ∙ rw (length-take i d, length-drop i d) (omega arith)
+-- ---- in a state
+at_link : (d o : ObjId) (q name : List ℕ) (rest : List (List ℕ)) (more : Bool) → list_any (eq_by_cmp name_order q) rest ≡ more
+    → list_any (eq_by_cmp name_order q) (with_name (cond (eq_by_cmp object_cmp d o) (Some name) None) rest) ≡ (eq_by_cmp entity_cmp (Link d q) (Link o name) || more)
+at_link d o q name rest more same =
+    elim (object_cmp d o) as (λ (r : Ordering). list_any (eq_by_cmp name_order q) (with_name (cond (is_eq r) (Some name) None) rest) ≡ (is_eq (ordering_then r (name_order q name)) || more)) [
+      | Less ↦ same
+      | Equal ↦ ap (λ b. eq_by_cmp name_order q name || b) same
+      | Greater ↦ same
+    ]
+
+among_is : (d : ObjId) (q : List ℕ) (es : List Entity) → list_any (eq_by_cmp name_order q) (names_among d es) ≡ list_any (eq_by_cmp entity_cmp (Link d q)) es
+among_is d q [] = refl
+among_is d q (Proc p ∷ es) = among_is d q es
+among_is d q (Sig p ∷ es) = among_is d q es
+among_is d q (Exit p ∷ es) = among_is d q es
+among_is d q (Obj o ∷ es) = among_is d q es
+among_is d q (Link o name ∷ es) = at_link d o q name (names_among d es) (list_any (eq_by_cmp entity_cmp (Link d q)) es) (among_is d q es)
+among_is d q (Copy n ∷ es) = among_is d q es
+
+pub names_counted : (s : State) (d : ObjId) → IsCount (name_there (map.get s)) d (names_in s d)
+names_counted s d = record {
+  names = from_list (names_among d (map.keys s));
+  all = λ q. contains-from_list total (names_among d (map.keys s)) q ∙ among_is d q (map.keys s) ∙ sym (map.contains_key-keys s (Link d q));
+  count = refl;
+}

@@ -3,6 +3,7 @@ pub mod Changed
 pub mod Processes
 pub mod OthersLaw
 pub mod Start
+pub mod Names
 pub mod Back
 pub mod Same
 pub mod SameLemma

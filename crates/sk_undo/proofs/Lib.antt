@@ -13,3 +13,4 @@ pub mod Runs
 mod GivenBack
 pub mod Counted
 mod Copying
+mod NameCounts

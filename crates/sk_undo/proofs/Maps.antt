@@ -1,5 +1,6 @@
 -- Writes to the map of slots, and what takes them back.
 use Rattle.std.proofs.Common.{◌≡◌, ℕ, List, [], ◌∷◌, Bool, true, false, cond, Option, Some, None, refl, sym, ◌∙◌, ap, subst}
+use Rattle.std.specs.Prelude.{is_some}
 use Rattle.std.specs.Ordering.{eq_by_cmp}
 use Rattle.std.specs.Cmp.{eq_by_cmp_equiv, Equal-is}
 use Rattle.std.specs.FinMap.{get, insert, remove, get-insert, get-remove, same_map}
@@ -99,7 +100,7 @@ placed_full m e w full = ap (λ b. cond b (remove m e) (insert m e w)) (sym full
 
 -- a slot changed in place, and taken out where it is bare
 pub changed_slot : (C : SlotView → SlotView → Type 0) (m n : SlotMap) (e : Entity) (s w : SlotView) → get m e ≡ Some s → C s w → n ≡ placed m e w → ChangedAt C m e n
-changed_slot C m n e s w here did is = record { slot = w; changed = subst (λ o. C (slot_in o) w) (sym here) did; all = is }
+changed_slot C m n e s w here did is = record { slot = w; changed = subst (λ o. C (slot_in o) w) (sym here) did; all = is; kept = λ _. ap is_some here }
 
 pub changed_none : (C : SlotView → SlotView → Type 0) (m n : SlotMap) (e : Entity) → get m e ≡ None → C (slot_of None) (slot_of None) → n ≡ m → ChangedAt C m e n
-changed_none C m n e none did is = record { slot = slot_of None; changed = subst (λ o. C (slot_in o) (slot_of None)) (sym none) did; all = is ∙ placed_none m e none }
+changed_none C m n e none did is = record { slot = slot_of None; changed = subst (λ o. C (slot_in o) (slot_of None)) (sym none) did; all = is ∙ placed_none m e none; kept = λ there. sym (ap (λ (k : SlotMap). is_some (get k e)) is) ∙ there }

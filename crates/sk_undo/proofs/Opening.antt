@@ -17,8 +17,8 @@ use Rattle.sk_ids.proofs.Entities.{entity_total, entity_exact}
 use Rattle.sk_record.specs.Effects.{is_in}
 use Rattle.sk_store.specs.State.{State}
 use Rattle.sk_store.specs.declared.entity_state.EntityState.{EntityState}
-use Rattle.sk_undo.specs.Slot.{SlotView, slot_of, is_bare}
-use Rattle.sk_undo.specs.Logs.{SlotMap, slot_in, look_at, log_at}
+use Rattle.sk_undo.specs.Slot.{SlotView, slot_of, slot_wrote, is_bare}
+use Rattle.sk_undo.specs.Logs.{SlotMap, slot_in, look_at, log_at, placed, moved}
 use Rattle.sk_undo.specs.Decisions.{NoneBare}
 
 -- a slot of which nothing is noted
@@ -30,6 +30,7 @@ pub record Opening (start : State) (rest : List Entity) (store : State) (slots :
   pub rising : IsStrictlySortedBy entity_cmp rest
   pub present : (q : Entity) → is_in entity_cmp rest q ≡ true → IsSome (map.get start q)
   pub left : (q : Entity) → is_in entity_cmp rest q ≡ true → map.get store q ≡ map.get start q
+  pub free : (q : Entity) → is_in entity_cmp rest q ≡ true → map.get slots q ≡ None
   pub done : (q : Entity) → is_in entity_cmp rest q ≡ false → map.get slots q ≡ option_map holding (map.get start q)
 
 absent_is : (o : Option EntityState) → is_some o ≡ false → o ≡ None
@@ -41,6 +42,7 @@ opening_from start es rising all = record {
   rising = rising;
   present = λ q there. sym (all q) ∙ there;
   left = λ q there. refl;
+  free = λ q there. map.get-empty entity_cmp q;
   done = λ q out. map.get-empty entity_cmp q ∙ ap (option_map holding) (sym (absent_is (map.get start q) (sym (all q) ∙ out)));
 }
 
@@ -58,20 +60,33 @@ held None h = absurd (true≢false (sym h))
 by_place : (q e : Entity) (P : Type 0) → (eq_by_cmp entity_cmp q e ≡ true → P) → (eq_by_cmp entity_cmp q e ≡ false → P) → P
 by_place q e P here apart = elim (eq_by_cmp entity_cmp q e) as (λ b. eq_by_cmp entity_cmp q e ≡ b → P) [ true ↦ here | false ↦ apart ] refl
 
+moved_some : (m : SlotMap) (e : Entity) (o : Option EntityState) → map.get m e ≡ None → IsSome o → moved m e o ≡ map.insert m e (slot_of o)
+moved_some m e (Some v) none h = ap (λ (s : Option SlotView). placed m e (slot_wrote [] (slot_in s) (Some v))) none
+moved_some m e None none h = absurd (true≢false (sym h))
+
 module _ (start store store' : State) (slots slots' : SlotMap) (e : Entity) (rest : List Entity) (so : Opening start (e ∷ rest) store slots) where
   apart_from : (q : Entity) → is_in entity_cmp rest q ≡ true → eq_by_cmp entity_cmp q e ≡ false
   apart_from q there = by_place q e (eq_by_cmp entity_cmp q e ≡ false)
       (λ is. absurd (true≢false (sym (ap (is_in entity_cmp rest) (sym (entity_exact q e ((Equal-is (entity_cmp q e)).0 is))) ∙ there) ∙ out_after e rest (sorted_head entity_cmp e rest so.rising))))
       (λ is. is)
 
-  pub opening_more : slots' ≡ map.insert slots e (slot_of (map.get store e))
+  there : IsSome (map.get store e)
+  there = subst IsSome (sym (so.left e (or_left _ _ (self_in e)))) (so.present e (or_left _ _ (self_in e)))
+
+  here_now : slots' ≡ moved slots e (map.get store e) → slots' ≡ map.insert slots e (slot_of (map.get store e))
+  here_now is = is ∙ moved_some slots e (map.get store e) (so.free e (or_left _ _ (self_in e))) there
+
+  pub opening_more : slots' ≡ moved slots e (map.get store e)
       → ((q : Entity) → eq_by_cmp entity_cmp q e ≡ false → map.get store' q ≡ map.get store q) → Opening start rest store' slots'
   opening_more is others = record {
     rising = sorted_tail entity_cmp e rest so.rising;
     present = λ q there. so.present q (or_right _ _ there);
     left = λ q there. others q (apart_from q there) ∙ so.left q (or_right _ _ there);
+    free = λ q there.
+        ap (λ m. map.get m q) (here_now is) ∙ map.get-insert entity_total slots e (slot_of (map.get store e)) q
+        ∙ ap (λ b. cond b (Some (slot_of (map.get store e))) (map.get slots q)) (apart_from q there) ∙ so.free q (or_right _ _ there);
     done = λ q out.
-        ap (λ m. map.get m q) is ∙ map.get-insert entity_total slots e (slot_of (map.get store e)) q
+        ap (λ m. map.get m q) (here_now is) ∙ map.get-insert entity_total slots e (slot_of (map.get store e)) q
         ∙ by_place q e (cond (eq_by_cmp entity_cmp q e) (Some (slot_of (map.get store e))) (map.get slots q) ≡ option_map holding (map.get start q))
         (λ same.
         ap (λ b. cond b (Some (slot_of (map.get store e))) (map.get slots q)) same

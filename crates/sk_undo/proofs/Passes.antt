@@ -19,7 +19,7 @@ use Rattle.sk_store.specs.declared.entity_state.EntityState.{EntityState}
 use Rattle.sk_undo.specs.Log.{is_empty, carries}
 use Rattle.sk_undo.specs.Slot.{SlotView, slot_of, is_bare}
 use Rattle.sk_undo.specs.Logs.{SlotMap, slot_in, placed, look_at, log_at}
-use Rattle.sk_undo.specs.Decisions.{SlotUnwound, SlotCommitted, ChangedAt, Unwound, Lightened, AreListed, AllRest, AllGrow, NoneBare}
+use Rattle.sk_undo.specs.Decisions.{SlotUnwound, SlotCommitted, ChangedAt, IsWithin, Unwound, Lightened, AreListed, AllRest, AllGrow, NoneBare}
 use Rattle.sk_undo.proofs.SeenNotes.{none_is, none_off, grow_cut}
 use Rattle.sk_undo.proofs.Commits.{committed_free, committed_twice, grow_commit, is_settled, settled_free, all_settled, all_merged}
 
@@ -53,6 +53,13 @@ placed_at m e s q =
       | false ↦ λ _. ap slot_in (map.get-insert entity_total m e s q) ∙ pick (eq_by_cmp entity_cmp q e) (Some s) (map.get m q)
     ] refl
 
+pub placed_get : (m : SlotMap) (e : Entity) (s : SlotView) (q : Entity) → eq_by_cmp entity_cmp q e ≡ false → map.get (placed m e s) q ≡ map.get m q
+placed_get m e s q apart =
+    elim (is_bare s) as (λ b. map.get (cond b (map.remove m e) (map.insert m e s)) q ≡ map.get m q) [
+      | true ↦ map.get-remove entity_total m e q ∙ ap (λ b. cond b None (map.get m q)) apart
+      | false ↦ map.get-insert entity_total m e s q ∙ ap (λ b. cond b (Some s) (map.get m q)) apart
+    ]
+
 pub placed_bare : (m : SlotMap) (e : Entity) (s : SlotView) → NoneBare m → NoneBare (placed m e s)
 placed_bare m e s none q t =
     elim (is_bare s) as (λ b. is_bare s ≡ b → map.get (cond b (map.remove m e) (map.insert m e s)) q ≡ Some t → is_bare t ≡ false) [
@@ -77,9 +84,20 @@ module _ {C : SlotView → SlotView → Type 0} {old new : SlotMap} {e : Entity}
   pub elsewhere : eq_by_cmp entity_cmp q e ≡ false → slot_in (map.get old q) ≡ slot_in (map.get new q)
   elsewhere is = sym (ap (λ m. slot_in (map.get m q)) h.all ∙ placed_at old e h.slot q ∙ ap (λ b. cond b h.slot (slot_in (map.get old q))) is)
 
+  -- a slot elsewhere is the one that was there
+  pub same_elsewhere : eq_by_cmp entity_cmp q e ≡ false → map.get new q ≡ map.get old q
+  same_elsewhere is = ap (λ m. map.get m q) h.all ∙ placed_get old e h.slot q is
+
 -- a proof for an entity, where it is the changed one and where it is not
 by_place : (q e : Entity) (P : Type 0) → (eq_by_cmp entity_cmp q e ≡ true → P) → (eq_by_cmp entity_cmp q e ≡ false → P) → P
 by_place q e P here apart = elim (eq_by_cmp entity_cmp q e) as (λ b. eq_by_cmp entity_cmp q e ≡ b → P) [ true ↦ here | false ↦ apart ] refl
+
+-- an entity that has a slot then had one
+pub kept_at : {C : SlotView → SlotView → Type 0} {old new : SlotMap} {e : Entity} → ChangedAt C old e new → IsWithin new old
+kept_at {C} {old} {new} {e} h q there = by_place q e (map.contains_key old q ≡ true)
+    (λ is. let same = entity_exact q e ((Equal-is (entity_cmp q e)).0 is) in
+    subst (λ x. map.contains_key old x ≡ true) (sym same) (h.kept (subst (λ x. map.contains_key new x ≡ true) same there)))
+    (λ is. sym (ap is_some (same_elsewhere h q is)) ∙ there)
 
 -- ---- the list that is left
 pub next_of : (es : List Entity) (i : ℕ) (e : Entity) → i < length es → e ≡ get_or es i e → drop i es ≡ e ∷ drop (i + 1) es
@@ -144,6 +162,7 @@ pub record Committing (g : ℕ) (old now : SlotMap) (rest : List Entity) : Type 
   pub grow : AllGrow now
   pub done : (q : Entity) → is_in entity_cmp rest q ≡ false → committed g (log_at now q) ≡ log_at now q
   pub bare : NoneBare old → NoneBare now
+  pub kept : IsWithin now old
 
 unlisted : (b c : Bool) → (b ≡ true → c ≡ true) → c ≡ false → b ≡ false
 unlisted true c h is = absurd (true≢false (sym (h refl) ∙ is))
@@ -156,6 +175,7 @@ committing_from g old es listed rests grows = record {
   grow = grows;
   done = λ q is. committed_free g (log_at old q) (unlisted _ _ (listed q) is) (rests q);
   bare = λ h. h;
+  kept = λ q there. there;
 }
 
 module _ (g : ℕ) (old now new : SlotMap) (e : Entity) (rest : List Entity) (so : Committing g old now (e ∷ rest)) (h : ChangedAt (SlotCommitted g) now e new) where
@@ -174,6 +194,7 @@ module _ (g : ℕ) (old now new : SlotMap) (e : Entity) (rest : List Entity) (so
         (λ is. settled_free g (log_at new q) (all_merged (is_settled g) [] (committed g (log_at now q)) (log_at new q) ((there h q is).log (so.grow q)) (all_settled g (log_at now q))))
         (λ is. subst (λ (s : SlotView). committed g (reverse s.log) ≡ reverse s.log) (elsewhere h q is) (so.done q (ap (λ b. b || is_in entity_cmp rest q) is ∙ out)));
     bare = λ none. subst NoneBare (sym h.all) (placed_bare now e h.slot (so.bare none));
+    kept = λ q there. so.kept q (kept_at h q there);
   }
 
 pub all_committed : (g : ℕ) (old now : SlotMap) → Committing g old now [] → Lightened old g now

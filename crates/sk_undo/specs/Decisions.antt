@@ -23,11 +23,16 @@ pub record SlotCommitted (g : ℕ) (old new : SlotView) : Type 0 where
   pub now : new.now ≡ old.now
   pub log : IsGrowing (reverse old.log) → Merges [] (committed g (reverse old.log)) (reverse new.log)
 
--- the slot of one entity is changed so
+-- each entity that has a slot there has one here
+abbrev pub IsWithin : SlotMap → SlotMap → Type 0
+IsWithin there here = (e : Entity) → map.contains_key there e ≡ true → map.contains_key here e ≡ true
+
+-- the slot of one entity is changed so; it had one where it has one then
 pub record ChangedAt (Changed : SlotView → SlotView → Type 0) (old : SlotMap) (e : Entity) (new : SlotMap) : Type 0 where
   pub slot : SlotView
   pub changed : Changed (slot_in (map.get old e)) slot
   pub all : new ≡ placed old e slot
+  pub kept : map.contains_key new e ≡ true → map.contains_key old e ≡ true
 
 -- the notes that rest on a guess taken back, with those after them
 pub record Unwound (old : SlotMap) (g : ℕ) (new : SlotMap) : Type 0 where

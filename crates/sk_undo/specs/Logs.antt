@@ -1,5 +1,5 @@
 -- All entities with their undo logs, entity by entity.
-use Rattle.std.specs.Prelude.{ℕ, List, reverse, Option, Some, None, refl, if◌then◌else◌}
+use Rattle.std.specs.Prelude.{ℕ, List, [], reverse, Option, Some, None, refl, if◌then◌else◌}
 use Rattle.std.specs.Coded.{Coded, code_by, coded×, coded_ℕ, coded_list}
 use Rattle.std.specs.FinMap as map
 use Rattle.sk_ids.specs.Entity.{entity_cmp}
@@ -39,7 +39,12 @@ placed m e s = if is_bare s then map.remove m e else map.insert m e s
 abbrev pub slots_wrote : List ℕ → SlotMap → Entity → Option EntityState → SlotMap
 slots_wrote tags m e v = placed m e (slot_wrote tags (slot_in (map.get m e)) v)
 
--- and the newest one taken back
+-- what an entity had in a store, written without tags
+abbrev pub moved : SlotMap → Entity → Option EntityState → SlotMap
+moved m e None = m
+moved m e (Some v) = slots_wrote [] m e (Some v)
+
+-- the newest write taken back
 abbrev pub slots_back : SlotMap → Entity → TakeBack → SlotMap
 slots_back m e DropSlot = map.remove m e
 slots_back m e (UndoLast back) = map.insert m e (slot_back (slot_in (map.get m e)) back)

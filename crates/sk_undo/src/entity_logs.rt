@@ -115,6 +115,17 @@ impl ObjectLog {
         self.add(tags, PutBack::Was(None))
     }
 
+    /// Notes that the object goes, which rests on all that `tags` has, with the value that it had. Where
+    /// room was reserved the note is taken.
+    pub fn note_death(&mut self, tags: TagSet, before: Value) -> Result<(), AllocError>
+        requires { Covers tags (newest_tags (reverse self.old.log.notes.items)) }
+        ensures ok { OnOk result (self.new.log.notes.items ≡ self.old.log.notes.items ++ record { tags = tags; undo = PutBack.Was (Some before) } ∷ []) }
+        ensures err { OnErr result (self.new.log.notes.items ≡ self.old.log.notes.items) }
+        ensures room { HasRoom self.old.log.notes → IsOk result }
+    {
+        self.add(tags, PutBack::Was(Some(before)))
+    }
+
     /// Undoes the writes that rest on the guess, without memory; the room that was made stays. The
     /// value is as the last note left it.
     pub fn unwind(&mut self, value: &mut Option<Value>, guess: GuessId)

@@ -2,17 +2,21 @@
 //! rests on, and what puts it back.
 #![tactic(auto)]
 
+pub mod counted_slots;
 pub mod entity_logs;
 pub mod held;
 pub mod laws;
 pub mod log;
 pub mod logs;
+pub mod names;
 pub mod slot;
 pub mod slots;
 
+pub use counted_slots::CountedSlots;
 pub use entity_logs::{ObjectLog, ProcessLog};
 pub use held::Held;
 pub use log::{Kept, Log, Note, put_back};
 pub use logs::{Back, Logs};
+pub use names::Names;
 pub use slot::Slot;
 pub use slots::{Slots, TakeBack};

@@ -9,12 +9,13 @@ ghost use Rattle.std.specs.Option.{option_copied, unwrap_or};
 ghost use Rattle.sk_record.specs.Effects.{is_in};
 ghost use Rattle.sk_record.specs.Notes.{last_tags};
 ghost use Rattle.sk_undo.specs.Count.{AreUnnoted, notes_in};
+ghost use Rattle.sk_store.specs.Names.{IsCount, name_there};
 ghost use Rattle.sk_undo.specs.Log.{is_empty};
 ghost use Rattle.sk_undo.specs.Decisions.{Unwound, Lightened, AreListed, AllRest, AllGrow, NoneBare};
 
-use crate::{Slots, TakeBack};
+use crate::{CountedSlots, TakeBack};
 use sk_changes::Change;
-use sk_ids::{Entity, GuessId, Pid, TagSet};
+use sk_ids::{Entity, GuessId, ObjId, Pid, TagSet};
 use sk_store::{Becoming, EntityState, Keeper, Look, Store};
 use std::alloc::{AllocError, Global};
 use std::marker::Model;
@@ -39,7 +40,7 @@ impl Model for Back {
 /// The slots, and the tags of the step that is performed.
 #[derive(Drop)]
 pub struct Logs {
-    slots: Slots,
+    slots: CountedSlots,
     tags: TagSet,
 }
 
@@ -59,7 +60,7 @@ impl Logs {
         ensures { result ≡ record { slots = map.empty; tags = [] } }
     {
         Logs {
-            slots: Slots::new(alloc),
+            slots: CountedSlots::new(alloc),
             tags: TagSet::new(alloc),
         }
     }
@@ -72,7 +73,7 @@ impl Logs {
         ensures tags { IfOk result (λ logs. logs.tags ≡ []) }
     {
         let alloc = store.alloc();
-        let slots = Slots::open(store)?;
+        let slots = CountedSlots::open(store)?;
         Ok(Logs {
             slots,
             tags: TagSet::new(alloc),
@@ -92,6 +93,13 @@ impl Logs {
         ensures present { IfOk result (λ all. (e : Entity) → is_in entity_cmp all.items e ≡ is_some (look_at self.now.slots e)) }
     {
         self.slots.entities()
+    }
+
+    /// How many names of a directory are there. This takes no memory.
+    pub fn names(&self, directory: &ObjId) -> usize
+        ensures { IsCount (name_there (look_at self.now.slots)) directory.now result }
+    {
+        self.slots.names(directory)
     }
 
     /// How many notes all entities have, or the largest number where there are more. This takes no memory.

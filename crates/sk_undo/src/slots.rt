@@ -1,5 +1,5 @@
 //! All entities with their undo logs, in one map.
-ghost use Rattle.std.specs.Prelude.{◌≡◌, [], false, not, min, ◌-◌, ◌^◌, OnOk, OnErr, IfOk, OnSome, Some, None, is_some};
+ghost use Rattle.std.specs.Prelude.{◌≡◌, ◌≤◌, ◌<◌, [], min, ◌-◌, ◌^◌, OnOk, OnErr, IfOk, OnSome, Some, None, is_some};
 ghost use Rattle.std.specs.Option.{option_copied, option_copied_mut, unwrap_or};
 ghost use Rattle.std.specs.FinMap as map;
 ghost use Rattle.std.specs.List.Sorted.{IsStrictlySortedBy};
@@ -17,7 +17,7 @@ ghost use Rattle.sk_undo.specs.Count.{notes_in};
 ghost use Rattle.sk_undo.specs.Log.{is_empty};
 ghost use Rattle.sk_undo.specs.Slot.{slot_of, slot_wrote};
 ghost use Rattle.sk_undo.specs.Logs.{look_at, log_at, slot_in, slots_wrote, slots_back, CanTakeBack};
-ghost use Rattle.sk_undo.specs.Decisions.{ChangedAt, SlotUnwound, SlotCommitted, Unwound, Lightened, AreListed, AllRest, AllGrow, NoneBare};
+ghost use Rattle.sk_undo.specs.Decisions.{ChangedAt, SlotUnwound, SlotCommitted, IsWithin, Lightened, AreListed, AllRest, AllGrow, NoneBare};
 ghost use Rattle.sk_undo.specs.contracts.slots.Slots.{the_row as slots_row};
 ghost use Rattle.sk_undo.specs.contracts.slot.Slot.{the_row as slot_row};
 
@@ -64,26 +64,6 @@ fn born(alloc: Global, tags: &TagSet, value: Option<Held>) -> Result<Slot, Alloc
     Ok(slot)
 }
 
-/// What an entity has, if anything, in a box of its own.
-fn held(alloc: Global, value: Option<EntityState>) -> Result<Option<Held>, AllocError>
-    ensures { IfOk result (λ held. held ≡ value) }
-{
-    match value {
-        Some(state) => Ok(Some(Held::new(alloc, state)?)),
-        None => Ok(None),
-    }
-}
-
-/// Moves what an entity has out of the store, into a slot of which nothing is noted.
-fn move_over(store: &mut Store, slots: &mut Slots, entity: &Entity) -> Result<(), AllocError>
-    ensures here { OnOk result (slots.new ≡ map.insert slots.old entity.now (slot_of (map.get store.old entity.now))) }
-    ensures others { (e : Entity) → eq_by_cmp entity_cmp e entity.now ≡ false → map.get store.new e ≡ map.get store.old e }
-{
-    let alloc = slots.alloc();
-    let value = held(alloc, store.remove(*entity))?;
-    slots.put(*entity, Slot::new(alloc, value))
-}
-
 /// Copies what an entity has now into a store.
 fn copy_over(slots: &Slots, store: &mut Store, entity: &Entity) -> Result<(), AllocError>
     ensures { OnOk result (store.new ≡ put store.old entity.now (look_at slots.now entity.now)) }
@@ -111,20 +91,6 @@ impl Slots {
         self.alloc
     }
 
-    /// What a store has, with nothing noted.
-    pub fn open(mut store: Store) -> Result<Slots, AllocError>
-        ensures values { IfOk result (λ slots. (e : Entity) → look_at slots e ≡ map.get store e) }
-        ensures logs { IfOk result (λ slots. (e : Entity) → log_at slots e ≡ []) }
-        ensures bare { IfOk result (λ slots. NoneBare slots) }
-    {
-        let mut slots = Slots::new(store.alloc());
-        let entities = store.entities()?;
-        for entity in &entities {
-            move_over(&mut store, &mut slots, entity)?;
-        }
-        Ok(slots)
-    }
-
     /// A copy of what entities have now.
     pub fn present(&self) -> Result<Store, AllocError>
         ensures { IfOk result (λ store. (e : Entity) → map.get store e ≡ look_at self.now e) }
@@ -135,6 +101,14 @@ impl Slots {
             copy_over(self, &mut store, entity)?;
         }
         Ok(store)
+    }
+
+    /// How many slots there are.
+    pub fn len(&self) -> usize
+        ensures most { map.len self.now ≤ result }
+        ensures small { result < 2 ^ 63 }
+    {
+        self.slots.len()
     }
 
     fn slot(&self, entity: Entity) -> Option<&Slot>
@@ -303,7 +277,7 @@ impl Slots {
     }
 
     /// Takes back what rests on a guess at one entity, in place and without memory.
-    fn unwind_at(&mut self, entity: &Entity, guess: GuessId)
+    pub fn unwind_at(&mut self, entity: &Entity, guess: GuessId)
         ensures { ChangedAt (SlotUnwound guess) self.old entity.now self.new }
     {
         let Some(slot) = self.slot_mut(entity) else {
@@ -312,19 +286,6 @@ impl Slots {
         slot.unwind(guess);
         if slot.is_bare() {
             self.remove(entity);
-        }
-    }
-
-    /// Takes back what rests on a guess, at the entities of which a note does, in place and without
-    /// memory.
-    pub fn unwind(&mut self, guess: GuessId, entities: &[Entity])
-        requires listed { AreListed guess self.old entities.now }
-        requires grow { AllGrow self.old }
-        ensures slots { Unwound self.old guess self.new }
-        ensures bare { NoneBare self.old → NoneBare self.new }
-    {
-        for entity in entities {
-            self.unwind_at(entity, guess);
         }
     }
 
@@ -349,6 +310,7 @@ impl Slots {
         requires grow { AllGrow self.old }
         ensures slots { Lightened self.old guess self.new }
         ensures bare { NoneBare self.old → NoneBare self.new }
+        ensures kept { IsWithin self.new self.old }
     {
         for entity in entities {
             self.commit_at(entity, guess);

@@ -1,11 +1,11 @@
 //! The table of changes, each made and taken back, and many changes in turn.
 ghost use Rattle.std.specs.Prelude.{◌<◌};
 
-use crate::values::assert_same;
+use crate::values::{assert_same, linked};
 use sk_changes::run::{apply_all, undo_all};
 use sk_changes::{Change, Invertible, NotApplied};
-use sk_ids::{Name, ObjId, Text};
-use sk_objects::{Content, Directory, File, Kind, Pipe, Signals, Value};
+use sk_ids::Text;
+use sk_objects::{Content, File, Kind, Pipe, Signals, Value};
 use std::alloc::{AllocError, Global};
 use std::process::Abort;
 use std::test::Fail;
@@ -48,10 +48,6 @@ fn write(offset: u32, bytes: &[u8]) -> Change {
         offset,
         bytes: text(bytes),
     }
-}
-
-fn object(count: u32) -> ObjId {
-    ObjId { maker: None, count }
 }
 
 fn file(alloc: Global, bytes: Text) -> Result<Value, AllocError> {
@@ -164,55 +160,24 @@ fn changes_table_of_pipes(rt: HostRuntime) -> Result<(), Fail> {
     Ok(())
 }
 
-/// So many names from `aa` on, and `zz` where it is wanted.
-fn directory(alloc: Global, count: u8, with_last: bool) -> Result<Value, AllocError> {
-    let mut directory = Directory::new(alloc)?;
-    for n in 0..=count {
-        let name = if n < count {
-            Name::new(&[b'a' + n / 26 % 26, b'a' + n % 26])
-        } else {
-            Name::new(b"zz")
-        };
-        let Some(name) = name else {
-            continue;
-        };
-        let wanted = n < count || with_last;
-        if wanted && directory.len() < 64 && directory.look(&name).is_none() {
-            directory.link(name, object(u32::from(n)));
-        }
-    }
-    Ok(Value::Dir(directory))
-}
-
-fn directory_row(
-    rt: &impl Abort,
-    alloc: Global,
-    count: u8,
-    with_last: bool,
-    change: Change,
-    fits: bool,
-) -> Result<(), AllocError> {
-    let mut value = directory(alloc, count, with_last)?;
-    if fits {
-        let want = directory(alloc, count, !with_last)?;
-        assert_leaves(rt, alloc, &mut value, change, Some(&want))
-    } else {
-        assert_leaves(rt, alloc, &mut value, change, None)
-    }
+/// A directory and a link take no such change.
+fn stay(rt: &impl Abort, alloc: Global, change: &Change) -> Result<(), AllocError> {
+    assert_leaves(rt, alloc, &mut Value::Dir, *change, None)?;
+    assert_leaves(rt, alloc, &mut Value::link(linked()), *change, None)
 }
 
 #[test]
 fn changes_table_of_directories(rt: HostRuntime) -> Result<(), Fail> {
-    let last = Name::new(b"zz").ok_or("a name")?;
     let table = [
-        (64, false, Change::Link(last, object(64)), false),
-        (63, false, Change::Link(last, object(63)), true),
-        (63, true, Change::Link(last, object(63)), false),
-        (63, true, Change::Unlink(last), true),
-        (63, false, Change::Unlink(last), false),
+        write(0, b"Z"),
+        Change::CutTo(0),
+        Change::Put(text(b"C")),
+        Change::Shut,
+        Change::TakeSignal,
+        Change::SetExit(1),
     ];
-    for (count, with_last, change, fits) in table {
-        directory_row(&rt, rt.alloc(), count, with_last, change, fits)?;
+    for change in &table {
+        stay(&rt, rt.alloc(), change)?;
     }
     Ok(())
 }

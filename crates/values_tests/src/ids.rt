@@ -1,7 +1,8 @@
 //! Tag sets, processes and entities.
-use sk_ids::{Entity, GuessId, Name, Pid, TagSet, Text};
+use sk_ids::{Entity, GuessId, Name, ObjId, Pid, TagSet, Text};
 use std::alloc::Global;
 use std::cmp::Ordering;
+use std::process::Abort;
 use std::test::Fail;
 
 fn guess(number: u64) -> Result<GuessId, Fail> {
@@ -78,11 +79,23 @@ fn small_calls_of_processes(rt: HostRuntime) -> Result<(), Fail> {
     Ok(())
 }
 
+/// A name of a directory stands behind its directory, and before the copies.
+fn stands_between(rt: &impl Abort, directory: &ObjId, name: &Name) {
+    let link = Entity::Link(*directory, *name);
+    assert_eq!(rt; Entity::Obj(*directory).cmp(&link), Ordering::Less);
+    assert_eq!(rt; link.cmp(&Entity::Copy(*name)), Ordering::Less);
+}
+
 #[test]
 fn entities_by_kind(rt: HostRuntime) -> Result<(), Fail> {
     let pid = Pid::boot(7).ok_or("boot")?;
     let name = Name::new(b"/x").ok_or("name")?;
     assert_eq!(rt; Entity::Proc(pid).cmp(&Entity::Sig(pid)), Ordering::Less);
+    let directory = ObjId {
+        maker: None,
+        count: 9,
+    };
+    stands_between(&rt, &directory, &name);
     assert_eq!(rt; Entity::Exit(pid).cmp(&Entity::Copy(name)), Ordering::Less);
     assert_eq!(rt; Name::new(b"a b"), None);
     assert_eq!(rt; Text::new([7u8; 513].as_slice()), None);

@@ -1,6 +1,7 @@
 //! Values as plain lists, and the table of changes told of the lists alone.
+use crate::values::linked;
 use sk_changes::Change;
-use sk_ids::{Name, ObjId, Text};
+use sk_ids::{ObjId, Text};
 use sk_objects::{Content, Kind, Value};
 use std::alloc::{AllocError, Global};
 
@@ -10,16 +11,16 @@ const FILE: usize = 32_768;
 const BLOCK: usize = 512;
 
 const PIPE: usize = 4_096;
-/// How many names a directory has at most, and how many signals a queue.
-const NAMES: usize = 64;
 
+/// How many signals a queue has at most.
 const SIGNALS: usize = 32;
 
 /// What a value holds.
 #[derive(Drop)]
 pub enum Lists {
     File(Vec<u8>),
-    Dir(Vec<(Name, ObjId)>),
+    Dir,
+    Link(ObjId),
     Pipe { bytes: Vec<u8>, shut: bool },
     Signals(Vec<u8>),
     Exit(Option<u8>),
@@ -57,51 +58,13 @@ fn written(
     Ok(Some(Lists::File(all)))
 }
 
-/// A name and its object in their place among the others.
-fn linked(
-    alloc: Global,
-    links: &[(Name, ObjId)],
-    name: Name,
-    object: ObjId,
-) -> Result<Option<Lists>, AllocError> {
-    if links.len() >= NAMES || links.iter().any(|(held, _)| *held == name) {
-        return Ok(None);
-    }
-    let mut all = Vec::new(alloc);
-    for link in links {
-        if link.0 < name {
-            all.push(*link)?;
-        }
-    }
-    all.push((name, object))?;
-    for link in links {
-        if link.0 > name {
-            all.push(*link)?;
-        }
-    }
-    Ok(Some(Lists::Dir(all)))
-}
-
-fn unlinked(
-    alloc: Global,
-    links: &[(Name, ObjId)],
-    name: Name,
-) -> Result<Option<Lists>, AllocError> {
-    let mut all = Vec::new(alloc);
-    for link in links {
-        if link.0 != name {
-            all.push(*link)?;
-        }
-    }
-    Ok((all.len() < links.len()).then_some(Lists::Dir(all)))
-}
-
 impl Lists {
     /// What the first value of a kind holds.
     pub fn empty(alloc: Global, kind: Kind) -> Result<Lists, &'static str> {
         Ok(match kind {
             Kind::File => Lists::File(Vec::new(alloc)),
-            Kind::Dir => Lists::Dir(Vec::new(alloc)),
+            Kind::Dir => Lists::Dir,
+            Kind::Link => Lists::Link(linked()),
             Kind::Pipe => Lists::Pipe {
                 bytes: Vec::new(alloc),
                 shut: false,
@@ -167,10 +130,6 @@ impl Lists {
             (Lists::File(held), Change::CutTo(len)) if *len as usize <= FILE => {
                 Ok(Some(Lists::File(cut(alloc, held, *len as usize)?)))
             }
-            (Lists::Dir(links), Change::Link(name, object)) => {
-                linked(alloc, links, *name, *object)
-            }
-            (Lists::Dir(links), Change::Unlink(name)) => unlinked(alloc, links, *name),
             (Lists::Pipe { bytes, shut }, change) => {
                 Lists::changed_pipe(alloc, bytes, *shut, change)
             }
@@ -185,11 +144,8 @@ impl Lists {
     pub fn is_held_by(&self, value: &Value) -> bool {
         match self {
             Lists::File(bytes) => value.kind() == Kind::File && are_read(bytes, value),
-            Lists::Dir(links) => {
-                let all = links.iter().enumerate();
-                let mut all = all.map(|(place, link)| value.name_at(place) == Some(*link));
-                all.all(|same| same) && value.name_at(links.len()).is_none()
-            }
+            Lists::Dir => value.kind() == Kind::Dir && value.target().is_none(),
+            Lists::Link(object) => value.target() == Some(*object),
             Lists::Pipe { bytes, shut } => {
                 value.is_shut() == Some(*shut) && are_read(bytes, value)
             }

@@ -3,12 +3,12 @@
 ghost use Rattle.std.specs.Prelude.{◌<◌};
 
 use crate::lists::Lists;
-use crate::values::assert_same;
+use crate::values::{assert_same, value_of};
 use rand_core::Rng;
 use rand_pcg::Pcg32;
 use sk_changes::run::{apply_all, try_all, undo_all};
 use sk_changes::{Change, Invertible, NotApplied};
-use sk_ids::{Name, ObjId, Text};
+use sk_ids::Text;
 use sk_objects::{Content, Kind, Value};
 use std::alloc::Global;
 use std::process::Abort;
@@ -45,11 +45,6 @@ fn place(rng: &mut Pcg32) -> u32 {
     }
 }
 
-fn name(rng: &mut Pcg32) -> Result<Name, Fail> {
-    let bytes = [b'a' + below(rng, 4) as u8, b'a' + below(rng, 20) as u8];
-    Ok(Name::new(&bytes).ok_or("a name")?)
-}
-
 fn of_file(rng: &mut Pcg32) -> Result<Change, Fail> {
     Ok(match below(rng, 8) {
         0 => Change::CutTo(place(rng)),
@@ -57,20 +52,6 @@ fn of_file(rng: &mut Pcg32) -> Result<Change, Fail> {
             offset: place(rng),
             bytes: text(rng)?,
         },
-    })
-}
-
-fn of_directory(rng: &mut Pcg32) -> Result<Change, Fail> {
-    let name = name(rng)?;
-    Ok(match below(rng, 3) {
-        0 => Change::Unlink(name),
-        _ => Change::Link(
-            name,
-            ObjId {
-                maker: None,
-                count: rng.next_u32(),
-            },
-        ),
     })
 }
 
@@ -86,7 +67,7 @@ fn of_pipe(rng: &mut Pcg32) -> Result<Change, Fail> {
 fn of_kind(rng: &mut Pcg32, kind: Kind) -> Result<Change, Fail> {
     match kind {
         Kind::File => of_file(rng),
-        Kind::Dir => of_directory(rng),
+        Kind::Dir | Kind::Link => of_file(rng),
         Kind::Pipe => of_pipe(rng),
         Kind::Signals if below(rng, 5) < 2 => Ok(Change::TakeSignal),
         Kind::Signals => Ok(Change::PushSignal(below(rng, 34) as u8)),
@@ -142,7 +123,7 @@ fn chain_leads(
     changes: &[Change],
     last: &Value,
 ) -> Result<(), Fail> {
-    let mut value = Value::empty(alloc, kind)?;
+    let mut value = value_of(alloc, kind)?;
     let first = Lists::empty(alloc, kind)?;
     assert_eq!(rt; try_all(alloc, &mut value, changes), Ok(()));
     assert!(rt; first.is_held_by(&value));
@@ -162,7 +143,7 @@ fn chain(
     kind: Kind,
     len: u32,
 ) -> Result<(), Fail> {
-    let mut value = Value::empty(alloc, kind)?;
+    let mut value = value_of(alloc, kind)?;
     let mut lists = Lists::empty(alloc, kind)?;
     let mut made = Vec::new(alloc);
     for _ in 0..len {
@@ -197,8 +178,9 @@ fn random_changes_of_files(rt: HostRuntime) -> Result<(), Fail> {
 }
 
 #[test]
-fn random_changes_of_directories(rt: HostRuntime) -> Result<(), Fail> {
-    chains(&rt, rt.alloc(), Kind::Dir, 200)
+fn no_change_of_a_directory_or_a_link(rt: HostRuntime) -> Result<(), Fail> {
+    chains(&rt, rt.alloc(), Kind::Dir, 20)?;
+    chains(&rt, rt.alloc(), Kind::Link, 20)
 }
 
 #[test]

@@ -1,8 +1,8 @@
 //! The readers on values of each kind, and the calls that take memory.
 ghost use Rattle.std.specs.Prelude.{◌<◌};
 
-use sk_ids::{Name, ObjId, Text};
-use sk_objects::{Content, Directory, File, Kind, Value};
+use sk_ids::{ObjId, Pid, Text};
+use sk_objects::{Content, File, Kind, Value};
 use std::alloc::{AllocError, Global};
 use std::process::Abort;
 use std::test::Fail;
@@ -19,7 +19,7 @@ fn first_value(
     alloc: Global,
     kind: Kind,
 ) -> Result<(Kind, Option<u32>, Option<bool>), AllocError> {
-    let value = Value::empty(alloc, kind)?;
+    let value = value_of(alloc, kind)?;
     let copy = value.copy()?;
     assert_same(rt, &copy, &value);
     Ok((value.kind(), value.size(), value.is_shut()))
@@ -30,6 +30,7 @@ fn first_values(rt: HostRuntime) -> Result<(), Fail> {
     let table = [
         (Kind::File, Some(0), None),
         (Kind::Dir, None, None),
+        (Kind::Link, None, None),
         (Kind::Pipe, Some(0), Some(false)),
         (Kind::Signals, None, None),
         (Kind::Exit, None, None),
@@ -80,39 +81,32 @@ fn bytes_of_a_file(rt: HostRuntime) -> Result<(), Fail> {
     Ok(())
 }
 
-fn object(count: u32) -> ObjId {
-    ObjId { maker: None, count }
+/// An object that a name is linked to.
+pub fn linked() -> ObjId {
+    ObjId {
+        maker: Pid::boot(1),
+        count: 3,
+    }
 }
 
-/// A directory of these two names, the first of which is put in last.
-fn directory(alloc: Global, first: Name, later: Name) -> Result<Value, AllocError> {
-    let mut directory = Directory::new(alloc)?;
-    for (name, count) in [(later, 5), (first, 7)] {
-        if directory.len() < 64 && directory.look(&name).is_none() {
-            directory.link(name, object(count));
+/// The first value of a kind, or a link.
+pub fn value_of(alloc: Global, kind: Kind) -> Result<Value, AllocError> {
+    match kind {
+        Kind::Link => Ok(Value::link(linked())),
+        Kind::File | Kind::Dir | Kind::Pipe | Kind::Signals | Kind::Exit | Kind::Copy => {
+            Value::empty(alloc, kind)
         }
     }
-    Ok(Value::Dir(directory))
 }
-
-/// The names of a directory of these two names, in their order, and what the one that was put in first names.
-fn listed(alloc: Global, first: Name, later: Name) -> Result<Listed, AllocError> {
-    let value = directory(alloc, first, later)?;
-    let names = [value.name_at(0), value.name_at(1), value.name_at(2)];
-    Ok((names, value.look(&later)))
-}
-
-type Listed = ([Option<(Name, ObjId)>; 3], Option<Option<ObjId>>);
 
 #[test]
-fn names_by_rising_bytes(rt: HostRuntime) -> Result<(), Fail> {
-    let first = Name::new(b"a/b").ok_or("first")?;
-    let later = Name::new(b"b").ok_or("later")?;
-    let names = [Some((first, object(7))), Some((later, object(5))), None];
-    assert_eq!(rt;
-        listed(rt.alloc(), first, later)?,
-        (names, Some(Some(object(5))))
-    );
+fn a_link_tells_its_target(rt: HostRuntime) -> Result<(), Fail> {
+    let link = Value::link(linked());
+    assert_eq!(rt; link.target(), Some(linked()));
+    assert_eq!(rt; link.copy()?.target(), Some(linked()));
+    assert_eq!(rt; link.kind(), Kind::Link);
+    assert_eq!(rt; link.status(), None);
+    assert_eq!(rt; Value::Dir.target(), None);
     Ok(())
 }
 
@@ -154,11 +148,18 @@ fn equal_values(rt: HostRuntime) -> Result<(), Fail> {
 
 #[test]
 fn first_values_of_two_kinds(rt: HostRuntime) -> Result<(), Fail> {
-    let kinds = [Kind::File, Kind::Dir, Kind::Pipe, Kind::Signals, Kind::Exit];
+    let kinds = [
+        Kind::File,
+        Kind::Dir,
+        Kind::Link,
+        Kind::Pipe,
+        Kind::Signals,
+        Kind::Exit,
+    ];
     for one in kinds {
         for other in kinds {
-            let value = Value::empty(rt.alloc(), one)?;
-            assert_eq!(rt; value == Value::empty(rt.alloc(), other)?, one == other);
+            let value = value_of(rt.alloc(), one)?;
+            assert_eq!(rt; value == value_of(rt.alloc(), other)?, one == other);
         }
     }
     Ok(())

@@ -1,5 +1,5 @@
 -- A private instruction is done, and another one is a row.
-use Rattle.std.proofs.Common.{◌≡◌, Ok, Some, [], refl, sym, subst}
+use Rattle.std.proofs.Common.{Ok, [], refl, sym, subst}
 use Rattle.sk_script.specs.declared.instruction.Input.TheVariants as inputs
 use Rattle.sk_plain.specs.Act.{does}
 use Rattle.sk_plain.specs.Seen.{PlansAfter}

@@ -11,3 +11,6 @@ loop-entity-preserved c =
     let i = c.loop-entity.entity-index in
     committing_more c.args.guess c.args.self.now c.loop-entity.self c.commit_at.new.self c.entity-item.result (drop (i + 1) es)
     (subst (Committing c.args.guess c.args.self.now c.loop-entity.self) (next_of es i c.entity-item.result c.loop-entity-test.true c.entity-item.is) c.loop-entity.invariant) c.commit_at.ensures
+
+pub returns-clause-kept : goal.returns-clause-kept
+returns-clause-kept c = c.loop-entity.invariant.kept

@@ -1,0 +1,46 @@
+-- The directory that a step adds a name to.
+use Rattle.std.specs.Prelude.{List, [], ◌∷◌, Option, Some, None}
+use Rattle.sk_ids.specs.declared.pid.ObjId.{ObjId}
+use Rattle.sk_ids.specs.declared.entity.Entity.{Entity}
+use Rattle.sk_ids.specs.declared.entity.Entity.TheVariants.{Proc, Sig, Exit, Obj, Link, Copy}
+use Rattle.sk_store.specs.declared.entity_state.EntityState.{EntityState}
+use Rattle.sk_plain.specs.declared.plan.Plan.{Plan}
+use Rattle.sk_plain.specs.declared.plan.Plan.TheVariants.{Private, Speaks, Received, Forks, Acts}
+use Rattle.sk_plain.specs.declared.plan.Beside.{Beside}
+use Rattle.sk_plain.specs.declared.plan.Beside.TheVariants as beside
+
+-- the directory of a name
+abbrev pub directory_of : Entity → Option ObjId
+directory_of (Proc p) = None
+directory_of (Sig p) = None
+directory_of (Exit p) = None
+directory_of (Obj o) = None
+directory_of (Link d name) = Some d
+directory_of (Copy n) = None
+
+-- one that is written to be there; a name is written so only where it is absent
+abbrev pub added_by : Entity → Option EntityState → Option ObjId
+added_by e None = None
+added_by e (Some v) = directory_of e
+
+abbrev pub first_of : Option ObjId → Option ObjId → Option ObjId
+first_of (Some d) later = Some d
+first_of None later = later
+
+-- the first of these writes
+abbrev pub adds_in : List (Entity × Option EntityState) → Option ObjId
+adds_in [] = None
+adds_in (w ∷ ws) = first_of (added_by w.0 w.1) (adds_in ws)
+
+-- the same of a plan
+abbrev pub adds_beside : Beside → Option ObjId
+adds_beside beside.Nothing = None
+adds_beside (beside.One e w) = directory_of e
+adds_beside (beside.Gone e) = None
+
+abbrev pub adds_of : Plan → Option ObjId
+adds_of Private = None
+adds_of Speaks = None
+adds_of (Received name) = None
+adds_of (Forks r child place) = None
+adds_of (Acts r) = adds_beside r.beside

@@ -1,0 +1,23 @@
+use Rattle.std.proofs.Common.{rules, of_calls, arith, ◌≡◌, ℕ, ◌-◌, ◌≤◌, length, Bool, true, false, List, take, drop, subst, sym, ap, ◌∙◌}
+use Rattle.std.specs.List.Sorted.{IsPartitionPoint, IsPartitionedBy}
+use Rattle.std.proofs.lemmas.List.{take_rest}
+use Rattle.std.proofs.lemmas.List.Sorted.{IsPartitionPoint-from_clause}
+use Rattle.sk_ids.specs.declared.entity.Entity.{Entity}
+use Rattle.sk_report.specs.Directories.{is_before, is_name_of}
+use Rattle.sk_report.proofs.Sideways.{parted_before, parted_rest, side_by_side}
+use Rattle.sk_report.proofs.directories.names_of.Goals as goal
+
+pub returns : goal.returns
+returns c =
+    let d = c.args.directory.now in
+    let xs = c.args.entities.now in
+    let i = c.partition_point-first.result in
+    let k = c.partition_point-count.result in
+    let bound = c.partition_point-first.ensures.bound in
+    let rest : take (length xs - i) (drop i xs) ≡ drop i xs = take_rest xs i in
+    let first = IsPartitionPoint-from_clause (is_before d) xs i c.partition_point-first.ensures.partitioned (parted_before d xs c.requires) (λ a r f call. search (rules, of_calls)) in
+    let parted = subst (IsPartitionedBy (is_name_of d)) (sym rest) (parted_rest d xs c.requires i bound first) in
+    let point = IsPartitionPoint-from_clause (is_name_of d) _ k c.partition_point-count.ensures.partitioned parted (λ a r f call. search (rules, of_calls)) in
+    let low = subst (λ (ys : List Entity). k ≤ length ys) rest c.partition_point-count.ensures.bound in
+    ap (take k) rest
+    ∙ side_by_side d xs c.requires i bound first k low (subst (λ (ys : List Entity). IsPartitionPoint (λ e. is_name_of d e ≡ true) (λ e. is_name_of d e ≡ false) ys k) rest point)

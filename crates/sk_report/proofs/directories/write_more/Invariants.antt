@@ -1,0 +1,10 @@
+-- The names before the loop's place are written.
+use Rattle.std.proofs.Common.{take, ◌∷◌}
+use Rattle.std.specs.Prelude.{flat_map}
+use Rattle.std.specs.Io.KnownBytes.{Appends}
+use Rattle.sk_report.specs.Directories.{link_text}
+use Rattle.sk_report.proofs.directories.write_more.Given as goal
+
+abbrev pub invariant-loop-link : goal.invariant-loop-link
+invariant-loop-link g l =
+    Appends (g.W.Write.contents l.fn.out) (g.W.Write.contents l.out) (flat_map (λ link. 32 ∷ link_text (g.S.Subject.look l.subject) link) (take l.link-index l.links))

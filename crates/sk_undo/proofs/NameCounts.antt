@@ -1,0 +1,442 @@
+-- How many names each directory has, after one entity was written.
+use Rattle.std.proofs.Common.{◌≡◌, ◌≤◌, ℕ, zero, suc, ◌+◌, ◌-◌, Bool, true, false, not, cond, ◌&&◌, ◌||◌, List, [], ◌∷◌, length, Option, Some, None, Result, Ok, Err, refl, sym, ◌∙◌, ap, subst, arith}
+use Rattle.std.specs.Prelude.{is_some, OnOk, OnErr}
+use Rattle.std.specs.Option.{unwrap_or}
+use Rattle.std.specs.declared.cmp.Ordering.{Ordering}
+use Rattle.std.specs.declared.cmp.Ordering.TheVariants.{Less, Equal, Greater}
+use Rattle.std.specs.Ordering.{eq_by_cmp, is_eq, ordering_then}
+use Rattle.std.specs.Cmp.{IsTotalOrder, Equal-is, eq_by_cmp_equiv, tied_itself}
+use Rattle.std.specs.Cmp.Lexicographic.{nat_list_cmp_total}
+use Rattle.std.specs.List.{list_any}
+use Rattle.std.specs.FinMap as map
+use Rattle.std.specs.FinMap.{IsAntisymmetric}
+use Rattle.std.specs.FinSet.{FinSet, contains, items, remove, len, empty, contains-items, contains-empty, contains-remove, len-empty, len-remove, same_set}
+use Rattle.std.proofs.lemmas.Bool.{true≢false}
+use Rattle.std.proofs.lemmas.Map.Lookups.{exact_bytes}
+use Rattle.sk_ids.specs.Name.{name_order}
+use Rattle.sk_ids.specs.Entity.{entity_cmp, object_cmp}
+use Rattle.sk_ids.specs.declared.pid.ObjId.{ObjId}
+use Rattle.sk_ids.specs.contracts.pid.ObjIdOrd.TheImpl as object_ord
+use Rattle.sk_ids.specs.contracts.pid.ObjIdOrd.TheImpl.Laws.{total-law}
+use Rattle.sk_ids.specs.declared.entity.Entity.{Entity}
+use Rattle.sk_ids.specs.declared.entity.Entity.TheVariants.{Proc, Sig, Exit, Obj, Link, Copy}
+use Rattle.sk_ids.proofs.Entities.{entity_total, entity_exact}
+use Rattle.sk_store.specs.Names.{IsCount, name_there}
+use Rattle.sk_store.proofs.Names.{one_more, one_less, as_many}
+use Rattle.sk_store.specs.declared.entity_state.EntityState.{EntityState}
+use Rattle.sk_changes.specs.declared.change.Change.{Change}
+use Rattle.sk_store.specs.Changed.{FitsAt, changed}
+use Rattle.sk_store.specs.declared.back.PutBack.{PutBack}
+use Rattle.sk_undo.specs.declared.slots.TakeBack.{TakeBack}
+use Rattle.sk_undo.specs.declared.slots.TakeBack.TheVariants.{DropSlot, UndoLast}
+use Rattle.sk_undo.specs.Slot.{SlotView, is_bare, slot_wrote, slot_back}
+use Rattle.sk_undo.specs.Logs.{SlotMap, slot_in, look_at, placed, slots_wrote, slots_back, CanTakeBack, CanUndoLast}
+use Rattle.sk_undo.specs.Decisions.{ChangedAt, SlotUnwound, IsWithin}
+use Rattle.sk_undo.proofs.Passes.{placed_at, placed_get, same_elsewhere}
+use Rattle.sk_undo.specs.Names.{NameMap, IsCounted, count_in, count_for, with_count, with_place, made_for, recounted, recounted_at, link_there}
+
+names_total : IsTotalOrder name_order
+names_total = nat_list_cmp_total
+
+-- ---- directories in their order
+object_itself : (d : ObjId) → object_cmp d d ≡ Equal
+object_itself d = tied_itself entity_total (Obj d)
+
+abbrev object_of : ObjId → Entity → ObjId
+object_of d (Proc p) = d
+object_of d (Sig p) = d
+object_of d (Exit p) = d
+object_of d (Obj u) = u
+object_of d (Link u n) = d
+object_of d (Copy n) = d
+
+-- directories that compare alike are one
+pub object_exact : IsAntisymmetric object_cmp
+object_exact d o h = ap (object_of d) (entity_exact (Obj d) (Obj o) h)
+
+object_is : (d o : ObjId) → eq_by_cmp object_cmp d o ≡ true → d ≡ o
+object_is d o is = object_exact d o ((Equal-is (object_cmp d o)).0 is)
+
+computed_is : (a b : ObjId) → (object_ord.ghosts).cmp a b ≡ object_cmp a b
+computed_is a b = refl
+
+-- what the derive computes
+pub object_same : (object_ord.ghosts).cmp ≡ object_cmp
+object_same i a b = computed_is a b i
+
+pub object_total : IsTotalOrder object_cmp
+object_total = subst IsTotalOrder object_same total-law
+
+-- ---- names of one directory, and of another
+named_apart : (d o : ObjId) (q n : List ℕ) → eq_by_cmp object_cmp d o ≡ false → eq_by_cmp entity_cmp (Link d q) (Link o n) ≡ false
+named_apart d o q n apart =
+    elim (object_cmp d o) as (λ (r : Ordering). is_eq r ≡ false → is_eq (ordering_then r (name_order q n)) ≡ false) [
+      | Less ↦ λ _. refl
+      | Equal ↦ λ no_way. absurd (true≢false no_way)
+      | Greater ↦ λ _. refl
+    ] apart
+
+named_alike : (d : ObjId) (q n : List ℕ) → eq_by_cmp entity_cmp (Link d q) (Link d n) ≡ eq_by_cmp name_order q n
+named_alike d q n = ap (λ r. is_eq (ordering_then r (name_order q n))) (object_itself d)
+
+-- ---- no more names than slots
+split : (a b : Bool) → (not a && b) ≡ true → (a ≡ false) × (b ≡ true)
+split true b h = absurd (true≢false (sym h))
+split false b h = (refl, h)
+
+some_name : (s : FinSet name_order) (n : ℕ) → len s ≡ suc n → (k : List ℕ) × (contains s k ≡ true)
+some_name s n is =
+    elim (items s) as (λ (ks : List (List ℕ)). items s ≡ ks → (k : List ℕ) × (contains s k ≡ true)) [
+      | [] ↦ λ none.
+          let all : s ≡ empty = same_set names_total exact_bytes s empty (λ q. contains-items s q ∙ ap (list_any (eq_by_cmp name_order q)) none ∙ sym (contains-empty name_order q)) in
+          let zero_long : len s ≡ 0 = ap len all ∙ len-empty name_order in
+          absurd (omega (arith, is, zero_long))
+      | k ∷ ks ↦ λ some. (k, contains-items s k ∙ ap (list_any (eq_by_cmp name_order k)) some ∙ ap (λ b. b || list_any (eq_by_cmp name_order k) ks) ((eq_by_cmp_equiv names_total).refl k))
+    ] refl
+
+has_one : (m : SlotMap) (e : Entity) → map.contains_key m e ≡ true → 1 ≤ map.len m
+has_one m e there =
+    elim (map.len m) as (λ n. map.len m ≡ n → 1 ≤ n) [
+      | zero ↦ λ none. absurd (true≢false (sym there ∙ ap (λ (k : SlotMap). map.contains_key k e) (map.empty_of_len m none) ∙ ap is_some (map.get-empty entity_cmp e)))
+      | suc n ↦ λ _. omega arith
+    ] refl
+
+within : (d : ObjId) (n : ℕ) (s : FinSet name_order) (m : SlotMap) → len s ≡ n → ((q : List ℕ) → contains s q ≡ true → map.contains_key m (Link d q) ≡ true) → n ≤ map.len m
+within d zero s m is each = omega arith
+within d (suc n) s m is each =
+    let k = (some_name s n is).0 in
+    let inside = (some_name s n is).1 in
+    let here = each k inside in
+    let less : len (remove s k) ≡ n = len-remove names_total s k ∙ ap (λ b. cond b (len s - 1) (len s)) inside ∙ (let e : len s - 1 ≡ n = omega (arith, is) in e) in
+    let rest : n ≤ map.len (map.remove m (Link d k)) = within d n (remove s k) (map.remove m (Link d k)) less (λ q in_rest.
+    let both = split (eq_by_cmp name_order q k) (contains s q) (sym (contains-remove names_total s k q) ∙ in_rest) in
+    ap is_some (map.get-remove entity_total m (Link d k) (Link d q))
+    ∙ ap (λ b. is_some (cond b None (map.get m (Link d q)))) (named_alike d q k ∙ both.0)
+    ∙ each q both.1) in
+    let fewer : map.len (map.remove m (Link d k)) ≡ map.len m - 1 = map.len-remove entity_total m (Link d k) ∙ ap (λ b. cond b (map.len m - 1) (map.len m)) here in
+    let some : 1 ≤ map.len m = has_one m (Link d k) here in
+    omega (arith, rest, fewer, some)
+
+seen_there : (o : Option SlotView) → is_some (slot_in o).now ≡ true → is_some o ≡ true
+seen_there None h = h
+seen_there (Some s) h = refl
+
+-- a name that is there has a slot
+pub has_slot : (m : SlotMap) (e : Entity) → is_some (look_at m e) ≡ true → map.contains_key m e ≡ true
+has_slot m e h = seen_there (map.get m e) h
+
+pub few_names : (m : SlotMap) (d : ObjId) (n : ℕ) → IsCount (name_there (look_at m)) d n → n ≤ map.len m
+few_names m d n a = within d n a.names m a.count (λ q inside. has_slot m (Link d q) (sym (a.all q) ∙ inside))
+
+pub few_for : (m : SlotMap) (names : NameMap) (e : Entity) (most : ℕ) → IsCounted m names → map.len m ≤ most → count_for names e ≤ most
+few_for m names (Proc p) most so le = omega arith
+few_for m names (Sig p) most so le = omega arith
+few_for m names (Exit p) most so le = omega arith
+few_for m names (Obj o) most so le = omega arith
+few_for m names (Link d n) most so le = let few : count_in names d ≤ map.len m = few_names m d (count_in names d) (so.count d) in omega (arith, few, le)
+few_for m names (Copy n) most so le = omega arith
+
+at_most_one : (b : Bool) (n k : ℕ) → k ≡ cond b n (n + 1) → k ≤ n + 1
+at_most_one true n k is = (let e : k ≡ n = is in omega (arith, e))
+at_most_one false n k is = (let e : k ≡ n + 1 = is in omega (arith, e))
+
+module _ {X : Type 0} where
+  -- no more slots than entries
+  pub len_entries : (es : List (Entity × X)) → map.len (map.from_entries {R = entity_cmp} es) ≤ length es
+  len_entries [] = (let none : map.len (map.empty {X = X} {R = entity_cmp}) ≡ 0 = map.len-empty entity_cmp X in omega (arith, none))
+  len_entries (e ∷ es) =
+      let m = map.from_entries {R = entity_cmp} es in
+      let rest : map.len m ≤ length es = len_entries es in
+      let one : map.len (map.insert m e.0 e.1) ≤ map.len m + 1 = at_most_one (map.contains_key m e.0) (map.len m) (map.len (map.insert m e.0 e.1)) (map.len-insert entity_total m e.0 e.1) in
+      omega (arith, rest, one)
+
+-- ---- numbers made and set
+given_there : (b : Bool) (n : ℕ) (o : Option ℕ) → is_some o ≡ true → is_some (cond b (Some n) o) ≡ true
+given_there true n o there = refl
+given_there false n o there = there
+
+made_place : (names : NameMap) (d : ObjId) → is_some (map.get (with_place names d) d) ≡ true
+made_place names d =
+    elim (is_some (map.get names d)) as (λ b. is_some (map.get names d) ≡ b → is_some (map.get (cond b names (map.insert names d 0)) d) ≡ true) [
+      | true ↦ λ there. there
+      | false ↦ λ _. ap is_some (map.get-insert object_total names d 0 d) ∙ ap (λ b. is_some (cond b (Some 0) (map.get names d))) ((eq_by_cmp_equiv object_total).refl d)
+    ] refl
+
+absent_is : (o : Option ℕ) → is_some o ≡ false → o ≡ None
+absent_is None h = refl
+absent_is (Some n) h = absurd (true≢false h)
+
+-- a number made changes no count
+made_counts : (names : NameMap) (d q : ObjId) → count_in (with_place names d) q ≡ count_in names q
+made_counts names d q =
+    elim (is_some (map.get names d)) as (λ b. is_some (map.get names d) ≡ b → count_in (cond b names (map.insert names d 0)) q ≡ count_in names q) [
+      | true ↦ λ _. refl
+      | false ↦ λ none.
+          ap (λ o. unwrap_or o 0) (map.get-insert object_total names d 0 q)
+          ∙ elim (eq_by_cmp object_cmp q d) as (λ b. eq_by_cmp object_cmp q d ≡ b → unwrap_or (cond b (Some 0) (map.get names q)) 0 ≡ unwrap_or (map.get names q) 0) [
+            | true ↦ λ same. sym (ap (λ o. unwrap_or o 0) (ap (map.get names) (object_is q d same) ∙ absent_is (map.get names d) none))
+            | false ↦ λ _. refl
+          ] refl
+    ] refl
+
+made_keeps : (names : NameMap) (d q : ObjId) → is_some (map.get names q) ≡ true → is_some (map.get (with_place names d) q) ≡ true
+made_keeps names d q there =
+    elim (is_some (map.get names d)) as (λ b. is_some (map.get (cond b names (map.insert names d 0)) q) ≡ true) [
+      | true ↦ there
+      | false ↦ ap is_some (map.get-insert object_total names d 0 q) ∙ given_there (eq_by_cmp object_cmp q d) 0 (map.get names q) there
+    ]
+
+-- a number set is there where it was, and others are as they were
+set_here : (names : NameMap) (d : ObjId) (n : ℕ) → is_some (map.get names d) ≡ true → count_in (with_count names d n) d ≡ n
+set_here names d n there =
+    ap (λ b. count_in (cond b (map.insert names d n) names) d) there
+    ∙ ap (λ o. unwrap_or o 0) (map.get-insert object_total names d n d ∙ ap (λ b. cond b (Some n) (map.get names d)) ((eq_by_cmp_equiv object_total).refl d))
+
+set_apart : (names : NameMap) (d q : ObjId) (n : ℕ) → eq_by_cmp object_cmp q d ≡ false → map.get (with_count names d n) q ≡ map.get names q
+set_apart names d q n apart =
+    elim (is_some (map.get names d)) as (λ b. map.get (cond b (map.insert names d n) names) q ≡ map.get names q) [
+      | true ↦ map.get-insert object_total names d n q ∙ ap (λ b. cond b (Some n) (map.get names q)) apart
+      | false ↦ refl
+    ]
+
+set_keeps : (names : NameMap) (d q : ObjId) (n : ℕ) → is_some (map.get names q) ≡ true → is_some (map.get (with_count names d n) q) ≡ true
+set_keeps names d q n there =
+    elim (is_some (map.get names d)) as (λ b. is_some (map.get (cond b (map.insert names d n) names) q) ≡ true) [
+      | true ↦ ap is_some (map.get-insert object_total names d n q) ∙ given_there (eq_by_cmp object_cmp q d) n (map.get names q) there
+      | false ↦ there
+    ]
+
+recount_keeps : (names : NameMap) (d q : ObjId) (was is : Bool) → is_some (map.get names q) ≡ true → is_some (map.get (recounted_at names d was is) q) ≡ true
+recount_keeps names d q true true there = there
+recount_keeps names d q true false there = set_keeps names d q (count_in names d - 1) there
+recount_keeps names d q false true there = set_keeps names d q (count_in names d + 1) there
+recount_keeps names d q false false there = there
+
+recount_apart : (names : NameMap) (d q : ObjId) (was is : Bool) → eq_by_cmp object_cmp q d ≡ false → count_in (recounted_at names d was is) q ≡ count_in names q
+recount_apart names d q true true apart = refl
+recount_apart names d q true false apart = ap (λ o. unwrap_or o 0) (set_apart names d q (count_in names d - 1) apart)
+recount_apart names d q false true apart = ap (λ o. unwrap_or o 0) (set_apart names d q (count_in names d + 1) apart)
+recount_apart names d q false false apart = refl
+
+-- numbers made for a name count what they counted
+pub counted_made : (m : SlotMap) (names : NameMap) (e : Entity) → IsCounted m names → IsCounted m (made_for names e)
+counted_made m names (Proc p) so = so
+counted_made m names (Sig p) so = so
+counted_made m names (Exit p) so = so
+counted_made m names (Obj o) so = so
+counted_made m names (Link d n) so = record {
+  count = λ q. subst (IsCount (name_there (look_at m)) q) (sym (made_counts names d q)) (so.count q);
+  places = λ q name there. made_keeps names d q (so.places q name there);
+}
+counted_made m names (Copy n) so = so
+
+-- whether the directory of a name has a number
+abbrev pub HasNumber : NameMap → Entity → Type 0
+HasNumber names (Proc p) = Unit {0}
+HasNumber names (Sig p) = Unit {0}
+HasNumber names (Exit p) = Unit {0}
+HasNumber names (Obj o) = Unit {0}
+HasNumber names (Link d name) = is_some (map.get names d) ≡ true
+HasNumber names (Copy n) = Unit {0}
+
+pub number_made : (names : NameMap) (e : Entity) → HasNumber (made_for names e) e
+number_made names (Proc p) = tt
+number_made names (Sig p) = tt
+number_made names (Exit p) = tt
+number_made names (Obj o) = tt
+number_made names (Link d n) = made_place names d
+number_made names (Copy n) = tt
+
+pub number_there : (m : SlotMap) (names : NameMap) (e : Entity) → IsCounted m names → map.contains_key m e ≡ true → HasNumber names e
+number_there m names (Proc p) so there = tt
+number_there m names (Sig p) so there = tt
+number_there m names (Exit p) so there = tt
+number_there m names (Obj o) so there = tt
+number_there m names (Link d n) so there = so.places d n there
+number_there m names (Copy n) so there = tt
+
+or_is : (a b : Bool) → cond a true b ≡ (a || b)
+or_is true b = refl
+or_is false b = refl
+
+and_is : (a b : Bool) → cond a false b ≡ (not a && b)
+and_is true b = refl
+and_is false b = refl
+
+abbrev directory_of : ObjId → Entity → ObjId
+directory_of d (Proc p) = d
+directory_of d (Sig p) = d
+directory_of d (Exit p) = d
+directory_of d (Obj u) = d
+directory_of d (Link u n) = u
+directory_of d (Copy n) = d
+
+-- ---- after one entity was written, all others being as they were
+module _ (old new : SlotMap) (names : NameMap) where
+  elsewhere : (e : Entity) → ((q : Entity) → eq_by_cmp entity_cmp q e ≡ false → map.get new q ≡ map.get old q) → ((d : ObjId) (n : List ℕ) → eq_by_cmp entity_cmp (Link d n) e ≡ false) → IsCounted old names → IsCounted new names
+  elsewhere e others apart so = record {
+    count = λ d. as_many (name_there (look_at old)) (name_there (look_at new)) d (count_in names d) (λ n. ap (λ o. is_some (slot_in o).now) (others (Link d n) (apart d n))) (so.count d);
+    places = λ d n there. so.places d n (sym (ap is_some (others (Link d n) (apart d n))) ∙ there);
+  }
+
+  module _ (d : ObjId) (name : List ℕ) (others : (q : Entity) → eq_by_cmp entity_cmp q (Link d name) ≡ false → map.get new q ≡ map.get old q) (so : IsCounted old names) where
+    abbrev was : Bool
+    was = is_some (look_at old (Link d name))
+
+    abbrev is : Bool
+    is = is_some (look_at new (Link d name))
+
+    -- a name of the directory, after
+    after : (q : List ℕ) → name_there (look_at new) d q ≡ cond (eq_by_cmp name_order q name) is (name_there (look_at old) d q)
+    after q =
+        elim (eq_by_cmp name_order q name) as (λ b. eq_by_cmp name_order q name ≡ b → name_there (look_at new) d q ≡ cond b is (name_there (look_at old) d q)) [
+          | true ↦ λ same. ap (name_there (look_at new) d) (exact_bytes q name ((Equal-is (name_order q name)).0 same))
+          | false ↦ λ apart. ap (λ o. is_some (slot_in o).now) (others (Link d q) (named_alike d q name ∙ apart))
+        ] refl
+
+    before : (q : List ℕ) → name_there (look_at old) d q ≡ cond (eq_by_cmp name_order q name) was (name_there (look_at old) d q)
+    before q =
+        elim (eq_by_cmp name_order q name) as (λ b. eq_by_cmp name_order q name ≡ b → name_there (look_at old) d q ≡ cond b was (name_there (look_at old) d q)) [
+          | true ↦ λ same. ap (name_there (look_at old) d) (exact_bytes q name ((Equal-is (name_order q name)).0 same))
+          | false ↦ λ _. refl
+        ] refl
+
+    the_count : (b c : Bool) → was ≡ b → is ≡ c → (map.contains_key new (Link d name) ≡ true → is_some (map.get names d) ≡ true) → IsCount (name_there (look_at new)) d (count_in (recounted_at names d b c) d)
+    the_count true true had has number =
+        as_many (name_there (look_at old)) (name_there (look_at new)) d (count_in names d) (λ q. after q ∙ ap (λ b. cond (eq_by_cmp name_order q name) b (name_there (look_at old) d q)) (has ∙ sym had) ∙ sym (before q)) (so.count d)
+    the_count false false had has number =
+        as_many (name_there (look_at old)) (name_there (look_at new)) d (count_in names d) (λ q. after q ∙ ap (λ b. cond (eq_by_cmp name_order q name) b (name_there (look_at old) d q)) (has ∙ sym had) ∙ sym (before q)) (so.count d)
+    the_count false true had has number =
+        subst (IsCount (name_there (look_at new)) d) (sym (set_here names d (count_in names d + 1) (number (has_slot new (Link d name) has))))
+        (one_more (name_there (look_at old)) (name_there (look_at new)) d name (count_in names d) had
+        (λ q. after q ∙ ap (λ b. cond (eq_by_cmp name_order q name) b (name_there (look_at old) d q)) has ∙ or_is (eq_by_cmp name_order q name) (name_there (look_at old) d q)) (so.count d))
+    the_count true false had has number =
+        subst (IsCount (name_there (look_at new)) d) (sym (set_here names d (count_in names d - 1) (so.places d name (has_slot old (Link d name) had))))
+        (one_less (name_there (look_at old)) (name_there (look_at new)) d name (count_in names d) had
+        (λ q. after q ∙ ap (λ b. cond (eq_by_cmp name_order q name) b (name_there (look_at old) d q)) has ∙ and_is (eq_by_cmp name_order q name) (name_there (look_at old) d q)) (so.count d))
+
+    other_count : (u : ObjId) → eq_by_cmp object_cmp u d ≡ false → IsCount (name_there (look_at new)) u (count_in (recounted_at names d was is) u)
+    other_count u apart =
+        subst (IsCount (name_there (look_at new)) u) (sym (recount_apart names d u was is apart))
+        (as_many (name_there (look_at old)) (name_there (look_at new)) u (count_in names u) (λ q. ap (λ o. is_some (slot_in o).now) (others (Link u q) (named_apart u d q name apart))) (so.count u))
+
+    at_name : (map.contains_key new (Link d name) ≡ true → is_some (map.get names d) ≡ true) → IsCounted new (recounted_at names d was is)
+    at_name number = record {
+      count = λ u. elim (eq_by_cmp object_cmp u d) as (λ b. eq_by_cmp object_cmp u d ≡ b → IsCount (name_there (look_at new)) u (count_in (recounted_at names d was is) u)) [
+        | true ↦ λ same. subst (λ x. IsCount (name_there (look_at new)) x (count_in (recounted_at names d was is) x)) (sym (object_is u d same)) (the_count was is refl refl number)
+        | false ↦ λ apart. other_count u apart
+      ] refl;
+      places = λ u n here. recount_keeps names d u was is (elim (eq_by_cmp entity_cmp (Link u n) (Link d name)) as (λ b. eq_by_cmp entity_cmp (Link u n) (Link d name) ≡ b → is_some (map.get names u) ≡ true) [
+        | true ↦ λ same.
+            let one : Link u n ≡ Link d name = entity_exact (Link u n) (Link d name) ((Equal-is (entity_cmp (Link u n) (Link d name))).0 same) in
+            subst (λ x. is_some (map.get names x) ≡ true) (sym (ap (directory_of u) one)) (number (subst (λ x. map.contains_key new x ≡ true) one here))
+        | false ↦ λ apart. so.places u n (sym (ap is_some (others (Link u n) apart)) ∙ here)
+      ] refl);
+    }
+
+  pub counted_on : (e : Entity) → ((q : Entity) → eq_by_cmp entity_cmp q e ≡ false → map.get new q ≡ map.get old q) → (map.contains_key new e ≡ true → HasNumber names e) → IsCounted old names
+      → IsCounted new (recounted names e (link_there old e) (link_there new e))
+  counted_on (Proc p) others number so = elsewhere (Proc p) others (λ d n. refl) so
+  counted_on (Sig p) others number so = elsewhere (Sig p) others (λ d n. refl) so
+  counted_on (Exit p) others number so = elsewhere (Exit p) others (λ d n. refl) so
+  counted_on (Obj o) others number so = elsewhere (Obj o) others (λ d n. refl) so
+  counted_on (Link d name) others number so = at_name d name others so number
+  counted_on (Copy n) others number so = elsewhere (Copy n) others (λ d n. refl) so
+
+-- ---- after each call of the slots; the numbers are as the code sets them
+same_count : (names : NameMap) (d : ObjId) (b : Bool) → recounted_at names d b b ≡ names
+same_count names d true = refl
+same_count names d false = refl
+
+module _ (m n : SlotMap) (e : Entity) (names : NameMap) (so : IsCounted m names) where
+  -- a write
+  pub set_counted : (tags : List ℕ) (v : Option EntityState) (made after : NameMap) (had : Bool) → made ≡ made_for names e → had ≡ link_there m e → n ≡ slots_wrote tags m e v
+      → after ≡ recounted made e had (link_there n e) → IsCounted n after
+  set_counted tags v made after had is_made is_had is_new is_after =
+      subst (IsCounted n) (sym (is_after ∙ (λ i. recounted (is_made i) e (is_had i) (link_there n e))))
+      (counted_on m n (made_for names e) e
+      (λ q apart. ap (λ (x : SlotMap). map.get x q) is_new ∙ placed_get m e (slot_wrote tags (slot_in (map.get m e)) v) q apart)
+      (λ _. number_made names e) (counted_made m names e so))
+
+  -- what had a slot where it has one then
+  kept_counted : (after : NameMap) (had : Bool) → ((q : Entity) → eq_by_cmp entity_cmp q e ≡ false → map.get n q ≡ map.get m q) → (map.contains_key n e ≡ true → map.contains_key m e ≡ true) → had ≡ link_there m e
+      → after ≡ recounted names e had (link_there n e) → IsCounted n after
+  kept_counted after had others kept is_had is_after =
+      subst (IsCounted n) (sym (is_after ∙ (λ i. recounted names e (is_had i) (link_there n e))))
+      (counted_on m n names e others (λ there. number_there m names e so (kept there)) so)
+
+  pub unwound_counted : (g : ℕ) (after : NameMap) (had : Bool) → ChangedAt (SlotUnwound g) m e n → had ≡ link_there m e → after ≡ recounted names e had (link_there n e) → IsCounted n after
+  unwound_counted g after had h is_had is_after = kept_counted after had (λ q apart. same_elsewhere h q apart) h.kept is_had is_after
+
+  back_others : (how : TakeBack) (q : Entity) → eq_by_cmp entity_cmp q e ≡ false → map.get (slots_back m e how) q ≡ map.get m q
+  back_others DropSlot q apart = map.get-remove entity_total m e q ∙ ap (λ b. cond b None (map.get m q)) apart
+  back_others (UndoLast back) q apart = map.get-insert entity_total m e (slot_back (slot_in (map.get m e)) back) q ∙ ap (λ b. cond b (Some (slot_back (slot_in (map.get m e)) back)) (map.get m q)) apart
+
+  undo_there : (o : Option SlotView) (back : Option (PutBack EntityState)) → CanUndoLast o back → is_some o ≡ true
+  undo_there (Some s) back can = refl
+  undo_there None back can = absurd can
+
+  back_kept : (how : TakeBack) → CanTakeBack m e how → map.contains_key (slots_back m e how) e ≡ true → map.contains_key m e ≡ true
+  back_kept DropSlot can there =
+      absurd (true≢false (sym there ∙ ap is_some (map.get-remove entity_total m e e) ∙ ap (λ b. is_some (cond b None (map.get m e))) ((eq_by_cmp_equiv entity_total).refl e)))
+  back_kept (UndoLast back) can there = undo_there (map.get m e) back can
+
+  -- the newest write taken back
+  pub back_counted : (how : TakeBack) (after : NameMap) (had : Bool) → CanTakeBack m e how → n ≡ slots_back m e how → had ≡ link_there m e → after ≡ recounted names e had (link_there n e) → IsCounted n after
+  back_counted how after had can is_new is_had is_after =
+      kept_counted after had (λ q apart. ap (λ (x : SlotMap). map.get x q) is_new ∙ back_others how q apart)
+      (λ there. back_kept how can (subst (λ (x : SlotMap). map.contains_key x e ≡ true) is_new there)) is_had is_after
+
+  -- a process, which is no name
+  pub other_counted : (tags : List ℕ) (v : Option EntityState) (pid : ℕ) → e ≡ Proc pid → n ≡ slots_wrote tags m e v → IsCounted n names
+  other_counted tags v pid is is_new =
+      elsewhere m n names e (λ q apart. ap (λ (x : SlotMap). map.get x q) is_new ∙ placed_get m e (slot_wrote tags (slot_in (map.get m e)) v) q apart)
+      (λ d name. ap (eq_by_cmp entity_cmp (Link d name)) is) so
+
+  fits_there : (o : Option EntityState) (change : Change) → FitsAt o change → is_some o ≡ true
+  fits_there None change fits = absurd fits
+  fits_there (Some v) change fits = refl
+
+  still_there : (x : Entity) → is_some (look_at m x) ≡ true → is_some (look_at n x) ≡ true → recounted names x (link_there m x) (link_there n x) ≡ names
+  still_there (Proc p) had has = refl
+  still_there (Sig p) had has = refl
+  still_there (Exit p) had has = refl
+  still_there (Obj o) had has = refl
+  still_there (Link d name) had has = (λ i. recounted_at names d (had i) (has i))
+  still_there (Copy c) had has = refl
+
+  placed_now : (s : SlotView) → is_bare s ≡ false → n ≡ placed m e s → look_at n e ≡ s.now
+  placed_now s full is_new =
+      ap (λ (x : SlotMap). look_at x e) is_new ∙ ap (λ (t : SlotView). t.now) (placed_at m e s e) ∙ ap (λ b. (cond b s (slot_in (map.get m e))).now) ((eq_by_cmp_equiv entity_total).refl e)
+
+  -- a value changed where it stands
+  pub changed_counted : (tags : List ℕ) (change : Change) → FitsAt (look_at m e) change → n ≡ slots_wrote tags m e (Some (changed (look_at m e) change)) → IsCounted n names
+  changed_counted tags change fits is_new =
+      let had = fits_there (look_at m e) change fits in
+      let now = placed_now (slot_wrote tags (slot_in (map.get m e)) (Some (changed (look_at m e) change))) refl is_new in
+      subst (IsCounted n) (still_there e had (ap is_some now))
+      (counted_on m n names e (λ q apart. ap (λ (x : SlotMap). map.get x q) is_new ∙ placed_get m e (slot_wrote tags (slot_in (map.get m e)) (Some (changed (look_at m e) change))) q apart)
+      (λ _. number_there m names e so (has_slot m e had)) so)
+
+  -- a guess out of all notes
+  pub committed_counted : ((q : Entity) → look_at n q ≡ look_at m q) → IsWithin n m → IsCounted n names
+  committed_counted look kept = record {
+    count = λ d. as_many (name_there (look_at m)) (name_there (look_at n)) d (count_in names d) (λ name. ap is_some (look (Link d name))) (so.count d);
+    places = λ d name there. so.places d name (kept (Link d name) there);
+  }
+
+-- what follows from each way that a call may end
+pub either_way : {A F P Q R : Type 0} (r : Result A F) → OnOk r P → OnErr r Q → (P → R) → (Q → R) → R
+either_way (Ok x) p q f g = f p
+either_way (Err why) p q f g = g q
+
+-- no slots, and no numbers
+pub none_counted : IsCounted map.empty map.empty
+none_counted = record {
+  count = λ d. record {
+    names = empty;
+    all = λ name. contains-empty name_order name ∙ sym (ap (λ o. is_some (slot_in o).now) (map.get-empty entity_cmp (Link d name)));
+    count = len-empty name_order ∙ sym (ap (λ o. unwrap_or o 0) (map.get-empty object_cmp d));
+  };
+  places = λ d name there. absurd (true≢false (sym there ∙ ap is_some (map.get-empty entity_cmp (Link d name))));
+}

@@ -1,0 +1,14 @@
+-- What is changed was there and is there.
+use Rattle.std.proofs.Common.{sym, subst}
+use Rattle.sk_store.specs.Changed.{FitsAt}
+use Rattle.sk_undo.specs.Logs.{SlotMap, look_at}
+use Rattle.sk_undo.specs.Names.{IsCounted}
+use Rattle.sk_undo.proofs.NameCounts.{changed_counted, either_way}
+use Rattle.sk_undo.proofs.counted_slots.CountedSlots.change.Goals as goal
+
+pub invariant_of-self : goal.invariant_of-self
+invariant_of-self c =
+    let fits = subst (λ (m : SlotMap). FitsAt (look_at m c.args.entity.now) c.args.change) (sym c.self.view_is) c.requires in
+    either_way c.change.result c.change.ensures.ok c.change.ensures.err
+    (changed_counted c.self.inside.slots c.change.new.self c.args.entity.now c.self.inside.names c.self.invariant c.args.tags.now c.args.change fits)
+    (λ same. subst (λ (m : SlotMap). IsCounted m c.self.inside.names) (sym same) c.self.invariant)

@@ -1,0 +1,14 @@
+-- A process is no name.
+use Rattle.std.proofs.Common.{Some, refl, sym, subst}
+use Rattle.sk_ids.specs.declared.entity.Entity.TheVariants.{Proc}
+use Rattle.sk_store.specs.Processes.{became}
+use Rattle.sk_undo.specs.Logs.{SlotMap, look_at}
+use Rattle.sk_undo.specs.Names.{IsCounted}
+use Rattle.sk_undo.proofs.NameCounts.{other_counted, either_way}
+use Rattle.sk_undo.proofs.counted_slots.CountedSlots.change_process.Goals as goal
+
+pub invariant_of-self : goal.invariant_of-self
+invariant_of-self g c =
+    either_way c.change_process.result c.change_process.ensures.ok c.change_process.ensures.err
+    (other_counted c.self.inside.slots c.change_process.new.self (Proc c.args.pid) c.self.inside.names c.self.invariant c.args.tags.now (Some (became (g.C.Becoming.after c.args.by.now) (look_at c.self.inside.slots (Proc c.args.pid)))) c.args.pid refl)
+    (λ same. subst (λ (m : SlotMap). IsCounted m c.self.inside.names) (sym same) c.self.invariant)

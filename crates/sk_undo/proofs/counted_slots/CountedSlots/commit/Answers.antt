@@ -1,0 +1,12 @@
+-- A commit leaves what is there, and makes no slot.
+use Rattle.std.proofs.Common.{sym, subst}
+use Rattle.sk_ids.specs.declared.entity.Entity.TheVariants.{Sig}
+use Rattle.sk_undo.specs.Decisions.{NoneBare}
+use Rattle.sk_undo.proofs.NameCounts.{committed_counted}
+use Rattle.sk_undo.proofs.counted_slots.CountedSlots.commit.Goals as goal
+
+pub invariant_of-self : goal.invariant_of-self
+invariant_of-self c = committed_counted c.self.inside.slots c.commit.new.self (Sig 0) c.self.inside.names c.self.invariant c.commit.ensures.slots.look c.commit.ensures.kept
+
+pub returns-clause-bare : goal.returns-clause-bare
+returns-clause-bare c none = c.commit.ensures.bare (subst NoneBare (sym c.self.view_is) none)

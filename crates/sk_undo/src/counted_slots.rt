@@ -1,0 +1,265 @@
+//! The slots of entities, with how many names each directory has.
+ghost use Rattle.std.specs.Prelude.{◌≡◌, ◌≤◌, ◌<◌, ◌^◌, [], false, min, ◌-◌, OnOk, OnErr, IfOk, Some, None, is_some};
+ghost use Rattle.std.specs.Option.{option_copied, unwrap_or};
+ghost use Rattle.std.specs.FinMap as map;
+ghost use Rattle.std.specs.List.Sorted.{IsStrictlySortedBy};
+ghost use Rattle.std.specs.Ordering.{eq_by_cmp};
+ghost use Rattle.sk_ids.specs.Entity.{entity_cmp};
+ghost use Rattle.sk_ids.specs.declared.entity.Entity.{Entity};
+ghost use Rattle.sk_ids.specs.declared.entity.Entity.TheVariants.{Proc};
+ghost use Rattle.sk_record.specs.Effects.{is_in};
+ghost use Rattle.sk_record.specs.Notes.{last_tags};
+ghost use Rattle.sk_store.specs.Changed.{FitsAt, changed};
+ghost use Rattle.sk_store.specs.Names.{IsCount, name_there};
+ghost use Rattle.sk_store.specs.Processes.{CanBecome, became};
+ghost use Rattle.sk_undo.specs.Count.{notes_in};
+ghost use Rattle.sk_undo.specs.Logs.{look_at, log_at, moved, slots_wrote, slots_back, CanTakeBack};
+ghost use Rattle.sk_undo.specs.Names.{IsCounted, count_for, link_there, recounted};
+ghost use Rattle.sk_undo.specs.Decisions.{ChangedAt, SlotUnwound, Unwound, Lightened, AreListed, AllRest, AllGrow, NoneBare};
+
+use crate::{Names, Slots, TakeBack};
+use sk_changes::Change;
+use sk_ids::{Entity, GuessId, ObjId, Pid, TagSet};
+use sk_store::{Becoming, EntityState, Store};
+use std::alloc::{AllocError, Global};
+use std::marker::Model;
+
+/// The slots, in which the names of directories are counted.
+#[derive(Drop)]
+pub struct CountedSlots {
+    slots: Slots,
+    names: Names,
+}
+
+impl Model for CountedSlots {
+    ghost use Rattle.sk_undo.specs.Logs.{SlotMap, slot_map_code};
+    ghost use Rattle.sk_undo.specs.Names.{IsCounted};
+
+    ghost Value = { SlotMap };
+
+    ghost coded = { slot_map_code };
+
+    ghost view = { λ a. a.slots };
+
+    ghost invariant = { λ a. IsCounted a.slots a.names };
+}
+
+/// Whether an entity is a name that is there.
+fn link_there(slots: &Slots, entity: &Entity) -> bool
+    ensures { result ≡ link_there slots.now entity.now }
+{
+    match entity {
+        Entity::Link(..) => slots.value(*entity).is_some(),
+        Entity::Proc(_) | Entity::Sig(_) | Entity::Exit(_) | Entity::Obj(_) | Entity::Copy(_) => {
+            false
+        }
+    }
+}
+
+/// Moves what an entity has out of the store, into a slot of which nothing is noted.
+fn move_over(
+    store: &mut Store,
+    slots: &mut CountedSlots,
+    untagged: &TagSet,
+    entity: &Entity,
+) -> Result<(), AllocError>
+    requires { untagged.now ≡ [] }
+    ensures here { OnOk result (slots.new ≡ moved slots.old entity.now (map.get store.old entity.now)) }
+    ensures others { (e : Entity) → eq_by_cmp entity_cmp e entity.now ≡ false → map.get store.new e ≡ map.get store.old e }
+{
+    let Some(state) = store.remove(*entity) else {
+        return Ok(());
+    };
+    slots.set(entity, untagged, state)?;
+    Ok(())
+}
+
+/// Counts an entity anew after it was written, where it is a name that was there or not.
+fn recount(slots: &Slots, names: &mut Names, entity: &Entity, was: bool, len: usize)
+    requires most { count_for names.old entity.now ≤ len }
+    requires len { len < 2 ^ 63 }
+    ensures { names.new ≡ recounted names.old entity.now was (link_there slots.now entity.now) }
+{
+    names.recount(entity, was, link_there(slots, entity));
+}
+
+impl CountedSlots {
+    pub fn new(alloc: Global) -> CountedSlots
+        ensures { result ≡ map.empty }
+    {
+        CountedSlots {
+            slots: Slots::new(alloc),
+            names: Names::new(alloc),
+        }
+    }
+
+    pub fn alloc(&self) -> Global {
+        self.slots.alloc()
+    }
+
+    /// What a store has, with nothing noted.
+    pub fn open(mut store: Store) -> Result<CountedSlots, AllocError>
+        ensures values { IfOk result (λ slots. (e : Entity) → look_at slots e ≡ map.get store e) }
+        ensures logs { IfOk result (λ slots. (e : Entity) → log_at slots e ≡ []) }
+        ensures bare { IfOk result (λ slots. NoneBare slots) }
+    {
+        let mut slots = CountedSlots::new(store.alloc());
+        let untagged = TagSet::new(store.alloc());
+        let entities = store.entities()?;
+        for entity in &entities {
+            move_over(&mut store, &mut slots, &untagged, entity)?;
+        }
+        Ok(slots)
+    }
+
+    /// A copy of what entities have now.
+    pub fn present(&self) -> Result<Store, AllocError>
+        ensures { IfOk result (λ store. (e : Entity) → map.get store e ≡ look_at self.now e) }
+    {
+        self.slots.present()
+    }
+
+    /// How many names of a directory are there. This takes no memory.
+    pub fn names(&self, directory: &ObjId) -> usize
+        ensures { IsCount (name_there (look_at self.now)) directory.now result }
+    {
+        self.names.count(directory)
+    }
+
+    pub fn value(&self, entity: Entity) -> Option<&EntityState>
+        ensures { option_copied result ≡ look_at self.now entity }
+    {
+        self.slots.value(entity)
+    }
+
+    /// The tags of an entity, where it has a slot.
+    pub fn tags(&self, entity: Entity) -> Option<&TagSet>
+        ensures { unwrap_or (option_copied result) [] ≡ last_tags [] (log_at self.now entity) }
+    {
+        self.slots.tags(entity)
+    }
+
+    /// The entities that are present, by their order, each once.
+    pub fn entities(&self) -> Result<Vec<Entity>, AllocError>
+        ensures rising { IfOk result (λ all. IsStrictlySortedBy entity_cmp all.items) }
+        ensures present { IfOk result (λ all. (e : Entity) → is_in entity_cmp all.items e ≡ is_some (look_at self.now e)) }
+    {
+        self.slots.entities()
+    }
+
+    /// How many notes there are, or the largest number where there are more. This takes no memory.
+    pub fn notes(&self) -> usize
+        ensures { result ≡ min (notes_in self.now) (2 ^ 64 - 1) }
+    {
+        self.slots.notes()
+    }
+
+    /// Sets what an entity has. Without memory nothing has changed.
+    pub fn set(
+        &mut self,
+        entity: &Entity,
+        tags: &TagSet,
+        value: EntityState,
+    ) -> Result<TakeBack, AllocError>
+        ensures ok { OnOk result (self.new ≡ slots_wrote tags.now self.old entity.now (Some value)) }
+        ensures can { IfOk result (λ how. CanTakeBack self.new entity.now how) }
+        ensures back { IfOk result (λ how. slots_back self.new entity.now how ≡ self.old) }
+        ensures err { OnErr result (self.new ≡ self.old) }
+    {
+        self.names.make_for(entity)?;
+        let was = link_there(&self.slots, entity);
+        let len = self.slots.len();
+        let back = self.slots.set(entity, tags, value)?;
+        recount(&self.slots, &mut self.names, entity, was, len);
+        Ok(back)
+    }
+
+    /// Changes a process where it stands. Without memory nothing has changed.
+    pub fn change_process<C: Becoming>(
+        &mut self,
+        pid: Pid,
+        tags: &TagSet,
+        by: &C,
+    ) -> Result<(), AllocError>
+        requires { CanBecome (C.can by.now) (look_at self.old (Proc pid)) }
+        ensures ok { OnOk result (self.new ≡ slots_wrote tags.now self.old (Proc pid) (Some (became (C.after by.now) (look_at self.old (Proc pid))))) }
+        ensures err { OnErr result (self.new ≡ self.old) }
+    {
+        self.slots.change_process(pid, tags, by)
+    }
+
+    /// Makes an entity absent. Without memory nothing has changed.
+    pub fn clear(&mut self, entity: &Entity, tags: &TagSet) -> Result<(), AllocError>
+        ensures ok { OnOk result (self.new ≡ slots_wrote tags.now self.old entity.now None) }
+        ensures err { OnErr result (self.new ≡ self.old) }
+    {
+        self.names.make_for(entity)?;
+        let was = link_there(&self.slots, entity);
+        let len = self.slots.len();
+        self.slots.clear(entity, tags)?;
+        recount(&self.slots, &mut self.names, entity, was, len);
+        Ok(())
+    }
+
+    /// Changes the value of an entity. Without memory nothing has changed.
+    pub fn change(
+        &mut self,
+        entity: &Entity,
+        tags: &TagSet,
+        change: Change,
+    ) -> Result<TakeBack, AllocError>
+        requires { FitsAt (look_at self.old entity.now) change }
+        ensures ok { OnOk result (self.new ≡ slots_wrote tags.now self.old entity.now (Some (changed (look_at self.old entity.now) change))) }
+        ensures can { IfOk result (λ how. CanTakeBack self.new entity.now how) }
+        ensures back { IfOk result (λ how. slots_back self.new entity.now how ≡ self.old) }
+        ensures err { OnErr result (self.new ≡ self.old) }
+    {
+        self.slots.change(entity, tags, change)
+    }
+
+    /// Takes the newest write back, which takes no memory.
+    pub fn take_back(&mut self, entity: &Entity, how: TakeBack)
+        requires { CanTakeBack self.old entity.now how }
+        ensures { self.new ≡ slots_back self.old entity.now how }
+    {
+        let was = link_there(&self.slots, entity);
+        let len = self.slots.len();
+        self.slots.take_back(entity, how);
+        recount(&self.slots, &mut self.names, entity, was, len);
+    }
+
+    /// Takes back what rests on a guess at one entity, in place and without memory.
+    fn unwind_at(&mut self, entity: &Entity, guess: GuessId)
+        ensures { ChangedAt (SlotUnwound guess) self.old entity.now self.new }
+    {
+        let was = link_there(&self.slots, entity);
+        let len = self.slots.len();
+        self.slots.unwind_at(entity, guess);
+        recount(&self.slots, &mut self.names, entity, was, len);
+    }
+
+    /// Takes back what rests on a guess, at the entities of which a note does, in place and without
+    /// memory.
+    pub fn unwind(&mut self, guess: GuessId, entities: &[Entity])
+        requires listed { AreListed guess self.old entities.now }
+        requires grow { AllGrow self.old }
+        ensures slots { Unwound self.old guess self.new }
+        ensures bare { NoneBare self.old → NoneBare self.new }
+    {
+        for entity in entities {
+            self.unwind_at(entity, guess);
+        }
+    }
+
+    /// Takes a guess out of all notes, at the entities of which a note rests on it, and leaves out those for
+    /// which then an older one stands. It takes no memory.
+    pub fn commit(&mut self, guess: GuessId, entities: &[Entity])
+        requires listed { AreListed guess self.old entities.now }
+        requires rest { AllRest self.old }
+        requires grow { AllGrow self.old }
+        ensures slots { Lightened self.old guess self.new }
+        ensures bare { NoneBare self.old → NoneBare self.new }
+    {
+        self.slots.commit(guess, entities);
+    }
+}

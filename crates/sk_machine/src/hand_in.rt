@@ -8,26 +8,42 @@ ghost use Rattle.sk_machine.specs.Dependents.{Covers, tags_in};
 ghost use Rattle.sk_machine.specs.HandsIn.{AreAlone, SetsProcess, HandsInProcess};
 ghost use Rattle.sk_machine.specs.Parts.{undo_state_of};
 ghost use Rattle.sk_machine.specs.Performed.{IsClean};
+ghost use Rattle.sk_store.specs.Processes.{IsProcess};
+ghost use Rattle.sk_undo.specs.Logs.{look_at};
 
 use crate::Machine;
 use crate::lists::{depend_all, relieve_all};
 use sk_ids::{Entity, Pid, TagSet};
 use sk_script::Process;
-use sk_store::{EntityState, Keeper};
+use sk_store::{Becoming, Keeper};
 use sk_undo::Logs;
 use std::alloc::AllocError;
 use std::slice;
 
-/// Sets what a process has become, which rests on these guesses. Without memory nothing has changed.
+/// It becomes this process, whatever it was.
+#[derive(Clone, Copy)]
+struct Whole<'a>(&'a Process);
+
+impl Becoming for Whole<'_> {
+    ghost can = { λ whole p. Unit {0} };
+
+    ghost after = { λ whole p. whole.0.now };
+
+    fn change(&self, process: &mut Process) {
+        *process = *self.0;
+    }
+}
+
+/// Sets what a process has become, where it stands, which rests on these guesses. Without memory nothing has changed.
 #[tactic(auto, using(crate::proofs::Writes::performed))]
 fn set_process(logs: &mut Logs, tags: TagSet, pid: Pid, process: &Process) -> Result<(), AllocError>
-    requires { IsClean logs.old.slots tags (Proc pid ∷ []) }
+    requires there { IsProcess (look_at logs.old.slots (Proc pid)) }
+    requires clean { IsClean logs.old.slots tags (Proc pid ∷ []) }
     ensures ok { OnOk result (SetsProcess logs.old.slots tags pid process.now logs.new.slots) }
     ensures err { OnErr result (logs.new.slots ≡ logs.old.slots) }
 {
     logs.set_tags(tags);
-    let _back = logs.write(Entity::Proc(pid), EntityState::Process(*process))?;
-    Ok(())
+    logs.change_process(pid, &Whole(process))
 }
 
 impl Machine {
@@ -42,9 +58,10 @@ impl Machine {
         self.add_tags(TagSet::new(self.alloc), touched.as_slice())
     }
 
-    /// Sets what a process has become by private instructions: one write, with one note. Without memory nothing has
-    /// changed.
+    /// Sets what a process that is there has become by private instructions, where it stands: one write, with one note.
+    /// Without memory nothing has changed.
     pub fn hand_in(&mut self, pid: Pid, process: &Process) -> Result<(), AllocError>
+        requires there { IsProcess (look_at self.old.slots (Proc pid)) }
         requires tidy { IsTidy (undo_state_of self.old) }
         requires rising { IsStrictlySortedBy nat_cmp (numbers self.old.opens) }
         ensures ok { OnOk result (HandsInProcess self.old pid process.now self.new) }

@@ -1,17 +1,30 @@
 -- The machine takes the process as it became, and stands for the trace with as many steps more.
 use Rattle.std.proofs.Common.{◌≡◌, ℕ, ◌+◌, ◌<◌, ◌≤◌, ◌^◌, Some, ◌++◌, length, refl, sym, ◌∙◌, ap, subst, arith, rules}
 use Rattle.std.specs.Prelude.{replicate}
+use Rattle.sk_ids.specs.declared.entity.Entity.TheVariants.{Proc}
 use Rattle.sk_script.specs.Lease.{after_private}
+use Rattle.sk_store.specs.Processes.{IsProcess}
+use Rattle.sk_undo.specs.Logs.{look_at}
 use Rattle.sk_trace.specs.declared.event.Event.{Event}
 use Rattle.sk_machine.specs.HandsIn.{HandsInProcess}
 use Rattle.sk_machine.proofs.Given.{from_ok, from_err}
 use Rattle.sk_kernel.specs.Kernel.{KernelView, room}
 use Rattle.sk_kernel.specs.HandIn.{IsAsLent, alone_step, with_steps}
 use Rattle.sk_kernel.specs.contracts.kernel.Kernel.{the_view}
-use Rattle.sk_kernel.proofs.Whole.{tidy, opens_rise, open_count}
+use Rattle.sk_kernel.proofs.Whole.{look_is, tidy, opens_rise, open_count}
 use Rattle.sk_kernel.proofs.HandedIn.{handed_whole, same_opens, fits_places}
 use Rattle.sk_kernel.proofs.Opened.{still_opened}
 use Rattle.sk_kernel.proofs.kernel.Kernel.do_steps.Goals as goal
+
+pub hand_in-requires-clause-there : goal.hand_in-requires-clause-there
+hand_in-requires-clause-there c =
+    let k = the_view c.self.inside in
+    let m = c.self.inside.machine in
+    let l = c.args.lease.now in
+    let as_lent = subst (λ (x : KernelView). IsAsLent x l) (sym c.self.view_is) c.requires.as_lent in
+    let own : c.lent.result.now.pid ≡ l.lent.pid = ap (λ p. p.pid) c.lent.ensures in
+    subst (λ pid. IsProcess (look_at m.slots (Proc pid))) (sym own)
+    (subst IsProcess (sym (look_is k m c.self.invariant.0.stands (Proc l.lent.pid) ∙ as_lent.process)) tt)
 
 pub hand_in-requires-clause-tidy : goal.hand_in-requires-clause-tidy
 hand_in-requires-clause-tidy c = tidy (the_view c.self.inside) c.self.inside.machine c.self.invariant.0.stands

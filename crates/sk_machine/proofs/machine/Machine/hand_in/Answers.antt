@@ -5,6 +5,8 @@ use Rattle.sk_ids.specs.declared.entity.Entity.{Entity}
 use Rattle.sk_ids.specs.declared.entity.Entity.TheVariants.{Proc}
 use Rattle.sk_guesses.specs.Opens.{opens_of}
 use Rattle.sk_store.specs.declared.entity_state.EntityState.TheVariants as stored
+use Rattle.sk_store.specs.Processes.{IsProcess}
+use Rattle.sk_undo.specs.Logs.{look_at}
 use Rattle.sk_machine.specs.Dependents.{Covers, tags_in}
 use Rattle.sk_machine.specs.HandsIn.{AreAlone, HandsInProcess}
 use Rattle.sk_machine.specs.Parts.{Parts}
@@ -20,8 +22,12 @@ depend_all-requires-clause-covers c =
     subst (λ (es : List Entity). Covers c.in_ok-tags.tags es (tags_in c.self.inside.logs.slots)) (sym c.from_ref-entities.ensures.value)
     (subst (λ (m : Parts). Covers c.in_ok-tags.tags (Proc c.args.pid ∷ []) (tags_in m.slots)) (sym c.self.view_is) c.in_ok-tags.ensures.covers)
 
-pub set_process-requires : goal.set_process-requires
-set_process-requires c =
+pub set_process-requires-clause-there : goal.set_process-requires-clause-there
+set_process-requires-clause-there c =
+    subst (λ (m : Parts). IsProcess (look_at m.slots (Proc c.args.pid))) (sym c.self.view_is) c.requires.there
+
+pub set_process-requires-clause-clean : goal.set_process-requires-clause-clean
+set_process-requires-clause-clean c =
     subst (λ (m : Parts). IsClean m.slots c.in_ok-tags.tags (Proc c.args.pid ∷ [])) (sym c.self.view_is)
     (clean_alone c.args.self.now c.args.pid map.empty c.in_ok-tags.tags c.requires.tidy (c.in_ok-tags.ensures.alone map.empty))
 

@@ -19,10 +19,9 @@ unless_asked d pid (Err why) = Err why
 abbrev pub desk_lease : DeskView → ℕ → Result LeaseView Refusal
 desk_lease d pid = unless_asked d pid (lease_of (map.get (state_at d.kernel)) d.kernel.scripts pid)
 
--- why it is not, from what the kernel answers
+-- why it is not, from what the kernel would lend
 abbrev pub blocked_why : Result LeaseView Refusal → Refusal
 blocked_why (Ok l) = refusals.Blocked
-blocked_why (Err refusals.Memory) = refusals.Blocked
 blocked_why (Err why) = why
 
 -- the places of the trace that are free, with one kept for the step of each asked request

@@ -1,27 +1,15 @@
 //! Leases of a desk.
 ghost use Rattle.std.specs.Prelude.{◌≡◌};
-ghost use Rattle.sk_plain.specs.Leased.{Lends};
+ghost use Rattle.std.specs.FinMap as map;
+ghost use Rattle.sk_kernel.specs.Kernel.{state_at};
+ghost use Rattle.sk_plain.specs.Leased.{Lends, lease_of};
 ghost use Rattle.sk_client.specs.Leasing.{blocked_why, desk_lease, WhyShort, DeskHandInPost};
 
 use crate::Desk;
-use sk_ids::Pid;
+use sk_ids::{Entity, Pid};
 use sk_kernel::HandIn;
-use sk_plain::Refusal;
+use sk_plain::{Refusal, View};
 use sk_script::Lease;
-
-/// Why a process that waits for a reply is not lent.
-fn blocked_why(lease: Result<Lease, Refusal>) -> Refusal
-    ensures { result ≡ blocked_why lease }
-{
-    match lease {
-        Ok(lease) => {
-            lease.give_up();
-            Refusal::Blocked
-        }
-        Err(Refusal::Memory) => Refusal::Blocked,
-        Err(why) => why,
-    }
-}
 
 impl Desk {
     /// Lends a process with its script, for private instructions away from the desk. Refusals: `NoProcess`, `Ended`,
@@ -29,11 +17,21 @@ impl Desk {
     pub fn lease(&self, pid: Pid) -> Result<Lease, Refusal>
         ensures { Lends result (desk_lease self.now pid) }
     {
-        let lease = self.kernel().lease(pid);
         if self.asks_for(pid) {
-            return Err(blocked_why(lease));
+            return Err(self.blocked_why(pid));
         }
-        lease
+        self.kernel().lease(pid)
+    }
+
+    /// Why a process that waits for a reply is not lent.
+    fn blocked_why(&self, pid: Pid) -> Refusal
+        ensures { result ≡ blocked_why (lease_of (map.get (state_at self.now.kernel)) self.now.kernel.scripts pid) }
+    {
+        match self.kernel().value(&Entity::Proc(pid)) {
+            Some(View::Process(process)) if process.ended => Refusal::Ended,
+            Some(View::Process(_)) => Refusal::Blocked,
+            _ => Refusal::NoProcess,
+        }
     }
 
     /// Takes a lease in, as the kernel does, with one place of the trace kept for the step of each asked request. After

@@ -10,11 +10,10 @@ use Rattle.sk_client.proofs.desk.Desk.lease.Goals as goal
 
 pub returns-then-asks_for : goal.returns-then-asks_for
 returns-then-asks_for c =
-    let lends = subst (λ (k : KernelView). Lends c.lease-lease.result (lease_of (map.get (state_at k)) k.scripts c.args.pid)) c.kernel.ensures c.lease-lease.ensures in
     subst (λ (why : Refusal). Lends (Err why) (desk_lease c.args.self.now c.args.pid)) (sym c.blocked_why.ensures)
-    (lends_blocked c.args.self.now c.args.pid c.lease-lease.result lends (sym c.asks_for.ensures ∙ c.if-asks_for.true))
+    (lends_blocked c.args.self.now c.args.pid (sym c.asks_for.ensures ∙ c.if-asks_for.true))
 
 pub returns : goal.returns
 returns c =
-    let lends = subst (λ (k : KernelView). Lends c.lease-lease.result (lease_of (map.get (state_at k)) k.scripts c.args.pid)) c.kernel.ensures c.lease-lease.ensures in
-    lends_free c.args.self.now c.args.pid c.lease-lease.result lends (sym c.asks_for.ensures ∙ c.if-asks_for.false)
+    let lends = subst (λ (k : KernelView). Lends c.lease.result (lease_of (map.get (state_at k)) k.scripts c.args.pid)) c.kernel.ensures c.lease.ensures in
+    lends_free c.args.self.now c.args.pid c.lease.result lends (sym c.asks_for.ensures ∙ c.if-asks_for.false)

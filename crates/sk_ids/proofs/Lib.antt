@@ -1,6 +1,7 @@
 pub mod Cells
 pub mod Fronts
 pub mod GuessSets
+pub mod Runs
 pub mod Entities
 pub mod Views
 pub mod Ordered

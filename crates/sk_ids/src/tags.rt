@@ -31,6 +31,33 @@ impl Model for TagSet {
     ghost invariant = { λ a. IsStrictlySortedBy nat_cmp a.ids };
 }
 
+/// Whether two lists that rise have each number from the same oldest to the same newest.
+fn is_same_run(ids: &[GuessId], others: &[GuessId]) -> bool
+    requires ids { IsStrictlySortedBy nat_cmp ids.now }
+    requires others { IsStrictlySortedBy nat_cmp others.now }
+    ensures { result ≡ true → ids.now ≡ others.now }
+{
+    if ids.len() != others.len() {
+        return false;
+    }
+    match (ids, others) {
+        ([one], [other]) => one.number() == other.number(),
+        ([oldest, .., newest], [first, .., last]) => {
+            let from = oldest.number();
+            let to = newest.number();
+            if first.number() != from {
+                return false;
+            }
+            if last.number() != to {
+                return false;
+            }
+            let span = to.saturating_sub(from);
+            span < ids.len() as u64
+        }
+        _ => false,
+    }
+}
+
 impl TagSet {
     /// The set of no guess.
     pub fn new(alloc: Global) -> TagSet
@@ -90,11 +117,14 @@ impl TagSet {
         self.place_of(id).is_some()
     }
 
-    /// Whether both sets have the same guesses.
+    /// Whether both sets have the same guesses. Most sets have each guess from their oldest to their newest, and then no
+    /// others are looked at.
     pub fn is_same(&self, other: &TagSet) -> bool
         ensures { result ≡ same_tags self.now other.now }
     {
-        self.ids.as_slice() == other.ids.as_slice()
+        let ids = self.ids.as_slice();
+        let others = other.ids.as_slice();
+        is_same_run(ids, others) || ids == others
     }
 
     /// Whether each guess of the other set is in this one. Most sets that are asked are the same.

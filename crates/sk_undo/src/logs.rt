@@ -1,5 +1,5 @@
 //! What performs the writes of steps, and notes what takes them back with the guesses that they rest on.
-ghost use Rattle.std.specs.Prelude.{◌≡◌, ◌↔◌, [], min, ◌-◌, ◌^◌, not, is_some, IfOk};
+ghost use Rattle.std.specs.Prelude.{◌≡◌, ◌↔◌, [], min, ◌-◌, ◌^◌, not, is_some, IfOk, OnOk, OnErr};
 ghost use Rattle.std.specs.FinMap as map;
 ghost use Rattle.std.specs.List.Sorted.{IsStrictlySortedBy};
 ghost use Rattle.sk_ids.specs.Entity.{entity_cmp};
@@ -35,6 +35,17 @@ impl Model for Back {
     ghost coded = { back_code };
 
     ghost view = { λ n. record { entity = n.entity; how = n.how } };
+}
+
+/// Makes a set one of the same guesses. Most are so already.
+fn set_same(kept: &mut TagSet, tags: &TagSet) -> Result<(), AllocError>
+    ensures ok { OnOk result (kept.new ≡ tags.now) }
+    ensures err { OnErr result (kept.new ≡ kept.old) }
+{
+    if !kept.is_same(tags) {
+        *kept = tags.copy()?;
+    }
+    Ok(())
 }
 
 /// The slots, and the tags of the step that is performed.
@@ -122,6 +133,27 @@ impl Logs {
         ensures { self.new ≡ record { slots = self.old.slots; tags = tags } }
     {
         self.tags = tags;
+    }
+
+    /// The tags of the next step become those of an entity. Without memory nothing has changed.
+    pub fn set_tags_of(&mut self, entity: Entity) -> Result<(), AllocError>
+        ensures ok { OnOk result (self.new ≡ record { slots = self.old.slots; tags = last_tags [] (log_at self.old.slots entity) }) }
+        ensures err { OnErr result (self.new ≡ self.old) }
+    {
+        match self.slots.tags(entity) {
+            Some(tags) => set_same(&mut self.tags, tags),
+            None => {
+                self.tags = TagSet::new(self.slots.alloc());
+                Ok(())
+            }
+        }
+    }
+
+    /// The tags of the next step.
+    pub fn next_tags(&self) -> &TagSet
+        ensures { result.now ≡ self.now.tags }
+    {
+        &self.tags
     }
 
     /// Takes back what rests on a guess, at the entities of which a note does, in place and without

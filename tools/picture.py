@@ -1,9 +1,10 @@
 #!/usr/bin/env python3
 """Draws the run of a scenario: lanes, guesses as bands, what went from lane to lane, and what a failure took back.
 
-    tools/picture.py SCENARIO [--program PATH] [--html PAGE] [--svg FILE]
+    tools/picture.py SCENARIO [--program PATH | --try] [--html PAGE] [--svg FILE]
 
-PATH is the program `speculate`: `crates/speculate/out/speculate` where none is given. The page stands alone and replays
+PATH is the program `speculate`: `crates/speculate/out/speculate` where none is given. Where that is not built, or with
+`--try`, `rt try` builds one for this run without proofs, in some three minutes. The page stands alone and replays
 the run by a slider; `PAGE#at=8` opens it after event 8. The SVG is its last state, for documents. Where neither is
 asked for, the page is written to NAME.html in the current folder. The status is 1 where the program refuses the
 scenario, which is one of `steps` or of a `world`.
@@ -566,7 +567,8 @@ def write(program, scenario, to_page, to_svg):
 def main():
     words = argparse.ArgumentParser(description=__doc__, formatter_class=argparse.RawDescriptionHelpFormatter)
     words.add_argument("scenario")
-    words.add_argument("--program", default=PROGRAM)
+    words.add_argument("--program", default=PROGRAM if os.path.exists(PROGRAM) else None)
+    words.add_argument("--try", dest="program", action="store_const", const=None)
     words.add_argument("--html")
     words.add_argument("--svg")
     given = words.parse_args()

@@ -45,6 +45,11 @@ def shown(value):
     return re.sub(r"^(\d+) (\".*\")$", r"v\1 \2", value)
 
 
+def value_in(state, key):
+    """What an entity has in a state, as a lane shows it."""
+    return shown(state.value(key)) if key in state.entities else "absent"
+
+
 def text(x, y, words, size=11, fill=INK, anchor="middle", more=""):
     at = f'x="{x:.1f}" y="{y:.1f}" font-size="{size}" fill="{fill}" text-anchor="{anchor}"'
     return f"<text {at} {more}>{html.escape(words)}</text>"
@@ -354,8 +359,8 @@ class Picture(Layout):
         self.add(box(x - 5, there - 5, 10, 10, 2, f'{self.kind("mark", event)} fill="{INK}"'))
         room = self.room(event.number, key)
         if room > 3:
-            self.add(text(x + 9, there - 10, short(shown(after.value(key)), room), 10, INK, "start",
-                          f'{self.kind("m value", event)} {HALO}'))
+            value = value_in(after, key)
+            self.add(text(x + 9, there - 10, short(value, room), 10, INK, "start", f'{self.kind("m value", event)} {HALO}'))
 
     def marks(self):
         for event in self.run.events:
@@ -468,7 +473,7 @@ class Picture(Layout):
                     self.taken_back(x, y, number, struck)
             elif key in before.entities and before.entities[key] != after.entities.get(key):
                 self.add(box(x - 5.5, y - 5.5, 11, 11, 2, f'fill="#fff" stroke="{RED}" stroke-width="1.8"'))
-                value = shown(after.value(key)) if key in after.entities else "absent"
+                value = value_in(after, key)
                 room = max(3, min(16, self.room(number, key)))
                 self.add(text(x + 11, y - 9, short(value, room), 10, RED, "start", f"{MONO} {HALO}"))
 

@@ -8,6 +8,7 @@ these runs, without proofs.
 import os
 import re
 import subprocess
+import sys
 import tempfile
 
 CRATE = os.path.join(os.path.dirname(os.path.dirname(os.path.abspath(__file__))), "crates/speculate")
@@ -45,6 +46,7 @@ def played(program, text, *flags):
 
 def played_unproved(texts):
     """The lines for each of these scenarios, the last of them with `--steps`, by a program that `rt try` builds for them."""
+    print("no program is built: rt try builds one without proofs, in some three minutes", file=sys.stderr)
     with tempfile.TemporaryDirectory() as room:
         for number, text in enumerate(texts):
             with open(f"{room}/{number:06}", "wb") as file:

@@ -3,7 +3,8 @@
 
     tools/api.py            the page
     tools/api.py --write    puts it into docs/API.md
-    tools/api.py --check    whether it stands there; the last line is 'N passed, M failed'
+    tools/api.py --check    whether it stands there, and each definition that it lists has a comment; the last line is
+                            'N passed, M failed'
     tools/api.py --bare     the definitions that contracts cite and that have no comment
 """
 import re
@@ -129,15 +130,18 @@ def page(index):
 
 def main():
     new, cited = page(Index())
+    bare = [f"{it.file.relative_to(ROOT)}: {it.name}" for it in cited if not it.comment]
     if sys.argv[1:] == ["--write"]:
         PAGE.write_text(new)
     elif sys.argv[1:] == ["--bare"]:
-        print("\n".join(f"{it.file.relative_to(ROOT)}: {it.name}" for it in cited if not it.comment))
+        print("\n".join(bare))
     elif sys.argv[1:] == ["--check"]:
-        is_same = PAGE.exists() and PAGE.read_text() == new
-        print("" if is_same else "docs/API.md is not what `tools/api.py --write` makes")
-        print(f"{int(is_same)} passed, {int(not is_same)} failed")
-        return int(not is_same)
+        faults = [f"{it} has no comment" for it in bare]
+        if not PAGE.exists() or PAGE.read_text() != new:
+            faults.append("docs/API.md is not what `tools/api.py --write` makes")
+        print("\n".join(faults))
+        print(f"{int(not faults)} passed, {len(faults)} failed")
+        return int(bool(faults))
     else:
         print(new, end="")
     return 0

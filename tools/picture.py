@@ -1,9 +1,10 @@
 #!/usr/bin/env python3
 """Draws the run of a scenario: lanes, guesses as bands, what went from lane to lane, and what a failure took back.
 
-    tools/picture.py SCENARIO [--program PATH] [--html PAGE] [--svg FILE]
+    tools/picture.py SCENARIO [--program PATH | --try] [--html PAGE] [--svg FILE]
 
-PATH is the program `speculate`: `crates/speculate/out/speculate` where none is given. The page stands alone and replays
+PATH is the program `speculate`: `crates/speculate/out/speculate` where none is given. Where that is not built, or with
+`--try`, `rt try` builds one for this run without proofs, in some three minutes. The page stands alone and replays
 the run by a slider; `PAGE#at=8` opens it after event 8. The SVG is its last state, for documents. Where neither is
 asked for, the page is written to NAME.html in the current folder. The status is 1 where the program refuses the
 scenario, which is one of `steps` or of a `world`.
@@ -42,6 +43,11 @@ def shown(value):
     value = re.sub(r"^(file \d+|pipe open|dir) ", "", value)
     value = re.sub(r"^(at \d+) regs .*", r"\1", value)
     return re.sub(r"^(\d+) (\".*\")$", r"v\1 \2", value)
+
+
+def value_in(state, key):
+    """What an entity has in a state, as a lane shows it."""
+    return shown(state.value(key)) if key in state.entities else "absent"
 
 
 def text(x, y, words, size=11, fill=INK, anchor="middle", more=""):
@@ -353,8 +359,8 @@ class Picture(Layout):
         self.add(box(x - 5, there - 5, 10, 10, 2, f'{self.kind("mark", event)} fill="{INK}"'))
         room = self.room(event.number, key)
         if room > 3:
-            self.add(text(x + 9, there - 10, short(shown(after.value(key)), room), 10, INK, "start",
-                          f'{self.kind("m value", event)} {HALO}'))
+            value = value_in(after, key)
+            self.add(text(x + 9, there - 10, short(value, room), 10, INK, "start", f'{self.kind("m value", event)} {HALO}'))
 
     def marks(self):
         for event in self.run.events:
@@ -467,7 +473,7 @@ class Picture(Layout):
                     self.taken_back(x, y, number, struck)
             elif key in before.entities and before.entities[key] != after.entities.get(key):
                 self.add(box(x - 5.5, y - 5.5, 11, 11, 2, f'fill="#fff" stroke="{RED}" stroke-width="1.8"'))
-                value = shown(after.value(key)) if key in after.entities else "absent"
+                value = value_in(after, key)
                 room = max(3, min(16, self.room(number, key)))
                 self.add(text(x + 11, y - 9, short(value, room), 10, RED, "start", f"{MONO} {HALO}"))
 
@@ -566,7 +572,8 @@ def write(program, scenario, to_page, to_svg):
 def main():
     words = argparse.ArgumentParser(description=__doc__, formatter_class=argparse.RawDescriptionHelpFormatter)
     words.add_argument("scenario")
-    words.add_argument("--program", default=PROGRAM)
+    words.add_argument("--program", default=PROGRAM if os.path.exists(PROGRAM) else None)
+    words.add_argument("--try", dest="program", action="store_const", const=None)
     words.add_argument("--html")
     words.add_argument("--svg")
     given = words.parse_args()

@@ -1,8 +1,59 @@
--- What the contracts of this crate's types cite, so that callers name one crate.
+-- What the contracts of this crate's types cite, so that callers name one crate. Four modules have names of their own here:
+-- RecordNotes, RecordTrace, ServerCalls and TraceLines.
+pub use Rattle.sk_record.specs.Effects
+pub use Rattle.sk_record.specs.Run
+pub use Rattle.sk_record.specs.Strike
+pub use Rattle.sk_record.specs.Notes as RecordNotes
+pub use Rattle.sk_record.specs.Trace as RecordTrace
+pub use Rattle.sk_record.specs.Release
+pub use Rattle.sk_record.specs.Machine
+pub use Rattle.sk_ids.specs.Pid
+pub use Rattle.sk_ids.specs.Name
+pub use Rattle.sk_ids.specs.Guess
+pub use Rattle.sk_ids.specs.Entity
+pub use Rattle.sk_objects.specs.Content
+pub use Rattle.sk_objects.specs.Value
+pub use Rattle.sk_words.specs.Lines
+pub use Rattle.sk_words.specs.Reading
+pub use Rattle.sk_words.specs.Words
+pub use Rattle.sk_script.specs.Process
+pub use Rattle.sk_script.specs.Private
+pub use Rattle.sk_script.specs.Scripting
+pub use Rattle.sk_script.specs.Boot
+pub use Rattle.sk_script.specs.Lease
+pub use Rattle.sk_trace.specs.Kept
+pub use Rattle.sk_trace.specs.Event
+pub use Rattle.sk_trace.specs.Trace
+pub use Rattle.sk_trace.specs.Lines as TraceLines
+pub use Rattle.sk_trace.specs.Text
+pub use Rattle.sk_store.specs.State
+pub use Rattle.sk_store.specs.Names
+pub use Rattle.sk_store.specs.Start
+pub use Rattle.sk_terminal.specs.Terminal
+pub use Rattle.sk_terminal.specs.Terminals
+pub use Rattle.sk_plain.specs.View
+pub use Rattle.sk_plain.specs.Refusal
+pub use Rattle.sk_plain.specs.Act
+pub use Rattle.sk_plain.specs.Next
+pub use Rattle.sk_plain.specs.Leased
+pub use Rattle.sk_plain.specs.Plain
+pub use Rattle.sk_plain.specs.Replay
+pub use Rattle.sk_machine.specs.Parts
+pub use Rattle.sk_kernel.specs.Opening
 pub use Rattle.sk_kernel.specs.Kernel
 pub use Rattle.sk_kernel.specs.Calls
+pub use Rattle.sk_kernel.specs.HandIn
+pub use Rattle.sk_kernel.specs.Footprint
+pub use Rattle.sk_kernel.specs.Notes
 pub use Rattle.sk_kernel.specs.Laws
+pub use Rattle.sk_counts.specs.Counts
 pub use Rattle.sk_holder.specs.Holder
-pub use Rattle.sk_record.specs.Machine
-pub use Rattle.sk_machine.specs.Parts
-pub use Rattle.sk_terminal.specs.Terminal
+pub use Rattle.sk_server.specs.Server
+pub use Rattle.sk_server.specs.Calls as ServerCalls
+pub use Rattle.sk_client.specs.Desk
+pub use Rattle.sk_client.specs.DeskCalls
+pub use Rattle.sk_client.specs.Leasing
+pub use Rattle.sk_client.specs.Upcoming
+pub use Rattle.sk_client.specs.WorldView
+pub use Rattle.sk_scenario.specs.Declarations
+pub use Rattle.sk_scenario.specs.Scenario

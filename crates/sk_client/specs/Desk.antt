@@ -69,6 +69,7 @@ opened_at k first = record { kernel = k; taken = []; waiting = []; first = first
 abbrev pub opened : KernelView → DeskView
 opened k = opened_at k first_number
 
+-- the requests without a reply, the oldest first: those that were handed out, and then those that wait
 abbrev pub pending : DeskView → List PendingRequest
 pending d = d.taken ++ d.waiting
 
@@ -78,6 +79,7 @@ requests_taken d = d.next - d.first - length d.waiting
 
 -- ---- asked requests
 
+-- its process had no copy to guess from, and waits for the reply
 abbrev pub is_asked : PendingRequest → Bool
 is_asked q = is_none q.guess
 
@@ -142,6 +144,7 @@ abbrev pub rule_of : DeskView → ℕ → Result Next Refusal → Result Rule Re
 rule_of d pid (Err why) = Err why
 rule_of d pid (Ok next) = if asks_for pid (pending d) then Err Blocked else rule_next d pid next
 
+-- what a turn of a process does, or why it is refused
 abbrev pub rule : DeskView → ℕ → Result Rule Refusal
 rule d pid = rule_of d pid (next_at d.kernel pid)
 
@@ -153,6 +156,7 @@ no_place d places = if nat_lt (room d.kernel - asked_count (pending d)) places t
 abbrev pub no_number : DeskView → Option Refusal
 no_number d = if nat_lt LAST_REQUEST d.next then Some TooMany else None
 
+-- a step of a process with an input, which is a guess's own where it has a number
 abbrev pub entry : ℕ → Input → Option ℕ → EntryView
 entry pid input guess = record { pid = pid; input = input; guess = guess }
 
@@ -205,10 +209,12 @@ turn_answer d (rules.Asks ask) = turns.Asked d.next
 abbrev pub sent : PendingRequest → Request
 sent q = record { number = q.number; rests = q.rests; settled = q.settled; guess = q.guess; ask = q.ask }
 
+-- the oldest of these requests, as the server sees it
 abbrev pub first_sent : List PendingRequest → Option Request
 first_sent [] = None
 first_sent (q ∷ qs) = Some (sent q)
 
+-- a desk once the oldest of the requests that wait was handed out
 abbrev pub first_taken : DeskView → List PendingRequest → DeskView
 first_taken d [] = d
 first_taken d (q ∷ qs) = record d { taken = d.taken ++ q ∷ []; waiting = qs }

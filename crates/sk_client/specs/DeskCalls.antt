@@ -26,6 +26,7 @@ abbrev pub ByRule : Result Turn Refusal → DeskView → ℕ → DeskView → Re
 ByRule result old pid new (Ok rule) = RulePost result old pid rule new
 ByRule result old pid new (Err why) = (result ≡ Err why) × (new ≡ old)
 
+-- what a turn answers and leaves, by the rule; refused, all is as it was
 abbrev pub TurnPost : Result Turn Refusal → DeskView → ℕ → DeskView → Type 0
 TurnPost result old pid new = ByRule result old pid new (rule old pid)
 

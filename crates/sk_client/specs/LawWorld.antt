@@ -83,6 +83,7 @@ unanswered [] rs = []
 
 -- ---- what was served: each request with its reply, in the server's order
 
+-- requests, each with its reply, in the server's order
 abbrev pub Exchanges : Type 0
 Exchanges = List (Sent × Reply)
 
@@ -295,6 +296,7 @@ abbrev pub written_by : Result WorldAnswer Cause → WorldView → WorldEvent �
 written_by answer w (events.Edit name expected bytes) = edit_of answer name expected bytes
 written_by answer w e = stores_of (exchanged answer w e)
 
+-- what a list of events writes at the server, in order: edits, and stores that it accepts
 abbrev pub writes_of : (w : WorldView) (es : List WorldEvent) (served : Exchanges) (last : WorldView) → Leads w es served last → List Write
 writes_of w [] served last h = []
 writes_of w (e ∷ es) served last h = written_by h.0 w e ++ writes_of h.1 es h.2 last h.4

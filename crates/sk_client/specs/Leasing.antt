@@ -16,6 +16,7 @@ abbrev pub unless_asked : DeskView → ℕ → Result LeaseView Refusal → Resu
 unless_asked d pid (Ok l) = if asks_for pid (pending d) then Err refusals.Blocked else Ok l
 unless_asked d pid (Err why) = Err why
 
+-- the lease of a process, or why there is none: as of its kernel, and `Blocked` where it waits for a reply
 abbrev pub desk_lease : DeskView → ℕ → Result LeaseView Refusal
 desk_lease d pid = unless_asked d pid (lease_of (map.get (state_at d.kernel)) d.kernel.scripts pid)
 
@@ -41,6 +42,7 @@ DeskTakesIn (Err Stale) l old new = (IsAsLent old.kernel l → ⊥) × (new ≡ 
 DeskTakesIn (Err TraceFull) l old new = IsAsLent old.kernel l × (places old < l.count) × (new ≡ old)
 DeskTakesIn (Err Memory) l old new = IsAsLent old.kernel l × (l.count ≤ places old) × (0 < l.count) × (new ≡ old)
 
+-- what a hand-in answers and leaves; refused, the very lease comes back and all is as it was
 abbrev pub DeskHandInPost : Result (Unit {0}) (LeaseView × HandIn) → LeaseView → DeskView → DeskView → Type 0
 DeskHandInPost (Ok u) l old new = DeskTakesIn (Ok u) l old new
 DeskHandInPost (Err back) l old new = (back.0 ≡ l) × DeskTakesIn (Err back.1) l old new

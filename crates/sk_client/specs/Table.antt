@@ -95,5 +95,6 @@ bare n = record { pid = n.process; input = input_of n.input; guess = n.guess }
 abbrev pub HasNumber : BootProcess → Type 0
 HasNumber p = (0 < p.number) × (p.number < 65536)
 
+-- each process of a boot has a number of 16 bits, from 1 on
 abbrev pub IsNumbered : BootView → Type 0
 IsNumbered boot = All HasNumber boot.processes

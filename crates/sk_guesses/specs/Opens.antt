@@ -33,12 +33,15 @@ without_list g (o ∷ os) = if o.id == g then record o { dependents = [] } ∷ o
 
 -- ---- what calls make of one of them
 
+-- an open guess, on whose list the entity is where the guess is among these tags
 abbrev pub depending : List ℕ → Entity → OpenGuess → OpenGuess
 depending tags e o = if has o.id tags then record o { dependents = with_entity o.dependents e } else o
 
+-- an open guess, on whose list the entity is no more where the guess is among these tags
 abbrev pub relieved : List ℕ → Entity → OpenGuess → OpenGuess
 relieved tags e o = if has o.id tags then record o { dependents = without_entity o.dependents e } else o
 
+-- an open guess, on whose list the entity is no more where the guess is not among these tags
 abbrev pub left_to : List ℕ → Entity → OpenGuess → OpenGuess
 left_to tags e o = if has o.id tags then o else record o { dependents = without_entity o.dependents e }
 

@@ -20,7 +20,7 @@ use Rattle.sk_record.proofs.Sound.{is_mark, is_commit, is_fail, draws, in_entrie
 use Rattle.sk_record.proofs.Statuses.{status_by, status_of, status_is}
 use Rattle.sk_record.proofs.Epoch.{next_epoch, either_is}
 use Rattle.sk_record.proofs.Tidy.{recorded_more, tags_are as tags_from}
-use Rattle.sk_record.proofs.Headline.{machine_stands, plain_run}
+use Rattle.sk_record.proofs.MachineRuns.{machine_stands, plain_run}
 use Rattle.sk_record.specs.Machine.{machine_after}
 use Rattle.sk_kernel.proofs.Numbers.{number_or, last_after, last_is_greatest}
 

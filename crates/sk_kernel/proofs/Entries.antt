@@ -10,7 +10,7 @@ use Rattle.sk_record.specs.Notes.{noted}
 use Rattle.sk_record.specs.Trace.{Event, Taken, record_after, record_of}
 use Rattle.sk_record.specs.Machine.{Machine, machine_after}
 use Rattle.sk_record.specs.Merged.{MergedStands, HandsIn, alone_tags, with_value}
-use Rattle.sk_record.proofs.Headline.{machine_stands}
+use Rattle.sk_record.proofs.MachineRuns.{machine_stands}
 use Rattle.sk_record.proofs.Merged.{all_kept, merged_run}
 use Rattle.sk_ids.specs.Entity.{entity_cmp}
 use Rattle.sk_ids.specs.declared.entity.Entity.{Entity}

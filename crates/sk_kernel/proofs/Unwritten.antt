@@ -19,7 +19,7 @@ use Rattle.sk_record.specs.Machine.{Machine, RepresentsTrace, took_by, machine_a
 use Rattle.sk_record.proofs.Chains.{in_from}
 use Rattle.sk_record.proofs.Machine.{has_filter}
 use Rattle.sk_record.proofs.UndoStates.{tidy_clean}
-use Rattle.sk_record.proofs.Headline.{same_outcome, stands_taken, machine_stands, plain_run}
+use Rattle.sk_record.proofs.MachineRuns.{same_outcome, stands_taken, machine_stands, plain_run}
 use Rattle.sk_record.proofs.Sound.{sound_fail}
 use Rattle.sk_record.proofs.Tidy.{tags_are, tidy_of}
 use Rattle.sk_record.proofs.Values.{written_other}

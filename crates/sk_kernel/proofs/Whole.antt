@@ -20,7 +20,7 @@ use Rattle.sk_record.specs.declared.status.Status.{Status}
 use Rattle.sk_record.specs.declared.status.Status.TheVariants.{Undecided}
 use Rattle.sk_record.specs.Machine.{IsPlainRun, RepresentsTrace, Fails, released}
 use Rattle.sk_record.specs.Merged.{MergedStands, MergedTakes, MergedCommits}
-use Rattle.sk_record.proofs.Headline as headline
+use Rattle.sk_record.proofs.MachineRuns as machine_runs
 use Rattle.sk_record.proofs.Merged as merged
 use Rattle.sk_record.proofs.Sound.{entries_are}
 use Rattle.sk_record.proofs.Statuses.{one_status}
@@ -192,7 +192,7 @@ module _ (k : KernelView) (m : Parts) (stands : Stands k m) where
   -- an open guess is undecided, and an undecided one is open
   pub open_undecided : (g : ℕ) → (has g (numbers m.opens) ≡ true) ↔ (status_since m.guesses g ≡ Some Undecided)
   open_undecided g =
-      let open_is = subst (λ (os : List Open). (has g (numbers os) ≡ true) ↔ StatusIs (plain k.scripts) k.start (events_of k) g Undecided) (sym stands.trace.merged.opens) (headline.open_is (plain k.scripts) entity_total entity_exact k.start (events_of k) stands.trace.full stands.trace.stands g) in
+      let open_is = subst (λ (os : List Open). (has g (numbers os) ≡ true) ↔ StatusIs (plain k.scripts) k.start (events_of k) g Undecided) (sym stands.trace.merged.opens) (machine_runs.open_is (plain k.scripts) entity_total entity_exact k.start (events_of k) stands.trace.full stands.trace.stands g) in
       ((λ here. (since_is g Undecided).1 (open_is.0 here)), λ is. open_is.1 ((since_is g Undecided).0 is))
 
   pub undecided_counted : undecided_count m.guesses.statuses ≡ length (undecided_at k)
@@ -226,7 +226,7 @@ module _ (k : KernelView) (m : Parts) (stands : Stands k m) where
   pub same_effect : (n : EntryView) → perform (look_at m.slots) (act k.scripts n.pid n.input) ≡ effect_at k n
   same_effect n =
       (λ i. perform (λ e. stands.trace.merged.look e i) (act k.scripts n.pid n.input))
-      ∙ headline.same_outcome (plain k.scripts) entity_total entity_exact k.start (events_of k) stands.trace.full stands.trace.stands n
+      ∙ machine_runs.same_outcome (plain k.scripts) entity_total entity_exact k.start (events_of k) stands.trace.full stands.trace.stands n
 
   -- the list of a guess has just the entities that rest on it
   pub dependents_are : (id : ℕ) (es : List Entity) → (has id (numbers m.opens) ≡ true → (e : Entity) → is_in entity_cmp es e ≡ has id (tags_in (undo_state_of m) e)) → (has id (numbers m.opens) ≡ false → es ≡ [])
@@ -382,7 +382,7 @@ booted_whole number limit place boot m at =
     let none : length m.opens ≡ 0 = ap length at.opens in
     record {
       stands = record {
-        trace = subst (λ x. MergedStands (plain boot.scripts) (start_of boot) [] x) (sym (started boot.scripts (start_of boot) number m at)) (none_merged boot _ (headline.stands_first (plain boot.scripts) entity_total entity_exact (start_of boot)));
+        trace = subst (λ x. MergedStands (plain boot.scripts) (start_of boot) [] x) (sym (started boot.scripts (start_of boot) number m at)) (none_merged boot _ (machine_runs.stands_first (plain boot.scripts) entity_total entity_exact (start_of boot)));
         earlier = ap (λ v. v.earlier) at.guesses;
         decided = λ g is. (let none : None ≡ Some Undecided = sym (nothing_in g) ∙ is in cc);
       };

@@ -41,6 +41,7 @@ use Rattle.sk_plain.specs.Replay.{image}
 use Rattle.sk_plain.specs.declared.refusal.Refusal.{Refusal}
 use Rattle.sk_plain.specs.declared.refusal.Refusal.TheVariants.{NoProcess, Ended, Mismatch, NoRoom, TooMany, TraceFull}
 
+-- a kernel as contracts see it
 pub record KernelView : Type 0 where
   pub number : ℕ
   -- what it was booted with
@@ -121,6 +122,7 @@ number_after last (events.Fail id) = last
 abbrev pub last_guess : KernelView → ℕ
 last_guess k = fold number_after (length k.earlier) k.trace
 
+-- the number that the next guess draws
 abbrev pub next_guess : KernelView → ℕ
 next_guess k = last_guess k + 1
 
@@ -130,6 +132,7 @@ settled k = get_or (undecided_at k) 0 (next_guess k)
 
 -- ---- why a step is refused: the first cause, want of memory aside
 
+-- the first cause, or the later one where there is none
 abbrev pub or_else : Option Refusal → Option Refusal → Option Refusal
 or_else (Some why) later = Some why
 or_else None later = later
@@ -174,6 +177,7 @@ trace_full k places = if nat_lt (room k) places then Some TraceFull else None
 abbrev pub step_misfit : KernelView → EntryView → Option Refusal
 step_misfit k n = or_else (refusal_of (effect_at k n)) (no_room (state_at k) (effect_at k n))
 
+-- why a step is refused, want of memory aside
 abbrev pub step_refused : KernelView → EntryView → Option Refusal
 step_refused k n = or_else (step_misfit k n) (trace_full k 1)
 
@@ -183,6 +187,7 @@ misfit (Err NoProcess) = NoProcess
 misfit (Err Ended) = Ended
 misfit _ = Mismatch
 
+-- why a guess with such an input is refused, the limits of the kernel aside
 abbrev pub guess_misfits : Input → Result (Effect Entity EntityState Saying) Refusal → Option Refusal
 guess_misfits inputs.None does = Some (misfit does)
 guess_misfits inputs.Good does = refusal_of does
@@ -193,10 +198,12 @@ guess_misfits (inputs.Stale content) does = refusal_of does
 abbrev pub too_many : KernelView → Option Refusal
 too_many k = if nat_le GUESS_LIMIT (length (undecided_at k)) || nat_lt LAST_GUESS (next_guess k) then Some TooMany else None
 
+-- why a guess is refused, want of memory aside
 abbrev pub guess_refused : KernelView → EntryView → Option Refusal
 guess_refused k n = or_else (guess_misfits n.input (effect_at k n)) (or_else (too_many k) (trace_full k 2))
 
 -- ---- what a call leaves
 
+-- the kernel with one event more on its trace
 abbrev pub with_event : KernelView → Event → KernelView
 with_event k e = record k { trace = k.trace ++ e ∷ [] }

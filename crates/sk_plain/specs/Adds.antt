@@ -38,6 +38,7 @@ adds_beside beside.Nothing = None
 adds_beside (beside.One e w) = directory_of e
 adds_beside (beside.Gone e) = None
 
+-- the directory of the name that a plan writes, if it writes one
 abbrev pub adds_of : Plan → Option ObjId
 adds_of Private = None
 adds_of Speaks = None

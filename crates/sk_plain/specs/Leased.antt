@@ -22,6 +22,7 @@ abbrev pub lent_at : Scripts → Option EntityState → Result LeaseView Refusal
 lent_at scripts (Some (stored.Process p)) = if p.ended then Err Ended else Ok (leased p (script_at scripts p.script))
 lent_at scripts _ = Err NoProcess
 
+-- the lease of a process, by what each entity has, or why there is none
 abbrev pub lease_of : (Entity → Option EntityState) → Scripts → ℕ → Result LeaseView Refusal
 lease_of look scripts pid = lent_at scripts (look (Proc pid))
 

@@ -61,6 +61,7 @@ said_in p (One e becomes) = None
 said_in p (Birth c) = None
 said_in p (Gone e) = None
 
+-- the text that a plan says, and for which terminal, if it says one
 abbrev pub said_by : PlanView → Option Saying
 said_by plan = said_in plan.process plan.beside
 

@@ -83,6 +83,7 @@ CanChange p (Fills from count n) = (p.place + 1 < 2 ^ 32) × (number_of n [] < 2
 
 -- ---- what is looked at and written
 
+-- what a plan looks at, as entities
 abbrev pub looked : Looks → LooksView
 looked looks.Nowhere = Nowhere
 looked (looks.At e) = At e
@@ -166,6 +167,7 @@ HasContent inputs.Good = ⊥
 abbrev pub forked_by : Process → ℕ → ℕ → Process
 forked_by p r child = record p { place = p.place + 1; children = p.children + 1; registers = slice_set p.registers r (vals.Who child) }
 
+-- what a plan looks at beside its process
 abbrev pub looks_of : Plan → Looks
 looks_of Private = looks.Nowhere
 looks_of Speaks = looks.Nowhere

@@ -9,13 +9,13 @@ use Rattle.sk_record.specs.Strike.{struck, strike}
 use Rattle.sk_record.specs.Trace.{Commit, Fail, record_of, effects_of, all_recorded, no_record, undecided_of}
 use Rattle.sk_record.specs.UndoState.{log_of}
 use Rattle.sk_record.specs.Machine.{Machine, machine_after, machine_at_start, moved}
-use Rattle.sk_record.specs.Laws.{StruckWithin, OneStatus, UndecidedAre, Survivors, TagsAlong, LogsAreRuns, NotesAreSuffix, UnwindsToStruckRun, CommitKeeps, StaysReleased, Headline}
+use Rattle.sk_record.specs.Laws.{StruckWithin, OneStatus, UndecidedAre, Survivors, TagsAlong, LogsAreRuns, NotesAreSuffix, UnwindsToStruckRun, CommitKeeps, StaysReleased, MachineIsPlainRun}
 use Rattle.sk_record.proofs.Chains.{slice_get-keep}
 use Rattle.sk_record.proofs.Machine.{unwound_run, cut_run}
 use Rattle.sk_record.proofs.UndoStates.{inv_of}
 use Rattle.sk_record.proofs.Tidy.{grows_of, recorded_more}
 use Rattle.sk_record.proofs.Sound.{entries_are, record_more, sound_before, sound_commit, undecided_is}
-use Rattle.sk_record.proofs.Headline as machine
+use Rattle.sk_record.proofs.MachineRuns as machine
 use Rattle.sk_record.proofs.Tags.{carried_split, cut_none}
 use Rattle.sk_record.proofs.Kept as kept
 use Rattle.sk_record.proofs.Statuses as status
@@ -80,5 +80,5 @@ module _ {E V W F N : Type 0} (K : System E V W F N) (total : IsTotalOrder K.ord
   pub stays_released : StaysReleased K
   stays_released start es later t before after sound a b = stays.stays_released K start total exact es later sound t before after a b
 
-  pub headline : Headline K
-  headline start es sound = machine.headline K total exact start es sound
+  pub machine_is_plain_run : MachineIsPlainRun K
+  machine_is_plain_run start es sound = machine.machine_is_plain_run K total exact start es sound

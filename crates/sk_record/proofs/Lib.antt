@@ -16,7 +16,7 @@ pub mod Undecided
 pub mod Texts
 pub mod Released
 pub mod Rising
-pub mod Headline
+pub mod MachineRuns
 pub mod Kept
 pub mod Stays
 pub mod Laws

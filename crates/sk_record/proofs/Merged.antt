@@ -18,7 +18,7 @@ use Rattle.sk_record.specs.Release.{IsReleased}
 use Rattle.sk_record.specs.Merged.{Merges, IsMergedOf, MergedTakes, MergedCommits, MergedStands}
 use Rattle.sk_record.proofs.UndoStates.{and_both}
 use Rattle.sk_record.proofs.Tidy.{AllSome, noted_some}
-use Rattle.sk_record.proofs.Headline as whole
+use Rattle.sk_record.proofs.MachineRuns as whole
 
 module _ {V : Type 0} where
   -- ---- building

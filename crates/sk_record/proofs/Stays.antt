@@ -12,7 +12,7 @@ use Rattle.sk_record.specs.Release.{IsClear, IsReleased, IsFront}
 use Rattle.sk_record.specs.Machine.{Machine, Tagged, released, released_if, lightened, not_dropped, moved, took_by, machine_after, machine_at_start}
 use Rattle.sk_record.proofs.Machine.{nil_right}
 use Rattle.sk_record.proofs.Sound.{sound_before, tail_of, first_or}
-use Rattle.sk_record.proofs.Headline.{headline}
+use Rattle.sk_record.proofs.MachineRuns.{machine_is_plain_run}
 
 front_same : {A : Type 0} (xs : List A) → IsFront xs xs
 front_same xs = ([], sym (nil_right xs))
@@ -90,8 +90,8 @@ module _ {E V W F N : Type 0} (K : System E V W F N) (start : FinMap K.order V) 
       → IsReleased K start es t ws → IsReleased K start (es ++ more) t vs → IsFront ws vs
   stays_released total exact es more sound t ws vs a b =
       let m = machine_after K start es in
-      let was : ws ≡ released (m.texts t) = one_release es t ws _ a ((headline K total exact start es (sound_before K start es more sound)).releases t) in
-      let is : vs ≡ released ((machine_after K start (es ++ more)).texts t) = one_release (es ++ more) t vs _ b ((headline K total exact start (es ++ more) sound).releases t) in
+      let was : ws ≡ released (m.texts t) = one_release es t ws _ a ((machine_is_plain_run K total exact start es (sound_before K start es more sound)).releases t) in
+      let is : vs ≡ released ((machine_after K start (es ++ more)).texts t) = one_release (es ++ more) t vs _ b ((machine_is_plain_run K total exact start (es ++ more) sound).releases t) in
       let grows = more_events K m more t in (
         grows.0,
         is

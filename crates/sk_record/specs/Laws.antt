@@ -138,5 +138,5 @@ module _ {E V W F N : Type 0} (K : System E V W F N) where
       → IsReleased K start es t before → IsReleased K start (es ++ later) t after → IsFront before after
 
   -- after every sound trace the machine, which runs no step again, is what the plain kernel makes of the trace's record
-  abbrev pub Headline : Type 0
-  Headline = (start : FinMap K.order V) (es : List (Event N)) → IsSound K start es → IsPlainRun K start es (machine_after K start es)
+  abbrev pub MachineIsPlainRun : Type 0
+  MachineIsPlainRun = (start : FinMap K.order V) (es : List (Event N)) → IsSound K start es → IsPlainRun K start es (machine_after K start es)

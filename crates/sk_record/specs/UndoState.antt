@@ -18,6 +18,7 @@ pub record UndoState (E V : Type 0) : Type 0 where
   pub logs : E → List (Note V)
   pub opens : List Open
 
+-- the numbers of open guesses, in their order
 abbrev pub numbers : List Open → List ℕ
 numbers os = map (λ o. o.0) os
 

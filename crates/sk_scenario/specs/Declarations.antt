@@ -38,6 +38,7 @@ declared_code =
     (λ d. (d.boot, (d.remotes, (d.limit, d.number))))
     (λ p. record { boot = p.0; remotes = p.1.0; limit = p.1.1.0; number = p.1.1.1 }) (λ _. refl)
 
+-- what is declared before the first line: nothing
 abbrev pub nothing_declared : Declared
 nothing_declared =
     record { boot = record { scripts = map.empty; objects = []; copies = []; processes = [] }; remotes = []; limit = None; number = None }
@@ -133,6 +134,7 @@ declared_next d word ws = declares d word ws >>= λ e. Ok (says.Declared, e)
 unfoldable pub says_next : Declared → List ℕ → Rule (Said × Declared)
 says_next d word ws = rule_in (line_rules d) (declared_next d word) word ws
 
+-- what a line says, and what is declared behind it; a line that is ignored declares nothing
 abbrev pub line_said : Declared → Option (List ℕ × List (List ℕ)) → Result (Said × Declared) FaultKind
 line_said d None = Ok (says.Declared, d)
 line_said d (Some x) = says_next d x.0 x.1

@@ -58,15 +58,19 @@ pub record IsBoot (b : BootView) : Type 0 where
 
 -- ---- what is there after a declaration
 
+-- one script more is declared
 abbrev pub with_script : BootView → List ℕ → List Instruction → BootView
 with_script b name script = record b { scripts = map.insert b.scripts name script }
 
+-- one boot object more is declared, behind those before it
 abbrev pub with_object : BootView → List ℕ → ObjectKind → List ℕ → BootView
 with_object b name kind bytes = record b { objects = b.objects ++ record { name = name; kind = kind; bytes = bytes } ∷ [] }
 
+-- one copy more is declared, behind those before it
 abbrev pub with_copy : BootView → List ℕ → ContentView → BootView
 with_copy b name content = record b { copies = b.copies ++ (name, content) ∷ [] }
 
+-- one process more is declared, behind those before it
 abbrev pub with_process : BootView → ℕ → List ℕ → ℕ → BootView
 with_process b number script terminal = record b { processes = b.processes ++ record { number = number; script = script; terminal = terminal } ∷ [] }
 
@@ -75,12 +79,15 @@ with_process b number script terminal = record b { processes = b.processes ++ re
 abbrev pub duplicate_if : Bool → Option BootFault
 duplicate_if taken = if taken then Some Duplicate else None
 
+-- what stands against a script of this name
 abbrev pub script_fault : BootView → List ℕ → Option BootFault
 script_fault b name = duplicate_if (has_script b name)
 
+-- what stands against a boot object of this name
 abbrev pub object_fault : BootView → List ℕ → Option BootFault
 object_fault b name = duplicate_if (has_object b name)
 
+-- what stands against a copy of this name
 abbrev pub copy_fault : BootView → List ℕ → Option BootFault
 copy_fault b name = duplicate_if (has_copy b name)
 

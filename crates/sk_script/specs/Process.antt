@@ -13,6 +13,7 @@ root = record { maker = None; count = 1 }
 abbrev pub first_registers : List Val
 first_registers = slice_set (replicate 8 (Num (pos 0))) 7 (Obj root)
 
+-- a process of a boot before its first step
 abbrev pub beginning : ℕ → List ℕ → ℕ → Process
 beginning pid script terminal = record {
   pid = pid;

@@ -15,6 +15,7 @@ use Rattle.sk_words.specs.Tables.{Rule, rule_in, by_first}
 abbrev pub content_of : ℕ × List ℕ → ContentView
 content_of x = record { version = x.0; bytes = x.1 }
 
+-- the content that words say: a version and a literal
 unfoldable pub content : Rule ContentView
 content ws = two_of natural literal ws >>= λ x. Ok (content_of x)
 
@@ -33,6 +34,7 @@ no_input (v ∷ []) = kinds.Word
 no_input (v ∷ w ∷ []) = kinds.Operand
 no_input (v ∷ w ∷ u ∷ ws) = kinds.Word
 
+-- the input that words say, or their fault
 unfoldable pub input : Rule Input
 input ws = by_first (rule_in input_rules (λ vs. Err (no_input vs))) ws
 

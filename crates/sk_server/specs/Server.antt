@@ -12,6 +12,7 @@ use Rattle.sk_server.specs.declared.request.Request.{Request}
 use Rattle.sk_server.specs.declared.reply.Answer.{Answer}
 use Rattle.sk_server.specs.declared.reply.Answer.TheVariants.{Yes, No, Copy, Dropped}
 
+-- a server as contracts see it: its files, the number of the request that is next, and the refused guesses that it remembers
 pub record ServerView : Type 0 where
   pub files : FileMap
   pub next : ℕ

@@ -12,6 +12,7 @@ module _ {T : Type 0} where
   abbrev pub sender : ℕ → PassView T
   sender first = known true false first [] []
 
+  -- the receiving pass of a new wire
   abbrev pub receiver : ℕ → PassView T
   receiver first = known false true first [] []
 

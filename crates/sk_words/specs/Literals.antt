@@ -46,6 +46,7 @@ abbrev pub at_most_512 : Result (List ℕ) FaultKind → Result (List ℕ) Fault
 at_most_512 (Ok t) = if nat_lt 512 (length t) then wrong else Ok t
 at_most_512 (Err e) = wrong
 
+-- the text that a literal says, of at most 512 bytes, or its fault
 abbrev pub literal : List ℕ → Result (List ℕ) FaultKind
 literal [] = wrong
 literal (b ∷ bs) = if b == 34 then at_most_512 (text_from Plain bs) else wrong

@@ -21,15 +21,18 @@ abbrev pub next_word : List (List ℕ) → Result (List ℕ × List (List ℕ)) 
 next_word [] = Err kinds.Word
 next_word (w ∷ ws) = Ok (w, ws)
 
+-- no word is left; else there are too many
 abbrev pub no_more : List (List ℕ) → Result (Unit {0}) FaultKind
 no_more [] = Ok tt
 no_more (w ∷ ws) = Err kinds.Word
 
+-- there is no operand
 unfoldable pub none_of : List (List ℕ) → Result (Unit {0}) FaultKind
 none_of ws = do
   cs ← closed ws
   no_more cs
 
+-- one operand, read so
 unfoldable pub one_of : {A : Type 0} → (List ℕ → Result A FaultKind) → List (List ℕ) → Result A FaultKind
 one_of a ws = do
   cs ← closed ws
@@ -52,12 +55,14 @@ the_two ws = do
   end ← no_more w.1
   Ok (v.0, w.0)
 
+-- two operands, each read so, or their first fault
 unfoldable pub two_of : {A B : Type 0} → (List ℕ → Result A FaultKind) → (List ℕ → Result B FaultKind) → List (List ℕ) → Result (A × B) FaultKind
 two_of a b ws = do
   cs ← closed ws
   p ← the_two cs
   both a b p.0 p.1
 
+-- three operands, each read so, or their first fault
 unfoldable pub three_of : {A B C : Type 0} → (List ℕ → Result A FaultKind) → (List ℕ → Result B FaultKind) → (List ℕ → Result C FaultKind) → List (List ℕ) → Result (A × B × C) FaultKind
 three_of a b c ws = do
   cs ← closed ws

@@ -21,6 +21,7 @@ words_from Literal (b ∷ bs) = onto_first b (if b == 34 then words_from Word bs
 words_from Escape [] = [] ∷ []
 words_from Escape (b ∷ bs) = onto_first b (words_from Literal bs)
 
+-- the words of a line; a literal is one word
 abbrev pub words : List ℕ → List (List ℕ)
 words line = words_from Between line
 
@@ -34,6 +35,7 @@ is_open_from Literal (b ∷ bs) = if b == 34 then false else if b == 92 then is_
 is_open_from Escape [] = true
 is_open_from Escape (b ∷ bs) = is_open_from Literal bs
 
+-- a word has a literal without its closing quote
 abbrev pub is_open : List ℕ → Bool
 is_open word = is_open_from Between word
 

@@ -54,6 +54,7 @@ AreDistinct ws = (i j : ℕ) (v w : WorkerView) → slice_get ws i ≡ Some v �
 abbrev pub next_turn : ℕ → ℕ
 next_turn turns = if nat_lt (turns + 1) (2 ^ 64) then turns + 1 else turns
 
+-- a worker that has begun one turn more
 abbrev pub begins_turn : WorkerView → WorkerView
 begins_turn w = record w { turns = next_turn w.turns }
 

@@ -34,6 +34,7 @@ abbrev pub with_reply : Reply → Result Given ReplyRefusal → Result Given (Re
 with_reply reply (Ok given) = Ok given
 with_reply reply (Err why) = Err (reply, why)
 
+-- the answer to a reply, without the reply that comes back where it is refused
 abbrev pub without_reply : Result Given (Reply × ReplyRefusal) → Result Given ReplyRefusal
 without_reply (Ok given) = Ok given
 without_reply (Err back) = Err back.1

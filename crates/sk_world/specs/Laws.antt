@@ -161,6 +161,7 @@ module _ {E V W F P M D : Type 0} (S : Table E V W F P M D) where
       pub fit : AllFit S.same_name S.last first.server.files (map (λ c. c.0) w.changes)
       pub stores : stores_of w.changes ≡ accepted_of (served w)
 
+    -- after any list of events the server's files are those after the edits and just the stores that it accepted
     abbrev pub FilesAreChanged : Type 0
     FilesAreChanged =
         (first : World P M D) → IsFirst first → (es : List (WorldEvent P M D))
@@ -218,6 +219,7 @@ module _ {E V W F P M D : Type 0} (S : Table E V W F P M D) where
           (i j : ℕ) (x y : Served P M D) → slice_get w.given i ≡ Some x → slice_get w.given j ≡ Some y
           → x.0.number ≡ y.0.number → i ≡ j
 
+    -- after any list of events there is one step that counts for each accepted request whose reply was given, and no other
     abbrev pub StoresAreReplied : Type 0
     StoresAreReplied =
         (first : World P M D) → IsFirst first → (es : List (WorldEvent P M D))

@@ -133,6 +133,7 @@ module _ {P M D : Type 0} where
   with_given w x rest = record w { taken = rest; given = w.given ++ x ∷ [] }
 
 module _ {E V W F P M D : Type 0} (S : Table E V W F P M D) where
+  -- the system of a table: entries are steps of processes with their inputs, and those of guesses are marked
   abbrev pub kernel : System E V W F (Entry P M D)
   kernel = record { order = S.order; act = λ n. S.act n.process n.input; mark = λ n. n.guess; goes_to = S.goes_to }
 

@@ -126,5 +126,5 @@ module _ {E V W F N : Type 0} (K : System E V W F N) (total : IsTotalOrder K.ord
   machine_stands = each_event K start (λ es. RepresentsTrace K start es (machine_after K start es)) stands_first
       (λ es e sound s. subst (RepresentsTrace K start (es ++ e ∷ [])) (sym (fold-append (moved K) (machine_at_start K start) es (e ∷ []))) (moves es e sound (machine_after K start es) s))
 
-  pub headline : (es : List (Event N)) → IsSound K start es → IsPlainRun K start es (machine_after K start es)
-  headline es sound = plain_run es (machine_after K start es) (machine_stands es sound)
+  pub machine_is_plain_run : (es : List (Event N)) → IsSound K start es → IsPlainRun K start es (machine_after K start es)
+  machine_is_plain_run es sound = plain_run es (machine_after K start es) (machine_stands es sound)

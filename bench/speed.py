@@ -292,6 +292,40 @@ def long_rows(meter):
     yield "the same, peak memory in kilobytes", meter.peak(guessed), meter.peak(plain), UNDER_A_GUESS
 
 
+TABLE_EVENTS = 20_000
+
+
+def table():
+    """The kinds of runs of which the whole program is measured: a scenario of so many events, and the most instructions that
+    an event may take."""
+    private = lambda count: scenario(looping(["set r0 1"], 64), ["step 1 none"] * count)
+    lead = ["look r1 r7 f", "set r2 0", 'text "abcdefgh"']
+    file = lambda count: scenario(lead + looping(["write r1 r2", "read r1 r2"], 32), ["step 1 none"] * count, objects=FILES)
+    body = looping(["fetch /x", "set r0 1", "set r0 2"], 32)
+    guess = lambda count: scenario(body, [line for number in range(1, count // 4 + 1) for line in ("guess 1 good", "step 1 none", "step 1 none", f"commit {number}")])
+    turns = ["turn 1"] * 4 + ["serve"] * 2 + ["reply"] * 2
+    world = lambda count: "\n".join(script("first", looping(["fetch /x", "set r0 1"], 32)) + ['copy /x 3 "old"', 'remote /x 3 "old"', "process 1 first 1", "world"] + turns * (count // 8)) + "\n"
+    return [
+        ("private steps", private, 1_300),
+        ("writes and reads of 8 bytes of a file", file, 1_900),
+        ("guess, two steps, commit", guess, 2_000),
+        ("a world: four turns, two serves, two replies", world, 2_600),
+    ]
+
+
+def table_rows(meter):
+    """An event of the whole program, with its part of reading, printing and the start; and the memory that it keeps."""
+    for name, make, limit in table():
+        yield f"{name}: an event / its limit", meter.run("play", make(TABLE_EVENTS)) / TABLE_EVENTS, limit, 1
+    # So many that the peak is the program's own, above that of this script, from which it is started.
+    many = 400_000
+    private = looping(["set r0 1"], 64)
+    plain = scenario(private, ["step 1 none"] * many)
+    under = scenario(["fetch /x"] + private, ["step 1 none"] * many, before=["guess 1 good"])
+    yield "private steps: peak bytes an event / their limit", meter.peak(plain) * 1024 / many, 130, 1
+    yield "the same under one guess", meter.peak(under) * 1024 / many, 130, 1
+
+
 BLOCK = "b" * 512
 
 
@@ -362,7 +396,7 @@ def main():
     unit = "microseconds" if words.seconds else "instructions"
     print(f"{'ratio':>7} {'limit':>6} {unit + ' left':>20} {'right':>14}  what")
     over = 0
-    for rows in (step_rows, long_rows, decision_rows, held_rows, nested_rows, text_rows, block_rows):
+    for rows in (table_rows, step_rows, long_rows, decision_rows, held_rows, nested_rows, text_rows, block_rows):
         if words.only and words.only not in rows.__name__:
             continue
         for name, left, right, limit in rows(meter):

@@ -1,3 +1,4 @@
+pub mod Written
 pub mod Decided
 pub mod Turns
 pub mod Replayed

@@ -3,6 +3,7 @@ ghost use Rattle.std.specs.Prelude.{Some, OnOk};
 ghost use Rattle.std.specs.Io.KnownBytes.{Appends};
 ghost use Rattle.sk_play.specs.Played.{answer_text, answer_line};
 
+use crate::line::{write_counted, write_words};
 use sk_ids::GuessId;
 use sk_plain::{PrintedRefusal, Refusal};
 use std::io::Write;
@@ -46,8 +47,9 @@ pub fn write_answer<W: Write>(number: usize, answer: &Answer, out: &mut W) -> io
     ensures { OnOk result (Appends (W.contents out.old) (W.contents out.new) (answer_line number answer.now)) }
 {
     match answer {
-        Answer::Stepped => write!(out, "{number} stepped\n"),
-        Answer::Done => write!(out, "{number} done\n"),
+        Answer::Stepped => write_words(number, b" stepped\n", out),
+        Answer::Guessed(id) => write_counted(number, b" guess ", id.number(), out),
+        Answer::Done => write_words(number, b" done\n", out),
         _ => writeln!(out, "{number} {answer}"),
     }
 }

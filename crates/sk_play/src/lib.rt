@@ -4,6 +4,7 @@
 
 pub mod ahead;
 pub mod answer;
+mod line;
 pub mod replaying;
 pub mod session;
 pub mod told;

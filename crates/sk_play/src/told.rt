@@ -2,10 +2,13 @@
 ghost use Rattle.std.specs.Prelude.{Some, OnOk};
 ghost use Rattle.std.specs.Io.KnownBytes.{Appends};
 ghost use Rattle.sk_play.specs.Told.{turn_text, reply_text, given_text, world_answer_text, told_text, told_line};
+ghost use Rattle.sk_client.specs.declared.world.WorldAnswer.TheVariants as answers;
+ghost use Rattle.sk_play.specs.declared.told.WorldTold.TheVariants as tells;
 
+use crate::line::{write_counted, write_words};
 use sk_client::{Given, Turn, WorldAnswer};
 use sk_plain::{PrintedRefusal, Refusal};
-use sk_server::Answer;
+use sk_server::{Answer, Reply};
 use std::io::Write;
 use std::{fmt, io};
 
@@ -123,9 +126,50 @@ impl fmt::Display for WorldTold {
     }
 }
 
+/// Writes what a turn did, in the line of its event.
+fn write_turn<W: Write>(number: usize, turn: &Turn, out: &mut W) -> io::Result<()>
+    ensures { OnOk result (Appends (W.contents out.old) (W.contents out.new) (told_line number (tells.Answered (answers.Turn turn.now)))) }
+{
+    match turn {
+        Turn::Stepped => write_words(number, b" stepped\n", out),
+        Turn::Guessed(id) => write_counted(number, b" guessed ", id.number(), out),
+        Turn::Asked(request) => write_counted(number, b" asked ", *request, out),
+    }
+}
+
+/// Writes what the server answered, in the line of its event: of a content its version.
+fn write_reply<W: Write>(number: usize, reply: &Reply, out: &mut W) -> io::Result<()>
+    ensures { OnOk result (Appends (W.contents out.old) (W.contents out.new) (told_line number (tells.Answered (answers.Served reply.now)))) }
+{
+    match &reply.answer {
+        Answer::Yes => write_words(number, b" yes\n", out),
+        Answer::No(content) => write_counted(number, b" no ", content.version(), out),
+        Answer::Copy(content) => write_counted(number, b" copy ", content.version(), out),
+        Answer::Dropped => write_words(number, b" dropped\n", out),
+    }
+}
+
+/// Writes what a reply did, in the line of its event.
+fn write_given<W: Write>(number: usize, given: &Given, out: &mut W) -> io::Result<()>
+    ensures { OnOk result (Appends (W.contents out.old) (W.contents out.new) (told_line number (tells.Answered (answers.Given given.now)))) }
+{
+    match given {
+        Given::Committed(id) => write_counted(number, b" committed ", id.number(), out),
+        Given::Failed(id) => write_counted(number, b" failed ", id.number(), out),
+        Given::Gone(id) => write_counted(number, b" gone ", id.number(), out),
+        Given::Taken(request) => write_counted(number, b" taken ", *request, out),
+        Given::Forgotten(request) => write_counted(number, b" forgotten ", *request, out),
+    }
+}
+
 /// Writes what is told of the event of this number.
 pub fn write_told<W: Write>(number: usize, told: &WorldTold, out: &mut W) -> io::Result<()>
     ensures { OnOk result (Appends (W.contents out.old) (W.contents out.new) (told_line number told.now)) }
 {
-    writeln!(out, "{number} {told}")
+    match told {
+        WorldTold::Answered(WorldAnswer::Turn(turn)) => write_turn(number, turn, out),
+        WorldTold::Answered(WorldAnswer::Served(reply)) => write_reply(number, reply, out),
+        WorldTold::Answered(WorldAnswer::Given(given)) => write_given(number, given, out),
+        _ => writeln!(out, "{number} {told}"),
+    }
 }

@@ -62,11 +62,21 @@ impl Files {
         }
     }
 
+    /// The version of a file, 0 where it was never stored.
+    pub(crate) fn version(&self, name: &Name) -> u64
+        ensures { result ≡ (file_of self.now name.now).version }
+    {
+        match self.get(name) {
+            Some(content) => content.version(),
+            None => 0,
+        }
+    }
+
     /// Whether a write that expects this version fits.
     pub(crate) fn is_fitting(&self, name: &Name, expected: u64) -> bool
         ensures { result ≡ is_fitting self.now name.now expected }
     {
-        self.content(name).version() == expected && expected < LAST_VERSION
+        self.version(name) == expected && expected < LAST_VERSION
     }
 
     /// The names by rising bytes.

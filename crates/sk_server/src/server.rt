@@ -127,7 +127,7 @@ impl Server {
         ensures { Edits self.old name expected bytes result self.new }
     {
         if !self.files.is_fitting(&name, expected) {
-            let actual = self.files.content(&name).version();
+            let actual = self.files.version(&name);
             return Err(EditRefusal::Version(actual));
         }
         match self.files.write(name, expected, bytes) {
@@ -157,11 +157,10 @@ impl Server {
         match ask {
             Ask::Get(name) => Answer::Copy(self.files.content(name)),
             Ask::Check(name, version) => {
-                let content = self.files.content(name);
-                if content.version() == *version {
+                if self.files.version(name) == *version {
                     return Answer::Yes;
                 }
-                Answer::No(content)
+                Answer::No(self.files.content(name))
             }
             Ask::Store(name, expected, _) => {
                 if self.files.is_fitting(name, *expected) {

@@ -5,3 +5,4 @@ pub mod Tags
 pub mod Listed
 pub mod Becomes
 pub mod Alone
+pub mod AsProcess

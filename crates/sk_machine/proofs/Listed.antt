@@ -50,6 +50,10 @@ exact_at tags g (o ∷ os) all here e =
       | false ↦ λ _ later. exact_at tags g os all.1 later e
     ] refl here
 
+pub no_length : {A : Type 0} (xs : List A) → length xs ≡ 0 → xs ≡ []
+no_length [] none = refl
+no_length (x ∷ xs) none = absurd (omega (arith, none))
+
 -- ---- one entity more rests on the tags of a step
 with_all : (i q b : Bool) → (cond i true b || q) ≡ cond (i || (q || false)) true b
 with_all true q b = refl
@@ -428,3 +432,9 @@ not_known m tidy g closed e =
       | true ↦ λ here. sym (tidy.known e g here) ∙ closed
       | false ↦ λ _. refl
     ] refl
+
+-- where no guess is open any set has those that something rests on
+pub none_covered : (m : Parts) → IsTidy (undo_state_of m) → m.opens ≡ [] → (tags : List ℕ) (es : List Entity) → Covers tags es (tags_in m.slots)
+none_covered m tidy none tags es = λ e g there rests.
+    let closed : has g (numbers m.opens) ≡ false = ap (λ os. has g (numbers os)) none in
+    absurd (true≢false (sym rests ∙ not_known m tidy g closed e))

@@ -19,8 +19,9 @@ use Rattle.sk_plain.specs.Planned.{read_by, written_by}
 use Rattle.sk_plain.specs.Plan.{PlanView}
 use Rattle.sk_plain.proofs.Scan.{asked, changed_are}
 use Rattle.sk_machine.specs.Parts.{Parts, undo_state_of, planned_effect, any_rests}
+use Rattle.sk_machine.proofs.Listed.{not_known}
 
-none_more : (b : Bool) → b ≡ (b || false)
+pub none_more : (b : Bool) → b ≡ (b || false)
 none_more true = refl
 none_more false = refl
 
@@ -52,6 +53,13 @@ module _ (m : Parts) (n : EntryView) (plan : PlanView) where
   tags_are tags tidy opens_rise rises members =
       union_is_tags (undo_state_of m) (planned_effect m n plan) tidy tags opens_rise rises
       (λ g. members g ∙ or_assoc (is_marked n.guess g) (any_rests m g (read_by n.pid n.input plan.looks)) (any_rests m g (written_by n.pid plan.beside)) ∙ ap (λ b. is_marked n.guess g || b) (sym (touched_is g)))
+
+-- nothing rests on a guess where none is open
+pub none_rest : (m : Parts) → IsTidy (undo_state_of m) → m.opens ≡ [] → (g : ℕ) (es : List Entity) → any_rests m g es ≡ false
+none_rest m tidy none g [] = refl
+none_rest m tidy none g (e ∷ es) =
+    let closed : has g (numbers m.opens) ≡ false = ap (λ os. has g (numbers os)) none in
+    (λ i. not_known m tidy g closed e i || any_rests m g es) ∙ none_rest m tidy none g es
 
 -- ---- what they have
 pub own_among : (a b c : Bool) → a ≡ true → ((a || b) || c) ≡ true

@@ -32,6 +32,10 @@ AllAlmostExact tags es os = AllByRecursion (IsAlmostExact tags es) os
 abbrev pub Covers : List ℕ → List Entity → (Entity → List ℕ) → Type 0
 Covers tags es before = (e : Entity) (g : ℕ) → is_in entity_cmp es e ≡ true → has g (before e) ≡ true → has g tags ≡ true
 
+-- these entities rest on just these guesses
+abbrev pub RestAlike : List ℕ → List Entity → (Entity → List ℕ) → Type 0
+RestAlike tags es before = (e : Entity) → is_in entity_cmp es e ≡ true → before e ≡ tags
+
 -- an entity is added to the lists of these guesses, where it does not rest on all of them already
 abbrev pub Depends : List ℕ → List ℕ → Entity → List OpenGuess → List OpenGuess → Type 0
 Depends own tags e old new = (((g : ℕ) → has g tags ≡ true → has g own ≡ true) × (new ≡ old)) ⊎ (new ≡ map (depending tags e) old)

@@ -47,15 +47,21 @@ fn set_process(logs: &mut Logs, tags: TagSet, pid: Pid, process: &Process) -> Re
 }
 
 impl Machine {
-    /// The guesses that private instructions of a process rest on: those of the process and of its signals.
+    /// The guesses that private instructions of a process rest on: those of the process and of its signals, of which there
+    /// are none where no guess is open.
     fn alone_tags(&self, pid: Pid) -> Result<TagSet, AllocError>
         requires tidy { IsTidy (undo_state_of self.now) }
         requires rising { IsStrictlySortedBy nat_cmp (numbers self.now.opens) }
         ensures alone { IfOk result (AreAlone self.now pid) }
         ensures covers { IfOk result (λ tags. Covers tags (Proc pid ∷ []) (tags_in self.now.slots)) }
     {
+        let none = TagSet::new(self.alloc);
+        if self.open_count() == 0 {
+            let _rising = none.ids();
+            return Ok(none);
+        }
         let touched = [Entity::Proc(pid), Entity::Sig(pid)];
-        self.add_tags(TagSet::new(self.alloc), touched.as_slice())
+        self.add_tags(none, touched.as_slice())
     }
 
     /// Sets what a process that is there has become by private instructions, where it stands: one write, with one note.

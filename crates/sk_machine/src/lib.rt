@@ -3,6 +3,7 @@
 //! terminals.
 #![tactic(auto)]
 
+mod alike;
 pub mod hand_in;
 mod lists;
 pub mod machine;

@@ -31,6 +31,7 @@ ghost use Rattle.sk_guesses.specs.Room.{HasRoom};
 ghost use Rattle.sk_machine.specs.Dependents.{Covers, tags_in};
 ghost use Rattle.sk_machine.specs.Performed.{entities_of, AreApart, IsClean, Performed};
 
+use crate::alike::set_alike;
 use crate::lists::{depend_all, relieve_all, tags_of};
 use sk_guesses::{Guess, Guesses, Redeemed, Status};
 use sk_ids::{Entity, GuessId, ObjId, Pid, TagSet};
@@ -101,6 +102,27 @@ fn perform(
     perform_plan(logs, terminals, scripts, pid, input, plan)
 }
 
+/// Performs a plan, whose writes and text rest on the guesses of the next step. Without memory nothing has changed.
+#[tactic(auto, using(crate::proofs::Writes::performed))]
+fn perform_next(
+    logs: &mut Logs,
+    terminals: &mut Terminals,
+    scripts: &Scripts,
+    pid: Pid,
+    input: InputRef<'_>,
+    plan: &Plan,
+) -> Result<(), AllocError>
+    requires can { CanPerform (look_at logs.old.slots) scripts.now pid (input_in input) plan.now }
+    requires apart { AreApart (entities_of (writes_of (look_at logs.old.slots) pid (seen_with (look_at logs.old.slots) scripts.now pid (input_in input) plan.now))) }
+    requires clean { IsClean logs.old.slots logs.old.tags (entities_of (writes_of (look_at logs.old.slots) pid (seen_with (look_at logs.old.slots) scripts.now pid (input_in input) plan.now))) }
+    ensures writes { OnOk result (Performed logs.old.slots logs.old.tags (writes_of (look_at logs.old.slots) pid (seen_with (look_at logs.old.slots) scripts.now pid (input_in input.entry) plan.now)) logs.new.slots) }
+    ensures says { OnOk result (terminals.new ≡ texts_after terminals.old logs.old.tags (said_by (seen_with (look_at logs.old.slots) scripts.now pid (input_in input.entry) plan.now))) }
+    ensures unwritten { OnErr result (logs.new.slots ≡ logs.old.slots) }
+    ensures unsaid { OnErr result (terminals.new ≡ terminals.old) }
+{
+    perform_plan(logs, terminals, scripts, pid, input, plan)
+}
+
 /// Makes room for the next guess and so many dependents of it, and performs its plan. Without memory
 /// nothing has changed.
 fn perform_guess(
@@ -129,7 +151,8 @@ fn perform_guess(
     perform(logs, terminals, scripts, pid, input, plan, tags)
 }
 
-fn is_none(tags: &TagSet) -> bool
+/// Whether there is no guess in a set.
+pub(crate) fn is_none(tags: &TagSet) -> bool
     ensures { result ≡ is_empty tags.now }
 {
     tags.ids().is_empty()
@@ -188,7 +211,8 @@ impl Machine {
         }
     }
 
-    /// The guesses that a planned step rests on: those of all that it touches, and its own.
+    /// The guesses that a planned step rests on: those of all that it touches, of which there are none where no guess is
+    /// open, and its own.
     fn step_tags(
         &self,
         scripts: &Scripts,
@@ -204,12 +228,54 @@ impl Machine {
         ensures covers { IfOk result (λ tags. Covers tags (written_in pid plan.now) (tags_in self.now.slots)) }
     {
         let own = self.own_tags(own);
+        if self.open_count() == 0 {
+            let _rising = own.ids();
+            return Ok(own);
+        }
         let read = self.add_tags(own, plan.reads(pid, input).as_slice())?;
         self.add_tags(read, plan.writes(pid).as_slice())
     }
 
     /// Takes a planned step that is no guess. Without memory nothing has changed.
     pub fn take_step(
+        &mut self,
+        scripts: &Scripts,
+        pid: Pid,
+        input: InputRef<'_>,
+        plan: &Plan,
+    ) -> Result<(), AllocError>
+        requires accepted { perform (look_at self.old.slots) (act scripts.now pid (input_in input)) ≡ Ok (effect_of (look_at self.old.slots) pid (input_in input) (seen_with (look_at self.old.slots) scripts.now pid (input_in input) plan.now)) }
+        requires can { CanPerform (look_at self.old.slots) scripts.now pid (input_in input) plan.now }
+        requires beside { IsBeside pid (seen_with (look_at self.old.slots) scripts.now pid (input_in input) plan.now).beside }
+        requires tidy { IsTidy (undo_state_of self.old) }
+        requires rising { IsStrictlySortedBy nat_cmp (numbers self.old.opens) }
+        ensures ok { OnOk result (MergedTakes (plain scripts.now) (machine_of self.old) (record { pid = pid; input = (input_in input.entry); guess = None }) (machine_of self.new)) }
+        ensures guesses { self.new.guesses ≡ self.old.guesses }
+        ensures err { OnErr result (self.new ≡ self.old) }
+    {
+        let alike = set_alike(
+            &mut self.logs,
+            &self.guesses,
+            &self.untagged,
+            pid,
+            input,
+            plan,
+        )?;
+        if alike {
+            return perform_next(
+                &mut self.logs,
+                &mut self.terminals,
+                scripts,
+                pid,
+                input,
+                plan,
+            );
+        }
+        self.take_apart(scripts, pid, input, plan)
+    }
+
+    /// The same, where what it writes may come to rest on more. Without memory nothing has changed.
+    fn take_apart(
         &mut self,
         scripts: &Scripts,
         pid: Pid,

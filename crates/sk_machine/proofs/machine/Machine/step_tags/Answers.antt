@@ -1,5 +1,10 @@
 -- The tags of what is read and of what is written, with the step's own, are the step's tags.
-use Rattle.std.proofs.Common.{◌||◌, sym, ◌∙◌}
+use Rattle.std.proofs.Common.{◌≡◌, ℕ, false, ◌||◌, List, sym, ◌∙◌, subst}
+use Rattle.std.specs.Ordering.{nat_cmp}
+use Rattle.std.specs.List.Sorted.{IsStrictlySortedBy}
+use Rattle.sk_record.specs.Effects.{is_marked}
+use Rattle.sk_ids.specs.declared.entity.Entity.{Entity}
+use Rattle.sk_plain.specs.Planned.{read_by, written_by}
 use Rattle.sk_record.specs.Notes.{has}
 use Rattle.sk_plain.specs.Seen.{seen_with, written_in}
 use Rattle.sk_plain.proofs.Plans.{written_is}
@@ -9,9 +14,29 @@ use Rattle.sk_trace.specs.Entry.{EntryView}
 use Rattle.sk_machine.specs.Dependents.{tags_in}
 use Rattle.sk_machine.specs.Parts.{any_rests}
 use Rattle.sk_machine.proofs.Given.{if_ok}
-use Rattle.sk_machine.proofs.Listed.{any_of}
-use Rattle.sk_machine.proofs.Tags.{tags_are, own_among, last_among}
+use Rattle.sk_machine.proofs.Listed.{any_of, no_length, none_covered}
+use Rattle.sk_machine.proofs.Tags.{tags_are, none_more, none_rest, own_among, last_among}
 use Rattle.sk_machine.proofs.machine.Machine.step_tags.Goals as goal
+
+pub returns-then-open_count-eq0-clause-exact : goal.returns-then-open_count-eq0-clause-exact
+returns-then-open_count-eq0-clause-exact c =
+    let m = c.args.self.now in
+    let n : EntryView = record { pid = c.args.pid; input = (input_in c.args.input); guess = c.args.own.now } in
+    let plan = seen_with (look_at m.slots) c.args.scripts.now n.pid n.input c.args.plan.now in
+    let none = no_length m.opens (sym c.open_count.ensures ∙ c.if-open_count-eq0.true) in
+    let rests : (g : ℕ) (es : List Entity) → any_rests m g es ≡ false = none_rest m c.requires.tidy none in
+    tags_are m n plan c.own_tags-own.result c.requires.tidy c.requires.rising (subst (IsStrictlySortedBy nat_cmp) c.ids-rising.ensures.members c.ids-rising.ensures.rising)
+    (λ g. c.own_tags-own.ensures g ∙ none_more (is_marked n.guess g) ∙ none_more (is_marked n.guess g || false)
+    ∙ (λ i. (is_marked n.guess g || sym (rests g (read_by n.pid n.input plan.looks)) i) || sym (rests g (written_by n.pid plan.beside)) i))
+
+pub returns-then-open_count-eq0-clause-own : goal.returns-then-open_count-eq0-clause-own
+returns-then-open_count-eq0-clause-own c = λ g is. c.own_tags-own.ensures g ∙ is
+
+pub returns-then-open_count-eq0-clause-covers : goal.returns-then-open_count-eq0-clause-covers
+returns-then-open_count-eq0-clause-covers c =
+    let m = c.args.self.now in
+    let none = no_length m.opens (sym c.open_count.ensures ∙ c.if-open_count-eq0.true) in
+    none_covered m c.requires.tidy none c.own_tags-own.result (written_in c.args.pid c.args.plan.now)
 
 pub returns-clause-exact : goal.returns-clause-exact
 returns-clause-exact c =

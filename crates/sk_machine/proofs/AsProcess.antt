@@ -1,0 +1,211 @@
+-- Steps that rest on just what their process rests on.
+use Rattle.std.proofs.Common.{◌≡◌, ℕ, suc, ◌<◌, ◌≤◌, length, Bool, true, false, cond, ◌||◌, List, [], ◌∷◌, ◌++◌, Option, Some, None, Result, Ok, Err, inl, inr, refl, sym, ◌∙◌, ap, subst, arith}
+use Rattle.std.specs.List.{list_any}
+use Rattle.std.specs.Prelude.{◌==◌, OnOk, OnErr}
+use Rattle.std.specs.Cmp.{both_ways, eq_by_cmp_equiv}
+use Rattle.std.specs.Ordering.{nat_cmp, eq_by_cmp}
+use Rattle.std.specs.List.Sorted.{IsStrictlySortedBy}
+use Rattle.std.proofs.lemmas.Bool.{or_cases, or_left, or_right, true≢false, false≢true, eq-eqb, eqb-true}
+use Rattle.std.proofs.lemmas.List.{append-nil}
+use Rattle.std.proofs.lemmas.List.Folds.{list_any-append}
+use Rattle.sk_record.proofs.Rising.{above}
+use Rattle.sk_record.specs.Effects.{is_in}
+use Rattle.sk_record.specs.Notes.{has}
+use Rattle.sk_record.specs.UndoState.{IsTidy, Open, numbers, step_tags}
+use Rattle.sk_ids.specs.Entity.{entity_cmp}
+use Rattle.sk_ids.specs.declared.entity.Entity.{Entity}
+use Rattle.sk_ids.specs.declared.entity.Entity.TheVariants.{Proc, Sig}
+use Rattle.sk_ids.proofs.Entities.{entity_total}
+use Rattle.sk_guesses.specs.Opens.{OpenGuess, opens_of}
+use Rattle.sk_guesses.proofs.Places.{tied_is}
+use Rattle.sk_script.specs.declared.instruction.Input.{Input}
+use Rattle.sk_store.specs.declared.entity_state.EntityState.{EntityState}
+use Rattle.sk_undo.specs.Log.{is_empty}
+use Rattle.sk_undo.specs.Logs.{SlotMap, look_at}
+use Rattle.sk_undo.specs.Decisions.{undo_state}
+use Rattle.sk_plain.specs.Plan.{PlanView, LooksView}
+use Rattle.sk_plain.specs.Act.{Scripts}
+use Rattle.sk_plain.specs.Planned.{looked_at, read_by, signals_read, written_by, writes_of}
+use Rattle.sk_plain.specs.Seen.{looked, looks_of, seen_with, written_in}
+use Rattle.sk_plain.specs.declared.plan.Plan.{Plan}
+use Rattle.sk_plain.proofs.Plans.{written_is}
+use Rattle.sk_plain.proofs.Scan.{changed_are}
+use Rattle.sk_machine.proofs.Joins.{clean_of}
+use Rattle.sk_machine.specs.Dependents.{tags_in, with_tags, AllExact, Covers, RestAlike}
+use Rattle.sk_machine.specs.Parts.{Parts, undo_state_of, planned_effect, any_rests}
+use Rattle.sk_machine.specs.Performed.{IsClean, Performed, entities_of}
+use Rattle.sk_machine.proofs.Listed.{exact_as, performed_exact}
+use Rattle.sk_machine.proofs.Tags.{tags_are}
+
+-- ---- rising lists
+next_above : (x y : ℕ) (xs : List ℕ) → IsStrictlySortedBy nat_cmp (x ∷ xs) → has y xs ≡ true → x < y
+unfolding IsStrictlySortedBy
+next_above x y xs s here = above x xs y s.0 here
+
+rest_rises : (x : ℕ) (xs : List ℕ) → IsStrictlySortedBy nat_cmp (x ∷ xs) → IsStrictlySortedBy nat_cmp xs
+unfolding IsStrictlySortedBy
+rest_rises x xs s = s.1
+
+itself : (g : ℕ) (gs : List ℕ) → has g (g ∷ gs) ≡ true
+itself g gs = or_left _ _ (eq-eqb g g refl)
+
+-- what is behind the first of a list is behind the first of one that has all of it
+rest_in : (x y : ℕ) (xs ys : List ℕ) → IsStrictlySortedBy nat_cmp (x ∷ xs) → IsStrictlySortedBy nat_cmp (y ∷ ys)
+    → ((g : ℕ) → has g (x ∷ xs) ≡ true → has g (y ∷ ys) ≡ true) → (g : ℕ) → has g xs ≡ true → has g ys ≡ true
+rest_in x y xs ys s t h g here =
+    elim (or_cases _ _ (h g (or_right _ _ here))) [
+      | inl is ↦
+          let same = eqb-true y g is in
+          let more = next_above x g xs s here in
+          elim (or_cases _ _ (h x (itself x xs))) [
+            | inl at ↦ let first = eqb-true y x at in absurd (omega arith)
+            | inr behind ↦ let later = next_above y x ys t behind in absurd (omega arith)
+          ]
+      | inr later ↦ later
+    ]
+
+-- a rising list is no longer than one that has all of it
+no_longer : (xs ys : List ℕ) → IsStrictlySortedBy nat_cmp xs → IsStrictlySortedBy nat_cmp ys → ((g : ℕ) → has g xs ≡ true → has g ys ≡ true) → length xs ≤ length ys
+no_longer [] ys s t h = omega arith
+no_longer (x ∷ xs) [] s t h = absurd (false≢true (h x (itself x xs)))
+no_longer (x ∷ xs) (y ∷ ys) s t h =
+    let rest = no_longer xs ys (rest_rises x xs s) (rest_rises y ys t) (rest_in x y xs ys s t h) in omega arith
+
+-- and is the same where it is as long
+pub as_long : (xs ys : List ℕ) → IsStrictlySortedBy nat_cmp xs → IsStrictlySortedBy nat_cmp ys → ((g : ℕ) → has g xs ≡ true → has g ys ≡ true) → length xs ≡ length ys → xs ≡ ys
+as_long [] [] s t h len = refl
+as_long [] (y ∷ ys) s t h len = absurd (omega arith)
+as_long (x ∷ xs) [] s t h len = absurd (omega arith)
+as_long (x ∷ xs) (y ∷ ys) s t h len =
+    elim (or_cases _ _ (h x (itself x xs))) [
+      | inl at ↦
+          let same = sym (eqb-true y x at) in
+          let rest = as_long xs ys (rest_rises x xs s) (rest_rises y ys t) (rest_in x y xs ys s t h) (omega arith) in
+          (λ i. same i ∷ rest i)
+      | inr behind ↦
+          let few = no_longer (x ∷ xs) ys s (rest_rises y ys t) (λ g here. all_behind g here) in absurd (omega arith)
+    ] where
+      all_behind : (g : ℕ) → has g (x ∷ xs) ≡ true → has g ys ≡ true
+      all_behind g here =
+          elim (or_cases _ _ here) [
+            | inl is ↦ subst (λ k. has k ys ≡ true) (eqb-true x g is) (first_behind (h x (itself x xs)))
+            | inr later ↦ rest_in x y xs ys s t h g later
+          ]
+
+pub count_is : (os : List OpenGuess) → length (numbers (opens_of os)) ≡ length os
+count_is [] = refl
+count_is (o ∷ os) = ap suc (count_is os)
+
+-- ---- what rests on no more
+pub covers_one : (tags : List ℕ) (x : Entity) (base : Entity → List ℕ) → ((g : ℕ) → has g (base x) ≡ true → has g tags ≡ true) → Covers tags (x ∷ []) base
+covers_one tags x base h e g there rests =
+    elim (or_cases _ _ there) [
+      | inl same ↦ h g (ap (λ y. has g (base y)) (sym (tied_is e x same)) ∙ rests)
+      | inr none ↦ absurd (false≢true none)
+    ]
+
+-- where it rests on nothing
+pub none_within : (tags own : List ℕ) (x : Entity) (base : Entity → List ℕ) → is_empty own ≡ true → own ≡ base x → Covers tags (x ∷ []) base
+none_within tags [] x base none is = covers_one tags x base (λ g here. absurd (false≢true (ap (has g) is ∙ here)))
+none_within tags (t ∷ own) x base none is = absurd (true≢false (sym none))
+
+pub covers_both : (tags : List ℕ) (xs ys : List Entity) (base : Entity → List ℕ) → Covers tags xs base → Covers tags ys base → Covers tags (xs ++ ys) base
+covers_both tags xs ys base a b e g there rests =
+    elim (or_cases _ _ (sym (list_any-append (eq_by_cmp entity_cmp e) xs ys) ∙ there)) [ inl first ↦ a e g first rests | inr later ↦ b e g later rests ]
+
+pub covers_none : (tags : List ℕ) (base : Entity → List ℕ) → Covers tags [] base
+covers_none tags base e g there rests = absurd (false≢true there)
+
+pub covers_two : (tags : List ℕ) (x y : Entity) (base : Entity → List ℕ) → Covers tags (x ∷ []) base → Covers tags (y ∷ []) base → Covers tags (x ∷ y ∷ []) base
+covers_two tags x y base = covers_both tags (x ∷ []) (y ∷ []) base
+
+pub covers_reads : (tags : List ℕ) (pid : ℕ) (input : Input) (looks : LooksView) (base : Entity → List ℕ) → base (Proc pid) ≡ tags → Covers tags (signals_read pid input) base → Covers tags (looked_at looks) base
+    → Covers tags (read_by pid input looks) base
+covers_reads tags pid input looks base own signals looked =
+    covers_both tags (Proc pid ∷ signals_read pid input) (looked_at looks) base
+    (covers_both tags (Proc pid ∷ []) (signals_read pid input) base (covers_one tags (Proc pid) base (λ g here. ap (has g) (sym own) ∙ here)) signals) looked
+
+pub alike_one : (tags : List ℕ) (x : Entity) (base : Entity → List ℕ) → base x ≡ tags → RestAlike tags (x ∷ []) base
+alike_one tags x base own e there =
+    elim (or_cases _ _ there) [
+      | inl same ↦ ap base (tied_is e x same) ∙ own
+      | inr none ↦ absurd (false≢true none)
+    ]
+
+alike_both : (tags : List ℕ) (xs ys : List Entity) (base : Entity → List ℕ) → RestAlike tags xs base → RestAlike tags ys base → RestAlike tags (xs ++ ys) base
+alike_both tags xs ys base a b e there =
+    elim (or_cases _ _ (sym (list_any-append (eq_by_cmp entity_cmp e) xs ys) ∙ there)) [ inl first ↦ a e first | inr later ↦ b e later ]
+
+pub alike_two : (tags : List ℕ) (x y : Entity) (base : Entity → List ℕ) → base x ≡ tags → base y ≡ tags → RestAlike tags (x ∷ y ∷ []) base
+alike_two tags x y base a b = alike_both tags (x ∷ []) (y ∷ []) base (alike_one tags x base a) (alike_one tags y base b)
+
+pub alike_four : (tags : List ℕ) (x y z w : Entity) (base : Entity → List ℕ) → base x ≡ tags → base y ≡ tags → base z ≡ tags → base w ≡ tags → RestAlike tags (x ∷ y ∷ z ∷ w ∷ []) base
+alike_four tags x y z w base a b c d = alike_both tags (x ∷ y ∷ []) (z ∷ w ∷ []) base (alike_two tags x y base a b) (alike_two tags z w base c d)
+
+-- ---- where a process rests on all that is open, or nothing is
+module _ (m : SlotMap) (os : List Open) (tidy : IsTidy (undo_state m os)) where
+  pub open_covered : (tags : List ℕ) (es : List Entity) → tags ≡ numbers os → Covers tags es (tags_in m)
+  open_covered tags es all e g there rests = ap (has g) all ∙ tidy.known e g rests
+
+  nothing_at : os ≡ [] → (e : Entity) (ts : List ℕ) → tags_in m e ≡ ts → ts ≡ []
+  nothing_at none e [] is = refl
+  nothing_at none e (t ∷ ts) is = absurd (false≢true (ap (λ ks. has t (numbers ks)) (sym none) ∙ tidy.known e t (ap (has t) is ∙ itself t ts)))
+
+  pub untagged : os ≡ [] → (e : Entity) → tags_in m e ≡ []
+  untagged none e = nothing_at none e (tags_in m e) refl
+
+-- ---- the tags of the step
+covers_any : (tags : List ℕ) (base : Entity → List ℕ) (g : ℕ) (es : List Entity) → Covers tags es base → list_any (λ e. has g (base e)) es ≡ true → has g tags ≡ true
+covers_any tags base g [] covers rests = absurd (false≢true rests)
+covers_any tags base g (x ∷ es) covers rests =
+    elim (or_cases _ _ rests) [
+      | inl here ↦ covers x g (or_left _ _ ((eq_by_cmp_equiv entity_total).refl x)) here
+      | inr later ↦ covers_any tags base g es (λ e h there. covers e h (or_right _ _ there)) later
+    ]
+
+alike_covers : (tags : List ℕ) (base : Entity → List ℕ) (es : List Entity) → RestAlike tags es base → Covers tags es base
+alike_covers tags base es alike e g there rests = ap (has g) (sym (alike e there)) ∙ rests
+
+module _ (m : Parts) (pid : ℕ) (input : Input) (plan : PlanView) (tags : List ℕ) where
+  pub alike_tags : IsTidy (undo_state_of m) → IsStrictlySortedBy nat_cmp (numbers m.opens) → IsStrictlySortedBy nat_cmp tags
+      → tags_in m.slots (Proc pid) ≡ tags → Covers tags (read_by pid input plan.looks) (tags_in m.slots) → RestAlike tags (written_by pid plan.beside) (tags_in m.slots)
+      → tags ≡ step_tags (undo_state_of m) (planned_effect m (record { pid = pid; input = input; guess = None }) plan)
+  alike_tags tidy opens_rise rises own reads writes =
+      let base = tags_in m.slots in
+      tags_are m (record { pid = pid; input = input; guess = None }) plan tags tidy (subst (IsStrictlySortedBy nat_cmp) (sym (append-nil (numbers m.opens))) opens_rise) rises
+      (λ g. both_ways _ _
+      (λ here. or_left _ _ (or_left _ _ (ap (has g) own ∙ here)))
+      (λ rests.
+      elim (or_cases _ _ rests) [
+        | inl r ↦ covers_any tags base g (read_by pid input plan.looks) reads r
+        | inr w ↦ covers_any tags base g (written_by pid plan.beside) (alike_covers tags base (written_by pid plan.beside) writes) w
+      ]))
+
+-- ---- a planned step of this kind
+module _ (p : Parts) (scripts : Scripts) (pid : ℕ) (input : Input) (plan : Plan) (tags : List ℕ)
+    (tidy : IsTidy (undo_state_of p)) (opens_rise : IsStrictlySortedBy nat_cmp (numbers p.opens)) (rises : IsStrictlySortedBy nat_cmp tags)
+    (own : tags_in p.slots (Proc pid) ≡ tags) (reads : Covers tags (read_by pid input (looked (looks_of plan))) (tags_in p.slots)) (writes : RestAlike tags (written_in pid plan) (tags_in p.slots)) where
+  pub planned_tags : tags ≡ step_tags (undo_state_of p) (planned_effect p (record { pid = pid; input = input; guess = None }) (seen_with (look_at p.slots) scripts pid input plan))
+  planned_tags =
+      alike_tags p pid input (seen_with (look_at p.slots) scripts pid input plan) tags tidy opens_rise rises own reads
+      (subst (λ es. RestAlike tags es (tags_in p.slots)) (sym (written_is (look_at p.slots) scripts pid input plan)) writes)
+
+  pub planned_clean : IsClean p.slots tags (entities_of (writes_of (look_at p.slots) pid (seen_with (look_at p.slots) scripts pid input plan)))
+  planned_clean = clean_of p (record { pid = pid; input = input; guess = None }) (seen_with (look_at p.slots) scripts pid input plan) tags tidy planned_tags
+
+  pub planned_alike : RestAlike tags (entities_of (writes_of (look_at p.slots) pid (seen_with (look_at p.slots) scripts pid input plan))) (tags_in p.slots)
+  planned_alike =
+      subst (λ es. RestAlike tags es (tags_in p.slots))
+      (sym (written_is (look_at p.slots) scripts pid input plan) ∙ sym (changed_are (look_at p.slots) pid (seen_with (look_at p.slots) scripts pid input plan))) writes
+
+-- ---- the lists stay as they are
+pub alike_exact : (tags : List ℕ) (es : List Entity) (base : Entity → List ℕ) → RestAlike tags es base → (os : List OpenGuess) → AllExact base os → AllExact (with_tags tags es base) os
+alike_exact tags es base alike os all = exact_as base (with_tags tags es base) same os all where
+  same : (e : Entity) → base e ≡ with_tags tags es base e
+  same e = elim (is_in entity_cmp es e) as (λ b. is_in entity_cmp es e ≡ b → base e ≡ cond b tags (base e)) [ true ↦ λ here. alike e here | false ↦ λ _. refl ] refl
+
+pub alike_performed : {A F : Type 0} (m n : SlotMap) (tags : List ℕ) (ws : List (Entity × Option EntityState)) (r : Result A F) → IsClean m tags (entities_of ws) → RestAlike tags (entities_of ws) (tags_in m)
+    → OnOk r (Performed m tags ws n) → OnErr r (n ≡ m) → (os : List OpenGuess) → AllExact (tags_in m) os → AllExact (tags_in n) os
+alike_performed m n tags ws (Ok done) clean alike did same os all =
+    performed_exact m n tags (entities_of ws) ws refl clean did os (alike_exact tags (entities_of ws) (tags_in m) alike os all)
+alike_performed m n tags ws (Err why) clean alike did same os all = subst (λ x. AllExact (tags_in x) os) (sym same) all

@@ -1,0 +1,15 @@
+-- A rising list of undecided guesses that is as long as that of all.
+use Rattle.std.proofs.Common.{length, ap, sym, subst, ◌∙◌}
+use Rattle.std.specs.Ordering.{nat_cmp}
+use Rattle.std.specs.List.Sorted.{IsStrictlySortedBy}
+use Rattle.std.proofs.lemmas.Bool.{eqb-true}
+use Rattle.sk_record.specs.UndoState.{numbers}
+use Rattle.sk_guesses.specs.Opens.{opens_of}
+use Rattle.sk_machine.proofs.AsProcess.{as_long, count_is}
+use Rattle.sk_machine.proofs.alike.are_all.Goals as goal
+
+pub returns : goal.returns
+returns c = λ is.
+    let os = c.args.guesses.now.opens in
+    as_long c.args.tags.now (numbers (opens_of os)) (subst (IsStrictlySortedBy nat_cmp) c.ids.ensures.members c.ids.ensures.rising) c.requires.rising c.requires.known
+    (ap length (sym c.ids.ensures.members) ∙ sym c.len.ensures ∙ eqb-true c.len.result c.undecided.result is ∙ c.undecided.ensures.opens ∙ sym (count_is os))

@@ -1,0 +1,11 @@
+-- The process rests on just these, and the rest on none but these.
+use Rattle.sk_trace.specs.Kept.{input_in}
+use Rattle.sk_plain.specs.Seen.{looked, looks_of}
+use Rattle.sk_machine.specs.Dependents.{tags_in}
+use Rattle.sk_machine.proofs.AsProcess.{covers_reads}
+use Rattle.sk_machine.proofs.alike.reads_within.Goals as goal
+
+pub returns : goal.returns
+returns c = λ is.
+    covers_reads c.args.logs.now.tags c.args.pid (input_in c.args.input) (looked (looks_of c.args.plan.now)) (tags_in c.args.logs.now.slots) c.requires.own
+    (c.signals_within.ensures c.if-not-signals_within.false) (c.plan_within.ensures is)

@@ -83,14 +83,15 @@ as_long (x ∷ xs) (y ∷ ys) s t h len =
           let rest = as_long xs ys (rest_rises x xs s) (rest_rises y ys t) (rest_in x y xs ys s t h) (omega arith) in
           (λ i. same i ∷ rest i)
       | inr behind ↦
-          let few = no_longer (x ∷ xs) ys s (rest_rises y ys t) (λ g here. all_behind g here) in absurd (omega arith)
-    ] where
-      all_behind : (g : ℕ) → has g (x ∷ xs) ≡ true → has g ys ≡ true
-      all_behind g here =
+          let few =
+          no_longer (x ∷ xs) ys s (rest_rises y ys t)
+          (λ g here.
           elim (or_cases _ _ here) [
-            | inl is ↦ subst (λ k. has k ys ≡ true) (eqb-true x g is) (first_behind (h x (itself x xs)))
+            | inl is ↦ subst (λ k. has k ys ≡ true) (eqb-true x g is) behind
             | inr later ↦ rest_in x y xs ys s t h g later
-          ]
+          ]) in
+          absurd (omega arith)
+    ]
 
 pub count_is : (os : List OpenGuess) → length (numbers (opens_of os)) ≡ length os
 count_is [] = refl

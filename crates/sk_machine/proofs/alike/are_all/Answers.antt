@@ -12,4 +12,4 @@ pub returns : goal.returns
 returns c = λ is.
     let os = c.args.guesses.now.opens in
     as_long c.args.tags.now (numbers (opens_of os)) (subst (IsStrictlySortedBy nat_cmp) c.ids.ensures.members c.ids.ensures.rising) c.requires.rising c.requires.known
-    (ap length (sym c.ids.ensures.members) ∙ sym c.len.ensures ∙ eqb-true c.len.result c.undecided.result is ∙ c.undecided.ensures.opens ∙ sym (count_is os))
+    (ap length (sym c.ids.ensures.members) ∙ eqb-true _ _ is ∙ c.undecided.ensures.opens ∙ sym (count_is os))

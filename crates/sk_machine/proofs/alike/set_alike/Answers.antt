@@ -48,7 +48,7 @@ pub writes_alike-requires-clause-own : goal.writes_alike-requires-clause-own
 writes_alike-requires-clause-own c =
     let m = c.args.logs.now.slots in
     let os = opens_of c.args.guesses.now.opens in
-    let is = c.in_ok-set_tags_of.ensures in
+    let is = c.in_ok-set_tags_of.ensures.ok in
     let slots = ap (λ (l : LogsView). l.slots) is in
     let tags = ap (λ (l : LogsView). l.tags) is in
     ap (λ k. tags_in k (Proc c.args.pid)) slots ∙ sym tags
@@ -57,18 +57,18 @@ pub are_all-requires-clause-known : goal.are_all-requires-clause-known
 are_all-requires-clause-known c =
     let m = c.args.logs.now.slots in
     let os = opens_of c.args.guesses.now.opens in
-    let is = c.in_ok-set_tags_of.ensures in
+    let is = c.in_ok-set_tags_of.ensures.ok in
     let slots = ap (λ (l : LogsView). l.slots) is in
     let tags = ap (λ (l : LogsView). l.tags) is in
-    λ g here. c.requires.tidy.known (Proc c.args.pid) g (sym (ap (has g) (c.next_tags-2.ensures ∙ tags)) ∙ here)
+    λ g here. c.requires.tidy.known (Proc c.args.pid) g (sym (ap (has g) (c.next_tags-3.ensures ∙ tags)) ∙ here)
 
 pub returns-then-are_all-clause-reads : goal.returns-then-are_all-clause-reads
 returns-then-are_all-clause-reads c =
     let m = c.args.logs.now.slots in
     let os = opens_of c.args.guesses.now.opens in
-    let is = c.in_ok-set_tags_of.ensures in
+    let is = c.in_ok-set_tags_of.ensures.ok in
     let slots = ap (λ (l : LogsView). l.slots) is in
     let tags = ap (λ (l : LogsView). l.tags) is in
     λ _.
     subst (λ k. Covers c.set_tags_of.new.self.tags (read_by c.args.pid (input_in c.args.input) (looked (looks_of c.args.plan.now))) (tags_in k)) (sym slots)
-    (open_covered m os c.requires.tidy c.set_tags_of.new.self.tags (read_by c.args.pid (input_in c.args.input) (looked (looks_of c.args.plan.now))) (sym c.next_tags-2.ensures ∙ c.are_all.ensures c.if-are_all.true))
+    (open_covered m os c.requires.tidy c.set_tags_of.new.self.tags (read_by c.args.pid (input_in c.args.input) (looked (looks_of c.args.plan.now))) (sym c.next_tags-3.ensures ∙ c.are_all.ensures c.if-are_all.true))

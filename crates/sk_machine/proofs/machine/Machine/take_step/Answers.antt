@@ -30,8 +30,8 @@ perform_next-requires-clause-can c =
     let plan = c.args.plan.now in
     let os = c.self.inside.guesses.opens in
     let was : Parts = record { slots = c.self.inside.logs.slots; opens = opens_of os; guesses = c.self.inside.guesses.view; texts = c.self.inside.terminals } in
-    let p : Parts = record { slots = c.set_alike-alike.new.logs.slots; opens = opens_of os; guesses = c.self.inside.guesses.view; texts = c.self.inside.terminals } in
-    let view = same_parts p was c.set_alike-alike.ensures.slots refl refl refl ∙ c.self.view_is in
+    let p : Parts = record { slots = c.set_alike.new.logs.slots; opens = opens_of os; guesses = c.self.inside.guesses.view; texts = c.self.inside.terminals } in
+    let view = same_parts p was c.set_alike.ensures.slots refl refl refl ∙ c.self.view_is in
     subst (λ (q : Parts). CanPerform (look_at q.slots) scripts pid input plan) (sym view) c.requires.can
 
 pub perform_next-requires-clause-apart : goal.perform_next-requires-clause-apart
@@ -42,8 +42,8 @@ perform_next-requires-clause-apart c =
     let plan = c.args.plan.now in
     let os = c.self.inside.guesses.opens in
     let was : Parts = record { slots = c.self.inside.logs.slots; opens = opens_of os; guesses = c.self.inside.guesses.view; texts = c.self.inside.terminals } in
-    let p : Parts = record { slots = c.set_alike-alike.new.logs.slots; opens = opens_of os; guesses = c.self.inside.guesses.view; texts = c.self.inside.terminals } in
-    let view = same_parts p was c.set_alike-alike.ensures.slots refl refl refl ∙ c.self.view_is in
+    let p : Parts = record { slots = c.set_alike.new.logs.slots; opens = opens_of os; guesses = c.self.inside.guesses.view; texts = c.self.inside.terminals } in
+    let view = same_parts p was c.set_alike.ensures.slots refl refl refl ∙ c.self.view_is in
     subst (λ (q : Parts). AreApart (entities_of (writes_of (look_at q.slots) pid (seen_with (look_at q.slots) scripts pid input plan)))) (sym view)
     (apart_of (look_at c.args.self.now.slots) pid (seen_with (look_at c.args.self.now.slots) scripts pid input plan) c.requires.beside)
 
@@ -55,9 +55,9 @@ perform_next-requires-clause-clean c =
     let plan = c.args.plan.now in
     let os = c.self.inside.guesses.opens in
     let was : Parts = record { slots = c.self.inside.logs.slots; opens = opens_of os; guesses = c.self.inside.guesses.view; texts = c.self.inside.terminals } in
-    let p : Parts = record { slots = c.set_alike-alike.new.logs.slots; opens = opens_of os; guesses = c.self.inside.guesses.view; texts = c.self.inside.terminals } in
-    let view = same_parts p was c.set_alike-alike.ensures.slots refl refl refl ∙ c.self.view_is in
-    let tags = c.set_alike-alike.new.logs.tags in
+    let p : Parts = record { slots = c.set_alike.new.logs.slots; opens = opens_of os; guesses = c.self.inside.guesses.view; texts = c.self.inside.terminals } in
+    let view = same_parts p was c.set_alike.ensures.slots refl refl refl ∙ c.self.view_is in
+    let tags = c.set_alike.new.logs.tags in
     let tidy = subst (λ (q : Parts). IsTidy (undo_state_of q)) (sym view) c.requires.tidy in
     let opens_rise = subst (λ (q : Parts). IsStrictlySortedBy nat_cmp (numbers q.opens)) (sym view) c.requires.rising in
     let rises = c.in_ok-alike.ensures.rising in
@@ -67,16 +67,19 @@ perform_next-requires-clause-clean c =
     planned_clean p scripts pid input plan tags tidy opens_rise rises own reads writes
 
 pub invariant_of-self : goal.invariant_of-self
-invariant_of-self c =
+invariant_of-self c = (subst (λ k. AllExact (tags_in k) c.self.inside.guesses.opens) (sym c.set_alike.ensures.slots) c.self.invariant.0, c.self.invariant.1)
+
+pub invariant_of-self-then-alike : goal.invariant_of-self-then-alike
+invariant_of-self-then-alike c =
     let scripts = c.args.scripts.now in
     let pid = c.args.pid in
     let input = input_in c.args.input in
     let plan = c.args.plan.now in
     let os = c.self.inside.guesses.opens in
     let was : Parts = record { slots = c.self.inside.logs.slots; opens = opens_of os; guesses = c.self.inside.guesses.view; texts = c.self.inside.terminals } in
-    let p : Parts = record { slots = c.set_alike-alike.new.logs.slots; opens = opens_of os; guesses = c.self.inside.guesses.view; texts = c.self.inside.terminals } in
-    let view = same_parts p was c.set_alike-alike.ensures.slots refl refl refl ∙ c.self.view_is in
-    let tags = c.set_alike-alike.new.logs.tags in
+    let p : Parts = record { slots = c.set_alike.new.logs.slots; opens = opens_of os; guesses = c.self.inside.guesses.view; texts = c.self.inside.terminals } in
+    let view = same_parts p was c.set_alike.ensures.slots refl refl refl ∙ c.self.view_is in
+    let tags = c.set_alike.new.logs.tags in
     let tidy = subst (λ (q : Parts). IsTidy (undo_state_of q)) (sym view) c.requires.tidy in
     let opens_rise = subst (λ (q : Parts). IsStrictlySortedBy nat_cmp (numbers q.opens)) (sym view) c.requires.rising in
     let rises = c.in_ok-alike.ensures.rising in
@@ -85,7 +88,7 @@ invariant_of-self c =
     let writes = c.in_ok-alike.ensures.writes c.if-alike.true in (
       alike_performed p.slots c.perform_next.new.logs.slots tags (writes_of (look_at p.slots) pid (seen_with (look_at p.slots) scripts pid input plan)) c.perform_next.result
           (planned_clean p scripts pid input plan tags tidy opens_rise rises own reads writes) (planned_alike p scripts pid input plan tags tidy opens_rise rises own reads writes) c.perform_next.ensures.writes c.perform_next.ensures.unwritten
-          os (subst (λ k. AllExact (tags_in k) os) (sym c.set_alike-alike.ensures.slots) c.self.invariant.0),
+          os (subst (λ k. AllExact (tags_in k) os) (sym c.set_alike.ensures.slots) c.self.invariant.0),
       c.self.invariant.1,
     )
 
@@ -97,9 +100,9 @@ returns-then-alike-clause-ok c =
     let plan = c.args.plan.now in
     let os = c.self.inside.guesses.opens in
     let was : Parts = record { slots = c.self.inside.logs.slots; opens = opens_of os; guesses = c.self.inside.guesses.view; texts = c.self.inside.terminals } in
-    let p : Parts = record { slots = c.set_alike-alike.new.logs.slots; opens = opens_of os; guesses = c.self.inside.guesses.view; texts = c.self.inside.terminals } in
-    let view = same_parts p was c.set_alike-alike.ensures.slots refl refl refl ∙ c.self.view_is in
-    let tags = c.set_alike-alike.new.logs.tags in
+    let p : Parts = record { slots = c.set_alike.new.logs.slots; opens = opens_of os; guesses = c.self.inside.guesses.view; texts = c.self.inside.terminals } in
+    let view = same_parts p was c.set_alike.ensures.slots refl refl refl ∙ c.self.view_is in
+    let tags = c.set_alike.new.logs.tags in
     let tidy = subst (λ (q : Parts). IsTidy (undo_state_of q)) (sym view) c.requires.tidy in
     let opens_rise = subst (λ (q : Parts). IsStrictlySortedBy nat_cmp (numbers q.opens)) (sym view) c.requires.rising in
     let rises = c.in_ok-alike.ensures.rising in

@@ -1,0 +1,9 @@
+-- The process rests on just these guesses, and so does the copy that it gets.
+use Rattle.sk_ids.specs.declared.entity.Entity.TheVariants.{Copy, Proc}
+use Rattle.sk_machine.specs.Dependents.{tags_in}
+use Rattle.sk_machine.proofs.AsProcess.{alike_two}
+use Rattle.sk_machine.proofs.alike.writes_alike.Goals as goal
+
+pub returns-in-Received : goal.returns-in-Received
+returns-in-Received c = λ is.
+    rw c.in-Received.is (alike_two c.args.logs.now.tags (Copy c.in-Received.name) (Proc c.args.pid) (tags_in c.args.logs.now.slots) (c.is_alike.ensures is) c.requires.own)

@@ -60,9 +60,9 @@ replay_command = with_rule (new_app (codes "replay")) file_rule
 abbrev pub work_command : App
 work_command = with_rule (with_rule (with_rule (new_app (codes "work")) file_rule) workers_rule) turns_rule
 
--- one command has to be named, and no other word is one
+-- it has a version, one command has to be named, and no other word is one
 abbrev pub wants_command : Shape → Shape
-wants_command s = record s { subcommand_required = true; disable_help_subcommand = true }
+wants_command s = record s { has_version = true; subcommand_required = true; disable_help_subcommand = true }
 
 -- before it has its commands
 abbrev pub bare_command_line : App

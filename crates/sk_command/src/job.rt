@@ -265,6 +265,7 @@ fn without_commands<'a>(alloc: Global) -> Command<'a>
     ensures { app_of result ≡ bare_command_line }
 {
     Command::new(alloc, "speculate")
+        .version("0.1.0")
         .about("A kernel that runs ahead on guesses, and takes back what a wrong one touched.")
         .after_help(FORMS)
         .subcommand_required(true)

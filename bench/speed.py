@@ -373,7 +373,7 @@ def block_rows(meter):
     kept = lambda guesses: meter.peak(writing(large, BLOCK, many, guesses)) * 1024 / many
     yield "bytes that a noted write keeps, its new block aside / 600", kept(True) - kept(False) - 512, 600, 1
     look = lambda names: meter.each(lambda n: looking(names, n), 600, 1200, 1)
-    yield "look in a directory: of 64 names / of 4", look(64), look(4), 1.1
+    yield "look in a directory: of 64 names / of 4", look(64), look(4), 2
     link = lambda names: meter.each(lambda n: relinking(names, n), 640, 1280, 1)
     yield "link and unlink in a directory: of 60 names / of 2", link(60), link(2), 1.1
     pipe = lambda is_full: meter.each(lambda n: piping(is_full, n), 640, 1280, 1)

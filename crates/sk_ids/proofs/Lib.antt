@@ -8,3 +8,5 @@ pub mod Ordered
 pub mod Newest
 pub mod Same
 pub mod Searches
+pub mod Words
+pub mod Padding

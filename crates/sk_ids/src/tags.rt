@@ -58,6 +58,18 @@ fn is_same_run(ids: &[GuessId], others: &[GuessId]) -> bool
     }
 }
 
+/// Whether a guess in a list that rises has at least this number. Most lists that are asked for a guess have only
+/// older ones.
+fn reaches(ids: &[GuessId], id: GuessId) -> bool
+    requires { IsStrictlySortedBy nat_cmp ids.now }
+    ensures { result ≡ false → has id ids.now ≡ false }
+{
+    match ids {
+        [.., newest] => newest.number() >= id.number(),
+        [] => false,
+    }
+}
+
 impl TagSet {
     /// The set of no guess.
     pub fn new(alloc: Global) -> TagSet
@@ -79,32 +91,21 @@ impl TagSet {
         }
     }
 
-    /// Whether a guess of the set has at least this number. Most sets that are asked for a guess have only
-    /// older ones.
-    fn reaches(&self, id: GuessId) -> bool
-        ensures { result ≡ false → has id self.now ≡ false }
-    {
-        match self.ids.as_slice() {
-            [.., newest] => newest.number() >= id.number(),
-            [] => false,
-        }
-    }
-
-    /// Where a guess stands in the list. Mostly it is the newest, or the oldest.
+    /// Where a guess stands in the list. Mostly it is the oldest, or the newest.
     fn place_of(&self, id: GuessId) -> Option<usize>
         ensures there { IfSome result (λ place. (place < length self.now) × (get_or self.now place 0 ≡ id)) }
         ensures none { result ≡ None → has id self.now ≡ false }
     {
         let ids = self.ids.as_slice();
-        if !self.reaches(id) {
+        match ids.first() {
+            Some(oldest) if *oldest == id => return Some(0),
+            _ => {}
+        }
+        if !reaches(ids, id) {
             return None;
         }
         match ids.last() {
             Some(newest) if *newest == id => return Some(ids.len() - 1),
-            _ => {}
-        }
-        match ids.first() {
-            Some(oldest) if *oldest == id => return Some(0),
             _ => {}
         }
         ids.binary_search(&id).ok()

@@ -1,0 +1,8 @@
+-- Names are the same where they compare so.
+use Rattle.std.proofs.Common.{sym, ap, ◌∙◌}
+use Rattle.std.specs.Ordering.{is_eq}
+use Rattle.std.specs.Cmp.Lexicographic.{texts_ties}
+use Rattle.sk_ids.proofs.name.NamePartialEq.eq.Goals as goal
+
+pub returns : goal.returns
+returns c = c.is_eq.ensures ∙ ap is_eq c.cmp.ensures ∙ sym (texts_ties c.args.self.now c.args.other.now)

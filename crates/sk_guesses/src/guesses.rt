@@ -1,9 +1,11 @@
 //! The guesses that a kernel drew.
 ghost use Rattle.std.specs.Prelude.{◌≡◌, ◌≢◌, ◌<◌, ◌≤◌, ◌+◌, ◌-◌, ◌==◌, ◌∷◌, ◌++◌, ℕ, [], true, length, map, get_or, slice_index_or, slice_set, if◌then◌else◌, Some, IfSome, IfOk, IsOk, OnOk, OnErr, false, not, is_some};
-ghost use Rattle.std.specs.List.{prefix_len};
+ghost use Rattle.std.specs.List.{list_any, prefix_len};
 ghost use Rattle.std.specs.List.Sorted.{IsStrictlySortedBy};
 ghost use Rattle.sk_ids.specs.Entity.{entity_cmp};
+ghost use Rattle.sk_ids.specs.declared.entity.Entity.{Entity};
 ghost use Rattle.std.specs.Option.{unwrap_or};
+ghost use Rattle.std.specs.Ordering.{nat_cmp};
 ghost use Rattle.sk_record.specs.Notes.{has};
 ghost use Rattle.sk_record.specs.Machine.{rests_on};
 ghost use Rattle.sk_record.specs.UndoState.{numbers, not_struck};
@@ -94,6 +96,21 @@ fn depend_on(opens: &mut Vec<OpenGuess>, tags: &TagSet, entity: &Entity)
     }
 }
 
+/// Whether none of these guesses is in a set, as where each in it was drawn later.
+fn are_earlier(opens: &[OpenGuess], tags: &TagSet) -> bool
+    requires { IsStrictlySortedBy nat_cmp (numbers (opens_of (map (λ l. l.guess) opens.now))) }
+    ensures { result ≡ true → (e : Entity) → map (depending tags.now e) (map (λ l. l.guess) opens.now) ≡ map (λ l. l.guess) opens.now }
+{
+    let [.., newest] = opens else {
+        return true;
+    };
+    let ids = tags.ids();
+    let [oldest, ..] = ids else {
+        return true;
+    };
+    newest.id().number() < oldest.number()
+}
+
 /// How many undecided guesses stand before one.
 fn place_of(opens: &[OpenGuess], id: GuessId) -> usize
     ensures { result ≡ prefix_len (λ l. not (l.guess.id == id)) opens.now }
@@ -167,6 +184,13 @@ fn strike_one(statuses: &mut Vec<Status>, before: usize, open: &OpenGuess, id: G
     if open.rests_on(id) {
         statuses[place_after(before, open.id())] = Status::Struck;
     }
+}
+
+/// Whether the own step of one of these guesses rests on a guess.
+fn is_rested_on(opens: &[OpenGuess], id: GuessId) -> bool
+    ensures { result ≡ list_any (λ l. has id l.guess.tags) opens.now }
+{
+    opens.iter().any(|open: &OpenGuess| open.rests_on(id))
 }
 
 /// The undecided guesses whose own steps rest on a guess are struck.
@@ -343,6 +367,9 @@ impl Guesses {
         ensures ok { OnOk result (self.new.opens ≡ map (depending tags.now entity.now) self.old.opens) }
         ensures err { OnErr result (self.new.opens ≡ self.old.opens) }
     {
+        if are_earlier(self.opens.as_slice(), tags) {
+            return Ok(());
+        }
         make_room(&mut self.opens, tags)?;
         depend_on(&mut self.opens, tags, entity);
         Ok(())
@@ -448,6 +475,9 @@ impl Guesses {
         ensures drawn { length self.new.view.statuses ≡ length self.old.view.statuses }
         ensures opens { self.new.opens ≡ not_resting id self.old.opens }
     {
+        if !is_rested_on(self.opens.as_slice(), id) {
+            return;
+        }
         strike_all(
             &mut self.statuses,
             self.earlier.len(),

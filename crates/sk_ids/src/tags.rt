@@ -128,10 +128,13 @@ impl TagSet {
         is_same_run(ids, others) || ids == others
     }
 
-    /// Whether each guess of the other set is in this one. Most sets that are asked are the same.
+    /// Whether each guess of the other set is in this one. Most that are asked for have no guess, or are the same.
     pub fn covers(&self, other: &TagSet) -> bool
         ensures { result ≡ true → (id : ℕ) → has id other.now ≡ true → has id self.now ≡ true }
     {
+        if let [] = other.ids.as_slice() {
+            return true;
+        }
         self.is_same(other) || self.has_all(other)
     }
 
@@ -150,6 +153,7 @@ impl TagSet {
     }
 
     /// Takes a guess out. This takes no memory.
+    #[inline]
     pub fn without(&mut self, id: GuessId)
         ensures { self.new ≡ without id self.old }
     {
@@ -158,8 +162,19 @@ impl TagSet {
         }
     }
 
-    /// A set of the same guesses.
+    /// A set of the same guesses. Most have one at most.
     pub fn copy(&self) -> Result<TagSet, AllocError>
+        ensures { IfOk result (λ copy. copy ≡ self.now) }
+    {
+        match self.ids.as_slice() {
+            [] => Ok(TagSet::new(self.ids.alloc())),
+            [one] => Ok(TagSet::of(self.ids.alloc(), *one)),
+            _ => self.long_copy(),
+        }
+    }
+
+    /// A set of the same guesses, of any length.
+    fn long_copy(&self) -> Result<TagSet, AllocError>
         ensures { IfOk result (λ copy. copy ≡ self.now) }
     {
         let ids = Fronted::of(self.ids.copied()?);

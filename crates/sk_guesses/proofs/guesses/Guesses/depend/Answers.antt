@@ -1,10 +1,23 @@
 -- Numbers and tags stay.
-use Rattle.std.proofs.Common.{◌≡◌, ◌∙◌, ◌≤◌, ap, length, map, sym, arith}
+use Rattle.std.proofs.Common.{◌≡◌, ◌∙◌, ◌≤◌, ap, length, map, sym, subst, arith}
+use Rattle.std.specs.Ordering.{nat_cmp}
+use Rattle.std.specs.List.Sorted.{IsStrictlySortedBy}
+use Rattle.sk_record.specs.UndoState.{numbers}
+use Rattle.sk_guesses.specs.Room.{Roomy}
 use Rattle.std.proofs.lemmas.List.{length-map}
 use Rattle.sk_guesses.specs.Guesses.{GuessesView}
 use Rattle.sk_guesses.specs.Opens.{OpenGuess, opens_of, depending}
 use Rattle.sk_guesses.proofs.Opens.{guess_of, open_same, same_opens, depending_keeps}
 use Rattle.sk_guesses.proofs.guesses.Guesses.depend.Goals as goal
+
+pub are_earlier-requires : goal.are_earlier-requires
+are_earlier-requires c = subst (λ ls. IsStrictlySortedBy nat_cmp (numbers (opens_of (map guess_of ls)))) (sym c.as_slice.ensures.value) c.self.invariant.0.rising
+
+pub returns-then-are_earlier-clause-ok : goal.returns-then-are_earlier-clause-ok
+returns-then-are_earlier-clause-ok c =
+    let f = depending c.args.tags.now c.args.entity.now in
+    let same = subst (λ ls. map f (map guess_of ls) ≡ map guess_of ls) c.as_slice.ensures.value (c.are_earlier.ensures c.if-are_earlier.true c.args.entity.now) in
+    ap (λ (r : Roomy). r.opens) (sym c.self.view_is) ∙ sym same ∙ ap (λ (r : Roomy). map f r.opens) c.self.view_is
 
 pub invariant_of-self-2 : goal.invariant_of-self-2
 invariant_of-self-2 c =

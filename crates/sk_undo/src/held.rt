@@ -1,7 +1,7 @@
 //! What an entity has, in a box of its own, so that slots and notes are a few words.
 ghost use Rattle.std.specs.Prelude.{◌≡◌, OnOk, OnErr, IfOk, Some};
 ghost use Rattle.sk_store.specs.Changed.{FitsAt, changed, StateFits, state_undone};
-ghost use Rattle.sk_store.specs.Processes.{CanBecome, became};
+ghost use Rattle.sk_store.specs.Processes.{CanBecome, IsProcess, became};
 
 use crate::Kept;
 use sk_changes::{Change, Undo};
@@ -52,6 +52,20 @@ impl Held {
     {
         let state = Box::new(alloc, state)?;
         Ok(Held { state })
+    }
+
+    /// Another of the process that it is.
+    pub fn process_copy(&self, alloc: Global) -> Result<Held, AllocError>
+        requires { IsProcess (Some self.now) }
+        ensures { IfOk result (λ copy. copy ≡ self.now) }
+    {
+        match &*self.state {
+            EntityState::Process(process) => {
+                let state = Box::new(alloc, EntityState::Process(*process))?;
+                Ok(Held { state })
+            }
+            EntityState::Value(_) => unreachable!(),
+        }
     }
 
     /// What the entity has.

@@ -96,11 +96,10 @@ fn process_copy(alloc: Global, value: &Option<Held>) -> Result<Option<Held>, All
     requires { IsProcess value.now }
     ensures { IfOk result (λ copy. copy ≡ value.now) }
 {
-    let Some(held) = value else {
-        unreachable!();
-    };
-    let state = held.state().copy()?;
-    Ok(Some(Held::new(alloc, state)?))
+    match value {
+        Some(held) => Ok(Some(held.process_copy(alloc)?)),
+        None => unreachable!(),
+    }
 }
 
 /// The tags of the newest note.

@@ -111,16 +111,17 @@ impl Slots {
         self.slots.len()
     }
 
-    fn slot(&self, entity: Entity) -> Option<&Slot>
-        ensures { option_copied result ≡ map.get self.now entity }
+    #[inline(always)]
+    fn slot(&self, entity: &Entity) -> Option<&Slot>
+        ensures { option_copied result ≡ map.get self.now entity.now }
     {
-        self.slots.get(&entity)
+        self.slots.get(entity)
     }
 
     pub fn value(&self, entity: Entity) -> Option<&EntityState>
         ensures { option_copied result ≡ look_at self.now entity }
     {
-        match self.slot(entity) {
+        match self.slot(&entity) {
             Some(slot) => slot.value(),
             None => None,
         }
@@ -130,7 +131,7 @@ impl Slots {
     pub fn tags(&self, entity: Entity) -> Option<&TagSet>
         ensures { unwrap_or (option_copied result) [] ≡ last_tags [] (log_at self.now entity) }
     {
-        match self.slot(entity) {
+        match self.slot(&entity) {
             Some(slot) => Some(slot.tags()),
             None => None,
         }

@@ -111,7 +111,6 @@ impl Slots {
         self.slots.len()
     }
 
-    #[inline(always)]
     fn slot(&self, entity: &Entity) -> Option<&Slot>
         ensures { option_copied result ≡ map.get self.now entity.now }
     {

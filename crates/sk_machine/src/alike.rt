@@ -151,6 +151,16 @@ fn writes_alike(logs: &Logs, untagged: &TagSet, pid: Pid, plan: &Plan) -> bool
     }
 }
 
+/// The next step rests on no guess. Mostly the last one did not either.
+fn set_untagged(logs: &mut Logs)
+    ensures { logs.new ≡ record { slots = logs.old.slots; tags = [] } }
+{
+    if is_none(logs.next_tags()) {
+        return;
+    }
+    logs.set_tags(TagSet::new(logs.memory()));
+}
+
 /// Makes the guesses of a process those of its next step, and answers whether they are: it reads nothing that rests on
 /// others, and all that it writes rests on just these. Without memory nothing has changed.
 pub(crate) fn set_alike(
@@ -171,7 +181,7 @@ pub(crate) fn set_alike(
     ensures rising { IfOk result (λ alike. IsStrictlySortedBy nat_cmp logs.new.tags) }
 {
     if guesses.undecided() == 0 {
-        logs.set_tags(TagSet::new(logs.memory()));
+        set_untagged(logs);
         let _rising = logs.next_tags().ids();
         return Ok(true);
     }

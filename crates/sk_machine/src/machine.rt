@@ -219,8 +219,10 @@ impl Machine {
         pid: Pid,
         input: InputRef<'_>,
         plan: &Plan,
+        written: &[Entity],
         own: &Option<GuessId>,
     ) -> Result<TagSet, AllocError>
+        requires written { written.now ≡ written_in pid plan.now }
         requires tidy { IsTidy (undo_state_of self.now) }
         requires rising { IsStrictlySortedBy nat_cmp (numbers self.now.opens ++ marks own.now) }
         ensures exact { IfOk result (λ tags. tags ≡ step_tags (undo_state_of self.now) (planned_effect self.now (record { pid = pid; input = (input_in input.entry); guess = own.now }) (seen_with (look_at self.now.slots) scripts.now pid (input_in input.entry) plan.now))) }
@@ -233,7 +235,7 @@ impl Machine {
             return Ok(own);
         }
         let read = self.add_tags(own, plan.reads(pid, input).as_slice())?;
-        self.add_tags(read, plan.writes(pid).as_slice())
+        self.add_tags(read, written)
     }
 
     /// Takes a planned step that is no guess. Without memory nothing has changed.
@@ -275,6 +277,7 @@ impl Machine {
     }
 
     /// The same, where what it writes may come to rest on more. Without memory nothing has changed.
+    #[inline(never)]
     fn take_apart(
         &mut self,
         scripts: &Scripts,
@@ -291,9 +294,9 @@ impl Machine {
         ensures guesses { self.new.guesses ≡ self.old.guesses }
         ensures err { OnErr result (self.new ≡ self.old) }
     {
-        let tags = self.step_tags(scripts, pid, input, plan, &None)?;
         let written = plan.writes(pid);
         let entities = written.as_slice();
+        let tags = self.step_tags(scripts, pid, input, plan, entities, &None)?;
         depend_all(
             &mut self.guesses,
             &self.logs,
@@ -340,10 +343,10 @@ impl Machine {
         let Some(id) = self.guesses.free() else {
             unreachable!();
         };
-        let tags = self.step_tags(scripts, pid, input, plan, &Some(id))?;
-        let own_tags = tags.copy()?;
         let written = plan.writes(pid);
         let entities = written.as_slice();
+        let tags = self.step_tags(scripts, pid, input, plan, entities, &Some(id))?;
+        let own_tags = tags.copy()?;
         depend_all(
             &mut self.guesses,
             &self.logs,

@@ -20,8 +20,8 @@ returns-then-undecided-eq0-clause-own c =
     let m = c.args.logs.now.slots in
     let os = opens_of c.args.guesses.now.opens in
     let none : opens_of c.args.guesses.now.opens ≡ [] = ap opens_of (no_length c.args.guesses.now.opens (sym c.undecided.ensures.opens ∙ c.if-undecided-eq0.true)) in
-    let slots = ap (λ (l : LogsView). l.slots) c.set_tags.ensures in
-    let tags : c.set_tags.new.self.tags ≡ [] = ap (λ (l : LogsView). l.tags) c.set_tags.ensures ∙ c.new.ensures in
+    let slots = ap (λ (l : LogsView). l.slots) c.set_untagged.ensures in
+    let tags : c.set_untagged.new.logs.tags ≡ [] = ap (λ (l : LogsView). l.tags) c.set_untagged.ensures in
     λ _. ap (λ k. tags_in k (Proc c.args.pid)) slots ∙ untagged m os c.requires.tidy none (Proc c.args.pid) ∙ sym tags
 
 pub returns-then-undecided-eq0-clause-reads : goal.returns-then-undecided-eq0-clause-reads
@@ -29,19 +29,19 @@ returns-then-undecided-eq0-clause-reads c =
     let m = c.args.logs.now.slots in
     let os = opens_of c.args.guesses.now.opens in
     let none : opens_of c.args.guesses.now.opens ≡ [] = ap opens_of (no_length c.args.guesses.now.opens (sym c.undecided.ensures.opens ∙ c.if-undecided-eq0.true)) in
-    let slots = ap (λ (l : LogsView). l.slots) c.set_tags.ensures in
-    let tags : c.set_tags.new.self.tags ≡ [] = ap (λ (l : LogsView). l.tags) c.set_tags.ensures ∙ c.new.ensures in
+    let slots = ap (λ (l : LogsView). l.slots) c.set_untagged.ensures in
+    let tags : c.set_untagged.new.logs.tags ≡ [] = ap (λ (l : LogsView). l.tags) c.set_untagged.ensures in
     λ _.
-    subst (λ k. Covers c.set_tags.new.self.tags (read_by c.args.pid (input_in c.args.input) (looked (looks_of c.args.plan.now))) (tags_in k)) (sym slots)
-    (open_covered m os c.requires.tidy c.set_tags.new.self.tags (read_by c.args.pid (input_in c.args.input) (looked (looks_of c.args.plan.now))) (tags ∙ sym (ap numbers none)))
+    subst (λ k. Covers c.set_untagged.new.logs.tags (read_by c.args.pid (input_in c.args.input) (looked (looks_of c.args.plan.now))) (tags_in k)) (sym slots)
+    (open_covered m os c.requires.tidy c.set_untagged.new.logs.tags (read_by c.args.pid (input_in c.args.input) (looked (looks_of c.args.plan.now))) (tags ∙ sym (ap numbers none)))
 
 pub returns-then-undecided-eq0-clause-writes : goal.returns-then-undecided-eq0-clause-writes
 returns-then-undecided-eq0-clause-writes c =
     let m = c.args.logs.now.slots in
     let os = opens_of c.args.guesses.now.opens in
     let none : opens_of c.args.guesses.now.opens ≡ [] = ap opens_of (no_length c.args.guesses.now.opens (sym c.undecided.ensures.opens ∙ c.if-undecided-eq0.true)) in
-    let slots = ap (λ (l : LogsView). l.slots) c.set_tags.ensures in
-    let tags : c.set_tags.new.self.tags ≡ [] = ap (λ (l : LogsView). l.tags) c.set_tags.ensures ∙ c.new.ensures in
+    let slots = ap (λ (l : LogsView). l.slots) c.set_untagged.ensures in
+    let tags : c.set_untagged.new.logs.tags ≡ [] = ap (λ (l : LogsView). l.tags) c.set_untagged.ensures in
     λ _ e there. ap (λ k. tags_in k e) slots ∙ untagged m os c.requires.tidy none e ∙ sym tags
 
 pub writes_alike-requires-clause-own : goal.writes_alike-requires-clause-own

@@ -45,7 +45,7 @@ returns-clause-exact c =
     let scripts = c.args.scripts.now in
     let plan = seen_with (look_at m.slots) scripts n.pid n.input c.args.plan.now in
     let read = c.as_slice.ensures.value ∙ c.reads.ensures in
-    let written = c.as_slice-2.ensures.value ∙ c.writes.ensures ∙ sym (written_is (look_at m.slots) scripts n.pid n.input c.args.plan.now) in
+    let written = c.requires.written ∙ sym (written_is (look_at m.slots) scripts n.pid n.input c.args.plan.now) in
     if_ok c.add_tags-2.result c.add_tags-2.ensures.members c.add_tags-2.ensures.rising (λ tags members rising.
     tags_are m n plan tags c.requires.tidy c.requires.rising rising
     (λ g. members g ∙ (λ i. ((c.in_ok-read.ensures.members g ∙ (λ j. c.own_tags-own.ensures g j || any_rests m g (read j))) i) || any_rests m g (written i))))
@@ -54,13 +54,13 @@ pub returns-clause-own : goal.returns-clause-own
 returns-clause-own c =
     let m = c.args.self.now in
     if_ok c.add_tags-2.result c.add_tags-2.ensures.members c.add_tags-2.ensures.rising (λ tags members rising. λ g is.
-    members g ∙ (λ i. (c.in_ok-read.ensures.members g i) || any_rests m g c.as_slice-2.result.now)
-    ∙ own_among (has g c.own_tags-own.result) (any_rests m g c.as_slice.result.now) (any_rests m g c.as_slice-2.result.now) (c.own_tags-own.ensures g ∙ is))
+    members g ∙ (λ i. (c.in_ok-read.ensures.members g i) || any_rests m g c.args.written.now)
+    ∙ own_among (has g c.own_tags-own.result) (any_rests m g c.as_slice.result.now) (any_rests m g c.args.written.now) (c.own_tags-own.ensures g ∙ is))
 
 pub returns-clause-covers : goal.returns-clause-covers
 returns-clause-covers c =
     let m = c.args.self.now in
-    let written = c.as_slice-2.ensures.value ∙ c.writes.ensures in
+    let written = c.requires.written in
     if_ok c.add_tags-2.result c.add_tags-2.ensures.members c.add_tags-2.ensures.rising (λ tags members rising. λ e g there rests.
     members g ∙ (λ i. (c.in_ok-read.ensures.members g i) || any_rests m g (written i))
     ∙ last_among (has g c.own_tags-own.result) (any_rests m g c.as_slice.result.now) (any_rests m g (written_in c.args.pid c.args.plan.now)) (any_of (tags_in m.slots) g (written_in c.args.pid c.args.plan.now) e there rests))

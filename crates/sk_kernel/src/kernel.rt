@@ -327,7 +327,7 @@ impl Kernel {
     pub fn step_lent(&mut self, pid: Pid, input: InputRef<'_>) -> Result<(), Refusal>
         ensures { StepPost result (step_refused self.old (record { pid = pid; input = (input_in input.entry); guess = None })) (events.Step pid (input_in input.entry)) self.old self.new }
     {
-        let plan = match plan_at(&self.machine, &self.opening, pid, input) {
+        let plan = match plan_step(&self.machine, self.opening.scripts(), pid, input) {
             Ok(plan) => plan,
             Err(why) => return Err(why),
         };

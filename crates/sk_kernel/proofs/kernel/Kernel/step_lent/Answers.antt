@@ -1,8 +1,15 @@
 -- The plan is what the plain kernel does on the trace's record; the machine takes it, and stands for the trace with one event more.
 use Rattle.std.proofs.Common.{◌+◌, ◌<◌, ◌^◌, ◌≡◌, Some, None, ◌∷◌, ◌++◌, [], refl, sym, ◌∙◌, ap, subst, arith, rules}
+use Rattle.std.specs.Prelude.{ℕ, Result, Ok, Err}
 use Rattle.sk_record.specs.Merged.{MergedTakes}
 use Rattle.sk_machine.specs.Parts.{machine_of}
+use Rattle.sk_script.specs.Scripts.{ScriptMap}
+use Rattle.sk_script.specs.declared.instruction.Input.{Input}
+use Rattle.sk_undo.specs.Logs.{SlotMap, look_at}
 use Rattle.sk_plain.specs.Act.{plain}
+use Rattle.sk_plain.specs.Seen.{PlansStep}
+use Rattle.sk_plain.specs.declared.plan.Plan.{Plan}
+use Rattle.sk_plain.specs.declared.refusal.Refusal.{Refusal}
 use Rattle.sk_trace.specs.Entry.{EntryView}
 use Rattle.sk_trace.specs.Kept.{input_in}
 use Rattle.sk_trace.specs.declared.event.Event.TheVariants as events
@@ -16,12 +23,16 @@ use Rattle.sk_kernel.proofs.Rooms.{roomy, crowded_by}
 use Rattle.sk_kernel.proofs.Opened.{still_opened, few_open}
 use Rattle.sk_kernel.proofs.kernel.Kernel.step_lent.Goals as goal
 
+by_scripts : (m : SlotMap) (pid : ℕ) (input : Input) (result : Result Plan Refusal) (scripts known : ScriptMap) → scripts ≡ known
+    → PlansStep (look_at m) scripts pid input result → PlansStep (look_at m) known pid input result
+by_scripts m pid input result scripts known is = subst (λ s. PlansStep (look_at m) s pid input result) is
+
 pub returns-in-Err : goal.returns-in-Err
 returns-in-Err c =
     let n : EntryView = record { pid = c.args.pid; input = (input_in c.args.input); guess = None } in
     let why = c.in-Err.why in
     let refused = subst (λ (k : KernelView). step_refused k n ≡ Some why) c.self.view_is
-    (step_misfits (the_view c.self.inside) c.self.inside.machine c.self.inside.trace.room c.self.invariant.0 n why c.in-Err.ensures.plans) in
+    (step_misfits (the_view c.self.inside) c.self.inside.machine c.self.inside.trace.room c.self.invariant.0 n why (by_scripts c.self.inside.machine.slots c.args.pid (input_in c.args.input) (Err why) c.scripts.result.now c.self.inside.opening.start.scripts c.scripts.ensures c.in-Err.ensures.step).plans) in
     search (rules, refused)
 
 pub returns-then-is_crowded : goal.returns-then-is_crowded
@@ -29,7 +40,7 @@ returns-then-is_crowded c =
     let n : EntryView = record { pid = c.args.pid; input = (input_in c.args.input); guess = None } in
     let none = crowded_by (the_view c.self.inside) c.self.inside.machine c.self.inside.trace.room c.self.invariant.0 n c.in-Ok.plan c.is_crowded.result c.is_crowded.ensures c.if-is_crowded.true in (
       subst (λ (k : KernelView). step_refused k n ≡ Some NoRoom) c.self.view_is
-          (step_crowded (the_view c.self.inside) c.self.inside.machine c.self.inside.trace.room c.self.invariant.0 n _ c.in-Ok.ensures.plans none),
+          (step_crowded (the_view c.self.inside) c.self.inside.machine c.self.inside.trace.room c.self.invariant.0 n _ (by_scripts c.self.inside.machine.slots c.args.pid (input_in c.args.input) (Ok c.in-Ok.plan) c.scripts.result.now c.self.inside.opening.start.scripts c.scripts.ensures c.in-Ok.ensures.step).plans none),
       refl,
     )
 
@@ -38,7 +49,7 @@ returns-then-room-lt1 c =
     let n : EntryView = record { pid = c.args.pid; input = (input_in c.args.input); guess = None } in
     let free = roomy (the_view c.self.inside) c.self.inside.machine c.self.inside.trace.room c.self.invariant.0 n c.in-Ok.plan c.is_crowded.result c.is_crowded.ensures c.if-is_crowded.false in (
       subst (λ (k : KernelView). step_refused k n ≡ Some TraceFull) c.self.view_is
-          (step_without_room (the_view c.self.inside) c.self.inside.machine c.self.inside.trace.room c.self.invariant.0 n _ c.room.result c.in-Ok.ensures.plans free (c.room.ensures ∙ ap room (sym c.self.view_is)) c.if-room-lt1.true),
+          (step_without_room (the_view c.self.inside) c.self.inside.machine c.self.inside.trace.room c.self.invariant.0 n _ c.room.result (by_scripts c.self.inside.machine.slots c.args.pid (input_in c.args.input) (Ok c.in-Ok.plan) c.scripts.result.now c.self.inside.opening.start.scripts c.scripts.ensures c.in-Ok.ensures.step).plans free (c.room.ensures ∙ ap room (sym c.self.view_is)) c.if-room-lt1.true),
       refl,
     )
 
@@ -47,7 +58,7 @@ returns-then-is_err c =
     let n : EntryView = record { pid = c.args.pid; input = (input_in c.args.input); guess = None } in
     let free = roomy (the_view c.self.inside) c.self.inside.machine c.self.inside.trace.room c.self.invariant.0 n c.in-Ok.plan c.is_crowded.result c.is_crowded.ensures c.if-is_crowded.false in (
       subst (λ (k : KernelView). step_refused k n ≡ None) c.self.view_is
-          (step_free (the_view c.self.inside) c.self.inside.machine c.self.inside.trace.room c.self.invariant.0 n _ c.room.result c.in-Ok.ensures.plans free (c.room.ensures ∙ ap room (sym c.self.view_is)) c.if-room-lt1.false),
+          (step_free (the_view c.self.inside) c.self.inside.machine c.self.inside.trace.room c.self.invariant.0 n _ c.room.result (by_scripts c.self.inside.machine.slots c.args.pid (input_in c.args.input) (Ok c.in-Ok.plan) c.scripts.result.now c.self.inside.opening.start.scripts c.scripts.ensures c.in-Ok.ensures.step).plans free (c.room.ensures ∙ ap room (sym c.self.view_is)) c.if-room-lt1.false),
       (λ i. record { number = c.self.inside.machine.guesses.kernel; scripts = c.self.inside.opening.start.scripts; start = c.self.inside.opening.start.state; limit = c.self.inside.opening.limit; earlier = c.self.inside.machine.guesses.earlier; trace = c.reserve.ensures.events i })
           ∙ c.self.view_is,
     )
@@ -57,7 +68,7 @@ returns-in-Err-keep c =
     let n : EntryView = record { pid = c.args.pid; input = (input_in c.args.input); guess = None } in
     let free = roomy (the_view c.self.inside) c.self.inside.machine c.self.inside.trace.room c.self.invariant.0 n c.in-Ok.plan c.is_crowded.result c.is_crowded.ensures c.if-is_crowded.false in (
       subst (λ (k : KernelView). step_refused k n ≡ None) c.self.view_is
-          (step_free (the_view c.self.inside) c.self.inside.machine c.self.inside.trace.room c.self.invariant.0 n _ c.room.result c.in-Ok.ensures.plans free (c.room.ensures ∙ ap room (sym c.self.view_is)) c.if-room-lt1.false),
+          (step_free (the_view c.self.inside) c.self.inside.machine c.self.inside.trace.room c.self.invariant.0 n _ c.room.result (by_scripts c.self.inside.machine.slots c.args.pid (input_in c.args.input) (Ok c.in-Ok.plan) c.scripts.result.now c.self.inside.opening.start.scripts c.scripts.ensures c.in-Ok.ensures.step).plans free (c.room.ensures ∙ ap room (sym c.self.view_is)) c.if-room-lt1.false),
       (λ i. record { number = c.self.inside.machine.guesses.kernel; scripts = c.self.inside.opening.start.scripts; start = c.self.inside.opening.start.state; limit = c.self.inside.opening.limit; earlier = c.self.inside.machine.guesses.earlier; trace = c.reserve.ensures.events i })
           ∙ c.self.view_is,
     )
@@ -74,7 +85,7 @@ returns-then-is_err-2 c =
     let free = roomy (the_view c.self.inside) c.self.inside.machine c.self.inside.trace.room c.self.invariant.0 n c.in-Ok.plan c.is_crowded.result c.is_crowded.ensures c.if-is_crowded.false in
     let same = from_err c.take_step.result c.if-is_err-2.ensures.value c.take_step.ensures.err in (
       subst (λ (k : KernelView). step_refused k n ≡ None) c.self.view_is
-          (step_free (the_view c.self.inside) c.self.inside.machine c.self.inside.trace.room c.self.invariant.0 n _ c.room.result c.in-Ok.ensures.plans free (c.room.ensures ∙ ap room (sym c.self.view_is)) c.if-room-lt1.false),
+          (step_free (the_view c.self.inside) c.self.inside.machine c.self.inside.trace.room c.self.invariant.0 n _ c.room.result (by_scripts c.self.inside.machine.slots c.args.pid (input_in c.args.input) (Ok c.in-Ok.plan) c.scripts.result.now c.self.inside.opening.start.scripts c.scripts.ensures c.in-Ok.ensures.step).plans free (c.room.ensures ∙ ap room (sym c.self.view_is)) c.if-room-lt1.false),
       (λ i. record { number = (same i).guesses.kernel; scripts = c.self.inside.opening.start.scripts; start = c.self.inside.opening.start.state; limit = c.self.inside.opening.limit; earlier = (same i).guesses.earlier; trace = c.reserve.ensures.events i })
           ∙ c.self.view_is,
     )
@@ -82,7 +93,7 @@ returns-then-is_err-2 c =
 pub invariant_of-self-2 : goal.invariant_of-self-2
 invariant_of-self-2 c =
     let n : EntryView = record { pid = c.args.pid; input = (input_in c.args.input); guess = None } in
-    let takes = subst (λ s. MergedTakes (plain s) (machine_of c.self.inside.machine) n (machine_of c.take_step.new.self)) c.scripts.ensures (from_ok c.take_step.result c.if-is_err-2.ensures.value c.take_step.ensures.ok) in
+    let takes = subst (λ s. MergedTakes (plain s) (machine_of c.self.inside.machine) n (machine_of c.take_step.new.self)) c.scripts-2.ensures (from_ok c.take_step.result c.if-is_err-2.ensures.value c.take_step.ensures.ok) in
     let opens = no_more_opens c.self.inside.opening.start.scripts c.self.inside.machine c.take_step.new.self c.args.pid (input_in c.args.input) takes in
     let reserved = from_ok c.reserve.result c.if-is_err.ensures.value c.reserve.ensures.room in
     let pushed = c.push.ensures.room in
@@ -100,7 +111,7 @@ returns c =
     let free = roomy (the_view c.self.inside) c.self.inside.machine c.self.inside.trace.room c.self.invariant.0 n c.in-Ok.plan c.is_crowded.result c.is_crowded.ensures c.if-is_crowded.false in
     let more = c.push.ensures.events ∙ (λ i. c.reserve.ensures.events i ++ events.Step c.args.pid (c.in-Ok-keep.ensures.ok i) ∷ []) in (
       subst (λ (k : KernelView). step_refused k n ≡ None) c.self.view_is
-          (step_free (the_view c.self.inside) c.self.inside.machine c.self.inside.trace.room c.self.invariant.0 n _ c.room.result c.in-Ok.ensures.plans free (c.room.ensures ∙ ap room (sym c.self.view_is)) c.if-room-lt1.false),
+          (step_free (the_view c.self.inside) c.self.inside.machine c.self.inside.trace.room c.self.invariant.0 n _ c.room.result (by_scripts c.self.inside.machine.slots c.args.pid (input_in c.args.input) (Ok c.in-Ok.plan) c.scripts.result.now c.self.inside.opening.start.scripts c.scripts.ensures c.in-Ok.ensures.step).plans free (c.room.ensures ∙ ap room (sym c.self.view_is)) c.if-room-lt1.false),
       (λ i. record { number = (c.take_step.ensures.guesses i).kernel; scripts = c.self.inside.opening.start.scripts; start = c.self.inside.opening.start.state; limit = c.self.inside.opening.limit; earlier = (c.take_step.ensures.guesses i).earlier; trace = more i })
           ∙ ap (λ (k : KernelView). with_event k (events.Step c.args.pid (input_in c.args.input))) c.self.view_is,
     )

@@ -48,6 +48,20 @@ fn cells_of(cells: &Option<Box<[u8; BLOCK]>>) -> [u8; BLOCK]
     }
 }
 
+/// A copy of the cells of a block.
+#[tactic(auto, unfolding(crate::specs::Blocks::blank))]
+fn boxed_cells(
+    alloc: Global,
+    cells: &Option<Box<[u8; BLOCK]>>,
+) -> Result<Box<[u8; BLOCK]>, AllocError>
+    ensures { IfOk result (λ copy. copy.value ≡ cell cells.now) }
+{
+    match cells {
+        Some(cells) => Ok(Box::new(alloc, **cells)?),
+        None => Ok(Box::new(alloc, [0; BLOCK])?),
+    }
+}
+
 /// The cells of a block, lent.
 #[tactic(auto, unfolding(crate::specs::Blocks::blank))]
 fn lent_cells(cells: &Option<Box<[u8; BLOCK]>>) -> &[u8]
@@ -108,9 +122,8 @@ impl Block {
         ensures value { IfOk result (λ block. block ≡ overwritten self.now at bytes.now) }
         ensures len { length self.now ≡ 512 }
     {
-        let mut cells = cells_of(&self.cells);
-        place(&mut cells, at, bytes);
-        let cells = Box::new(alloc, cells)?;
+        let mut cells = boxed_cells(alloc, &self.cells)?;
+        place(cells.as_mut(), at, bytes);
         Ok(Block { cells: Some(cells) })
     }
 

@@ -66,4 +66,11 @@ impl Content {
     {
         self.bytes
     }
+
+    /// The bytes, lent.
+    pub fn text(&self) -> &Text
+        ensures { result.now ≡ self.now.bytes }
+    {
+        &self.bytes
+    }
 }

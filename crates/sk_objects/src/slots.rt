@@ -157,8 +157,8 @@ fn read_slots(slots: &[Block], at: usize, out: &mut [u8])
     back.copy_from_slice(&slots[slot + 1].as_slice()[..count - room]);
 }
 
-/// So many bytes, at most 512, from a place on.
-pub(crate) fn read_text(slots: &[Block], at: usize, count: usize) -> Text
+/// So many bytes, at most 512, that may lie in two blocks.
+fn read_across(slots: &[Block], at: usize, count: usize) -> Text
     requires slots { length slots.now ≡ 64 }
     requires blocks { AreBlocks slots.now }
     requires short { count ≤ 512 }
@@ -168,6 +168,22 @@ pub(crate) fn read_text(slots: &[Block], at: usize, count: usize) -> Text
     let mut bytes = [0; 512];
     read_slots(slots, at, &mut bytes[..count]);
     Text::new(&bytes[..count]).unwrap()
+}
+
+/// So many bytes, at most 512, from a place on. In one block they are read where they stand.
+pub(crate) fn read_text(slots: &[Block], at: usize, count: usize) -> Text
+    requires slots { length slots.now ≡ 64 }
+    requires blocks { AreBlocks slots.now }
+    requires short { count ≤ 512 }
+    requires end { at + count ≤ 32768 }
+    ensures { result ≡ part (joined slots.now) at count }
+{
+    let within = at % BLOCK;
+    if count == 0 || count > BLOCK - within {
+        return read_across(slots, at, count);
+    }
+    let block = slots[at / BLOCK].as_slice();
+    Text::new(&block[within..within + count]).unwrap()
 }
 
 /// Whether blocks are the same.

@@ -1,5 +1,5 @@
 //! What an entity holds.
-ghost use Rattle.std.specs.Prelude.{◌≡◌, ◌≢◌, ◌≤◌, min, IfOk, IfSome};
+ghost use Rattle.std.specs.Prelude.{◌≡◌, ◌≢◌, ◌≤◌, min, [], unwrap_or, IfOk, IfSome};
 ghost use Rattle.sk_objects.specs.Content.{LAST_VERSION};
 ghost use Rattle.sk_ids.specs.declared.text.TheConstants.{TEXT_LIMIT};
 ghost use Rattle.sk_objects.specs.File.{part as bytes_part};
@@ -114,13 +114,23 @@ impl Value {
     pub fn bytes_at(&self, offset: u64, count: usize) -> Option<Text>
         ensures { result ≡ bytes_from self.now offset count }
     {
+        match self {
+            Value::File(_) | Value::Pipe(_) | Value::Copy(_) => Some(self.text_at(offset, count)),
+            _ => None,
+        }
+    }
+
+    /// The same bytes; none for another kind.
+    pub fn text_at(&self, offset: u64, count: usize) -> Text
+        ensures { result ≡ unwrap_or (bytes_from self.now offset count) [] }
+    {
         let at = offset as usize;
         let count = count.min(TEXT_LIMIT);
         match self {
-            Value::File(file) => Some(file.part(at, count)),
-            Value::Pipe(pipe) => Some(pipe.part(at, count)),
-            Value::Copy(content) => Some(part(&content.bytes(), at, count)),
-            _ => None,
+            Value::File(file) => file.part(at, count),
+            Value::Pipe(pipe) => pipe.part(at, count),
+            Value::Copy(content) => part(content.text(), at, count),
+            _ => Text::empty(),
         }
     }
 
@@ -132,7 +142,7 @@ impl Value {
         match self {
             Value::File(file) => Some(file.len() as u32),
             Value::Pipe(pipe) => Some(pipe.len() as u32),
-            Value::Copy(content) => Some(content.bytes().len() as u32),
+            Value::Copy(content) => Some(content.text().len() as u32),
             _ => None,
         }
     }

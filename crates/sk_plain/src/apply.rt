@@ -1,7 +1,7 @@
 //! Doing what was planned, where things stand. Nothing here knows of instructions.
-ghost use Rattle.std.specs.Prelude.{◌≡◌, ◌≤◌, ◌+◌, ◌<◌, ◌^◌, OnOk, OnErr, IfOk, Some, None, []};
-ghost use Rattle.std.specs.Option.{option_copied};
+ghost use Rattle.std.specs.Prelude.{◌≡◌, ◌≢◌, ◌≤◌, ◌+◌, ◌<◌, ◌^◌, OnOk, OnErr, IfOk, Some, None, []};
 ghost use Rattle.sk_ids.specs.declared.entity.Entity.TheVariants.{Proc, Sig, Exit, Copy};
+ghost use Rattle.sk_objects.specs.Value.{empty_of};
 ghost use Rattle.sk_objects.specs.declared.content.TheConstants.{LAST_VERSION};
 ghost use Rattle.sk_objects.specs.declared.value.Value.TheVariants as values;
 ghost use Rattle.sk_script.specs.Private.{moved};
@@ -9,19 +9,17 @@ ghost use Rattle.sk_terminal.specs.Terminals.{said_to};
 ghost use Rattle.sk_trace.specs.Kept.{input_in};
 ghost use Rattle.sk_store.specs.declared.entity_state.EntityState.TheVariants as stored;
 ghost use Rattle.sk_store.specs.Processes.{CanBecome as CanBecomeThere, became, process_in, IsProcess};
-ghost use Rattle.sk_plain.specs.Act.{next_in};
 ghost use Rattle.sk_plain.specs.Plan.{Nowhere, Birth};
 ghost use Rattle.sk_plain.specs.Planned.{CanBecome, CanDo, IsBeside, child_of, value_of, said_by, texts_after, writes_of, wrote_all};
 ghost use Rattle.sk_plain.specs.Seen.{CanChange, CanPerform, HasContent, IsWritable, beside_of, content_in, process_given, row_seen, written, text_in, seen_with};
 ghost use Rattle.sk_plain.specs.Forked.{CanFork, forked};
 
-use crate::becomes::{Filling, Forking};
-use crate::step::instruction_at;
+use crate::becomes::{Doing, Filling, Forking};
 use crate::{Becomes, Beside, Errno, InputRef, Looks, Plan, ProcessChange, Row, Writes};
 use sk_changes::Change;
 use sk_ids::{Entity, Name, Pid, Text};
 use sk_objects::{Content, Kind, Value};
-use sk_script::{Instruction, Process, Register, Scripts, Val};
+use sk_script::{Process, Register, Scripts, Val};
 use sk_store::{Becoming, EntityState, Keeper, Look};
 use sk_terminal::Terminals;
 use std::alloc::AllocError;
@@ -45,10 +43,7 @@ fn read<K: Look>(keeper: &K, looks: &Looks, from: u64, count: u32) -> Text
         return Text::empty();
     };
     match keeper.value(*entity) {
-        Some(EntityState::Value(value)) => match value.bytes_at(from, count as usize) {
-            Some(text) => text,
-            None => Text::empty(),
-        },
+        Some(EntityState::Value(value)) => value.text_at(from, count as usize),
         _ => Text::empty(),
     }
 }
@@ -65,7 +60,34 @@ fn version_of<K: Look>(keeper: &K, pid: Pid, version: u64) -> Content
     }
 }
 
+/// A value of a kind with nothing in it.
+#[inline(never)]
+fn write_empty<K: Keeper>(keeper: &mut K, entity: Entity, kind: Kind) -> Result<K::Back, AllocError>
+    requires { kind ≢ Kind.Link }
+    ensures ok { OnOk result (keeper.new ≡ K.wrote keeper.old entity (Some (stored.Value (empty_of kind)))) }
+    ensures can { IfOk result (λ back. K.can_take_back keeper.new back) }
+    ensures back { IfOk result (λ back. K.taken_back keeper.new back ≡ keeper.old) }
+    ensures err { OnErr result (keeper.new ≡ keeper.old) }
+{
+    let value = Value::empty(keeper.memory(), kind)?;
+    keeper.write(entity, EntityState::Value(value))
+}
+
+/// The first version of a cached copy.
+#[inline(never)]
+fn write_first<K: Keeper>(keeper: &mut K, pid: Pid, entity: Entity) -> Result<K::Back, AllocError>
+    requires { IsProcess (K.look keeper.old (Proc pid)) }
+    ensures ok { OnOk result (keeper.new ≡ K.wrote keeper.old entity (Some (stored.Value (values.Copy (record { version = 1; bytes = (process_in (K.look keeper.old (Proc pid))).buffer }))))) }
+    ensures can { IfOk result (λ back. K.can_take_back keeper.new back) }
+    ensures back { IfOk result (λ back. K.taken_back keeper.new back ≡ keeper.old) }
+    ensures err { OnErr result (keeper.new ≡ keeper.old) }
+{
+    let content = version_of(keeper, pid, 1);
+    keeper.write(entity, EntityState::Value(Value::Copy(content)))
+}
+
 /// An entity becomes this. Without memory nothing has changed.
+#[inline(never)]
 fn write_one<K: Keeper>(
     keeper: &mut K,
     pid: Pid,
@@ -81,20 +103,14 @@ fn write_one<K: Keeper>(
     ensures err { OnErr result (keeper.new ≡ keeper.old) }
 {
     let change = match writes {
-        Writes::Empty(kind) => {
-            let value = Value::empty(keeper.memory(), *kind)?;
-            return keeper.write(entity, EntityState::Value(value));
-        }
+        Writes::Empty(kind) => return write_empty(keeper, entity, *kind),
         Writes::Exited(status) => {
             return keeper.write(entity, EntityState::Value(Value::Exit(Some(*status))));
         }
         Writes::Linked(object) => {
             return keeper.write(entity, EntityState::Value(Value::link(*object)));
         }
-        Writes::First => {
-            let content = version_of(keeper, pid, 1);
-            return keeper.write(entity, EntityState::Value(Value::Copy(content)));
-        }
+        Writes::First => return write_first(keeper, pid, entity),
         Writes::Over(version) => Change::SetCopy(version_of(keeper, pid, *version)),
         Writes::At(offset) => Change::WriteAt {
             offset: *offset,
@@ -141,6 +157,7 @@ fn changed<C: Becoming>(process: &Process, by: &C) -> Process
 }
 
 /// The process, and then an entity is made absent. Where that wants memory the process is taken back.
+#[inline(never)]
 fn write_gone<K: Keeper, C: Becoming>(
     keeper: &mut K,
     pid: Pid,
@@ -184,6 +201,33 @@ fn write_beside<K: Keeper, C: Becoming>(
     }
 }
 
+/// A row that fills the process's buffer.
+fn fill<K: Keeper>(
+    keeper: &mut K,
+    pid: Pid,
+    row: &Row,
+    from: u64,
+    count: u32,
+    number: Option<u64>,
+) -> Result<(), AllocError>
+    requires there { IsProcess (K.look keeper.old (Proc pid)) }
+    requires fills { row.now.change ≡ ProcessChange.Fills from count number }
+    requires change { CanChange (process_in (K.look keeper.old (Proc pid))) row.now.change }
+    requires can { CanDo (K.look keeper.old) (beside_of (process_in (K.look keeper.old (Proc pid))) row.now.beside) }
+    requires apart { IsBeside pid (beside_of (process_in (K.look keeper.old (Proc pid))) row.now.beside) }
+    requires version { IsWritable row.now.beside }
+    ensures ok { OnOk result (keeper.new ≡ wrote_all K.wrote (writes_of (K.look keeper.old) pid (row_seen (K.look keeper.old) (process_in (K.look keeper.old (Proc pid))) row.now)) keeper.old) }
+    ensures err { OnErr result (keeper.new ≡ keeper.old) }
+{
+    let text = read(keeper, &row.looks, from, count);
+    let number = number.unwrap_or(text.len() as u64);
+    let filling = Filling {
+        text: &text,
+        number,
+    };
+    write_beside(keeper, pid, &row.beside, &filling)
+}
+
 /// A row, as it was planned.
 fn act<K: Keeper>(keeper: &mut K, pid: Pid, row: &Row) -> Result<(), AllocError>
     requires there { IsProcess (K.look keeper.old (Proc pid)) }
@@ -200,11 +244,7 @@ fn act<K: Keeper>(keeper: &mut K, pid: Pid, row: &Row) -> Result<(), AllocError>
             from,
             count,
             number,
-        } => {
-            let text = read(keeper, &row.looks, *from, *count);
-            let number = number.unwrap_or(text.len() as u64);
-            write_beside(keeper, pid, &row.beside, &Filling { text, number })
-        }
+        } => fill(keeper, pid, row, *from, *count, *number),
     }
 }
 
@@ -228,6 +268,7 @@ fn write_copy<K: Keeper, C: Becoming>(
 }
 
 /// The content of an input becomes the copy of a name, and is fetched, or told as an error.
+#[inline(never)]
 fn receive<K: Keeper>(
     keeper: &mut K,
     pid: Pid,
@@ -244,7 +285,7 @@ fn receive<K: Keeper>(
         InputRef::Fresh(content) => {
             content.known();
             let filling = Filling {
-                text: content.bytes(),
+                text: content.text(),
                 number: content.version(),
             };
             write_copy(keeper, pid, name, content, &filling)
@@ -302,6 +343,7 @@ fn bear_queue<K: Keeper>(keeper: &mut K, pid: Pid, by: &Forking) -> Result<(), A
 }
 
 /// A child, and then its parent.
+#[inline(never)]
 fn bear<K: Keeper>(keeper: &mut K, pid: Pid, by: &Forking, place: u32) -> Result<(), AllocError>
     requires can { CanBecomeThere (CanFork by.now) (K.look keeper.old (Proc pid)) }
     requires apart { pid < by.now.child }
@@ -315,18 +357,6 @@ fn bear<K: Keeper>(keeper: &mut K, pid: Pid, by: &Forking, place: u32) -> Result
         return Err(AllocError);
     }
     Ok(())
-}
-
-/// The next instruction of a process.
-fn instruction_of<'a, K: Look>(
-    keeper: &K,
-    scripts: &'a Scripts,
-    pid: Pid,
-) -> Option<&'a Instruction>
-    requires { IsProcess (K.look keeper.now (Proc pid)) }
-    ensures { option_copied result ≡ next_in scripts.now (process_in (K.look keeper.now (Proc pid))) }
-{
-    instruction_at(scripts, process_at(keeper, pid))
 }
 
 /// Writes what was planned for the next step of a process, and says nothing. Without memory nothing
@@ -343,10 +373,7 @@ pub fn apply_plan<K: Keeper>(
     ensures err { OnErr result (keeper.new ≡ keeper.old) }
 {
     match plan {
-        Plan::Private => match instruction_of(keeper, scripts, pid) {
-            Some(instruction) => keeper.change_process(pid, instruction),
-            None => unreachable!(),
-        },
+        Plan::Private => keeper.change_process(pid, &Doing { scripts }),
         Plan::Speaks => keeper.change_process(pid, &Becomes::Moves),
         Plan::Received(name) => receive(keeper, pid, name, input),
         Plan::Forks(register, child, place) => {
@@ -395,6 +422,24 @@ fn speak<K: Keeper>(
     Ok(())
 }
 
+/// A process goes on, and says its buffer to its terminal.
+#[inline(never)]
+fn say_buffer<K: Keeper>(
+    keeper: &mut K,
+    terminals: &mut Terminals,
+    pid: Pid,
+) -> Result<(), AllocError>
+    requires there { IsProcess (K.look keeper.old (Proc pid)) }
+    requires place { (process_in (K.look keeper.old (Proc pid))).place + 1 < 2 ^ 32 }
+    ensures writes { OnOk result (keeper.new ≡ K.wrote keeper.old (Proc pid) (Some (stored.Process (moved (process_in (K.look keeper.old (Proc pid))))))) }
+    ensures says { OnOk result (terminals.new ≡ said_to terminals.old (process_in (K.look keeper.old (Proc pid))).terminal ((process_in (K.look keeper.old (Proc pid))).buffer, K.step_tags keeper.old)) }
+    ensures unwritten { OnErr result (keeper.new ≡ keeper.old) }
+    ensures unsaid { OnErr result (terminals.new ≡ terminals.old) }
+{
+    let process = spoken(process_at(keeper, pid));
+    speak(keeper, terminals, pid, &process)
+}
+
 /// Performs what was planned for the next step of a process: its writes, and the text that it says,
 /// which rests on what the step rests on. Without memory nothing has changed.
 pub fn perform_plan<K: Keeper>(
@@ -414,6 +459,5 @@ pub fn perform_plan<K: Keeper>(
     let Plan::Speaks = plan else {
         return apply_plan(keeper, scripts, pid, input, plan);
     };
-    let process = spoken(process_at(keeper, pid));
-    speak(keeper, terminals, pid, &process)
+    say_buffer(keeper, terminals, pid)
 }

@@ -4,8 +4,9 @@ ghost use Rattle.sk_script.specs.Private.{given};
 ghost use Rattle.sk_plain.specs.Processes.{handling, returned};
 
 use crate::Errno;
+use crate::step::instruction_at;
 use sk_ids::{ObjId, Pid, Text};
-use sk_script::{Process, Register, Val};
+use sk_script::{Process, Register, Scripts, Val};
 use sk_store::Becoming;
 
 /// What a process becomes.
@@ -91,22 +92,47 @@ impl Becoming for Becomes {
 
 /// A text that comes to a process's buffer, and the number that it is answered.
 #[derive(Clone, Copy)]
-pub(crate) struct Filling {
-    pub(crate) text: Text,
+pub(crate) struct Filling<'a> {
+    pub(crate) text: &'a Text,
     pub(crate) number: u64,
 }
 
-impl Becoming for Filling {
+impl<'a> Becoming for Filling<'a> {
     ghost use Rattle.std.specs.Prelude.{◌+◌, ◌<◌, ◌^◌};
     ghost use Rattle.sk_plain.specs.Rows.{filled};
 
     ghost can = { λ f p. (p.place + 1 < 2 ^ 32) × (f.number < 2 ^ 63) };
 
-    ghost after = { λ f p. filled p f.text f.number };
+    ghost after = { λ f p. filled p f.text.now f.number };
 
     fn change(&self, process: &mut Process) {
-        process.buffer = self.text;
+        process.buffer = *self.text;
         give(process, Register::ANSWER, Val::Num(self.number as i64));
+    }
+}
+
+/// A process does its next instruction, which is private.
+#[derive(Clone, Copy)]
+pub(crate) struct Doing<'a> {
+    pub(crate) scripts: &'a Scripts,
+}
+
+impl<'a> Becoming for Doing<'a> {
+    ghost use Rattle.std.specs.Prelude.{◌+◌, ◌<◌, ◌^◌, IsSome};
+    ghost use Rattle.sk_plain.specs.Act.{next_in};
+    ghost use Rattle.sk_plain.specs.Seen.{done_by};
+
+    ghost can = { λ d p. IsSome (next_in d.scripts.now p) × (p.place + 1 < 2 ^ 32) };
+
+    ghost after = { λ d p. done_by p (next_in d.scripts.now p) };
+
+    fn change(&self, process: &mut Process) {
+        match instruction_at(self.scripts, process) {
+            Some(instruction) => {
+                process.does(instruction);
+            }
+            None => unreachable!(),
+        }
     }
 }
 

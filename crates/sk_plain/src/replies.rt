@@ -1,22 +1,21 @@
 //! What the instructions with a reply of the server will do.
-ghost use Rattle.std.specs.Prelude.{◌≡◌, ◌+◌, ◌<◌, ◌^◌, [], Some, None, IfOk};
+ghost use Rattle.std.specs.Prelude.{◌≡◌, ◌+◌, ◌<◌, ◌^◌, [], Some, None, IfOk, IsSome};
+ghost use Rattle.std.specs.Option.{option_copied};
 ghost use Rattle.sk_record.specs.Step.{Ask};
 ghost use Rattle.sk_ids.specs.declared.entity.Entity.TheVariants.{Copy};
 ghost use Rattle.sk_ids.specs.declared.text.TheConstants.{TEXT_LIMIT};
 ghost use Rattle.sk_script.specs.declared.instruction.Input.TheVariants as Input;
-ghost use Rattle.sk_plain.specs.Act.{next_in};
 ghost use Rattle.sk_plain.specs.Replies.{from_copy, over_copy, good as good_row, fresh as fresh_row, stale as stale_row};
 ghost use Rattle.sk_plain.specs.Planned.{said_by};
 ghost use Rattle.sk_plain.specs.Seen.{PlansAfter, PlansRow, seen};
 
 use crate::shapes::{answered, changed, looked};
-use crate::step::instruction_at;
 use crate::{Plan, ProcessChange, Refusal, Row, Writes};
 use sk_ids::text::TEXT_LIMIT;
 use sk_ids::{Entity, Name, Pid};
 use sk_objects::content::LAST_VERSION;
 use sk_objects::{Content, Value};
-use sk_script::{Instruction, Process, Scripts};
+use sk_script::{Instruction, Process};
 use sk_store::{EntityState, Look};
 
 /// The bytes of a cached copy come to the buffer, and its version to r0.
@@ -69,13 +68,14 @@ fn over_copy<S: Look>(store: &S, pid: Pid, process: &Process, name: Name) -> Res
 /// A step whose cached copy is said to be good.
 pub(crate) fn good<S: Look>(
     store: &S,
-    scripts: &Scripts,
     pid: Pid,
     process: &Process,
+    instruction: Option<&Instruction>,
 ) -> Result<Row, Refusal>
-    ensures { PlansRow (S.look store.now) process.now pid (good_row pid process.now (next_in scripts.now process.now)) result }
+    requires { IsSome instruction → process.now.place + 1 < 2 ^ 32 }
+    ensures { PlansRow (S.look store.now) process.now pid (good_row pid process.now (option_copied instruction.entry)) result }
 {
-    match instruction_at(scripts, process) {
+    match instruction {
         Some(Instruction::Fetch(name)) => from_copy(store, pid, process, *name),
         Some(Instruction::Store(name)) => over_copy(store, pid, process, *name),
         _ => Err(Refusal::Mismatch),
@@ -85,15 +85,16 @@ pub(crate) fn good<S: Look>(
 /// A fetch of the server's content.
 pub(crate) fn fresh<S: Look>(
     _store: &S,
-    scripts: &Scripts,
     pid: Pid,
     process: &Process,
+    instruction: Option<&Instruction>,
     content: &Content,
 ) -> Result<Plan, Refusal>
-    ensures quiet { IfOk result (λ plan. said_by (seen (S.look _store.now) (next_in scripts.now process.now) (Input.Fresh content.now) process.now plan) ≡ None) }
-    ensures row { PlansAfter (S.look _store.now) (next_in scripts.now process.now) (Input.Fresh content.now) process.now [] pid (fresh_row pid process.now content.now (next_in scripts.now process.now)) result }
+    requires { IsSome instruction → process.now.place + 1 < 2 ^ 32 }
+    ensures quiet { IfOk result (λ plan. said_by (seen (S.look _store.now) (option_copied instruction.entry) (Input.Fresh content.now) process.now plan) ≡ None) }
+    ensures row { PlansAfter (S.look _store.now) (option_copied instruction.entry) (Input.Fresh content.now) process.now [] pid (fresh_row pid process.now content.now (option_copied instruction.entry)) result }
 {
-    match instruction_at(scripts, process) {
+    match instruction {
         Some(Instruction::Fetch(name)) => Ok(Plan::Received(*name)),
         _ => Err(Refusal::Mismatch),
     }
@@ -102,15 +103,16 @@ pub(crate) fn fresh<S: Look>(
 /// A store that the server refused, with the server's content.
 pub(crate) fn stale<S: Look>(
     _store: &S,
-    scripts: &Scripts,
     pid: Pid,
     process: &Process,
+    instruction: Option<&Instruction>,
     content: &Content,
 ) -> Result<Plan, Refusal>
-    ensures quiet { IfOk result (λ plan. said_by (seen (S.look _store.now) (next_in scripts.now process.now) (Input.Stale content.now) process.now plan) ≡ None) }
-    ensures row { PlansAfter (S.look _store.now) (next_in scripts.now process.now) (Input.Stale content.now) process.now [] pid (stale_row pid process.now content.now (next_in scripts.now process.now)) result }
+    requires { IsSome instruction → process.now.place + 1 < 2 ^ 32 }
+    ensures quiet { IfOk result (λ plan. said_by (seen (S.look _store.now) (option_copied instruction.entry) (Input.Stale content.now) process.now plan) ≡ None) }
+    ensures row { PlansAfter (S.look _store.now) (option_copied instruction.entry) (Input.Stale content.now) process.now [] pid (stale_row pid process.now content.now (option_copied instruction.entry)) result }
 {
-    match instruction_at(scripts, process) {
+    match instruction {
         Some(Instruction::Store(name)) => Ok(Plan::Received(*name)),
         _ => Err(Refusal::Mismatch),
     }

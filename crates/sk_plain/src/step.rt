@@ -1,5 +1,5 @@
 //! What a step will do, before it does it. A plan takes no memory.
-ghost use Rattle.std.specs.Prelude.{◌≡◌, ◌+◌, ◌<◌, ◌^◌, [], false, is_some, IsSome, IfOk, Some, None};
+ghost use Rattle.std.specs.Prelude.{◌≡◌, ◌+◌, ◌<◌, ◌^◌, [], true, false, is_some, IsSome, IfOk, Some, None};
 ghost use Rattle.std.specs.Option.{option_copied};
 ghost use Rattle.sk_ids.specs.declared.entity.Entity.TheVariants.{Sig};
 ghost use Rattle.sk_objects.specs.declared.value.Value.TheVariants as values;
@@ -8,11 +8,13 @@ ghost use Rattle.sk_script.specs.declared.instruction.Input.TheVariants as Input
 ghost use Rattle.sk_script.specs.Private.{private_step};
 ghost use Rattle.sk_trace.specs.Kept.{input_in};
 ghost use Rattle.sk_plain.specs.Act.{row, does, next_in, handled as handled_row, with_signals, with_input};
+ghost use Rattle.sk_plain.specs.Next.{IsAlone};
 ghost use Rattle.sk_plain.specs.Planned.{signals_read, IsReply, said_by};
 ghost use Rattle.sk_plain.specs.declared.plan.Beside.TheVariants as Beside;
 ghost use Rattle.sk_plain.specs.declared.plan.Looks.TheVariants as Looks;
 ghost use Rattle.sk_plain.specs.Seen.{PlansAfter, PlansStep, plan_of, seen, seen_with};
 
+use crate::next::is_due;
 use crate::processes::{ends, fork, is_killed, kill, status_of, wait};
 use crate::shapes::{alone, wrote};
 use crate::{
@@ -109,10 +111,16 @@ fn tabled<S: Look>(
 }
 
 /// A step without input.
-fn does<S: Look>(store: &S, scripts: &Scripts, pid: Pid, process: &Process) -> Result<Plan, Refusal>
-    ensures { PlansAfter (S.look store.now) (next_in scripts.now process.now) Input.None process.now [] pid (does pid process.now (next_in scripts.now process.now)) result }
+fn does<S: Look>(
+    store: &S,
+    pid: Pid,
+    process: &Process,
+    instruction: Option<&Instruction>,
+) -> Result<Plan, Refusal>
+    requires { IsSome instruction → process.now.place + 1 < 2 ^ 32 }
+    ensures { PlansAfter (S.look store.now) (option_copied instruction.entry) Input.None process.now [] pid (does pid process.now (option_copied instruction.entry)) result }
 {
-    let Some(instruction) = instruction_at(scripts, process) else {
+    let Some(instruction) = instruction else {
         return Ok(Plan::Acts(ends(pid, 0)));
     };
     if is_private(process, instruction) {
@@ -124,13 +132,14 @@ fn does<S: Look>(store: &S, scripts: &Scripts, pid: Pid, process: &Process) -> R
 /// The front signal goes to the handler, where one is set and no place is saved.
 fn handled<S: Look>(
     store: &S,
-    scripts: &Scripts,
     pid: Pid,
     process: &Process,
+    instruction: Option<&Instruction>,
     signals: &Signals,
 ) -> Result<Plan, Refusal>
-    requires { S.look store.now (Sig pid) ≡ Some (stored.Value (values.Signals signals.now)) }
-    ensures { PlansAfter (S.look store.now) (next_in scripts.now process.now) Input.None process.now [] pid (handled_row pid process.now (next_in scripts.now process.now) signals.now process.now.handler process.now.saved) result }
+    requires queue { S.look store.now (Sig pid) ≡ Some (stored.Value (values.Signals signals.now)) }
+    requires small { IsSome instruction → process.now.place + 1 < 2 ^ 32 }
+    ensures { PlansAfter (S.look store.now) (option_copied instruction.entry) Input.None process.now [] pid (handled_row pid process.now (option_copied instruction.entry) signals.now process.now.handler process.now.saved) result }
 {
     match (signals.as_slice(), process.handler, process.saved) {
         ([signal, ..], Some(handler), None) => Ok(Plan::Acts(wrote(
@@ -138,27 +147,28 @@ fn handled<S: Look>(
             Entity::Sig(pid),
             Writes::TakeSignal,
         ))),
-        _ => does(store, scripts, pid, process),
+        _ => does(store, pid, process, instruction),
     }
 }
 
 /// What a process does next without input.
 fn with_signals<S: Look>(
     store: &S,
-    scripts: &Scripts,
     pid: Pid,
     process: &Process,
+    instruction: Option<&Instruction>,
 ) -> Result<Plan, Refusal>
-    ensures { PlansAfter (S.look store.now) (next_in scripts.now process.now) Input.None process.now [] pid (with_signals pid process.now (next_in scripts.now process.now) (S.look store.now (Sig pid))) result }
+    requires { IsSome instruction → process.now.place + 1 < 2 ^ 32 }
+    ensures { PlansAfter (S.look store.now) (option_copied instruction.entry) Input.None process.now [] pid (with_signals pid process.now (option_copied instruction.entry) (S.look store.now (Sig pid))) result }
 {
     match store.value(Entity::Sig(pid)) {
         Some(EntityState::Value(Value::Signals(signals))) => {
             if is_killed(signals.as_slice()) {
                 return Ok(Plan::Acts(ends(pid, KILLED)));
             }
-            handled(store, scripts, pid, process, signals)
+            handled(store, pid, process, instruction, signals)
         }
-        _ => does(store, scripts, pid, process),
+        _ => does(store, pid, process, instruction),
     }
 }
 
@@ -166,20 +176,37 @@ fn with_signals<S: Look>(
 #[tactic(auto, using(crate::proofs::Plans::rows))]
 fn with_input<S: Look>(
     store: &S,
-    scripts: &Scripts,
     pid: Pid,
     process: &Process,
+    instruction: Option<&Instruction>,
     input: InputRef<'_>,
 ) -> Result<Plan, Refusal>
-    ensures row { PlansAfter (S.look store.now) (next_in scripts.now process.now) (input_in input.entry) process.now (signals_read pid (input_in input.entry)) pid (with_input pid process.now (next_in scripts.now process.now) (input_in input.entry)) result }
-    ensures quiet { IsReply (input_in input.entry) → IfOk result (λ plan. said_by (seen (S.look store.now) (next_in scripts.now process.now) (input_in input.entry) process.now plan) ≡ None) }
+    requires { IsSome instruction → process.now.place + 1 < 2 ^ 32 }
+    ensures row { PlansAfter (S.look store.now) (option_copied instruction.entry) (input_in input.entry) process.now (signals_read pid (input_in input.entry)) pid (with_input pid process.now (option_copied instruction.entry) (input_in input.entry)) result }
+    ensures quiet { IsReply (input_in input.entry) → IfOk result (λ plan. said_by (seen (S.look store.now) (option_copied instruction.entry) (input_in input.entry) process.now plan) ≡ None) }
 {
     match input {
-        InputRef::None => with_signals(store, scripts, pid, process),
-        InputRef::Good => plan_of(replies::good(store, scripts, pid, process)),
-        InputRef::Fresh(content) => replies::fresh(store, scripts, pid, process, content),
-        InputRef::Stale(content) => replies::stale(store, scripts, pid, process, content),
+        InputRef::None => with_signals(store, pid, process, instruction),
+        InputRef::Good => plan_of(replies::good(store, pid, process, instruction)),
+        InputRef::Fresh(content) => replies::fresh(store, pid, process, instruction, content),
+        InputRef::Stale(content) => replies::stale(store, pid, process, instruction, content),
     }
+}
+
+/// Whether the step has no input, takes no signal and does a private instruction.
+fn goes_alone<S: Look>(
+    store: &S,
+    pid: Pid,
+    process: &Process,
+    instruction: Option<&Instruction>,
+    input: InputRef<'_>,
+) -> bool
+    ensures { result ≡ true → IsAlone (S.look store.now) pid process.now (option_copied instruction.entry) (input_in input.entry) }
+{
+    let (InputRef::None, Some(instruction)) = (input, instruction) else {
+        return false;
+    };
+    is_private(process, instruction) && !is_due(store, pid, process)
 }
 
 /// The next instruction of a process, where it stands; `None` past the end of its script.
@@ -211,5 +238,9 @@ pub fn plan_step<S: Look>(
     if process.ended {
         return Err(Refusal::Ended);
     }
-    with_input(store, scripts, pid, process, input)
+    let instruction = instruction_at(scripts, process);
+    if goes_alone(store, pid, process, instruction, input) {
+        return Ok(Plan::Private);
+    }
+    with_input(store, pid, process, instruction, input)
 }

@@ -1,4 +1,3 @@
-pub mod Written
 pub mod Decided
 pub mod Turns
 pub mod Replayed

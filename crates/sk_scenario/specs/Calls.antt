@@ -9,10 +9,18 @@ use Rattle.sk_trace.specs.Lines.{step}
 use Rattle.sk_scenario.specs.declared.call.Call.{Call}
 use Rattle.sk_scenario.specs.declared.call.Call.TheVariants as calls
 
+-- what the words of a step say
+abbrev pub step_call : Rule Call
+step_call ws = step ws >>= λ x. Ok (calls.Step x.0 x.1)
+
+-- what the words of a guess say
+abbrev pub guess_call : Rule Call
+guess_call ws = step ws >>= λ x. Ok (calls.Guess x.0 x.1)
+
 abbrev pub step_rules : List (List ℕ × Rule Call)
 step_rules =
-    (codes "step", λ ws. step ws >>= λ x. Ok (calls.Step x.0 x.1)) ∷
-    (codes "guess", λ ws. step ws >>= λ x. Ok (calls.Guess x.0 x.1)) ∷
+    (codes "step", step_call) ∷
+    (codes "guess", guess_call) ∷
     (codes "commit", λ ws. one_of positive ws >>= λ x. Ok (calls.Commit x)) ∷
     (codes "fail", λ ws. one_of positive ws >>= λ x. Ok (calls.Fail x)) ∷
     []

@@ -9,12 +9,16 @@ use Rattle.sk_words.specs.Tables.{Rule, rule_in, unknown, with_line}
 use Rattle.sk_client.specs.declared.world.WorldEvent.{WorldEvent}
 use Rattle.sk_client.specs.declared.world.WorldEvent.TheVariants as events
 
+-- what the words of an edit say: a name, a version and a literal
+abbrev pub edit : Rule WorldEvent
+edit ws = three_of name natural literal ws >>= λ x. Ok (events.Edit x.0 x.1 x.2)
+
 abbrev pub world_rules : List (List ℕ × Rule WorldEvent)
 world_rules =
     (codes "turn", λ ws. one_of pid ws >>= λ x. Ok (events.Turn x)) ∷
     (codes "serve", λ ws. none_of ws >>= λ x. Ok events.Serve) ∷
     (codes "reply", λ ws. none_of ws >>= λ x. Ok events.Reply) ∷
-    (codes "edit", λ ws. three_of name natural literal ws >>= λ x. Ok (events.Edit x.0 x.1 x.2)) ∷
+    (codes "edit", edit) ∷
     []
 
 -- what a line says whose first word this is

@@ -2,7 +2,7 @@
 ghost use Rattle.std.specs.Prelude.{◌≡◌, []};
 ghost use Rattle.sk_words.specs.Reading.{Leaves};
 ghost use Rattle.sk_words.specs.Tables.{with_said};
-ghost use Rattle.sk_scenario.specs.WorldEvents.{world_event};
+ghost use Rattle.sk_scenario.specs.WorldEvents.{world_event, edit};
 
 use sk_client::WorldEvent;
 use sk_words::{FaultKind, Natural, Reader, Words, first_word, none, one, three};
@@ -41,43 +41,40 @@ impl WorldEvents {
         &self.events
     }
 
-    /// Adds what a line says whose first word these bytes are.
-    fn add_in(&mut self, word: &[u8], words: &Words) -> Result<(), FaultKind>
-        ensures { Leaves result (with_said self.old (world_event word.now words.now)) self.old self.new }
+    /// Adds what the words of an edit say. It stands apart, since an edit is large.
+    #[inline(never)]
+    fn add_edit(&mut self, words: &Words) -> Result<(), FaultKind>
+        ensures { Leaves result (with_said self.old (edit words.now)) self.old self.new }
     {
-        match str::from_utf8(word) {
-            Ok(word) => self.add(word, words),
-            Err(_) => Err(FaultKind::Word),
-        }
+        let (name, version, bytes): (_, Natural, _) = three(words)?;
+        self.events.reserve(1)?;
+        self.events
+            .push_reserved(WorldEvent::Edit(name, version.get(), bytes));
+        Ok(())
     }
 
     /// Adds what a line says whose first word this is.
     #[tactic(auto, unfolding(crate::specs::WorldEvents::world_event))]
-    fn add(&mut self, word: &str, words: &Words) -> Result<(), FaultKind>
+    fn add(&mut self, word: &[u8], words: &Words) -> Result<(), FaultKind>
         ensures { Leaves result (with_said self.old (world_event word.now words.now)) self.old self.new }
     {
         match word {
-            "turn" => {
+            [b't', b'u', b'r', b'n'] => {
                 let pid = one(words)?;
                 self.events.reserve(1)?;
                 self.events.push_reserved(WorldEvent::Turn(pid));
             }
-            "serve" => {
+            [b's', b'e', b'r', b'v', b'e'] => {
                 none(words)?;
                 self.events.reserve(1)?;
                 self.events.push_reserved(WorldEvent::Serve);
             }
-            "reply" => {
+            [b'r', b'e', b'p', b'l', b'y'] => {
                 none(words)?;
                 self.events.reserve(1)?;
                 self.events.push_reserved(WorldEvent::Reply);
             }
-            "edit" => {
-                let (name, version, bytes): (_, Natural, _) = three(words)?;
-                self.events.reserve(1)?;
-                self.events
-                    .push_reserved(WorldEvent::Edit(name, version.get(), bytes));
-            }
+            [b'e', b'd', b'i', b't'] => return self.add_edit(words),
             _ => return Err(FaultKind::Word),
         }
         Ok(())
@@ -92,7 +89,7 @@ impl Reader for WorldEvents {
     /// Adds what a line says.
     fn line(&mut self, line: &[u8]) -> Result<(), FaultKind> {
         match first_word(line) {
-            Some((first, words)) => self.add_in(first, &words),
+            Some((first, words)) => self.add(first, &words),
             None => Ok(()),
         }
     }

@@ -1,8 +1,10 @@
 //! What the lines of a trace say.
-ghost use Rattle.std.specs.Prelude.{◌≡◌, [], All, Ok, IfSome, IfErr};
+ghost use Rattle.std.specs.Prelude.{◌≡◌, [], All, Ok, IfSome, IfErr, false};
+ghost use Rattle.std.specs.List.{list_any};
 ghost use Rattle.sk_script.specs.StepInput.{input};
 ghost use Rattle.sk_words.specs.Reading.{Leaves};
 ghost use Rattle.sk_words.specs.Tables.{with_said};
+ghost use Rattle.sk_words.specs.Words.{words, is_open};
 ghost use Rattle.sk_trace.specs.Event.{IsEvent};
 ghost use Rattle.sk_trace.specs.Lines.{step, numbered_step, event, IsRead, WantsContent};
 
@@ -11,7 +13,7 @@ use crate::{Event, InputRef, KeptInput};
 use sk_ids::{GuessId, Pid};
 use sk_script::Input;
 use sk_script::step_input::input;
-use sk_words::{FaultKind, Operand, Reader, Words, closed, first_word, next_word, none, one};
+use sk_words::{FaultKind, Operand, Reader, Words, closed, first_word, is_open, next_word, one};
 use std::alloc::Global;
 use std::marker::Model;
 
@@ -27,33 +29,43 @@ pub fn step(words: &Words) -> Result<(Pid, Input), FaultKind>
     Ok((pid, input))
 }
 
-/// The input that all these words say, where it has no content.
+/// The input without a content that these bytes say, with one space before it.
+#[inline(always)]
 #[tactic(auto, unfolding(sk_script::specs::StepInput::input, sk_words::specs::Operands::none_of))]
-fn bare_input(words: &Words) -> Option<KeptInput>
-    ensures { IfSome result (λ kept. input words.now ≡ Ok kept) }
+fn bare_input(bytes: &[u8]) -> Option<KeptInput>
+    ensures said { IfSome result (λ kept. input (words bytes.now) ≡ Ok kept) }
+    ensures closed { IfSome result (λ kept. list_any is_open (words bytes.now) ≡ false) }
 {
-    let mut words = words.again();
-    let word = words.next()?;
-    if words.next().is_some() {
-        return None;
-    }
-    match word {
-        [b'n', b'o', b'n', b'e'] => Some(KeptInput::none()),
-        [b'g', b'o', b'o', b'd'] => Some(KeptInput::good()),
+    match bytes {
+        [b' ', b'n', b'o', b'n', b'e'] => Some(KeptInput::none()),
+        [b' ', b'g', b'o', b'o', b'd'] => Some(KeptInput::good()),
         _ => None,
     }
 }
 
-/// A process and the input of its step, kept. Want of memory is told last.
+/// A process and an input without a content, as they are printed.
+#[inline(always)]
 #[tactic(auto, unfolding(crate::specs::Lines::step))]
+fn bare_step(words: &Words) -> Option<(Pid, KeptInput)>
+    ensures { IfSome result (λ x. step words.now ≡ Ok x) }
+{
+    let mut words = words.again();
+    let pid = words.next()?;
+    if is_open(pid) {
+        return None;
+    }
+    let input = bare_input(words.bytes())?;
+    let pid = Operand::read(pid).ok()?;
+    Some((pid, input))
+}
+
+/// A process and the input of its step, kept. Want of memory is told last.
 pub fn kept_step(alloc: Global, words: &Words) -> Result<(Pid, KeptInput), FaultKind>
     ensures read { IsRead result (step words.now) }
     ensures content { IfErr result (λ e. WantsContent e (step words.now)) }
 {
-    let mut rest = closed(words)?;
-    let pid = next_word(&mut rest)?;
-    match bare_input(&rest) {
-        Some(input) => Ok((Operand::read(pid)?, input)),
+    match bare_step(words) {
+        Some(step) => Ok(step),
         None => kept_content(alloc, words),
     }
 }
@@ -117,39 +129,29 @@ impl Events {
         self.events
     }
 
-    /// Adds what a line says whose first word these bytes are.
-    fn add_in(&mut self, word: &[u8], words: &Words) -> Result<(), FaultKind>
-        ensures { Leaves result (with_said self.old (event word.now words.now)) self.old self.new }
-    {
-        match str::from_utf8(word) {
-            Ok(word) => self.add(word, words),
-            Err(_) => Err(FaultKind::Word),
-        }
-    }
-
     /// Adds what a line says whose first word this is.
     #[tactic(auto, unfolding(crate::specs::Lines::event))]
-    fn add(&mut self, word: &str, words: &Words) -> Result<(), FaultKind>
+    fn add(&mut self, word: &[u8], words: &Words) -> Result<(), FaultKind>
         ensures { Leaves result (with_said self.old (event word.now words.now)) self.old self.new }
     {
         match word {
-            "step" => {
+            [b's', b't', b'e', b'p'] => {
                 let (pid, input) = kept_step(*self.events.allocator(), words)?;
                 self.events.reserve(1)?;
                 add(&mut self.events, Event::Step { pid, input });
             }
-            "guess" => {
+            [b'g', b'u', b'e', b's', b's'] => {
                 let (id, pid, input) = numbered_step(words)?;
                 self.events.reserve(1)?;
                 let input = KeptInput::keep(*self.events.allocator(), InputRef::of(&input))?;
                 add(&mut self.events, Event::Guess { id, pid, input });
             }
-            "commit" => {
+            [b'c', b'o', b'm', b'm', b'i', b't'] => {
                 let id = one(words)?;
                 self.events.reserve(1)?;
                 add(&mut self.events, Event::Commit(id));
             }
-            "fail" => {
+            [b'f', b'a', b'i', b'l'] => {
                 let id = one(words)?;
                 self.events.reserve(1)?;
                 add(&mut self.events, Event::Fail(id));
@@ -168,7 +170,7 @@ impl Reader for Events {
     /// Adds what a line says.
     fn line(&mut self, line: &[u8]) -> Result<(), FaultKind> {
         match first_word(line) {
-            Some((first, words)) => self.add_in(first, &words),
+            Some((first, words)) => self.add(first, &words),
             None => Ok(()),
         }
     }

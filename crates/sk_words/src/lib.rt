@@ -15,7 +15,7 @@ pub mod values;
 
 pub use cursor::Cursor;
 pub use fault::{Fault, FaultKind};
-pub use line::{Words, first_word};
+pub use line::{Words, first_word, is_open};
 pub use operands::{Operand, closed, next_word, no_more, none, one, three, two};
 pub use reader::{Reader, read};
 pub use spelling::{Literal, Printed, Unquoted};

@@ -84,7 +84,8 @@ fn bare_len(line: &[u8]) -> usize
     line.len()
 }
 
-/// The number of bytes up to the end of the word that goes on here.
+/// The number of bytes up to the end of the word that goes on here. It stands apart, since few words are literals.
+#[inline(never)]
 fn word_len(line: &[u8], from: Place) -> usize
     requires { from ≢ Between }
     ensures within { result ≤ length line.now }
@@ -113,6 +114,13 @@ impl<'a> Words<'a> {
         ensures { result ≡ self.now }
     {
         Words { rest: self.rest }
+    }
+
+    /// The bytes in which they stand.
+    pub fn bytes(&self) -> &'a [u8]
+        ensures { words result.now ≡ self.now }
+    {
+        self.rest
     }
 
     /// The next word, which is then no longer among them; `None` where none is left.
@@ -177,7 +185,9 @@ fn has_quote(bytes: &[u8]) -> bool
     false
 }
 
-fn is_open(word: &[u8]) -> bool
+/// Whether a word is a literal without its closing quote.
+#[inline]
+pub fn is_open(word: &[u8]) -> bool
     ensures { result ≡ is_open word.now }
 {
     match word {
@@ -187,6 +197,7 @@ fn is_open(word: &[u8]) -> bool
 }
 
 /// Whether no quote closes the literal whose bytes behind the opening quote these are.
+#[inline(never)]
 fn has_no_end(bytes: &[u8]) -> bool
     ensures { result ≡ is_open_from Literal bytes.now }
 {

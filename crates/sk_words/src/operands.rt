@@ -1,8 +1,9 @@
 //! What the words behind the first of a line say.
-ghost use Rattle.std.specs.Prelude.{◌≡◌, Ok, Err, MatchResult};
+ghost use Rattle.std.specs.Prelude.{◌≡◌, ◌∷◌, [], Ok, Err, IfSome, MatchResult, false};
+ghost use Rattle.sk_words.specs.Words.{is_open};
 ghost use Rattle.sk_words.specs.Operands.{NextWord, closed, no_more, none_of, one_of, both, the_two, two_of, three_of};
 
-use crate::{FaultKind, Words};
+use crate::{FaultKind, Words, is_open};
 
 /// A value that one word says.
 pub trait Operand: Sized + Drop {
@@ -48,7 +49,23 @@ pub fn no_more(mut words: Words) -> Result<(), FaultKind>
 pub fn none(words: &Words) -> Result<(), FaultKind>
     ensures { result ≡ none_of words.now }
 {
+    if words.again().next().is_none() {
+        return Ok(());
+    }
     no_more(closed(words)?)
+}
+
+/// The only one of these words, where it is no open literal; `None` for all other words.
+fn only<'a>(words: &Words<'a>) -> Option<&'a [u8]>
+    ensures words { IfSome result (λ word. words.now ≡ word.now ∷ []) }
+    ensures closed { IfSome result (λ word. is_open word.now ≡ false) }
+{
+    let mut words = words.again();
+    let word = words.next()?;
+    if words.next().is_some() || is_open(word) {
+        return None;
+    }
+    Some(word)
 }
 
 /// One word.
@@ -56,6 +73,9 @@ pub fn none(words: &Words) -> Result<(), FaultKind>
 pub fn one<A: Operand>(words: &Words) -> Result<A, FaultKind>
     ensures { result ≡ one_of A.said words.now }
 {
+    if let Some(word) = only(words) {
+        return A::read(word);
+    }
     let mut words = closed(words)?;
     let a = next_word(&mut words)?;
     no_more(words)?;

@@ -1,7 +1,7 @@
 //! Values that one word says.
 ghost use Rattle.std.specs.Prelude.{◌≡◌, ◌≤◌, ◌<◌, ◌^◌, pos, Ok, IfSome};
 ghost use Rattle.std.specs.List.{list_all};
-ghost use Rattle.sk_words.specs.Operands.{integer, is_label_byte, index, child, SaysSome};
+ghost use Rattle.sk_words.specs.Operands.{integer, is_label_byte, between, index, child, pid, SaysSome};
 
 use crate::text::cut;
 use crate::{FaultKind, Operand};
@@ -25,6 +25,9 @@ fn few_digits(word: &[u8]) -> Option<u64>
     let [_, ..] = word else {
         return None;
     };
+    if let [digit @ b'0'..=b'9'] = word {
+        return Some(u64::from(*digit - b'0'));
+    }
     let mut number = 0;
     let mut rest = word;
     while let [digit, tail @ ..] = rest {
@@ -228,10 +231,25 @@ fn child(parent: Pid, word: &[u8]) -> Result<Pid, FaultKind>
     parent.child(number.get()).ok_or(FaultKind::Operand)
 }
 
+/// The number that a word of one digit says; `None` for every other word.
+#[inline(always)]
+fn one_digit(word: &[u8]) -> Option<u16>
+    ensures { IfSome result (λ n. (index word.now ≡ between 1 65535 (pos n)) × (n < 10)) }
+{
+    match word {
+        [digit @ b'0'..=b'9'] => Some(u16::from(*digit - b'0')),
+        _ => None,
+    }
+}
+
 /// The boot process whose number a word says.
+#[inline]
 fn boot(word: &[u8]) -> Result<Pid, FaultKind>
     ensures { result ≡ index word.now }
 {
+    if let Some(number) = one_digit(word) {
+        return Pid::boot(number).ok_or(FaultKind::Operand);
+    }
     let number: Index = Operand::read(word)?;
     Pid::boot(number.get()).ok_or(FaultKind::Operand)
 }
@@ -241,15 +259,26 @@ impl Operand for Pid {
 
     ghost said = { pid };
 
+    #[inline]
     fn read(word: &[u8]) -> Result<Pid, FaultKind> {
-        let Some((first, mut rest)) = cut(word, b'.') else {
+        if let [b'0'..=b'9'] = word {
             return boot(word);
-        };
-        let mut pid = boot(first)?;
-        while let Some((number, others)) = cut(rest, b'.') {
-            pid = child(pid, number)?;
-            rest = others;
         }
-        child(pid, rest)
+        path(word)
     }
+}
+
+/// The process whose numbers, joined by dots, a word says.
+fn path(word: &[u8]) -> Result<Pid, FaultKind>
+    ensures { result ≡ pid word.now }
+{
+    let Some((first, mut rest)) = cut(word, b'.') else {
+        return boot(word);
+    };
+    let mut pid = boot(first)?;
+    while let Some((number, others)) = cut(rest, b'.') {
+        pid = child(pid, number)?;
+        rest = others;
+    }
+    child(pid, rest)
 }

@@ -1,5 +1,6 @@
 -- A private instruction is done, and another one is a row.
-use Rattle.std.proofs.Common.{Ok, [], refl, sym, subst}
+use Rattle.std.proofs.Common.{◌≡◌, Ok, Some, [], sym, ap, subst}
+use Rattle.std.specs.Option.{option_copied, is_some}
 use Rattle.sk_script.specs.declared.instruction.Input.TheVariants as inputs
 use Rattle.sk_plain.specs.Act.{does}
 use Rattle.sk_plain.specs.Seen.{PlansAfter}
@@ -11,12 +12,14 @@ pub returns-then-is_private : goal.returns-then-is_private
 returns-then-is_private g c =
     let look = g.S.Look.look c.args.store.now in
     let p = c.args.process.now in
-    subst (λ o. PlansAfter look o inputs.None p [] c.args.pid (does c.args.pid p o) (Ok Private)) c.in-Some.ensures.value
-    (private_done look c.args.pid p c.in-Some.instruction.now (sym c.if-is_private.ensures) (c.in-Some.ensures.small refl))
+    let found : option_copied c.args.instruction ≡ Some c.in-Some.instruction.now = ap option_copied c.in-Some.is in
+    subst (λ o. PlansAfter look o inputs.None p [] c.args.pid (does c.args.pid p o) (Ok Private)) (sym found)
+    (private_done look c.args.pid p c.in-Some.instruction.now (sym c.if-is_private.ensures) (c.requires (ap is_some c.in-Some.is)))
 
 pub returns : goal.returns
 returns g c =
     let look = g.S.Look.look c.args.store.now in
     let p = c.args.process.now in
-    subst (λ o. PlansAfter look o inputs.None p [] c.args.pid (does c.args.pid p o) c.tabled.result) c.in-Some.ensures.value
+    let found : option_copied c.args.instruction ≡ Some c.in-Some.instruction.now = ap option_copied c.in-Some.is in
+    subst (λ o. PlansAfter look o inputs.None p [] c.args.pid (does c.args.pid p o) c.tabled.result) (sym found)
     (row_done look c.args.pid p c.in-Some.instruction.now c.tabled.result (sym c.if-is_private.ensures) c.tabled.ensures)

@@ -2,7 +2,7 @@
 use Rattle.std.proofs.Common.{◌≡◌, length}
 use Rattle.sk_words.specs.Lines.{parts}
 use Rattle.sk_words.specs.Operands.{pid, path_below}
-use Rattle.sk_words.proofs.values.PidOperand.read.Given as goal
+use Rattle.sk_words.proofs.values.path.Given as goal
 
 abbrev pub invariant-loop-number : goal.invariant-loop-number
 invariant-loop-number l = pid l.fn.word ≡ path_below l.pid (parts 46 l.rest)

@@ -1,0 +1,20 @@
+-- Bytes of one block are those of the file.
+use Rattle.std.proofs.Common.{◌≡◌, ◌+◌, ◌-◌, ◌*◌, ◌/◌, ◌%◌, List, ℕ, arith, rules, ap, ◌∙◌}
+use Rattle.sk_objects.specs.File.{part}
+use Rattle.sk_objects.specs.Blocks.{joined}
+use Rattle.sk_objects.proofs.Seen.{block_mid}
+use Rattle.sk_objects.proofs.slots.read_text.Goals as goal
+
+pub returns : goal.returns
+returns c =
+    let k = c.args.at / 512 in
+    let w = c.args.at % 512 in
+    let n = c.args.count in
+    let there : 512 * (c.args.at / 512) + c.args.at % 512 ≡ c.args.at = omega arith in
+    let count : c.args.at % 512 + c.args.count - c.args.at % 512 ≡ c.args.count = omega arith in
+    let is : c.unwrap.result ≡ part c.as_slice-block.result.now w (w + n - w) = search rules in
+    is
+    ∙ ap (λ (m : ℕ). part c.as_slice-block.result.now w m) count
+    ∙ ap (λ (l : List ℕ). part l w n) c.as_slice-block.ensures.value
+    ∙ block_mid c.args.slots.now k w n c.index-slots-at.result c.requires.blocks (omega (arith, c.requires.end, c.requires.slots, c.if-count-eq0.false)) c.index-slots-at.is (omega (arith, c.if-count-within.false))
+    ∙ ap (λ (m : ℕ). part (joined c.args.slots.now) m n) there

@@ -1,0 +1,13 @@
+-- No number is longer than its places.
+use Rattle.std.proofs.Common.{rules, arith, ◌≤◌, length, decimal}
+use Rattle.std.proofs.lemmas.Fmt.{length-decimal-le}
+use Rattle.sk_play.proofs.line.put.Goals as goal
+
+pub write_digits-requires : goal.write_digits-requires
+write_digits-requires c = search (rules, length-decimal-le 20)
+
+pub returns-clause-start : goal.returns-clause-start
+returns-clause-start c =
+    let short : length (decimal c.args.number) ≤ 20 = search (rules, length-decimal-le 20) in
+    let start = c.write_digits.ensures.start in
+    (omega (arith, start, c.requires.0), omega (arith, short, start, c.requires.0))

@@ -1,7 +1,0 @@
--- No number is longer than its places.
-use Rattle.std.proofs.Common.{rules}
-use Rattle.std.proofs.lemmas.Fmt.{length-decimal-le}
-use Rattle.sk_play.proofs.line.write_numbered.Goals as goal
-
-pub write_digits-start-requires : goal.write_digits-start-requires
-write_digits-start-requires g c = search (rules, length-decimal-le 20)

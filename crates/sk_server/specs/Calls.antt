@@ -1,5 +1,5 @@
 -- What the calls on a server answer and do.
-use Rattle.std.specs.Prelude.{◌≡◌, ℕ, ◌+◌, true, false, List, None, Result, Ok, Err}
+use Rattle.std.specs.Prelude.{◌≡◌, ℕ, ◌+◌, true, false, List, [], ◌∷◌, ◌++◌, None, Result, Ok, Err}
 use Rattle.std.specs.FinMap as map
 use Rattle.sk_server.specs.Files.{file_of, is_fitting, written}
 use Rattle.sk_server.specs.Server.{ServerView, is_in_turn, answer_to, answered, adds}
@@ -22,6 +22,14 @@ Answers s q (Ok reply) t =
     × (reply ≡ record { number = q.number; answer = answer_to s q })
     × (t ≡ answered s q (answer_to s q))
 Answers s q (Err back) t = (back.0 ≡ q) × IsRefused s q back.1 × (t ≡ s)
+
+-- the same for a request that is lent, with the reply behind these others; there is none after a refusal
+abbrev pub AnswersBehind : ServerView → List Reply → Request → Result (Unit {0}) ServerRefusal → ServerView → List Reply → Type 0
+AnswersBehind s rs q (Ok done) t all =
+    (is_in_turn s q ≡ true)
+    × (all ≡ rs ++ record { number = q.number; answer = answer_to s q } ∷ [])
+    × (t ≡ answered s q (answer_to s q))
+AnswersBehind s rs q (Err why) t all = IsRefused s q why × (t ≡ s) × (all ≡ rs)
 
 -- a write of another client: the new version, or the actual one where it is not the expected one or the last; memory is wanted for a new
 -- file alone

@@ -1,3 +1,5 @@
 pub mod Files
 pub mod Server
 pub mod Calls
+pub mod Lent
+pub mod Verdict

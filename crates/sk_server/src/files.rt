@@ -6,9 +6,12 @@ ghost use Rattle.std.specs.FinMap as map;
 ghost use Rattle.sk_ids.specs.Name.{name_order};
 ghost use Rattle.sk_server.specs.Files.{file_of, is_fitting, written};
 ghost use Rattle.sk_server.specs.Server.{judged, files_after, is_new_file};
+ghost use Rattle.sk_server.specs.Lent.{ask_in};
+ghost use Rattle.sk_server.specs.Verdict.{said};
 ghost use Rattle.sk_server.specs.declared.reply.Answer.TheVariants.{Yes};
 
-use crate::{Answer, Ask};
+use crate::AskRef;
+use crate::verdict::Verdict;
 use sk_ids::{Name, Text};
 use sk_objects::Content;
 use sk_objects::content::LAST_VERSION;
@@ -109,15 +112,15 @@ impl Files {
 
     /// Does what an answer means: a store that is accepted is a write. Only a new file can want
     /// memory; then nothing has changed.
-    pub(crate) fn take(&mut self, ask: &Ask, answer: &Answer) -> Result<(), AllocError>
-        requires { answer.now ≡ Yes → judged self.old ask.now ≡ Yes }
-        ensures ok { OnOk result (self.new ≡ files_after self.old ask.now answer.now) }
+    pub(crate) fn take(&mut self, ask: &AskRef<'_>, verdict: Verdict) -> Result<(), AllocError>
+        requires { said self.old (ask_in ask.now) verdict ≡ Yes → judged self.old (ask_in ask.now) ≡ Yes }
+        ensures ok { OnOk result (self.new ≡ files_after self.old (ask_in ask.now) (said self.old (ask_in ask.now) verdict)) }
         ensures err { OnErr result (self.new ≡ self.old) }
-        ensures added { OnErr result ((answer.now ≡ Yes) × (is_new_file self.old ask.now ≡ true)) }
+        ensures added { OnErr result ((said self.old (ask_in ask.now) verdict ≡ Yes) × (is_new_file self.old (ask_in ask.now) ≡ true)) }
     {
-        match (ask, answer) {
-            (Ask::Store(name, expected, bytes), Answer::Yes) => {
-                self.write(*name, *expected, *bytes)
+        match (ask, verdict) {
+            (AskRef::Store(name, expected, bytes), Verdict::Yes) => {
+                self.write(**name, *expected, **bytes)
             }
             _ => Ok(()),
         }

@@ -5,7 +5,8 @@ mod files;
 pub mod reply;
 pub mod request;
 pub mod server;
+mod verdict;
 
 pub use reply::{Answer, Reply};
-pub use request::{Ask, Request};
+pub use request::{Ask, AskRef, Request, RequestRef};
 pub use server::{EditRefusal, LAST_REQUEST, Server, ServerRefusal};

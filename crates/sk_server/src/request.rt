@@ -1,4 +1,7 @@
 //! What a client asks.
+ghost use Rattle.std.specs.Prelude.{◌≡◌};
+ghost use Rattle.sk_server.specs.Lent.{ask_in, request_in};
+
 use sk_ids::{GuessId, Name, TagSet, Text};
 
 /// What is asked of a file.
@@ -24,4 +27,50 @@ pub struct Request {
     /// The guess that is decided by the answer.
     pub guess: Option<GuessId>,
     pub ask: Ask,
+}
+
+/// What is asked of a file, where it stands.
+#[derive(Clone, Copy)]
+pub enum AskRef<'a> {
+    Get(&'a Name),
+    Check(&'a Name, u64),
+    Store(&'a Name, u64, &'a Text),
+}
+
+/// A request where it stands.
+#[derive(Clone, Copy)]
+pub struct RequestRef<'a> {
+    pub number: u64,
+    pub rests: &'a TagSet,
+    pub settled: u64,
+    pub guess: Option<GuessId>,
+    pub ask: AskRef<'a>,
+}
+
+impl Ask {
+    /// Lends it.
+    pub fn lent(&self) -> AskRef<'_>
+        ensures { ask_in result ≡ self.now }
+    {
+        match self {
+            Ask::Get(name) => AskRef::Get(name),
+            Ask::Check(name, version) => AskRef::Check(name, *version),
+            Ask::Store(name, version, bytes) => AskRef::Store(name, *version, bytes),
+        }
+    }
+}
+
+impl Request {
+    /// Lends it, with what it asks.
+    pub fn lent_with<'a>(&'a self, ask: AskRef<'a>) -> RequestRef<'a>
+        ensures { request_in result ≡ record self.now { ask = ask_in ask.entry } }
+    {
+        RequestRef {
+            number: self.number,
+            rests: &self.rests,
+            settled: self.settled,
+            guess: self.guess,
+            ask,
+        }
+    }
 }

@@ -1,17 +1,23 @@
 //! The server of remote files.
-ghost use Rattle.std.specs.Prelude.{◌≡◌, ◌<◌, ◌++◌, nat_le, IfOk, OnOk, OnErr, is_some, true, vec_len, vec_capacity};
+ghost use Rattle.std.specs.Prelude.{◌≡◌, ◌<◌, ◌++◌, nat_le, length, IfOk, OnOk, OnErr, is_some, true, vec_len, vec_capacity};
+ghost use Rattle.std.specs.VecDeque.{deque_capacity};
 ghost use Rattle.std.specs.Option.{option_copied};
 ghost use Rattle.std.specs.List.Sorted.{IsStrictlySortedBy};
 ghost use Rattle.std.specs.FinMap as map;
 ghost use Rattle.sk_ids.specs.Name.{name_order};
-ghost use Rattle.sk_server.specs.Server.{new_server, is_in_turn, remembered, is_dropped, judged, answer_to, answered, refused_by, listed, adds};
-ghost use Rattle.sk_server.specs.Calls.{Answers, Edits};
+ghost use Rattle.sk_server.specs.Server.{new_server, is_in_turn, remembered, is_dropped, judged, answer_to, answered, listed, adds};
+ghost use Rattle.sk_server.specs.Calls.{Answers, AnswersBehind, Edits};
+ghost use Rattle.sk_server.specs.Files.{file_of};
+ghost use Rattle.sk_server.specs.Lent.{ask_in, request_in};
+ghost use Rattle.sk_server.specs.Verdict.{said, asked_name, Decides};
 
 use crate::files::Files;
-use crate::{Answer, Ask, Reply, Request};
+use crate::verdict::{Verdict, refused_by};
+use crate::{Answer, AskRef, Reply, Request, RequestRef};
 use sk_ids::{GuessId, Name, Text};
 use sk_objects::Content;
 use std::alloc::{AllocError, Global};
+use std::collections::VecDeque;
 use std::marker::Model;
 use thiserror::Error;
 
@@ -106,17 +112,70 @@ impl Server {
     pub fn answer(&mut self, request: Request) -> Result<Reply, (Request, ServerRefusal)>
         ensures { Answers self.old request result self.new }
     {
-        if !self.is_in_turn(&request) {
-            let expected = self.next;
-            return Err((request, ServerRefusal::OutOfTurn { expected }));
+        let ask = request.ask.lent();
+        let lent = request.lent_with(ask);
+        match self.decide(&lent) {
+            Ok(verdict) => {
+                let answer = self.answer_of(&lent.ask, verdict);
+                let number = lent.number;
+                Ok(Reply { number, answer })
+            }
+            Err(why) => Err((request, why)),
         }
-        let reply = Reply {
-            number: request.number,
-            answer: self.answer_to(&request),
-        };
-        match self.take(&request, &reply.answer) {
-            Ok(()) => Ok(reply),
-            Err(_) => Err((request, ServerRefusal::Memory)),
+    }
+
+    /// Answers the next request where it stands, with its reply behind these others, for which there is room.
+    /// Refusals are those of `answer`; there is no reply then.
+    pub fn answer_behind(
+        &mut self,
+        request: &RequestRef<'_>,
+        replies: &mut VecDeque<Reply>,
+    ) -> Result<(), ServerRefusal>
+        requires { length replies.old.items < deque_capacity replies.old }
+        ensures { AnswersBehind self.old replies.old.items (request_in request.now) result self.new replies.new.items }
+    {
+        let verdict = self.decide(request)?;
+        let answer = self.answer_of(&request.ask, verdict);
+        let number = request.number;
+        replies.push_back_reserved(Reply { number, answer });
+        Ok(())
+    }
+
+    /// Decides how the next request is answered, and does what the answer says; or refuses it.
+    fn decide(&mut self, request: &RequestRef<'_>) -> Result<Verdict, ServerRefusal>
+        ensures { Decides self.old (request_in request.now) result self.new }
+    {
+        if !self.is_in_turn(request) {
+            let expected = self.next;
+            return Err(ServerRefusal::OutOfTurn { expected });
+        }
+        let verdict = self.verdict(request);
+        match self.take(request, verdict) {
+            Ok(()) => Ok(verdict),
+            Err(_) => Err(ServerRefusal::Memory),
+        }
+    }
+
+    /// The answer of a verdict.
+    fn answer_of(&self, ask: &AskRef<'_>, verdict: Verdict) -> Answer
+        ensures { result ≡ said self.now.files (ask_in ask.now) verdict }
+    {
+        match verdict {
+            Verdict::Yes => Answer::Yes,
+            Verdict::No => Answer::No(self.content(ask)),
+            Verdict::Copy => Answer::Copy(self.content(ask)),
+            Verdict::Dropped => Answer::Dropped,
+        }
+    }
+
+    /// The content of the file that is asked about.
+    fn content(&self, ask: &AskRef<'_>) -> Content
+        ensures { result ≡ file_of self.now.files (asked_name (ask_in ask.now)) }
+    {
+        match ask {
+            AskRef::Get(name) | AskRef::Check(name, _) | AskRef::Store(name, _, _) => {
+                self.files.content(name)
+            }
         }
     }
 
@@ -136,62 +195,63 @@ impl Server {
         }
     }
 
-    fn is_in_turn(&self, request: &Request) -> bool
-        ensures { result ≡ is_in_turn self.now request.now }
+    fn is_in_turn(&self, request: &RequestRef<'_>) -> bool
+        ensures { result ≡ is_in_turn self.now (request_in request.now) }
     {
         request.number == self.next && request.number <= LAST_REQUEST
     }
 
     /// Whether a request rests on a guess that was refused and that it can still rest on.
-    fn is_dropped(&self, request: &Request) -> bool
-        ensures { result ≡ is_dropped request.now (remembered request.now self.now.refused) }
+    fn is_dropped(&self, request: &RequestRef<'_>) -> bool
+        ensures { result ≡ is_dropped (request_in request.now) (remembered (request_in request.now) self.now.refused) }
     {
         self.refused.iter().any(|guess| is_open(*guess, request.settled)
             && request.rests.contains(*guess))
     }
 
     /// The answer where nothing refused is rested on.
-    fn judge(&self, ask: &Ask) -> Answer
-        ensures { result ≡ judged self.now.files ask.now }
+    fn judge(&self, ask: &AskRef<'_>) -> Verdict
+        ensures { said self.now.files (ask_in ask.now) result ≡ judged self.now.files (ask_in ask.now) }
     {
         match ask {
-            Ask::Get(name) => Answer::Copy(self.files.content(name)),
-            Ask::Check(name, version) => {
+            AskRef::Get(_) => Verdict::Copy,
+            AskRef::Check(name, version) => {
                 if self.files.version(name) == *version {
-                    return Answer::Yes;
+                    return Verdict::Yes;
                 }
-                Answer::No(self.files.content(name))
+                Verdict::No
             }
-            Ask::Store(name, expected, _) => {
+            AskRef::Store(name, expected, _) => {
                 if self.files.is_fitting(name, *expected) {
-                    return Answer::Yes;
+                    return Verdict::Yes;
                 }
-                Answer::No(self.files.content(name))
+                Verdict::No
             }
         }
     }
 
-    fn answer_to(&self, request: &Request) -> Answer
-        ensures { result ≡ answer_to self.now request.now }
+    fn verdict(&self, request: &RequestRef<'_>) -> Verdict
+        ensures { said self.now.files (ask_in request.now.ask) result ≡ answer_to self.now (request_in request.now) }
     {
         if self.is_dropped(request) {
-            return Answer::Dropped;
+            return Verdict::Dropped;
         }
         self.judge(&request.ask)
     }
 
     /// Does what the answer to a request says. Without memory everything is as it was.
     #[tactic(auto, using(crate::proofs::Judged::takes))]
-    fn take(&mut self, request: &Request, answer: &Answer) -> Result<(), AllocError>
-        requires turn { is_in_turn self.old request.now ≡ true }
-        requires answer { answer.now ≡ answer_to self.old request.now }
-        ensures ok { OnOk result (self.new ≡ answered self.old request.now answer.now) }
+    fn take(&mut self, request: &RequestRef<'_>, verdict: Verdict) -> Result<(), AllocError>
+        requires turn { is_in_turn self.old (request_in request.now) ≡ true }
+        requires answer { said self.old.files (ask_in request.now.ask) verdict ≡ answer_to self.old (request_in request.now) }
+        ensures ok { OnOk result (self.new ≡ answered self.old (request_in request.now) (said self.old.files (ask_in request.now.ask) verdict)) }
         ensures err { OnErr result (self.new ≡ self.old) }
-        ensures added { OnErr result (adds self.old request.now answer.now ≡ true) }
+        ensures added { OnErr result (adds self.old (request_in request.now) (said self.old.files (ask_in request.now.ask) verdict) ≡ true) }
     {
-        make_room(&mut self.refused, request, answer)?;
-        self.files.take(&request.ask, answer)?;
-        remember(&mut self.refused, request, answer);
+        make_room(&mut self.refused, refused_by(request.guess, verdict))?;
+        self.files.take(&request.ask, verdict)?;
+        let refused = refused_by(request.guess, verdict);
+        remember(&mut self.refused, request, refused);
         self.next += 1;
         Ok(())
     }
@@ -204,40 +264,26 @@ fn is_open(guess: GuessId, settled: u64) -> bool
     settled <= guess.number()
 }
 
-/// The guess that an answer refuses.
-fn refused_by(guess: Option<GuessId>, answer: &Answer) -> Option<GuessId>
-    ensures { result ≡ refused_by guess answer.now }
-{
-    match answer {
-        Answer::No(_) | Answer::Dropped => guess,
-        Answer::Yes | Answer::Copy(_) => None,
-    }
-}
-
-/// Makes room for the guess that the answer refuses, if there is one.
-fn make_room(
-    refused: &mut Vec<GuessId>,
-    request: &Request,
-    answer: &Answer,
-) -> Result<(), AllocError>
+/// Makes room for the guess that an answer refuses, if there is one.
+fn make_room(refused: &mut Vec<GuessId>, guess: Option<GuessId>) -> Result<(), AllocError>
     ensures items { refused.new.items ≡ refused.old.items }
-    ensures room { OnOk result (is_some (refused_by request.now.guess answer.now) ≡ true → vec_len refused.new < vec_capacity refused.new) }
-    ensures wanted { OnErr result (is_some (refused_by request.now.guess answer.now) ≡ true) }
+    ensures room { OnOk result (is_some guess ≡ true → vec_len refused.new < vec_capacity refused.new) }
+    ensures wanted { OnErr result (is_some guess ≡ true) }
 {
-    if refused_by(request.guess, answer).is_some() {
+    if guess.is_some() {
         refused.reserve(1)?;
     }
     Ok(())
 }
 
 /// Forgets the refused guesses on which no request can rest from this one on, and remembers the guess
-/// that the answer refuses, for which there is room.
-fn remember(refused: &mut Vec<GuessId>, request: &Request, answer: &Answer)
-    requires { is_some (refused_by request.now.guess answer.now) ≡ true → vec_len refused.old < vec_capacity refused.old }
-    ensures { refused.new.items ≡ remembered request.now refused.old.items ++ listed (refused_by request.now.guess answer.now) }
+/// that its answer refuses, for which there is room.
+fn remember(refused: &mut Vec<GuessId>, request: &RequestRef<'_>, guess: Option<GuessId>)
+    requires { is_some guess ≡ true → vec_len refused.old < vec_capacity refused.old }
+    ensures { refused.new.items ≡ remembered (request_in request.now) refused.old.items ++ listed guess }
 {
     refused.retain(|guess| is_open(*guess, request.settled));
-    if let Some(guess) = refused_by(request.guess, answer) {
+    if let Some(guess) = guess {
         refused.push_reserved(guess);
     }
 }

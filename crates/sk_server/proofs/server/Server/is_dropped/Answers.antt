@@ -5,12 +5,13 @@ use Rattle.std.proofs.lemmas.Iterator.{YieldsList-from_slice}
 use Rattle.std.proofs.lemmas.Iterator.Search.{any_from_yields_List}
 use Rattle.sk_record.specs.Notes.{has}
 use Rattle.sk_server.specs.Server.{is_dropped, remembered}
+use Rattle.sk_server.specs.Lent.{request_in}
 use Rattle.sk_server.proofs.Remembered.{any_left}
 use Rattle.sk_server.proofs.server.Server.is_dropped.Goals as goal
 
 pub returns : goal.returns
 returns c =
-    let q = c.args.request.now in
+    let q = request_in c.args.request.now in
     let found : c.any.result ≡ list_any (λ (g : ℕ). nat_le q.settled g && has g q.rests) c.self.inside.refused.items =
     any_from_yields_List (λ (g : ℕ). nat_le q.settled g && has g q.rests) _ _ c.any.result c.any.ensures.ran
     (YieldsList-from_slice c.self.inside.refused.items cc) (λ x b f k. search (rules, tests)) in

@@ -32,7 +32,7 @@ module _ {E V W F P M D : Type 0} (S : Table E V W F P M D) (start : FinMap S.or
       → is_void S start (world_after S start first es).trace x.0 ≡ true → ⊥
   answered_whole first is es x there kept =
       let w = world_after S start first es in
-      not_void S start table w.trace w.drawn (served w) w.given (pending w) w.waiting w.server.refused (all_after S start table first is es).0 x
+      not_void S start table w.trace w.drawn (served w) w.given (pending w) w.waiting w.refused (all_after S start table first is es).0 x
       (Contains-append_right w.given w.taken x there) kept
 
   -- the trace takes a step that is accepted

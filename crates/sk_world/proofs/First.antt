@@ -12,15 +12,14 @@ use Rattle.sk_record.specs.Trace.{record_of}
 use Rattle.sk_record.specs.declared.status.Status.TheVariants.{Committed, Failed}
 use Rattle.sk_record.proofs.Laws.{one_status}
 use Rattle.sk_world.specs.Requests.{Good, Get, Store, Yes, Request, Before, For, Entry, Served}
-use Rattle.sk_world.specs.Server.{all_changed, AllFit}
 use Rattle.sk_world.specs.World.{Table, World, WorldEvent, asked_count, kernel, undecided, pending, served, world_after}
-use Rattle.sk_world.specs.Laws.{IsTable, IsFirst, Stands, IsDueStep, AcceptedStand, AcceptedStood, PlacesAreKept, FilesAreChanged, StoresAreReplied, Counts, paired, stores_of, accepted_of}
+use Rattle.sk_world.specs.Laws.{IsTable, IsFirst, Stands, IsDueStep, AcceptedStand, AcceptedStood, PlacesAreKept, StoresAreReplied, Counts, paired}
 use Rattle.sk_world.proofs.Each.{Each, each_at, no_member, cons_first, cons_later, cons_cases}
 use Rattle.sk_world.proofs.TraceFacts.{entry_drawn}
 use Rattle.sk_world.proofs.Queues.{queue_le}
 use Rattle.sk_world.proofs.Invariant.{Queue, Apart, HasStep}
 use Rattle.sk_world.proofs.KernelEvents.{no_guess}
-use Rattle.sk_world.proofs.Worlds.{Holds, HasFacts, Filed, Room, All, all_keep}
+use Rattle.sk_world.proofs.Worlds.{Holds, HasFacts, Room, All, all_keep}
 use Rattle.sk_world.proofs.RequestFacts.{Numbers, Once, Rising, requests, in_map}
 
 each_all : {A B : Type 0} (X : A → B → Type 0) (xs : List A) (ys : List B) → ((x : A) (y : B) → Contains xs x → X x y) → Each X xs ys
@@ -175,13 +174,6 @@ module _ {E V W F P M D : Type 0} (S : Table E V W F P M D) (start : FinMap S.or
         reach = λ q there. absurd (no_member q (subst (λ xs. Contains xs q) no_requests there));
       }
 
-  filed_first : (w : World P M D) → IsFirst S start w → Filed S start table w w w
-  filed_first w is = record {
-    are = ap (λ xs. all_changed S.same_name S.last w.server.files (map (λ c. c.0) xs)) (sym is.changes);
-    fit = subst (λ xs. AllFit S.same_name S.last w.server.files (map (λ c. c.0) xs)) (sym is.changes) tt;
-    stores = ap stores_of is.changes ∙ (λ i. accepted_of (sym is.given i ++ sym is.taken i));
-  }
-
   room_first : (w : World P M D) → IsFirst S start w → Room S start table w w w
   room_first w is =
       let room = is.room in
@@ -194,7 +186,7 @@ module _ {E V W F P M D : Type 0} (S : Table E V W F P M D) (start : FinMap S.or
   some = record { number = 0; process = table.a_process; ask = Get table.a_name; guess = None; rests = []; settled = 0 }
 
   pub all_after : (first : World P M D) → IsFirst S start first → (es : List (WorldEvent P M D)) → All S start table first first (world_after S start first es)
-  all_after first is es = all_keep S start table first first es first (holds_first some first is, facts_first first is, filed_first first is, room_first first is)
+  all_after first is es = all_keep S start table first first es first (holds_first some first is, facts_first first is, room_first first is)
 
   -- from a later world on
   since : (first old w : World P M D) → All S start table first old w → All S start table first w w
@@ -212,7 +204,6 @@ module _ {E V W F P M D : Type 0} (S : Table E V W F P M D) (start : FinMap S.or
       reach = i.1.numbers.below;
     },
     i.2,
-    i.3,
   )
 
   -- ---- the laws
@@ -233,13 +224,8 @@ module _ {E V W F P M D : Type 0} (S : Table E V W F P M D) (start : FinMap S.or
       let h = store_stands z i.0 q m v b there ask (inl (g, its)) in
       step_stands w before.0 q (h.0, i.1.came h.0 q g h.1 h.2 its made, h.2, h.3)
 
-  pub files_are_changed : FilesAreChanged S start
-  files_are_changed first is es =
-      let f = (all_after first is es).2 in
-      record { files = f.are; fit = f.fit; stores = f.stores }
-
   pub places_are_kept : PlacesAreKept S start
-  places_are_kept first is es = (all_after first is es).3
+  places_are_kept first is es = (all_after first is es).2
 
   -- the request of a step that counts is accepted and has its reply
   its_reply : (first : World P M D) → IsFirst S start first → (w : World P M D) → All S start table first first w → (n : Entry P M D) → Contains (record_of (kernel S) start w.trace) n → n.input ≡ Good → Counts S start w n

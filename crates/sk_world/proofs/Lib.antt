@@ -11,4 +11,3 @@ pub mod AskedSteps
 pub mod PlaceFacts
 pub mod RequestFacts
 pub mod Labels
-pub mod Example

@@ -1,19 +1,15 @@
--- What holds of a world's requests beside the invariant: files, kept answers, request numbers, the request of each entry, and commits.
+-- What holds of a world's requests beside the invariant: kept answers, request numbers, the request of each entry, and commits.
 use Rattle.std.proofs.Common.{◌≡◌, ℕ, suc, ◌≤◌, ◌<◌, Bool, true, false, List, [], ◌∷◌, ◌++◌, map, Option, Some, None, IsTrue, inl, inr, refl, sym, ◌∙◌, ap, subst, arith, append_assoc}
 use Rattle.std.specs.Prelude.{◌⊎◌}
 use Rattle.std.specs.List.{Contains}
 use Rattle.std.specs.FinMap.{FinMap}
 use Rattle.std.proofs.lemmas.List.Elements.{Contains-push_cases, Contains-append_left, Contains-append_right, Contains-push}
-use Rattle.std.proofs.lemmas.List.Sums.{fold-append}
 use Rattle.sk_record.specs.Effects.{keep}
 use Rattle.sk_record.specs.Strike.{struck}
 use Rattle.sk_record.specs.Trace.{Event, Taken, Commit, Fail, record_of}
-use Rattle.sk_record.proofs.Machine.{nil_right}
 use Rattle.sk_record.proofs.Sound.{record_more}
 use Rattle.sk_world.specs.Requests.{Content, Input, Good, Answer, Yes, Request, Before, Own, For, Entry, Served}
-use Rattle.sk_world.specs.Server.{Change, is_fitting, changed, all_changed, AllFit, accepted}
-use Rattle.sk_world.specs.World.{Table, Written, World, kernel}
-use Rattle.sk_world.specs.Laws.{stores_of, store_if, accepted_of}
+use Rattle.sk_world.specs.World.{Table, World, kernel}
 use Rattle.sk_world.proofs.Each.{cons_first, cons_later, cons_cases, no_member, kept_was}
 use Rattle.sk_world.proofs.KernelEvents.{no_guess}
 
@@ -193,63 +189,6 @@ module _ {P M D : Type 0} where
       | inr is ↦ let one : g ≡ k = cc in inr (q, Contains-push given (q, Yes), its ∙ ap Some one)
     ];
   }
-
--- ---- files
-module _ {M D : Type 0} (same_name : M → M → Bool) (last : ℕ) where
-  all_fit_more : (files : M → Content D) (cs ds : List (Change M D)) → AllFit same_name last files cs → AllFit same_name last (all_changed same_name last files cs) ds → AllFit same_name last files (cs ++ ds)
-  all_fit_more files [] ds h k = k
-  all_fit_more files (c ∷ cs) ds h k = (h.0, all_fit_more (changed same_name last files c) cs ds h.1 k)
-
-  pub record Files {P : Type 0} (files0 files : M → Content D) (changes : List (Written P M D)) (served : List (Served P M D)) : Type 0 where
-    pub are : files ≡ all_changed same_name last files0 (map (λ c. c.0) changes)
-    pub fit : AllFit same_name last files0 (map (λ c. c.0) changes)
-    pub stores : stores_of changes ≡ accepted_of served
-
-  module _ {P : Type 0} where
-    map_more : (q : Request P M D) (xs : List (Written P M D)) (cs : List (Change M D)) → map (λ c. c.0) (xs ++ map (λ c. (c, Some q)) cs) ≡ map (λ c. c.0) xs ++ cs
-    map_more q [] [] = refl
-    map_more q [] (c ∷ cs) = ap (λ ds. c ∷ ds) (map_more q [] cs)
-    map_more q (x ∷ xs) cs = ap (λ ds. x.0 ∷ ds) (map_more q xs cs)
-
-    store_if_more : (c : Change M D) (o : Option (Request P M D)) (xs ys : List (Request P M D × Change M D)) → store_if c o (xs ++ ys) ≡ store_if c o xs ++ ys
-    store_if_more c None xs ys = refl
-    store_if_more c (Some q) xs ys = refl
-
-    stores_more : (xs ys : List (Written P M D)) → stores_of (xs ++ ys) ≡ stores_of xs ++ stores_of ys
-    stores_more [] ys = refl
-    stores_more (x ∷ xs) ys = ap (store_if x.0 x.1) (stores_more xs ys) ∙ store_if_more x.0 x.1 (stores_of xs) (stores_of ys)
-
-    stores_its : (q : Request P M D) (cs : List (Change M D)) → stores_of (map (λ c. (c, Some q)) cs) ≡ map (λ c. (q, c)) cs
-    stores_its q [] = refl
-    stores_its q (c ∷ cs) = ap (λ xs. (q, c) ∷ xs) (stores_its q cs)
-
-    accepted_more : (xs : List (Served P M D)) (q : Request P M D) (a : Answer D) → accepted_of (xs ++ (q, a) ∷ []) ≡ accepted_of xs ++ map (λ c. (q, c)) (accepted q.ask a)
-    accepted_more [] q a = nil_right (map (λ c. (q, c)) (accepted q.ask a))
-    accepted_more (x ∷ xs) q a = ap (λ ys. map (λ c. (x.0, c)) (accepted x.0.ask x.1) ++ ys) (accepted_more xs q a) ∙ sym (append_assoc (map (λ c. (x.0, c)) (accepted x.0.ask x.1)) (accepted_of xs) (map (λ c. (q, c)) (accepted q.ask a)))
-
-    pub files_serve : (files0 files : M → Content D) (changes : List (Written P M D)) (served : List (Served P M D)) (q : Request P M D) (a : Answer D) → AllFit same_name last files (accepted q.ask a)
-        → Files files0 files changes served → Files files0 (all_changed same_name last files (accepted q.ask a)) (changes ++ map (λ c. (c, Some q)) (accepted q.ask a)) (served ++ (q, a) ∷ [])
-    files_serve files0 files changes served q a fits h =
-        let cs = accepted q.ask a in
-        record {
-          are = ap (λ f. all_changed same_name last f cs) h.are ∙ sym (fold-append (changed same_name last) files0 (map (λ c. c.0) changes) cs)
-              ∙ ap (all_changed same_name last files0) (sym (map_more q changes cs));
-          fit = subst (AllFit same_name last files0) (sym (map_more q changes cs)) (all_fit_more files0 (map (λ c. c.0) changes) cs h.fit (subst (λ f. AllFit same_name last f cs) h.are fits));
-          stores = stores_more changes (map (λ c. (c, Some q)) cs) ∙ (λ i. h.stores i ++ stores_its q cs i) ∙ sym (accepted_more served q a);
-        }
-
-    map_edit : (xs : List (Written P M D)) (c : Change M D) → map (λ c. c.0) (xs ++ (c, None) ∷ []) ≡ map (λ c. c.0) xs ++ c ∷ []
-    map_edit [] c = refl
-    map_edit (x ∷ xs) c = ap (λ ds. x.0 ∷ ds) (map_edit xs c)
-
-    pub files_edit : (files0 files : M → Content D) (changes : List (Written P M D)) (served : List (Served P M D)) (c : Change M D) → IsTrue (is_fitting last files c)
-        → Files files0 files changes served → Files files0 (changed same_name last files c) (changes ++ (c, None) ∷ []) served
-    files_edit files0 files changes served c fits h = record {
-      are = ap (λ f. changed same_name last f c) h.are ∙ sym (fold-append (changed same_name last) files0 (map (λ c. c.0) changes) (c ∷ []))
-          ∙ ap (all_changed same_name last files0) (sym (map_edit changes c));
-      fit = subst (AllFit same_name last files0) (sym (map_edit changes c)) (all_fit_more files0 (map (λ c. c.0) changes) (c ∷ []) h.fit (subst (λ f. AllFit same_name last f (c ∷ [])) h.are (fits, tt)));
-      stores = stores_more changes ((c, None) ∷ []) ∙ nil_right (stores_of changes) ∙ h.stores;
-    }
 
 -- ---- lists of requests
 pub map_push : {A B : Type 0} (f : A → B) (xs : List A) (x : A) (ys : List B) → map f (xs ++ x ∷ []) ++ ys ≡ map f xs ++ f x ∷ ys

@@ -12,8 +12,8 @@ use Rattle.sk_record.specs.Trace.{Event, Taken, Commit, Fail, IsSound, record_of
 use Rattle.sk_record.proofs.UndoStates.{and_both, any_at}
 use Rattle.sk_record.proofs.Sound.{undecided_is, has_commit, any_from, record_more, sound_fail}
 use Rattle.sk_world.specs.Requests.{Input, Nothing, Good, Fresh, Stale, Content, Ask, Get, Check, Store, Answer, Yes, No, Copy, Dropped, Request, Entry, Served, name_of}
-use Rattle.sk_world.specs.Server.{Change, Server, AllFit, all_changed, is_accepted, refused_by, remembered, is_dropped, is_fitting, judged, answer_to, answered, accepted}
-use Rattle.sk_world.specs.World.{Table, places, has_places, has_guess, has_number, asked_now, asked_too, asked_count, kept_for, answer_kept, Next, Halted, Due, Fetches, Stores, Else, World, WorldEvent, Turn, Serve, Reply, Edit, kernel, own, asked_entry, input_of, is_asked, commits, is_lost, is_void, or_zero, state, undecided, pending, served, with_given, with_kept, with_trace, asks_for, asks_on, stepped_by, stepped, used_by, used, guess_request, guess_entry, guessed_by, guessed, ask_request, asked, fetched, stored, other, turned, serve, decided, stepped_for, given_to, reply, edited, event, world_after}
+use Rattle.sk_world.specs.Server.{is_possible, is_accepted, refused_by, remembered, is_dropped, answer_to, refused_after}
+use Rattle.sk_world.specs.World.{Table, places, has_places, has_guess, has_number, asked_now, asked_too, asked_count, kept_for, answer_kept, Next, Halted, Due, Fetches, Stores, Else, World, WorldEvent, Turn, Serve, Reply, kernel, own, asked_entry, input_of, is_asked, commits, is_lost, is_void, or_zero, state, undecided, pending, served, with_given, with_kept, with_trace, asks_for, asks_on, stepped_by, stepped, used_by, used, guess_request, guess_entry, guessed_by, guessed, ask_request, asked, fetched, stored, other, turned, answered, serve, decided, stepped_for, given_to, reply, event, world_after}
 use Rattle.sk_world.specs.Laws.{Takes, Sets, IsTable}
 use Rattle.sk_world.proofs.Each.{at_number, at_same, at_other, cons_first, has_left, has_right}
 use Rattle.sk_world.proofs.TraceFacts.{has_mark, legal_of}
@@ -23,7 +23,7 @@ use Rattle.sk_world.proofs.Invariant.{counted, ReadyFor, Ready, HasStep, Invaria
 use Rattle.sk_world.proofs.KernelEvents.{no_guess, inv_plain, inv_commit, inv_fail}
 use Rattle.sk_world.proofs.RequestEvents.{inv_ask, inv_guess, inv_drop, inv_done, inv_answer}
 use Rattle.sk_world.proofs.PlaceFacts.{asked_le, asked_push, places_step, places_guess, places_commit, places_fail}
-use Rattle.sk_world.proofs.RequestFacts.{RequestFacts, Files, map_push, files_serve, files_edit, facts_kept, facts_own, facts_ask, facts_guess, facts_serve, facts_none, facts_commit, facts_fail, facts_step}
+use Rattle.sk_world.proofs.RequestFacts.{RequestFacts, map_push, facts_kept, facts_own, facts_ask, facts_guess, facts_serve, facts_none, facts_commit, facts_fail, facts_step}
 
 asked_none : (o : Option ℕ) → o ≡ None → is_asked o ≡ true
 asked_none o is = ap is_asked is
@@ -40,22 +40,6 @@ takes_by S start s p (Store m v b) Yes x ready is fits = let same : Good ≡ x =
 takes_by S start s p (Store m v b) (No c) x ready is fits = let same : Stale c ≡ x = cc in subst (Takes S s p (Store m v b)) same (ready.1 c)
 takes_by S start s p (Store m v b) (Copy c) x ready is fits = cc
 takes_by S start s p (Store m v b) Dropped x ready is fits = cc
-
-none_of : {M D : Type 0} (same_name : M → M → Bool) (last : ℕ) (files : M → Content D) (ask : Ask M D) → AllFit same_name last files (accepted ask Dropped)
-none_of same_name last files (Get m) = tt
-none_of same_name last files (Check m v) = tt
-none_of same_name last files (Store m v b) = tt
-
-judged_fits : {M D : Type 0} (same_name : M → M → Bool) (last : ℕ) (files : M → Content D) (ask : Ask M D) → AllFit same_name last files (accepted ask (judged last files ask))
-judged_fits same_name last files (Get m) = tt
-judged_fits same_name last files (Check m v) =
-    elim ((files m).0 == v) as (λ t. AllFit same_name last files (accepted (Check m v) (cond t Yes (No (files m))))) [ true ↦ tt | false ↦ tt ]
-judged_fits same_name last files (Store m v b) =
-    let c : Change _ _ = record { name = m; version = v; bytes = b } in
-    elim (is_fitting last files c) as (λ t. is_fitting last files c ≡ t → AllFit same_name last files (accepted (Store m v b) (cond t Yes (No (files m))))) [
-      | true ↦ λ is. (is, tt)
-      | false ↦ λ _. tt
-    ] refl
 
 -- only a store that is accepted gives Good to an asked step
 good_yes : {M D : Type 0} (ask : Ask M D) (ans : Answer D) → input_of ask ans ≡ Some Good → ans ≡ Yes
@@ -79,7 +63,7 @@ never_good (Store m v b) c is = cc
 
 module _ {E V W F P M D : Type 0} (S : Table E V W F P M D) (start : FinMap S.order V) (table : IsTable S start) where
   abbrev pub Holds : World P M D → Type 0
-  Holds w = Invariant S start w.trace w.drawn (served w) w.given (pending w) w.waiting w.server.refused
+  Holds w = Invariant S start w.trace w.drawn (served w) w.given (pending w) w.waiting w.refused
 
   abbrev IsNext : World P M D → P → M → Type 0
   IsNext w p m = (S.next (state S start w.trace) p ≡ Fetches m) ⊎ ((b : D) × (S.next (state S start w.trace) p ≡ Stores m b))
@@ -115,31 +99,19 @@ module _ {E V W F P M D : Type 0} (S : Table E V W F P M D) (start : FinMap S.or
   pending_push w q = append_assoc (map (λ (x : Served P M D). x.0) w.taken) w.waiting (q ∷ [])
 
   -- ---- an answer of the server
-  drops_not : (server : Server M D) (q : Request P M D) → (answer_to S.same_name S.last server q ≡ Dropped → ⊥) → (y : ℕ) → has y q.rests ≡ true → has y (remembered q server.refused) ≡ true → ⊥
-  drops_not server q kept y carries there =
-      elim (cases_Bool (is_dropped q (remembered q server.refused))) [
-        | inl is ↦ kept (ap (λ b. cond b Dropped (judged S.last server.files q.ask)) is)
-        | inr no_drop ↦ not_dropped q (remembered q server.refused) no_drop y carries there
+  drops_not : (refused : List ℕ) (q : Request P M D) (a : Answer D) → (answer_to refused q a ≡ Dropped → ⊥) → (y : ℕ) → has y q.rests ≡ true → has y (remembered q refused) ≡ true → ⊥
+  drops_not refused q a kept y carries there =
+      elim (cases_Bool (is_dropped q (remembered q refused))) [
+        | inl is ↦ kept (ap (λ b. cond b Dropped a) is)
+        | inr no_drop ↦ not_dropped q (remembered q refused) no_drop y carries there
       ]
 
-  yes_fits : (server : Server M D) (q : Request P M D) (m : M) (v : ℕ) (b : D) → q.ask ≡ Store m v b → answer_to S.same_name S.last server q ≡ Yes → v < S.last
-  yes_fits server q m v b ask says =
-      let c : Change M D = record { name = m; version = v; bytes = b } in
-      elim (is_dropped q (remembered q server.refused)) as (λ t. cond t Dropped (judged S.last server.files q.ask) ≡ Yes → v < S.last) [
+  yes_fits : (refused : List ℕ) (q : Request P M D) (a : Answer D) → is_possible S.last q.ask a ≡ true → (m : M) (v : ℕ) (b : D) → q.ask ≡ Store m v b → answer_to refused q a ≡ Yes → v < S.last
+  yes_fits refused q a possible m v b ask says =
+      elim (is_dropped q (remembered q refused)) as (λ t. cond t Dropped a ≡ Yes → v < S.last) [
         | true ↦ λ is. cc
-        | false ↦ λ is.
-            elim (is_fitting S.last server.files c) as (λ t. is_fitting S.last server.files c ≡ t → cond t Yes (No (server.files m)) ≡ Yes → v < S.last) [
-              | true ↦ λ fits _. lt_of v S.last (and_both _ _ fits).1
-              | false ↦ λ _ no_yes. cc
-            ] refl (ap (judged S.last server.files) (sym ask) ∙ is)
+        | false ↦ λ is. lt_of v S.last ((λ i. is_possible S.last (sym ask i) (sym is i)) ∙ possible)
       ] says
-
-  answer_fits : (server : Server M D) (q : Request P M D) → AllFit S.same_name S.last server.files (accepted q.ask (answer_to S.same_name S.last server q))
-  answer_fits server q =
-      elim (is_dropped q (remembered q server.refused)) as (λ t. AllFit S.same_name S.last server.files (accepted q.ask (cond t Dropped (judged S.last server.files q.ask)))) [
-        | true ↦ none_of S.same_name S.last server.files q.ask
-        | false ↦ judged_fits S.same_name S.last server.files q.ask
-      ]
 
   served_push : (w : World P M D) (x : Served P M D) → (w.given ++ w.taken) ++ x ∷ [] ≡ w.given ++ (w.taken ++ x ∷ [])
   served_push w x = append_assoc w.given w.taken (x ∷ [])
@@ -177,15 +149,12 @@ module _ {E V W F P M D : Type 0} (S : Table E V W F P M D) (start : FinMap S.or
   abbrev pub HasFacts : World P M D → Type 0
   HasFacts w = RequestFacts S start first old w.trace w.drawn w.kept w.next (served w) w.given w.waiting
 
-  abbrev pub Filed : World P M D → Type 0
-  Filed w = Files S.same_name S.last first.server.files w.server.files w.changes (served w)
-
   abbrev pub Room : World P M D → Type 0
   Room w = places S start w.trace (pending w) ≤ S.limit
 
   -- all that is shown to hold after every event
   abbrev pub All : World P M D → Type 0
-  All w = Holds S start table w × HasFacts w × Filed w × Room w
+  All w = Holds S start table w × HasFacts w × Room w
 
   kept_none : (w : World P M D) → HasFacts w → (p : P) (q : P) (x : Input D) → kept_for S p None w.kept q ≡ Some x → x ≡ Good → ⊥
   kept_none w t p q x =
@@ -213,12 +182,11 @@ module _ {E V W F P M D : Type 0} (S : Table E V W F P M D) (start : FinMap S.or
         | true ↦ λ room.
             elim (outcome (kernel S) (state S start w.trace) (own p x)) as (λ o. outcome (kernel S) (state S start w.trace) (own p x) ≡ o → All (used_by S start w p x o)) [
               | Ok f ↦ λ is. (
-                inv_plain S start table w.trace w.drawn (served w) w.given (pending w) w.waiting w.server.refused (own p x) f i.0 is refl
+                inv_plain S start table w.trace w.drawn (served w) w.given (pending w) w.waiting w.refused (own p x) f i.0 is refl
                     (λ y there hits q cause. cc) (λ q cause. cc) (λ q cause good. cc) (quiet_turn S start table w p x f is (legal_of (kernel S) start w.trace i.0.sound) due none clear),
                 facts_kept S start first old (w.trace ++ Taken (own p x) ∷ []) w.drawn w.kept w.next (served w) w.given w.waiting
                     (facts_own S start first old w.trace w.drawn w.kept w.next (served w) w.given w.waiting i.1 (own p x) refl bad)
                     (kept_for S p None w.kept) (kept_none w i.1 p),
-                i.2,
                 room_step w (own p x) room refl,
               )
               | Err why ↦ λ is. i
@@ -229,10 +197,9 @@ module _ {E V W F P M D : Type 0} (S : Table E V W F P M D) (start : FinMap S.or
   stepped_keeps w p x bad due none clear room i =
       elim (outcome (kernel S) (state S start w.trace) (own p x)) as (λ o. outcome (kernel S) (state S start w.trace) (own p x) ≡ o → All (stepped_by S start w (own p x) o)) [
         | Ok f ↦ λ is. (
-          inv_plain S start table w.trace w.drawn (served w) w.given (pending w) w.waiting w.server.refused (own p x) f i.0 is refl
+          inv_plain S start table w.trace w.drawn (served w) w.given (pending w) w.waiting w.refused (own p x) f i.0 is refl
               (λ y there hits q cause. cc) (λ q cause. cc) (λ q cause good. cc) (quiet_turn S start table w p x f is (legal_of (kernel S) start w.trace i.0.sound) due none clear),
           facts_own S start first old w.trace w.drawn w.kept w.next (served w) w.given w.waiting i.1 (own p x) refl bad,
-          i.2,
           room_step w (own p x) room refl,
         )
         | Err why ↦ λ is. i
@@ -248,11 +215,10 @@ module _ {E V W F P M D : Type 0} (S : Table E V W F P M D) (start : FinMap S.or
         | false ↦ λ _. i
         | true ↦ λ room.
             subst (λ o. All (guessed_by S start w p ask o)) (sym t.accepted) (
-              subst (λ qs. Invariant S start (w.trace ++ Taken n ∷ []) (suc w.drawn) (served w) w.given qs (w.waiting ++ q ∷ []) w.server.refused) (pending_push S start table w q)
-                  (inv_guess S start table w.trace w.drawn (served w) w.given (pending w) w.waiting w.server.refused q n i.0 t refl refl refl refl
+              subst (λ qs. Invariant S start (w.trace ++ Taken n ∷ []) (suc w.drawn) (served w) w.given qs (w.waiting ++ q ∷ []) w.refused) (pending_push S start table w q)
+                  (inv_guess S start table w.trace w.drawn (served w) w.given (pending w) w.waiting w.refused q n i.0 t refl refl refl refl
                   (quiet_turn S start table w p Good t.effect t.accepted (legal_of (kernel S) start w.trace i.0.sound) (λ due. absurd (not_due due)) none clear)),
               facts_guess S start first old w.trace w.drawn w.kept w.next (served w) w.given w.waiting i.1 q n refl refl refl refl,
-              i.2,
               (let test = (and_both (has_guess S start w) (has_places S start 2 w) (and_both (has_number S start w) (has_guess S start w && has_places S start 2 w) room).1).1 in
                   let le = leb-true (2 + places S start w.trace (pending w)) S.limit test in
                   let more = places_guess S start w.trace n (pending w ++ q ∷ []) (suc w.drawn) refl in
@@ -269,11 +235,10 @@ module _ {E V W F P M D : Type 0} (S : Table E V W F P M D) (start : FinMap S.or
       elim (has_number S start w && has_places S start 1 w) as (λ b. (has_number S start w && has_places S start 1 w) ≡ b → All (cond b (asked_now S start w p ask) w)) [
         | false ↦ λ _. i
         | true ↦ λ room. (
-          subst (λ qs. Invariant S start w.trace w.drawn (served w) w.given qs (w.waiting ++ q ∷ []) w.server.refused) (pending_push S start table w q)
-              (inv_ask S start table w.trace w.drawn (served w) w.given (pending w) w.waiting w.server.refused q i.0 refl refl refl ready there
+          subst (λ qs. Invariant S start w.trace w.drawn (served w) w.given qs (w.waiting ++ q ∷ []) w.refused) (pending_push S start table w q)
+              (inv_ask S start table w.trace w.drawn (served w) w.given (pending w) w.waiting w.refused q i.0 refl refl refl ready there
               (λ r h asks. ((λ same. not_its S start table w p none r h asks (sym same)), λ same. not_on S start table w (name_of ask) free r h asks (sym same)))),
           facts_ask S start first old w.trace w.drawn w.kept w.next (served w) w.given w.waiting i.1 q refl,
-          i.2,
           (let test = (and_both (has_number S start w) (has_places S start 1 w) room).1 in
               let le = leb-true (1 + places S start w.trace (pending w)) S.limit test in
               let same = ap (places S start w.trace) (sym (pending_push S start table w q)) in
@@ -334,59 +299,63 @@ module _ {E V W F P M D : Type 0} (S : Table E V W F P M D) (start : FinMap S.or
       ] refl
   turned_keeps w p Else is none i = other_keeps w p (w.kept p) refl is none (λ m next. elim next [ inl f ↦ (let same : Else ≡ Fetches m = sym is ∙ f in cc) | inr s ↦ (let same : Else ≡ Stores m s.0 = sym is ∙ s.1 in cc) ]) i
 
-  serve_keeps : (w : World P M D) (qs : List (Request P M D)) → w.waiting ≡ qs → All w → All (serve S start w qs)
-  serve_keeps w [] is i = i
-  serve_keeps w (q ∷ qs) is i =
-      let ans = answer_to S.same_name S.last w.server q in
-      let memory = (answered S.same_name S.last w.server q ans).refused in
-      let j : Invariant S start w.trace w.drawn (served w) w.given (map (λ x. x.0) w.taken ++ q ∷ qs) (q ∷ qs) w.server.refused =
-      subst (λ ws. Invariant S start w.trace w.drawn (served w) w.given (map (λ x. x.0) w.taken ++ ws) ws w.server.refused) is i.0 in
+  answer_keeps : (w : World P M D) (says : Answer D) (q : Request P M D) (qs : List (Request P M D)) → w.waiting ≡ q ∷ qs → is_possible S.last q.ask says ≡ true → All w
+      → All (answered S start w q qs (answer_to w.refused q says))
+  answer_keeps w says q qs is possible i =
+      let ans = answer_to w.refused q says in
+      let memory = refused_after w.refused q ans in
+      let j : Invariant S start w.trace w.drawn (served w) w.given (map (λ x. x.0) w.taken ++ q ∷ qs) (q ∷ qs) w.refused =
+      subst (λ ws. Invariant S start w.trace w.drawn (served w) w.given (map (λ x. x.0) w.taken ++ ws) ws w.refused) is i.0 in
       let here = j.queue.0 in
-      let keeps : (y : ℕ) → has y (remembered q w.server.refused) ≡ true → has y memory ≡ true = λ y there. has_left y (remembered q w.server.refused) (marks (refused_by q.guess ans)) there in
+      let keeps : (y : ℕ) → has y (remembered q w.refused) ≡ true → has y memory ≡ true = λ y there. has_left y (remembered q w.refused) (marks (refused_by q.guess ans)) there in
       let joins : (g : ℕ) → q.guess ≡ Some g → is_accepted ans ≡ false → has g memory ≡ true =
-      λ g its no_yes. has_right g (remembered q w.server.refused) (marks (refused_by q.guess ans)) (ap (λ b. has g (marks (cond b None q.guess))) no_yes ∙ has_mark q.guess g its) in
+      λ g its no_yes. has_right g (remembered q w.refused) (marks (refused_by q.guess ans)) (ap (λ b. has g (marks (cond b None q.guess))) no_yes ∙ has_mark q.guess g its) in
       let answers : Invariant S start w.trace w.drawn (served w ++ (q, ans) ∷ []) w.given (map (λ x. x.0) w.taken ++ q ∷ qs) qs memory =
       elim q.guess as (λ o. q.guess ≡ o → Invariant S start w.trace w.drawn (served w ++ (q, ans) ∷ []) w.given (map (λ x. x.0) w.taken ++ q ∷ qs) qs memory) [
         | None ↦ λ none.
-            inv_answer S start table w.trace w.drawn (served w) w.given (map (λ x. x.0) w.taken ++ q ∷ qs) qs w.server.refused memory q ans j j.bad j.a
+            inv_answer S start table w.trace w.drawn (served w) w.given (map (λ x. x.0) w.taken ++ q ∷ qs) qs w.refused memory q ans j j.bad j.a
             (ap (λ o. counted o j.a) (sym none)) (omega arith) (λ y le. refl) (λ y le. inl le) (λ y h. inl h) (λ g its. absurd (no_guess q.guess g none its))
-            (drops_not S start table w.server q) keeps joins (yes_fits S start table w.server q)
+            (drops_not S start table w.refused q says) keeps joins (yes_fits S start table w.refused q says possible)
         | Some g ↦ λ some.
             let g_is : g ≡ suc j.a = (here.own g some).0 in
             let bad = at_number g (not (is_accepted ans)) j.bad in
-            inv_answer S start table w.trace w.drawn (served w) w.given (map (λ x. x.0) w.taken ++ q ∷ qs) qs w.server.refused memory q ans j bad (suc j.a)
+            inv_answer S start table w.trace w.drawn (served w) w.given (map (λ x. x.0) w.taken ++ q ∷ qs) qs w.refused memory q ans j bad (suc j.a)
             (ap (λ o. counted o j.a) (sym some)) (omega arith)
             (λ y le. at_other g (not (is_accepted ans)) j.bad y (λ same. omega arith))
             (λ y le. elim (cases_eq y g) [ inl same ↦ inr (some ∙ ap Some (sym same)) | inr other ↦ inl (omega arith) ])
             (λ y h. elim (cases_eq y g) [ inl same ↦ inr (some ∙ ap Some (sym same)) | inr other ↦ inl (sym (at_other g (not (is_accepted ans)) j.bad y other) ∙ h) ])
             (λ h its. (let same : h ≡ g = (let both : Some g ≡ Some h = sym some ∙ its in cc) in (omega arith, ap bad same ∙ at_same g (not (is_accepted ans)) j.bad)))
-            (drops_not S start table w.server q) keeps joins (yes_fits S start table w.server q)
+            (drops_not S start table w.refused q says) keeps joins (yes_fits S start table w.refused q says possible)
       ] refl in (
         subst (λ xs. Invariant S start w.trace w.drawn xs w.given (map (λ x. x.0) (w.taken ++ (q, ans) ∷ []) ++ qs) qs memory) (served_push S start table w (q, ans))
             (subst (λ ps. Invariant S start w.trace w.drawn (served w ++ (q, ans) ∷ []) w.given ps qs memory) (sym (map_push (λ (x : Served P M D). x.0) w.taken (q, ans) qs)) answers),
         subst (λ xs. RequestFacts S start first old w.trace w.drawn w.kept w.next xs w.given qs) (served_push S start table w (q, ans))
             (facts_serve S start first old w.trace w.drawn w.kept w.next (served w) w.given q ans qs (subst (λ ws. RequestFacts S start first old w.trace w.drawn w.kept w.next (served w) w.given ws) is i.1)),
-        subst (λ xs. Files S.same_name S.last first.server.files (all_changed S.same_name S.last w.server.files (accepted q.ask ans)) (w.changes ++ map (λ c. (c, Some q)) (accepted q.ask ans)) xs) (served_push S start table w (q, ans))
-            (files_serve S.same_name S.last first.server.files w.server.files w.changes (served w) q ans (answer_fits S start table w.server q) i.2),
-        subst (λ ps. places S start w.trace ps ≤ S.limit) (ap (λ ws. map (λ (x : Served P M D). x.0) w.taken ++ ws) is ∙ sym (map_push (λ (x : Served P M D). x.0) w.taken (q, ans) qs)) i.3,
+        subst (λ ps. places S start w.trace ps ≤ S.limit) (ap (λ ws. map (λ (x : Served P M D). x.0) w.taken ++ ws) is ∙ sym (map_push (λ (x : Served P M D). x.0) w.taken (q, ans) qs)) i.2,
       )
+
+  serve_keeps : (w : World P M D) (says : Answer D) (qs : List (Request P M D)) → w.waiting ≡ qs → All w → All (serve S start w says qs)
+  serve_keeps w says [] is i = i
+  serve_keeps w says (q ∷ qs) is i =
+      elim (is_possible S.last q.ask says) as (λ t. is_possible S.last q.ask says ≡ t → All (cond t (answered S start w q qs (answer_to w.refused q says)) w)) [
+        | true ↦ λ possible. answer_keeps w says q qs is possible i
+        | false ↦ λ _. i
+      ] refl
 
   -- the reply x is given, and the trace is now es
   finish : (w : World P M D) (x : Served P M D) (rest : List (Served P M D)) (es : List (Event (Entry P M D))) (kept : P → Option (Input D))
       → (x.1 ≡ Yes → (m : M) (v : ℕ) (b : D) → x.0.ask ≡ Store m v b → x.0.guess ≡ None → HasStep S start (record_of (kernel S) start es) x.0)
-      → Invariant S start es w.drawn (w.given ++ x ∷ rest) w.given (map (λ x. x.0) rest ++ w.waiting) w.waiting w.server.refused
+      → Invariant S start es w.drawn (w.given ++ x ∷ rest) w.given (map (λ x. x.0) rest ++ w.waiting) w.waiting w.refused
       → RequestFacts S start first old es w.drawn kept w.next (w.given ++ x ∷ rest) (w.given ++ x ∷ []) w.waiting
-      → Files S.same_name S.last first.server.files w.server.files w.changes (w.given ++ x ∷ rest)
       → places S start es (map (λ x. x.0) rest ++ w.waiting) ≤ S.limit
       → All (with_kept (with_trace (with_given w x rest) es) kept)
-  finish w x rest es kept stands i t f room =
+  finish w x rest es kept stands i t room =
       let ps = map (λ (x : Served P M D). x.0) rest ++ w.waiting in
       let same = sym (append_assoc w.given (x ∷ []) rest) in (
-        subst (λ xs. Invariant S start es w.drawn xs (w.given ++ x ∷ []) ps w.waiting w.server.refused) same
-            (inv_done S start table es w.drawn (w.given ++ x ∷ rest) w.given ps w.waiting w.server.refused x
+        subst (λ xs. Invariant S start es w.drawn xs (w.given ++ x ∷ []) ps w.waiting w.refused) same
+            (inv_done S start table es w.drawn (w.given ++ x ∷ rest) w.given ps w.waiting w.refused x
             (Contains-append_right w.given (x ∷ rest) x (cons_first x rest)) stands i),
         subst (λ xs. RequestFacts S start first old es w.drawn kept w.next xs (w.given ++ x ∷ []) w.waiting) same t,
-        subst (Files S.same_name S.last first.server.files w.server.files w.changes) same f,
         room,
       )
 
@@ -397,9 +366,8 @@ module _ {E V W F P M D : Type 0} (S : Table E V W F P M D) (start : FinMap S.or
 
   -- a world whose first reply is x, before it is given
   pub record Replies (w : World P M D) (x : Served P M D) (rest : List (Served P M D)) (ps : List (Request P M D)) : Type 0 where
-    pub holds : Invariant S start w.trace w.drawn (w.given ++ x ∷ rest) w.given ps w.waiting w.server.refused
+    pub holds : Invariant S start w.trace w.drawn (w.given ++ x ∷ rest) w.given ps w.waiting w.refused
     pub facts : RequestFacts S start first old w.trace w.drawn w.kept w.next (w.given ++ x ∷ rest) w.given w.waiting
-    pub filed : Files S.same_name S.last first.server.files w.server.files w.changes (w.given ++ x ∷ rest)
     pub room : places S start w.trace ps ≤ S.limit
 
   refused_is : (w : World P M D) (x : Served P M D) (rest : List (Served P M D)) (ps : List (Request P M D)) (g : ℕ) → x.0.guess ≡ Some g
@@ -416,34 +384,33 @@ module _ {E V W F P M D : Type 0} (S : Table E V W F P M D) (start : FinMap S.or
       → Replies w (q, ans) rest (map (λ x. x.0) rest ++ w.waiting) → All (decided S start (with_given w (q, ans) rest) q g ans)
   decided_keeps w q Yes rest g its is_open i =
       finish w (q, Yes) rest (w.trace ++ Commit g ∷ []) w.kept (no_asked w q g its (w.trace ++ Commit g ∷ []) Yes)
-      (inv_commit S start table w.trace w.drawn (w.given ++ (q, Yes) ∷ rest) w.given (map (λ x. x.0) rest ++ w.waiting) w.waiting w.server.refused g i.holds is_open)
+      (inv_commit S start table w.trace w.drawn (w.given ++ (q, Yes) ∷ rest) w.given (map (λ x. x.0) rest ++ w.waiting) w.waiting w.refused g i.holds is_open)
       (facts_commit S start first old w.trace w.drawn w.kept w.next (w.given ++ (q, Yes) ∷ rest) w.given w.waiting i.facts q g its)
-      i.filed (let le = places_commit S start w.trace g (map (λ (x : Served P M D). x.0) rest ++ w.waiting) is_open in let was = i.room in omega arith)
+      (let le = places_commit S start w.trace g (map (λ (x : Served P M D). x.0) rest ++ w.waiting) is_open in let was = i.room in omega arith)
   decided_keeps w q (No c) rest g its is_open i =
       finish w (q, No c) rest (w.trace ++ Fail g ∷ []) (kept_for S q.process (Some (answer_kept q.ask c)) w.kept) (no_asked w q g its (w.trace ++ Fail g ∷ []) (No c))
-      (inv_fail S start table w.trace w.drawn (w.given ++ (q, No c) ∷ rest) w.given (map (λ x. x.0) rest ++ w.waiting) w.waiting w.server.refused g i.holds
+      (inv_fail S start table w.trace w.drawn (w.given ++ (q, No c) ∷ rest) w.given (map (λ x. x.0) rest ++ w.waiting) w.waiting w.refused g i.holds
       (refused_is w (q, No c) rest (map (λ x. x.0) rest ++ w.waiting) g its i) is_open)
       (facts_kept S start first old (w.trace ++ Fail g ∷ []) w.drawn w.kept w.next (w.given ++ (q, No c) ∷ rest) (w.given ++ (q, No c) ∷ []) w.waiting
       (facts_fail S start first old w.trace w.drawn w.kept w.next (w.given ++ (q, No c) ∷ rest) w.given w.waiting i.facts (q, No c) g (λ is. cc))
       (kept_for S q.process (Some (answer_kept q.ask c)) w.kept) (kept_some w.kept i.facts.answers q.process q.ask c))
-      i.filed (room_fail w g (map (λ (x : Served P M D). x.0) rest ++ w.waiting) i.holds.sound is_open i.room)
+      (room_fail w g (map (λ (x : Served P M D). x.0) rest ++ w.waiting) i.holds.sound is_open i.room)
   decided_keeps w q (Copy c) rest g its is_open i =
       finish w (q, Copy c) rest w.trace w.kept (no_asked w q g its w.trace (Copy c)) i.holds
-      (facts_none S start first old w.trace w.drawn w.kept w.next (w.given ++ (q, Copy c) ∷ rest) w.given w.waiting i.facts (q, Copy c) (λ h is. cc)) i.filed i.room
+      (facts_none S start first old w.trace w.drawn w.kept w.next (w.given ++ (q, Copy c) ∷ rest) w.given w.waiting i.facts (q, Copy c) (λ h is. cc)) i.room
   decided_keeps w q Dropped rest g its is_open i =
       finish w (q, Dropped) rest (w.trace ++ Fail g ∷ []) w.kept (no_asked w q g its (w.trace ++ Fail g ∷ []) Dropped)
-      (inv_fail S start table w.trace w.drawn (w.given ++ (q, Dropped) ∷ rest) w.given (map (λ x. x.0) rest ++ w.waiting) w.waiting w.server.refused g i.holds
+      (inv_fail S start table w.trace w.drawn (w.given ++ (q, Dropped) ∷ rest) w.given (map (λ x. x.0) rest ++ w.waiting) w.waiting w.refused g i.holds
       (refused_is w (q, Dropped) rest (map (λ x. x.0) rest ++ w.waiting) g its i) is_open)
       (facts_fail S start first old w.trace w.drawn w.kept w.next (w.given ++ (q, Dropped) ∷ rest) w.given w.waiting i.facts (q, Dropped) g (λ is. cc))
-      i.filed (room_fail w g (map (λ (x : Served P M D). x.0) rest ++ w.waiting) i.holds.sound is_open i.room)
+      (room_fail w g (map (λ (x : Served P M D). x.0) rest ++ w.waiting) i.holds.sound is_open i.room)
 
   -- the pending request is dropped
   dropped : (w : World P M D) (q : Request P M D) (ans : Answer D) (rest : List (Served P M D)) → Replies w (q, ans) rest (q ∷ (map (λ x. x.0) rest ++ w.waiting))
       → Replies w (q, ans) rest (map (λ x. x.0) rest ++ w.waiting)
   dropped w q ans rest i = record {
-    holds = inv_drop S start table w.trace w.drawn (w.given ++ (q, ans) ∷ rest) w.given q (map (λ x. x.0) rest ++ w.waiting) w.waiting w.server.refused i.holds;
+    holds = inv_drop S start table w.trace w.drawn (w.given ++ (q, ans) ∷ rest) w.given q (map (λ x. x.0) rest ++ w.waiting) w.waiting w.refused i.holds;
     facts = i.facts;
-    filed = i.filed;
     room = (let le = asked_le q.guess (asked_count (map (λ (x : Served P M D). x.0) rest ++ w.waiting)) in let was = i.room in omega arith);
   }
 
@@ -454,7 +421,7 @@ module _ {E V W F P M D : Type 0} (S : Table E V W F P M D) (start : FinMap S.or
       → Replies w (q, ans) rest (q ∷ (map (λ x. x.0) rest ++ w.waiting)) → All (with_given w (q, ans) rest)
   unchanged w q ans rest stands committed i =
       finish w (q, ans) rest w.trace w.kept stands (dropped w q ans rest i).holds
-      (facts_none S start first old w.trace w.drawn w.kept w.next (w.given ++ (q, ans) ∷ rest) w.given w.waiting i.facts (q, ans) committed) i.filed (dropped w q ans rest i).room
+      (facts_none S start first old w.trace w.drawn w.kept w.next (w.given ++ (q, ans) ∷ rest) w.given w.waiting i.facts (q, ans) committed) (dropped w q ans rest i).room
 
   -- the record of a world after the step of an asked request
   asked_step : (w : World P M D) (q : Request P M D) (ans : Answer D) (rest : List (Served P M D)) (x : Input D) → q.guess ≡ None → input_of q.ask ans ≡ Some x
@@ -469,7 +436,7 @@ module _ {E V W F P M D : Type 0} (S : Table E V W F P M D) (start : FinMap S.or
       let n = asked_entry q x in
       let s = i.holds.answers (q, ans) (Contains-append_right w.given ((q, ans) ∷ rest) (q, ans) (cons_first (q, ans) rest)) in
       let t : Takes S (run K start ns) q.process q.ask x = takes_by S start (run K start ns) q.process q.ask ans x ready.step input s.fits in
-      let after = inv_plain S start table w.trace w.drawn (w.given ++ (q, ans) ∷ rest) w.given ps w.waiting w.server.refused n t.effect
+      let after = inv_plain S start table w.trace w.drawn (w.given ++ (q, ans) ∷ rest) w.given ps w.waiting w.refused n t.effect
       (dropped w q ans rest i).holds t.accepted refl
       (λ y there hits r cause.
       let same : q ≡ r = cc in
@@ -491,7 +458,6 @@ module _ {E V W F P M D : Type 0} (S : Table E V W F P M D) (start : FinMap S.or
       after
       (facts_step S start first old w.trace w.drawn w.kept w.next (w.given ++ (q, ans) ∷ rest) w.given w.waiting i.facts q ans rest n refl refl refl asks
       (λ good. good_yes q.ask ans (input ∙ ap Some good)))
-      i.filed
       (let was = i.room in
       let kept = ap (λ o. asked_too o (asked_count ps)) asks in
       let more = places_step S start w.trace n ps refl in
@@ -521,7 +487,7 @@ module _ {E V W F P M D : Type 0} (S : Table E V W F P M D) (start : FinMap S.or
               | inl done ↦ (has_commit w.trace h).0 done
               | inr none ↦
                   let lost : is_lost S start w.trace h ≡ true = (λ j. not ((ap (λ g. has g (undecided S start w.trace)) (sym one) ∙ shut) j) && not (none j)) in
-                  absurd (good_open S start table w.trace w.drawn (w.given ++ (q, ans) ∷ rest) w.given (q ∷ ps) w.waiting w.server.refused i.holds h s.0 s.1 (s.3 ∙ ap (λ a. not (is_accepted a)) says) lost)
+                  absurd (good_open S start table w.trace w.drawn (w.given ++ (q, ans) ∷ rest) w.given (q ∷ ps) w.waiting w.refused i.holds h s.0 s.1 (s.3 ∙ ap (λ a. not (is_accepted a)) says) lost)
             ]) i
       ] refl
   given_keeps w q ans rest None asks i =
@@ -529,7 +495,7 @@ module _ {E V W F P M D : Type 0} (S : Table E V W F P M D) (start : FinMap S.or
       elim (is_void S start w.trace q) as (λ t. is_void S start w.trace q ≡ t → All (cond t (with_given w (q, ans) rest) (stepped_for S start (with_given w (q, ans) rest) q (input_of q.ask ans)))) [
         | true ↦ λ void.
             unchanged w q ans rest
-            (λ says m v b ask _. absurd (not_void S start table w.trace w.drawn (w.given ++ (q, ans) ∷ rest) w.given (q ∷ ps) w.waiting w.server.refused i.holds (q, ans)
+            (λ says m v b ask _. absurd (not_void S start table w.trace w.drawn (w.given ++ (q, ans) ∷ rest) w.given (q ∷ ps) w.waiting w.refused i.holds (q, ans)
             (Contains-append_right w.given ((q, ans) ∷ rest) (q, ans) (cons_first (q, ans) rest)) (λ is. (let both : Dropped ≡ Yes = sym is ∙ says in cc)) void))
             (λ g says its. absurd (no_guess q.guess g asks its)) i
         | false ↦ λ whole.
@@ -543,15 +509,10 @@ module _ {E V W F P M D : Type 0} (S : Table E V W F P M D) (start : FinMap S.or
   reply_keeps w [] is i = i
   reply_keeps w (x ∷ rest) is i =
       given_keeps w x.0 x.1 rest x.0.guess refl (record {
-        holds = subst (λ xs. Invariant S start w.trace w.drawn (w.given ++ xs) w.given (map (λ x. x.0) xs ++ w.waiting) w.waiting w.server.refused) is i.0;
+        holds = subst (λ xs. Invariant S start w.trace w.drawn (w.given ++ xs) w.given (map (λ x. x.0) xs ++ w.waiting) w.waiting w.refused) is i.0;
         facts = subst (λ xs. RequestFacts S start first old w.trace w.drawn w.kept w.next (w.given ++ xs) w.given w.waiting) is i.1;
-        filed = subst (λ xs. Files S.same_name S.last first.server.files w.server.files w.changes (w.given ++ xs)) is i.2;
-        room = subst (λ xs. places S start w.trace (map (λ x. x.0) xs ++ w.waiting) ≤ S.limit) is i.3;
+        room = subst (λ xs. places S start w.trace (map (λ x. x.0) xs ++ w.waiting) ≤ S.limit) is i.2;
       })
-
-  edited_keeps : (w : World P M D) (c : Change M D) (b : Bool) → is_fitting S.last w.server.files c ≡ b → All w → All (edited S start w c b)
-  edited_keeps w c true is i = (i.0, i.1, files_edit S.same_name S.last first.server.files w.server.files w.changes (served w) c is i.2, i.3)
-  edited_keeps w c false is i = i
 
   -- ---- every event
   pub event_keeps : (w : World P M D) (e : WorldEvent P M D) → All w → All (event S start w e)
@@ -560,9 +521,8 @@ module _ {E V W F P M D : Type 0} (S : Table E V W F P M D) (start : FinMap S.or
         | true ↦ λ _. i
         | false ↦ λ none. turned_keeps w p (S.next (state S start w.trace) p) refl none i
       ] refl
-  event_keeps w Serve i = serve_keeps w w.waiting refl i
+  event_keeps w (Serve says) i = serve_keeps w says w.waiting refl i
   event_keeps w Reply i = reply_keeps w w.taken refl i
-  event_keeps w (Edit c) i = edited_keeps w c (is_fitting S.last w.server.files c) refl i
 
   pub all_keep : (es : List (WorldEvent P M D)) (w : World P M D) → All w → All (world_after S start w es)
   all_keep [] w i = i

@@ -8,33 +8,13 @@ use Rattle.sk_record.specs.Effects.{MarkedEffect}
 use Rattle.sk_record.specs.Run.{outcome, run, effects, IsLegal}
 use Rattle.sk_record.specs.Trace.{Taken, Commit, IsDrawn, IsSound, record_of}
 use Rattle.sk_world.specs.Requests.{Content, Input, Nothing, Good, Fresh, Stale, Ask, Get, Check, Store, Yes, Request, Before, For, Entry, Served, name_of}
-use Rattle.sk_world.specs.Server.{Change, all_changed, AllFit, accepted}
-use Rattle.sk_world.specs.World.{Written, Due, Fetches, Stores, Table, World, WorldEvent, Reply, kernel, own, asked_entry, input_of, state, undecided, pending, served, places, event, world_after, or_zero}
+use Rattle.sk_world.specs.World.{Due, Fetches, Stores, Table, World, WorldEvent, Reply, kernel, own, asked_entry, input_of, state, undecided, pending, served, places, event, world_after, or_zero}
 
 -- parts of two lists, side by side
 abbrev pub paired : {A B : Type 0} → List A → List B → List (A × B)
 paired [] ys = []
 paired (x ∷ xs) [] = []
 paired (x ∷ xs) (y ∷ ys) = (x, y) ∷ paired xs ys
-
--- a request with the change that it is the store of
-abbrev pub StoreOf : Type 0 → Type 0 → Type 0 → Type 0
-StoreOf P M D = Request P M D × Change M D
-
-abbrev pub store_if : {P M D : Type 0} → Change M D → Option (Request P M D) → List (StoreOf P M D) → List (StoreOf P M D)
-store_if c None rest = rest
-store_if c (Some q) rest = (q, c) ∷ rest
-
-module _ {P M D : Type 0} where
-  -- the stores among the changes
-  abbrev pub stores_of : List (Written P M D) → List (StoreOf P M D)
-  stores_of [] = []
-  stores_of (x ∷ xs) = store_if x.0 x.1 (stores_of xs)
-
-  -- the stores that the answers accept
-  abbrev pub accepted_of : List (Served P M D) → List (StoreOf P M D)
-  accepted_of [] = []
-  accepted_of (x ∷ xs) = map (λ c. (x.0, c)) (accepted x.0.ask x.1) ++ accepted_of xs
 
 -- a request's step is due: from its guess on, or from its reply on where it was asked
 abbrev pub IsDueStep : {P M D : Type 0} → World P M D → Request P M D → Type 0
@@ -115,8 +95,7 @@ module _ {E V W F P M D : Type 0} (S : Table E V W F P M D) where
       pub waiting : w.waiting ≡ []
       pub taken : w.taken ≡ []
       pub given : w.given ≡ []
-      pub refused : w.server.refused ≡ []
-      pub changes : w.changes ≡ []
+      pub refused : w.refused ≡ []
       pub kept : (p : P) → w.kept p ≡ None
       pub room : length w.trace ≤ S.limit
 
@@ -153,19 +132,6 @@ module _ {E V W F P M D : Type 0} (S : Table E V W F P M D) where
         (q : Request P M D) (m : M) (v : ℕ) (b : D) (g : ℕ) → Contains (map (λ x. x.0) (served w) ++ w.waiting) q
         → Contains (served (world_after S start w later)) (q, Yes) → q.ask ≡ Store m v b → q.guess ≡ Some g
         → Stands w q
-
-    -- the server's files are the plain server's after the foreign edits and just the stores that it accepted, in its
-    -- order; each fits where it comes
-    pub record AreFiles (first w : World P M D) : Type 0 where
-      pub files : w.server.files ≡ all_changed S.same_name S.last first.server.files (map (λ c. c.0) w.changes)
-      pub fit : AllFit S.same_name S.last first.server.files (map (λ c. c.0) w.changes)
-      pub stores : stores_of w.changes ≡ accepted_of (served w)
-
-    -- after any list of events the server's files are those after the edits and just the stores that it accepted
-    abbrev pub FilesAreChanged : Type 0
-    FilesAreChanged =
-        (first : World P M D) → IsFirst first → (es : List (WorldEvent P M D))
-        → AreFiles first (world_after S start first es)
 
     -- the trace keeps its limit, with a place for the decision of each undecided guess and for the step of each
     -- request that was asked

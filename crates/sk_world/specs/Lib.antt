@@ -3,4 +3,3 @@ pub mod Server
 pub mod World
 pub mod Laws
 pub mod Labels
-pub mod Example

@@ -9,7 +9,7 @@ use Rattle.sk_record.specs.Run.{System, outcome, run, effects}
 use Rattle.sk_record.specs.Notes.{has}
 use Rattle.sk_record.specs.Trace.{Event, Taken, Commit, Fail, record_of, undecided_of}
 use Rattle.sk_world.specs.Requests.{Content, Input, Nothing, Good, Fresh, Stale, Ask, Get, Check, Store, Answer, Yes, No, Copy, Dropped, name_of, Request, Own, For, Entry, Served}
-use Rattle.sk_world.specs.Server.{Change, Server, is_fitting, changed, accepted, answer_to, answered}
+use Rattle.sk_world.specs.Server.{is_possible, answer_to, refused_after}
 
 -- what a process has next
 pub data Next (M D : Type 0) : Type 0 where
@@ -68,14 +68,10 @@ abbrev pub asked_count : {P M D : Type 0} → List (Request P M D) → ℕ
 asked_count [] = 0
 asked_count (q ∷ qs) = asked_too q.guess (asked_count qs)
 
--- a change of the server's files, with the request of which it is the store; a foreign edit has none
-abbrev pub Written : Type 0 → Type 0 → Type 0 → Type 0
-Written P M D = Change M D × Option (Request P M D)
-
 -- the desk: the trace of its kernel, the greatest guess number that was drawn, the next request's number, kept
 -- answers, and the pending requests: those that were taken, each with the reply that is on its way, and those that
--- wait. The server. And what is written down for the laws alone: the requests whose reply was given, and the changes of
--- the server's files in their order, the foreign edits among them.
+-- wait. The refused guesses that the server remembers. And what is written down for the laws alone: the requests whose
+-- reply was given.
 pub record World (P M D : Type 0) : Type 0 where
   pub trace : List (Event (Entry P M D))
   pub drawn : ℕ
@@ -83,15 +79,14 @@ pub record World (P M D : Type 0) : Type 0 where
   pub kept : P → Option (Input D)
   pub taken : List (Served P M D)
   pub waiting : List (Request P M D)
-  pub server : Server M D
+  pub refused : List ℕ
   pub given : List (Served P M D)
-  pub changes : List (Written P M D)
 
 pub data WorldEvent (P M D : Type 0) : Type 0 where
   Turn : (process : P) → WorldEvent P M D
-  Serve : WorldEvent P M D
+  -- the next request is answered, where the server's files say this
+  Serve : (says : Answer D) → WorldEvent P M D
   Reply : WorldEvent P M D
-  Edit : (change : Change M D) → WorldEvent P M D
 
 -- what the process gets of a refused guess
 abbrev pub answer_kept : {M D : Type 0} → Ask M D → Content D → Input D
@@ -275,16 +270,16 @@ module _ {E V W F P M D : Type 0} (S : Table E V W F P M D) where
     turned w p Else = other w p (w.kept p)
 
     -- the first request that waits is taken, and answered
-    abbrev pub serve : World P M D → List (Request P M D) → World P M D
-    serve w [] = w
-    serve w (q ∷ qs) =
-        let a = answer_to S.same_name S.last w.server q in
-        record w {
-          taken = w.taken ++ (q, a) ∷ [];
-          waiting = qs;
-          server = answered S.same_name S.last w.server q a;
-          changes = w.changes ++ map (λ c. (c, Some q)) (accepted q.ask a);
-        }
+    abbrev pub answered : World P M D → Request P M D → List (Request P M D) → Answer D → World P M D
+    answered w q qs a = record w {
+      taken = w.taken ++ (q, a) ∷ [];
+      waiting = qs;
+      refused = refused_after w.refused q a;
+    }
+
+    abbrev pub serve : World P M D → Answer D → List (Request P M D) → World P M D
+    serve w a [] = w
+    serve w a (q ∷ qs) = if is_possible S.last q.ask a then answered w q qs (answer_to w.refused q a) else w
 
     -- ---- a reply
     abbrev pub failed_with : World P M D → P → ℕ → Option (Input D) → World P M D
@@ -308,19 +303,11 @@ module _ {E V W F P M D : Type 0} (S : Table E V W F P M D) where
     reply w [] = w
     reply w (x ∷ rest) = given_to (with_given w x rest) x.0 x.1 x.0.guess
 
-    abbrev pub edited : World P M D → Change M D → Bool → World P M D
-    edited w c true = record w {
-      server = record w.server { files = changed S.same_name S.last w.server.files c };
-      changes = w.changes ++ (c, None) ∷ [];
-    }
-    edited w c false = w
-
     -- the world after an event
     abbrev pub event : World P M D → WorldEvent P M D → World P M D
     event w (Turn p) = if asks_for w p then w else turned w p (S.next (state w.trace) p)
-    event w Serve = serve w w.waiting
+    event w (Serve a) = serve w a w.waiting
     event w Reply = reply w w.taken
-    event w (Edit c) = edited w c (is_fitting S.last w.server.files c)
 
     abbrev pub world_after : World P M D → List (WorldEvent P M D) → World P M D
     world_after w es = fold event w es

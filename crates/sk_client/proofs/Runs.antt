@@ -15,9 +15,10 @@ use Rattle.sk_store.specs.declared.entity_state.EntityState.TheVariants as store
 use Rattle.sk_plain.specs.declared.refusal.Refusal.{Refusal}
 use Rattle.sk_plain.specs.declared.refusal.Refusal.TheVariants.{NoProcess, Ended}
 use Rattle.sk_plain.specs.Act.{Scripts, Saying, StepTree, act, goes_on, with_input, instruction_of}
-use Rattle.sk_world.specs.Requests.{Entry}
-use Rattle.sk_world.specs.World.{kernel}
-use Rattle.sk_client.specs.Table.{Bytes, input_of, table}
+use Rattle.sk_client.proofs.CausedRequests.{Entry}
+use Rattle.sk_client.proofs.CausedWorld.{kernel}
+use Rattle.sk_client.specs.Table.{Bytes}
+use Rattle.sk_client.proofs.WorldTable.{input_of, table}
 use Rattle.sk_client.proofs.Ends.{written_so}
 use Rattle.sk_client.proofs.Tidy.{IsTidy}
 use Rattle.sk_client.proofs.Rows.{Keeps, CanWrite, ends_of, input_fine}

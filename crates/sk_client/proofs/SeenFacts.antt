@@ -26,16 +26,18 @@ use Rattle.sk_kernel.proofs.Undecided.{undecided_sorted}
 use Rattle.sk_kernel.proofs.Lawful.{below_next}
 use Rattle.sk_holder.specs.Tokens.{commits}
 use Rattle.sk_server.specs.declared.reply.Reply.{Reply}
-use Rattle.sk_world.specs.Requests.{name_of as law_name}
-use Rattle.sk_world.specs.World.{World, kernel, state, undecided, pending as law_pending, is_tag, rests_of as law_rests, is_lost as law_lost, is_void as law_void, commits as law_commits, least, places, asks_for as law_asks_for, asks_on as law_asks_on, asked_count as law_asked_count, is_asked as law_is_asked}
-use Rattle.sk_world.specs.Labels.{bare_event}
-use Rattle.sk_world.proofs.Labels.{is_bare}
-use Rattle.sk_world.proofs.TraceFacts.{entry_drawn}
-use Rattle.sk_client.specs.Table.{Bytes, Caused, bare, table}
+use Rattle.sk_client.proofs.CausedRequests.{name_of as law_name}
+use Rattle.sk_client.proofs.CausedWorld.{World, kernel, state, undecided, pending as law_pending, is_tag, rests_of as law_rests, is_lost as law_lost, is_void as law_void, commits as law_commits, least, places, asks_for as law_asks_for, asks_on as law_asks_on, asked_count as law_asked_count, is_asked as law_is_asked}
+use Rattle.sk_client.proofs.Bare.{bare_event}
+use Rattle.sk_client.proofs.Labels.{is_bare}
+use Rattle.sk_client.proofs.TraceFacts.{entry_drawn}
+use Rattle.sk_client.specs.Table.{Bytes}
+use Rattle.sk_client.proofs.WorldTable.{Caused, bare, table}
 use Rattle.sk_client.specs.Desk.{pending, is_asked, asked_count, asks_for, asks_on, name_of, rests_of, is_lost, is_void}
 use Rattle.sk_client.specs.declared.pending.PendingRequest.{PendingRequest}
 use Rattle.sk_client.specs.WorldView.{WorldView}
-use Rattle.sk_client.specs.LawWorld.{law_ask, law_request, law_served, unanswered, Exchanges, IsSeen}
+use Rattle.sk_client.proofs.SeenWorld.{law_ask, law_request, law_served, unanswered, IsSeen}
+use Rattle.sk_client.specs.Exchanges.{Exchanges}
 use Rattle.sk_server.specs.declared.request.Ask.{Ask}
 use Rattle.sk_server.specs.declared.request.Ask.TheVariants as asks
 use Rattle.sk_client.proofs.DeskFacts.{committed_is}

@@ -18,7 +18,7 @@ use Rattle.sk_plain.specs.Planned.{refusal_of, IsReply}
 use Rattle.sk_plain.specs.Replay.{image}
 use Rattle.sk_plain.specs.declared.refusal.Refusal.{Refusal}
 use Rattle.sk_plain.specs.declared.refusal.Refusal.TheVariants.{TraceFull}
-use Rattle.sk_kernel.specs.Kernel.{KernelView, HasStatus, events_of, undecided_at, last_guess, number_after, room, effect_at, state_at, no_room, or_else, trace_full, step_refused, with_event}
+use Rattle.sk_kernel.specs.Kernel.{KernelView, events_of, undecided_at, last_guess, number_after, room, effect_at, state_at, no_room, or_else, trace_full, step_refused, with_event}
 use Rattle.sk_kernel.specs.Laws.{HasSoundTrace}
 use Rattle.sk_kernel.proofs.Further.{epoch_commit, epoch_fail}
 use Rattle.sk_server.specs.declared.request.Ask.{Ask}
@@ -26,13 +26,15 @@ use Rattle.sk_server.specs.declared.request.Ask.TheVariants as asks
 use Rattle.sk_server.specs.declared.reply.Answer.{Answer}
 use Rattle.sk_server.specs.declared.reply.Answer.TheVariants as answers
 use Rattle.sk_server.specs.declared.reply.Reply.{Reply}
-use Rattle.sk_world.specs.Requests.{Input as LawInput}
-use Rattle.sk_world.specs.World.{World, Reply as Replies, pending as law_pending, places, with_trace, with_kept, with_given, kept_for as law_kept_for, asked_entry, stepped as law_stepped, stepped_by, failed_with, decided as law_decided, stepped_for, given_to as law_given_to, reply, event, input_of as law_input_of}
-use Rattle.sk_world.specs.Labels.{bare_event}
-use Rattle.sk_client.specs.Table.{Bytes, Caused, bare, table}
+use Rattle.sk_client.proofs.CausedRequests.{Input as LawInput}
+use Rattle.sk_client.proofs.CausedWorld.{World, Reply as Replies, pending as law_pending, places, with_trace, with_kept, with_given, kept_for as law_kept_for, asked_entry, stepped as law_stepped, stepped_by, failed_with, decided as law_decided, stepped_for, given_to as law_given_to, reply, event, input_of as law_input_of}
+use Rattle.sk_client.proofs.Bare.{bare_event}
+use Rattle.sk_client.specs.Table.{Bytes}
+use Rattle.sk_client.proofs.WorldTable.{Caused, bare, table}
 use Rattle.sk_client.proofs.DeskFacts.{reply_free}
 use Rattle.sk_client.specs.Desk.{DeskView, pending, asked_count, kept_for, forgotten, with_kept as kept_with, entry, fits_ask, decided, input_of, stepped, answered, given_to, given, is_void, is_asked}
-use Rattle.sk_client.specs.LawWorld.{Exchanges, answered_there, law_input, law_kept, law_ask, law_answer, law_request, law_served, unanswered}
+use Rattle.sk_client.specs.Exchanges.{Exchanges}
+use Rattle.sk_client.proofs.SeenWorld.{answered_there, law_input, law_kept, law_ask, law_answer, law_request, law_served, unanswered}
 use Rattle.sk_client.specs.WorldView.{WorldView}
 use Rattle.sk_client.specs.declared.pending.PendingRequest.{PendingRequest}
 use Rattle.sk_client.specs.declared.pending.Kept.{Kept}
@@ -89,7 +91,6 @@ module _ (xs : Exchanges) (w : World ℕ Bytes Bytes) (v : WorldView) (f : Fits 
       kept = answers;
       taken = f.seen.taken;
       waiting = f.seen.waiting;
-      files = f.seen.files;
       refused = f.seen.refused;
       answered = f.seen.answered;
     };
@@ -207,7 +208,6 @@ module _ (xs : Exchanges) (w : World ℕ Bytes Bytes) (v : WorldView) (f : Fits 
       kept = f.seen.kept;
       taken = refl;
       waiting = f.seen.waiting ∙ (λ i. map law_request (unanswered (o.taken i) (is i) ++ v.desk.waiting));
-      files = f.seen.files;
       refused = f.seen.refused;
       answered =
           ap (map answered_there) (append_assoc w.given ((law_request o.request, law_answer r.answer) ∷ []) (law_served o.later rs))

@@ -1,21 +1,21 @@
 -- The server answers in a world of the laws, and in one that is seen so.
-use Rattle.std.proofs.Common.{◌≡◌, ℕ, List, [], ◌∷◌, ◌++◌, map, Option, Some, None, refl, sym, ◌∙◌, ap, subst}
+use Rattle.std.proofs.Common.{◌≡◌, ℕ, cond, List, [], ◌∷◌, ◌++◌, map, Option, Some, None, refl, sym, ◌∙◌, ap, subst}
 use Rattle.std.proofs.lemmas.List.{append_assoc, map-append}
-use Rattle.sk_objects.specs.declared.content.TheConstants.{LAST_VERSION}
-use Rattle.sk_server.specs.Server.{answer_to}
+use Rattle.sk_server.specs.Server.{judged, answer_to}
 use Rattle.sk_server.specs.declared.request.Request.{Request as Sent}
 use Rattle.sk_server.specs.declared.reply.Reply.{Reply}
-use Rattle.std.specs.Prelude.{bytes_eq}
-use Rattle.sk_world.specs.Requests.{Answer}
-use Rattle.sk_world.specs.Server.{answer_to as law_answer_to, answered as law_answered, accepted}
-use Rattle.sk_world.specs.World.{World, Serve, serve, event}
-use Rattle.sk_client.specs.Table.{Bytes, table}
+use Rattle.sk_client.proofs.CausedRequests.{Answer}
+use Rattle.sk_client.proofs.Remembered.{answer_to as law_answer_to}
+use Rattle.sk_client.proofs.CausedWorld.{World, Serve, answered as law_answered, serve, event}
+use Rattle.sk_client.specs.Table.{Bytes}
+use Rattle.sk_client.proofs.WorldTable.{table}
 use Rattle.sk_client.specs.Desk.{sent, first_taken}
-use Rattle.sk_client.specs.LawWorld.{Exchanges, answered_there, answered_here, law_answer, law_request, law_served, unanswered}
+use Rattle.sk_client.specs.Exchanges.{Exchanges}
+use Rattle.sk_client.proofs.SeenWorld.{answered_there, answered_here, law_answer, law_request, law_served, unanswered}
 use Rattle.sk_client.specs.WorldView.{WorldView, taken_by, taken_from, reply_to, served, AreReplies, IsJoined}
 use Rattle.sk_client.specs.declared.pending.PendingRequest.{PendingRequest}
 use Rattle.sk_client.proofs.SeenFacts.{AreFor, Fits}
-use Rattle.sk_client.proofs.SeenServer.{answer_seen, refused_seen, files_seen}
+use Rattle.sk_client.proofs.SeenServer.{answer_seen, possible_seen, refused_seen}
 
 -- ---- each request that was taken has its reply
 
@@ -75,7 +75,6 @@ module _ (xs : Exchanges) (w : World ℕ Bytes Bytes) (v : WorldView) (f : Fits 
       kept = f.seen.kept;
       taken = f.seen.taken ∙ sym (served_longer v.desk.taken v.replies q replies);
       waiting = f.seen.waiting ∙ (λ i. map law_request (none_waits v.desk.taken v.replies replies i ++ is i)) ∙ (λ i. map law_request (sym (one_waits v.desk.taken v.replies q replies) i ++ qs));
-      files = f.seen.files;
       refused = f.seen.refused;
       answered = f.seen.answered;
     };
@@ -100,16 +99,8 @@ module _ (xs : Exchanges) (w : World ℕ Bytes Bytes) (v : WorldView) (f : Fits 
     first_is : w.waiting ≡ law_request l.request ∷ map law_request v.desk.waiting
     first_is = f.seen.waiting ∙ ap (λ xs. map law_request (xs ++ v.desk.waiting)) l.alone
 
-    answer_is : law_answer_to bytes_eq LAST_VERSION w.server (law_request l.request) ≡ law_answer (answer_to v.server b)
-    answer_is = answer_seen w.server v.server f.seen.files f.seen.refused l.request ∙ ap (λ q. law_answer (answer_to v.server q)) (sym l.sent_so)
-
     abbrev serving : Answer Bytes → World ℕ Bytes Bytes
-    serving a = record w {
-      taken = w.taken ++ (law_request l.request, a) ∷ [];
-      waiting = map law_request v.desk.waiting;
-      server = law_answered bytes_eq LAST_VERSION w.server (law_request l.request) a;
-      changes = w.changes ++ map (λ c. (c, Some (law_request l.request))) (accepted (law_request l.request).ask a);
-    }
+    serving a = law_answered (table v.desk.kernel.scripts v.desk.kernel.limit) v.desk.kernel.start w (law_request l.request) (map law_request v.desk.waiting) a
 
     serving_fits : Fits (xs ++ (sent l.request, reply_to v.server (sent l.request)) ∷ []) (serving (law_answer (answer_to v.server (sent l.request)))) (served v (sent l.request))
     serving_fits = record {
@@ -120,8 +111,7 @@ module _ (xs : Exchanges) (w : World ℕ Bytes Bytes) (v : WorldView) (f : Fits 
         kept = f.seen.kept;
         taken = ap (λ xs. xs ++ (law_request l.request, law_answer (answer_to v.server (sent l.request))) ∷ []) f.seen.taken ∙ sym (l.served (reply_to v.server (sent l.request)));
         waiting = ap (λ xs. map law_request (xs ++ v.desk.waiting)) (sym (l.none (reply_to v.server (sent l.request))));
-        files = files_seen w.server v.server f.seen.files f.seen.refused l.request;
-        refused = refused_seen w.server v.server f.seen.files f.seen.refused l.request (answer_to v.server (sent l.request));
+        refused = refused_seen w.refused v.server f.seen.refused l.request (answer_to v.server (sent l.request));
         answered =
             ap (map answered_there) (sym (append_assoc w.given w.taken ((law_request l.request, law_answer (answer_to v.server (sent l.request))) ∷ [])))
             ∙ map-append answered_there (w.given ++ w.taken) ((law_request l.request, law_answer (answer_to v.server (sent l.request))) ∷ [])
@@ -132,9 +122,12 @@ module _ (xs : Exchanges) (w : World ℕ Bytes Bytes) (v : WorldView) (f : Fits 
       kinds = f.kinds;
     }
 
-    pub serve_fits : Fits (xs ++ (b, reply_to v.server b) ∷ []) (event (table v.desk.kernel.scripts v.desk.kernel.limit) v.desk.kernel.start w Serve) (served v b)
+    pub serve_fits : Fits (xs ++ (b, reply_to v.server b) ∷ []) (event (table v.desk.kernel.scripts v.desk.kernel.limit) v.desk.kernel.start w (Serve (law_answer (judged v.server.files b.ask)))) (served v b)
     serve_fits =
-        subst (λ (q : Sent). Fits (xs ++ (q, reply_to v.server q) ∷ []) (event (table v.desk.kernel.scripts v.desk.kernel.limit) v.desk.kernel.start w Serve) (served v q)) (sym l.sent_so)
+        let says = law_answer (judged v.server.files l.request.ask) in
+        let T = table v.desk.kernel.scripts v.desk.kernel.limit in
+        let start = v.desk.kernel.start in
+        subst (λ (q : Sent). Fits (xs ++ (q, reply_to v.server q) ∷ []) (event (table v.desk.kernel.scripts v.desk.kernel.limit) v.desk.kernel.start w (Serve (law_answer (judged v.server.files q.ask)))) (served v q)) (sym l.sent_so)
         (subst (λ (x : World ℕ Bytes Bytes). Fits (xs ++ (sent l.request, reply_to v.server (sent l.request)) ∷ []) x (served v (sent l.request)))
-        (sym ((λ i. serve (table v.desk.kernel.scripts v.desk.kernel.limit) v.desk.kernel.start w (first_is i)) ∙ ap serving (answer_seen w.server v.server f.seen.files f.seen.refused l.request)))
+        (sym ((λ i. serve T start w says (first_is i)) ∙ (λ i. cond (possible_seen v.server.files l.request.ask i) (serving (law_answer_to w.refused (law_request l.request) says)) w) ∙ ap serving (answer_seen w.refused v.server f.seen.refused l.request)))
         serving_fits)

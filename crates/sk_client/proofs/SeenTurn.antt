@@ -34,13 +34,15 @@ use Rattle.sk_kernel.proofs.Further.{epoch_step, epoch_guess}
 use Rattle.sk_server.specs.declared.request.Ask.{Ask}
 use Rattle.sk_server.specs.declared.request.Ask.TheVariants as asks
 use Rattle.sk_server.specs.declared.server.TheConstants.{LAST_REQUEST}
-use Rattle.sk_world.specs.Requests.{Input as LawInput, Nothing, Ask as LawAsk, Store, Request, Entry, name_of as law_name}
-use Rattle.sk_world.specs.World.{World, Turn, kernel, state, own, with_trace, with_kept, kept_for as law_kept_for, pending as law_pending, places, has_places, has_guess, has_number, used, used_by, stepped_by, other, guessed, guessed_by, guess_entry, guess_request, asked, asked_now, ask_request, fetched, stored, turned as law_turned, event}
-use Rattle.sk_world.specs.Labels.{bare_event}
-use Rattle.sk_client.specs.Table.{Bytes, bare, table, input_of, turn_of, version_of, buffer_of, MOST_GUESSES}
+use Rattle.sk_client.proofs.CausedRequests.{Input as LawInput, Nothing, Ask as LawAsk, Store, Request, Entry, name_of as law_name}
+use Rattle.sk_client.proofs.CausedWorld.{World, Turn, kernel, state, own, with_trace, with_kept, kept_for as law_kept_for, pending as law_pending, places, has_places, has_guess, has_number, used, used_by, stepped_by, other, guessed, guessed_by, guess_entry, guess_request, asked, asked_now, ask_request, fetched, stored, turned as law_turned, event}
+use Rattle.sk_client.proofs.Bare.{bare_event}
+use Rattle.sk_client.specs.Table.{Bytes, version_of, buffer_of}
+use Rattle.sk_client.proofs.WorldTable.{bare, table, input_of, turn_of, MOST_GUESSES}
 use Rattle.sk_client.specs.Desk.{DeskView, pending, asked_count, asks_for, asks_on, kept_for, forgotten, rests_of, fetch_rule, store_rule, unless_kept, cached, buffer, rule_next, rule_of, rule, no_place, no_number, entry, rule_refused, request_of, turned}
 use Rattle.sk_client.specs.DeskCalls.{RulePost, ByRule, TurnPost}
-use Rattle.sk_client.specs.LawWorld.{Exchanges, law_input, law_kept, law_ask, law_request, law_served, unanswered}
+use Rattle.sk_client.specs.Exchanges.{Exchanges}
+use Rattle.sk_client.proofs.SeenWorld.{law_input, law_kept, law_ask, law_request, law_served, unanswered}
 use Rattle.sk_client.specs.WorldView.{WorldView}
 use Rattle.sk_client.specs.declared.pending.PendingRequest.{PendingRequest}
 use Rattle.sk_client.specs.declared.pending.Kept.{Kept}
@@ -169,7 +171,6 @@ module _ (xs : Exchanges) (w : World ℕ Bytes Bytes) (v : WorldView) (f : Fits 
       kept = answers;
       taken = f.seen.taken ∙ (λ i. law_served (sym t i) v.replies);
       waiting = f.seen.waiting ∙ (λ i. map law_request (unanswered (sym t i) v.replies ++ sym q i));
-      files = f.seen.files;
       refused = f.seen.refused;
       answered = f.seen.answered;
     };
@@ -292,7 +293,6 @@ module _ (xs : Exchanges) (w : World ℕ Bytes Bytes) (v : WorldView) (f : Fits 
       kept = f.seen.kept;
       taken = f.seen.taken;
       waiting = request_seen p ask (Some (next_guess K)) (guess_request (table K.scripts K.limit) K.start w p (law_ask ask)) (guess_request_seen p ask);
-      files = f.seen.files;
       refused = f.seen.refused;
       answered = f.seen.answered;
     };
@@ -326,7 +326,6 @@ module _ (xs : Exchanges) (w : World ℕ Bytes Bytes) (v : WorldView) (f : Fits 
       kept = f.seen.kept;
       taken = f.seen.taken;
       waiting = request_seen p ask None (ask_request (table K.scripts K.limit) K.start w p (law_ask ask)) (ask_request_seen p ask);
-      files = f.seen.files;
       refused = f.seen.refused;
       answered = f.seen.answered;
     };

@@ -16,19 +16,23 @@ use Rattle.sk_store.specs.declared.entity_state.EntityState.{EntityState}
 use Rattle.sk_plain.specs.Act.{Saying}
 use Rattle.sk_plain.specs.declared.refusal.Refusal.{Refusal}
 use Rattle.sk_kernel.specs.Kernel.{KernelView}
-use Rattle.sk_server.specs.Files.{file_of}
 use Rattle.sk_server.specs.Server.{ServerView}
 use Rattle.sk_server.specs.declared.request.Request.{Request as Sent}
 use Rattle.sk_server.specs.declared.reply.Reply.{Reply}
-use Rattle.sk_world.specs.Requests.{Good, Request, Cause, Before, Own, For, Served}
-use Rattle.sk_world.specs.World.{Table, World, kernel, served}
-use Rattle.sk_world.specs.Laws.{paired, record_now, Sets}
-use Rattle.sk_world.proofs.Each.{cons_cases, no_member}
-use Rattle.sk_world.proofs.First.{contains_at, rising_places, all_after, stores_are_replied}
-use Rattle.sk_world.proofs.RequestFacts.{Rising}
-use Rattle.sk_client.specs.Table.{Bytes, Caused, bare, input_of, table, copy_of}
+use Rattle.sk_client.proofs.CausedRequests.{Good, Request, Cause, Before, Own, For, Served}
+use Rattle.sk_client.proofs.CausedWorld.{Table, World, kernel, served}
+use Rattle.sk_client.specs.AcceptedStores.{paired}
+use Rattle.sk_client.proofs.CausedLaws.{record_now, Sets}
+use Rattle.sk_client.proofs.Each.{cons_cases, no_member}
+use Rattle.sk_client.proofs.First.{contains_at, rising_places, all_after, stores_are_replied}
+use Rattle.sk_client.proofs.RequestFacts.{Rising}
+use Rattle.sk_client.specs.Table.{Bytes, copy_of}
+use Rattle.sk_client.proofs.WorldTable.{Caused, bare, input_of, table}
 use Rattle.sk_client.specs.Desk.{opened}
-use Rattle.sk_client.specs.LawWorld.{Exchanges, Leads, law_content, begun, IsReady, answered_there, answered_here, IsSeen, StandsAt, DueStore, StandApart}
+use Rattle.sk_client.specs.Exchanges.{Exchanges, Leads}
+use Rattle.sk_client.proofs.SeenWorld.{begun, answered_there, answered_here, IsSeen}
+use Rattle.sk_client.specs.Ready.{IsReady}
+use Rattle.sk_client.specs.AcceptedStores.{StandsAt, DueStore, StandApart}
 use Rattle.sk_client.specs.WorldView.{WorldView, joined}
 use Rattle.sk_client.specs.declared.world.WorldEvent.{WorldEvent}
 use Rattle.sk_client.proofs.Before.{ready_table, begins}
@@ -123,16 +127,13 @@ module _ (xs : Exchanges) (w : World ℕ Bytes Bytes) (v : WorldView) (seen : Is
 
 -- ---- the steps
 
-module _ (k : KernelView) (ready : IsReady k) (server : ServerView) where
-  abbrev first : World ℕ Bytes Bytes
-  first = begun k (λ name. law_content (file_of server.files name))
-
+module _ (k : KernelView) (ready : IsReady k) where
   abbrev S : Table Entity EntityState Saying Refusal ℕ Bytes Bytes
   S = table k.scripts k.limit
 
-  module _ (xs : Exchanges) (v : WorldView) (a : Reached k ready server [] xs v) (ys : Exchanges) (last : WorldView) (b : Reached k ready server a.since (xs ++ ys) last) where
+  module _ (xs : Exchanges) (v : WorldView) (a : Reached k [] xs v) (ys : Exchanges) (last : WorldView) (b : Reached k a.since (xs ++ ys) last) where
     abbrev w : World ℕ Bytes Bytes
-    w = law_after k ready server (a.since ++ b.since)
+    w = law_after k (a.since ++ b.since)
 
     abbrev entries : List Caused
     entries = record_of (kernel S) k.start w.trace
@@ -147,16 +148,16 @@ module _ (k : KernelView) (ready : IsReady k) (server : ServerView) where
       number : request.number ≡ s.request.number
       guess : entry.guess ≡ s.request.guess
       input : entry.input ≡ Good
-      sets : Contains effect.written (CopyOf s.name, Some (copy_of (suc s.version, s.bytes)))
+      sets : Contains effect.written (CopyOf s.name, Some (copy_of (record { version = suc s.version; bytes = s.bytes })))
 
     at_place : (s : DueStore xs v) → AtPlace s
     at_place s =
         let there = contains_at xs s.at (s.request, s.reply) s.there in
-        let f = found xs (law_after k ready server a.since) v a.fits.seen s.request s.reply s.name s.version s.bytes there s.accepted s.asks in
-        let step = its_step k ready server xs v a b.since s.request s.reply s.name s.version s.bytes there s.accepted s.asks s.due in
+        let f = found xs (law_after k a.since) v a.fits.seen s.request s.reply s.name s.version s.bytes there s.accepted s.asks in
+        let step = its_step k ready xs v a b.since s.request s.reply s.name s.version s.bytes there s.accepted s.asks s.due in
         let fs = effects (kernel S) k.start entries in
         let here = place_at (paired entries fs) (step.entry, step.marked_effect) step.there in
-        let replied = stores_are_replied S k.start (ready_table k ready) first (begins k (λ name. law_content (file_of server.files name)) ready) (a.since ++ b.since) in
+        let replied = stores_are_replied S k.start (ready_table k ready) (begun k) (begins k ready) (a.since ++ b.since) in
         let same : place_in entries s.request.number ≡ here.0 =
         first_is entries replied.step_once here.0 step.entry f.request s.request.number (paired_first entries fs here.0 (step.entry, step.marked_effect) here.1) step.cause f.number in
         record {
@@ -166,7 +167,7 @@ module _ (k : KernelView) (ready : IsReady k) (server : ServerView) where
           at = ap (slice_get (paired entries fs)) same ∙ here.1;
           cause = step.cause;
           number = f.number;
-          guess = its_guess k ready server (a.since ++ b.since) f.request step ∙ f.guess;
+          guess = its_guess k ready (a.since ++ b.since) f.request step ∙ f.guess;
           input = step.input;
           sets = subst (λ ask. Sets S ask Good step.marked_effect.written) f.asks step.sets;
         }
@@ -190,7 +191,7 @@ module _ (k : KernelView) (ready : IsReady k) (server : ServerView) where
               ∙ ap (option_map (λ (p : Caused × MarkedEffect Entity EntityState Saying). (bare p.0, p.1))) at_kernel;
           guess = t.guess;
           input = ap input_of t.input;
-          sets = subst (λ n. Contains t.effect.written (CopyOf s.name, Some (copy_of (n, s.bytes)))) one t.sets;
+          sets = subst (λ n. Contains t.effect.written (CopyOf s.name, Some (copy_of (record { version = n; bytes = s.bytes })))) one t.sets;
         }
 
     one_store : (s t : DueStore xs v) → place_in entries s.request.number ≡ place_in entries t.request.number → s.at ≡ t.at
@@ -200,15 +201,15 @@ module _ (k : KernelView) (ready : IsReady k) (server : ServerView) where
         let fs = effects (kernel S) k.start entries in
         let both : x.entry ≡ y.entry = same_entry (x.entry, x.effect) (y.entry, y.effect) (sym x.at ∙ ap (slice_get (paired entries fs)) same ∙ y.at) in
         let requests : x.request ≡ y.request = same_cause x.request y.request (sym x.cause ∙ ap (λ (n : Caused). n.cause) both ∙ y.cause) in
-        let earlier = law_after k ready server a.since in
-        one_number xs earlier v a.fits.seen (all_after S k.start (ready_table k ready) first (begins k (λ name. law_content (file_of server.files name)) ready) a.since).1.numbers.rising
+        let earlier = law_after k a.since in
+        one_number xs earlier v a.fits.seen (all_after S k.start (ready_table k ready) (begun k) (begins k ready) a.since).1.numbers.rising
         s.at t.at (s.request, s.reply) (t.request, t.reply) s.there t.there (sym x.number ∙ ap (λ (q : Request ℕ Bytes Bytes). q.number) requests ∙ y.number)
 
     stand : StandApart xs v last
     stand = record { place_of = place_in entries; stands = stands_at; apart = one_store }
 
-  pub stand_apart : server.next ≡ 1 → server.refused ≡ [] → (es : List WorldEvent) (xs : Exchanges) (v : WorldView) → Leads (joined (opened k) server) es xs v
+  pub stand_apart : (server : ServerView) → server.next ≡ 1 → server.refused ≡ [] → (es : List WorldEvent) (xs : Exchanges) (v : WorldView) → Leads (joined (opened k) server) es xs v
       → (later : List WorldEvent) (ys : Exchanges) (last : WorldView) → Leads v later ys last → StandApart xs v last
-  stand_apart next refused es xs v h later ys last more =
+  stand_apart server next refused es xs v h later ys last more =
       let a = reached k ready server next refused es xs v h in
-      stand xs v a ys last (later_on k ready server xs v a later ys last more)
+      stand xs v a ys last (later_on k ready xs v a later ys last more)

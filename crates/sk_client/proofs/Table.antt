@@ -19,10 +19,11 @@ use Rattle.sk_store.specs.Start.{start_of}
 use Rattle.sk_store.specs.declared.entity_state.EntityState.{EntityState}
 use Rattle.sk_store.specs.declared.entity_state.EntityState.TheVariants as stored
 use Rattle.sk_plain.specs.Act.{Scripts, Saying}
-use Rattle.sk_world.specs.Requests.{Input as Reply, Nothing, Good, Fresh, Stale, Entry}
-use Rattle.sk_world.specs.World.{kernel, own, Due, Fetches, Stores}
-use Rattle.sk_world.specs.Laws.{IsTable}
-use Rattle.sk_client.specs.Table.{Bytes, input_of, table, IsNumbered}
+use Rattle.sk_client.proofs.CausedRequests.{Input as Reply, Nothing, Good, Fresh, Stale, Entry}
+use Rattle.sk_client.proofs.CausedWorld.{kernel, own, Due, Fetches, Stores}
+use Rattle.sk_client.proofs.CausedLaws.{IsTable}
+use Rattle.sk_client.specs.Table.{Bytes, IsNumbered}
+use Rattle.sk_client.proofs.WorldTable.{input_of, table}
 use Rattle.sk_client.proofs.Tidy.{IsTidy, IsNextChild, unborn}
 use Rattle.sk_client.proofs.Rows.{IsOf, CanWrite}
 use Rattle.sk_client.proofs.Runs.{next_in, found, run_tidy}

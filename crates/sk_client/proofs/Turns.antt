@@ -16,8 +16,9 @@ use Rattle.sk_plain.specs.declared.next.Next.{Next}
 use Rattle.sk_plain.specs.declared.next.Next.TheVariants.{Signal, Fetch, Store, Private, Waits, Full, Other}
 use Rattle.sk_plain.specs.Act.{Scripts}
 use Rattle.sk_plain.specs.Next.{is_due, is_private, waits, next_instruction, next_going, next_at, next_of}
-use Rattle.sk_world.specs.World.{Next as Turn, Halted, Due, Fetches, Stores}
-use Rattle.sk_client.specs.Table.{Bytes, buffer_of, turn_of}
+use Rattle.sk_client.proofs.CausedWorld.{Next as Turn, Halted, Due, Fetches, Stores}
+use Rattle.sk_client.specs.Table.{Bytes, buffer_of}
+use Rattle.sk_client.proofs.WorldTable.{turn_of}
 use Rattle.sk_client.proofs.Runs.{next_in}
 
 -- ---- what it does, by its instruction

@@ -11,9 +11,9 @@ use Rattle.sk_record.specs.Notes.{has}
 use Rattle.sk_record.specs.Trace.{Event, Taken, Commit, Fail, IsSound, Record, no_record, all_recorded, still_marked, marks, undecided_of}
 use Rattle.sk_record.proofs.Tidy.{recorded_more}
 use Rattle.sk_record.proofs.Machine.{has_filter}
-use Rattle.sk_world.proofs.TraceFacts.{failed_shut}
-use Rattle.sk_world.specs.Requests.{Request, Entry}
-use Rattle.sk_world.specs.World.{Table, kernel, undecided, places, asked_too, asked_count}
+use Rattle.sk_client.proofs.TraceFacts.{failed_shut}
+use Rattle.sk_client.proofs.CausedRequests.{Request, Entry}
+use Rattle.sk_client.proofs.CausedWorld.{Table, kernel, undecided, places, asked_too, asked_count}
 
 pub length_filter : (p : ℕ → Bool) (xs : List ℕ) → length (filter p xs) ≤ length xs
 length_filter p [] = omega arith

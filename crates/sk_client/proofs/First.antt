@@ -11,16 +11,17 @@ use Rattle.sk_record.specs.Notes.{has}
 use Rattle.sk_record.specs.Trace.{record_of}
 use Rattle.sk_record.specs.declared.status.Status.TheVariants.{Committed, Failed}
 use Rattle.sk_record.proofs.Laws.{one_status}
-use Rattle.sk_world.specs.Requests.{Good, Get, Store, Yes, Request, Before, For, Entry, Served}
-use Rattle.sk_world.specs.World.{Table, World, WorldEvent, asked_count, kernel, undecided, pending, served, world_after}
-use Rattle.sk_world.specs.Laws.{IsTable, IsFirst, Stands, IsDueStep, AcceptedStand, AcceptedStood, PlacesAreKept, StoresAreReplied, Counts, paired}
-use Rattle.sk_world.proofs.Each.{Each, each_at, no_member, cons_first, cons_later, cons_cases}
-use Rattle.sk_world.proofs.TraceFacts.{entry_drawn}
-use Rattle.sk_world.proofs.Queues.{queue_le}
-use Rattle.sk_world.proofs.Invariant.{Queue, Apart, HasStep}
-use Rattle.sk_world.proofs.KernelEvents.{no_guess}
-use Rattle.sk_world.proofs.Worlds.{Holds, HasFacts, Room, All, all_keep}
-use Rattle.sk_world.proofs.RequestFacts.{Numbers, Once, Rising, requests, in_map}
+use Rattle.sk_client.proofs.CausedRequests.{Good, Get, Store, Yes, Request, Before, For, Entry, Served}
+use Rattle.sk_client.proofs.CausedWorld.{Table, World, WorldEvent, asked_count, kernel, undecided, pending, served, world_after}
+use Rattle.sk_client.specs.AcceptedStores.{paired}
+use Rattle.sk_client.proofs.CausedLaws.{IsTable, IsFirst, Stands, IsDueStep, AcceptedStand, AcceptedStood, PlacesAreKept, StoresAreReplied, Counts}
+use Rattle.sk_client.proofs.Each.{Each, each_at, no_member, cons_first, cons_later, cons_cases}
+use Rattle.sk_client.proofs.TraceFacts.{entry_drawn}
+use Rattle.sk_client.proofs.Queues.{queue_le}
+use Rattle.sk_client.proofs.Invariant.{Queue, Apart, HasStep}
+use Rattle.sk_client.proofs.KernelEvents.{no_guess}
+use Rattle.sk_client.proofs.Worlds.{Holds, HasFacts, Room, All, all_keep}
+use Rattle.sk_client.proofs.RequestFacts.{Numbers, Once, Rising, requests, in_map}
 
 each_all : {A B : Type 0} (X : A → B → Type 0) (xs : List A) (ys : List B) → ((x : A) (y : B) → Contains xs x → X x y) → Each X xs ys
 each_all X [] ys h = tt
@@ -171,7 +172,7 @@ module _ {E V W F P M D : Type 0} (S : Table E V W F P M D) (start : FinMap S.or
         still_served = λ x there. there;
         still_given = λ x there. there;
         came = λ n q g there _ _ _. there;
-        reach = λ q there. absurd (no_member q (subst (λ xs. Contains xs q) no_requests there));
+        reach = omega arith;
       }
 
   room_first : (w : World P M D) → IsFirst S start w → Room S start table w w w
@@ -201,7 +202,7 @@ module _ {E V W F P M D : Type 0} (S : Table E V W F P M D) (start : FinMap S.or
       still_served = λ x there. there;
       still_given = λ x there. there;
       came = λ n q g there _ _ _. there;
-      reach = i.1.numbers.below;
+      reach = omega arith;
     },
     i.2,
   )

@@ -1,5 +1,5 @@
 -- What holds of a world holds after every event.
-use Rattle.std.proofs.Common.{◌≡◌, ℕ, zero, suc, ◌+◌, ◌≤◌, ◌<◌, Bool, true, false, cond, not, ◌&&◌, List, [], ◌∷◌, ◌++◌, map, Option, Some, None, Ok, Err, inl, inr, refl, sym, ◌∙◌, ap, subst, arith, append_assoc}
+use Rattle.std.proofs.Common.{◌≡◌, ℕ, zero, suc, ◌+◌, ◌≤◌, ◌<◌, true, false, cond, not, ◌&&◌, List, [], ◌∷◌, ◌++◌, map, Option, Some, None, Ok, Err, inl, inr, refl, sym, ◌∙◌, ap, subst, arith, append_assoc}
 use Rattle.std.specs.Prelude.{◌⊎◌, ◌==◌, nat_lt}
 use Rattle.std.specs.List.{list_any, Contains}
 use Rattle.std.specs.FinMap.{FinMap, get}
@@ -11,19 +11,19 @@ use Rattle.sk_record.specs.Notes.{has}
 use Rattle.sk_record.specs.Trace.{Event, Taken, Commit, Fail, IsSound, record_of, marks}
 use Rattle.sk_record.proofs.UndoStates.{and_both, any_at}
 use Rattle.sk_record.proofs.Sound.{undecided_is, has_commit, any_from, record_more, sound_fail}
-use Rattle.sk_world.specs.Requests.{Input, Nothing, Good, Fresh, Stale, Content, Ask, Get, Check, Store, Answer, Yes, No, Copy, Dropped, Request, Entry, Served, name_of}
-use Rattle.sk_world.specs.Server.{is_possible, is_accepted, refused_by, remembered, is_dropped, answer_to, refused_after}
-use Rattle.sk_world.specs.World.{Table, places, has_places, has_guess, has_number, asked_now, asked_too, asked_count, kept_for, answer_kept, Next, Halted, Due, Fetches, Stores, Else, World, WorldEvent, Turn, Serve, Reply, kernel, own, asked_entry, input_of, is_asked, commits, is_lost, is_void, or_zero, state, undecided, pending, served, with_given, with_kept, with_trace, asks_for, asks_on, stepped_by, stepped, used_by, used, guess_request, guess_entry, guessed_by, guessed, ask_request, asked, fetched, stored, other, turned, answered, serve, decided, stepped_for, given_to, reply, event, world_after}
-use Rattle.sk_world.specs.Laws.{Takes, Sets, IsTable}
-use Rattle.sk_world.proofs.Each.{at_number, at_same, at_other, cons_first, has_left, has_right}
-use Rattle.sk_world.proofs.TraceFacts.{has_mark, legal_of}
-use Rattle.sk_world.proofs.Records.{Quiet, tags_of_step, not_true}
-use Rattle.sk_world.proofs.Queues.{any_of, queue_le, not_dropped}
-use Rattle.sk_world.proofs.Invariant.{counted, ReadyFor, Ready, HasStep, Invariant}
-use Rattle.sk_world.proofs.KernelEvents.{no_guess, inv_plain, inv_commit, inv_fail}
-use Rattle.sk_world.proofs.RequestEvents.{inv_ask, inv_guess, inv_drop, inv_done, inv_answer}
-use Rattle.sk_world.proofs.PlaceFacts.{asked_le, asked_push, places_step, places_guess, places_commit, places_fail}
-use Rattle.sk_world.proofs.RequestFacts.{RequestFacts, map_push, facts_kept, facts_own, facts_ask, facts_guess, facts_serve, facts_none, facts_commit, facts_fail, facts_step}
+use Rattle.sk_client.proofs.CausedRequests.{Input, Nothing, Good, Fresh, Stale, Content, Ask, Get, Check, Store, Answer, Yes, No, Copy, Dropped, Request, Entry, Served, name_of}
+use Rattle.sk_client.proofs.Remembered.{is_possible, is_accepted, refused_by, remembered, is_dropped, answer_to, refused_after}
+use Rattle.sk_client.proofs.CausedWorld.{Table, places, has_places, has_guess, has_number, asked_now, asked_too, asked_count, kept_for, answer_kept, Next, Halted, Due, Fetches, Stores, Else, World, WorldEvent, Turn, Serve, Reply, kernel, own, asked_entry, input_of, is_asked, commits, is_lost, is_void, or_zero, state, undecided, pending, served, with_given, with_kept, with_trace, asks_for, asks_on, stepped_by, stepped, used_by, used, guess_request, guess_entry, guessed_by, guessed, ask_request, asked, fetched, stored, other, turned, answered, serve, decided, stepped_for, given_to, reply, event, world_after}
+use Rattle.sk_client.proofs.CausedLaws.{Takes, Sets, IsTable}
+use Rattle.sk_client.proofs.Each.{at_number, at_same, at_other, cons_first, has_left, has_right}
+use Rattle.sk_client.proofs.TraceFacts.{has_mark, legal_of}
+use Rattle.sk_client.proofs.Records.{Quiet, tags_of_step, not_true}
+use Rattle.sk_client.proofs.Queues.{any_of, queue_le, not_dropped}
+use Rattle.sk_client.proofs.Invariant.{counted, ReadyFor, Ready, HasStep, Invariant}
+use Rattle.sk_client.proofs.KernelEvents.{no_guess, inv_plain, inv_commit, inv_fail}
+use Rattle.sk_client.proofs.RequestEvents.{inv_ask, inv_guess, inv_drop, inv_done, inv_answer}
+use Rattle.sk_client.proofs.PlaceFacts.{asked_le, asked_push, places_step, places_guess, places_commit, places_fail}
+use Rattle.sk_client.proofs.RequestFacts.{RequestFacts, map_push, facts_kept, facts_own, facts_ask, facts_guess, facts_serve, facts_none, facts_commit, facts_fail, facts_step}
 
 asked_none : (o : Option ℕ) → o ≡ None → is_asked o ≡ true
 asked_none o is = ap is_asked is

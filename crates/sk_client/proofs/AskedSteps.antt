@@ -8,14 +8,14 @@ use Rattle.std.proofs.lemmas.List.Elements.{Contains-append_left, Contains-appen
 use Rattle.sk_record.specs.Step.{Effect}
 use Rattle.sk_record.specs.Run.{outcome}
 use Rattle.sk_record.specs.Trace.{Taken}
-use Rattle.sk_world.specs.Requests.{Input, Ask, Get, Check, Store, Answer, Dropped, Served}
-use Rattle.sk_world.specs.World.{Table, World, WorldEvent, Reply, kernel, state, asked_entry, input_of, is_void, is_lost, pending, served, with_given, stepped_by, stepped_for, given_to, reply, event, world_after}
-use Rattle.sk_world.specs.Laws.{Takes, IsTable, IsFirst, AskedAreTaken}
-use Rattle.sk_world.proofs.Each.{cons_first}
-use Rattle.sk_world.proofs.Queues.{any_of}
-use Rattle.sk_world.proofs.Worlds.{takes_by, not_void}
-use Rattle.sk_world.proofs.RequestFacts.{in_map}
-use Rattle.sk_world.proofs.First.{all_after}
+use Rattle.sk_client.proofs.CausedRequests.{Input, Ask, Get, Check, Store, Answer, Dropped, Served}
+use Rattle.sk_client.proofs.CausedWorld.{Table, World, WorldEvent, Reply, kernel, state, asked_entry, input_of, is_void, is_lost, pending, served, with_given, stepped_by, stepped_for, given_to, reply, event, world_after}
+use Rattle.sk_client.proofs.CausedLaws.{Takes, IsTable, IsFirst, AskedAreTaken}
+use Rattle.sk_client.proofs.Each.{cons_first}
+use Rattle.sk_client.proofs.Queues.{any_of}
+use Rattle.sk_client.proofs.Worlds.{takes_by, not_void}
+use Rattle.sk_client.proofs.RequestFacts.{in_map}
+use Rattle.sk_client.proofs.First.{all_after}
 
 -- a dropped request gets no input
 dropped_gets : {M D : Type 0} (ask : Ask M D) → input_of ask Dropped ≡ None

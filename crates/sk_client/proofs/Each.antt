@@ -6,7 +6,7 @@ use Rattle.std.proofs.lemmas.Bool.{or_parts, or_left, or_right, or_cases, true�
 use Rattle.std.proofs.lemmas.List.Elements.{Contains-push_cases, Contains-append_cases, Contains-append_left, Contains-append_right}
 use Rattle.sk_record.specs.Effects.{keep}
 use Rattle.sk_record.specs.Notes.{has}
-use Rattle.sk_world.specs.Laws.{paired}
+use Rattle.sk_client.specs.AcceptedStores.{paired}
 
 abbrev pub Each : {A B : Type 0} → (A → B → Type 0) → List A → List B → Type 0
 Each X [] ys = Unit {0}

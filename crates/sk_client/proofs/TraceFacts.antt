@@ -20,7 +20,7 @@ use Rattle.sk_record.proofs.Machine.{nil_right, has_filter}
 use Rattle.sk_record.proofs.UndoStates.{and_both}
 use Rattle.sk_record.proofs.Tidy.{recorded_more}
 use Rattle.sk_record.proofs.Sound.{undecided_is, tests, has_entry, is_drawn, marked_is}
-use Rattle.sk_world.proofs.Each.{Each, each_keep, has_from, has_left}
+use Rattle.sk_client.proofs.Each.{Each, each_keep, has_from, has_left}
 
 pub mark_has : (m : Option ℕ) (y : ℕ) → has y (marks m) ≡ true → m ≡ Some y
 mark_has None y h = absurd (true≢false (sym h))

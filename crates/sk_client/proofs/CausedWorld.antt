@@ -8,8 +8,8 @@ use Rattle.sk_record.specs.Effects.{is_in, dirt}
 use Rattle.sk_record.specs.Run.{System, outcome, run, effects}
 use Rattle.sk_record.specs.Notes.{has}
 use Rattle.sk_record.specs.Trace.{Event, Taken, Commit, Fail, record_of, undecided_of}
-use Rattle.sk_world.specs.Requests.{Content, Input, Nothing, Good, Fresh, Stale, Ask, Get, Check, Store, Answer, Yes, No, Copy, Dropped, name_of, Request, Own, For, Entry, Served}
-use Rattle.sk_world.specs.Server.{is_possible, answer_to, refused_after}
+use Rattle.sk_client.proofs.CausedRequests.{Content, Input, Nothing, Good, Fresh, Stale, Ask, Get, Check, Store, Answer, Yes, No, Copy, Dropped, name_of, Request, Own, For, Entry, Served}
+use Rattle.sk_client.proofs.Remembered.{is_possible, answer_to, refused_after}
 
 -- what a process has next
 pub data Next (M D : Type 0) : Type 0 where

@@ -1,5 +1,5 @@
 -- What holds of a world's requests beside the invariant: kept answers, request numbers, the request of each entry, and commits.
-use Rattle.std.proofs.Common.{◌≡◌, ℕ, suc, ◌≤◌, ◌<◌, Bool, true, false, List, [], ◌∷◌, ◌++◌, map, Option, Some, None, IsTrue, inl, inr, refl, sym, ◌∙◌, ap, subst, arith, append_assoc}
+use Rattle.std.proofs.Common.{◌≡◌, ℕ, suc, ◌≤◌, ◌<◌, Bool, true, false, List, [], ◌∷◌, ◌++◌, map, Option, Some, None, inl, inr, refl, sym, ◌∙◌, ap, subst, arith, append_assoc}
 use Rattle.std.specs.Prelude.{◌⊎◌}
 use Rattle.std.specs.List.{Contains}
 use Rattle.std.specs.FinMap.{FinMap}
@@ -8,10 +8,10 @@ use Rattle.sk_record.specs.Effects.{keep}
 use Rattle.sk_record.specs.Strike.{struck}
 use Rattle.sk_record.specs.Trace.{Event, Taken, Commit, Fail, record_of}
 use Rattle.sk_record.proofs.Sound.{record_more}
-use Rattle.sk_world.specs.Requests.{Content, Input, Good, Answer, Yes, Request, Before, Own, For, Entry, Served}
-use Rattle.sk_world.specs.World.{Table, World, kernel}
-use Rattle.sk_world.proofs.Each.{cons_first, cons_later, cons_cases, no_member, kept_was}
-use Rattle.sk_world.proofs.KernelEvents.{no_guess}
+use Rattle.sk_client.proofs.CausedRequests.{Input, Good, Answer, Yes, Request, Before, Own, For, Entry, Served}
+use Rattle.sk_client.proofs.CausedWorld.{Table, World, kernel}
+use Rattle.sk_client.proofs.Each.{cons_first, cons_later, cons_cases, no_member, kept_was}
+use Rattle.sk_client.proofs.KernelEvents.{no_guess}
 
 -- ---- request numbers
 module _ {P M D : Type 0} where
@@ -214,7 +214,7 @@ module _ {E V W F P M D : Type 0} (S : Table E V W F P M D) (start : FinMap S.or
 
   abbrev pub Came : List (Entry P M D) → Type 0
   Came ns =
-      (n : Entry P M D) (q : Request P M D) (g : ℕ) → Contains ns n → n.cause ≡ For q → q.guess ≡ Some g → Contains (requests (old.given ++ old.taken) old.waiting) q
+      (n : Entry P M D) (q : Request P M D) (g : ℕ) → Contains ns n → n.cause ≡ For q → q.guess ≡ Some g → q.number < old.next
       → Contains (record_of (kernel S) start old.trace) n
 
   pub record RequestFacts (es : List (Event (Entry P M D))) (d : ℕ) (kept : P → Option (Input D)) (next : ℕ) (served given : List (Served P M D)) (waiting : List (Request P M D)) : Type 0 where
@@ -228,7 +228,7 @@ module _ {E V W F P M D : Type 0} (S : Table E V W F P M D) (start : FinMap S.or
     pub still_given : (x : Served P M D) → Contains old.given x → Contains given x
     -- the step of a guess that was made before was there before
     pub came : Came (record_of (kernel S) start es)
-    pub reach : (q : Request P M D) → Contains (requests (old.given ++ old.taken) old.waiting) q → q.number < next
+    pub reach : old.next ≤ next
 
   module _ (es : List (Event (Entry P M D))) (d : ℕ) (kept : P → Option (Input D)) (next : ℕ) (served given : List (Served P M D)) (waiting : List (Request P M D))
       (t : RequestFacts es d kept next served given waiting) where
@@ -261,7 +261,7 @@ module _ {E V W F P M D : Type 0} (S : Table E V W F P M D) (start : FinMap S.or
       low = t.low;
       answers = t.answers;
       came = t.came;
-      reach = λ r there. let lt = t.reach r there in omega arith;
+      reach = (let le = t.reach in omega arith);
       still_served = t.still_served;
       still_given = t.still_given;
       numbers = subst (Numbers (suc next)) (requests_push q) (numbers_push next (requests served waiting) q is t.numbers);
@@ -287,8 +287,8 @@ module _ {E V W F P M D : Type 0} (S : Table E V W F P M D) (start : FinMap S.or
                     let both : For q ≡ For r = sym own ∙ ap (λ (n : Entry P M D). n.cause) same ∙ for in
                     let one : q ≡ r = cc in
                     let eq = ap (λ (r : Request P M D). r.number) one in
-                    let lt = t.reach r was in
-                    absurd (omega arith)
+                    let le = t.reach in
+                    absurd (omega (arith, eq, le, was, is))
               ]);
           reach = asks.reach;
           still_served = t.still_served;

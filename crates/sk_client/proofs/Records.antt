@@ -16,12 +16,12 @@ use Rattle.sk_record.proofs.Struck.{footprint}
 use Rattle.sk_record.proofs.Machine.{unmarked_hits}
 use Rattle.sk_record.proofs.UndoStates.{and_both}
 use Rattle.sk_record.proofs.Sound.{any_from, mark_is}
-use Rattle.sk_world.specs.Requests.{Input, Good, Fresh, Stale, Ask, Get, Check, Store, Request, For, Entry, name_of}
-use Rattle.sk_world.specs.World.{Table, kernel, own, commits, is_lost}
-use Rattle.sk_world.specs.Laws.{Takes, Sets, IsTable, IsEither}
-use Rattle.sk_world.proofs.Each.{each_none, kept_was}
-use Rattle.sk_world.proofs.TraceFacts.{each_effects_more, each_hits_more, each_effects_left, each_hits_left, value_taken, dirt_taken, value_left, dirt_left}
-use Rattle.sk_world.proofs.Invariant.{Allowed, Entries, Ready, ReadyFor, tag_at}
+use Rattle.sk_client.proofs.CausedRequests.{Input, Good, Fresh, Stale, Ask, Get, Check, Store, Request, For, Entry, name_of}
+use Rattle.sk_client.proofs.CausedWorld.{Table, kernel, own, commits, is_lost}
+use Rattle.sk_client.proofs.CausedLaws.{Takes, Sets, IsTable, IsEither}
+use Rattle.sk_client.proofs.Each.{each_none, kept_was}
+use Rattle.sk_client.proofs.TraceFacts.{each_effects_more, each_hits_more, each_effects_left, each_hits_left, value_taken, dirt_taken, value_left, dirt_left}
+use Rattle.sk_client.proofs.Invariant.{Allowed, Entries, Ready, ReadyFor, tag_at}
 
 pub not_true : (b : Bool) → not b ≡ true → b ≡ false
 not_true true h = absurd (true≢false (sym h))

@@ -7,14 +7,9 @@ use Rattle.sk_record.specs.Step.{Effect}
 use Rattle.sk_record.specs.Effects.{MarkedEffect}
 use Rattle.sk_record.specs.Run.{outcome, run, effects, IsLegal}
 use Rattle.sk_record.specs.Trace.{Taken, Commit, IsDrawn, IsSound, record_of}
-use Rattle.sk_world.specs.Requests.{Content, Input, Nothing, Good, Fresh, Stale, Ask, Get, Check, Store, Yes, Request, Before, For, Entry, Served, name_of}
-use Rattle.sk_world.specs.World.{Due, Fetches, Stores, Table, World, WorldEvent, Reply, kernel, own, asked_entry, input_of, state, undecided, pending, served, places, event, world_after, or_zero}
-
--- parts of two lists, side by side
-abbrev pub paired : {A B : Type 0} → List A → List B → List (A × B)
-paired [] ys = []
-paired (x ∷ xs) [] = []
-paired (x ∷ xs) (y ∷ ys) = (x, y) ∷ paired xs ys
+use Rattle.sk_client.specs.AcceptedStores.{paired}
+use Rattle.sk_client.proofs.CausedRequests.{Content, Input, Nothing, Good, Fresh, Stale, Ask, Get, Check, Store, Yes, Request, Before, For, Entry, Served, name_of}
+use Rattle.sk_client.proofs.CausedWorld.{Due, Fetches, Stores, Table, World, WorldEvent, Reply, kernel, own, asked_entry, input_of, state, undecided, pending, served, places, event, world_after, or_zero}
 
 -- a request's step is due: from its guess on, or from its reply on where it was asked
 abbrev pub IsDueStep : {P M D : Type 0} → World P M D → Request P M D → Type 0
@@ -129,7 +124,7 @@ module _ {E V W F P M D : Type 0} (S : Table E V W F P M D) where
     AcceptedStood =
         (first : World P M D) → IsFirst first → (es later : List (WorldEvent P M D))
         → let w = world_after S start first es in
-        (q : Request P M D) (m : M) (v : ℕ) (b : D) (g : ℕ) → Contains (map (λ x. x.0) (served w) ++ w.waiting) q
+        (q : Request P M D) (m : M) (v : ℕ) (b : D) (g : ℕ) → q.number < w.next
         → Contains (served (world_after S start w later)) (q, Yes) → q.ask ≡ Store m v b → q.guess ≡ Some g
         → Stands w q
 

@@ -8,7 +8,7 @@ use Rattle.sk_record.specs.Run.{System, outcome, after, marked_effect, run, effe
 use Rattle.sk_record.specs.Strike.{struck, strike}
 use Rattle.sk_record.specs.Trace.{Event, Taken, Commit, Fail, record_of, Record, recorded, all_recorded, no_record, still_marked, marks}
 use Rattle.sk_record.proofs.Sound.{entries_are}
-use Rattle.sk_world.specs.Labels.{bare_event, labelled, IsBare}
+use Rattle.sk_client.proofs.Bare.{bare_event, labelled, IsBare}
 
 keep_map : {A B : Type 0} (f : A → B) (bs : List Bool) (xs : List A) → map f (keep bs xs) ≡ keep bs (map f xs)
 keep_map f [] xs = refl

@@ -8,11 +8,11 @@ use Rattle.sk_record.specs.Run.{run, effects}
 use Rattle.sk_record.specs.Strike.{struck}
 use Rattle.sk_record.specs.Notes.{has}
 use Rattle.sk_record.specs.Trace.{Event, Fail, HasEntry, IsDrawn, IsSound, record_of, undecided_of}
-use Rattle.sk_world.specs.Requests.{Good, Fresh, Stale, Content, Ask, Get, Check, Store, Yes, Dropped, Request, For, Entry, Served, name_of}
-use Rattle.sk_world.specs.Server.{is_accepted}
-use Rattle.sk_world.specs.World.{Table, kernel, is_lost}
-use Rattle.sk_world.specs.Laws.{Takes, Sets}
-use Rattle.sk_world.proofs.Each.{Each}
+use Rattle.sk_client.proofs.CausedRequests.{Good, Fresh, Stale, Content, Ask, Get, Check, Store, Yes, Dropped, Request, For, Entry, Served, name_of}
+use Rattle.sk_client.proofs.Remembered.{is_accepted}
+use Rattle.sk_client.proofs.CausedWorld.{Table, kernel, is_lost}
+use Rattle.sk_client.proofs.CausedLaws.{Takes, Sets}
+use Rattle.sk_client.proofs.Each.{Each}
 
 abbrev pub counted : Option ℕ → ℕ → ℕ
 counted None a = a

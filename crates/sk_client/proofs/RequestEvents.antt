@@ -11,16 +11,16 @@ use Rattle.sk_record.specs.Trace.{Event, Taken, Fail, HasEntry, IsSound, record_
 use Rattle.sk_record.proofs.Machine.{has_filter}
 use Rattle.sk_record.proofs.UndoStates.{and_both}
 use Rattle.sk_record.proofs.Sound.{record_more, sound_taken, drawn_more, has_entry}
-use Rattle.sk_world.specs.Requests.{Good, Store, Answer, Yes, Dropped, Request, For, Entry, Served, name_of}
-use Rattle.sk_world.specs.Server.{is_accepted, remembered}
-use Rattle.sk_world.specs.World.{Table, kernel, least, rests_of}
-use Rattle.sk_world.specs.Laws.{Takes, Sets, IsTable}
-use Rattle.sk_world.proofs.Each.{at_number, at_same, at_other, cons_first, cons_later}
-use Rattle.sk_world.proofs.TraceFacts.{open_taken, entry_drawn, open_entry}
-use Rattle.sk_world.proofs.Records.{Quiet, entries_taken, tags_of_step, ready_taken, lost_more}
-use Rattle.sk_world.proofs.Queues.{queue_le, queue_push, remembers_push, still_remembered, apart_push}
-use Rattle.sk_world.proofs.Invariant.{counted, Queue, IsServed, Entries, Guesses, ReadyFor, tag_at, Ready, HasStep, Invariant}
-use Rattle.sk_world.proofs.KernelEvents.{no_guess, entry_more, step_more, new_clean}
+use Rattle.sk_client.proofs.CausedRequests.{Good, Store, Answer, Yes, Dropped, Request, For, Entry, Served, name_of}
+use Rattle.sk_client.proofs.Remembered.{is_accepted, remembered}
+use Rattle.sk_client.proofs.CausedWorld.{Table, kernel, least, rests_of}
+use Rattle.sk_client.proofs.CausedLaws.{Takes, Sets, IsTable}
+use Rattle.sk_client.proofs.Each.{at_number, at_same, at_other, cons_first, cons_later}
+use Rattle.sk_client.proofs.TraceFacts.{open_taken, entry_drawn, open_entry}
+use Rattle.sk_client.proofs.Records.{Quiet, entries_taken, tags_of_step, ready_taken, lost_more}
+use Rattle.sk_client.proofs.Queues.{queue_le, queue_push, remembers_push, still_remembered, apart_push}
+use Rattle.sk_client.proofs.Invariant.{counted, Queue, IsServed, Entries, Guesses, ReadyFor, tag_at, Ready, HasStep, Invariant}
+use Rattle.sk_client.proofs.KernelEvents.{no_guess, entry_more, step_more, new_clean}
 
 -- the least of some numbers
 pub least_le : (d : ℕ) (gs : List ℕ) → least d gs ≤ d

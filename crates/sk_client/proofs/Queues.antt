@@ -6,10 +6,10 @@ use Rattle.std.proofs.lemmas.Bool.{or_left, or_right, or_cases, true≢false, eq
 use Rattle.std.proofs.lemmas.List.Elements.{Contains-push_cases}
 use Rattle.sk_record.specs.Notes.{has}
 use Rattle.sk_record.proofs.Machine.{has_filter}
-use Rattle.sk_world.specs.Requests.{Request, name_of}
-use Rattle.sk_world.specs.Server.{remembered, is_dropped}
-use Rattle.sk_world.proofs.Each.{cons_first, cons_later, no_member}
-use Rattle.sk_world.proofs.Invariant.{counted, Queue, Remembers, Apart}
+use Rattle.sk_client.proofs.CausedRequests.{Request, name_of}
+use Rattle.sk_client.proofs.Remembered.{remembered, is_dropped}
+use Rattle.sk_client.proofs.Each.{cons_first, cons_later, no_member}
+use Rattle.sk_client.proofs.Invariant.{counted, Queue, Remembers, Apart}
 
 pub any_of : (p : ℕ → Bool) (xs : List ℕ) (y : ℕ) → has y xs ≡ true → p y ≡ true → list_any p xs ≡ true
 any_of p [] y h is = absurd (true≢false (sym h))

@@ -15,14 +15,14 @@ use Rattle.sk_record.specs.Trace.{Event, Taken, Commit, Fail, HasEntry, IsSound,
 use Rattle.sk_record.proofs.Machine.{own_dirt}
 use Rattle.sk_record.proofs.UndoStates.{and_both}
 use Rattle.sk_record.proofs.Sound.{record_more, sound_taken, sound_commit, sound_fail, drawn_more, undecided_is, fresh_from, entries_are, has_commit}
-use Rattle.sk_world.specs.Requests.{Good, Yes, Request, For, Entry, Served, name_of}
-use Rattle.sk_world.specs.World.{Table, kernel, commits, is_lost}
-use Rattle.sk_world.specs.Laws.{Sets, IsTable}
-use Rattle.sk_world.proofs.Each.{survives}
-use Rattle.sk_world.proofs.TraceFacts.{has_mark, open_taken, open_commit, open_fail, failed_shut, legal_of, entry_drawn, open_entry}
-use Rattle.sk_world.proofs.Records.{Quiet, entries_taken, entries_fewer, entries_failed, ready_taken, ready_failed, lost_more, ready_kept, not_true}
-use Rattle.sk_world.proofs.Queues.{queue_fewer, remembers_fewer}
-use Rattle.sk_world.proofs.Invariant.{Allowed, Entries, Guesses, tag_at, Ready, HasStep, Invariant}
+use Rattle.sk_client.proofs.CausedRequests.{Good, Yes, Request, For, Entry, Served, name_of}
+use Rattle.sk_client.proofs.CausedWorld.{Table, kernel, commits, is_lost}
+use Rattle.sk_client.proofs.CausedLaws.{Sets, IsTable}
+use Rattle.sk_client.proofs.Each.{survives}
+use Rattle.sk_client.proofs.TraceFacts.{has_mark, open_taken, open_commit, open_fail, failed_shut, legal_of, entry_drawn, open_entry}
+use Rattle.sk_client.proofs.Records.{Quiet, entries_taken, entries_fewer, entries_failed, ready_taken, ready_failed, lost_more, ready_kept, not_true}
+use Rattle.sk_client.proofs.Queues.{queue_fewer, remembers_fewer}
+use Rattle.sk_client.proofs.Invariant.{Allowed, Entries, Guesses, tag_at, Ready, HasStep, Invariant}
 
 pub no_guess : (o : Option ℕ) (g : ℕ) → o ≡ None → o ≡ Some g → ⊥
 no_guess o g none some = let same : None ≡ Some g = sym none ∙ some in cc

@@ -3,7 +3,7 @@ use Rattle.std.specs.Prelude.{ℕ, Bool, true, false, nat_le, nat_lt, List, ◌+
 use Rattle.std.specs.List.{filter, list_any}
 use Rattle.sk_record.specs.Notes.{has}
 use Rattle.sk_record.specs.Trace.{marks}
-use Rattle.sk_world.specs.Requests.{Ask, Store, Answer, Yes, No, Copy, Dropped, Request}
+use Rattle.sk_client.proofs.CausedRequests.{Ask, Store, Answer, Yes, No, Copy, Dropped, Request}
 
 -- no store of the last version is accepted
 abbrev pub is_possible : {M D : Type 0} → ℕ → Ask M D → Answer D → Bool

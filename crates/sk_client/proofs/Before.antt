@@ -15,18 +15,17 @@ use Rattle.sk_plain.specs.Act.{plain}
 use Rattle.sk_plain.specs.Replay.{image}
 use Rattle.sk_kernel.specs.Kernel.{KernelView, events_of}
 use Rattle.sk_kernel.proofs.Lawful.{below_next}
-use Rattle.sk_client.proofs.CausedRequests.{Before}
+use Rattle.sk_client.proofs.CausedRequests.{Caused, Before}
 use Rattle.sk_client.proofs.CausedWorld.{kernel}
 use Rattle.sk_client.proofs.Bare.{bare_event, labelled}
 use Rattle.sk_client.proofs.CausedLaws.{IsTable, IsFirst}
 use Rattle.sk_client.proofs.Each.{cons_cases, cons_first, cons_later, no_member, kept_was}
 use Rattle.sk_client.proofs.Labels.{is_bare}
 use Rattle.sk_client.proofs.RequestFacts.{in_map}
-use Rattle.sk_client.proofs.WorldTable.{Caused, bare, table}
+use Rattle.sk_client.proofs.WorldTable.{bare, table}
 use Rattle.sk_client.proofs.SeenWorld.{from_before, event_before, begun}
 use Rattle.sk_client.specs.Ready.{IsReady}
 use Rattle.sk_client.proofs.Table.{is_table}
-use Rattle.sk_client.proofs.SeenTurn.{input_back}
 
 pub out_of_map : {A B : Type 0} (g : A → B) (xs : List A) (y : B) → Contains (map g xs) y → (x : A) × Contains xs x × (g x ≡ y)
 out_of_map g [] y h = absurd (no_member y h)
@@ -73,7 +72,7 @@ module _ {A N E V W F : Type 0} (bare : A → N) (K : System E V W F N) where
 
 pub back : (es : List (Happens EntryView)) → map (bare_event bare) (map event_before es) ≡ es
 back [] = refl
-back (Taken n ∷ es) = λ i. Taken (record { pid = n.pid; input = input_back n.input i; guess = n.guess }) ∷ back es i
+back (Taken n ∷ es) = ap (λ xs. Taken n ∷ xs) (back es)
 back (Commit g ∷ es) = ap (λ xs. Commit g ∷ xs) (back es)
 back (Fail g ∷ es) = ap (λ xs. Fail g ∷ xs) (back es)
 

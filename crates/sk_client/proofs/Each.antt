@@ -1,5 +1,5 @@
 -- Parts of two lists side by side, and membership.
-use Rattle.std.proofs.Common.{◌≡◌, ℕ, Bool, true, false, cond, List, [], ◌∷◌, ◌++◌, inl, inr, refl, sym, ◌∙◌, ap, subst, arith}
+use Rattle.std.proofs.Common.{◌≡◌, ℕ, Bool, true, false, cond, List, [], ◌∷◌, ◌++◌, inl, inr, refl, sym, ◌∙◌, ap, subst, arith, zero, suc, ◌≤◌, length, slice_get, Some}
 use Rattle.std.specs.Prelude.{◌⊎◌, ◌==◌}
 use Rattle.std.specs.List.{list_any, Contains}
 use Rattle.std.proofs.lemmas.Bool.{or_parts, or_left, or_right, or_cases, true≢false, eq-eqb, eqb-true, cases_Bool}
@@ -122,3 +122,36 @@ has_left x (k ∷ xs) ys h =
 pub has_right : (x : ℕ) (xs ys : List ℕ) → has x ys ≡ true → has x (xs ++ ys) ≡ true
 has_right x [] ys h = h
 has_right x (k ∷ xs) ys h = or_right (k == x) (has x (xs ++ ys)) (has_right x xs ys h)
+
+-- ---- places of lists
+
+pub at_push : {A : Type 0} (xs : List A) (x : A) (i : ℕ) (y : A) → slice_get (xs ++ x ∷ []) i ≡ Some y → (slice_get xs i ≡ Some y) ⊎ (x ≡ y)
+at_push [] x zero y at = inr (let is : x ≡ y = cc in is)
+at_push [] x (suc i) y at = cc
+at_push (z ∷ xs) x zero y at = inl at
+at_push (z ∷ xs) x (suc i) y at = at_push xs x i y at
+
+pub at_kept : {A : Type 0} (bs : List Bool) (xs : List A) (i : ℕ) (y : A) → slice_get (keep bs xs) i ≡ Some y → (j : ℕ) × (i ≤ j) × (slice_get xs j ≡ Some y)
+at_kept [] xs i y at = (i, omega arith, at)
+at_kept (b ∷ bs) [] i y at = cc
+at_kept (true ∷ bs) (x ∷ xs) i y at = (let k = at_kept bs xs i y at in let le = k.1 in (suc k.0, omega (arith, le), k.2))
+at_kept (false ∷ bs) (x ∷ xs) zero y at = (zero, omega arith, at)
+at_kept (false ∷ bs) (x ∷ xs) (suc i) y at = (let k = at_kept bs xs i y at in let le = k.1 in (suc k.0, omega (arith, le), k.2))
+
+pub at_end : {A : Type 0} (xs : List A) (i : ℕ) (y : A) → length xs ≤ i → slice_get xs i ≡ Some y → ⊥
+at_end [] i y le at = cc
+at_end (x ∷ xs) zero y le at = absurd (omega (arith, le))
+at_end (x ∷ xs) (suc i) y le at = at_end xs i y (omega (arith, le)) at
+
+pub contains_at : {A : Type 0} (xs : List A) (i : ℕ) (x : A) → slice_get xs i ≡ Some x → Contains xs x
+contains_at [] i x at = cc
+contains_at (y ∷ xs) zero x at = let is : y ≡ x = cc in subst (Contains (y ∷ xs)) is (cons_first y xs)
+contains_at (y ∷ xs) (suc i) x at = cons_later y xs x (contains_at xs i x at)
+
+pub place_at : {A : Type 0} (xs : List A) (x : A) → Contains xs x → (i : ℕ) × (slice_get xs i ≡ Some x)
+place_at [] x h = absurd (no_member x h)
+place_at (y ∷ xs) x h =
+    elim (cons_cases y xs x h) [
+      | inl is ↦ (zero, ap Some is)
+      | inr later ↦ let rest = place_at xs x later in (suc rest.0, rest.1)
+    ]

@@ -15,7 +15,11 @@ use Rattle.sk_record.specs.Trace.{Event, Taken, Commit, Fail, HasEntry, IsSound,
 use Rattle.sk_record.proofs.Machine.{own_dirt}
 use Rattle.sk_record.proofs.UndoStates.{and_both}
 use Rattle.sk_record.proofs.Sound.{record_more, sound_taken, sound_commit, sound_fail, drawn_more, undecided_is, fresh_from, entries_are, has_commit}
-use Rattle.sk_client.proofs.CausedRequests.{Good, Yes, Request, For, Entry, Served, name_of}
+use Rattle.sk_script.specs.declared.instruction.Input.TheVariants.{Good}
+use Rattle.sk_server.specs.declared.reply.Answer.TheVariants.{Yes}
+use Rattle.sk_client.specs.declared.pending.PendingRequest.{PendingRequest}
+use Rattle.sk_client.proofs.CausedRequests.{For, Caused, Served}
+use Rattle.sk_client.specs.Desk.{name_of}
 use Rattle.sk_client.proofs.CausedWorld.{Table, kernel, commits, is_lost}
 use Rattle.sk_client.proofs.CausedLaws.{Sets, IsTable}
 use Rattle.sk_client.proofs.Each.{survives}
@@ -27,15 +31,15 @@ use Rattle.sk_client.proofs.Invariant.{Allowed, Entries, Guesses, tag_at, Ready,
 pub no_guess : (o : Option ℕ) (g : ℕ) → o ≡ None → o ≡ Some g → ⊥
 no_guess o g none some = let same : None ≡ Some g = sym none ∙ some in cc
 
-module _ {E V W F P M D : Type 0} (S : Table E V W F P M D) (start : FinMap S.order V) (table : IsTable S start) where
-  pub entry_more : (ns : List (Entry P M D)) (n : Entry P M D) (x : ℕ) → HasEntry (kernel S) ns x → HasEntry (kernel S) (ns ++ n ∷ []) x
+module _ {E V W F : Type 0} (S : Table E V W F) (start : FinMap S.order V) (table : IsTable S start) where
+  pub entry_more : (ns : List Caused) (n : Caused) (x : ℕ) → HasEntry (kernel S) ns x → HasEntry (kernel S) (ns ++ n ∷ []) x
   entry_more ns n x h = (h.0, Contains-append_left ns (n ∷ []) h.0 h.1, h.2)
 
-  pub step_more : (ns : List (Entry P M D)) (n : Entry P M D) (q : Request P M D) → HasStep S start ns q → HasStep S start (ns ++ n ∷ []) q
+  pub step_more : (ns : List Caused) (n : Caused) (q : PendingRequest) → HasStep S start ns q → HasStep S start (ns ++ n ∷ []) q
   step_more ns n q h = (h.0, Contains-append_left ns (n ∷ []) h.0 h.1, h.2, h.3)
 
   -- a guess without an entry in the record has dirtied nothing
-  pub new_clean : (es : List (Event (Entry P M D))) (n : Entry P M D) → IsSound (kernel S) start (es ++ Taken n ∷ []) → (y : ℕ) → n.guess ≡ Some y
+  pub new_clean : (es : List (Event Caused)) (n : Caused) → IsSound (kernel S) start (es ++ Taken n ∷ []) → (y : ℕ) → n.guess ≡ Some y
       → dirt S.order y [] (effects (kernel S) start (record_of (kernel S) start es)) ≡ []
   new_clean es n sound y is =
       let K = kernel S in
@@ -43,13 +47,13 @@ module _ {E V W F P M D : Type 0} (S : Table E V W F P M D) (start : FinMap S.or
       ∙ own_dirt K table.total table.exact start (all_recorded K start no_record es) n.guess (fresh_from K start es n sound) y (has_mark n.guess y is)
 
   -- ---- a step without a guess
-  pub inv_plain : (es : List (Event (Entry P M D))) (d : ℕ) (served given : List (Served P M D)) (pending waiting : List (Request P M D)) (memory : List ℕ)
-      (n : Entry P M D) (f : Effect E V W) → Invariant S start es d served given pending waiting memory
+  pub inv_plain : (es : List (Event Caused)) (d : ℕ) (served given : List Served) (pending waiting : List PendingRequest) (memory : List ℕ)
+      (n : Caused) (f : Effect E V W) → Invariant S start es d served given pending waiting memory
       → outcome (kernel S) (run (kernel S) start (record_of (kernel S) start es)) n ≡ Ok f → n.guess ≡ None
       → ((y : ℕ) → has y (undecided_of (kernel S) start es) ≡ true → hit S.order y (dirt S.order y [] (effects (kernel S) start (record_of (kernel S) start es))) (marked_effect (kernel S) n.guess (Ok f)) ≡ true → Allowed n y)
-      → ((q : Request P M D) → n.cause ≡ For q → n.process ≡ q.process)
-      → ((q : Request P M D) → n.cause ≡ For q → n.input ≡ Good → Sets S q.ask Good f.written)
-      → ((q : Request P M D) → Contains pending q → q.guess ≡ None → Ready S start (record_of (kernel S) start es) (undecided_of (kernel S) start es) q → Quiet S start table f q.process (name_of q.ask))
+      → ((q : PendingRequest) → n.cause ≡ For q → n.process ≡ q.process)
+      → ((q : PendingRequest) → n.cause ≡ For q → n.input ≡ Good → Sets S q.ask Good f.written)
+      → ((q : PendingRequest) → Contains pending q → q.guess ≡ None → Ready S start (record_of (kernel S) start es) (undecided_of (kernel S) start es) q → Quiet S start table f q.process (name_of q.ask))
       → Invariant S start (es ++ Taken n ∷ []) d served given pending waiting memory
   inv_plain es d served given pending waiting memory n f i is none tags its sets quiet =
       let K = kernel S in
@@ -68,7 +72,7 @@ module _ {E V W F P M D : Type 0} (S : Table E V W F P M D) (start : FinMap S.or
         sound = sound_taken K start es n i.sound (λ g h mark drawn. absurd (no_guess n.guess g none mark)) (ap is_ok is);
         drawn = λ g dr. elim (drawn_more K start es (Taken n) g dr) [
           | inl before ↦ i.drawn g before
-          | inr new ↦ let same_n : n ≡ new.0 = cc in absurd (no_guess n.guess g none (ap (λ (n : Entry P M D). n.guess) same_n ∙ new.2))
+          | inr new ↦ let same_n : n ≡ new.0 = cc in absurd (no_guess n.guess g none (ap (λ (n : Caused). n.guess) same_n ∙ new.2))
         ];
         above = λ y there. i.above y (fewer y there);
         entries = subst (λ ns. Entries S start i.made i.base ns vs) (sym same)
@@ -94,7 +98,7 @@ module _ {E V W F P M D : Type 0} (S : Table E V W F P M D) (start : FinMap S.or
       }
 
   -- ---- a commit
-  pub inv_commit : (es : List (Event (Entry P M D))) (d : ℕ) (served given : List (Served P M D)) (pending waiting : List (Request P M D)) (memory : List ℕ)
+  pub inv_commit : (es : List (Event Caused)) (d : ℕ) (served given : List Served) (pending waiting : List PendingRequest) (memory : List ℕ)
       (h : ℕ) → Invariant S start es d served given pending waiting memory → has h (undecided_of (kernel S) start es) ≡ true → Invariant S start (es ++ Commit h ∷ []) d served given pending waiting memory
   inv_commit es d served given pending waiting memory h i is_open =
       let K = kernel S in
@@ -142,7 +146,7 @@ module _ {E V W F P M D : Type 0} (S : Table E V W F P M D) (start : FinMap S.or
       }
 
   -- ---- a failure, of a guess that the server refused
-  pub inv_fail : (es : List (Event (Entry P M D))) (d : ℕ) (served given : List (Served P M D)) (pending waiting : List (Request P M D)) (memory : List ℕ)
+  pub inv_fail : (es : List (Event Caused)) (d : ℕ) (served given : List Served) (pending waiting : List PendingRequest) (memory : List ℕ)
       (h : ℕ) (i : Invariant S start es d served given pending waiting memory) → i.bad h ≡ true → has h (undecided_of (kernel S) start es) ≡ true
       → Invariant S start (es ++ Fail h ∷ []) d served given pending waiting memory
   inv_fail es d served given pending waiting memory h i is_bad is_open =

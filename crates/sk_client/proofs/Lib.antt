@@ -17,7 +17,7 @@ pub mod Before
 pub mod Booted
 pub mod Seen
 pub mod Accepted
-pub mod StoresApart
+pub mod RequestSteps
 pub mod AskedReplies
 pub mod Writes
 pub mod Upcoming

@@ -12,8 +12,10 @@ use Rattle.sk_record.specs.Trace.{Event, Taken, Commit, Fail, IsSound, Record, n
 use Rattle.sk_record.proofs.Tidy.{recorded_more}
 use Rattle.sk_record.proofs.Machine.{has_filter}
 use Rattle.sk_client.proofs.TraceFacts.{failed_shut}
-use Rattle.sk_client.proofs.CausedRequests.{Request, Entry}
+use Rattle.sk_client.specs.declared.pending.PendingRequest.{PendingRequest}
+use Rattle.sk_client.proofs.CausedRequests.{Caused}
 use Rattle.sk_client.proofs.CausedWorld.{Table, kernel, undecided, places, asked_too, asked_count}
+use Rattle.sk_client.specs.Table.{Bytes}
 
 pub length_filter : (p : ℕ → Bool) (xs : List ℕ) → length (filter p xs) ≤ length xs
 length_filter p [] = omega arith
@@ -70,30 +72,30 @@ pub asked_le : (o : Option ℕ) (n : ℕ) → n ≤ asked_too o n
 asked_le None n = omega arith
 asked_le (Some g) n = omega arith
 
-pub asked_push : {P M D : Type 0} (qs : List (Request P M D)) (q : Request P M D) → asked_count (qs ++ q ∷ []) ≡ asked_too q.guess (asked_count qs)
+pub asked_push : (qs : List PendingRequest) (q : PendingRequest) → asked_count (qs ++ q ∷ []) ≡ asked_too q.guess (asked_count qs)
 asked_push [] q = refl
 asked_push (r ∷ qs) q = ap (asked_too r.guess) (asked_push qs q) ∙ both_ways r.guess q.guess (asked_count qs)
 
-module _ {E V W F P M D : Type 0} (S : Table E V W F P M D) (start : FinMap S.order V) where
-  pub places_step : (es : List (Event (Entry P M D))) (n : Entry P M D) (qs : List (Request P M D)) → n.guess ≡ None → places S start (es ++ Taken n ∷ []) qs ≡ suc (places S start es qs)
+module _ {E V W F : Type 0} (S : Table E V W F) (start : FinMap S.order V) where
+  pub places_step : (es : List (Event Caused)) (n : Caused) (qs : List PendingRequest) → n.guess ≡ None → places S start (es ++ Taken n ∷ []) qs ≡ suc (places S start es qs)
   places_step es n qs none =
       let a = length_push es (Taken n) in
       let b = opens_taken (kernel S) start es n ∙ ap (λ o. length (undecided S start es) + length (marks o)) none in
       omega arith
 
-  pub places_guess : (es : List (Event (Entry P M D))) (n : Entry P M D) (qs : List (Request P M D)) (g : ℕ) → n.guess ≡ Some g → places S start (es ++ Taken n ∷ []) qs ≡ suc (suc (places S start es qs))
+  pub places_guess : (es : List (Event Caused)) (n : Caused) (qs : List PendingRequest) (g : ℕ) → n.guess ≡ Some g → places S start (es ++ Taken n ∷ []) qs ≡ suc (suc (places S start es qs))
   places_guess es n qs g some =
       let a = length_push es (Taken n) in
       let b = opens_taken (kernel S) start es n ∙ ap (λ o. length (undecided S start es) + length (marks o)) some in
       omega arith
 
-  pub places_commit : (es : List (Event (Entry P M D))) (g : ℕ) (qs : List (Request P M D)) → has g (undecided S start es) ≡ true → places S start (es ++ Commit g ∷ []) qs ≤ places S start es qs
+  pub places_commit : (es : List (Event Caused)) (g : ℕ) (qs : List PendingRequest) → has g (undecided S start es) ≡ true → places S start (es ++ Commit g ∷ []) qs ≤ places S start es qs
   places_commit es g qs here =
       let a = length_push es (Commit g) in
       let b = opens_commit (kernel S) start es g here in
       omega arith
 
-  pub places_fail : (es : List (Event (Entry P M D))) (g : ℕ) (qs : List (Request P M D)) → IsSound (kernel S) start (es ++ Fail g ∷ []) → has g (undecided S start es) ≡ true
+  pub places_fail : (es : List (Event Caused)) (g : ℕ) (qs : List PendingRequest) → IsSound (kernel S) start (es ++ Fail g ∷ []) → has g (undecided S start es) ≡ true
       → places S start (es ++ Fail g ∷ []) qs ≤ places S start es qs
   places_fail es g qs sound here =
       let a = length_push es (Fail g) in

@@ -16,31 +16,38 @@ use Rattle.sk_record.proofs.Struck.{footprint}
 use Rattle.sk_record.proofs.Machine.{unmarked_hits}
 use Rattle.sk_record.proofs.UndoStates.{and_both}
 use Rattle.sk_record.proofs.Sound.{any_from, mark_is}
-use Rattle.sk_client.proofs.CausedRequests.{Input, Good, Fresh, Stale, Ask, Get, Check, Store, Request, For, Entry, name_of}
+use Rattle.sk_script.specs.declared.instruction.Input.{Input}
+use Rattle.sk_script.specs.declared.instruction.Input.TheVariants.{Good, Fresh, Stale}
+use Rattle.sk_server.specs.declared.request.Ask.{Ask}
+use Rattle.sk_server.specs.declared.request.Ask.TheVariants.{Get, Check, Store}
+use Rattle.sk_client.specs.declared.pending.PendingRequest.{PendingRequest}
+use Rattle.sk_client.proofs.CausedRequests.{For, Caused}
+use Rattle.sk_client.specs.Desk.{name_of}
 use Rattle.sk_client.proofs.CausedWorld.{Table, kernel, own, commits, is_lost}
 use Rattle.sk_client.proofs.CausedLaws.{Takes, Sets, IsTable, IsEither}
 use Rattle.sk_client.proofs.Each.{each_none, kept_was}
 use Rattle.sk_client.proofs.TraceFacts.{each_effects_more, each_hits_more, each_effects_left, each_hits_left, value_taken, dirt_taken, value_left, dirt_left}
 use Rattle.sk_client.proofs.Invariant.{Allowed, Entries, Ready, ReadyFor, tag_at}
+use Rattle.sk_client.specs.Table.{Bytes}
 
 pub not_true : (b : Bool) → not b ≡ true → b ≡ false
 not_true true h = absurd (true≢false (sym h))
 not_true false h = refl
 
-module _ {E V W F P M D : Type 0} (S : Table E V W F P M D) (start : FinMap S.order V) (table : IsTable S start) where
-  abbrev pub Quiet : Effect E V W → P → M → Type 0
+module _ {E V W F : Type 0} (S : Table E V W F) (start : FinMap S.order V) (table : IsTable S start) where
+  abbrev pub Quiet : Effect E V W → ℕ → Bytes → Type 0
   Quiet f p m = (Contains (map (λ w. w.0) f.written) (S.proc p) → ⊥) × (Contains (map (λ w. w.0) f.written) (S.copy m) → ⊥)
 
   -- ---- a step
-  pub entries_taken : (made after : ℕ → Request P M D) (base : ℕ) (ns : List (Entry P M D)) (us vs : List ℕ) (n : Entry P M D) (f : Effect E V W)
+  pub entries_taken : (made after : ℕ → PendingRequest) (base : ℕ) (ns : List Caused) (us vs : List ℕ) (n : Caused) (f : Effect E V W)
       → Entries S start made base ns us → outcome (kernel S) (run (kernel S) start ns) n ≡ Ok f
-      → ((x : Entry P M D) (g : ℕ) → Contains ns x → x.guess ≡ Some g → base < g → after g ≡ made g)
+      → ((x : Caused) (g : ℕ) → Contains ns x → x.guess ≡ Some g → base < g → after g ≡ made g)
       → ((y : ℕ) → has y vs ≡ true → (has y us ≡ true) ⊎ (n.guess ≡ Some y))
       → ((y : ℕ) → n.guess ≡ Some y → still_marked (effects (kernel S) start ns) y ≡ false)
       → ((g : ℕ) → n.guess ≡ Some g → base < g → (n.cause ≡ For (after g)) × (n.input ≡ Good))
       → ((y : ℕ) → has y vs ≡ true → hit S.order y (dirt S.order y [] (effects (kernel S) start ns)) (marked_effect (kernel S) n.guess (Ok f)) ≡ true → Allowed n y)
-      → ((q : Request P M D) → n.cause ≡ For q → n.process ≡ q.process)
-      → ((q : Request P M D) → n.cause ≡ For q → n.input ≡ Good → Sets S q.ask Good f.written)
+      → ((q : PendingRequest) → n.cause ≡ For q → n.process ≡ q.process)
+      → ((q : PendingRequest) → n.cause ≡ For q → n.input ≡ Good → Sets S q.ask Good f.written)
       → Entries S start after base (ns ++ n ∷ []) vs
   entries_taken made after base ns us vs n f old is same fewer fresh own tags its sets =
       let K = kernel S in
@@ -48,11 +55,11 @@ module _ {E V W F P M D : Type 0} (S : Table E V W F P M D) (start : FinMap S.or
         own = λ x g there mark above.
             elim (Contains-push_cases ns n x there) [
               | inl before ↦ let o = old.own x g before mark above in (o.0 ∙ ap For (sym (same x g before mark above)), o.1)
-              | inr is_n ↦ subst (λ (x : Entry P M D). (x.cause ≡ For (after g)) × (x.input ≡ Good)) is_n (own g (ap (λ (x : Entry P M D). x.guess) is_n ∙ mark) above)
+              | inr is_n ↦ subst (λ (x : Caused). (x.cause ≡ For (after g)) × (x.input ≡ Good)) is_n (own g (ap (λ (x : Caused). x.guess) is_n ∙ mark) above)
             ];
         its = λ x q there cause. elim (Contains-push_cases ns n x there) [
           | inl before ↦ old.its x q before cause
-          | inr is_n ↦ subst (λ (x : Entry P M D). x.cause ≡ For q → x.process ≡ q.process) is_n (its q) cause
+          | inr is_n ↦ subst (λ (x : Caused). x.cause ≡ For q → x.process ≡ q.process) is_n (its q) cause
         ];
         tags = λ y there.
             each_hits_more K y (λ n b. b ≡ true → Allowed n y) [] start ns n
@@ -61,11 +68,11 @@ module _ {E V W F P M D : Type 0} (S : Table E V W F P M D) (start : FinMap S.or
               | inr new ↦ each_none (λ n. Allowed n y) ns (struck K start ns y) (unmarked_hits S.order y (effects K start ns) (fresh y new))
             ])
             (λ h. tags y there (ap (λ o. hit S.order y (dirt S.order y [] (effects K start ns)) (marked_effect K n.guess o)) (sym is) ∙ h));
-        sets = each_effects_more K _ start ns n old.sets (subst (λ o. (q : Request P M D) → n.cause ≡ For q → n.input ≡ Good → Sets S q.ask Good (marked_effect K n.guess o).written) (sym is) sets);
+        sets = each_effects_more K _ start ns n old.sets (subst (λ o. (q : PendingRequest) → n.cause ≡ For q → n.input ≡ Good → Sets S q.ask Good (marked_effect K n.guess o).written) (sym is) sets);
       }
 
   -- the tags of a step that touches a process and a copy alone
-  pub tags_of_step : (ns : List (Entry P M D)) (us : List ℕ) (p : P) (m : M) (rests : List ℕ) (own : Option ℕ) (f : Effect E V W)
+  pub tags_of_step : (ns : List Caused) (us : List ℕ) (p : ℕ) (m : Bytes) (rests : List ℕ) (own : Option ℕ) (f : Effect E V W)
       → ((e : E) → Contains (map (λ r. r.0) f.read) e → IsEither S p m e) → ((e : E) → Contains (map (λ w. w.0) f.written) e → IsEither S p m e)
       → ((y : ℕ) → has y us ≡ true → tag_at S start ns p m y ≡ true → has y rests ≡ true)
       → (y : ℕ) → (has y us ≡ true) ⊎ (own ≡ Some y)
@@ -85,11 +92,11 @@ module _ {E V W F P M D : Type 0} (S : Table E V W F P M D) (start : FinMap S.or
       ]
 
   -- ---- a commit, and a failure
-  pub entries_fewer : (made : ℕ → Request P M D) (base : ℕ) (ns : List (Entry P M D)) (us vs : List ℕ) → ((y : ℕ) → has y vs ≡ true → has y us ≡ true)
+  pub entries_fewer : (made : ℕ → PendingRequest) (base : ℕ) (ns : List Caused) (us vs : List ℕ) → ((y : ℕ) → has y vs ≡ true → has y us ≡ true)
       → Entries S start made base ns us → Entries S start made base ns vs
   entries_fewer made base ns us vs fewer old = record { own = old.own; its = old.its; tags = λ y there. old.tags y (fewer y there); sets = old.sets }
 
-  pub entries_failed : (made : ℕ → Request P M D) (base : ℕ) (ns : List (Entry P M D)) (us vs : List ℕ) → IsLegal (kernel S) start ns → (h : ℕ)
+  pub entries_failed : (made : ℕ → PendingRequest) (base : ℕ) (ns : List Caused) (us vs : List ℕ) → IsLegal (kernel S) start ns → (h : ℕ)
       → ((y : ℕ) → has y vs ≡ true → has y us ≡ true) → Entries S start made base ns us → Entries S start made base (strike (kernel S) start ns h) vs
   entries_failed made base ns us vs legal h fewer old =
       let K = kernel S in
@@ -101,7 +108,7 @@ module _ {E V W F P M D : Type 0} (S : Table E V W F P M D) (start : FinMap S.or
       }
 
   -- ---- asked requests
-  takes_same : (s t : FinMap S.order V) (p : P) (ask : Ask M D) (x : Input D) → get s (S.proc p) ≡ get t (S.proc p) → get s (S.copy (name_of ask)) ≡ get t (S.copy (name_of ask))
+  takes_same : (s t : FinMap S.order V) (p : ℕ) (ask : Ask) (x : Input) → get s (S.proc p) ≡ get t (S.proc p) → get s (S.copy (name_of ask)) ≡ get t (S.copy (name_of ask))
       → Takes S s p ask x → Takes S t p ask x
   takes_same s t p ask x process copy old =
       let same : (e : E) → IsEither S p (name_of ask) e → get s e ≡ get t e =
@@ -114,7 +121,7 @@ module _ {E V W F P M D : Type 0} (S : Table E V W F P M D) (start : FinMap S.or
         sets = old.sets;
       }
 
-  ready_same : (s t : FinMap S.order V) (p : P) (ask : Ask M D) → get s (S.proc p) ≡ get t (S.proc p) → get s (S.copy (name_of ask)) ≡ get t (S.copy (name_of ask))
+  ready_same : (s t : FinMap S.order V) (p : ℕ) (ask : Ask) → get s (S.proc p) ≡ get t (S.proc p) → get s (S.copy (name_of ask)) ≡ get t (S.copy (name_of ask))
       → ReadyFor S start s p ask → ReadyFor S start t p ask
   ready_same s t p (Get m) process copy old = λ c. takes_same s t p (Get m) (Fresh c) process copy (old c)
   ready_same s t p (Check m v) process copy old = tt
@@ -124,7 +131,7 @@ module _ {E V W F P M D : Type 0} (S : Table E V W F P M D) (start : FinMap S.or
   )
 
   -- with the same values, and no more tags
-  pub ready_kept : (ns ms : List (Entry P M D)) (us vs : List ℕ) (q : Request P M D)
+  pub ready_kept : (ns ms : List Caused) (us vs : List ℕ) (q : PendingRequest)
       → get (run (kernel S) start ms) (S.proc q.process) ≡ get (run (kernel S) start ns) (S.proc q.process)
       → get (run (kernel S) start ms) (S.copy (name_of q.ask)) ≡ get (run (kernel S) start ns) (S.copy (name_of q.ask))
       → ((y : ℕ) → has y vs ≡ true → tag_at S start ms q.process (name_of q.ask) y ≡ true → (has y us ≡ true) × (tag_at S start ns q.process (name_of q.ask) y ≡ true))
@@ -135,7 +142,7 @@ module _ {E V W F P M D : Type 0} (S : Table E V W F P M D) (start : FinMap S.or
     covers = λ y there tag. let f = fewer y there tag in old.covers y f.0 f.1;
   }
 
-  pub ready_taken : (ns : List (Entry P M D)) (us vs : List ℕ) (n : Entry P M D) (f : Effect E V W) (q : Request P M D) → outcome (kernel S) (run (kernel S) start ns) n ≡ Ok f
+  pub ready_taken : (ns : List Caused) (us vs : List ℕ) (n : Caused) (f : Effect E V W) (q : PendingRequest) → outcome (kernel S) (run (kernel S) start ns) n ≡ Ok f
       → Quiet f q.process (name_of q.ask)
       → ((y : ℕ) → has y vs ≡ true → (has y us ≡ true) ⊎ (dirt S.order y [] (effects (kernel S) start ns) ≡ []))
       → Ready S start ns us q → Ready S start (ns ++ n ∷ []) vs q
@@ -154,7 +161,7 @@ module _ {E V W F P M D : Type 0} (S : Table E V W F P M D) (start : FinMap S.or
       ])
       old
 
-  pub ready_failed : (ns : List (Entry P M D)) (us vs : List ℕ) → IsLegal (kernel S) start ns → (h : ℕ) (q : Request P M D)
+  pub ready_failed : (ns : List Caused) (us vs : List ℕ) → IsLegal (kernel S) start ns → (h : ℕ) (q : PendingRequest)
       → ((y : ℕ) → has y vs ≡ true → has y us ≡ true) → tag_at S start ns q.process (name_of q.ask) h ≡ false → Ready S start ns us q → Ready S start (strike (kernel S) start ns h) vs q
   ready_failed ns us vs legal h q fewer clean old =
       let K = kernel S in
@@ -172,7 +179,7 @@ module _ {E V W F P M D : Type 0} (S : Table E V W F P M D) (start : FinMap S.or
       old
 
   -- a lost guess stays lost
-  pub lost_more : (es : List (Event (Entry P M D))) (e : Event (Entry P M D)) (y : ℕ)
+  pub lost_more : (es : List (Event Caused)) (e : Event Caused) (y : ℕ)
       → (has y (undecided_of (kernel S) start (es ++ e ∷ [])) ≡ true → has y (undecided_of (kernel S) start es) ≡ true) → commits y e ≡ false
       → is_lost S start es y ≡ true → is_lost S start (es ++ e ∷ []) y ≡ true
   lost_more es e y fewer other lost =

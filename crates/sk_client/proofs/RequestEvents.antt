@@ -11,7 +11,13 @@ use Rattle.sk_record.specs.Trace.{Event, Taken, Fail, HasEntry, IsSound, record_
 use Rattle.sk_record.proofs.Machine.{has_filter}
 use Rattle.sk_record.proofs.UndoStates.{and_both}
 use Rattle.sk_record.proofs.Sound.{record_more, sound_taken, drawn_more, has_entry}
-use Rattle.sk_client.proofs.CausedRequests.{Good, Store, Answer, Yes, Dropped, Request, For, Entry, Served, name_of}
+use Rattle.sk_script.specs.declared.instruction.Input.TheVariants.{Good}
+use Rattle.sk_server.specs.declared.request.Ask.TheVariants.{Store}
+use Rattle.sk_server.specs.declared.reply.Answer.{Answer}
+use Rattle.sk_server.specs.declared.reply.Answer.TheVariants.{Yes, Dropped}
+use Rattle.sk_client.specs.declared.pending.PendingRequest.{PendingRequest}
+use Rattle.sk_client.proofs.CausedRequests.{For, Caused, Served}
+use Rattle.sk_client.specs.Desk.{name_of}
 use Rattle.sk_client.proofs.Remembered.{is_accepted, remembered}
 use Rattle.sk_client.proofs.CausedWorld.{Table, kernel, least, rests_of}
 use Rattle.sk_client.proofs.CausedLaws.{Takes, Sets, IsTable}
@@ -21,6 +27,7 @@ use Rattle.sk_client.proofs.Records.{Quiet, entries_taken, tags_of_step, ready_t
 use Rattle.sk_client.proofs.Queues.{queue_le, queue_push, remembers_push, still_remembered, apart_push}
 use Rattle.sk_client.proofs.Invariant.{counted, Queue, IsServed, Entries, Guesses, ReadyFor, tag_at, Ready, HasStep, Invariant}
 use Rattle.sk_client.proofs.KernelEvents.{no_guess, entry_more, step_more, new_clean}
+use Rattle.sk_client.specs.Table.{Bytes}
 
 -- the least of some numbers
 pub least_le : (d : ℕ) (gs : List ℕ) → least d gs ≤ d
@@ -51,28 +58,28 @@ least_all d (g ∷ gs) y h =
           ])
     ]
 
-same_request : {P M D : Type 0} (q r : Request P M D) → For q ≡ For r → q ≡ r
+same_request : (q r : PendingRequest) → For q ≡ For r → q ≡ r
 same_request q r is = cc
 
-module _ {E V W F P M D : Type 0} (S : Table E V W F P M D) (start : FinMap S.order V) (table : IsTable S start) where
+module _ {E V W F : Type 0} (S : Table E V W F) (start : FinMap S.order V) (table : IsTable S start) where
   -- what a request rests on
-  pub rests_open : (es : List (Event (Entry P M D))) (p : P) (m : M) (y : ℕ) → has y (rests_of S start es p m) ≡ true → has y (undecided_of (kernel S) start es) ≡ true
+  pub rests_open : (es : List (Event Caused)) (p : ℕ) (m : Bytes) (y : ℕ) → has y (rests_of S start es p m) ≡ true → has y (undecided_of (kernel S) start es) ≡ true
   rests_open es p m y h = (and_both _ _ (sym (has_filter (tag_at S start (record_of (kernel S) start es) p m) y (undecided_of (kernel S) start es)) ∙ h)).1
 
-  pub rests_cover : (es : List (Event (Entry P M D))) (p : P) (m : M) (y : ℕ) → has y (undecided_of (kernel S) start es) ≡ true → tag_at S start (record_of (kernel S) start es) p m y ≡ true
+  pub rests_cover : (es : List (Event Caused)) (p : ℕ) (m : Bytes) (y : ℕ) → has y (undecided_of (kernel S) start es) ≡ true → tag_at S start (record_of (kernel S) start es) p m y ≡ true
       → has y (rests_of S start es p m) ≡ true
   rests_cover es p m y there tag = has_filter (tag_at S start (record_of (kernel S) start es) p m) y (undecided_of (kernel S) start es) ∙ (λ i. tag i && there i)
 
-  open_le : (es : List (Event (Entry P M D))) (d : ℕ) (served given : List (Served P M D)) (pending waiting : List (Request P M D)) (memory : List ℕ)
+  open_le : (es : List (Event Caused)) (d : ℕ) (served given : List Served) (pending waiting : List PendingRequest) (memory : List ℕ)
       → Invariant S start es d served given pending waiting memory → (y : ℕ) → has y (undecided_of (kernel S) start es) ≡ true → y ≤ d
   open_le es d served given pending waiting memory i y there = i.drawn y (entry_drawn (kernel S) start es i.sound y (open_entry (kernel S) start es i.sound y there))
 
   -- ---- a question
-  pub inv_ask : (es : List (Event (Entry P M D))) (d : ℕ) (served given : List (Served P M D)) (pending waiting : List (Request P M D)) (memory : List ℕ)
-      (q : Request P M D) → Invariant S start es d served given pending waiting memory
+  pub inv_ask : (es : List (Event Caused)) (d : ℕ) (served given : List Served) (pending waiting : List PendingRequest) (memory : List ℕ)
+      (q : PendingRequest) → Invariant S start es d served given pending waiting memory
       → q.guess ≡ None → q.rests ≡ rests_of S start es q.process (name_of q.ask) → q.settled ≡ least (suc d) (undecided_of (kernel S) start es)
       → ReadyFor S start (run (kernel S) start (record_of (kernel S) start es)) q.process q.ask → (get (run (kernel S) start (record_of (kernel S) start es)) (S.proc q.process) ≡ None → ⊥)
-      → ((r : Request P M D) → Contains pending r → r.guess ≡ None → (r.process ≡ q.process → ⊥) × (name_of r.ask ≡ name_of q.ask → ⊥))
+      → ((r : PendingRequest) → Contains pending r → r.guess ≡ None → (r.process ≡ q.process → ⊥) × (name_of r.ask ≡ name_of q.ask → ⊥))
       → Invariant S start es d served given (pending ++ q ∷ []) (waiting ++ q ∷ []) memory
   inv_ask es d served given pending waiting memory q i asks rests settled ready there blocked =
       let K = kernel S in
@@ -102,19 +109,19 @@ module _ {E V W F P M D : Type 0} (S : Table E V W F P M D) (start : FinMap S.or
         stands = i.stands;
         asked = λ r h asked. elim (Contains-push_cases pending q r h) [
           | inl before ↦ i.asked r before asked
-          | inr is ↦ inr (subst (λ (r : Request P M D). Ready S start (record_of K start es) us r) is
+          | inr is ↦ inr (subst (λ (r : PendingRequest). Ready S start (record_of K start es) us r) is
               (record { step = ready; there = there; covers = λ y h tag. ap (has y) rests ∙ rests_cover es q.process (name_of q.ask) y h tag }))
         ];
         apart = apart_push pending q (λ r h asked _. blocked r h asked) i.apart;
       }
 
   -- ---- a guess
-  pub inv_guess : (es : List (Event (Entry P M D))) (d : ℕ) (served given : List (Served P M D)) (pending waiting : List (Request P M D)) (memory : List ℕ)
-      (q : Request P M D) (n : Entry P M D) → Invariant S start es d served given pending waiting memory
+  pub inv_guess : (es : List (Event Caused)) (d : ℕ) (served given : List Served) (pending waiting : List PendingRequest) (memory : List ℕ)
+      (q : PendingRequest) (n : Caused) → Invariant S start es d served given pending waiting memory
       → (t : Takes S (run (kernel S) start (record_of (kernel S) start es)) q.process q.ask Good)
       → q.guess ≡ Some (suc d) → q.rests ≡ rests_of S start es q.process (name_of q.ask) → q.settled ≡ least (suc d) (undecided_of (kernel S) start es)
       → n ≡ record { process = q.process; input = Good; guess = q.guess; cause = For q }
-      → ((r : Request P M D) → Contains pending r → r.guess ≡ None → Ready S start (record_of (kernel S) start es) (undecided_of (kernel S) start es) r → Quiet S start table t.effect r.process (name_of r.ask))
+      → ((r : PendingRequest) → Contains pending r → r.guess ≡ None → Ready S start (record_of (kernel S) start es) (undecided_of (kernel S) start es) r → Quiet S start table t.effect r.process (name_of r.ask))
       → Invariant S start (es ++ Taken n ∷ []) (suc d) served given (pending ++ q ∷ []) (waiting ++ q ∷ []) memory
   inv_guess es d served given pending waiting memory q n i t guess rests settled entry quiet =
       let K = kernel S in
@@ -125,16 +132,16 @@ module _ {E V W F P M D : Type 0} (S : Table E V W F P M D) (start : FinMap S.or
       let same : record_of K start (es ++ Taken n ∷ []) ≡ ns ++ n ∷ [] = record_more K start es (Taken n) in
       let a_le : i.a ≤ d = queue_le i.made us d i.base i.a waiting i.queue in
       let base_le = i.base_le in
-      let mark : n.guess ≡ Some (suc d) = ap (λ (n : Entry P M D). n.guess) entry ∙ guess in
+      let mark : n.guess ≡ Some (suc d) = ap (λ (n : Caused). n.guess) entry ∙ guess in
       let is_new : (y : ℕ) → n.guess ≡ Some y → y ≡ suc d = λ y is. (let both : Some (suc d) ≡ Some y = sym mark ∙ is in cc) in
       let opens : (y : ℕ) → has y q.rests ≡ true → has y us ≡ true = λ y h. rests_open es q.process (name_of q.ask) y (ap (has y) (sym rests) ∙ h) in
       let low : (y : ℕ) → has y us ≡ true → y ≤ d = open_le es d served given pending waiting memory i in
-      let after : ℕ → Request P M D = at_number (suc d) q i.made in
+      let after : ℕ → PendingRequest = at_number (suc d) q i.made in
       let kept : (x : ℕ) → x ≤ d → after x ≡ i.made x = λ x le. at_other (suc d) q i.made x (λ is. omega arith) in
       let accepted : outcome K (run K start ns) n ≡ Ok f = ap (outcome K (run K start ns)) entry ∙ t.accepted in
       let fewer : (y : ℕ) → has y vs ≡ true → (has y us ≡ true) ⊎ (y ≡ suc d) = λ y h. elim (open_taken K start es n y h) [ inl was ↦ inl was | inr new ↦ inr (is_new y new) ] in
       let entry_le : (x : ℕ) → HasEntry K ns x → x ≤ d = λ x h. i.drawn x (entry_drawn K start es i.sound x h) in
-      let cause : n.cause ≡ For q = ap (λ (n : Entry P M D). n.cause) entry in
+      let cause : n.cause ≡ For q = ap (λ (n : Caused). n.cause) entry in
       let sound : IsSound K start (es ++ Taken n ∷ []) =
       sound_taken K start es n i.sound (λ g h is drawn. let le = i.drawn h drawn in let new = is_new g is in omega arith) (ap is_ok accepted) in
       let g_own = i.guesses.own in
@@ -148,7 +155,7 @@ module _ {E V W F P M D : Type 0} (S : Table E V W F P M D) (start : FinMap S.or
         sound = sound;
         drawn = λ g dr. elim (drawn_more K start es (Taken n) g dr) [
           | inl before ↦ let le = i.drawn g before in omega arith
-          | inr new ↦ let same_n : n ≡ new.0 = cc in let is = is_new g (ap (λ (n : Entry P M D). n.guess) same_n ∙ new.2) in omega arith
+          | inr new ↦ let same_n : n ≡ new.0 = cc in let is = is_new g (ap (λ (n : Caused). n.guess) same_n ∙ new.2) in omega arith
         ];
         above = λ y h. elim (fewer y h) [ inl was ↦ i.above y was | inr is ↦ omega arith ];
         entries = subst (λ ns. Entries S start after i.base ns vs) (sym same)
@@ -156,22 +163,22 @@ module _ {E V W F P M D : Type 0} (S : Table E V W F P M D) (start : FinMap S.or
             (λ x g there is above. kept g (entry_le g (x, there, is)))
             (λ y h. elim (fewer y h) [ inl was ↦ inl was | inr is ↦ inr (mark ∙ ap Some (sym is)) ])
             (λ y is. false_from_ne_true _ (λ marked. let le = entry_le y ((has_entry K start ns y).0 marked) in let new = is_new y is in omega arith))
-            (λ g is above. (cause ∙ ap For (sym (ap after (is_new g is) ∙ at_same (suc d) q i.made)), ap (λ (n : Entry P M D). n.input) entry))
+            (λ g is above. (cause ∙ ap For (sym (ap after (is_new g is) ∙ at_same (suc d) q i.made)), ap (λ (n : Caused). n.input) entry))
             (λ y h hits r is.
             let one : q ≡ r = same_request q r (sym cause ∙ is) in
-            subst (λ (r : Request P M D). (has y r.rests ≡ true) ⊎ (r.guess ≡ Some y)) one
+            subst (λ (r : PendingRequest). (has y r.rests ≡ true) ⊎ (r.guess ≡ Some y)) one
             (elim (tags_of_step S start table ns us q.process (name_of q.ask) q.rests n.guess f t.reads t.writes
             (λ y h tag. ap (has y) rests ∙ rests_cover es q.process (name_of q.ask) y h tag) y
             (elim (fewer y h) [ inl was ↦ inl was | inr is ↦ inr (mark ∙ ap Some (sym is)) ]) hits) [
               | inl carries ↦ inl carries
               | inr its ↦ inr (guess ∙ sym mark ∙ its)
             ]))
-            (λ r is. ap (λ (n : Entry P M D). n.process) entry ∙ ap (λ (r : Request P M D). r.process) (same_request q r (sym cause ∙ is)))
-            (λ r is good. subst (λ (r : Request P M D). Sets S r.ask Good f.written) (same_request q r (sym cause ∙ is)) t.sets));
+            (λ r is. ap (λ (n : Caused). n.process) entry ∙ ap (λ (r : PendingRequest). r.process) (same_request q r (sym cause ∙ is)))
+            (λ r is good. subst (λ (r : PendingRequest). Sets S r.ask Good f.written) (same_request q r (sym cause ∙ is)) t.sets));
         guesses = subst (Guesses S start after i.bad i.base i.a (suc d) (es ++ Taken n ∷ [])) (sym same) (record {
           own = λ x above le. elim (cases_eq x (suc d)) [
-            | inl is ↦ ap (λ x. (after x).guess) is ∙ ap (λ (r : Request P M D). r.guess) (at_same (suc d) q i.made) ∙ guess ∙ ap Some (sym is)
-            | inr other ↦ let le_d : x ≤ d = omega arith in ap (λ (r : Request P M D). r.guess) (kept x le_d) ∙ g_own x above le_d
+            | inl is ↦ ap (λ x. (after x).guess) is ∙ ap (λ (r : PendingRequest). r.guess) (at_same (suc d) q i.made) ∙ guess ∙ ap Some (sym is)
+            | inr other ↦ let le_d : x ≤ d = omega arith in ap (λ (r : PendingRequest). r.guess) (kept x le_d) ∙ g_own x above le_d
           ];
           stand = λ x above le. elim (cases_eq x (suc d)) [
             | inl is ↦ inl (n, Contains-push ns n, mark ∙ ap Some (sym is))
@@ -179,11 +186,11 @@ module _ {E V W F P M D : Type 0} (S : Table E V W F P M D) (start : FinMap S.or
                 let le_d : x ≤ d = omega arith in
                 elim (i.guesses.stand x above le_d) [
                   | inl there ↦ inl (entry_more S start table ns n x there)
-                  | inr rests_on ↦ inr (rests_on.0, rests_on.1, elim rests_on.2 [ inl own ↦ inl own | inr carries ↦ inr (ap (λ (r : Request P M D). has rests_on.0 r.rests) (kept x le_d) ∙ carries) ])
+                  | inr rests_on ↦ inr (rests_on.0, rests_on.1, elim rests_on.2 [ inl own ↦ inl own | inr carries ↦ inr (ap (λ (r : PendingRequest). has rests_on.0 r.rests) (kept x le_d) ∙ carries) ])
                 ]
           ];
-          good = λ x above le is y carries. i.guesses.good x above le is y (ap (λ (r : Request P M D). has y r.rests) (sym (kept x (omega arith))) ∙ carries);
-          early = λ x above le y carries. i.guesses.early x above le y (ap (λ (r : Request P M D). has y r.rests) (sym (kept x (omega arith))) ∙ carries);
+          good = λ x above le is y carries. i.guesses.good x above le is y (ap (λ (r : PendingRequest). has y r.rests) (sym (kept x (omega arith))) ∙ carries);
+          early = λ x above le y carries. i.guesses.early x above le y (ap (λ (r : PendingRequest). has y r.rests) (sym (kept x (omega arith))) ∙ carries);
           answered = i.guesses.answered;
           failed = λ x above there. elim (Contains-push_cases es (Taken n) (Fail x) there) [ inl before ↦ i.guesses.failed x above before | inr is ↦ cc ];
         });
@@ -219,13 +226,13 @@ module _ {E V W F P M D : Type 0} (S : Table E V W F P M D) (start : FinMap S.or
                 (ready_taken S start table ns us vs n f r accepted (quiet r before asked ready)
                 (λ y there. elim (fewer y there) [ inl was ↦ inl was | inr is ↦ inr (new_clean S start table es n sound y (mark ∙ ap Some (sym is))) ]) ready))
           ]
-          | inr is ↦ absurd (no_guess q.guess (suc d) (ap (λ (r : Request P M D). r.guess) is ∙ asked) guess)
+          | inr is ↦ absurd (no_guess q.guess (suc d) (ap (λ (r : PendingRequest). r.guess) is ∙ asked) guess)
         ];
         apart = apart_push pending q (λ r h asked none. absurd (no_guess q.guess (suc d) none guess)) i.apart;
       }
 
   -- ---- a reply that is given: the request is no longer pending
-  pub inv_drop : (es : List (Event (Entry P M D))) (d : ℕ) (served given : List (Served P M D)) (q : Request P M D) (pending waiting : List (Request P M D)) (memory : List ℕ)
+  pub inv_drop : (es : List (Event Caused)) (d : ℕ) (served given : List Served) (q : PendingRequest) (pending waiting : List PendingRequest) (memory : List ℕ)
       → Invariant S start es d served given (q ∷ pending) waiting memory → Invariant S start es d served given pending waiting memory
   inv_drop es d served given q pending waiting memory i = record {
     made = i.made;
@@ -248,8 +255,8 @@ module _ {E V W F P M D : Type 0} (S : Table E V W F P M D) (start : FinMap S.or
   }
 
   -- and it is written down, where its step stands if it was a store that was asked and accepted
-  pub inv_done : (es : List (Event (Entry P M D))) (d : ℕ) (served given : List (Served P M D)) (pending waiting : List (Request P M D)) (memory : List ℕ) (x : Served P M D)
-      → Contains served x → (x.1 ≡ Yes → (m : M) (v : ℕ) (b : D) → x.0.ask ≡ Store m v b → x.0.guess ≡ None → HasStep S start (record_of (kernel S) start es) x.0)
+  pub inv_done : (es : List (Event Caused)) (d : ℕ) (served given : List Served) (pending waiting : List PendingRequest) (memory : List ℕ) (x : Served)
+      → Contains served x → (x.1 ≡ Yes → (m : Bytes) (v : ℕ) (b : Bytes) → x.0.ask ≡ Store m v b → x.0.guess ≡ None → HasStep S start (record_of (kernel S) start es) x.0)
       → Invariant S start es d served given pending waiting memory → Invariant S start es d served (given ++ x ∷ []) pending waiting memory
   inv_done es d served given pending waiting memory x there stands i = record {
     made = i.made;
@@ -269,24 +276,24 @@ module _ {E V W F P M D : Type 0} (S : Table E V W F P M D) (start : FinMap S.or
     stands = λ q m v b h ask asked. elim (Contains-push_cases given x (q, Yes) h) [
       | inl before ↦ i.stands q m v b before ask asked
       | inr is ↦
-          let is_q : x.0 ≡ q = ap (λ (x : Served P M D). x.0) is in
+          let is_q : x.0 ≡ q = ap (λ (x : Served). x.0) is in
           subst (HasStep S start (record_of (kernel S) start es)) is_q
-          (stands (ap (λ (x : Served P M D). x.1) is) m v b (ap (λ (r : Request P M D). r.ask) is_q ∙ ask) (ap (λ (r : Request P M D). r.guess) is_q ∙ asked))
+          (stands (ap (λ (x : Served). x.1) is) m v b (ap (λ (r : PendingRequest). r.ask) is_q ∙ ask) (ap (λ (r : PendingRequest). r.guess) is_q ∙ asked))
     ];
     asked = i.asked;
     apart = i.apart;
   }
 
   -- ---- an answer of the server, where after it guesses up to a2 are answered, and those of bad are refused
-  pub inv_answer : (es : List (Event (Entry P M D))) (d : ℕ) (served given : List (Served P M D)) (pending waiting : List (Request P M D)) (memory after : List ℕ)
-      (q : Request P M D) (ans : Answer D) (i : Invariant S start es d served given pending (q ∷ waiting) memory) (bad : ℕ → Bool) (a : ℕ)
+  pub inv_answer : (es : List (Event Caused)) (d : ℕ) (served given : List Served) (pending waiting : List PendingRequest) (memory after : List ℕ)
+      (q : PendingRequest) (ans : Answer) (i : Invariant S start es d served given pending (q ∷ waiting) memory) (bad : ℕ → Bool) (a : ℕ)
       → a ≡ counted q.guess i.a → i.a ≤ a → ((y : ℕ) → y ≤ i.a → bad y ≡ i.bad y) → ((y : ℕ) → y ≤ a → (y ≤ i.a) ⊎ (q.guess ≡ Some y))
       → ((y : ℕ) → bad y ≡ true → (i.bad y ≡ true) ⊎ (q.guess ≡ Some y))
       → ((g : ℕ) → q.guess ≡ Some g → (g ≤ a) × (bad g ≡ not (is_accepted ans)))
       → ((ans ≡ Dropped → ⊥) → (y : ℕ) → has y q.rests ≡ true → has y (remembered q memory) ≡ true → ⊥)
       → ((y : ℕ) → has y (remembered q memory) ≡ true → has y after ≡ true)
       → ((g : ℕ) → q.guess ≡ Some g → is_accepted ans ≡ false → has g after ≡ true)
-      → ((m : M) (v : ℕ) (b : D) → q.ask ≡ Store m v b → ans ≡ Yes → v < S.last)
+      → ((m : Bytes) (v : ℕ) (b : Bytes) → q.ask ≡ Store m v b → ans ≡ Yes → v < S.last)
       → Invariant S start es d (served ++ (q, ans) ∷ []) given pending waiting after
   inv_answer es d served given pending waiting memory after q ans i bad a counts a_le same split new_bad own drops stays joins fits =
       let K = kernel S in
@@ -327,11 +334,11 @@ module _ {E V W F P M D : Type 0} (S : Table E V W F P M D) (start : FinMap S.or
             | inr its ↦
                 let o = own x its in
                 let yes : is_accepted ans ≡ true = (let refused : false ≡ not (is_accepted ans) = sym is ∙ o.1 in elim (is_accepted ans) as (λ b. false ≡ not b → b ≡ true) [ true ↦ λ h. refl | false ↦ λ h. h ] refused) in
-                kept (not_dropped yes) y (ap (λ (r : Request P M D). has y r.rests) (sym (w.own x its).1) ∙ carries)
+                kept (not_dropped yes) y (ap (λ (r : PendingRequest). has y r.rests) (sym (w.own x its).1) ∙ carries)
           ];
           early = λ x above le y carries. elim (split x le) [
             | inl before ↦ let low = i.guesses.early x above before y carries in omega arith
-            | inr its ↦ let low = (w.known y (ap (λ (r : Request P M D). has y r.rests) (sym (w.own x its).1) ∙ carries)).1 in omega arith
+            | inr its ↦ let low = (w.known y (ap (λ (r : PendingRequest). has y r.rests) (sym (w.own x its).1) ∙ carries)).1 in omega arith
           ];
           answered = λ y is. elim (new_bad y is) [ inl was ↦ let low = i.guesses.answered y was in omega arith | inr its ↦ (own y its).0 ];
           failed = λ x above there. let was = i.guesses.failed x above there in same x (i.guesses.answered x was) ∙ was;

@@ -21,7 +21,7 @@ use Rattle.sk_client.proofs.WorldTable.{table}
 use Rattle.sk_client.specs.Desk.{DeskView, opened, entry, decided, input_of, answered, given_to, given, is_void, stepped, turned}
 use Rattle.sk_client.specs.DeskCalls.{ByRule, TurnPost, ReplyPost}
 use Rattle.sk_client.specs.Exchanges.{Exchanges, with_reply, exchange, exchanged, Leads}
-use Rattle.sk_client.proofs.SeenWorld.{law_answer, begun}
+use Rattle.sk_client.proofs.SeenWorld.{begun}
 use Rattle.sk_client.specs.Ready.{IsReady}
 use Rattle.sk_client.specs.WorldView.{WorldView, joined, taken_by, taken_from, reply_to, served, Serves, Replies as RepliesSo, Turns, EditsFile, EventPost, IsNext, IsJoined}
 use Rattle.sk_client.specs.declared.pending.PendingRequest.{PendingRequest}
@@ -87,7 +87,7 @@ boot_more : (k l m : KernelView) → SameBoot k l → SameBoot l m → SameBoot 
 boot_more k l m a b = record { scripts = b.scripts ∙ a.scripts; start = b.start ∙ a.start; limit = b.limit ∙ a.limit }
 
 -- such kernels make the same of a list of events
-after_same : (k l : KernelView) → SameBoot k l → (w : World ℕ Bytes Bytes) (es : List (LawEvent ℕ Bytes Bytes))
+after_same : (k l : KernelView) → SameBoot k l → (w : World) (es : List LawEvent)
     → world_after (table l.scripts l.limit) l.start w es ≡ world_after (table k.scripts k.limit) k.start w es
 after_same k l same w es = λ i. world_after (table (same.scripts i) (same.limit i)) (same.start i) w es
 
@@ -99,13 +99,13 @@ edited_next s (Some b) d name version bytes h = h
 -- ---- one event
 
 -- what an event of the laws, or none, makes of a world that fits
-pub record Onward (xs : Exchanges) (w : World ℕ Bytes Bytes) (v new : WorldView) : Type 0 where
-  pub event_of : List (LawEvent ℕ Bytes Bytes)
+pub record Onward (xs : Exchanges) (w : World) (v new : WorldView) : Type 0 where
+  pub event_of : List LawEvent
   pub fits : Fits xs (world_after (table v.desk.kernel.scripts v.desk.kernel.limit) v.desk.kernel.start w event_of) new
   pub joined : IsJoined new.desk new.server new.replies new.back
   pub boot : SameBoot v.desk.kernel new.desk.kernel
 
-module _ (xs : Exchanges) (w : World ℕ Bytes Bytes) (v : WorldView) (f : Fits xs w v) (j : IsJoined v.desk v.server v.replies v.back) where
+module _ (xs : Exchanges) (w : World) (v : WorldView) (f : Fits xs w v) (j : IsJoined v.desk v.server v.replies v.back) where
   same : (new : WorldView) → new ≡ v → Onward xs w v new
   same new is = subst (λ (x : WorldView). Onward xs w v x) (sym is) (record { event_of = []; fits = f; joined = j; boot = same_boot v.desk.kernel })
 
@@ -176,17 +176,17 @@ module _ (xs : Exchanges) (w : World ℕ Bytes Bytes) (v : WorldView) (f : Fits 
   took_any None is = took v.desk.waiting refl (subst (λ (o : Option Sent). IsJoined v.desk v.server v.replies o) is j) is
 
 -- nothing was served
-none_served : (xs : Exchanges) (w : World ℕ Bytes Bytes) (v new : WorldView) → Onward xs w v new → Onward (xs ++ []) w v new
+none_served : (xs : Exchanges) (w : World) (v new : WorldView) → Onward xs w v new → Onward (xs ++ []) w v new
 none_served xs w v new on = subst (λ (ys : Exchanges). Onward ys w v new) (sym (append-nil xs)) on
 
 -- ---- the server answers
 
-module _ (xs : Exchanges) (w : World ℕ Bytes Bytes) (v : WorldView) (f : Fits xs w v) (j : IsJoined v.desk v.server v.replies v.back) where
+module _ (xs : Exchanges) (w : World) (v : WorldView) (f : Fits xs w v) (j : IsJoined v.desk v.server v.replies v.back) where
   answered_on : (b : Sent) → v.back ≡ Some b → Onward (xs ++ (b, reply_to v.server b) ∷ []) w v (served v b)
   answered_on b is =
       let before : IsJoined v.desk v.server v.replies (Some b) = subst (λ (o : Option Sent). IsJoined v.desk v.server v.replies o) is j in
       record {
-        event_of = Serve (law_answer (judged v.server.files b.ask)) ∷ [];
+        event_of = Serve (judged v.server.files b.ask) ∷ [];
         fits = serve_fits xs w v f b (last_of v.desk.taken v.replies b before.replies);
         joined = answer_joined v.desk v.server (served v b).server v.replies (served v b).replies b refl refl before;
         boot = same_boot v.desk.kernel;
@@ -201,7 +201,7 @@ module _ (xs : Exchanges) (w : World ℕ Bytes Bytes) (v : WorldView) (f : Fits 
 
 -- ---- a reply is given
 
-module _ (xs : Exchanges) (w : World ℕ Bytes Bytes) (v : WorldView) (f : Fits xs w v) (j : IsJoined v.desk v.server v.replies v.back)
+module _ (xs : Exchanges) (w : World) (v : WorldView) (f : Fits xs w v) (j : IsJoined v.desk v.server v.replies v.back)
     (placed : places (table v.desk.kernel.scripts v.desk.kernel.limit) v.desk.kernel.start w.trace (law_pending w) ≤ v.desk.kernel.limit) where
   given_on : (told : Given) (new : WorldView) (r : Reply) (rs : List Reply) → v.replies ≡ r ∷ rs → ReplyPost (Ok told) v.desk r new.desk → new ≡ record v { desk = new.desk; replies = rs } → Onward xs w v new
   given_on told new r rs is h same =
@@ -229,7 +229,7 @@ module _ (xs : Exchanges) (w : World ℕ Bytes Bytes) (v : WorldView) (f : Fits 
       let on : Onward (xs ++ exchange t.back told) w t new = serves xs w t (taken_fits xs w v f j) took.0 told new t.back refl h in
       record {
         event_of = on.event_of;
-        fits = subst (λ (x : World ℕ Bytes Bytes). Fits (xs ++ exchange t.back told) x new) (after_same v.desk.kernel t.desk.kernel took.1 w on.event_of) on.fits;
+        fits = subst (λ (x : World). Fits (xs ++ exchange t.back told) x new) (after_same v.desk.kernel t.desk.kernel took.1 w on.event_of) on.fits;
         joined = on.joined;
         boot = boot_more v.desk.kernel t.desk.kernel new.desk.kernel took.1 on.boot;
       }
@@ -240,12 +240,12 @@ module _ (xs : Exchanges) (w : World ℕ Bytes Bytes) (v : WorldView) (f : Fits 
 
 module _ (k : KernelView) where
   -- what these events of the laws lead to
-  abbrev pub law_after : List (LawEvent ℕ Bytes Bytes) → World ℕ Bytes Bytes
+  abbrev pub law_after : List LawEvent → World
   law_after es = world_after (table k.scripts k.limit) k.start (begun k) es
 
   -- the same kernel later, in a world that these events of the laws and some more lead to
-  pub record Reached (earlier : List (LawEvent ℕ Bytes Bytes)) (xs : Exchanges) (v : WorldView) : Type 0 where
-    pub since : List (LawEvent ℕ Bytes Bytes)
+  pub record Reached (earlier : List LawEvent) (xs : Exchanges) (v : WorldView) : Type 0 where
+    pub since : List LawEvent
     pub fits : Fits xs (law_after (earlier ++ since)) v
     pub joined : IsJoined v.desk v.server v.replies v.back
     pub scripts : v.desk.kernel.scripts ≡ k.scripts
@@ -253,7 +253,7 @@ module _ (k : KernelView) where
     pub limit_is : v.desk.kernel.limit ≡ k.limit
 
 module _ (k : KernelView) (ready : IsReady k) where
-  one_event : (earlier : List (LawEvent ℕ Bytes Bytes)) (xs : Exchanges) (v : WorldView) → Reached k earlier xs v → (told : Result WorldAnswer Cause) (e : WorldEvent) (new : WorldView) → EventPost told v e new
+  one_event : (earlier : List LawEvent) (xs : Exchanges) (v : WorldView) → Reached k earlier xs v → (told : Result WorldAnswer Cause) (e : WorldEvent) (new : WorldView) → EventPost told v e new
       → Reached k earlier (xs ++ exchanged told v e) new
   one_event earlier xs v r told e new h =
       let w = law_after k (earlier ++ r.since) in
@@ -268,14 +268,14 @@ module _ (k : KernelView) (ready : IsReady k) where
       ∙ ap (law_after k) (append_assoc earlier r.since on.event_of) in
       record {
         since = r.since ++ on.event_of;
-        fits = subst (λ (x : World ℕ Bytes Bytes). Fits (xs ++ exchanged told v e) x new) same on.fits;
+        fits = subst (λ (x : World). Fits (xs ++ exchanged told v e) x new) same on.fits;
         joined = on.joined;
         scripts = on.boot.scripts ∙ r.scripts;
         start = on.boot.start ∙ r.start;
         limit_is = on.boot.limit ∙ r.limit_is;
       }
 
-  all_events : (earlier : List (LawEvent ℕ Bytes Bytes)) (xs : Exchanges) (v : WorldView) (es : List WorldEvent) (ys : Exchanges) (last : WorldView) → Reached k earlier xs v → Leads v es ys last
+  all_events : (earlier : List LawEvent) (xs : Exchanges) (v : WorldView) (es : List WorldEvent) (ys : Exchanges) (last : WorldView) → Reached k earlier xs v → Leads v es ys last
       → Reached k earlier (xs ++ ys) last
   all_events earlier xs v [] ys last r h =
       subst (λ (zs : Exchanges). Reached k earlier (xs ++ zs) last) (sym h.0) (subst (λ (zs : Exchanges). Reached k earlier zs last) (sym (append-nil xs)) (subst (λ (x : WorldView). Reached k earlier xs x) (sym h.1) r))
@@ -312,7 +312,7 @@ module _ (k : KernelView) (ready : IsReady k) where
   from_here : (xs : Exchanges) (v : WorldView) (r : Reached k [] xs v) → Reached k r.since xs v
   from_here xs v r = record {
     since = [];
-    fits = subst (λ (es : List (LawEvent ℕ Bytes Bytes)). Fits xs (law_after k es) v) (sym (append-nil r.since)) r.fits;
+    fits = subst (λ (es : List LawEvent). Fits xs (law_after k es) v) (sym (append-nil r.since)) r.fits;
     joined = r.joined;
     scripts = r.scripts;
     start = r.start;

@@ -11,34 +11,29 @@ use Rattle.sk_server.specs.declared.request.Ask.{Ask}
 use Rattle.sk_server.specs.declared.request.Ask.TheVariants as asks
 use Rattle.sk_server.specs.declared.reply.Answer.{Answer}
 use Rattle.sk_server.specs.declared.reply.Answer.TheVariants as answers
-use Rattle.sk_client.proofs.CausedRequests.{Store, Dropped}
+use Rattle.sk_server.specs.declared.request.Ask.TheVariants.{Store}
+use Rattle.sk_server.specs.declared.reply.Answer.TheVariants.{Dropped}
 use Rattle.sk_client.proofs.Remembered.{is_possible, refused_by as law_refused_by, answer_to as law_answer_to, refused_after}
 use Rattle.sk_record.proofs.UndoStates.{and_both}
 use Rattle.sk_client.specs.Desk.{sent}
-use Rattle.sk_client.proofs.SeenWorld.{law_ask, law_answer, law_request}
 use Rattle.sk_client.specs.declared.pending.PendingRequest.{PendingRequest}
 
-dropped_or : (b : Bool) (a : Answer) → cond b Dropped (law_answer a) ≡ law_answer (cond b answers.Dropped a)
-dropped_or true a = refl
-dropped_or false a = refl
-
 -- what the files say to a request
-pub possible_seen : (files : FileMap) (a : Ask) → is_possible LAST_VERSION (law_ask a) (law_answer (judged files a)) ≡ true
+pub possible_seen : (files : FileMap) (a : Ask) → is_possible LAST_VERSION a (judged files a) ≡ true
 possible_seen files (asks.Get name) = refl
 possible_seen files (asks.Check name version) = refl
 possible_seen files (asks.Store name version bytes) =
-    elim (is_fitting files name version) as (λ b. is_fitting files name version ≡ b → is_possible LAST_VERSION (Store name version bytes) (law_answer (cond b answers.Yes (answers.No (file_of files name)))) ≡ true) [
+    elim (is_fitting files name version) as (λ b. is_fitting files name version ≡ b → is_possible LAST_VERSION (Store name version bytes) (cond b answers.Yes (answers.No (file_of files name))) ≡ true) [
       | true ↦ λ fits. (and_both ((file_of files name).version == version) (nat_lt version LAST_VERSION) fits).1
       | false ↦ λ _. refl
     ] refl
 
 module _ (refused : List ℕ) (s : ServerView) (same : refused ≡ s.refused) (q : PendingRequest) where
-  pub answer_seen : law_answer_to refused (law_request q) (law_answer (judged s.files q.ask)) ≡ law_answer (answer_to s (sent q))
+  pub answer_seen : law_answer_to refused q (judged s.files q.ask) ≡ answer_to s (sent q)
   answer_seen =
-      (λ i. cond (list_any (λ g. has g q.rests) (filter (λ g. nat_le q.settled g) (same i))) Dropped (law_answer (judged s.files q.ask)))
-      ∙ dropped_or (is_dropped (sent q) (remembered (sent q) s.refused)) (judged s.files q.ask)
+      (λ i. cond (list_any (λ g. has g q.rests) (filter (λ g. nat_le q.settled g) (same i))) Dropped (judged s.files q.ask))
 
-  guess_refused : (g : Option ℕ) (a : Answer) → marks (law_refused_by g (law_answer a)) ≡ listed (refused_by g a)
+  guess_refused : (g : Option ℕ) (a : Answer) → marks (law_refused_by g a) ≡ listed (refused_by g a)
   guess_refused None answers.Yes = refl
   guess_refused None (answers.No c) = refl
   guess_refused None (answers.Copy c) = refl
@@ -48,5 +43,5 @@ module _ (refused : List ℕ) (s : ServerView) (same : refused ≡ s.refused) (q
   guess_refused (Some g) (answers.Copy c) = refl
   guess_refused (Some g) answers.Dropped = refl
 
-  pub refused_seen : (a : Answer) → refused_after refused (law_request q) (law_answer a) ≡ (answered s (sent q) a).refused
+  pub refused_seen : (a : Answer) → refused_after refused q a ≡ (answered s (sent q) a).refused
   refused_seen a = λ i. filter (λ g. nat_le q.settled g) (same i) ++ guess_refused q.guess a i

@@ -12,49 +12,24 @@ use Rattle.sk_server.specs.declared.request.Ask.TheVariants as asks
 use Rattle.sk_server.specs.declared.reply.Answer.{Answer}
 use Rattle.sk_server.specs.declared.reply.Answer.TheVariants as answers
 use Rattle.sk_server.specs.declared.reply.Reply.{Reply}
-use Rattle.sk_client.proofs.CausedRequests.{Input as LawInput, Content, Nothing, Good, Fresh, Stale, Ask as LawAsk, Get, Check, Store, Answer as LawAnswer, Yes, No, Copy, Dropped, Request, Before, Served}
+use Rattle.sk_script.specs.declared.instruction.Input.TheVariants.{Good, Fresh, Stale}
+use Rattle.sk_server.specs.declared.request.Ask.TheVariants.{Get, Check, Store}
+use Rattle.sk_server.specs.declared.reply.Answer.TheVariants.{Yes, No, Copy, Dropped}
+use Rattle.sk_client.specs.declared.pending.PendingRequest.{PendingRequest}
+use Rattle.sk_client.proofs.CausedRequests.{Caused, Before, Served}
 use Rattle.sk_client.proofs.CausedWorld.{World}
 use Rattle.sk_client.proofs.Bare.{bare_event}
 use Rattle.sk_client.specs.Table.{Bytes}
-use Rattle.sk_client.proofs.WorldTable.{Caused, bare}
+use Rattle.sk_client.proofs.WorldTable.{bare}
 use Rattle.sk_client.specs.Desk.{kept_for}
 use Rattle.sk_client.specs.Exchanges.{Exchanges}
-use Rattle.sk_client.proofs.WorldTable.{Caused, bare}
 use Rattle.sk_client.specs.WorldView.{WorldView}
-use Rattle.sk_client.specs.declared.pending.PendingRequest.{PendingRequest}
 
 -- ---- the same words in both
 
-abbrev pub law_content : ContentView → Content Bytes
-law_content c = (c.version, c.bytes)
-
-abbrev pub law_input : Input → LawInput Bytes
-law_input inputs.None = Nothing
-law_input inputs.Good = Good
-law_input (inputs.Fresh c) = Fresh (law_content c)
-law_input (inputs.Stale c) = Stale (law_content c)
-
-abbrev pub law_kept : Option Input → Option (LawInput Bytes)
-law_kept None = None
-law_kept (Some input) = Some (law_input input)
-
-abbrev pub law_ask : Ask → LawAsk Bytes Bytes
-law_ask (asks.Get name) = Get name
-law_ask (asks.Check name version) = Check name version
-law_ask (asks.Store name version bytes) = Store name version bytes
-
-abbrev pub law_answer : Answer → LawAnswer Bytes
-law_answer answers.Yes = Yes
-law_answer (answers.No c) = No (law_content c)
-law_answer (answers.Copy c) = Copy (law_content c)
-law_answer answers.Dropped = Dropped
-
-abbrev pub law_request : PendingRequest → Request ℕ Bytes Bytes
-law_request q = record { number = q.number; process = q.process; ask = law_ask q.ask; guess = q.guess; rests = q.rests; settled = q.settled }
-
 -- the oldest requests have the replies that are on their way
-abbrev pub law_served : List PendingRequest → List Reply → List (Served ℕ Bytes Bytes)
-law_served (q ∷ qs) (r ∷ rs) = (law_request q, law_answer r.answer) ∷ law_served qs rs
+abbrev pub law_served : List PendingRequest → List Reply → List Served
+law_served (q ∷ qs) (r ∷ rs) = (q, r.answer) ∷ law_served qs rs
 law_served (q ∷ qs) [] = []
 law_served [] rs = []
 
@@ -68,22 +43,22 @@ unanswered [] rs = []
 
 -- a request with its answer, the process aside
 abbrev pub Answered : Type 0
-Answered = ℕ × (LawAsk Bytes Bytes × (Option ℕ × LawAnswer Bytes))
+Answered = ℕ × (Ask × (Option ℕ × Answer))
 
-abbrev pub answered_there : Served ℕ Bytes Bytes → Answered
+abbrev pub answered_there : Served → Answered
 answered_there x = (x.0.number, (x.0.ask, (x.0.guess, x.1)))
 
 abbrev pub answered_here : Sent × Reply → Answered
-answered_here x = (x.0.number, (law_ask x.0.ask, (x.0.guess, law_answer x.1.answer)))
+answered_here x = (x.0.number, (x.0.ask, (x.0.guess, x.1.answer)))
 
 -- behind these exchanges, a world of the laws, whose entries have causes besides, is seen so
-pub record IsSeen (served : Exchanges) (w : World ℕ Bytes Bytes) (v : WorldView) : Type 0 where
+pub record IsSeen (served : Exchanges) (w : World) (v : WorldView) : Type 0 where
   pub trace : map (bare_event bare) w.trace ≡ events_of v.desk.kernel
   pub drawn : w.drawn ≡ last_guess v.desk.kernel
   pub next : w.next ≡ v.desk.next
-  pub kept : (pid : ℕ) → w.kept pid ≡ law_kept (kept_for pid v.desk.kept)
+  pub kept : (pid : ℕ) → w.kept pid ≡ kept_for pid v.desk.kept
   pub taken : w.taken ≡ law_served v.desk.taken v.replies
-  pub waiting : w.waiting ≡ map law_request (unanswered v.desk.taken v.replies ++ v.desk.waiting)
+  pub waiting : w.waiting ≡ (unanswered v.desk.taken v.replies ++ v.desk.waiting)
   pub refused : w.refused ≡ v.server.refused
   pub answered : map answered_there (w.given ++ w.taken) ≡ map answered_here served
 
@@ -91,7 +66,7 @@ pub record IsSeen (served : Exchanges) (w : World ℕ Bytes Bytes) (v : WorldVie
 
 -- an entry, and an event, of before
 abbrev pub from_before : EntryView → Caused
-from_before n = record { process = n.pid; input = law_input n.input; guess = n.guess; cause = Before }
+from_before n = record { process = n.pid; input = n.input; guess = n.guess; cause = Before }
 
 abbrev pub event_before : Happens EntryView → Happens Caused
 event_before (Taken n) = Taken (from_before n)
@@ -99,7 +74,7 @@ event_before (Commit g) = Commit g
 event_before (Fail g) = Fail g
 
 -- with this kernel, all that it did was before
-abbrev pub begun : KernelView → World ℕ Bytes Bytes
+abbrev pub begun : KernelView → World
 begun k = record {
   trace = map event_before (events_of k);
   drawn = last_guess k;

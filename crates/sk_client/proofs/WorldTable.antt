@@ -15,22 +15,13 @@ use Rattle.sk_plain.specs.declared.next.Next.{Next}
 use Rattle.sk_plain.specs.declared.next.Next.TheVariants.{Signal, Fetch, Store, Private, Waits, Full, Other}
 use Rattle.sk_plain.specs.Act.{Scripts, Saying, act}
 use Rattle.sk_plain.specs.Next.{next_of}
-use Rattle.sk_client.proofs.CausedRequests.{Input as Reply, Content, Nothing, Good, Fresh, Stale, Entry}
+use Rattle.sk_script.specs.declared.instruction.Input.TheVariants.{Good, Fresh, Stale}
+use Rattle.sk_client.proofs.CausedRequests.{Caused}
 use Rattle.sk_client.proofs.CausedWorld.{Table, Next as Turn, Halted, Due, Fetches, Stores, Else}
 use Rattle.sk_client.specs.Table.{Bytes, copy_of, version_of, buffer_of}
 
-abbrev pub content_of : Content Bytes → ContentView
-content_of c = record { version = c.0; bytes = c.1 }
-
--- what a step is given
-abbrev pub input_of : Reply Bytes → Input
-input_of Nothing = inputs.None
-input_of Good = inputs.Good
-input_of (Fresh c) = inputs.Fresh (content_of c)
-input_of (Stale c) = inputs.Stale (content_of c)
-
 -- what a desk makes of what a process does next
-abbrev pub turn_of : Bytes → Result Next Refusal → Turn Bytes Bytes
+abbrev pub turn_of : Bytes → Result Next Refusal → Turn
 turn_of buffer (Ok Signal) = Due
 turn_of buffer (Ok (Fetch name)) = Fetches name
 turn_of buffer (Ok (Store name)) = Stores name buffer
@@ -45,16 +36,16 @@ abbrev pub MOST_GUESSES : ℕ
 MOST_GUESSES = 64
 
 -- with these scripts, and a trace of so many events
-abbrev pub table : Scripts → ℕ → Table Entity EntityState Saying Refusal ℕ Bytes Bytes
+abbrev pub table : Scripts → ℕ → Table Entity EntityState Saying Refusal
 table scripts limit = record {
   order = entity_cmp;
   goes_to = λ said. said.to;
-  act = λ pid x. act scripts pid (input_of x);
+  act = λ pid x. act scripts pid x;
   next = λ s pid. turn_of (buffer_of (get s (Proc pid))) (next_of (get s) scripts pid);
   cached = λ s name. version_of (get s (Copy name));
   proc = Proc;
   copy = Copy;
-  content = λ c. copy_of (content_of c);
+  content = λ c. copy_of c;
   same_process = ◌==◌;
   same_name = bytes_eq;
   last = LAST_VERSION;
@@ -62,10 +53,6 @@ table scripts limit = record {
   most = MOST_GUESSES;
 }
 
--- an entry of a world's record
-abbrev pub Caused : Type 0
-Caused = Entry ℕ Bytes Bytes
-
--- and as the kernel has it, without its cause
+-- an entry of a world's record as the kernel has it, without its cause
 abbrev pub bare : Caused → EntryView
-bare n = record { pid = n.process; input = input_of n.input; guess = n.guess }
+bare n = record { pid = n.process; input = n.input; guess = n.guess }

@@ -11,7 +11,17 @@ use Rattle.sk_record.specs.Notes.{has}
 use Rattle.sk_record.specs.Trace.{Event, Taken, Commit, Fail, IsSound, record_of, marks}
 use Rattle.sk_record.proofs.UndoStates.{and_both, any_at}
 use Rattle.sk_record.proofs.Sound.{undecided_is, has_commit, any_from, record_more, sound_fail}
-use Rattle.sk_client.proofs.CausedRequests.{Input, Nothing, Good, Fresh, Stale, Content, Ask, Get, Check, Store, Answer, Yes, No, Copy, Dropped, Request, Entry, Served, name_of}
+use Rattle.sk_script.specs.declared.instruction.Input.{Input}
+use Rattle.sk_script.specs.declared.instruction.Input.TheVariants.{Good, Fresh, Stale}
+use Rattle.sk_objects.specs.Content.{ContentView}
+use Rattle.sk_server.specs.declared.request.Ask.{Ask}
+use Rattle.sk_server.specs.declared.request.Ask.TheVariants.{Get, Check, Store}
+use Rattle.sk_server.specs.declared.reply.Answer.{Answer}
+use Rattle.sk_server.specs.declared.reply.Answer.TheVariants.{Yes, No, Copy, Dropped}
+use Rattle.sk_client.specs.declared.pending.PendingRequest.{PendingRequest}
+use Rattle.sk_client.proofs.CausedRequests.{Caused, Served}
+use Rattle.sk_client.specs.Desk.{name_of}
+use Rattle.sk_script.specs.declared.instruction.Input.TheVariants as inputs
 use Rattle.sk_client.proofs.Remembered.{is_possible, is_accepted, refused_by, remembered, is_dropped, answer_to, refused_after}
 use Rattle.sk_client.proofs.CausedWorld.{Table, places, has_places, has_guess, has_number, asked_now, asked_too, asked_count, kept_for, answer_kept, Next, Halted, Due, Fetches, Stores, Else, World, WorldEvent, Turn, Serve, Reply, kernel, own, asked_entry, input_of, is_asked, commits, is_lost, is_void, or_zero, state, undecided, pending, served, with_given, with_kept, with_trace, asks_for, asks_on, stepped_by, stepped, used_by, used, guess_request, guess_entry, guessed_by, guessed, ask_request, asked, fetched, stored, other, turned, answered, serve, decided, stepped_for, given_to, reply, event, world_after}
 use Rattle.sk_client.proofs.CausedLaws.{Takes, Sets, IsTable}
@@ -24,13 +34,14 @@ use Rattle.sk_client.proofs.KernelEvents.{no_guess, inv_plain, inv_commit, inv_f
 use Rattle.sk_client.proofs.RequestEvents.{inv_ask, inv_guess, inv_drop, inv_done, inv_answer}
 use Rattle.sk_client.proofs.PlaceFacts.{asked_le, asked_push, places_step, places_guess, places_commit, places_fail}
 use Rattle.sk_client.proofs.RequestFacts.{RequestFacts, map_push, facts_kept, facts_own, facts_ask, facts_guess, facts_serve, facts_none, facts_commit, facts_fail, facts_step}
+use Rattle.sk_client.specs.Table.{Bytes}
 
 asked_none : (o : Option ℕ) → o ≡ None → is_asked o ≡ true
 asked_none o is = ap is_asked is
 
 -- the step that an asked request's answer gives is accepted
-pub takes_by : {E V W F P M D : Type 0} (S : Table E V W F P M D) (start s : FinMap S.order V) (p : P) (ask : Ask M D) (ans : Answer D) (x : Input D) → ReadyFor S start s p ask → input_of ask ans ≡ Some x
-    → ((m : M) (v : ℕ) (b : D) → ask ≡ Store m v b → ans ≡ Yes → v < S.last) → Takes S s p ask x
+pub takes_by : {E V W F : Type 0} (S : Table E V W F) (start s : FinMap S.order V) (p : ℕ) (ask : Ask) (ans : Answer) (x : Input) → ReadyFor S start s p ask → input_of ask ans ≡ Some x
+    → ((m : Bytes) (v : ℕ) (b : Bytes) → ask ≡ Store m v b → ans ≡ Yes → v < S.last) → Takes S s p ask x
 takes_by S start s p (Get m) (Copy c) x ready is fits = let same : Fresh c ≡ x = cc in subst (Takes S s p (Get m)) same (ready c)
 takes_by S start s p (Get m) Yes x ready is fits = cc
 takes_by S start s p (Get m) (No c) x ready is fits = cc
@@ -42,7 +53,7 @@ takes_by S start s p (Store m v b) (Copy c) x ready is fits = cc
 takes_by S start s p (Store m v b) Dropped x ready is fits = cc
 
 -- only a store that is accepted gives Good to an asked step
-good_yes : {M D : Type 0} (ask : Ask M D) (ans : Answer D) → input_of ask ans ≡ Some Good → ans ≡ Yes
+good_yes : (ask : Ask) (ans : Answer) → input_of ask ans ≡ Some Good → ans ≡ Yes
 good_yes (Get m) (Copy c) is = cc
 good_yes (Get m) Yes is = refl
 good_yes (Get m) (No c) is = cc
@@ -56,33 +67,33 @@ good_yes (Store m v b) (No c) is = cc
 good_yes (Store m v b) (Copy c) is = cc
 good_yes (Store m v b) Dropped is = cc
 
-never_good : {M D : Type 0} (ask : Ask M D) (c : Content D) → answer_kept ask c ≡ Good → ⊥
+never_good : (ask : Ask) (c : ContentView) → answer_kept ask c ≡ Good → ⊥
 never_good (Get m) c is = cc
 never_good (Check m v) c is = cc
 never_good (Store m v b) c is = cc
 
-module _ {E V W F P M D : Type 0} (S : Table E V W F P M D) (start : FinMap S.order V) (table : IsTable S start) where
-  abbrev pub Holds : World P M D → Type 0
+module _ {E V W F : Type 0} (S : Table E V W F) (start : FinMap S.order V) (table : IsTable S start) where
+  abbrev pub Holds : World → Type 0
   Holds w = Invariant S start w.trace w.drawn (served w) w.given (pending w) w.waiting w.refused
 
-  abbrev IsNext : World P M D → P → M → Type 0
-  IsNext w p m = (S.next (state S start w.trace) p ≡ Fetches m) ⊎ ((b : D) × (S.next (state S start w.trace) p ≡ Stores m b))
+  abbrev IsNext : World → ℕ → Bytes → Type 0
+  IsNext w p m = (S.next (state S start w.trace) p ≡ Fetches m) ⊎ ((b : Bytes) × (S.next (state S start w.trace) p ≡ Stores m b))
 
   -- no asked request of this process, and none on this name
-  not_its : (w : World P M D) (p : P) → asks_for S start w p ≡ false → (q : Request P M D) → Contains (pending w) q → q.guess ≡ None → p ≡ q.process → ⊥
+  not_its : (w : World) (p : ℕ) → asks_for S start w p ≡ false → (q : PendingRequest) → Contains (pending w) q → q.guess ≡ None → p ≡ q.process → ⊥
   not_its w p none q there asks same =
-      true≢false (sym (any_at (λ (q : Request P M D). is_asked q.guess && S.same_process p q.process) (pending w) q there
+      true≢false (sym (any_at (λ (q : PendingRequest). is_asked q.guess && S.same_process p q.process) (pending w) q there
       (λ i. asked_none q.guess asks i && (ap (S.same_process p) (sym same) ∙ table.same_process p) i)) ∙ none)
 
-  not_on : (w : World P M D) (m : M) → asks_on S start w m ≡ false → (q : Request P M D) → Contains (pending w) q → q.guess ≡ None → m ≡ name_of q.ask → ⊥
+  not_on : (w : World) (m : Bytes) → asks_on S start w m ≡ false → (q : PendingRequest) → Contains (pending w) q → q.guess ≡ None → m ≡ name_of q.ask → ⊥
   not_on w m none q there asks same =
-      true≢false (sym (any_at (λ (q : Request P M D). is_asked q.guess && S.same_name m (name_of q.ask)) (pending w) q there
+      true≢false (sym (any_at (λ (q : PendingRequest). is_asked q.guess && S.same_name m (name_of q.ask)) (pending w) q there
       (λ i. asked_none q.guess asks i && (ap (S.same_name m) (sym same) ∙ table.same_name m) i)) ∙ none)
 
   -- a step of a turn does not touch what asked requests wait for
-  quiet_turn : (w : World P M D) (p : P) (x : Input D) (f : Effect E V W) → outcome (kernel S) (state S start w.trace) (own p x) ≡ Ok f
-      → IsLegal (kernel S) start (record_of (kernel S) start w.trace) → (S.next (state S start w.trace) p ≡ Due → x ≡ Nothing) → asks_for S start w p ≡ false → ((m : M) → IsNext w p m → asks_on S start w m ≡ false)
-      → (q : Request P M D) → Contains (pending w) q → q.guess ≡ None → Ready S start (record_of (kernel S) start w.trace) (undecided S start w.trace) q
+  quiet_turn : (w : World) (p : ℕ) (x : Input) (f : Effect E V W) → outcome (kernel S) (state S start w.trace) (own p x) ≡ Ok f
+      → IsLegal (kernel S) start (record_of (kernel S) start w.trace) → (S.next (state S start w.trace) p ≡ Due → x ≡ inputs.None) → asks_for S start w p ≡ false → ((m : Bytes) → IsNext w p m → asks_on S start w m ≡ false)
+      → (q : PendingRequest) → Contains (pending w) q → q.guess ≡ None → Ready S start (record_of (kernel S) start w.trace) (undecided S start w.trace) q
       → Quiet S start table f q.process (name_of q.ask)
   quiet_turn w p x f is legal due none clear q there asks ready = (
     λ writes. elim (table.own_process (record_of (kernel S) start w.trace) q.process p x f legal is writes) [
@@ -95,30 +106,30 @@ module _ {E V W F P M D : Type 0} (S : Table E V W F P M D) (start : FinMap S.or
   lt_of : (v last : ℕ) → nat_lt v last ≡ true → v < last
   lt_of v last h = leb-true (suc v) last h
 
-  pending_push : (w : World P M D) (q : Request P M D) → pending w ++ q ∷ [] ≡ map (λ x. x.0) w.taken ++ (w.waiting ++ q ∷ [])
-  pending_push w q = append_assoc (map (λ (x : Served P M D). x.0) w.taken) w.waiting (q ∷ [])
+  pending_push : (w : World) (q : PendingRequest) → pending w ++ q ∷ [] ≡ map (λ x. x.0) w.taken ++ (w.waiting ++ q ∷ [])
+  pending_push w q = append_assoc (map (λ (x : Served). x.0) w.taken) w.waiting (q ∷ [])
 
   -- ---- an answer of the server
-  drops_not : (refused : List ℕ) (q : Request P M D) (a : Answer D) → (answer_to refused q a ≡ Dropped → ⊥) → (y : ℕ) → has y q.rests ≡ true → has y (remembered q refused) ≡ true → ⊥
+  drops_not : (refused : List ℕ) (q : PendingRequest) (a : Answer) → (answer_to refused q a ≡ Dropped → ⊥) → (y : ℕ) → has y q.rests ≡ true → has y (remembered q refused) ≡ true → ⊥
   drops_not refused q a kept y carries there =
       elim (cases_Bool (is_dropped q (remembered q refused))) [
         | inl is ↦ kept (ap (λ b. cond b Dropped a) is)
         | inr no_drop ↦ not_dropped q (remembered q refused) no_drop y carries there
       ]
 
-  yes_fits : (refused : List ℕ) (q : Request P M D) (a : Answer D) → is_possible S.last q.ask a ≡ true → (m : M) (v : ℕ) (b : D) → q.ask ≡ Store m v b → answer_to refused q a ≡ Yes → v < S.last
+  yes_fits : (refused : List ℕ) (q : PendingRequest) (a : Answer) → is_possible S.last q.ask a ≡ true → (m : Bytes) (v : ℕ) (b : Bytes) → q.ask ≡ Store m v b → answer_to refused q a ≡ Yes → v < S.last
   yes_fits refused q a possible m v b ask says =
       elim (is_dropped q (remembered q refused)) as (λ t. cond t Dropped a ≡ Yes → v < S.last) [
         | true ↦ λ is. cc
         | false ↦ λ is. lt_of v S.last ((λ i. is_possible S.last (sym ask i) (sym is i)) ∙ possible)
       ] says
 
-  served_push : (w : World P M D) (x : Served P M D) → (w.given ++ w.taken) ++ x ∷ [] ≡ w.given ++ (w.taken ++ x ∷ [])
+  served_push : (w : World) (x : Served) → (w.given ++ w.taken) ++ x ∷ [] ≡ w.given ++ (w.taken ++ x ∷ [])
   served_push w x = append_assoc w.given w.taken (x ∷ [])
 
   -- ---- a reply
   -- a guess that the server accepted is undecided or committed
-  pub good_open : (es : List (Event (Entry P M D))) (d : ℕ) (served given : List (Served P M D)) (pending waiting : List (Request P M D)) (memory : List ℕ)
+  pub good_open : (es : List (Event Caused)) (d : ℕ) (served given : List Served) (pending waiting : List PendingRequest) (memory : List ℕ)
       (i : Invariant S start es d served given pending waiting memory) (x : ℕ) → i.base < x → x ≤ i.a → i.bad x ≡ false → is_lost S start es x ≡ true → ⊥
   good_open es d served given pending waiting memory i x above le good lost =
       let x_le : x ≤ d = (let a_le = queue_le i.made (undecided S start es) d i.base i.a waiting i.queue in omega arith) in
@@ -136,8 +147,8 @@ module _ {E V W F P M D : Type 0} (S : Table E V W F P M D) (start : FinMap S.or
         ]
       ]
 
-  pub not_void : (es : List (Event (Entry P M D))) (d : ℕ) (served given : List (Served P M D)) (pending waiting : List (Request P M D)) (memory : List ℕ)
-      → Invariant S start es d served given pending waiting memory → (x : Served P M D) → Contains served x → (x.1 ≡ Dropped → ⊥) → is_void S start es x.0 ≡ true → ⊥
+  pub not_void : (es : List (Event Caused)) (d : ℕ) (served given : List Served) (pending waiting : List PendingRequest) (memory : List ℕ)
+      → Invariant S start es d served given pending waiting memory → (x : Served) → Contains served x → (x.1 ≡ Dropped → ⊥) → is_void S start es x.0 ≡ true → ⊥
   not_void es d served given pending waiting memory i x there kept void =
       let y = any_from (is_lost S start es) x.0.rests void in
       let carries : has y.0 x.0.rests ≡ true = any_at (λ t. t == y.0) x.0.rests y.0 y.1 (eq-eqb y.0 y.0 refl) in
@@ -145,22 +156,22 @@ module _ {E V W F P M D : Type 0} (S : Table E V W F P M D) (start : FinMap S.or
       let k = s.known y.0 carries in
       good_open es d served given pending waiting memory i y.0 k.0 k.1 (s.kept kept y.0 carries) y.2
 
-module _ {E V W F P M D : Type 0} (S : Table E V W F P M D) (start : FinMap S.order V) (table : IsTable S start) (first old : World P M D) where
-  abbrev pub HasFacts : World P M D → Type 0
+module _ {E V W F : Type 0} (S : Table E V W F) (start : FinMap S.order V) (table : IsTable S start) (first old : World) where
+  abbrev pub HasFacts : World → Type 0
   HasFacts w = RequestFacts S start first old w.trace w.drawn w.kept w.next (served w) w.given w.waiting
 
-  abbrev pub Room : World P M D → Type 0
+  abbrev pub Room : World → Type 0
   Room w = places S start w.trace (pending w) ≤ S.limit
 
   -- all that is shown to hold after every event
-  abbrev pub All : World P M D → Type 0
+  abbrev pub All : World → Type 0
   All w = Holds S start table w × HasFacts w × Room w
 
-  kept_none : (w : World P M D) → HasFacts w → (p : P) (q : P) (x : Input D) → kept_for S p None w.kept q ≡ Some x → x ≡ Good → ⊥
+  kept_none : (w : World) → HasFacts w → (p : ℕ) (q : ℕ) (x : Input) → kept_for S p None w.kept q ≡ Some x → x ≡ Good → ⊥
   kept_none w t p q x =
       elim (S.same_process q p) as (λ b. cond b None (w.kept q) ≡ Some x → x ≡ Good → ⊥) [ true ↦ λ is _. cc | false ↦ t.answers q x ]
 
-  kept_some : (kept : P → Option (Input D)) → ((p : P) (x : Input D) → kept p ≡ Some x → x ≡ Good → ⊥) → (p : P) (ask : Ask M D) (c : Content D) (q : P) (x : Input D)
+  kept_some : (kept : ℕ → Option Input) → ((p : ℕ) (x : Input) → kept p ≡ Some x → x ≡ Good → ⊥) → (p : ℕ) (ask : Ask) (c : ContentView) (q : ℕ) (x : Input)
       → kept_for S p (Some (answer_kept ask c)) kept q ≡ Some x → x ≡ Good → ⊥
   kept_some kept answers p ask c q x =
       elim (S.same_process q p) as (λ b. cond b (Some (answer_kept ask c)) (kept q) ≡ Some x → x ≡ Good → ⊥) [
@@ -168,14 +179,14 @@ module _ {E V W F P M D : Type 0} (S : Table E V W F P M D) (start : FinMap S.or
         | false ↦ answers q x
       ]
 
-  room_step : (w : World P M D) (n : Entry P M D) → has_places S start 1 w ≡ true → n.guess ≡ None → places S start (w.trace ++ Taken n ∷ []) (pending w) ≤ S.limit
+  room_step : (w : World) (n : Caused) → has_places S start 1 w ≡ true → n.guess ≡ None → places S start (w.trace ++ Taken n ∷ []) (pending w) ≤ S.limit
   room_step w n room none =
       let le = leb-true (1 + places S start w.trace (pending w)) S.limit room in
       let more = places_step S start w.trace n (pending w) none in
       omega arith
 
   -- ---- turns
-  used_keeps : (w : World P M D) (p : P) (x : Input D) → (x ≡ Good → ⊥) → (S.next (state S start w.trace) p ≡ Due → x ≡ Nothing) → asks_for S start w p ≡ false → ((m : M) → IsNext S start table w p m → asks_on S start w m ≡ false) → All w → All (used S start w p x)
+  used_keeps : (w : World) (p : ℕ) (x : Input) → (x ≡ Good → ⊥) → (S.next (state S start w.trace) p ≡ Due → x ≡ inputs.None) → asks_for S start w p ≡ false → ((m : Bytes) → IsNext S start table w p m → asks_on S start w m ≡ false) → All w → All (used S start w p x)
   used_keeps w p x bad due none clear i =
       elim (has_places S start 1 w) as (λ t. has_places S start 1 w ≡ t → All (cond t (used_by S start w p x (outcome (kernel S) (state S start w.trace) (own p x))) w)) [
         | false ↦ λ _. i
@@ -193,7 +204,7 @@ module _ {E V W F P M D : Type 0} (S : Table E V W F P M D) (start : FinMap S.or
             ] refl
       ] refl
 
-  stepped_keeps : (w : World P M D) (p : P) (x : Input D) → (x ≡ Good → ⊥) → (S.next (state S start w.trace) p ≡ Due → x ≡ Nothing) → asks_for S start w p ≡ false → ((m : M) → IsNext S start table w p m → asks_on S start w m ≡ false) → has_places S start 1 w ≡ true → All w → All (stepped S start w (own p x))
+  stepped_keeps : (w : World) (p : ℕ) (x : Input) → (x ≡ Good → ⊥) → (S.next (state S start w.trace) p ≡ Due → x ≡ inputs.None) → asks_for S start w p ≡ false → ((m : Bytes) → IsNext S start table w p m → asks_on S start w m ≡ false) → has_places S start 1 w ≡ true → All w → All (stepped S start w (own p x))
   stepped_keeps w p x bad due none clear room i =
       elim (outcome (kernel S) (state S start w.trace) (own p x)) as (λ o. outcome (kernel S) (state S start w.trace) (own p x) ≡ o → All (stepped_by S start w (own p x) o)) [
         | Ok f ↦ λ is. (
@@ -205,8 +216,8 @@ module _ {E V W F P M D : Type 0} (S : Table E V W F P M D) (start : FinMap S.or
         | Err why ↦ λ is. i
       ] refl
 
-  guessed_keeps : (w : World P M D) (p : P) (ask : Ask M D) → Takes S (state S start w.trace) p ask Good → (S.next (state S start w.trace) p ≡ Due → ⊥)
-      → asks_for S start w p ≡ false → ((m : M) → IsNext S start table w p m → asks_on S start w m ≡ false) → All w → All (guessed S start w p ask)
+  guessed_keeps : (w : World) (p : ℕ) (ask : Ask) → Takes S (state S start w.trace) p ask Good → (S.next (state S start w.trace) p ≡ Due → ⊥)
+      → asks_for S start w p ≡ false → ((m : Bytes) → IsNext S start table w p m → asks_on S start w m ≡ false) → All w → All (guessed S start w p ask)
   guessed_keeps w p ask t not_due none clear i =
       let q = guess_request S start w p ask in
       let n = guess_entry S start w p ask in
@@ -228,7 +239,7 @@ module _ {E V W F P M D : Type 0} (S : Table E V W F P M D) (start : FinMap S.or
             )
       ] refl
 
-  asked_keeps : (w : World P M D) (p : P) (ask : Ask M D) → ReadyFor S start (state S start w.trace) p ask → (get (state S start w.trace) (S.proc p) ≡ None → ⊥)
+  asked_keeps : (w : World) (p : ℕ) (ask : Ask) → ReadyFor S start (state S start w.trace) p ask → (get (state S start w.trace) (S.proc p) ≡ None → ⊥)
       → asks_for S start w p ≡ false → asks_on S start w (name_of ask) ≡ false → All w → All (asked S start w p ask)
   asked_keeps w p ask ready there none free i =
       let q = ask_request S start w p ask in
@@ -247,15 +258,15 @@ module _ {E V W F P M D : Type 0} (S : Table E V W F P M D) (start : FinMap S.or
         )
       ] refl
 
-  fetched_keeps : (w : World P M D) (p : P) (m : M) (kept : Option (Input D)) (v : Option ℕ) → w.kept p ≡ kept → S.next (state S start w.trace) p ≡ Fetches m → S.cached (state S start w.trace) m ≡ v
-      → asks_for S start w p ≡ false → asks_on S start w m ≡ false → ((m : M) → IsNext S start table w p m → asks_on S start w m ≡ false) → All w → All (fetched S start w p m kept v)
+  fetched_keeps : (w : World) (p : ℕ) (m : Bytes) (kept : Option Input) (v : Option ℕ) → w.kept p ≡ kept → S.next (state S start w.trace) p ≡ Fetches m → S.cached (state S start w.trace) m ≡ v
+      → asks_for S start w p ≡ false → asks_on S start w m ≡ false → ((m : Bytes) → IsNext S start table w p m → asks_on S start w m ≡ false) → All w → All (fetched S start w p m kept v)
   fetched_keeps w p m (Some x) v has_kept next cached none free clear i = used_keeps w p x (i.1.answers p x has_kept) (λ due. (let both : Fetches m ≡ Due = sym next ∙ due in cc)) none clear i
   fetched_keeps w p m None (Some v) has_kept next cached none free clear i = guessed_keeps w p (Check m v) (table.fetch_good (state S start w.trace) p m v next cached) (λ due. (let both : Fetches m ≡ Due = sym next ∙ due in cc)) none clear i
   fetched_keeps w p m None None has_kept next cached none free clear i =
       asked_keeps w p (Get m) (λ c. table.fetch_fresh (state S start w.trace) p m c next) (table.fetch_there (state S start w.trace) p m next) none free i
 
-  stored_keeps : (w : World P M D) (p : P) (m : M) (b : D) (kept : Option (Input D)) (v : Option ℕ) → w.kept p ≡ kept → S.next (state S start w.trace) p ≡ Stores m b → S.cached (state S start w.trace) m ≡ v
-      → asks_for S start w p ≡ false → asks_on S start w m ≡ false → ((m : M) → IsNext S start table w p m → asks_on S start w m ≡ false) → All w → All (stored S start w p m b kept v)
+  stored_keeps : (w : World) (p : ℕ) (m : Bytes) (b : Bytes) (kept : Option Input) (v : Option ℕ) → w.kept p ≡ kept → S.next (state S start w.trace) p ≡ Stores m b → S.cached (state S start w.trace) m ≡ v
+      → asks_for S start w p ≡ false → asks_on S start w m ≡ false → ((m : Bytes) → IsNext S start table w p m → asks_on S start w m ≡ false) → All w → All (stored S start w p m b kept v)
   stored_keeps w p m b (Some x) v has_kept next cached none free clear i = used_keeps w p x (i.1.answers p x has_kept) (λ due. (let both : Stores m b ≡ Due = sym next ∙ due in cc)) none clear i
   stored_keeps w p m b None (Some v) has_kept next cached none free clear i =
       let s = state S start w.trace in
@@ -268,17 +279,17 @@ module _ {E V W F P M D : Type 0} (S : Table E V W F P M D) (start : FinMap S.or
       let s = state S start w.trace in
       asked_keeps w p (Store m zero b) (table.store_good (record_of (kernel S) start w.trace) p m b zero (legal_of (kernel S) start w.trace i.0.sound) next (ap or_zero cached), λ c. table.store_stale s p m b zero c next) (table.store_there s p m b next) none free i
 
-  other_keeps : (w : World P M D) (p : P) (kept : Option (Input D)) → w.kept p ≡ kept → S.next (state S start w.trace) p ≡ Else → asks_for S start w p ≡ false → ((m : M) → IsNext S start table w p m → asks_on S start w m ≡ false) → All w → All (other S start w p kept)
+  other_keeps : (w : World) (p : ℕ) (kept : Option Input) → w.kept p ≡ kept → S.next (state S start w.trace) p ≡ Else → asks_for S start w p ≡ false → ((m : Bytes) → IsNext S start table w p m → asks_on S start w m ≡ false) → All w → All (other S start w p kept)
   other_keeps w p (Some x) has_kept next none clear i = used_keeps w p x (i.1.answers p x has_kept) (λ due. (let both : Else ≡ Due = sym next ∙ due in cc)) none clear i
   other_keeps w p None has_kept next none clear i =
-      elim (has_places S start 1 w) as (λ t. has_places S start 1 w ≡ t → All (cond t (stepped S start w (own p Nothing)) w)) [
+      elim (has_places S start 1 w) as (λ t. has_places S start 1 w ≡ t → All (cond t (stepped S start w (own p inputs.None)) w)) [
         | false ↦ λ _. i
-        | true ↦ λ room. stepped_keeps w p Nothing (λ is. cc) (λ _. refl) none clear room i
+        | true ↦ λ room. stepped_keeps w p inputs.None (λ is. cc) (λ _. refl) none clear room i
       ] refl
 
-  turned_keeps : (w : World P M D) (p : P) (next : Next M D) → S.next (state S start w.trace) p ≡ next → asks_for S start w p ≡ false → All w → All (turned S start w p next)
+  turned_keeps : (w : World) (p : ℕ) (next : Next) → S.next (state S start w.trace) p ≡ next → asks_for S start w p ≡ false → All w → All (turned S start w p next)
   turned_keeps w p Halted is none i = i
-  turned_keeps w p Due is none i = used_keeps w p Nothing (λ is. cc) (λ _. refl) none (λ m next. elim next [ inl f ↦ (let same : Due ≡ Fetches m = sym is ∙ f in cc) | inr s ↦ (let same : Due ≡ Stores m s.0 = sym is ∙ s.1 in cc) ]) i
+  turned_keeps w p Due is none i = used_keeps w p inputs.None (λ is. cc) (λ _. refl) none (λ m next. elim next [ inl f ↦ (let same : Due ≡ Fetches m = sym is ∙ f in cc) | inr s ↦ (let same : Due ≡ Stores m s.0 = sym is ∙ s.1 in cc) ]) i
   turned_keeps w p (Fetches m) is none i =
       elim (asks_on S start w m) as (λ t. asks_on S start w m ≡ t → All (cond t w (fetched S start w p m (w.kept p) (S.cached (state S start w.trace) m)))) [
         | true ↦ λ _. i
@@ -299,7 +310,7 @@ module _ {E V W F P M D : Type 0} (S : Table E V W F P M D) (start : FinMap S.or
       ] refl
   turned_keeps w p Else is none i = other_keeps w p (w.kept p) refl is none (λ m next. elim next [ inl f ↦ (let same : Else ≡ Fetches m = sym is ∙ f in cc) | inr s ↦ (let same : Else ≡ Stores m s.0 = sym is ∙ s.1 in cc) ]) i
 
-  answer_keeps : (w : World P M D) (says : Answer D) (q : Request P M D) (qs : List (Request P M D)) → w.waiting ≡ q ∷ qs → is_possible S.last q.ask says ≡ true → All w
+  answer_keeps : (w : World) (says : Answer) (q : PendingRequest) (qs : List PendingRequest) → w.waiting ≡ q ∷ qs → is_possible S.last q.ask says ≡ true → All w
       → All (answered S start w q qs (answer_to w.refused q says))
   answer_keeps w says q qs is possible i =
       let ans = answer_to w.refused q says in
@@ -328,13 +339,13 @@ module _ {E V W F P M D : Type 0} (S : Table E V W F P M D) (start : FinMap S.or
             (drops_not S start table w.refused q says) keeps joins (yes_fits S start table w.refused q says possible)
       ] refl in (
         subst (λ xs. Invariant S start w.trace w.drawn xs w.given (map (λ x. x.0) (w.taken ++ (q, ans) ∷ []) ++ qs) qs memory) (served_push S start table w (q, ans))
-            (subst (λ ps. Invariant S start w.trace w.drawn (served w ++ (q, ans) ∷ []) w.given ps qs memory) (sym (map_push (λ (x : Served P M D). x.0) w.taken (q, ans) qs)) answers),
+            (subst (λ ps. Invariant S start w.trace w.drawn (served w ++ (q, ans) ∷ []) w.given ps qs memory) (sym (map_push (λ (x : Served). x.0) w.taken (q, ans) qs)) answers),
         subst (λ xs. RequestFacts S start first old w.trace w.drawn w.kept w.next xs w.given qs) (served_push S start table w (q, ans))
             (facts_serve S start first old w.trace w.drawn w.kept w.next (served w) w.given q ans qs (subst (λ ws. RequestFacts S start first old w.trace w.drawn w.kept w.next (served w) w.given ws) is i.1)),
-        subst (λ ps. places S start w.trace ps ≤ S.limit) (ap (λ ws. map (λ (x : Served P M D). x.0) w.taken ++ ws) is ∙ sym (map_push (λ (x : Served P M D). x.0) w.taken (q, ans) qs)) i.2,
+        subst (λ ps. places S start w.trace ps ≤ S.limit) (ap (λ ws. map (λ (x : Served). x.0) w.taken ++ ws) is ∙ sym (map_push (λ (x : Served). x.0) w.taken (q, ans) qs)) i.2,
       )
 
-  serve_keeps : (w : World P M D) (says : Answer D) (qs : List (Request P M D)) → w.waiting ≡ qs → All w → All (serve S start w says qs)
+  serve_keeps : (w : World) (says : Answer) (qs : List PendingRequest) → w.waiting ≡ qs → All w → All (serve S start w says qs)
   serve_keeps w says [] is i = i
   serve_keeps w says (q ∷ qs) is i =
       elim (is_possible S.last q.ask says) as (λ t. is_possible S.last q.ask says ≡ t → All (cond t (answered S start w q qs (answer_to w.refused q says)) w)) [
@@ -343,14 +354,14 @@ module _ {E V W F P M D : Type 0} (S : Table E V W F P M D) (start : FinMap S.or
       ] refl
 
   -- the reply x is given, and the trace is now es
-  finish : (w : World P M D) (x : Served P M D) (rest : List (Served P M D)) (es : List (Event (Entry P M D))) (kept : P → Option (Input D))
-      → (x.1 ≡ Yes → (m : M) (v : ℕ) (b : D) → x.0.ask ≡ Store m v b → x.0.guess ≡ None → HasStep S start (record_of (kernel S) start es) x.0)
+  finish : (w : World) (x : Served) (rest : List Served) (es : List (Event Caused)) (kept : ℕ → Option Input)
+      → (x.1 ≡ Yes → (m : Bytes) (v : ℕ) (b : Bytes) → x.0.ask ≡ Store m v b → x.0.guess ≡ None → HasStep S start (record_of (kernel S) start es) x.0)
       → Invariant S start es w.drawn (w.given ++ x ∷ rest) w.given (map (λ x. x.0) rest ++ w.waiting) w.waiting w.refused
       → RequestFacts S start first old es w.drawn kept w.next (w.given ++ x ∷ rest) (w.given ++ x ∷ []) w.waiting
       → places S start es (map (λ x. x.0) rest ++ w.waiting) ≤ S.limit
       → All (with_kept (with_trace (with_given w x rest) es) kept)
   finish w x rest es kept stands i t room =
-      let ps = map (λ (x : Served P M D). x.0) rest ++ w.waiting in
+      let ps = map (λ (x : Served). x.0) rest ++ w.waiting in
       let same = sym (append_assoc w.given (x ∷ []) rest) in (
         subst (λ xs. Invariant S start es w.drawn xs (w.given ++ x ∷ []) ps w.waiting w.refused) same
             (inv_done S start table es w.drawn (w.given ++ x ∷ rest) w.given ps w.waiting w.refused x
@@ -360,33 +371,33 @@ module _ {E V W F P M D : Type 0} (S : Table E V W F P M D) (start : FinMap S.or
       )
 
   -- the reply to a guess: nothing asked hangs on it
-  no_asked : (w : World P M D) (q : Request P M D) (g : ℕ) → q.guess ≡ Some g → (es : List (Event (Entry P M D))) (a : Answer D)
-      → a ≡ Yes → (m : M) (v : ℕ) (b : D) → q.ask ≡ Store m v b → q.guess ≡ None → HasStep S start (record_of (kernel S) start es) q
+  no_asked : (w : World) (q : PendingRequest) (g : ℕ) → q.guess ≡ Some g → (es : List (Event Caused)) (a : Answer)
+      → a ≡ Yes → (m : Bytes) (v : ℕ) (b : Bytes) → q.ask ≡ Store m v b → q.guess ≡ None → HasStep S start (record_of (kernel S) start es) q
   no_asked w q g its es a _ m v b _ asks = absurd (no_guess q.guess g asks its)
 
   -- a world whose first reply is x, before it is given
-  pub record Replies (w : World P M D) (x : Served P M D) (rest : List (Served P M D)) (ps : List (Request P M D)) : Type 0 where
+  pub record Replies (w : World) (x : Served) (rest : List Served) (ps : List PendingRequest) : Type 0 where
     pub holds : Invariant S start w.trace w.drawn (w.given ++ x ∷ rest) w.given ps w.waiting w.refused
     pub facts : RequestFacts S start first old w.trace w.drawn w.kept w.next (w.given ++ x ∷ rest) w.given w.waiting
     pub room : places S start w.trace ps ≤ S.limit
 
-  refused_is : (w : World P M D) (x : Served P M D) (rest : List (Served P M D)) (ps : List (Request P M D)) (g : ℕ) → x.0.guess ≡ Some g
+  refused_is : (w : World) (x : Served) (rest : List Served) (ps : List PendingRequest) (g : ℕ) → x.0.guess ≡ Some g
       → (i : Replies w x rest ps) → i.holds.bad g ≡ not (is_accepted x.1)
   refused_is w x rest ps g its i = ((i.holds.answers x (Contains-append_right w.given (x ∷ rest) x (cons_first x rest))).own g its).3
 
-  room_fail : (w : World P M D) (g : ℕ) (ps : List (Request P M D)) → IsSound (kernel S) start w.trace → has g (undecided S start w.trace) ≡ true → places S start w.trace ps ≤ S.limit
+  room_fail : (w : World) (g : ℕ) (ps : List PendingRequest) → IsSound (kernel S) start w.trace → has g (undecided S start w.trace) ≡ true → places S start w.trace ps ≤ S.limit
       → places S start (w.trace ++ Fail g ∷ []) ps ≤ S.limit
   room_fail w g ps sound is_open was =
       let le = places_fail S start w.trace g ps (sound_fail (kernel S) start table.total table.exact w.trace g sound ((undecided_is (kernel S) start w.trace sound g).0 is_open)) is_open in
       omega arith
 
-  decided_keeps : (w : World P M D) (q : Request P M D) (ans : Answer D) (rest : List (Served P M D)) (g : ℕ) → q.guess ≡ Some g → has g (undecided S start w.trace) ≡ true
+  decided_keeps : (w : World) (q : PendingRequest) (ans : Answer) (rest : List Served) (g : ℕ) → q.guess ≡ Some g → has g (undecided S start w.trace) ≡ true
       → Replies w (q, ans) rest (map (λ x. x.0) rest ++ w.waiting) → All (decided S start (with_given w (q, ans) rest) q g ans)
   decided_keeps w q Yes rest g its is_open i =
       finish w (q, Yes) rest (w.trace ++ Commit g ∷ []) w.kept (no_asked w q g its (w.trace ++ Commit g ∷ []) Yes)
       (inv_commit S start table w.trace w.drawn (w.given ++ (q, Yes) ∷ rest) w.given (map (λ x. x.0) rest ++ w.waiting) w.waiting w.refused g i.holds is_open)
       (facts_commit S start first old w.trace w.drawn w.kept w.next (w.given ++ (q, Yes) ∷ rest) w.given w.waiting i.facts q g its)
-      (let le = places_commit S start w.trace g (map (λ (x : Served P M D). x.0) rest ++ w.waiting) is_open in let was = i.room in omega arith)
+      (let le = places_commit S start w.trace g (map (λ (x : Served). x.0) rest ++ w.waiting) is_open in let was = i.room in omega arith)
   decided_keeps w q (No c) rest g its is_open i =
       finish w (q, No c) rest (w.trace ++ Fail g ∷ []) (kept_for S q.process (Some (answer_kept q.ask c)) w.kept) (no_asked w q g its (w.trace ++ Fail g ∷ []) (No c))
       (inv_fail S start table w.trace w.drawn (w.given ++ (q, No c) ∷ rest) w.given (map (λ x. x.0) rest ++ w.waiting) w.waiting w.refused g i.holds
@@ -394,7 +405,7 @@ module _ {E V W F P M D : Type 0} (S : Table E V W F P M D) (start : FinMap S.or
       (facts_kept S start first old (w.trace ++ Fail g ∷ []) w.drawn w.kept w.next (w.given ++ (q, No c) ∷ rest) (w.given ++ (q, No c) ∷ []) w.waiting
       (facts_fail S start first old w.trace w.drawn w.kept w.next (w.given ++ (q, No c) ∷ rest) w.given w.waiting i.facts (q, No c) g (λ is. cc))
       (kept_for S q.process (Some (answer_kept q.ask c)) w.kept) (kept_some w.kept i.facts.answers q.process q.ask c))
-      (room_fail w g (map (λ (x : Served P M D). x.0) rest ++ w.waiting) i.holds.sound is_open i.room)
+      (room_fail w g (map (λ (x : Served). x.0) rest ++ w.waiting) i.holds.sound is_open i.room)
   decided_keeps w q (Copy c) rest g its is_open i =
       finish w (q, Copy c) rest w.trace w.kept (no_asked w q g its w.trace (Copy c)) i.holds
       (facts_none S start first old w.trace w.drawn w.kept w.next (w.given ++ (q, Copy c) ∷ rest) w.given w.waiting i.facts (q, Copy c) (λ h is. cc)) i.room
@@ -403,20 +414,20 @@ module _ {E V W F P M D : Type 0} (S : Table E V W F P M D) (start : FinMap S.or
       (inv_fail S start table w.trace w.drawn (w.given ++ (q, Dropped) ∷ rest) w.given (map (λ x. x.0) rest ++ w.waiting) w.waiting w.refused g i.holds
       (refused_is w (q, Dropped) rest (map (λ x. x.0) rest ++ w.waiting) g its i) is_open)
       (facts_fail S start first old w.trace w.drawn w.kept w.next (w.given ++ (q, Dropped) ∷ rest) w.given w.waiting i.facts (q, Dropped) g (λ is. cc))
-      (room_fail w g (map (λ (x : Served P M D). x.0) rest ++ w.waiting) i.holds.sound is_open i.room)
+      (room_fail w g (map (λ (x : Served). x.0) rest ++ w.waiting) i.holds.sound is_open i.room)
 
   -- the pending request is dropped
-  dropped : (w : World P M D) (q : Request P M D) (ans : Answer D) (rest : List (Served P M D)) → Replies w (q, ans) rest (q ∷ (map (λ x. x.0) rest ++ w.waiting))
+  dropped : (w : World) (q : PendingRequest) (ans : Answer) (rest : List Served) → Replies w (q, ans) rest (q ∷ (map (λ x. x.0) rest ++ w.waiting))
       → Replies w (q, ans) rest (map (λ x. x.0) rest ++ w.waiting)
   dropped w q ans rest i = record {
     holds = inv_drop S start table w.trace w.drawn (w.given ++ (q, ans) ∷ rest) w.given q (map (λ x. x.0) rest ++ w.waiting) w.waiting w.refused i.holds;
     facts = i.facts;
-    room = (let le = asked_le q.guess (asked_count (map (λ (x : Served P M D). x.0) rest ++ w.waiting)) in let was = i.room in omega arith);
+    room = (let le = asked_le q.guess (asked_count (map (λ (x : Served). x.0) rest ++ w.waiting)) in let was = i.room in omega arith);
   }
 
   -- a reply that leaves the kernel as it is
-  unchanged : (w : World P M D) (q : Request P M D) (ans : Answer D) (rest : List (Served P M D))
-      → (ans ≡ Yes → (m : M) (v : ℕ) (b : D) → q.ask ≡ Store m v b → q.guess ≡ None → HasStep S start (record_of (kernel S) start w.trace) q)
+  unchanged : (w : World) (q : PendingRequest) (ans : Answer) (rest : List Served)
+      → (ans ≡ Yes → (m : Bytes) (v : ℕ) (b : Bytes) → q.ask ≡ Store m v b → q.guess ≡ None → HasStep S start (record_of (kernel S) start w.trace) q)
       → ((g : ℕ) → ans ≡ Yes → q.guess ≡ Some g → Contains w.trace (Commit g))
       → Replies w (q, ans) rest (q ∷ (map (λ x. x.0) rest ++ w.waiting)) → All (with_given w (q, ans) rest)
   unchanged w q ans rest stands committed i =
@@ -424,7 +435,7 @@ module _ {E V W F P M D : Type 0} (S : Table E V W F P M D) (start : FinMap S.or
       (facts_none S start first old w.trace w.drawn w.kept w.next (w.given ++ (q, ans) ∷ rest) w.given w.waiting i.facts (q, ans) committed) (dropped w q ans rest i).room
 
   -- the record of a world after the step of an asked request
-  asked_step : (w : World P M D) (q : Request P M D) (ans : Answer D) (rest : List (Served P M D)) (x : Input D) → q.guess ≡ None → input_of q.ask ans ≡ Some x
+  asked_step : (w : World) (q : PendingRequest) (ans : Answer) (rest : List Served) (x : Input) → q.guess ≡ None → input_of q.ask ans ≡ Some x
       → (i : Replies w (q, ans) rest (q ∷ (map (λ x. x.0) rest ++ w.waiting)))
       → Ready S start (record_of (kernel S) start w.trace) (undecided S start w.trace) q
       → All (stepped S start (with_given w (q, ans) rest) (asked_entry q x))
@@ -432,7 +443,7 @@ module _ {E V W F P M D : Type 0} (S : Table E V W F P M D) (start : FinMap S.or
       let K = kernel S in
       let ns = record_of K start w.trace in
       let us = undecided S start w.trace in
-      let ps = map (λ (x : Served P M D). x.0) rest ++ w.waiting in
+      let ps = map (λ (x : Served). x.0) rest ++ w.waiting in
       let n = asked_entry q x in
       let s = i.holds.answers (q, ans) (Contains-append_right w.given ((q, ans) ∷ rest) (q, ans) (cons_first (q, ans) rest)) in
       let t : Takes S (run K start ns) q.process q.ask x = takes_by S start (run K start ns) q.process q.ask ans x ready.step input s.fits in
@@ -440,10 +451,10 @@ module _ {E V W F P M D : Type 0} (S : Table E V W F P M D) (start : FinMap S.or
       (dropped w q ans rest i).holds t.accepted refl
       (λ y there hits r cause.
       let same : q ≡ r = cc in
-      subst (λ (r : Request P M D). (has y r.rests ≡ true) ⊎ (r.guess ≡ Some y)) same
+      subst (λ (r : PendingRequest). (has y r.rests ≡ true) ⊎ (r.guess ≡ Some y)) same
       (elim (tags_of_step S start table ns us q.process (name_of q.ask) q.rests None t.effect t.reads t.writes ready.covers y (inl there) hits) [ inl carries ↦ inl carries | inr none ↦ cc ]))
-      (λ r cause. (let same : q ≡ r = cc in ap (λ (r : Request P M D). r.process) same))
-      (λ r cause good. (let same : q ≡ r = cc in subst (λ (r : Request P M D). Sets S r.ask Good t.effect.written) same (subst (λ x. Sets S q.ask x t.effect.written) good t.sets)))
+      (λ r cause. (let same : q ≡ r = cc in ap (λ (r : PendingRequest). r.process) same))
+      (λ r cause good. (let same : q ≡ r = cc in subst (λ (r : PendingRequest). Sets S r.ask Good t.effect.written) same (subst (λ x. Sets S q.ask x t.effect.written) good t.sets)))
       (λ r there r_asks _.
       let own = i.holds.apart.0 r there asks r_asks in (
         λ writes. elim (t.writes (S.proc r.process) writes) [ inl same ↦ own.0 (sym (table.processes r.process q.process same)) | inr copies ↦ table.apart r.process (name_of q.ask) copies ],
@@ -463,7 +474,7 @@ module _ {E V W F P M D : Type 0} (S : Table E V W F P M D) (start : FinMap S.or
       let more = places_step S start w.trace n ps refl in
       omega arith))
 
-  stepped_for_keeps : (w : World P M D) (q : Request P M D) (ans : Answer D) (rest : List (Served P M D)) (o : Option (Input D)) → q.guess ≡ None → input_of q.ask ans ≡ o
+  stepped_for_keeps : (w : World) (q : PendingRequest) (ans : Answer) (rest : List Served) (o : Option Input) → q.guess ≡ None → input_of q.ask ans ≡ o
       → Replies w (q, ans) rest (q ∷ (map (λ x. x.0) rest ++ w.waiting))
       → Ready S start (record_of (kernel S) start w.trace) (undecided S start w.trace) q
       → All (stepped_for S start (with_given w (q, ans) rest) q o)
@@ -472,10 +483,10 @@ module _ {E V W F P M D : Type 0} (S : Table E V W F P M D) (start : FinMap S.or
       unchanged w q ans rest (λ says m v b ask _. (let both : Some Good ≡ None = (λ j. input_of (sym ask j) (sym says j)) ∙ input in cc))
       (λ g says its. absurd (no_guess q.guess g asks its)) i
 
-  given_keeps : (w : World P M D) (q : Request P M D) (ans : Answer D) (rest : List (Served P M D)) (o : Option ℕ) → q.guess ≡ o
+  given_keeps : (w : World) (q : PendingRequest) (ans : Answer) (rest : List Served) (o : Option ℕ) → q.guess ≡ o
       → Replies w (q, ans) rest (q ∷ (map (λ x. x.0) rest ++ w.waiting)) → All (given_to S start (with_given w (q, ans) rest) q ans o)
   given_keeps w q ans rest (Some g) its i =
-      let ps = map (λ (x : Served P M D). x.0) rest ++ w.waiting in
+      let ps = map (λ (x : Served). x.0) rest ++ w.waiting in
       elim (has g (undecided S start w.trace)) as (λ t. has g (undecided S start w.trace) ≡ t → All (cond t (decided S start (with_given w (q, ans) rest) q g ans) (with_given w (q, ans) rest))) [
         | true ↦ λ is_open. decided_keeps w q ans rest g its is_open (dropped w q ans rest i)
         | false ↦ λ shut. unchanged w q ans rest (no_asked w q g its w.trace ans)
@@ -491,7 +502,7 @@ module _ {E V W F P M D : Type 0} (S : Table E V W F P M D) (start : FinMap S.or
             ]) i
       ] refl
   given_keeps w q ans rest None asks i =
-      let ps = map (λ (x : Served P M D). x.0) rest ++ w.waiting in
+      let ps = map (λ (x : Served). x.0) rest ++ w.waiting in
       elim (is_void S start w.trace q) as (λ t. is_void S start w.trace q ≡ t → All (cond t (with_given w (q, ans) rest) (stepped_for S start (with_given w (q, ans) rest) q (input_of q.ask ans)))) [
         | true ↦ λ void.
             unchanged w q ans rest
@@ -505,7 +516,7 @@ module _ {E V W F P M D : Type 0} (S : Table E V W F P M D) (start : FinMap S.or
             ]
       ] refl
 
-  reply_keeps : (w : World P M D) (xs : List (Served P M D)) → w.taken ≡ xs → All w → All (reply S start w xs)
+  reply_keeps : (w : World) (xs : List Served) → w.taken ≡ xs → All w → All (reply S start w xs)
   reply_keeps w [] is i = i
   reply_keeps w (x ∷ rest) is i =
       given_keeps w x.0 x.1 rest x.0.guess refl (record {
@@ -515,7 +526,7 @@ module _ {E V W F P M D : Type 0} (S : Table E V W F P M D) (start : FinMap S.or
       })
 
   -- ---- every event
-  pub event_keeps : (w : World P M D) (e : WorldEvent P M D) → All w → All (event S start w e)
+  pub event_keeps : (w : World) (e : WorldEvent) → All w → All (event S start w e)
   event_keeps w (Turn p) i =
       elim (asks_for S start w p) as (λ t. asks_for S start w p ≡ t → All (cond t w (turned S start w p (S.next (state S start w.trace) p)))) [
         | true ↦ λ _. i
@@ -524,6 +535,6 @@ module _ {E V W F P M D : Type 0} (S : Table E V W F P M D) (start : FinMap S.or
   event_keeps w (Serve says) i = serve_keeps w says w.waiting refl i
   event_keeps w Reply i = reply_keeps w w.taken refl i
 
-  pub all_keep : (es : List (WorldEvent P M D)) (w : World P M D) → All w → All (world_after S start w es)
+  pub all_keep : (es : List WorldEvent) (w : World) → All w → All (world_after S start w es)
   all_keep [] w i = i
   all_keep (e ∷ es) w i = all_keep es (event S start w e) (event_keeps w e i)

@@ -6,6 +6,7 @@ pub mod WorldView
 pub mod Exchanges
 pub mod Ready
 pub mod AcceptedStores
+pub mod Replied
 pub mod AskedSteps
 pub mod Writes
 pub mod Upcoming

@@ -1,12 +1,12 @@
 //! What holds of a kernel with its desk and a server, after every list of turns, replies and foreign edits. Each law is
 //! the contract of a function that does nothing.
-ghost use Rattle.std.specs.Prelude.{◌≡◌, ℕ, List, [], ◌++◌, Some, None, Result};
+ghost use Rattle.std.specs.Prelude.{◌≡◌, ℕ, length, List, [], ◌++◌, Some, None, Result};
 ghost use Rattle.sk_script.specs.Boot.{BootView};
 ghost use Rattle.sk_guesses.specs.Token.{Token};
 ghost use Rattle.sk_script.specs.declared.instruction.Input.{Input};
 ghost use Rattle.sk_trace.specs.declared.event.Event.TheVariants as events;
 ghost use Rattle.sk_plain.specs.declared.refusal.Refusal.{Refusal};
-ghost use Rattle.sk_kernel.specs.Kernel.{KernelView, booted, next_guess, step_refused, guess_refused};
+ghost use Rattle.sk_kernel.specs.Kernel.{KernelView, booted, record_at, next_guess, step_refused, guess_refused};
 ghost use Rattle.sk_kernel.specs.Calls.{StepPost, GuessPost, CommitPost, FailPost};
 ghost use Rattle.sk_kernel.specs.declared.kernel.Outcome.{Outcome};
 ghost use Rattle.sk_kernel.specs.declared.kernel.Stranger.{Stranger};
@@ -18,6 +18,7 @@ ghost use Rattle.sk_client.specs.Exchanges.{Exchanges, Leads};
 ghost use Rattle.sk_client.specs.Ready.{WasBooted, IsReady};
 ghost use Rattle.sk_client.specs.AcceptedStores.{StoresStand, StoresStood, StandApart};
 ghost use Rattle.sk_client.specs.AskedSteps.{StepsAreTaken, ForgottenAreDropped};
+ghost use Rattle.sk_client.specs.Replied.{StepsAreReplied, PlacesAreKept};
 ghost use Rattle.sk_client.specs.Writes.{writes_of, AreWritten};
 ghost use Rattle.sk_client.specs.WorldView.{WorldView, joined};
 ghost use Rattle.sk_client.specs.declared.world.WorldEvent.{WorldEvent};
@@ -58,6 +59,25 @@ pub fn apart()
     ensures { (k : KernelView) (server : ServerView) → IsReady k → server.next ≡ 1 → server.refused ≡ []
         → (es : List WorldEvent) (served : Exchanges) (v : WorldView) → Leads (joined (opened k) server) es served v
         → (later : List WorldEvent) (more : Exchanges) (last : WorldView) → Leads v later more last → StandApart served v last }
+{}
+
+/// The steps that a record has since the world began, that were given Good and that were asked or whose guess committed, and
+/// the accepted requests whose reply was given, are one for one: each of the steps is that of such a request, each such
+/// request that was made with a guess or is a store has its step, and no two have one. A store's step sets the copy, a
+/// check's leaves it, and no fetch of a copy that is not there has one. And it is by its request's process: said of the
+/// requests that were pending after the first list.
+pub fn replied()
+    ensures { (k : KernelView) (server : ServerView) → IsReady k → server.next ≡ 1 → server.refused ≡ []
+        → (es : List WorldEvent) (served : Exchanges) (v : WorldView) → Leads (joined (opened k) server) es served v
+        → (later : List WorldEvent) (more : Exchanges) (last : WorldView) → Leads v later more last
+        → StepsAreReplied (length (record_at k)) (served ++ more) v last }
+{}
+
+/// The trace keeps its limit, with a place for the decision of each undecided guess and for the step of each asked request.
+pub fn places()
+    ensures { (k : KernelView) (server : ServerView) → IsReady k → server.next ≡ 1 → server.refused ≡ []
+        → (es : List WorldEvent) (served : Exchanges) (v : WorldView) → Leads (joined (opened k) server) es served v
+        → PlacesAreKept v }
 {}
 
 /// No asked step is left out: after any list of a world's events, a reply that is answered by `Taken` has its step

@@ -24,7 +24,6 @@ use Rattle.sk_client.proofs.CausedWorld.{World, kernel, state, pending as law_pe
 use Rattle.sk_client.proofs.Each.{cons_first}
 use Rattle.sk_client.proofs.AskedSteps.{answered_whole, asked_are_taken}
 use Rattle.sk_client.proofs.First.{places_are_kept}
-use Rattle.sk_client.specs.Table.{Bytes}
 use Rattle.sk_client.proofs.WorldTable.{table}
 use Rattle.sk_client.proofs.DeskFacts.{reply_free, given_reply}
 use Rattle.sk_client.specs.Desk.{DeskView, opened, entry, fits_ask, is_void, input_of, stepped, answered, given_to, given, decision_answer, step_answer, answer_to, given_answer}

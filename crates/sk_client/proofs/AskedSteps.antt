@@ -21,7 +21,6 @@ use Rattle.sk_client.proofs.Queues.{any_of}
 use Rattle.sk_client.proofs.Worlds.{takes_by, not_void}
 use Rattle.sk_client.proofs.RequestFacts.{in_map}
 use Rattle.sk_client.proofs.First.{all_after}
-use Rattle.sk_client.specs.Table.{Bytes}
 
 -- a dropped request gets no input
 dropped_gets : (ask : Ask) → input_of ask Dropped ≡ None
@@ -38,7 +37,7 @@ module _ {E V W F : Type 0} (S : Table E V W F) (start : FinMap S.order V) (tabl
       → is_void S start (world_after S start first es).trace x.0 ≡ true → ⊥
   answered_whole first is es x there kept =
       let w = world_after S start first es in
-      not_void S start table w.trace w.drawn (served w) w.given (pending w) w.waiting w.refused (all_after S start table first is es).0 x
+      not_void S start table w.trace w.drawn (served w) w.given (pending w) w.waiting w.server.refused (all_after S start table first is es).0 x
       (Contains-append_right w.given w.taken x there) kept
 
   -- the trace takes a step that is accepted

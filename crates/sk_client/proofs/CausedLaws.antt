@@ -1,5 +1,5 @@
 -- What the instruction table has to say, what holds where a world begins, and the laws.
-use Rattle.std.specs.Prelude.{length, ◌≡◌, ℕ, suc, ◌≤◌, ◌<◌, true, List, [], ◌∷◌, ◌++◌, map, Option, Some, None, Ok, IsOk, ◌⊎◌, slice_get}
+use Rattle.std.specs.Prelude.{length, ◌≡◌, ℕ, suc, ◌≤◌, ◌<◌, List, [], ◌∷◌, ◌++◌, map, Option, Some, None, Ok, IsOk, ◌⊎◌, slice_get}
 use Rattle.std.specs.List.{Contains}
 use Rattle.std.specs.Cmp.{IsTotalOrder}
 use Rattle.std.specs.FinMap.{FinMap, get, IsAntisymmetric}
@@ -20,6 +20,7 @@ use Rattle.sk_client.specs.Desk.{name_of}
 use Rattle.sk_script.specs.declared.instruction.Input.TheVariants as inputs
 use Rattle.sk_client.proofs.CausedWorld.{Due, Fetches, Stores, Table, World, WorldEvent, Reply, kernel, own, asked_entry, input_of, state, undecided, pending, served, places, event, world_after, or_zero}
 use Rattle.sk_client.specs.Table.{Bytes}
+use Rattle.sk_objects.specs.declared.content.TheConstants.{LAST_VERSION}
 
 -- a request was made with a guess, or is a store
 abbrev pub IsStepped : PendingRequest → Type 0
@@ -53,10 +54,9 @@ module _ {E V W F : Type 0} (S : Table E V W F) where
   module _ (start : FinMap S.order V) where
     -- the instruction table, as far as the laws need it
     pub record IsTable : Type 0 where
+      pub last : S.last ≡ LAST_VERSION
       pub total : IsTotalOrder S.order
       pub exact : IsAntisymmetric S.order
-      pub same_process : (p : ℕ) → S.same_process p p ≡ true
-      pub same_name : (m : Bytes) → S.same_name m m ≡ true
       pub apart : (p : ℕ) (m : Bytes) → S.proc p ≡ S.copy m → ⊥
       pub processes : (p q : ℕ) → S.proc p ≡ S.proc q → p ≡ q
       pub copies : (m n : Bytes) → S.copy m ≡ S.copy n → m ≡ n
@@ -102,8 +102,8 @@ module _ {E V W F : Type 0} (S : Table E V W F) where
       pub waiting : w.waiting ≡ []
       pub taken : w.taken ≡ []
       pub given : w.given ≡ []
-      pub refused : w.refused ≡ []
-      pub kept : (p : ℕ) → w.kept p ≡ None
+      pub refused : w.server.refused ≡ []
+      pub kept : w.kept ≡ []
       pub room : length w.trace ≤ S.limit
 
     -- the entries of the record, each with what its step did

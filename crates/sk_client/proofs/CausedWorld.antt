@@ -15,12 +15,14 @@ use Rattle.sk_server.specs.declared.request.Ask.{Ask}
 use Rattle.sk_server.specs.declared.request.Ask.TheVariants.{Get, Check, Store}
 use Rattle.sk_server.specs.declared.reply.Answer.{Answer}
 use Rattle.sk_server.specs.declared.reply.Answer.TheVariants.{Yes, No, Copy, Dropped}
-use Rattle.sk_client.specs.Desk.{name_of}
+use Rattle.sk_client.specs.Desk.{name_of, sent, kept_for, forgotten, with_kept as kept_with, asks_for, asks_on}
 use Rattle.sk_client.specs.declared.pending.PendingRequest.{PendingRequest}
 use Rattle.sk_client.proofs.CausedRequests.{Own, For, Caused, Served}
 use Rattle.sk_script.specs.declared.instruction.Input.TheVariants as inputs
-use Rattle.sk_client.proofs.Remembered.{is_possible, answer_to, refused_after}
+use Rattle.sk_server.specs.Server.{ServerView, answer_to, answered}
+use Rattle.sk_server.specs.Files.{FileMap}
 use Rattle.sk_client.specs.Table.{Bytes}
+use Rattle.sk_client.specs.declared.pending.Kept.{Kept}
 
 -- what a process has next
 pub data Next : Type 0 where
@@ -42,8 +44,6 @@ pub record Table (E V W F : Type 0) : Type 0 where
   pub proc : ℕ → E
   pub copy : Bytes → E
   pub content : ContentView → V
-  pub same_process : ℕ → ℕ → Bool
-  pub same_name : Bytes → Bytes → Bool
   -- the last version and request number, the trace's limit, and how many guesses may be undecided at once
   pub last : ℕ
   pub limit : ℕ
@@ -81,23 +81,23 @@ asked_count (q ∷ qs) = asked_too q.guess (asked_count qs)
 
 -- the desk: the trace of its kernel, the greatest guess number that was drawn, the next request's number, kept
 -- answers, and the pending requests: those that were taken, each with the reply that is on its way, and those that
--- wait. The refused guesses that the server remembers. And what is written down for the laws alone: the requests whose
--- reply was given.
+-- wait. The server. And what is written down for the laws alone: the requests whose reply was given.
 pub record World : Type 0 where
   pub trace : List (Event Caused)
   pub drawn : ℕ
   pub next : ℕ
-  pub kept : ℕ → Option Input
+  pub kept : List Kept
   pub taken : List Served
   pub waiting : List PendingRequest
-  pub refused : List ℕ
+  pub server : ServerView
   pub given : List Served
 
 pub data WorldEvent : Type 0 where
   Turn : (process : ℕ) → WorldEvent
-  -- the next request is answered, where the server's files say this
-  Serve : (says : Answer) → WorldEvent
+  Serve : WorldEvent
   Reply : WorldEvent
+  -- the server's files are changed
+  Edit : (files : FileMap) → WorldEvent
 
 -- what the process gets of a refused guess
 abbrev pub answer_kept : Ask → ContentView → Input
@@ -130,7 +130,7 @@ served w = w.given ++ w.taken
 abbrev pub with_trace : World → List (Event Caused) → World
 with_trace w es = record w { trace = es }
 
-abbrev pub with_kept : World → (ℕ → Option Input) → World
+abbrev pub with_kept : World → List Kept → World
 with_kept w answers = record w { kept = answers }
 
 -- the first reply is given
@@ -141,9 +141,6 @@ module _ {E V W F : Type 0} (S : Table E V W F) where
   -- the system of a table: entries are steps of processes with their inputs, and those of guesses are marked
   abbrev pub kernel : System E V W F (Caused)
   kernel = record { order = S.order; act = λ n. S.act n.process n.input; mark = λ n. n.guess; goes_to = S.goes_to }
-
-  abbrev pub kept_for : ℕ → Option Input → (ℕ → Option Input) → ℕ → Option Input
-  kept_for p x kept other = if S.same_process other p then x else kept other
 
   module _ (start : FinMap S.order V) where
     -- the state of the kernel, and its undecided guesses
@@ -186,12 +183,6 @@ module _ {E V W F : Type 0} (S : Table E V W F) where
     has_number w = nat_le w.next S.last
 
     -- ---- a turn; one that is refused for want of a place or a number changes nothing
-    abbrev pub asks_for : World → ℕ → Bool
-    asks_for w p = list_any (λ q. is_asked q.guess && S.same_process p q.process) (pending w)
-
-    abbrev pub asks_on : World → Bytes → Bool
-    asks_on w m = list_any (λ q. is_asked q.guess && S.same_name m (name_of q.ask)) (pending w)
-
     -- a step with no guess, which a refusal leaves out
     abbrev pub stepped_by : World → Caused → Result (Effect E V W) F → World
     stepped_by w n (Ok f) = with_trace w (w.trace ++ Taken n ∷ [])
@@ -202,7 +193,7 @@ module _ {E V W F : Type 0} (S : Table E V W F) where
 
     -- an own step, which uses up the kept answer
     abbrev pub used_by : World → ℕ → Input → Result (Effect E V W) F → World
-    used_by w p x (Ok f) = with_kept (with_trace w (w.trace ++ Taken (own p x) ∷ [])) (kept_for p None w.kept)
+    used_by w p x (Ok f) = with_kept (with_trace w (w.trace ++ Taken (own p x) ∷ [])) (forgotten p w.kept)
     used_by w p x (Err why) = w
 
     abbrev pub used : World → ℕ → Input → World
@@ -270,34 +261,33 @@ module _ {E V W F : Type 0} (S : Table E V W F) where
 
     abbrev pub other : World → ℕ → Option Input → World
     other w p (Some x) = used w p x
-    other w p None = if has_places 1 w then stepped w (own p inputs.None) else w
+    other w p None = used w p inputs.None
 
     abbrev pub turned : World → ℕ → Next → World
     turned w p Halted = w
     turned w p Due = used w p inputs.None
-    turned w p (Fetches m) = if asks_on w m then w else fetched w p m (w.kept p) (S.cached (state w.trace) m)
-    turned w p (Stores m b) = if asks_on w m then w else stored w p m b (w.kept p) (S.cached (state w.trace) m)
-    turned w p Else = other w p (w.kept p)
+    turned w p (Fetches m) = if asks_on m (pending w) then w else fetched w p m (kept_for p w.kept) (S.cached (state w.trace) m)
+    turned w p (Stores m b) = if asks_on m (pending w) then w else stored w p m b (kept_for p w.kept) (S.cached (state w.trace) m)
+    turned w p Else = other w p (kept_for p w.kept)
 
     -- the first request that waits is taken, and answered
-    abbrev pub answered : World → PendingRequest → List PendingRequest → Answer → World
-    answered w q qs a = record w {
-      taken = w.taken ++ (q, a) ∷ [];
-      waiting = qs;
-      refused = refused_after w.refused q a;
-    }
-
-    abbrev pub serve : World → Answer → List PendingRequest → World
-    serve w a [] = w
-    serve w a (q ∷ qs) = if is_possible S.last q.ask a then answered w q qs (answer_to w.refused q a) else w
+    abbrev pub serve : World → List PendingRequest → World
+    serve w [] = w
+    serve w (q ∷ qs) =
+        let a = answer_to w.server (sent q) in
+        record w {
+          taken = w.taken ++ (q, a) ∷ [];
+          waiting = qs;
+          server = answered w.server (sent q) a;
+        }
 
     -- ---- a reply
-    abbrev pub failed_with : World → ℕ → ℕ → Option Input → World
-    failed_with w p g x = with_kept (with_trace w (w.trace ++ Fail g ∷ [])) (kept_for p x w.kept)
+    abbrev pub failed_with : World → ℕ → ℕ → Input → World
+    failed_with w p g x = with_kept (with_trace w (w.trace ++ Fail g ∷ [])) (kept_with p x w.kept)
 
     abbrev pub decided : World → PendingRequest → ℕ → Answer → World
     decided w q g Yes = with_trace w (w.trace ++ Commit g ∷ [])
-    decided w q g (No c) = failed_with w q.process g (Some (answer_kept q.ask c))
+    decided w q g (No c) = failed_with w q.process g (answer_kept q.ask c)
     decided w q g (Copy c) = w
     decided w q g Dropped = with_trace w (w.trace ++ Fail g ∷ [])
 
@@ -315,9 +305,10 @@ module _ {E V W F : Type 0} (S : Table E V W F) where
 
     -- the world after an event
     abbrev pub event : World → WorldEvent → World
-    event w (Turn p) = if asks_for w p then w else turned w p (S.next (state w.trace) p)
-    event w (Serve a) = serve w a w.waiting
+    event w (Turn p) = if asks_for p (pending w) then w else turned w p (S.next (state w.trace) p)
+    event w Serve = serve w w.waiting
     event w Reply = reply w w.taken
+    event w (Edit files) = record w { server = record w.server { files = files } }
 
     abbrev pub world_after : World → List WorldEvent → World
     world_after w es = fold event w es

@@ -1,7 +1,7 @@
 -- Parts of two lists side by side, and membership.
 use Rattle.std.proofs.Common.{◌≡◌, ℕ, Bool, true, false, cond, List, [], ◌∷◌, ◌++◌, inl, inr, refl, sym, ◌∙◌, ap, subst, arith, zero, suc, ◌≤◌, length, slice_get, Some}
 use Rattle.std.specs.Prelude.{◌⊎◌, ◌==◌}
-use Rattle.std.specs.List.{list_any, Contains}
+use Rattle.std.specs.List.{list_any, Contains, filter}
 use Rattle.std.proofs.lemmas.Bool.{or_parts, or_left, or_right, or_cases, true≢false, eq-eqb, eqb-true, cases_Bool}
 use Rattle.std.proofs.lemmas.List.Elements.{Contains-push_cases, Contains-append_cases, Contains-append_left, Contains-append_right}
 use Rattle.sk_record.specs.Effects.{keep}
@@ -24,11 +24,6 @@ module _ {A B : Type 0} (X : A → B → Type 0) where
   each_keep (b ∷ bs) (x ∷ xs) [] h = each_nil (keep (b ∷ bs) (x ∷ xs))
   each_keep (true ∷ bs) (x ∷ xs) (y ∷ ys) h = each_keep bs xs ys h.1
   each_keep (false ∷ bs) (x ∷ xs) (y ∷ ys) h = (h.0, each_keep bs xs ys h.1)
-
-pub each_map : {A B : Type 0} (X Y : A → B → Type 0) → ((x : A) (y : B) → X x y → Y x y) → (xs : List A) (ys : List B) → Each X xs ys → Each Y xs ys
-each_map X Y f [] ys h = tt
-each_map X Y f (x ∷ xs) [] h = tt
-each_map X Y f (x ∷ xs) (y ∷ ys) h = (f x y h.0, each_map X Y f xs ys h.1)
 
 -- flags that are nowhere true
 pub each_none : {A : Type 0} (X : A → Type 0) (xs : List A) (bs : List Bool) → list_any (λ b. b) bs ≡ false → Each (λ x b. b ≡ true → X x) xs bs
@@ -122,6 +117,14 @@ has_left x (k ∷ xs) ys h =
 pub has_right : (x : ℕ) (xs ys : List ℕ) → has x ys ≡ true → has x (xs ++ ys) ≡ true
 has_right x [] ys h = h
 has_right x (k ∷ xs) ys h = or_right (k == x) (has x (xs ++ ys)) (has_right x xs ys h)
+
+pub filter_was : {A : Type 0} (p : A → Bool) (xs : List A) (x : A) → Contains (filter p xs) x → Contains xs x
+filter_was p [] x h = h
+filter_was p (y ∷ xs) x h =
+    elim (p y) as (λ b. Contains (cond b (y ∷ filter p xs) (filter p xs)) x → Contains (y ∷ xs) x) [
+      | true ↦ λ h. elim (cons_cases y (filter p xs) x h) [ inl is ↦ subst (Contains (y ∷ xs)) is (cons_first y xs) | inr later ↦ cons_later y xs x (filter_was p xs x later) ]
+      | false ↦ λ h. cons_later y xs x (filter_was p xs x h)
+    ] h
 
 -- ---- places of lists
 

@@ -12,7 +12,7 @@ use Rattle.sk_record.specs.Trace.{record_of}
 use Rattle.sk_record.specs.declared.status.Status.TheVariants.{Committed, Failed}
 use Rattle.sk_record.proofs.Laws.{one_status}
 use Rattle.sk_script.specs.declared.instruction.Input.TheVariants.{Good}
-use Rattle.sk_server.specs.declared.request.Ask.TheVariants.{Get, Store}
+use Rattle.sk_server.specs.declared.request.Ask.TheVariants.{Get}
 use Rattle.sk_server.specs.declared.reply.Answer.TheVariants.{Yes}
 use Rattle.sk_client.specs.declared.pending.PendingRequest.{PendingRequest}
 use Rattle.sk_client.proofs.CausedRequests.{Before, For, Caused, Served}
@@ -26,7 +26,6 @@ use Rattle.sk_client.proofs.Invariant.{Queue, Apart, HasStep}
 use Rattle.sk_client.proofs.KernelEvents.{no_guess}
 use Rattle.sk_client.proofs.Worlds.{Holds, HasFacts, Room, All, all_keep}
 use Rattle.sk_client.proofs.RequestFacts.{Numbers, Once, Rising, requests, in_map}
-use Rattle.sk_client.specs.Table.{Bytes}
 
 each_all : {A B : Type 0} (X : A → B → Type 0) (xs : List A) (ys : List B) → ((x : A) (y : B) → Contains xs x → X x y) → Each X xs ys
 each_all X [] ys h = tt
@@ -158,7 +157,7 @@ module _ {E V W F : Type 0} (S : Table E V W F) (start : FinMap S.order V) (tabl
       let no_requests : requests S start w w (served w) w.waiting ≡ [] = λ i. map (λ x. x.0) (is.given i ++ is.taken i) ++ is.waiting i in
       record {
         low = omega arith;
-        answers = λ p x h. (let both : None ≡ Some x = sym (is.kept p) ∙ h in cc);
+        answers = λ k there good. no_member k (subst (λ ks. Contains ks k) is.kept there);
         numbers = subst (Numbers w.next) (sym no_requests) (record { below = λ q none. absurd (no_member q none); rising = tt });
         owners = record {
           good = λ n there _. inl (is.before n there);

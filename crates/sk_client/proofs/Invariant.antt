@@ -12,15 +12,21 @@ use Rattle.sk_script.specs.declared.instruction.Input.TheVariants.{Good, Fresh, 
 use Rattle.sk_objects.specs.Content.{ContentView}
 use Rattle.sk_server.specs.declared.request.Ask.{Ask}
 use Rattle.sk_server.specs.declared.request.Ask.TheVariants.{Get, Check, Store}
-use Rattle.sk_server.specs.declared.reply.Answer.TheVariants.{Yes, Dropped}
+use Rattle.sk_server.specs.declared.reply.Answer.TheVariants.{Yes, Dropped, No, Copy}
 use Rattle.sk_client.specs.declared.pending.PendingRequest.{PendingRequest}
 use Rattle.sk_client.proofs.CausedRequests.{For, Caused, Served}
 use Rattle.sk_client.specs.Desk.{name_of}
-use Rattle.sk_client.proofs.Remembered.{is_accepted}
 use Rattle.sk_client.proofs.CausedWorld.{Table, kernel, is_lost}
 use Rattle.sk_client.proofs.CausedLaws.{Takes, Sets}
 use Rattle.sk_client.proofs.Each.{Each}
 use Rattle.sk_client.specs.Table.{Bytes}
+use Rattle.sk_server.specs.declared.reply.Answer.{Answer}
+
+abbrev pub is_accepted : Answer → Bool
+is_accepted Yes = true
+is_accepted (No c) = false
+is_accepted (Copy c) = true
+is_accepted Dropped = false
 
 abbrev pub counted : Option ℕ → ℕ → ℕ
 counted None a = a

@@ -10,7 +10,6 @@ pub mod DeskFacts
 pub mod WorldFacts
 pub mod SeenFacts
 pub mod SeenTurn
-pub mod SeenServer
 pub mod SeenServe
 pub mod SeenReply
 pub mod Before
@@ -23,7 +22,6 @@ pub mod Writes
 pub mod Upcoming
 pub mod Lending
 pub mod CausedRequests
-pub mod Remembered
 pub mod CausedWorld
 pub mod CausedLaws
 pub mod Bare

@@ -15,7 +15,6 @@ use Rattle.sk_client.proofs.TraceFacts.{failed_shut}
 use Rattle.sk_client.specs.declared.pending.PendingRequest.{PendingRequest}
 use Rattle.sk_client.proofs.CausedRequests.{Caused}
 use Rattle.sk_client.proofs.CausedWorld.{Table, kernel, undecided, places, asked_too, asked_count}
-use Rattle.sk_client.specs.Table.{Bytes}
 
 pub length_filter : (p : ℕ → Bool) (xs : List ℕ) → length (filter p xs) ≤ length xs
 length_filter p [] = omega arith

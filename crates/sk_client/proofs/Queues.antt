@@ -7,8 +7,8 @@ use Rattle.std.proofs.lemmas.List.Elements.{Contains-push_cases}
 use Rattle.sk_record.specs.Notes.{has}
 use Rattle.sk_record.proofs.Machine.{has_filter}
 use Rattle.sk_client.specs.declared.pending.PendingRequest.{PendingRequest}
-use Rattle.sk_client.specs.Desk.{name_of}
-use Rattle.sk_client.proofs.Remembered.{remembered, is_dropped}
+use Rattle.sk_client.specs.Desk.{name_of, sent}
+use Rattle.sk_server.specs.Server.{remembered, is_dropped}
 use Rattle.sk_client.proofs.Each.{cons_first, cons_later, no_member}
 use Rattle.sk_client.proofs.Invariant.{counted, Queue, Remembers, Apart}
 
@@ -96,12 +96,12 @@ remembers_push bad us vs qs q memory fewer rests old = record {
 }
 
 -- what is not below the request's number is not forgotten
-pub still_remembered : (q : PendingRequest) (memory : List ℕ) (y : ℕ) → q.settled ≤ y → has y memory ≡ true → has y (remembered q memory) ≡ true
+pub still_remembered : (q : PendingRequest) (memory : List ℕ) (y : ℕ) → q.settled ≤ y → has y memory ≡ true → has y (remembered (sent q) memory) ≡ true
 still_remembered q memory y le there =
     has_filter (λ g. nat_le q.settled g) y memory ∙ (λ i. le-leb q.settled y le i && there i)
 
 -- a request that is not dropped rests on no guess that is remembered
-pub not_dropped : (q : PendingRequest) (memory : List ℕ) → is_dropped q memory ≡ false → (y : ℕ) → has y q.rests ≡ true → has y memory ≡ true → ⊥
+pub not_dropped : (q : PendingRequest) (memory : List ℕ) → is_dropped (sent q) memory ≡ false → (y : ℕ) → has y q.rests ≡ true → has y memory ≡ true → ⊥
 not_dropped q memory none y rests there = true≢false (sym (any_of (λ g. has g q.rests) memory y there rests) ∙ none)
 
 -- ---- asked requests

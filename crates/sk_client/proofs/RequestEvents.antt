@@ -17,15 +17,15 @@ use Rattle.sk_server.specs.declared.reply.Answer.{Answer}
 use Rattle.sk_server.specs.declared.reply.Answer.TheVariants.{Yes, Dropped}
 use Rattle.sk_client.specs.declared.pending.PendingRequest.{PendingRequest}
 use Rattle.sk_client.proofs.CausedRequests.{For, Caused, Served}
-use Rattle.sk_client.specs.Desk.{name_of}
-use Rattle.sk_client.proofs.Remembered.{is_accepted, remembered}
+use Rattle.sk_client.specs.Desk.{name_of, sent}
+use Rattle.sk_server.specs.Server.{remembered}
 use Rattle.sk_client.proofs.CausedWorld.{Table, kernel, least, rests_of}
 use Rattle.sk_client.proofs.CausedLaws.{Takes, Sets, IsTable}
 use Rattle.sk_client.proofs.Each.{at_number, at_same, at_other, cons_first, cons_later}
 use Rattle.sk_client.proofs.TraceFacts.{open_taken, entry_drawn, open_entry}
 use Rattle.sk_client.proofs.Records.{Quiet, entries_taken, tags_of_step, ready_taken, lost_more}
 use Rattle.sk_client.proofs.Queues.{queue_le, queue_push, remembers_push, still_remembered, apart_push}
-use Rattle.sk_client.proofs.Invariant.{counted, Queue, IsServed, Entries, Guesses, ReadyFor, tag_at, Ready, HasStep, Invariant}
+use Rattle.sk_client.proofs.Invariant.{counted, Queue, IsServed, Entries, Guesses, ReadyFor, tag_at, Ready, HasStep, Invariant, is_accepted}
 use Rattle.sk_client.proofs.KernelEvents.{no_guess, entry_more, step_more, new_clean}
 use Rattle.sk_client.specs.Table.{Bytes}
 
@@ -290,8 +290,8 @@ module _ {E V W F : Type 0} (S : Table E V W F) (start : FinMap S.order V) (tabl
       → a ≡ counted q.guess i.a → i.a ≤ a → ((y : ℕ) → y ≤ i.a → bad y ≡ i.bad y) → ((y : ℕ) → y ≤ a → (y ≤ i.a) ⊎ (q.guess ≡ Some y))
       → ((y : ℕ) → bad y ≡ true → (i.bad y ≡ true) ⊎ (q.guess ≡ Some y))
       → ((g : ℕ) → q.guess ≡ Some g → (g ≤ a) × (bad g ≡ not (is_accepted ans)))
-      → ((ans ≡ Dropped → ⊥) → (y : ℕ) → has y q.rests ≡ true → has y (remembered q memory) ≡ true → ⊥)
-      → ((y : ℕ) → has y (remembered q memory) ≡ true → has y after ≡ true)
+      → ((ans ≡ Dropped → ⊥) → (y : ℕ) → has y q.rests ≡ true → has y (remembered (sent q) memory) ≡ true → ⊥)
+      → ((y : ℕ) → has y (remembered (sent q) memory) ≡ true → has y after ≡ true)
       → ((g : ℕ) → q.guess ≡ Some g → is_accepted ans ≡ false → has g after ≡ true)
       → ((m : Bytes) (v : ℕ) (b : Bytes) → q.ask ≡ Store m v b → ans ≡ Yes → v < S.last)
       → Invariant S start es d (served ++ (q, ans) ∷ []) given pending waiting after

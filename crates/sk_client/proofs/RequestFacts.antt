@@ -1,5 +1,5 @@
 -- What holds of a world's requests beside the invariant: kept answers, request numbers, the request of each entry, and commits.
-use Rattle.std.proofs.Common.{◌≡◌, ℕ, suc, ◌≤◌, ◌<◌, Bool, true, false, List, [], ◌∷◌, ◌++◌, map, Option, Some, None, inl, inr, refl, sym, ◌∙◌, ap, subst, arith, append_assoc, length, slice_get}
+use Rattle.std.proofs.Common.{◌≡◌, ℕ, suc, ◌≤◌, ◌<◌, Bool, true, false, List, [], ◌∷◌, ◌++◌, map, Some, None, inl, inr, refl, sym, ◌∙◌, ap, subst, arith, append_assoc, length, slice_get}
 use Rattle.std.specs.Prelude.{◌⊎◌}
 use Rattle.std.specs.List.{Contains}
 use Rattle.std.specs.FinMap.{FinMap}
@@ -8,7 +8,6 @@ use Rattle.sk_record.specs.Effects.{keep}
 use Rattle.sk_record.specs.Strike.{struck}
 use Rattle.sk_record.specs.Trace.{Event, Taken, Commit, Fail, record_of}
 use Rattle.sk_record.proofs.Sound.{record_more}
-use Rattle.sk_script.specs.declared.instruction.Input.{Input}
 use Rattle.sk_script.specs.declared.instruction.Input.TheVariants.{Good}
 use Rattle.sk_server.specs.declared.reply.Answer.{Answer}
 use Rattle.sk_server.specs.declared.reply.Answer.TheVariants.{Yes}
@@ -17,6 +16,7 @@ use Rattle.sk_client.proofs.CausedRequests.{Before, Own, For, Caused, Served}
 use Rattle.sk_client.proofs.CausedWorld.{Table, World, kernel}
 use Rattle.sk_client.proofs.Each.{cons_first, cons_later, cons_cases, no_member, kept_was, at_push, at_kept}
 use Rattle.sk_client.proofs.KernelEvents.{no_guess}
+use Rattle.sk_client.specs.declared.pending.Kept.{Kept}
 
 -- ---- request numbers
 abbrev pub Rising : List PendingRequest → Type 0
@@ -219,6 +219,10 @@ in_map f (y ∷ xs) x there =
       | inr later ↦ cons_later (f y) (map f xs) (f x) (in_map f xs x later)
     ]
 
+-- no process is kept a Good
+abbrev pub NoGood : List Kept → Type 0
+NoGood ks = (k : Kept) → Contains ks k → k.input ≡ Good → ⊥
+
 -- ---- what is in a record from this place on was not there before
 abbrev pub IsNew : ℕ → List Caused → Type 0
 IsNew place ns = (i : ℕ) (n : Caused) → place ≤ i → slice_get ns i ≡ Some n → n.cause ≡ Before → ⊥
@@ -243,9 +247,9 @@ module _ {E V W F : Type 0} (S : Table E V W F) (start : FinMap S.order V) (firs
       (n : Caused) (q : PendingRequest) (g : ℕ) → Contains ns n → n.cause ≡ For q → q.guess ≡ Some g → q.number < old.next
       → Contains (record_of (kernel S) start old.trace) n
 
-  pub record RequestFacts (es : List (Event Caused)) (d : ℕ) (kept : ℕ → Option Input) (next : ℕ) (served given : List Served) (waiting : List PendingRequest) : Type 0 where
+  pub record RequestFacts (es : List (Event Caused)) (d : ℕ) (kept : List Kept) (next : ℕ) (served given : List Served) (waiting : List PendingRequest) : Type 0 where
     pub low : first.drawn ≤ d
-    pub answers : (p : ℕ) (x : Input) → kept p ≡ Some x → x ≡ Good → ⊥
+    pub answers : NoGood kept
     pub numbers : Numbers next (requests served waiting)
     pub owners : Owners first.drawn (record_of (kernel S) start es) given (requests served waiting)
     pub decided : Decided first.trace es given
@@ -259,9 +263,9 @@ module _ {E V W F : Type 0} (S : Table E V W F) (start : FinMap S.order V) (firs
     pub came : Came (record_of (kernel S) start es)
     pub reach : old.next ≤ next
 
-  module _ (es : List (Event Caused)) (d : ℕ) (kept : ℕ → Option Input) (next : ℕ) (served given : List Served) (waiting : List PendingRequest)
+  module _ (es : List (Event Caused)) (d : ℕ) (kept : List Kept) (next : ℕ) (served given : List Served) (waiting : List PendingRequest)
       (t : RequestFacts es d kept next served given waiting) where
-    pub facts_kept : (after : ℕ → Option Input) → ((p : ℕ) (x : Input) → after p ≡ Some x → x ≡ Good → ⊥) → RequestFacts es d after next served given waiting
+    pub facts_kept : (after : List Kept) → NoGood after → RequestFacts es d after next served given waiting
     facts_kept after answers = record { low = t.low; answers = answers; numbers = t.numbers; owners = t.owners; decided = t.decided; still_served = t.still_served; still_given = t.still_given; still_made = t.still_made; new = t.new; came = t.came; reach = t.reach }
 
     pub facts_own : (n : Caused) → n.cause ≡ Own → (n.input ≡ Good → ⊥) → RequestFacts (es ++ Taken n ∷ []) d kept next served given waiting
@@ -341,7 +345,7 @@ module _ {E V W F : Type 0} (S : Table E V W F) (start : FinMap S.order V) (firs
           decided = decided_other first.trace es (Taken n) given (λ g e. cc) t.decided;
         }
 
-  module _ (es : List (Event Caused)) (d : ℕ) (kept : ℕ → Option Input) (next : ℕ) (served given : List Served) where
+  module _ (es : List (Event Caused)) (d : ℕ) (kept : List Kept) (next : ℕ) (served given : List Served) where
     pub facts_serve : (q : PendingRequest) (a : Answer) (waiting : List PendingRequest) → RequestFacts es d kept next served given (q ∷ waiting) → RequestFacts es d kept next (served ++ (q, a) ∷ []) given waiting
     facts_serve q a waiting t =
         let same : requests (served ++ (q, a) ∷ []) waiting ≡ requests served (q ∷ waiting) = map_push (λ (x : Served). x.0) served (q, a) waiting in
@@ -360,7 +364,7 @@ module _ {E V W F : Type 0} (S : Table E V W F) (start : FinMap S.order V) (firs
         }
 
   -- a reply x is given
-  module _ (es : List (Event Caused)) (d : ℕ) (kept : ℕ → Option Input) (next : ℕ) (served given : List Served) (waiting : List PendingRequest)
+  module _ (es : List (Event Caused)) (d : ℕ) (kept : List Kept) (next : ℕ) (served given : List Served) (waiting : List PendingRequest)
       (t : RequestFacts es d kept next served given waiting) where
     given_owners : (x : Served) → Owners first.drawn (record_of (kernel S) start es) (given ++ x ∷ []) (requests served waiting)
     given_owners x =

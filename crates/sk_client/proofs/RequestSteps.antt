@@ -1,7 +1,7 @@
 -- The steps of requests in a record: accepted stores have steps of their own, and the steps that count and the accepted requests
 -- whose reply was given are one for one. Told of a world's calls.
-use Rattle.std.proofs.Common.{◌≡◌, ℕ, zero, suc, ◌+◌, Bool, true, false, cond, List, [], ◌∷◌, ◌++◌, map, Option, Some, None, inl, inr, refl, sym, ◌∙◌, ap, subst, arith, ◌≤◌, ◌<◌, length}
-use Rattle.std.specs.Prelude.{◌==◌, slice_get, ◌⊎◌}
+use Rattle.std.proofs.Common.{◌≡◌, ℕ, zero, suc, ◌+◌, Bool, true, false, cond, List, [], ◌∷◌, ◌++◌, map, Option, Some, None, inl, inr, refl, sym, ◌∙◌, ap, subst, arith, ◌≤◌, length}
+use Rattle.std.specs.Prelude.{◌==◌, slice_get}
 use Rattle.std.specs.List.{Contains}
 use Rattle.std.specs.Option.{option_map}
 use Rattle.std.proofs.lemmas.Bool.{true≢false, eqb-true, eq-eqb}
@@ -27,10 +27,10 @@ use Rattle.sk_client.proofs.CausedRequests.{Caused, Cause, Before, Own, For, Ser
 use Rattle.sk_client.proofs.CausedWorld.{Table, World, kernel, served, pending as law_pending, places, event}
 use Rattle.sk_client.specs.AcceptedStores.{paired, StandsAt, DueStore, StandApart, steps_at}
 use Rattle.sk_client.proofs.CausedLaws.{record_now, Sets, Stands, AreReplied, Counts, IsStepped}
-use Rattle.sk_client.proofs.Each.{contains_at, place_at, cons_cases, no_member}
+use Rattle.sk_client.proofs.Each.{contains_at, place_at}
 use Rattle.sk_client.proofs.First.{rising_places, all_after, stores_are_replied, map_front, since, places_are_kept}
-use Rattle.sk_client.proofs.RequestFacts.{Rising, rising_apart, rising_same, requests, in_map}
-use Rattle.sk_client.specs.Table.{Bytes, copy_of}
+use Rattle.sk_client.proofs.RequestFacts.{Rising, rising_apart, rising_same, in_map}
+use Rattle.sk_client.specs.Table.{copy_of}
 use Rattle.sk_client.proofs.WorldTable.{bare, table}
 use Rattle.sk_client.specs.Desk.{opened, pending}
 use Rattle.sk_client.specs.Exchanges.{Exchanges, Leads}
@@ -42,7 +42,7 @@ use Rattle.sk_client.proofs.Before.{ready_table, begins, out_of_map, back}
 use Rattle.sk_client.proofs.SeenFacts.{steps_seen, places_seen, pending_seen}
 use Rattle.sk_client.proofs.Seen.{law_after, Reached, reached, later_on}
 use Rattle.sk_client.proofs.Accepted.{paired_map, found, entries_seen, its_step, its_guess}
-use Rattle.sk_client.proofs.Worlds.{HasFacts, All, all_keep}
+use Rattle.sk_client.proofs.Worlds.{HasFacts, all_keep}
 use Rattle.sk_trace.specs.Entry.{EntryView}
 use Rattle.std.proofs.lemmas.List.{length-map}
 use Rattle.std.proofs.lemmas.List.Sums.{fold-append}
@@ -307,7 +307,7 @@ module _ (k : KernelView) (ready : IsReady k) where
           given = subst (λ a. Contains w.given (z.0.0, a)) (ap (λ t. t.1.1.1) z.2 ∙ r.accepted) (elim (Contains-append_cases w.given w.taken z.0 (contains_at (served w) r.at z.0 z.1)) as (λ _. Contains w.given z.0) [
             | inl here ↦ here
             | inr waits ↦ absurd (r.given z.0.0
-            (subst (λ ps. Contains ps z.0.0) pending_is (Contains-append_left (map (λ x. x.0) w.taken) w.waiting z.0.0 (in_map (λ (x : Served). x.0) w.taken z.0 waits))) number)
+                (subst (λ ps. Contains ps z.0.0) pending_is (Contains-append_left (map (λ x. x.0) w.taken) w.waiting z.0.0 (in_map (λ (x : Served). x.0) w.taken z.0 waits))) number)
           ]);
           number = number;
           ask = ap (λ t. t.1.0) z.2;
@@ -333,6 +333,23 @@ module _ (k : KernelView) (ready : IsReady k) where
 
     -- ---- a step that counts
 
+    here_too : (z : Served) (i : ℕ) → slice_get (served w) i ≡ Some z → (x : Sent × Reply) × (slice_get (xs ++ ys) i ≡ Some x) × (answered_here x ≡ answered_there z)
+    here_too z i at =
+        under_map answered_here (slice_get (xs ++ ys) i) (answered_there z)
+        (sym (slice_get-map answered_here (xs ++ ys) i) ∙ (λ j. slice_get (sym b.fits.seen.answered j) i) ∙ slice_get-map answered_there (served w) i ∙ ap (option_map answered_there) at)
+
+    -- a request of the laws whose reply was given, as the calls have it
+    is_replied : (q : PendingRequest) → Contains w.given (q, Yes) → (r : Replied (xs ++ ys) last) × (q.number ≡ r.request.number) × (q.guess ≡ r.request.guess) × (q.ask ≡ r.request.ask)
+    is_replied q given =
+        let i = place_at (served w) (q, Yes) (Contains-append_left w.given w.taken (q, Yes) given) in
+        let x = here_too (q, Yes) i.0 i.1 in
+        let number = ap (λ t. t.0) x.2 in (
+          record { at = i.0; request = x.0.0; reply = x.0.1; there = x.1; accepted = ap (λ t. t.1.1.1) x.2; given = λ p there same. not_pending q given p there (same ∙ number) },
+          sym number,
+          sym (ap (λ t. t.1.1.0) x.2),
+          sym (ap (λ t. t.1.0) x.2),
+        )
+
     before_is : length (record_of (kernel S) k.start (begun k).trace) ≡ length (record_at k)
     before_is =
         sym (length-map (record_of (kernel S) k.start (begun k).trace) bare)
@@ -347,14 +364,10 @@ module _ (k : KernelView) (ready : IsReady k) where
         let good_there : m.input ≡ Good = ap (λ (n : EntryView). n.input) is ∙ good in
         let counts_so = counts_there (xs ++ ys) w last b.fits.seen m (subst (CountsAt last.desk.kernel) (sym is) counts) in
         let q = law.steps place m (subst (λ n. n ≤ place) (sym before_is) le) (at_entry place u.0 u.1) good_there counts_so in
-        let i = place_at (served w) (q.0, Yes) (Contains-append_left w.given w.taken (q.0, Yes) q.2) in
-        let x =
-        under_map answered_here (slice_get (xs ++ ys) i.0) (answered_there (q.0, Yes))
-        (sym (slice_get-map answered_here (xs ++ ys) i.0) ∙ (λ j. slice_get (sym b.fits.seen.answered j) i.0) ∙ slice_get-map answered_there (served w) i.0 ∙ ap (option_map answered_there) i.1) in
-        let number = ap (λ t. t.0) x.2 in (
-          record { at = i.0; request = x.0.0; reply = x.0.1; there = x.1; accepted = ap (λ t. t.1.1.1) x.2; given = λ p there same. not_pending q.0 q.2 p there (same ∙ number) },
-          first_is entries law.step_once place m q.0 x.0.0.number (at_entry place u.0 u.1) q.1 (sym number),
-          step_of place m u.0.1 q.0 x.0.0 u.1 q.1 good_there counts_so (sym (ap (λ t. t.1.1.0) x.2)) (sym (ap (λ t. t.1.0) x.2)),
+        let r = is_replied q.0 q.2 in (
+          r.0,
+          first_is entries law.step_once place m q.0 r.0.request.number (at_entry place u.0 u.1) q.1 r.1,
+          step_of place m u.0.1 q.0 r.0.request u.1 q.1 good_there counts_so r.2 r.3,
         )
 
     -- ---- the step of a request that was pending

@@ -17,7 +17,6 @@ use Rattle.sk_plain.specs.declared.refusal.Refusal.TheVariants.{NoProcess, Ended
 use Rattle.sk_plain.specs.Act.{Scripts, Saying, StepTree, act, goes_on, with_input, instruction_of}
 use Rattle.sk_client.proofs.CausedRequests.{Caused}
 use Rattle.sk_client.proofs.CausedWorld.{kernel}
-use Rattle.sk_client.specs.Table.{Bytes}
 use Rattle.sk_client.proofs.WorldTable.{table}
 use Rattle.sk_client.proofs.Ends.{written_so}
 use Rattle.sk_client.proofs.Tidy.{IsTidy}

@@ -9,12 +9,12 @@ use Rattle.sk_kernel.specs.Kernel.{KernelView, events_of, step_refused, undecide
 use Rattle.sk_record.specs.Notes.{has}
 use Rattle.sk_script.specs.declared.instruction.Input.{Input}
 use Rattle.sk_server.specs.Files.{written}
-use Rattle.sk_server.specs.Server.{ServerView, judged}
+use Rattle.sk_server.specs.Server.{ServerView}
 use Rattle.sk_server.specs.Calls.{Edits}
 use Rattle.sk_server.specs.declared.request.Request.{Request as Sent}
 use Rattle.sk_server.specs.declared.reply.Answer.{Answer}
 use Rattle.sk_server.specs.declared.reply.Reply.{Reply}
-use Rattle.sk_client.proofs.CausedWorld.{World, WorldEvent as LawEvent, Turn, Serve, Reply as Replies, pending as law_pending, places, event, world_after}
+use Rattle.sk_client.proofs.CausedWorld.{World, WorldEvent as LawEvent, Turn, Serve, Reply as Replies, Edit, pending as law_pending, places, event, world_after}
 use Rattle.sk_client.proofs.First.{places_are_kept}
 use Rattle.sk_client.specs.Table.{Bytes}
 use Rattle.sk_client.proofs.WorldTable.{table}
@@ -135,7 +135,7 @@ module _ (xs : Exchanges) (w : World) (v : WorldView) (f : Fits xs w v) (j : IsJ
   edited_on : (name : Bytes) (expected : ℕ) (bytes : Bytes) (version : ℕ) (new : WorldView) → Edits v.server name expected bytes (Ok version) new.server → new ≡ record v { server = new.server } → Onward xs w v new
   edited_on name expected bytes version new h is =
       subst (λ (x : WorldView). Onward xs w v x) (sym (is ∙ ap (λ (s : ServerView). record v { server = s }) h.2)) (record {
-        event_of = [];
+        event_of = Edit (written v.server.files name expected bytes) ∷ [];
         fits = record {
           seen = record {
             trace = f.seen.trace;
@@ -144,7 +144,7 @@ module _ (xs : Exchanges) (w : World) (v : WorldView) (f : Fits xs w v) (j : IsJ
             kept = f.seen.kept;
             taken = f.seen.taken;
             waiting = f.seen.waiting;
-            refused = f.seen.refused;
+            server = ap (λ (s : ServerView). record s { files = written v.server.files name expected bytes }) f.seen.server;
             answered = f.seen.answered;
           };
           sound = f.sound;
@@ -186,7 +186,7 @@ module _ (xs : Exchanges) (w : World) (v : WorldView) (f : Fits xs w v) (j : IsJ
   answered_on b is =
       let before : IsJoined v.desk v.server v.replies (Some b) = subst (λ (o : Option Sent). IsJoined v.desk v.server v.replies o) is j in
       record {
-        event_of = Serve (judged v.server.files b.ask) ∷ [];
+        event_of = Serve ∷ [];
         fits = serve_fits xs w v f b (last_of v.desk.taken v.replies b before.replies);
         joined = answer_joined v.desk v.server (served v b).server v.replies (served v b).replies b refl refl before;
         boot = same_boot v.desk.kernel;
@@ -285,16 +285,16 @@ module _ (k : KernelView) (ready : IsReady k) where
 
   at_first : (server : ServerView) → server.next ≡ 1 → server.refused ≡ [] → Reached k [] [] (joined (opened k) server)
   at_first server next refused = record {
-    since = [];
+    since = Edit server.files ∷ [];
     fits = record {
       seen = record {
         trace = back (events_of k);
         drawn = refl;
         next = refl;
-        kept = λ pid. refl;
+        kept = refl;
         taken = refl;
         waiting = refl;
-        refused = sym refused;
+        server = λ i. record { files = server.files; next = sym next i; refused = sym refused i };
         answered = refl;
       };
       sound = ready.0.sound;

@@ -1,6 +1,6 @@
 -- What the laws compute of a world is what its callers compute.
 use Rattle.std.proofs.Common.{◌≡◌, ℕ, suc, ◌+◌, ◌≤◌, Bool, true, false, not, ◌&&◌, ◌||◌, cond, List, [], ◌∷◌, ◌++◌, map, length, get_or, Option, Some, None, refl, sym, ◌∙◌, ap, arith}
-use Rattle.std.specs.Prelude.{◌==◌, nat_le, bytes_eq}
+use Rattle.std.specs.Prelude.{◌==◌, nat_le}
 use Rattle.std.specs.Ordering.{nat_cmp}
 use Rattle.std.specs.List.{filter, list_any}
 use Rattle.std.specs.List.Sorted.{IsStrictlySortedBy}
@@ -13,7 +13,7 @@ use Rattle.sk_record.specs.Notes.{has}
 use Rattle.sk_record.specs.Trace.{Event as Happens, Taken, Commit, Fail, record_of, undecided_of, all_recorded, no_record}
 use Rattle.sk_record.proofs.Machine.{has_filter}
 use Rattle.sk_record.proofs.Rising.{above}
-use Rattle.sk_record.proofs.Sound.{eqb_turned, entries_are, is_commit, undecided_is as is_undecided}
+use Rattle.sk_record.proofs.Sound.{entries_are, is_commit, undecided_is as is_undecided}
 use Rattle.sk_ids.specs.Entity.{entity_cmp}
 use Rattle.sk_ids.specs.declared.entity.Entity.{Entity}
 use Rattle.sk_ids.specs.declared.entity.Entity.TheVariants.{Proc, Copy as CopyOf}
@@ -25,8 +25,8 @@ use Rattle.sk_kernel.proofs.Undecided.{undecided_sorted}
 use Rattle.sk_kernel.proofs.Lawful.{below_next}
 use Rattle.sk_holder.specs.Tokens.{commits}
 use Rattle.sk_server.specs.declared.reply.Reply.{Reply}
-use Rattle.sk_client.specs.Desk.{name_of, pending, is_asked, asked_count, asks_for, asks_on, rests_of, is_lost, is_void}
-use Rattle.sk_client.proofs.CausedWorld.{World, kernel, state, undecided, pending as law_pending, is_tag, rests_of as law_rests, is_lost as law_lost, is_void as law_void, commits as law_commits, least, places, asks_for as law_asks_for, asks_on as law_asks_on, asked_count as law_asked_count, is_asked as law_is_asked}
+use Rattle.sk_client.specs.Desk.{pending, asked_count, asks_for, asks_on, rests_of, is_lost, is_void}
+use Rattle.sk_client.proofs.CausedWorld.{World, kernel, state, undecided, pending as law_pending, is_tag, rests_of as law_rests, is_lost as law_lost, is_void as law_void, commits as law_commits, least, places, asked_count as law_asked_count}
 use Rattle.sk_client.proofs.Bare.{bare_event}
 use Rattle.sk_client.proofs.Labels.{is_bare}
 use Rattle.sk_client.proofs.TraceFacts.{entry_drawn}
@@ -58,12 +58,6 @@ any_same : {A : Type 0} (p q : A → Bool) (xs : List A) → ((x : A) → p x �
 any_same p q [] same = refl
 any_same p q (x ∷ xs) same = λ i. same x i || any_same p q xs same i
 
-pub bytes_turned : (a b : List ℕ) → bytes_eq a b ≡ bytes_eq b a
-bytes_turned [] [] = refl
-bytes_turned [] (y ∷ ys) = refl
-bytes_turned (x ∷ xs) [] = refl
-bytes_turned (x ∷ xs) (y ∷ ys) = λ i. eqb_turned x y i && bytes_turned xs ys i
-
 -- ---- the least of some numbers that rise is the first
 
 below_least : (g d : ℕ) (gs : List ℕ) → g ≤ d → ((y : ℕ) → has y gs ≡ true → g ≤ y) → g ≤ least d gs
@@ -91,9 +85,6 @@ pub requests_seen : (qs : List PendingRequest) (rs : List Reply) (later : List P
 requests_seen [] rs later = refl
 requests_seen (q ∷ qs) [] later = refl
 requests_seen (q ∷ qs) (r ∷ rs) later = ap (λ xs. q ∷ xs) (requests_seen qs rs later)
-
-same_asked : (q : PendingRequest) → law_is_asked q.guess ≡ is_asked q
-same_asked q = elim q.guess as (λ g. law_is_asked g ≡ is_asked (record q { guess = g })) [ None ↦ refl | Some g ↦ refl ]
 
 asked_seen : (qs : List PendingRequest) → law_asked_count qs ≡ asked_count qs
 asked_seen [] = refl
@@ -183,17 +174,11 @@ module _ (xs : Exchanges) (w : World) (v : WorldView) (seen : IsSeen xs w v) whe
 
   -- ---- asked requests
 
-  pub asks_for_seen : (pid : ℕ) → law_asks_for (table v.desk.kernel.scripts v.desk.kernel.limit) v.desk.kernel.start w pid ≡ asks_for pid (pending v.desk)
-  asks_for_seen pid =
-      ap (list_any (λ q. law_is_asked q.guess && (pid == q.process))) pending_seen
-      ∙ any_same (λ q. law_is_asked q.guess && (pid == q.process)) (λ q. is_asked q && (q.process == pid)) (pending v.desk)
-      (λ q i. same_asked q i && eqb_turned pid q.process i)
+  pub asks_for_seen : (pid : ℕ) → asks_for pid (law_pending w) ≡ asks_for pid (pending v.desk)
+  asks_for_seen pid = ap (asks_for pid) pending_seen
 
-  pub asks_on_seen : (name : Bytes) → law_asks_on (table v.desk.kernel.scripts v.desk.kernel.limit) v.desk.kernel.start w name ≡ asks_on name (pending v.desk)
-  asks_on_seen name =
-      ap (list_any (λ q. law_is_asked q.guess && bytes_eq name (name_of q.ask))) pending_seen
-      ∙ any_same (λ q. law_is_asked q.guess && bytes_eq name (name_of q.ask)) (λ q. is_asked q && bytes_eq (name_of q.ask) name) (pending v.desk)
-      (λ q i. same_asked q i && bytes_turned name (name_of q.ask) i)
+  pub asks_on_seen : (name : Bytes) → asks_on name (law_pending w) ≡ asks_on name (pending v.desk)
+  asks_on_seen name = ap (asks_on name) pending_seen
 
   -- ---- guesses that are lost
 

@@ -1,13 +1,13 @@
 -- A reply in a world of the laws, and in one that is seen so.
-use Rattle.std.proofs.Common.{◌≡◌, ℕ, suc, ◌+◌, ◌≤◌, Bool, true, false, cond, List, [], ◌∷◌, ◌++◌, map, length, Option, Some, None, Result, Ok, Err, refl, sym, ◌∙◌, ap, subst, arith}
-use Rattle.std.specs.Prelude.{◌==◌, is_none}
+use Rattle.std.proofs.Common.{◌≡◌, ℕ, suc, ◌+◌, ◌≤◌, true, false, cond, List, [], ◌∷◌, ◌++◌, map, length, Option, Some, None, Result, Ok, Err, refl, sym, ◌∙◌, ap, subst, arith}
+use Rattle.std.specs.Prelude.{is_none}
 use Rattle.std.specs.List.{filter}
 use Rattle.std.proofs.lemmas.Bool.{le-ltb, true≢false}
 use Rattle.std.proofs.lemmas.List.{append_assoc, map-append}
 use Rattle.sk_record.specs.Notes.{has}
 use Rattle.sk_record.specs.Trace.{Event as Happens, Taken, Commit, Fail, StatusIs, IsSound}
 use Rattle.sk_record.specs.declared.status.Status.TheVariants.{Undecided}
-use Rattle.sk_record.proofs.Sound.{eqb_turned, sound_commit, sound_fail, undecided_is as is_undecided}
+use Rattle.sk_record.proofs.Sound.{sound_commit, sound_fail, undecided_is as is_undecided}
 use Rattle.sk_ids.proofs.Entities.{entity_total, entity_exact}
 use Rattle.sk_script.specs.declared.instruction.Input.{Input}
 use Rattle.sk_script.specs.declared.instruction.Input.TheVariants as inputs
@@ -26,45 +26,20 @@ use Rattle.sk_server.specs.declared.request.Ask.TheVariants as asks
 use Rattle.sk_server.specs.declared.reply.Answer.{Answer}
 use Rattle.sk_server.specs.declared.reply.Answer.TheVariants as answers
 use Rattle.sk_server.specs.declared.reply.Reply.{Reply}
-use Rattle.sk_client.proofs.CausedWorld.{World, Reply as Replies, pending as law_pending, places, with_trace, with_kept, with_given, kept_for as law_kept_for, asked_entry, stepped as law_stepped, stepped_by, failed_with, decided as law_decided, stepped_for, given_to as law_given_to, reply, event, input_of as law_input_of}
+use Rattle.sk_client.proofs.CausedWorld.{World, Reply as Replies, pending as law_pending, places, with_trace, with_kept, with_given, asked_entry, stepped as law_stepped, stepped_by, failed_with, decided as law_decided, stepped_for, given_to as law_given_to, reply, event, input_of as law_input_of}
 use Rattle.sk_client.proofs.Bare.{bare_event}
-use Rattle.sk_client.specs.Table.{Bytes}
 use Rattle.sk_client.proofs.WorldTable.{bare, table}
 use Rattle.sk_client.proofs.CausedRequests.{Caused}
 use Rattle.sk_client.proofs.DeskFacts.{reply_free}
-use Rattle.sk_client.specs.Desk.{DeskView, pending, asked_count, kept_for, forgotten, with_kept as kept_with, entry, fits_ask, decided, input_of, stepped, answered, given_to, given, is_void, is_asked}
+use Rattle.sk_client.specs.Desk.{DeskView, pending, asked_count, with_kept as kept_with, entry, fits_ask, decided, input_of, stepped, answered, given_to, given, is_void, is_asked}
 use Rattle.sk_client.specs.Exchanges.{Exchanges}
 use Rattle.sk_client.proofs.SeenWorld.{answered_there, law_served, unanswered}
 use Rattle.sk_client.specs.WorldView.{WorldView}
 use Rattle.sk_client.specs.declared.pending.PendingRequest.{PendingRequest}
 use Rattle.sk_client.specs.declared.pending.Kept.{Kept}
 use Rattle.sk_client.proofs.SeenFacts.{IsFor, AreFor, Fits, undecided_seen, places_seen, void_seen}
-use Rattle.sk_client.proofs.SeenTurn.{Did, kept_forgotten, does_seen, step_fits, last_more}
+use Rattle.sk_client.proofs.SeenTurn.{Did, does_seen, step_fits, last_more}
 use Rattle.sk_client.proofs.WorldFacts.{Oldest}
-
--- ---- kept answers
-
-abbrev first_or : Option Input → Option Input → Option Input
-first_or (Some x) later = Some x
-first_or None later = later
-
-kept_end : (p pid : ℕ) (input : Input) (ks : List Kept) → kept_for pid (ks ++ record { process = p; input = input } ∷ []) ≡ first_or (kept_for pid ks) (cond (p == pid) (Some input) None)
-kept_end p pid input [] = refl
-kept_end p pid input (k ∷ ks) = elim (k.process == pid) as (λ b. cond b (Some k.input) (kept_for pid (ks ++ record { process = p; input = input } ∷ [])) ≡ first_or (cond b (Some k.input) (kept_for pid ks)) (cond (p == pid) (Some input) None)) [
-  | true ↦ refl
-  | false ↦ kept_end p pid input ks
-]
-
-ends_so : (b : Bool) (o : Option Input) (input : Input) → first_or (cond b None o) (cond b (Some input) None) ≡ cond b (Some input) o
-ends_so true o input = refl
-ends_so false None input = refl
-ends_so false (Some x) input = refl
-
-kept_with_is : (p pid : ℕ) (input : Input) (ks : List Kept) → kept_for pid (kept_with p input ks) ≡ cond (pid == p) (Some input) (kept_for pid ks)
-kept_with_is p pid input ks =
-    kept_end p pid input (forgotten p ks)
-    ∙ (λ i. first_or (kept_forgotten p ks pid i) (cond (eqb_turned p pid i) (Some input) None))
-    ∙ ends_so (pid == p) (kept_for pid ks) input
 
 -- an asked request has a place of the trace
 asked_more : (q : PendingRequest) (qs : List PendingRequest) → q.guess ≡ None → asked_count (q ∷ qs) ≡ asked_count qs + 1
@@ -76,8 +51,8 @@ module _ (xs : Exchanges) (w : World) (v : WorldView) (f : Fits xs w v) where
 
   -- ---- a decision
 
-  decision_fits : (e : Event) (n : Happens Caused) (kept : List Kept) (law : ℕ → Option Input) → bare_event bare n ≡ image e → number_after (last_guess v.desk.kernel) e ≡ last_guess v.desk.kernel
-      → HasSoundTrace (with_event v.desk.kernel e) → ((pid : ℕ) → law pid ≡ (kept_for pid kept))
+  decision_fits : (e : Event) (n : Happens Caused) (kept : List Kept) (law : List Kept) → bare_event bare n ≡ image e → number_after (last_guess v.desk.kernel) e ≡ last_guess v.desk.kernel
+      → HasSoundTrace (with_event v.desk.kernel e) → law ≡ kept
       → Fits xs (with_kept (with_trace w (w.trace ++ n ∷ [])) law) (record v { desk = record v.desk { kernel = with_event v.desk.kernel e; kept = kept } })
   decision_fits e n kept law same number sound answers = record {
     seen = record {
@@ -87,7 +62,7 @@ module _ (xs : Exchanges) (w : World) (v : WorldView) (f : Fits xs w v) where
       kept = answers;
       taken = f.seen.taken;
       waiting = f.seen.waiting;
-      refused = f.seen.refused;
+      server = f.seen.server;
       answered = f.seen.answered;
     };
     sound = sound;
@@ -110,11 +85,10 @@ module _ (xs : Exchanges) (w : World) (v : WorldView) (f : Fits xs w v) where
     fails_so : Fits xs (with_trace w (w.trace ++ Fail g ∷ [])) (record v { desk = record v.desk { kernel = with_event v.desk.kernel (events.Fail g) } })
     fails_so = decision_fits (events.Fail g) (Fail g) v.desk.kept w.kept refl refl fail_sound f.seen.kept
 
-    keeps_so : (p : ℕ) (input : Input) → Fits xs (failed_with (table v.desk.kernel.scripts v.desk.kernel.limit) v.desk.kernel.start w p g (Some input))
+    keeps_so : (p : ℕ) (input : Input) → Fits xs (failed_with (table v.desk.kernel.scripts v.desk.kernel.limit) v.desk.kernel.start w p g input)
         (record v { desk = record v.desk { kernel = with_event v.desk.kernel (events.Fail g); kept = kept_with p input v.desk.kept } })
     keeps_so p input =
-        decision_fits (events.Fail g) (Fail g) (kept_with p input v.desk.kept) (law_kept_for (table K.scripts K.limit) p (Some input) w.kept) refl refl fail_sound
-        (λ pid. ap (cond (pid == p) (Some input)) (f.seen.kept pid) ∙ sym (kept_with_is p pid input v.desk.kept))
+        decision_fits (events.Fail g) (Fail g) (kept_with p input v.desk.kept) (kept_with p input w.kept) refl refl fail_sound (ap (kept_with p input) f.seen.kept)
 
     by_kind : (q : PendingRequest) (ask : Ask) (a : Answer) → IsFor (Some g) ask → fits_ask ask a ≡ true
         → Fits xs (law_decided (table v.desk.kernel.scripts v.desk.kernel.limit) v.desk.kernel.start w (record q { ask = ask }) g a) (record v { desk = decided v.desk (record q { ask = ask }) g a })
@@ -204,7 +178,7 @@ module _ (xs : Exchanges) (w : World) (v : WorldView) (f : Fits xs w v) (r : Rep
       kept = f.seen.kept;
       taken = refl;
       waiting = f.seen.waiting ∙ (λ i. (unanswered (o.taken i) (is i) ++ v.desk.waiting));
-      refused = f.seen.refused;
+      server = f.seen.server;
       answered =
           ap (map answered_there) (append_assoc w.given ((o.request, r.answer) ∷ []) (law_served o.later rs))
           ∙ ap (λ ts. map answered_there (w.given ++ ts)) (sym oldest_one)

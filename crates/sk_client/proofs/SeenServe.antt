@@ -1,13 +1,10 @@
 -- The server answers in a world of the laws, and in one that is seen so.
-use Rattle.std.proofs.Common.{◌≡◌, ℕ, cond, List, [], ◌∷◌, ◌++◌, map, Option, Some, None, refl, sym, ◌∙◌, ap, subst}
+use Rattle.std.proofs.Common.{◌≡◌, List, [], ◌∷◌, ◌++◌, map, Option, Some, None, refl, sym, ◌∙◌, ap, subst}
 use Rattle.std.proofs.lemmas.List.{append_assoc, map-append}
-use Rattle.sk_server.specs.Server.{judged, answer_to}
+use Rattle.sk_server.specs.Server.{answer_to, answered}
 use Rattle.sk_server.specs.declared.request.Request.{Request as Sent}
 use Rattle.sk_server.specs.declared.reply.Reply.{Reply}
-use Rattle.sk_server.specs.declared.reply.Answer.{Answer}
-use Rattle.sk_client.proofs.Remembered.{answer_to as law_answer_to}
-use Rattle.sk_client.proofs.CausedWorld.{World, Serve, answered as law_answered, serve, event}
-use Rattle.sk_client.specs.Table.{Bytes}
+use Rattle.sk_client.proofs.CausedWorld.{World, Serve, serve, event}
 use Rattle.sk_client.proofs.WorldTable.{table}
 use Rattle.sk_client.specs.Desk.{sent, first_taken}
 use Rattle.sk_client.specs.Exchanges.{Exchanges}
@@ -15,7 +12,6 @@ use Rattle.sk_client.proofs.SeenWorld.{answered_there, answered_here, law_served
 use Rattle.sk_client.specs.WorldView.{WorldView, taken_by, taken_from, reply_to, served, AreReplies, IsJoined}
 use Rattle.sk_client.specs.declared.pending.PendingRequest.{PendingRequest}
 use Rattle.sk_client.proofs.SeenFacts.{AreFor, Fits}
-use Rattle.sk_client.proofs.SeenServer.{answer_seen, possible_seen, refused_seen}
 
 -- ---- each request that was taken has its reply
 
@@ -75,7 +71,7 @@ module _ (xs : Exchanges) (w : World) (v : WorldView) (f : Fits xs w v) where
       kept = f.seen.kept;
       taken = f.seen.taken ∙ sym (served_longer v.desk.taken v.replies q replies);
       waiting = f.seen.waiting ∙ (λ i. (none_waits v.desk.taken v.replies replies i ++ is i)) ∙ (λ i. (sym (one_waits v.desk.taken v.replies q replies) i ++ qs));
-      refused = f.seen.refused;
+      server = f.seen.server;
       answered = f.seen.answered;
     };
     sound = f.sound;
@@ -99,35 +95,28 @@ module _ (xs : Exchanges) (w : World) (v : WorldView) (f : Fits xs w v) where
     first_is : w.waiting ≡ l.request ∷ v.desk.waiting
     first_is = f.seen.waiting ∙ ap (λ xs. (xs ++ v.desk.waiting)) l.alone
 
-    abbrev serving : Answer → World
-    serving a = law_answered (table v.desk.kernel.scripts v.desk.kernel.limit) v.desk.kernel.start w l.request v.desk.waiting a
-
-    serving_fits : Fits (xs ++ (sent l.request, reply_to v.server (sent l.request)) ∷ []) (serving (answer_to v.server (sent l.request))) (served v (sent l.request))
+    serving_fits : Fits (xs ++ (sent l.request, reply_to v.server (sent l.request)) ∷ []) (serve (table v.desk.kernel.scripts v.desk.kernel.limit) v.desk.kernel.start w (l.request ∷ v.desk.waiting)) (served v (sent l.request))
     serving_fits = record {
       seen = record {
         trace = f.seen.trace;
         drawn = f.seen.drawn;
         next = f.seen.next;
         kept = f.seen.kept;
-        taken = ap (λ xs. xs ++ (l.request, (answer_to v.server (sent l.request))) ∷ []) f.seen.taken ∙ sym (l.served (reply_to v.server (sent l.request)));
-        waiting = ap (λ xs. (xs ++ v.desk.waiting)) (sym (l.none (reply_to v.server (sent l.request))));
-        refused = refused_seen w.refused v.server f.seen.refused l.request (answer_to v.server (sent l.request));
+        taken = (λ i. f.seen.taken i ++ (l.request, answer_to (f.seen.server i) (sent l.request)) ∷ []) ∙ sym (l.served (reply_to v.server (sent l.request)));
+        waiting = ap (λ xs. xs ++ v.desk.waiting) (sym (l.none (reply_to v.server (sent l.request))));
+        server = ap (λ s. answered s (sent l.request) (answer_to s (sent l.request))) f.seen.server;
         answered =
-            ap (map answered_there) (sym (append_assoc w.given w.taken ((l.request, (answer_to v.server (sent l.request))) ∷ [])))
-            ∙ map-append answered_there (w.given ++ w.taken) ((l.request, (answer_to v.server (sent l.request))) ∷ [])
-            ∙ ap (λ ys. ys ++ answered_here (sent l.request, reply_to v.server (sent l.request)) ∷ []) f.seen.answered
+            ap (map answered_there) (sym (append_assoc w.given w.taken ((l.request, answer_to w.server (sent l.request)) ∷ [])))
+            ∙ map-append answered_there (w.given ++ w.taken) ((l.request, answer_to w.server (sent l.request)) ∷ [])
+            ∙ (λ i. f.seen.answered i ++ answered_there (l.request, answer_to (f.seen.server i) (sent l.request)) ∷ [])
             ∙ sym (map-append answered_here xs ((sent l.request, reply_to v.server (sent l.request)) ∷ []));
       };
       sound = f.sound;
       kinds = f.kinds;
     }
 
-    pub serve_fits : Fits (xs ++ (b, reply_to v.server b) ∷ []) (event (table v.desk.kernel.scripts v.desk.kernel.limit) v.desk.kernel.start w (Serve (judged v.server.files b.ask))) (served v b)
+    pub serve_fits : Fits (xs ++ (b, reply_to v.server b) ∷ []) (event (table v.desk.kernel.scripts v.desk.kernel.limit) v.desk.kernel.start w Serve) (served v b)
     serve_fits =
-        let says = (judged v.server.files l.request.ask) in
-        let T = table v.desk.kernel.scripts v.desk.kernel.limit in
-        let start = v.desk.kernel.start in
-        subst (λ (q : Sent). Fits (xs ++ (q, reply_to v.server q) ∷ []) (event (table v.desk.kernel.scripts v.desk.kernel.limit) v.desk.kernel.start w (Serve (judged v.server.files q.ask))) (served v q)) (sym l.sent_so)
+        subst (λ (q : Sent). Fits (xs ++ (q, reply_to v.server q) ∷ []) (event (table v.desk.kernel.scripts v.desk.kernel.limit) v.desk.kernel.start w Serve) (served v q)) (sym l.sent_so)
         (subst (λ (x : World). Fits (xs ++ (sent l.request, reply_to v.server (sent l.request)) ∷ []) x (served v (sent l.request)))
-        (sym ((λ i. serve T start w says (first_is i)) ∙ (λ i. cond (possible_seen v.server.files l.request.ask i) (serving (law_answer_to w.refused l.request says)) w) ∙ ap serving (answer_seen w.refused v.server f.seen.refused l.request)))
-        serving_fits)
+        (sym (ap (serve (table v.desk.kernel.scripts v.desk.kernel.limit) v.desk.kernel.start w) first_is)) serving_fits)

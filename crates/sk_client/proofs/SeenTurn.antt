@@ -1,8 +1,8 @@
 -- A turn in a world of the laws, and in one that is seen so.
 use Rattle.std.proofs.Common.{◌≡◌, ℕ, suc, ◌+◌, ◌-◌, ◌≤◌, ◌<◌, Bool, true, false, ◌&&◌, ◌||◌, cond, List, [], ◌∷◌, ◌++◌, map, length, Option, Some, None, Result, Ok, Err, refl, sym, ◌∙◌, ap, subst, arith}
-use Rattle.std.specs.Prelude.{◌==◌, nat_le, nat_lt, is_ok, is_some, not}
+use Rattle.std.specs.Prelude.{nat_le, nat_lt, is_ok, is_some}
 use Rattle.std.specs.FinMap.{get}
-use Rattle.std.proofs.lemmas.Bool.{ltb-false, leb-false, le-leb, lt-ltb, eqb-true, eq-eqb}
+use Rattle.std.proofs.lemmas.Bool.{ltb-false, leb-false, le-leb, lt-ltb}
 use Rattle.std.proofs.lemmas.List.{append_assoc, map-append}
 use Rattle.std.proofs.lemmas.List.Sums.{fold-append}
 use Rattle.sk_record.specs.Step.{Effect, perform}
@@ -37,8 +37,8 @@ use Rattle.sk_server.specs.declared.server.TheConstants.{LAST_REQUEST}
 use Rattle.sk_server.specs.declared.request.Ask.TheVariants.{Store}
 use Rattle.sk_client.specs.declared.pending.PendingRequest.{PendingRequest}
 use Rattle.sk_client.proofs.CausedRequests.{Caused}
-use Rattle.sk_client.specs.Desk.{name_of, DeskView, pending, asked_count, asks_for, asks_on, kept_for, forgotten, rests_of, fetch_rule, store_rule, unless_kept, cached, buffer, rule_next, rule_of, rule, no_place, no_number, entry, rule_refused, request_of, turned}
-use Rattle.sk_client.proofs.CausedWorld.{World, Turn, kernel, state, own, with_trace, with_kept, kept_for as law_kept_for, pending as law_pending, places, has_places, has_guess, has_number, used, used_by, stepped_by, other, guessed, guessed_by, guess_entry, guess_request, asked, asked_now, ask_request, fetched, stored, turned as law_turned, event}
+use Rattle.sk_client.specs.Desk.{name_of, DeskView, pending, asked_count, asks_for, asks_on, kept_for, forgotten, fetch_rule, store_rule, unless_kept, cached, buffer, rule_next, rule_of, rule, no_place, no_number, entry, rule_refused, request_of, turned}
+use Rattle.sk_client.proofs.CausedWorld.{World, Turn, kernel, state, own, with_trace, with_kept, pending as law_pending, places, has_places, has_guess, has_number, used, used_by, other, guessed, guessed_by, guess_entry, guess_request, asked, asked_now, ask_request, fetched, stored, turned as law_turned, event}
 use Rattle.sk_client.proofs.Bare.{bare_event}
 use Rattle.sk_client.specs.Table.{Bytes, version_of, buffer_of}
 use Rattle.sk_client.proofs.WorldTable.{bare, table, turn_of, MOST_GUESSES}
@@ -84,25 +84,6 @@ or_first false b h = refl
 none_test : (b : Bool) (why : Refusal) → cond b (Some why) None ≡ None → b ≡ false
 none_test true why h = absurd cc
 none_test false why h = refl
-
--- ---- kept answers
-
-kept_step : (p pid : ℕ) (k : Kept) (ks : List Kept) → kept_for pid (forgotten p ks) ≡ cond (pid == p) None (kept_for pid ks)
-    → (gone asked : Bool) → (k.process == p) ≡ gone → (k.process == pid) ≡ asked
-    → kept_for pid (cond (not gone) (k ∷ forgotten p ks) (forgotten p ks)) ≡ cond (pid == p) None (cond asked (Some k.input) (kept_for pid ks))
-kept_step p pid k ks rest true true g a =
-    let same : pid ≡ p = sym (eqb-true k.process pid a) ∙ eqb-true k.process p g in
-    rest ∙ ap (λ b. cond b None (kept_for pid ks)) (eq-eqb pid p same) ∙ sym (ap (λ b. cond b None (Some k.input)) (eq-eqb pid p same))
-kept_step p pid k ks rest true false g a = rest
-kept_step p pid k ks rest false true g a =
-    let same : k.process ≡ pid = eqb-true k.process pid a in
-    ap (λ b. cond b (Some k.input) (kept_for pid (forgotten p ks))) a
-    ∙ sym (ap (λ b. cond b None (Some k.input)) (ap (λ n. n == p) (sym same) ∙ g))
-kept_step p pid k ks rest false false g a = ap (λ b. cond b (Some k.input) (kept_for pid (forgotten p ks))) a ∙ rest
-
-pub kept_forgotten : (p : ℕ) (ks : List Kept) (pid : ℕ) → kept_for pid (forgotten p ks) ≡ cond (pid == p) None (kept_for pid ks)
-kept_forgotten p [] pid = elim (pid == p) as (λ b. kept_for pid (forgotten p []) ≡ cond b None (kept_for pid [])) [ true ↦ refl | false ↦ refl ]
-kept_forgotten p (k ∷ ks) pid = kept_step p pid k ks (kept_forgotten p ks pid) (k.process == p) (k.process == pid) refl refl
 
 -- ---- numbers of guesses
 
@@ -151,8 +132,8 @@ module _ (xs : Exchanges) (w : World) (v : WorldView) (f : Fits xs w v) where
       subst (IsSound (plain K.scripts) K.start) (sym (map-append image K.trace (events.Step p input ∷ [])))
       (sound_taken (plain K.scripts) K.start (events_of K) (entry p input None) f.sound.sound (λ g h mark drawn. absurd cc) (ap is_ok g.1))
 
-  pub step_fits : (p : ℕ) (input : Input) (n : Caused) (kept : ℕ → Option Input) (desk : DeskView) → bare n ≡ entry p input None → desk.taken ≡ v.desk.taken → desk.waiting ≡ v.desk.waiting
-      → desk.next ≡ v.desk.next → desk.kernel ≡ with_event v.desk.kernel (events.Step p input) → ((pid : ℕ) → kept pid ≡ (kept_for pid desk.kept))
+  pub step_fits : (p : ℕ) (input : Input) (n : Caused) (kept : List Kept) (desk : DeskView) → bare n ≡ entry p input None → desk.taken ≡ v.desk.taken → desk.waiting ≡ v.desk.waiting
+      → desk.next ≡ v.desk.next → desk.kernel ≡ with_event v.desk.kernel (events.Step p input) → kept ≡ desk.kept
       → refusal_of (effect_at v.desk.kernel (entry p input None)) ≡ None → Fits xs (with_kept (with_trace w (w.trace ++ Taken n ∷ [])) kept) (record v { desk = desk })
   step_fits p input n kept desk same t q number k answers h = record {
     seen = record {
@@ -162,17 +143,12 @@ module _ (xs : Exchanges) (w : World) (v : WorldView) (f : Fits xs w v) where
       kept = answers;
       taken = f.seen.taken ∙ (λ i. law_served (sym t i) v.replies);
       waiting = f.seen.waiting ∙ (λ i. (unanswered (sym t i) v.replies ++ sym q i));
-      refused = f.seen.refused;
+      server = f.seen.server;
       answered = f.seen.answered;
     };
     sound = subst (λ (x : KernelView). HasSoundTrace x) (sym k) (epoch_step K f.sound p input (sound_step p input h));
     kinds = subst AreFor (λ i. sym t i ++ sym q i) f.kinds;
   }
-
-  kept_same : (p pid : ℕ) → law_kept_for (table v.desk.kernel.scripts v.desk.kernel.limit) p None w.kept pid ≡ kept_for pid (forgotten p v.desk.kept)
-  kept_same p pid =
-      ap (cond (pid == p) None) (f.seen.kept pid)
-      ∙ (sym (kept_forgotten p v.desk.kept pid))
 
   steps_fit : (p : ℕ) (input : Input) → rule_refused v.desk p (rules.Steps input) ≡ None
       → Fits xs (used (table v.desk.kernel.scripts v.desk.kernel.limit) v.desk.kernel.start w p input) (record v { desk = turned v.desk p (rules.Steps input) })
@@ -180,30 +156,10 @@ module _ (xs : Exchanges) (w : World) (v : WorldView) (f : Fits xs w v) where
       let none = none_first (refusal_of (effect_at K (entry p input None))) (no_room (state_at K) (effect_at K (entry p input None))) (none_first (step_misfit K (entry p input None)) (no_place v.desk 1) h) in
       let room = places_free 1 (omega arith) (none_later (step_misfit K (entry p input None)) (no_place v.desk 1) h) in
       let g = ok_of (effect_at K (entry p input None)) none in
-      let same : used (table K.scripts K.limit) K.start w p input ≡ with_kept (stepping p input) (law_kept_for (table K.scripts K.limit) p None w.kept) =
+      let same : used (table K.scripts K.limit) K.start w p input ≡ with_kept (stepping p input) (forgotten p w.kept) =
       (λ i. cond (room i) (used_by (table K.scripts K.limit) K.start w p input ((does_seen p input ∙ g.1) i)) w) in
       subst (λ (x : World). Fits xs x (record v { desk = turned v.desk p (rules.Steps input) })) (sym same)
-      (step_fits p input (own p input) (law_kept_for (table K.scripts K.limit) p None w.kept) (turned v.desk p (rules.Steps input)) refl refl refl refl refl (kept_same p) none)
-
-  -- without a kept answer none is forgotten
-  none_kept : (p pid : ℕ) → kept_for p v.desk.kept ≡ None → w.kept pid ≡ kept_for pid (forgotten p v.desk.kept)
-  none_kept p pid none =
-      f.seen.kept pid
-      ∙ (elim (pid == p) as (λ b. (pid == p) ≡ b → kept_for pid v.desk.kept ≡ cond b None (kept_for pid v.desk.kept)) [
-        | true ↦ λ is. ap (λ n. kept_for n v.desk.kept) (eqb-true pid p is) ∙ none
-        | false ↦ λ is. refl
-      ] refl ∙ sym (kept_forgotten p v.desk.kept pid))
-
-  plain_fits : (p : ℕ) → kept_for p v.desk.kept ≡ None → rule_refused v.desk p (rules.Steps inputs.None) ≡ None
-      → Fits xs (other (table v.desk.kernel.scripts v.desk.kernel.limit) v.desk.kernel.start w p None) (record v { desk = turned v.desk p (rules.Steps inputs.None) })
-  plain_fits p empty h =
-      let none = none_first (refusal_of (effect_at K (entry p inputs.None None))) (no_room (state_at K) (effect_at K (entry p inputs.None None))) (none_first (step_misfit K (entry p inputs.None None)) (no_place v.desk 1) h) in
-      let room = places_free 1 (omega arith) (none_later (step_misfit K (entry p inputs.None None)) (no_place v.desk 1) h) in
-      let g = ok_of (effect_at K (entry p inputs.None None)) none in
-      let same : other (table K.scripts K.limit) K.start w p None ≡ stepping p inputs.None =
-      (λ i. cond (room i) (stepped_by (table K.scripts K.limit) K.start w (own p inputs.None) ((does_seen p inputs.None ∙ g.1) i)) w) in
-      subst (λ (x : World). Fits xs x (record v { desk = turned v.desk p (rules.Steps inputs.None) })) (sym same)
-      (step_fits p inputs.None (own p inputs.None) w.kept (turned v.desk p (rules.Steps inputs.None)) refl refl refl refl refl (λ pid. none_kept p pid empty) none)
+      (step_fits p input (own p input) (forgotten p w.kept) (turned v.desk p (rules.Steps input)) refl refl refl refl refl (ap (forgotten p) f.seen.kept) none)
 
   -- ---- a request more
 
@@ -282,7 +238,7 @@ module _ (xs : Exchanges) (w : World) (v : WorldView) (f : Fits xs w v) where
       kept = f.seen.kept;
       taken = f.seen.taken;
       waiting = request_seen p ask (Some (next_guess K)) (guess_request (table K.scripts K.limit) K.start w p ask) (guess_request_seen p ask);
-      refused = f.seen.refused;
+      server = f.seen.server;
       answered = f.seen.answered;
     };
     sound = epoch_guess K f.sound p inputs.Good (sound_guess p does is);
@@ -315,7 +271,7 @@ module _ (xs : Exchanges) (w : World) (v : WorldView) (f : Fits xs w v) where
       kept = f.seen.kept;
       taken = f.seen.taken;
       waiting = request_seen p ask None (ask_request (table K.scripts K.limit) K.start w p ask) (ask_request_seen p ask);
-      refused = f.seen.refused;
+      server = f.seen.server;
       answered = f.seen.answered;
     };
     sound = f.sound;
@@ -365,17 +321,16 @@ module _ (xs : Exchanges) (w : World) (v : WorldView) (f : Fits xs w v) where
           | false ↦ λ h. by_ask (asks.Store name ver bytes) tt h
         ] h
 
-    by_other : (kept : Option Input) → kept_for p v.desk.kept ≡ kept → RulePost (Ok turn) v.desk p (unless_kept kept (rules.Steps inputs.None)) new
+    by_other : (kept : Option Input) → RulePost (Ok turn) v.desk p (unless_kept kept (rules.Steps inputs.None)) new
         → Fits xs (other (table v.desk.kernel.scripts v.desk.kernel.limit) v.desk.kernel.start w p kept) (record v { desk = new })
-    by_other (Some input) is h = by_steps input h
-    by_other None is h =
-        subst (λ (d : DeskView). Fits xs (other (table K.scripts K.limit) K.start w p None) (record v { desk = d })) (sym h.2) (plain_fits p is h.0)
+    by_other (Some input) h = by_steps input h
+    by_other None h = by_steps inputs.None h
 
     by_else : RulePost (Ok turn) v.desk p (unless_kept (kept_for p v.desk.kept) (rules.Steps inputs.None)) new
-        → Fits xs (other (table v.desk.kernel.scripts v.desk.kernel.limit) v.desk.kernel.start w p (w.kept p)) (record v { desk = new })
+        → Fits xs (other (table v.desk.kernel.scripts v.desk.kernel.limit) v.desk.kernel.start w p (kept_for p w.kept)) (record v { desk = new })
     by_else h =
-        subst (λ (o : Option Input). Fits xs (other (table K.scripts K.limit) K.start w p o) (record v { desk = new })) (sym (f.seen.kept p))
-        (by_other (kept_for p v.desk.kept) refl h)
+        subst (λ (ks : List Kept). Fits xs (other (table K.scripts K.limit) K.start w p (kept_for p ks)) (record v { desk = new })) (sym f.seen.kept)
+        (by_other (kept_for p v.desk.kept) h)
 
     cached_seen : (name : Bytes) → version_of (get (state (table v.desk.kernel.scripts v.desk.kernel.limit) v.desk.kernel.start w.trace) (CopyOf name)) ≡ cached v.desk.kernel name
     cached_seen name = λ i. version_of (get (state_seen xs w v f.seen i) (CopyOf name))
@@ -391,14 +346,14 @@ module _ (xs : Exchanges) (w : World) (v : WorldView) (f : Fits xs w v) where
     by_next (nexts.Fetch name) h =
         let kept = kept_for p v.desk.kept in
         let same : law_turned (table K.scripts K.limit) K.start w p (turn_of (buffer K p) (Ok (nexts.Fetch name))) ≡ cond (asks_on name (pending v.desk)) w (fetched (table K.scripts K.limit) K.start w p name kept (cached K name)) =
-        (λ i. cond (asks_on_seen xs w v f.seen name i) w (fetched (table K.scripts K.limit) K.start w p name (f.seen.kept p i) (cached_seen name i))) in
+        (λ i. cond (asks_on_seen xs w v f.seen name i) w (fetched (table K.scripts K.limit) K.start w p name (kept_for p (f.seen.kept i)) (cached_seen name i))) in
         subst (λ (x : World). Fits xs x (record v { desk = new })) (sym same)
         (by_name (asks_on name (pending v.desk)) (unless_kept kept (fetch_rule name (cached K name))) (fetched (table K.scripts K.limit) K.start w p name kept (cached K name)) (by_fetch name kept (cached K name)) h)
     by_next (nexts.Store name) h =
         let kept = kept_for p v.desk.kept in
         let bytes = buffer K p in
         let same : law_turned (table K.scripts K.limit) K.start w p (turn_of (buffer K p) (Ok (nexts.Store name))) ≡ cond (asks_on name (pending v.desk)) w (stored (table K.scripts K.limit) K.start w p name bytes kept (cached K name)) =
-        (λ i. cond (asks_on_seen xs w v f.seen name i) w (stored (table K.scripts K.limit) K.start w p name bytes (f.seen.kept p i) (cached_seen name i))) in
+        (λ i. cond (asks_on_seen xs w v f.seen name i) w (stored (table K.scripts K.limit) K.start w p name bytes (kept_for p (f.seen.kept i)) (cached_seen name i))) in
         subst (λ (x : World). Fits xs x (record v { desk = new })) (sym same)
         (by_name (asks_on name (pending v.desk)) (unless_kept kept (store_rule name bytes (cached K name))) (stored (table K.scripts K.limit) K.start w p name bytes kept (cached K name)) (by_store name bytes kept (cached K name)) h)
     by_next nexts.Private h = by_else h

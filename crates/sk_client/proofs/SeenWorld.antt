@@ -1,29 +1,20 @@
 -- A world of the laws, and the same as its callers see it.
-use Rattle.std.specs.Prelude.{◌≡◌, ℕ, List, [], ◌∷◌, ◌++◌, map, Option, Some, None}
+use Rattle.std.specs.Prelude.{◌≡◌, ℕ, List, [], ◌∷◌, ◌++◌, map, Option}
 use Rattle.sk_record.specs.Trace.{Event as Happens, Taken, Commit, Fail}
-use Rattle.sk_objects.specs.Content.{ContentView}
-use Rattle.sk_script.specs.declared.instruction.Input.{Input}
-use Rattle.sk_script.specs.declared.instruction.Input.TheVariants as inputs
 use Rattle.sk_trace.specs.Entry.{EntryView}
 use Rattle.sk_kernel.specs.Kernel.{KernelView, events_of, last_guess}
 use Rattle.sk_server.specs.declared.request.Request.{Request as Sent}
 use Rattle.sk_server.specs.declared.request.Ask.{Ask}
-use Rattle.sk_server.specs.declared.request.Ask.TheVariants as asks
 use Rattle.sk_server.specs.declared.reply.Answer.{Answer}
-use Rattle.sk_server.specs.declared.reply.Answer.TheVariants as answers
 use Rattle.sk_server.specs.declared.reply.Reply.{Reply}
-use Rattle.sk_script.specs.declared.instruction.Input.TheVariants.{Good, Fresh, Stale}
-use Rattle.sk_server.specs.declared.request.Ask.TheVariants.{Get, Check, Store}
-use Rattle.sk_server.specs.declared.reply.Answer.TheVariants.{Yes, No, Copy, Dropped}
 use Rattle.sk_client.specs.declared.pending.PendingRequest.{PendingRequest}
 use Rattle.sk_client.proofs.CausedRequests.{Caused, Before, Served}
 use Rattle.sk_client.proofs.CausedWorld.{World}
 use Rattle.sk_client.proofs.Bare.{bare_event}
-use Rattle.sk_client.specs.Table.{Bytes}
 use Rattle.sk_client.proofs.WorldTable.{bare}
-use Rattle.sk_client.specs.Desk.{kept_for}
 use Rattle.sk_client.specs.Exchanges.{Exchanges}
 use Rattle.sk_client.specs.WorldView.{WorldView}
+use Rattle.sk_server.specs.Server.{new_server}
 
 -- ---- the same words in both
 
@@ -56,10 +47,10 @@ pub record IsSeen (served : Exchanges) (w : World) (v : WorldView) : Type 0 wher
   pub trace : map (bare_event bare) w.trace ≡ events_of v.desk.kernel
   pub drawn : w.drawn ≡ last_guess v.desk.kernel
   pub next : w.next ≡ v.desk.next
-  pub kept : (pid : ℕ) → w.kept pid ≡ kept_for pid v.desk.kept
+  pub kept : w.kept ≡ v.desk.kept
   pub taken : w.taken ≡ law_served v.desk.taken v.replies
   pub waiting : w.waiting ≡ (unanswered v.desk.taken v.replies ++ v.desk.waiting)
-  pub refused : w.refused ≡ v.server.refused
+  pub server : w.server ≡ v.server
   pub answered : map answered_there (w.given ++ w.taken) ≡ map answered_here served
 
 -- ---- where a world begins
@@ -79,9 +70,9 @@ begun k = record {
   trace = map event_before (events_of k);
   drawn = last_guess k;
   next = 1;
-  kept = λ pid. None;
+  kept = [];
   taken = [];
   waiting = [];
-  refused = [];
+  server = new_server;
   given = [];
 }

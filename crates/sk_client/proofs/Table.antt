@@ -1,10 +1,8 @@
 -- The kernel's table is one: what the laws of worlds ask of a table holds of it, from the start of every boot on.
-use Rattle.std.proofs.Common.{◌≡◌, ℕ, false, List, [], map, Some, None, Ok, IsSome, inl, inr, refl, sym, ◌∙◌, subst}
+use Rattle.std.proofs.Common.{◌≡◌, ℕ, false, List, map, Some, None, Ok, IsSome, inl, inr, refl, sym, ◌∙◌, subst}
 use Rattle.std.specs.Prelude.{◌⊎◌}
 use Rattle.std.specs.List.{Contains}
 use Rattle.std.specs.FinMap.{get}
-use Rattle.std.proofs.lemmas.Bool.{eq-eqb}
-use Rattle.std.proofs.lemmas.Slice.Eq.{bytes_eq-Decides}
 use Rattle.sk_record.specs.Step.{Effect}
 use Rattle.sk_record.specs.Run.{outcome, run}
 use Rattle.sk_ids.specs.declared.entity.Entity.{Entity}
@@ -84,10 +82,9 @@ pub is_table : (scripts : Scripts) (limit : ℕ) (boot : BootView) → IsNumbere
 is_table scripts limit boot numbered =
     let tidy = tidy_start boot numbered in
     record {
+      last = refl;
       total = entity_total;
       exact = entity_exact;
-      same_process = λ p. eq-eqb p p refl;
-      same_name = λ m. (bytes_eq-Decides m m).1 refl;
       apart = λ p m h. cc;
       processes = λ p q h. (let h2 : Proc p ≡ Proc q = h in cc);
       copies = λ m n h. (let h2 : Copy m ≡ Copy n = h in cc);

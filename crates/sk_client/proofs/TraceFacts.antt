@@ -20,7 +20,7 @@ use Rattle.sk_record.proofs.Machine.{nil_right, has_filter}
 use Rattle.sk_record.proofs.UndoStates.{and_both}
 use Rattle.sk_record.proofs.Tidy.{recorded_more}
 use Rattle.sk_record.proofs.Sound.{undecided_is, tests, has_entry, is_drawn, marked_is}
-use Rattle.sk_client.proofs.Each.{Each, each_keep, has_from, has_left}
+use Rattle.sk_client.proofs.Each.{Each, each_keep, has_from}
 
 pub mark_has : (m : Option ℕ) (y : ℕ) → has y (marks m) ≡ true → m ≡ Some y
 mark_has None y h = absurd (true≢false (sym h))
@@ -57,18 +57,12 @@ module _ {E V W F N : Type 0} (K : System E V W F N) where
         dirt_more (dirtied (hit K.order g dirty f) f dirty) (after K (outcome K s x) s) ns n
 
 module _ {E V W F N : Type 0} (K : System E V W F N) (start : FinMap K.order V) where
-  open_path : (es : List (Event N)) (e : Event N) → undecided_of K start (es ++ e ∷ []) ≡ (all_recorded K start no_record (es ++ e ∷ [])).undecided
-  open_path es e = refl
-
   pub open_taken : (es : List (Event N)) (n : N) (y : ℕ) → has y (undecided_of K start (es ++ Taken n ∷ [])) ≡ true → (has y (undecided_of K start es) ≡ true) ⊎ (K.mark n ≡ Some y)
   open_taken es n y h =
       elim (has_from y (undecided_of K start es) (marks (K.mark n)) (ap (λ (r : Record N). has y r.undecided) (sym (recorded_more K start no_record es (Taken n))) ∙ h)) [
         | inl before ↦ inl before
         | inr new ↦ inr (mark_has (K.mark n) y new)
       ]
-
-  pub open_stays : (es : List (Event N)) (n : N) (y : ℕ) → has y (undecided_of K start es) ≡ true → has y (undecided_of K start (es ++ Taken n ∷ [])) ≡ true
-  open_stays es n y h = ap (λ (r : Record N). has y r.undecided) (recorded_more K start no_record es (Taken n)) ∙ has_left y (undecided_of K start es) (marks (K.mark n)) h
 
   pub open_commit : (es : List (Event N)) (g y : ℕ) → has y (undecided_of K start (es ++ Commit g ∷ [])) ≡ true → has y (undecided_of K start es) ≡ true
   open_commit es g y h =

@@ -1,13 +1,10 @@
 -- The kernel's table, as the laws of worlds have it.
-use Rattle.std.specs.Prelude.{ℕ, ◌==◌, bytes_eq, Result, Ok, Err}
+use Rattle.std.specs.Prelude.{ℕ, Result, Ok, Err}
 use Rattle.std.specs.FinMap.{get}
 use Rattle.sk_ids.specs.Entity.{entity_cmp}
 use Rattle.sk_ids.specs.declared.entity.Entity.{Entity}
 use Rattle.sk_ids.specs.declared.entity.Entity.TheVariants.{Proc, Copy}
-use Rattle.sk_objects.specs.Content.{ContentView}
 use Rattle.sk_objects.specs.declared.content.TheConstants.{LAST_VERSION}
-use Rattle.sk_script.specs.declared.instruction.Input.{Input}
-use Rattle.sk_script.specs.declared.instruction.Input.TheVariants as inputs
 use Rattle.sk_store.specs.declared.entity_state.EntityState.{EntityState}
 use Rattle.sk_trace.specs.Entry.{EntryView}
 use Rattle.sk_plain.specs.declared.refusal.Refusal.{Refusal}
@@ -15,7 +12,6 @@ use Rattle.sk_plain.specs.declared.next.Next.{Next}
 use Rattle.sk_plain.specs.declared.next.Next.TheVariants.{Signal, Fetch, Store, Private, Waits, Full, Other}
 use Rattle.sk_plain.specs.Act.{Scripts, Saying, act}
 use Rattle.sk_plain.specs.Next.{next_of}
-use Rattle.sk_script.specs.declared.instruction.Input.TheVariants.{Good, Fresh, Stale}
 use Rattle.sk_client.proofs.CausedRequests.{Caused}
 use Rattle.sk_client.proofs.CausedWorld.{Table, Next as Turn, Halted, Due, Fetches, Stores, Else}
 use Rattle.sk_client.specs.Table.{Bytes, copy_of, version_of, buffer_of}
@@ -46,8 +42,6 @@ table scripts limit = record {
   proc = Proc;
   copy = Copy;
   content = λ c. copy_of c;
-  same_process = ◌==◌;
-  same_name = bytes_eq;
   last = LAST_VERSION;
   limit = limit;
   most = MOST_GUESSES;

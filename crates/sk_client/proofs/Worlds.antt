@@ -1,14 +1,14 @@
 -- What holds of a world holds after every event.
 use Rattle.std.proofs.Common.{◌≡◌, ℕ, zero, suc, ◌+◌, ◌≤◌, ◌<◌, true, false, cond, not, ◌&&◌, List, [], ◌∷◌, ◌++◌, map, Option, Some, None, Ok, Err, inl, inr, refl, sym, ◌∙◌, ap, subst, arith, append_assoc}
-use Rattle.std.specs.Prelude.{◌⊎◌, ◌==◌, nat_lt}
+use Rattle.std.specs.Prelude.{◌⊎◌, ◌==◌, nat_lt, ◌||◌, is_none, bytes_eq}
 use Rattle.std.specs.List.{list_any, Contains}
 use Rattle.std.specs.FinMap.{FinMap, get}
 use Rattle.std.proofs.lemmas.Bool.{true≢false, cases_Bool, cases_eq, leb-true, eq-eqb}
-use Rattle.std.proofs.lemmas.List.Elements.{Contains-append_right, Contains-push}
+use Rattle.std.proofs.lemmas.List.Elements.{Contains-append_right, Contains-push, Contains-push_cases}
 use Rattle.sk_record.specs.Step.{Effect}
 use Rattle.sk_record.specs.Run.{outcome, run, IsLegal}
 use Rattle.sk_record.specs.Notes.{has}
-use Rattle.sk_record.specs.Trace.{Event, Taken, Commit, Fail, IsSound, record_of, marks}
+use Rattle.sk_record.specs.Trace.{Event, Taken, Commit, Fail, IsSound, record_of}
 use Rattle.sk_record.proofs.UndoStates.{and_both, any_at}
 use Rattle.sk_record.proofs.Sound.{undecided_is, has_commit, any_from, record_more, sound_fail}
 use Rattle.sk_script.specs.declared.instruction.Input.{Input}
@@ -20,24 +20,25 @@ use Rattle.sk_server.specs.declared.reply.Answer.{Answer}
 use Rattle.sk_server.specs.declared.reply.Answer.TheVariants.{Yes, No, Copy, Dropped}
 use Rattle.sk_client.specs.declared.pending.PendingRequest.{PendingRequest}
 use Rattle.sk_client.proofs.CausedRequests.{Caused, Served}
-use Rattle.sk_client.specs.Desk.{name_of}
+use Rattle.sk_client.specs.Desk.{name_of, sent, kept_for, forgotten, with_kept as kept_with, asks_for, asks_on}
 use Rattle.sk_script.specs.declared.instruction.Input.TheVariants as inputs
-use Rattle.sk_client.proofs.Remembered.{is_possible, is_accepted, refused_by, remembered, is_dropped, answer_to, refused_after}
-use Rattle.sk_client.proofs.CausedWorld.{Table, places, has_places, has_guess, has_number, asked_now, asked_too, asked_count, kept_for, answer_kept, Next, Halted, Due, Fetches, Stores, Else, World, WorldEvent, Turn, Serve, Reply, kernel, own, asked_entry, input_of, is_asked, commits, is_lost, is_void, or_zero, state, undecided, pending, served, with_given, with_kept, with_trace, asks_for, asks_on, stepped_by, stepped, used_by, used, guess_request, guess_entry, guessed_by, guessed, ask_request, asked, fetched, stored, other, turned, answered, serve, decided, stepped_for, given_to, reply, event, world_after}
+use Rattle.sk_server.specs.Server.{ServerView, refused_by, listed, remembered, is_dropped, judged, answer_to, answered}
+use Rattle.sk_server.specs.Files.{file_of, is_fitting}
+use Rattle.sk_objects.specs.declared.content.TheConstants.{LAST_VERSION}
+use Rattle.sk_client.proofs.CausedWorld.{Table, places, has_places, has_guess, has_number, asked_now, asked_too, asked_count, answer_kept, Next, Halted, Due, Fetches, Stores, Else, World, WorldEvent, Turn, Serve, Reply, Edit, kernel, own, asked_entry, input_of, commits, is_lost, is_void, or_zero, state, undecided, pending, served, with_given, with_kept, with_trace, stepped_by, stepped, used_by, used, guess_request, guess_entry, guessed_by, guessed, ask_request, asked, fetched, stored, other, turned, serve, decided, stepped_for, given_to, reply, event, world_after}
 use Rattle.sk_client.proofs.CausedLaws.{Takes, Sets, IsTable}
-use Rattle.sk_client.proofs.Each.{at_number, at_same, at_other, cons_first, has_left, has_right}
-use Rattle.sk_client.proofs.TraceFacts.{has_mark, legal_of}
+use Rattle.sk_client.proofs.Each.{at_number, at_same, at_other, cons_first, has_left, has_right, filter_was, cons_later}
+use Rattle.sk_client.proofs.TraceFacts.{legal_of}
 use Rattle.sk_client.proofs.Records.{Quiet, tags_of_step, not_true}
 use Rattle.sk_client.proofs.Queues.{any_of, queue_le, not_dropped}
-use Rattle.sk_client.proofs.Invariant.{counted, ReadyFor, Ready, HasStep, Invariant}
+use Rattle.sk_client.proofs.Invariant.{counted, ReadyFor, Ready, HasStep, Invariant, is_accepted}
 use Rattle.sk_client.proofs.KernelEvents.{no_guess, inv_plain, inv_commit, inv_fail}
 use Rattle.sk_client.proofs.RequestEvents.{inv_ask, inv_guess, inv_drop, inv_done, inv_answer}
 use Rattle.sk_client.proofs.PlaceFacts.{asked_le, asked_push, places_step, places_guess, places_commit, places_fail}
-use Rattle.sk_client.proofs.RequestFacts.{RequestFacts, map_push, facts_kept, facts_own, facts_ask, facts_guess, facts_serve, facts_none, facts_commit, facts_fail, facts_step}
+use Rattle.sk_client.proofs.RequestFacts.{RequestFacts, map_push, facts_kept, facts_own, facts_ask, facts_guess, facts_serve, facts_none, facts_commit, facts_fail, facts_step, NoGood}
 use Rattle.sk_client.specs.Table.{Bytes}
-
-asked_none : (o : Option ℕ) → o ≡ None → is_asked o ≡ true
-asked_none o is = ap is_asked is
+use Rattle.sk_client.specs.declared.pending.Kept.{Kept}
+use Rattle.std.proofs.lemmas.Slice.Eq.{bytes_eq-Decides}
 
 -- the step that an asked request's answer gives is accepted
 pub takes_by : {E V W F : Type 0} (S : Table E V W F) (start s : FinMap S.order V) (p : ℕ) (ask : Ask) (ans : Answer) (x : Input) → ReadyFor S start s p ask → input_of ask ans ≡ Some x
@@ -72,27 +73,34 @@ never_good (Get m) c is = cc
 never_good (Check m v) c is = cc
 never_good (Store m v b) c is = cc
 
+-- a guess that an answer refuses is remembered
+refused_there : (o : Option ℕ) (a : Answer) (g : ℕ) → o ≡ Some g → is_accepted a ≡ false → has g (listed (refused_by o a)) ≡ true
+refused_there o Yes g its bad = absurd (true≢false bad)
+refused_there o (No c) g its bad = ap (λ o. has g (listed o)) its ∙ ap (λ b. b || false) (eq-eqb g g refl)
+refused_there o (Copy c) g its bad = absurd (true≢false bad)
+refused_there o Dropped g its bad = ap (λ o. has g (listed o)) its ∙ ap (λ b. b || false) (eq-eqb g g refl)
+
 module _ {E V W F : Type 0} (S : Table E V W F) (start : FinMap S.order V) (table : IsTable S start) where
   abbrev pub Holds : World → Type 0
-  Holds w = Invariant S start w.trace w.drawn (served w) w.given (pending w) w.waiting w.refused
+  Holds w = Invariant S start w.trace w.drawn (served w) w.given (pending w) w.waiting w.server.refused
 
   abbrev IsNext : World → ℕ → Bytes → Type 0
   IsNext w p m = (S.next (state S start w.trace) p ≡ Fetches m) ⊎ ((b : Bytes) × (S.next (state S start w.trace) p ≡ Stores m b))
 
   -- no asked request of this process, and none on this name
-  not_its : (w : World) (p : ℕ) → asks_for S start w p ≡ false → (q : PendingRequest) → Contains (pending w) q → q.guess ≡ None → p ≡ q.process → ⊥
+  not_its : (w : World) (p : ℕ) → asks_for p (pending w) ≡ false → (q : PendingRequest) → Contains (pending w) q → q.guess ≡ None → p ≡ q.process → ⊥
   not_its w p none q there asks same =
-      true≢false (sym (any_at (λ (q : PendingRequest). is_asked q.guess && S.same_process p q.process) (pending w) q there
-      (λ i. asked_none q.guess asks i && (ap (S.same_process p) (sym same) ∙ table.same_process p) i)) ∙ none)
+      true≢false (sym (any_at (λ (q : PendingRequest). is_none q.guess && (q.process == p)) (pending w) q there
+      (λ i. is_none (asks i) && eq-eqb q.process p (sym same) i)) ∙ none)
 
-  not_on : (w : World) (m : Bytes) → asks_on S start w m ≡ false → (q : PendingRequest) → Contains (pending w) q → q.guess ≡ None → m ≡ name_of q.ask → ⊥
+  not_on : (w : World) (m : Bytes) → asks_on m (pending w) ≡ false → (q : PendingRequest) → Contains (pending w) q → q.guess ≡ None → m ≡ name_of q.ask → ⊥
   not_on w m none q there asks same =
-      true≢false (sym (any_at (λ (q : PendingRequest). is_asked q.guess && S.same_name m (name_of q.ask)) (pending w) q there
-      (λ i. asked_none q.guess asks i && (ap (S.same_name m) (sym same) ∙ table.same_name m) i)) ∙ none)
+      true≢false (sym (any_at (λ (q : PendingRequest). is_none q.guess && bytes_eq (name_of q.ask) m) (pending w) q there
+      (λ i. is_none (asks i) && (bytes_eq-Decides (name_of q.ask) m).1 (sym same) i)) ∙ none)
 
   -- a step of a turn does not touch what asked requests wait for
   quiet_turn : (w : World) (p : ℕ) (x : Input) (f : Effect E V W) → outcome (kernel S) (state S start w.trace) (own p x) ≡ Ok f
-      → IsLegal (kernel S) start (record_of (kernel S) start w.trace) → (S.next (state S start w.trace) p ≡ Due → x ≡ inputs.None) → asks_for S start w p ≡ false → ((m : Bytes) → IsNext w p m → asks_on S start w m ≡ false)
+      → IsLegal (kernel S) start (record_of (kernel S) start w.trace) → (S.next (state S start w.trace) p ≡ Due → x ≡ inputs.None) → asks_for p (pending w) ≡ false → ((m : Bytes) → IsNext w p m → asks_on m (pending w) ≡ false)
       → (q : PendingRequest) → Contains (pending w) q → q.guess ≡ None → Ready S start (record_of (kernel S) start w.trace) (undecided S start w.trace) q
       → Quiet S start table f q.process (name_of q.ask)
   quiet_turn w p x f is legal due none clear q there asks ready = (
@@ -110,18 +118,22 @@ module _ {E V W F : Type 0} (S : Table E V W F) (start : FinMap S.order V) (tabl
   pending_push w q = append_assoc (map (λ (x : Served). x.0) w.taken) w.waiting (q ∷ [])
 
   -- ---- an answer of the server
-  drops_not : (refused : List ℕ) (q : PendingRequest) (a : Answer) → (answer_to refused q a ≡ Dropped → ⊥) → (y : ℕ) → has y q.rests ≡ true → has y (remembered q refused) ≡ true → ⊥
-  drops_not refused q a kept y carries there =
-      elim (cases_Bool (is_dropped q (remembered q refused))) [
-        | inl is ↦ kept (ap (λ b. cond b Dropped a) is)
-        | inr no_drop ↦ not_dropped q (remembered q refused) no_drop y carries there
+  drops_not : (server : ServerView) (q : PendingRequest) → (answer_to server (sent q) ≡ Dropped → ⊥) → (y : ℕ) → has y q.rests ≡ true → has y (remembered (sent q) server.refused) ≡ true → ⊥
+  drops_not server q kept y carries there =
+      elim (cases_Bool (is_dropped (sent q) (remembered (sent q) server.refused))) [
+        | inl is ↦ kept (ap (λ b. cond b Dropped (judged server.files q.ask)) is)
+        | inr no_drop ↦ not_dropped q (remembered (sent q) server.refused) no_drop y carries there
       ]
 
-  yes_fits : (refused : List ℕ) (q : PendingRequest) (a : Answer) → is_possible S.last q.ask a ≡ true → (m : Bytes) (v : ℕ) (b : Bytes) → q.ask ≡ Store m v b → answer_to refused q a ≡ Yes → v < S.last
-  yes_fits refused q a possible m v b ask says =
-      elim (is_dropped q (remembered q refused)) as (λ t. cond t Dropped a ≡ Yes → v < S.last) [
+  yes_fits : (server : ServerView) (q : PendingRequest) (m : Bytes) (v : ℕ) (b : Bytes) → q.ask ≡ Store m v b → answer_to server (sent q) ≡ Yes → v < S.last
+  yes_fits server q m v b ask says =
+      elim (is_dropped (sent q) (remembered (sent q) server.refused)) as (λ t. cond t Dropped (judged server.files q.ask) ≡ Yes → v < S.last) [
         | true ↦ λ is. cc
-        | false ↦ λ is. lt_of v S.last ((λ i. is_possible S.last (sym ask i) (sym is i)) ∙ possible)
+        | false ↦ λ is.
+            elim (is_fitting server.files m v) as (λ t. is_fitting server.files m v ≡ t → cond t Yes (No (file_of server.files m)) ≡ Yes → v < S.last) [
+              | true ↦ λ fits _. subst (λ n. v < n) (sym table.last) (lt_of v LAST_VERSION (and_both _ _ fits).1)
+              | false ↦ λ _ no_yes. cc
+            ] refl (ap (judged server.files) (sym ask) ∙ is)
       ] says
 
   served_push : (w : World) (x : Served) → (w.given ++ w.taken) ++ x ∷ [] ≡ w.given ++ (w.taken ++ x ∷ [])
@@ -167,17 +179,26 @@ module _ {E V W F : Type 0} (S : Table E V W F) (start : FinMap S.order V) (tabl
   abbrev pub All : World → Type 0
   All w = Holds S start table w × HasFacts w × Room w
 
-  kept_none : (w : World) → HasFacts w → (p : ℕ) (q : ℕ) (x : Input) → kept_for S p None w.kept q ≡ Some x → x ≡ Good → ⊥
-  kept_none w t p q x =
-      elim (S.same_process q p) as (λ b. cond b None (w.kept q) ≡ Some x → x ≡ Good → ⊥) [ true ↦ λ is _. cc | false ↦ t.answers q x ]
+  forgets : (kept : List Kept) → NoGood kept → (p : ℕ) → NoGood (forgotten p kept)
+  forgets kept answers p k there = answers k (filter_was (λ (k : Kept). not (k.process == p)) kept k there)
 
-  kept_some : (kept : ℕ → Option Input) → ((p : ℕ) (x : Input) → kept p ≡ Some x → x ≡ Good → ⊥) → (p : ℕ) (ask : Ask) (c : ContentView) (q : ℕ) (x : Input)
-      → kept_for S p (Some (answer_kept ask c)) kept q ≡ Some x → x ≡ Good → ⊥
-  kept_some kept answers p ask c q x =
-      elim (S.same_process q p) as (λ b. cond b (Some (answer_kept ask c)) (kept q) ≡ Some x → x ≡ Good → ⊥) [
-        | true ↦ λ is good. never_good ask c (let one : answer_kept ask c ≡ x = cc in one ∙ good)
-        | false ↦ answers q x
+  keeps_more : (kept : List Kept) → NoGood kept → (p : ℕ) (ask : Ask) (c : ContentView) → NoGood (kept_with p (answer_kept ask c) kept)
+  keeps_more kept answers p ask c k there good =
+      elim (Contains-push_cases (forgotten p kept) (record { process = p; input = answer_kept ask c }) k there) [
+        | inl before ↦ forgets kept answers p k before good
+        | inr is ↦ never_good ask c (ap (λ (k : Kept). k.input) is ∙ good)
       ]
+
+  kept_in : (p : ℕ) (ks : List Kept) (x : Input) → kept_for p ks ≡ Some x → (k : Kept) × Contains ks k × (k.input ≡ x)
+  kept_in p [] x is = cc
+  kept_in p (k ∷ ks) x is =
+      elim (k.process == p) as (λ b. cond b (Some k.input) (kept_for p ks) ≡ Some x → (j : Kept) × Contains (k ∷ ks) j × (j.input ≡ x)) [
+        | true ↦ λ is. (k, cons_first k ks, (let same : k.input ≡ x = cc in same))
+        | false ↦ λ is. (let rest = kept_in p ks x is in (rest.0, cons_later k ks rest.0 rest.1, rest.2))
+      ] is
+
+  no_good : (w : World) → HasFacts w → (p : ℕ) (x : Input) → kept_for p w.kept ≡ Some x → x ≡ Good → ⊥
+  no_good w t p x is good = (let k = kept_in p w.kept x is in t.answers k.0 k.1 (k.2 ∙ good))
 
   room_step : (w : World) (n : Caused) → has_places S start 1 w ≡ true → n.guess ≡ None → places S start (w.trace ++ Taken n ∷ []) (pending w) ≤ S.limit
   room_step w n room none =
@@ -186,38 +207,26 @@ module _ {E V W F : Type 0} (S : Table E V W F) (start : FinMap S.order V) (tabl
       omega arith
 
   -- ---- turns
-  used_keeps : (w : World) (p : ℕ) (x : Input) → (x ≡ Good → ⊥) → (S.next (state S start w.trace) p ≡ Due → x ≡ inputs.None) → asks_for S start w p ≡ false → ((m : Bytes) → IsNext S start table w p m → asks_on S start w m ≡ false) → All w → All (used S start w p x)
+  used_keeps : (w : World) (p : ℕ) (x : Input) → (x ≡ Good → ⊥) → (S.next (state S start w.trace) p ≡ Due → x ≡ inputs.None) → asks_for p (pending w) ≡ false → ((m : Bytes) → IsNext S start table w p m → asks_on m (pending w) ≡ false) → All w → All (used S start w p x)
   used_keeps w p x bad due none clear i =
       elim (has_places S start 1 w) as (λ t. has_places S start 1 w ≡ t → All (cond t (used_by S start w p x (outcome (kernel S) (state S start w.trace) (own p x))) w)) [
         | false ↦ λ _. i
         | true ↦ λ room.
             elim (outcome (kernel S) (state S start w.trace) (own p x)) as (λ o. outcome (kernel S) (state S start w.trace) (own p x) ≡ o → All (used_by S start w p x o)) [
               | Ok f ↦ λ is. (
-                inv_plain S start table w.trace w.drawn (served w) w.given (pending w) w.waiting w.refused (own p x) f i.0 is refl
+                inv_plain S start table w.trace w.drawn (served w) w.given (pending w) w.waiting w.server.refused (own p x) f i.0 is refl
                     (λ y there hits q cause. cc) (λ q cause. cc) (λ q cause good. cc) (quiet_turn S start table w p x f is (legal_of (kernel S) start w.trace i.0.sound) due none clear),
                 facts_kept S start first old (w.trace ++ Taken (own p x) ∷ []) w.drawn w.kept w.next (served w) w.given w.waiting
                     (facts_own S start first old w.trace w.drawn w.kept w.next (served w) w.given w.waiting i.1 (own p x) refl bad)
-                    (kept_for S p None w.kept) (kept_none w i.1 p),
+                    (forgotten p w.kept) (forgets w.kept i.1.answers p),
                 room_step w (own p x) room refl,
               )
               | Err why ↦ λ is. i
             ] refl
       ] refl
 
-  stepped_keeps : (w : World) (p : ℕ) (x : Input) → (x ≡ Good → ⊥) → (S.next (state S start w.trace) p ≡ Due → x ≡ inputs.None) → asks_for S start w p ≡ false → ((m : Bytes) → IsNext S start table w p m → asks_on S start w m ≡ false) → has_places S start 1 w ≡ true → All w → All (stepped S start w (own p x))
-  stepped_keeps w p x bad due none clear room i =
-      elim (outcome (kernel S) (state S start w.trace) (own p x)) as (λ o. outcome (kernel S) (state S start w.trace) (own p x) ≡ o → All (stepped_by S start w (own p x) o)) [
-        | Ok f ↦ λ is. (
-          inv_plain S start table w.trace w.drawn (served w) w.given (pending w) w.waiting w.refused (own p x) f i.0 is refl
-              (λ y there hits q cause. cc) (λ q cause. cc) (λ q cause good. cc) (quiet_turn S start table w p x f is (legal_of (kernel S) start w.trace i.0.sound) due none clear),
-          facts_own S start first old w.trace w.drawn w.kept w.next (served w) w.given w.waiting i.1 (own p x) refl bad,
-          room_step w (own p x) room refl,
-        )
-        | Err why ↦ λ is. i
-      ] refl
-
   guessed_keeps : (w : World) (p : ℕ) (ask : Ask) → Takes S (state S start w.trace) p ask Good → (S.next (state S start w.trace) p ≡ Due → ⊥)
-      → asks_for S start w p ≡ false → ((m : Bytes) → IsNext S start table w p m → asks_on S start w m ≡ false) → All w → All (guessed S start w p ask)
+      → asks_for p (pending w) ≡ false → ((m : Bytes) → IsNext S start table w p m → asks_on m (pending w) ≡ false) → All w → All (guessed S start w p ask)
   guessed_keeps w p ask t not_due none clear i =
       let q = guess_request S start w p ask in
       let n = guess_entry S start w p ask in
@@ -226,8 +235,8 @@ module _ {E V W F : Type 0} (S : Table E V W F) (start : FinMap S.order V) (tabl
         | false ↦ λ _. i
         | true ↦ λ room.
             subst (λ o. All (guessed_by S start w p ask o)) (sym t.accepted) (
-              subst (λ qs. Invariant S start (w.trace ++ Taken n ∷ []) (suc w.drawn) (served w) w.given qs (w.waiting ++ q ∷ []) w.refused) (pending_push S start table w q)
-                  (inv_guess S start table w.trace w.drawn (served w) w.given (pending w) w.waiting w.refused q n i.0 t refl refl refl refl
+              subst (λ qs. Invariant S start (w.trace ++ Taken n ∷ []) (suc w.drawn) (served w) w.given qs (w.waiting ++ q ∷ []) w.server.refused) (pending_push S start table w q)
+                  (inv_guess S start table w.trace w.drawn (served w) w.given (pending w) w.waiting w.server.refused q n i.0 t refl refl refl refl
                   (quiet_turn S start table w p Good t.effect t.accepted (legal_of (kernel S) start w.trace i.0.sound) (λ due. absurd (not_due due)) none clear)),
               facts_guess S start first old w.trace w.drawn w.kept w.next (served w) w.given w.waiting i.1 q n refl refl refl refl,
               (let test = (and_both (has_guess S start w) (has_places S start 2 w) (and_both (has_number S start w) (has_guess S start w && has_places S start 2 w) room).1).1 in
@@ -240,14 +249,14 @@ module _ {E V W F : Type 0} (S : Table E V W F) (start : FinMap S.order V) (tabl
       ] refl
 
   asked_keeps : (w : World) (p : ℕ) (ask : Ask) → ReadyFor S start (state S start w.trace) p ask → (get (state S start w.trace) (S.proc p) ≡ None → ⊥)
-      → asks_for S start w p ≡ false → asks_on S start w (name_of ask) ≡ false → All w → All (asked S start w p ask)
+      → asks_for p (pending w) ≡ false → asks_on (name_of ask) (pending w) ≡ false → All w → All (asked S start w p ask)
   asked_keeps w p ask ready there none free i =
       let q = ask_request S start w p ask in
       elim (has_number S start w && has_places S start 1 w) as (λ b. (has_number S start w && has_places S start 1 w) ≡ b → All (cond b (asked_now S start w p ask) w)) [
         | false ↦ λ _. i
         | true ↦ λ room. (
-          subst (λ qs. Invariant S start w.trace w.drawn (served w) w.given qs (w.waiting ++ q ∷ []) w.refused) (pending_push S start table w q)
-              (inv_ask S start table w.trace w.drawn (served w) w.given (pending w) w.waiting w.refused q i.0 refl refl refl ready there
+          subst (λ qs. Invariant S start w.trace w.drawn (served w) w.given qs (w.waiting ++ q ∷ []) w.server.refused) (pending_push S start table w q)
+              (inv_ask S start table w.trace w.drawn (served w) w.given (pending w) w.waiting w.server.refused q i.0 refl refl refl ready there
               (λ r h asks. ((λ same. not_its S start table w p none r h asks (sym same)), λ same. not_on S start table w (name_of ask) free r h asks (sym same)))),
           facts_ask S start first old w.trace w.drawn w.kept w.next (served w) w.given w.waiting i.1 q refl,
           (let test = (and_both (has_number S start w) (has_places S start 1 w) room).1 in
@@ -258,16 +267,16 @@ module _ {E V W F : Type 0} (S : Table E V W F) (start : FinMap S.order V) (tabl
         )
       ] refl
 
-  fetched_keeps : (w : World) (p : ℕ) (m : Bytes) (kept : Option Input) (v : Option ℕ) → w.kept p ≡ kept → S.next (state S start w.trace) p ≡ Fetches m → S.cached (state S start w.trace) m ≡ v
-      → asks_for S start w p ≡ false → asks_on S start w m ≡ false → ((m : Bytes) → IsNext S start table w p m → asks_on S start w m ≡ false) → All w → All (fetched S start w p m kept v)
-  fetched_keeps w p m (Some x) v has_kept next cached none free clear i = used_keeps w p x (i.1.answers p x has_kept) (λ due. (let both : Fetches m ≡ Due = sym next ∙ due in cc)) none clear i
+  fetched_keeps : (w : World) (p : ℕ) (m : Bytes) (kept : Option Input) (v : Option ℕ) → kept_for p w.kept ≡ kept → S.next (state S start w.trace) p ≡ Fetches m → S.cached (state S start w.trace) m ≡ v
+      → asks_for p (pending w) ≡ false → asks_on m (pending w) ≡ false → ((m : Bytes) → IsNext S start table w p m → asks_on m (pending w) ≡ false) → All w → All (fetched S start w p m kept v)
+  fetched_keeps w p m (Some x) v has_kept next cached none free clear i = used_keeps w p x (no_good w i.1 p x has_kept) (λ due. (let both : Fetches m ≡ Due = sym next ∙ due in cc)) none clear i
   fetched_keeps w p m None (Some v) has_kept next cached none free clear i = guessed_keeps w p (Check m v) (table.fetch_good (state S start w.trace) p m v next cached) (λ due. (let both : Fetches m ≡ Due = sym next ∙ due in cc)) none clear i
   fetched_keeps w p m None None has_kept next cached none free clear i =
       asked_keeps w p (Get m) (λ c. table.fetch_fresh (state S start w.trace) p m c next) (table.fetch_there (state S start w.trace) p m next) none free i
 
-  stored_keeps : (w : World) (p : ℕ) (m : Bytes) (b : Bytes) (kept : Option Input) (v : Option ℕ) → w.kept p ≡ kept → S.next (state S start w.trace) p ≡ Stores m b → S.cached (state S start w.trace) m ≡ v
-      → asks_for S start w p ≡ false → asks_on S start w m ≡ false → ((m : Bytes) → IsNext S start table w p m → asks_on S start w m ≡ false) → All w → All (stored S start w p m b kept v)
-  stored_keeps w p m b (Some x) v has_kept next cached none free clear i = used_keeps w p x (i.1.answers p x has_kept) (λ due. (let both : Stores m b ≡ Due = sym next ∙ due in cc)) none clear i
+  stored_keeps : (w : World) (p : ℕ) (m : Bytes) (b : Bytes) (kept : Option Input) (v : Option ℕ) → kept_for p w.kept ≡ kept → S.next (state S start w.trace) p ≡ Stores m b → S.cached (state S start w.trace) m ≡ v
+      → asks_for p (pending w) ≡ false → asks_on m (pending w) ≡ false → ((m : Bytes) → IsNext S start table w p m → asks_on m (pending w) ≡ false) → All w → All (stored S start w p m b kept v)
+  stored_keeps w p m b (Some x) v has_kept next cached none free clear i = used_keeps w p x (no_good w i.1 p x has_kept) (λ due. (let both : Stores m b ≡ Due = sym next ∙ due in cc)) none clear i
   stored_keeps w p m b None (Some v) has_kept next cached none free clear i =
       let s = state S start w.trace in
       let good = table.store_good (record_of (kernel S) start w.trace) p m b v (legal_of (kernel S) start w.trace i.0.sound) next (ap or_zero cached) in
@@ -279,64 +288,60 @@ module _ {E V W F : Type 0} (S : Table E V W F) (start : FinMap S.order V) (tabl
       let s = state S start w.trace in
       asked_keeps w p (Store m zero b) (table.store_good (record_of (kernel S) start w.trace) p m b zero (legal_of (kernel S) start w.trace i.0.sound) next (ap or_zero cached), λ c. table.store_stale s p m b zero c next) (table.store_there s p m b next) none free i
 
-  other_keeps : (w : World) (p : ℕ) (kept : Option Input) → w.kept p ≡ kept → S.next (state S start w.trace) p ≡ Else → asks_for S start w p ≡ false → ((m : Bytes) → IsNext S start table w p m → asks_on S start w m ≡ false) → All w → All (other S start w p kept)
-  other_keeps w p (Some x) has_kept next none clear i = used_keeps w p x (i.1.answers p x has_kept) (λ due. (let both : Else ≡ Due = sym next ∙ due in cc)) none clear i
-  other_keeps w p None has_kept next none clear i =
-      elim (has_places S start 1 w) as (λ t. has_places S start 1 w ≡ t → All (cond t (stepped S start w (own p inputs.None)) w)) [
-        | false ↦ λ _. i
-        | true ↦ λ room. stepped_keeps w p inputs.None (λ is. cc) (λ _. refl) none clear room i
-      ] refl
+  other_keeps : (w : World) (p : ℕ) (kept : Option Input) → kept_for p w.kept ≡ kept → S.next (state S start w.trace) p ≡ Else → asks_for p (pending w) ≡ false → ((m : Bytes) → IsNext S start table w p m → asks_on m (pending w) ≡ false) → All w → All (other S start w p kept)
+  other_keeps w p (Some x) has_kept next none clear i = used_keeps w p x (no_good w i.1 p x has_kept) (λ due. (let both : Else ≡ Due = sym next ∙ due in cc)) none clear i
+  other_keeps w p None has_kept next none clear i = used_keeps w p inputs.None (λ is. cc) (λ _. refl) none clear i
 
-  turned_keeps : (w : World) (p : ℕ) (next : Next) → S.next (state S start w.trace) p ≡ next → asks_for S start w p ≡ false → All w → All (turned S start w p next)
+  turned_keeps : (w : World) (p : ℕ) (next : Next) → S.next (state S start w.trace) p ≡ next → asks_for p (pending w) ≡ false → All w → All (turned S start w p next)
   turned_keeps w p Halted is none i = i
   turned_keeps w p Due is none i = used_keeps w p inputs.None (λ is. cc) (λ _. refl) none (λ m next. elim next [ inl f ↦ (let same : Due ≡ Fetches m = sym is ∙ f in cc) | inr s ↦ (let same : Due ≡ Stores m s.0 = sym is ∙ s.1 in cc) ]) i
   turned_keeps w p (Fetches m) is none i =
-      elim (asks_on S start w m) as (λ t. asks_on S start w m ≡ t → All (cond t w (fetched S start w p m (w.kept p) (S.cached (state S start w.trace) m)))) [
+      elim (asks_on m (pending w)) as (λ t. asks_on m (pending w) ≡ t → All (cond t w (fetched S start w p m (kept_for p w.kept) (S.cached (state S start w.trace) m)))) [
         | true ↦ λ _. i
-        | false ↦ λ free. fetched_keeps w p m (w.kept p) (S.cached (state S start w.trace) m) refl is refl none free
+        | false ↦ λ free. fetched_keeps w p m (kept_for p w.kept) (S.cached (state S start w.trace) m) refl is refl none free
             (λ o next. elim next [
-              | inl f ↦ (let same : Fetches m ≡ Fetches o = sym is ∙ f in let names : m ≡ o = cc in ap (asks_on S start w) (sym names) ∙ free)
+              | inl f ↦ (let same : Fetches m ≡ Fetches o = sym is ∙ f in let names : m ≡ o = cc in ap (λ m. asks_on m (pending w)) (sym names) ∙ free)
               | inr s ↦ (let same : Fetches m ≡ Stores o s.0 = sym is ∙ s.1 in cc)
             ]) i
       ] refl
   turned_keeps w p (Stores m b) is none i =
-      elim (asks_on S start w m) as (λ t. asks_on S start w m ≡ t → All (cond t w (stored S start w p m b (w.kept p) (S.cached (state S start w.trace) m)))) [
+      elim (asks_on m (pending w)) as (λ t. asks_on m (pending w) ≡ t → All (cond t w (stored S start w p m b (kept_for p w.kept) (S.cached (state S start w.trace) m)))) [
         | true ↦ λ _. i
-        | false ↦ λ free. stored_keeps w p m b (w.kept p) (S.cached (state S start w.trace) m) refl is refl none free
+        | false ↦ λ free. stored_keeps w p m b (kept_for p w.kept) (S.cached (state S start w.trace) m) refl is refl none free
             (λ o next. elim next [
               | inl f ↦ (let same : Stores m b ≡ Fetches o = sym is ∙ f in cc)
-              | inr s ↦ (let same : Stores m b ≡ Stores o s.0 = sym is ∙ s.1 in let names : m ≡ o = cc in ap (asks_on S start w) (sym names) ∙ free)
+              | inr s ↦ (let same : Stores m b ≡ Stores o s.0 = sym is ∙ s.1 in let names : m ≡ o = cc in ap (λ m. asks_on m (pending w)) (sym names) ∙ free)
             ]) i
       ] refl
-  turned_keeps w p Else is none i = other_keeps w p (w.kept p) refl is none (λ m next. elim next [ inl f ↦ (let same : Else ≡ Fetches m = sym is ∙ f in cc) | inr s ↦ (let same : Else ≡ Stores m s.0 = sym is ∙ s.1 in cc) ]) i
+  turned_keeps w p Else is none i = other_keeps w p (kept_for p w.kept) refl is none (λ m next. elim next [ inl f ↦ (let same : Else ≡ Fetches m = sym is ∙ f in cc) | inr s ↦ (let same : Else ≡ Stores m s.0 = sym is ∙ s.1 in cc) ]) i
 
-  answer_keeps : (w : World) (says : Answer) (q : PendingRequest) (qs : List PendingRequest) → w.waiting ≡ q ∷ qs → is_possible S.last q.ask says ≡ true → All w
-      → All (answered S start w q qs (answer_to w.refused q says))
-  answer_keeps w says q qs is possible i =
-      let ans = answer_to w.refused q says in
-      let memory = refused_after w.refused q ans in
-      let j : Invariant S start w.trace w.drawn (served w) w.given (map (λ x. x.0) w.taken ++ q ∷ qs) (q ∷ qs) w.refused =
-      subst (λ ws. Invariant S start w.trace w.drawn (served w) w.given (map (λ x. x.0) w.taken ++ ws) ws w.refused) is i.0 in
+  serve_keeps : (w : World) (qs : List PendingRequest) → w.waiting ≡ qs → All w → All (serve S start w qs)
+  serve_keeps w [] is i = i
+  serve_keeps w (q ∷ qs) is i =
+      let ans = answer_to w.server (sent q) in
+      let memory = (answered w.server (sent q) ans).refused in
+      let j : Invariant S start w.trace w.drawn (served w) w.given (map (λ x. x.0) w.taken ++ q ∷ qs) (q ∷ qs) w.server.refused =
+      subst (λ ws. Invariant S start w.trace w.drawn (served w) w.given (map (λ x. x.0) w.taken ++ ws) ws w.server.refused) is i.0 in
       let here = j.queue.0 in
-      let keeps : (y : ℕ) → has y (remembered q w.refused) ≡ true → has y memory ≡ true = λ y there. has_left y (remembered q w.refused) (marks (refused_by q.guess ans)) there in
+      let keeps : (y : ℕ) → has y (remembered (sent q) w.server.refused) ≡ true → has y memory ≡ true = λ y there. has_left y (remembered (sent q) w.server.refused) (listed (refused_by q.guess ans)) there in
       let joins : (g : ℕ) → q.guess ≡ Some g → is_accepted ans ≡ false → has g memory ≡ true =
-      λ g its no_yes. has_right g (remembered q w.refused) (marks (refused_by q.guess ans)) (ap (λ b. has g (marks (cond b None q.guess))) no_yes ∙ has_mark q.guess g its) in
+      λ g its no_yes. has_right g (remembered (sent q) w.server.refused) (listed (refused_by q.guess ans)) (refused_there q.guess ans g its no_yes) in
       let answers : Invariant S start w.trace w.drawn (served w ++ (q, ans) ∷ []) w.given (map (λ x. x.0) w.taken ++ q ∷ qs) qs memory =
       elim q.guess as (λ o. q.guess ≡ o → Invariant S start w.trace w.drawn (served w ++ (q, ans) ∷ []) w.given (map (λ x. x.0) w.taken ++ q ∷ qs) qs memory) [
         | None ↦ λ none.
-            inv_answer S start table w.trace w.drawn (served w) w.given (map (λ x. x.0) w.taken ++ q ∷ qs) qs w.refused memory q ans j j.bad j.a
+            inv_answer S start table w.trace w.drawn (served w) w.given (map (λ x. x.0) w.taken ++ q ∷ qs) qs w.server.refused memory q ans j j.bad j.a
             (ap (λ o. counted o j.a) (sym none)) (omega arith) (λ y le. refl) (λ y le. inl le) (λ y h. inl h) (λ g its. absurd (no_guess q.guess g none its))
-            (drops_not S start table w.refused q says) keeps joins (yes_fits S start table w.refused q says possible)
+            (drops_not S start table w.server q) keeps joins (yes_fits S start table w.server q)
         | Some g ↦ λ some.
             let g_is : g ≡ suc j.a = (here.own g some).0 in
             let bad = at_number g (not (is_accepted ans)) j.bad in
-            inv_answer S start table w.trace w.drawn (served w) w.given (map (λ x. x.0) w.taken ++ q ∷ qs) qs w.refused memory q ans j bad (suc j.a)
+            inv_answer S start table w.trace w.drawn (served w) w.given (map (λ x. x.0) w.taken ++ q ∷ qs) qs w.server.refused memory q ans j bad (suc j.a)
             (ap (λ o. counted o j.a) (sym some)) (omega arith)
             (λ y le. at_other g (not (is_accepted ans)) j.bad y (λ same. omega arith))
             (λ y le. elim (cases_eq y g) [ inl same ↦ inr (some ∙ ap Some (sym same)) | inr other ↦ inl (omega arith) ])
             (λ y h. elim (cases_eq y g) [ inl same ↦ inr (some ∙ ap Some (sym same)) | inr other ↦ inl (sym (at_other g (not (is_accepted ans)) j.bad y other) ∙ h) ])
             (λ h its. (let same : h ≡ g = (let both : Some g ≡ Some h = sym some ∙ its in cc) in (omega arith, ap bad same ∙ at_same g (not (is_accepted ans)) j.bad)))
-            (drops_not S start table w.refused q says) keeps joins (yes_fits S start table w.refused q says possible)
+            (drops_not S start table w.server q) keeps joins (yes_fits S start table w.server q)
       ] refl in (
         subst (λ xs. Invariant S start w.trace w.drawn xs w.given (map (λ x. x.0) (w.taken ++ (q, ans) ∷ []) ++ qs) qs memory) (served_push S start table w (q, ans))
             (subst (λ ps. Invariant S start w.trace w.drawn (served w ++ (q, ans) ∷ []) w.given ps qs memory) (sym (map_push (λ (x : Served). x.0) w.taken (q, ans) qs)) answers),
@@ -345,26 +350,18 @@ module _ {E V W F : Type 0} (S : Table E V W F) (start : FinMap S.order V) (tabl
         subst (λ ps. places S start w.trace ps ≤ S.limit) (ap (λ ws. map (λ (x : Served). x.0) w.taken ++ ws) is ∙ sym (map_push (λ (x : Served). x.0) w.taken (q, ans) qs)) i.2,
       )
 
-  serve_keeps : (w : World) (says : Answer) (qs : List PendingRequest) → w.waiting ≡ qs → All w → All (serve S start w says qs)
-  serve_keeps w says [] is i = i
-  serve_keeps w says (q ∷ qs) is i =
-      elim (is_possible S.last q.ask says) as (λ t. is_possible S.last q.ask says ≡ t → All (cond t (answered S start w q qs (answer_to w.refused q says)) w)) [
-        | true ↦ λ possible. answer_keeps w says q qs is possible i
-        | false ↦ λ _. i
-      ] refl
-
   -- the reply x is given, and the trace is now es
-  finish : (w : World) (x : Served) (rest : List Served) (es : List (Event Caused)) (kept : ℕ → Option Input)
+  finish : (w : World) (x : Served) (rest : List Served) (es : List (Event Caused)) (kept : List Kept)
       → (x.1 ≡ Yes → (m : Bytes) (v : ℕ) (b : Bytes) → x.0.ask ≡ Store m v b → x.0.guess ≡ None → HasStep S start (record_of (kernel S) start es) x.0)
-      → Invariant S start es w.drawn (w.given ++ x ∷ rest) w.given (map (λ x. x.0) rest ++ w.waiting) w.waiting w.refused
+      → Invariant S start es w.drawn (w.given ++ x ∷ rest) w.given (map (λ x. x.0) rest ++ w.waiting) w.waiting w.server.refused
       → RequestFacts S start first old es w.drawn kept w.next (w.given ++ x ∷ rest) (w.given ++ x ∷ []) w.waiting
       → places S start es (map (λ x. x.0) rest ++ w.waiting) ≤ S.limit
       → All (with_kept (with_trace (with_given w x rest) es) kept)
   finish w x rest es kept stands i t room =
       let ps = map (λ (x : Served). x.0) rest ++ w.waiting in
       let same = sym (append_assoc w.given (x ∷ []) rest) in (
-        subst (λ xs. Invariant S start es w.drawn xs (w.given ++ x ∷ []) ps w.waiting w.refused) same
-            (inv_done S start table es w.drawn (w.given ++ x ∷ rest) w.given ps w.waiting w.refused x
+        subst (λ xs. Invariant S start es w.drawn xs (w.given ++ x ∷ []) ps w.waiting w.server.refused) same
+            (inv_done S start table es w.drawn (w.given ++ x ∷ rest) w.given ps w.waiting w.server.refused x
             (Contains-append_right w.given (x ∷ rest) x (cons_first x rest)) stands i),
         subst (λ xs. RequestFacts S start first old es w.drawn kept w.next xs (w.given ++ x ∷ []) w.waiting) same t,
         room,
@@ -377,7 +374,7 @@ module _ {E V W F : Type 0} (S : Table E V W F) (start : FinMap S.order V) (tabl
 
   -- a world whose first reply is x, before it is given
   pub record Replies (w : World) (x : Served) (rest : List Served) (ps : List PendingRequest) : Type 0 where
-    pub holds : Invariant S start w.trace w.drawn (w.given ++ x ∷ rest) w.given ps w.waiting w.refused
+    pub holds : Invariant S start w.trace w.drawn (w.given ++ x ∷ rest) w.given ps w.waiting w.server.refused
     pub facts : RequestFacts S start first old w.trace w.drawn w.kept w.next (w.given ++ x ∷ rest) w.given w.waiting
     pub room : places S start w.trace ps ≤ S.limit
 
@@ -395,23 +392,23 @@ module _ {E V W F : Type 0} (S : Table E V W F) (start : FinMap S.order V) (tabl
       → Replies w (q, ans) rest (map (λ x. x.0) rest ++ w.waiting) → All (decided S start (with_given w (q, ans) rest) q g ans)
   decided_keeps w q Yes rest g its is_open i =
       finish w (q, Yes) rest (w.trace ++ Commit g ∷ []) w.kept (no_asked w q g its (w.trace ++ Commit g ∷ []) Yes)
-      (inv_commit S start table w.trace w.drawn (w.given ++ (q, Yes) ∷ rest) w.given (map (λ x. x.0) rest ++ w.waiting) w.waiting w.refused g i.holds is_open)
+      (inv_commit S start table w.trace w.drawn (w.given ++ (q, Yes) ∷ rest) w.given (map (λ x. x.0) rest ++ w.waiting) w.waiting w.server.refused g i.holds is_open)
       (facts_commit S start first old w.trace w.drawn w.kept w.next (w.given ++ (q, Yes) ∷ rest) w.given w.waiting i.facts q g its)
       (let le = places_commit S start w.trace g (map (λ (x : Served). x.0) rest ++ w.waiting) is_open in let was = i.room in omega arith)
   decided_keeps w q (No c) rest g its is_open i =
-      finish w (q, No c) rest (w.trace ++ Fail g ∷ []) (kept_for S q.process (Some (answer_kept q.ask c)) w.kept) (no_asked w q g its (w.trace ++ Fail g ∷ []) (No c))
-      (inv_fail S start table w.trace w.drawn (w.given ++ (q, No c) ∷ rest) w.given (map (λ x. x.0) rest ++ w.waiting) w.waiting w.refused g i.holds
+      finish w (q, No c) rest (w.trace ++ Fail g ∷ []) (kept_with q.process (answer_kept q.ask c) w.kept) (no_asked w q g its (w.trace ++ Fail g ∷ []) (No c))
+      (inv_fail S start table w.trace w.drawn (w.given ++ (q, No c) ∷ rest) w.given (map (λ x. x.0) rest ++ w.waiting) w.waiting w.server.refused g i.holds
       (refused_is w (q, No c) rest (map (λ x. x.0) rest ++ w.waiting) g its i) is_open)
       (facts_kept S start first old (w.trace ++ Fail g ∷ []) w.drawn w.kept w.next (w.given ++ (q, No c) ∷ rest) (w.given ++ (q, No c) ∷ []) w.waiting
       (facts_fail S start first old w.trace w.drawn w.kept w.next (w.given ++ (q, No c) ∷ rest) w.given w.waiting i.facts (q, No c) g (λ is. cc))
-      (kept_for S q.process (Some (answer_kept q.ask c)) w.kept) (kept_some w.kept i.facts.answers q.process q.ask c))
+      (kept_with q.process (answer_kept q.ask c) w.kept) (keeps_more w.kept i.facts.answers q.process q.ask c))
       (room_fail w g (map (λ (x : Served). x.0) rest ++ w.waiting) i.holds.sound is_open i.room)
   decided_keeps w q (Copy c) rest g its is_open i =
       finish w (q, Copy c) rest w.trace w.kept (no_asked w q g its w.trace (Copy c)) i.holds
       (facts_none S start first old w.trace w.drawn w.kept w.next (w.given ++ (q, Copy c) ∷ rest) w.given w.waiting i.facts (q, Copy c) (λ h is. cc)) i.room
   decided_keeps w q Dropped rest g its is_open i =
       finish w (q, Dropped) rest (w.trace ++ Fail g ∷ []) w.kept (no_asked w q g its (w.trace ++ Fail g ∷ []) Dropped)
-      (inv_fail S start table w.trace w.drawn (w.given ++ (q, Dropped) ∷ rest) w.given (map (λ x. x.0) rest ++ w.waiting) w.waiting w.refused g i.holds
+      (inv_fail S start table w.trace w.drawn (w.given ++ (q, Dropped) ∷ rest) w.given (map (λ x. x.0) rest ++ w.waiting) w.waiting w.server.refused g i.holds
       (refused_is w (q, Dropped) rest (map (λ x. x.0) rest ++ w.waiting) g its i) is_open)
       (facts_fail S start first old w.trace w.drawn w.kept w.next (w.given ++ (q, Dropped) ∷ rest) w.given w.waiting i.facts (q, Dropped) g (λ is. cc))
       (room_fail w g (map (λ (x : Served). x.0) rest ++ w.waiting) i.holds.sound is_open i.room)
@@ -420,7 +417,7 @@ module _ {E V W F : Type 0} (S : Table E V W F) (start : FinMap S.order V) (tabl
   dropped : (w : World) (q : PendingRequest) (ans : Answer) (rest : List Served) → Replies w (q, ans) rest (q ∷ (map (λ x. x.0) rest ++ w.waiting))
       → Replies w (q, ans) rest (map (λ x. x.0) rest ++ w.waiting)
   dropped w q ans rest i = record {
-    holds = inv_drop S start table w.trace w.drawn (w.given ++ (q, ans) ∷ rest) w.given q (map (λ x. x.0) rest ++ w.waiting) w.waiting w.refused i.holds;
+    holds = inv_drop S start table w.trace w.drawn (w.given ++ (q, ans) ∷ rest) w.given q (map (λ x. x.0) rest ++ w.waiting) w.waiting w.server.refused i.holds;
     facts = i.facts;
     room = (let le = asked_le q.guess (asked_count (map (λ (x : Served). x.0) rest ++ w.waiting)) in let was = i.room in omega arith);
   }
@@ -447,7 +444,7 @@ module _ {E V W F : Type 0} (S : Table E V W F) (start : FinMap S.order V) (tabl
       let n = asked_entry q x in
       let s = i.holds.answers (q, ans) (Contains-append_right w.given ((q, ans) ∷ rest) (q, ans) (cons_first (q, ans) rest)) in
       let t : Takes S (run K start ns) q.process q.ask x = takes_by S start (run K start ns) q.process q.ask ans x ready.step input s.fits in
-      let after = inv_plain S start table w.trace w.drawn (w.given ++ (q, ans) ∷ rest) w.given ps w.waiting w.refused n t.effect
+      let after = inv_plain S start table w.trace w.drawn (w.given ++ (q, ans) ∷ rest) w.given ps w.waiting w.server.refused n t.effect
       (dropped w q ans rest i).holds t.accepted refl
       (λ y there hits r cause.
       let same : q ≡ r = cc in
@@ -498,7 +495,7 @@ module _ {E V W F : Type 0} (S : Table E V W F) (start : FinMap S.order V) (tabl
               | inl done ↦ (has_commit w.trace h).0 done
               | inr none ↦
                   let lost : is_lost S start w.trace h ≡ true = (λ j. not ((ap (λ g. has g (undecided S start w.trace)) (sym one) ∙ shut) j) && not (none j)) in
-                  absurd (good_open S start table w.trace w.drawn (w.given ++ (q, ans) ∷ rest) w.given (q ∷ ps) w.waiting w.refused i.holds h s.0 s.1 (s.3 ∙ ap (λ a. not (is_accepted a)) says) lost)
+                  absurd (good_open S start table w.trace w.drawn (w.given ++ (q, ans) ∷ rest) w.given (q ∷ ps) w.waiting w.server.refused i.holds h s.0 s.1 (s.3 ∙ ap (λ a. not (is_accepted a)) says) lost)
             ]) i
       ] refl
   given_keeps w q ans rest None asks i =
@@ -506,7 +503,7 @@ module _ {E V W F : Type 0} (S : Table E V W F) (start : FinMap S.order V) (tabl
       elim (is_void S start w.trace q) as (λ t. is_void S start w.trace q ≡ t → All (cond t (with_given w (q, ans) rest) (stepped_for S start (with_given w (q, ans) rest) q (input_of q.ask ans)))) [
         | true ↦ λ void.
             unchanged w q ans rest
-            (λ says m v b ask _. absurd (not_void S start table w.trace w.drawn (w.given ++ (q, ans) ∷ rest) w.given (q ∷ ps) w.waiting w.refused i.holds (q, ans)
+            (λ says m v b ask _. absurd (not_void S start table w.trace w.drawn (w.given ++ (q, ans) ∷ rest) w.given (q ∷ ps) w.waiting w.server.refused i.holds (q, ans)
             (Contains-append_right w.given ((q, ans) ∷ rest) (q, ans) (cons_first (q, ans) rest)) (λ is. (let both : Dropped ≡ Yes = sym is ∙ says in cc)) void))
             (λ g says its. absurd (no_guess q.guess g asks its)) i
         | false ↦ λ whole.
@@ -520,7 +517,7 @@ module _ {E V W F : Type 0} (S : Table E V W F) (start : FinMap S.order V) (tabl
   reply_keeps w [] is i = i
   reply_keeps w (x ∷ rest) is i =
       given_keeps w x.0 x.1 rest x.0.guess refl (record {
-        holds = subst (λ xs. Invariant S start w.trace w.drawn (w.given ++ xs) w.given (map (λ x. x.0) xs ++ w.waiting) w.waiting w.refused) is i.0;
+        holds = subst (λ xs. Invariant S start w.trace w.drawn (w.given ++ xs) w.given (map (λ x. x.0) xs ++ w.waiting) w.waiting w.server.refused) is i.0;
         facts = subst (λ xs. RequestFacts S start first old w.trace w.drawn w.kept w.next (w.given ++ xs) w.given w.waiting) is i.1;
         room = subst (λ xs. places S start w.trace (map (λ x. x.0) xs ++ w.waiting) ≤ S.limit) is i.2;
       })
@@ -528,12 +525,13 @@ module _ {E V W F : Type 0} (S : Table E V W F) (start : FinMap S.order V) (tabl
   -- ---- every event
   pub event_keeps : (w : World) (e : WorldEvent) → All w → All (event S start w e)
   event_keeps w (Turn p) i =
-      elim (asks_for S start w p) as (λ t. asks_for S start w p ≡ t → All (cond t w (turned S start w p (S.next (state S start w.trace) p)))) [
+      elim (asks_for p (pending w)) as (λ t. asks_for p (pending w) ≡ t → All (cond t w (turned S start w p (S.next (state S start w.trace) p)))) [
         | true ↦ λ _. i
         | false ↦ λ none. turned_keeps w p (S.next (state S start w.trace) p) refl none i
       ] refl
-  event_keeps w (Serve says) i = serve_keeps w says w.waiting refl i
+  event_keeps w Serve i = serve_keeps w w.waiting refl i
   event_keeps w Reply i = reply_keeps w w.taken refl i
+  event_keeps w (Edit files) i = i
 
   pub all_keep : (es : List WorldEvent) (w : World) → All w → All (world_after S start w es)
   all_keep [] w i = i

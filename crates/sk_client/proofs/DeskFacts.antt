@@ -105,7 +105,7 @@ none_some s h = absurd cc
 module _ (k : KernelView) (sound : HasSoundTrace k) where
   -- the tags of an entity are undecided
   tags_undecided : (e : Entity) (g : ℕ) → has g (tags_at k e) ≡ true → has g (undecided_at k) ≡ true
-  tags_undecided e g here = (both _ (has g (undecided_at k)) (sym (has_filter _ g (undecided_at k)) ∙ here)).1
+  tags_undecided e g here = (both (_) (has g (undecided_at k)) (sym (has_filter _ g (undecided_at k)) ∙ here)).1
 
   pub rests_are : (pid : ℕ) (name : List ℕ) (all : List ℕ) → IsStrictlySortedBy nat_cmp all
       → ((g : ℕ) → has g all ≡ (has g (tags_at k (Proc pid)) || has g (tags_at k (CopyOf name)))) → all ≡ rests_of k pid name

@@ -13,40 +13,45 @@ use Rattle.sk_store.specs.declared.entity_state.EntityState.{EntityState}
 use Rattle.sk_plain.specs.Act.{Saying, plain}
 use Rattle.sk_plain.specs.declared.refusal.Refusal.{Refusal}
 use Rattle.sk_kernel.specs.Kernel.{KernelView, record_at}
-use Rattle.sk_server.specs.Files.{file_of}
 use Rattle.sk_server.specs.Server.{ServerView}
 use Rattle.sk_server.specs.declared.request.Request.{Request as Sent}
 use Rattle.sk_server.specs.declared.request.Ask.TheVariants as asks
 use Rattle.sk_server.specs.declared.reply.Answer.TheVariants as answers
 use Rattle.sk_server.specs.declared.reply.Reply.{Reply}
-use Rattle.sk_world.specs.Requests.{Good, Store, Yes, Request, Served}
-use Rattle.sk_world.specs.World.{Table, World, WorldEvent as LawEvent, kernel, served, event, world_after}
-use Rattle.sk_world.specs.Laws.{paired, Sets, IsDueStep, Stands}
-use Rattle.sk_world.proofs.Each.{cons_cases, cons_first, cons_later, no_member}
-use Rattle.sk_world.proofs.First.{all_after, accepted_stand, accepted_stood}
-use Rattle.sk_world.proofs.Labels.{is_bare}
-use Rattle.sk_world.proofs.RequestFacts.{in_map}
-use Rattle.std.proofs.lemmas.List.Sums.{fold-append}
-use Rattle.sk_client.specs.Table.{Bytes, Caused, bare, input_of, table, copy_of}
-use Rattle.sk_client.specs.Desk.{opened}
-use Rattle.sk_client.specs.LawWorld.{Exchanges, Leads, law_content, begun, IsReady, law_ask, law_answer, law_request, law_served, answered_there, answered_here, IsSeen, StandsIn, IsDue, StoresStand, StoresStood}
-use Rattle.sk_client.specs.WorldView.{WorldView, joined}
+use Rattle.sk_script.specs.declared.instruction.Input.TheVariants.{Good}
+use Rattle.sk_server.specs.declared.request.Ask.TheVariants.{Store}
+use Rattle.sk_server.specs.declared.reply.Answer.TheVariants.{Yes}
 use Rattle.sk_client.specs.declared.pending.PendingRequest.{PendingRequest}
+use Rattle.sk_client.proofs.CausedRequests.{Caused, Served}
+use Rattle.sk_client.proofs.CausedWorld.{Table, World, WorldEvent as LawEvent, kernel, served, event, world_after}
+use Rattle.sk_client.specs.AcceptedStores.{paired, StandsIn, IsDue, StoresStand, StoresStood}
+use Rattle.sk_client.proofs.CausedLaws.{Sets, IsDueStep, Stands}
+use Rattle.sk_client.proofs.Each.{cons_cases, cons_first, cons_later, no_member}
+use Rattle.sk_client.proofs.First.{all_after, accepted_stand, accepted_stood}
+use Rattle.sk_client.proofs.Labels.{is_bare}
+use Rattle.sk_client.proofs.RequestFacts.{in_map}
+use Rattle.std.proofs.lemmas.List.Sums.{fold-append}
+use Rattle.sk_client.specs.Table.{Bytes, copy_of}
+use Rattle.sk_client.proofs.WorldTable.{bare, table}
+use Rattle.sk_client.specs.Desk.{opened}
+use Rattle.sk_client.specs.Exchanges.{Exchanges, Leads}
+use Rattle.sk_client.proofs.SeenWorld.{begun, law_served, answered_there, answered_here, IsSeen}
+use Rattle.sk_client.specs.Ready.{IsReady}
+use Rattle.sk_client.specs.WorldView.{WorldView, joined}
 use Rattle.sk_client.specs.declared.world.WorldEvent.{WorldEvent}
 use Rattle.sk_client.proofs.Before.{out_of_map, ready_table, begins}
-use Rattle.sk_client.proofs.Requests.{made, all_grew}
 use Rattle.sk_client.proofs.SeenFacts.{steps_seen}
 use Rattle.sk_client.proofs.Seen.{law_after, Reached, reached, later_on}
 
 -- ---- elements of lists
 
 -- a request that has its reply on the way is pending
-served_pending : (qs : List PendingRequest) (rs : List Reply) (x : Served ℕ Bytes Bytes) → Contains (law_served qs rs) x → (p : PendingRequest) × Contains qs p × (x.0 ≡ law_request p)
+served_pending : (qs : List PendingRequest) (rs : List Reply) (x : Served) → Contains (law_served qs rs) x → (p : PendingRequest) × Contains qs p × (x.0 ≡ p)
 served_pending [] rs x h = absurd (no_member x h)
 served_pending (q ∷ qs) [] x h = absurd (no_member x h)
 served_pending (q ∷ qs) (r ∷ rs) x h =
-    elim (cons_cases (law_request q, law_answer r.answer) (law_served qs rs) x h) [
-      | inl is ↦ (q, cons_first q qs, ap (λ (y : Served ℕ Bytes Bytes). y.0) (sym is))
+    elim (cons_cases (q, r.answer) (law_served qs rs) x h) [
+      | inl is ↦ (q, cons_first q qs, ap (λ (y : Served). y.0) (sym is))
       | inr later ↦ let rest = served_pending qs rs x later in (rest.0, cons_later q qs rest.0 rest.1, rest.2)
     ]
 
@@ -67,26 +72,26 @@ paired_in (x ∷ xs) (y ∷ ys) p h =
 -- ---- what the laws say of a request
 
 -- a request of the laws that was served with Yes, told as the calls tell it
-pub record Found (w : World ℕ Bytes Bytes) (q : Sent) (name : Bytes) (version : ℕ) (bytes : Bytes) : Type 0 where
-  pub request : Request ℕ Bytes Bytes
+pub record Found (w : World) (q : Sent) (name : Bytes) (version : ℕ) (bytes : Bytes) : Type 0 where
+  pub request : PendingRequest
   pub there : Contains (served w) (request, Yes)
   pub number : request.number ≡ q.number
   pub asks : request.ask ≡ Store name version bytes
   pub guess : request.guess ≡ q.guess
 
-module _ (xs : Exchanges) (w : World ℕ Bytes Bytes) (v : WorldView) (seen : IsSeen xs w v) (q : Sent) (r : Reply) (name : Bytes) (version : ℕ) (bytes : Bytes)
+module _ (xs : Exchanges) (w : World) (v : WorldView) (seen : IsSeen xs w v) (q : Sent) (r : Reply) (name : Bytes) (version : ℕ) (bytes : Bytes)
     (there : Contains xs (q, r)) (accepted : r.answer ≡ answers.Yes) (asks : q.ask ≡ asks.Store name version bytes) where
   pub found : Found w q name version bytes
   found =
       let told = subst (λ ys. Contains ys (answered_here (q, r))) (sym seen.answered) (in_map answered_here xs (q, r) there) in
       let x = out_of_map answered_there (served w) (answered_here (q, r)) told in
       let same = x.2 in
-      let good : x.0.1 ≡ Yes = ap (λ t. t.1.1.1) same ∙ ap law_answer accepted in
+      let good : x.0.1 ≡ Yes = ap (λ t. t.1.1.1) same ∙ accepted in
       record {
         request = x.0.0;
         there = subst (λ a. Contains (served w) (x.0.0, a)) good x.1;
         number = ap (λ t. t.0) same;
-        asks = ap (λ t. t.1.0) same ∙ ap law_ask asks;
+        asks = ap (λ t. t.1.0) same ∙ asks;
         guess = ap (λ t. t.1.1.0) same;
       }
 
@@ -97,19 +102,19 @@ module _ (xs : Exchanges) (w : World ℕ Bytes Bytes) (v : WorldView) (seen : Is
         | inl here ↦ inr here
         | inr waits ↦
             let p = served_pending v.desk.taken v.replies (f.request, Yes) (subst (λ ys. Contains ys (f.request, Yes)) seen.taken waits) in
-            absurd (given p.0 (Contains-append_left v.desk.taken v.desk.waiting p.0 p.1) (sym (ap (λ (x : Request ℕ Bytes Bytes). x.number) p.2) ∙ f.number))
+            absurd (given p.0 (Contains-append_left v.desk.taken v.desk.waiting p.0 p.1) (sym (ap (λ (x : PendingRequest). x.number) p.2) ∙ f.number))
       ]
 
 -- ---- and of the record
 
-module _ (xs : Exchanges) (w : World ℕ Bytes Bytes) (v : WorldView) (seen : IsSeen xs w v) where
+module _ (xs : Exchanges) (w : World) (v : WorldView) (seen : IsSeen xs w v) where
   abbrev K : KernelView
   K = v.desk.kernel
 
   pub entries_seen : map bare (record_of (kernel (table v.desk.kernel.scripts v.desk.kernel.limit)) v.desk.kernel.start w.trace) ≡ record_at v.desk.kernel
   entries_seen = (is_bare bare (plain K.scripts) K.start w.trace).entries ∙ ap (record_of (plain K.scripts) K.start) seen.trace
 
-  stands_in : (q : Request ℕ Bytes Bytes) (mark : Option ℕ) (name : Bytes) (version : ℕ) (bytes : Bytes) → q.ask ≡ Store name version bytes
+  stands_in : (q : PendingRequest) (mark : Option ℕ) (name : Bytes) (version : ℕ) (bytes : Bytes) → q.ask ≡ Store name version bytes
       → (s : Stands (table v.desk.kernel.scripts v.desk.kernel.limit) v.desk.kernel.start w q) → s.entry.guess ≡ mark → StandsIn v.desk.kernel mark name version bytes
   stands_in q mark name version bytes is s its =
       let ns = record_of (kernel (table K.scripts K.limit)) K.start w.trace in
@@ -122,46 +127,46 @@ module _ (xs : Exchanges) (w : World ℕ Bytes Bytes) (v : WorldView) (seen : Is
             subst (λ ps. Contains ps (bare s.entry, s.marked_effect)) (paired_map bare ns fs ∙ (λ i. paired (entries_seen i) (steps_seen xs w v seen i)))
             (in_map (λ (p : Caused × MarkedEffect Entity EntityState Saying). (bare p.0, p.1)) (paired ns fs) (s.entry, s.marked_effect) s.there);
         guess = its;
-        input = ap input_of s.input;
+        input = s.input;
         sets =
-            subst (λ n. Contains s.marked_effect.written (CopyOf name, Some (copy_of (n, bytes)))) one
+            subst (λ n. Contains s.marked_effect.written (CopyOf name, Some (copy_of (record { version = n; bytes = bytes })))) one
             (subst (λ ask. Sets (table K.scripts K.limit) ask Good s.marked_effect.written) is s.sets);
       }
 
 -- ---- all of it
 
-module _ (k : KernelView) (ready : IsReady k) (server : ServerView) where
-  abbrev S : Table Entity EntityState Saying Refusal ℕ Bytes Bytes
+module _ (k : KernelView) (ready : IsReady k) where
+  abbrev S : Table Entity EntityState Saying Refusal
   S = table k.scripts k.limit
 
   -- a store's step in the world of the laws
-  pub its_step : (xs : Exchanges) (v : WorldView) (a : Reached k ready server [] xs v) (more : List (LawEvent ℕ Bytes Bytes)) (q : Sent) (r : Reply) (name : Bytes) (version : ℕ) (bytes : Bytes)
+  pub its_step : (xs : Exchanges) (v : WorldView) (a : Reached k [] xs v) (more : List LawEvent) (q : Sent) (r : Reply) (name : Bytes) (version : ℕ) (bytes : Bytes)
       → (there : Contains xs (q, r)) (accepted : r.answer ≡ answers.Yes) (asks : q.ask ≡ asks.Store name version bytes) → IsDue v q
-      → Stands (table k.scripts k.limit) k.start (law_after k ready server (a.since ++ more)) (found xs (law_after k ready server a.since) v a.fits.seen q r name version bytes there accepted asks).request
+      → Stands (table k.scripts k.limit) k.start (law_after k (a.since ++ more)) (found xs (law_after k a.since) v a.fits.seen q r name version bytes there accepted asks).request
   its_step xs v a more q r name version bytes there accepted asks is_due =
-      let w = law_after k ready server a.since in
-      let first = begun k (λ name. law_content (file_of server.files name)) in
+      let w = law_after k a.since in
+      let first = begun k in
       let f = found xs w v a.fits.seen q r name version bytes there accepted asks in
-      subst (λ (x : World ℕ Bytes Bytes). Stands S k.start x f.request) (sym (fold-append (event S k.start) first a.since more))
-      (accepted_stand S k.start (ready_table k ready) first (begins k (λ name. law_content (file_of server.files name)) ready) a.since more
+      subst (λ (x : World). Stands S k.start x f.request) (sym (fold-append (event S k.start) first a.since more))
+      (accepted_stand S k.start (ready_table k ready) first (begins k ready) a.since more
       f.request name version bytes f.there f.asks (due xs w v a.fits.seen q r name version bytes there accepted asks f is_due))
 
   -- it is that of the request's guess, or of none
-  pub its_guess : (es : List (LawEvent ℕ Bytes Bytes)) (q : Request ℕ Bytes Bytes) (s : Stands (table k.scripts k.limit) k.start (law_after k ready server es) q)
+  pub its_guess : (es : List LawEvent) (q : PendingRequest) (s : Stands (table k.scripts k.limit) k.start (law_after k es) q)
       → s.entry.guess ≡ q.guess
   its_guess es q s =
-      let first = begun k (λ name. law_content (file_of server.files name)) in
-      let ns = record_of (kernel S) k.start (law_after k ready server es).trace in
-      let all = all_after S k.start (ready_table k ready) first (begins k (λ name. law_content (file_of server.files name)) ready) es in
+      let first = begun k in
+      let ns = record_of (kernel S) k.start (law_after k es).trace in
+      let all = all_after S k.start (ready_table k ready) first (begins k ready) es in
       (all.1.owners.owner s.entry q (paired_in ns (effects (kernel S) k.start ns) (s.entry, s.marked_effect) s.there) s.cause).1
 
-  pub stores_stand : server.next ≡ 1 → server.refused ≡ [] → (es : List WorldEvent) (xs : Exchanges) (v : WorldView) → Leads (joined (opened k) server) es xs v
+  pub stores_stand : (server : ServerView) → server.next ≡ 1 → server.refused ≡ [] → (es : List WorldEvent) (xs : Exchanges) (v : WorldView) → Leads (joined (opened k) server) es xs v
       → (later : List WorldEvent) (ys : Exchanges) (last : WorldView) → Leads v later ys last → StoresStand xs v last
-  stores_stand next refused es xs v h later ys last more q r name version bytes there accepted asks is_due =
+  stores_stand server next refused es xs v h later ys last more q r name version bytes there accepted asks is_due =
       let a = reached k ready server next refused es xs v h in
-      let b = later_on k ready server xs v a later ys last more in
-      let f = found xs (law_after k ready server a.since) v a.fits.seen q r name version bytes there accepted asks in
-      let w = law_after k ready server (a.since ++ b.since) in
+      let b = later_on k ready xs v a later ys last more in
+      let f = found xs (law_after k a.since) v a.fits.seen q r name version bytes there accepted asks in
+      let w = law_after k (a.since ++ b.since) in
       let step = its_step xs v a b.since q r name version bytes there accepted asks is_due in
       let here =
       subst (λ (c : ScriptMap × (State × ℕ)). (s : Stands (table c.0 c.1.1) c.1.0 w f.request) × (s.entry.guess ≡ q.guess)) (λ i. (sym b.scripts i, (sym b.start i, sym b.limit_is i)))
@@ -169,29 +174,23 @@ module _ (k : KernelView) (ready : IsReady k) (server : ServerView) where
       stands_in (xs ++ ys) w last b.fits.seen f.request q.guess name version bytes f.asks here.0 here.1
 
   -- a store's step in the world of the laws, since its guess
-  stood : (earlier more : List (LawEvent ℕ Bytes Bytes)) (next : ℕ) (q : Request ℕ Bytes Bytes) (name : Bytes) (version : ℕ) (bytes : Bytes) (g : ℕ)
-      → (law_after k ready server earlier).next ≡ next → q.number < next → Contains (served (law_after k ready server (earlier ++ more))) (q, Yes) → q.ask ≡ Store name version bytes → q.guess ≡ Some g
-      → Stands (table k.scripts k.limit) k.start (law_after k ready server earlier) q
+  stood : (earlier more : List LawEvent) (next : ℕ) (q : PendingRequest) (name : Bytes) (version : ℕ) (bytes : Bytes) (g : ℕ)
+      → (law_after k earlier).next ≡ next → q.number < next → Contains (served (law_after k (earlier ++ more))) (q, Yes) → q.ask ≡ Store name version bytes → q.guess ≡ Some g
+      → Stands (table k.scripts k.limit) k.start (law_after k earlier) q
   stood earlier more next q name version bytes g is low there asks its =
-      let first = begun k (λ name. law_content (file_of server.files name)) in
-      let w = law_after k ready server earlier in
-      let z = world_after S k.start w more in
-      let told : Contains (served z) (q, Yes) = subst (λ (x : World ℕ Bytes Bytes). Contains (served x) (q, Yes)) (fold-append (event S k.start) first earlier more) there in
-      let by_now : Contains (made w) q =
-      elim ((all_grew S k.start more w).requests q (Contains-append_left (map (λ x. x.0) (served z)) z.waiting q (in_map (λ (x : Served ℕ Bytes Bytes). x.0) (served z) (q, Yes) told))) [
-        | inl before ↦ before
-        | inr new ↦ absurd (omega (arith, is, low))
-      ] in
-      accepted_stood S k.start (ready_table k ready) first (begins k (λ name. law_content (file_of server.files name)) ready) earlier more q name version bytes g by_now told asks its
+      let first = begun k in
+      let w = law_after k earlier in
+      let told : Contains (served (world_after S k.start w more)) (q, Yes) = subst (λ (x : World). Contains (served x) (q, Yes)) (fold-append (event S k.start) first earlier more) there in
+      accepted_stood S k.start (ready_table k ready) first (begins k ready) earlier more q name version bytes g (subst (λ n. q.number < n) (sym is) low) told asks its
 
-  pub stores_stood : server.next ≡ 1 → server.refused ≡ [] → (es : List WorldEvent) (xs : Exchanges) (v : WorldView) → Leads (joined (opened k) server) es xs v
+  pub stores_stood : (server : ServerView) → server.next ≡ 1 → server.refused ≡ [] → (es : List WorldEvent) (xs : Exchanges) (v : WorldView) → Leads (joined (opened k) server) es xs v
       → (later : List WorldEvent) (ys : Exchanges) (last : WorldView) → Leads v later ys last → StoresStood (xs ++ ys) v
-  stores_stood next refused es xs v h later ys last more q r name version bytes g there accepted asks its low =
+  stores_stood server next refused es xs v h later ys last more q r name version bytes g there accepted asks its low =
       let a = reached k ready server next refused es xs v h in
-      let b = later_on k ready server xs v a later ys last more in
-      let f = found (xs ++ ys) (law_after k ready server (a.since ++ b.since)) last b.fits.seen q r name version bytes there accepted asks in
+      let b = later_on k ready xs v a later ys last more in
+      let f = found (xs ++ ys) (law_after k (a.since ++ b.since)) last b.fits.seen q r name version bytes there accepted asks in
       let step = stood a.since b.since v.desk.next f.request name version bytes g a.fits.seen.next (subst (λ n. n < v.desk.next) (sym f.number) low) f.there f.asks (f.guess ∙ its) in
-      let w = law_after k ready server a.since in
+      let w = law_after k a.since in
       let here =
       subst (λ (c : ScriptMap × (State × ℕ)). (s : Stands (table c.0 c.1.1) c.1.0 w f.request) × (s.entry.guess ≡ Some g)) (λ i. (sym a.scripts i, (sym a.start i, sym a.limit_is i)))
       (step, its_guess a.since f.request step ∙ f.guess ∙ its) in

@@ -13,22 +13,24 @@ use Rattle.sk_trace.specs.declared.event.Event.TheVariants.{Step}
 use Rattle.sk_plain.specs.Planned.{refusal_of}
 use Rattle.sk_plain.specs.declared.refusal.Refusal.{Refusal}
 use Rattle.sk_kernel.specs.Kernel.{KernelView, undecided_at, effect_at, or_else, step_refused, with_event}
-use Rattle.sk_server.specs.Files.{file_of}
 use Rattle.sk_server.specs.Server.{ServerView}
 use Rattle.sk_server.specs.declared.request.Ask.{Ask}
 use Rattle.sk_server.specs.declared.request.Ask.TheVariants as asks
 use Rattle.sk_server.specs.declared.reply.Answer.{Answer}
 use Rattle.sk_server.specs.declared.reply.Answer.TheVariants as answers
 use Rattle.sk_server.specs.declared.reply.Reply.{Reply}
-use Rattle.sk_world.specs.Requests.{Dropped}
-use Rattle.sk_world.specs.World.{World, kernel, state, pending as law_pending, places, asked_entry, is_void as law_void, input_of as law_input_of}
-use Rattle.sk_world.proofs.Each.{cons_first}
-use Rattle.sk_world.proofs.AskedSteps.{answered_whole, asked_are_taken}
-use Rattle.sk_world.proofs.First.{places_are_kept}
-use Rattle.sk_client.specs.Table.{Bytes, table}
+use Rattle.sk_server.specs.declared.reply.Answer.TheVariants.{Dropped}
+use Rattle.sk_client.proofs.CausedWorld.{World, kernel, state, pending as law_pending, places, asked_entry, is_void as law_void, input_of as law_input_of}
+use Rattle.sk_client.proofs.Each.{cons_first}
+use Rattle.sk_client.proofs.AskedSteps.{answered_whole, asked_are_taken}
+use Rattle.sk_client.proofs.First.{places_are_kept}
+use Rattle.sk_client.proofs.WorldTable.{table}
 use Rattle.sk_client.proofs.DeskFacts.{reply_free, given_reply}
 use Rattle.sk_client.specs.Desk.{DeskView, opened, entry, fits_ask, is_void, input_of, stepped, answered, given_to, given, decision_answer, step_answer, answer_to, given_answer}
-use Rattle.sk_client.specs.LawWorld.{Exchanges, Leads, law_content, begun, IsReady, law_input, law_kept, law_ask, law_answer, law_request, law_served, TakesStep, StepsAreTaken, ForgottenAreDropped}
+use Rattle.sk_client.specs.Exchanges.{Exchanges, Leads}
+use Rattle.sk_client.proofs.SeenWorld.{begun, law_served}
+use Rattle.sk_client.specs.Ready.{IsReady}
+use Rattle.sk_client.specs.AskedSteps.{TakesStep, StepsAreTaken, ForgottenAreDropped}
 use Rattle.sk_client.specs.WorldView.{WorldView, joined, IsJoined, Replies}
 use Rattle.sk_client.specs.declared.pending.PendingRequest.{PendingRequest}
 use Rattle.sk_client.specs.declared.desk.Given.TheVariants as gives
@@ -101,7 +103,7 @@ forgot k q a number None input given is =
     ] is
 
 -- what the laws give is what the calls give
-law_gives : (ask : Ask) (a : Answer) → IsFor None ask → fits_ask ask a ≡ true → law_input_of (law_ask ask) (law_answer a) ≡ law_kept (input_of a)
+law_gives : (ask : Ask) (a : Answer) → IsFor None ask → fits_ask ask a ≡ true → law_input_of ask a ≡ input_of a
 law_gives (asks.Get name) answers.Yes kind fits = absurd (true≢false (sym fits))
 law_gives (asks.Get name) (answers.No c) kind fits = absurd (true≢false (sym fits))
 law_gives (asks.Get name) (answers.Copy c) kind fits = refl
@@ -111,12 +113,6 @@ law_gives (asks.Store name version bytes) answers.Yes kind fits = refl
 law_gives (asks.Store name version bytes) (answers.No c) kind fits = refl
 law_gives (asks.Store name version bytes) (answers.Copy c) kind fits = absurd (true≢false (sym fits))
 law_gives (asks.Store name version bytes) answers.Dropped kind fits = refl
-
-law_dropped : (a : Answer) → law_answer a ≡ Dropped → a ≡ answers.Dropped
-law_dropped answers.Yes is = cc
-law_dropped (answers.No c) is = cc
-law_dropped (answers.Copy c) is = cc
-law_dropped answers.Dropped is = refl
 
 not_refused : (r : Result Did Refusal) → is_ok r ≡ true → refusal_of r ≡ None
 not_refused (Ok does) h = refl
@@ -133,13 +129,10 @@ desk_after d q a number t accepted =
 
 -- ---- in a world
 
-module _ (k : KernelView) (ready : IsReady k) (server : ServerView) where
-  abbrev first : World ℕ Bytes Bytes
-  first = begun k (λ name. law_content (file_of server.files name))
-
-  module _ (xs : Exchanges) (v : WorldView) (r : Reached k ready server [] xs v) where
-    abbrev w : World ℕ Bytes Bytes
-    w = law_after k ready server r.since
+module _ (k : KernelView) (ready : IsReady k) where
+  module _ (xs : Exchanges) (v : WorldView) (r : Reached k [] xs v) where
+    abbrev w : World
+    w = law_after k r.since
 
     abbrev K : KernelView
     K = v.desk.kernel
@@ -151,29 +144,29 @@ module _ (k : KernelView) (ready : IsReady k) (server : ServerView) where
     placed : places (table v.desk.kernel.scripts v.desk.kernel.limit) v.desk.kernel.start w.trace (law_pending w) ≤ v.desk.kernel.limit
     placed =
         subst (λ (c : ScriptMap × (State × ℕ)). places (table c.0 c.1.1) c.1.0 w.trace (law_pending w) ≤ c.1.1) same_boot
-        (places_are_kept (table k.scripts k.limit) k.start (ready_table k ready) first (begins k (λ name. law_content (file_of server.files name)) ready) r.since)
+        (places_are_kept (table k.scripts k.limit) k.start (ready_table k ready) (begun k) (begins k ready) r.since)
 
     module _ (p : Reply) (rs : List Reply) (is : v.replies ≡ p ∷ rs) (o : Oldest v.desk p rs v.back) where
       accepts : o.request.guess ≡ None → (input : Input) → input_of p.answer ≡ Some input → step_refused v.desk.kernel (entry o.request.process input None) ≡ None
       accepts none input given =
           let kind : IsFor None o.request.ask = subst (λ g. IsFor g o.request.ask) none (kinds_now xs w v r.fits p rs is o placed).0 in
-          let law = asked_are_taken (table k.scripts k.limit) k.start (ready_table k ready) first (begins k (λ name. law_content (file_of server.files name)) ready) r.since
-          (law_request o.request, law_answer p.answer) (law_served o.later rs) (law_input input) (oldest_one xs w v r.fits p rs is o placed) none
-          (law_gives o.request.ask p.answer kind o.fits ∙ ap law_kept given) in
-          let there : is_ok (outcome (kernel (table K.scripts K.limit)) (state (table K.scripts K.limit) K.start w.trace) (asked_entry (law_request o.request) (law_input input))) ≡ true =
-          subst (λ (c : ScriptMap × (State × ℕ)). is_ok (outcome (kernel (table c.0 c.1.1)) (state (table c.0 c.1.1) c.1.0 w.trace) (asked_entry (law_request o.request) (law_input input))) ≡ true) same_boot law.0 in
+          let law = asked_are_taken (table k.scripts k.limit) k.start (ready_table k ready) (begun k) (begins k ready) r.since
+          (o.request, p.answer) (law_served o.later rs) input (oldest_one xs w v r.fits p rs is o placed) none
+          (law_gives o.request.ask p.answer kind o.fits ∙ given) in
+          let there : is_ok (outcome (kernel (table K.scripts K.limit)) (state (table K.scripts K.limit) K.start w.trace) (asked_entry o.request input)) ≡ true =
+          subst (λ (c : ScriptMap × (State × ℕ)). is_ok (outcome (kernel (table c.0 c.1.1)) (state (table c.0 c.1.1) c.1.0 w.trace) (asked_entry o.request input)) ≡ true) same_boot law.0 in
           let here : is_ok (effect_at K (entry o.request.process input None)) ≡ true = sym (ap is_ok (does_seen xs w v r.fits o.request.process input)) ∙ there in
           let free = reply_free K o.request.process input (given_reply p.answer input given) (effect_at K (entry o.request.process input None)) refl in
           (λ i. or_else (or_else (not_refused (effect_at K (entry o.request.process input None)) here i) (free i)) (has_place xs w v r.fits p rs is o placed none i))
 
       whole : (p.answer ≡ answers.Dropped → ⊥) → is_void v.desk.kernel o.request ≡ true → ⊥
       whole kept void =
-          let there : law_void (table k.scripts k.limit) k.start w.trace (law_request o.request) ≡ true =
-          subst (λ (c : ScriptMap × (State × ℕ)). law_void (table c.0 c.1.1) c.1.0 w.trace (law_request o.request) ≡ true) (sym same_boot) (void_seen xs w v r.fits.seen r.fits.sound o.request ∙ void) in
-          answered_whole (table k.scripts k.limit) k.start (ready_table k ready) first (begins k (λ name. law_content (file_of server.files name)) ready) r.since
-          (law_request o.request, law_answer p.answer)
-          (subst (λ ys. Contains ys (law_request o.request, law_answer p.answer)) (sym (oldest_one xs w v r.fits p rs is o placed)) (cons_first (law_request o.request, law_answer p.answer) (law_served o.later rs)))
-          (λ dropped. kept (law_dropped p.answer dropped)) there
+          let there : law_void (table k.scripts k.limit) k.start w.trace o.request ≡ true =
+          subst (λ (c : ScriptMap × (State × ℕ)). law_void (table c.0 c.1.1) c.1.0 w.trace o.request ≡ true) (sym same_boot) (void_seen xs w v r.fits.seen r.fits.sound o.request ∙ void) in
+          answered_whole (table k.scripts k.limit) k.start (ready_table k ready) (begun k) (begins k ready) r.since
+          (o.request, p.answer)
+          (subst (λ ys. Contains ys (o.request, p.answer)) (sym (oldest_one xs w v r.fits p rs is o placed)) (cons_first (o.request, p.answer) (law_served o.later rs)))
+          kept there
 
       forgotten : (n : ℕ) (a : Answer) → p.answer ≡ a → gives.Forgotten n ≡ answer_to v.desk.kernel o.request p.answer o.request.guess → a ≡ answers.Dropped
       forgotten n answers.Dropped its h = refl
@@ -214,9 +207,9 @@ module _ (k : KernelView) (ready : IsReady k) (server : ServerView) where
         let o = oldest_here p rs is in
         (p, is ∙ ap (λ (x : WorldView). p ∷ x.replies) (sym h.1), forgotten p rs is o n p.answer refl (h.0.1 ∙ ap (given_answer v.desk p) o.taken))
 
-  pub steps_are_taken : server.next ≡ 1 → server.refused ≡ [] → (es : List WorldEvent) (xs : Exchanges) (v : WorldView) → Leads (joined (opened k) server) es xs v → StepsAreTaken v
-  steps_are_taken next refused es xs v h n new e = takes xs v (reached k ready server next refused es xs v h) n new v.replies refl e
+  pub steps_are_taken : (server : ServerView) → server.next ≡ 1 → server.refused ≡ [] → (es : List WorldEvent) (xs : Exchanges) (v : WorldView) → Leads (joined (opened k) server) es xs v → StepsAreTaken v
+  steps_are_taken server next refused es xs v h n new e = takes xs v (reached k ready server next refused es xs v h) n new v.replies refl e
 
-  pub forgotten_are_dropped : server.next ≡ 1 → server.refused ≡ [] → (es : List WorldEvent) (xs : Exchanges) (v : WorldView) → Leads (joined (opened k) server) es xs v
+  pub forgotten_are_dropped : (server : ServerView) → server.next ≡ 1 → server.refused ≡ [] → (es : List WorldEvent) (xs : Exchanges) (v : WorldView) → Leads (joined (opened k) server) es xs v
       → ForgottenAreDropped v
-  forgotten_are_dropped next refused es xs v h n new e = forgets xs v (reached k ready server next refused es xs v h) n new v.replies refl e
+  forgotten_are_dropped server next refused es xs v h n new e = forgets xs v (reached k ready server next refused es xs v h) n new v.replies refl e

@@ -15,17 +15,17 @@ use Rattle.sk_plain.specs.Act.{plain}
 use Rattle.sk_plain.specs.Replay.{image}
 use Rattle.sk_kernel.specs.Kernel.{KernelView, events_of}
 use Rattle.sk_kernel.proofs.Lawful.{below_next}
-use Rattle.sk_world.specs.Requests.{Content, Before}
-use Rattle.sk_world.specs.World.{kernel}
-use Rattle.sk_world.specs.Labels.{bare_event, labelled}
-use Rattle.sk_world.specs.Laws.{IsTable, IsFirst}
-use Rattle.sk_world.proofs.Each.{cons_cases, cons_first, cons_later, no_member, kept_was}
-use Rattle.sk_world.proofs.Labels.{is_bare}
-use Rattle.sk_world.proofs.RequestFacts.{in_map}
-use Rattle.sk_client.specs.Table.{Bytes, Caused, bare, table}
-use Rattle.sk_client.specs.LawWorld.{from_before, event_before, begun, IsReady}
+use Rattle.sk_client.proofs.CausedRequests.{Caused, Before}
+use Rattle.sk_client.proofs.CausedWorld.{kernel}
+use Rattle.sk_client.proofs.Bare.{bare_event, labelled}
+use Rattle.sk_client.proofs.CausedLaws.{IsTable, IsFirst}
+use Rattle.sk_client.proofs.Each.{cons_cases, cons_first, cons_later, no_member, kept_was}
+use Rattle.sk_client.proofs.Labels.{is_bare}
+use Rattle.sk_client.proofs.RequestFacts.{in_map}
+use Rattle.sk_client.proofs.WorldTable.{bare, table}
+use Rattle.sk_client.proofs.SeenWorld.{from_before, event_before, begun}
+use Rattle.sk_client.specs.Ready.{IsReady}
 use Rattle.sk_client.proofs.Table.{is_table}
-use Rattle.sk_client.proofs.SeenTurn.{input_back}
 
 pub out_of_map : {A B : Type 0} (g : A → B) (xs : List A) (y : B) → Contains (map g xs) y → (x : A) × Contains xs x × (g x ≡ y)
 out_of_map g [] y h = absurd (no_member y h)
@@ -72,7 +72,7 @@ module _ {A N E V W F : Type 0} (bare : A → N) (K : System E V W F N) where
 
 pub back : (es : List (Happens EntryView)) → map (bare_event bare) (map event_before es) ≡ es
 back [] = refl
-back (Taken n ∷ es) = λ i. Taken (record { pid = n.pid; input = input_back n.input i; guess = n.guess }) ∷ back es i
+back (Taken n ∷ es) = ap (λ xs. Taken n ∷ xs) (back es)
 back (Commit g ∷ es) = ap (λ xs. Commit g ∷ xs) (back es)
 back (Fail g ∷ es) = ap (λ xs. Fail g ∷ xs) (back es)
 
@@ -94,8 +94,8 @@ pub ready_table : (k : KernelView) → IsReady k → IsTable (table k.scripts k.
 ready_table k r =
     subst (λ (c : ScriptMap × State). IsTable (table c.0 k.limit) c.1) (λ i. (sym r.0.scripts i, sym r.0.start i)) (is_table r.0.boot.scripts k.limit r.0.boot r.0.numbered)
 
-pub begins : (k : KernelView) (files : Bytes → Content Bytes) → IsReady k → IsFirst (table k.scripts k.limit) k.start (begun k files)
-begins k files r = record {
+pub begins : (k : KernelView) → IsReady k → IsFirst (table k.scripts k.limit) k.start (begun k)
+begins k r = record {
   sound = sound_bare bare (plain k.scripts) k.start (map event_before (events_of k)) (subst (IsSound (plain k.scripts) k.start) (sym (back (events_of k))) r.0.sound.sound);
   drawn = λ g d.
       let there = subst (λ es. Contains es (Taken (bare d.0))) (back (events_of k)) (in_map (bare_event bare) (map event_before (events_of k)) (Taken d.0) d.1) in
@@ -107,8 +107,7 @@ begins k files r = record {
   taken = refl;
   given = refl;
   refused = refl;
-  changes = refl;
-  kept = λ p. refl;
+  kept = refl;
   room =
       (let place = r.0.place in
       let long = length-map (events_of k) event_before ∙ length-map k.trace image in

@@ -32,10 +32,10 @@ use Rattle.sk_kernel.specs.Laws.{HasSoundTrace}
 use Rattle.sk_kernel.proofs.Further.{epoch_step, epoch_guess, epoch_commit, epoch_fail}
 use Rattle.sk_kernel.proofs.Lawful.{below_next}
 use Rattle.sk_kernel.proofs.Undecided.{undecided_is}
-use Rattle.sk_world.proofs.PlaceFacts.{length_push, opens_taken, opens_commit, opens_fail}
+use Rattle.sk_client.proofs.PlaceFacts.{length_push, opens_taken, opens_commit, opens_fail}
 use Rattle.sk_client.specs.Table.{IsNumbered}
 use Rattle.sk_client.specs.Desk.{entry}
-use Rattle.sk_client.specs.LawWorld.{WasBooted}
+use Rattle.sk_client.specs.Ready.{WasBooted}
 use Rattle.sk_client.proofs.DeskFacts.{none_first, none_later}
 use Rattle.sk_client.proofs.SeenTurn.{Did, ok_of}
 

@@ -40,7 +40,7 @@ use Rattle.sk_plain.specs.Pipes.{on_pipe, put_in, put as pipe_put, take_none, ta
 use Rattle.sk_plain.specs.Processes.{LEVEL_FOUR, LAST_CHILD, next_child, forked, parent_of, born, fork, signalled, kill, waited, wait, returned}
 use Rattle.sk_plain.specs.Replies.{from_copy, over_copy, good, fresh, stale}
 use Rattle.sk_plain.specs.Act.{row, private_or, does, handled, with_signals, with_input}
-use Rattle.sk_world.proofs.Each.{cons_cases, no_member}
+use Rattle.sk_client.proofs.Each.{cons_cases, no_member}
 use Rattle.sk_client.proofs.Ends.{Ends}
 use Rattle.sk_client.proofs.Tidy.{elsewhere, IsTidy, IsPlace, IsNextChild, tidy_own, tidy_place, tidy_copy, tidy_birth}
 

@@ -8,19 +8,21 @@ use Rattle.sk_plain.specs.declared.refusal.Refusal.{Refusal}
 use Rattle.sk_kernel.specs.Kernel.{KernelView, events_of, step_refused, undecided_at}
 use Rattle.sk_record.specs.Notes.{has}
 use Rattle.sk_script.specs.declared.instruction.Input.{Input}
-use Rattle.sk_server.specs.Files.{file_of, is_fitting, written}
+use Rattle.sk_server.specs.Files.{written}
 use Rattle.sk_server.specs.Server.{ServerView}
 use Rattle.sk_server.specs.Calls.{Edits}
 use Rattle.sk_server.specs.declared.request.Request.{Request as Sent}
 use Rattle.sk_server.specs.declared.reply.Answer.{Answer}
 use Rattle.sk_server.specs.declared.reply.Reply.{Reply}
-use Rattle.sk_world.specs.Server.{Change}
-use Rattle.sk_world.specs.World.{World, WorldEvent as LawEvent, Turn, Serve, Reply as Replies, Edit, pending as law_pending, places, edited, event, world_after}
-use Rattle.sk_world.proofs.First.{places_are_kept}
-use Rattle.sk_client.specs.Table.{Bytes, table}
+use Rattle.sk_client.proofs.CausedWorld.{World, WorldEvent as LawEvent, Turn, Serve, Reply as Replies, Edit, pending as law_pending, places, event, world_after}
+use Rattle.sk_client.proofs.First.{places_are_kept}
+use Rattle.sk_client.specs.Table.{Bytes}
+use Rattle.sk_client.proofs.WorldTable.{table}
 use Rattle.sk_client.specs.Desk.{DeskView, opened, entry, decided, input_of, answered, given_to, given, is_void, stepped, turned}
 use Rattle.sk_client.specs.DeskCalls.{ByRule, TurnPost, ReplyPost}
-use Rattle.sk_client.specs.LawWorld.{Exchanges, with_reply, exchange, exchanged, Leads, law_content, begun, IsReady, IsSeen, IsSeenAfter}
+use Rattle.sk_client.specs.Exchanges.{Exchanges, with_reply, exchange, exchanged, Leads}
+use Rattle.sk_client.proofs.SeenWorld.{begun}
+use Rattle.sk_client.specs.Ready.{IsReady}
 use Rattle.sk_client.specs.WorldView.{WorldView, joined, taken_by, taken_from, reply_to, served, Serves, Replies as RepliesSo, Turns, EditsFile, EventPost, IsNext, IsJoined}
 use Rattle.sk_client.specs.declared.pending.PendingRequest.{PendingRequest}
 use Rattle.sk_client.specs.declared.rule.Rule.{Rule}
@@ -36,7 +38,6 @@ use Rattle.sk_client.specs.declared.world.Cause.TheVariants as causes
 use Rattle.sk_client.proofs.Before.{back, ready_table, begins}
 use Rattle.sk_client.proofs.WorldFacts.{turn_joined, taken_joined, answer_joined, oldest, given_joined, begun_joined}
 use Rattle.sk_client.proofs.SeenFacts.{Fits}
-use Rattle.sk_client.proofs.SeenServer.{fitting_seen, changed_seen}
 use Rattle.sk_client.proofs.SeenTurn.{turn_fits}
 use Rattle.sk_client.proofs.SeenServe.{last_of, taken_fits, serve_fits}
 use Rattle.sk_client.proofs.SeenReply.{reply_fits}
@@ -86,7 +87,7 @@ boot_more : (k l m : KernelView) → SameBoot k l → SameBoot l m → SameBoot 
 boot_more k l m a b = record { scripts = b.scripts ∙ a.scripts; start = b.start ∙ a.start; limit = b.limit ∙ a.limit }
 
 -- such kernels make the same of a list of events
-after_same : (k l : KernelView) → SameBoot k l → (w : World ℕ Bytes Bytes) (es : List (LawEvent ℕ Bytes Bytes))
+after_same : (k l : KernelView) → SameBoot k l → (w : World) (es : List LawEvent)
     → world_after (table l.scripts l.limit) l.start w es ≡ world_after (table k.scripts k.limit) k.start w es
 after_same k l same w es = λ i. world_after (table (same.scripts i) (same.limit i)) (same.start i) w es
 
@@ -98,13 +99,13 @@ edited_next s (Some b) d name version bytes h = h
 -- ---- one event
 
 -- what an event of the laws, or none, makes of a world that fits
-pub record Onward (xs : Exchanges) (w : World ℕ Bytes Bytes) (v new : WorldView) : Type 0 where
-  pub event_of : List (LawEvent ℕ Bytes Bytes)
+pub record Onward (xs : Exchanges) (w : World) (v new : WorldView) : Type 0 where
+  pub event_of : List LawEvent
   pub fits : Fits xs (world_after (table v.desk.kernel.scripts v.desk.kernel.limit) v.desk.kernel.start w event_of) new
   pub joined : IsJoined new.desk new.server new.replies new.back
   pub boot : SameBoot v.desk.kernel new.desk.kernel
 
-module _ (xs : Exchanges) (w : World ℕ Bytes Bytes) (v : WorldView) (f : Fits xs w v) (j : IsJoined v.desk v.server v.replies v.back) where
+module _ (xs : Exchanges) (w : World) (v : WorldView) (f : Fits xs w v) (j : IsJoined v.desk v.server v.replies v.back) where
   same : (new : WorldView) → new ≡ v → Onward xs w v new
   same new is = subst (λ (x : WorldView). Onward xs w v x) (sym is) (record { event_of = []; fits = f; joined = j; boot = same_boot v.desk.kernel })
 
@@ -131,35 +132,24 @@ module _ (xs : Exchanges) (w : World ℕ Bytes Bytes) (v : WorldView) (f : Fits 
 
   -- ---- an edit
 
-  abbrev change : Bytes → ℕ → Bytes → Change Bytes Bytes
-  change name version bytes = record { name = name; version = version; bytes = bytes }
-
-  edit_fits : (name : Bytes) (version : ℕ) (bytes : Bytes) → is_fitting v.server.files name version ≡ true
-      → Fits xs (event (table v.desk.kernel.scripts v.desk.kernel.limit) v.desk.kernel.start w (Edit (change name version bytes))) (record v { server = record v.server { files = written v.server.files name version bytes } })
-  edit_fits name version bytes fits =
-      subst (λ b. Fits xs (edited (table v.desk.kernel.scripts v.desk.kernel.limit) v.desk.kernel.start w (change name version bytes) b) (record v { server = record v.server { files = written v.server.files name version bytes } }))
-      (sym (fitting_seen w.server.files v.server.files name version bytes f.seen.files ∙ fits))
-      (record {
-        seen = record {
-          trace = f.seen.trace;
-          drawn = f.seen.drawn;
-          next = f.seen.next;
-          kept = f.seen.kept;
-          taken = f.seen.taken;
-          waiting = f.seen.waiting;
-          files = changed_seen w.server.files v.server.files name version bytes f.seen.files fits;
-          refused = f.seen.refused;
-          answered = f.seen.answered;
-        };
-        sound = f.sound;
-        kinds = f.kinds;
-      })
-
   edited_on : (name : Bytes) (expected : ℕ) (bytes : Bytes) (version : ℕ) (new : WorldView) → Edits v.server name expected bytes (Ok version) new.server → new ≡ record v { server = new.server } → Onward xs w v new
   edited_on name expected bytes version new h is =
       subst (λ (x : WorldView). Onward xs w v x) (sym (is ∙ ap (λ (s : ServerView). record v { server = s }) h.2)) (record {
-        event_of = Edit (change name expected bytes) ∷ [];
-        fits = edit_fits name expected bytes h.0;
+        event_of = Edit (written v.server.files name expected bytes) ∷ [];
+        fits = record {
+          seen = record {
+            trace = f.seen.trace;
+            drawn = f.seen.drawn;
+            next = f.seen.next;
+            kept = f.seen.kept;
+            taken = f.seen.taken;
+            waiting = f.seen.waiting;
+            server = ap (λ (s : ServerView). record s { files = written v.server.files name expected bytes }) f.seen.server;
+            answered = f.seen.answered;
+          };
+          sound = f.sound;
+          kinds = f.kinds;
+        };
         joined = record { replies = j.replies; next = edited_next v.server v.back v.desk name expected bytes j.next; last = j.last };
         boot = same_boot v.desk.kernel;
       })
@@ -186,12 +176,12 @@ module _ (xs : Exchanges) (w : World ℕ Bytes Bytes) (v : WorldView) (f : Fits 
   took_any None is = took v.desk.waiting refl (subst (λ (o : Option Sent). IsJoined v.desk v.server v.replies o) is j) is
 
 -- nothing was served
-none_served : (xs : Exchanges) (w : World ℕ Bytes Bytes) (v new : WorldView) → Onward xs w v new → Onward (xs ++ []) w v new
+none_served : (xs : Exchanges) (w : World) (v new : WorldView) → Onward xs w v new → Onward (xs ++ []) w v new
 none_served xs w v new on = subst (λ (ys : Exchanges). Onward ys w v new) (sym (append-nil xs)) on
 
 -- ---- the server answers
 
-module _ (xs : Exchanges) (w : World ℕ Bytes Bytes) (v : WorldView) (f : Fits xs w v) (j : IsJoined v.desk v.server v.replies v.back) where
+module _ (xs : Exchanges) (w : World) (v : WorldView) (f : Fits xs w v) (j : IsJoined v.desk v.server v.replies v.back) where
   answered_on : (b : Sent) → v.back ≡ Some b → Onward (xs ++ (b, reply_to v.server b) ∷ []) w v (served v b)
   answered_on b is =
       let before : IsJoined v.desk v.server v.replies (Some b) = subst (λ (o : Option Sent). IsJoined v.desk v.server v.replies o) is j in
@@ -211,7 +201,7 @@ module _ (xs : Exchanges) (w : World ℕ Bytes Bytes) (v : WorldView) (f : Fits 
 
 -- ---- a reply is given
 
-module _ (xs : Exchanges) (w : World ℕ Bytes Bytes) (v : WorldView) (f : Fits xs w v) (j : IsJoined v.desk v.server v.replies v.back)
+module _ (xs : Exchanges) (w : World) (v : WorldView) (f : Fits xs w v) (j : IsJoined v.desk v.server v.replies v.back)
     (placed : places (table v.desk.kernel.scripts v.desk.kernel.limit) v.desk.kernel.start w.trace (law_pending w) ≤ v.desk.kernel.limit) where
   given_on : (told : Given) (new : WorldView) (r : Reply) (rs : List Reply) → v.replies ≡ r ∷ rs → ReplyPost (Ok told) v.desk r new.desk → new ≡ record v { desk = new.desk; replies = rs } → Onward xs w v new
   given_on told new r rs is h same =
@@ -239,7 +229,7 @@ module _ (xs : Exchanges) (w : World ℕ Bytes Bytes) (v : WorldView) (f : Fits 
       let on : Onward (xs ++ exchange t.back told) w t new = serves xs w t (taken_fits xs w v f j) took.0 told new t.back refl h in
       record {
         event_of = on.event_of;
-        fits = subst (λ (x : World ℕ Bytes Bytes). Fits (xs ++ exchange t.back told) x new) (after_same v.desk.kernel t.desk.kernel took.1 w on.event_of) on.fits;
+        fits = subst (λ (x : World). Fits (xs ++ exchange t.back told) x new) (after_same v.desk.kernel t.desk.kernel took.1 w on.event_of) on.fits;
         joined = on.joined;
         boot = boot_more v.desk.kernel t.desk.kernel new.desk.kernel took.1 on.boot;
       }
@@ -248,66 +238,63 @@ module _ (xs : Exchanges) (w : World ℕ Bytes Bytes) (v : WorldView) (f : Fits 
 
 -- ---- all events
 
-module _ (k : KernelView) (ready : IsReady k) (server : ServerView) where
-  abbrev first : World ℕ Bytes Bytes
-  first = begun k (λ name. law_content (file_of server.files name))
-
+module _ (k : KernelView) where
   -- what these events of the laws lead to
-  abbrev pub law_after : List (LawEvent ℕ Bytes Bytes) → World ℕ Bytes Bytes
-  law_after es = world_after (table k.scripts k.limit) k.start (begun k (λ name. law_content (file_of server.files name))) es
+  abbrev pub law_after : List LawEvent → World
+  law_after es = world_after (table k.scripts k.limit) k.start (begun k) es
 
   -- the same kernel later, in a world that these events of the laws and some more lead to
-  pub record Reached (earlier : List (LawEvent ℕ Bytes Bytes)) (xs : Exchanges) (v : WorldView) : Type 0 where
-    pub since : List (LawEvent ℕ Bytes Bytes)
+  pub record Reached (earlier : List LawEvent) (xs : Exchanges) (v : WorldView) : Type 0 where
+    pub since : List LawEvent
     pub fits : Fits xs (law_after (earlier ++ since)) v
     pub joined : IsJoined v.desk v.server v.replies v.back
     pub scripts : v.desk.kernel.scripts ≡ k.scripts
     pub start : v.desk.kernel.start ≡ k.start
     pub limit_is : v.desk.kernel.limit ≡ k.limit
 
-  one_event : (earlier : List (LawEvent ℕ Bytes Bytes)) (xs : Exchanges) (v : WorldView) → Reached earlier xs v → (told : Result WorldAnswer Cause) (e : WorldEvent) (new : WorldView) → EventPost told v e new
-      → Reached earlier (xs ++ exchanged told v e) new
+module _ (k : KernelView) (ready : IsReady k) where
+  one_event : (earlier : List LawEvent) (xs : Exchanges) (v : WorldView) → Reached k earlier xs v → (told : Result WorldAnswer Cause) (e : WorldEvent) (new : WorldView) → EventPost told v e new
+      → Reached k earlier (xs ++ exchanged told v e) new
   one_event earlier xs v r told e new h =
-      let w = law_after (earlier ++ r.since) in
+      let w = law_after k (earlier ++ r.since) in
       let K = v.desk.kernel in
-      let kept = places_are_kept (table k.scripts k.limit) k.start (ready_table k ready) first (begins k (λ name. law_content (file_of server.files name)) ready) (earlier ++ r.since) in
+      let kept = places_are_kept (table k.scripts k.limit) k.start (ready_table k ready) (begun k) (begins k ready) (earlier ++ r.since) in
       let placed : places (table K.scripts K.limit) K.start w.trace (law_pending w) ≤ K.limit =
       subst (λ (c : ScriptMap × (State × ℕ)). places (table c.0 c.1.1) c.1.0 w.trace (law_pending w) ≤ c.1.1) (λ i. (sym r.scripts i, (sym r.start i, sym r.limit_is i))) kept in
       let on = onward xs w v r.fits r.joined placed told e new h in
-      let same : world_after (table K.scripts K.limit) K.start w on.event_of ≡ law_after (earlier ++ (r.since ++ on.event_of)) =
+      let same : world_after (table K.scripts K.limit) K.start w on.event_of ≡ law_after k (earlier ++ (r.since ++ on.event_of)) =
       (λ i. world_after (table (r.scripts i) (r.limit_is i)) (r.start i) w on.event_of)
-      ∙ sym (fold-append (event (table k.scripts k.limit) k.start) first (earlier ++ r.since) on.event_of)
-      ∙ ap law_after (append_assoc earlier r.since on.event_of) in
+      ∙ sym (fold-append (event (table k.scripts k.limit) k.start) (begun k) (earlier ++ r.since) on.event_of)
+      ∙ ap (law_after k) (append_assoc earlier r.since on.event_of) in
       record {
         since = r.since ++ on.event_of;
-        fits = subst (λ (x : World ℕ Bytes Bytes). Fits (xs ++ exchanged told v e) x new) same on.fits;
+        fits = subst (λ (x : World). Fits (xs ++ exchanged told v e) x new) same on.fits;
         joined = on.joined;
         scripts = on.boot.scripts ∙ r.scripts;
         start = on.boot.start ∙ r.start;
         limit_is = on.boot.limit ∙ r.limit_is;
       }
 
-  all_events : (earlier : List (LawEvent ℕ Bytes Bytes)) (xs : Exchanges) (v : WorldView) (es : List WorldEvent) (ys : Exchanges) (last : WorldView) → Reached earlier xs v → Leads v es ys last
-      → Reached earlier (xs ++ ys) last
+  all_events : (earlier : List LawEvent) (xs : Exchanges) (v : WorldView) (es : List WorldEvent) (ys : Exchanges) (last : WorldView) → Reached k earlier xs v → Leads v es ys last
+      → Reached k earlier (xs ++ ys) last
   all_events earlier xs v [] ys last r h =
-      subst (λ (zs : Exchanges). Reached earlier (xs ++ zs) last) (sym h.0) (subst (λ (zs : Exchanges). Reached earlier zs last) (sym (append-nil xs)) (subst (λ (x : WorldView). Reached earlier xs x) (sym h.1) r))
+      subst (λ (zs : Exchanges). Reached k earlier (xs ++ zs) last) (sym h.0) (subst (λ (zs : Exchanges). Reached k earlier zs last) (sym (append-nil xs)) (subst (λ (x : WorldView). Reached k earlier xs x) (sym h.1) r))
   all_events earlier xs v (e ∷ es) ys last r h =
-      subst (λ (zs : Exchanges). Reached earlier zs last) (append_assoc xs (exchanged h.0 v e) h.2 ∙ ap (λ zs. xs ++ zs) (sym h.5))
+      subst (λ (zs : Exchanges). Reached k earlier zs last) (append_assoc xs (exchanged h.0 v e) h.2 ∙ ap (λ zs. xs ++ zs) (sym h.5))
       (all_events earlier (xs ++ exchanged h.0 v e) h.1 es h.2 last (one_event earlier xs v r h.0 e h.1 h.3) h.4)
 
-  at_first : server.next ≡ 1 → server.refused ≡ [] → Reached [] [] (joined (opened k) server)
-  at_first next refused = record {
-    since = [];
+  at_first : (server : ServerView) → server.next ≡ 1 → server.refused ≡ [] → Reached k [] [] (joined (opened k) server)
+  at_first server next refused = record {
+    since = Edit server.files ∷ [];
     fits = record {
       seen = record {
         trace = back (events_of k);
         drawn = refl;
         next = refl;
-        kept = λ pid. refl;
+        kept = refl;
         taken = refl;
         waiting = refl;
-        files = λ name. refl;
-        refused = sym refused;
+        server = λ i. record { files = server.files; next = sym next i; refused = sym refused i };
         answered = refl;
       };
       sound = ready.0.sound;
@@ -319,13 +306,13 @@ module _ (k : KernelView) (ready : IsReady k) (server : ServerView) where
     limit_is = refl;
   }
 
-  pub reached : server.next ≡ 1 → server.refused ≡ [] → (es : List WorldEvent) (xs : Exchanges) (v : WorldView) → Leads (joined (opened k) server) es xs v → Reached [] xs v
-  reached next refused es xs v h = all_events [] [] (joined (opened k) server) es xs v (at_first next refused) h
+  pub reached : (server : ServerView) → server.next ≡ 1 → server.refused ≡ [] → (es : List WorldEvent) (xs : Exchanges) (v : WorldView) → Leads (joined (opened k) server) es xs v → Reached k [] xs v
+  reached server next refused es xs v h = all_events [] [] (joined (opened k) server) es xs v (at_first server next refused) h
 
-  from_here : (xs : Exchanges) (v : WorldView) (r : Reached [] xs v) → Reached r.since xs v
+  from_here : (xs : Exchanges) (v : WorldView) (r : Reached k [] xs v) → Reached k r.since xs v
   from_here xs v r = record {
     since = [];
-    fits = subst (λ (es : List (LawEvent ℕ Bytes Bytes)). Fits xs (law_after es) v) (sym (append-nil r.since)) r.fits;
+    fits = subst (λ (es : List LawEvent). Fits xs (law_after k es) v) (sym (append-nil r.since)) r.fits;
     joined = r.joined;
     scripts = r.scripts;
     start = r.start;
@@ -333,17 +320,5 @@ module _ (k : KernelView) (ready : IsReady k) (server : ServerView) where
   }
 
   -- the same from there on
-  pub later_on : (xs : Exchanges) (v : WorldView) (r : Reached [] xs v) (es : List WorldEvent) (ys : Exchanges) (last : WorldView) → Leads v es ys last → Reached r.since (xs ++ ys) last
+  pub later_on : (xs : Exchanges) (v : WorldView) (r : Reached k [] xs v) (es : List WorldEvent) (ys : Exchanges) (last : WorldView) → Leads v es ys last → Reached k r.since (xs ++ ys) last
   later_on xs v r es ys last h = all_events r.since xs v es ys last (from_here xs v r) h
-
-  pub seen_after : server.next ≡ 1 → server.refused ≡ [] → (es : List WorldEvent) (xs : Exchanges) (v : WorldView) → Leads (joined (opened k) server) es xs v → IsSeenAfter k server xs v
-  seen_after next refused es xs v h =
-      let r = reached next refused es xs v h in (
-        r.since,
-        r.fits.seen,
-        λ later ys last more.
-            let on = later_on xs v r later ys last more in (
-              on.since,
-              subst (λ (w : World ℕ Bytes Bytes). IsSeen (xs ++ ys) w last) (fold-append (event (table k.scripts k.limit) k.start) first r.since on.since) on.fits.seen,
-            ),
-      )

@@ -1,6 +1,6 @@
 -- What the laws compute of a world is what its callers compute.
 use Rattle.std.proofs.Common.{◌≡◌, ℕ, suc, ◌+◌, ◌≤◌, Bool, true, false, not, ◌&&◌, ◌||◌, cond, List, [], ◌∷◌, ◌++◌, map, length, get_or, Option, Some, None, refl, sym, ◌∙◌, ap, arith}
-use Rattle.std.specs.Prelude.{◌==◌, nat_le, bytes_eq}
+use Rattle.std.specs.Prelude.{◌==◌, nat_le}
 use Rattle.std.specs.Ordering.{nat_cmp}
 use Rattle.std.specs.List.{filter, list_any}
 use Rattle.std.specs.List.Sorted.{IsStrictlySortedBy}
@@ -13,7 +13,7 @@ use Rattle.sk_record.specs.Notes.{has}
 use Rattle.sk_record.specs.Trace.{Event as Happens, Taken, Commit, Fail, record_of, undecided_of, all_recorded, no_record}
 use Rattle.sk_record.proofs.Machine.{has_filter}
 use Rattle.sk_record.proofs.Rising.{above}
-use Rattle.sk_record.proofs.Sound.{eqb_turned, entries_are, is_commit}
+use Rattle.sk_record.proofs.Sound.{entries_are, is_commit, undecided_is as is_undecided}
 use Rattle.sk_ids.specs.Entity.{entity_cmp}
 use Rattle.sk_ids.specs.declared.entity.Entity.{Entity}
 use Rattle.sk_ids.specs.declared.entity.Entity.TheVariants.{Proc, Copy as CopyOf}
@@ -21,21 +21,22 @@ use Rattle.sk_plain.specs.Act.{plain}
 use Rattle.sk_plain.specs.Replay.{image}
 use Rattle.sk_kernel.specs.Kernel.{KernelView, events_of, record_at, state_at, tags_at, undecided_at, next_guess, settled}
 use Rattle.sk_kernel.specs.Laws.{HasSoundTrace}
-use Rattle.sk_record.proofs.Sound.{undecided_is as is_undecided}
 use Rattle.sk_kernel.proofs.Undecided.{undecided_sorted}
 use Rattle.sk_kernel.proofs.Lawful.{below_next}
 use Rattle.sk_holder.specs.Tokens.{commits}
 use Rattle.sk_server.specs.declared.reply.Reply.{Reply}
-use Rattle.sk_world.specs.Requests.{name_of as law_name}
-use Rattle.sk_world.specs.World.{World, kernel, state, undecided, pending as law_pending, is_tag, rests_of as law_rests, is_lost as law_lost, is_void as law_void, commits as law_commits, least, places, asks_for as law_asks_for, asks_on as law_asks_on, asked_count as law_asked_count, is_asked as law_is_asked}
-use Rattle.sk_world.specs.Labels.{bare_event}
-use Rattle.sk_world.proofs.Labels.{is_bare}
-use Rattle.sk_world.proofs.TraceFacts.{entry_drawn}
-use Rattle.sk_client.specs.Table.{Bytes, Caused, bare, table}
-use Rattle.sk_client.specs.Desk.{pending, is_asked, asked_count, asks_for, asks_on, name_of, rests_of, is_lost, is_void}
+use Rattle.sk_client.specs.Desk.{pending, asked_count, asks_for, asks_on, rests_of, is_lost, is_void}
+use Rattle.sk_client.proofs.CausedWorld.{World, kernel, state, undecided, pending as law_pending, is_tag, rests_of as law_rests, is_lost as law_lost, is_void as law_void, commits as law_commits, least, places, asked_count as law_asked_count}
+use Rattle.sk_client.proofs.Bare.{bare_event}
+use Rattle.sk_client.proofs.Labels.{is_bare}
+use Rattle.sk_client.proofs.TraceFacts.{entry_drawn}
+use Rattle.sk_client.specs.Table.{Bytes}
+use Rattle.sk_client.proofs.WorldTable.{bare, table}
+use Rattle.sk_client.proofs.CausedRequests.{Caused}
 use Rattle.sk_client.specs.declared.pending.PendingRequest.{PendingRequest}
 use Rattle.sk_client.specs.WorldView.{WorldView}
-use Rattle.sk_client.specs.LawWorld.{law_ask, law_request, law_served, unanswered, Exchanges, IsSeen}
+use Rattle.sk_client.proofs.SeenWorld.{law_served, unanswered, IsSeen}
+use Rattle.sk_client.specs.Exchanges.{Exchanges}
 use Rattle.sk_server.specs.declared.request.Ask.{Ask}
 use Rattle.sk_server.specs.declared.request.Ask.TheVariants as asks
 use Rattle.sk_client.proofs.DeskFacts.{committed_is}
@@ -56,12 +57,6 @@ any_map p f (x ∷ xs) = ap (λ b. p (f x) || b) (any_map p f xs)
 any_same : {A : Type 0} (p q : A → Bool) (xs : List A) → ((x : A) → p x ≡ q x) → list_any p xs ≡ list_any q xs
 any_same p q [] same = refl
 any_same p q (x ∷ xs) same = λ i. same x i || any_same p q xs same i
-
-pub bytes_turned : (a b : List ℕ) → bytes_eq a b ≡ bytes_eq b a
-bytes_turned [] [] = refl
-bytes_turned [] (y ∷ ys) = refl
-bytes_turned (x ∷ xs) [] = refl
-bytes_turned (x ∷ xs) (y ∷ ys) = λ i. eqb_turned x y i && bytes_turned xs ys i
 
 -- ---- the least of some numbers that rise is the first
 
@@ -86,22 +81,14 @@ least_is_first d (g ∷ gs) rises low =
 -- ---- requests, of which the oldest have their replies on the way
 
 pub requests_seen : (qs : List PendingRequest) (rs : List Reply) (later : List PendingRequest)
-    → map (λ x. x.0) (law_served qs rs) ++ map law_request (unanswered qs rs ++ later) ≡ map law_request (qs ++ later)
+    → map (λ x. x.0) (law_served qs rs) ++ (unanswered qs rs ++ later) ≡ (qs ++ later)
 requests_seen [] rs later = refl
 requests_seen (q ∷ qs) [] later = refl
-requests_seen (q ∷ qs) (r ∷ rs) later = ap (λ xs. law_request q ∷ xs) (requests_seen qs rs later)
+requests_seen (q ∷ qs) (r ∷ rs) later = ap (λ xs. q ∷ xs) (requests_seen qs rs later)
 
-same_asked : (q : PendingRequest) → law_is_asked q.guess ≡ is_asked q
-same_asked q = elim q.guess as (λ g. law_is_asked g ≡ is_asked (record q { guess = g })) [ None ↦ refl | Some g ↦ refl ]
-
-pub name_seen : (a : Ask) → law_name (law_ask a) ≡ name_of a
-name_seen (asks.Get name) = refl
-name_seen (asks.Check name version) = refl
-name_seen (asks.Store name version bytes) = refl
-
-asked_seen : (qs : List PendingRequest) → law_asked_count (map law_request qs) ≡ asked_count qs
+asked_seen : (qs : List PendingRequest) → law_asked_count qs ≡ asked_count qs
 asked_seen [] = refl
-asked_seen (q ∷ qs) = elim q.guess as (λ g. law_asked_count (map law_request (record q { guess = g } ∷ qs)) ≡ asked_count (record q { guess = g } ∷ qs)) [
+asked_seen (q ∷ qs) = elim q.guess as (λ g. law_asked_count (record q { guess = g } ∷ qs) ≡ asked_count (record q { guess = g } ∷ qs)) [
   | None ↦ ap suc (asked_seen qs)
   | Some g ↦ asked_seen qs
 ]
@@ -129,16 +116,16 @@ more_for [] q all is = (is, tt)
 more_for (x ∷ xs) q all is = (all.0, more_for xs q all.1 is)
 
 -- a world of the laws that is seen so, and what holds besides
-pub record Fits (xs : Exchanges) (w : World ℕ Bytes Bytes) (v : WorldView) : Type 0 where
+pub record Fits (xs : Exchanges) (w : World) (v : WorldView) : Type 0 where
   pub seen : IsSeen xs w v
   pub sound : HasSoundTrace v.desk.kernel
   pub kinds : AreFor (pending v.desk)
 
-module _ (xs : Exchanges) (w : World ℕ Bytes Bytes) (v : WorldView) (seen : IsSeen xs w v) where
+module _ (xs : Exchanges) (w : World) (v : WorldView) (seen : IsSeen xs w v) where
   abbrev K : KernelView
   K = v.desk.kernel
 
-  pub pending_seen : law_pending w ≡ map law_request (pending v.desk)
+  pub pending_seen : law_pending w ≡ pending v.desk
   pending_seen = (λ i. map (λ x. x.0) (seen.taken i) ++ seen.waiting i) ∙ requests_seen v.desk.taken v.replies v.desk.waiting
 
   -- ---- the kernel
@@ -187,19 +174,11 @@ module _ (xs : Exchanges) (w : World ℕ Bytes Bytes) (v : WorldView) (seen : Is
 
   -- ---- asked requests
 
-  pub asks_for_seen : (pid : ℕ) → law_asks_for (table v.desk.kernel.scripts v.desk.kernel.limit) v.desk.kernel.start w pid ≡ asks_for pid (pending v.desk)
-  asks_for_seen pid =
-      ap (list_any (λ q. law_is_asked q.guess && (pid == q.process))) pending_seen
-      ∙ any_map (λ q. law_is_asked q.guess && (pid == q.process)) law_request (pending v.desk)
-      ∙ any_same (λ q. law_is_asked q.guess && (pid == q.process)) (λ q. is_asked q && (q.process == pid)) (pending v.desk)
-      (λ q i. same_asked q i && eqb_turned pid q.process i)
+  pub asks_for_seen : (pid : ℕ) → asks_for pid (law_pending w) ≡ asks_for pid (pending v.desk)
+  asks_for_seen pid = ap (asks_for pid) pending_seen
 
-  pub asks_on_seen : (name : Bytes) → law_asks_on (table v.desk.kernel.scripts v.desk.kernel.limit) v.desk.kernel.start w name ≡ asks_on name (pending v.desk)
-  asks_on_seen name =
-      ap (list_any (λ q. law_is_asked q.guess && bytes_eq name (law_name q.ask))) pending_seen
-      ∙ any_map (λ q. law_is_asked q.guess && bytes_eq name (law_name q.ask)) law_request (pending v.desk)
-      ∙ any_same (λ q. law_is_asked q.guess && bytes_eq name (law_name (law_ask q.ask))) (λ q. is_asked q && bytes_eq (name_of q.ask) name) (pending v.desk)
-      (λ q i. same_asked q i && (ap (bytes_eq name) (name_seen q.ask) ∙ bytes_turned name (name_of q.ask)) i)
+  pub asks_on_seen : (name : Bytes) → asks_on name (law_pending w) ≡ asks_on name (pending v.desk)
+  asks_on_seen name = ap (asks_on name) pending_seen
 
   -- ---- guesses that are lost
 
@@ -213,5 +192,5 @@ module _ (xs : Exchanges) (w : World ℕ Bytes Bytes) (v : WorldView) (seen : Is
   lost_seen : HasSoundTrace v.desk.kernel → (g : ℕ) → law_lost (table v.desk.kernel.scripts v.desk.kernel.limit) v.desk.kernel.start w.trace g ≡ is_lost v.desk.kernel g
   lost_seen sound g = λ i. not (has g (undecided_seen i)) && not (committed_seen sound g i)
 
-  pub void_seen : HasSoundTrace v.desk.kernel → (q : PendingRequest) → law_void (table v.desk.kernel.scripts v.desk.kernel.limit) v.desk.kernel.start w.trace (law_request q) ≡ is_void v.desk.kernel q
+  pub void_seen : HasSoundTrace v.desk.kernel → (q : PendingRequest) → law_void (table v.desk.kernel.scripts v.desk.kernel.limit) v.desk.kernel.start w.trace q ≡ is_void v.desk.kernel q
   void_seen sound q = any_same (law_lost (table K.scripts K.limit) K.start w.trace) (is_lost K) q.rests (lost_seen sound)

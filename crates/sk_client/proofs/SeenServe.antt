@@ -1,21 +1,17 @@
 -- The server answers in a world of the laws, and in one that is seen so.
-use Rattle.std.proofs.Common.{◌≡◌, ℕ, List, [], ◌∷◌, ◌++◌, map, Option, Some, None, refl, sym, ◌∙◌, ap, subst}
+use Rattle.std.proofs.Common.{◌≡◌, List, [], ◌∷◌, ◌++◌, map, Option, Some, None, refl, sym, ◌∙◌, ap, subst}
 use Rattle.std.proofs.lemmas.List.{append_assoc, map-append}
-use Rattle.sk_objects.specs.declared.content.TheConstants.{LAST_VERSION}
-use Rattle.sk_server.specs.Server.{answer_to}
+use Rattle.sk_server.specs.Server.{answer_to, answered}
 use Rattle.sk_server.specs.declared.request.Request.{Request as Sent}
 use Rattle.sk_server.specs.declared.reply.Reply.{Reply}
-use Rattle.std.specs.Prelude.{bytes_eq}
-use Rattle.sk_world.specs.Requests.{Answer}
-use Rattle.sk_world.specs.Server.{answer_to as law_answer_to, answered as law_answered, accepted}
-use Rattle.sk_world.specs.World.{World, Serve, serve, event}
-use Rattle.sk_client.specs.Table.{Bytes, table}
+use Rattle.sk_client.proofs.CausedWorld.{World, Serve, serve, event}
+use Rattle.sk_client.proofs.WorldTable.{table}
 use Rattle.sk_client.specs.Desk.{sent, first_taken}
-use Rattle.sk_client.specs.LawWorld.{Exchanges, answered_there, answered_here, law_answer, law_request, law_served, unanswered}
+use Rattle.sk_client.specs.Exchanges.{Exchanges}
+use Rattle.sk_client.proofs.SeenWorld.{answered_there, answered_here, law_served, unanswered}
 use Rattle.sk_client.specs.WorldView.{WorldView, taken_by, taken_from, reply_to, served, AreReplies, IsJoined}
 use Rattle.sk_client.specs.declared.pending.PendingRequest.{PendingRequest}
 use Rattle.sk_client.proofs.SeenFacts.{AreFor, Fits}
-use Rattle.sk_client.proofs.SeenServer.{answer_seen, refused_seen, files_seen}
 
 -- ---- each request that was taken has its reply
 
@@ -23,7 +19,7 @@ served_longer : (qs : List PendingRequest) (rs : List Reply) (q : PendingRequest
 served_longer [] [] q h = refl
 served_longer [] (r ∷ rs) q h = absurd h
 served_longer (x ∷ xs) [] q h = absurd h
-served_longer (x ∷ xs) (r ∷ rs) q h = ap (λ ys. (law_request x, law_answer r.answer) ∷ ys) (served_longer xs rs q h.2)
+served_longer (x ∷ xs) (r ∷ rs) q h = ap (λ ys. (x, r.answer) ∷ ys) (served_longer xs rs q h.2)
 
 none_waits : (qs : List PendingRequest) (rs : List Reply) → AreReplies rs None qs → unanswered qs rs ≡ []
 none_waits [] [] h = refl
@@ -43,7 +39,7 @@ pub record Last (qs : List PendingRequest) (rs : List Reply) (b : Sent) : Type 0
   pub request : PendingRequest
   pub sent_so : b ≡ sent request
   pub alone : unanswered qs rs ≡ request ∷ []
-  pub served : (r : Reply) → law_served qs (rs ++ r ∷ []) ≡ law_served qs rs ++ (law_request request, law_answer r.answer) ∷ []
+  pub served : (r : Reply) → law_served qs (rs ++ r ∷ []) ≡ law_served qs rs ++ (request, r.answer) ∷ []
   pub none : (r : Reply) → unanswered qs (rs ++ r ∷ []) ≡ []
 
 last_more : (x : PendingRequest) (xs : List PendingRequest) (r : Reply) (rs : List Reply) (b : Sent) → Last xs rs b → Last (x ∷ xs) (r ∷ rs) b
@@ -51,7 +47,7 @@ last_more x xs r rs b l = record {
   request = l.request;
   sent_so = l.sent_so;
   alone = l.alone;
-  served = λ s. ap (λ ys. (law_request x, law_answer r.answer) ∷ ys) (l.served s);
+  served = λ s. ap (λ ys. (x, r.answer) ∷ ys) (l.served s);
   none = l.none;
 }
 
@@ -64,7 +60,7 @@ last_of (q ∷ qs) (r ∷ rs) b h = last_more q qs r rs b (last_of qs rs b h.2)
 
 -- ---- a request is taken, of which the laws see nothing
 
-module _ (xs : Exchanges) (w : World ℕ Bytes Bytes) (v : WorldView) (f : Fits xs w v) where
+module _ (xs : Exchanges) (w : World) (v : WorldView) (f : Fits xs w v) where
   taking : (q : PendingRequest) (qs : List PendingRequest) → v.desk.waiting ≡ q ∷ qs → AreReplies v.replies None v.desk.taken
       → Fits xs w (record v { desk = first_taken v.desk (q ∷ qs); back = Some (sent q) })
   taking q qs is replies = record {
@@ -74,9 +70,8 @@ module _ (xs : Exchanges) (w : World ℕ Bytes Bytes) (v : WorldView) (f : Fits 
       next = f.seen.next;
       kept = f.seen.kept;
       taken = f.seen.taken ∙ sym (served_longer v.desk.taken v.replies q replies);
-      waiting = f.seen.waiting ∙ (λ i. map law_request (none_waits v.desk.taken v.replies replies i ++ is i)) ∙ (λ i. map law_request (sym (one_waits v.desk.taken v.replies q replies) i ++ qs));
-      files = f.seen.files;
-      refused = f.seen.refused;
+      waiting = f.seen.waiting ∙ (λ i. (none_waits v.desk.taken v.replies replies i ++ is i)) ∙ (λ i. (sym (one_waits v.desk.taken v.replies q replies) i ++ qs));
+      server = f.seen.server;
       answered = f.seen.answered;
     };
     sound = f.sound;
@@ -97,35 +92,23 @@ module _ (xs : Exchanges) (w : World ℕ Bytes Bytes) (v : WorldView) (f : Fits 
   -- ---- the answer
 
   module _ (b : Sent) (l : Last v.desk.taken v.replies b) where
-    first_is : w.waiting ≡ law_request l.request ∷ map law_request v.desk.waiting
-    first_is = f.seen.waiting ∙ ap (λ xs. map law_request (xs ++ v.desk.waiting)) l.alone
+    first_is : w.waiting ≡ l.request ∷ v.desk.waiting
+    first_is = f.seen.waiting ∙ ap (λ xs. (xs ++ v.desk.waiting)) l.alone
 
-    answer_is : law_answer_to bytes_eq LAST_VERSION w.server (law_request l.request) ≡ law_answer (answer_to v.server b)
-    answer_is = answer_seen w.server v.server f.seen.files f.seen.refused l.request ∙ ap (λ q. law_answer (answer_to v.server q)) (sym l.sent_so)
-
-    abbrev serving : Answer Bytes → World ℕ Bytes Bytes
-    serving a = record w {
-      taken = w.taken ++ (law_request l.request, a) ∷ [];
-      waiting = map law_request v.desk.waiting;
-      server = law_answered bytes_eq LAST_VERSION w.server (law_request l.request) a;
-      changes = w.changes ++ map (λ c. (c, Some (law_request l.request))) (accepted (law_request l.request).ask a);
-    }
-
-    serving_fits : Fits (xs ++ (sent l.request, reply_to v.server (sent l.request)) ∷ []) (serving (law_answer (answer_to v.server (sent l.request)))) (served v (sent l.request))
+    serving_fits : Fits (xs ++ (sent l.request, reply_to v.server (sent l.request)) ∷ []) (serve (table v.desk.kernel.scripts v.desk.kernel.limit) v.desk.kernel.start w (l.request ∷ v.desk.waiting)) (served v (sent l.request))
     serving_fits = record {
       seen = record {
         trace = f.seen.trace;
         drawn = f.seen.drawn;
         next = f.seen.next;
         kept = f.seen.kept;
-        taken = ap (λ xs. xs ++ (law_request l.request, law_answer (answer_to v.server (sent l.request))) ∷ []) f.seen.taken ∙ sym (l.served (reply_to v.server (sent l.request)));
-        waiting = ap (λ xs. map law_request (xs ++ v.desk.waiting)) (sym (l.none (reply_to v.server (sent l.request))));
-        files = files_seen w.server v.server f.seen.files f.seen.refused l.request;
-        refused = refused_seen w.server v.server f.seen.files f.seen.refused l.request (answer_to v.server (sent l.request));
+        taken = (λ i. f.seen.taken i ++ (l.request, answer_to (f.seen.server i) (sent l.request)) ∷ []) ∙ sym (l.served (reply_to v.server (sent l.request)));
+        waiting = ap (λ xs. xs ++ v.desk.waiting) (sym (l.none (reply_to v.server (sent l.request))));
+        server = ap (λ s. answered s (sent l.request) (answer_to s (sent l.request))) f.seen.server;
         answered =
-            ap (map answered_there) (sym (append_assoc w.given w.taken ((law_request l.request, law_answer (answer_to v.server (sent l.request))) ∷ [])))
-            ∙ map-append answered_there (w.given ++ w.taken) ((law_request l.request, law_answer (answer_to v.server (sent l.request))) ∷ [])
-            ∙ ap (λ ys. ys ++ answered_here (sent l.request, reply_to v.server (sent l.request)) ∷ []) f.seen.answered
+            ap (map answered_there) (sym (append_assoc w.given w.taken ((l.request, answer_to w.server (sent l.request)) ∷ [])))
+            ∙ map-append answered_there (w.given ++ w.taken) ((l.request, answer_to w.server (sent l.request)) ∷ [])
+            ∙ (λ i. f.seen.answered i ++ answered_there (l.request, answer_to (f.seen.server i) (sent l.request)) ∷ [])
             ∙ sym (map-append answered_here xs ((sent l.request, reply_to v.server (sent l.request)) ∷ []));
       };
       sound = f.sound;
@@ -135,6 +118,5 @@ module _ (xs : Exchanges) (w : World ℕ Bytes Bytes) (v : WorldView) (f : Fits 
     pub serve_fits : Fits (xs ++ (b, reply_to v.server b) ∷ []) (event (table v.desk.kernel.scripts v.desk.kernel.limit) v.desk.kernel.start w Serve) (served v b)
     serve_fits =
         subst (λ (q : Sent). Fits (xs ++ (q, reply_to v.server q) ∷ []) (event (table v.desk.kernel.scripts v.desk.kernel.limit) v.desk.kernel.start w Serve) (served v q)) (sym l.sent_so)
-        (subst (λ (x : World ℕ Bytes Bytes). Fits (xs ++ (sent l.request, reply_to v.server (sent l.request)) ∷ []) x (served v (sent l.request)))
-        (sym ((λ i. serve (table v.desk.kernel.scripts v.desk.kernel.limit) v.desk.kernel.start w (first_is i)) ∙ ap serving (answer_seen w.server v.server f.seen.files f.seen.refused l.request)))
-        serving_fits)
+        (subst (λ (x : World). Fits (xs ++ (sent l.request, reply_to v.server (sent l.request)) ∷ []) x (served v (sent l.request)))
+        (sym (ap (serve (table v.desk.kernel.scripts v.desk.kernel.limit) v.desk.kernel.start w) first_is)) serving_fits)

@@ -1,8 +1,8 @@
 -- A turn in a world of the laws, and in one that is seen so.
 use Rattle.std.proofs.Common.{◌≡◌, ℕ, suc, ◌+◌, ◌-◌, ◌≤◌, ◌<◌, Bool, true, false, ◌&&◌, ◌||◌, cond, List, [], ◌∷◌, ◌++◌, map, length, Option, Some, None, Result, Ok, Err, refl, sym, ◌∙◌, ap, subst, arith}
-use Rattle.std.specs.Prelude.{◌==◌, nat_le, nat_lt, is_ok, is_some, not}
+use Rattle.std.specs.Prelude.{nat_le, nat_lt, is_ok, is_some}
 use Rattle.std.specs.FinMap.{get}
-use Rattle.std.proofs.lemmas.Bool.{ltb-false, leb-false, le-leb, lt-ltb, eqb-true, eq-eqb}
+use Rattle.std.proofs.lemmas.Bool.{ltb-false, leb-false, le-leb, lt-ltb}
 use Rattle.std.proofs.lemmas.List.{append_assoc, map-append}
 use Rattle.std.proofs.lemmas.List.Sums.{fold-append}
 use Rattle.sk_record.specs.Step.{Effect, perform}
@@ -34,32 +34,29 @@ use Rattle.sk_kernel.proofs.Further.{epoch_step, epoch_guess}
 use Rattle.sk_server.specs.declared.request.Ask.{Ask}
 use Rattle.sk_server.specs.declared.request.Ask.TheVariants as asks
 use Rattle.sk_server.specs.declared.server.TheConstants.{LAST_REQUEST}
-use Rattle.sk_world.specs.Requests.{Input as LawInput, Nothing, Ask as LawAsk, Store, Request, Entry, name_of as law_name}
-use Rattle.sk_world.specs.World.{World, Turn, kernel, state, own, with_trace, with_kept, kept_for as law_kept_for, pending as law_pending, places, has_places, has_guess, has_number, used, used_by, stepped_by, other, guessed, guessed_by, guess_entry, guess_request, asked, asked_now, ask_request, fetched, stored, turned as law_turned, event}
-use Rattle.sk_world.specs.Labels.{bare_event}
-use Rattle.sk_client.specs.Table.{Bytes, bare, table, input_of, turn_of, version_of, buffer_of, MOST_GUESSES}
-use Rattle.sk_client.specs.Desk.{DeskView, pending, asked_count, asks_for, asks_on, kept_for, forgotten, rests_of, fetch_rule, store_rule, unless_kept, cached, buffer, rule_next, rule_of, rule, no_place, no_number, entry, rule_refused, request_of, turned}
-use Rattle.sk_client.specs.DeskCalls.{RulePost, ByRule, TurnPost}
-use Rattle.sk_client.specs.LawWorld.{Exchanges, law_input, law_kept, law_ask, law_request, law_served, unanswered}
-use Rattle.sk_client.specs.WorldView.{WorldView}
+use Rattle.sk_server.specs.declared.request.Ask.TheVariants.{Store}
 use Rattle.sk_client.specs.declared.pending.PendingRequest.{PendingRequest}
+use Rattle.sk_client.proofs.CausedRequests.{Caused}
+use Rattle.sk_client.specs.Desk.{name_of, DeskView, pending, asked_count, asks_for, asks_on, kept_for, forgotten, fetch_rule, store_rule, unless_kept, cached, buffer, rule_next, rule_of, rule, no_place, no_number, entry, rule_refused, request_of, turned}
+use Rattle.sk_client.proofs.CausedWorld.{World, Turn, kernel, state, own, with_trace, with_kept, pending as law_pending, places, has_places, has_guess, has_number, used, used_by, other, guessed, guessed_by, guess_entry, guess_request, asked, asked_now, ask_request, fetched, stored, turned as law_turned, event}
+use Rattle.sk_client.proofs.Bare.{bare_event}
+use Rattle.sk_client.specs.Table.{Bytes, version_of, buffer_of}
+use Rattle.sk_client.proofs.WorldTable.{bare, table, turn_of, MOST_GUESSES}
+use Rattle.sk_client.specs.DeskCalls.{RulePost, ByRule, TurnPost}
+use Rattle.sk_client.specs.Exchanges.{Exchanges}
+use Rattle.sk_client.proofs.SeenWorld.{law_served, unanswered}
+use Rattle.sk_client.specs.WorldView.{WorldView}
 use Rattle.sk_client.specs.declared.pending.Kept.{Kept}
 use Rattle.sk_client.specs.declared.rule.Rule.{Rule}
 use Rattle.sk_client.specs.declared.rule.Rule.TheVariants as rules
 use Rattle.sk_client.specs.declared.desk.Turn.{Turn as Told}
 use Rattle.sk_client.proofs.DeskFacts.{none_first, none_later}
-use Rattle.sk_client.proofs.SeenFacts.{IsFor, AreFor, more_for, Fits, name_seen, undecided_seen, state_seen, rests_seen, settled_seen, places_seen, asks_for_seen, asks_on_seen}
+use Rattle.sk_client.proofs.SeenFacts.{IsFor, AreFor, more_for, Fits, undecided_seen, state_seen, rests_seen, settled_seen, places_seen, asks_for_seen, asks_on_seen}
 
 abbrev pub Did : Type 0
 Did = Effect Entity EntityState Saying
 
 -- ---- small things
-
-pub input_back : (x : Input) → input_of (law_input x) ≡ x
-input_back inputs.None = refl
-input_back inputs.Good = refl
-input_back (inputs.Fresh c) = refl
-input_back (inputs.Stale c) = refl
 
 full_next : (d : DeskView) (pid : ℕ) (some : Bool) (next : Next) → rule_next d pid (cond (is_other next && some) nexts.Full next) ≡ rule_next d pid next
 full_next d pid true nexts.Other = refl
@@ -88,35 +85,12 @@ none_test : (b : Bool) (why : Refusal) → cond b (Some why) None ≡ None → b
 none_test true why h = absurd cc
 none_test false why h = refl
 
--- ---- kept answers
-
-kept_step : (p pid : ℕ) (k : Kept) (ks : List Kept) → kept_for pid (forgotten p ks) ≡ cond (pid == p) None (kept_for pid ks)
-    → (gone asked : Bool) → (k.process == p) ≡ gone → (k.process == pid) ≡ asked
-    → kept_for pid (cond (not gone) (k ∷ forgotten p ks) (forgotten p ks)) ≡ cond (pid == p) None (cond asked (Some k.input) (kept_for pid ks))
-kept_step p pid k ks rest true true g a =
-    let same : pid ≡ p = sym (eqb-true k.process pid a) ∙ eqb-true k.process p g in
-    rest ∙ ap (λ b. cond b None (kept_for pid ks)) (eq-eqb pid p same) ∙ sym (ap (λ b. cond b None (Some k.input)) (eq-eqb pid p same))
-kept_step p pid k ks rest true false g a = rest
-kept_step p pid k ks rest false true g a =
-    let same : k.process ≡ pid = eqb-true k.process pid a in
-    ap (λ b. cond b (Some k.input) (kept_for pid (forgotten p ks))) a
-    ∙ sym (ap (λ b. cond b None (Some k.input)) (ap (λ n. n == p) (sym same) ∙ g))
-kept_step p pid k ks rest false false g a = ap (λ b. cond b (Some k.input) (kept_for pid (forgotten p ks))) a ∙ rest
-
-pub kept_forgotten : (p : ℕ) (ks : List Kept) (pid : ℕ) → kept_for pid (forgotten p ks) ≡ cond (pid == p) None (kept_for pid ks)
-kept_forgotten p [] pid = elim (pid == p) as (λ b. kept_for pid (forgotten p []) ≡ cond b None (kept_for pid [])) [ true ↦ refl | false ↦ refl ]
-kept_forgotten p (k ∷ ks) pid = kept_step p pid k ks (kept_forgotten p ks pid) (k.process == p) (k.process == pid) refl refl
-
-law_kept_none : (b : Bool) (o : Option Input) → law_kept (cond b None o) ≡ cond b None (law_kept o)
-law_kept_none true o = refl
-law_kept_none false o = refl
-
 -- ---- numbers of guesses
 
 pub last_more : (k : KernelView) (e : Event) → last_guess (with_event k e) ≡ number_after (last_guess k) e
 last_more k e = fold-append number_after (length k.earlier) k.trace (e ∷ [])
 
-module _ (xs : Exchanges) (w : World ℕ Bytes Bytes) (v : WorldView) (f : Fits xs w v) where
+module _ (xs : Exchanges) (w : World) (v : WorldView) (f : Fits xs w v) where
   abbrev K : KernelView
   K = v.desk.kernel
 
@@ -137,7 +111,7 @@ module _ (xs : Exchanges) (w : World ℕ Bytes Bytes) (v : WorldView) (f : Fits 
 
   -- ---- the trace with one event more
 
-  pub trace_more : (n : Entry ℕ Bytes Bytes) (e : Event) → Taken (bare n) ≡ image e → map (bare_event bare) (w.trace ++ Taken n ∷ []) ≡ events_of (with_event v.desk.kernel e)
+  pub trace_more : (n : Caused) (e : Event) → Taken (bare n) ≡ image e → map (bare_event bare) (w.trace ++ Taken n ∷ []) ≡ events_of (with_event v.desk.kernel e)
   trace_more n e same =
       map-append (bare_event bare) w.trace (Taken n ∷ [])
       ∙ (λ i. f.seen.trace i ++ same i ∷ [])
@@ -145,11 +119,11 @@ module _ (xs : Exchanges) (w : World ℕ Bytes Bytes) (v : WorldView) (f : Fits 
 
   -- ---- a step
 
-  pub does_seen : (p : ℕ) (input : Input) → outcome (kernel (table v.desk.kernel.scripts v.desk.kernel.limit)) (state (table v.desk.kernel.scripts v.desk.kernel.limit) v.desk.kernel.start w.trace) (own p (law_input input))
+  pub does_seen : (p : ℕ) (input : Input) → outcome (kernel (table v.desk.kernel.scripts v.desk.kernel.limit)) (state (table v.desk.kernel.scripts v.desk.kernel.limit) v.desk.kernel.start w.trace) (own p input)
       ≡ effect_at v.desk.kernel (entry p input None)
-  does_seen p input = λ i. perform (get (state_seen xs w v f.seen i)) (act K.scripts p (input_back input i))
+  does_seen p input = λ i. perform (get (state_seen xs w v f.seen i)) (act K.scripts p input)
 
-  abbrev stepping : ℕ → LawInput Bytes → World ℕ Bytes Bytes
+  abbrev stepping : ℕ → Input → World
   stepping p x = with_trace w (w.trace ++ Taken (own p x) ∷ [])
 
   sound_step : (p : ℕ) (input : Input) → refusal_of (effect_at v.desk.kernel (entry p input None)) ≡ None → IsSound (plain v.desk.kernel.scripts) v.desk.kernel.start (events_of (with_event v.desk.kernel (events.Step p input)))
@@ -158,8 +132,8 @@ module _ (xs : Exchanges) (w : World ℕ Bytes Bytes) (v : WorldView) (f : Fits 
       subst (IsSound (plain K.scripts) K.start) (sym (map-append image K.trace (events.Step p input ∷ [])))
       (sound_taken (plain K.scripts) K.start (events_of K) (entry p input None) f.sound.sound (λ g h mark drawn. absurd cc) (ap is_ok g.1))
 
-  pub step_fits : (p : ℕ) (input : Input) (n : Entry ℕ Bytes Bytes) (kept : ℕ → Option (LawInput Bytes)) (desk : DeskView) → bare n ≡ entry p input None → desk.taken ≡ v.desk.taken → desk.waiting ≡ v.desk.waiting
-      → desk.next ≡ v.desk.next → desk.kernel ≡ with_event v.desk.kernel (events.Step p input) → ((pid : ℕ) → kept pid ≡ law_kept (kept_for pid desk.kept))
+  pub step_fits : (p : ℕ) (input : Input) (n : Caused) (kept : List Kept) (desk : DeskView) → bare n ≡ entry p input None → desk.taken ≡ v.desk.taken → desk.waiting ≡ v.desk.waiting
+      → desk.next ≡ v.desk.next → desk.kernel ≡ with_event v.desk.kernel (events.Step p input) → kept ≡ desk.kept
       → refusal_of (effect_at v.desk.kernel (entry p input None)) ≡ None → Fits xs (with_kept (with_trace w (w.trace ++ Taken n ∷ [])) kept) (record v { desk = desk })
   step_fits p input n kept desk same t q number k answers h = record {
     seen = record {
@@ -168,83 +142,55 @@ module _ (xs : Exchanges) (w : World ℕ Bytes Bytes) (v : WorldView) (f : Fits 
       next = f.seen.next ∙ sym number;
       kept = answers;
       taken = f.seen.taken ∙ (λ i. law_served (sym t i) v.replies);
-      waiting = f.seen.waiting ∙ (λ i. map law_request (unanswered (sym t i) v.replies ++ sym q i));
-      files = f.seen.files;
-      refused = f.seen.refused;
+      waiting = f.seen.waiting ∙ (λ i. (unanswered (sym t i) v.replies ++ sym q i));
+      server = f.seen.server;
       answered = f.seen.answered;
     };
     sound = subst (λ (x : KernelView). HasSoundTrace x) (sym k) (epoch_step K f.sound p input (sound_step p input h));
     kinds = subst AreFor (λ i. sym t i ++ sym q i) f.kinds;
   }
 
-  kept_same : (p pid : ℕ) → law_kept_for (table v.desk.kernel.scripts v.desk.kernel.limit) p None w.kept pid ≡ law_kept (kept_for pid (forgotten p v.desk.kept))
-  kept_same p pid =
-      ap (cond (pid == p) None) (f.seen.kept pid)
-      ∙ sym (law_kept_none (pid == p) (kept_for pid v.desk.kept))
-      ∙ ap law_kept (sym (kept_forgotten p v.desk.kept pid))
-
   steps_fit : (p : ℕ) (input : Input) → rule_refused v.desk p (rules.Steps input) ≡ None
-      → Fits xs (used (table v.desk.kernel.scripts v.desk.kernel.limit) v.desk.kernel.start w p (law_input input)) (record v { desk = turned v.desk p (rules.Steps input) })
+      → Fits xs (used (table v.desk.kernel.scripts v.desk.kernel.limit) v.desk.kernel.start w p input) (record v { desk = turned v.desk p (rules.Steps input) })
   steps_fit p input h =
       let none = none_first (refusal_of (effect_at K (entry p input None))) (no_room (state_at K) (effect_at K (entry p input None))) (none_first (step_misfit K (entry p input None)) (no_place v.desk 1) h) in
       let room = places_free 1 (omega arith) (none_later (step_misfit K (entry p input None)) (no_place v.desk 1) h) in
       let g = ok_of (effect_at K (entry p input None)) none in
-      let same : used (table K.scripts K.limit) K.start w p (law_input input) ≡ with_kept (stepping p (law_input input)) (law_kept_for (table K.scripts K.limit) p None w.kept) =
-      (λ i. cond (room i) (used_by (table K.scripts K.limit) K.start w p (law_input input) ((does_seen p input ∙ g.1) i)) w) in
-      subst (λ (x : World ℕ Bytes Bytes). Fits xs x (record v { desk = turned v.desk p (rules.Steps input) })) (sym same)
-      (step_fits p input (own p (law_input input)) (law_kept_for (table K.scripts K.limit) p None w.kept) (turned v.desk p (rules.Steps input)) (λ i. entry p (input_back input i) None) refl refl refl refl (kept_same p) none)
-
-  -- without a kept answer none is forgotten
-  none_kept : (p pid : ℕ) → kept_for p v.desk.kept ≡ None → w.kept pid ≡ law_kept (kept_for pid (forgotten p v.desk.kept))
-  none_kept p pid none =
-      f.seen.kept pid
-      ∙ ap law_kept (elim (pid == p) as (λ b. (pid == p) ≡ b → kept_for pid v.desk.kept ≡ cond b None (kept_for pid v.desk.kept)) [
-        | true ↦ λ is. ap (λ n. kept_for n v.desk.kept) (eqb-true pid p is) ∙ none
-        | false ↦ λ is. refl
-      ] refl ∙ sym (kept_forgotten p v.desk.kept pid))
-
-  plain_fits : (p : ℕ) → kept_for p v.desk.kept ≡ None → rule_refused v.desk p (rules.Steps inputs.None) ≡ None
-      → Fits xs (other (table v.desk.kernel.scripts v.desk.kernel.limit) v.desk.kernel.start w p None) (record v { desk = turned v.desk p (rules.Steps inputs.None) })
-  plain_fits p empty h =
-      let none = none_first (refusal_of (effect_at K (entry p inputs.None None))) (no_room (state_at K) (effect_at K (entry p inputs.None None))) (none_first (step_misfit K (entry p inputs.None None)) (no_place v.desk 1) h) in
-      let room = places_free 1 (omega arith) (none_later (step_misfit K (entry p inputs.None None)) (no_place v.desk 1) h) in
-      let g = ok_of (effect_at K (entry p inputs.None None)) none in
-      let same : other (table K.scripts K.limit) K.start w p None ≡ stepping p Nothing =
-      (λ i. cond (room i) (stepped_by (table K.scripts K.limit) K.start w (own p Nothing) ((does_seen p inputs.None ∙ g.1) i)) w) in
-      subst (λ (x : World ℕ Bytes Bytes). Fits xs x (record v { desk = turned v.desk p (rules.Steps inputs.None) })) (sym same)
-      (step_fits p inputs.None (own p Nothing) w.kept (turned v.desk p (rules.Steps inputs.None)) refl refl refl refl refl (λ pid. none_kept p pid empty) none)
+      let same : used (table K.scripts K.limit) K.start w p input ≡ with_kept (stepping p input) (forgotten p w.kept) =
+      (λ i. cond (room i) (used_by (table K.scripts K.limit) K.start w p input ((does_seen p input ∙ g.1) i)) w) in
+      subst (λ (x : World). Fits xs x (record v { desk = turned v.desk p (rules.Steps input) })) (sym same)
+      (step_fits p input (own p input) (forgotten p w.kept) (turned v.desk p (rules.Steps input)) refl refl refl refl refl (ap (forgotten p) f.seen.kept) none)
 
   -- ---- a request more
 
-  request_seen : (p : ℕ) (ask : Ask) (guess : Option ℕ) (x : Request ℕ Bytes Bytes) → x ≡ law_request (request_of v.desk p ask guess)
-      → w.waiting ++ x ∷ [] ≡ map law_request (unanswered v.desk.taken v.replies ++ (v.desk.waiting ++ request_of v.desk p ask guess ∷ []))
+  request_seen : (p : ℕ) (ask : Ask) (guess : Option ℕ) (x : PendingRequest) → x ≡ request_of v.desk p ask guess
+      → w.waiting ++ x ∷ [] ≡ (unanswered v.desk.taken v.replies ++ (v.desk.waiting ++ request_of v.desk p ask guess ∷ []))
   request_seen p ask guess x is =
       (λ i. f.seen.waiting i ++ is i ∷ [])
-      ∙ sym (map-append law_request (unanswered v.desk.taken v.replies ++ v.desk.waiting) (request_of v.desk p ask guess ∷ []))
-      ∙ ap (map law_request) (append_assoc (unanswered v.desk.taken v.replies) v.desk.waiting (request_of v.desk p ask guess ∷ []))
+      ∙ (append_assoc (unanswered v.desk.taken v.replies) v.desk.waiting (request_of v.desk p ask guess ∷ []))
 
   kinds_more : (q : PendingRequest) → IsFor q.guess q.ask → AreFor (v.desk.taken ++ (v.desk.waiting ++ q ∷ []))
   kinds_more q is = subst AreFor (append_assoc v.desk.taken v.desk.waiting (q ∷ [])) (more_for (pending v.desk) q f.kinds is)
 
   -- ---- a guess
 
-  guess_request_seen : (p : ℕ) (ask : Ask) → guess_request (table v.desk.kernel.scripts v.desk.kernel.limit) v.desk.kernel.start w p (law_ask ask) ≡ law_request (request_of v.desk p ask (Some (next_guess v.desk.kernel)))
+  guess_request_seen : (p : ℕ) (ask : Ask) → guess_request (table v.desk.kernel.scripts v.desk.kernel.limit) v.desk.kernel.start w p ask ≡ (request_of v.desk p ask (Some (next_guess v.desk.kernel)))
   guess_request_seen p ask = λ i. record {
     number = f.seen.next i;
     process = p;
-    ask = law_ask ask;
+    ask = ask;
     guess = Some (next_same i);
-    rests = (rests_seen xs w v f.seen p (law_name (law_ask ask)) ∙ ap (rests_of K p) (name_seen ask)) i;
+    rests = (rests_seen xs w v f.seen p (name_of ask)) i;
     settled = settled_seen xs w v f.seen f.sound i;
   }
 
-  ask_request_seen : (p : ℕ) (ask : Ask) → ask_request (table v.desk.kernel.scripts v.desk.kernel.limit) v.desk.kernel.start w p (law_ask ask) ≡ law_request (request_of v.desk p ask None)
+  ask_request_seen : (p : ℕ) (ask : Ask) → ask_request (table v.desk.kernel.scripts v.desk.kernel.limit) v.desk.kernel.start w p ask ≡ request_of v.desk p ask None
   ask_request_seen p ask = λ i. record {
     number = f.seen.next i;
     process = p;
-    ask = law_ask ask;
+    ask = ask;
     guess = None;
-    rests = (rests_seen xs w v f.seen p (law_name (law_ask ask)) ∙ ap (rests_of K p) (name_seen ask)) i;
+    rests = (rests_seen xs w v f.seen p (name_of ask)) i;
     settled = settled_seen xs w v f.seen f.sound i;
   }
 
@@ -252,7 +198,7 @@ module _ (xs : Exchanges) (w : World ℕ Bytes Bytes) (v : WorldView) (f : Fits 
   next_more = (let same = f.seen.next in omega (arith, same))
 
   -- the world of the laws behind a guess
-  abbrev guessing : ℕ → LawAsk Bytes Bytes → World ℕ Bytes Bytes
+  abbrev guessing : ℕ → Ask → World
   guessing p a = record w {
     trace = w.trace ++ Taken (guess_entry (table K.scripts K.limit) K.start w p a) ∷ [];
     drawn = suc w.drawn;
@@ -260,7 +206,7 @@ module _ (xs : Exchanges) (w : World ℕ Bytes Bytes) (v : WorldView) (f : Fits 
     waiting = w.waiting ++ guess_request (table K.scripts K.limit) K.start w p a ∷ [];
   }
 
-  guess_does : (p : ℕ) (a : LawAsk Bytes Bytes) → outcome (kernel (table v.desk.kernel.scripts v.desk.kernel.limit)) (state (table v.desk.kernel.scripts v.desk.kernel.limit) v.desk.kernel.start w.trace) (guess_entry (table v.desk.kernel.scripts v.desk.kernel.limit) v.desk.kernel.start w p a)
+  guess_does : (p : ℕ) (a : Ask) → outcome (kernel (table v.desk.kernel.scripts v.desk.kernel.limit)) (state (table v.desk.kernel.scripts v.desk.kernel.limit) v.desk.kernel.start w.trace) (guess_entry (table v.desk.kernel.scripts v.desk.kernel.limit) v.desk.kernel.start w p a)
       ≡ effect_at v.desk.kernel (entry p inputs.Good (Some (next_guess v.desk.kernel)))
   guess_does p a = λ i. perform (get (state_seen xs w v f.seen i)) (act K.scripts p inputs.Good)
 
@@ -283,17 +229,16 @@ module _ (xs : Exchanges) (w : World ℕ Bytes Bytes) (v : WorldView) (f : Fits 
       (sound_taken (plain K.scripts) K.start (events_of K) (entry p inputs.Good (Some (next_guess K))) f.sound.sound drawn_below (ap is_ok is))
 
   guessing_fits : (p : ℕ) (ask : Ask) (does : Did) → IsFor (Some (next_guess v.desk.kernel)) ask → effect_at v.desk.kernel (entry p inputs.Good (Some (next_guess v.desk.kernel))) ≡ Ok does
-      → Fits xs (guessing p (law_ask ask)) (record v { desk = turned v.desk p (rules.Guesses ask) })
+      → Fits xs (guessing p ask) (record v { desk = turned v.desk p (rules.Guesses ask) })
   guessing_fits p ask does kind is = record {
     seen = record {
-      trace = trace_more (guess_entry (table K.scripts K.limit) K.start w p (law_ask ask)) (events.Guess (next_guess K) p inputs.Good) (λ i. Taken (entry p inputs.Good (Some (next_same i))));
+      trace = trace_more (guess_entry (table K.scripts K.limit) K.start w p ask) (events.Guess (next_guess K) p inputs.Good) (λ i. Taken (entry p inputs.Good (Some (next_same i))));
       drawn = next_same ∙ sym (last_more K (events.Guess (next_guess K) p inputs.Good));
       next = next_more;
       kept = f.seen.kept;
       taken = f.seen.taken;
-      waiting = request_seen p ask (Some (next_guess K)) (guess_request (table K.scripts K.limit) K.start w p (law_ask ask)) (guess_request_seen p ask);
-      files = f.seen.files;
-      refused = f.seen.refused;
+      waiting = request_seen p ask (Some (next_guess K)) (guess_request (table K.scripts K.limit) K.start w p ask) (guess_request_seen p ask);
+      server = f.seen.server;
       answered = f.seen.answered;
     };
     sound = epoch_guess K f.sound p inputs.Good (sound_guess p does is);
@@ -301,7 +246,7 @@ module _ (xs : Exchanges) (w : World ℕ Bytes Bytes) (v : WorldView) (f : Fits 
   }
 
   guess_fits : (p : ℕ) (ask : Ask) → IsFor (Some (next_guess v.desk.kernel)) ask → rule_refused v.desk p (rules.Guesses ask) ≡ None
-      → Fits xs (guessed (table v.desk.kernel.scripts v.desk.kernel.limit) v.desk.kernel.start w p (law_ask ask)) (record v { desk = turned v.desk p (rules.Guesses ask) })
+      → Fits xs (guessed (table v.desk.kernel.scripts v.desk.kernel.limit) v.desk.kernel.start w p ask) (record v { desk = turned v.desk p (rules.Guesses ask) })
   guess_fits p ask kind h =
       let does = effect_at K (entry p inputs.Good (Some (next_guess K))) in
       let later = or_else (too_many K) (or_else (no_number v.desk) (no_place v.desk 2)) in
@@ -311,13 +256,13 @@ module _ (xs : Exchanges) (w : World ℕ Bytes Bytes) (v : WorldView) (f : Fits 
       let few = few_guesses (none_first (too_many K) (or_else (no_number v.desk) (no_place v.desk 2)) rest) in
       let number = number_free (none_first (no_number v.desk) (no_place v.desk 2) last) in
       let room = places_free 2 (omega arith) (none_later (no_number v.desk) (no_place v.desk 2) last) in
-      let same : guessed (table K.scripts K.limit) K.start w p (law_ask ask) ≡ guessing p (law_ask ask) =
-      (λ i. cond (number i && (few i && room i)) (guessed_by (table K.scripts K.limit) K.start w p (law_ask ask) ((guess_does p (law_ask ask) ∙ g.1) i)) w) in
-      subst (λ (x : World ℕ Bytes Bytes). Fits xs x (record v { desk = turned v.desk p (rules.Guesses ask) })) (sym same) (guessing_fits p ask g.0 kind g.1)
+      let same : guessed (table K.scripts K.limit) K.start w p ask ≡ guessing p ask =
+      (λ i. cond (number i && (few i && room i)) (guessed_by (table K.scripts K.limit) K.start w p ask ((guess_does p ask ∙ g.1) i)) w) in
+      subst (λ (x : World). Fits xs x (record v { desk = turned v.desk p (rules.Guesses ask) })) (sym same) (guessing_fits p ask g.0 kind g.1)
 
   -- ---- a question
 
-  asking_fits : (p : ℕ) (ask : Ask) → IsFor None ask → Fits xs (asked_now (table v.desk.kernel.scripts v.desk.kernel.limit) v.desk.kernel.start w p (law_ask ask)) (record v { desk = turned v.desk p (rules.Asks ask) })
+  asking_fits : (p : ℕ) (ask : Ask) → IsFor None ask → Fits xs (asked_now (table v.desk.kernel.scripts v.desk.kernel.limit) v.desk.kernel.start w p ask) (record v { desk = turned v.desk p (rules.Asks ask) })
   asking_fits p ask kind = record {
     seen = record {
       trace = f.seen.trace;
@@ -325,9 +270,8 @@ module _ (xs : Exchanges) (w : World ℕ Bytes Bytes) (v : WorldView) (f : Fits 
       next = next_more;
       kept = f.seen.kept;
       taken = f.seen.taken;
-      waiting = request_seen p ask None (ask_request (table K.scripts K.limit) K.start w p (law_ask ask)) (ask_request_seen p ask);
-      files = f.seen.files;
-      refused = f.seen.refused;
+      waiting = request_seen p ask None (ask_request (table K.scripts K.limit) K.start w p ask) (ask_request_seen p ask);
+      server = f.seen.server;
       answered = f.seen.answered;
     };
     sound = f.sound;
@@ -335,39 +279,39 @@ module _ (xs : Exchanges) (w : World ℕ Bytes Bytes) (v : WorldView) (f : Fits 
   }
 
   ask_fits : (p : ℕ) (ask : Ask) → IsFor None ask → rule_refused v.desk p (rules.Asks ask) ≡ None
-      → Fits xs (asked (table v.desk.kernel.scripts v.desk.kernel.limit) v.desk.kernel.start w p (law_ask ask)) (record v { desk = turned v.desk p (rules.Asks ask) })
+      → Fits xs (asked (table v.desk.kernel.scripts v.desk.kernel.limit) v.desk.kernel.start w p ask) (record v { desk = turned v.desk p (rules.Asks ask) })
   ask_fits p ask kind h =
       let number = number_free (none_first (no_number v.desk) (no_place v.desk 1) h) in
       let room = places_free 1 (omega arith) (none_later (no_number v.desk) (no_place v.desk 1) h) in
-      let same : asked (table K.scripts K.limit) K.start w p (law_ask ask) ≡ asked_now (table K.scripts K.limit) K.start w p (law_ask ask) =
-      (λ i. cond (number i && room i) (asked_now (table K.scripts K.limit) K.start w p (law_ask ask)) w) in
-      subst (λ (x : World ℕ Bytes Bytes). Fits xs x (record v { desk = turned v.desk p (rules.Asks ask) })) (sym same) (asking_fits p ask kind)
+      let same : asked (table K.scripts K.limit) K.start w p ask ≡ asked_now (table K.scripts K.limit) K.start w p ask =
+      (λ i. cond (number i && room i) (asked_now (table K.scripts K.limit) K.start w p ask) w) in
+      subst (λ (x : World). Fits xs x (record v { desk = turned v.desk p (rules.Asks ask) })) (sym same) (asking_fits p ask kind)
 
   -- ---- a turn
 
   module _ (p : ℕ) (turn : Told) (new : DeskView) where
-    by_steps : (input : Input) → RulePost (Ok turn) v.desk p (rules.Steps input) new → Fits xs (used (table v.desk.kernel.scripts v.desk.kernel.limit) v.desk.kernel.start w p (law_input input)) (record v { desk = new })
+    by_steps : (input : Input) → RulePost (Ok turn) v.desk p (rules.Steps input) new → Fits xs (used (table v.desk.kernel.scripts v.desk.kernel.limit) v.desk.kernel.start w p input) (record v { desk = new })
     by_steps input h =
-        subst (λ (d : DeskView). Fits xs (used (table K.scripts K.limit) K.start w p (law_input input)) (record v { desk = d })) (sym h.2) (steps_fit p input h.0)
+        subst (λ (d : DeskView). Fits xs (used (table K.scripts K.limit) K.start w p input) (record v { desk = d })) (sym h.2) (steps_fit p input h.0)
 
     by_guess : (ask : Ask) → IsFor (Some (next_guess v.desk.kernel)) ask → RulePost (Ok turn) v.desk p (rules.Guesses ask) new
-        → Fits xs (guessed (table v.desk.kernel.scripts v.desk.kernel.limit) v.desk.kernel.start w p (law_ask ask)) (record v { desk = new })
+        → Fits xs (guessed (table v.desk.kernel.scripts v.desk.kernel.limit) v.desk.kernel.start w p ask) (record v { desk = new })
     by_guess ask kind h =
-        subst (λ (d : DeskView). Fits xs (guessed (table K.scripts K.limit) K.start w p (law_ask ask)) (record v { desk = d })) (sym h.2) (guess_fits p ask kind h.0)
+        subst (λ (d : DeskView). Fits xs (guessed (table K.scripts K.limit) K.start w p ask) (record v { desk = d })) (sym h.2) (guess_fits p ask kind h.0)
 
     by_ask : (ask : Ask) → IsFor None ask → RulePost (Ok turn) v.desk p (rules.Asks ask) new
-        → Fits xs (asked (table v.desk.kernel.scripts v.desk.kernel.limit) v.desk.kernel.start w p (law_ask ask)) (record v { desk = new })
+        → Fits xs (asked (table v.desk.kernel.scripts v.desk.kernel.limit) v.desk.kernel.start w p ask) (record v { desk = new })
     by_ask ask kind h =
-        subst (λ (d : DeskView). Fits xs (asked (table K.scripts K.limit) K.start w p (law_ask ask)) (record v { desk = d })) (sym h.2) (ask_fits p ask kind h.0)
+        subst (λ (d : DeskView). Fits xs (asked (table K.scripts K.limit) K.start w p ask) (record v { desk = d })) (sym h.2) (ask_fits p ask kind h.0)
 
     by_fetch : (name : Bytes) (kept : Option Input) (version : Option ℕ) → RulePost (Ok turn) v.desk p (unless_kept kept (fetch_rule name version)) new
-        → Fits xs (fetched (table v.desk.kernel.scripts v.desk.kernel.limit) v.desk.kernel.start w p name (law_kept kept) version) (record v { desk = new })
+        → Fits xs (fetched (table v.desk.kernel.scripts v.desk.kernel.limit) v.desk.kernel.start w p name kept version) (record v { desk = new })
     by_fetch name (Some input) version h = by_steps input h
     by_fetch name None (Some ver) h = by_guess (asks.Check name ver) tt h
     by_fetch name None None h = by_ask (asks.Get name) tt h
 
     by_store : (name bytes : Bytes) (kept : Option Input) (version : Option ℕ) → RulePost (Ok turn) v.desk p (unless_kept kept (store_rule name bytes version)) new
-        → Fits xs (stored (table v.desk.kernel.scripts v.desk.kernel.limit) v.desk.kernel.start w p name bytes (law_kept kept) version) (record v { desk = new })
+        → Fits xs (stored (table v.desk.kernel.scripts v.desk.kernel.limit) v.desk.kernel.start w p name bytes kept version) (record v { desk = new })
     by_store name bytes (Some input) version h = by_steps input h
     by_store name bytes None None h = by_ask (asks.Store name 0 bytes) tt h
     by_store name bytes None (Some ver) h =
@@ -377,22 +321,21 @@ module _ (xs : Exchanges) (w : World ℕ Bytes Bytes) (v : WorldView) (f : Fits 
           | false ↦ λ h. by_ask (asks.Store name ver bytes) tt h
         ] h
 
-    by_other : (kept : Option Input) → kept_for p v.desk.kept ≡ kept → RulePost (Ok turn) v.desk p (unless_kept kept (rules.Steps inputs.None)) new
-        → Fits xs (other (table v.desk.kernel.scripts v.desk.kernel.limit) v.desk.kernel.start w p (law_kept kept)) (record v { desk = new })
-    by_other (Some input) is h = by_steps input h
-    by_other None is h =
-        subst (λ (d : DeskView). Fits xs (other (table K.scripts K.limit) K.start w p None) (record v { desk = d })) (sym h.2) (plain_fits p is h.0)
+    by_other : (kept : Option Input) → RulePost (Ok turn) v.desk p (unless_kept kept (rules.Steps inputs.None)) new
+        → Fits xs (other (table v.desk.kernel.scripts v.desk.kernel.limit) v.desk.kernel.start w p kept) (record v { desk = new })
+    by_other (Some input) h = by_steps input h
+    by_other None h = by_steps inputs.None h
 
     by_else : RulePost (Ok turn) v.desk p (unless_kept (kept_for p v.desk.kept) (rules.Steps inputs.None)) new
-        → Fits xs (other (table v.desk.kernel.scripts v.desk.kernel.limit) v.desk.kernel.start w p (w.kept p)) (record v { desk = new })
+        → Fits xs (other (table v.desk.kernel.scripts v.desk.kernel.limit) v.desk.kernel.start w p (kept_for p w.kept)) (record v { desk = new })
     by_else h =
-        subst (λ (o : Option (LawInput Bytes)). Fits xs (other (table K.scripts K.limit) K.start w p o) (record v { desk = new })) (sym (f.seen.kept p))
-        (by_other (kept_for p v.desk.kept) refl h)
+        subst (λ (ks : List Kept). Fits xs (other (table K.scripts K.limit) K.start w p (kept_for p ks)) (record v { desk = new })) (sym f.seen.kept)
+        (by_other (kept_for p v.desk.kept) h)
 
     cached_seen : (name : Bytes) → version_of (get (state (table v.desk.kernel.scripts v.desk.kernel.limit) v.desk.kernel.start w.trace) (CopyOf name)) ≡ cached v.desk.kernel name
     cached_seen name = λ i. version_of (get (state_seen xs w v f.seen i) (CopyOf name))
 
-    by_name : (b : Bool) (rule : Rule) (x : World ℕ Bytes Bytes) → (RulePost (Ok turn) v.desk p rule new → Fits xs x (record v { desk = new })) → ByRule (Ok turn) v.desk p new (cond b (Err Blocked) (Ok rule))
+    by_name : (b : Bool) (rule : Rule) (x : World) → (RulePost (Ok turn) v.desk p rule new → Fits xs x (record v { desk = new })) → ByRule (Ok turn) v.desk p new (cond b (Err Blocked) (Ok rule))
         → Fits xs (cond b w x) (record v { desk = new })
     by_name true rule x fits h = absurd (let bad : Ok turn ≡ Err Blocked = h.0 in cc)
     by_name false rule x fits h = fits h
@@ -402,17 +345,17 @@ module _ (xs : Exchanges) (w : World ℕ Bytes Bytes) (v : WorldView) (f : Fits 
     by_next nexts.Signal h = by_steps inputs.None h
     by_next (nexts.Fetch name) h =
         let kept = kept_for p v.desk.kept in
-        let same : law_turned (table K.scripts K.limit) K.start w p (turn_of (buffer K p) (Ok (nexts.Fetch name))) ≡ cond (asks_on name (pending v.desk)) w (fetched (table K.scripts K.limit) K.start w p name (law_kept kept) (cached K name)) =
-        (λ i. cond (asks_on_seen xs w v f.seen name i) w (fetched (table K.scripts K.limit) K.start w p name (f.seen.kept p i) (cached_seen name i))) in
-        subst (λ (x : World ℕ Bytes Bytes). Fits xs x (record v { desk = new })) (sym same)
-        (by_name (asks_on name (pending v.desk)) (unless_kept kept (fetch_rule name (cached K name))) (fetched (table K.scripts K.limit) K.start w p name (law_kept kept) (cached K name)) (by_fetch name kept (cached K name)) h)
+        let same : law_turned (table K.scripts K.limit) K.start w p (turn_of (buffer K p) (Ok (nexts.Fetch name))) ≡ cond (asks_on name (pending v.desk)) w (fetched (table K.scripts K.limit) K.start w p name kept (cached K name)) =
+        (λ i. cond (asks_on_seen xs w v f.seen name i) w (fetched (table K.scripts K.limit) K.start w p name (kept_for p (f.seen.kept i)) (cached_seen name i))) in
+        subst (λ (x : World). Fits xs x (record v { desk = new })) (sym same)
+        (by_name (asks_on name (pending v.desk)) (unless_kept kept (fetch_rule name (cached K name))) (fetched (table K.scripts K.limit) K.start w p name kept (cached K name)) (by_fetch name kept (cached K name)) h)
     by_next (nexts.Store name) h =
         let kept = kept_for p v.desk.kept in
         let bytes = buffer K p in
-        let same : law_turned (table K.scripts K.limit) K.start w p (turn_of (buffer K p) (Ok (nexts.Store name))) ≡ cond (asks_on name (pending v.desk)) w (stored (table K.scripts K.limit) K.start w p name bytes (law_kept kept) (cached K name)) =
-        (λ i. cond (asks_on_seen xs w v f.seen name i) w (stored (table K.scripts K.limit) K.start w p name bytes (f.seen.kept p i) (cached_seen name i))) in
-        subst (λ (x : World ℕ Bytes Bytes). Fits xs x (record v { desk = new })) (sym same)
-        (by_name (asks_on name (pending v.desk)) (unless_kept kept (store_rule name bytes (cached K name))) (stored (table K.scripts K.limit) K.start w p name bytes (law_kept kept) (cached K name)) (by_store name bytes kept (cached K name)) h)
+        let same : law_turned (table K.scripts K.limit) K.start w p (turn_of (buffer K p) (Ok (nexts.Store name))) ≡ cond (asks_on name (pending v.desk)) w (stored (table K.scripts K.limit) K.start w p name bytes kept (cached K name)) =
+        (λ i. cond (asks_on_seen xs w v f.seen name i) w (stored (table K.scripts K.limit) K.start w p name bytes (kept_for p (f.seen.kept i)) (cached_seen name i))) in
+        subst (λ (x : World). Fits xs x (record v { desk = new })) (sym same)
+        (by_name (asks_on name (pending v.desk)) (unless_kept kept (store_rule name bytes (cached K name))) (stored (table K.scripts K.limit) K.start w p name bytes kept (cached K name)) (by_store name bytes kept (cached K name)) h)
     by_next nexts.Private h = by_else h
     by_next nexts.Waits h = by_else h
     by_next nexts.Full h = by_else h
@@ -433,5 +376,5 @@ module _ (xs : Exchanges) (w : World ℕ Bytes Bytes) (v : WorldView) (f : Fits 
         let same : event (table K.scripts K.limit) K.start w (Turn p)
         ≡ cond (asks_for p (pending v.desk)) w (law_turned (table K.scripts K.limit) K.start w p (turn_of (buffer K p) (next_of (get (state_at K)) K.scripts p))) =
         (λ i. cond (asks_for_seen xs w v f.seen p i) w (law_turned (table K.scripts K.limit) K.start w p (turn_of (buffer_of (get (state_seen xs w v f.seen i) (Proc p))) (next_of (get (state_seen xs w v f.seen i)) K.scripts p)))) in
-        subst (λ (x : World ℕ Bytes Bytes). Fits xs x (record v { desk = new })) (sym same)
+        subst (λ (x : World). Fits xs x (record v { desk = new })) (sym same)
         (by_result (next_of (get (state_at K)) K.scripts p) (subst (ByRule (Ok turn) v.desk p new) (rule_full v.desk p (no_room (state_at K) (effect_at K (entry p inputs.None None))) (next_of (get (state_at K)) K.scripts p)) h))

@@ -1,10 +1,8 @@
 -- The kernel's table is one: what the laws of worlds ask of a table holds of it, from the start of every boot on.
-use Rattle.std.proofs.Common.{◌≡◌, ℕ, false, List, [], map, Some, None, Ok, IsSome, inl, inr, refl, sym, ◌∙◌, subst}
+use Rattle.std.proofs.Common.{◌≡◌, ℕ, false, List, map, Some, None, Ok, IsSome, inl, inr, refl, sym, ◌∙◌, subst}
 use Rattle.std.specs.Prelude.{◌⊎◌}
 use Rattle.std.specs.List.{Contains}
 use Rattle.std.specs.FinMap.{get}
-use Rattle.std.proofs.lemmas.Bool.{eq-eqb}
-use Rattle.std.proofs.lemmas.Slice.Eq.{bytes_eq-Decides}
 use Rattle.sk_record.specs.Step.{Effect}
 use Rattle.sk_record.specs.Run.{outcome, run}
 use Rattle.sk_ids.specs.declared.entity.Entity.{Entity}
@@ -19,10 +17,14 @@ use Rattle.sk_store.specs.Start.{start_of}
 use Rattle.sk_store.specs.declared.entity_state.EntityState.{EntityState}
 use Rattle.sk_store.specs.declared.entity_state.EntityState.TheVariants as stored
 use Rattle.sk_plain.specs.Act.{Scripts, Saying}
-use Rattle.sk_world.specs.Requests.{Input as Reply, Nothing, Good, Fresh, Stale, Entry}
-use Rattle.sk_world.specs.World.{kernel, own, Due, Fetches, Stores}
-use Rattle.sk_world.specs.Laws.{IsTable}
-use Rattle.sk_client.specs.Table.{Bytes, input_of, table, IsNumbered}
+use Rattle.sk_script.specs.declared.instruction.Input.{Input}
+use Rattle.sk_script.specs.declared.instruction.Input.TheVariants.{Good, Fresh, Stale}
+use Rattle.sk_client.proofs.CausedRequests.{Caused}
+use Rattle.sk_script.specs.declared.instruction.Input.TheVariants as inputs
+use Rattle.sk_client.proofs.CausedWorld.{kernel, own, Due, Fetches, Stores}
+use Rattle.sk_client.proofs.CausedLaws.{IsTable}
+use Rattle.sk_client.specs.Table.{Bytes, IsNumbered}
+use Rattle.sk_client.proofs.WorldTable.{table}
 use Rattle.sk_client.proofs.Tidy.{IsTidy, IsNextChild, unborn}
 use Rattle.sk_client.proofs.Rows.{IsOf, CanWrite}
 use Rattle.sk_client.proofs.Runs.{next_in, found, run_tidy}
@@ -34,11 +36,11 @@ abbrev Did : Type 0
 Did = Effect Entity EntityState Saying
 
 module _ (scripts : Scripts) (limit : ℕ) (start : State) (tidy : IsTidy start) where
-  abbrev reached : List (Entry ℕ Bytes Bytes) → State
+  abbrev reached : List Caused → State
   reached ns = run (kernel (table scripts limit)) start ns
 
   -- a process is written by its own steps, or at its birth
-  own_or_born : (ns : List (Entry ℕ Bytes Bytes)) (c pid : ℕ) (p : Process) → get (reached ns) (Proc pid) ≡ Some (stored.Process p) → (c ≡ pid) ⊎ IsNextChild pid p c
+  own_or_born : (ns : List Caused) (c pid : ℕ) (p : Process) → get (reached ns) (Proc pid) ≡ Some (stored.Process p) → (c ≡ pid) ⊎ IsNextChild pid p c
       → (pid ≡ c) ⊎ (get (reached ns) (Proc c) ≡ None)
   own_or_born ns c pid p there (inl same) = inl (sym same)
   own_or_born ns c pid p there (inr next) =
@@ -47,10 +49,10 @@ module _ (scripts : Scripts) (limit : ℕ) (start : State) (tidy : IsTidy start)
         | Some v ↦ λ is. absurd (unborn (reached ns) pid p c (run_tidy scripts limit start ns tidy) there next (subst IsSome (sym is) refl))
       ] refl
 
-  owns : (ns : List (Entry ℕ Bytes Bytes)) (c pid : ℕ) (x : Reply Bytes) (f : Did) → outcome (kernel (table scripts limit)) (reached ns) (own pid x) ≡ Ok f
+  owns : (ns : List Caused) (c pid : ℕ) (x : Input) (f : Did) → outcome (kernel (table scripts limit)) (reached ns) (own pid x) ≡ Ok f
       → Contains (map (λ w. w.0) f.written) (Proc c) → (pid ≡ c) ⊎ (get (reached ns) (Proc c) ≡ None)
   owns ns c pid x f is writes =
-      let step = found scripts (reached ns) pid (input_of x) f is in
+      let step = found scripts (reached ns) pid x f is in
       own_or_born ns c pid step.process step.there (step.keeps.processes c writes)
 
 module _ (scripts : Scripts) (limit : ℕ) (s : State) (name : Bytes) (pid : ℕ) where
@@ -61,16 +63,16 @@ module _ (scripts : Scripts) (limit : ℕ) (s : State) (name : Bytes) (pid : ℕ
   is_next p there goes free (inl fetch) = inl (turn_at scripts s pid p (Some (does_.Fetch name)) there goes fetch free)
   is_next p there goes free (inr store) = inr (p.buffer, turn_at scripts s pid p (Some (does_.Store name)) there goes store free)
 
-  can_next : (x : Reply Bytes) (p : Process) → get s (Proc pid) ≡ Some (stored.Process p) → p.ended ≡ false → (next_turn scripts s pid ≡ Due → x ≡ Nothing) → CanWrite (input_of x) (next_in scripts p) name → IsNext
-  can_next Nothing p there goes due may = absurd may
-  can_next Good p there goes due may = is_next p there goes (λ is. (let no : Good ≡ Nothing = due is in cc)) may
-  can_next (Fresh c) p there goes due may = is_next p there goes (λ is. (let no : Fresh c ≡ Nothing = due is in cc)) may
-  can_next (Stale c) p there goes due may = is_next p there goes (λ is. (let no : Stale c ≡ Nothing = due is in cc)) may
+  can_next : (x : Input) (p : Process) → get s (Proc pid) ≡ Some (stored.Process p) → p.ended ≡ false → (next_turn scripts s pid ≡ Due → x ≡ inputs.None) → CanWrite x (next_in scripts p) name → IsNext
+  can_next inputs.None p there goes due may = absurd may
+  can_next Good p there goes due may = is_next p there goes (λ is. (let no : Good ≡ inputs.None = due is in cc)) may
+  can_next (Fresh c) p there goes due may = is_next p there goes (λ is. (let no : Fresh c ≡ inputs.None = due is in cc)) may
+  can_next (Stale c) p there goes due may = is_next p there goes (λ is. (let no : Stale c ≡ inputs.None = due is in cc)) may
 
   -- a copy is written by a fetch or a store of its name
-  copies : (x : Reply Bytes) (f : Did) → (next_turn scripts s pid ≡ Due → x ≡ Nothing) → outcome (kernel (table scripts limit)) s (own pid x) ≡ Ok f → Contains (map (λ w. w.0) f.written) (Copy name) → IsNext
+  copies : (x : Input) (f : Did) → (next_turn scripts s pid ≡ Due → x ≡ inputs.None) → outcome (kernel (table scripts limit)) s (own pid x) ≡ Ok f → Contains (map (λ w. w.0) f.written) (Copy name) → IsNext
   copies x f due is writes =
-      let step = found scripts s pid (input_of x) f is in
+      let step = found scripts s pid x f is in
       can_next x step.process step.there step.goes due (step.keeps.copies name writes)
 
 not_there : (scripts : Scripts) (s : State) (pid : ℕ) (i : Instruction) → IsAt scripts s pid i → get s (Proc pid) ≡ None → ⊥
@@ -80,12 +82,9 @@ pub is_table : (scripts : Scripts) (limit : ℕ) (boot : BootView) → IsNumbere
 is_table scripts limit boot numbered =
     let tidy = tidy_start boot numbered in
     record {
-      a_process = 1;
-      a_name = [];
+      last = refl;
       total = entity_total;
       exact = entity_exact;
-      same_process = λ p. eq-eqb p p refl;
-      same_name = λ m. (bytes_eq-Decides m m).1 refl;
       apart = λ p m h. cc;
       processes = λ p q h. (let h2 : Proc p ≡ Proc q = h in cc);
       copies = λ m n h. (let h2 : Copy m ≡ Copy n = h in cc);

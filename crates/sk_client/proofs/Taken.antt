@@ -24,11 +24,13 @@ use Rattle.sk_plain.specs.declared.refusal.Errno.TheVariants.{StaleCopy}
 use Rattle.sk_plain.specs.Rows.{StepTree, answered, failed, with_write}
 use Rattle.sk_plain.specs.Replies.{fetched, from_copy, over_copy}
 use Rattle.sk_plain.specs.Act.{Scripts, Saying, act, goes_on, with_input}
-use Rattle.sk_world.specs.Requests.{Content, Good, Fresh, Stale, Get, Check, Store}
-use Rattle.sk_world.specs.World.{or_zero}
-use Rattle.sk_world.specs.Laws.{Takes, IsEither}
-use Rattle.sk_world.proofs.Each.{cons_first}
-use Rattle.sk_client.specs.Table.{Bytes, content_of, copy_of, version_of, table}
+use Rattle.sk_script.specs.declared.instruction.Input.TheVariants.{Good, Fresh, Stale}
+use Rattle.sk_server.specs.declared.request.Ask.TheVariants.{Get, Check, Store}
+use Rattle.sk_client.proofs.CausedWorld.{or_zero}
+use Rattle.sk_client.proofs.CausedLaws.{Takes, IsEither}
+use Rattle.sk_client.proofs.Each.{cons_first}
+use Rattle.sk_client.specs.Table.{Bytes, copy_of, version_of}
+use Rattle.sk_client.proofs.WorldTable.{table}
 use Rattle.sk_client.proofs.Tidy.{IsCopy}
 use Rattle.sk_client.proofs.Rows.{one_of_two, only_one}
 use Rattle.sk_client.proofs.Runs.{next_in}
@@ -66,27 +68,27 @@ module _ (scripts : Scripts) (limit : ℕ) (s : State) (pid : ℕ) (name : Bytes
   alone : (e : Entity) → Contains (Proc pid ∷ []) e → Own e
   alone e h = inl (sym (only_one (Proc pid) e h))
 
-  pub takes_fresh : (c : Content Bytes) → IsAt scripts s pid (does_.Fetch name) → Takes (table scripts limit) s pid (Get name) (Fresh c)
+  pub takes_fresh : (c : ContentView) → IsAt scripts s pid (does_.Fetch name) → Takes (table scripts limit) s pid (Get name) (Fresh c)
   takes_fresh c is = record {
     effect = record {
       read = (Proc pid, Some (stored.Process is.process)) ∷ [];
-      written = (Copy name, Some (copy_of c)) ∷ (Proc pid, Some (stored.Process (fetched is.process (content_of c)))) ∷ [];
+      written = (Copy name, Some (copy_of c)) ∷ (Proc pid, Some (stored.Process (fetched is.process c))) ∷ [];
       said = None;
     };
-    accepted = steps_so scripts s pid (does_.Fetch name) (inputs.Fresh (content_of c)) is;
+    accepted = steps_so scripts s pid (does_.Fetch name) (inputs.Fresh c) is;
     reads = alone;
     writes = turned;
     sets = tt;
   }
 
-  pub takes_stale : (v : ℕ) (b : Bytes) (c : Content Bytes) → IsAt scripts s pid (does_.Store name) → Takes (table scripts limit) s pid (Store name v b) (Stale c)
+  pub takes_stale : (v : ℕ) (b : Bytes) (c : ContentView) → IsAt scripts s pid (does_.Store name) → Takes (table scripts limit) s pid (Store name v b) (Stale c)
   takes_stale v b c is = record {
     effect = record {
       read = (Proc pid, Some (stored.Process is.process)) ∷ [];
       written = (Copy name, Some (copy_of c)) ∷ (Proc pid, Some (stored.Process (failed is.process StaleCopy))) ∷ [];
       said = None;
     };
-    accepted = steps_so scripts s pid (does_.Store name) (inputs.Stale (content_of c)) is;
+    accepted = steps_so scripts s pid (does_.Store name) (inputs.Stale c) is;
     reads = alone;
     writes = turned;
     sets = tt;
@@ -119,7 +121,7 @@ module _ (scripts : Scripts) (limit : ℕ) (s : State) (pid : ℕ) (name : Bytes
   -- what a store over this copy writes
   abbrev StoredOver : Process → Option EntityState → ℕ → Type 0
   StoredOver p o v = (q : Process)
-      × (perform (get s) (over_copy pid p name o) ≡ Ok (record { read = []; written = (Copy name, Some (copy_of (suc v, p.buffer))) ∷ (Proc pid, Some (stored.Process q)) ∷ []; said = None }))
+      × (perform (get s) (over_copy pid p name o) ≡ Ok (record { read = []; written = (Copy name, Some (copy_of (record { version = suc v; bytes = p.buffer }))) ∷ (Proc pid, Some (stored.Process q)) ∷ []; said = None }))
 
   version_after : (n v : ℕ) → n ≡ v → n + 1 ≡ suc v
   version_after n v is = omega arith
@@ -142,7 +144,7 @@ module _ (scripts : Scripts) (limit : ℕ) (s : State) (pid : ℕ) (name : Bytes
   takes_stored v b is buffer copy cached lt =
       let p = is.process in
       let does = stored_over p (get s (Copy name)) v copy cached lt in
-      let written = (Copy name, Some (copy_of (suc v, p.buffer))) ∷ (Proc pid, Some (stored.Process does.0)) ∷ [] in
+      let written = (Copy name, Some (copy_of (record { version = suc v; bytes = p.buffer }))) ∷ (Proc pid, Some (stored.Process does.0)) ∷ [] in
       record {
         effect = record {
           read = (Proc pid, Some (stored.Process p)) ∷ (Copy name, get s (Copy name)) ∷ [];
@@ -153,5 +155,5 @@ module _ (scripts : Scripts) (limit : ℕ) (s : State) (pid : ℕ) (name : Bytes
             ∙ ap (λ r. with_read (Proc pid) (Some (stored.Process p)) (with_read (Copy name) (get s (Copy name)) r)) does.1;
         reads = both;
         writes = turned;
-        sets = subst (λ bytes. Contains written (Copy name, Some (copy_of (suc v, bytes)))) buffer (cons_first (Copy name, Some (copy_of (suc v, p.buffer))) ((Proc pid, Some (stored.Process does.0)) ∷ []));
+        sets = subst (λ bytes. Contains written (Copy name, Some (copy_of (record { version = suc v; bytes = bytes })))) buffer (cons_first (Copy name, Some (copy_of (record { version = suc v; bytes = p.buffer }))) ((Proc pid, Some (stored.Process does.0)) ∷ []));
       }

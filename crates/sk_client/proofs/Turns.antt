@@ -16,8 +16,9 @@ use Rattle.sk_plain.specs.declared.next.Next.{Next}
 use Rattle.sk_plain.specs.declared.next.Next.TheVariants.{Signal, Fetch, Store, Private, Waits, Full, Other}
 use Rattle.sk_plain.specs.Act.{Scripts}
 use Rattle.sk_plain.specs.Next.{is_due, is_private, waits, next_instruction, next_going, next_at, next_of}
-use Rattle.sk_world.specs.World.{Next as Turn, Halted, Due, Fetches, Stores}
-use Rattle.sk_client.specs.Table.{Bytes, buffer_of, turn_of}
+use Rattle.sk_client.proofs.CausedWorld.{Next as Turn, Halted, Due, Fetches, Stores}
+use Rattle.sk_client.specs.Table.{Bytes, buffer_of}
+use Rattle.sk_client.proofs.WorldTable.{turn_of}
 use Rattle.sk_client.proofs.Runs.{next_in}
 
 -- ---- what it does, by its instruction
@@ -77,18 +78,18 @@ store_turn buffer Waits name b is = cc
 store_turn buffer Full name b is = cc
 store_turn buffer Other name b is = cc
 
-not_due : (buffer : Bytes) (due : Bool) (n : Next) (t : Turn Bytes Bytes) → (t ≡ Due → ⊥) → turn_of buffer (Ok (cond due Signal n)) ≡ t → turn_of buffer (Ok n) ≡ t
+not_due : (buffer : Bytes) (due : Bool) (n : Next) (t : Turn) → (t ≡ Due → ⊥) → turn_of buffer (Ok (cond due Signal n)) ≡ t → turn_of buffer (Ok n) ≡ t
 not_due buffer true n t none is = absurd (none (sym is))
 not_due buffer false n t none is = is
 
 -- ---- the process that goes on
 
-abbrev IsGoing : (Process → Next) → Option EntityState → Turn Bytes Bytes → Type 0
+abbrev IsGoing : (Process → Next) → Option EntityState → Turn → Type 0
 IsGoing going o t = (p : Process) × (o ≡ Some (stored.Process p)) × (p.ended ≡ false) × (turn_of p.buffer (Ok (going p)) ≡ t)
 
 module _ (at : Option EntityState → Result Next Refusal) (going : Process → Next)
     (none : at None ≡ Err NoProcess) (value : (v : Value) → at (Some (stored.Value v)) ≡ Err NoProcess) (process : (p : Process) → at (Some (stored.Process p)) ≡ cond p.ended (Err Ended) (Ok (going p)))
-    (t : Turn Bytes Bytes) (goes_on : t ≡ Halted → ⊥) where
+    (t : Turn) (goes_on : t ≡ Halted → ⊥) where
   going_by : (p : Process) (ended : Bool) → p.ended ≡ ended → turn_of p.buffer (cond ended (Err Ended) (Ok (going p))) ≡ t → IsGoing going (Some (stored.Process p)) t
   going_by p true alive is = absurd (goes_on (sym is))
   going_by p false alive is = (p, refl, alive, is)
@@ -106,10 +107,10 @@ pub record IsAt (scripts : Scripts) (s : State) (pid : ℕ) (i : Instruction) : 
   pub at : next_in scripts process ≡ Some i
 
 module _ (scripts : Scripts) (s : State) (pid : ℕ) where
-  abbrev pub next_turn : Turn Bytes Bytes
+  abbrev pub next_turn : Turn
   next_turn = turn_of (buffer_of (get s (Proc pid))) (next_of (get s) scripts pid)
 
-  going : (t : Turn Bytes Bytes) → (t ≡ Halted → ⊥) → next_turn ≡ t → IsGoing (next_going (get s) scripts pid) (get s (Proc pid)) t
+  going : (t : Turn) → (t ≡ Halted → ⊥) → next_turn ≡ t → IsGoing (next_going (get s) scripts pid) (get s (Proc pid)) t
   going t goes_on is = going_of (next_at (get s) scripts pid) (next_going (get s) scripts pid) refl (λ v. refl) (λ p. refl) t goes_on (get s (Proc pid)) is
 
   pub fetch_at : (name : Bytes) → next_turn ≡ Fetches name → IsAt scripts s pid (does_.Fetch name)
@@ -130,7 +131,7 @@ module _ (scripts : Scripts) (s : State) (pid : ℕ) where
 
 -- ---- and back
 
-abbrev pub IsFree : Turn Bytes Bytes → Type 0
+abbrev pub IsFree : Turn → Type 0
 IsFree t = t ≡ Due → ⊥
 
 module _ (at : Option EntityState → Result Next Refusal) (going : Process → Next) (due : Bool) (next : Option Instruction → Next) (i : Option Instruction)
@@ -142,7 +143,7 @@ module _ (at : Option EntityState → Result Next Refusal) (going : Process → 
       ∙ ap (λ t. turn_of p.buffer (cond t (Err Ended) (Ok (going p)))) alive
       ∙ ap (λ n. turn_of p.buffer (Ok n)) goes
 
-calm_turn : (buffer : Bytes) (due : Bool) (n : Next) (t : Turn Bytes Bytes) → IsFree t → t ≡ turn_of buffer (Ok (cond due Signal n)) → t ≡ turn_of buffer (Ok n)
+calm_turn : (buffer : Bytes) (due : Bool) (n : Next) (t : Turn) → IsFree t → t ≡ turn_of buffer (Ok (cond due Signal n)) → t ≡ turn_of buffer (Ok n)
 calm_turn buffer true n t free is = absurd (free is)
 calm_turn buffer false n t free is = is
 

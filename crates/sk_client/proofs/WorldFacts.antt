@@ -1,7 +1,7 @@
 -- What holds of a world's parts, behind each of its events.
 use Rattle.std.proofs.Common.{◌≡◌, ℕ, ◌+◌, ◌<◌, ◌≤◌, Bool, true, false, not, ◌&&◌, cond, List, [], ◌∷◌, ◌++◌, length, Option, Some, None, Result, Ok, Err, refl, sym, ◌∙◌, ap, subst, arith}
 use Rattle.std.specs.Prelude.{◌==◌, nat_lt, is_some}
-use Rattle.std.proofs.lemmas.Bool.{true≢false, eqb-true, eq-eqb, ltb-false, ltb-true, le-leb}
+use Rattle.std.proofs.lemmas.Bool.{true≢false, eqb-true, ltb-false, ltb-true}
 use Rattle.std.proofs.lemmas.List.{length-append}
 use Rattle.sk_record.specs.Notes.{has}
 use Rattle.sk_objects.specs.declared.content.TheConstants.{LAST_VERSION}
@@ -18,13 +18,12 @@ use Rattle.sk_server.specs.declared.reply.Answer.{Answer}
 use Rattle.sk_server.specs.declared.reply.Answer.TheVariants.{Yes, No, Dropped}
 use Rattle.sk_server.specs.declared.server.TheConstants.{LAST_REQUEST}
 use Rattle.sk_server.specs.Files.{FileMap, file_of, is_fitting}
-use Rattle.sk_server.specs.Server.{ServerView, is_in_turn, is_dropped, remembered, judged, answer_to, answered}
+use Rattle.sk_server.specs.Server.{ServerView, is_dropped, remembered, judged, answer_to, answered}
 use Rattle.sk_client.specs.declared.pending.PendingRequest.{PendingRequest}
 use Rattle.sk_client.specs.declared.rule.Rule.{Rule}
 use Rattle.sk_client.specs.declared.rule.Rule.TheVariants as rules
 use Rattle.sk_client.specs.declared.desk.Turn.{Turn}
-use Rattle.sk_client.specs.declared.desk.ReplyRefusal.TheVariants as refusals
-use Rattle.sk_client.specs.Desk.{DeskView, entry, sent, first_sent, first_taken, fits_ask, out_of_turn, reply_refused, no_number, no_place, guess_refused_at, rule, turned, request_of, given, given_to, answered as stepped_for, decided, input_of, is_void}
+use Rattle.sk_client.specs.Desk.{DeskView, entry, sent, first_sent, first_taken, fits_ask, no_number, no_place, guess_refused_at, rule, turned, request_of, given, given_to, answered as stepped_for, decided, input_of, is_void}
 use Rattle.sk_client.specs.DeskCalls.{ByRule, TurnPost}
 use Rattle.sk_client.specs.declared.world.WorldAnswer.{WorldAnswer}
 use Rattle.sk_client.specs.declared.world.Cause.{Cause}
@@ -199,13 +198,6 @@ answer_any d s t rs all b o (Ok told) h j = subst (λ (x : Option Request). IsJo
 answer_any d s t rs all b o (Err why) h j =
     subst (λ (x : Option Request). IsJoined d t all x) (sym h.1) (subst (λ (x : ServerView). IsJoined d x all (Some b)) (sym h.2) (subst (λ (x : List Reply). IsJoined d s x (Some b)) (sym h.3) j))
 
--- the request is in turn
-pub in_turn : (d : DeskView) (s : ServerView) (rs : List Reply) (b : Request) → IsJoined d s rs (Some b) → is_in_turn s b ≡ true
-in_turn d s rs b j =
-    let is = j.next.0 in
-    let least = j.next.1 in
-    (λ i. eq-eqb b.number s.next is i && le-leb b.number LAST_REQUEST (omega (arith, is, least)) i)
-
 -- ---- a reply
 
 abbrev pub Same : DeskView → DeskView → Type 0
@@ -240,11 +232,6 @@ oldest_of d r rs b (q ∷ qs) e h = record { request = q; later = qs; taken = e;
 
 pub oldest : (d : DeskView) (s : ServerView) (r : Reply) (rs : List Reply) (b : Option Request) → IsJoined d s (r ∷ rs) b → Oldest d r rs b
 oldest d s r rs b j = oldest_of d r rs b d.taken refl j.replies
-
-pub fits_reply : (d : DeskView) (r : Reply) (rs : List Reply) (b : Option Request) → Oldest d r rs b → reply_refused d r d.taken ≡ None
-fits_reply d r rs b o =
-    ap (reply_refused d r) o.taken
-    ∙ (λ i. cond (not (eq-eqb o.request.number r.number o.number i)) (Some (out_of_turn d)) (cond (o.fits i) None (Some refusals.WrongKind)))
 
 pub given_joined : (d e : DeskView) (s : ServerView) (r : Reply) (rs : List Reply) (b : Option Request) → e ≡ given d r d.taken → IsJoined d s (r ∷ rs) b → IsJoined e s rs b
 given_joined d e s r rs b is j =

@@ -12,7 +12,8 @@ use Rattle.sk_server.specs.declared.request.Ask.TheVariants as asks
 use Rattle.sk_server.specs.declared.reply.Answer.{Answer}
 use Rattle.sk_server.specs.declared.reply.Answer.TheVariants as answers
 use Rattle.sk_server.specs.declared.reply.Reply.{Reply}
-use Rattle.sk_client.specs.LawWorld.{Exchanges, with_reply, exchange, exchanged, Leads, Write, is_store, store_of, stores_of, written_by, writes_of, all_written, AllFit, AreWritten}
+use Rattle.sk_client.specs.Exchanges.{Exchanges, with_reply, exchange, exchanged, Leads}
+use Rattle.sk_client.specs.Writes.{Write, is_store, store_of, stores_of, written_by, writes_of, all_written, AllFit, AreWritten}
 use Rattle.sk_client.specs.WorldView.{WorldView, taken_by, taken_from, reply_to, served, Serves, Replies, Turns, EditsFile, EventPost}
 use Rattle.sk_client.specs.declared.pending.PendingRequest.{PendingRequest}
 use Rattle.sk_client.specs.declared.world.WorldEvent.{WorldEvent}

@@ -3,6 +3,11 @@ pub mod Desk
 pub mod DeskCalls
 pub mod DeskInvariant
 pub mod WorldView
-pub mod LawWorld
+pub mod Exchanges
+pub mod Ready
+pub mod AcceptedStores
+pub mod Replied
+pub mod AskedSteps
+pub mod Writes
 pub mod Upcoming
 pub mod Leasing

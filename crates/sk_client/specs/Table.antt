@@ -1,44 +1,19 @@
 -- The table of instructions as a desk looks at it.
-use Rattle.std.specs.Prelude.{◌<◌, ℕ, ◌==◌, bytes_eq, List, [], All, Option, Some, None, Result, Ok, Err}
-use Rattle.std.specs.FinMap.{get}
-use Rattle.sk_ids.specs.Entity.{entity_cmp}
-use Rattle.sk_ids.specs.declared.entity.Entity.{Entity}
-use Rattle.sk_ids.specs.declared.entity.Entity.TheVariants.{Proc, Copy}
+use Rattle.std.specs.Prelude.{◌<◌, ℕ, List, [], All, Option, Some, None}
 use Rattle.sk_objects.specs.Content.{ContentView}
-use Rattle.sk_objects.specs.declared.content.TheConstants.{LAST_VERSION}
 use Rattle.sk_objects.specs.declared.value.Value.TheVariants as values
 use Rattle.sk_script.specs.Boot.{BootView}
 use Rattle.sk_script.specs.declared.boot.BootProcess.{BootProcess}
-use Rattle.sk_script.specs.declared.instruction.Input.{Input}
-use Rattle.sk_script.specs.declared.instruction.Input.TheVariants as inputs
 use Rattle.sk_store.specs.declared.entity_state.EntityState.{EntityState}
 use Rattle.sk_store.specs.declared.entity_state.EntityState.TheVariants as stored
-use Rattle.sk_trace.specs.Entry.{EntryView}
-use Rattle.sk_plain.specs.declared.refusal.Refusal.{Refusal}
-use Rattle.sk_plain.specs.declared.next.Next.{Next}
-use Rattle.sk_plain.specs.declared.next.Next.TheVariants.{Signal, Fetch, Store, Private, Waits, Full, Other}
-use Rattle.sk_plain.specs.Act.{Scripts, Saying, act}
-use Rattle.sk_plain.specs.Next.{next_of}
-use Rattle.sk_world.specs.Requests.{Input as Reply, Content, Nothing, Good, Fresh, Stale, Entry}
-use Rattle.sk_world.specs.World.{Table, Next as Turn, Halted, Due, Fetches, Stores, Else}
 
 -- names and bytes are lists of numbers
 abbrev pub Bytes : Type 0
 Bytes = List ℕ
 
-abbrev pub content_of : Content Bytes → ContentView
-content_of c = record { version = c.0; bytes = c.1 }
-
--- what a step is given
-abbrev pub input_of : Reply Bytes → Input
-input_of Nothing = inputs.None
-input_of Good = inputs.Good
-input_of (Fresh c) = inputs.Fresh (content_of c)
-input_of (Stale c) = inputs.Stale (content_of c)
-
 -- a cached copy
-abbrev pub copy_of : Content Bytes → EntityState
-copy_of c = stored.Value (values.Copy (content_of c))
+abbrev pub copy_of : ContentView → EntityState
+copy_of c = stored.Value (values.Copy c)
 
 -- and its version; none of what is no copy
 abbrev pub version_of : Option EntityState → Option ℕ
@@ -49,47 +24,6 @@ version_of _ = None
 abbrev pub buffer_of : Option EntityState → Bytes
 buffer_of (Some (stored.Process p)) = p.buffer
 buffer_of _ = []
-
--- what a desk makes of what a process does next
-abbrev pub turn_of : Bytes → Result Next Refusal → Turn Bytes Bytes
-turn_of buffer (Ok Signal) = Due
-turn_of buffer (Ok (Fetch name)) = Fetches name
-turn_of buffer (Ok (Store name)) = Stores name buffer
-turn_of buffer (Ok Private) = Else
-turn_of buffer (Ok Waits) = Else
-turn_of buffer (Ok Full) = Else
-turn_of buffer (Ok Other) = Else
-turn_of buffer (Err why) = Halted
-
--- the greatest number of undecided guesses
-abbrev pub MOST_GUESSES : ℕ
-MOST_GUESSES = 64
-
--- with these scripts, and a trace of so many events
-abbrev pub table : Scripts → ℕ → Table Entity EntityState Saying Refusal ℕ Bytes Bytes
-table scripts limit = record {
-  order = entity_cmp;
-  goes_to = λ said. said.to;
-  act = λ pid x. act scripts pid (input_of x);
-  next = λ s pid. turn_of (buffer_of (get s (Proc pid))) (next_of (get s) scripts pid);
-  cached = λ s name. version_of (get s (Copy name));
-  proc = Proc;
-  copy = Copy;
-  content = copy_of;
-  same_process = ◌==◌;
-  same_name = bytes_eq;
-  last = LAST_VERSION;
-  limit = limit;
-  most = MOST_GUESSES;
-}
-
--- an entry of a world's record
-abbrev pub Caused : Type 0
-Caused = Entry ℕ Bytes Bytes
-
--- and as the kernel has it, without its cause
-abbrev pub bare : Caused → EntryView
-bare n = record { pid = n.process; input = input_of n.input; guess = n.guess }
 
 -- a process of a boot has a number of 16 bits, from 1 on
 abbrev pub HasNumber : BootProcess → Type 0

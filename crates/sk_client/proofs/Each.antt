@@ -1,0 +1,160 @@
+-- Parts of two lists side by side, and membership.
+use Rattle.std.proofs.Common.{◌≡◌, ℕ, Bool, true, false, cond, List, [], ◌∷◌, ◌++◌, inl, inr, refl, sym, ◌∙◌, ap, subst, arith, zero, suc, ◌≤◌, length, slice_get, Some}
+use Rattle.std.specs.Prelude.{◌⊎◌, ◌==◌}
+use Rattle.std.specs.List.{list_any, Contains, filter}
+use Rattle.std.proofs.lemmas.Bool.{or_parts, or_left, or_right, or_cases, true≢false, eq-eqb, eqb-true, cases_Bool}
+use Rattle.std.proofs.lemmas.List.Elements.{Contains-push_cases, Contains-append_cases, Contains-append_left, Contains-append_right}
+use Rattle.sk_record.specs.Effects.{keep}
+use Rattle.sk_record.specs.Notes.{has}
+use Rattle.sk_client.specs.AcceptedStores.{paired}
+
+abbrev pub Each : {A B : Type 0} → (A → B → Type 0) → List A → List B → Type 0
+Each X [] ys = Unit {0}
+Each X (x ∷ xs) [] = Unit {0}
+Each X (x ∷ xs) (y ∷ ys) = X x y × Each X xs ys
+
+module _ {A B : Type 0} (X : A → B → Type 0) where
+  each_nil : (xs : List A) → Each X xs []
+  each_nil [] = tt
+  each_nil (x ∷ xs) = tt
+
+  pub each_keep : (bs : List Bool) (xs : List A) (ys : List B) → Each X xs ys → Each X (keep bs xs) (keep bs ys)
+  each_keep [] xs ys h = h
+  each_keep (b ∷ bs) [] ys h = tt
+  each_keep (b ∷ bs) (x ∷ xs) [] h = each_nil (keep (b ∷ bs) (x ∷ xs))
+  each_keep (true ∷ bs) (x ∷ xs) (y ∷ ys) h = each_keep bs xs ys h.1
+  each_keep (false ∷ bs) (x ∷ xs) (y ∷ ys) h = (h.0, each_keep bs xs ys h.1)
+
+-- flags that are nowhere true
+pub each_none : {A : Type 0} (X : A → Type 0) (xs : List A) (bs : List Bool) → list_any (λ b. b) bs ≡ false → Each (λ x b. b ≡ true → X x) xs bs
+each_none X [] bs h = tt
+each_none X (x ∷ xs) [] h = tt
+each_none X (x ∷ xs) (b ∷ bs) h = let parts = or_parts _ _ h in ((λ is. absurd (true≢false (sym is ∙ parts.0))), each_none X xs bs parts.1)
+
+pub cons_cases : {A : Type 0} (y : A) (xs : List A) (x : A) → Contains (y ∷ xs) x → (y ≡ x) ⊎ Contains xs x
+cons_cases y xs x h =
+    elim (Contains-append_cases (y ∷ []) xs x h) [
+      | inl one ↦ elim (Contains-push_cases [] y x one) [ inl none ↦ absurd (let lt = none.1 in omega arith) | inr is ↦ inl is ]
+      | inr more ↦ inr more
+    ]
+
+pub cons_first : {A : Type 0} (x : A) (xs : List A) → Contains (x ∷ xs) x
+cons_first x xs = Contains-append_left (x ∷ []) xs x (0, omega arith, refl)
+
+pub cons_later : {A : Type 0} (y : A) (xs : List A) (x : A) → Contains xs x → Contains (y ∷ xs) x
+cons_later y xs x h = Contains-append_right (y ∷ []) xs x h
+
+pub no_member : {A : Type 0} (x : A) → Contains [] x → ⊥
+no_member x h = let lt = h.1 in omega arith
+
+-- the facts of each pair
+pub each_at : {A B : Type 0} (X : A → B → Type 0) (xs : List A) (ys : List B) → Each X xs ys → (x : A) (y : B) → Contains (paired xs ys) (x, y) → X x y
+each_at X [] ys h x y there = absurd (no_member (x, y) there)
+each_at X (z ∷ xs) [] h x y there = absurd (no_member (x, y) there)
+each_at X (z ∷ xs) (w ∷ ys) h x y there =
+    elim (cons_cases (z, w) (paired xs ys) (x, y) there) [
+      | inl same ↦ subst (λ p. X p.0 p.1) same h.0
+      | inr later ↦ each_at X xs ys h.1 x y later
+    ]
+
+-- what is not flagged is kept
+pub survives : {A : Type 0} (X : A → Type 0) (bs : List Bool) (xs : List A) → Each (λ x b. b ≡ true → X x) xs bs → (x : A) → Contains xs x → Contains (keep bs xs) x ⊎ X x
+survives X [] xs h x there = inl there
+survives X (b ∷ bs) [] h x there = inl there
+survives X (true ∷ bs) (y ∷ xs) h x there =
+    elim (cons_cases y xs x there) [
+      | inl is ↦ inr (subst X is (h.0 refl))
+      | inr later ↦ survives X bs xs h.1 x later
+    ]
+survives X (false ∷ bs) (y ∷ xs) h x there =
+    elim (cons_cases y xs x there) [
+      | inl is ↦ inl (subst (Contains (y ∷ keep bs xs)) is (cons_first y (keep bs xs)))
+      | inr later ↦ elim (survives X bs xs h.1 x later) [ inl kept ↦ inl (cons_later y (keep bs xs) x kept) | inr is ↦ inr is ]
+    ]
+
+-- what is kept was there
+pub kept_was : {A : Type 0} (bs : List Bool) (xs : List A) (x : A) → Contains (keep bs xs) x → Contains xs x
+kept_was [] xs x h = h
+kept_was (b ∷ bs) [] x h = h
+kept_was (true ∷ bs) (y ∷ xs) x h = cons_later y xs x (kept_was bs xs x h)
+kept_was (false ∷ bs) (y ∷ xs) x h =
+    elim (cons_cases y (keep bs xs) x h) [
+      | inl is ↦ subst (Contains (y ∷ xs)) is (cons_first y xs)
+      | inr later ↦ cons_later y xs x (kept_was bs xs x later)
+    ]
+
+-- ---- functions changed at one number
+abbrev pub at_number : {A : Type 0} → ℕ → A → (ℕ → A) → ℕ → A
+at_number k a f x = cond (x == k) a (f x)
+
+pub at_same : {A : Type 0} (k : ℕ) (a : A) (f : ℕ → A) → at_number k a f k ≡ a
+at_same k a f = ap (λ b. cond b a (f k)) (eq-eqb k k refl)
+
+pub at_other : {A : Type 0} (k : ℕ) (a : A) (f : ℕ → A) (x : ℕ) → (x ≡ k → ⊥) → at_number k a f x ≡ f x
+at_other k a f x apart =
+    elim (cases_Bool (x == k)) [
+      | inl is ↦ absurd (apart (eqb-true x k is))
+      | inr is ↦ ap (λ b. cond b a (f x)) is
+    ]
+
+-- ---- numbers in a list
+pub has_from : (x : ℕ) (xs ys : List ℕ) → has x (xs ++ ys) ≡ true → (has x xs ≡ true) ⊎ (has x ys ≡ true)
+has_from x [] ys h = inr h
+has_from x (k ∷ xs) ys h =
+    elim (or_cases (k == x) (has x (xs ++ ys)) h) [
+      | inl here ↦ inl (or_left (k == x) (has x xs) here)
+      | inr later ↦ elim (has_from x xs ys later) [ inl left ↦ inl (or_right (k == x) (has x xs) left) | inr right ↦ inr right ]
+    ]
+
+pub has_left : (x : ℕ) (xs ys : List ℕ) → has x xs ≡ true → has x (xs ++ ys) ≡ true
+has_left x [] ys h = absurd (true≢false (sym h))
+has_left x (k ∷ xs) ys h =
+    elim (or_cases (k == x) (has x xs) h) [
+      | inl here ↦ or_left (k == x) (has x (xs ++ ys)) here
+      | inr later ↦ or_right (k == x) (has x (xs ++ ys)) (has_left x xs ys later)
+    ]
+
+pub has_right : (x : ℕ) (xs ys : List ℕ) → has x ys ≡ true → has x (xs ++ ys) ≡ true
+has_right x [] ys h = h
+has_right x (k ∷ xs) ys h = or_right (k == x) (has x (xs ++ ys)) (has_right x xs ys h)
+
+pub filter_was : {A : Type 0} (p : A → Bool) (xs : List A) (x : A) → Contains (filter p xs) x → Contains xs x
+filter_was p [] x h = h
+filter_was p (y ∷ xs) x h =
+    elim (p y) as (λ b. Contains (cond b (y ∷ filter p xs) (filter p xs)) x → Contains (y ∷ xs) x) [
+      | true ↦ λ h. elim (cons_cases y (filter p xs) x h) [ inl is ↦ subst (Contains (y ∷ xs)) is (cons_first y xs) | inr later ↦ cons_later y xs x (filter_was p xs x later) ]
+      | false ↦ λ h. cons_later y xs x (filter_was p xs x h)
+    ] h
+
+-- ---- places of lists
+
+pub at_push : {A : Type 0} (xs : List A) (x : A) (i : ℕ) (y : A) → slice_get (xs ++ x ∷ []) i ≡ Some y → (slice_get xs i ≡ Some y) ⊎ (x ≡ y)
+at_push [] x zero y at = inr (let is : x ≡ y = cc in is)
+at_push [] x (suc i) y at = cc
+at_push (z ∷ xs) x zero y at = inl at
+at_push (z ∷ xs) x (suc i) y at = at_push xs x i y at
+
+pub at_kept : {A : Type 0} (bs : List Bool) (xs : List A) (i : ℕ) (y : A) → slice_get (keep bs xs) i ≡ Some y → (j : ℕ) × (i ≤ j) × (slice_get xs j ≡ Some y)
+at_kept [] xs i y at = (i, omega arith, at)
+at_kept (b ∷ bs) [] i y at = cc
+at_kept (true ∷ bs) (x ∷ xs) i y at = (let k = at_kept bs xs i y at in let le = k.1 in (suc k.0, omega (arith, le), k.2))
+at_kept (false ∷ bs) (x ∷ xs) zero y at = (zero, omega arith, at)
+at_kept (false ∷ bs) (x ∷ xs) (suc i) y at = (let k = at_kept bs xs i y at in let le = k.1 in (suc k.0, omega (arith, le), k.2))
+
+pub at_end : {A : Type 0} (xs : List A) (i : ℕ) (y : A) → length xs ≤ i → slice_get xs i ≡ Some y → ⊥
+at_end [] i y le at = cc
+at_end (x ∷ xs) zero y le at = absurd (omega (arith, le))
+at_end (x ∷ xs) (suc i) y le at = at_end xs i y (omega (arith, le)) at
+
+pub contains_at : {A : Type 0} (xs : List A) (i : ℕ) (x : A) → slice_get xs i ≡ Some x → Contains xs x
+contains_at [] i x at = cc
+contains_at (y ∷ xs) zero x at = let is : y ≡ x = cc in subst (Contains (y ∷ xs)) is (cons_first y xs)
+contains_at (y ∷ xs) (suc i) x at = cons_later y xs x (contains_at xs i x at)
+
+pub place_at : {A : Type 0} (xs : List A) (x : A) → Contains xs x → (i : ℕ) × (slice_get xs i ≡ Some x)
+place_at [] x h = absurd (no_member x h)
+place_at (y ∷ xs) x h =
+    elim (cons_cases y xs x h) [
+      | inl is ↦ (zero, ap Some is)
+      | inr later ↦ let rest = place_at xs x later in (suc rest.0, rest.1)
+    ]

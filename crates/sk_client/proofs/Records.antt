@@ -1,0 +1,189 @@
+-- The record of a world through steps, commits and failures.
+use Rattle.std.proofs.Common.{◌≡◌, ℕ, ◌<◌, Bool, true, false, not, ◌&&◌, ◌||◌, List, [], ◌∷◌, ◌++◌, map, Option, Some, Ok, inl, inr, refl, sym, ◌∙◌, ap, subst}
+use Rattle.std.specs.Prelude.{◌⊎◌}
+use Rattle.std.specs.List.{list_any, Contains}
+use Rattle.std.specs.FinMap.{FinMap, get}
+use Rattle.std.proofs.lemmas.Bool.{or_parts, or_left, or_right, or_cases, or_from, true≢false, false_from_ne_true}
+use Rattle.std.proofs.lemmas.List.Elements.{Contains-push_cases, Contains-append_cases}
+use Rattle.std.proofs.lemmas.List.Folds.{list_any-append}
+use Rattle.sk_record.specs.Step.{Effect}
+use Rattle.sk_record.specs.Effects.{is_in, hit, dirt, touches}
+use Rattle.sk_record.specs.Run.{outcome, marked_effect, run, effects, IsLegal}
+use Rattle.sk_record.specs.Strike.{struck, strike}
+use Rattle.sk_record.specs.Notes.{has}
+use Rattle.sk_record.specs.Trace.{Event, undecided_of, still_marked}
+use Rattle.sk_record.proofs.Struck.{footprint}
+use Rattle.sk_record.proofs.Machine.{unmarked_hits}
+use Rattle.sk_record.proofs.UndoStates.{and_both}
+use Rattle.sk_record.proofs.Sound.{any_from, mark_is}
+use Rattle.sk_script.specs.declared.instruction.Input.{Input}
+use Rattle.sk_script.specs.declared.instruction.Input.TheVariants.{Good, Fresh, Stale}
+use Rattle.sk_server.specs.declared.request.Ask.{Ask}
+use Rattle.sk_server.specs.declared.request.Ask.TheVariants.{Get, Check, Store}
+use Rattle.sk_client.specs.declared.pending.PendingRequest.{PendingRequest}
+use Rattle.sk_client.proofs.CausedRequests.{For, Caused}
+use Rattle.sk_client.specs.Desk.{name_of}
+use Rattle.sk_client.proofs.CausedWorld.{Table, kernel, own, commits, is_lost}
+use Rattle.sk_client.proofs.CausedLaws.{Takes, Sets, IsTable, IsEither}
+use Rattle.sk_client.proofs.Each.{each_none, kept_was}
+use Rattle.sk_client.proofs.TraceFacts.{each_effects_more, each_hits_more, each_effects_left, each_hits_left, value_taken, dirt_taken, value_left, dirt_left}
+use Rattle.sk_client.proofs.Invariant.{Allowed, Entries, Ready, ReadyFor, tag_at}
+use Rattle.sk_client.specs.Table.{Bytes}
+
+pub not_true : (b : Bool) → not b ≡ true → b ≡ false
+not_true true h = absurd (true≢false (sym h))
+not_true false h = refl
+
+module _ {E V W F : Type 0} (S : Table E V W F) (start : FinMap S.order V) (table : IsTable S start) where
+  abbrev pub Quiet : Effect E V W → ℕ → Bytes → Type 0
+  Quiet f p m = (Contains (map (λ w. w.0) f.written) (S.proc p) → ⊥) × (Contains (map (λ w. w.0) f.written) (S.copy m) → ⊥)
+
+  -- ---- a step
+  pub entries_taken : (made after : ℕ → PendingRequest) (base : ℕ) (ns : List Caused) (us vs : List ℕ) (n : Caused) (f : Effect E V W)
+      → Entries S start made base ns us → outcome (kernel S) (run (kernel S) start ns) n ≡ Ok f
+      → ((x : Caused) (g : ℕ) → Contains ns x → x.guess ≡ Some g → base < g → after g ≡ made g)
+      → ((y : ℕ) → has y vs ≡ true → (has y us ≡ true) ⊎ (n.guess ≡ Some y))
+      → ((y : ℕ) → n.guess ≡ Some y → still_marked (effects (kernel S) start ns) y ≡ false)
+      → ((g : ℕ) → n.guess ≡ Some g → base < g → (n.cause ≡ For (after g)) × (n.input ≡ Good))
+      → ((y : ℕ) → has y vs ≡ true → hit S.order y (dirt S.order y [] (effects (kernel S) start ns)) (marked_effect (kernel S) n.guess (Ok f)) ≡ true → Allowed n y)
+      → ((q : PendingRequest) → n.cause ≡ For q → n.process ≡ q.process)
+      → ((q : PendingRequest) → n.cause ≡ For q → n.input ≡ Good → Sets S q.ask Good f.written)
+      → Entries S start after base (ns ++ n ∷ []) vs
+  entries_taken made after base ns us vs n f old is same fewer fresh own tags its sets =
+      let K = kernel S in
+      record {
+        own = λ x g there mark above.
+            elim (Contains-push_cases ns n x there) [
+              | inl before ↦ let o = old.own x g before mark above in (o.0 ∙ ap For (sym (same x g before mark above)), o.1)
+              | inr is_n ↦ subst (λ (x : Caused). (x.cause ≡ For (after g)) × (x.input ≡ Good)) is_n (own g (ap (λ (x : Caused). x.guess) is_n ∙ mark) above)
+            ];
+        its = λ x q there cause. elim (Contains-push_cases ns n x there) [
+          | inl before ↦ old.its x q before cause
+          | inr is_n ↦ subst (λ (x : Caused). x.cause ≡ For q → x.process ≡ q.process) is_n (its q) cause
+        ];
+        tags = λ y there.
+            each_hits_more K y (λ n b. b ≡ true → Allowed n y) [] start ns n
+            (elim (fewer y there) [
+              | inl before ↦ old.tags y before
+              | inr new ↦ each_none (λ n. Allowed n y) ns (struck K start ns y) (unmarked_hits S.order y (effects K start ns) (fresh y new))
+            ])
+            (λ h. tags y there (ap (λ o. hit S.order y (dirt S.order y [] (effects K start ns)) (marked_effect K n.guess o)) (sym is) ∙ h));
+        sets = each_effects_more K _ start ns n old.sets (subst (λ o. (q : PendingRequest) → n.cause ≡ For q → n.input ≡ Good → Sets S q.ask Good (marked_effect K n.guess o).written) (sym is) sets);
+      }
+
+  -- the tags of a step that touches a process and a copy alone
+  pub tags_of_step : (ns : List Caused) (us : List ℕ) (p : ℕ) (m : Bytes) (rests : List ℕ) (own : Option ℕ) (f : Effect E V W)
+      → ((e : E) → Contains (map (λ r. r.0) f.read) e → IsEither S p m e) → ((e : E) → Contains (map (λ w. w.0) f.written) e → IsEither S p m e)
+      → ((y : ℕ) → has y us ≡ true → tag_at S start ns p m y ≡ true → has y rests ≡ true)
+      → (y : ℕ) → (has y us ≡ true) ⊎ (own ≡ Some y)
+      → hit S.order y (dirt S.order y [] (effects (kernel S) start ns)) (marked_effect (kernel S) own (Ok f)) ≡ true → (has y rests ≡ true) ⊎ (own ≡ Some y)
+  tags_of_step ns us p m rests own f reads writes covers y (inr its) h = inr its
+  tags_of_step ns us p m rests own f reads writes covers y (inl there) h =
+      let dirty = dirt S.order y [] (effects (kernel S) start ns) in
+      elim (or_cases _ _ h) [
+        | inl its ↦ inr (mark_is own y its)
+        | inr touched ↦
+            let e = any_from (is_in S.order dirty) (touches (marked_effect (kernel S) own (Ok f))) touched in
+            let either : IsEither S p m e.0 = elim (Contains-append_cases (map (λ r. r.0) f.read) (map (λ w. w.0) f.written) e.0 e.1) [ inl r ↦ reads e.0 r | inr w ↦ writes e.0 w ] in
+            inl (covers y there (elim either [
+              | inl p_is ↦ or_left _ _ (ap (is_in S.order dirty) (sym p_is) ∙ e.2)
+              | inr m_is ↦ or_right _ _ (ap (is_in S.order dirty) (sym m_is) ∙ e.2)
+            ]))
+      ]
+
+  -- ---- a commit, and a failure
+  pub entries_fewer : (made : ℕ → PendingRequest) (base : ℕ) (ns : List Caused) (us vs : List ℕ) → ((y : ℕ) → has y vs ≡ true → has y us ≡ true)
+      → Entries S start made base ns us → Entries S start made base ns vs
+  entries_fewer made base ns us vs fewer old = record { own = old.own; its = old.its; tags = λ y there. old.tags y (fewer y there); sets = old.sets }
+
+  pub entries_failed : (made : ℕ → PendingRequest) (base : ℕ) (ns : List Caused) (us vs : List ℕ) → IsLegal (kernel S) start ns → (h : ℕ)
+      → ((y : ℕ) → has y vs ≡ true → has y us ≡ true) → Entries S start made base ns us → Entries S start made base (strike (kernel S) start ns h) vs
+  entries_failed made base ns us vs legal h fewer old =
+      let K = kernel S in
+      record {
+        own = λ n g there mark above. old.own n g (kept_was (struck K start ns h) ns n there) mark above;
+        its = λ n q there cause. old.its n q (kept_was (struck K start ns h) ns n there) cause;
+        tags = λ y there. each_hits_left K start table.total table.exact ns legal h y (λ n b. b ≡ true → Allowed n y) (old.tags y (fewer y there));
+        sets = each_effects_left K start table.total table.exact ns legal h _ old.sets;
+      }
+
+  -- ---- asked requests
+  takes_same : (s t : FinMap S.order V) (p : ℕ) (ask : Ask) (x : Input) → get s (S.proc p) ≡ get t (S.proc p) → get s (S.copy (name_of ask)) ≡ get t (S.copy (name_of ask))
+      → Takes S s p ask x → Takes S t p ask x
+  takes_same s t p ask x process copy old =
+      let same : (e : E) → IsEither S p (name_of ask) e → get s e ≡ get t e =
+      λ e is. elim is [ inl p_is ↦ ap (get s) p_is ∙ process ∙ ap (get t) (sym p_is) | inr m_is ↦ ap (get s) m_is ∙ copy ∙ ap (get t) (sym m_is) ] in
+      record {
+        effect = old.effect;
+        accepted = footprint (kernel S) table.total table.exact s t (own p x) old.effect old.accepted (λ e there. same e (old.reads e there)) (λ e there. same e (old.writes e there));
+        reads = old.reads;
+        writes = old.writes;
+        sets = old.sets;
+      }
+
+  ready_same : (s t : FinMap S.order V) (p : ℕ) (ask : Ask) → get s (S.proc p) ≡ get t (S.proc p) → get s (S.copy (name_of ask)) ≡ get t (S.copy (name_of ask))
+      → ReadyFor S start s p ask → ReadyFor S start t p ask
+  ready_same s t p (Get m) process copy old = λ c. takes_same s t p (Get m) (Fresh c) process copy (old c)
+  ready_same s t p (Check m v) process copy old = tt
+  ready_same s t p (Store m v b) process copy old = (
+    (λ lt. takes_same s t p (Store m v b) Good process copy (old.0 lt)),
+    λ c. takes_same s t p (Store m v b) (Stale c) process copy (old.1 c),
+  )
+
+  -- with the same values, and no more tags
+  pub ready_kept : (ns ms : List Caused) (us vs : List ℕ) (q : PendingRequest)
+      → get (run (kernel S) start ms) (S.proc q.process) ≡ get (run (kernel S) start ns) (S.proc q.process)
+      → get (run (kernel S) start ms) (S.copy (name_of q.ask)) ≡ get (run (kernel S) start ns) (S.copy (name_of q.ask))
+      → ((y : ℕ) → has y vs ≡ true → tag_at S start ms q.process (name_of q.ask) y ≡ true → (has y us ≡ true) × (tag_at S start ns q.process (name_of q.ask) y ≡ true))
+      → Ready S start ns us q → Ready S start ms vs q
+  ready_kept ns ms us vs q process copy fewer old = record {
+    step = ready_same (run (kernel S) start ns) (run (kernel S) start ms) q.process q.ask (sym process) (sym copy) old.step;
+    there = λ none. old.there (sym process ∙ none);
+    covers = λ y there tag. let f = fewer y there tag in old.covers y f.0 f.1;
+  }
+
+  pub ready_taken : (ns : List Caused) (us vs : List ℕ) (n : Caused) (f : Effect E V W) (q : PendingRequest) → outcome (kernel S) (run (kernel S) start ns) n ≡ Ok f
+      → Quiet f q.process (name_of q.ask)
+      → ((y : ℕ) → has y vs ≡ true → (has y us ≡ true) ⊎ (dirt S.order y [] (effects (kernel S) start ns) ≡ []))
+      → Ready S start ns us q → Ready S start (ns ++ n ∷ []) vs q
+  ready_taken ns us vs n f q is quiet fewer old =
+      let K = kernel S in
+      let tag_same : (y : ℕ) → tag_at S start (ns ++ n ∷ []) q.process (name_of q.ask) y ≡ tag_at S start ns q.process (name_of q.ask) y =
+      λ y. λ i. dirt_taken K start table.total table.exact ns n f is (S.proc q.process) quiet.0 y i || dirt_taken K start table.total table.exact ns n f is (S.copy (name_of q.ask)) quiet.1 y i in
+      ready_kept ns (ns ++ n ∷ []) us vs q
+      (value_taken K start table.total table.exact ns n f is (S.proc q.process) quiet.0)
+      (value_taken K start table.total table.exact ns n f is (S.copy (name_of q.ask)) quiet.1)
+      (λ y there tag.
+      let before = sym (tag_same y) ∙ tag in
+      elim (fewer y there) [
+        | inl was ↦ (was, before)
+        | inr clean ↦ absurd (true≢false (sym before ∙ ap (λ d. is_in S.order d (S.proc q.process) || is_in S.order d (S.copy (name_of q.ask))) clean))
+      ])
+      old
+
+  pub ready_failed : (ns : List Caused) (us vs : List ℕ) → IsLegal (kernel S) start ns → (h : ℕ) (q : PendingRequest)
+      → ((y : ℕ) → has y vs ≡ true → has y us ≡ true) → tag_at S start ns q.process (name_of q.ask) h ≡ false → Ready S start ns us q → Ready S start (strike (kernel S) start ns h) vs q
+  ready_failed ns us vs legal h q fewer clean old =
+      let K = kernel S in
+      let parts = or_parts _ _ clean in
+      ready_kept ns (strike K start ns h) us vs q
+      (value_left K start table.total table.exact ns legal h (S.proc q.process) parts.0)
+      (value_left K start table.total table.exact ns legal h (S.copy (name_of q.ask)) parts.1)
+      (λ y there tag. (
+        fewer y there,
+        elim (or_cases _ _ tag) [
+          | inl p_is ↦ or_left _ _ (dirt_left K start table.total table.exact ns legal h y (S.proc q.process) p_is)
+          | inr m_is ↦ or_right _ _ (dirt_left K start table.total table.exact ns legal h y (S.copy (name_of q.ask)) m_is)
+        ],
+      ))
+      old
+
+  -- a lost guess stays lost
+  pub lost_more : (es : List (Event Caused)) (e : Event Caused) (y : ℕ)
+      → (has y (undecided_of (kernel S) start (es ++ e ∷ [])) ≡ true → has y (undecided_of (kernel S) start es) ≡ true) → commits y e ≡ false
+      → is_lost S start es y ≡ true → is_lost S start (es ++ e ∷ []) y ≡ true
+  lost_more es e y fewer other lost =
+      let parts = and_both _ _ lost in
+      let shut : has y (undecided_of (kernel S) start (es ++ e ∷ [])) ≡ false = false_from_ne_true _ (λ h. true≢false (sym (fewer h) ∙ not_true _ parts.0)) in
+      let none : list_any (commits y) (es ++ e ∷ []) ≡ false = list_any-append (commits y) es (e ∷ []) ∙ or_from _ _ (not_true _ parts.1) (or_from _ _ other refl) in
+      λ i. not (shut i) && not (none i)

@@ -1,0 +1,460 @@
+-- What holds of a world's requests beside the invariant: kept answers, request numbers, the request of each entry, and commits.
+use Rattle.std.proofs.Common.{◌≡◌, ℕ, suc, ◌≤◌, ◌<◌, Bool, true, false, List, [], ◌∷◌, ◌++◌, map, Some, None, inl, inr, refl, sym, ◌∙◌, ap, subst, arith, append_assoc, length, slice_get}
+use Rattle.std.specs.Prelude.{◌⊎◌}
+use Rattle.std.specs.List.{Contains}
+use Rattle.std.specs.FinMap.{FinMap}
+use Rattle.std.proofs.lemmas.List.Elements.{Contains-push_cases, Contains-append_left, Contains-append_right, Contains-push}
+use Rattle.sk_record.specs.Effects.{keep}
+use Rattle.sk_record.specs.Strike.{struck}
+use Rattle.sk_record.specs.Trace.{Event, Taken, Commit, Fail, record_of}
+use Rattle.sk_record.proofs.Sound.{record_more}
+use Rattle.sk_script.specs.declared.instruction.Input.TheVariants.{Good}
+use Rattle.sk_server.specs.declared.reply.Answer.{Answer}
+use Rattle.sk_server.specs.declared.reply.Answer.TheVariants.{Yes}
+use Rattle.sk_client.specs.declared.pending.PendingRequest.{PendingRequest}
+use Rattle.sk_client.proofs.CausedRequests.{Before, Own, For, Caused, Served}
+use Rattle.sk_client.proofs.CausedWorld.{Table, World, kernel}
+use Rattle.sk_client.proofs.Each.{cons_first, cons_later, cons_cases, no_member, kept_was, at_push, at_kept}
+use Rattle.sk_client.proofs.KernelEvents.{no_guess}
+use Rattle.sk_client.specs.declared.pending.Kept.{Kept}
+
+-- ---- request numbers
+abbrev pub Rising : List PendingRequest → Type 0
+Rising [] = Unit {0}
+Rising (q ∷ qs) = ((r : PendingRequest) → Contains qs r → q.number < r.number) × Rising qs
+
+pub rising_push : (qs : List PendingRequest) (q : PendingRequest) → Rising qs → ((r : PendingRequest) → Contains qs r → r.number < q.number) → Rising (qs ++ q ∷ [])
+rising_push [] q h below = ((λ r none. absurd (no_member r none)), tt)
+rising_push (x ∷ qs) q h below = (
+  (λ r there. elim (Contains-push_cases qs q r there) [
+    | inl before ↦ h.0 r before
+    | inr is ↦ subst (λ (r : PendingRequest). x.number < r.number) is (below x (cons_first x qs))
+  ]),
+  rising_push qs q h.1 (λ r there. below r (cons_later x qs r there)),
+)
+
+pub rising_same : (qs : List PendingRequest) → Rising qs → (q r : PendingRequest) → Contains qs q → Contains qs r → q.number ≡ r.number → q ≡ r
+rising_same [] h q r q_in r_in same = absurd (no_member q q_in)
+rising_same (x ∷ qs) h q r q_in r_in same =
+    elim (cons_cases x qs q q_in) [
+      | inl x_q ↦ elim (cons_cases x qs r r_in) [
+        | inl x_r ↦ sym x_q ∙ x_r
+        | inr r_later ↦ absurd (let lt = h.0 r r_later in let eq = ap (λ (r : PendingRequest). r.number) x_q in omega arith)
+      ]
+      | inr q_later ↦ elim (cons_cases x qs r r_in) [
+        | inl x_r ↦ absurd (let lt = h.0 q q_later in let eq = ap (λ (r : PendingRequest). r.number) x_r in omega arith)
+        | inr r_later ↦ rising_same qs h.1 q r q_later r_later same
+      ]
+    ]
+
+pub rising_before : (xs : List PendingRequest) (q : PendingRequest) (ys : List PendingRequest) → Rising (xs ++ q ∷ ys) → (r : PendingRequest) → Contains xs r → r.number < q.number
+rising_before [] q ys h r none = absurd (no_member r none)
+rising_before (x ∷ xs) q ys h r there =
+    elim (cons_cases x xs r there) [
+      | inl is ↦ subst (λ (r : PendingRequest). r.number < q.number) is (h.0 q (Contains-append_right xs (q ∷ ys) q (cons_first q ys)))
+      | inr later ↦ rising_before xs q ys h.1 r later
+    ]
+
+pub rising_apart : (xs ys : List PendingRequest) → Rising (xs ++ ys) → (q r : PendingRequest) → Contains xs q → Contains ys r → q.number < r.number
+rising_apart [] ys h q r none there = absurd (no_member q none)
+rising_apart (x ∷ xs) ys h q r here there =
+    elim (cons_cases x xs q here) [
+      | inl is ↦ subst (λ (q : PendingRequest). q.number < r.number) is (h.0 r (Contains-append_right xs ys r there))
+      | inr later ↦ rising_apart xs ys h.1 q r later there
+    ]
+
+-- no two entries are one request's
+abbrev pub Once : List Caused → Type 0
+Once [] = Unit {0}
+Once (n ∷ ns) = ((o : Caused) → Contains ns o → (q r : PendingRequest) → n.cause ≡ For q → o.cause ≡ For r → q.number ≡ r.number → ⊥) × Once ns
+
+pub once_keep : (bs : List Bool) (ns : List Caused) → Once ns → Once (keep bs ns)
+once_keep [] ns h = h
+once_keep (b ∷ bs) [] h = tt
+once_keep (true ∷ bs) (n ∷ ns) h = once_keep bs ns h.1
+once_keep (false ∷ bs) (n ∷ ns) h = ((λ o there. h.0 o (kept_was bs ns o there)), once_keep bs ns h.1)
+
+pub once_push : (ns : List Caused) (n : Caused) → Once ns
+    → ((o : Caused) → Contains ns o → (q r : PendingRequest) → o.cause ≡ For q → n.cause ≡ For r → q.number ≡ r.number → ⊥) → Once (ns ++ n ∷ [])
+once_push [] n h new = ((λ o none. absurd (no_member o none)), tt)
+once_push (x ∷ ns) n h new = (
+  (λ o there. elim (Contains-push_cases ns n o there) [
+    | inl before ↦ h.0 o before
+    | inr is ↦ λ q r x_is o_is same. new x (cons_first x ns) q r x_is (ap (λ (n : Caused). n.cause) is ∙ o_is) same
+  ]),
+  once_push ns n h.1 (λ o there. new o (cons_later x ns o there)),
+)
+
+pub record Numbers (next : ℕ) (qs : List PendingRequest) : Type 0 where
+  pub below : (q : PendingRequest) → Contains qs q → q.number < next
+  pub rising : Rising qs
+
+pub numbers_push : (next : ℕ) (qs : List PendingRequest) (q : PendingRequest) → q.number ≡ next → Numbers next qs → Numbers (suc next) (qs ++ q ∷ [])
+numbers_push next qs q is h = record {
+  below = λ r there. elim (Contains-push_cases qs q r there) [
+    | inl before ↦ let lt = h.below r before in omega arith
+    | inr same ↦ let eq = ap (λ (r : PendingRequest). r.number) same in omega arith
+  ];
+  rising = rising_push qs q h.rising (λ r there. let lt = h.below r there in omega arith);
+}
+
+-- ---- the request of each entry
+pub record Owners (drawn : ℕ) (ns : List Caused) (given : List Served) (qs : List PendingRequest) : Type 0 where
+  pub good : (n : Caused) → Contains ns n → n.input ≡ Good → (n.cause ≡ Before) ⊎ ((q : PendingRequest) × (n.cause ≡ For q))
+  pub owner : (n : Caused) (q : PendingRequest) → Contains ns n → n.cause ≡ For q → Contains qs q × (n.guess ≡ q.guess) × ((g : ℕ) → q.guess ≡ Some g → drawn < g)
+  pub asked : (n : Caused) (q : PendingRequest) → Contains ns n → n.cause ≡ For q → q.guess ≡ None → (a : Answer) × Contains given (q, a) × (n.input ≡ Good → a ≡ Yes)
+  pub once : Once ns
+
+pub owners_more : (drawn : ℕ) (ns : List Caused) (given later : List Served) (qs rs : List PendingRequest) → ((x : Served) → Contains given x → Contains later x)
+    → ((q : PendingRequest) → Contains qs q → Contains rs q) → Owners drawn ns given qs → Owners drawn ns later rs
+owners_more drawn ns given later qs rs more_given more h = record {
+  good = h.good;
+  owner = λ n q there is. let o = h.owner n q there is in (more q o.0, o.1, o.2);
+  asked = λ n q there is asks. let a = h.asked n q there is asks in (a.0, more_given (q, a.0) a.1, a.2);
+  once = h.once;
+}
+
+pub owners_keep : (drawn : ℕ) (bs : List Bool) (ns : List Caused) (given : List Served) (qs : List PendingRequest) → Owners drawn ns given qs → Owners drawn (keep bs ns) given qs
+owners_keep drawn bs ns given qs h = record {
+  good = λ n there. h.good n (kept_was bs ns n there);
+  owner = λ n q there. h.owner n q (kept_was bs ns n there);
+  asked = λ n q there. h.asked n q (kept_was bs ns n there);
+  once = once_keep bs ns h.once;
+}
+
+-- an own entry
+pub owners_own : (drawn : ℕ) (ns : List Caused) (n : Caused) (given : List Served) (qs : List PendingRequest) → n.cause ≡ Own → (n.input ≡ Good → ⊥)
+    → Owners drawn ns given qs → Owners drawn (ns ++ n ∷ []) given qs
+owners_own drawn ns n given qs own bad h =
+    let not_for : (o : Caused) → n ≡ o → (q : PendingRequest) → o.cause ≡ For q → ⊥ =
+    λ o is q for. (let both : Own ≡ For q = sym own ∙ ap (λ (n : Caused). n.cause) is ∙ for in cc) in
+    record {
+      good = λ o there good. elim (Contains-push_cases ns n o there) [ inl before ↦ h.good o before good | inr is ↦ absurd (bad (ap (λ (n : Caused). n.input) is ∙ good)) ];
+      owner = λ o q there for. elim (Contains-push_cases ns n o there) [ inl before ↦ h.owner o q before for | inr is ↦ absurd (not_for o is q for) ];
+      asked = λ o q there for asks. elim (Contains-push_cases ns n o there) [ inl before ↦ h.asked o q before for asks | inr is ↦ absurd (not_for o is q for) ];
+      once = once_push ns n h.once (λ o there q r o_is n_is same. not_for n refl r n_is);
+    }
+
+-- the entry of a request
+pub owners_for : (drawn : ℕ) (ns : List Caused) (n : Caused) (q : PendingRequest) (given : List Served) (qs : List PendingRequest) → n.cause ≡ For q
+    → Contains qs q → n.guess ≡ q.guess → ((g : ℕ) → q.guess ≡ Some g → drawn < g)
+    → (q.guess ≡ None → (a : Answer) × Contains given (q, a) × (n.input ≡ Good → a ≡ Yes))
+    → ((o : Caused) (r : PendingRequest) → Contains ns o → o.cause ≡ For r → r.number ≡ q.number → ⊥)
+    → Owners drawn ns given qs → Owners drawn (ns ++ n ∷ []) given qs
+owners_for drawn ns n q given qs own there mark above asks new h =
+    let same : (o : Caused) → n ≡ o → (r : PendingRequest) → o.cause ≡ For r → q ≡ r =
+    λ o is r for. (let both : For q ≡ For r = sym own ∙ ap (λ (n : Caused). n.cause) is ∙ for in cc) in
+    record {
+      good = λ o o_in good. elim (Contains-push_cases ns n o o_in) [ inl before ↦ h.good o before good | inr is ↦ inr (q, ap (λ (n : Caused). n.cause) (sym is) ∙ own) ];
+      owner = λ o r o_in for. elim (Contains-push_cases ns n o o_in) [
+        | inl before ↦ h.owner o r before for
+        | inr is ↦
+            let one = same o is r for in (
+              subst (Contains qs) one there,
+              ap (λ (n : Caused). n.guess) (sym is) ∙ mark ∙ ap (λ (r : PendingRequest). r.guess) one,
+              λ g g_is. above g (ap (λ (r : PendingRequest). r.guess) one ∙ g_is),
+            )
+      ];
+      asked = λ o r o_in for none. elim (Contains-push_cases ns n o o_in) [
+        | inl before ↦ h.asked o r before for none
+        | inr is ↦
+            let one = same o is r for in
+            let a = asks (ap (λ (r : PendingRequest). r.guess) one ∙ none) in
+            (a.0, subst (λ r. Contains given (r, a.0)) one a.1, λ good. a.2 (ap (λ (n : Caused). n.input) is ∙ good))
+      ];
+      once = once_push ns n h.once (λ o o_in r s o_is n_is numbers. new o r o_in o_is (numbers ∙ ap (λ (r : PendingRequest). r.number) (sym (same n refl s n_is))));
+    }
+
+-- ---- what was committed
+pub record Decided (es0 es : List (Event Caused)) (given : List Served) : Type 0 where
+  pub committed : (q : PendingRequest) (g : ℕ) → Contains given (q, Yes) → q.guess ≡ Some g → Contains es (Commit g)
+  pub done : (g : ℕ) → Contains es (Commit g) → Contains es0 (Commit g) ⊎ ((q : PendingRequest) × Contains given (q, Yes) × (q.guess ≡ Some g))
+
+pub decided_other : (es0 es : List (Event Caused)) (e : Event Caused) (given : List Served) → ((g : ℕ) → e ≡ Commit g → ⊥) → Decided es0 es given → Decided es0 (es ++ e ∷ []) given
+decided_other es0 es e given other h = record {
+  committed = λ q g there is. Contains-append_left es (e ∷ []) (Commit g) (h.committed q g there is);
+  done = λ g there. elim (Contains-push_cases es e (Commit g) there) [ inl before ↦ h.done g before | inr is ↦ absurd (other g is) ];
+}
+
+pub decided_given : (es0 es : List (Event Caused)) (given : List Served) (x : Served) → ((g : ℕ) → x.1 ≡ Yes → x.0.guess ≡ Some g → Contains es (Commit g))
+    → Decided es0 es given → Decided es0 es (given ++ x ∷ [])
+decided_given es0 es given x new h = record {
+  committed = λ q g there is. elim (Contains-push_cases given x (q, Yes) there) [
+    | inl before ↦ h.committed q g before is
+    | inr same ↦ new g (ap (λ (x : Served). x.1) same) (ap (λ (x : Served). x.0.guess) same ∙ is)
+  ];
+  done = λ g there. elim (h.done g there) [ inl before ↦ inl before | inr q ↦ inr (q.0, Contains-append_left given (x ∷ []) (q.0, Yes) q.1, q.2) ];
+}
+
+pub decided_commit : (es0 es : List (Event Caused)) (given : List Served) (q : PendingRequest) (g : ℕ) → q.guess ≡ Some g
+    → Decided es0 es given → Decided es0 (es ++ Commit g ∷ []) (given ++ (q, Yes) ∷ [])
+decided_commit es0 es given q g its h = record {
+  committed = λ r k there is. elim (Contains-push_cases given (q, Yes) (r, Yes) there) [
+    | inl before ↦ Contains-append_left es (Commit g ∷ []) (Commit k) (h.committed r k before is)
+    | inr same ↦
+        let both : Some g ≡ Some k = sym its ∙ ap (λ (x : Served). x.0.guess) same ∙ is in
+        let one : g ≡ k = cc in
+        subst (λ k. Contains (es ++ Commit g ∷ []) (Commit k)) one (Contains-push es (Commit g))
+  ];
+  done = λ k there. elim (Contains-push_cases es (Commit g) (Commit k) there) [
+    | inl before ↦ elim (h.done k before) [ inl old ↦ inl old | inr r ↦ inr (r.0, Contains-append_left given ((q, Yes) ∷ []) (r.0, Yes) r.1, r.2) ]
+    | inr is ↦ let one : g ≡ k = cc in inr (q, Contains-push given (q, Yes), its ∙ ap Some one)
+  ];
+}
+
+-- ---- lists of requests
+pub map_push : {A B : Type 0} (f : A → B) (xs : List A) (x : A) (ys : List B) → map f (xs ++ x ∷ []) ++ ys ≡ map f xs ++ f x ∷ ys
+map_push f [] x ys = refl
+map_push f (y ∷ xs) x ys = ap (λ zs. f y ∷ zs) (map_push f xs x ys)
+
+map_split : {A B : Type 0} (f : A → B) (xs : List A) (x : A) (rest : List A) (ys : List B) → map f (xs ++ x ∷ rest) ++ ys ≡ map f xs ++ f x ∷ (map f rest ++ ys)
+map_split f [] x rest ys = refl
+map_split f (y ∷ xs) x rest ys = ap (λ zs. f y ∷ zs) (map_split f xs x rest ys)
+
+pub in_map : {A B : Type 0} (f : A → B) (xs : List A) (x : A) → Contains xs x → Contains (map f xs) (f x)
+in_map f [] x there = absurd (no_member x there)
+in_map f (y ∷ xs) x there =
+    elim (cons_cases y xs x there) [
+      | inl is ↦ subst (λ z. Contains (f y ∷ map f xs) (f z)) is (cons_first (f y) (map f xs))
+      | inr later ↦ cons_later (f y) (map f xs) (f x) (in_map f xs x later)
+    ]
+
+-- no process is kept a Good
+abbrev pub NoGood : List Kept → Type 0
+NoGood ks = (k : Kept) → Contains ks k → k.input ≡ Good → ⊥
+
+-- ---- what is in a record from this place on was not there before
+abbrev pub IsNew : ℕ → List Caused → Type 0
+IsNew place ns = (i : ℕ) (n : Caused) → place ≤ i → slice_get ns i ≡ Some n → n.cause ≡ Before → ⊥
+
+new_push : (place : ℕ) (ns : List Caused) (n : Caused) → (n.cause ≡ Before → ⊥) → IsNew place ns → IsNew place (ns ++ n ∷ [])
+new_push place ns n new h i m le at before =
+    elim (at_push ns n i m at) [
+      | inl there ↦ h i m le there before
+      | inr is ↦ new (ap (λ (n : Caused). n.cause) is ∙ before)
+    ]
+
+new_keep : (place : ℕ) (bs : List Bool) (ns : List Caused) → IsNew place ns → IsNew place (keep bs ns)
+new_keep place bs ns h i m le at before = (let k = at_kept bs ns i m at in let more = k.1 in h k.0 m (omega (arith, le, more)) k.2 before)
+
+-- ---- all of these, and the events
+module _ {E V W F : Type 0} (S : Table E V W F) (start : FinMap S.order V) (first old : World) where
+  abbrev pub requests : List Served → List PendingRequest → List PendingRequest
+  requests served waiting = map (λ x. x.0) served ++ waiting
+
+  abbrev pub Came : List Caused → Type 0
+  Came ns =
+      (n : Caused) (q : PendingRequest) (g : ℕ) → Contains ns n → n.cause ≡ For q → q.guess ≡ Some g → q.number < old.next
+      → Contains (record_of (kernel S) start old.trace) n
+
+  pub record RequestFacts (es : List (Event Caused)) (d : ℕ) (kept : List Kept) (next : ℕ) (served given : List Served) (waiting : List PendingRequest) : Type 0 where
+    pub low : first.drawn ≤ d
+    pub answers : NoGood kept
+    pub numbers : Numbers next (requests served waiting)
+    pub owners : Owners first.drawn (record_of (kernel S) start es) given (requests served waiting)
+    pub decided : Decided first.trace es given
+    -- what was answered or given before stays so
+    pub still_served : (x : Served) → Contains (old.given ++ old.taken) x → Contains served x
+    pub still_given : (x : Served) → Contains old.given x → Contains given x
+    -- and each request that was made
+    pub still_made : (q : PendingRequest) → Contains (requests (old.given ++ old.taken) old.waiting) q → Contains (requests served waiting) q
+    pub new : IsNew (length (record_of (kernel S) start first.trace)) (record_of (kernel S) start es)
+    -- the step of a guess that was made before was there before
+    pub came : Came (record_of (kernel S) start es)
+    pub reach : old.next ≤ next
+
+  module _ (es : List (Event Caused)) (d : ℕ) (kept : List Kept) (next : ℕ) (served given : List Served) (waiting : List PendingRequest)
+      (t : RequestFacts es d kept next served given waiting) where
+    pub facts_kept : (after : List Kept) → NoGood after → RequestFacts es d after next served given waiting
+    facts_kept after answers = record { low = t.low; answers = answers; numbers = t.numbers; owners = t.owners; decided = t.decided; still_served = t.still_served; still_given = t.still_given; still_made = t.still_made; new = t.new; came = t.came; reach = t.reach }
+
+    pub facts_own : (n : Caused) → n.cause ≡ Own → (n.input ≡ Good → ⊥) → RequestFacts (es ++ Taken n ∷ []) d kept next served given waiting
+    facts_own n own bad = record {
+      low = t.low;
+      answers = t.answers;
+      came = subst Came (sym (record_more (kernel S) start es (Taken n)))
+          (λ o q g there for its. elim (Contains-push_cases (record_of (kernel S) start es) n o there) [
+            | inl before ↦ t.came o q g before for its
+            | inr is ↦ (let both : Own ≡ For q = sym own ∙ ap (λ (n : Caused). n.cause) is ∙ for in cc)
+          ]);
+      reach = t.reach;
+      still_served = t.still_served;
+      still_given = t.still_given;
+      still_made = t.still_made;
+      new = subst (IsNew (length (record_of (kernel S) start first.trace))) (sym (record_more (kernel S) start es (Taken n)))
+          (new_push (length (record_of (kernel S) start first.trace)) (record_of (kernel S) start es) n (λ before. (let both : Own ≡ Before = sym own ∙ before in cc)) t.new);
+      numbers = t.numbers;
+      owners = subst (λ ns. Owners first.drawn ns given (requests served waiting)) (sym (record_more (kernel S) start es (Taken n)))
+          (owners_own first.drawn (record_of (kernel S) start es) n given (requests served waiting) own bad t.owners);
+      decided = decided_other first.trace es (Taken n) given (λ g is. cc) t.decided;
+    }
+
+    requests_push : (q : PendingRequest) → requests served waiting ++ q ∷ [] ≡ requests served (waiting ++ q ∷ [])
+    requests_push q = append_assoc (map (λ (x : Served). x.0) served) waiting (q ∷ [])
+
+    pub facts_ask : (q : PendingRequest) → q.number ≡ next → RequestFacts es d kept (suc next) served given (waiting ++ q ∷ [])
+    facts_ask q is = record {
+      low = t.low;
+      answers = t.answers;
+      came = t.came;
+      reach = (let le = t.reach in omega arith);
+      still_served = t.still_served;
+      still_given = t.still_given;
+      still_made = λ r there. subst (λ rs. Contains rs r) (requests_push q) (Contains-append_left (requests served waiting) (q ∷ []) r (t.still_made r there));
+      new = t.new;
+      numbers = subst (Numbers (suc next)) (requests_push q) (numbers_push next (requests served waiting) q is t.numbers);
+      owners = subst (Owners first.drawn (record_of (kernel S) start es) given) (requests_push q)
+          (owners_more first.drawn (record_of (kernel S) start es) given given (requests served waiting) (requests served waiting ++ q ∷ []) (λ x there. there)
+          (λ r there. Contains-append_left (requests served waiting) (q ∷ []) r there) t.owners);
+      decided = t.decided;
+    }
+
+    pub facts_guess : (q : PendingRequest) (n : Caused) → q.number ≡ next → q.guess ≡ Some (suc d) → n.cause ≡ For q → n.guess ≡ q.guess
+        → RequestFacts (es ++ Taken n ∷ []) (suc d) kept (suc next) served given (waiting ++ q ∷ [])
+    facts_guess q n is guess own mark =
+        let asks = facts_ask q is in
+        let rs = requests served (waiting ++ q ∷ []) in
+        let low = t.low in
+        record {
+          low = omega arith;
+          answers = t.answers;
+          came = subst Came (sym (record_more (kernel S) start es (Taken n)))
+              (λ o r g there for its was. elim (Contains-push_cases (record_of (kernel S) start es) n o there) [
+                | inl before ↦ t.came o r g before for its was
+                | inr same ↦
+                    let both : For q ≡ For r = sym own ∙ ap (λ (n : Caused). n.cause) same ∙ for in
+                    let one : q ≡ r = cc in
+                    let eq = ap (λ (r : PendingRequest). r.number) one in
+                    let le = t.reach in
+                    absurd (omega (arith, eq, le, was, is))
+              ]);
+          reach = asks.reach;
+          still_served = t.still_served;
+          still_given = t.still_given;
+          still_made = asks.still_made;
+          new = subst (IsNew (length (record_of (kernel S) start first.trace))) (sym (record_more (kernel S) start es (Taken n)))
+              (new_push (length (record_of (kernel S) start first.trace)) (record_of (kernel S) start es) n (λ before. (let both : For q ≡ Before = sym own ∙ before in cc)) t.new);
+          numbers = asks.numbers;
+          owners = subst (λ ns. Owners first.drawn ns given rs) (sym (record_more (kernel S) start es (Taken n)))
+              (owners_for first.drawn (record_of (kernel S) start es) n q given rs own
+              (subst (λ rs. Contains rs q) (requests_push q) (Contains-push (requests served waiting) q)) mark
+              (λ g g_is. (let both : Some (suc d) ≡ Some g = sym guess ∙ g_is in let one : suc d ≡ g = cc in omega arith))
+              (λ none. absurd (no_guess q.guess (suc d) none guess))
+              (λ o r o_in o_is same. let lt = t.numbers.below r (t.owners.owner o r o_in o_is).0 in omega arith)
+              asks.owners);
+          decided = decided_other first.trace es (Taken n) given (λ g e. cc) t.decided;
+        }
+
+  module _ (es : List (Event Caused)) (d : ℕ) (kept : List Kept) (next : ℕ) (served given : List Served) where
+    pub facts_serve : (q : PendingRequest) (a : Answer) (waiting : List PendingRequest) → RequestFacts es d kept next served given (q ∷ waiting) → RequestFacts es d kept next (served ++ (q, a) ∷ []) given waiting
+    facts_serve q a waiting t =
+        let same : requests (served ++ (q, a) ∷ []) waiting ≡ requests served (q ∷ waiting) = map_push (λ (x : Served). x.0) served (q, a) waiting in
+        record {
+          low = t.low;
+          answers = t.answers;
+          came = t.came;
+          reach = t.reach;
+          still_served = λ x there. Contains-append_left served ((q, a) ∷ []) x (t.still_served x there);
+          still_given = t.still_given;
+          still_made = λ r there. subst (λ rs. Contains rs r) (sym same) (t.still_made r there);
+          new = t.new;
+          numbers = subst (Numbers next) (sym same) t.numbers;
+          owners = subst (Owners first.drawn (record_of (kernel S) start es) given) (sym same) t.owners;
+          decided = t.decided;
+        }
+
+  -- a reply x is given
+  module _ (es : List (Event Caused)) (d : ℕ) (kept : List Kept) (next : ℕ) (served given : List Served) (waiting : List PendingRequest)
+      (t : RequestFacts es d kept next served given waiting) where
+    given_owners : (x : Served) → Owners first.drawn (record_of (kernel S) start es) (given ++ x ∷ []) (requests served waiting)
+    given_owners x =
+        owners_more first.drawn (record_of (kernel S) start es) given (given ++ x ∷ []) (requests served waiting) (requests served waiting) (λ y there. Contains-append_left given (x ∷ []) y there) (λ r there. there) t.owners
+
+    pub facts_none : (x : Served) → ((g : ℕ) → x.1 ≡ Yes → x.0.guess ≡ Some g → Contains es (Commit g)) → RequestFacts es d kept next served (given ++ x ∷ []) waiting
+    facts_none x new = record {
+      low = t.low;
+      answers = t.answers;
+      came = t.came;
+      reach = t.reach;
+      still_served = t.still_served;
+      still_given = λ y there. Contains-append_left given (x ∷ []) y (t.still_given y there);
+      still_made = t.still_made;
+      new = t.new;
+      numbers = t.numbers;
+      owners = given_owners x;
+      decided = decided_given first.trace es given x new t.decided;
+    }
+
+    pub facts_commit : (q : PendingRequest) (g : ℕ) → q.guess ≡ Some g → RequestFacts (es ++ Commit g ∷ []) d kept next served (given ++ (q, Yes) ∷ []) waiting
+    facts_commit q g its = record {
+      low = t.low;
+      answers = t.answers;
+      came = subst Came (sym (record_more (kernel S) start es (Commit g))) t.came;
+      reach = t.reach;
+      still_served = t.still_served;
+      still_given = λ y there. Contains-append_left given ((q, Yes) ∷ []) y (t.still_given y there);
+      still_made = t.still_made;
+      new = subst (IsNew (length (record_of (kernel S) start first.trace))) (sym (record_more (kernel S) start es (Commit g))) t.new;
+      numbers = t.numbers;
+      owners = subst (λ ns. Owners first.drawn ns (given ++ (q, Yes) ∷ []) (requests served waiting)) (sym (record_more (kernel S) start es (Commit g))) (given_owners (q, Yes));
+      decided = decided_commit first.trace es given q g its t.decided;
+    }
+
+    pub facts_fail : (x : Served) (g : ℕ) → (x.1 ≡ Yes → ⊥) → RequestFacts (es ++ Fail g ∷ []) d kept next served (given ++ x ∷ []) waiting
+    facts_fail x g no_yes = record {
+      low = t.low;
+      answers = t.answers;
+      came = subst Came (sym (record_more (kernel S) start es (Fail g)))
+          (λ o r h there. t.came o r h (kept_was (struck (kernel S) start (record_of (kernel S) start es) g) (record_of (kernel S) start es) o there));
+      reach = t.reach;
+      still_served = t.still_served;
+      still_given = λ y there. Contains-append_left given (x ∷ []) y (t.still_given y there);
+      still_made = t.still_made;
+      new = subst (IsNew (length (record_of (kernel S) start first.trace))) (sym (record_more (kernel S) start es (Fail g)))
+          (new_keep (length (record_of (kernel S) start first.trace)) (struck (kernel S) start (record_of (kernel S) start es) g) (record_of (kernel S) start es) t.new);
+      numbers = t.numbers;
+      owners = subst (λ ns. Owners first.drawn ns (given ++ x ∷ []) (requests served waiting)) (sym (record_more (kernel S) start es (Fail g)))
+          (owners_keep first.drawn (struck (kernel S) start (record_of (kernel S) start es) g) (record_of (kernel S) start es) (given ++ x ∷ []) (requests served waiting) (given_owners x));
+      decided = decided_given first.trace (es ++ Fail g ∷ []) given x (λ h says. absurd (no_yes says)) (decided_other first.trace es (Fail g) given (λ h e. cc) t.decided);
+    }
+
+    -- the step of an asked request, which is the first that has no reply
+    pub facts_step : (q : PendingRequest) (a : Answer) (rest : List Served) (n : Caused) → served ≡ given ++ (q, a) ∷ rest → n.cause ≡ For q → n.guess ≡ None → q.guess ≡ None
+        → (n.input ≡ Good → a ≡ Yes) → RequestFacts (es ++ Taken n ∷ []) d kept next served (given ++ (q, a) ∷ []) waiting
+    facts_step q a rest n split own mark asks good =
+        let K = kernel S in
+        let rs = requests served waiting in
+        let ns = record_of K start es in
+        let order : rs ≡ map (λ x. x.0) given ++ q ∷ (map (λ x. x.0) rest ++ waiting) =
+        ap (λ xs. requests xs waiting) split ∙ map_split (λ (x : Served). x.0) given (q, a) rest waiting in
+        let there : Contains rs q = subst (λ rs. Contains rs q) (sym order) (Contains-append_right (map (λ x. x.0) given) (q ∷ (map (λ x. x.0) rest ++ waiting)) q (cons_first q (map (λ x. x.0) rest ++ waiting))) in
+        record {
+          low = t.low;
+          answers = t.answers;
+          came = subst Came (sym (record_more K start es (Taken n)))
+              (λ o r g o_in for its was. elim (Contains-push_cases ns n o o_in) [
+                | inl before ↦ t.came o r g before for its was
+                | inr same ↦
+                    let both : For q ≡ For r = sym own ∙ ap (λ (n : Caused). n.cause) same ∙ for in
+                    let one : q ≡ r = cc in
+                    absurd (no_guess q.guess g asks (ap (λ (r : PendingRequest). r.guess) one ∙ its))
+              ]);
+          reach = t.reach;
+          still_served = t.still_served;
+          still_given = λ y there. Contains-append_left given ((q, a) ∷ []) y (t.still_given y there);
+          still_made = t.still_made;
+          new = subst (IsNew (length (record_of (kernel S) start first.trace))) (sym (record_more K start es (Taken n)))
+              (new_push (length (record_of (kernel S) start first.trace)) ns n (λ before. (let both : For q ≡ Before = sym own ∙ before in cc)) t.new);
+          numbers = t.numbers;
+          owners = subst (λ ns. Owners first.drawn ns (given ++ (q, a) ∷ []) rs) (sym (record_more K start es (Taken n)))
+              (owners_for first.drawn ns n q (given ++ (q, a) ∷ []) rs own there (mark ∙ sym asks) (λ g some. absurd (no_guess q.guess g asks some))
+              (λ none. (a, Contains-push given (q, a), good))
+              (λ o r o_in o_is same.
+              let r_in = (t.owners.owner o r o_in o_is).0 in
+              let one : r ≡ q = rising_same rs t.numbers.rising r q r_in there same in
+              let old = t.owners.asked o r o_in o_is (ap (λ (r : PendingRequest). r.guess) one ∙ asks) in
+              let lt = rising_before (map (λ x. x.0) given) q (map (λ x. x.0) rest ++ waiting) (subst Rising order t.numbers.rising) r (in_map (λ (x : Served). x.0) given (r, old.0) old.1) in
+              omega arith)
+              (given_owners (q, a)));
+          decided = decided_given first.trace (es ++ Taken n ∷ []) given (q, a) (λ g says its. absurd (no_guess q.guess g asks its)) (decided_other first.trace es (Taken n) given (λ h e. cc) t.decided);
+        }

@@ -1,0 +1,87 @@
+-- The steps of accepted stores.
+use Rattle.std.specs.Prelude.{◌≡◌, ℕ, ◌+◌, ◌<◌, List, [], ◌∷◌, Option, Some, slice_get, ◌⊎◌}
+use Rattle.std.specs.List.{Contains}
+use Rattle.sk_record.specs.Effects.{MarkedEffect}
+use Rattle.sk_record.specs.Run.{effects}
+use Rattle.sk_ids.specs.declared.entity.Entity.{Entity}
+use Rattle.sk_ids.specs.declared.entity.Entity.TheVariants.{Copy as CopyOf}
+use Rattle.sk_script.specs.declared.instruction.Input.TheVariants as inputs
+use Rattle.sk_store.specs.declared.entity_state.EntityState.{EntityState}
+use Rattle.sk_trace.specs.Entry.{EntryView}
+use Rattle.sk_plain.specs.Act.{Saying, plain}
+use Rattle.sk_kernel.specs.Kernel.{KernelView, record_at}
+use Rattle.sk_server.specs.declared.request.Request.{Request as Sent}
+use Rattle.sk_server.specs.declared.request.Ask.TheVariants as asks
+use Rattle.sk_server.specs.declared.reply.Answer.TheVariants as answers
+use Rattle.sk_server.specs.declared.reply.Reply.{Reply}
+use Rattle.sk_client.specs.Table.{Bytes, copy_of}
+use Rattle.sk_client.specs.Desk.{pending}
+use Rattle.sk_client.specs.Exchanges.{Exchanges}
+use Rattle.sk_client.specs.WorldView.{WorldView}
+use Rattle.sk_client.specs.declared.pending.PendingRequest.{PendingRequest}
+
+-- parts of two lists, side by side
+abbrev pub paired : {A B : Type 0} → List A → List B → List (A × B)
+paired [] ys = []
+paired (x ∷ xs) [] = []
+paired (x ∷ xs) (y ∷ ys) = (x, y) ∷ paired xs ys
+
+-- the steps of a kernel's record, each with what it did
+abbrev pub steps_at : KernelView → List (EntryView × MarkedEffect Entity EntityState Saying)
+steps_at k = paired (record_at k) (effects (plain k.scripts) k.start (record_at k))
+
+-- the step of a store that was made with this guess, or asked, stands in the kernel's record: it is that of the guess, or
+-- of none, it was taken with Good, and it set the copy
+pub record StandsIn (k : KernelView) (mark : Option ℕ) (name : Bytes) (version : ℕ) (bytes : Bytes) : Type 0 where
+  pub entry : EntryView
+  pub effect : MarkedEffect Entity EntityState Saying
+  pub there : Contains (steps_at k) (entry, effect)
+  pub guess : entry.guess ≡ mark
+  pub input : entry.input ≡ inputs.Good
+  pub sets : Contains effect.written (CopyOf name, Some (copy_of (record { version = version + 1; bytes = bytes })))
+
+-- a request was made with a guess, or its reply was given
+abbrev pub IsDue : WorldView → Sent → Type 0
+IsDue v q = ((g : ℕ) × (q.guess ≡ Some g)) ⊎ ((p : PendingRequest) → Contains (pending v.desk) p → p.number ≡ q.number → ⊥)
+
+-- the step of each store that was accepted and is due stands in the record of a later world
+abbrev pub StoresStand : Exchanges → WorldView → WorldView → Type 0
+StoresStand served v later =
+    (q : Sent) (r : Reply) (name : Bytes) (version : ℕ) (bytes : Bytes) → Contains served (q, r) → r.answer ≡ answers.Yes → q.ask ≡ asks.Store name version bytes → IsDue v q
+    → StandsIn later.desk.kernel q.guess name version bytes
+
+-- the step of each store that was made with a guess by now, and that is accepted, by now or later, stands in the record of
+-- this world
+abbrev pub StoresStood : Exchanges → WorldView → Type 0
+StoresStood served v =
+    (q : Sent) (r : Reply) (name : Bytes) (version : ℕ) (bytes : Bytes) (g : ℕ) → Contains served (q, r) → r.answer ≡ answers.Yes → q.ask ≡ asks.Store name version bytes
+    → q.guess ≡ Some g → q.number < v.desk.next → StandsIn v.desk.kernel (Some g) name version bytes
+
+-- it stands at this place of the record
+pub record StandsAt (k : KernelView) (place : ℕ) (mark : Option ℕ) (name : Bytes) (version : ℕ) (bytes : Bytes) : Type 0 where
+  pub entry : EntryView
+  pub effect : MarkedEffect Entity EntityState Saying
+  pub there : slice_get (steps_at k) place ≡ Some (entry, effect)
+  pub guess : entry.guess ≡ mark
+  pub input : entry.input ≡ inputs.Good
+  pub sets : Contains effect.written (CopyOf name, Some (copy_of (record { version = version + 1; bytes = bytes })))
+
+-- one of the exchanges is a store that was accepted and is due
+pub record DueStore (served : Exchanges) (v : WorldView) : Type 0 where
+  pub at : ℕ
+  pub request : Sent
+  pub reply : Reply
+  pub name : Bytes
+  pub version : ℕ
+  pub bytes : Bytes
+  pub there : slice_get served at ≡ Some (request, reply)
+  pub accepted : reply.answer ≡ answers.Yes
+  pub asks : request.ask ≡ asks.Store name version bytes
+  pub due : IsDue v request
+
+-- by its request's number each such store has a place of the record of a later world where its step stands, and no two
+-- of them have one place
+pub record StandApart (served : Exchanges) (v later : WorldView) : Type 0 where
+  pub place_of : ℕ → ℕ
+  pub stands : (s : DueStore served v) → StandsAt later.desk.kernel (place_of s.request.number) s.request.guess s.name s.version s.bytes
+  pub apart : (s t : DueStore served v) → place_of s.request.number ≡ place_of t.request.number → s.at ≡ t.at

@@ -1,6 +1,0 @@
-pub mod Requests
-pub mod Server
-pub mod World
-pub mod Laws
-pub mod Labels
-pub mod Example

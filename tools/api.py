@@ -48,7 +48,7 @@ def whole_item(lines, at, kind):
     elif lines[at].endswith("{") and kind != "trait":
         while lines[last].strip() != "}":
             last += 1
-    return [it.strip() for it in lines[at:last + 1]]
+    return [it.strip() for it in lines[at:last + 1] if not it.strip().startswith("// ")]
 
 
 def items(lines):

@@ -5,7 +5,7 @@ use Rattle.std.specs.List.{Contains}
 use native.Mathlib.Numerals.{unary_clauses}
 use Rattle.std.proofs.lemmas.List.Elements.{Contains-push, Contains-push_cases, Contains-append_left, Contains-append_right, Contains-append_cases}
 use Rattle.std.proofs.lemmas.Option.{slice_get-get_or}
-use Rattle.std.proofs.lemmas.List.{take-append-drop}
+use Rattle.std.proofs.lemmas.List.{take-append-drop, map-append}
 use Rattle.std.specs.Prelude.{drop}
 use Rattle.sk_kernel.specs.Kernel.{KernelView}
 use Rattle.sk_kernel.specs.Opening.{OpeningView, opening_of}
@@ -27,7 +27,7 @@ use Rattle.sk_crew.specs.Rounds.{fresh, due, after}
 use Rattle.sk_plain.specs.declared.refusal.Refusal.{Refusal}
 use Rattle.sk_client.specs.declared.desk.Turn.{Turn}
 use Rattle.sk_crew.specs.Ahead.{RunsAhead, TakesTurn}
-use Rattle.sk_crew.specs.Duties.{processes_of, IsOf, IsDuty, KeepsTo, AllKeepTo, IsReply, OnlyReplies, AreNumbered}
+use Rattle.sk_crew.specs.Duties.{processes_of, IsOf, IsDuty, KeepsTo, AllKeepTo, IsReply, OnlyReplies, WorksOn, AllWorkOn, AreNumbered}
 
 -- ---- the places of a worker's turns
 
@@ -109,12 +109,28 @@ pub push_keeps : (workers : ℕ) (processes : List ℕ) (ws : List WorkerView) (
     → AllKeepTo workers processes (ws ++ w ∷ [])
 push_keeps workers processes ws w all one = λ v there. elim (Contains-push_cases ws w v there) [ inl before ↦ all v before | inr is ↦ subst (KeepsTo workers processes) is one ]
 
-pub all_keep : (workers : ℕ) (processes : List ℕ) (ws rest all : List WorkerView) (last one : WorkerView) → ws ≡ rest ++ last ∷ []
+all_keep : (workers : ℕ) (processes : List ℕ) (ws rest all : List WorkerView) (last one : WorkerView) → ws ≡ rest ++ last ∷ []
     → (KeepsTo workers processes last → KeepsTo workers processes one) → (AllKeepTo workers processes rest → AllKeepTo workers processes all)
     → AllKeepTo workers processes ws → AllKeepTo workers processes (all ++ one ∷ [])
 all_keep workers processes ws rest all last one is its others keeps =
     let in_all : (w : WorkerView) → Contains (rest ++ last ∷ []) w → KeepsTo workers processes w = λ w there. keeps w (subst (λ (xs : List WorkerView). Contains xs w) (sym is) there) in
     push_keeps workers processes all one (others (λ w there. in_all w (Contains-append_left rest (last ∷ []) w there))) (its (in_all last (Contains-push rest last)))
+
+numbers_back : (ws rest back all : List WorkerView) (last one : WorkerView) → ws ≡ rest ++ last ∷ [] → back ≡ all ++ one ∷ []
+    → one.number ≡ last.number → numbers all ≡ numbers rest → numbers back ≡ numbers ws
+numbers_back ws rest back all last one is is_back same others =
+    let number : WorkerView → ℕ = λ w. w.number in
+    let apart : numbers all ++ one.number ∷ [] ≡ numbers rest ++ last.number ∷ [] = λ i. others i ++ same i ∷ [] in
+    ap numbers is_back ∙ map-append number all (one ∷ []) ∙ apart ∙ sym (map-append number rest (last ∷ [])) ∙ sym (ap numbers is)
+
+-- the last worker and those before it come back in their order
+pub all_work_on : (workers : ℕ) (processes : List ℕ) (ws rest back all : List WorkerView) (last one : WorkerView)
+    → ws ≡ rest ++ last ∷ [] → back ≡ all ++ one ∷ [] → WorksOn workers processes last one → AllWorkOn workers processes rest all
+    → AllWorkOn workers processes ws back
+all_work_on workers processes ws rest back all last one is is_back its others = (
+  numbers_back ws rest back all last one is is_back its.0 others.0,
+  λ keeps. subst (AllKeepTo workers processes) (sym is_back) (all_keep workers processes ws rest all last one is its.1 others.1 keeps),
+)
 
 pub both_keep : (workers : ℕ) (processes : List ℕ) (ws vs : List WorkerView) → AllKeepTo workers processes ws → AllKeepTo workers processes vs → AllKeepTo workers processes (ws ++ vs)
 both_keep workers processes ws vs one more = λ w there. elim (Contains-append_cases ws vs w there) [ inl before ↦ one w before | inr later ↦ more w later ]

@@ -6,12 +6,12 @@ ghost use Rattle.sk_workers.specs.Closing.{numbers, AreDistinct, IsClosed};
 ghost use Rattle.sk_crew.specs.Crewed.{IsCrewed, IsRefused, HasCause};
 ghost use Rattle.sk_crew.specs.Duties.{AllKeepTo};
 
-use crate::clerk::Clerk;
-use crate::ends::{Inbox, Line, Outbox};
-use crate::ground::Ground;
+use crate::carrier::{Carrier, Lead};
+use crate::ends::WireEnds;
+use crate::remaining::serve_remaining;
 use crate::service::Service;
-use crate::settling::settle;
-use crate::working::work_served;
+use crate::setup::Setup;
+use crate::working::{Crew, work_served};
 use sk_client::Desk;
 use sk_server::Server;
 use sk_workers::{CloseRefusal, Gate, History, Shared, Worker};
@@ -45,57 +45,55 @@ fn run_served<L: Ledger + Send + Sync, R: Threads + Wait + Sync, G: Gate + Sync>
     shared: &Shared<L>,
     workers: Vec<Worker<L>>,
     server: Server,
-    ground: Ground,
+    setup: Setup,
     plan: Plan,
     gate: &G,
 ) -> Result<(Vec<Worker<L>>, Server), CrewFault>
     requires { 0 < vec_len workers }
+    // The workers come back, and each of their calls was theirs to make.
     ensures numbers { IfOk result (λ back. numbers back.0.items ≡ numbers workers.items) }
     ensures count { IfOk result (λ back. vec_len back.0 ≡ vec_len workers) }
-    ensures duties { IfOk result (λ back. AreFresh plan.workers workers.items → AllKeepTo plan.workers ground.processes.items back.0.items) }
+    ensures duties { IfOk result (λ back. AreFresh plan.workers workers.items
+        → AllKeepTo plan.workers setup.processes.items back.0.items) }
+    // Or there was no memory.
     ensures fault { IfErr result (λ fault. fault ≡ CrewFault.Memory) }
 {
-    let Ground {
+    let Setup {
         processes,
         requests,
         replies,
-    } = ground;
-    let Line {
+    } = setup;
+    let WireEnds {
         wire: requests,
-        sending: asks,
-        receiving: takes,
-        first,
+        passes: asked,
     } = requests;
-    let Line {
+    let WireEnds {
         wire: replies,
-        sending: answers,
-        receiving: gets,
-        first: first_reply,
+        passes: answered,
     } = replies;
-    let clerk = Clerk {
-        requests: Outbox::new(&requests, asks, first),
-        replies: Inbox::new(&replies, gets),
-        request: None,
-        reply: None,
-        awaited: 0,
-    };
-    let service = Service {
-        server,
-        requests: Inbox::new(&requests, takes),
-        replies: Outbox::new(&replies, answers, first_reply),
-        kept: None,
-    };
+    let (asks, takes) = asked.ends(&requests);
+    let (answers, gets) = answered.ends(&replies);
+    let service = Service::new(server, takes, answers);
+    let carrier = Carrier::new(asks, gets);
     let mut workers = workers;
     let Ok(others) = workers.split_off(1) else {
         return Err(CrewFault::Memory);
     };
-    let Some(first) = workers.pop() else {
+    let Some(worker) = workers.pop() else {
         unreachable!()
     };
-    let (first, mut others, clerk, service) = work_served(
-        rt, shared, first, others, clerk, service, &processes, plan, gate,
-    );
-    let (first, server) = settle(rt, shared, first, clerk, service)?;
+    let lead = Lead { worker, carrier };
+    let crew = Crew {
+        lead,
+        others,
+        service,
+    };
+    let Crew {
+        lead,
+        mut others,
+        service,
+    } = work_served(rt, shared, crew, &processes, plan, gate);
+    let (first, server) = serve_remaining(rt, shared, lead, service)?;
     workers.push_reserved(first);
     match workers.append(&mut others) {
         Ok(()) => Ok((workers, server)),
@@ -118,17 +116,23 @@ pub fn run_crew<L: Ledger + Send + Sync, R: Threads + Wait + Sync, G: Gate + Syn
     plan: Plan,
     gate: &G,
 ) -> Result<(History, Server), CrewFault>
-    requires ledger { (blank.name ≡ L.name) × (blank.parts ≡ L.parts) × (L.parts ≡ plan.workers) }
+    // The ledger has a part for each worker, and nothing was done on the desk in its epoch.
+    requires ledger { (blank.name ≡ L.name) × (blank.parts ≡ L.parts)
+        × (L.parts ≡ plan.workers) }
     requires count { (1 ≤ plan.workers) × (plan.workers ≤ 8) }
     requires opened { desk ≡ opened_at desk.kernel desk.first }
     requires trace { desk.kernel.trace ≡ [] }
-    ensures crewed { IfOk result (λ done. IsCrewed plan.workers desk done.0.entries.items done.0.desk) }
-    ensures legal { IfOk result (λ done. desk.kernel.earlier ≡ [] → Runs desk done.0.entries.items done.0.desk) }
+    // The calls are of such workers and make one legal history, and nothing is pending at its end.
+    ensures crewed { IfOk result (λ done.
+        IsCrewed plan.workers desk done.0.entries.items done.0.desk) }
+    ensures legal { IfOk result (λ done. desk.kernel.earlier ≡ []
+        → Runs desk done.0.entries.items done.0.desk) }
     ensures settled { IfOk result (λ done. pending done.0.desk ≡ []) }
+    // Or why there is none.
     ensures fault { IfErr result (HasCause plan.workers desk) }
 {
-    let ground = match Ground::new(alloc, &desk) {
-        Ok(ground) => ground,
+    let setup = match Setup::new(alloc, &desk) {
+        Ok(setup) => setup,
         Err(_) => {
             desk.abandon();
             return Err(CrewFault::Memory);
@@ -141,7 +145,7 @@ pub fn run_crew<L: Ledger + Send + Sync, R: Threads + Wait + Sync, G: Gate + Syn
             return Err(CrewFault::Memory);
         }
     };
-    match run_served(rt, &shared, workers, server, ground, plan, gate) {
+    match run_served(rt, &shared, workers, server, setup, plan, gate) {
         Ok((workers, server)) => match close(shared, workers) {
             Ok(history) => Ok((history, server)),
             Err(fault) => Err(fault),
@@ -157,7 +161,8 @@ pub fn run_crew<L: Ledger + Send + Sync, R: Threads + Wait + Sync, G: Gate + Syn
 fn close<L: Ledger>(shared: Shared<L>, workers: Vec<Worker<L>>) -> Result<History, CrewFault>
     requires workers { vec_len workers ≡ L.parts }
     requires distinct { AreDistinct workers.items }
-    ensures closed { IfOk result (λ history. IsClosed shared workers.items history.entries.items history.desk) }
+    ensures closed { IfOk result (λ history.
+        IsClosed shared workers.items history.entries.items history.desk) }
     ensures fault { IfErr result (IsRefused shared workers.items) }
 {
     match shared.close(workers) {

@@ -12,34 +12,63 @@ use std::sync::Wait;
 /// A wire takes fewer items than this.
 const WIRE_ITEMS: u64 = 1 << 62;
 
-/// A new wire with both its passes, for items that are numbered from `first` on.
+/// Both passes of a new wire, for items that are numbered from `first` on.
 #[derive(Drop)]
-pub(crate) struct Line<T: Numbered> {
-    pub(crate) wire: Wire<T>,
-    pub(crate) sending: WirePass<T>,
-    pub(crate) receiving: WirePass<T>,
-    pub(crate) first: u64,
-    ghost sends: { IsSending wire sending × (view sending ≡ sender first) },
-    ghost receives: { IsReceiving wire receiving },
+pub(crate) struct Passes<T: Numbered> {
+    sending: WirePass<T>,
+    receiving: WirePass<T>,
+    first: u64,
 }
 
-impl<T: Numbered + Drop> Line<T> {
-    pub(crate) fn new(alloc: Global, first: u64) -> Result<Line<T>, AllocError>
-        ensures { IfOk result (λ line. line.first ≡ first) }
+/// A new wire with its passes.
+#[derive(Drop)]
+pub(crate) struct WireEnds<T: Numbered> {
+    pub(crate) wire: Wire<T>,
+    pub(crate) passes: Passes<T>,
+    ghost sends: { IsSending wire passes.sending × (view passes.sending ≡ sender passes.first) },
+    ghost receives: { IsReceiving wire passes.receiving },
+}
+
+impl<T: Numbered + Drop> WireEnds<T> {
+    pub(crate) fn new(alloc: Global, first: u64) -> Result<WireEnds<T>, AllocError>
+        ensures { IfOk result (λ ends. ends.passes.first ≡ first) }
     {
         let (wire, sending, receiving) = Wire::<T>::new(alloc, first)?;
-        Ok(Line {
-            wire,
+        let passes = Passes {
             sending,
             receiving,
             first,
-        })
+        };
+        Ok(WireEnds { wire, passes })
+    }
+}
+
+impl<T: Numbered + Drop> Passes<T> {
+    /// Both ends of the wire.
+    pub(crate) fn ends<'a>(self, wire: &'a Wire<T>) -> (SendingEnd<'a, T>, ReceivingEnd<'a, T>)
+        // They are the passes of this wire.
+        requires sends { IsSending wire.now self.sending
+            × (view self.sending ≡ sender self.first) }
+        requires receives { IsReceiving wire.now self.receiving }
+        // Each end has its pass.
+        ensures sends { view result.0.pass ≡ view self.sending }
+        ensures receives { view result.1.pass ≡ view self.receiving }
+    {
+        let Passes {
+            sending,
+            receiving,
+            first,
+        } = self;
+        (
+            SendingEnd::new(wire, sending, first),
+            ReceivingEnd::new(wire, receiving),
+        )
     }
 }
 
 /// The sending end of a wire, and the number of the item that is next.
 #[derive(Drop)]
-pub(crate) struct Outbox<'a, T: Numbered> {
+pub(crate) struct SendingEnd<'a, T: Numbered> {
     wire: &'a Wire<T>,
     pass: WirePass<T>,
     first: u64,
@@ -51,19 +80,19 @@ pub(crate) struct Outbox<'a, T: Numbered> {
 
 /// The receiving end of a wire.
 #[derive(Drop)]
-pub(crate) struct Inbox<'a, T: Numbered> {
+pub(crate) struct ReceivingEnd<'a, T: Numbered> {
     wire: &'a Wire<T>,
     pass: WirePass<T>,
     ghost receives: { IsReceiving wire.now pass },
 }
 
-impl<'a, T: Numbered + Drop> Outbox<'a, T> {
+impl<'a, T: Numbered + Drop> SendingEnd<'a, T> {
     /// The end of a new wire, numbered from `first` on.
-    pub(crate) fn new(wire: &'a Wire<T>, pass: WirePass<T>, first: u64) -> Outbox<'a, T>
+    pub(crate) fn new(wire: &'a Wire<T>, pass: WirePass<T>, first: u64) -> SendingEnd<'a, T>
         requires { IsSending wire.now pass × (view pass ≡ sender first) }
         ensures { view result.pass ≡ view pass }
     {
-        Outbox {
+        SendingEnd {
             wire,
             pass,
             first,
@@ -73,20 +102,22 @@ impl<'a, T: Numbered + Drop> Outbox<'a, T> {
 
     /// Whether the item of this number is next.
     fn is_next(&self, number: u64) -> bool
-        ensures { IsTrue result ↔ (number ≡ self.now.next) × (number < self.now.first + 2 ^ 62) × (number + 1 < 2 ^ 64) }
+        ensures { IsTrue result ↔ (number ≡ self.now.next) × (number < self.now.first + 2 ^ 62)
+            × (number + 1 < 2 ^ 64) }
     {
         number == self.next && number - self.first < WIRE_ITEMS && number < u64::MAX
     }
 
     /// Sends the next item. It comes back where the wire is full, or where its number is not the next.
-    pub(crate) fn send<R: Wait>(self, rt: &R, item: T) -> (Outbox<'a, T>, Result<(), T>)
+    pub(crate) fn send<R: Wait>(self, rt: &R, item: T) -> (SendingEnd<'a, T>, Result<(), T>)
         ensures sent { OnOk result.1 (view result.0.pass ≡ with_sent (view self.entry.pass) item) }
-        ensures back { IfErr result.1 (λ back. (back ≡ item) × (view result.0.pass ≡ view self.entry.pass)) }
+        ensures back { IfErr result.1 (λ back. (back ≡ item)
+            × (view result.0.pass ≡ view self.entry.pass)) }
     {
         if !self.is_next(item.number()) {
             return (self, Err(item));
         }
-        let Outbox {
+        let SendingEnd {
             wire,
             pass,
             first,
@@ -94,39 +125,43 @@ impl<'a, T: Numbered + Drop> Outbox<'a, T> {
         } = self;
         let (pass, sent) = wire.push(rt, pass, item);
         let next = next + u64::from(sent.is_ok());
-        let outbox = Outbox {
+        let end = SendingEnd {
             wire,
             pass,
             first,
             next,
         };
-        (outbox, sent)
+        (end, sent)
     }
 
     /// Sends an item, if there is one; what was not sent is kept.
-    pub(crate) fn post<R: Wait>(self, rt: &R, item: Option<T>) -> (Outbox<'a, T>, Option<T>) {
+    pub(crate) fn send_if_any<R: Wait>(
+        self,
+        rt: &R,
+        item: Option<T>,
+    ) -> (SendingEnd<'a, T>, Option<T>) {
         let Some(item) = item else {
             return (self, None);
         };
-        let (outbox, sent) = self.send(rt, item);
-        (outbox, sent.err())
+        let (end, sent) = self.send(rt, item);
+        (end, sent.err())
     }
 }
 
-impl<'a, T: Numbered + Drop> Inbox<'a, T> {
-    pub(crate) fn new(wire: &'a Wire<T>, pass: WirePass<T>) -> Inbox<'a, T>
+impl<'a, T: Numbered + Drop> ReceivingEnd<'a, T> {
+    pub(crate) fn new(wire: &'a Wire<T>, pass: WirePass<T>) -> ReceivingEnd<'a, T>
         requires { IsReceiving wire.now pass }
         ensures { view result.pass ≡ view pass }
     {
-        Inbox { wire, pass }
+        ReceivingEnd { wire, pass }
     }
 
     /// Receives the next item; `None` where the wire holds none.
-    pub(crate) fn receive<R: Wait>(self, rt: &R) -> (Inbox<'a, T>, Option<T>)
+    pub(crate) fn receive<R: Wait>(self, rt: &R) -> (ReceivingEnd<'a, T>, Option<T>)
         ensures { PopPost T.number_of result.1 (view self.entry.pass) (view result.0.pass) }
     {
-        let Inbox { wire, pass } = self;
+        let ReceivingEnd { wire, pass } = self;
         let (pass, item) = wire.pop(rt, pass);
-        (Inbox { wire, pass }, item)
+        (ReceivingEnd { wire, pass }, item)
     }
 }

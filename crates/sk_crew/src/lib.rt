@@ -2,13 +2,13 @@
 //! between them.
 #![tactic(auto)]
 
-mod clerk;
+mod carrier;
 pub mod crew;
 mod ends;
-mod ground;
+mod remaining;
 mod rounds;
 mod service;
-mod settling;
+mod setup;
 mod working;
 
 pub use crew::{CrewFault, Plan, run_crew};

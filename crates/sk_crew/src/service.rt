@@ -1,5 +1,5 @@
 //! The server in a thread of its own.
-use crate::ends::{Inbox, Outbox};
+use crate::ends::{ReceivingEnd, SendingEnd};
 use sk_server::{Reply, Request, Server};
 use std::sync::Wait;
 use std::sync::atomic::{AtomicBool, Ordering};
@@ -18,17 +18,17 @@ pub(crate) enum Unfinished {
 #[derive(Drop)]
 pub(crate) struct Service<'a> {
     pub(crate) server: Server,
-    pub(crate) requests: Inbox<'a, Request>,
-    pub(crate) replies: Outbox<'a, Reply>,
+    pub(crate) requests: ReceivingEnd<'a, Request>,
+    pub(crate) replies: SendingEnd<'a, Reply>,
     pub(crate) kept: Option<Unfinished>,
 }
 
-/// How long the server rests between two looks for a request.
-const RESTS: u32 = 600;
+/// How many loads the server's pause between two looks for a request takes.
+const PAUSE_LOADS: u32 = 600;
 
-/// Rests where there is nothing to answer, and lets others run.
-fn rest(stop: &AtomicBool) {
-    for _ in 0..RESTS {
+/// Waits where there is nothing to answer, and lets others run.
+fn pause(stop: &AtomicBool) {
+    for _ in 0..PAUSE_LOADS {
         let _ = stop.load(Ordering::Relaxed);
     }
     thread::yield_now();
@@ -43,6 +43,20 @@ fn answer(server: &mut Server, request: Request) -> Unfinished {
 }
 
 impl<'a> Service<'a> {
+    /// Nothing is served yet.
+    pub(crate) fn new(
+        server: Server,
+        requests: ReceivingEnd<'a, Request>,
+        replies: SendingEnd<'a, Reply>,
+    ) -> Service<'a> {
+        Service {
+            server,
+            requests,
+            replies,
+            kept: None,
+        }
+    }
+
     /// Serves until it is told to stop.
     pub(crate) fn serve<R: Wait>(self, rt: &R, stop: &AtomicBool) -> Service<'a> {
         let mut service = self;
@@ -52,7 +66,7 @@ impl<'a> Service<'a> {
             }
             service = service.go_on(rt);
             if service.kept.is_none() {
-                rest(stop);
+                pause(stop);
             }
         }
         service
@@ -68,7 +82,7 @@ impl<'a> Service<'a> {
         } = self;
         let (requests, replies, kept) = match kept {
             Some(Unfinished::Reply(reply)) => {
-                let (replies, reply) = replies.post(rt, Some(reply));
+                let (replies, reply) = replies.send_if_any(rt, Some(reply));
                 (requests, replies, reply.map(Unfinished::Reply))
             }
             Some(Unfinished::Request(request)) => {

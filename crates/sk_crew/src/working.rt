@@ -4,12 +4,11 @@ ghost use Rattle.std.specs.Thread.{IsSync};
 ghost use Rattle.sk_plain.specs.Leased.{Lends};
 ghost use Rattle.sk_client.specs.Desk.{DeskView};
 ghost use Rattle.sk_client.specs.Leasing.{desk_lease};
-ghost use Rattle.sk_workers.specs.Closing.{numbers};
 ghost use Rattle.sk_crew.specs.Rounds.{due, after, is_ended};
 ghost use Rattle.sk_crew.specs.Ahead.{TakesTurn};
-ghost use Rattle.sk_crew.specs.Duties.{KeepsTo, AllKeepTo, OnlyReplies};
+ghost use Rattle.sk_crew.specs.Duties.{WorksOn, LeadsOn, AllWorkOn, OnlyReplies};
 
-use crate::clerk::Clerk;
+use crate::carrier::Lead;
 use crate::crew::Plan;
 use crate::rounds::{Rounds, is_ended};
 use crate::service::Service;
@@ -23,6 +22,15 @@ use std::sync::atomic::{AtomicBool, Ordering};
 use std::sync::ledger::Ledger;
 use std::thread;
 use std::thread::Threads;
+
+/// Worker 0, the other workers in their order, and the server. All are owned and not lent: a call of `Shared` takes a worker and
+/// gives it back, and so does a call of `Wire` with a pass.
+#[derive(Drop)]
+pub(crate) struct Crew<'a, L: Ledger> {
+    pub(crate) lead: Lead<'a, L>,
+    pub(crate) others: Vec<Worker<L>>,
+    pub(crate) service: Service<'a>,
+}
 
 /// The process whose turn it is in a worker's rounds; `None` once the worker has stopped.
 fn due(rounds: &Rounds, processes: &[Pid]) -> Option<Pid>
@@ -105,7 +113,9 @@ fn take_turn<L: Ledger, R: Wait, G: Gate>(
     gate: &G,
     ahead: u32,
 ) -> (Worker<L>, Result<Turn, Refusal>)
+    // The lease in the place has run.
     requires { IfSome place.old (λ lease. (0 < lease.count) × (lease.count ≤ ahead)) }
+    // The turn was taken, and the rounds go on; the lease in the place is new.
     ensures told { TakesTurn ahead result.1 worker pid result.0 }
     ensures rounds { rounds.new ≡ after (is_ended result.1) rounds.old }
     ensures lent { IfSome place.new (λ lease. lease.count ≡ 0) }
@@ -135,7 +145,9 @@ fn go_on<L: Ledger, R: Wait, G: Gate>(
     gate: &G,
     ahead: u32,
 ) -> (Worker<L>, Result<Turn, Refusal>)
+    // The lease in the place is new.
     requires { IfSome place.old (λ lease. lease.count ≡ 0) }
+    // The turn was taken, and the rounds go on; the lease in the place is a new one again.
     ensures told { TakesTurn ahead result.1 worker pid result.0 }
     ensures rounds { rounds.new ≡ after (is_ended result.1) rounds.old }
     ensures lent { IfSome place.new (λ lease. lease.count ≡ 0) }
@@ -154,8 +166,7 @@ fn work<L: Ledger, R: Wait, G: Gate>(
     plan: Plan,
     gate: &G,
 ) -> Worker<L>
-    ensures number { result.number ≡ worker.number }
-    ensures duties { KeepsTo plan.workers processes.now worker → KeepsTo plan.workers processes.now result }
+    ensures { WorksOn plan.workers processes.now worker result }
 {
     let mut rounds = Rounds::new(worker.number(), plan.workers, processes.len());
     let first = due(&rounds, processes);
@@ -182,32 +193,30 @@ fn work<L: Ledger, R: Wait, G: Gate>(
 }
 
 /// Makes the rounds of worker 0, which carries before each of its turns, and before it runs ahead.
-fn lead<'a, L: Ledger, R: Wait, G: Gate>(
+fn lead_rounds<'a, L: Ledger, R: Wait, G: Gate>(
     rt: &R,
     shared: &Shared<L>,
-    worker: Worker<L>,
-    clerk: Clerk<'a>,
+    lead: Lead<'a, L>,
     processes: &[Pid],
     plan: Plan,
     gate: &G,
-) -> (Worker<L>, Clerk<'a>)
-    ensures number { result.0.number ≡ worker.number }
-    ensures duties { worker.number ≡ 0 → KeepsTo plan.workers processes.now worker → KeepsTo plan.workers processes.now result.0 }
+) -> Lead<'a, L>
+    ensures { LeadsOn plan.workers processes.now lead.entry.worker result.worker }
 {
-    let mut clerk = clerk;
+    let Lead { worker, carrier } = lead;
     let mut rounds = Rounds::new(worker.number(), plan.workers, processes.len());
     let first = due(&rounds, processes);
-    let (mut worker, mut ahead) = lease(rt, shared, worker, first, plan.ahead);
+    let (worker, mut ahead) = lease(rt, shared, worker, first, plan.ahead);
+    let mut lead = Lead { worker, carrier };
     for _ in 0..plan.turns {
         let Some(pid) = due(&rounds, processes) else {
             break;
         };
-        let (back, carrier) = clerk.carry(rt, shared, worker);
-        clerk = back;
-        let (back, _) = go_on(
+        let Lead { worker, carrier } = lead.carry(rt, shared);
+        let (worker, _) = go_on(
             rt,
             shared,
-            carrier,
+            worker,
             &mut ahead,
             pid,
             processes,
@@ -215,35 +224,31 @@ fn lead<'a, L: Ledger, R: Wait, G: Gate>(
             gate,
             plan.ahead,
         );
-        worker = back;
+        lead = Lead { worker, carrier };
     }
     give_up(ahead);
-    (worker, clerk)
+    lead
 }
 
 /// Carries until the other workers have stopped.
 fn carry_on<'a, L: Ledger, R: Wait>(
     rt: &R,
     shared: &Shared<L>,
-    worker: Worker<L>,
-    clerk: Clerk<'a>,
+    lead: Lead<'a, L>,
     have_stopped: &AtomicBool,
-) -> (Worker<L>, Clerk<'a>)
-    ensures number { result.0.number ≡ worker.number }
-    ensures replies { OnlyReplies worker result.0 }
+) -> Lead<'a, L>
+    ensures number { result.worker.number ≡ lead.entry.worker.number }
+    ensures replies { OnlyReplies lead.entry.worker result.worker }
 {
-    let mut worker = worker;
-    let mut clerk = clerk;
+    let mut lead = lead;
     for _ in rt.forever() {
         if have_stopped.load(Ordering::SeqCst) {
             break;
         }
-        let (back, carrier) = clerk.carry(rt, shared, worker);
-        clerk = back;
-        worker = carrier;
+        lead = lead.carry(rt, shared);
         thread::yield_now();
     }
-    (worker, clerk)
+    lead
 }
 
 /// Makes the rounds of each worker in a thread of its own, and gives all back in their order.
@@ -255,8 +260,7 @@ fn work_all<L: Ledger + Send + Sync, R: Threads + Wait + Sync, G: Gate + Sync>(
     plan: Plan,
     gate: &G,
 ) -> Vec<Worker<L>>
-    ensures numbers { numbers result.items ≡ numbers workers.items }
-    ensures duties { AllKeepTo plan.workers processes.now workers.items → AllKeepTo plan.workers processes.now result.items }
+    ensures work { AllWorkOn plan.workers processes.now workers.items result.items }
     ensures count { vec_len result ≡ vec_len workers }
     ensures room { vec_capacity result ≡ vec_capacity workers }
 {
@@ -267,12 +271,13 @@ fn work_all<L: Ledger + Send + Sync, R: Threads + Wait + Sync, G: Gate + Sync>(
     let (one, mut all) = thread::join(
         rt,
         move || -> Worker<L>
-            ensures { (result.number ≡ last.number) × (KeepsTo plan.workers processes.entry.now last → KeepsTo plan.workers processes.entry.now result) }
+            ensures { WorksOn plan.workers processes.entry.now last result }
         { work(rt, shared, last, processes, plan, gate) },
         move || -> Vec<Worker<L>>
             requires { IsSync R.row × IsSync G.row }
-            ensures { (numbers result.items ≡ numbers rest.items) × (vec_len result ≡ vec_len rest) × (vec_capacity result ≡ vec_capacity rest)
-                × (AllKeepTo plan.workers processes.entry.now rest.items → AllKeepTo plan.workers processes.entry.now result.items) }
+            ensures { AllWorkOn plan.workers processes.entry.now rest.items result.items
+                × (vec_len result ≡ vec_len rest)
+                × (vec_capacity result ≡ vec_capacity rest) }
         { work_all(rt, shared, rest, processes, plan, gate) },
     );
     all.push_reserved(one);
@@ -283,41 +288,36 @@ fn work_all<L: Ledger + Send + Sync, R: Threads + Wait + Sync, G: Gate + Sync>(
 fn work_together<'a, L: Ledger + Send + Sync, R: Threads + Wait + Sync, G: Gate + Sync>(
     rt: &R,
     shared: &Shared<L>,
-    first: Worker<L>,
+    lead: Lead<'a, L>,
     others: Vec<Worker<L>>,
-    clerk: Clerk<'a>,
     processes: &[Pid],
     plan: Plan,
     gate: &G,
-) -> (Worker<L>, Vec<Worker<L>>, Clerk<'a>)
-    ensures first { result.0.number ≡ first.number }
-    ensures others { numbers result.1.items ≡ numbers others.items }
+) -> (Lead<'a, L>, Vec<Worker<L>>)
+    ensures lead { LeadsOn plan.workers processes.now lead.entry.worker result.0.worker }
+    ensures others { AllWorkOn plan.workers processes.now others.items result.1.items }
     ensures count { vec_len result.1 ≡ vec_len others }
-    ensures leads { first.number ≡ 0 → KeepsTo plan.workers processes.now first → KeepsTo plan.workers processes.now result.0 }
-    ensures duties { AllKeepTo plan.workers processes.now others.items → AllKeepTo plan.workers processes.now result.1.items }
 {
     let have_stopped = AtomicBool::new(false);
     let have_stopped = &have_stopped;
-    let ((first, clerk), others) = thread::join(
+    thread::join(
         rt,
-        move || -> (Worker<L>, Clerk)
-            ensures { (result.0.number ≡ first.number)
-                × (first.number ≡ 0 → KeepsTo plan.workers processes.entry.now first → KeepsTo plan.workers processes.entry.now result.0) }
+        move || -> Lead<L>
+            ensures { LeadsOn plan.workers processes.entry.now lead.entry.worker result.worker }
         {
-            let (first, clerk) = lead(rt, shared, first, clerk, processes, plan, gate);
-            carry_on(rt, shared, first, clerk, have_stopped)
+            let lead = lead_rounds(rt, shared, lead, processes, plan, gate);
+            carry_on(rt, shared, lead, have_stopped)
         },
         move || -> Vec<Worker<L>>
             requires { IsSync R.row × IsSync G.row }
-            ensures { (numbers result.items ≡ numbers others.items) × (vec_len result ≡ vec_len others)
-                × (AllKeepTo plan.workers processes.entry.now others.items → AllKeepTo plan.workers processes.entry.now result.items) }
+            ensures { AllWorkOn plan.workers processes.entry.now others.items result.items
+                × (vec_len result ≡ vec_len others) }
         {
             let others = work_all(rt, shared, others, processes, plan, gate);
             have_stopped.store(true, Ordering::SeqCst);
             others
         },
-    );
-    (first, others, clerk)
+    )
 }
 
 /// Makes the rounds of all workers, and has the server answer at once, until they have stopped. Where no thread can be made,
@@ -325,37 +325,42 @@ fn work_together<'a, L: Ledger + Send + Sync, R: Threads + Wait + Sync, G: Gate 
 pub(crate) fn work_served<'a, L: Ledger + Send + Sync, R: Threads + Wait + Sync, G: Gate + Sync>(
     rt: &R,
     shared: &Shared<L>,
-    first: Worker<L>,
-    others: Vec<Worker<L>>,
-    clerk: Clerk<'a>,
-    service: Service<'a>,
+    crew: Crew<'a, L>,
     processes: &[Pid],
     plan: Plan,
     gate: &G,
-) -> (Worker<L>, Vec<Worker<L>>, Clerk<'a>, Service<'a>)
-    ensures first { result.0.number ≡ first.number }
-    ensures others { numbers result.1.items ≡ numbers others.items }
-    ensures count { vec_len result.1 ≡ vec_len others }
-    ensures leads { first.number ≡ 0 → KeepsTo plan.workers processes.now first → KeepsTo plan.workers processes.now result.0 }
-    ensures duties { AllKeepTo plan.workers processes.now others.items → AllKeepTo plan.workers processes.now result.1.items }
+) -> Crew<'a, L>
+    ensures lead { LeadsOn plan.workers processes.now crew.entry.lead.worker result.lead.worker }
+    ensures others { AllWorkOn plan.workers processes.now
+        crew.entry.others.items result.others.items }
+    ensures count { vec_len result.others ≡ vec_len crew.entry.others }
 {
+    let Crew {
+        lead,
+        others,
+        service,
+    } = crew;
     let stop = AtomicBool::new(false);
     let stop = &stop;
-    let (service, (first, others, clerk)) = thread::join(
+    let (service, (lead, others)) = thread::join(
         rt,
         move || -> Service
             requires { IsSync R.row }
         { service.serve(rt, stop) },
-        move || -> (Worker<L>, Vec<Worker<L>>, Clerk)
+        move || -> (Lead<L>, Vec<Worker<L>>)
             requires { IsSync R.row × IsSync G.row × IsSync L.row }
-            ensures { (result.0.number ≡ first.number) × (numbers result.1.items ≡ numbers others.items) × (vec_len result.1 ≡ vec_len others)
-                × (first.number ≡ 0 → KeepsTo plan.workers processes.entry.now first → KeepsTo plan.workers processes.entry.now result.0)
-                × (AllKeepTo plan.workers processes.entry.now others.items → AllKeepTo plan.workers processes.entry.now result.1.items) }
+            ensures { LeadsOn plan.workers processes.entry.now lead.entry.worker result.0.worker
+                × AllWorkOn plan.workers processes.entry.now others.items result.1.items
+                × (vec_len result.1 ≡ vec_len others) }
         {
-            let worked = work_together(rt, shared, first, others, clerk, processes, plan, gate);
+            let worked = work_together(rt, shared, lead, others, processes, plan, gate);
             stop.store(true, Ordering::SeqCst);
             worked
         },
     );
-    (first, others, clerk, service)
+    Crew {
+        lead,
+        others,
+        service,
+    }
 }

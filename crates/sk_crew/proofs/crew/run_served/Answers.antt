@@ -8,11 +8,11 @@ use Rattle.sk_crew.proofs.crew.run_served.Goals as goal
 pub returns-in-Ok-append-clause-duties : goal.returns-in-Ok-append-clause-duties
 returns-in-Ok-append-clause-duties g c = λ fresh.
     let n = c.args.plan.workers in
-    let served = c.work_served-first in
+    let served = c.work_served-lead in
     let keeps =
-    served_keep n c.deref.result.now c.args.workers.items c.split_off.new.self.items c.in-Ok.others.items c.pop.new.self.items served.result.1.items
-    c.in-Some.first served.result.0 c.in_ok-first.first fresh
+    served_keep n c.deref.result.now c.args.workers.items c.split_off.new.self.items c.in-Ok.others.items c.pop.new.self.items served.result.others.items
+    c.in-Some.worker served.result.lead.worker c.in_ok-first.first fresh
     c.in-Ok.ensures.items c.in-Ok.ensures.tail c.in-Some.ensures.items
-    served.ensures.first served.ensures.leads served.ensures.duties c.in_ok-first.ensures.number c.in_ok-first.ensures.replies in
+    served.ensures.lead.0 served.ensures.lead.1 served.ensures.others.1 c.in_ok-first.ensures.number c.in_ok-first.ensures.replies in
     subst (λ (ps : List _). AllKeepTo n ps c.append.new.self.items) c.deref.ensures.value
-    (subst (AllKeepTo n c.deref.result.now) (sym (c.in-Ok-append.ensures.items ∙ ap (λ (ws : List WorkerView). ws ++ served.result.1.items) c.push_reserved.ensures.items)) keeps)
+    (subst (AllKeepTo n c.deref.result.now) (sym (c.in-Ok-append.ensures.items ∙ ap (λ (ws : List WorkerView). ws ++ served.result.others.items) c.push_reserved.ensures.items)) keeps)

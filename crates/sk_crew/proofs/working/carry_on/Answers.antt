@@ -4,6 +4,6 @@ use Rattle.sk_crew.proofs.working.carry_on.Goals as goal
 
 pub loop-preserved : goal.loop-preserved
 loop-preserved g c = record {
-  number = c.carry-back.ensures.number ∙ c.loop.invariant.number;
-  replies = one_and_more c.args.worker c.loop.worker c.carry-back.result.1 c.loop.invariant.replies c.carry-back.ensures.replies;
+  number = c.carry-lead.ensures.number ∙ c.loop.invariant.number;
+  replies = one_and_more c.args.lead.worker c.loop.lead.worker c.carry-lead.result.worker c.loop.invariant.replies c.carry-lead.ensures.replies;
 }

@@ -4,6 +4,6 @@ use Rattle.sk_crew.proofs.working.carry_on.Given as goal
 
 abbrev pub invariant-loop : goal.invariant-loop
 invariant-loop g l = record {
-  number : l.worker.number ≡ l.fn.worker.number;
-  replies : OnlyReplies l.fn.worker l.worker;
+  number : l.lead.worker.number ≡ l.fn.lead.worker.number;
+  replies : OnlyReplies l.fn.lead.worker l.lead.worker;
 }

@@ -1,6 +1,6 @@
 use Rattle.std.proofs.Common.{◌∙◌}
 use Rattle.sk_crew.proofs.Duties.{one_and_more}
-use Rattle.sk_crew.proofs.settling.give_received.Goals as goal
+use Rattle.sk_crew.proofs.remaining.serve_received.Goals as goal
 
 pub loop-preserved : goal.loop-preserved
 loop-preserved g c = record {

@@ -1,7 +1,7 @@
 use Rattle.std.proofs.Common.{◌≡◌, flat_map}
 use Rattle.std.specs.Prelude.{take}
 use Rattle.sk_crew.specs.Processes.{process_of}
-use Rattle.sk_crew.proofs.ground.processes.Given as goal
+use Rattle.sk_crew.proofs.setup.processes.Given as goal
 
 abbrev pub invariant-loop-entity : goal.invariant-loop-entity
 invariant-loop-entity l = l.pids.items ≡ flat_map process_of (take l.entity-index l.entity-items)

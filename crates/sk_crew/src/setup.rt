@@ -5,7 +5,7 @@ ghost use Rattle.sk_kernel.specs.Kernel.{state_at};
 ghost use Rattle.sk_crew.specs.Duties.{processes_of};
 ghost use Rattle.sk_crew.specs.Processes.{process_of};
 
-use crate::ends::Line;
+use crate::ends::WireEnds;
 use sk_client::Desk;
 use sk_ids::{Entity, Pid};
 use sk_kernel::Kernel;
@@ -14,15 +14,16 @@ use std::alloc::{AllocError, Global};
 
 /// The processes of the boot, by rising number, and the wires to the server and back.
 #[derive(Drop)]
-pub(crate) struct Ground {
+pub(crate) struct Setup {
     pub(crate) processes: Vec<Pid>,
-    pub(crate) requests: Line<Request>,
-    pub(crate) replies: Line<Reply>,
+    pub(crate) requests: WireEnds<Request>,
+    pub(crate) replies: WireEnds<Reply>,
 }
 
 /// The processes of a kernel, by rising number.
 fn processes(alloc: Global, kernel: &Kernel) -> Result<Vec<Pid>, AllocError>
-    ensures { IfOk result (λ pids. pids.items ≡ flat_map process_of (map.keys (state_at kernel.now))) }
+    ensures { IfOk result (λ pids.
+        pids.items ≡ flat_map process_of (map.keys (state_at kernel.now))) }
 {
     let entities = kernel.entities()?;
     let mut pids = Vec::new(alloc);
@@ -34,15 +35,15 @@ fn processes(alloc: Global, kernel: &Kernel) -> Result<Vec<Pid>, AllocError>
     Ok(pids)
 }
 
-impl Ground {
-    pub(crate) fn new(alloc: Global, desk: &Desk) -> Result<Ground, AllocError>
-        ensures { IfOk result (λ ground. ground.processes.items ≡ processes_of desk.now) }
+impl Setup {
+    pub(crate) fn new(alloc: Global, desk: &Desk) -> Result<Setup, AllocError>
+        ensures { IfOk result (λ setup. setup.processes.items ≡ processes_of desk.now) }
     {
         let first = desk.first();
-        Ok(Ground {
+        Ok(Setup {
             processes: processes(alloc, desk.kernel())?,
-            requests: Line::new(alloc, first)?,
-            replies: Line::new(alloc, first)?,
+            requests: WireEnds::new(alloc, first)?,
+            replies: WireEnds::new(alloc, first)?,
         })
     }
 }

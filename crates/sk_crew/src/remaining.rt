@@ -2,7 +2,7 @@
 ghost use Rattle.std.specs.Prelude.{◌≡◌, IfOk, IfErr};
 ghost use Rattle.sk_crew.specs.Duties.{OnlyReplies};
 
-use crate::clerk::Clerk;
+use crate::carrier::{Carrier, Lead};
 use crate::crew::CrewFault;
 use crate::service::{Service, Unfinished};
 use sk_client::ReplyRefusal;
@@ -83,24 +83,24 @@ fn serve_kept<L: Ledger, R: Wait>(
     }
 }
 
-/// Gives the replies that the clerk holds, and those in its wire.
+/// Gives the replies that worker 0 carries, and those in its wire; a request that it carries comes back.
 fn give_received<L: Ledger, R: Wait>(
     rt: &R,
     shared: &Shared<L>,
-    worker: Worker<L>,
-    clerk: Clerk,
+    lead: Lead<'_, L>,
 ) -> Result<(Worker<L>, Option<Request>), CrewFault>
-    ensures number { IfOk result (λ back. back.0.number ≡ worker.number) }
-    ensures replies { IfOk result (λ back. OnlyReplies worker back.0) }
+    ensures number { IfOk result (λ back. back.0.number ≡ lead.entry.worker.number) }
+    ensures replies { IfOk result (λ back. OnlyReplies lead.entry.worker back.0) }
     ensures fault { IfErr result (λ fault. fault ≡ CrewFault.Memory) }
 {
-    let Clerk {
+    let Lead { worker, carrier } = lead;
+    let Carrier {
         requests: _,
         replies,
         request,
         reply,
         awaited: _,
-    } = clerk;
+    } = carrier;
     let mut worker = give_kept(rt, shared, worker, reply)?;
     let mut replies = replies;
     for _ in rt.forever() {
@@ -171,18 +171,17 @@ fn serve_unsent<L: Ledger, R: Wait>(
 }
 
 /// Serves by rising number what both kept, what the wires hold and what the desk holds, for worker 0.
-pub(crate) fn settle<L: Ledger, R: Wait>(
+pub(crate) fn serve_remaining<L: Ledger, R: Wait>(
     rt: &R,
     shared: &Shared<L>,
-    worker: Worker<L>,
-    clerk: Clerk,
+    lead: Lead<'_, L>,
     service: Service,
 ) -> Result<(Worker<L>, Server), CrewFault>
-    ensures number { IfOk result (λ back. back.0.number ≡ worker.number) }
-    ensures replies { IfOk result (λ back. OnlyReplies worker back.0) }
+    ensures number { IfOk result (λ back. back.0.number ≡ lead.entry.worker.number) }
+    ensures replies { IfOk result (λ back. OnlyReplies lead.entry.worker back.0) }
     ensures fault { IfErr result (λ fault. fault ≡ CrewFault.Memory) }
 {
-    let (worker, request) = give_received(rt, shared, worker, clerk)?;
+    let (worker, request) = give_received(rt, shared, lead)?;
     let (worker, mut server) = serve_received(rt, shared, worker, service)?;
     let worker = serve_unsent(rt, shared, worker, &mut server, request)?;
     Ok((worker, server))

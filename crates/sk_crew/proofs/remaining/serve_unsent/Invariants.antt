@@ -1,6 +1,6 @@
 use Rattle.std.proofs.Common.{◌≡◌}
 use Rattle.sk_crew.specs.Duties.{OnlyReplies}
-use Rattle.sk_crew.proofs.clerk.Clerk.carry.Given as goal
+use Rattle.sk_crew.proofs.remaining.serve_unsent.Given as goal
 
 abbrev pub invariant-loop : goal.invariant-loop
 invariant-loop g l = record {

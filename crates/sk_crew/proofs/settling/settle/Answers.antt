@@ -1,8 +1,0 @@
-use Rattle.sk_crew.proofs.Duties.{one_and_more}
-use Rattle.sk_crew.proofs.settling.settle.Goals as goal
-
-pub returns-clause-replies : goal.returns-clause-replies
-returns-clause-replies g c =
-    one_and_more c.args.worker c.in_ok-worker-2.worker c.in_ok-worker-3.worker
-    (one_and_more c.args.worker c.in_ok-worker.worker c.in_ok-worker-2.worker c.in_ok-worker.ensures.replies c.in_ok-worker-2.ensures.replies)
-    c.in_ok-worker-3.ensures.replies

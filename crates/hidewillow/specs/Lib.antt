@@ -49,6 +49,7 @@ pub use Rattle.sk_kernel.specs.Laws
 pub use Rattle.sk_counts.specs.Counts
 pub use Rattle.sk_holder.specs.Holder
 pub use Rattle.sk_server.specs.Server
+pub use Rattle.sk_server.specs.Lent
 pub use Rattle.sk_server.specs.Calls as ServerCalls
 pub use Rattle.sk_client.specs.Desk
 pub use Rattle.sk_client.specs.DeskCalls

@@ -6,10 +6,12 @@ use Rattle.sk_server.specs.declared.request.AskRef.TheVariants as lent
 use Rattle.sk_server.specs.declared.request.Request.{Request}
 use Rattle.sk_server.specs.declared.request.RequestRef.{RequestRef}
 
+-- what is asked, of a question that is lent
 abbrev pub ask_in : AskRef → Ask
 ask_in (lent.Get name) = Get name.now
 ask_in (lent.Check name version) = Check name.now version
 ask_in (lent.Store name version bytes) = Store name.now version bytes.now
 
+-- the request, of one that is lent
 abbrev pub request_in : RequestRef → Request
 request_in q = record { number = q.number; rests = q.rests.now; settled = q.settled; guess = q.guess; ask = ask_in q.ask }

@@ -6,7 +6,7 @@ use Rattle.std.specs.Ordering.{nat_cmp}
 use Rattle.std.specs.Cmp.{both_ways}
 use Rattle.std.specs.List.{filter, list_any}
 use Rattle.std.specs.List.Sorted.{IsStrictlySortedBy}
-use Rattle.std.proofs.lemmas.Bool.{true≢false, lt-ltb, le-ltb, ltb-false, or_cases}
+use Rattle.std.proofs.lemmas.Bool.{true≢false, lt-ltb, le-ltb, or_cases}
 use Rattle.std.proofs.lemmas.List.{length-append, append_assoc, append-nil, drop_more}
 use Rattle.std.proofs.lemmas.List.Kept.{IsStrictlySortedBy-filter}
 use Rattle.std.proofs.lemmas.List.Elements.{filter-append}
@@ -21,6 +21,7 @@ use Rattle.sk_record.proofs.Statuses.{one_status}
 use Rattle.sk_record.proofs.Machine.{has_filter}
 use Rattle.sk_record.proofs.Rising.{same_rising}
 use Rattle.sk_server.specs.declared.reply.Answer.{Answer}
+use Rattle.sk_server.specs.declared.reply.Reply.{Reply}
 use Rattle.sk_server.specs.declared.reply.Answer.TheVariants as answers
 use Rattle.sk_script.specs.declared.instruction.Input.{Input}
 use Rattle.sk_script.specs.declared.instruction.Input.TheVariants as inputs
@@ -40,7 +41,7 @@ use Rattle.sk_plain.specs.Planned.{IsReply}
 use Rattle.sk_plain.proofs.Adds.{NoneAdded, reply_adds}
 use Rattle.sk_plain.specs.declared.refusal.Refusal.{Refusal}
 use Rattle.sk_plain.specs.declared.refusal.Refusal.TheVariants.{TraceFull}
-use Rattle.sk_kernel.specs.Kernel.{KernelView, HasStatus, events_of, tags_at, undecided_at, room, state_at, effect_at, crowded, no_room, or_else, trace_full, step_misfit, step_refused, guess_refused, guess_misfits, too_many, next_guess}
+use Rattle.sk_kernel.specs.Kernel.{KernelView, HasStatus, events_of, tags_at, undecided_at, room, state_at, effect_at, crowded, no_room, or_else, trace_full, step_misfit, step_refused, guess_refused, guess_misfits, too_many, next_guess, with_event}
 use Rattle.sk_kernel.specs.Laws.{HasSoundTrace}
 use Rattle.sk_record.specs.Epoch.{StatusOr}
 use Rattle.sk_record.proofs.Epoch.{beyond}
@@ -48,10 +49,13 @@ use Rattle.sk_kernel.proofs.Undecided.{undecided_sorted}
 use Rattle.sk_client.specs.declared.pending.PendingRequest.{PendingRequest}
 use Rattle.sk_client.specs.declared.rule.Rule.TheVariants as rules
 use Rattle.sk_holder.specs.Tokens.{commits}
+use Rattle.sk_holder.specs.Holder.{HolderView, DecidesPost}
+use Rattle.sk_kernel.specs.declared.kernel.Outcome.{Outcome}
+use Rattle.sk_kernel.specs.declared.kernel.Outcome.TheVariants as outcomes
 use Rattle.sk_client.specs.Table.{buffer_of}
 use Rattle.sk_client.specs.declared.pending.Kept.{Kept}
 use Rattle.sk_client.specs.DeskInvariant.{guesses_of, IsTidy}
-use Rattle.sk_client.specs.Desk.{DeskView, pending, is_asked, asked_count, no_place, rule_refused, rests_of, is_lost, lost_by, guess_refused_at, no_number, kept_for, entry, input_of}
+use Rattle.sk_client.specs.Desk.{DeskView, pending, is_asked, asked_count, no_place, rule_refused, rests_of, is_lost, lost_by, guess_refused_at, no_number, kept_for, entry, input_of, decided, given_to, given}
 
 -- ---- asked requests
 
@@ -77,6 +81,15 @@ module _ (d : DeskView) (free : ℕ) (is : free ≡ room d.kernel - asked_count 
       let large : nat_lt (room d.kernel) 1 ≡ false = le-ltb (room d.kernel) 1 (omega (arith, is, least)) in
       let kernels : trace_full d.kernel 1 ≡ None = ap (λ b. cond b (Some TraceFull) None) large in
       ap (or_else (step_misfit d.kernel (entry pid input None))) (kernels ∙ sym (enough 1 least))
+
+  -- the same of a guess, with two places and a number
+  pub same_guess_refusal : (pid : ℕ) → 2 ≤ free → no_number d ≡ None → guess_refused_at d pid ≡ guess_refused d.kernel (entry pid inputs.Good (Some (next_guess d.kernel)))
+  same_guess_refusal pid least numbered =
+      let misfit = guess_misfits inputs.Good (effect_at d.kernel (entry pid inputs.Good (Some (next_guess d.kernel)))) in
+      let large : nat_lt (room d.kernel) 2 ≡ false = le-ltb (room d.kernel) 2 (omega (arith, is, least)) in
+      let kernels : trace_full d.kernel 2 ≡ None = ap (λ b. cond b (Some TraceFull) None) large in
+      let places : no_place d 2 ≡ None = enough 2 least in
+      (λ i. or_else misfit (or_else (too_many d.kernel) (or_else (numbered i) (places i)))) ∙ sym (λ i. or_else misfit (or_else (too_many d.kernel) (kernels i)))
 
 -- a step with a reply adds no name, so it needs no room
 pub reply_free : (k : KernelView) (pid : ℕ) (input : Input) → IsReply input → (r : Result (Effect Entity EntityState Saying) Refusal) → effect_at k (entry pid input None) ≡ r → no_room (state_at k) r ≡ None
@@ -220,7 +233,7 @@ pub no_more : (qs : List PendingRequest) → length qs ≤ 0 → qs ≡ []
 no_more [] h = refl
 no_more (q ∷ qs) h = absurd (omega (arith, h))
 
--- ---- a guess that the desk does not refuse, the kernel does not refuse
+-- ---- of two causes there is none
 
 pub none_first : (a b : Option Refusal) → or_else a b ≡ None → a ≡ None
 none_first None b h = refl
@@ -230,22 +243,19 @@ pub none_later : (a b : Option Refusal) → or_else a b ≡ None → b ≡ None
 none_later None b h = h
 none_later (Some x) b h = absurd cc
 
-none_cond : (b : Bool) → cond b (Some TraceFull) None ≡ None → b ≡ false
-none_cond true h = absurd cc
-none_cond false h = refl
+-- ---- a guess that is decided
 
-pub guess_free : (d : DeskView) (pid : ℕ) → guess_refused_at d pid ≡ None → guess_refused d.kernel (entry pid inputs.Good (Some (next_guess d.kernel))) ≡ None
-guess_free d pid h =
-    let misfit = guess_misfits inputs.Good (effect_at d.kernel (entry pid inputs.Good (Some (next_guess d.kernel)))) in
-    let one : misfit ≡ None = none_first misfit _ h in
-    let rest = none_later misfit (or_else (too_many d.kernel) (or_else (no_number d) (no_place d 2))) h in
-    let two : too_many d.kernel ≡ None = none_first (too_many d.kernel) _ rest in
-    let places : no_place d 2 ≡ None = none_later (no_number d) (no_place d 2) (none_later (too_many d.kernel) _ rest) in
-    let enough : nat_lt (room d.kernel - asked_count (pending d)) 2 ≡ false = none_cond _ places in
-    let least : 2 ≤ room d.kernel - asked_count (pending d) = ltb-false _ _ enough in
-    let large : nat_lt (room d.kernel) 2 ≡ false = le-ltb (room d.kernel) 2 (omega (arith, least)) in
-    let full : trace_full d.kernel 2 ≡ None = ap (λ b. cond b (Some TraceFull) None) large in
-    (λ i. or_else (one i) (or_else (two i) (full i)))
+-- where it is done the guess was undecided
+pub done_left : (o : Option Outcome) (e : Event) (g : ℕ) (old new : HolderView) → o ≡ Some outcomes.Done → DecidesPost o e g old new → (has g (undecided_at old.kernel) ≡ true) × (new.kernel ≡ with_event old.kernel e)
+done_left None e g old new is h = absurd cc
+done_left (Some outcomes.Done) e g old new is h = (h.2, ap (λ (x : HolderView). x.kernel) h.3)
+done_left (Some outcomes.Gone) e g old new is h = absurd cc
+
+pub decided_left : (d e : DeskView) (r : Reply) (q : PendingRequest) (qs : List PendingRequest) (g : ℕ) → d.taken ≡ q ∷ qs → q.guess ≡ Some g → has g (undecided_at d.kernel) ≡ true
+    → e ≡ decided (record d { taken = qs }) q g r.answer → e ≡ given d r d.taken
+decided_left d e r q qs g taken guess there is =
+    let rest : DeskView = record d { taken = qs } in
+    is ∙ sym (ap (given d r) taken ∙ ap (given_to rest q r.answer) guess ∙ ap (λ b. cond b (decided rest q g r.answer) rest) there)
 
 -- ---- kept answers
 

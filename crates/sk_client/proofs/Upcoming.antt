@@ -1,5 +1,5 @@
 -- What an event of a world appends was foreseen.
-use Rattle.std.proofs.Common.{◌≡◌, ℕ, Bool, true, false, cond, List, [], ◌∷◌, Option, Some, None, Result, Ok, Err, option_map, refl, sym, ap, subst, ◌∙◌}
+use Rattle.std.proofs.Common.{◌≡◌, ℕ, true, false, cond, List, [], ◌∷◌, Option, Some, None, Result, Ok, Err, option_map, refl, sym, ap, subst, ◌∙◌}
 use Rattle.sk_record.specs.Notes.{has}
 use Rattle.sk_script.specs.declared.instruction.Input.{Input}
 use Rattle.sk_script.specs.declared.instruction.Input.TheVariants as inputs
@@ -22,7 +22,7 @@ use Rattle.sk_client.specs.declared.world.WorldAnswer.{WorldAnswer}
 use Rattle.sk_client.specs.declared.world.WorldAnswer.TheVariants as answers
 use Rattle.sk_client.specs.declared.world.Cause.{Cause}
 use Rattle.sk_client.specs.declared.world.Cause.TheVariants as causes
-use Rattle.sk_client.specs.Desk.{DeskView, rule, turned, given, given_to, decided, decision, answered, stepped, entry, input_of, is_void}
+use Rattle.sk_client.specs.Desk.{DeskView, rule, turned, given, given_to, decided, answered, stepped, entry, input_of, is_void}
 use Rattle.sk_client.specs.DeskCalls.{ByRule}
 use Rattle.sk_client.specs.WorldView.{WorldView, EventPost, Turns, Serves, Replies, EditsFile, taken_by, taken_from}
 use Rattle.sk_client.specs.Upcoming.{upcoming, turn_step, reply_step, first_reply_step}

@@ -1,8 +1,8 @@
 -- What holds of a world's parts, behind each of its events.
-use Rattle.std.proofs.Common.{◌≡◌, ℕ, ◌+◌, ◌<◌, ◌≤◌, Bool, true, false, not, ◌&&◌, cond, List, [], ◌∷◌, ◌++◌, length, Option, Some, None, Result, Ok, Err, refl, sym, ◌∙◌, ap, subst, arith}
+use Rattle.std.proofs.Common.{◌≡◌, ℕ, ◌+◌, ◌-◌, ◌<◌, ◌≤◌, get_or, Bool, true, false, not, ◌&&◌, cond, List, [], ◌∷◌, ◌++◌, length, Option, Some, None, Result, Ok, Err, refl, sym, ◌∙◌, ap, subst, arith}
 use Rattle.std.specs.Prelude.{◌==◌, nat_lt, is_some}
-use Rattle.std.proofs.lemmas.Bool.{true≢false, eqb-true, ltb-false, ltb-true}
-use Rattle.std.proofs.lemmas.List.{length-append}
+use Rattle.std.proofs.lemmas.Bool.{true≢false, eqb-true, eq-eqb, ltb-false, ltb-true, le-leb}
+use Rattle.std.proofs.lemmas.List.{length-append, get_or_at}
 use Rattle.sk_record.specs.Notes.{has}
 use Rattle.sk_objects.specs.declared.content.TheConstants.{LAST_VERSION}
 use Rattle.sk_script.specs.declared.instruction.Input.{Input}
@@ -18,16 +18,18 @@ use Rattle.sk_server.specs.declared.reply.Answer.{Answer}
 use Rattle.sk_server.specs.declared.reply.Answer.TheVariants.{Yes, No, Dropped}
 use Rattle.sk_server.specs.declared.server.TheConstants.{LAST_REQUEST}
 use Rattle.sk_server.specs.Files.{FileMap, file_of, is_fitting}
-use Rattle.sk_server.specs.Server.{ServerView, is_dropped, remembered, judged, answer_to, answered}
+use Rattle.sk_server.specs.Server.{ServerView, is_in_turn, is_dropped, remembered, judged, answer_to, answered}
 use Rattle.sk_client.specs.declared.pending.PendingRequest.{PendingRequest}
 use Rattle.sk_client.specs.declared.rule.Rule.{Rule}
 use Rattle.sk_client.specs.declared.rule.Rule.TheVariants as rules
 use Rattle.sk_client.specs.declared.desk.Turn.{Turn}
-use Rattle.sk_client.specs.Desk.{DeskView, entry, sent, first_sent, first_taken, fits_ask, no_number, no_place, guess_refused_at, rule, turned, request_of, given, given_to, answered as stepped_for, decided, input_of, is_void}
+use Rattle.sk_client.specs.declared.desk.ReplyRefusal.TheVariants as refusals
+use Rattle.sk_client.specs.Desk.{DeskView, entry, sent, first_sent, first_taken, fits_ask, out_of_turn, reply_refused, no_number, no_place, guess_refused_at, rule, turned, request_of, given, given_to, answered as stepped_for, decided, input_of, is_void}
 use Rattle.sk_client.specs.DeskCalls.{ByRule, TurnPost}
-use Rattle.sk_client.specs.declared.world.WorldAnswer.{WorldAnswer}
 use Rattle.sk_client.specs.declared.world.Cause.{Cause}
-use Rattle.sk_client.specs.WorldView.{Numbered, AreReplies, IsNext, IsJoined, reply_to, AnswersWith}
+use Rattle.sk_client.specs.declared.world.WorldAnswer.TheVariants as answers
+use Rattle.sk_client.specs.declared.world.Cause.TheVariants as causes
+use Rattle.sk_client.specs.WorldView.{WorldView, Numbered, AreReplies, IsNext, IsJoined, reply_to, served, taken_from, taken_by, Serves, ServesNext}
 use Rattle.sk_client.proofs.DeskFacts.{none_first, none_later}
 
 -- ---- one request more
@@ -127,18 +129,9 @@ taken_joined s rs d e q qs w is j =
       last = last;
     })
 
-take_next : (s : ServerView) (rs : List Reply) (d e : DeskView) (r : Option Request) (qs : List PendingRequest) → d.waiting ≡ qs → r ≡ first_sent qs → e ≡ first_taken d qs
-    → IsJoined d s rs None → IsJoined e s rs r
-take_next s rs d e r [] w is there j = subst (λ (x : DeskView). IsJoined x s rs r) (sym there) (subst (λ (o : Option Request). IsJoined d s rs o) (sym is) j)
-take_next s rs d e r (q ∷ qs) w is there j = subst (λ (o : Option Request). IsJoined e s rs o) (sym is) (taken_joined s rs d e q qs w there j)
-
-none_is : (o : Option Request) → is_some o ≡ false → o ≡ None
+pub none_is : (o : Option Request) → is_some o ≡ false → o ≡ None
 none_is None h = refl
 none_is (Some q) h = absurd (true≢false h)
-
-pub take_joined : (s : ServerView) (rs : List Reply) (b : Option Request) (d e : DeskView) (r : Option Request) → is_some b ≡ false → r ≡ first_sent d.waiting → e ≡ first_taken d d.waiting
-    → IsJoined d s rs b → IsJoined e s rs r
-take_joined s rs b d e r none is there j = take_next s rs d e r d.waiting refl is there (subst (λ (o : Option Request). IsJoined d s rs o) (none_is b none) j)
 
 -- ---- the server's answer
 
@@ -192,11 +185,81 @@ answer_joined d s t rs all b more is j =
       last = j.last;
     }))
 
-pub answer_any : (d : DeskView) (s t : ServerView) (rs all : List Reply) (b : Request) (o : Option Request) (result : Result WorldAnswer Cause) → AnswersWith result o s rs b t all
-    → IsJoined d s rs (Some b) → IsJoined d t all o
-answer_any d s t rs all b o (Ok told) h j = subst (λ (x : Option Request). IsJoined d t all x) (sym h.1) (answer_joined d s t rs all b h.3 h.2 j)
-answer_any d s t rs all b o (Err why) h j =
-    subst (λ (x : Option Request). IsJoined d t all x) (sym h.1) (subst (λ (x : ServerView). IsJoined d x all (Some b)) (sym h.2) (subst (λ (x : List Reply). IsJoined d s x (Some b)) (sym h.3) j))
+-- refused, it is as it was
+pub back_joined : (d : DeskView) (s t : ServerView) (rs all : List Reply) (b : Option Request) → t ≡ s → all ≡ rs → IsJoined d s rs b → IsJoined d t all b
+back_joined d s t rs all b is more j =
+    subst (λ (x : ServerView). IsJoined d x all b) (sym is) (subst (λ (x : List Reply). IsJoined d s x b) (sym more) j)
+
+-- the request is in turn
+pub in_turn : (d : DeskView) (s : ServerView) (rs : List Reply) (b : Request) → IsJoined d s rs (Some b) → is_in_turn s b ≡ true
+in_turn d s rs b j =
+    let is = j.next.0 in
+    let least = j.next.1 in
+    (λ i. eq-eqb b.number s.next is i && le-leb b.number LAST_REQUEST (omega (arith, is, least)) i)
+
+-- ---- a request that is served
+
+-- without one
+pub idle_next : (w : WorldView) (ws : List PendingRequest) → first_sent ws ≡ None → w.back ≡ None → ServesNext (Err causes.Idle) (taken_from w ws) w (taken_from w ws).back
+idle_next w [] is none = subst (λ (b : Option Request). ServesNext (Err causes.Idle) w w b) (sym none) (refl, refl)
+idle_next w (p ∷ ps) is none = absurd cc
+
+abbrev pub served_from : WorldView → List PendingRequest → Request → WorldView
+served_from w ws q = record { desk = first_taken w.desk ws; server = answered w.server q (answer_to w.server q); replies = w.replies ++ reply_to w.server q ∷ []; back = None }
+
+-- the oldest that waits
+pub served_next : (w new : WorldView) (ws : List PendingRequest) (q : Request) → first_sent ws ≡ Some q → new ≡ served_from w ws q → ServesNext (Ok tt) (taken_from w ws) new (taken_from w ws).back
+served_next w new [] q is h = absurd cc
+served_next w new (p ∷ ps) q is h = (let same : q ≡ sent p = cc in h ∙ ap (served_from w (p ∷ ps)) same)
+
+-- refused, it is handed back
+pub kept_next : (w new : WorldView) (ws : List PendingRequest) (q : Request) (why : Cause) → first_sent ws ≡ Some q → why ≡ causes.Memory → new ≡ taken_from w ws
+    → ServesNext (Err why) (taken_from w ws) new (taken_from w ws).back
+kept_next w new [] q why is h here = absurd cc
+kept_next w new (p ∷ ps) q why is h here = (h, here)
+
+-- the one that was handed back
+pub back_served : (w new : WorldView) (q : Request) → w.back ≡ Some q → new ≡ served w q → ServesNext (Ok tt) w new w.back
+back_served w new q is h = subst (λ (b : Option Request). ServesNext (Ok tt) w new b) (sym is) h
+
+-- one that was handed back comes first
+pub taken_back : (w : WorldView) (b : Option Request) → is_some b ≡ true → taken_by w b ≡ w
+taken_back w None h = absurd (true≢false (sym h))
+taken_back w (Some q) h = refl
+
+pub taken_next : (w : WorldView) (b : Option Request) → is_some b ≡ false → taken_by w b ≡ taken_from w w.desk.waiting
+taken_next w None h = refl
+taken_next w (Some q) h = absurd (true≢false h)
+
+-- the desk once the oldest of those that wait was handed out
+pub next_joined : (s : ServerView) (rs : List Reply) (b : Option Request) (d : DeskView) (ws : List PendingRequest) (q : Request) → is_some b ≡ false → d.waiting ≡ ws → first_sent ws ≡ Some q
+    → IsJoined d s rs b → IsJoined (first_taken d ws) s rs (Some q)
+next_joined s rs b d [] q none w is j = absurd cc
+next_joined s rs b d (p ∷ ps) q none w is j =
+    let same : sent p ≡ q = cc in
+    subst (λ (x : Request). IsJoined (first_taken d (p ∷ ps)) s rs (Some x)) same
+    (taken_joined s rs d (first_taken d (p ∷ ps)) p ps w refl (subst (λ (o : Option Request). IsJoined d s rs o) (none_is b none) j))
+
+-- ---- what was served is the newest reply
+
+pub newest_is : (all older : List Reply) (reply r : Reply) → all ≡ older ++ reply ∷ [] → r ≡ get_or all (length all - 1) r → reply ≡ r
+newest_is all older reply r h is =
+    let more : length (older ++ reply ∷ []) ≡ length older + 1 = length-append older (reply ∷ []) in
+    sym (is ∙ ap (λ (rs : List Reply). get_or rs (length rs - 1) r) h ∙ get_or_at older reply [] r (length (older ++ reply ∷ []) - 1) (omega (arith, more)))
+
+pub some_newest : (all older : List Reply) (reply : Reply) → all ≡ older ++ reply ∷ [] → 0 < length all
+some_newest all older reply h =
+    let more : length (older ++ reply ∷ []) ≡ length older + 1 = length-append older (reply ∷ []) in
+    let same : length all ≡ length (older ++ reply ∷ []) = ap length h in
+    omega (arith, more, same)
+
+pub served_told : (t new : WorldView) (b : Option Request) → ServesNext (Ok tt) t new b → (reply : Reply) × (older : List Reply) × (new.replies ≡ older ++ reply ∷ []) × Serves (Ok (answers.Served reply)) t new b
+served_told t new None h = absurd cc
+served_told t new (Some q) h = (reply_to t.server q, t.replies, ap (λ (w : WorldView). w.replies) h, (refl, h))
+
+pub refused_told : (t new : WorldView) (b : Option Request) (why : Cause) → ServesNext (Err why) t new b → Serves (Err why) t new b
+refused_told t new None why h = (let same : why ≡ causes.Idle = cc in ap (λ (x : Cause). Err x) same, h.1)
+refused_told t new (Some q) why h = h
 
 -- ---- a reply
 
@@ -232,6 +295,11 @@ oldest_of d r rs b (q ∷ qs) e h = record { request = q; later = qs; taken = e;
 
 pub oldest : (d : DeskView) (s : ServerView) (r : Reply) (rs : List Reply) (b : Option Request) → IsJoined d s (r ∷ rs) b → Oldest d r rs b
 oldest d s r rs b j = oldest_of d r rs b d.taken refl j.replies
+
+pub fits_reply : (d : DeskView) (r : Reply) (rs : List Reply) (b : Option Request) → Oldest d r rs b → reply_refused d r d.taken ≡ None
+fits_reply d r rs b o =
+    ap (reply_refused d r) o.taken
+    ∙ (λ i. cond (not (eq-eqb o.request.number r.number o.number i)) (Some (out_of_turn d)) (cond (o.fits i) None (Some refusals.WrongKind)))
 
 pub given_joined : (d e : DeskView) (s : ServerView) (r : Reply) (rs : List Reply) (b : Option Request) → e ≡ given d r d.taken → IsJoined d s (r ∷ rs) b → IsJoined e s rs b
 given_joined d e s r rs b is j =

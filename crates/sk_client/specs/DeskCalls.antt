@@ -41,6 +41,11 @@ abbrev pub ReplyPost : Result Given (Reply × ReplyRefusal) → DeskView → Rep
 ReplyPost (Ok told) old r new = (reply_refused old r old.taken ≡ None) × (told ≡ given_answer old r old.taken) × (new ≡ given old r old.taken)
 ReplyPost (Err back) old r new = (back.0 ≡ r) × HandsBack back.1 old r × (new ≡ old)
 
+-- what comes back of a reply that was lent
+abbrev pub handed_back : Reply → Result Given ReplyRefusal → Result Given (Reply × ReplyRefusal)
+handed_back r (Ok told) = Ok told
+handed_back r (Err why) = Err (r, why)
+
 -- a desk ends where no request is pending: its trace, and what its terminals have released; else it comes back
 abbrev pub ShutPost : Result (TraceView × TerminalMap) (DeskView × Pending) → DeskView → Type 0
 ShutPost (Ok left) d = (pending d ≡ []) × (left.0.events ≡ d.kernel.trace) × ((t : ℕ) → LeavesTexts d.kernel t (released_at left.1 t))

@@ -1,6 +1,8 @@
 pub mod Table
 pub mod Desk
 pub mod DeskCalls
+pub mod Boxed
+pub mod Wish
 pub mod DeskInvariant
 pub mod WorldView
 pub mod Exchanges

@@ -14,6 +14,8 @@ use Rattle.sk_client.specs.declared.world.WorldEvent.{WorldEvent}
 use Rattle.sk_client.specs.declared.world.WorldEvent.TheVariants as events
 use Rattle.sk_client.specs.declared.world.WorldAnswer.{WorldAnswer}
 use Rattle.sk_client.specs.declared.world.WorldAnswer.TheVariants as answers
+use Rattle.sk_client.specs.declared.world.WorldNews.{WorldNews}
+use Rattle.sk_client.specs.declared.world.WorldNews.TheVariants as news
 use Rattle.sk_client.specs.declared.world.Cause.{Cause}
 use Rattle.sk_client.specs.declared.world.WorldStop.{WorldStop}
 use Rattle.sk_client.specs.declared.world.Cause.TheVariants as causes
@@ -53,17 +55,27 @@ reply_to s q = record { number = q.number; answer = answer_to s q }
 abbrev pub served : WorldView → Request → WorldView
 served w q = record w { server = answered w.server q (answer_to w.server q); replies = w.replies ++ reply_to w.server q ∷ []; back = None }
 
+-- what came of an event, from what its call answered
+abbrev pub told_as : {A : Type 0} → (A → WorldAnswer) → Result A Cause → Result WorldAnswer Cause
+told_as answer (Ok told) = Ok (answer told)
+told_as answer (Err why) = Err why
+
 -- the server answers the request that comes first; without one nothing changes, and without memory it is kept
 abbrev pub Serves : Result WorldAnswer Cause → WorldView → WorldView → Option Request → Type 0
 Serves result w new None = (result ≡ Err causes.Idle) × (new ≡ w)
 Serves (Ok told) w new (Some q) = (told ≡ answers.Served (reply_to w.server q)) × (new ≡ served w q)
 Serves (Err why) w new (Some q) = (why ≡ causes.Memory) × (new ≡ w)
 
--- the same for server and replies alone, with what is handed back
-abbrev pub AnswersWith : Result WorldAnswer Cause → Option Request → ServerView → List Reply → Request → ServerView → List Reply → Type 0
-AnswersWith (Ok told) back s rs q t all =
-    (told ≡ answers.Served (reply_to s q)) × (back ≡ None) × (t ≡ answered s q (answer_to s q)) × (all ≡ rs ++ reply_to s q ∷ [])
-AnswersWith (Err why) back s rs q t all = (why ≡ causes.Memory) × (back ≡ Some q) × (t ≡ s) × (all ≡ rs)
+-- the same, where the reply is behind the others
+abbrev pub ServesNext : Result (Unit {0}) Cause → WorldView → WorldView → Option Request → Type 0
+ServesNext result w new None = (result ≡ Err causes.Idle) × (new ≡ w)
+ServesNext (Ok done) w new (Some q) = new ≡ served w q
+ServesNext (Err why) w new (Some q) = (why ≡ causes.Memory) × (new ≡ w)
+
+-- the same for server and replies alone
+abbrev pub AnswersWith : Result (Unit {0}) Cause → ServerView → List Reply → Request → ServerView → List Reply → Type 0
+AnswersWith (Ok done) s rs q t all = (t ≡ answered s q (answer_to s q)) × (all ≡ rs ++ reply_to s q ∷ [])
+AnswersWith (Err why) s rs q t all = (why ≡ causes.Memory) × (t ≡ s) × (all ≡ rs)
 
 -- the desk gets the oldest reply
 abbrev pub Replies : Result WorldAnswer Cause → WorldView → WorldView → List Reply → Type 0
@@ -90,6 +102,14 @@ EventPost result w (events.Turn pid) new = Turns result w pid new
 EventPost result w events.Serve new = let t = taken_by w w.back in Serves result t new t.back
 EventPost result w events.Reply new = Replies result w new w.replies
 EventPost result w (events.Edit name expected bytes) new = EditsFile result w name expected bytes new
+
+-- the same in a few words: what was served is the newest of the replies
+abbrev pub NewsPost : Result WorldNews Cause → WorldView → WorldEvent → WorldView → Type 0
+NewsPost (Ok (news.Turn turn)) w e new = EventPost (Ok (answers.Turn turn)) w e new
+NewsPost (Ok news.Served) w e new = (reply : Reply) × (older : List Reply) × (new.replies ≡ older ++ reply ∷ []) × EventPost (Ok (answers.Served reply)) w e new
+NewsPost (Ok (news.Given given)) w e new = EventPost (Ok (answers.Given given)) w e new
+NewsPost (Ok (news.Edited version)) w e new = EventPost (Ok (answers.Edited version)) w e new
+NewsPost (Err why) w e new = EventPost (Err why) w e new
 
 -- events in order, numbered from here, up to the first that is refused
 abbrev pub RunsTo : Result (Unit {0}) WorldStop → WorldView → List WorldEvent → ℕ → WorldView → Type 0

@@ -1,16 +1,21 @@
 //! The desk.
-ghost use Rattle.std.specs.Prelude.{◌≡◌, ◌+◌, ◌-◌, ◌<◌, ◌≤◌, [], nat_lt, length, OnOk, IfOk, IfSome, Some, None, vec_capacity};
+ghost use Rattle.std.specs.Prelude.{◌≡◌, ℕ, List, ◌+◌, ◌-◌, ◌<◌, ◌≤◌, [], nat_lt, length, is_some, option_map, OnOk, IfOk, IfSome, Some, None, vec_capacity};
+ghost use Rattle.std.specs.Option.{option_copied};
 ghost use Rattle.std.specs.VecDeque.{deque_capacity};
 ghost use Rattle.sk_plain.specs.Refusal.{cause};
 ghost use Rattle.sk_kernel.specs.Kernel.{undecided_at, room};
 ghost use Rattle.sk_server.specs.declared.server.TheConstants.{LAST_REQUEST};
+ghost use Rattle.sk_holder.specs.Holder.{DecidesPost};
 ghost use Rattle.sk_trace.specs.Kept.{input_in};
-ghost use Rattle.sk_client.specs.Desk.{opened, pending, requests_taken, asks_for, asks_on, asked_count, kept_for, forgotten, kept_after, answer_kept, cached, buffer, rule, rule_next, guess_refused_at, rests_of, request_of, first_sent, first_taken, first_guess, expected, fits_ask, reply_refused, is_lost, lost_by, is_void, given, given_answer, decision_answer, input_of};
+ghost use Rattle.sk_client.specs.Boxed.{ask_of};
+ghost use Rattle.sk_client.specs.Wish.{wanted, brought, wished, wished_at};
+ghost use Rattle.sk_client.specs.declared.rule.Rule.TheVariants as rules;
+ghost use Rattle.sk_client.specs.Desk.{opened, pending, requests_taken, asks_for, asks_on, asked_count, kept_for, forgotten, kept_after, answer_kept, cached, buffer, rule, rule_next, unless_kept, guess_refused_at, rests_of, request_of, sent, first_sent, first_taken, first_guess, expected, fits_ask, reply_refused, is_lost, lost_by, is_void, given, given_answer, decision, decision_answer, input_of};
 ghost use Rattle.sk_client.specs.Upcoming.{turn_step, reply_step};
-ghost use Rattle.sk_client.specs.DeskCalls.{TurnPost, RulePost, ReplyPost, ShutPost, DeskEpochPost};
+ghost use Rattle.sk_client.specs.DeskCalls.{TurnPost, RulePost, ReplyPost, handed_back, ShutPost, DeskEpochPost};
 
-use crate::pending::{Kept, PendingRequest, Waiting, name_of};
-use crate::rule::{Rule, fetch_rule, store_rule, unless_kept};
+use crate::pending::{BoxedAsk, BoxedRequest, Kept, Waiting};
+use crate::rule::{Wanted, Wish, fetch_wish, store_wish};
 use sk_guesses::Status;
 use sk_holder::Holder;
 use sk_ids::{Entity, GuessId, Name, Pid, TagSet, Text};
@@ -19,7 +24,7 @@ use sk_objects::Value;
 use sk_objects::content::LAST_VERSION;
 use sk_plain::{InputRef, Next, Refusal, Trace, View};
 use sk_script::Input;
-use sk_server::{Answer, Ask, LAST_REQUEST, Reply, Request};
+use sk_server::{Answer, LAST_REQUEST, Reply, Request};
 use sk_terminal::Texts;
 use std::alloc::{AllocError, Global};
 use std::collections::VecDeque;
@@ -71,7 +76,8 @@ pub struct Pending(pub usize);
 /// taken back. It can't be dropped: `shut` or `abandon` it.
 pub struct Desk {
     pub(crate) holder: Holder,
-    taken: VecDeque<PendingRequest>,
+    alloc: Global,
+    taken: VecDeque<BoxedRequest>,
     waiting: VecDeque<Waiting>,
     first: u64,
     next: u64,
@@ -95,7 +101,7 @@ impl Model for Desk {
 
 /// Makes room for one more request, here and where it is taken, and for its answer.
 fn make_room(
-    taken: &mut VecDeque<PendingRequest>,
+    taken: &mut VecDeque<BoxedRequest>,
     waiting: &mut VecDeque<Waiting>,
     kept: &mut Vec<Kept>,
 ) -> Result<(), AllocError>
@@ -113,7 +119,7 @@ fn make_room(
 }
 
 /// Whether one of the taken requests was asked for a process.
-fn taken_for(requests: &VecDeque<PendingRequest>, pid: Pid) -> bool
+fn taken_for(requests: &VecDeque<BoxedRequest>, pid: Pid) -> bool
     ensures { result ≡ asks_for pid requests.now.items }
 {
     requests.iter().any(|request| request.asks_for(pid))
@@ -129,7 +135,7 @@ fn waiting_for(requests: &VecDeque<Waiting>, pid: Pid) -> bool
 }
 
 /// Whether one of the taken requests was asked on a name.
-fn taken_on(requests: &VecDeque<PendingRequest>, name: &Name) -> bool
+fn taken_on(requests: &VecDeque<BoxedRequest>, name: &Name) -> bool
     ensures { result ≡ asks_on name.now requests.now.items }
 {
     requests.iter().any(|request| request.asks_on(name))
@@ -145,7 +151,7 @@ fn waiting_on(requests: &VecDeque<Waiting>, name: &Name) -> bool
 }
 
 /// How many of the taken requests were asked.
-fn asked_taken(requests: &VecDeque<PendingRequest>) -> usize
+fn asked_taken(requests: &VecDeque<BoxedRequest>) -> usize
     ensures count { result ≡ asked_count requests.now.items }
     ensures limit { result ≤ length requests.now.items }
 {
@@ -164,15 +170,35 @@ fn asked_waiting(requests: &VecDeque<Waiting>) -> usize
 }
 
 /// The answer that is kept for a process.
-fn kept_for(kept: &[Kept], pid: Pid) -> Option<Input>
-    ensures { result ≡ kept_for pid kept.now }
+fn kept_for(kept: &[Kept], pid: Pid) -> Option<&Input>
+    ensures { option_copied result ≡ kept_for pid kept.now }
 {
     for one in kept {
         if one.process == pid {
-            return Some(one.input);
+            return Some(&one.input);
         }
     }
     None
+}
+
+/// The input of a step of a process, which brings its kept answer or none.
+fn brought(kept: &[Kept], pid: Pid, takes_kept: bool) -> InputRef<'_>
+    ensures { input_in result ≡ brought takes_kept (kept_for pid kept.now) }
+{
+    match kept_for(kept, pid) {
+        Some(input) if takes_kept => InputRef::of(input),
+        _ => InputRef::None,
+    }
+}
+
+/// A step with the kept answer, or this wish where there is none.
+fn unless_kept(kept: Option<&Input>, wish: Wish) -> Wish
+    ensures { (bytes : List ℕ) → wished (option_copied kept.entry) bytes result ≡ unless_kept (option_copied kept.entry) (wished (option_copied kept.entry) bytes wish) }
+{
+    match kept {
+        Some(_) => Wish::TakesKept,
+        None => wish,
+    }
 }
 
 /// Whether a guess failed or was struck; true of one that an earlier epoch made, on which nothing rests.
@@ -194,44 +220,66 @@ fn lost_by(status: Option<Status>) -> bool
 }
 
 /// Whether a request rests on a guess that failed or was struck.
-fn is_void(kernel: &Kernel, request: &PendingRequest) -> bool
+fn is_void(kernel: &Kernel, request: &BoxedRequest) -> bool
     ensures { result ≡ is_void kernel.now request.now }
 {
     request.rests.ids().iter().any(|id| is_lost(kernel, *id))
 }
 
 /// Whether a reply is of a kind that fits what was asked.
-fn fits_ask(ask: &Ask, answer: &Answer) -> bool
-    ensures { result ≡ fits_ask ask.now answer.now }
+fn fits_ask(ask: &BoxedAsk, answer: &Answer) -> bool
+    ensures { result ≡ fits_ask (ask_of ask.now) answer.now }
 {
     match (ask, answer) {
-        (Ask::Get(_), Answer::Copy(_) | Answer::Dropped) => true,
-        (Ask::Get(_), _) | (_, Answer::Copy(_)) => false,
-        (Ask::Store(_, version, _), Answer::Yes) => *version != LAST_VERSION,
+        (BoxedAsk::Get(_), Answer::Copy(_) | Answer::Dropped) => true,
+        (BoxedAsk::Get(_), _) | (_, Answer::Copy(_)) => false,
+        (BoxedAsk::Store(_, version, _), Answer::Yes) => *version != LAST_VERSION,
         _ => true,
     }
 }
 
 /// What the step of an asked request is given.
-fn input_of(answer: &Answer) -> Option<Input>
-    ensures { result ≡ input_of answer.now }
+fn input_of(answer: &Answer) -> Option<InputRef<'_>>
+    ensures { option_map input_in result ≡ input_of answer.now }
 {
     match answer {
-        Answer::Yes => Some(Input::Good),
-        Answer::No(content) => Some(Input::Stale(*content)),
-        Answer::Copy(content) => Some(Input::Fresh(*content)),
+        Answer::Yes => Some(InputRef::Good),
+        Answer::No(content) => Some(InputRef::Stale(content)),
+        Answer::Copy(content) => Some(InputRef::Fresh(content)),
         Answer::Dropped => None,
     }
 }
 
 /// What the process gets of a refused guess.
-fn answer_kept(ask: &Ask, answer: &Answer) -> Option<Input>
-    ensures { result ≡ answer_kept ask.now answer.now }
+fn answer_kept<'a>(request: &BoxedRequest, answer: &'a Answer) -> Option<InputRef<'a>>
+    ensures { option_map input_in result ≡ answer_kept request.now.ask answer.now }
 {
-    match (ask, answer) {
-        (Ask::Store(..), Answer::No(content)) => Some(Input::Stale(*content)),
-        (_, Answer::No(content)) => Some(Input::Fresh(*content)),
+    match (&request.ask, answer) {
+        (BoxedAsk::Store(..), Answer::No(content)) => Some(InputRef::Stale(content)),
+        (_, Answer::No(content)) => Some(InputRef::Fresh(content)),
         _ => None,
+    }
+}
+
+/// The input that is lent.
+fn owned(input: InputRef<'_>) -> Input
+    ensures { result ≡ input_in input.entry }
+{
+    match input {
+        InputRef::None => Input::None,
+        InputRef::Good => Input::Good,
+        InputRef::Fresh(content) => Input::Fresh(*content),
+        InputRef::Stale(content) => Input::Stale(*content),
+    }
+}
+
+/// Decides a guess by this answer.
+fn decide_guess(holder: &mut Holder, id: GuessId, answer: &Answer) -> Option<Outcome>
+    ensures { DecidesPost result (decision id answer.now) id holder.old holder.new }
+{
+    match answer {
+        Answer::Yes => holder.commit(id),
+        _ => holder.fail(id),
     }
 }
 
@@ -245,9 +293,9 @@ fn forget(kept: &mut Vec<Kept>, pid: Pid)
 }
 
 /// Keeps an answer for a process, for which there is room.
-fn keep(kept: &mut Vec<Kept>, pid: Pid, answer: Option<Input>)
+fn keep(kept: &mut Vec<Kept>, pid: Pid, answer: Option<InputRef<'_>>)
     requires { length kept.old.items < vec_capacity kept.old }
-    ensures items { kept.new.items ≡ kept_after pid answer kept.old.items }
+    ensures items { kept.new.items ≡ kept_after pid (option_map input_in answer.entry) kept.old.items }
     ensures fewer { length kept.new.items ≤ length kept.old.items + 1 }
     ensures room { vec_capacity kept.new ≡ vec_capacity kept.old }
 {
@@ -255,7 +303,7 @@ fn keep(kept: &mut Vec<Kept>, pid: Pid, answer: Option<Input>)
         forget(kept, pid);
         kept.push_reserved(Kept {
             process: pid,
-            input,
+            input: owned(input),
         });
     }
 }
@@ -268,6 +316,7 @@ impl Desk {
     {
         Desk {
             holder: Holder::new(alloc, kernel),
+            alloc,
             taken: VecDeque::new(alloc),
             waiting: VecDeque::new(alloc),
             first: FIRST_REQUEST,
@@ -348,48 +397,49 @@ impl Desk {
         }
     }
 
-    /// The rule that a turn takes for what the process does next.
-    fn rule_next(&self, pid: Pid, next: Next) -> Result<Rule, Refusal>
-        ensures { result ≡ rule_next self.now pid next }
+    /// The wish of a turn for what the process does next.
+    fn wish_next(&self, pid: Pid, next: Next) -> Result<Wish, Refusal>
+        ensures { wished_at self.now pid result ≡ rule_next self.now pid next }
     {
-        let rule = match next {
-            Next::Signal => return Ok(Rule::Steps(Input::None)),
+        let wish = match next {
+            Next::Signal => return Ok(Wish::Steps),
             Next::Fetch(name) => {
                 if self.asks_on(&name) {
                     return Err(Refusal::Blocked);
                 }
-                fetch_rule(name, self.cached(&name))
+                fetch_wish(name, self.cached(&name))
             }
             Next::Store(name) => {
                 if self.asks_on(&name) {
                     return Err(Refusal::Blocked);
                 }
-                store_rule(name, self.buffer(pid), self.cached(&name))
+                store_wish(name, self.cached(&name))
             }
-            Next::Private | Next::Waits | Next::Full | Next::Other => Rule::Steps(Input::None),
+            Next::Private | Next::Waits | Next::Full | Next::Other => Wish::Steps,
         };
-        Ok(unless_kept(kept_for(&self.kept, pid), rule))
+        Ok(unless_kept(kept_for(&self.kept, pid), wish))
     }
 
-    /// The first rule that applies to a turn of a process.
-    fn rule(&self, pid: Pid) -> Result<Rule, Refusal>
-        ensures { result ≡ rule self.now pid }
+    /// The wish of a turn of a process, by the first rule that applies.
+    fn wish(&self, pid: Pid) -> Result<Wish, Refusal>
+        ensures { wished_at self.now pid result ≡ rule self.now pid }
     {
         let next = self.kernel().next_of(pid)?;
         if self.asks_for(pid) {
             return Err(Refusal::Blocked);
         }
-        self.rule_next(pid, next)
+        self.wish_next(pid, next)
     }
 
     /// The process and the input of the step that a turn would take, where its rule takes one. This takes no memory.
     pub fn turn_step(&self, pid: Pid) -> Option<(Pid, Input)>
         ensures { result ≡ turn_step pid (rule self.now pid) }
     {
-        match self.rule(pid) {
-            Ok(Rule::Steps(input)) => Some((pid, input)),
-            Ok(Rule::Guesses(_)) => Some((pid, Input::Good)),
-            Ok(Rule::Asks(_)) | Err(_) => None,
+        match self.wish(pid) {
+            Ok(Wish::Steps) => Some((pid, owned(brought(&self.kept, pid, false)))),
+            Ok(Wish::TakesKept) => Some((pid, owned(brought(&self.kept, pid, true)))),
+            Ok(Wish::Guesses(_)) => Some((pid, Input::Good)),
+            Ok(Wish::Asks(_)) | Err(_) => None,
         }
     }
 
@@ -400,7 +450,7 @@ impl Desk {
     {
         let process = self.taken.front()?.process;
         let input = input_of(&reply.answer)?;
-        Some((process, input))
+        Some((process, owned(input)))
     }
 
     /// Takes a turn of a process. Refusals: those of the kernel's step, with one place of the trace kept for
@@ -409,21 +459,24 @@ impl Desk {
     pub fn turn(&mut self, pid: Pid) -> Result<Turn, Refusal>
         ensures { TurnPost result self.old pid self.new }
     {
-        match self.rule(pid)? {
-            Rule::Steps(input) => self.take_step(pid, InputRef::of(&input)),
-            Rule::Guesses(ask) => self.guess(pid, ask),
-            Rule::Asks(ask) => self.ask(pid, ask),
+        match self.wish(pid)? {
+            Wish::Steps => self.take_step(pid, false),
+            Wish::TakesKept => self.take_step(pid, true),
+            Wish::Guesses(want) => self.guess(pid, &want),
+            Wish::Asks(want) => self.ask(pid, &want),
         }
     }
 
     /// A step, which takes or forgets the kept answer of its process.
-    fn take_step(&mut self, pid: Pid, input: InputRef<'_>) -> Result<Turn, Refusal>
-        ensures { RulePost result self.old pid (Rule.Steps (input_in input.entry)) self.new }
+    fn take_step(&mut self, pid: Pid, takes_kept: bool) -> Result<Turn, Refusal>
+        ensures { RulePost result self.old pid (rules.Steps (brought takes_kept (kept_for pid self.old.kept))) self.new }
     {
         if self.free_places() < 1 {
-            let why = self.kernel().step_refusal(pid, input);
+            let kernel = self.holder.kernel();
+            let why = kernel.step_refusal(pid, brought(&self.kept, pid, takes_kept));
             return Err(why.unwrap_or(Refusal::TraceFull));
         }
+        let input = brought(&self.kept, pid, takes_kept);
         if let Err(why) = self.holder.step(pid, input) {
             return Err(why);
         }
@@ -442,13 +495,28 @@ impl Desk {
         process.union(copy)
     }
 
-    /// The next request, as it is made without a guess.
-    fn draft(&self, pid: Pid, ask: Ask) -> Result<Waiting, AllocError>
-        ensures { IfOk result (λ waiting. waiting ≡ request_of self.now pid ask None) }
+    /// What is asked, with the bytes of a store.
+    fn asking(&self, pid: Pid, want: &Wanted) -> Result<BoxedAsk, AllocError>
+        ensures { IfOk result (λ ask. ask_of ask ≡ wanted (buffer self.now.kernel pid) want.now) }
     {
-        let rests = self.rests(pid, &name_of(&ask))?;
+        match want {
+            Wanted::Get(name) => Ok(BoxedAsk::Get(*name)),
+            Wanted::Check(name, version) => Ok(BoxedAsk::Check(*name, *version)),
+            Wanted::Store(name, version) => {
+                let bytes = Box::new(self.alloc, self.buffer(pid))?;
+                Ok(BoxedAsk::Store(*name, *version, bytes))
+            }
+        }
+    }
+
+    /// The next request, as it is made without a guess.
+    fn draft(&self, pid: Pid, want: &Wanted) -> Result<Waiting, AllocError>
+        ensures { IfOk result (λ waiting. waiting ≡ request_of self.now pid (wanted (buffer self.now.kernel pid) want.now) None) }
+    {
+        let ask = self.asking(pid, want)?;
+        let rests = self.rests(pid, ask.name())?;
         let again = rests.copy()?;
-        let request = PendingRequest {
+        let request = BoxedRequest {
             number: self.next,
             process: pid,
             ask,
@@ -483,18 +551,28 @@ impl Desk {
         None
     }
 
-    /// A step with a guess that the cached copy is good, and a request that asks whether it is.
-    fn guess(&mut self, pid: Pid, ask: Ask) -> Result<Turn, Refusal>
-        ensures { RulePost result self.old pid (Rule.Guesses ask) self.new }
+    /// The first cause against a guess with `Good`, which is want of memory where there is no other.
+    fn why_no_guess(&self, pid: Pid) -> Refusal
+        ensures { guess_refused_at self.now pid ≡ cause result }
     {
-        if let Some(why) = self.guess_refusal(pid) {
-            return Err(why);
+        self.guess_refusal(pid).unwrap_or(Refusal::Memory)
+    }
+
+    /// A step with a guess that the cached copy is good, and a request that asks whether it is.
+    fn guess(&mut self, pid: Pid, want: &Wanted) -> Result<Turn, Refusal>
+        ensures { RulePost result self.old pid (rules.Guesses (wanted (buffer self.old.kernel pid) want.now)) self.new }
+    {
+        if self.is_numbered_out() {
+            return Err(self.why_no_guess(pid));
         }
-        let Ok(draft) = self.draft(pid, ask) else {
-            return Err(Refusal::Memory);
+        if self.free_places() < 2 {
+            return Err(self.why_no_guess(pid));
+        }
+        let Ok(draft) = self.draft(pid, want) else {
+            return Err(self.why_no_guess(pid));
         };
         let Ok(()) = make_room(&mut self.taken, &mut self.waiting, &mut self.kept) else {
-            return Err(Refusal::Memory);
+            return Err(self.why_no_guess(pid));
         };
         let id = match self.holder.guess(pid, InputRef::Good) {
             Ok(id) => id,
@@ -506,8 +584,8 @@ impl Desk {
     }
 
     /// A request without a step.
-    fn ask(&mut self, pid: Pid, ask: Ask) -> Result<Turn, Refusal>
-        ensures { RulePost result self.old pid (Rule.Asks ask) self.new }
+    fn ask(&mut self, pid: Pid, want: &Wanted) -> Result<Turn, Refusal>
+        ensures { RulePost result self.old pid (rules.Asks (wanted (buffer self.old.kernel pid) want.now)) self.new }
     {
         if self.is_numbered_out() {
             return Err(Refusal::TooMany);
@@ -515,7 +593,7 @@ impl Desk {
         if self.free_places() < 1 {
             return Err(Refusal::TraceFull);
         }
-        let Ok(draft) = self.draft(pid, ask) else {
+        let Ok(draft) = self.draft(pid, want) else {
             return Err(Refusal::Memory);
         };
         let Ok(()) = make_room(&mut self.taken, &mut self.waiting, &mut self.kept) else {
@@ -525,6 +603,22 @@ impl Desk {
         self.waiting.push_back_reserved(draft);
         self.next += 1;
         Ok(Turn::Asked(number))
+    }
+
+    /// The oldest request that waits.
+    pub(crate) fn first_waiting(&self) -> Option<&Waiting>
+        ensures { option_map sent (option_copied result) ≡ first_sent self.now.waiting }
+    {
+        self.waiting.front()
+    }
+
+    /// Takes the oldest request that waits where nothing is to be sent of it, if there is one.
+    pub(crate) fn take_unsent(&mut self)
+        ensures { self.new ≡ first_taken self.old self.old.waiting }
+    {
+        if let Some(waiting) = self.waiting.pop_front() {
+            self.taken.push_back_reserved(waiting.kept());
+        }
     }
 
     /// Takes the oldest request that waits; `None` where none does. This takes no memory.
@@ -581,12 +675,22 @@ impl Desk {
     pub fn give_reply(&mut self, reply: Reply) -> Result<Given, (Reply, ReplyRefusal)>
         ensures { ReplyPost result self.old reply self.new }
     {
-        if let Some(why) = self.reply_refusal(&reply) {
-            return Err((reply, why));
+        match self.give_lent(&reply) {
+            Ok(given) => Ok(given),
+            Err(why) => Err((reply, why)),
+        }
+    }
+
+    /// The same with a reply that is lent.
+    pub(crate) fn give_lent(&mut self, reply: &Reply) -> Result<Given, ReplyRefusal>
+        ensures { ReplyPost (handed_back reply.now result) self.old reply.now self.new }
+    {
+        if let Some(why) = self.reply_refusal(reply) {
+            return Err(why);
         }
         match self.taken.front() {
             Some(request) => match request.guess {
-                Some(id) => Ok(self.decide(id, &reply)),
+                Some(id) => Ok(self.decide(id, reply)),
                 None => self.answer(reply),
             },
             None => unreachable!(),
@@ -603,15 +707,12 @@ impl Desk {
         let Some(request) = self.taken.pop_front() else {
             unreachable!();
         };
-        let outcome = match reply.answer {
-            Answer::Yes => self.holder.commit(id),
-            _ => self.holder.fail(id),
-        };
+        let outcome = decide_guess(&mut self.holder, id, &reply.answer);
         if let Some(Outcome::Done) = outcome {
             keep(
                 &mut self.kept,
                 request.process,
-                answer_kept(&request.ask, &reply.answer),
+                answer_kept(&request, &reply.answer),
             );
             return decided(id, &reply.answer);
         }
@@ -620,10 +721,10 @@ impl Desk {
 
     /// The step of the oldest taken request, which was asked, is taken with the reply to it, if the reply still
     /// counts.
-    fn answer(&mut self, reply: Reply) -> Result<Given, (Reply, ReplyRefusal)>
-        requires fits { reply_refused self.old reply self.old.taken ≡ None }
+    fn answer(&mut self, reply: &Reply) -> Result<Given, ReplyRefusal>
+        requires fits { reply_refused self.old reply.now self.old.taken ≡ None }
         requires asked { first_guess self.old.taken ≡ None }
-        ensures { ReplyPost result self.old reply self.new }
+        ensures { ReplyPost (handed_back reply.now result) self.old reply.now self.new }
     {
         let Some(request) = self.taken.front() else {
             unreachable!();
@@ -636,8 +737,8 @@ impl Desk {
                 return Ok(Given::Forgotten(number));
             }
         };
-        if let Err(Refusal::Memory) = self.holder.step(process, InputRef::of(&input)) {
-            return Err((reply, ReplyRefusal::Memory));
+        if let Err(Refusal::Memory) = self.holder.step(process, input) {
+            return Err(ReplyRefusal::Memory);
         }
         self.taken.pop_front();
         Ok(Given::Taken(number))
@@ -670,6 +771,7 @@ impl Desk {
         }
         let Desk {
             holder,
+            alloc: _,
             taken: _,
             waiting: _,
             first: _,
@@ -683,6 +785,7 @@ impl Desk {
     pub fn abandon(self) {
         let Desk {
             holder,
+            alloc: _,
             taken: _,
             waiting: _,
             first: _,

@@ -10,4 +10,4 @@ pub mod world;
 
 pub use desk::{Desk, Given, Pending, ReplyRefusal, Turn};
 pub use pending::{Kept, PendingRequest};
-pub use world::{Cause, World, WorldAnswer, WorldEvent, WorldStop};
+pub use world::{Cause, World, WorldAnswer, WorldEvent, WorldNews, WorldStop};

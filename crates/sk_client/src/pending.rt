@@ -1,10 +1,12 @@
 //! Requests without a reply, and kept answers.
 ghost use Rattle.std.specs.Prelude.{◌≡◌, ◌&&◌, ◌==◌, Some, bytes_eq};
+ghost use Rattle.sk_server.specs.Lent.{ask_in, request_in};
 ghost use Rattle.sk_client.specs.Desk.{is_asked, name_of, sent};
+ghost use Rattle.sk_client.specs.Boxed.{ask_of};
 
-use sk_ids::{GuessId, Name, Pid, TagSet};
+use sk_ids::{GuessId, Name, Pid, TagSet, Text};
 use sk_script::Input;
-use sk_server::{Ask, Request};
+use sk_server::{Ask, AskRef, Request, RequestRef};
 use std::marker::Model;
 
 /// A request without a reply.
@@ -22,10 +24,40 @@ pub struct PendingRequest {
     pub settled: u64,
 }
 
+/// What is asked of a file, with the bytes of a store in a box.
+#[derive(Drop)]
+pub(crate) enum BoxedAsk {
+    Get(Name),
+    Check(Name, u64),
+    Store(Name, u64, Box<Text>),
+}
+
+/// A request without a reply as a desk has it, of which contracts see what they see of a `PendingRequest`.
+#[derive(Drop)]
+pub(crate) struct BoxedRequest {
+    pub(crate) number: u64,
+    pub(crate) process: Pid,
+    pub(crate) ask: BoxedAsk,
+    pub(crate) guess: Option<GuessId>,
+    pub(crate) rests: TagSet,
+    pub(crate) settled: u64,
+}
+
+impl Model for BoxedRequest {
+    ghost use Rattle.sk_client.specs.declared.pending.PendingRequest.{PendingRequest};
+    ghost use Rattle.sk_client.specs.Boxed.{ask_of, request_code};
+
+    ghost Value = { PendingRequest };
+
+    ghost coded = { request_code };
+
+    ghost view = { λ r. record { number = r.number; process = r.process; ask = ask_of r.ask; guess = r.guess; rests = r.rests; settled = r.settled } };
+}
+
 /// A request that waits to be taken; contracts see it as any other.
 #[derive(Drop)]
 pub(crate) struct Waiting {
-    request: PendingRequest,
+    request: BoxedRequest,
     /// What it rests on, once more, to go with the request.
     rests: TagSet,
 }
@@ -55,6 +87,48 @@ impl PendingRequest {
     {
         self.guess.is_none()
     }
+}
+
+impl BoxedAsk {
+    /// The name of the file that is asked about.
+    pub(crate) fn name(&self) -> &Name
+        ensures { result.now ≡ name_of (ask_of self.now) }
+    {
+        match self {
+            BoxedAsk::Get(name) | BoxedAsk::Check(name, _) | BoxedAsk::Store(name, _, _) => name,
+        }
+    }
+
+    /// Lends it.
+    fn lent(&self) -> AskRef<'_>
+        ensures { ask_in result ≡ ask_of self.now }
+    {
+        match self {
+            BoxedAsk::Get(name) => AskRef::Get(name),
+            BoxedAsk::Check(name, version) => AskRef::Check(name, *version),
+            BoxedAsk::Store(name, version, bytes) => AskRef::Store(name, *version, bytes),
+        }
+    }
+
+    /// The same, as it is sent.
+    fn sent(&self) -> Ask
+        ensures { result ≡ ask_of self.now }
+    {
+        match self {
+            BoxedAsk::Get(name) => Ask::Get(*name),
+            BoxedAsk::Check(name, version) => Ask::Check(*name, *version),
+            BoxedAsk::Store(name, version, bytes) => Ask::Store(*name, *version, **bytes),
+        }
+    }
+}
+
+impl BoxedRequest {
+    /// Whether the process waits for the reply.
+    pub(crate) fn is_asked(&self) -> bool
+        ensures { result ≡ is_asked self.now }
+    {
+        self.guess.is_none()
+    }
 
     /// Whether this process waits for the reply.
     pub(crate) fn asks_for(&self, pid: Pid) -> bool
@@ -67,13 +141,13 @@ impl PendingRequest {
     pub(crate) fn asks_on(&self, name: &Name) -> bool
         ensures { result ≡ (is_asked self.now && bytes_eq (name_of self.now.ask) name.now) }
     {
-        self.is_asked() && name_of(&self.ask) == *name
+        self.is_asked() && self.ask.name() == name
     }
 }
 
 impl Waiting {
     /// A request, and what it rests on once more.
-    pub(crate) fn new(request: PendingRequest, rests: TagSet) -> Waiting
+    pub(crate) fn new(request: BoxedRequest, rests: TagSet) -> Waiting
         requires { rests ≡ request.rests }
         ensures { result ≡ request }
     {
@@ -81,7 +155,7 @@ impl Waiting {
     }
 
     /// The request.
-    pub(crate) fn request(&self) -> &PendingRequest
+    pub(crate) fn request(&self) -> &BoxedRequest
         ensures { result.now ≡ self.now }
     {
         &self.request
@@ -96,8 +170,37 @@ impl Waiting {
         Waiting { request, rests }
     }
 
+    /// What is asked.
+    pub(crate) fn ask(&self) -> AskRef<'_>
+        ensures { ask_in result ≡ self.now.ask }
+    {
+        self.request.ask.lent()
+    }
+
+    /// Lends the request as it would be sent, with what it asks.
+    pub(crate) fn lent_with<'a>(&'a self, ask: AskRef<'a>) -> RequestRef<'a>
+        ensures { request_in result ≡ record (sent self.now) { ask = ask_in ask.entry } }
+    {
+        let request = &self.request;
+        RequestRef {
+            number: request.number,
+            rests: &self.rests,
+            settled: request.settled,
+            guess: request.guess,
+            ask,
+        }
+    }
+
+    /// The request as it stays here.
+    pub(crate) fn kept(self) -> BoxedRequest
+        ensures { result ≡ self }
+    {
+        let Waiting { request, rests: _ } = self;
+        request
+    }
+
     /// The request as it stays here, and as it is sent.
-    pub(crate) fn taken(self) -> (PendingRequest, Request)
+    pub(crate) fn taken(self) -> (BoxedRequest, Request)
         ensures pending { result.0 ≡ self }
         ensures sent { result.1 ≡ sent self }
     {
@@ -107,17 +210,8 @@ impl Waiting {
             rests,
             settled: request.settled,
             guess: request.guess,
-            ask: request.ask,
+            ask: request.ask.sent(),
         };
         (request, sent)
-    }
-}
-
-/// The name of the file that is asked about.
-pub(crate) fn name_of(ask: &Ask) -> Name
-    ensures { result ≡ name_of ask.now }
-{
-    match *ask {
-        Ask::Get(name) | Ask::Check(name, _) | Ask::Store(name, _, _) => name,
     }
 }

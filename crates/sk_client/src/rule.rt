@@ -1,8 +1,10 @@
 //! Which rule a turn takes.
-ghost use Rattle.std.specs.Prelude.{◌≡◌};
+ghost use Rattle.std.specs.Prelude.{◌≡◌, ℕ, List, Option, is_some};
+ghost use Rattle.sk_script.specs.declared.instruction.Input.{Input};
 ghost use Rattle.sk_client.specs.Desk.{fetch_rule, store_rule, unless_kept};
+ghost use Rattle.sk_client.specs.Wish.{wished};
 
-use sk_ids::{Name, Text};
+use sk_ids::Name;
 use sk_objects::content::LAST_VERSION;
 use sk_script::Input;
 use sk_server::Ask;
@@ -18,33 +20,44 @@ pub enum Rule {
     Asks(Ask),
 }
 
+/// What is asked of a file, but for the bytes of a store, which are the buffer of the process.
+#[derive(Clone, Copy)]
+pub(crate) enum Wanted {
+    Get(Name),
+    Check(Name, u64),
+    Store(Name, u64),
+}
+
+/// What a turn does, in a few words.
+#[derive(Clone, Copy)]
+pub(crate) enum Wish {
+    /// It takes a step without input.
+    Steps,
+    /// It takes a step with the kept answer.
+    TakesKept,
+    /// It guesses that the cached copy is good, and asks whether it is.
+    Guesses(Wanted),
+    /// It asks, and takes no step.
+    Asks(Wanted),
+}
+
 /// What a fetch does where this version is cached.
-pub(crate) fn fetch_rule(name: Name, cached: Option<u64>) -> Rule
-    ensures { result ≡ fetch_rule name cached }
+pub(crate) fn fetch_wish(name: Name, cached: Option<u64>) -> Wish
+    ensures { (kept : Option Input) (bytes : List ℕ) → wished kept bytes result ≡ fetch_rule name cached }
 {
     match cached {
-        Some(version) => Rule::Guesses(Ask::Check(name, version)),
-        None => Rule::Asks(Ask::Get(name)),
+        Some(version) => Wish::Guesses(Wanted::Check(name, version)),
+        None => Wish::Asks(Wanted::Get(name)),
     }
 }
 
-/// What a store of these bytes does where this version is cached.
-pub(crate) fn store_rule(name: Name, bytes: Text, cached: Option<u64>) -> Rule
-    ensures { result ≡ store_rule name bytes cached }
+/// What a store does where this version is cached.
+pub(crate) fn store_wish(name: Name, cached: Option<u64>) -> Wish
+    ensures { (kept : Option Input) (bytes : List ℕ) → wished kept bytes result ≡ store_rule name bytes cached }
 {
     match cached {
-        Some(version) if version < LAST_VERSION => Rule::Guesses(Ask::Store(name, version, bytes)),
-        Some(version) => Rule::Asks(Ask::Store(name, version, bytes)),
-        None => Rule::Asks(Ask::Store(name, 0, bytes)),
-    }
-}
-
-/// A step with the kept answer, or the rule where there is none.
-pub(crate) fn unless_kept(kept: Option<Input>, rule: Rule) -> Rule
-    ensures { result ≡ unless_kept kept rule }
-{
-    match kept {
-        Some(input) => Rule::Steps(input),
-        None => rule,
+        Some(version) if version < LAST_VERSION => Wish::Guesses(Wanted::Store(name, version)),
+        Some(version) => Wish::Asks(Wanted::Store(name, version)),
+        None => Wish::Asks(Wanted::Store(name, 0)),
     }
 }

@@ -1,6 +1,8 @@
 //! A desk and a server, joined.
-ghost use Rattle.std.specs.Prelude.{◌≡◌, [], true};
-ghost use Rattle.sk_client.specs.WorldView.{joined, taken_by, EventPost, RunsTo, Turns, AnswersWith, Serves, Replies, EditsFile};
+ghost use Rattle.std.specs.Prelude.{◌≡◌, ◌↔◌, ◌<◌, ◌-◌, [], true, length, IsSome, IfSome, slice_index_or};
+ghost use Rattle.sk_client.specs.WorldView.{joined, taken_by, told_as, EventPost, NewsPost, RunsTo, Turns, AnswersWith, ServesNext, Replies, EditsFile};
+ghost use Rattle.sk_client.specs.declared.world.WorldAnswer.TheVariants as answers;
+ghost use Rattle.sk_server.specs.Lent.{request_in};
 ghost use Rattle.sk_client.specs.Upcoming.{upcoming};
 ghost use Rattle.sk_server.specs.Server.{is_in_turn};
 
@@ -8,7 +10,7 @@ use crate::desk::{Desk, Given, ReplyRefusal, Turn};
 use sk_ids::{Name, Pid, Text};
 use sk_plain::Refusal;
 use sk_script::Input;
-use sk_server::{EditRefusal, Reply, Request, Server, ServerRefusal};
+use sk_server::{EditRefusal, Reply, Request, RequestRef, Server, ServerRefusal};
 use std::alloc::Global;
 use std::collections::VecDeque;
 use std::marker::Model;
@@ -32,6 +34,17 @@ pub enum WorldEvent {
 pub enum WorldAnswer {
     Turn(Turn),
     Served(Reply),
+    Given(Given),
+    /// The new version.
+    Edited(u64),
+}
+
+/// What came of an event, in a few words.
+#[derive(Clone, Copy, Debug)]
+pub enum WorldNews {
+    Turn(Turn),
+    /// The newest reply is that of the server.
+    Served,
     Given(Given),
     /// The new version.
     Edited(u64),
@@ -79,31 +92,22 @@ impl Model for World {
     ghost invariant = { λ w. IsJoined w.desk w.server w.replies.items w.back };
 }
 
-/// The server answers a request that is in turn, or hands it back for want of memory.
+/// The server answers a request that is in turn, where there is memory for it.
 fn answer_with(
     server: &mut Server,
     replies: &mut VecDeque<Reply>,
-    request: Request,
-) -> (Option<Request>, Result<WorldAnswer, Cause>)
-    requires { is_in_turn server.old request ≡ true }
-    ensures { AnswersWith result.1 result.0 server.old replies.old.items request server.new replies.new.items }
+    request: &RequestRef<'_>,
+) -> Result<(), Cause>
+    requires { is_in_turn server.old (request_in request.now) ≡ true }
+    ensures { AnswersWith result server.old replies.old.items (request_in request.now) server.new replies.new.items }
 {
     if replies.reserve(1).is_err() {
-        return (Some(request), Err(Cause::Memory));
+        return Err(Cause::Memory);
     }
-    match server.answer(request) {
-        Ok(reply) => {
-            let number = reply.number;
-            let answer = reply.answer;
-            replies.push_back_reserved(reply);
-            (None, Ok(WorldAnswer::Served(Reply { number, answer })))
-        }
-        Err((back, refusal)) => {
-            if let ServerRefusal::OutOfTurn { expected: _ } = refusal {
-                unreachable!();
-            }
-            (Some(back), Err(Cause::Memory))
-        }
+    match server.answer_behind(request, replies) {
+        Ok(()) => Ok(()),
+        Err(ServerRefusal::OutOfTurn { expected: _ }) => unreachable!(),
+        Err(ServerRefusal::Memory) => Err(Cause::Memory),
     }
 }
 
@@ -154,12 +158,40 @@ impl World {
     pub fn event(&mut self, event: &WorldEvent) -> Result<WorldAnswer, Cause>
         ensures { EventPost result self.old event.now self.new }
     {
-        match *event {
-            WorldEvent::Turn(pid) => self.turn(pid),
-            WorldEvent::Serve => self.serve(),
-            WorldEvent::Reply => self.reply(),
-            WorldEvent::Edit(name, expected, bytes) => self.edit(name, expected, bytes),
+        match self.advance(event)? {
+            WorldNews::Turn(turn) => Ok(WorldAnswer::Turn(turn)),
+            WorldNews::Served => match self.newest() {
+                Some(reply) => Ok(WorldAnswer::Served(*reply)),
+                None => unreachable!(),
+            },
+            WorldNews::Given(given) => Ok(WorldAnswer::Given(given)),
+            WorldNews::Edited(version) => Ok(WorldAnswer::Edited(version)),
         }
+    }
+
+    /// Takes an event as `event` does, and answers in a few words: what was served is the newest reply.
+    pub fn advance(&mut self, event: &WorldEvent) -> Result<WorldNews, Cause>
+        ensures { NewsPost result self.old event.now self.new }
+    {
+        match event {
+            WorldEvent::Turn(pid) => Ok(WorldNews::Turn(self.turn(*pid)?)),
+            WorldEvent::Serve => {
+                self.serve()?;
+                Ok(WorldNews::Served)
+            }
+            WorldEvent::Reply => Ok(WorldNews::Given(self.reply()?)),
+            WorldEvent::Edit(name, expected, bytes) => {
+                Ok(WorldNews::Edited(self.edit(*name, *expected, *bytes)?))
+            }
+        }
+    }
+
+    /// The newest reply on its way.
+    pub fn newest(&self) -> Option<&Reply>
+        ensures some { IsSome result ↔ (0 < length self.now.replies) }
+        ensures last { IfSome result (λ reply. reply.now ≡ slice_index_or self.now.replies (length self.now.replies - 1) reply.now) }
+    {
+        self.replies.back()
     }
 
     /// Takes events in order, up to the first that is refused; those before it stand.
@@ -177,65 +209,73 @@ impl World {
         Ok(())
     }
 
-    fn turn(&mut self, pid: Pid) -> Result<WorldAnswer, Cause>
-        ensures { Turns result self.old pid self.new }
+    fn turn(&mut self, pid: Pid) -> Result<Turn, Cause>
+        ensures { Turns (told_as answers.Turn result) self.old pid self.new }
     {
         let turn = match self.desk.turn(pid) {
             Ok(turn) => turn,
             Err(why) => return Err(Cause::Turn(why)),
         };
-        Ok(WorldAnswer::Turn(turn))
+        Ok(turn)
     }
 
-    /// The oldest request that waits is taken, unless one was handed back.
-    fn take(&mut self)
-        ensures { self.new ≡ taken_by self.old self.old.back }
+    /// The server answers the request that it handed back, or the oldest that waits.
+    fn serve(&mut self) -> Result<(), Cause>
+        ensures { ServesNext result (taken_by self.old self.old.back) self.new (taken_by self.old self.old.back).back }
     {
-        if self.back.is_none() {
-            self.back = self.desk.take_request();
+        if self.back.is_some() {
+            return self.answer();
+        }
+        let Some(waiting) = self.desk.first_waiting() else {
+            return Err(Cause::Idle);
+        };
+        let lent = waiting.lent_with(waiting.ask());
+        match answer_with(&mut self.server, &mut self.replies, &lent) {
+            Ok(()) => {
+                self.desk.take_unsent();
+                Ok(())
+            }
+            Err(why) => {
+                self.back = self.desk.take_request();
+                Err(why)
+            }
         }
     }
 
-    fn serve(&mut self) -> Result<WorldAnswer, Cause>
-        ensures { Serves result (taken_by self.old self.old.back) self.new (taken_by self.old self.old.back).back }
+    /// The server answers the request that it handed back.
+    fn answer(&mut self) -> Result<(), Cause>
+        ensures { ServesNext result self.old self.new self.old.back }
     {
-        self.take();
-        self.answer()
-    }
-
-    /// The server answers the request that was taken.
-    fn answer(&mut self) -> Result<WorldAnswer, Cause>
-        ensures { Serves result self.old self.new self.old.back }
-    {
-        let Some(request) = self.back.take() else {
+        let Some(request) = &self.back else {
             return Err(Cause::Idle);
         };
-        let (back, told) = answer_with(&mut self.server, &mut self.replies, request);
-        self.back = back;
-        told
+        let lent = request.lent_with(request.ask.lent());
+        answer_with(&mut self.server, &mut self.replies, &lent)?;
+        self.back = None;
+        Ok(())
     }
 
-    fn reply(&mut self) -> Result<WorldAnswer, Cause>
-        ensures { Replies result self.old self.new self.old.replies }
+    fn reply(&mut self) -> Result<Given, Cause>
+        ensures { Replies (told_as answers.Given result) self.old self.new self.old.replies }
     {
-        let Some(reply) = self.replies.front().copied() else {
+        let Some(reply) = self.replies.front() else {
             return Err(Cause::Idle);
         };
-        match self.desk.give_reply(reply) {
+        match self.desk.give_lent(reply) {
             Ok(given) => {
                 self.replies.pop_front();
-                Ok(WorldAnswer::Given(given))
+                Ok(given)
             }
-            Err((_reply, ReplyRefusal::Memory)) => Err(Cause::Memory),
-            Err((_reply, _refusal)) => unreachable!(),
+            Err(ReplyRefusal::Memory) => Err(Cause::Memory),
+            Err(_refusal) => unreachable!(),
         }
     }
 
-    fn edit(&mut self, name: Name, expected: u64, bytes: Text) -> Result<WorldAnswer, Cause>
-        ensures { EditsFile result self.old name expected bytes self.new }
+    fn edit(&mut self, name: Name, expected: u64, bytes: Text) -> Result<u64, Cause>
+        ensures { EditsFile (told_as answers.Edited result) self.old name expected bytes self.new }
     {
         match self.server.edit(name, expected, bytes) {
-            Ok(version) => Ok(WorldAnswer::Edited(version)),
+            Ok(version) => Ok(version),
             Err(why) => Err(Cause::Edit(why)),
         }
     }

@@ -1,11 +1,14 @@
 -- One more event that happens: in the world that those before it left.
-use Rattle.std.proofs.Common.{◌≡◌, ℕ, suc, ◌+◌, List, [], ◌∷◌, ◌++◌, length, Option, Some, refl, sym, ap, subst, ◌∙◌, arith}
-use Rattle.std.specs.Io.KnownBytes.{Keeps}
+use Rattle.std.proofs.Common.{◌≡◌, ℕ, suc, ◌+◌, List, [], ◌∷◌, ◌++◌, length, Option, Some, Result, Ok, refl, sym, ap, subst, ◌∙◌, arith}
+use Rattle.std.specs.Prelude.{OnOk}
+use Rattle.std.specs.Io.KnownBytes.{Keeps, Appends}
 use Rattle.std.proofs.KnownBytes.{Appends-kept}
 use Rattle.std.proofs.lemmas.List.{append_assoc, append-nil}
 use Rattle.sk_client.specs.declared.world.WorldEvent.{WorldEvent}
-use Rattle.sk_client.specs.WorldView.{WorldView}
+use Rattle.sk_client.specs.declared.world.WorldAnswer.{WorldAnswer}
+use Rattle.sk_client.specs.WorldView.{WorldView, EventPost}
 use Rattle.sk_play.specs.declared.told.WorldTold.{WorldTold}
+use Rattle.sk_play.specs.declared.told.WorldTold.TheVariants as tells
 use Rattle.sk_play.specs.Told.{told_line}
 use Rattle.sk_kernel.specs.Kernel.{KernelView}
 use Rattle.sk_play.specs.Worlds.{Happens, WorldTells, WorldReported}
@@ -33,3 +36,9 @@ tells_more beside n (x ∷ es) e t w mid last text p happens =
 pub world_reported_kept : (beside : KernelView → KernelView → List ℕ) (IsReport : WorldView → List ℕ → Type 0) (es : List WorldEvent) (w : WorldView) (old mid new : Option (List ℕ))
     → WorldReported beside IsReport es w old mid → Keeps mid new → WorldReported beside IsReport es w old new
 world_reported_kept beside IsReport es w old mid new r kept = (r.0, r.1, r.2, r.3, r.4, Appends-kept old mid new _ r.5 kept)
+
+-- an event that was not refused, of which a line is written
+pub told_answer : {E : Type 0} (n : ℕ) (w : WorldView) (e : WorldEvent) (new : WorldView) (old mid : Option (List ℕ)) (answer : WorldAnswer) (written : Result (Unit {0}) E)
+    → EventPost (Ok answer) w e new → OnOk written (Appends old mid (told_line n (tells.Answered answer)))
+    → (t : WorldTold) × Happens (Some t) w e new × OnOk written (Appends old mid (told_line n t))
+told_answer n w e new old mid answer written h line = (tells.Answered answer, (Ok answer, refl, h), line)

@@ -15,4 +15,4 @@ pub use answer::{Answer, write_answer};
 pub use replaying::{Unreplayed, replay};
 pub use session::Session;
 pub use told::{WorldTold, write_told};
-pub use worlds::{desk_of, happen, world_of};
+pub use worlds::{desk_of, happen, happen_told, world_of};

@@ -127,7 +127,7 @@ impl fmt::Display for WorldTold {
 }
 
 /// Writes what a turn did, in the line of its event.
-fn write_turn<W: Write>(number: usize, turn: &Turn, out: &mut W) -> io::Result<()>
+pub(crate) fn write_turn<W: Write>(number: usize, turn: &Turn, out: &mut W) -> io::Result<()>
     ensures { OnOk result (Appends (W.contents out.old) (W.contents out.new) (told_line number (tells.Answered (answers.Turn turn.now)))) }
 {
     match turn {
@@ -138,7 +138,7 @@ fn write_turn<W: Write>(number: usize, turn: &Turn, out: &mut W) -> io::Result<(
 }
 
 /// Writes what the server answered, in the line of its event: of a content its version.
-fn write_reply<W: Write>(number: usize, reply: &Reply, out: &mut W) -> io::Result<()>
+pub(crate) fn write_reply<W: Write>(number: usize, reply: &Reply, out: &mut W) -> io::Result<()>
     ensures { OnOk result (Appends (W.contents out.old) (W.contents out.new) (told_line number (tells.Answered (answers.Served reply.now)))) }
 {
     match &reply.answer {
@@ -150,7 +150,7 @@ fn write_reply<W: Write>(number: usize, reply: &Reply, out: &mut W) -> io::Resul
 }
 
 /// Writes what a reply did, in the line of its event.
-fn write_given<W: Write>(number: usize, given: &Given, out: &mut W) -> io::Result<()>
+pub(crate) fn write_given<W: Write>(number: usize, given: &Given, out: &mut W) -> io::Result<()>
     ensures { OnOk result (Appends (W.contents out.old) (W.contents out.new) (told_line number (tells.Answered (answers.Given given.now)))) }
 {
     match given {

@@ -1,5 +1,6 @@
 -- Nothing is told beside the line.
-use Rattle.std.proofs.Common.{sym, subst}
+use Rattle.std.proofs.Common.{rules, ◌≡◌, Ok, sym, subst}
+use Rattle.std.specs.Prelude.{OnOk}
 use Rattle.std.specs.Io.KnownBytes.{Appends}
 use Rattle.std.proofs.lemmas.List.{append-nil}
 use Rattle.sk_play.specs.Told.{told_line}
@@ -7,8 +8,9 @@ use Rattle.sk_run.proofs.worlds.take_event.Goals as goal
 
 pub returns : goal.returns
 returns g c =
-    let told = c.in_ok-told.told in (
-      told,
-      c.in_ok-told.ensures,
-      subst (λ ls. Appends (g.W.Write.contents c.args.out.now) (g.W.Write.contents c.write_told.new.out) ls) (sym (append-nil (told_line c.args.number told))) c.in_ok-write_told.ensures,
-    )
+    let told = c.in_ok-written.ensures in
+    let old = g.W.Write.contents c.args.out.now in
+    let new = g.W.Write.contents c.happen_told.new.out in
+    let line = told_line c.args.number told.0 in
+    let is : c.in_ok-written.written ≡ Ok tt = search rules in
+    (told.0, told.1, subst (λ ls. Appends old new ls) (sym (append-nil line)) (subst (λ r. OnOk r (Appends old new line)) is told.2))

@@ -1,14 +1,15 @@
 -- One request more, with its guess, and for which room was made; a guess that the desk does not refuse, the kernel does not refuse.
-use Rattle.std.proofs.Common.{◌≡◌, List, ◌∷◌, ◌++◌, [], length, ℕ, Some, sym, ◌∙◌, ap, subst, deque_capacity}
+use Rattle.std.proofs.Common.{◌≡◌, List, ◌∷◌, ◌++◌, [], length, ℕ, Some, None, cond, sym, ◌∙◌, ap, subst, deque_capacity}
 use Rattle.std.specs.Vec.{vec_capacity}
 use Rattle.sk_record.specs.Trace.{marks}
 use Rattle.sk_script.specs.declared.instruction.Input.TheVariants as inputs
 use Rattle.sk_plain.specs.Refusal.{cause}
 use Rattle.sk_kernel.specs.Kernel.{guess_refused, next_guess}
 use Rattle.sk_holder.specs.Holder.{HolderView}
-use Rattle.sk_client.specs.Desk.{DeskView, entry}
+use Rattle.sk_plain.specs.declared.refusal.Refusal.TheVariants.{TooMany}
+use Rattle.sk_client.specs.Desk.{DeskView, entry, no_number}
 use Rattle.sk_client.specs.declared.pending.PendingRequest.{PendingRequest}
-use Rattle.sk_client.proofs.DeskFacts.{tidy_more, guess_free}
+use Rattle.sk_client.proofs.DeskFacts.{tidy_more, same_guess_refusal}
 use Rattle.sk_client.proofs.desk.Desk.guess.Goals as goal
 
 pub invariant_of-self-2 : goal.invariant_of-self-2
@@ -25,9 +26,10 @@ invariant_of-self-2 c =
 
 pub returns-in-Err : goal.returns-in-Err
 returns-in-Err c =
+    let numbered : no_number c.args.self.now ≡ None = ap (λ b. cond b (Some TooMany) None) (sym c.is_numbered_out.ensures ∙ c.if-is_numbered_out.false) in
     let refused =
     subst (λ (d : DeskView). guess_refused d.kernel (entry c.args.pid inputs.Good (Some (next_guess d.kernel))) ≡ cause c.in-Err.why) c.self.view_is c.in-Err.ensures.0 in (
-      sym c.in_default.ensures.refusal ∙ sym (guess_free c.args.self.now c.args.pid (sym c.in_default.ensures.refusal)) ∙ refused,
+      same_guess_refusal c.args.self.now c.free_places.result c.free_places.ensures c.args.pid c.if-free_places-lt2.false numbered ∙ refused,
       (λ i. record {
         kernel = (c.in-Err.ensures.1 i).kernel;
         taken = c.in-Ok-make_room.ensures.taken i;

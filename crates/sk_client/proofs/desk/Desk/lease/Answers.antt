@@ -1,5 +1,5 @@
 -- A process that waits is not lent; any other is, as the kernel lends it.
-use Rattle.std.proofs.Common.{◌≡◌, Err, sym, ◌∙◌, subst}
+use Rattle.std.proofs.Common.{Err, sym, ◌∙◌, subst}
 use Rattle.std.specs.FinMap as map
 use Rattle.sk_plain.specs.Leased.{Lends, lease_of}
 use Rattle.sk_plain.specs.declared.refusal.Refusal.{Refusal}

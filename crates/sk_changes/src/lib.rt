@@ -1,6 +1,7 @@
 //! The changes of values, each with the undo that takes it back.
 #![tactic(auto)]
 
+pub mod alone;
 pub mod change;
 pub mod file;
 pub mod held;
@@ -10,5 +11,6 @@ pub mod signals;
 pub mod slots;
 pub mod value;
 
+pub use alone::change_alone;
 pub use change::{Change, Invertible, NotApplied, Undo};
 pub use held::{HeldBytes, HeldContent};

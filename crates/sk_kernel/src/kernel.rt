@@ -28,7 +28,7 @@ use crate::{Footprint, Opening};
 use sk_guesses::{Guess, Redeemed, Status};
 use sk_ids::{Entity, GuessId, ObjId, Pid, TagSet};
 use sk_machine::Machine;
-use sk_plain::{Event, InputRef, Next, Plan, Refusal, Trace, View, next_of, plan_step};
+use sk_plain::{Event, InputRef, Next, Plan, Refusal, Trace, View, next_of, plan_into, plan_step};
 use sk_script::{Boot, Input};
 use sk_store::Look;
 use sk_terminal::{Terminal, Texts};
@@ -327,10 +327,11 @@ impl Kernel {
     pub fn step_lent(&mut self, pid: Pid, input: InputRef<'_>) -> Result<(), Refusal>
         ensures { StepPost result (step_refused self.old (record { pid = pid; input = (input_in input.entry); guess = None })) (events.Step pid (input_in input.entry)) self.old self.new }
     {
-        let plan = match plan_step(&self.machine, self.opening.scripts(), pid, input) {
-            Ok(plan) => plan,
+        let mut plan = Plan::Private;
+        match plan_into(&self.machine, self.opening.scripts(), pid, input, &mut plan) {
+            Ok(()) => {}
             Err(why) => return Err(why),
-        };
+        }
         if is_crowded(&self.machine, &plan) {
             return Err(Refusal::NoRoom);
         }

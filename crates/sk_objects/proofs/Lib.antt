@@ -1,5 +1,6 @@
 pub mod Bytes
 pub mod FileLaw
+pub mod InPlace
 pub mod Joined
 pub mod Rings
 pub mod Same

@@ -1,5 +1,5 @@
 //! Blocks of 512 bytes.
-ghost use Rattle.std.specs.Prelude.{◌≡◌, ◌≤◌, ◌+◌, ◌-◌, ◌++◌, length, take, replicate, IfOk, ◌↔◌, IsTrue};
+ghost use Rattle.std.specs.Prelude.{◌≡◌, ◌≤◌, ◌+◌, ◌-◌, ◌++◌, length, take, replicate, IfOk, ◌↔◌, IsTrue, if◌then◌else◌};
 ghost use Rattle.sk_objects.specs.File.{overwritten};
 ghost use Rattle.sk_objects.specs.Blocks.{cell, blank};
 
@@ -125,6 +125,21 @@ impl Block {
         let mut cells = boxed_cells(alloc, &self.cells)?;
         place(cells.as_mut(), at, bytes);
         Ok(Block { cells: Some(cells) })
+    }
+
+    /// Writes bytes over a part of it where its bytes are there, and answers whether they are. A block
+    /// in which none was written stays.
+    pub fn overwrite(&mut self, at: usize, bytes: &[u8]) -> bool
+        requires { at + length bytes.now ≤ 512 }
+        ensures { self.new ≡ (if result then overwritten self.old at bytes.now else self.old) }
+    {
+        match &mut self.cells {
+            Some(cells) => {
+                place(cells.as_mut(), at, bytes);
+                true
+            }
+            None => false,
+        }
     }
 
     /// Another block of the same bytes; where none was written it takes no memory.

@@ -1,5 +1,5 @@
 //! Files.
-ghost use Rattle.std.specs.Prelude.{◌≡◌, ◌≤◌, ◌<◌, ◌+◌, ◌-◌, ◌*◌, ◌/◌, [], length, take, IfOk, OnErr, ◌↔◌, IsTrue};
+ghost use Rattle.std.specs.Prelude.{◌≡◌, ◌≤◌, ◌<◌, ◌+◌, ◌-◌, ◌*◌, ◌/◌, [], length, take, IfOk, OnOk, OnErr, ◌↔◌, IsTrue, if◌then◌else◌};
 ghost use Rattle.sk_objects.specs.File.{written, cut, part, blocks_of};
 ghost use Rattle.sk_ids.specs.declared.text.TheConstants.{TEXT_LIMIT};
 ghost use Rattle.sk_objects.specs.Blocks.{joined, AreBlocks};
@@ -8,8 +8,8 @@ ghost use Rattle.sk_objects.specs.Slots.{under_write, under_cut, CanPut, with_bl
 
 use crate::block::BLOCK;
 use crate::slots::{
-    blocks_of, copy_slots, cut_blocks, empty_slots, exchange_blocks, read_text, same_slots,
-    written_blocks,
+    blocks_of, copy_slots, cut_blocks, empty_slots, exchange_blocks, overwrite, read_into,
+    same_slots, written_blocks,
 };
 use crate::{Block, Blocks};
 use sk_ids::Text;
@@ -121,14 +121,25 @@ impl File {
         requires { count ≤ TEXT_LIMIT }
         ensures { result ≡ part self.now at count }
     {
+        let mut text = Text::empty();
+        self.part_into(at, count, &mut text);
+        text
+    }
+
+    /// The same bytes, read into a text that is there.
+    pub fn part_into(&self, at: usize, count: usize, text: &mut Text)
+        requires { count ≤ TEXT_LIMIT }
+        ensures { text.new ≡ part self.now at count }
+    {
         if at >= self.size {
-            return Text::empty();
+            text.set(&[]);
+            return;
         }
         let rest = self.size - at;
         if rest < count {
-            read_text(&self.slots, at, rest)
+            read_into(&self.slots, at, rest, text);
         } else {
-            read_text(&self.slots, at, count)
+            read_into(&self.slots, at, count, text);
         }
     }
 
@@ -181,6 +192,36 @@ impl File {
         let _ = &self.slots;
         let new = self.after_write(at, bytes)?;
         Ok(self.exchange(new))
+    }
+
+    /// Writes bytes at a place in one block where that is there, and answers whether it is so.
+    fn overwrite_one(&mut self, at: usize, bytes: &[u8]) -> bool
+        requires some { 1 ≤ length bytes.now }
+        requires short { length bytes.now ≤ TEXT_LIMIT }
+        requires end { at + length bytes.now ≤ FILE_LIMIT }
+        ensures { self.new ≡ (if result then written self.old at bytes.now else self.old) }
+    {
+        if !overwrite(&mut self.slots, at, bytes) {
+            return false;
+        }
+        self.size = self.size.max(at + bytes.len());
+        true
+    }
+
+    /// Writes bytes at a place, with zeros in a gap, and keeps nothing that puts the file back. Without
+    /// memory nothing changes; within one block that was written before it wants none.
+    pub fn overwrite(&mut self, at: usize, bytes: &[u8]) -> Result<(), AllocError>
+        requires some { 1 ≤ length bytes.now }
+        requires short { length bytes.now ≤ TEXT_LIMIT }
+        requires end { at + length bytes.now ≤ FILE_LIMIT }
+        ensures ok { OnOk result (self.new ≡ written self.old at bytes.now) }
+        ensures err { OnErr result (self.new ≡ self.old) }
+    {
+        if self.overwrite_one(at, bytes) {
+            return Ok(());
+        }
+        self.write_at(at, bytes)?;
+        Ok(())
     }
 
     /// The blocks from a cut on, as it leaves them.

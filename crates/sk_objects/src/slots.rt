@@ -1,5 +1,5 @@
 //! Blocks in slots.
-ghost use Rattle.std.specs.Prelude.{◌≡◌, ◌≤◌, ◌<◌, ◌+◌, ◌-◌, ◌*◌, ◌/◌, ◌++◌, List, ℕ, length, take, drop, replicate, IfOk, vec_len, ◌↔◌, IsTrue};
+ghost use Rattle.std.specs.Prelude.{◌≡◌, ◌≤◌, ◌<◌, ◌+◌, ◌-◌, ◌*◌, ◌/◌, ◌%◌, ◌++◌, List, ℕ, [], true, length, take, drop, replicate, slice_set, get_or, IfOk, vec_len, ◌↔◌, IsTrue, if◌then◌else◌};
 ghost use Rattle.sk_objects.specs.File.{overwritten, part, held, blocks_of};
 ghost use Rattle.sk_objects.specs.Blocks.{joined, AreBlocks, blank};
 ghost use Rattle.sk_objects.specs.Slots.{blocks_under};
@@ -99,6 +99,32 @@ pub(crate) fn written_blocks(
     Ok(Vec::from_array(alloc, [first, second])?)
 }
 
+/// Writes bytes over a part of one block where that is there, and answers whether it is so.
+fn overwrite_block(slots: &mut [Block], at: usize, bytes: &[u8]) -> bool
+    requires slots { length slots.old ≡ 64 }
+    requires end { at + length bytes.now ≤ 32768 }
+    requires some { 1 ≤ length bytes.now }
+    ensures slots { slots.new ≡ (if result then slice_set slots.old (at / 512) (overwritten (get_or slots.old (at / 512) []) (at % 512) bytes.now) else slots.old) }
+    ensures one { result ≡ true → at % 512 + length bytes.now ≤ 512 }
+{
+    let within = at % BLOCK;
+    if bytes.len() > BLOCK - within {
+        return false;
+    }
+    slots[at / BLOCK].overwrite(within, bytes)
+}
+
+/// The same of a vector.
+pub(crate) fn overwrite(slots: &mut Vec<Block>, at: usize, bytes: &[u8]) -> bool
+    requires slots { length slots.old.items ≡ 64 }
+    requires end { at + length bytes.now ≤ 32768 }
+    requires some { 1 ≤ length bytes.now }
+    ensures slots { slots.new.items ≡ (if result then slice_set slots.old.items (at / 512) (overwritten (get_or slots.old.items (at / 512) []) (at % 512) bytes.now) else slots.old.items) }
+    ensures one { result ≡ true → at % 512 + length bytes.now ≤ 512 }
+{
+    overwrite_block(slots, at, bytes)
+}
+
 /// The blocks from the one at a cut on, as the cut leaves them. It takes memory for them alone.
 pub(crate) fn cut_blocks(
     alloc: Global,
@@ -170,20 +196,21 @@ fn read_across(slots: &[Block], at: usize, count: usize) -> Text
     Text::new(&bytes[..count]).unwrap()
 }
 
-/// So many bytes, at most 512, from a place on. In one block they are read where they stand.
-pub(crate) fn read_text(slots: &[Block], at: usize, count: usize) -> Text
+/// Reads so many bytes, at most 512, from a place on. In one block they are read where they stand.
+pub(crate) fn read_into(slots: &[Block], at: usize, count: usize, text: &mut Text)
     requires slots { length slots.now ≡ 64 }
     requires blocks { AreBlocks slots.now }
     requires short { count ≤ 512 }
     requires end { at + count ≤ 32768 }
-    ensures { result ≡ part (joined slots.now) at count }
+    ensures { text.new ≡ part (joined slots.now) at count }
 {
     let within = at % BLOCK;
     if count == 0 || count > BLOCK - within {
-        return read_across(slots, at, count);
+        *text = read_across(slots, at, count);
+        return;
     }
     let block = slots[at / BLOCK].as_slice();
-    Text::new(&block[within..within + count]).unwrap()
+    text.set(&block[within..within + count]);
 }
 
 /// Whether blocks are the same.

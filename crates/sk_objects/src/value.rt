@@ -124,13 +124,22 @@ impl Value {
     pub fn text_at(&self, offset: u64, count: usize) -> Text
         ensures { result ≡ unwrap_or (bytes_from self.now offset count) [] }
     {
+        let mut text = Text::empty();
+        self.read_into(offset, count, &mut text);
+        text
+    }
+
+    /// The same bytes, read into a text that is there.
+    pub fn read_into(&self, offset: u64, count: usize, text: &mut Text)
+        ensures { text.new ≡ unwrap_or (bytes_from self.now offset count) [] }
+    {
         let at = offset as usize;
         let count = count.min(TEXT_LIMIT);
         match self {
-            Value::File(file) => file.part(at, count),
-            Value::Pipe(pipe) => pipe.part(at, count),
-            Value::Copy(content) => part(content.text(), at, count),
-            _ => Text::empty(),
+            Value::File(file) => file.part_into(at, count, text),
+            Value::Pipe(pipe) => *text = pipe.part(at, count),
+            Value::Copy(content) => *text = part(content.text(), at, count),
+            _ => text.set(&[]),
         }
     }
 

@@ -1,5 +1,5 @@
 -- One step of a process, as a tree: what each instruction does, and what a process does next.
-use Rattle.std.specs.Prelude.{ℕ, ◌==◌, List, [], ◌∷◌, Option, Some, None, slice_get, if◌then◌else◌}
+use Rattle.std.specs.Prelude.{ℕ, ◌==◌, Bool, true, false, List, [], ◌∷◌, Option, Some, None, slice_get, if◌then◌else◌}
 use Rattle.std.specs.FinMap.{get}
 use Rattle.std.specs.List.{list_any}
 use Rattle.sk_record.specs.Step.{Ask, Refuse, Done}
@@ -69,6 +69,12 @@ row pid p (does_.Exit r) = ended_with pid p (status_of (held p.registers r))
 row pid p (does_.Fetch name) = Refuse NeedsReply
 row pid p (does_.Store name) = Refuse NeedsReply
 row pid p private = alone pid p
+
+-- whether an instruction reads or writes a file
+abbrev pub is_access : Instruction → Bool
+is_access (does_.Read f at) = true
+is_access (does_.Write f at) = true
+is_access other = false
 
 -- a private instruction writes nothing but the process
 abbrev pub private_or : ℕ → Option Process → StepTree → StepTree

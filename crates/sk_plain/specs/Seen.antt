@@ -219,6 +219,11 @@ abbrev pub plan_of : Result Row Refusal → Result Plan Refusal
 plan_of (Ok r) = Ok (Acts r)
 plan_of (Err why) = Err why
 
+-- a plan that was put into a place, or a refusal
+abbrev pub told : Result (Unit {0}) Refusal → Plan → Result Plan Refusal
+told (Ok done) plan = Ok plan
+told (Err why) plan = Err why
+
 -- that of a row of the table
 pub record PlansRow (look : Entity → Option EntityState) (p : Process) (pid : ℕ) (step : StepTree) (result : Result Row Refusal) : Type 0 where
   pub plans : perform look step ≡ planned [] look pid (rows_seen look p result)

@@ -1,5 +1,5 @@
 //! Doing what was planned, where things stand. Nothing here knows of instructions.
-ghost use Rattle.std.specs.Prelude.{◌≡◌, ◌≢◌, ◌≤◌, ◌+◌, ◌<◌, ◌^◌, OnOk, OnErr, IfOk, Some, None, []};
+ghost use Rattle.std.specs.Prelude.{◌≡◌, ◌≢◌, ◌≤◌, ◌+◌, ◌<◌, ◌^◌, true, OnOk, OnErr, IfOk, Some, None, []};
 ghost use Rattle.sk_ids.specs.declared.entity.Entity.TheVariants.{Proc, Sig, Exit, Copy};
 ghost use Rattle.sk_objects.specs.Value.{empty_of};
 ghost use Rattle.sk_objects.specs.declared.content.TheConstants.{LAST_VERSION};
@@ -10,7 +10,7 @@ ghost use Rattle.sk_trace.specs.Kept.{input_in};
 ghost use Rattle.sk_store.specs.declared.entity_state.EntityState.TheVariants as stored;
 ghost use Rattle.sk_store.specs.Processes.{CanBecome as CanBecomeThere, became, process_in, IsProcess};
 ghost use Rattle.sk_plain.specs.Plan.{Nowhere, Birth};
-ghost use Rattle.sk_plain.specs.Planned.{CanBecome, CanDo, IsBeside, child_of, value_of, said_by, texts_after, writes_of, wrote_all};
+ghost use Rattle.sk_plain.specs.Planned.{CanBecome, CanDo, IsBeside, IsNoProcess, child_of, value_of, said_by, texts_after, writes_of, wrote_all};
 ghost use Rattle.sk_plain.specs.Seen.{CanChange, CanPerform, HasContent, IsWritable, beside_of, content_in, process_given, row_seen, written, text_in, seen_with};
 ghost use Rattle.sk_plain.specs.Forked.{CanFork, forked};
 
@@ -35,16 +35,16 @@ fn process_at<K: Look>(keeper: &K, pid: Pid) -> &Process
     }
 }
 
-/// The bytes that a process reads of the entity that it looks at.
-fn read<K: Look>(keeper: &K, looks: &Looks, from: u64, count: u32) -> Text
-    ensures { result ≡ text_in (K.look keeper.now) looks.now from count }
+/// Reads the bytes that a process reads of the entity that it looks at into an empty text.
+fn read<K: Look>(keeper: &K, looks: &Looks, from: u64, count: u32, text: &mut Text)
+    requires { text.old ≡ [] }
+    ensures { text.new ≡ text_in (K.look keeper.now) looks.now from count }
 {
     let Looks::At(entity) = looks else {
-        return Text::empty();
+        return;
     };
-    match keeper.value(*entity) {
-        Some(EntityState::Value(value)) => value.text_at(from, count as usize),
-        _ => Text::empty(),
+    if let Some(EntityState::Value(value)) = keeper.value(*entity) {
+        value.read_into(from, count as usize, text);
     }
 }
 
@@ -177,6 +177,98 @@ fn write_gone<K: Keeper, C: Becoming>(
     Ok(())
 }
 
+/// The buffer of a process is written at a place of a file, and then the process changes, of which nothing is
+/// noted.
+#[tactic(auto, using(crate::proofs::Others::apart_from))]
+fn write_over<K: Keeper, C: Becoming>(
+    keeper: &mut K,
+    pid: Pid,
+    entity: &Entity,
+    offset: u32,
+    by: &C,
+) -> Result<(), AllocError>
+    requires unnoted { K.goes_unnoted keeper.old pid ≡ true }
+    requires process { CanBecomeThere (C.can by.now) (K.look keeper.old (Proc pid)) }
+    requires can { CanBecome (K.look keeper.old entity.now) (written (process_in (K.look keeper.old (Proc pid))) (Writes.At offset)) }
+    requires apart { IsNoProcess entity.now }
+    ensures ok { OnOk result (keeper.new ≡ K.wrote (K.wrote keeper.old entity.now (Some (value_of (K.look keeper.old entity.now) (written (process_in (K.look keeper.old (Proc pid))) (Writes.At offset))))) (Proc pid) (Some (became (C.after by.now) (K.look keeper.old (Proc pid))))) }
+    ensures err { OnErr result (keeper.new ≡ keeper.old) }
+{
+    let bytes = process_at(keeper, pid).buffer;
+    let change = Change::WriteAt { offset, bytes };
+    keeper.change_both(entity, &change, pid, by)
+}
+
+/// It is put at the end of a pipe, and then the process changes.
+#[tactic(auto, using(crate::proofs::Others::apart_from))]
+fn write_behind<K: Keeper, C: Becoming>(
+    keeper: &mut K,
+    pid: Pid,
+    entity: &Entity,
+    by: &C,
+) -> Result<(), AllocError>
+    requires unnoted { K.goes_unnoted keeper.old pid ≡ true }
+    requires process { CanBecomeThere (C.can by.now) (K.look keeper.old (Proc pid)) }
+    requires can { CanBecome (K.look keeper.old entity.now) (written (process_in (K.look keeper.old (Proc pid))) Writes.Put) }
+    requires apart { IsNoProcess entity.now }
+    ensures ok { OnOk result (keeper.new ≡ K.wrote (K.wrote keeper.old entity.now (Some (value_of (K.look keeper.old entity.now) (written (process_in (K.look keeper.old (Proc pid))) Writes.Put)))) (Proc pid) (Some (became (C.after by.now) (K.look keeper.old (Proc pid))))) }
+    ensures err { OnErr result (keeper.new ≡ keeper.old) }
+{
+    let change = Change::Put(process_at(keeper, pid).buffer);
+    keeper.change_both(entity, &change, pid, by)
+}
+
+/// So many bytes are taken from the front of a pipe, and then the process changes.
+#[tactic(auto, using(crate::proofs::Others::apart_from))]
+fn take_off<K: Keeper, C: Becoming>(
+    keeper: &mut K,
+    pid: Pid,
+    entity: &Entity,
+    count: u32,
+    by: &C,
+) -> Result<(), AllocError>
+    requires unnoted { K.goes_unnoted keeper.old pid ≡ true }
+    requires process { CanBecomeThere (C.can by.now) (K.look keeper.old (Proc pid)) }
+    requires can { CanBecome (K.look keeper.old entity.now) (written (process_in (K.look keeper.old (Proc pid))) (Writes.Take count)) }
+    requires apart { IsNoProcess entity.now }
+    ensures ok { OnOk result (keeper.new ≡ K.wrote (K.wrote keeper.old entity.now (Some (value_of (K.look keeper.old entity.now) (written (process_in (K.look keeper.old (Proc pid))) (Writes.Take count))))) (Proc pid) (Some (became (C.after by.now) (K.look keeper.old (Proc pid))))) }
+    ensures err { OnErr result (keeper.new ≡ keeper.old) }
+{
+    let change = Change::Take(count);
+    keeper.change_both(entity, &change, pid, by)
+}
+
+/// An entity becomes this, and then the process changes. Where nothing is noted of the process, nothing is
+/// kept that takes a frequent change back. Without memory nothing has changed.
+fn write_both<K: Keeper, C: Becoming>(
+    keeper: &mut K,
+    pid: Pid,
+    entity: &Entity,
+    writes: &Writes,
+    by: &C,
+) -> Result<(), AllocError>
+    requires process { CanBecomeThere (C.can by.now) (K.look keeper.old (Proc pid)) }
+    requires can { CanBecome (K.look keeper.old entity.now) (written (process_in (K.look keeper.old (Proc pid))) writes.now) }
+    requires apart { IsNoProcess entity.now }
+    requires version { IsWritable (Beside.One entity.now writes.now) }
+    ensures ok { OnOk result (keeper.new ≡ K.wrote (K.wrote keeper.old entity.now (Some (value_of (K.look keeper.old entity.now) (written (process_in (K.look keeper.old (Proc pid))) writes.now)))) (Proc pid) (Some (became (C.after by.now) (K.look keeper.old (Proc pid))))) }
+    ensures err { OnErr result (keeper.new ≡ keeper.old) }
+{
+    match writes {
+        Writes::At(offset) if keeper.goes_unnoted(pid) => {
+            write_over(keeper, pid, entity, *offset, by)
+        }
+        Writes::Put if keeper.goes_unnoted(pid) => write_behind(keeper, pid, entity, by),
+        Writes::Take(count) if keeper.goes_unnoted(pid) => {
+            take_off(keeper, pid, entity, *count, by)
+        }
+        _ => {
+            let back = write_one(keeper, pid, *entity, writes)?;
+            write_last(keeper, back, pid, by)
+        }
+    }
+}
+
 /// What a row writes beside its process, with the process: it is last, or before what is made absent.
 fn write_beside<K: Keeper, C: Becoming>(
     keeper: &mut K,
@@ -193,10 +285,7 @@ fn write_beside<K: Keeper, C: Becoming>(
 {
     match beside {
         Beside::Nothing => keeper.change_process(pid, by),
-        Beside::One(entity, writes) => {
-            let back = write_one(keeper, pid, *entity, writes)?;
-            write_last(keeper, back, pid, by)
-        }
+        Beside::One(entity, writes) => write_both(keeper, pid, entity, writes, by),
         Beside::Gone(entity) => write_gone(keeper, pid, *entity, by),
     }
 }
@@ -219,7 +308,8 @@ fn fill<K: Keeper>(
     ensures ok { OnOk result (keeper.new ≡ wrote_all K.wrote (writes_of (K.look keeper.old) pid (row_seen (K.look keeper.old) (process_in (K.look keeper.old (Proc pid))) row.now)) keeper.old) }
     ensures err { OnErr result (keeper.new ≡ keeper.old) }
 {
-    let text = read(keeper, &row.looks, from, count);
+    let mut text = Text::empty();
+    read(keeper, &row.looks, from, count, &mut text);
     let number = number.unwrap_or(text.len() as u64);
     let filling = Filling {
         text: &text,

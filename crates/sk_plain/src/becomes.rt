@@ -106,7 +106,7 @@ impl<'a> Becoming for Filling<'a> {
     ghost after = { λ f p. filled p f.text.now f.number };
 
     fn change(&self, process: &mut Process) {
-        process.buffer = *self.text;
+        process.buffer.set(self.text.as_slice());
         give(process, Register::ANSWER, Val::Num(self.number as i64));
     }
 }

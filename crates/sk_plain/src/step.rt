@@ -1,5 +1,5 @@
 //! What a step will do, before it does it. A plan takes no memory.
-ghost use Rattle.std.specs.Prelude.{◌≡◌, ◌+◌, ◌<◌, ◌^◌, [], true, false, is_some, IsSome, IfOk, Some, None};
+ghost use Rattle.std.specs.Prelude.{◌≡◌, ◌+◌, ◌<◌, ◌^◌, [], true, false, is_some, IsSome, IfOk, Some, None, Ok};
 ghost use Rattle.std.specs.Option.{option_copied};
 ghost use Rattle.sk_ids.specs.declared.entity.Entity.TheVariants.{Sig};
 ghost use Rattle.sk_objects.specs.declared.value.Value.TheVariants as values;
@@ -7,12 +7,12 @@ ghost use Rattle.sk_store.specs.declared.entity_state.EntityState.TheVariants as
 ghost use Rattle.sk_script.specs.declared.instruction.Input.TheVariants as Input;
 ghost use Rattle.sk_script.specs.Private.{private_step};
 ghost use Rattle.sk_trace.specs.Kept.{input_in};
-ghost use Rattle.sk_plain.specs.Act.{row, does, next_in, handled as handled_row, with_signals, with_input};
+ghost use Rattle.sk_plain.specs.Act.{row, does, next_in, is_access, due, handled as handled_row, with_signals, with_input};
 ghost use Rattle.sk_plain.specs.Next.{IsAlone};
 ghost use Rattle.sk_plain.specs.Planned.{signals_read, IsReply, said_by};
 ghost use Rattle.sk_plain.specs.declared.plan.Beside.TheVariants as Beside;
 ghost use Rattle.sk_plain.specs.declared.plan.Looks.TheVariants as Looks;
-ghost use Rattle.sk_plain.specs.Seen.{PlansAfter, PlansStep, plan_of, seen, seen_with};
+ghost use Rattle.sk_plain.specs.Seen.{PlansAfter, PlansRow, PlansStep, plan_of, seen, seen_with, told};
 
 use crate::next::is_due;
 use crate::processes::{ends, fork, is_killed, kill, status_of, wait};
@@ -64,7 +64,27 @@ pub(crate) fn is_private(_process: &Process, instruction: &Instruction) -> bool
     }
 }
 
-/// What an instruction will do that is not private, without input.
+/// Whether an instruction reads or writes a file: the frequent ones that are not private.
+fn is_access(instruction: &Instruction) -> bool
+    ensures { result ≡ is_access instruction.now }
+{
+    matches!(instruction, Instruction::Read(..) | Instruction::Write(..))
+}
+
+/// What a read or write of a file will do.
+fn access<S: Look>(store: &S, pid: Pid, process: &Process, instruction: &Instruction) -> Row
+    requires place { process.now.place + 1 < 2 ^ 32 }
+    requires access { is_access instruction.now ≡ true }
+    ensures { PlansRow (S.look store.now) process.now pid (row pid process.now instruction.now) (Ok result) }
+{
+    match instruction {
+        Instruction::Read(file, at) => files::read(store, pid, process, *file, *at),
+        Instruction::Write(file, at) => files::write(store, pid, process, *file, *at),
+        _ => unreachable!(),
+    }
+}
+
+/// What another instruction will do that is not private, without input.
 #[tactic(auto, using(crate::proofs::Plans::rows))]
 fn tabled<S: Look>(
     store: &S,
@@ -74,6 +94,7 @@ fn tabled<S: Look>(
 ) -> Result<Plan, Refusal>
     requires place { process.now.place + 1 < 2 ^ 32 }
     requires other { is_some (private_step process.now instruction.now) ≡ false }
+    requires access { is_access instruction.now ≡ false }
     ensures { PlansAfter (S.look store.now) (Some instruction.now) Input.None process.now [] pid (row pid process.now instruction.now) result }
 {
     Ok(match instruction {
@@ -91,8 +112,6 @@ fn tabled<S: Look>(
         }
         Instruction::Unlink(at, name) => Plan::Acts(names::unlink(store, pid, process, *at, name)),
         Instruction::Size(file) => Plan::Acts(files::size(store, pid, process, *file)),
-        Instruction::Write(file, at) => Plan::Acts(files::write(store, pid, process, *file, *at)),
-        Instruction::Read(file, at) => Plan::Acts(files::read(store, pid, process, *file, *at)),
         Instruction::Cut(file, size) => Plan::Acts(files::cut(store, pid, process, *file, *size)),
         Instruction::Put(pipe) => return plan_of(pipes::put(store, pid, process, *pipe)),
         Instruction::Take(pipe, most) => {
@@ -110,23 +129,77 @@ fn tabled<S: Look>(
     })
 }
 
+/// Puts what was planned into a plan.
+fn keep(plan: &mut Plan, planned: Result<Plan, Refusal>) -> Result<(), Refusal>
+    ensures { told result plan.new ≡ planned }
+{
+    match planned {
+        Ok(next) => {
+            *plan = next;
+            Ok(())
+        }
+        Err(why) => Err(why),
+    }
+}
+
+/// The same as `tabled`, put into a plan. It stands by itself, since each plan of the table has a place of its own
+/// in its frame.
+#[inline(never)]
+fn put_tabled<S: Look>(
+    store: &S,
+    pid: Pid,
+    process: &Process,
+    instruction: &Instruction,
+    plan: &mut Plan,
+) -> Result<(), Refusal>
+    requires place { process.now.place + 1 < 2 ^ 32 }
+    requires other { is_some (private_step process.now instruction.now) ≡ false }
+    requires access { is_access instruction.now ≡ false }
+    ensures { PlansAfter (S.look store.now) (Some instruction.now) Input.None process.now [] pid (row pid process.now instruction.now) (told result plan.new) }
+{
+    keep(plan, tabled(store, pid, process, instruction))
+}
+
+/// What an instruction will do that is not private, without input.
+#[tactic(auto, using(crate::proofs::Plans::rows))]
+fn acted<S: Look>(
+    store: &S,
+    pid: Pid,
+    process: &Process,
+    instruction: &Instruction,
+    plan: &mut Plan,
+) -> Result<(), Refusal>
+    requires place { process.now.place + 1 < 2 ^ 32 }
+    requires other { is_some (private_step process.now instruction.now) ≡ false }
+    ensures { PlansAfter (S.look store.now) (Some instruction.now) Input.None process.now [] pid (row pid process.now instruction.now) (told result plan.new) }
+{
+    if is_access(instruction) {
+        *plan = Plan::Acts(access(store, pid, process, instruction));
+        return Ok(());
+    }
+    put_tabled(store, pid, process, instruction, plan)
+}
+
 /// A step without input.
 fn does<S: Look>(
     store: &S,
     pid: Pid,
     process: &Process,
     instruction: Option<&Instruction>,
-) -> Result<Plan, Refusal>
+    plan: &mut Plan,
+) -> Result<(), Refusal>
     requires { IsSome instruction → process.now.place + 1 < 2 ^ 32 }
-    ensures { PlansAfter (S.look store.now) (option_copied instruction.entry) Input.None process.now [] pid (does pid process.now (option_copied instruction.entry)) result }
+    ensures { PlansAfter (S.look store.now) (option_copied instruction.entry) Input.None process.now [] pid (does pid process.now (option_copied instruction.entry)) (told result plan.new) }
 {
     let Some(instruction) = instruction else {
-        return Ok(Plan::Acts(ends(pid, 0)));
+        *plan = Plan::Acts(ends(pid, 0));
+        return Ok(());
     };
     if is_private(process, instruction) {
-        return Ok(Plan::Private);
+        *plan = Plan::Private;
+        return Ok(());
     }
-    tabled(store, pid, process, instruction)
+    acted(store, pid, process, instruction, plan)
 }
 
 /// The front signal goes to the handler, where one is set and no place is saved.
@@ -136,60 +209,117 @@ fn handled<S: Look>(
     process: &Process,
     instruction: Option<&Instruction>,
     signals: &Signals,
-) -> Result<Plan, Refusal>
+    plan: &mut Plan,
+) -> Result<(), Refusal>
     requires queue { S.look store.now (Sig pid) ≡ Some (stored.Value (values.Signals signals.now)) }
     requires small { IsSome instruction → process.now.place + 1 < 2 ^ 32 }
-    ensures { PlansAfter (S.look store.now) (option_copied instruction.entry) Input.None process.now [] pid (handled_row pid process.now (option_copied instruction.entry) signals.now process.now.handler process.now.saved) result }
+    ensures { PlansAfter (S.look store.now) (option_copied instruction.entry) Input.None process.now [] pid (handled_row pid process.now (option_copied instruction.entry) signals.now process.now.handler process.now.saved) (told result plan.new) }
 {
     match (signals.as_slice(), process.handler, process.saved) {
-        ([signal, ..], Some(handler), None) => Ok(Plan::Acts(wrote(
-            ProcessChange::Does(Becomes::Handles(*signal, handler)),
-            Entity::Sig(pid),
-            Writes::TakeSignal,
-        ))),
-        _ => does(store, pid, process, instruction),
+        ([signal, ..], Some(handler), None) => {
+            *plan = Plan::Acts(wrote(
+                ProcessChange::Does(Becomes::Handles(*signal, handler)),
+                Entity::Sig(pid),
+                Writes::TakeSignal,
+            ));
+            Ok(())
+        }
+        _ => does(store, pid, process, instruction, plan),
     }
 }
 
-/// What a process does next without input.
+/// What a process with signals does next without input.
+#[inline(never)]
+fn signalled<S: Look>(
+    store: &S,
+    pid: Pid,
+    process: &Process,
+    instruction: Option<&Instruction>,
+    signals: &Signals,
+    plan: &mut Plan,
+) -> Result<(), Refusal>
+    requires queue { S.look store.now (Sig pid) ≡ Some (stored.Value (values.Signals signals.now)) }
+    requires small { IsSome instruction → process.now.place + 1 < 2 ^ 32 }
+    ensures { PlansAfter (S.look store.now) (option_copied instruction.entry) Input.None process.now [] pid (due pid process.now (option_copied instruction.entry) signals.now) (told result plan.new) }
+{
+    if is_killed(signals.as_slice()) {
+        *plan = Plan::Acts(ends(pid, KILLED));
+        return Ok(());
+    }
+    handled(store, pid, process, instruction, signals, plan)
+}
+
+/// What a process does next without input. Mostly it has no signals.
 fn with_signals<S: Look>(
     store: &S,
     pid: Pid,
     process: &Process,
     instruction: Option<&Instruction>,
-) -> Result<Plan, Refusal>
+    plan: &mut Plan,
+) -> Result<(), Refusal>
     requires { IsSome instruction → process.now.place + 1 < 2 ^ 32 }
-    ensures { PlansAfter (S.look store.now) (option_copied instruction.entry) Input.None process.now [] pid (with_signals pid process.now (option_copied instruction.entry) (S.look store.now (Sig pid))) result }
+    ensures { PlansAfter (S.look store.now) (option_copied instruction.entry) Input.None process.now [] pid (with_signals pid process.now (option_copied instruction.entry) (S.look store.now (Sig pid))) (told result plan.new) }
 {
     match store.value(Entity::Sig(pid)) {
-        Some(EntityState::Value(Value::Signals(signals))) => {
-            if is_killed(signals.as_slice()) {
-                return Ok(Plan::Acts(ends(pid, KILLED)));
-            }
-            handled(store, pid, process, instruction, signals)
+        Some(EntityState::Value(Value::Signals(signals))) => match signals.as_slice() {
+            [] => does(store, pid, process, instruction, plan),
+            _ => signalled(store, pid, process, instruction, signals, plan),
+        },
+        _ => does(store, pid, process, instruction, plan),
+    }
+}
+
+/// The next step of a process whose input is a reply.
+#[inline(never)]
+#[tactic(auto, using(crate::proofs::Plans::rows))]
+fn replied<S: Look>(
+    store: &S,
+    pid: Pid,
+    process: &Process,
+    instruction: Option<&Instruction>,
+    input: InputRef<'_>,
+    plan: &mut Plan,
+) -> Result<(), Refusal>
+    requires reply { IsReply (input_in input) }
+    requires small { IsSome instruction → process.now.place + 1 < 2 ^ 32 }
+    ensures row { PlansAfter (S.look store.now) (option_copied instruction.entry) (input_in input.entry) process.now [] pid (with_input pid process.now (option_copied instruction.entry) (input_in input.entry)) (told result plan.new) }
+    ensures quiet { IfOk (told result plan.new) (λ plan. said_by (seen (S.look store.now) (option_copied instruction.entry) (input_in input.entry) process.now plan) ≡ None) }
+{
+    match input {
+        InputRef::Good => {
+            let row = replies::good(store, pid, process, instruction);
+            keep(plan, plan_of(row))
         }
-        _ => does(store, pid, process, instruction),
+        InputRef::Fresh(content) => {
+            let planned = replies::fresh(store, pid, process, instruction, content);
+            keep(plan, planned)
+        }
+        InputRef::Stale(content) => {
+            let planned = replies::stale(store, pid, process, instruction, content);
+            keep(plan, planned)
+        }
+        InputRef::None => unreachable!(),
     }
 }
 
 /// The next step of a process that goes on.
-#[tactic(auto, using(crate::proofs::Plans::rows))]
 fn with_input<S: Look>(
     store: &S,
     pid: Pid,
     process: &Process,
     instruction: Option<&Instruction>,
     input: InputRef<'_>,
-) -> Result<Plan, Refusal>
+    plan: &mut Plan,
+) -> Result<(), Refusal>
     requires { IsSome instruction → process.now.place + 1 < 2 ^ 32 }
-    ensures row { PlansAfter (S.look store.now) (option_copied instruction.entry) (input_in input.entry) process.now (signals_read pid (input_in input.entry)) pid (with_input pid process.now (option_copied instruction.entry) (input_in input.entry)) result }
-    ensures quiet { IsReply (input_in input.entry) → IfOk result (λ plan. said_by (seen (S.look store.now) (option_copied instruction.entry) (input_in input.entry) process.now plan) ≡ None) }
+    ensures row { PlansAfter (S.look store.now) (option_copied instruction.entry) (input_in input.entry) process.now (signals_read pid (input_in input.entry)) pid (with_input pid process.now (option_copied instruction.entry) (input_in input.entry)) (told result plan.new) }
+    ensures quiet { IsReply (input_in input.entry) → IfOk (told result plan.new) (λ plan. said_by (seen (S.look store.now) (option_copied instruction.entry) (input_in input.entry) process.now plan) ≡ None) }
 {
     match input {
-        InputRef::None => with_signals(store, pid, process, instruction),
-        InputRef::Good => plan_of(replies::good(store, pid, process, instruction)),
-        InputRef::Fresh(content) => replies::fresh(store, pid, process, instruction, content),
-        InputRef::Stale(content) => replies::stale(store, pid, process, instruction, content),
+        InputRef::None => with_signals(store, pid, process, instruction, plan),
+        InputRef::Good | InputRef::Fresh(_) | InputRef::Stale(_) => {
+            replied(store, pid, process, instruction, input, plan)
+        }
     }
 }
 
@@ -220,6 +350,33 @@ pub(crate) fn instruction_at<'a>(scripts: &'a Scripts, process: &Process) -> Opt
     }
 }
 
+/// Puts what the next step of a process will do with an input into a plan, which is `Private` before; or answers the
+/// first refusal that applies. This takes no memory.
+pub fn plan_into<S: Look>(
+    store: &S,
+    scripts: &Scripts,
+    pid: Pid,
+    input: InputRef<'_>,
+    plan: &mut Plan,
+) -> Result<(), Refusal>
+    requires { plan.old ≡ Plan.Private }
+    ensures step { PlansStep (S.look store.now) scripts.now pid (input_in input.entry) (told result plan.new) }
+    ensures quiet { IsReply (input_in input.entry) → IfOk (told result plan.new) (λ plan. said_by (seen_with (S.look store.now) scripts.now pid (input_in input.entry) plan) ≡ None) }
+{
+    let process = match store.value(Entity::Proc(pid)) {
+        Some(EntityState::Process(process)) => process,
+        _ => return Err(Refusal::NoProcess),
+    };
+    if process.ended {
+        return Err(Refusal::Ended);
+    }
+    let instruction = instruction_at(scripts, process);
+    if goes_alone(store, pid, process, instruction, input) {
+        return Ok(());
+    }
+    with_input(store, pid, process, instruction, input, plan)
+}
+
 /// What the next step of a process will do with an input, or the first refusal that applies. This
 /// takes no memory.
 pub fn plan_step<S: Look>(
@@ -231,16 +388,9 @@ pub fn plan_step<S: Look>(
     ensures step { PlansStep (S.look store.now) scripts.now pid (input_in input.entry) result }
     ensures quiet { IsReply (input_in input.entry) → IfOk result (λ plan. said_by (seen_with (S.look store.now) scripts.now pid (input_in input.entry) plan) ≡ None) }
 {
-    let process = match store.value(Entity::Proc(pid)) {
-        Some(EntityState::Process(process)) => process,
-        _ => return Err(Refusal::NoProcess),
-    };
-    if process.ended {
-        return Err(Refusal::Ended);
+    let mut plan = Plan::Private;
+    match plan_into(store, scripts, pid, input, &mut plan) {
+        Ok(()) => Ok(plan),
+        Err(why) => Err(why),
     }
-    let instruction = instruction_at(scripts, process);
-    if goes_alone(store, pid, process, instruction, input) {
-        return Ok(Plan::Private);
-    }
-    with_input(store, pid, process, instruction, input)
 }

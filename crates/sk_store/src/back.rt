@@ -1,6 +1,8 @@
 //! What takes a write back, in a store.
-ghost use Rattle.std.specs.Prelude.{◌≡◌, OnOk, OnErr, IsSome, IfOk, Some};
+ghost use Rattle.std.specs.Prelude.{◌≡◌, OnOk, OnErr, IsSome, IfOk, Some, false};
+ghost use Rattle.std.specs.Ordering.{eq_by_cmp};
 ghost use Rattle.std.specs.FinMap as map;
+ghost use Rattle.sk_ids.specs.Entity.{entity_cmp};
 ghost use Rattle.sk_ids.specs.declared.entity.Entity.TheVariants.{Proc};
 ghost use Rattle.sk_store.specs.Changed.{FitsAt, changed};
 ghost use Rattle.sk_store.specs.Processes.{CanBecome, became};
@@ -66,6 +68,23 @@ fn change_in(store: &mut Store, entity: &Entity, change: Change) -> Result<Undo,
     }
 }
 
+/// Changes a value where it stands, and keeps nothing that takes that back. Without memory nothing has
+/// changed.
+fn change_alone_in(store: &mut Store, entity: &Entity, change: &Change) -> Result<(), AllocError>
+    requires { FitsAt (map.get store.old entity.now) change.now }
+    ensures ok { OnOk result (store.new ≡ map.insert store.old entity.now (changed (map.get store.old entity.now) change.now)) }
+    ensures err { OnErr result (store.new ≡ store.old) }
+{
+    let alloc = store.alloc();
+    match store.get_mut(entity) {
+        Some(stored) => {
+            stored.change_alone(alloc, change)?;
+            Ok(())
+        }
+        None => unreachable!(),
+    }
+}
+
 /// Changes a process where it stands, which takes no memory.
 fn become_in<C: Becoming>(store: &mut Store, pid: Pid, by: &C)
     requires { CanBecome (C.can by.now) (map.get store.old (Proc pid)) }
@@ -75,6 +94,25 @@ fn become_in<C: Becoming>(store: &mut Store, pid: Pid, by: &C)
         Some(stored) => stored.become_by(by),
         None => unreachable!(),
     }
+}
+
+/// Changes a value and then a process, where they stand. Without memory nothing has changed.
+fn change_both<C: Becoming>(
+    store: &mut Store,
+    entity: &Entity,
+    change: &Change,
+    pid: Pid,
+    by: &C,
+) -> Result<(), AllocError>
+    requires fits { FitsAt (map.get store.old entity.now) change.now }
+    requires can { CanBecome (C.can by.now) (map.get store.old (Proc pid)) }
+    requires apart { eq_by_cmp entity_cmp (Proc pid) entity.now ≡ false }
+    ensures ok { OnOk result (store.new ≡ map.insert (map.insert store.old entity.now (changed (map.get store.old entity.now) change.now)) (Proc pid) (became (C.after by.now) (map.get store.old (Proc pid)))) }
+    ensures err { OnErr result (store.new ≡ store.old) }
+{
+    change_alone_in(store, entity, change)?;
+    become_in(store, pid, by);
+    Ok(())
 }
 
 /// Puts a write back, which takes no memory.
@@ -117,7 +155,7 @@ fn write_in(
 impl Keeper for Store {
     type Back = Back;
 
-    ghost use Rattle.std.specs.Prelude.{[]};
+    ghost use Rattle.std.specs.Prelude.{[], true};
     ghost use Rattle.sk_record.specs.Run.{put};
     ghost use Rattle.sk_store.specs.Back.{taken_back, CanTakeBack};
 
@@ -128,6 +166,8 @@ impl Keeper for Store {
     ghost taken_back = { taken_back };
 
     ghost step_tags = { λ _. [] };
+
+    ghost goes_unnoted = { λ _ _. true };
 
     fn memory(&self) -> Global {
         self.alloc()
@@ -153,6 +193,21 @@ impl Keeper for Store {
     fn change_process<C: Becoming>(&mut self, pid: Pid, by: &C) -> Result<(), AllocError> {
         become_in(self, pid, by);
         Ok(())
+    }
+
+    /// A store has no notes.
+    fn goes_unnoted(&self, _pid: Pid) -> bool {
+        true
+    }
+
+    fn change_both<C: Becoming>(
+        &mut self,
+        entity: &Entity,
+        change: &Change,
+        pid: Pid,
+        by: &C,
+    ) -> Result<(), AllocError> {
+        change_both(self, entity, change, pid, by)
     }
 
     fn remove(&mut self, entity: Entity) -> Result<(), AllocError> {

@@ -2,7 +2,7 @@
 ghost use Rattle.std.specs.Prelude.{◌≡◌, IfOk, OnOk, OnErr, Some};
 
 use crate::Becoming;
-use sk_changes::{Change, Invertible, Undo};
+use sk_changes::{Change, Invertible, Undo, change_alone};
 use sk_objects::Value;
 use sk_script::Process;
 use std::alloc::{AllocError, Global};
@@ -42,6 +42,22 @@ impl EntityState {
                 Ok(undo) => Ok(undo),
                 Err(_) => Err(AllocError),
             },
+            EntityState::Process(_) => unreachable!(),
+        }
+    }
+
+    /// Changes the value that it is, where it stands, and keeps nothing that takes that back. Without
+    /// memory nothing has changed.
+    pub fn change_alone(&mut self, alloc: Global, change: &Change) -> Result<(), AllocError>
+        requires { FitsAt (Some self.old) change.now }
+        ensures ok { OnOk result (self.new ≡ changed (Some self.old) change.now) }
+        ensures err { OnErr result (self.new ≡ self.old) }
+    {
+        match self {
+            EntityState::Value(value) => {
+                change_alone(value, alloc, change)?;
+                Ok(())
+            }
             EntityState::Process(_) => unreachable!(),
         }
     }

@@ -10,7 +10,7 @@ pub trait Keeper: Look {
     ghost use Rattle.sk_ids.specs.declared.entity.Entity.{Entity};
     ghost use Rattle.sk_ids.specs.declared.entity.Entity.TheVariants.{Proc};
     ghost use Rattle.sk_store.specs.declared.entity_state.EntityState.{EntityState};
-    ghost use Rattle.std.specs.Prelude.{false};
+    ghost use Rattle.std.specs.Prelude.{Bool, true, false};
     ghost use Rattle.std.specs.Ordering.{eq_by_cmp};
     ghost use Rattle.sk_ids.specs.Entity.{entity_cmp};
     ghost use Rattle.sk_store.specs.Processes.{CanBecome, became};
@@ -30,6 +30,9 @@ pub trait Keeper: Look {
 
     /// The guesses that a step rests on.
     ghost step_tags: { Self → List ℕ };
+
+    /// Whether nothing is noted of a write of a process, so that it wants no memory.
+    ghost goes_unnoted: { Self → ℕ → Bool };
 
     /// What it takes its memory from.
     fn memory(&self) -> Global;
@@ -58,6 +61,26 @@ pub trait Keeper: Look {
     fn change_process<C: Becoming>(&mut self, pid: Pid, by: &C) -> Result<(), AllocError>
         requires { CanBecome (C.can by.now) (Self.look self.old (Proc pid)) }
         ensures ok { OnOk result (self.new ≡ wrote self.old (Proc pid) (Some (became (C.after by.now) (Self.look self.old (Proc pid))))) }
+        ensures err { OnErr result (self.new ≡ self.old) };
+
+    /// Whether nothing is noted of a write of a process, so that it wants no memory.
+    fn goes_unnoted(&self, pid: Pid) -> bool
+        ensures { result ≡ goes_unnoted self.now pid };
+
+    /// Changes the value of an entity and then a process, of which nothing is noted, as the last writes of a
+    /// step. Without memory nothing has changed.
+    fn change_both<C: Becoming>(
+        &mut self,
+        entity: &Entity,
+        change: &Change,
+        pid: Pid,
+        by: &C,
+    ) -> Result<(), AllocError>
+        requires unnoted { goes_unnoted self.old pid ≡ true }
+        requires fits { FitsAt (Self.look self.old entity.now) change.now }
+        requires can { CanBecome (C.can by.now) (Self.look self.old (Proc pid)) }
+        requires apart { eq_by_cmp entity_cmp (Proc pid) entity.now ≡ false }
+        ensures ok { OnOk result (self.new ≡ wrote (wrote self.old entity.now (Some (changed (Self.look self.old entity.now) change.now))) (Proc pid) (Some (became (C.after by.now) (Self.look self.old (Proc pid))))) }
         ensures err { OnErr result (self.new ≡ self.old) };
 
     /// Makes an entity absent, as the last write of a step. Without memory nothing has changed.

@@ -430,6 +430,13 @@ pub either_way : {A F P Q R : Type 0} (r : Result A F) → OnOk r P → OnErr r 
 either_way (Ok x) p q f g = f p
 either_way (Err why) p q f g = g q
 
+-- a change of a value, and then of a process
+pub both_counted : (m n : SlotMap) (e : Entity) (names : NameMap) → IsCounted m names → (tags : List ℕ) (change : Change) → FitsAt (look_at m e) change → (pid : ℕ) (v : Option EntityState)
+    → n ≡ slots_wrote tags (slots_wrote tags m e (Some (changed (look_at m e) change))) (Proc pid) v → IsCounted n names
+both_counted m n e names so tags change fits pid v is =
+    let mid = slots_wrote tags m e (Some (changed (look_at m e) change)) in
+    other_counted mid n (Proc pid) names (changed_counted m mid e names so tags change fits refl) tags v pid refl is
+
 -- no slots, and no numbers
 pub none_counted : IsCounted map.empty map.empty
 none_counted = record {

@@ -17,8 +17,8 @@ use Rattle.sk_record.specs.UndoState.{IsGrowing}
 use Rattle.sk_record.proofs.Merged.{all_kept, in_turn, both_committed, grow_in}
 use Rattle.sk_store.specs.declared.entity_state.EntityState.{EntityState}
 use Rattle.sk_undo.specs.Log.{is_empty, carries}
-use Rattle.sk_undo.specs.Slot.{SlotView, slot_of, is_bare}
-use Rattle.sk_undo.specs.Logs.{SlotMap, slot_in, placed, look_at, log_at}
+use Rattle.sk_undo.specs.Slot.{SlotView, slot_of, slot_wrote, is_bare}
+use Rattle.sk_undo.specs.Logs.{SlotMap, slot_in, slots_wrote, placed, look_at, log_at}
 use Rattle.sk_undo.specs.Decisions.{SlotUnwound, SlotCommitted, ChangedAt, IsWithin, Unwound, Lightened, AreListed, AllRest, AllGrow, NoneBare}
 use Rattle.sk_undo.proofs.SeenNotes.{none_is, none_off, grow_cut}
 use Rattle.sk_undo.proofs.Commits.{committed_free, committed_twice, grow_commit, is_settled, settled_free, all_settled, all_merged}
@@ -59,6 +59,10 @@ placed_get m e s q apart =
       | true ↦ map.get-remove entity_total m e q ∙ ap (λ b. cond b None (map.get m q)) apart
       | false ↦ map.get-insert entity_total m e s q ∙ ap (λ b. cond b (Some s) (map.get m q)) apart
     ]
+
+-- the slot of another entity is as it was after a write
+pub wrote_get : (tags : List ℕ) (m n : SlotMap) (e q : Entity) (v : Option EntityState) → n ≡ slots_wrote tags m e v → eq_by_cmp entity_cmp q e ≡ false → map.get n q ≡ map.get m q
+wrote_get tags m n e q v is apart = ap (λ x. map.get x q) is ∙ placed_get m e (slot_wrote tags (slot_in (map.get m e)) v) q apart
 
 pub placed_bare : (m : SlotMap) (e : Entity) (s : SlotView) → NoneBare m → NoneBare (placed m e s)
 placed_bare m e s none q t =

@@ -1,5 +1,5 @@
 -- All entities with their undo logs, entity by entity.
-use Rattle.std.specs.Prelude.{ℕ, List, [], reverse, Option, Some, None, refl, if◌then◌else◌}
+use Rattle.std.specs.Prelude.{ℕ, Bool, List, [], reverse, Option, Some, None, refl, if◌then◌else◌}
 use Rattle.std.specs.Coded.{Coded, code_by, coded×, coded_ℕ, coded_list}
 use Rattle.std.specs.FinMap as map
 use Rattle.sk_ids.specs.Entity.{entity_cmp}
@@ -11,7 +11,7 @@ use Rattle.sk_store.specs.declared.back.PutBack.{PutBack}
 use Rattle.sk_undo.specs.declared.slots.TakeBack.{TakeBack}
 use Rattle.sk_undo.specs.declared.slots.TakeBack.TheVariants.{DropSlot, UndoLast}
 use Rattle.sk_undo.specs.contracts.slots.TakeBack as how_row
-use Rattle.sk_undo.specs.Slot.{SlotView, slot_code, slot_of, is_bare, slot_wrote, slot_back, CanGoBackOnce}
+use Rattle.sk_undo.specs.Slot.{SlotView, slot_code, slot_of, is_bare, goes_unnoted, slot_wrote, slot_back, CanGoBackOnce}
 
 abbrev pub SlotMap : Type 0
 SlotMap = map.FinMap entity_cmp SlotView
@@ -38,6 +38,10 @@ placed m e s = if is_bare s then map.remove m e else map.insert m e s
 -- one write
 abbrev pub slots_wrote : List ℕ → SlotMap → Entity → Option EntityState → SlotMap
 slots_wrote tags m e v = placed m e (slot_wrote tags (slot_in (map.get m e)) v)
+
+-- whether a write of an entity with these tags is not noted
+abbrev pub is_unnoted : List ℕ → SlotMap → Entity → Bool
+is_unnoted tags m e = goes_unnoted tags (slot_in (map.get m e)).log
 
 -- what an entity had in a store, written without tags
 abbrev pub moved : SlotMap → Entity → Option EntityState → SlotMap

@@ -1,5 +1,5 @@
 //! The slots of entities, with how many names each directory has.
-ghost use Rattle.std.specs.Prelude.{◌≡◌, ◌≤◌, ◌<◌, ◌^◌, [], false, min, ◌-◌, OnOk, OnErr, IfOk, Some, None, is_some};
+ghost use Rattle.std.specs.Prelude.{◌≡◌, ◌≤◌, ◌<◌, ◌^◌, [], true, false, min, ◌-◌, OnOk, OnErr, IfOk, Some, None, is_some};
 ghost use Rattle.std.specs.Option.{option_copied, unwrap_or};
 ghost use Rattle.std.specs.FinMap as map;
 ghost use Rattle.std.specs.List.Sorted.{IsStrictlySortedBy};
@@ -13,7 +13,7 @@ ghost use Rattle.sk_store.specs.Changed.{FitsAt, changed};
 ghost use Rattle.sk_store.specs.Names.{IsCount, name_there};
 ghost use Rattle.sk_store.specs.Processes.{CanBecome, became};
 ghost use Rattle.sk_undo.specs.Count.{notes_in};
-ghost use Rattle.sk_undo.specs.Logs.{look_at, log_at, moved, slots_wrote, slots_back, CanTakeBack};
+ghost use Rattle.sk_undo.specs.Logs.{look_at, log_at, is_unnoted, moved, slots_wrote, slots_back, CanTakeBack};
 ghost use Rattle.sk_undo.specs.Names.{IsCounted, count_for, link_there, recounted};
 ghost use Rattle.sk_undo.specs.Decisions.{ChangedAt, SlotUnwound, Unwound, Lightened, AreListed, AllRest, AllGrow, NoneBare};
 
@@ -215,6 +215,33 @@ impl CountedSlots {
         ensures err { OnErr result (self.new ≡ self.old) }
     {
         self.slots.change(entity, tags, change)
+    }
+
+    /// Whether nothing is noted of a write of a process with these tags.
+    pub fn goes_unnoted(&self, pid: Pid, tags: &TagSet) -> bool
+        ensures { result ≡ is_unnoted tags.now self.now (Proc pid) }
+    {
+        self.slots.goes_unnoted(pid, tags)
+    }
+
+    /// Changes the value of an entity and then a process, of which nothing is noted. Without memory nothing
+    /// has changed.
+    pub fn change_both<C: Becoming>(
+        &mut self,
+        entity: &Entity,
+        tags: &TagSet,
+        change: &Change,
+        pid: Pid,
+        by: &C,
+    ) -> Result<(), AllocError>
+        requires unnoted { is_unnoted tags.now self.old (Proc pid) ≡ true }
+        requires fits { FitsAt (look_at self.old entity.now) change.now }
+        requires can { CanBecome (C.can by.now) (look_at self.old (Proc pid)) }
+        requires apart { eq_by_cmp entity_cmp (Proc pid) entity.now ≡ false }
+        ensures ok { OnOk result (self.new ≡ slots_wrote tags.now (slots_wrote tags.now self.old entity.now (Some (changed (look_at self.old entity.now) change.now))) (Proc pid) (Some (became (C.after by.now) (look_at self.old (Proc pid))))) }
+        ensures err { OnErr result (self.new ≡ self.old) }
+    {
+        self.slots.change_both(entity, tags, change, pid, by)
     }
 
     /// Takes the newest write back, which takes no memory.

@@ -88,6 +88,18 @@ impl Held {
         Ok(undo)
     }
 
+    /// Changes the value that it is, where it stands, and keeps nothing that takes that back. Without
+    /// memory nothing has changed.
+    pub fn change_alone(&mut self, change: &Change) -> Result<(), AllocError>
+        requires { FitsAt (Some self.old) change.now }
+        ensures ok { OnOk result (self.new ≡ changed (Some self.old) change.now) }
+        ensures err { OnErr result (self.new ≡ self.old) }
+    {
+        let alloc = *Box::allocator(&self.state);
+        self.state.change_alone(alloc, change)?;
+        Ok(())
+    }
+
     /// Changes the process that it is, where it stands, which takes no memory.
     pub fn become_by<C: Becoming>(&mut self, by: &C)
         requires { CanBecome (C.can by.now) (Some self.old) }

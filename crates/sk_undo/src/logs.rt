@@ -193,7 +193,8 @@ impl Look for Logs {
 }
 
 impl Keeper for Logs {
-    ghost use Rattle.sk_undo.specs.Logs.{wrote, can_take_back, taken_back};
+    ghost use Rattle.sk_ids.specs.declared.entity.Entity.TheVariants.{Proc};
+    ghost use Rattle.sk_undo.specs.Logs.{wrote, is_unnoted, can_take_back, taken_back};
 
     type Back = Back;
 
@@ -204,6 +205,8 @@ impl Keeper for Logs {
     ghost taken_back = { taken_back };
 
     ghost step_tags = { λ l. l.tags };
+
+    ghost goes_unnoted = { λ l pid. is_unnoted l.tags l.slots (Proc pid) };
 
     fn memory(&self) -> Global {
         self.slots.alloc()
@@ -225,6 +228,20 @@ impl Keeper for Logs {
 
     fn change_process<C: Becoming>(&mut self, pid: Pid, by: &C) -> Result<(), AllocError> {
         self.slots.change_process(pid, &self.tags, by)
+    }
+
+    fn goes_unnoted(&self, pid: Pid) -> bool {
+        self.slots.goes_unnoted(pid, &self.tags)
+    }
+
+    fn change_both<C: Becoming>(
+        &mut self,
+        entity: &Entity,
+        change: &Change,
+        pid: Pid,
+        by: &C,
+    ) -> Result<(), AllocError> {
+        self.slots.change_both(entity, &self.tags, change, pid, by)
     }
 
     fn remove(&mut self, entity: Entity) -> Result<(), AllocError> {

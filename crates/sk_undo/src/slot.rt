@@ -80,6 +80,22 @@ fn change_in(value: &mut Option<Held>, change: Change) -> Result<Undo, AllocErro
     }
 }
 
+/// Changes a value where it stands, and keeps nothing that takes that back. Without memory nothing has
+/// changed.
+fn change_alone_in(value: &mut Option<Held>, change: &Change) -> Result<(), AllocError>
+    requires { FitsAt value.old change.now }
+    ensures ok { OnOk result (value.new ≡ Some (changed value.old change.now)) }
+    ensures err { OnErr result (value.new ≡ value.old) }
+{
+    match value {
+        Some(state) => {
+            state.change_alone(change)?;
+            Ok(())
+        }
+        None => unreachable!(),
+    }
+}
+
 /// Changes the process that is there, where it stands.
 fn become_in<C: Becoming>(value: &mut Option<Held>, by: &C)
     requires { CanBecome (C.can by.now) value.old }
@@ -214,6 +230,39 @@ impl Slot {
         let undo = PutBack::Changed(change_in(&mut self.value, change)?);
         self.log.note_reserved(tags, undo);
         Ok(None)
+    }
+
+    /// Whether a write with these tags is not noted.
+    pub fn goes_unnoted(&self, tags: &TagSet) -> bool
+        ensures { result ≡ goes_unnoted tags.now self.now.log }
+    {
+        goes_unnoted(tags, &self.value, &self.log)
+    }
+
+    /// Changes what is there, and answers nothing that takes it back. Without memory nothing has changed.
+    pub fn change_alone(&mut self, tags: &TagSet, change: &Change) -> Result<(), AllocError>
+        requires { FitsAt self.old.now change.now }
+        ensures ok { OnOk result (self.new ≡ slot_wrote tags.now self.old (Some (changed self.old.now change.now))) }
+        ensures err { OnErr result (self.new ≡ self.old) }
+    {
+        if goes_unnoted(tags, &self.value, &self.log) {
+            change_alone_in(&mut self.value, change)?;
+            return Ok(());
+        }
+        self.change(tags, *change)?;
+        Ok(())
+    }
+
+    /// Changes the process that is there, where it stands, of which nothing is noted.
+    pub fn become_unnoted<C: Becoming>(&mut self, tags: &TagSet, by: &C)
+        requires unnoted { goes_unnoted tags.now self.old.log ≡ true }
+        requires can { CanBecome (C.can by.now) self.old.now }
+        ensures { self.new ≡ slot_wrote tags.now self.old (Some (became (C.after by.now) self.old.now)) }
+    {
+        if !goes_unnoted(tags, &self.value, &self.log) {
+            unreachable!();
+        }
+        become_in(&mut self.value, by);
     }
 
     /// Takes the newest write back, which takes no memory.

@@ -1,5 +1,5 @@
 //! All entities with their undo logs, in one map.
-ghost use Rattle.std.specs.Prelude.{◌≡◌, ◌≤◌, ◌<◌, [], min, ◌-◌, ◌^◌, OnOk, OnErr, IfOk, OnSome, Some, None, is_some};
+ghost use Rattle.std.specs.Prelude.{◌≡◌, ◌≤◌, ◌<◌, [], min, ◌-◌, ◌^◌, true, false, OnOk, OnErr, IfOk, OnSome, Some, None, is_some};
 ghost use Rattle.std.specs.Option.{option_copied, option_copied_mut, unwrap_or};
 ghost use Rattle.std.specs.FinMap as map;
 ghost use Rattle.std.specs.List.Sorted.{IsStrictlySortedBy};
@@ -16,7 +16,7 @@ ghost use Rattle.sk_store.specs.Processes.{CanBecome, became};
 ghost use Rattle.sk_undo.specs.Count.{notes_in};
 ghost use Rattle.sk_undo.specs.Log.{is_empty};
 ghost use Rattle.sk_undo.specs.Slot.{slot_of, slot_wrote};
-ghost use Rattle.sk_undo.specs.Logs.{look_at, log_at, slot_in, slots_wrote, slots_back, CanTakeBack};
+ghost use Rattle.sk_undo.specs.Logs.{look_at, log_at, slot_in, is_unnoted, slots_wrote, slots_back, CanTakeBack};
 ghost use Rattle.sk_undo.specs.Decisions.{ChangedAt, SlotUnwound, SlotCommitted, IsWithin, Lightened, AreListed, AllRest, AllGrow, NoneBare};
 ghost use Rattle.sk_undo.specs.contracts.slots.Slots.{the_row as slots_row};
 ghost use Rattle.sk_undo.specs.contracts.slot.Slot.{the_row as slot_row};
@@ -260,6 +260,71 @@ impl Slots {
             }
             None => unreachable!(),
         }
+    }
+
+    /// Whether nothing is noted of a write of a process with these tags.
+    pub fn goes_unnoted(&self, pid: Pid, tags: &TagSet) -> bool
+        ensures { result ≡ is_unnoted tags.now self.now (Proc pid) }
+    {
+        match self.slot(&Entity::Proc(pid)) {
+            Some(slot) => slot.goes_unnoted(tags),
+            None => tags.ids().is_empty(),
+        }
+    }
+
+    /// Changes the value of an entity, and answers nothing that takes it back. Without memory nothing has
+    /// changed.
+    fn change_alone(
+        &mut self,
+        entity: &Entity,
+        tags: &TagSet,
+        change: &Change,
+    ) -> Result<(), AllocError>
+        requires { FitsAt (look_at self.old entity.now) change.now }
+        ensures ok { OnOk result (self.new ≡ slots_wrote tags.now self.old entity.now (Some (changed (look_at self.old entity.now) change.now))) }
+        ensures err { OnErr result (self.new ≡ self.old) }
+    {
+        match self.slot_mut(entity) {
+            Some(slot) => {
+                slot.change_alone(tags, change)?;
+                Ok(())
+            }
+            None => unreachable!(),
+        }
+    }
+
+    /// Changes a process where it stands, of which nothing is noted.
+    fn become_unnoted<C: Becoming>(&mut self, pid: Pid, tags: &TagSet, by: &C)
+        requires unnoted { is_unnoted tags.now self.old (Proc pid) ≡ true }
+        requires can { CanBecome (C.can by.now) (look_at self.old (Proc pid)) }
+        ensures { self.new ≡ slots_wrote tags.now self.old (Proc pid) (Some (became (C.after by.now) (look_at self.old (Proc pid)))) }
+    {
+        match self.slot_mut(&Entity::Proc(pid)) {
+            Some(slot) => slot.become_unnoted(tags, by),
+            None => unreachable!(),
+        }
+    }
+
+    /// Changes the value of an entity and then a process, of which nothing is noted. Without memory nothing
+    /// has changed.
+    pub fn change_both<C: Becoming>(
+        &mut self,
+        entity: &Entity,
+        tags: &TagSet,
+        change: &Change,
+        pid: Pid,
+        by: &C,
+    ) -> Result<(), AllocError>
+        requires unnoted { is_unnoted tags.now self.old (Proc pid) ≡ true }
+        requires fits { FitsAt (look_at self.old entity.now) change.now }
+        requires can { CanBecome (C.can by.now) (look_at self.old (Proc pid)) }
+        requires apart { eq_by_cmp entity_cmp (Proc pid) entity.now ≡ false }
+        ensures ok { OnOk result (self.new ≡ slots_wrote tags.now (slots_wrote tags.now self.old entity.now (Some (changed (look_at self.old entity.now) change.now))) (Proc pid) (Some (became (C.after by.now) (look_at self.old (Proc pid))))) }
+        ensures err { OnErr result (self.new ≡ self.old) }
+    {
+        self.change_alone(entity, tags, change)?;
+        self.become_unnoted(pid, tags, by);
+        Ok(())
     }
 
     /// Takes the newest write back, which takes no memory.

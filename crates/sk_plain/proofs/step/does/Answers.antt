@@ -3,7 +3,7 @@ use Rattle.std.proofs.Common.{◌≡◌, Ok, Some, [], sym, ap, subst}
 use Rattle.std.specs.Option.{option_copied, is_some}
 use Rattle.sk_script.specs.declared.instruction.Input.TheVariants as inputs
 use Rattle.sk_plain.specs.Act.{does}
-use Rattle.sk_plain.specs.Seen.{PlansAfter}
+use Rattle.sk_plain.specs.Seen.{PlansAfter, told}
 use Rattle.sk_plain.specs.declared.plan.Plan.TheVariants.{Private}
 use Rattle.sk_plain.proofs.Plans.{private_done, row_done}
 use Rattle.sk_plain.proofs.step.does.Goals as goal
@@ -21,5 +21,5 @@ returns g c =
     let look = g.S.Look.look c.args.store.now in
     let p = c.args.process.now in
     let found : option_copied c.args.instruction ≡ Some c.in-Some.instruction.now = ap option_copied c.in-Some.is in
-    subst (λ o. PlansAfter look o inputs.None p [] c.args.pid (does c.args.pid p o) c.tabled.result) (sym found)
-    (row_done look c.args.pid p c.in-Some.instruction.now c.tabled.result (sym c.if-is_private.ensures) c.tabled.ensures)
+    subst (λ o. PlansAfter look o inputs.None p [] c.args.pid (does c.args.pid p o) (told c.acted.result c.acted.new.plan)) (sym found)
+    (row_done look c.args.pid p c.in-Some.instruction.now (told c.acted.result c.acted.new.plan) (sym c.if-is_private.ensures) c.acted.ensures)

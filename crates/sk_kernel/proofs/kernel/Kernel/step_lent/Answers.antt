@@ -38,27 +38,27 @@ returns-in-Err c =
 pub returns-then-is_crowded : goal.returns-then-is_crowded
 returns-then-is_crowded c =
     let n : EntryView = record { pid = c.args.pid; input = (input_in c.args.input); guess = None } in
-    let none = crowded_by (the_view c.self.inside) c.self.inside.machine c.self.inside.trace.room c.self.invariant.0 n c.in-Ok.plan c.is_crowded.result c.is_crowded.ensures c.if-is_crowded.true in (
+    let none = crowded_by (the_view c.self.inside) c.self.inside.machine c.self.inside.trace.room c.self.invariant.0 n c.plan_into.new.plan c.is_crowded.result c.is_crowded.ensures c.if-is_crowded.true in (
       subst (λ (k : KernelView). step_refused k n ≡ Some NoRoom) c.self.view_is
-          (step_crowded (the_view c.self.inside) c.self.inside.machine c.self.inside.trace.room c.self.invariant.0 n _ (by_scripts c.self.inside.machine.slots c.args.pid (input_in c.args.input) (Ok c.in-Ok.plan) c.scripts.result.now c.self.inside.opening.start.scripts c.scripts.ensures c.in-Ok.ensures.step).plans none),
+          (step_crowded (the_view c.self.inside) c.self.inside.machine c.self.inside.trace.room c.self.invariant.0 n _ (by_scripts c.self.inside.machine.slots c.args.pid (input_in c.args.input) (Ok c.plan_into.new.plan) c.scripts.result.now c.self.inside.opening.start.scripts c.scripts.ensures c.in-Ok.ensures.step).plans none),
       refl,
     )
 
 pub returns-then-room-lt1 : goal.returns-then-room-lt1
 returns-then-room-lt1 c =
     let n : EntryView = record { pid = c.args.pid; input = (input_in c.args.input); guess = None } in
-    let free = roomy (the_view c.self.inside) c.self.inside.machine c.self.inside.trace.room c.self.invariant.0 n c.in-Ok.plan c.is_crowded.result c.is_crowded.ensures c.if-is_crowded.false in (
+    let free = roomy (the_view c.self.inside) c.self.inside.machine c.self.inside.trace.room c.self.invariant.0 n c.plan_into.new.plan c.is_crowded.result c.is_crowded.ensures c.if-is_crowded.false in (
       subst (λ (k : KernelView). step_refused k n ≡ Some TraceFull) c.self.view_is
-          (step_without_room (the_view c.self.inside) c.self.inside.machine c.self.inside.trace.room c.self.invariant.0 n _ c.room.result (by_scripts c.self.inside.machine.slots c.args.pid (input_in c.args.input) (Ok c.in-Ok.plan) c.scripts.result.now c.self.inside.opening.start.scripts c.scripts.ensures c.in-Ok.ensures.step).plans free (c.room.ensures ∙ ap room (sym c.self.view_is)) c.if-room-lt1.true),
+          (step_without_room (the_view c.self.inside) c.self.inside.machine c.self.inside.trace.room c.self.invariant.0 n _ c.room.result (by_scripts c.self.inside.machine.slots c.args.pid (input_in c.args.input) (Ok c.plan_into.new.plan) c.scripts.result.now c.self.inside.opening.start.scripts c.scripts.ensures c.in-Ok.ensures.step).plans free (c.room.ensures ∙ ap room (sym c.self.view_is)) c.if-room-lt1.true),
       refl,
     )
 
 pub returns-then-is_err : goal.returns-then-is_err
 returns-then-is_err c =
     let n : EntryView = record { pid = c.args.pid; input = (input_in c.args.input); guess = None } in
-    let free = roomy (the_view c.self.inside) c.self.inside.machine c.self.inside.trace.room c.self.invariant.0 n c.in-Ok.plan c.is_crowded.result c.is_crowded.ensures c.if-is_crowded.false in (
+    let free = roomy (the_view c.self.inside) c.self.inside.machine c.self.inside.trace.room c.self.invariant.0 n c.plan_into.new.plan c.is_crowded.result c.is_crowded.ensures c.if-is_crowded.false in (
       subst (λ (k : KernelView). step_refused k n ≡ None) c.self.view_is
-          (step_free (the_view c.self.inside) c.self.inside.machine c.self.inside.trace.room c.self.invariant.0 n _ c.room.result (by_scripts c.self.inside.machine.slots c.args.pid (input_in c.args.input) (Ok c.in-Ok.plan) c.scripts.result.now c.self.inside.opening.start.scripts c.scripts.ensures c.in-Ok.ensures.step).plans free (c.room.ensures ∙ ap room (sym c.self.view_is)) c.if-room-lt1.false),
+          (step_free (the_view c.self.inside) c.self.inside.machine c.self.inside.trace.room c.self.invariant.0 n _ c.room.result (by_scripts c.self.inside.machine.slots c.args.pid (input_in c.args.input) (Ok c.plan_into.new.plan) c.scripts.result.now c.self.inside.opening.start.scripts c.scripts.ensures c.in-Ok.ensures.step).plans free (c.room.ensures ∙ ap room (sym c.self.view_is)) c.if-room-lt1.false),
       (λ i. record { number = c.self.inside.machine.guesses.kernel; scripts = c.self.inside.opening.start.scripts; start = c.self.inside.opening.start.state; limit = c.self.inside.opening.limit; earlier = c.self.inside.machine.guesses.earlier; trace = c.reserve.ensures.events i })
           ∙ c.self.view_is,
     )
@@ -66,9 +66,9 @@ returns-then-is_err c =
 pub returns-in-Err-keep : goal.returns-in-Err-keep
 returns-in-Err-keep c =
     let n : EntryView = record { pid = c.args.pid; input = (input_in c.args.input); guess = None } in
-    let free = roomy (the_view c.self.inside) c.self.inside.machine c.self.inside.trace.room c.self.invariant.0 n c.in-Ok.plan c.is_crowded.result c.is_crowded.ensures c.if-is_crowded.false in (
+    let free = roomy (the_view c.self.inside) c.self.inside.machine c.self.inside.trace.room c.self.invariant.0 n c.plan_into.new.plan c.is_crowded.result c.is_crowded.ensures c.if-is_crowded.false in (
       subst (λ (k : KernelView). step_refused k n ≡ None) c.self.view_is
-          (step_free (the_view c.self.inside) c.self.inside.machine c.self.inside.trace.room c.self.invariant.0 n _ c.room.result (by_scripts c.self.inside.machine.slots c.args.pid (input_in c.args.input) (Ok c.in-Ok.plan) c.scripts.result.now c.self.inside.opening.start.scripts c.scripts.ensures c.in-Ok.ensures.step).plans free (c.room.ensures ∙ ap room (sym c.self.view_is)) c.if-room-lt1.false),
+          (step_free (the_view c.self.inside) c.self.inside.machine c.self.inside.trace.room c.self.invariant.0 n _ c.room.result (by_scripts c.self.inside.machine.slots c.args.pid (input_in c.args.input) (Ok c.plan_into.new.plan) c.scripts.result.now c.self.inside.opening.start.scripts c.scripts.ensures c.in-Ok.ensures.step).plans free (c.room.ensures ∙ ap room (sym c.self.view_is)) c.if-room-lt1.false),
       (λ i. record { number = c.self.inside.machine.guesses.kernel; scripts = c.self.inside.opening.start.scripts; start = c.self.inside.opening.start.state; limit = c.self.inside.opening.limit; earlier = c.self.inside.machine.guesses.earlier; trace = c.reserve.ensures.events i })
           ∙ c.self.view_is,
     )
@@ -82,10 +82,10 @@ take_step-requires-clause-rising c = opens_rise (the_view c.self.inside) c.self.
 pub returns-then-is_err-2 : goal.returns-then-is_err-2
 returns-then-is_err-2 c =
     let n : EntryView = record { pid = c.args.pid; input = (input_in c.args.input); guess = None } in
-    let free = roomy (the_view c.self.inside) c.self.inside.machine c.self.inside.trace.room c.self.invariant.0 n c.in-Ok.plan c.is_crowded.result c.is_crowded.ensures c.if-is_crowded.false in
+    let free = roomy (the_view c.self.inside) c.self.inside.machine c.self.inside.trace.room c.self.invariant.0 n c.plan_into.new.plan c.is_crowded.result c.is_crowded.ensures c.if-is_crowded.false in
     let same = from_err c.take_step.result c.if-is_err-2.ensures.value c.take_step.ensures.err in (
       subst (λ (k : KernelView). step_refused k n ≡ None) c.self.view_is
-          (step_free (the_view c.self.inside) c.self.inside.machine c.self.inside.trace.room c.self.invariant.0 n _ c.room.result (by_scripts c.self.inside.machine.slots c.args.pid (input_in c.args.input) (Ok c.in-Ok.plan) c.scripts.result.now c.self.inside.opening.start.scripts c.scripts.ensures c.in-Ok.ensures.step).plans free (c.room.ensures ∙ ap room (sym c.self.view_is)) c.if-room-lt1.false),
+          (step_free (the_view c.self.inside) c.self.inside.machine c.self.inside.trace.room c.self.invariant.0 n _ c.room.result (by_scripts c.self.inside.machine.slots c.args.pid (input_in c.args.input) (Ok c.plan_into.new.plan) c.scripts.result.now c.self.inside.opening.start.scripts c.scripts.ensures c.in-Ok.ensures.step).plans free (c.room.ensures ∙ ap room (sym c.self.view_is)) c.if-room-lt1.false),
       (λ i. record { number = (same i).guesses.kernel; scripts = c.self.inside.opening.start.scripts; start = c.self.inside.opening.start.state; limit = c.self.inside.opening.limit; earlier = (same i).guesses.earlier; trace = c.reserve.ensures.events i })
           ∙ c.self.view_is,
     )
@@ -108,10 +108,10 @@ invariant_of-self-2 c =
 pub returns : goal.returns
 returns c =
     let n : EntryView = record { pid = c.args.pid; input = (input_in c.args.input); guess = None } in
-    let free = roomy (the_view c.self.inside) c.self.inside.machine c.self.inside.trace.room c.self.invariant.0 n c.in-Ok.plan c.is_crowded.result c.is_crowded.ensures c.if-is_crowded.false in
+    let free = roomy (the_view c.self.inside) c.self.inside.machine c.self.inside.trace.room c.self.invariant.0 n c.plan_into.new.plan c.is_crowded.result c.is_crowded.ensures c.if-is_crowded.false in
     let more = c.push.ensures.events ∙ (λ i. c.reserve.ensures.events i ++ events.Step c.args.pid (c.in-Ok-keep.ensures.ok i) ∷ []) in (
       subst (λ (k : KernelView). step_refused k n ≡ None) c.self.view_is
-          (step_free (the_view c.self.inside) c.self.inside.machine c.self.inside.trace.room c.self.invariant.0 n _ c.room.result (by_scripts c.self.inside.machine.slots c.args.pid (input_in c.args.input) (Ok c.in-Ok.plan) c.scripts.result.now c.self.inside.opening.start.scripts c.scripts.ensures c.in-Ok.ensures.step).plans free (c.room.ensures ∙ ap room (sym c.self.view_is)) c.if-room-lt1.false),
+          (step_free (the_view c.self.inside) c.self.inside.machine c.self.inside.trace.room c.self.invariant.0 n _ c.room.result (by_scripts c.self.inside.machine.slots c.args.pid (input_in c.args.input) (Ok c.plan_into.new.plan) c.scripts.result.now c.self.inside.opening.start.scripts c.scripts.ensures c.in-Ok.ensures.step).plans free (c.room.ensures ∙ ap room (sym c.self.view_is)) c.if-room-lt1.false),
       (λ i. record { number = (c.take_step.ensures.guesses i).kernel; scripts = c.self.inside.opening.start.scripts; start = c.self.inside.opening.start.state; limit = c.self.inside.opening.limit; earlier = (c.take_step.ensures.guesses i).earlier; trace = more i })
           ∙ ap (λ (k : KernelView). with_event k (events.Step c.args.pid (input_in c.args.input))) c.self.view_is,
     )

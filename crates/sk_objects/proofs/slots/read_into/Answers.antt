@@ -3,7 +3,7 @@ use Rattle.std.proofs.Common.{◌≡◌, ◌+◌, ◌-◌, ◌*◌, ◌/◌, ◌
 use Rattle.sk_objects.specs.File.{part}
 use Rattle.sk_objects.specs.Blocks.{joined}
 use Rattle.sk_objects.proofs.Seen.{block_mid}
-use Rattle.sk_objects.proofs.slots.read_text.Goals as goal
+use Rattle.sk_objects.proofs.slots.read_into.Goals as goal
 
 pub returns : goal.returns
 returns c =
@@ -12,7 +12,7 @@ returns c =
     let n = c.args.count in
     let there : 512 * (c.args.at / 512) + c.args.at % 512 ≡ c.args.at = omega arith in
     let count : c.args.at % 512 + c.args.count - c.args.at % 512 ≡ c.args.count = omega arith in
-    let is : c.unwrap.result ≡ part c.as_slice-block.result.now w (w + n - w) = search rules in
+    let is : c.set.new.self ≡ part c.as_slice-block.result.now w (w + n - w) = search rules in
     is
     ∙ ap (λ (m : ℕ). part c.as_slice-block.result.now w m) count
     ∙ ap (λ (l : List ℕ). part l w n) c.as_slice-block.ensures.value

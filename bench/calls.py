@@ -1,41 +1,50 @@
 #!/usr/bin/env python3
-"""How many calls of a desk a second workers make, in ratio to one thread without a lock.
+"""How many private steps a second workers take, beside one thread that plays the same steps.
 
     bench/calls.py PROGRAM
 
-Eight processes set their buffers for ever. One thread without a lock is `play` of a world with as many turns: it prints
-a line for each, which is part of its time. Each run is made five times, and the best counts.
+Eight processes set their buffers for ever. In `work` each turn brings a process's next 64 private instructions with it, which
+its worker ran ahead on a lease, so the steps are counted that stand on the trace, and the turns beside them. One thread without
+a lock or leases is `play` of the same steps; it prints a line for each, which is part of its time. Each run is made five times,
+and the best counts. The status is 1 where one worker takes fewer than 1,000,000 steps a second, or two take fewer than one.
 """
 
+import re
 import subprocess
 import sys
 import time
 
-CALLS = 240_000
-BOOT = "script main\na:\ntext \"t\"\njump a\nend\n" + "".join(f"process {n} main {n}\n" for n in range(1, 9))
+TURNS = 32_000
+LEAST = 1_000_000
+SCRIPT = "script main\na:\ntext \"t\"\njump a\nend\n"
+BOOT = SCRIPT + "".join(f"process {n} main {n}\n" for n in range(1, 9)) + "limit 100000000\n"
 
 
 def best(words, text):
-    """The shortest time of five runs, in seconds."""
-    times = []
+    """The shortest time of five runs, in seconds, and how many events there were in it."""
+    runs = []
     for _ in range(5):
         start = time.perf_counter()
-        subprocess.run(words, input=text.encode(), stdout=subprocess.DEVNULL, check=True)
-        times.append(time.perf_counter() - start)
-    return min(times)
+        ran = subprocess.run(words, input=text.encode(), stdout=subprocess.PIPE, check=True)
+        spent = time.perf_counter() - start
+        runs.append((spent, int(re.search(rb"^trace (\d+)", ran.stdout, re.M)[1])))
+    return min(runs)
 
 
 def main(program):
-    turns = "".join(f"turn {n % 8 + 1}\n" for n in range(CALLS))
-    alone = CALLS / best([program, "play", "-"], f"{BOOT}world\n{turns}")
-    print(f"one thread without a lock: {alone:,.0f} calls a second")
+    rates = {}
     for workers in (1, 2, 4):
-        each = str(CALLS // workers)
-        rate = CALLS / best([program, "work", "-", "--workers", str(workers), "--turns", each], BOOT)
-        print(f"{workers} workers: {rate:,.0f} calls a second, {rate / alone:.2f}")
+        words = [program, "work", "-", "--workers", str(workers), "--turns", str(TURNS // workers)]
+        spent, events = best(words, BOOT)
+        rates[workers] = events / spent
+        print(f"{workers} workers: {rates[workers]:,.0f} steps a second, {TURNS / spent:,.0f} turns a second")
+    steps = "".join(f"step {n % 8 + 1} none\n" for n in range(events))
+    spent, events = best([program, "play", "-"], f"{BOOT}steps\n{steps}")
+    print(f"one thread without a lock, played: {events / spent:,.0f} steps a second")
+    return 1 if rates[1] < LEAST or rates[2] < rates[1] else 0
 
 
 if __name__ == "__main__":
     if len(sys.argv) != 2:
         sys.exit("usage: bench/calls.py PROGRAM")
-    main(sys.argv[1])
+    sys.exit(main(sys.argv[1]))

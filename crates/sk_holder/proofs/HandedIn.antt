@@ -8,7 +8,7 @@ use Rattle.sk_script.specs.Lease.{LeaseView}
 use Rattle.sk_trace.specs.declared.event.Event.{Event}
 use Rattle.sk_kernel.specs.Kernel.{KernelView, undecided_at, with_event}
 use Rattle.sk_kernel.proofs.HandedIn.{no_step}
-use Rattle.sk_kernel.specs.HandIn.{HandInPost, TakesIn, alone_step, with_steps}
+use Rattle.sk_kernel.specs.HandIn.{TakesIn, alone_step, with_steps}
 use Rattle.sk_kernel.specs.declared.hand_in.HandIn.{HandIn}
 use Rattle.sk_kernel.specs.declared.hand_in.HandIn.TheVariants.{Stale, TraceFull, Memory}
 use Rattle.sk_holder.specs.Tokens.{all_unspent}
@@ -25,19 +25,15 @@ steps_keep P pid keeps zero k p = subst P (sym (no_step k pid)) p
 steps_keep P pid keeps (suc n) k p = subst P (first_step k pid n) (steps_keep P pid keeps n (with_event k (alone_step pid)) (keeps k p))
 
 -- and so does a hand-in
-taken_in : (P : KernelView → Type 0) (l : LeaseView) → ((k : KernelView) → P k → P (with_event k (alone_step l.lent.pid))) → (result : Result (Unit {0}) HandIn) (old new : KernelView) → TakesIn result l old new → P old → P new
+pub taken_in : (P : KernelView → Type 0) (l : LeaseView) → ((k : KernelView) → P k → P (with_event k (alone_step l.lent.pid))) → (result : Result (Unit {0}) HandIn) (old new : KernelView) → TakesIn result l old new → P old → P new
 taken_in P l keeps (Ok u) old new h p = subst P (sym h.2) (steps_keep P l.lent.pid keeps l.count old p)
 taken_in P l keeps (Err Stale) old new h p = subst P (sym h.1) p
 taken_in P l keeps (Err TraceFull) old new h p = subst P (sym h.2) p
 taken_in P l keeps (Err Memory) old new h p = subst P (sym h.3) p
 
-pub hand_in_keeps : (P : KernelView → Type 0) (l : LeaseView) → ((k : KernelView) → P k → P (with_event k (alone_step l.lent.pid))) → (result : Result (Unit {0}) (LeaseView × HandIn)) (old new : KernelView) → HandInPost result l old new → P old → P new
-hand_in_keeps P l keeps (Ok u) old new h p = taken_in P l keeps (Ok u) old new h p
-hand_in_keeps P l keeps (Err back) old new h p = taken_in P l keeps (Err back.1) old new h.1 p
-
 -- the tokens that are held
-pub unspent : (l : LeaseView) (ts : List Token) (result : Result (Unit {0}) (LeaseView × HandIn)) (old new : KernelView) → HandInPost result l old new → all_unspent old ts ≡ true → all_unspent new ts ≡ true
-unspent l ts = hand_in_keeps (λ k. all_unspent k ts ≡ true) l (λ k held. more_unspent k (alone_step l.lent.pid) ts tt held)
+pub unspent : (l : LeaseView) (ts : List Token) (result : Result (Unit {0}) HandIn) (old new : KernelView) → TakesIn result l old new → all_unspent old ts ≡ true → all_unspent new ts ≡ true
+unspent l ts = taken_in (λ k. all_unspent k ts ≡ true) l (λ k held. more_unspent k (alone_step l.lent.pid) ts tt held)
 
-pub each_held : (l : LeaseView) (ts : List Token) (result : Result (Unit {0}) (LeaseView × HandIn)) (old new : KernelView) → HandInPost result l old new → EachHeld old ts → EachHeld new ts
-each_held l ts = hand_in_keeps (λ k. EachHeld k ts) l (λ k held g is. held g (after_step k l.lent.pid inputs.None g is))
+pub each_held : (l : LeaseView) (ts : List Token) (result : Result (Unit {0}) HandIn) (old new : KernelView) → TakesIn result l old new → EachHeld old ts → EachHeld new ts
+each_held l ts = taken_in (λ k. EachHeld k ts) l (λ k held g is. held g (after_step k l.lent.pid inputs.None g is))

@@ -17,13 +17,13 @@ use Rattle.sk_client.specs.declared.desk.Given.{Given}
 use Rattle.sk_client.specs.declared.desk.ReplyRefusal.{ReplyRefusal}
 use Rattle.sk_client.specs.Desk.{DeskView, rule, turned, given, given_to, decided, answered, stepped, is_void, input_of, entry, first_taken, requests_taken}
 use Rattle.sk_client.specs.DeskCalls.{TurnPost, ByRule, ReplyPost}
-use Rattle.sk_client.specs.Leasing.{DeskTakesIn, DeskHandInPost}
+use Rattle.sk_client.specs.Leasing.{DeskTakesIn}
 use Rattle.sk_workers.specs.declared.entry.Call.{Call}
 use Rattle.sk_workers.specs.declared.entry.Call.TheVariants as calls
 use Rattle.sk_workers.specs.declared.entry.Answered.{Answered}
 use Rattle.sk_workers.specs.declared.entry.Answered.TheVariants.{Turned, Replied, HandedIn}
 use Rattle.sk_workers.specs.Views.{BookView, WorkerView}
-use Rattle.sk_workers.specs.History.{as_opened, Leases, HandsIn, Step, HandInAdds, TurnAdds, TakesAny, TurnTold, HandInTold, AnyTold, with_reply, without_reply, without_lease}
+use Rattle.sk_workers.specs.History.{as_opened, Leases, HandsIn, Step, TakesInAdds, HandInAdds, TurnAdds, TakesAny, TurnTold, HandInTold, AnyTold, with_reply, without_reply}
 
 -- the opening stays
 abbrev Keeps : DeskView → DeskView → Type 0
@@ -76,12 +76,12 @@ hand_in_keeps d e pid count (Err TraceFull) is = ap as_opened is.2.2
 hand_in_keeps d e pid count (Err Memory) is = ap as_opened is.2.3
 
 -- what the desk does with a lease is what is entered of it
-pub hands_in : (d e : DeskView) (l : LeaseView) (answer : Result (Unit {0}) (LeaseView × HandIn))
-    → after_private l.script l.count l.lent ≡ Some l.now → DeskHandInPost answer l d e → HandsIn (without_lease answer) d l.lent.pid l.count e
+pub hands_in : (d e : DeskView) (l : LeaseView) (answer : Result (Unit {0}) HandIn)
+    → after_private l.script l.count l.lent ≡ Some l.now → DeskTakesIn answer l d e → HandsIn answer d l.lent.pid l.count e
 hands_in d e l (Ok u) done post = (l, (post.0, refl, refl, done), post)
-hands_in d e l (Err (back, Stale)) done post = post.1.1
-hands_in d e l (Err (back, TraceFull)) done post = (l, (post.1.0, refl, refl, done), post.1)
-hands_in d e l (Err (back, Memory)) done post = (l, (post.1.0, refl, refl, done), post.1)
+hands_in d e l (Err Stale) done post = post.1
+hands_in d e l (Err TraceFull) done post = (l, (post.0, refl, refl, done), post)
+hands_in d e l (Err Memory) done post = (l, (post.0, refl, refl, done), post)
 
 -- ---- calls
 
@@ -128,16 +128,21 @@ pub turn_told : (r : Result Turn Refusal) (b : BookView) (w : WorkerView) (pid :
 turn_told r b w pid b' w' (inl none) = inl (none.0, none.2)
 turn_told r b w pid b' w' (inr adds) = inr (adds.0.1, length b.history, requests_taken b.desk, adds.2)
 
-hand_in_told : (done : Result (Unit {0}) (LeaseView × HandIn)) (b : BookView) (w : WorkerView) (l : LeaseView) (b' : BookView) (w' : WorkerView)
-    → HandInAdds done b w l b' w' → HandInTold (without_lease done) w l w'
-hand_in_told done b w l b' w' (inl none) = inl (none.0, none.2)
-hand_in_told done b w l b' w' (inr adds) = inr (adds.1.0.1, length b.history, requests_taken b.desk, adds.1.2)
+-- a lease that is refused comes back
+pub comes_back : (why : HandIn) (b : BookView) (w : WorkerView) (l : LeaseView) (b' : BookView) (w' : WorkerView)
+    → TakesInAdds (Err why) b w l b' w' → HandInAdds (Err (l, why)) b w l b' w'
+comes_back why b w l b' w' (inl none) = inl none
+comes_back why b w l b' w' (inr adds) = inr ((refl, adds.0), adds.1)
+
+taken_told : (r : Result (Unit {0}) HandIn) (b : BookView) (w : WorkerView) (l : LeaseView) (b' : BookView) (w' : WorkerView)
+    → TakesInAdds r b w l b' w' → HandInTold r w l w'
+taken_told r b w l b' w' (inl none) = inl (none.0, none.2)
+taken_told r b w l b' w' (inr adds) = inr (adds.1.0.1, length b.history, requests_taken b.desk, adds.1.2)
 
 -- so has a lease that is handed in, where there is one
 pub any_told : (r : Option (Result (Unit {0}) HandIn)) (b : BookView) (w : WorkerView) (l : Option LeaseView) (b' : BookView) (w' : WorkerView)
     → TakesAny r b w l b' w' → AnyTold r w l w'
 any_told None b w None b' w' takes = takes.1
-any_told (Some r) b w (Some l) b' w' takes =
-    subst (λ (x : Result (Unit {0}) HandIn). HandInTold x w l w') takes.1 (hand_in_told takes.0 b w l b' w' takes.2)
+any_told (Some r) b w (Some l) b' w' takes = taken_told r b w l b' w' takes
 any_told None b w (Some l) b' w' takes = absurd takes
 any_told (Some r) b w None b' w' takes = absurd takes

@@ -97,6 +97,12 @@ Adds b w call answer b' w' =
     × (w' ≡ record w { receipts = w.receipts ++ receipt (length b.history) e ∷ [] })
 
 -- memory wants for a hand-in, and nothing has changed; or it is the desk's, and the history's next entry and the worker's next receipt
+abbrev pub TakesInAdds : Result (Unit {0}) HandIn → BookView → WorkerView → LeaseView → BookView → WorkerView → Type 0
+TakesInAdds r b w l b' w' =
+    ((r ≡ Err hand_ins.Memory) × (b' ≡ b) × (w' ≡ w))
+    ⊎ (DeskTakesIn r l b.desk b'.desk × Adds b w (calls.HandIn l.lent.pid l.count) (HandedIn r) b' w')
+
+-- the same where the lease comes back after a refusal
 abbrev pub HandInAdds : Result (Unit {0}) (LeaseView × HandIn) → BookView → WorkerView → LeaseView → BookView → WorkerView → Type 0
 HandInAdds r b w l b' w' =
     ((without_lease r ≡ Err hand_ins.Memory) × (b' ≡ b) × (w' ≡ w))
@@ -109,7 +115,7 @@ TurnAdds r b w pid b' w' = ((r ≡ Err refusals.Memory) × (b' ≡ b) × (w' ≡
 -- a lease is handed in, where there is one, and given up where it is refused
 abbrev pub TakesAny : Option (Result (Unit {0}) HandIn) → BookView → WorkerView → Option LeaseView → BookView → WorkerView → Type 0
 TakesAny None b w None b' w' = (b' ≡ b) × (w' ≡ w)
-TakesAny (Some r) b w (Some l) b' w' = (done : Result (Unit {0}) (LeaseView × HandIn)) × (without_lease done ≡ r) × HandInAdds done b w l b' w'
+TakesAny (Some r) b w (Some l) b' w' = TakesInAdds r b w l b' w'
 TakesAny r b w l b' w' = ⊥
 
 -- a process is lent into its place, where one is asked for; else the place stays empty

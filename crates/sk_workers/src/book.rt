@@ -4,7 +4,7 @@ ghost use Rattle.sk_script.specs.Lease.{after_private};
 ghost use Rattle.sk_plain.specs.Leased.{Lends};
 ghost use Rattle.sk_client.specs.Desk.{opened_at, first_sent, first_taken};
 ghost use Rattle.sk_client.specs.Leasing.{desk_lease, DeskHandInPost};
-ghost use Rattle.sk_workers.specs.History.{Step, Adds, TurnAdds, HandInAdds, TakesAny, LendsAny, AreFresh, IsLegal, receipt, without_reply, without_lease};
+ghost use Rattle.sk_workers.specs.History.{Step, Adds, TurnAdds, TakesInAdds, HandInAdds, TakesAny, LendsAny, AreFresh, IsLegal, receipt, without_reply};
 ghost use Rattle.sk_workers.specs.Views.{BookView, WorkerView};
 
 use crate::entry::{Answered, Call, Entry, Receipt};
@@ -171,6 +171,7 @@ impl<L: Ledger> Book<L> {
     /// Takes a lease in, for a worker, as the desk does. Where memory runs out, first of all for
     /// the entry and the receipt, the answer is `Memory` and nothing has changed; every other
     /// answer is entered. After a refusal the lease comes back.
+    #[tactic(auto, using(crate::proofs::Steps::comes_back))]
     pub fn hand_in(
         &mut self,
         worker: Worker<L>,
@@ -179,16 +180,29 @@ impl<L: Ledger> Book<L> {
         ensures back { IfErr result.1 (λ back. back.0 ≡ lease) }
         ensures entered { HandInAdds result.1 self.old worker lease self.new result.0 }
     {
+        let (worker, done) = self.take_in(worker, &lease);
+        match done {
+            Ok(()) => {
+                lease.give_up();
+                (worker, Ok(()))
+            }
+            Err(why) => (worker, Err((lease, why))),
+        }
+    }
+
+    /// The same of a lease that stays where it is.
+    fn take_in(&mut self, worker: Worker<L>, lease: &Lease) -> (Worker<L>, Result<(), HandIn>)
+        ensures { TakesInAdds result.1 self.old worker lease.now self.new result.0 }
+    {
         let mut worker = worker;
         if make_room(&mut self.history, &mut worker.receipts).is_err() {
-            return (worker, Err((lease, HandIn::Memory)));
+            return (worker, Err(HandIn::Memory));
         }
         let taken = self.desk.requests_taken();
-        let (call, again) = calls_with(&lease);
-        let done = self.desk.hand_in(lease);
-        let answer = without_lease(&done);
+        let (call, again) = calls_with(lease);
+        let answer = self.desk.take_in(lease);
         if is_short(&answer) {
-            return (worker, done);
+            return (worker, answer);
         }
         let entry = Entry {
             worker: worker.number,
@@ -204,10 +218,10 @@ impl<L: Ledger> Book<L> {
             entry,
             again,
         );
-        (worker, done)
+        (worker, answer)
     }
 
-    /// Takes in a lease out of its place, if there is one. A refused one is given up.
+    /// Takes in the lease in its place, if there is one, which is given up.
     fn take_any(
         &mut self,
         worker: Worker<L>,
@@ -216,11 +230,12 @@ impl<L: Ledger> Book<L> {
         ensures taken { TakesAny result.1 self.old worker lease.old self.new result.0 }
         ensures none { lease.new ≡ None }
     {
-        let Some(lease) = lease.take() else {
+        let Some(lent) = lease else {
             return (worker, None);
         };
-        let (worker, done) = self.hand_in(worker, lease);
-        (worker, Some(given_up(done)))
+        let (worker, done) = self.take_in(worker, lent);
+        give_up(lease);
+        (worker, Some(done))
     }
 
     /// Lends a process into an empty place, if one is asked for.
@@ -411,26 +426,12 @@ fn is_short(answer: &Result<(), HandIn>) -> bool
     matches!(answer, Err(HandIn::Memory))
 }
 
-/// The answer to a hand-in, without the lease that comes back.
-fn without_lease(done: &Result<(), (Lease, HandIn)>) -> Result<(), HandIn>
-    ensures { result ≡ without_lease done.now }
+/// Gives up the lease in its place, if there is one.
+fn give_up(place: &mut Option<Lease>)
+    ensures { place.new ≡ None }
 {
-    match done {
-        Ok(()) => Ok(()),
-        Err((_lease, why)) => Err(*why),
-    }
-}
-
-/// The answer to a hand-in; a lease that comes back is given up.
-fn given_up(done: Result<(), (Lease, HandIn)>) -> Result<(), HandIn>
-    ensures { result ≡ without_lease done }
-{
-    match done {
-        Ok(()) => Ok(()),
-        Err((lease, why)) => {
-            lease.give_up();
-            Err(why)
-        }
+    if let Some(lease) = place.take() {
+        lease.give_up();
     }
 }
 

@@ -1,20 +1,19 @@
--- The answer that is entered is the desk's, without the lease that comes back.
-use Rattle.std.proofs.Common.{◌++◌, ◌∷◌, [], List, Result, refl, sym, ap, ◌∙◌, subst, length}
+-- The answer that is entered is the desk's.
+use Rattle.std.proofs.Common.{◌++◌, ◌∷◌, [], List, refl, sym, ap, ◌∙◌, subst, length}
 use Rattle.std.proofs.lemmas.Bool.{false≢true}
-use Rattle.sk_kernel.specs.declared.hand_in.HandIn.{HandIn}
 use Rattle.sk_workers.specs.declared.entry.Call.{Call}
 use Rattle.sk_workers.specs.declared.entry.Answered.TheVariants.{HandedIn}
 use Rattle.sk_workers.specs.declared.entry.Entry.{Entry}
 use Rattle.sk_workers.specs.declared.entry.Receipt.{Receipt}
-use Rattle.sk_workers.specs.History.{Step, HandsIn, entry, receipt}
+use Rattle.sk_workers.specs.History.{Step, entry, receipt}
 use Rattle.sk_workers.proofs.Runs.{entered, received}
 use Rattle.sk_workers.proofs.Steps.{hands_in}
-use Rattle.sk_workers.proofs.book.Book.hand_in.Goals as goal
+use Rattle.sk_workers.proofs.book.Book.take_in.Goals as goal
 
 pub invariant_of-worker-2 : goal.invariant_of-worker-2
 invariant_of-worker-2 g c =
     let old = c.worker.inside in
-    let e = entry old.number c.calls_with-call.result.0 (HandedIn c.without_lease-answer.result) c.requests_taken-taken.result in
+    let e = entry old.number c.calls_with-call.result.0 (HandedIn c.take_in-answer.result) c.requests_taken-taken.result in
     let r = receipt (length c.make_room.new.history.items) e in
     let more =
     received old.number old.share.amount c.enter.new.share.amount old.receipts.items c.enter.new.receipts.items r c.worker.invariant.1 c.worker.invariant.2
@@ -26,12 +25,11 @@ invariant_of-worker-2 g c =
 pub invariant_of-self-2 : goal.invariant_of-self-2
 invariant_of-self-2 g c =
     let old = c.self.inside in
-    let left = c.hand_in-done.new.self in
-    let lease = c.args.lease in
-    let answer = c.without_lease-answer.result in
+    let left = c.take_in-answer.new.self in
+    let lease = c.args.lease.now in
+    let answer = c.take_in-answer.result in
     let e = entry c.worker.inside.number c.calls_with-call.result.0 (HandedIn answer) c.requests_taken-taken.result in
-    let done = hands_in old.desk left lease c.hand_in-done.result c.calls_with-call.ensures.done c.hand_in-done.ensures in
-    let told = subst (λ (r : Result (Unit {0}) HandIn). HandsIn r old.desk lease.lent.pid lease.count left) (sym c.without_lease-answer.ensures) done in
+    let told = hands_in old.desk left lease answer c.calls_with-call.ensures.done c.take_in-answer.ensures in
     entered old.desk left old.history.items c.enter.new.history.items e old.tally.total c.enter.new.tally.total g.L.Ledger.parts
     c.self.invariant c.requests_taken-taken.ensures
     (subst (λ (call : Call). Step old.desk call (HandedIn answer) left) (sym c.calls_with-call.ensures.call)

@@ -43,7 +43,7 @@ def whole_item(lines, at, kind):
     """The lines of an item, of a function those before its body."""
     last = at
     if kind == "fn":
-        while not re.search(r"(^|[^{}] )\{\}?$|;$", lines[last]) or lines[last].strip().startswith(("ensures", "requires")):
+        while not re.search(r"(^|[^{}] )\{\}?$|;$", lines[last]) or re.match(r" *(ensures|requires)\b.*[^;]$", lines[last]):
             last += 1
     elif lines[at].endswith("{") and kind != "trait":
         while lines[last].strip() != "}":

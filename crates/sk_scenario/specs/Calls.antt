@@ -2,9 +2,9 @@
 use Rattle.std.specs.Prelude.{ℕ, List, [], ◌∷◌, Result, Ok, codes}
 use Rattle.sk_words.specs.declared.fault.FaultKind.{FaultKind}
 use Rattle.sk_words.specs.Faults.{◌>>=◌}
-use Rattle.sk_words.specs.Words.{words, first_of}
 use Rattle.sk_words.specs.Operands.{one_of, positive}
-use Rattle.sk_words.specs.Tables.{Rule, rule_in, unknown, with_line}
+use Rattle.sk_words.specs.Tables.{Rule, rule_in, unknown}
+use Rattle.sk_section.specs.Items.{with_item}
 use Rattle.sk_trace.specs.Lines.{step}
 use Rattle.sk_scenario.specs.declared.call.Call.{Call}
 use Rattle.sk_scenario.specs.declared.call.Call.TheVariants as calls
@@ -31,4 +31,4 @@ call word ws = rule_in step_rules unknown word ws
 
 -- the steps so far, with that of a line
 abbrev pub step_line : List Call → List ℕ → Result (List Call) FaultKind
-step_line before line = with_line call before (first_of (words line))
+step_line = with_item call

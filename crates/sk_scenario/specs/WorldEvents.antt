@@ -3,9 +3,9 @@ use Rattle.std.specs.Prelude.{ℕ, List, [], ◌∷◌, Result, Ok, codes}
 use Rattle.sk_words.specs.declared.fault.FaultKind.{FaultKind}
 use Rattle.sk_words.specs.Faults.{◌>>=◌}
 use Rattle.sk_words.specs.Literals.{literal}
-use Rattle.sk_words.specs.Words.{words, first_of}
 use Rattle.sk_words.specs.Operands.{none_of, one_of, three_of, pid, name, natural}
-use Rattle.sk_words.specs.Tables.{Rule, rule_in, unknown, with_line}
+use Rattle.sk_words.specs.Tables.{Rule, rule_in, unknown}
+use Rattle.sk_section.specs.Items.{with_item}
 use Rattle.sk_client.specs.declared.world.WorldEvent.{WorldEvent}
 use Rattle.sk_client.specs.declared.world.WorldEvent.TheVariants as events
 
@@ -27,4 +27,4 @@ world_event word ws = rule_in world_rules unknown word ws
 
 -- the events so far, with that of a line
 abbrev pub world_line : List WorldEvent → List ℕ → Result (List WorldEvent) FaultKind
-world_line before line = with_line world_event before (first_of (words line))
+world_line = with_item world_event

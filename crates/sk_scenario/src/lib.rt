@@ -6,7 +6,7 @@ pub mod declarations;
 pub mod scenario;
 pub mod world;
 
-pub use call::{Call, Calls};
+pub use call::{Call, Calls, StepRules};
 pub use declarations::{Declarations, Remote};
 pub use scenario::{Scenario, Section};
-pub use world::WorldEvents;
+pub use world::{WorldEvents, WorldRules};

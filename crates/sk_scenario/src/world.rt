@@ -1,96 +1,58 @@
 //! What the lines of a section of a world say.
-ghost use Rattle.std.specs.Prelude.{◌≡◌, []};
 ghost use Rattle.sk_words.specs.Reading.{Leaves};
 ghost use Rattle.sk_words.specs.Tables.{with_said};
-ghost use Rattle.sk_scenario.specs.WorldEvents.{world_event, edit};
+ghost use Rattle.sk_scenario.specs.WorldEvents.{edit};
 
 use sk_client::WorldEvent;
-use sk_words::{FaultKind, Natural, Reader, Words, first_word, none, one, three};
-use std::alloc::Global;
-use std::marker::Model;
+use sk_section::{Items, Listed, Rules};
+use sk_words::{FaultKind, Natural, Words, none, one, three};
+
+/// The lines of a section of a world.
+#[derive(Drop)]
+pub struct WorldRules;
 
 /// The events of a world, in order.
-#[derive(Drop)]
-pub struct WorldEvents {
-    events: Vec<WorldEvent>,
+pub type WorldEvents = Items<WorldRules>;
+
+/// Adds what the words of an edit say. It stands apart, since an edit is large.
+#[inline(never)]
+fn add_edit(events: &mut WorldEvents, words: &Words) -> Result<(), FaultKind>
+    ensures { Leaves result (with_said events.old (edit words.now)) events.old events.new }
+{
+    let (name, version, bytes): (_, Natural, _) = three(words)?;
+    events.push(WorldEvent::Edit(name, version.get(), bytes))
 }
 
-impl Model for WorldEvents {
-    ghost use Rattle.std.specs.Prelude.{List};
-    ghost use Rattle.sk_client.specs.declared.world.WorldEvent.{WorldEvent};
+impl Listed for WorldRules {
+    type Item = WorldEvent;
 
-    ghost Value = { List WorldEvent };
+    ghost use Rattle.std.specs.Prelude.{⊤};
 
-    ghost view = { λ w. w.events.items };
+    ghost fits = { λ _. ⊤ };
 }
 
-impl WorldEvents {
-    /// No event.
-    pub fn new(alloc: Global) -> WorldEvents
-        ensures { result ≡ [] }
-    {
-        WorldEvents {
-            events: Vec::new(alloc),
-        }
-    }
+impl Rules for WorldRules {
+    ghost use Rattle.sk_scenario.specs.WorldEvents.{world_event};
 
-    /// The events.
-    pub fn as_slice(&self) -> &[WorldEvent]
-        ensures { result.now ≡ self.now }
-    {
-        &self.events
-    }
+    ghost rule = { world_event };
 
-    /// Adds what the words of an edit say. It stands apart, since an edit is large.
-    #[inline(never)]
-    fn add_edit(&mut self, words: &Words) -> Result<(), FaultKind>
-        ensures { Leaves result (with_said self.old (edit words.now)) self.old self.new }
-    {
-        let (name, version, bytes): (_, Natural, _) = three(words)?;
-        self.events.reserve(1)?;
-        self.events
-            .push_reserved(WorldEvent::Edit(name, version.get(), bytes));
-        Ok(())
-    }
-
-    /// Adds what a line says whose first word this is.
     #[tactic(auto, unfolding(crate::specs::WorldEvents::world_event))]
-    fn add(&mut self, word: &[u8], words: &Words) -> Result<(), FaultKind>
-        ensures { Leaves result (with_said self.old (world_event word.now words.now)) self.old self.new }
-    {
+    fn add(events: &mut WorldEvents, word: &[u8], words: &Words) -> Result<(), FaultKind> {
         match word {
             [b't', b'u', b'r', b'n'] => {
                 let pid = one(words)?;
-                self.events.reserve(1)?;
-                self.events.push_reserved(WorldEvent::Turn(pid));
+                events.push(WorldEvent::Turn(pid))
             }
             [b's', b'e', b'r', b'v', b'e'] => {
                 none(words)?;
-                self.events.reserve(1)?;
-                self.events.push_reserved(WorldEvent::Serve);
+                events.push(WorldEvent::Serve)
             }
             [b'r', b'e', b'p', b'l', b'y'] => {
                 none(words)?;
-                self.events.reserve(1)?;
-                self.events.push_reserved(WorldEvent::Reply);
+                events.push(WorldEvent::Reply)
             }
-            [b'e', b'd', b'i', b't'] => return self.add_edit(words),
-            _ => return Err(FaultKind::Word),
-        }
-        Ok(())
-    }
-}
-
-impl Reader for WorldEvents {
-    ghost use Rattle.sk_scenario.specs.WorldEvents.{world_line};
-
-    ghost said = { world_line };
-
-    /// Adds what a line says.
-    fn line(&mut self, line: &[u8]) -> Result<(), FaultKind> {
-        match first_word(line) {
-            Some((first, words)) => self.add(first, &words),
-            None => Ok(()),
+            [b'e', b'd', b'i', b't'] => add_edit(events, words),
+            _ => Err(FaultKind::Word),
         }
     }
 }

@@ -4,10 +4,10 @@ use Rattle.std.specs.Str.Lines.{lines}
 use Rattle.sk_words.specs.declared.fault.FaultKind.{FaultKind}
 use Rattle.sk_words.specs.declared.fault.Fault.{Fault}
 use Rattle.sk_words.specs.Faults.{◌>>=◌}
-use Rattle.sk_words.specs.Words.{words, first_of}
 use Rattle.sk_words.specs.Operands.{closed, next_word, one_of, pid, positive}
 use Rattle.sk_words.specs.Reading.{read_from, Tells, TellsKind}
-use Rattle.sk_words.specs.Tables.{Rule, rule_in, unknown, with_line}
+use Rattle.sk_words.specs.Tables.{Rule, rule_in, unknown}
+use Rattle.sk_section.specs.Items.{with_item}
 use Rattle.sk_script.specs.declared.instruction.Input.{Input}
 use Rattle.sk_script.specs.StepInput.{input}
 use Rattle.sk_trace.specs.Kept.{HasContent}
@@ -57,7 +57,7 @@ event word ws = rule_in event_rules unknown word ws
 
 -- the events so far, with that of a line
 abbrev pub event_line : List Event → List ℕ → Result (List Event) FaultKind
-event_line before line = with_line event before (first_of (words line))
+event_line = with_item event
 
 -- the events of lines, the first of which has this number
 abbrev pub trace_from : ℕ → List (List ℕ) → Result (List Event) Fault

@@ -1,21 +1,18 @@
 //! What the lines of a trace say.
-ghost use Rattle.std.specs.Prelude.{◌≡◌, [], All, Ok, IfSome, IfErr, false};
+ghost use Rattle.std.specs.Prelude.{◌≡◌, [], ◌∷◌, ◌++◌, Ok, IfSome, IfErr, false};
 ghost use Rattle.std.specs.List.{list_any};
 ghost use Rattle.sk_script.specs.StepInput.{input};
-ghost use Rattle.sk_words.specs.Reading.{Leaves};
-ghost use Rattle.sk_words.specs.Tables.{with_said};
 ghost use Rattle.sk_words.specs.Words.{words, is_open};
-ghost use Rattle.sk_trace.specs.Event.{IsEvent};
-ghost use Rattle.sk_trace.specs.Lines.{step, numbered_step, event, IsRead, WantsContent};
+ghost use Rattle.sk_words.specs.Reading.{Leaves};
+ghost use Rattle.sk_trace.specs.Lines.{step, numbered_step, IsRead, WantsContent};
 
-use crate::trace::add;
 use crate::{Event, InputRef, KeptInput};
 use sk_ids::{GuessId, Pid};
 use sk_script::Input;
 use sk_script::step_input::input;
-use sk_words::{FaultKind, Operand, Reader, Words, closed, first_word, is_open, next_word, one};
+use sk_section::{Items, Listed, Rules};
+use sk_words::{FaultKind, Operand, Words, closed, is_open, next_word, one};
 use std::alloc::Global;
-use std::marker::Model;
 
 /// A process and the input of its step.
 #[tactic(auto, unfolding(crate::specs::Lines::step))]
@@ -93,85 +90,52 @@ fn numbered_step(words: &Words) -> Result<(GuessId, Pid, Input), FaultKind>
     Ok((id, pid, input))
 }
 
-/// The events that lines said, in order.
+/// The lines of a trace.
 #[derive(Drop)]
-pub(crate) struct Events {
-    events: Vec<Event>,
+pub(crate) struct EventRules;
+
+/// Adds an event.
+fn put(events: &mut Items<EventRules>, event: Event) -> Result<(), FaultKind>
+    ensures { Leaves result (Ok (events.old ++ event ∷ [])) events.old events.new }
+{
+    event.known();
+    events.push(event)
 }
 
-impl Model for Events {
-    ghost use Rattle.std.specs.Prelude.{List, All};
-    ghost use Rattle.sk_trace.specs.declared.event.Event.{Event};
+impl Listed for EventRules {
+    type Item = Event;
+
     ghost use Rattle.sk_trace.specs.Event.{IsEvent};
 
-    ghost Value = { List Event };
-
-    ghost view = { λ e. e.events.items };
-
-    ghost invariant = { λ e. All IsEvent e.events.items };
+    ghost fits = { IsEvent };
 }
 
-impl Events {
-    /// No event.
-    pub(crate) fn new(alloc: Global) -> Events
-        ensures { result ≡ [] }
-    {
-        Events {
-            events: Vec::new(alloc),
-        }
-    }
+impl Rules for EventRules {
+    ghost use Rattle.sk_trace.specs.Lines.{event};
 
-    /// All of them.
-    pub(crate) fn into_vec(self) -> Vec<Event>
-        ensures value { result.items ≡ self }
-        ensures limits { All IsEvent result.items }
-    {
-        self.events
-    }
+    ghost rule = { event };
 
-    /// Adds what a line says whose first word this is.
     #[tactic(auto, unfolding(crate::specs::Lines::event))]
-    fn add(&mut self, word: &[u8], words: &Words) -> Result<(), FaultKind>
-        ensures { Leaves result (with_said self.old (event word.now words.now)) self.old self.new }
-    {
+    fn add(events: &mut Items<EventRules>, word: &[u8], words: &Words) -> Result<(), FaultKind> {
         match word {
             [b's', b't', b'e', b'p'] => {
-                let (pid, input) = kept_step(*self.events.allocator(), words)?;
-                self.events.reserve(1)?;
-                add(&mut self.events, Event::Step { pid, input });
+                let (pid, input) = kept_step(*events.allocator(), words)?;
+                put(events, Event::Step { pid, input })
             }
             [b'g', b'u', b'e', b's', b's'] => {
                 let (id, pid, input) = numbered_step(words)?;
-                self.events.reserve(1)?;
-                let input = KeptInput::keep(*self.events.allocator(), InputRef::of(&input))?;
-                add(&mut self.events, Event::Guess { id, pid, input });
+                let input = KeptInput::keep(*events.allocator(), InputRef::of(&input))?;
+                put(events, Event::Guess { id, pid, input })
             }
             [b'c', b'o', b'm', b'm', b'i', b't'] => {
                 let id = one(words)?;
-                self.events.reserve(1)?;
-                add(&mut self.events, Event::Commit(id));
+                put(events, Event::Commit(id))
             }
             [b'f', b'a', b'i', b'l'] => {
                 let id = one(words)?;
-                self.events.reserve(1)?;
-                add(&mut self.events, Event::Fail(id));
+                put(events, Event::Fail(id))
             }
-            _ => return Err(FaultKind::Word),
-        }
-        Ok(())
-    }
-}
-
-impl Reader for Events {
-    ghost use Rattle.sk_trace.specs.Lines.{event_line};
-
-    ghost said = { event_line };
-
-    /// Adds what a line says.
-    fn line(&mut self, line: &[u8]) -> Result<(), FaultKind> {
-        match first_word(line) {
-            Some((first, words)) => self.add(first, &words),
-            None => Ok(()),
+            _ => Err(FaultKind::Word),
         }
     }
 }

@@ -7,8 +7,9 @@ ghost use Rattle.sk_trace.specs.Kept.{HasContent, input_in};
 ghost use Rattle.sk_trace.specs.Lines.{trace_from, trace_of, Says};
 ghost use Rattle.sk_trace.specs.Text.{trace_text};
 
-use crate::line::Events;
+use crate::line::EventRules;
 use crate::{Event, InputRef, KeptInput};
+use sk_section::Items;
 use sk_words::{Cursor, Fault, read};
 use std::alloc::{AllocError, Global};
 use std::fmt::Write;
@@ -34,17 +35,6 @@ impl Model for Trace {
     ghost invariant = { λ t. All IsEvent t.events.items };
 }
 
-/// Adds an event, for which there is room. It moves: this takes no memory.
-pub(crate) fn add(events: &mut Vec<Event>, event: Event)
-    requires { vec_len events.old < vec_capacity events.old }
-    ensures items { events.new.items ≡ events.old.items ++ event ∷ [] }
-    ensures capacity { vec_capacity events.new ≡ vec_capacity events.old }
-    ensures limits { IsEvent event }
-{
-    event.known();
-    events.push_reserved(event);
-}
-
 impl Trace {
     /// The trace of nothing.
     pub fn new(alloc: Global) -> Trace
@@ -66,7 +56,7 @@ impl Trace {
     pub fn read(alloc: Global, lines: &Cursor) -> Result<Trace, Fault>
         ensures { Says result (trace_from (lines.now.line + 1) lines.now.lines) (lines.now.line + 1) (last_line lines.now) }
     {
-        let events = read(Events::new(alloc), lines)?;
+        let events = read(Items::<EventRules>::new(alloc), lines)?;
         Ok(Trace {
             events: events.into_vec(),
         })
@@ -122,6 +112,7 @@ impl Trace {
         ensures events { self.new.events ≡ self.old.events ++ event ∷ [] }
         ensures room { self.new.room + 1 ≡ self.old.room }
     {
-        add(&mut self.events, event);
+        event.known();
+        self.events.push_reserved(event);
     }
 }

@@ -16,7 +16,6 @@ pub use Rattle.sk_objects.specs.Value
 pub use Rattle.sk_words.specs.Lines
 pub use Rattle.sk_words.specs.Reading
 pub use Rattle.sk_words.specs.Words
-pub use Rattle.sk_section.specs.Items
 pub use Rattle.sk_script.specs.Process
 pub use Rattle.sk_script.specs.Private
 pub use Rattle.sk_script.specs.Scripting

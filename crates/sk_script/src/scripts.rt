@@ -8,27 +8,27 @@ ghost use Rattle.sk_script.specs.Scripts.{script_at};
 use crate::Script;
 use crate::shared_script::SharedScript;
 use sk_ids::Name;
+use sk_map::Map;
 use std::alloc::{AllocError, Global};
-use std::collections::BTreeMap;
 use std::marker::Model;
 use std::sync::Arc;
 
 /// Scripts by name, which contracts see as a map.
 #[derive(Drop)]
 pub struct Scripts {
-    alloc: Global,
-    scripts: BTreeMap<Name, SharedScript>,
+    scripts: Map<Name, SharedScript>,
 }
 
 impl Model for Scripts {
-    ghost use Rattle.std.specs.FinMap as map;
+    ghost use Rattle.sk_ids.specs.Name.{name_order};
+    ghost use Rattle.sk_map.specs.Seen.{seen};
     ghost use Rattle.sk_script.specs.Scripts.{ScriptMap, script_map_code};
 
     ghost Value = { ScriptMap };
 
     ghost coded = { script_map_code };
 
-    ghost view = { λ a. map.from_entries a.scripts.entries };
+    ghost view = { λ a. seen name_order a.scripts };
 }
 
 impl PartialEq for Scripts {
@@ -45,7 +45,6 @@ impl PartialEq for Scripts {
         ensures computed { result ≡ same_scripts self.now other.now }
         ensures exact { IsTrue result ↔ (self.now ≡ other.now) }
     {
-        let _rising = (self.scripts.len(), other.scripts.len());
         self.scripts == other.scripts
     }
 }
@@ -64,8 +63,7 @@ impl Scripts {
         ensures { result ≡ map.empty }
     {
         Scripts {
-            alloc,
-            scripts: BTreeMap::new(alloc),
+            scripts: Map::new(alloc),
         }
     }
 
@@ -73,25 +71,22 @@ impl Scripts {
     pub fn get(&self, name: &Name) -> Option<&Script>
         ensures { option_copied result ≡ map.get self.now name.now }
     {
-        match self.shared(name) {
+        match self.scripts.get(name) {
             Some(shared) => Some(shared.script()),
             None => None,
         }
-    }
-
-    fn shared(&self, name: &Name) -> Option<&SharedScript>
-        ensures { option_copied result ≡ map.get self.now name.now }
-    {
-        self.scripts.get(name)
     }
 
     /// The script of this name, shared; an empty one where there is none. Refused only for want of memory.
     pub fn share(&self, name: &Name) -> Result<Arc<Script>, AllocError>
         ensures { IfOk result (λ shared. arc_value shared ≡ script_at self.now name.now) }
     {
-        match self.shared(name) {
+        match self.scripts.get(name) {
             Some(shared) => shared.share(),
-            None => Ok(Arc::new(self.alloc, Script::empty(self.alloc))?),
+            None => {
+                let alloc = self.scripts.alloc();
+                Ok(Arc::new(alloc, Script::empty(alloc))?)
+            }
         }
     }
 
@@ -101,9 +96,8 @@ impl Scripts {
         ensures ok { OnOk result (self.new ≡ map.insert self.old name script) }
         ensures err { OnErr result (self.new ≡ self.old) }
     {
-        let shared = SharedScript::new(self.alloc, script)?;
-        self.scripts.insert(name, shared)?;
-        Ok(())
+        let shared = SharedScript::new(self.scripts.alloc(), script)?;
+        self.scripts.put(name, shared)
     }
 
     /// The same scripts again, which share what they hold.
@@ -111,9 +105,6 @@ impl Scripts {
         ensures { IfOk result (λ copy. copy ≡ self.now) }
     {
         let scripts = self.scripts.clone()?;
-        Ok(Scripts {
-            alloc: self.alloc,
-            scripts,
-        })
+        Ok(Scripts { scripts })
     }
 }

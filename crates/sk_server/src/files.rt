@@ -13,28 +13,28 @@ ghost use Rattle.sk_server.specs.declared.reply.Answer.TheVariants.{Yes};
 use crate::AskRef;
 use crate::verdict::Verdict;
 use sk_ids::{Name, Text};
+use sk_map::Map;
 use sk_objects::Content;
 use sk_objects::content::LAST_VERSION;
 use std::alloc::{AllocError, Global};
-use std::collections::BTreeMap;
 use std::marker::Model;
 
 /// The files that were stored, which contracts see as a map.
 #[derive(Drop)]
 pub(crate) struct Files {
-    alloc: Global,
-    contents: BTreeMap<Name, Content>,
+    contents: Map<Name, Content>,
 }
 
 impl Model for Files {
-    ghost use Rattle.std.specs.FinMap as map;
+    ghost use Rattle.sk_ids.specs.Name.{name_order};
+    ghost use Rattle.sk_map.specs.Seen.{seen};
     ghost use Rattle.sk_server.specs.Files.{FileMap, file_map_code};
 
     ghost Value = { FileMap };
 
     ghost coded = { file_map_code };
 
-    ghost view = { λ a. map.from_entries a.contents.entries };
+    ghost view = { λ a. seen name_order a.contents };
 }
 
 impl Files {
@@ -43,8 +43,7 @@ impl Files {
         ensures { result ≡ map.empty }
     {
         Files {
-            alloc,
-            contents: BTreeMap::new(alloc),
+            contents: Map::new(alloc),
         }
     }
 
@@ -87,7 +86,7 @@ impl Files {
         ensures keys { IfOk result (λ all. all.items ≡ map.keys self.now) }
         ensures rising { IfOk result (λ all. IsStrictlySortedBy name_order all.items) }
     {
-        self.contents.keys().copied().collect(self.alloc)
+        self.contents.keys().copied().collect(self.contents.alloc())
     }
 
     /// Sets a file. Only a new one can want memory; then nothing has changed.
@@ -96,8 +95,7 @@ impl Files {
         ensures err { OnErr result (self.new ≡ self.old) }
         ensures absent { OnErr result (map.get self.old name ≡ None) }
     {
-        self.contents.insert(name, content)?;
-        Ok(())
+        self.contents.put(name, content)
     }
 
     /// Writes the version after this one. Only a new file can want memory; then nothing has changed.

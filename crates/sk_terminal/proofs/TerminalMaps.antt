@@ -1,26 +1,15 @@
--- What the map of terminals has at a number after a change: from the entries of the `BTreeMap`, whose keys rise.
+-- What the map of terminals has at a number after a change.
 use Rattle.std.proofs.Common.{◌≡◌, ℕ, true, false, cond, List, [], Option, Some, None, refl, sym, ◌∙◌, ap}
 use Rattle.std.specs.Ordering.{nat_cmp, eq_by_cmp}
 use Rattle.std.specs.Option.{option_map, unwrap_or}
 use Rattle.std.specs.Cmp.{nat_cmp_total, eq_by_cmp_equiv}
-use Rattle.std.specs.BTreeMap.{BTreeMap, UpdatesBy, is_at}
-use Rattle.std.specs.Map.{lookup}
 use Rattle.std.specs.FinMap as map
 use Rattle.std.proofs.lemmas.Bool.{eqb-true}
 use Rattle.std.specs.Prelude.{◌==◌}
 use Rattle.std.proofs.lemmas.Map.Views.{tells_apart}
-use Rattle.sk_ids.proofs.Views.{get_at, one_given}
 use Rattle.sk_terminal.specs.Terminal.{TaggedText}
 use Rattle.sk_terminal.specs.Terminals.{TerminalMap}
 use Rattle.sk_terminal.proofs.SaidTo.{others}
-
-pub got : (es : List (ℕ × List TaggedText)) (t : ℕ) → map.get (map.from_entries {R = nat_cmp} es) t ≡ lookup (is_at (nat_cmp t)) es
-got es t = get_at refl nat_cmp_total es t
-
--- after `insert`, or a write through `get_mut`
-pub given : (m n : BTreeMap ℕ (List TaggedText)) (t : ℕ) (texts : List TaggedText) → UpdatesBy nat_cmp (nat_cmp t) m n (Some texts)
-    → map.from_entries {R = nat_cmp} n.entries ≡ map.insert (map.from_entries m.entries) t texts
-given m n t texts updates = one_given refl nat_cmp_total map.nat_cmp-IsAntisymmetric m.entries n.entries t texts updates.0
 
 -- the texts that are there, put again
 pub put_same : (m : TerminalMap) (t : ℕ) (texts : List TaggedText) → map.get m t ≡ Some texts → map.insert m t texts ≡ m

@@ -1,37 +1,34 @@
 //! The terminals by number.
-ghost use Rattle.std.specs.Prelude.{◌≡◌, ◌==◌, ℕ, OnOk, OnErr, OnSome, if◌then◌else◌};
-ghost use Rattle.std.specs.Option.{option_copied, option_copied_mut, option_map};
-ghost use Rattle.std.specs.Borrow.{LendsSo, sem};
+ghost use Rattle.std.specs.Prelude.{◌≡◌, ◌==◌, ℕ, OnOk, OnErr, if◌then◌else◌};
+ghost use Rattle.std.specs.Option.{option_copied, option_map};
 ghost use Rattle.std.specs.FinMap as map;
 ghost use Rattle.sk_record.specs.Machine.{lightened, not_dropped};
 ghost use Rattle.sk_record.specs.Notes.{has};
-ghost use Rattle.sk_terminal.specs.contracts.terminal.Terminal.{the_row as terminal_row};
 ghost use Rattle.sk_terminal.specs.Terminals.{said_to};
 ghost use Rattle.sk_terminal.specs.Resting.{rests_at};
-ghost use Rattle.sk_terminal.specs.contracts.numbered.Numbered.{the_row as numbered_row};
 
 use crate::Terminal;
 use sk_ids::{GuessId, TagSet, Text};
+use sk_map::Map;
 use std::alloc::{AllocError, Global};
-use std::collections::BTreeMap;
 use std::marker::Model;
 
 /// The terminals that something was said to, by number.
 #[derive(Drop)]
 pub(crate) struct Numbered {
-    alloc: Global,
-    terminals: BTreeMap<u16, Terminal>,
+    terminals: Map<u16, Terminal>,
 }
 
 impl Model for Numbered {
-    ghost use Rattle.std.specs.FinMap as map;
+    ghost use Rattle.std.specs.Ordering.{nat_cmp};
+    ghost use Rattle.sk_map.specs.Seen.{seen};
     ghost use Rattle.sk_terminal.specs.Terminals.{TerminalMap, terminals_code};
 
     ghost Value = { TerminalMap };
 
     ghost coded = { terminals_code };
 
-    ghost view = { λ a. map.from_entries a.terminals.entries };
+    ghost view = { λ a. seen nat_cmp a.terminals };
 }
 
 impl PartialEq for Numbered {
@@ -44,7 +41,6 @@ impl PartialEq for Numbered {
     ghost laws = { partial_equiv_from_equiv (decided same_terminals exact_terminals) };
 
     fn eq(&self, other: &Numbered) -> bool {
-        let _rising = (self.terminals.len(), other.terminals.len());
         self.terminals == other.terminals
     }
 }
@@ -55,8 +51,7 @@ impl Numbered {
         ensures { result ≡ map.empty }
     {
         Numbered {
-            alloc,
-            terminals: BTreeMap::new(alloc),
+            terminals: Map::new(alloc),
         }
     }
 
@@ -67,32 +62,17 @@ impl Numbered {
         self.terminals.get(&number)
     }
 
-    fn get_mut(&mut self, number: u16) -> Option<&mut Terminal>
-        ensures* writes_back { sem 𝓛 (LendsSo numbered_row terminal_row self.entry result (λ n w. OnSome result (n ≡ map.insert self.old number w)) (λ n. n ≡ self.old)) }
-        ensures value { option_copied_mut result ≡ map.get self.old number }
-    {
-        self.terminals.get_mut(&number)
-    }
-
-    fn put(&mut self, number: u16, terminal: Terminal) -> Result<(), AllocError>
-        ensures ok { OnOk result (self.new ≡ map.insert self.old number terminal) }
-        ensures err { OnErr result (self.new ≡ self.old) }
-    {
-        self.terminals.insert(number, terminal)?;
-        Ok(())
-    }
-
     /// Says a text to a terminal. Without memory everything is as it was.
     pub(crate) fn say(&mut self, number: u16, text: Text, tags: TagSet) -> Result<(), AllocError>
         ensures ok { OnOk result (self.new ≡ said_to self.old number (text, tags)) }
         ensures err { OnErr result (self.new ≡ self.old) }
     {
-        if let Some(terminal) = self.get_mut(number) {
+        if let Some(terminal) = self.terminals.get_mut(&number) {
             return terminal.say(text, tags);
         }
-        let mut terminal = Terminal::new(self.alloc);
+        let mut terminal = Terminal::new(self.terminals.alloc());
         terminal.say(text, tags)?;
-        self.put(number, terminal)
+        self.terminals.put(number, terminal)
     }
 
     /// Whether a text of a terminal rests on a guess.
@@ -109,7 +89,7 @@ impl Numbered {
     fn commit_at(&mut self, number: u16, id: GuessId)
         ensures { (t : ℕ) → map.get self.new t ≡ (if number == t then option_map (lightened id) (map.get self.old t) else map.get self.old t) }
     {
-        if let Some(terminal) = self.get_mut(number) {
+        if let Some(terminal) = self.terminals.get_mut(&number) {
             terminal.commit(id);
         }
     }
@@ -127,7 +107,7 @@ impl Numbered {
     fn drop_at(&mut self, number: u16, id: GuessId)
         ensures { (t : ℕ) → map.get self.new t ≡ (if number == t then option_map (not_dropped id) (map.get self.old t) else map.get self.old t) }
     {
-        if let Some(terminal) = self.get_mut(number) {
+        if let Some(terminal) = self.terminals.get_mut(&number) {
             terminal.drop_of(id);
         }
     }

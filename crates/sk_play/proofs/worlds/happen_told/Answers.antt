@@ -13,13 +13,13 @@ use Rattle.sk_play.proofs.worlds.happen_told.Goals as goal
 pub returns-in-Ok-Turn : goal.returns-in-Ok-Turn
 returns-in-Ok-Turn g c =
     let is : c.advance.result ≡ Ok (news.Turn c.in-Ok-Turn.turn) = search rules in
-    told_answer c.args.number c.args.world.now c.args.event.now c.advance.new.world (g.W.Write.contents c.args.out.now) (g.W.Write.contents c.write_turn.new.out) (answers.Turn c.in-Ok-Turn.turn) c.write_turn.result
-    (subst (λ (r : Result WorldNews Cause). NewsPost r c.args.world.now c.args.event.now c.advance.new.world) is c.advance.ensures) c.write_turn.ensures
+    told_answer c.args.number c.args.world.now c.args.event.now c.advance.new.self (g.W.Write.contents c.args.out.now) (g.W.Write.contents c.write_turn.new.out) (answers.Turn c.in-Ok-Turn.turn) c.write_turn.result
+    (subst (λ (r : Result WorldNews Cause). NewsPost r c.args.world.now c.args.event.now c.advance.new.self) is c.advance.ensures) c.write_turn.ensures
 
 pub returns-in-Some : goal.returns-in-Some
 returns-in-Some g c =
     let old = c.args.world.now in
-    let new = c.advance.new.world in
+    let new = c.advance.new.self in
     let event = c.args.event.now in
     let reply : Reply = c.in-Some.reply.now in
     let is : c.advance.result ≡ Ok news.Served = search rules in
@@ -31,11 +31,11 @@ returns-in-Some g c =
 pub returns-in-Ok-Given : goal.returns-in-Ok-Given
 returns-in-Ok-Given g c =
     let is : c.advance.result ≡ Ok (news.Given c.in-Ok-Given.given) = search rules in
-    told_answer c.args.number c.args.world.now c.args.event.now c.advance.new.world (g.W.Write.contents c.args.out.now) (g.W.Write.contents c.write_given.new.out) (answers.Given c.in-Ok-Given.given) c.write_given.result
-    (subst (λ (r : Result WorldNews Cause). NewsPost r c.args.world.now c.args.event.now c.advance.new.world) is c.advance.ensures) c.write_given.ensures
+    told_answer c.args.number c.args.world.now c.args.event.now c.advance.new.self (g.W.Write.contents c.args.out.now) (g.W.Write.contents c.write_given.new.out) (answers.Given c.in-Ok-Given.given) c.write_given.result
+    (subst (λ (r : Result WorldNews Cause). NewsPost r c.args.world.now c.args.event.now c.advance.new.self) is c.advance.ensures) c.write_given.ensures
 
 pub returns-in-Ok-Edited : goal.returns-in-Ok-Edited
 returns-in-Ok-Edited g c =
     let is : c.advance.result ≡ Ok (news.Edited c.in-Ok-Edited.version) = search rules in
-    told_answer c.args.number c.args.world.now c.args.event.now c.advance.new.world (g.W.Write.contents c.args.out.now) (g.W.Write.contents c.write_edited.new.out) (answers.Edited c.in-Ok-Edited.version) c.write_edited.result
-    (subst (λ (r : Result WorldNews Cause). NewsPost r c.args.world.now c.args.event.now c.advance.new.world) is c.advance.ensures) c.write_edited.ensures
+    told_answer c.args.number c.args.world.now c.args.event.now c.advance.new.self (g.W.Write.contents c.args.out.now) (g.W.Write.contents c.write_edited.new.out) (answers.Edited c.in-Ok-Edited.version) c.write_edited.result
+    (subst (λ (r : Result WorldNews Cause). NewsPost r c.args.world.now c.args.event.now c.advance.new.self) is c.advance.ensures) c.write_edited.ensures

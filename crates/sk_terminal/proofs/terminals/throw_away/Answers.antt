@@ -1,6 +1,5 @@
 -- The terminals that are not listed are as they were.
 use Rattle.std.proofs.Common.{[], refl, sym, ◌∙◌}
-use Rattle.std.specs.FinMap as map
 use Rattle.sk_record.specs.Machine.{not_dropped}
 use Rattle.sk_terminal.proofs.Decided.{drop_leaves, drop_takes, decided, decided_listed}
 use Rattle.sk_terminal.proofs.terminals.throw_away.Goals as goal

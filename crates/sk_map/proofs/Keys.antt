@@ -1,0 +1,16 @@
+-- What follows of keys: their test of equality is exact, and what is known in the order that the code computes is known in that of specs/.
+use Rattle.std.proofs.Common.{◌≡◌, Bool, List, sym, subst, ◌∙◌}
+use Rattle.std.specs.Ordering.{is_eq}
+use Rattle.std.specs.declared.cmp.Ordering.{Ordering}
+use Rattle.std.specs.List.Sorted.{IsStrictlySortedBy}
+use Rattle.std.specs.Cmp.{IsTotalOrder, Equal-is, eq_by_cmp_equiv}
+use Rattle.std.specs.FinMap.{IsAntisymmetric}
+use Rattle.sk_record.specs.Same.{IsExact}
+use Rattle.sk_record.proofs.Exact.{exact_from}
+
+pub rising : {K : Type 0} {C R : K → K → Ordering} → C ≡ R → (ks : List K) → IsStrictlySortedBy C ks → IsStrictlySortedBy R ks
+rising same ks = subst (λ S. IsStrictlySortedBy S ks) same
+
+pub exact_key : {K : Type 0} {C : K → K → Ordering} {E : K → K → Bool} → IsTotalOrder C → IsAntisymmetric C → ((x y : K) → E x y ≡ is_eq (C x y)) → IsExact E
+exact_key {C = C} {E = E} total exact ties =
+    exact_from E (λ x. ties x x ∙ (eq_by_cmp_equiv total).refl x) (λ x y h. exact x y ((Equal-is (C x y)).0 (sym (ties x y) ∙ h)))

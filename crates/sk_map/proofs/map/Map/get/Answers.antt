@@ -1,0 +1,14 @@
+-- What is got is what the map has: from the look-up in the entries.
+use Rattle.std.proofs.Common.{sym, ap, subst, ◌∙◌}
+use Rattle.std.specs.Cmp.{IsTotalOrder}
+use Rattle.std.specs.FinMap as map
+use Rattle.sk_ids.proofs.Views.{get_at}
+use Rattle.sk_map.specs.Seen.{seen}
+use Rattle.sk_map.proofs.map.Map.get.Goals as goal
+
+pub returns : goal.returns
+returns g c =
+    let same = g.met.K.Key.same in
+    c.get.ensures.value
+    ∙ sym (get_at same (subst IsTotalOrder same g.met.K.Ord.total) c.self.inside.entries.entries c.args.key.now)
+    ∙ ap (λ es. map.get (seen g.K.Key.order es) c.args.key.now) c.self.view_is

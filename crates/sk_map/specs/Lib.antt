@@ -1,0 +1,2 @@
+pub mod KeyLemma
+pub mod Seen

@@ -1,11 +1,11 @@
 //! A history, run again.
-use crate::finding::Finding;
 use sk_client::Desk;
 use sk_ids::Pid;
 use sk_kernel::HandIn;
 use sk_server::{Reply, Request, Server, ServerRefusal};
 use sk_workers::{Answered, Call, Entry};
-use std::alloc::Global;
+use std::alloc::{AllocError, Global};
+use tests_support::finding::Finding;
 
 /// A fresh server with the replies that it made, the oldest first.
 #[derive(Drop)]
@@ -38,7 +38,7 @@ impl Peer {
                 self.replies.push(reply)?;
                 Ok(())
             }
-            Err((_, ServerRefusal::Memory)) => Err(Finding::Memory),
+            Err((_, ServerRefusal::Memory)) => Err(Finding::Memory(AllocError)),
             Err((_, ServerRefusal::OutOfTurn { .. })) => Err(Finding::Requests),
         }
     }

@@ -3,8 +3,7 @@ ghost use Rattle.std.specs.Prelude.{◌≡◌, ◌≤◌, [], IfOk};
 ghost use Rattle.sk_client.specs.Desk.{opened_at};
 
 use crate::again::{Peer, run_again};
-use crate::finding::Finding;
-use crate::judge::{judge, judge_files};
+use crate::judge::judge_files;
 use crate::turns::judge_calls;
 use sk_client::Desk;
 use sk_crew::{Plan, run_crew};
@@ -17,6 +16,8 @@ use std::marker::Brand;
 use std::sync::Wait;
 use std::sync::ledger::Blank;
 use std::thread::Threads;
+use tests_support::finding::Finding;
+use tests_support::judge::judge_settled;
 
 /// Waits for nothing.
 #[derive(Drop)]
@@ -74,7 +75,7 @@ fn judge_crew(
     if left.desk.pending() > 0 {
         return Err(Finding::Pending);
     }
-    judge(alloc, declarations.boot(), left.desk.kernel())?;
+    judge_settled(alloc, declarations.boot(), left.desk.kernel())?;
     let (mut fresh, server) = desk_of(alloc, declarations)?;
     let mut peer = Peer::new(alloc, server);
     let calls = judge_calls(alloc, fresh.kernel(), plan, left.entries);

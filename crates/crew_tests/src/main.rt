@@ -8,14 +8,12 @@ ghost use Rattle.std.specs.Prelude.{◌≤◌, IfSome};
 
 mod again;
 mod crews;
-mod finding;
 mod judge;
 #[cfg(test)]
 mod tests;
 mod turns;
 
 use crate::crews::judge_crews;
-use crate::finding::Finding;
 use sk_command::read_all::read_all;
 use sk_crew::Plan;
 use sk_scenario::Scenario;
@@ -24,6 +22,7 @@ use std::io::Write;
 use std::process::ExitCode;
 use std::sync::Wait;
 use std::thread::Threads;
+use tests_support::finding::Finding;
 
 /// How many private instructions a worker runs at most before each of its turns.
 const AHEAD: u32 = 64;
@@ -60,7 +59,7 @@ fn judge_input<T: Threads + Wait + Sync>(rt: &HostRuntime, threads: &T) -> Resul
     let Some(wish) = wish_of(&words) else {
         return Err(Finding::Words);
     };
-    let text = read_all(rt.alloc(), &mut rt.reader())?;
+    let text = read_all(rt.alloc(), &mut rt.reader()).map_err(|_fault| Finding::Input)?;
     let scenario = Scenario::parse(rt.alloc(), &text)?;
     judge_crews(
         threads,
@@ -75,7 +74,7 @@ fn main(rt: HostRuntime) -> ExitCode {
     match judge_input(&rt, &rt) {
         Ok(_calls) => ExitCode::SUCCESS,
         Err(finding) => {
-            let _ = writeln!(rt.stderr(), "{finding:?}");
+            let _ = writeln!(rt.stderr(), "{finding}");
             ExitCode::FAILURE
         }
     }

@@ -2,13 +2,13 @@
 ghost use Rattle.std.specs.Prelude.{◌≤◌};
 
 use crate::crews::judge_crews;
-use crate::finding::Finding;
 use sk_crew::Plan;
 use sk_scenario::Scenario;
 use std::alloc::Global;
 use std::process::Abort;
 use std::sync::Wait;
 use std::thread::Threads;
+use tests_support::finding::Finding;
 
 /// How many crews of a size there are in a test.
 const CREWS: u32 = 334;

@@ -1,13 +1,13 @@
 //! Whose the calls of a history are, and in which order each worker made its own.
 ghost use Rattle.std.specs.Prelude.{◌≤◌};
 
-use crate::finding::Finding;
 use sk_crew::Plan;
 use sk_ids::{Entity, Pid};
 use sk_kernel::Kernel;
 use sk_plain::Refusal;
 use sk_workers::{Answered, Call, Entry};
 use std::alloc::{AllocFailed, Global};
+use tests_support::finding::Finding;
 
 /// The processes of a worker: those whose places, by rising number from 0, are its own number modulo that of the workers.
 fn processes_of(

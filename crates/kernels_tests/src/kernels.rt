@@ -2,7 +2,7 @@
 ghost use Rattle.std.specs.Prelude.{◌≡◌};
 
 use crate::plays::{Decision, Pick, Play, Player, does, does_all};
-use crate::start::{Start, text};
+use crate::start::Start;
 use sk_guesses::Guess;
 use sk_ids::Text;
 use sk_kernel::{FailRefusal, Kernel, Outcome, Stranger};
@@ -11,6 +11,7 @@ use sk_terminal::Texts;
 use std::alloc::Global;
 use std::process::Abort;
 use std::test::Fail;
+use tests_support::values::text;
 
 const SAY_FETCH_SAY: &[u8] = b"text \"a\"\nsay\nfetch /01\ntext \"b\"\nsay\n";
 

@@ -1,5 +1,5 @@
 //! A process is leased, and handed in.
-use crate::start::{declares_script, name, pid};
+use crate::start::declares_script;
 use sk_ids::{Entity, Pid};
 use sk_kernel::{HandIn, Kernel};
 use sk_plain::View;
@@ -7,6 +7,7 @@ use sk_script::{Boot, Input};
 use std::alloc::Global;
 use std::process::Abort;
 use std::test::Fail;
+use tests_support::values::{name, pid};
 
 /// A kernel of a process with two private instructions and one that is not, and of one that ends it
 /// by a signal.

@@ -4,7 +4,6 @@ ghost use Rattle.sk_record.specs.Notes.{last_tags};
 ghost use Rattle.sk_undo.specs.Kept.{object_undone, ObjectFits, runs_of};
 ghost use Rattle.sk_undo.specs.Log.{CanGoBack, Covers};
 
-use crate::start::{name, pid, text};
 use sk_changes::{Change, Invertible};
 use sk_ids::{GuessId, TagSet, Text};
 use sk_objects::{Kind, Value};
@@ -13,12 +12,7 @@ use sk_undo::{ObjectLog, ProcessLog};
 use std::alloc::Global;
 use std::process::Abort;
 use std::test::Fail;
-
-fn guess(number: u64) -> Result<GuessId, Fail>
-    ensures { IfOk result (λ id. id ≡ number) }
-{
-    Ok(GuessId::new(number).ok_or("guess")?)
-}
+use tests_support::values::{guess, name, pid, text};
 
 fn tags(alloc: Global, number: u64) -> Result<TagSet, Fail>
     ensures { IfOk result (λ tags. tags ≡ number ∷ []) }

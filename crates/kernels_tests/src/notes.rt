@@ -1,10 +1,11 @@
 //! How many notes are held, until the guesses are decided that they are for.
 use crate::plays::{Count, Decision, Pick, Play, plays, plays_on};
-use crate::start::{Start, declares_file, name, two_processes};
+use crate::start::{Start, declares_file, two_processes};
 use sk_kernel::{Kernel, Outcome};
 use std::alloc::Global;
 use std::process::Abort;
 use std::test::Fail;
+use tests_support::values::name;
 
 /// Writes what it fetches to a file, three times.
 const WRITER: &[u8] = b"look r1 r7 f\nfetch /x\nwrite r1 r2\nwrite r1 r2\nwrite r1 r2\n";

@@ -1,10 +1,11 @@
 //! Plain kernels and openings, compared.
-use crate::start::{Start, boot_of, kernel_of, pid};
+use crate::start::{Start, boot_of, kernel_of};
 use sk_kernel::{Kernel, Opening};
 use sk_plain::Plain;
 use sk_script::Input;
 use std::alloc::{AllocError, Global};
 use std::test::Fail;
+use tests_support::values::pid;
 
 /// A kernel of number 1 with one process, which says nothing again and again.
 const START: Start<'static> = Start {

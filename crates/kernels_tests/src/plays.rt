@@ -2,15 +2,16 @@
 //! come of it. A table has plain numbers, so that a test is short to prove.
 ghost use Rattle.std.specs.Prelude.{◌≡◌, vec_len};
 
-use crate::start::{Start, kernel_of, pid};
+use crate::start::{Start, kernel_of};
 use sk_guesses::{Guess, Status};
-use sk_ids::{Entity, GuessId, ObjId, Pid};
+use sk_ids::{Entity, ObjId, Pid};
 use sk_kernel::{EpochRefusal, FailRefusal, Kernel, Outcome, Stranger};
 use sk_plain::{Refusal, View};
 use sk_script::Input;
 use std::alloc::Global;
 use std::process::Abort;
 use std::test::Fail;
+use tests_support::values::{guess, pid};
 
 /// How a guess is decided.
 #[derive(Clone, Copy)]
@@ -285,7 +286,7 @@ fn rests(
     number: u64,
     want: &[Thing],
 ) -> Result<(), Fail> {
-    let dependents = kernel.dependents(GuessId::new(number).ok_or("guess")?);
+    let dependents = kernel.dependents(guess(number)?);
     assert_eq!(rt; dependents.len(), want.len(), "play {place}");
     for (entity, thing) in dependents.iter().zip(want) {
         assert_eq!(rt; *entity, entity_of(*thing)?, "play {place}");
@@ -316,7 +317,7 @@ fn became(
     number: u64,
     want: Option<Status>,
 ) -> Result<(), Fail> {
-    let status = kernel.status(GuessId::new(number).ok_or("guess")?);
+    let status = kernel.status(guess(number)?);
     assert_eq!(rt; status, want, "play {place}");
     Ok(())
 }

@@ -1,6 +1,6 @@
 //! Records, stores and steps, and what a failure leaves of a record.
-use crate::start::{content, declares_file, name, pid, two_processes};
-use sk_ids::{Entity, GuessId, Name, ObjId, Pid};
+use crate::start::{declares_file, two_processes};
+use sk_ids::{Entity, Name, ObjId, Pid};
 use sk_plain::{
     Entry, Event, InputRef, KeptInput, Refusal, Trace, apply_plan, plan_step, strike_guess,
 };
@@ -9,6 +9,7 @@ use sk_store::{EntityState, Look, Store};
 use std::alloc::Global;
 use std::process::Abort;
 use std::test::Fail;
+use tests_support::values::{content, guess, name, pid};
 
 /// What a process does: a step without input, a fetch from the copy, one of the server's content where
 /// there is no copy, one where the copy is stale, and one that is guessed.
@@ -21,17 +22,13 @@ enum Did {
     Guesses(u16),
 }
 
-fn first_guess() -> Result<GuessId, Fail> {
-    Ok(GuessId::new(1).ok_or("guess")?)
-}
-
 fn entry_of(did: Did) -> Result<Entry, Fail> {
     let (number, input, guess) = match did {
         Did::Steps(number) => (number, Input::None, None),
         Did::Good(number) => (number, Input::Good, None),
         Did::Fresh(number) => (number, Input::Fresh(content(2, b"new")?), None),
         Did::Stale(number) => (number, Input::Stale(content(1, b"new")?), None),
-        Did::Guesses(number) => (number, Input::Good, Some(first_guess()?)),
+        Did::Guesses(number) => (number, Input::Good, Some(guess(1)?)),
     };
     let pid = pid(number)?;
     Ok(Entry { pid, input, guess })
@@ -52,7 +49,7 @@ fn struck(
     boot: &Boot,
     record: &[Did],
 ) -> Result<Vec<Entry>, Fail> {
-    let guess = first_guess()?;
+    let guess = guess(1)?;
     let entries = entries_of(alloc, record)?;
     Ok(strike_guess(alloc, store, boot.scripts(), &entries, guess)?)
 }
@@ -312,7 +309,7 @@ fn two_events(alloc: Global, pid: Pid, input: Input) -> Result<Trace, Fail> {
     trace.reserve(2)?;
     let input = trace.keep(InputRef::of(&input))?;
     trace.push(Event::Step { pid, input });
-    trace.push(Event::Commit(first_guess()?));
+    trace.push(Event::Commit(guess(1)?));
     Ok(trace)
 }
 
@@ -323,7 +320,7 @@ fn keeps_events(rt: HostRuntime) -> Result<(), Fail> {
         step.pid,
         KeptInput::keep(rt.alloc(), InputRef::of(&step.input))?,
     );
-    let want = [Event::Step { pid, input }, Event::Commit(first_guess()?)];
+    let want = [Event::Step { pid, input }, Event::Commit(guess(1)?)];
     let entries = [want[0].entry(), want[1].entry()];
     assert_eq!(rt; entries, [Some(step), None]);
     let trace = two_events(rt.alloc(), pid, step.input)?;

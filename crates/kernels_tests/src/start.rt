@@ -1,32 +1,12 @@
 //! What kernels and stores start from, as plain data.
 ghost use Rattle.std.specs.Prelude.{◌<◌};
 
-use sk_ids::{Name, Pid, Text};
+use sk_ids::Name;
 use sk_kernel::Kernel;
-use sk_objects::Content;
 use sk_script::{Boot, ObjectKind, Script};
 use std::alloc::{AllocError, Global};
 use std::test::Fail;
-
-/// A name.
-pub fn name(bytes: &[u8]) -> Result<Name, Fail> {
-    Ok(Name::new(bytes).ok_or("name")?)
-}
-
-/// A text.
-pub fn text(bytes: &[u8]) -> Result<Text, Fail> {
-    Ok(Text::new(bytes).ok_or("text")?)
-}
-
-/// A content.
-pub fn content(version: u64, bytes: &[u8]) -> Result<Content, Fail> {
-    Ok(Content::new(version, text(bytes)?).ok_or("content")?)
-}
-
-/// A process.
-pub fn pid(number: u16) -> Result<Pid, Fail> {
-    Ok(Pid::boot(number).ok_or("pid")?)
-}
+use tests_support::values::{content, name};
 
 /// What a kernel starts from.
 #[derive(Clone, Copy)]

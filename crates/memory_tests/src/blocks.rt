@@ -2,13 +2,13 @@
 ghost use Rattle.std.specs.Prelude.{◌≡◌, ◌*◌, IfOk};
 ghost use Rattle.sk_changes.specs.Changes.{CanUndo, value_undone};
 
-use crate::finding::Finding;
 use crate::sights::begins;
 use sk_changes::{Change, Invertible, NotApplied, Undo};
 use sk_ids::Text;
 use sk_objects::{Kind, Value};
 use std::alloc::{AllocError, Global};
 use std::io::Write;
+use tests_support::finding::Finding;
 
 /// How many blocks a file has at most.
 const BLOCKS: u8 = 64;
@@ -37,7 +37,7 @@ fn changes(alloc: Global, value: &mut Value, change: &Change) -> Result<Undo, Fi
     }
     match value.apply(alloc, *change) {
         Ok(undo) => Ok(undo),
-        Err(_) => Err(Finding::Memory),
+        Err(_) => Err(Finding::Memory(AllocError)),
     }
 }
 

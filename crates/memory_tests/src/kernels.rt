@@ -1,11 +1,11 @@
 //! Steps on a kernel.
-use crate::finding::Finding;
-use crate::sights::{Sight, begins, printed, report, shows};
-use crate::texts::tells_texts;
+use crate::sights::{Sight, begins, report};
+use crate::texts::tells;
 use sk_play::{Answer, Session, write_answer};
 use sk_scenario::{Call, Declarations};
 use std::alloc::{AllocError, Global};
 use std::io::Write;
+use tests_support::finding::Finding;
 
 fn starts(alloc: Global, declarations: &Declarations) -> Result<Session, Finding> {
     match Session::new(alloc, declarations) {
@@ -45,14 +45,13 @@ fn calls_all<W: Write>(
         write_answer(place + 1, &answer, out)?;
     }
     let kernel = session.kernel();
-    let trace = printed(alloc, kernel.trace())?;
-    shows(&report(alloc, kernel)?, &trace, out)?;
-    tells_texts(
+    let report = report(alloc, kernel)?;
+    tells(
         alloc,
         text,
         declarations.boot(),
         kernel.trace(),
-        &trace,
+        &report,
         out,
     )
 }

@@ -2,7 +2,6 @@
 ghost use Rattle.std.specs.Prelude.{◌≡◌, IfOk};
 ghost use Rattle.sk_play.specs.Plays.{declared_kernel};
 
-use crate::finding::Finding;
 use crate::sights::{Sight, printed, report, shows};
 use sk_client::Desk;
 use sk_holder::Holder;
@@ -13,6 +12,7 @@ use sk_scenario::{Call, Declarations};
 use sk_script::Lease;
 use std::alloc::{AllocError, Global};
 use std::io::Write;
+use tests_support::finding::Finding;
 
 /// How many private instructions a lease is to run at most.
 const AHEAD: u32 = 2;
@@ -101,7 +101,7 @@ fn lends<L: Lender>(lender: &L, pid: Pid, out: &mut Option<Lease>) -> Result<(),
             put(out, lease);
             Ok(())
         }
-        Err(Refusal::Memory) => Err(Finding::Memory),
+        Err(Refusal::Memory) => Err(Finding::Memory(AllocError)),
         Err(_) => Ok(()),
     }
 }
@@ -112,7 +112,7 @@ fn calls<L: Lender>(alloc: Global, lender: &mut L, call: &Call) -> Result<(), Fi
     if let Err(Refusal::Memory) = lender.call(call) {
         Sight::of(alloc, lender.kernel())?.same(&before)?;
         if let Err(Refusal::Memory) = lender.call(call) {
-            return Err(Finding::Memory);
+            return Err(Finding::Memory(AllocError));
         }
     }
     Ok(())
@@ -150,7 +150,7 @@ fn hands_in<L: Lender>(
     }
     Sight::of(alloc, lender.kernel())?.same(&before)?;
     match tries(lender, out) {
-        Err(HandIn::Memory) => Err(Finding::Memory),
+        Err(HandIn::Memory) => Err(Finding::Memory(AllocError)),
         told => Ok(told),
     }
 }

@@ -7,7 +7,6 @@
 #![tactic(auto)]
 
 mod blocks;
-mod finding;
 mod kernels;
 mod leases;
 mod sights;
@@ -15,7 +14,6 @@ mod texts;
 mod worlds;
 
 use crate::blocks::plays_blocks;
-use crate::finding::Finding;
 use crate::kernels::plays_steps;
 use crate::leases::plays_leases;
 use crate::texts::scenario_of;
@@ -25,6 +23,7 @@ use std::alloc::Global;
 use std::env;
 use std::io::{Read, Write};
 use std::process::ExitCode;
+use tests_support::finding::Finding;
 
 /// The greatest length of a scenario, in bytes.
 const ROOM: usize = 16_384;
@@ -50,7 +49,7 @@ fn plays<W: Write>(alloc: Global, text: &[u8], out: &mut W) -> Result<(), Findin
     match &scenario.section {
         Section::Steps(steps) => plays_steps(alloc, text, declarations, steps.as_slice(), out),
         Section::World(events) => plays_world(alloc, text, declarations, events.as_slice(), out),
-        Section::Trace(_) => Err(Finding::Scenario),
+        Section::Trace(_) => Err(Finding::Section),
     }
 }
 
@@ -59,7 +58,7 @@ fn lends<W: Write>(alloc: Global, text: &[u8], out: &mut W) -> Result<(), Findin
     let scenario = scenario_of(alloc, text)?;
     match &scenario.section {
         Section::Steps(steps) => plays_leases(alloc, &scenario.declarations, steps.as_slice(), out),
-        Section::World(_) | Section::Trace(_) => Err(Finding::Scenario),
+        Section::World(_) | Section::Trace(_) => Err(Finding::Section),
     }
 }
 
@@ -88,7 +87,7 @@ fn main(rt: HostRuntime) -> ExitCode {
     match plays_input(&rt) {
         Ok(()) => ExitCode::SUCCESS,
         Err(finding) => {
-            let _ = writeln!(rt.stderr(), "{finding:?}");
+            let _ = writeln!(rt.stderr(), "{finding}");
             ExitCode::FAILURE
         }
     }

@@ -1,11 +1,11 @@
 //! What is seen of a kernel and of a world, as text.
-use crate::finding::Finding;
 use sk_client::World;
 use sk_kernel::Kernel;
 use sk_report::{Stop, write_report, write_world_report};
 use sk_trace::Trace;
 use std::alloc::{AllocError, Global};
 use std::io::Write;
+use tests_support::finding::Finding;
 
 /// How much is reserved for what is seen, in bytes.
 const SIGHT: usize = 65_536;
@@ -28,7 +28,7 @@ fn try_report(alloc: Global, kernel: &Kernel) -> Result<Vec<u8>, Stop> {
 pub fn report(alloc: Global, kernel: &Kernel) -> Result<Vec<u8>, Finding> {
     match try_report(alloc, kernel) {
         Ok(text) => Ok(text),
-        Err(_stop) => Ok(try_report(alloc, kernel)?),
+        Err(_stop) => try_report(alloc, kernel).map_err(|_stop| Finding::Memory(AllocError)),
     }
 }
 
@@ -42,7 +42,7 @@ fn try_world_report(alloc: Global, world: &World) -> Result<Vec<u8>, Stop> {
 pub fn world_report(alloc: Global, world: &World) -> Result<Vec<u8>, Finding> {
     match try_world_report(alloc, world) {
         Ok(text) => Ok(text),
-        Err(_stop) => Ok(try_world_report(alloc, world)?),
+        Err(_stop) => try_world_report(alloc, world).map_err(|_stop| Finding::Memory(AllocError)),
     }
 }
 

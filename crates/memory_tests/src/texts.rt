@@ -1,6 +1,5 @@
 //! Texts that are read, and what is left of a trace.
-use crate::finding::Finding;
-use crate::sights::printed;
+use crate::sights::{printed, shows};
 use sk_plain::{Entry, TraceFault, strike};
 use sk_scenario::Scenario;
 use sk_script::{Boot, Script};
@@ -8,6 +7,7 @@ use sk_trace::Trace;
 use sk_words::FaultKind;
 use std::alloc::Global;
 use std::io::Write;
+use tests_support::finding::Finding;
 
 /// The scenario of a text.
 pub fn scenario_of(alloc: Global, text: &[u8]) -> Result<Scenario, Finding> {
@@ -54,18 +54,20 @@ fn left_of(alloc: Global, boot: &Boot, trace: &Trace) -> Result<Vec<Entry>, Find
     }
 }
 
-/// Reads the printed trace and the first script of a scenario, and tells how many entries are left of the one and how many
-/// instructions the other has.
-pub fn tells_texts<W: Write>(
+/// Writes a report and the trace; then reads that trace and the first script of the scenario, and tells how many entries
+/// are left of the one and how many instructions the other has.
+pub fn tells<W: Write>(
     alloc: Global,
     text: &[u8],
     boot: &Boot,
     trace: &Trace,
-    shown: &[u8],
+    report: &[u8],
     out: &mut W,
 ) -> Result<(), Finding> {
-    let again = trace_of(alloc, shown)?;
-    if again.events() != trace.events() || printed(alloc, &again)?.as_slice() != shown {
+    let shown = printed(alloc, trace)?;
+    shows(report, &shown, out)?;
+    let again = trace_of(alloc, &shown)?;
+    if again.events() != trace.events() || printed(alloc, &again)? != shown {
         return Err(Finding::Trace);
     }
     let left = left_of(alloc, boot, &again)?.len();

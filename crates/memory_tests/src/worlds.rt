@@ -1,12 +1,12 @@
 //! Events of a world.
-use crate::finding::Finding;
-use crate::sights::{Sight, begins, printed, shows, world_report};
-use crate::texts::tells_texts;
+use crate::sights::{Sight, begins, world_report};
+use crate::texts::tells;
 use sk_client::{World, WorldEvent};
 use sk_play::{WorldTold, happen, world_of, write_told};
 use sk_scenario::Declarations;
 use std::alloc::{AllocError, Global};
 use std::io::Write;
+use tests_support::finding::Finding;
 
 fn starts(alloc: Global, declarations: &Declarations) -> Result<World, Finding> {
     match world_of(alloc, declarations) {
@@ -45,17 +45,9 @@ fn happens_all<W: Write>(
         let told = happens(alloc, world, event, out)?;
         write_told(place + 1, &told, out)?;
     }
-    let kernel = world.desk().kernel();
-    let trace = printed(alloc, kernel.trace())?;
-    shows(&world_report(alloc, world)?, &trace, out)?;
-    tells_texts(
-        alloc,
-        text,
-        declarations.boot(),
-        kernel.trace(),
-        &trace,
-        out,
-    )
+    let trace = world.desk().kernel().trace();
+    let report = world_report(alloc, world)?;
+    tells(alloc, text, declarations.boot(), trace, &report, out)
 }
 
 /// Plays the events of a world, and prints what comes of them.

@@ -1,10 +1,10 @@
 //! Epochs in a run: its whole trace stays that of a kernel without them.
-use crate::finding::Finding;
 use crate::judge::judge_texts;
 use crate::reckoning::Reckoning;
 use sk_kernel::{EpochRefusal, Kernel};
 use sk_plain::{Trace, strike_from};
 use sk_terminal::Texts;
+use tests_support::finding::Finding;
 
 /// How much of a run stood when the kernel's epoch began.
 #[derive(Clone, Copy, Debug, Default)]

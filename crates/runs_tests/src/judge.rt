@@ -1,34 +1,20 @@
 //! Whether a kernel is what its trace comes to.
 use crate::epochs::Before;
-use crate::finding::Finding;
 use crate::reckoning::{Reckoning, Said, names_in};
 use sk_ids::{Entity, GuessId, Text};
 use sk_kernel::Kernel;
-use sk_plain::{Trace, View};
-use std::alloc::AllocError;
+use sk_plain::Trace;
 use std::collections::BTreeSet;
-
-/// Whether two entities have the same.
-fn is_same(one: Option<View>, other: Option<View>) -> bool {
-    match (one, other) {
-        (Some(View::Process(one)), Some(View::Process(other))) => one == other,
-        (Some(View::Value(one)), Some(View::Value(other))) => *one == *other,
-        (None, None) => true,
-        _ => false,
-    }
-}
+use tests_support::finding::Finding;
+use tests_support::judge::{judge_present, judge_value};
 
 /// Compares the entities that are present, and notes them as seen.
-fn judge_present(
+fn judge_entities(
     kernel: &Kernel,
     reckoning: &Reckoning,
     seen: &mut BTreeSet<Entity>,
 ) -> Result<(), Finding> {
-    let present = kernel.entities()?;
-    if present != reckoning.plain.entities()? {
-        return Err(Finding::Entities);
-    }
-    for entity in &present {
+    for entity in &judge_present(kernel, &reckoning.plain)? {
         seen.insert(*entity)?;
     }
     Ok(())
@@ -36,9 +22,7 @@ fn judge_present(
 
 /// Compares what an entity has, and what it depends on.
 fn judge_entity(kernel: &Kernel, reckoning: &Reckoning, entity: &Entity) -> Result<(), Finding> {
-    if !is_same(kernel.value(entity), reckoning.plain.value(entity)) {
-        return Err(Finding::Value);
-    }
+    judge_value(kernel, &reckoning.plain, entity)?;
     if !reckoning.has_tags(entity, kernel.tags_of(entity)) {
         return Err(Finding::Tags);
     }
@@ -174,7 +158,7 @@ fn judge_counts(
 ) -> Result<(), Finding> {
     let since = trace.events().get(before.events..).unwrap_or(&[]);
     if kernel.trace().events() != since {
-        return Err(Finding::Events);
+        return Err(Finding::Trace);
     }
     if kernel.undecided() != reckoning.undecided() {
         return Err(Finding::Undecided);
@@ -211,7 +195,7 @@ pub fn judge(
     seen: &mut BTreeSet<Entity>,
 ) -> Result<(), Finding> {
     judge_counts(kernel, reckoning, trace, before, limit)?;
-    judge_present(kernel, reckoning, seen)?;
+    judge_entities(kernel, reckoning, seen)?;
     judge_names(kernel, reckoning)?;
     for entity in seen.iter() {
         judge_entity(kernel, reckoning, entity)?;

@@ -7,8 +7,6 @@ mod calls;
 #[cfg(test)]
 mod epochs;
 #[cfg(test)]
-mod finding;
-#[cfg(test)]
 mod judge;
 #[cfg(test)]
 mod leasing;

@@ -1,6 +1,5 @@
 //! Random desks whose server lies: replies of the wrong number or kind, replies that are false, twice or late.
 use crate::calls::{any_of, process};
-use crate::finding::Finding;
 use crate::leasing::{Tally, any_count, given_up, hand_in_answer, lease_refusal};
 use crate::numbers::runs_after;
 use crate::reckoning::Reckoning;
@@ -22,6 +21,7 @@ use std::alloc::{Alloc, Global};
 use std::collections::VecDeque;
 use std::env::Env;
 use std::process::Abort;
+use tests_support::finding::Finding;
 
 /// How many desks there are in a test.
 const DESKS: u64 = 625;

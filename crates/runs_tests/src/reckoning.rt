@@ -1,6 +1,5 @@
 //! What a trace comes to without the kernel that is tested: its struck record is run by the plain
 //! kernel, and what depends on each undecided guess is followed from step to step.
-use crate::finding::Finding;
 use sk_guesses::Status;
 use sk_ids::{Entity, GuessId, ObjId, Pid, TagSet, Text};
 use sk_plain::{Entry, Event, InputRef, Plain, Plan, Trace, apply_plan, plan_step, strike};
@@ -8,6 +7,7 @@ use sk_script::{Boot, Scripts};
 use sk_store::{EntityState, Look, Store};
 use std::alloc::{AllocError, Global};
 use std::collections::BTreeSet;
+use tests_support::finding::Finding;
 
 /// The entities that depend on a guess: those that a dependent step wrote.
 #[derive(Drop)]

@@ -1,7 +1,6 @@
 //! The runs.
 use crate::calls::{Habit, answer, call, process};
 use crate::epochs::{Before, begins};
-use crate::finding::Finding;
 use crate::judge::judge;
 use crate::leasing::{Tally, any_count, hand_in_answer, lease_refusal};
 use crate::numbers::runs_after;
@@ -18,6 +17,7 @@ use std::alloc::{Alloc, AllocError, Global};
 use std::collections::BTreeSet;
 use std::env::Env;
 use std::process::Abort;
+use tests_support::finding::Finding;
 
 /// How many short runs of each manner there are.
 const RUNS: u64 = 1_250;

@@ -3,7 +3,6 @@ ghost use Rattle.std.specs.Prelude.{◌≡◌, IfOk};
 
 use crate::calls::{any_of, process};
 use crate::epochs::Before;
-use crate::finding::Finding;
 use crate::judge::judge;
 use crate::numbers::runs_after;
 use crate::reckoning::Reckoning;
@@ -22,6 +21,7 @@ use std::alloc::{Alloc, AllocError, Global};
 use std::collections::BTreeSet;
 use std::env::Env;
 use std::process::Abort;
+use tests_support::finding::Finding;
 
 /// How many worlds of a manner there are in a test.
 const WORLDS: u64 = 1_250;
@@ -125,7 +125,7 @@ impl Course {
         limit: u32,
     ) -> Result<(), Finding> {
         let trace = kernel.trace();
-        held(trace.events().len() == self.length, Finding::Events)?;
+        held(trace.events().len() == self.length, Finding::Trace)?;
         let before = Before::default();
         judge(
             kernel,
@@ -141,7 +141,7 @@ impl Course {
     /// Notes one more event of the trace, which has to be as it should.
     fn appends(&mut self, is_so: bool) -> Result<(), Finding> {
         self.length = self.length.saturating_add(1);
-        held(is_so, Finding::Events)
+        held(is_so, Finding::Trace)
     }
 
     /// Notes one more request, which has to have this number.
@@ -172,7 +172,7 @@ impl Course {
         };
         let steps = last.filter(|event| **event == step).count();
         self.length = self.length.saturating_add(count as usize);
-        held(steps == count as usize, Finding::Events)
+        held(steps == count as usize, Finding::Trace)
     }
 
     /// Notes what a reply was answered, after which the trace ends so.
@@ -228,7 +228,7 @@ impl Course {
         let request = reply.number;
         let store = *store;
         self.accepted.push(Accepted { request, store })?;
-        held(reply.answer == Answer::Yes, Finding::File)
+        held(reply.answer == Answer::Yes, Finding::Files)
     }
 
     /// Notes which files an event changed: an edit its file, an accepted store the file of its request.
@@ -240,14 +240,14 @@ impl Course {
     ) -> Result<(), Finding> {
         match (event, answer, changes) {
             (WorldEvent::Edit(name, _, bytes), Some(WorldAnswer::Edited(version)), [change]) => {
-                held(is_edit(change, name, *version, bytes), Finding::File)
+                held(is_edit(change, name, *version, bytes), Finding::Files)
             }
-            (WorldEvent::Edit(..), Some(_), _) => Err(Finding::File),
+            (WorldEvent::Edit(..), Some(_), _) => Err(Finding::Files),
             (WorldEvent::Serve, Some(WorldAnswer::Served(reply)), [change]) => {
                 self.accepts(reply, change)
             }
             (_, _, []) => Ok(()),
-            _ => Err(Finding::File),
+            _ => Err(Finding::Files),
         }
     }
 }

@@ -1,0 +1,64 @@
+//! Whether a kernel stands as the plain kernel does.
+use crate::finding::Finding;
+use sk_ids::Entity;
+use sk_kernel::Kernel;
+use sk_plain::{Plain, View, strike};
+use sk_script::Boot;
+use std::alloc::Global;
+
+/// Whether two entities have the same.
+fn is_same(one: Option<View>, other: Option<View>) -> bool {
+    match (one, other) {
+        (Some(View::Process(one)), Some(View::Process(other))) => *one == *other,
+        (Some(View::Value(one)), Some(View::Value(other))) => *one == *other,
+        (None, None) => true,
+        _ => false,
+    }
+}
+
+/// Compares the entities that are present: hands them out.
+pub fn judge_present(kernel: &Kernel, plain: &Plain) -> Result<Vec<Entity>, Finding> {
+    let present = kernel.entities()?;
+    if present != plain.entities()? {
+        return Err(Finding::Entities);
+    }
+    Ok(present)
+}
+
+/// Compares what an entity has.
+pub fn judge_value(kernel: &Kernel, plain: &Plain, entity: &Entity) -> Result<(), Finding> {
+    if is_same(kernel.value(entity), plain.value(entity)) {
+        Ok(())
+    } else {
+        Err(Finding::Value)
+    }
+}
+
+/// Compares what the terminals of the boot's processes have released; their children have no others.
+fn judge_terminals(boot: &Boot, kernel: &Kernel, plain: &Plain) -> Result<(), Finding> {
+    for process in boot.processes() {
+        let released = match kernel.terminal(process.terminal) {
+            Some(terminal) => terminal.released(),
+            None => &[],
+        };
+        if released != plain.said(process.terminal) {
+            return Err(Finding::Terminal);
+        }
+    }
+    Ok(())
+}
+
+/// Compares a kernel of which no guess is undecided with the plain kernel on the struck trace.
+pub fn judge_settled(alloc: Global, boot: &Boot, kernel: &Kernel) -> Result<(), Finding> {
+    if kernel.undecided() > 0 {
+        return Err(Finding::Undecided);
+    }
+    let mut plain = Plain::boot(alloc, boot)?;
+    for entry in &strike(alloc, boot, kernel.trace())? {
+        plain.step(entry.pid, &entry.input)?;
+    }
+    for entity in &judge_present(kernel, &plain)? {
+        judge_value(kernel, &plain, entity)?;
+    }
+    judge_terminals(boot, kernel, &plain)
+}

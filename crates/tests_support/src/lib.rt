@@ -1,0 +1,6 @@
+//! What the crates of tests share.
+#![tactic(auto)]
+
+pub mod finding;
+pub mod judge;
+pub mod values;

@@ -1,0 +1,27 @@
+-- The only worker comes back in its place.
+use Rattle.std.proofs.Common.{◌≡◌, ℕ, ◌+◌, List, [], ◌∷◌, ◌++◌, length, sym, ap, ◌∙◌, arith}
+use Rattle.std.specs.Prelude.{Option, option_to_list}
+use Rattle.std.proofs.lemmas.List.{length-append}
+use Rattle.std.proofs.lemmas.Option.{slice_get_within}
+use Rattle.sk_workers.specs.Views.{WorkerView}
+use Rattle.sk_workers.specs.Closing.{AreDistinct}
+use Rattle.threads_tests.proofs.shares.waits_for_the_reply.Goals as goal
+
+alone : (ws : List WorkerView) → length ws ≡ 1 → AreDistinct ws
+alone ws one i j v w at other apart same =
+    let first = slice_get_within ws i v at in
+    let second = slice_get_within ws j w other in
+    apart (omega (arith, one, first, second))
+
+in_its_place : (xs ys zs : List WorkerView) (x y : WorkerView) → xs ≡ ys ++ x ∷ [] → zs ≡ ys ++ y ∷ [] → length zs ≡ length xs
+in_its_place xs ys zs x y before behind =
+    ap length behind ∙ length-append ys (y ∷ []) ∙ sym (length-append ys (x ∷ [])) ∙ sym (ap length before)
+
+pub closes-requires-clause-distinct : goal.closes-requires-clause-distinct
+closes-requires-clause-distinct g c =
+    let first = c.pop.ensures.items ∙ ap (λ (o : Option WorkerView). c.pop.new.self.items ++ option_to_list o) c.in-Some.is in
+    let back = in_its_place c.in-Ok.made.1.items c.pop.new.self.items c.push_reserved.new.self.items _ _ first c.push_reserved.ensures.items in
+    let kept : c.in-Err-close.workers.items ≡ c.push_reserved.new.self.items = ap (λ v. v.items) c.in-Err-close.ensures.back.1 in
+    let second = c.pop-2.ensures.items ∙ ap (λ (o : Option WorkerView). c.pop-2.new.self.items ++ option_to_list o) c.in-Some-pop.is in
+    let last = in_its_place c.in-Err-close.workers.items c.pop-2.new.self.items c.push_reserved-2.new.self.items _ _ second c.push_reserved-2.ensures.items in
+    alone c.push_reserved-2.new.self.items (last ∙ ap length kept ∙ back ∙ c.in-Ok.ensures.workers.0)

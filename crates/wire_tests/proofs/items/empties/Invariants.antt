@@ -1,5 +1,0 @@
-use Rattle.sk_wire.specs.Wire.{IsReceiving}
-use Rattle.wire_tests.proofs.items.empties.Given as goal
-
-abbrev pub invariant-loop-number : goal.invariant-loop-number
-invariant-loop-number g l = IsReceiving l.wire l.pass

@@ -1,9 +1,0 @@
--- As many were sent as rounds are done.
-use Rattle.std.proofs.Common.{◌≡◌, length}
-use Rattle.crossbeam_queue.specs.Passes.{view}
-use Rattle.sk_wire.specs.Wire.{IsSending, IsReceiving}
-use Rattle.wire_tests.proofs.rounds.go_by.Given as goal
-
-abbrev pub invariant-loop-k : goal.invariant-loop-k
-invariant-loop-k g l =
-    IsSending l.wire l.sending × ((view l.sending).first ≡ l.first) × (length (view l.sending).sent ≡ l.k) × IsReceiving l.wire l.receiving

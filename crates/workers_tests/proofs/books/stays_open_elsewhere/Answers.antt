@@ -1,6 +1,0 @@
-use Rattle.std.proofs.Common.{refl}
-use Rattle.sk_workers.proofs.Closed.{distinct}
-use Rattle.workers_tests.proofs.books.stays_open_elsewhere.Goals as goal
-
-pub close-requires-clause-distinct : goal.close-requires-clause-distinct
-close-requires-clause-distinct g c = distinct 2 c.in-Ok.made.1.items c.in-Ok.made.1.items c.in-Ok.ensures.ok.1 refl

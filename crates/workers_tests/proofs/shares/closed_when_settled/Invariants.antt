@@ -1,4 +1,0 @@
-use Rattle.workers_tests.proofs.shares.closed_when_settled.Given as goal
-
-abbrev pub ghosts-waits_for_the_reply : goal.ghosts-waits_for_the_reply
-ghosts-waits_for_the_reply g a = record { name = a.blank.name; parts = a.blank.parts }

@@ -1,0 +1,69 @@
+//! What a desk and its server start from.
+ghost use Rattle.std.specs.Prelude.{◌≡◌, [], IfOk};
+ghost use Rattle.sk_kernel.specs.Kernel.{undecided_at};
+
+use sk_ids::Name;
+use sk_kernel::Kernel;
+use sk_script::{Boot, Script};
+use sk_server::Server;
+use std::alloc::Global;
+use std::test::Fail;
+use tests_support::values::{content, name};
+
+/// A file's name, version and bytes.
+pub type Version<'a> = (&'a [u8], u64, &'a [u8]);
+
+/// The scripts of the processes from 1 on, a cached copy, a file of the server, and the most events that there
+/// may be.
+#[derive(Clone, Copy)]
+pub struct Start<'a> {
+    pub scripts: &'a [&'a [u8]],
+    pub copy: Option<Version<'a>>,
+    pub file: Option<Version<'a>>,
+    pub limit: u32,
+}
+
+/// The name of a process's script, another for each number below 100.
+fn script_of(number: u16) -> Result<Name, Fail> {
+    let tens = (number / 10 % 10) as u8;
+    let ones = (number % 10) as u8;
+    Ok(name(&[b's', b'0' + tens, b'0' + ones])?)
+}
+
+/// Declares the process after this one, with its script and a terminal of its own.
+fn declares(alloc: Global, boot: &mut Boot, before: u16, script: &[u8]) -> Result<(), Fail> {
+    let number = before.checked_add(1).ok_or("number")?;
+    let name = script_of(number)?;
+    boot.script(name, Script::parse(alloc, script)?)?;
+    Ok(boot.process(number, &name, number)?)
+}
+
+fn boot_of(alloc: Global, start: Start<'_>) -> Result<Boot, Fail> {
+    let mut boot = Boot::new(alloc);
+    if let Some((at, version, bytes)) = start.copy {
+        boot.copy(name(at)?, content(version, bytes)?)?;
+    }
+    for (script, before) in start.scripts.iter().zip(0..u16::MAX) {
+        declares(alloc, &mut boot, before, script)?;
+    }
+    Ok(boot)
+}
+
+/// The kernel, of number 0.
+pub fn kernel_of(alloc: Global, start: Start<'_>) -> Result<Kernel, Fail>
+    ensures { IfOk result (λ kernel. undecided_at kernel ≡ []) }
+{
+    let boot = boot_of(alloc, start)?;
+    Ok(Kernel::boot(alloc, 0, &boot, start.limit)?)
+}
+
+/// The server.
+pub fn server_of(alloc: Global, start: Start<'_>) -> Result<Server, Fail>
+    ensures { IfOk result (λ server. server.next ≡ 1) }
+{
+    let mut server = Server::new(alloc);
+    if let Some((at, version, bytes)) = start.file {
+        server.seed(name(at)?, content(version, bytes)?)?;
+    }
+    Ok(server)
+}

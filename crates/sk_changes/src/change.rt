@@ -102,11 +102,13 @@ pub trait Invertible {
     fn apply(&mut self, alloc: Global, change: Change) -> Result<Undo, NotApplied>
         ensures known { valid self.old }
         ensures fit { OnOk result (fits self.old change ≡ true) }
-        ensures ok { IfOk result (λ undo. (self.new ≡ applied self.old change) × (undo ≡ undo_of self.old change)) }
+        ensures ok { IfOk result
+            (λ undo. (self.new ≡ applied self.old change) × (undo ≡ undo_of self.old change)) }
         ensures unfit { (result ≡ Err NotApplied.Unfit) ↔ (fits self.old change ≡ false) }
         ensures err { OnErr result (self.new ≡ self.old) }
         ensures memory { result ≡ Err NotApplied.Memory → grows self.old change ≡ true }
-        ensures back { IfOk result (λ undo. can_undo self.new undo × (undone self.new undo ≡ self.old)) };
+        ensures back { IfOk result
+            (λ undo. can_undo self.new undo × (undone self.new undo ≡ self.old)) };
 
     /// Takes back a change, which takes no memory.
     fn undo(&mut self, undo: Undo)
@@ -114,5 +116,6 @@ pub trait Invertible {
         ensures { self.new ≡ undone self.old undo };
 
     /// A change that fits and then its undo give the value before.
-    ghost restores: { (v : Self) (c : Change) → valid v → fits v c ≡ true → can_undo (applied v c) (undo_of v c) × (undone (applied v c) (undo_of v c) ≡ v) };
+    ghost restores: { (v : Self) (c : Change) → valid v → fits v c ≡ true
+        → can_undo (applied v c) (undo_of v c) × (undone (applied v c) (undo_of v c) ≡ v) };
 }

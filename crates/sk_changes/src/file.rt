@@ -13,7 +13,8 @@ use std::alloc::Global;
 fn is_write(at: usize, count: usize) -> bool
     requires low { at < 2 ^ 32 }
     requires short { count ≤ TEXT_LIMIT }
-    ensures { result ≡ (nat_le 1 count && (nat_le count TEXT_LIMIT && nat_le (at + count) FILE_LIMIT)) }
+    ensures { result ≡ (nat_le 1 count
+        && (nat_le count TEXT_LIMIT && nat_le (at + count) FILE_LIMIT)) }
 {
     count >= 1 && at + count <= FILE_LIMIT
 }

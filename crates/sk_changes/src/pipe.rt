@@ -14,7 +14,8 @@ use std::alloc::Global;
 fn is_put(shut: bool, held: usize, count: usize) -> bool
     requires held { held ≤ PIPE_LIMIT }
     requires short { count ≤ TEXT_LIMIT }
-    ensures { result ≡ (not shut && (nat_le 1 count && (nat_le count TEXT_LIMIT && nat_le (held + count) PIPE_LIMIT))) }
+    ensures { result ≡ (not shut
+        && (nat_le 1 count && (nat_le count TEXT_LIMIT && nat_le (held + count) PIPE_LIMIT))) }
 {
     !shut && count >= 1 && held + count <= PIPE_LIMIT
 }

@@ -14,9 +14,11 @@ pub fn apply_all<V: Invertible>(
 ) -> Result<(), NotApplied>
     ensures fit { OnOk result (all_fit V.fits V.applied value.old changes.now ≡ true) }
     ensures ok { OnOk result (value.new ≡ after_all V.applied value.old changes.now) }
-    ensures unfit { result ≡ Err NotApplied.Unfit → all_fit V.fits V.applied value.old changes.now ≡ false }
+    ensures unfit { result ≡ Err NotApplied.Unfit
+        → all_fit V.fits V.applied value.old changes.now ≡ false }
     ensures back { back V.undone value.new undos.new.items ≡ back V.undone value.old undos.old.items }
-    ensures can { CanGoBack V.undone V.can_undo value.old undos.old.items → CanGoBack V.undone V.can_undo value.new undos.new.items }
+    ensures can { CanGoBack V.undone V.can_undo value.old undos.old.items
+        → CanGoBack V.undone V.can_undo value.new undos.new.items }
 {
     let alloc = *undos.allocator();
     for change in changes {
@@ -49,7 +51,8 @@ pub fn try_all<V: Invertible>(
 ) -> Result<(), NotApplied>
     ensures value { value.new ≡ value.old }
     ensures fit { OnOk result (all_fit V.fits V.applied value.old changes.now ≡ true) }
-    ensures unfit { result ≡ Err NotApplied.Unfit → all_fit V.fits V.applied value.old changes.now ≡ false }
+    ensures unfit { result ≡ Err NotApplied.Unfit
+        → all_fit V.fits V.applied value.old changes.now ≡ false }
 {
     let mut undos = Vec::new(alloc);
     let outcome = apply_all(value, changes, &mut undos);

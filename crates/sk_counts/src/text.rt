@@ -9,7 +9,8 @@ use std::io::Write;
 
 #[tactic(auto, unfolding(crate::specs::Text::guesses_text))]
 fn write_guesses<W: Write>(counts: &Counts, out: &mut W) -> io::Result<()>
-    ensures { OnOk result (Appends (W.contents out.old) (W.contents out.new) (guesses_text counts.now)) }
+    ensures { OnOk result
+        (Appends (W.contents out.old) (W.contents out.new) (guesses_text counts.now)) }
 {
     let guesses = counts.guesses;
     let committed = counts.committed;
@@ -23,7 +24,8 @@ fn write_guesses<W: Write>(counts: &Counts, out: &mut W) -> io::Result<()>
 
 #[tactic(auto, unfolding(crate::specs::Text::steps_text))]
 fn write_steps<W: Write>(counts: &Counts, out: &mut W) -> io::Result<()>
-    ensures { OnOk result (Appends (W.contents out.old) (W.contents out.new) (steps_text counts.now)) }
+    ensures { OnOk result
+        (Appends (W.contents out.old) (W.contents out.new) (steps_text counts.now)) }
 {
     let steps = counts.steps;
     let back = counts.taken_back;
@@ -33,7 +35,8 @@ fn write_steps<W: Write>(counts: &Counts, out: &mut W) -> io::Result<()>
 
 #[tactic(auto, unfolding(crate::specs::Text::notes_text))]
 fn write_notes<W: Write>(counts: &Counts, out: &mut W) -> io::Result<()>
-    ensures { OnOk result (Appends (W.contents out.old) (W.contents out.new) (notes_text counts.now)) }
+    ensures { OnOk result
+        (Appends (W.contents out.old) (W.contents out.new) (notes_text counts.now)) }
 {
     let notes = counts.notes;
     writeln!(out, "notes {notes}")
@@ -41,7 +44,8 @@ fn write_notes<W: Write>(counts: &Counts, out: &mut W) -> io::Result<()>
 
 /// Writes the counts: a line of the guesses, one of the steps and one of the notes.
 pub fn write_counts<W: Write>(counts: &Counts, out: &mut W) -> io::Result<()>
-    ensures { OnOk result (Appends (W.contents out.old) (W.contents out.new) (counts_text counts.now)) }
+    ensures { OnOk result
+        (Appends (W.contents out.old) (W.contents out.new) (counts_text counts.now)) }
 {
     write_guesses(counts, out)?;
     write_steps(counts, out)?;

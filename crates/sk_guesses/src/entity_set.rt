@@ -24,7 +24,8 @@ impl Model for EntitySet {
 
     ghost Value = { SetView };
 
-    ghost view = { λ s. record { entities = s.entities.items; room = vec_capacity s.entities - vec_len s.entities } };
+    ghost view = { λ s. record
+        { entities = s.entities.items; room = vec_capacity s.entities - vec_len s.entities } };
 
     ghost invariant = { λ s. IsStrictlySortedBy entity_cmp s.entities.items };
 }

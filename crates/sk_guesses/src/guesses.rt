@@ -78,7 +78,10 @@ impl Model for Guesses {
 /// Makes room for one entity more in the lists of these guesses.
 fn make_room(opens: &mut Vec<OpenGuess>, tags: &TagSet) -> Result<(), AllocError>
     ensures same { map (λ l. l.guess) opens.new.items ≡ map (λ l. l.guess) opens.old.items }
-    ensures room { OnOk result ((k : ℕ) (d : Listing) → k < length opens.new.items → has (slice_index_or opens.new.items k d).guess.id tags.now ≡ true → 0 < (slice_index_or opens.new.items k d).room) }
+    ensures room { OnOk result
+        ((k : ℕ) (d : Listing) → k < length opens.new.items
+        → has (slice_index_or opens.new.items k d).guess.id tags.now ≡ true
+        → 0 < (slice_index_or opens.new.items k d).room) }
 {
     for place in 0..opens.len() {
         opens[place].reserve(tags)?;
@@ -88,8 +91,11 @@ fn make_room(opens: &mut Vec<OpenGuess>, tags: &TagSet) -> Result<(), AllocError
 
 /// Adds an entity to the lists of these guesses, where there is room for it.
 fn depend_on(opens: &mut Vec<OpenGuess>, tags: &TagSet, entity: &Entity)
-    requires { (k : ℕ) (d : Listing) → k < length opens.old.items → has (slice_index_or opens.old.items k d).guess.id tags.now ≡ true → 0 < (slice_index_or opens.old.items k d).room }
-    ensures { map (λ l. l.guess) opens.new.items ≡ map (depending tags.now entity.now) (map (λ l. l.guess) opens.old.items) }
+    requires { (k : ℕ) (d : Listing) → k < length opens.old.items
+        → has (slice_index_or opens.old.items k d).guess.id tags.now ≡ true
+        → 0 < (slice_index_or opens.old.items k d).room }
+    ensures { map (λ l. l.guess) opens.new.items
+        ≡ map (depending tags.now entity.now) (map (λ l. l.guess) opens.old.items) }
 {
     for place in 0..opens.len() {
         opens[place].depend(tags, entity);
@@ -99,7 +105,8 @@ fn depend_on(opens: &mut Vec<OpenGuess>, tags: &TagSet, entity: &Entity)
 /// Whether none of these guesses is in a set, as where each in it was drawn later.
 fn are_earlier(opens: &[OpenGuess], tags: &TagSet) -> bool
     requires { IsStrictlySortedBy nat_cmp (numbers (opens_of (map (λ l. l.guess) opens.now))) }
-    ensures { result ≡ true → (e : Entity) → map (depending tags.now e) (map (λ l. l.guess) opens.now) ≡ map (λ l. l.guess) opens.now }
+    ensures { result ≡ true → (e : Entity)
+        → map (depending tags.now e) (map (λ l. l.guess) opens.now) ≡ map (λ l. l.guess) opens.now }
 {
     let [.., newest] = opens else {
         return true;
@@ -130,7 +137,8 @@ fn is_another(open: &OpenGuess, id: GuessId) -> bool
 /// Moves out the list of a guess.
 fn take_list(opens: &mut Vec<OpenGuess>, alloc: Global, id: GuessId) -> EntitySet
     ensures list { result.entities ≡ dependents_of id (map (λ l. l.guess) opens.old.items) }
-    ensures opens { map (λ l. l.guess) opens.new.items ≡ without_list id (map (λ l. l.guess) opens.old.items) }
+    ensures opens { map (λ l. l.guess) opens.new.items
+        ≡ without_list id (map (λ l. l.guess) opens.old.items) }
     ensures as_many { length opens.new.items ≡ length opens.old.items }
 {
     let place = place_of(opens.as_slice(), id);
@@ -150,7 +158,8 @@ fn close(opens: &mut Vec<OpenGuess>, id: GuessId)
 
 /// The same, and out of what the steps of the others rest on.
 fn close_committed(opens: &mut Vec<OpenGuess>, id: GuessId)
-    ensures opens { map (λ l. l.guess) opens.new.items ≡ after_commit id (map (λ l. l.guess) opens.old.items) }
+    ensures opens { map (λ l. l.guess) opens.new.items
+        ≡ after_commit id (map (λ l. l.guess) opens.old.items) }
     ensures fewer { length opens.new.items ≤ length opens.old.items }
 {
     opens.retain_mut(|open: &mut OpenGuess| {
@@ -161,7 +170,8 @@ fn close_committed(opens: &mut Vec<OpenGuess>, id: GuessId)
 
 /// Takes the guesses out of the undecided ones whose own steps rest on a guess.
 fn close_resting(opens: &mut Vec<OpenGuess>, id: GuessId)
-    ensures opens { map (λ l. l.guess) opens.new.items ≡ not_resting id (map (λ l. l.guess) opens.old.items) }
+    ensures opens { map (λ l. l.guess) opens.new.items
+        ≡ not_resting id (map (λ l. l.guess) opens.old.items) }
     ensures fewer { length opens.new.items ≤ length opens.old.items }
 {
     opens.retain(|open: &OpenGuess| !open.rests_on(id));
@@ -178,7 +188,9 @@ fn place_after(before: usize, id: GuessId) -> usize
 /// Strikes an undecided guess, if its own step rests on a guess. So many were drawn before these.
 fn strike_one(statuses: &mut Vec<Status>, before: usize, open: &OpenGuess, id: GuessId)
     requires { open.now.guess.id - before - 1 < length statuses.old.items }
-    ensures statuses { statuses.new.items ≡ (if has id open.now.guess.tags then slice_set statuses.old.items (open.now.guess.id - before - 1) Struck else statuses.old.items) }
+    ensures statuses { statuses.new.items
+        ≡ (if has id open.now.guess.tags then slice_set statuses.old.items
+        (open.now.guess.id - before - 1) Struck else statuses.old.items) }
     ensures drawn { length statuses.new.items ≡ length statuses.old.items }
 {
     if open.rests_on(id) {
@@ -195,8 +207,10 @@ fn is_rested_on(opens: &[OpenGuess], id: GuessId) -> bool
 
 /// The undecided guesses whose own steps rest on a guess are struck.
 fn strike_all(statuses: &mut Vec<Status>, before: usize, opens: &[OpenGuess], id: GuessId)
-    requires { (k : ℕ) (d : Listing) → k < length opens.now → (slice_index_or opens.now k d).guess.id - before - 1 < length statuses.old.items }
-    ensures { statuses.new.items ≡ struck_by before id (map (λ l. l.guess) opens.now) statuses.old.items }
+    requires { (k : ℕ) (d : Listing) → k < length opens.now
+        → (slice_index_or opens.now k d).guess.id - before - 1 < length statuses.old.items }
+    ensures { statuses.new.items
+        ≡ struck_by before id (map (λ l. l.guess) opens.now) statuses.old.items }
 {
     for open in opens {
         strike_one(statuses, before, open, id);
@@ -257,7 +271,8 @@ impl Guesses {
     pub fn dependents(&self, id: GuessId) -> &[Entity]
         ensures value { result.now ≡ dependents_of id self.now.opens }
         ensures rising { IsStrictlySortedBy entity_cmp result.now }
-        ensures known { status_since self.now.view id ≡ Some Undecided → has id (numbers (opens_of self.now.opens)) ≡ true }
+        ensures known { status_since self.now.view id ≡ Some Undecided
+            → has id (numbers (opens_of self.now.opens)) ≡ true }
     {
         let place = place_of(self.opens.as_slice(), id);
         if place >= self.opens.len() {
@@ -342,9 +357,17 @@ impl Guesses {
     pub fn draw(&mut self, tags: TagSet, entities: &[Entity]) -> Result<Guess, DrawRefusal>
         requires { is_full self.old.view ≡ false → has (next_of self.old.view) tags ≡ true }
         ensures draws { Draws self.old.view self.new.view result }
-        ensures opens { OnOk result (self.new.opens ≡ self.old.opens ++ record { id = next_of self.old.view; tags = tags; dependents = with_entities [] entities.now } ∷ []) }
+        ensures opens { OnOk result
+            (self.new.opens
+            ≡ self.old.opens
+            ++ record {
+              id = next_of self.old.view;
+              tags = tags;
+              dependents = with_entities [] entities.now;
+            } ∷ []) }
         ensures same { OnErr result (self.new.opens ≡ self.old.opens) }
-        ensures room { is_full self.old.view ≡ false → HasRoom self.old (length entities.now) → IsOk result }
+        ensures room { is_full self.old.view ≡ false → HasRoom self.old (length entities.now)
+            → IsOk result }
     {
         let Some(id) = self.free() else {
             return Err(DrawRefusal::TooMany);
@@ -364,7 +387,8 @@ impl Guesses {
     /// memory everything is as it was.
     pub fn depend(&mut self, tags: &TagSet, entity: &Entity) -> Result<(), AllocError>
         ensures view { self.new.view ≡ self.old.view }
-        ensures ok { OnOk result (self.new.opens ≡ map (depending tags.now entity.now) self.old.opens) }
+        ensures ok { OnOk result
+            (self.new.opens ≡ map (depending tags.now entity.now) self.old.opens) }
         ensures err { OnErr result (self.new.opens ≡ self.old.opens) }
     {
         if are_earlier(self.opens.as_slice(), tags) {
@@ -422,7 +446,8 @@ impl Guesses {
     /// Commits a guess, and takes it out of what the steps of undecided ones rest on; one that is not
     /// undecided stays as it is.
     pub fn commit(&mut self, id: GuessId)
-        ensures undecided { status_since self.old.view id ≡ Some Undecided → DecidedSo self.old self.new id Committed (after_commit id self.old.opens) }
+        ensures undecided { status_since self.old.view id ≡ Some Undecided
+            → DecidedSo self.old self.new id Committed (after_commit id self.old.opens) }
         ensures other { status_since self.old.view id ≢ Some Undecided → self.new ≡ self.old }
         ensures emptied { dependents_of id self.new.opens ≡ [] }
     {
@@ -435,10 +460,12 @@ impl Guesses {
 
     /// Fails a guess; one that is not undecided stays as it is.
     pub fn fail(&mut self, id: GuessId)
-        ensures undecided { status_since self.old.view id ≡ Some Undecided → DecidedSo self.old self.new id Failed (but id self.old.opens) }
+        ensures undecided { status_since self.old.view id ≡ Some Undecided
+            → DecidedSo self.old self.new id Failed (but id self.old.opens) }
         ensures other { status_since self.old.view id ≢ Some Undecided → self.new ≡ self.old }
         ensures emptied { dependents_of id self.new.opens ≡ [] }
-        ensures resting { opens_of (not_resting id self.new.opens) ≡ not_struck id (opens_of self.old.opens) }
+        ensures resting { opens_of (not_resting id self.new.opens)
+            ≡ not_struck id (opens_of self.old.opens) }
     {
         self.decide(id, Status::Failed);
     }
@@ -446,7 +473,8 @@ impl Guesses {
     /// Strikes a guess, whose step another's failure took away; one that is not undecided stays as it
     /// is.
     pub fn strike(&mut self, id: GuessId)
-        ensures undecided { status_since self.old.view id ≡ Some Undecided → DecidedSo self.old self.new id Struck (but id self.old.opens) }
+        ensures undecided { status_since self.old.view id ≡ Some Undecided
+            → DecidedSo self.old self.new id Struck (but id self.old.opens) }
         ensures other { status_since self.old.view id ≢ Some Undecided → self.new ≡ self.old }
         ensures emptied { dependents_of id self.new.opens ≡ [] }
     {
@@ -455,10 +483,12 @@ impl Guesses {
 
     fn decide(&mut self, id: GuessId, to: Status)
         requires { is_undecided to ≡ false }
-        ensures undecided { status_since self.old.view id ≡ Some Undecided → DecidedSo self.old self.new id to (but id self.old.opens) }
+        ensures undecided { status_since self.old.view id ≡ Some Undecided
+            → DecidedSo self.old self.new id to (but id self.old.opens) }
         ensures other { status_since self.old.view id ≢ Some Undecided → self.new ≡ self.old }
         ensures emptied { dependents_of id self.new.opens ≡ [] }
-        ensures resting { opens_of (not_resting id self.new.opens) ≡ not_struck id (opens_of self.old.opens) }
+        ensures resting { opens_of (not_resting id self.new.opens)
+            ≡ not_struck id (opens_of self.old.opens) }
     {
         if !self.is_open(id) {
             return;
@@ -469,7 +499,9 @@ impl Guesses {
 
     /// Strikes the undecided guesses whose own steps rest on a guess.
     pub fn strike_resting(&mut self, id: GuessId)
-        ensures statuses { (g : ℕ) → status_since self.new.view g ≡ (if rests_on id (opens_of self.old.opens) g then Some Struck else status_since self.old.view g) }
+        ensures statuses { (g : ℕ) → status_since self.new.view g
+            ≡ (if rests_on id (opens_of self.old.opens) g then Some Struck else status_since
+            self.old.view g) }
         ensures kernel { self.new.view.kernel ≡ self.old.view.kernel }
         ensures earlier { self.new.view.earlier ≡ self.old.view.earlier }
         ensures drawn { length self.new.view.statuses ≡ length self.old.view.statuses }

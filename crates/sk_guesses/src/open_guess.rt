@@ -31,7 +31,10 @@ impl Model for OpenGuess {
 
 impl OpenGuess {
     pub(crate) fn new(id: GuessId, tags: TagSet, dependents: EntitySet) -> OpenGuess
-        ensures { result ≡ record { guess = record { id = id; tags = tags; dependents = dependents.entities }; room = dependents.room } }
+        ensures { result ≡ record {
+          guess = record { id = id; tags = tags; dependents = dependents.entities };
+          room = dependents.room;
+        } }
     {
         OpenGuess {
             id,

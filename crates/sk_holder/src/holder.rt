@@ -60,7 +60,12 @@ impl Holder {
 
     /// The first cause against a guess for which there is no memory.
     fn guess_refusal(&self, pid: Pid, input: InputRef<'_>) -> Refusal
-        ensures { guess_refused self.now.kernel (record { pid = pid; input = (input_in input.entry); guess = Some (next_guess self.now.kernel) }) ≡ cause result }
+        ensures { guess_refused self.now.kernel
+            (record {
+              pid = pid;
+              input = (input_in input.entry);
+              guess = Some (next_guess self.now.kernel);
+            }) ≡ cause result }
     {
         if let Some(why) = self.kernel.guess_refusal(pid, input) {
             return why;
@@ -86,7 +91,10 @@ impl Holder {
 
     /// Takes a step, as the kernel does.
     pub fn step(&mut self, pid: Pid, input: InputRef<'_>) -> Result<(), Refusal>
-        ensures kernel { StepPost result (step_refused self.old.kernel (record { pid = pid; input = (input_in input.entry); guess = None })) (events.Step pid (input_in input.entry)) self.old.kernel self.new.kernel }
+        ensures kernel { StepPost result
+            (step_refused self.old.kernel
+            (record { pid = pid; input = (input_in input.entry); guess = None }))
+            (events.Step pid (input_in input.entry)) self.old.kernel self.new.kernel }
         ensures held { self.new.held ≡ self.old.held }
     {
         self.kernel.step_lent(pid, input)
@@ -116,7 +124,13 @@ impl Holder {
 
     /// Draws the next guess and takes its step, as the kernel does, and keeps its token.
     pub fn guess(&mut self, pid: Pid, input: InputRef<'_>) -> Result<GuessId, Refusal>
-        ensures { GuessesPost result (guess_refused self.old.kernel (record { pid = pid; input = (input_in input.entry); guess = Some (next_guess self.old.kernel) })) pid (input_in input.entry) self.old self.new }
+        ensures { GuessesPost result
+            (guess_refused self.old.kernel
+            (record {
+              pid = pid;
+              input = (input_in input.entry);
+              guess = Some (next_guess self.old.kernel);
+            })) pid (input_in input.entry) self.old self.new }
     {
         if self.tokens.reserve(1).is_err() {
             return Err(self.guess_refusal(pid, input));

@@ -83,7 +83,8 @@ pub fn identifiers_differ()
     ensures boots { (m n x : ℕ) → boot_pid m ≡ Some x → boot_pid n ≡ Some x → m ≡ n }
     ensures children { (p q m n x : ℕ) → m < 65536 → n < 65536 →
         child_pid p m ≡ Some x → child_pid q n ≡ Some x → (p ≡ q) × (m ≡ n) }
-    ensures apart { (p m n x : ℕ) → IsPath p → m < 65536 → boot_pid m ≡ Some x → child_pid p n ≡ Some x → ⊥ }
+    ensures apart { (p m n x : ℕ) → IsPath p → m < 65536 → boot_pid m ≡ Some x
+        → child_pid p n ≡ Some x → ⊥ }
 {}
 
 /// An object, by its maker and the maker's count; the boot's objects have none.

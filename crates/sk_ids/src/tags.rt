@@ -93,7 +93,8 @@ impl TagSet {
 
     /// Where a guess stands in the list. Mostly it is the oldest, or the newest.
     fn place_of(&self, id: GuessId) -> Option<usize>
-        ensures there { IfSome result (λ place. (place < length self.now) × (get_or self.now place 0 ≡ id)) }
+        ensures there { IfSome result
+            (λ place. (place < length self.now) × (get_or self.now place 0 ≡ id)) }
         ensures none { result ≡ None → has id self.now ≡ false }
     {
         let ids = self.ids.as_slice();
@@ -183,7 +184,8 @@ impl TagSet {
 
     /// The guesses of either set.
     pub fn union(&self, other: &TagSet) -> Result<TagSet, AllocError>
-        ensures members { IfOk result (λ all. (id : ℕ) → has id all ≡ (has id self.now || has id other.now)) }
+        ensures members { IfOk result
+            (λ all. (id : ℕ) → has id all ≡ (has id self.now || has id other.now)) }
         ensures rising { IfOk result (λ all. IsStrictlySortedBy nat_cmp all) }
     {
         let mut ids = self.ids.copied()?;

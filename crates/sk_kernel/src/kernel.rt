@@ -74,7 +74,8 @@ impl Model for Kernel {
 
     ghost coded = { kernel_code };
 
-    ghost view = { λ k. begun_at k.opening k.machine.guesses.kernel k.machine.guesses.earlier k.trace.events };
+    ghost view = { λ k. begun_at k.opening k.machine.guesses.kernel k.machine.guesses.earlier
+        k.trace.events };
 
     ghost invariant = { λ k.
         let v = begun_at k.opening k.machine.guesses.kernel k.machine.guesses.earlier k.trace.events in
@@ -96,7 +97,8 @@ fn plan_at(
     pid: Pid,
     input: InputRef<'_>,
 ) -> Result<Plan, Refusal>
-    ensures { PlansStep (look_at machine.now.slots) opening.now.start.scripts pid (input_in input.entry) result }
+    ensures { PlansStep (look_at machine.now.slots) opening.now.start.scripts pid
+        (input_in input.entry) result }
 {
     plan_step(machine, opening.scripts(), pid, input)
 }
@@ -108,7 +110,8 @@ fn plan_guess(
     pid: Pid,
     input: InputRef<'_>,
 ) -> Result<Plan, Refusal>
-    ensures { PlansGuess (look_at machine.now.slots) opening.now.start.scripts pid (input_in input.entry) result }
+    ensures { PlansGuess (look_at machine.now.slots) opening.now.start.scripts pid
+        (input_in input.entry) result }
 {
     let planned = plan_at(machine, opening, pid, input);
     if let InputRef::None = input {
@@ -186,7 +189,8 @@ impl Kernel {
 
     /// The texts of a terminal; `None` where none was said that counts.
     pub fn terminal(&self, number: u16) -> Option<&Terminal>
-        ensures { MatchOption result (SaysNothing self.now number) (λ terminal. ShowsTerminal self.now number terminal.now) }
+        ensures { MatchOption result (SaysNothing self.now number)
+            (λ terminal. ShowsTerminal self.now number terminal.now) }
     {
         self.machine.terminal(number)
     }
@@ -232,7 +236,8 @@ impl Kernel {
 
     /// Why a step would be refused, the trace's limit and want of memory aside.
     pub fn step_refusal(&self, pid: Pid, input: InputRef<'_>) -> Option<Refusal>
-        ensures exact { result ≡ step_misfit self.now (record { pid = pid; input = (input_in input.entry); guess = None }) }
+        ensures exact { result ≡ step_misfit self.now
+            (record { pid = pid; input = (input_in input.entry); guess = None }) }
         ensures told { IfSome result (λ why. cause why ≡ Some why) }
     {
         match plan_at(&self.machine, &self.opening, pid, input) {
@@ -243,7 +248,14 @@ impl Kernel {
 
     /// Why a guess would be refused, the trace's limit and want of memory aside.
     pub fn guess_refusal(&self, pid: Pid, input: InputRef<'_>) -> Option<Refusal>
-        ensures exact { result ≡ or_else (guess_misfits (input_in input.entry) (effect_at self.now (record { pid = pid; input = (input_in input.entry); guess = Some (next_guess self.now) }))) (too_many self.now) }
+        ensures exact { result ≡ or_else
+            (guess_misfits (input_in input.entry)
+            (effect_at self.now
+            (record {
+              pid = pid;
+              input = (input_in input.entry);
+              guess = Some (next_guess self.now);
+            }))) (too_many self.now) }
         ensures told { IfSome result (λ why. cause why ≡ Some why) }
     {
         if let Err(why) = plan_guess(&self.machine, &self.opening, pid, input) {
@@ -258,7 +270,9 @@ impl Kernel {
     /// What the next step of a process with an input would read and write. Refused as the step would be, the
     /// limits of the trace and of directories aside. This takes no memory.
     pub fn footprint(&self, pid: Pid, input: InputRef<'_>) -> Result<Footprint, Refusal>
-        ensures { result ≡ footprint_of (effect_at self.now (record { pid = pid; input = (input_in input.entry); guess = None })) }
+        ensures { result ≡ footprint_of
+            (effect_at self.now
+            (record { pid = pid; input = (input_in input.entry); guess = None })) }
     {
         match plan_at(&self.machine, &self.opening, pid, input) {
             Ok(plan) => Ok(Footprint {
@@ -293,7 +307,9 @@ impl Kernel {
 
     /// Whether the step of a process without input would add a name to a directory that has no room for it.
     fn lacks_room(&self, pid: Pid) -> bool
-        ensures { result ≡ is_some (no_room (state_at self.now) (effect_at self.now (record { pid = pid; input = inputs.None; guess = None }))) }
+        ensures { result ≡ is_some
+            (no_room (state_at self.now)
+            (effect_at self.now (record { pid = pid; input = inputs.None; guess = None }))) }
     {
         match plan_at(&self.machine, &self.opening, pid, InputRef::None) {
             Ok(plan) => is_crowded(&self.machine, &plan),
@@ -310,7 +326,9 @@ impl Kernel {
 
     /// Takes a step of a process with an input. After a refusal the kernel is as it was.
     pub fn step(&mut self, pid: Pid, input: Input) -> Result<(), Refusal>
-        ensures { StepPost result (step_refused self.old (record { pid = pid; input = input; guess = None })) (events.Step pid input) self.old self.new }
+        ensures { StepPost result
+            (step_refused self.old (record { pid = pid; input = input; guess = None }))
+            (events.Step pid input) self.old self.new }
     {
         self.step_lent(pid, InputRef::of(&input))
     }
@@ -318,14 +336,20 @@ impl Kernel {
     /// Draws the next guess and takes its step with the guessed input. After a refusal the kernel is
     /// as it was.
     pub fn create_speculation(&mut self, pid: Pid, input: Input) -> Result<Guess, Refusal>
-        ensures { GuessPost result (guess_refused self.old (record { pid = pid; input = input; guess = Some (next_guess self.old) })) pid input self.old self.new }
+        ensures { GuessPost result
+            (guess_refused self.old
+            (record { pid = pid; input = input; guess = Some (next_guess self.old) })) pid input
+            self.old self.new }
     {
         self.speculate_lent(pid, InputRef::of(&input))
     }
 
     /// Takes a step of a process with an input that is lent, as `step` does. After a refusal the kernel is as it was.
     pub fn step_lent(&mut self, pid: Pid, input: InputRef<'_>) -> Result<(), Refusal>
-        ensures { StepPost result (step_refused self.old (record { pid = pid; input = (input_in input.entry); guess = None })) (events.Step pid (input_in input.entry)) self.old self.new }
+        ensures { StepPost result
+            (step_refused self.old
+            (record { pid = pid; input = (input_in input.entry); guess = None }))
+            (events.Step pid (input_in input.entry)) self.old self.new }
     {
         let mut plan = Plan::Private;
         match plan_into(&self.machine, self.opening.scripts(), pid, input, &mut plan) {
@@ -360,7 +384,13 @@ impl Kernel {
     /// Draws the next guess and takes its step with a guessed input that is lent. After a refusal the kernel is
     /// as it was.
     pub fn speculate_lent(&mut self, pid: Pid, input: InputRef<'_>) -> Result<Guess, Refusal>
-        ensures { GuessPost result (guess_refused self.old (record { pid = pid; input = (input_in input.entry); guess = Some (next_guess self.old) })) pid (input_in input.entry) self.old self.new }
+        ensures { GuessPost result
+            (guess_refused self.old
+            (record {
+              pid = pid;
+              input = (input_in input.entry);
+              guess = Some (next_guess self.old);
+            })) pid (input_in input.entry) self.old self.new }
     {
         let plan = match plan_guess(&self.machine, &self.opening, pid, input) {
             Ok(plan) => plan,
@@ -440,7 +470,15 @@ impl Kernel {
 
     /// The opening of an epoch that begins now.
     fn next_opening(&self) -> Result<Opening, AllocError>
-        ensures { IfOk result (λ opening. opening ≡ record { start = record { scripts = self.now.scripts; state = state_at self.now; texts = map.empty }; number = self.now.number; limit = self.now.limit; guess = next_guess self.now }) }
+        ensures { IfOk result
+            (λ opening. opening
+            ≡ record {
+              start = record
+                  { scripts = self.now.scripts; state = state_at self.now; texts = map.empty };
+              number = self.now.number;
+              limit = self.now.limit;
+              guess = next_guess self.now;
+            }) }
     {
         let store = self.machine.present()?;
         self.opening.later(store, self.machine.next_number())

@@ -19,20 +19,32 @@ pub fn numbers()
 /// A kernel behind a new epoch goes on as the one without it: after the same events it answers each call alike, but for the
 /// trace, its room and the texts.
 pub fn epochs()
-    ensures sound { (old new : KernelView) (later : List Event) → HasSoundTrace old → undecided_at old ≡ [] → IsNextEpoch old new → HasSoundTrace (with_events old later) ↔ HasSoundTrace (with_events new later) }
-    ensures alike { (old new : KernelView) (later : List Event) → HasSoundTrace (with_events old later) → undecided_at old ≡ [] → IsNextEpoch old new → AnswersAlike (with_events old later) (with_events new later) }
+    ensures sound { (old new : KernelView) (later : List Event) → HasSoundTrace old
+        → undecided_at old ≡ [] → IsNextEpoch old new
+        → HasSoundTrace (with_events old later) ↔ HasSoundTrace (with_events new later) }
+    ensures alike { (old new : KernelView) (later : List Event)
+        → HasSoundTrace (with_events old later) → undecided_at old ≡ [] → IsNextEpoch old new
+        → AnswersAlike (with_events old later) (with_events new later) }
 {}
 
 /// What an accepted step or guess does not write keeps its value and its tags.
 pub fn unwritten()
-    ensures step { (k : KernelView) (pid : ℕ) (input : Input) → HasSoundTrace k → KeepsUnwritten k (record { pid = pid; input = input; guess = None }) (with_event k (events.Step pid input)) }
-    ensures guess { (k : KernelView) (pid : ℕ) (input : Input) → HasSoundTrace k → KeepsUnwritten k (record { pid = pid; input = input; guess = Some (next_guess k) }) (with_event k (events.Guess (next_guess k) pid input)) }
+    ensures step { (k : KernelView) (pid : ℕ) (input : Input) → HasSoundTrace k
+        → KeepsUnwritten k (record { pid = pid; input = input; guess = None })
+        (with_event k (events.Step pid input)) }
+    ensures guess { (k : KernelView) (pid : ℕ) (input : Input) → HasSoundTrace k
+        → KeepsUnwritten k (record { pid = pid; input = input; guess = Some (next_guess k) })
+        (with_event k (events.Guess (next_guess k) pid input)) }
 {}
 
 /// What an accepted step or guess writes has the value that the step gives it, and rests on just what the step rests on.
 pub fn written()
-    ensures step { (k : KernelView) (pid : ℕ) (input : Input) → HasSoundTrace k → WritesAll k (record { pid = pid; input = input; guess = None }) (with_event k (events.Step pid input)) }
-    ensures guess { (k : KernelView) (pid : ℕ) (input : Input) → HasSoundTrace k → WritesAll k (record { pid = pid; input = input; guess = Some (next_guess k) }) (with_event k (events.Guess (next_guess k) pid input)) }
+    ensures step { (k : KernelView) (pid : ℕ) (input : Input) → HasSoundTrace k
+        → WritesAll k (record { pid = pid; input = input; guess = None })
+        (with_event k (events.Step pid input)) }
+    ensures guess { (k : KernelView) (pid : ℕ) (input : Input) → HasSoundTrace k
+        → WritesAll k (record { pid = pid; input = input; guess = Some (next_guess k) })
+        (with_event k (events.Guess (next_guess k) pid input)) }
 {}
 
 /// A hand-in of so many private instructions is as many entries of the record, and leaves the process as they do.
@@ -42,6 +54,8 @@ pub fn handed_in()
 
 /// After the failure of a guess nothing rests on it.
 pub fn failed()
-    ensures rests { (k : KernelView) (id : ℕ) (e : Entity) → RestsOn (with_event k (events.Fail id)) e id → ⊥ }
-    ensures tags { (k : KernelView) (id : ℕ) (e : Entity) → HasSoundTrace k → HasStatus k id Undecided → has id (tags_at (with_event k (events.Fail id)) e) ≡ false }
+    ensures rests { (k : KernelView) (id : ℕ) (e : Entity)
+        → RestsOn (with_event k (events.Fail id)) e id → ⊥ }
+    ensures tags { (k : KernelView) (id : ℕ) (e : Entity) → HasSoundTrace k
+        → HasStatus k id Undecided → has id (tags_at (with_event k (events.Fail id)) e) ≡ false }
 {}

@@ -24,7 +24,8 @@ use std::alloc::AllocError;
 
 /// Whether these guesses are all that are undecided.
 fn are_all(guesses: &Guesses, tags: &TagSet) -> bool
-    requires known { (g : ℕ) → has g tags.now ≡ true → has g (numbers (opens_of guesses.now.opens)) ≡ true }
+    requires known { (g : ℕ) → has g tags.now ≡ true
+        → has g (numbers (opens_of guesses.now.opens)) ≡ true }
     requires rising { IsStrictlySortedBy nat_cmp (numbers (opens_of guesses.now.opens)) }
     ensures { result ≡ true → tags.now ≡ numbers (opens_of guesses.now.opens) }
 {
@@ -47,7 +48,8 @@ fn is_within(logs: &Logs, untagged: &TagSet, entity: &Entity) -> bool
 #[tactic(auto, using(crate::proofs::AsProcess::covers_none))]
 fn signals_within(logs: &Logs, untagged: &TagSet, pid: Pid, input: InputRef<'_>) -> bool
     requires { untagged.now ≡ [] }
-    ensures { result ≡ true → Covers logs.now.tags (signals_read pid (input_in input.entry)) (tags_in logs.now.slots) }
+    ensures { result ≡ true
+        → Covers logs.now.tags (signals_read pid (input_in input.entry)) (tags_in logs.now.slots) }
 {
     match input {
         InputRef::None => is_within(logs, untagged, &Entity::Sig(pid)),
@@ -59,7 +61,8 @@ fn signals_within(logs: &Logs, untagged: &TagSet, pid: Pid, input: InputRef<'_>)
 #[tactic(auto, using(crate::proofs::AsProcess::covers_none, crate::proofs::AsProcess::covers_two))]
 fn looks_within(logs: &Logs, untagged: &TagSet, looks: &Looks) -> bool
     requires { untagged.now ≡ [] }
-    ensures { result ≡ true → Covers logs.now.tags (looked_at (looked looks.now)) (tags_in logs.now.slots) }
+    ensures { result ≡ true
+        → Covers logs.now.tags (looked_at (looked looks.now)) (tags_in logs.now.slots) }
 {
     match looks {
         Looks::Nowhere => true,
@@ -76,7 +79,8 @@ fn looks_within(logs: &Logs, untagged: &TagSet, looks: &Looks) -> bool
 /// Whether all that a plan looks at does.
 fn plan_within(logs: &Logs, untagged: &TagSet, plan: &Plan) -> bool
     requires { untagged.now ≡ [] }
-    ensures { result ≡ true → Covers logs.now.tags (looked_at (looked (looks_of plan.now))) (tags_in logs.now.slots) }
+    ensures { result ≡ true
+        → Covers logs.now.tags (looked_at (looked (looks_of plan.now))) (tags_in logs.now.slots) }
 {
     match plan {
         Plan::Private | Plan::Speaks | Plan::Received(_) | Plan::Forks(..) => {
@@ -90,7 +94,9 @@ fn plan_within(logs: &Logs, untagged: &TagSet, plan: &Plan) -> bool
 fn reads_within(logs: &Logs, untagged: &TagSet, pid: Pid, input: InputRef<'_>, plan: &Plan) -> bool
     requires untagged { untagged.now ≡ [] }
     requires own { tags_in logs.now.slots (Proc pid) ≡ logs.now.tags }
-    ensures { result ≡ true → Covers logs.now.tags (read_by pid (input_in input.entry) (looked (looks_of plan.now))) (tags_in logs.now.slots) }
+    ensures { result ≡ true
+        → Covers logs.now.tags (read_by pid (input_in input.entry) (looked (looks_of plan.now)))
+        (tags_in logs.now.slots) }
 {
     if !signals_within(logs, untagged, pid, input) {
         return false;
@@ -111,7 +117,9 @@ fn is_alike(logs: &Logs, untagged: &TagSet, entity: &Entity) -> bool
 fn child_alike(logs: &Logs, untagged: &TagSet, pid: Pid, child: Pid) -> bool
     requires untagged { untagged.now ≡ [] }
     requires own { tags_in logs.now.slots (Proc pid) ≡ logs.now.tags }
-    ensures { result ≡ true → RestAlike logs.now.tags (Proc child ∷ Sig child ∷ Exit child ∷ Proc pid ∷ []) (tags_in logs.now.slots) }
+    ensures { result ≡ true
+        → RestAlike logs.now.tags (Proc child ∷ Sig child ∷ Exit child ∷ Proc pid ∷ [])
+        (tags_in logs.now.slots) }
 {
     if !is_alike(logs, untagged, &Entity::Proc(child)) {
         return false;
@@ -127,7 +135,8 @@ fn child_alike(logs: &Logs, untagged: &TagSet, pid: Pid, child: Pid) -> bool
 fn beside_alike(logs: &Logs, untagged: &TagSet, pid: Pid, beside: &Beside) -> bool
     requires untagged { untagged.now ≡ [] }
     requires own { tags_in logs.now.slots (Proc pid) ≡ logs.now.tags }
-    ensures { result ≡ true → RestAlike logs.now.tags (written_row pid beside.now) (tags_in logs.now.slots) }
+    ensures { result ≡ true
+        → RestAlike logs.now.tags (written_row pid beside.now) (tags_in logs.now.slots) }
 {
     match beside {
         Beside::Nothing => true,
@@ -141,7 +150,8 @@ fn beside_alike(logs: &Logs, untagged: &TagSet, pid: Pid, beside: &Beside) -> bo
 fn writes_alike(logs: &Logs, untagged: &TagSet, pid: Pid, plan: &Plan) -> bool
     requires untagged { untagged.now ≡ [] }
     requires own { tags_in logs.now.slots (Proc pid) ≡ logs.now.tags }
-    ensures { result ≡ true → RestAlike logs.now.tags (written_in pid plan.now) (tags_in logs.now.slots) }
+    ensures { result ≡ true
+        → RestAlike logs.now.tags (written_in pid plan.now) (tags_in logs.now.slots) }
 {
     match plan {
         Plan::Private | Plan::Speaks => true,
@@ -175,9 +185,15 @@ pub(crate) fn set_alike(
     requires rising { IsStrictlySortedBy nat_cmp (numbers (opens_of guesses.now.opens)) }
     requires untagged { untagged.now ≡ [] }
     ensures slots { logs.new.slots ≡ logs.old.slots }
-    ensures own { IfOk result (λ alike. alike ≡ true → tags_in logs.new.slots (Proc pid) ≡ logs.new.tags) }
-    ensures reads { IfOk result (λ alike. alike ≡ true → Covers logs.new.tags (read_by pid (input_in input.entry) (looked (looks_of plan.now))) (tags_in logs.new.slots)) }
-    ensures writes { IfOk result (λ alike. alike ≡ true → RestAlike logs.new.tags (written_in pid plan.now) (tags_in logs.new.slots)) }
+    ensures own { IfOk result
+        (λ alike. alike ≡ true → tags_in logs.new.slots (Proc pid) ≡ logs.new.tags) }
+    ensures reads { IfOk result
+        (λ alike. alike ≡ true
+        → Covers logs.new.tags (read_by pid (input_in input.entry) (looked (looks_of plan.now)))
+        (tags_in logs.new.slots)) }
+    ensures writes { IfOk result
+        (λ alike. alike ≡ true
+        → RestAlike logs.new.tags (written_in pid plan.now) (tags_in logs.new.slots)) }
     ensures rising { IfOk result (λ alike. IsStrictlySortedBy nat_cmp logs.new.tags) }
 {
     if guesses.undecided() == 0 {

@@ -53,7 +53,8 @@ impl Machine {
         requires tidy { IsTidy (undo_state_of self.now) }
         requires rising { IsStrictlySortedBy nat_cmp (numbers self.now.opens) }
         ensures alone { IfOk result (AreAlone self.now pid) }
-        ensures covers { IfOk result (λ tags. Covers tags (Proc pid ∷ []) (tags_in self.now.slots)) }
+        ensures covers { IfOk result
+            (λ tags. Covers tags (Proc pid ∷ []) (tags_in self.now.slots)) }
     {
         let none = TagSet::new(self.alloc);
         if self.open_count() == 0 {

@@ -27,7 +27,8 @@ fn depend(
     entity: &Entity,
 ) -> Result<(), AllocError>
     ensures view { guesses.new.view ≡ guesses.old.view }
-    ensures ok { OnOk result (Depends own.now tags.now entity.now guesses.old.opens guesses.new.opens) }
+    ensures ok { OnOk result
+        (Depends own.now tags.now entity.now guesses.old.opens guesses.new.opens) }
     ensures err { OnErr result (guesses.new.opens ≡ guesses.old.opens) }
 {
     if own.covers(tags) {
@@ -50,7 +51,8 @@ pub(crate) fn depend_all(
     requires untagged { untagged.now ≡ [] }
     ensures view { guesses.new.view ≡ guesses.old.view }
     ensures opens { opens_of guesses.new.opens ≡ opens_of guesses.old.opens }
-    ensures ok { OnOk result (AllExact (with_tags tags.now entities.now (tags_in logs.now.slots)) guesses.new.opens) }
+    ensures ok { OnOk result
+        (AllExact (with_tags tags.now entities.now (tags_in logs.now.slots)) guesses.new.opens) }
     ensures err { OnErr result (AllExact (tags_in logs.now.slots) guesses.new.opens) }
 {
     for entity in entities {

@@ -64,7 +64,12 @@ impl Model for Machine {
 
     ghost coded = { parts_code };
 
-    ghost view = { λ m. record { slots = m.logs.slots; opens = opens_of m.guesses.opens; guesses = m.guesses.view; texts = m.terminals } };
+    ghost view = { λ m. record {
+      slots = m.logs.slots;
+      opens = opens_of m.guesses.opens;
+      guesses = m.guesses.view;
+      texts = m.terminals;
+    } };
 
     ghost invariant = { λ m. AllExact (tags_in m.logs.slots) m.guesses.opens × (m.untagged ≡ []) };
 }
@@ -91,10 +96,23 @@ fn perform(
     tags: TagSet,
 ) -> Result<(), AllocError>
     requires can { CanPerform (look_at logs.old.slots) scripts.now pid (input_in input) plan.now }
-    requires apart { AreApart (entities_of (writes_of (look_at logs.old.slots) pid (seen_with (look_at logs.old.slots) scripts.now pid (input_in input) plan.now))) }
-    requires clean { IsClean logs.old.slots tags (entities_of (writes_of (look_at logs.old.slots) pid (seen_with (look_at logs.old.slots) scripts.now pid (input_in input) plan.now))) }
-    ensures writes { OnOk result (Performed logs.old.slots tags (writes_of (look_at logs.old.slots) pid (seen_with (look_at logs.old.slots) scripts.now pid (input_in input.entry) plan.now)) logs.new.slots) }
-    ensures says { OnOk result (terminals.new ≡ texts_after terminals.old tags (said_by (seen_with (look_at logs.old.slots) scripts.now pid (input_in input.entry) plan.now))) }
+    requires apart { AreApart (entities_of
+        (writes_of (look_at logs.old.slots) pid
+        (seen_with (look_at logs.old.slots) scripts.now pid (input_in input) plan.now))) }
+    requires clean { IsClean logs.old.slots tags
+        (entities_of
+        (writes_of (look_at logs.old.slots) pid
+        (seen_with (look_at logs.old.slots) scripts.now pid (input_in input) plan.now))) }
+    ensures writes { OnOk result
+        (Performed logs.old.slots tags
+        (writes_of (look_at logs.old.slots) pid
+        (seen_with (look_at logs.old.slots) scripts.now pid (input_in input.entry) plan.now))
+        logs.new.slots) }
+    ensures says { OnOk result
+        (terminals.new
+        ≡ texts_after terminals.old tags
+        (said_by (seen_with (look_at logs.old.slots) scripts.now pid (input_in input.entry)
+        plan.now))) }
     ensures unwritten { OnErr result (logs.new.slots ≡ logs.old.slots) }
     ensures unsaid { OnErr result (terminals.new ≡ terminals.old) }
 {
@@ -113,10 +131,23 @@ fn perform_next(
     plan: &Plan,
 ) -> Result<(), AllocError>
     requires can { CanPerform (look_at logs.old.slots) scripts.now pid (input_in input) plan.now }
-    requires apart { AreApart (entities_of (writes_of (look_at logs.old.slots) pid (seen_with (look_at logs.old.slots) scripts.now pid (input_in input) plan.now))) }
-    requires clean { IsClean logs.old.slots logs.old.tags (entities_of (writes_of (look_at logs.old.slots) pid (seen_with (look_at logs.old.slots) scripts.now pid (input_in input) plan.now))) }
-    ensures writes { OnOk result (Performed logs.old.slots logs.old.tags (writes_of (look_at logs.old.slots) pid (seen_with (look_at logs.old.slots) scripts.now pid (input_in input.entry) plan.now)) logs.new.slots) }
-    ensures says { OnOk result (terminals.new ≡ texts_after terminals.old logs.old.tags (said_by (seen_with (look_at logs.old.slots) scripts.now pid (input_in input.entry) plan.now))) }
+    requires apart { AreApart (entities_of
+        (writes_of (look_at logs.old.slots) pid
+        (seen_with (look_at logs.old.slots) scripts.now pid (input_in input) plan.now))) }
+    requires clean { IsClean logs.old.slots logs.old.tags
+        (entities_of
+        (writes_of (look_at logs.old.slots) pid
+        (seen_with (look_at logs.old.slots) scripts.now pid (input_in input) plan.now))) }
+    ensures writes { OnOk result
+        (Performed logs.old.slots logs.old.tags
+        (writes_of (look_at logs.old.slots) pid
+        (seen_with (look_at logs.old.slots) scripts.now pid (input_in input.entry) plan.now))
+        logs.new.slots) }
+    ensures says { OnOk result
+        (terminals.new
+        ≡ texts_after terminals.old logs.old.tags
+        (said_by (seen_with (look_at logs.old.slots) scripts.now pid (input_in input.entry)
+        plan.now))) }
     ensures unwritten { OnErr result (logs.new.slots ≡ logs.old.slots) }
     ensures unsaid { OnErr result (terminals.new ≡ terminals.old) }
 {
@@ -137,13 +168,26 @@ fn perform_guess(
     count: usize,
 ) -> Result<(), AllocError>
     requires can { CanPerform (look_at logs.old.slots) scripts.now pid (input_in input) plan.now }
-    requires apart { AreApart (entities_of (writes_of (look_at logs.old.slots) pid (seen_with (look_at logs.old.slots) scripts.now pid (input_in input) plan.now))) }
-    requires clean { IsClean logs.old.slots tags (entities_of (writes_of (look_at logs.old.slots) pid (seen_with (look_at logs.old.slots) scripts.now pid (input_in input) plan.now))) }
+    requires apart { AreApart (entities_of
+        (writes_of (look_at logs.old.slots) pid
+        (seen_with (look_at logs.old.slots) scripts.now pid (input_in input) plan.now))) }
+    requires clean { IsClean logs.old.slots tags
+        (entities_of
+        (writes_of (look_at logs.old.slots) pid
+        (seen_with (look_at logs.old.slots) scripts.now pid (input_in input) plan.now))) }
     ensures view { guesses.new.view ≡ guesses.old.view }
     ensures opens { guesses.new.opens ≡ guesses.old.opens }
     ensures room { OnOk result (HasRoom guesses.new count) }
-    ensures writes { OnOk result (Performed logs.old.slots tags (writes_of (look_at logs.old.slots) pid (seen_with (look_at logs.old.slots) scripts.now pid (input_in input.entry) plan.now)) logs.new.slots) }
-    ensures says { OnOk result (terminals.new ≡ texts_after terminals.old tags (said_by (seen_with (look_at logs.old.slots) scripts.now pid (input_in input.entry) plan.now))) }
+    ensures writes { OnOk result
+        (Performed logs.old.slots tags
+        (writes_of (look_at logs.old.slots) pid
+        (seen_with (look_at logs.old.slots) scripts.now pid (input_in input.entry) plan.now))
+        logs.new.slots) }
+    ensures says { OnOk result
+        (terminals.new
+        ≡ texts_after terminals.old tags
+        (said_by (seen_with (look_at logs.old.slots) scripts.now pid (input_in input.entry)
+        plan.now))) }
     ensures unwritten { OnErr result (logs.new.slots ≡ logs.old.slots) }
     ensures unsaid { OnErr result (terminals.new ≡ terminals.old) }
 {
@@ -188,7 +232,8 @@ impl Machine {
 
     /// Adds to a set the guesses that these entities rest on.
     pub(crate) fn add_tags(&self, tags: TagSet, entities: &[Entity]) -> Result<TagSet, AllocError>
-        ensures members { IfOk result (λ all. (g : ℕ) → has g all ≡ (has g tags || any_rests self.now g entities.now)) }
+        ensures members { IfOk result
+            (λ all. (g : ℕ) → has g all ≡ (has g tags || any_rests self.now g entities.now)) }
         ensures rising { IfOk result (λ all. IsStrictlySortedBy nat_cmp all) }
     {
         let mut all = tags;
@@ -225,9 +270,16 @@ impl Machine {
         requires written { written.now ≡ written_in pid plan.now }
         requires tidy { IsTidy (undo_state_of self.now) }
         requires rising { IsStrictlySortedBy nat_cmp (numbers self.now.opens ++ marks own.now) }
-        ensures exact { IfOk result (λ tags. tags ≡ step_tags (undo_state_of self.now) (planned_effect self.now (record { pid = pid; input = (input_in input.entry); guess = own.now }) (seen_with (look_at self.now.slots) scripts.now pid (input_in input.entry) plan.now))) }
-        ensures own { IfOk result (λ tags. (g : ℕ) → is_marked own.now g ≡ true → has g tags ≡ true) }
-        ensures covers { IfOk result (λ tags. Covers tags (written_in pid plan.now) (tags_in self.now.slots)) }
+        ensures exact { IfOk result
+            (λ tags. tags
+            ≡ step_tags (undo_state_of self.now)
+            (planned_effect self.now
+            (record { pid = pid; input = (input_in input.entry); guess = own.now })
+            (seen_with (look_at self.now.slots) scripts.now pid (input_in input.entry) plan.now))) }
+        ensures own { IfOk result
+            (λ tags. (g : ℕ) → is_marked own.now g ≡ true → has g tags ≡ true) }
+        ensures covers { IfOk result
+            (λ tags. Covers tags (written_in pid plan.now) (tags_in self.now.slots)) }
     {
         let own = self.own_tags(own);
         if self.open_count() == 0 {
@@ -246,12 +298,19 @@ impl Machine {
         input: InputRef<'_>,
         plan: &Plan,
     ) -> Result<(), AllocError>
-        requires accepted { perform (look_at self.old.slots) (act scripts.now pid (input_in input)) ≡ Ok (effect_of (look_at self.old.slots) pid (input_in input) (seen_with (look_at self.old.slots) scripts.now pid (input_in input) plan.now)) }
-        requires can { CanPerform (look_at self.old.slots) scripts.now pid (input_in input) plan.now }
-        requires beside { IsBeside pid (seen_with (look_at self.old.slots) scripts.now pid (input_in input) plan.now).beside }
+        requires accepted { perform (look_at self.old.slots) (act scripts.now pid (input_in input))
+            ≡ Ok (effect_of (look_at self.old.slots) pid (input_in input)
+            (seen_with (look_at self.old.slots) scripts.now pid (input_in input) plan.now)) }
+        requires can { CanPerform (look_at self.old.slots) scripts.now pid (input_in input)
+            plan.now }
+        requires beside { IsBeside pid
+            (seen_with (look_at self.old.slots) scripts.now pid (input_in input) plan.now).beside }
         requires tidy { IsTidy (undo_state_of self.old) }
         requires rising { IsStrictlySortedBy nat_cmp (numbers self.old.opens) }
-        ensures ok { OnOk result (MergedTakes (plain scripts.now) (machine_of self.old) (record { pid = pid; input = (input_in input.entry); guess = None }) (machine_of self.new)) }
+        ensures ok { OnOk result
+            (MergedTakes (plain scripts.now) (machine_of self.old)
+            (record { pid = pid; input = (input_in input.entry); guess = None })
+            (machine_of self.new)) }
         ensures guesses { self.new.guesses ≡ self.old.guesses }
         ensures err { OnErr result (self.new ≡ self.old) }
     {
@@ -285,12 +344,19 @@ impl Machine {
         input: InputRef<'_>,
         plan: &Plan,
     ) -> Result<(), AllocError>
-        requires accepted { perform (look_at self.old.slots) (act scripts.now pid (input_in input)) ≡ Ok (effect_of (look_at self.old.slots) pid (input_in input) (seen_with (look_at self.old.slots) scripts.now pid (input_in input) plan.now)) }
-        requires can { CanPerform (look_at self.old.slots) scripts.now pid (input_in input) plan.now }
-        requires beside { IsBeside pid (seen_with (look_at self.old.slots) scripts.now pid (input_in input) plan.now).beside }
+        requires accepted { perform (look_at self.old.slots) (act scripts.now pid (input_in input))
+            ≡ Ok (effect_of (look_at self.old.slots) pid (input_in input)
+            (seen_with (look_at self.old.slots) scripts.now pid (input_in input) plan.now)) }
+        requires can { CanPerform (look_at self.old.slots) scripts.now pid (input_in input)
+            plan.now }
+        requires beside { IsBeside pid
+            (seen_with (look_at self.old.slots) scripts.now pid (input_in input) plan.now).beside }
         requires tidy { IsTidy (undo_state_of self.old) }
         requires rising { IsStrictlySortedBy nat_cmp (numbers self.old.opens) }
-        ensures ok { OnOk result (MergedTakes (plain scripts.now) (machine_of self.old) (record { pid = pid; input = (input_in input.entry); guess = None }) (machine_of self.new)) }
+        ensures ok { OnOk result
+            (MergedTakes (plain scripts.now) (machine_of self.old)
+            (record { pid = pid; input = (input_in input.entry); guess = None })
+            (machine_of self.new)) }
         ensures guesses { self.new.guesses ≡ self.old.guesses }
         ensures err { OnErr result (self.new ≡ self.old) }
     {
@@ -329,14 +395,28 @@ impl Machine {
         input: InputRef<'_>,
         plan: &Plan,
     ) -> Result<Guess, AllocError>
-        requires accepted { perform (look_at self.old.slots) (act scripts.now pid (input_in input)) ≡ Ok (effect_of (look_at self.old.slots) pid (input_in input) (seen_with (look_at self.old.slots) scripts.now pid (input_in input) plan.now)) }
-        requires can { CanPerform (look_at self.old.slots) scripts.now pid (input_in input) plan.now }
-        requires beside { IsBeside pid (seen_with (look_at self.old.slots) scripts.now pid (input_in input) plan.now).beside }
+        requires accepted { perform (look_at self.old.slots) (act scripts.now pid (input_in input))
+            ≡ Ok (effect_of (look_at self.old.slots) pid (input_in input)
+            (seen_with (look_at self.old.slots) scripts.now pid (input_in input) plan.now)) }
+        requires can { CanPerform (look_at self.old.slots) scripts.now pid (input_in input)
+            plan.now }
+        requires beside { IsBeside pid
+            (seen_with (look_at self.old.slots) scripts.now pid (input_in input) plan.now).beside }
         requires tidy { IsTidy (undo_state_of self.old) }
-        requires rising { IsStrictlySortedBy nat_cmp (numbers self.old.opens ++ marks (Some (next_of self.old.guesses))) }
+        requires rising { IsStrictlySortedBy nat_cmp
+            (numbers self.old.opens ++ marks (Some (next_of self.old.guesses))) }
         requires free { is_full self.old.guesses ≡ false }
-        ensures token { IfOk result (λ guess. guess ≡ record { kernel = self.old.guesses.kernel; id = next_of self.old.guesses }) }
-        ensures ok { OnOk result (MergedTakes (plain scripts.now) (machine_of self.old) (record { pid = pid; input = (input_in input.entry); guess = Some (next_of self.old.guesses) }) (machine_of self.new)) }
+        ensures token { IfOk result
+            (λ guess. guess
+            ≡ record { kernel = self.old.guesses.kernel; id = next_of self.old.guesses }) }
+        ensures ok { OnOk result
+            (MergedTakes (plain scripts.now) (machine_of self.old)
+            (record {
+              pid = pid;
+              input = (input_in input.entry);
+              guess = Some
+                  (next_of self.old.guesses);
+            }) (machine_of self.new)) }
         ensures guesses { OnOk result (self.new.guesses ≡ drawn self.old.guesses) }
         ensures err { OnErr result (self.new ≡ self.old) }
     {
@@ -414,7 +494,9 @@ impl Machine {
     /// The entities that are present, by their order, each once.
     pub fn entities(&self) -> Result<Vec<Entity>, AllocError>
         ensures rising { IfOk result (λ all. IsStrictlySortedBy entity_cmp all.items) }
-        ensures present { IfOk result (λ all. (e : Entity) → is_in entity_cmp all.items e ≡ is_some (look_at self.now.slots e)) }
+        ensures present { IfOk result
+            (λ all. (e : Entity)
+            → is_in entity_cmp all.items e ≡ is_some (look_at self.now.slots e)) }
     {
         self.logs.entities()
     }
@@ -429,7 +511,8 @@ impl Machine {
     /// The entities that rest on a guess, by rising order; none where it is not undecided.
     pub fn dependents(&self, id: GuessId) -> &[Entity]
         ensures rising { IsStrictlySortedBy entity_cmp result.now }
-        ensures exact { has id (numbers self.now.opens) ≡ true → (e : Entity) → is_in entity_cmp result.now e ≡ has id (tags_at (undo_state_of self.now) e) }
+        ensures exact { has id (numbers self.now.opens) ≡ true → (e : Entity)
+            → is_in entity_cmp result.now e ≡ has id (tags_at (undo_state_of self.now) e) }
         ensures none { has id (numbers self.now.opens) ≡ false → result.now ≡ [] }
     {
         self.guesses.dependents(id)
@@ -468,7 +551,8 @@ impl Machine {
     pub fn settle(&mut self) -> Result<Texts, AllocError>
         requires { undecided_of self.old.guesses.statuses ≡ 0 }
         ensures texts { IfOk result (λ texts. texts ≡ self.old.texts) }
-        ensures ok { OnOk result (self.new ≡ record self.old { guesses = settled self.old.guesses; texts = map.empty }) }
+        ensures ok { OnOk result
+            (self.new ≡ record self.old { guesses = settled self.old.guesses; texts = map.empty }) }
         ensures err { OnErr result (self.new ≡ self.old) }
     {
         self.guesses.settle()?;

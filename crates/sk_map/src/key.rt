@@ -3,7 +3,7 @@ ghost use Rattle.std.specs.Prelude.{◌≡◌, refl};
 ghost use Rattle.std.specs.declared.cmp.Ordering.{Ordering};
 ghost use Rattle.std.specs.FinMap.{IsAntisymmetric};
 
-use sk_ids::{Entity, Name};
+use sk_ids::{Entity, Name, ObjId};
 
 /// What values are found by. Only equal keys tie.
 pub trait Key: Ord + Copy {
@@ -46,4 +46,15 @@ impl Key for Entity {
     ghost same = { entity_same };
 
     ghost exact = { entity_tells };
+}
+
+impl Key for ObjId {
+    ghost use Rattle.sk_ids.specs.Entity.{object_cmp};
+    ghost use Rattle.sk_map.specs.KeyLemma.{object_same, object_tells};
+
+    ghost order = { object_cmp };
+
+    ghost same = { object_same };
+
+    ghost exact = { object_tells };
 }

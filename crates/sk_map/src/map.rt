@@ -1,5 +1,5 @@
 //! A finite map.
-ghost use Rattle.std.specs.Prelude.{◌≡◌, ◌↔◌, IsTrue, OnOk, OnErr, OnSome, None};
+ghost use Rattle.std.specs.Prelude.{◌≡◌, ◌↔◌, ◌<◌, ◌^◌, IsTrue, OnOk, OnErr, OnSome, None};
 ghost use Rattle.std.specs.Option.{option_copied, option_copied_mut};
 ghost use Rattle.std.specs.Borrow.{LendsSo, sem};
 ghost use Rattle.std.specs.List.Sorted.{IsStrictlySortedBy};
@@ -12,7 +12,7 @@ ghost use Rattle.sk_map.specs.contracts.map.Map.{the_row};
 use crate::Key;
 use std::alloc::{AllocError, Global};
 use std::collections::BTreeMap;
-use std::collections::btree_map::Keys;
+use std::collections::btree_map::{Keys, Values};
 use std::marker::Model;
 
 /// Values by keys. Contracts see the entries, and the finite map that they make (`seen`).
@@ -42,12 +42,16 @@ impl<K: Key, V: PartialEq> PartialEq for Map<K, V> {
 
     ghost eq = { λ m n. same_map K.eq V.eq (seen K.order m) (seen K.order n) };
 
-    ghost laws = { on_per (λ m. map.entries (seen K.order m)) (lists_per (and_per (on_per (λ p. p.0) K.PartialEq.laws) (on_per (λ p. p.1) V.laws))) };
+    ghost laws = { on_per
+        (λ m. map.entries (seen K.order m))
+        (lists_per (and_per (on_per (λ p. p.0) K.PartialEq.laws) (on_per (λ p. p.1) V.laws))) };
 
     /// True exactly where the same keys have the same values, if the test of the values is exact.
     fn eq(&self, other: &Map<K, V>) -> bool
-        ensures computed { result ≡ same_map K.eq V.eq (seen K.order self.now) (seen K.order other.now) }
-        ensures exact { IsExact V.eq → (IsTrue result ↔ (seen K.order self.now ≡ seen K.order other.now)) }
+        ensures computed { result
+            ≡ same_map K.eq V.eq (seen K.order self.now) (seen K.order other.now) }
+        ensures exact { IsExact V.eq
+            → (IsTrue result ↔ (seen K.order self.now ≡ seen K.order other.now)) }
     {
         let _rising = (self.entries.len(), other.entries.len());
         self.entries == other.entries
@@ -92,7 +96,14 @@ impl<K: Key, V> Map<K, V> {
 
     /// Lends the value of a key; what it then becomes is the value of the key.
     pub fn get_mut(&mut self, key: &K) -> Option<&mut V>
-        ensures* writes_back { sem 𝓛 (LendsSo (the_row K.row V.row (record { cmp = K.cmp }) (record { eq = K.eq }) (record { partial_cmp = K.partial_cmp })) V.row self.entry result (λ n w. OnSome result (seen K.order n ≡ map.insert (seen K.order self.old) key.now w)) (λ n. n ≡ self.old)) }
+        ensures* writes_back { sem 𝓛 (LendsSo
+            (the_row K.row V.row
+            (record { cmp = K.cmp })
+            (record { eq = K.eq })
+            (record { partial_cmp = K.partial_cmp }))
+            V.row self.entry result
+            (λ n w. OnSome result (seen K.order n ≡ map.insert (seen K.order self.old) key.now w))
+            (λ n. n ≡ self.old)) }
         ensures value { option_copied_mut result ≡ map.get (seen K.order self.old) key.now }
     {
         self.entries.get_mut(key)
@@ -102,7 +113,8 @@ impl<K: Key, V> Map<K, V> {
     pub fn put(&mut self, key: K, value: V) -> Result<(), AllocError>
     where
         V: Drop,
-        ensures ok { OnOk result (seen K.order self.new ≡ map.insert (seen K.order self.old) key value) }
+        ensures ok { OnOk result
+            (seen K.order self.new ≡ map.insert (seen K.order self.old) key value) }
         ensures err { OnErr result (self.new ≡ self.old) }
         ensures absent { OnErr result (map.get (seen K.order self.old) key ≡ None) }
     {
@@ -118,6 +130,14 @@ impl<K: Key, V> Map<K, V> {
         self.entries.remove(key)
     }
 
+    /// How many keys have a value.
+    pub fn len(&self) -> usize
+        ensures len { result ≡ map.len (seen K.order self.now) }
+        ensures small { result < 2 ^ 63 }
+    {
+        self.entries.len()
+    }
+
     /// The keys that have a value, by their order, each once.
     pub fn keys(&self) -> Keys<'_, K, V>
         ensures rest { result ≡ map.keys (seen K.order self.now) }
@@ -125,5 +145,13 @@ impl<K: Key, V> Map<K, V> {
         ensures runs { ShowsInOrder (deref {X = K}) }
     {
         self.entries.keys()
+    }
+
+    /// The values, by the order of their keys.
+    pub fn values(&self) -> Values<'_, K, V>
+        ensures rest { result ≡ map.values (seen K.order self.now) }
+        ensures runs { ShowsInOrder (deref {X = V}) }
+    {
+        self.entries.values()
     }
 }

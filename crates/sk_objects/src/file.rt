@@ -148,7 +148,8 @@ impl File {
         requires some { 1 ≤ length bytes.now }
         requires short { length bytes.now ≤ TEXT_LIMIT }
         requires end { at + length bytes.now ≤ FILE_LIMIT }
-        ensures { IfOk result (λ blocks. blocks ≡ under_write (written self.now at bytes.now) at (length bytes.now)) }
+        ensures { IfOk result
+            (λ blocks. blocks ≡ under_write (written self.now at bytes.now) at (length bytes.now)) }
     {
         let blocks = written_blocks(*self.slots.allocator(), &self.slots, at, bytes)?;
         Ok(Blocks {
@@ -185,9 +186,12 @@ impl File {
         requires some { 1 ≤ length bytes.now }
         requires short { length bytes.now ≤ TEXT_LIMIT }
         requires end { at + length bytes.now ≤ FILE_LIMIT }
-        ensures ok { IfOk result (λ old. (self.new ≡ written self.old at bytes.now) × (old ≡ under_write self.old at (length bytes.now))) }
+        ensures ok { IfOk result
+            (λ old. (self.new ≡ written self.old at bytes.now)
+            × (old ≡ under_write self.old at (length bytes.now))) }
         ensures err { OnErr result (self.new ≡ self.old) }
-        ensures back { IfOk result (λ old. CanPut self.new old × (with_blocks self.new old ≡ self.old)) }
+        ensures back { IfOk result
+            (λ old. CanPut self.new old × (with_blocks self.new old ≡ self.old)) }
     {
         let _ = &self.slots;
         let new = self.after_write(at, bytes)?;
@@ -227,7 +231,8 @@ impl File {
     /// The blocks from a cut on, as it leaves them.
     fn after_cut(&self, len: usize) -> Result<Blocks, AllocError>
         requires { len ≤ FILE_LIMIT }
-        ensures ok { IfOk result (λ blocks. blocks ≡ under_cut (cut self.now len) len (length self.now)) }
+        ensures ok { IfOk result
+            (λ blocks. blocks ≡ under_cut (cut self.now len) len (length self.now)) }
         ensures grows { OnErr result (len < length self.now) }
     {
         let alloc = *self.slots.allocator();
@@ -252,9 +257,12 @@ impl File {
     pub fn cut_to(&mut self, len: usize) -> Result<Blocks, AllocError>
         requires { len ≤ FILE_LIMIT }
         ensures grows { OnErr result (len < length self.old) }
-        ensures ok { IfOk result (λ old. (self.new ≡ cut self.old len) × (old ≡ under_cut self.old len (length self.old))) }
+        ensures ok { IfOk result
+            (λ old. (self.new ≡ cut self.old len)
+            × (old ≡ under_cut self.old len (length self.old))) }
         ensures err { OnErr result (self.new ≡ self.old) }
-        ensures back { IfOk result (λ old. CanPut self.new old × (with_blocks self.new old ≡ self.old)) }
+        ensures back { IfOk result
+            (λ old. CanPut self.new old × (with_blocks self.new old ≡ self.old)) }
     {
         let _ = &self.slots;
         let new = self.after_cut(len)?;

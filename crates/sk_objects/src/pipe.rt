@@ -35,7 +35,8 @@ impl Model for Pipe {
 
     ghost view = { λ p. record { bytes = ring_bytes p.head p.len p.cells.value; shut = p.shut } };
 
-    ghost invariant = { λ p. (length p.cells.value ≡ PIPE_LIMIT) × (p.head < PIPE_LIMIT) × (p.len ≤ PIPE_LIMIT) };
+    ghost invariant = { λ p. (length p.cells.value ≡ PIPE_LIMIT) × (p.head < PIPE_LIMIT)
+        × (p.len ≤ PIPE_LIMIT) };
 }
 
 /// Writes bytes into the cells from one on, round the end.

@@ -28,7 +28,8 @@ impl Model for Signals {
 
     ghost view = { λ s. s.signals.items };
 
-    ghost invariant = { λ s. (vec_len s.signals ≤ SIGNALS_LIMIT) × (SIGNALS_LIMIT ≤ vec_capacity s.signals) × All IsSignal s.signals.items };
+    ghost invariant = { λ s. (vec_len s.signals ≤ SIGNALS_LIMIT)
+        × (SIGNALS_LIMIT ≤ vec_capacity s.signals) × All IsSignal s.signals.items };
 }
 
 impl PartialEq for Signals {

@@ -84,7 +84,10 @@ pub(crate) fn written_blocks(
     requires short { length bytes.now ≤ 512 }
     requires end { at + length bytes.now ≤ 32768 }
     ensures blocks { IfOk result (λ blocks. AreBlocks blocks.items) }
-    ensures bytes { IfOk result (λ blocks. joined blocks.items ≡ part (overwritten (joined slots.now) at bytes.now) (512 * (at / 512)) (512 * blocks_under at (length bytes.now))) }
+    ensures bytes { IfOk result
+        (λ blocks. joined blocks.items
+        ≡ part (overwritten (joined slots.now) at bytes.now) (512 * (at / 512))
+        (512 * blocks_under at (length bytes.now))) }
 {
     let slot = at / BLOCK;
     let within = at % BLOCK;
@@ -104,7 +107,8 @@ fn overwrite_block(slots: &mut [Block], at: usize, bytes: &[u8]) -> bool
     requires slots { length slots.old ≡ 64 }
     requires end { at + length bytes.now ≤ 32768 }
     requires some { 1 ≤ length bytes.now }
-    ensures slots { slots.new ≡ (if result then slice_set slots.old (at / 512) (overwritten (get_or slots.old (at / 512) []) (at % 512) bytes.now) else slots.old) }
+    ensures slots { slots.new ≡ (if result then slice_set slots.old (at / 512)
+        (overwritten (get_or slots.old (at / 512) []) (at % 512) bytes.now) else slots.old) }
     ensures one { result ≡ true → at % 512 + length bytes.now ≤ 512 }
 {
     let within = at % BLOCK;
@@ -119,7 +123,10 @@ pub(crate) fn overwrite(slots: &mut Vec<Block>, at: usize, bytes: &[u8]) -> bool
     requires slots { length slots.old.items ≡ 64 }
     requires end { at + length bytes.now ≤ 32768 }
     requires some { 1 ≤ length bytes.now }
-    ensures slots { slots.new.items ≡ (if result then slice_set slots.old.items (at / 512) (overwritten (get_or slots.old.items (at / 512) []) (at % 512) bytes.now) else slots.old.items) }
+    ensures slots { slots.new.items
+        ≡ (if result then slice_set slots.old.items (at / 512)
+        (overwritten (get_or slots.old.items (at / 512) []) (at % 512) bytes.now) else
+        slots.old.items) }
     ensures one { result ≡ true → at % 512 + length bytes.now ≤ 512 }
 {
     overwrite_block(slots, at, bytes)
@@ -137,7 +144,9 @@ pub(crate) fn cut_blocks(
     requires some { 1 ≤ count }
     requires end { at / 512 + count ≤ 64 }
     ensures blocks { IfOk result (λ blocks. AreBlocks blocks.items) }
-    ensures bytes { IfOk result (λ blocks. joined blocks.items ≡ held (take at (joined slots.now)) (512 * (at / 512)) (512 * count)) }
+    ensures bytes { IfOk result
+        (λ blocks. joined blocks.items
+        ≡ held (take at (joined slots.now)) (512 * (at / 512)) (512 * count)) }
 {
     let slot = at / BLOCK;
     let mut blocks = Vec::with_capacity(alloc, count)?;

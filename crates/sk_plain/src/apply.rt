@@ -52,7 +52,8 @@ fn read<K: Look>(keeper: &K, looks: &Looks, from: u64, count: u32, text: &mut Te
 fn version_of<K: Look>(keeper: &K, pid: Pid, version: u64) -> Content
     requires there { IsProcess (K.look keeper.now (Proc pid)) }
     requires version { version ≤ LAST_VERSION }
-    ensures { result ≡ record { version = version; bytes = (process_in (K.look keeper.now (Proc pid))).buffer } }
+    ensures { result ≡ record
+        { version = version; bytes = (process_in (K.look keeper.now (Proc pid))).buffer } }
 {
     match Content::new(version, process_at(keeper, pid).buffer) {
         Some(content) => content,
@@ -64,7 +65,8 @@ fn version_of<K: Look>(keeper: &K, pid: Pid, version: u64) -> Content
 #[inline(never)]
 fn write_empty<K: Keeper>(keeper: &mut K, entity: Entity, kind: Kind) -> Result<K::Back, AllocError>
     requires { kind ≢ Kind.Link }
-    ensures ok { OnOk result (keeper.new ≡ K.wrote keeper.old entity (Some (stored.Value (empty_of kind)))) }
+    ensures ok { OnOk result
+        (keeper.new ≡ K.wrote keeper.old entity (Some (stored.Value (empty_of kind)))) }
     ensures can { IfOk result (λ back. K.can_take_back keeper.new back) }
     ensures back { IfOk result (λ back. K.taken_back keeper.new back ≡ keeper.old) }
     ensures err { OnErr result (keeper.new ≡ keeper.old) }
@@ -77,7 +79,12 @@ fn write_empty<K: Keeper>(keeper: &mut K, entity: Entity, kind: Kind) -> Result<
 #[inline(never)]
 fn write_first<K: Keeper>(keeper: &mut K, pid: Pid, entity: Entity) -> Result<K::Back, AllocError>
     requires { IsProcess (K.look keeper.old (Proc pid)) }
-    ensures ok { OnOk result (keeper.new ≡ K.wrote keeper.old entity (Some (stored.Value (values.Copy (record { version = 1; bytes = (process_in (K.look keeper.old (Proc pid))).buffer }))))) }
+    ensures ok { OnOk result
+        (keeper.new
+        ≡ K.wrote keeper.old entity
+        (Some (stored.Value
+        (values.Copy
+        (record { version = 1; bytes = (process_in (K.look keeper.old (Proc pid))).buffer }))))) }
     ensures can { IfOk result (λ back. K.can_take_back keeper.new back) }
     ensures back { IfOk result (λ back. K.taken_back keeper.new back ≡ keeper.old) }
     ensures err { OnErr result (keeper.new ≡ keeper.old) }
@@ -95,9 +102,14 @@ fn write_one<K: Keeper>(
     writes: &Writes,
 ) -> Result<K::Back, AllocError>
     requires there { IsProcess (K.look keeper.old (Proc pid)) }
-    requires can { CanBecome (K.look keeper.old entity) (written (process_in (K.look keeper.old (Proc pid))) writes.now) }
+    requires can { CanBecome (K.look keeper.old entity)
+        (written (process_in (K.look keeper.old (Proc pid))) writes.now) }
     requires version { IsWritable (Beside.One entity writes.now) }
-    ensures ok { OnOk result (keeper.new ≡ K.wrote keeper.old entity (Some (value_of (K.look keeper.old entity) (written (process_in (K.look keeper.old (Proc pid))) writes.now)))) }
+    ensures ok { OnOk result
+        (keeper.new
+        ≡ K.wrote keeper.old entity
+        (Some (value_of (K.look keeper.old entity)
+        (written (process_in (K.look keeper.old (Proc pid))) writes.now)))) }
     ensures can { IfOk result (λ back. K.can_take_back keeper.new back) }
     ensures back { IfOk result (λ back. K.taken_back keeper.new back ≡ keeper.old) }
     ensures err { OnErr result (keeper.new ≡ keeper.old) }
@@ -136,7 +148,10 @@ fn write_last<K: Keeper, C: Becoming>(
 ) -> Result<(), AllocError>
     requires can { CanBecomeThere (C.can by.now) (K.look keeper.old (Proc pid)) }
     requires back { K.can_take_back keeper.old back }
-    ensures ok { OnOk result (keeper.new ≡ K.wrote keeper.old (Proc pid) (Some (became (C.after by.now) (K.look keeper.old (Proc pid))))) }
+    ensures ok { OnOk result
+        (keeper.new
+        ≡ K.wrote keeper.old (Proc pid)
+        (Some (became (C.after by.now) (K.look keeper.old (Proc pid))))) }
     ensures err { OnErr result (keeper.new ≡ K.taken_back keeper.old back) }
 {
     if keeper.change_process(pid, by).is_err() {
@@ -165,7 +180,10 @@ fn write_gone<K: Keeper, C: Becoming>(
     by: &C,
 ) -> Result<(), AllocError>
     requires { CanBecomeThere (C.can by.now) (K.look keeper.old (Proc pid)) }
-    ensures ok { OnOk result (keeper.new ≡ K.wrote (K.wrote keeper.old (Proc pid) (Some (became (C.after by.now) (K.look keeper.old (Proc pid))))) entity None) }
+    ensures ok { OnOk result
+        (keeper.new
+        ≡ K.wrote (K.wrote keeper.old (Proc pid)
+        (Some (became (C.after by.now) (K.look keeper.old (Proc pid))))) entity None) }
     ensures err { OnErr result (keeper.new ≡ keeper.old) }
 {
     let process = changed(process_at(keeper, pid), by);
@@ -189,9 +207,15 @@ fn write_over<K: Keeper, C: Becoming>(
 ) -> Result<(), AllocError>
     requires unnoted { K.goes_unnoted keeper.old pid ≡ true }
     requires process { CanBecomeThere (C.can by.now) (K.look keeper.old (Proc pid)) }
-    requires can { CanBecome (K.look keeper.old entity.now) (written (process_in (K.look keeper.old (Proc pid))) (Writes.At offset)) }
+    requires can { CanBecome (K.look keeper.old entity.now)
+        (written (process_in (K.look keeper.old (Proc pid))) (Writes.At offset)) }
     requires apart { IsNoProcess entity.now }
-    ensures ok { OnOk result (keeper.new ≡ K.wrote (K.wrote keeper.old entity.now (Some (value_of (K.look keeper.old entity.now) (written (process_in (K.look keeper.old (Proc pid))) (Writes.At offset))))) (Proc pid) (Some (became (C.after by.now) (K.look keeper.old (Proc pid))))) }
+    ensures ok { OnOk result
+        (keeper.new
+        ≡ K.wrote (K.wrote keeper.old entity.now
+        (Some (value_of (K.look keeper.old entity.now)
+        (written (process_in (K.look keeper.old (Proc pid))) (Writes.At offset))))) (Proc pid)
+        (Some (became (C.after by.now) (K.look keeper.old (Proc pid))))) }
     ensures err { OnErr result (keeper.new ≡ keeper.old) }
 {
     let bytes = process_at(keeper, pid).buffer;
@@ -209,9 +233,15 @@ fn write_behind<K: Keeper, C: Becoming>(
 ) -> Result<(), AllocError>
     requires unnoted { K.goes_unnoted keeper.old pid ≡ true }
     requires process { CanBecomeThere (C.can by.now) (K.look keeper.old (Proc pid)) }
-    requires can { CanBecome (K.look keeper.old entity.now) (written (process_in (K.look keeper.old (Proc pid))) Writes.Put) }
+    requires can { CanBecome (K.look keeper.old entity.now)
+        (written (process_in (K.look keeper.old (Proc pid))) Writes.Put) }
     requires apart { IsNoProcess entity.now }
-    ensures ok { OnOk result (keeper.new ≡ K.wrote (K.wrote keeper.old entity.now (Some (value_of (K.look keeper.old entity.now) (written (process_in (K.look keeper.old (Proc pid))) Writes.Put)))) (Proc pid) (Some (became (C.after by.now) (K.look keeper.old (Proc pid))))) }
+    ensures ok { OnOk result
+        (keeper.new
+        ≡ K.wrote (K.wrote keeper.old entity.now
+        (Some (value_of (K.look keeper.old entity.now)
+        (written (process_in (K.look keeper.old (Proc pid))) Writes.Put)))) (Proc pid)
+        (Some (became (C.after by.now) (K.look keeper.old (Proc pid))))) }
     ensures err { OnErr result (keeper.new ≡ keeper.old) }
 {
     let change = Change::Put(process_at(keeper, pid).buffer);
@@ -229,9 +259,15 @@ fn take_off<K: Keeper, C: Becoming>(
 ) -> Result<(), AllocError>
     requires unnoted { K.goes_unnoted keeper.old pid ≡ true }
     requires process { CanBecomeThere (C.can by.now) (K.look keeper.old (Proc pid)) }
-    requires can { CanBecome (K.look keeper.old entity.now) (written (process_in (K.look keeper.old (Proc pid))) (Writes.Take count)) }
+    requires can { CanBecome (K.look keeper.old entity.now)
+        (written (process_in (K.look keeper.old (Proc pid))) (Writes.Take count)) }
     requires apart { IsNoProcess entity.now }
-    ensures ok { OnOk result (keeper.new ≡ K.wrote (K.wrote keeper.old entity.now (Some (value_of (K.look keeper.old entity.now) (written (process_in (K.look keeper.old (Proc pid))) (Writes.Take count))))) (Proc pid) (Some (became (C.after by.now) (K.look keeper.old (Proc pid))))) }
+    ensures ok { OnOk result
+        (keeper.new
+        ≡ K.wrote (K.wrote keeper.old entity.now
+        (Some (value_of (K.look keeper.old entity.now)
+        (written (process_in (K.look keeper.old (Proc pid))) (Writes.Take count))))) (Proc pid)
+        (Some (became (C.after by.now) (K.look keeper.old (Proc pid))))) }
     ensures err { OnErr result (keeper.new ≡ keeper.old) }
 {
     let change = Change::Take(count);
@@ -248,10 +284,16 @@ fn write_both<K: Keeper, C: Becoming>(
     by: &C,
 ) -> Result<(), AllocError>
     requires process { CanBecomeThere (C.can by.now) (K.look keeper.old (Proc pid)) }
-    requires can { CanBecome (K.look keeper.old entity.now) (written (process_in (K.look keeper.old (Proc pid))) writes.now) }
+    requires can { CanBecome (K.look keeper.old entity.now)
+        (written (process_in (K.look keeper.old (Proc pid))) writes.now) }
     requires apart { IsNoProcess entity.now }
     requires version { IsWritable (Beside.One entity.now writes.now) }
-    ensures ok { OnOk result (keeper.new ≡ K.wrote (K.wrote keeper.old entity.now (Some (value_of (K.look keeper.old entity.now) (written (process_in (K.look keeper.old (Proc pid))) writes.now)))) (Proc pid) (Some (became (C.after by.now) (K.look keeper.old (Proc pid))))) }
+    ensures ok { OnOk result
+        (keeper.new
+        ≡ K.wrote (K.wrote keeper.old entity.now
+        (Some (value_of (K.look keeper.old entity.now)
+        (written (process_in (K.look keeper.old (Proc pid))) writes.now)))) (Proc pid)
+        (Some (became (C.after by.now) (K.look keeper.old (Proc pid))))) }
     ensures err { OnErr result (keeper.new ≡ keeper.old) }
 {
     match writes {
@@ -277,10 +319,20 @@ fn write_beside<K: Keeper, C: Becoming>(
     by: &C,
 ) -> Result<(), AllocError>
     requires process { CanBecomeThere (C.can by.now) (K.look keeper.old (Proc pid)) }
-    requires can { CanDo (K.look keeper.old) (beside_of (process_in (K.look keeper.old (Proc pid))) beside.now) }
+    requires can { CanDo (K.look keeper.old)
+        (beside_of (process_in (K.look keeper.old (Proc pid))) beside.now) }
     requires apart { IsBeside pid (beside_of (process_in (K.look keeper.old (Proc pid))) beside.now) }
     requires version { IsWritable beside.now }
-    ensures ok { OnOk result (keeper.new ≡ wrote_all K.wrote (writes_of (K.look keeper.old) pid (record { process = C.after by.now (process_in (K.look keeper.old (Proc pid))); looks = Nowhere; beside = beside_of (process_in (K.look keeper.old (Proc pid))) beside.now })) keeper.old) }
+    ensures ok { OnOk result
+        (keeper.new
+        ≡ wrote_all K.wrote
+        (writes_of (K.look keeper.old) pid
+        (record {
+          process = C.after by.now (process_in (K.look keeper.old (Proc pid)));
+          looks = Nowhere;
+          beside = beside_of (process_in (K.look keeper.old (Proc pid)))
+              beside.now;
+        })) keeper.old) }
     ensures err { OnErr result (keeper.new ≡ keeper.old) }
 {
     match beside {
@@ -302,10 +354,17 @@ fn fill<K: Keeper>(
     requires there { IsProcess (K.look keeper.old (Proc pid)) }
     requires fills { row.now.change ≡ ProcessChange.Fills from count number }
     requires change { CanChange (process_in (K.look keeper.old (Proc pid))) row.now.change }
-    requires can { CanDo (K.look keeper.old) (beside_of (process_in (K.look keeper.old (Proc pid))) row.now.beside) }
-    requires apart { IsBeside pid (beside_of (process_in (K.look keeper.old (Proc pid))) row.now.beside) }
+    requires can { CanDo (K.look keeper.old)
+        (beside_of (process_in (K.look keeper.old (Proc pid))) row.now.beside) }
+    requires apart { IsBeside pid
+        (beside_of (process_in (K.look keeper.old (Proc pid))) row.now.beside) }
     requires version { IsWritable row.now.beside }
-    ensures ok { OnOk result (keeper.new ≡ wrote_all K.wrote (writes_of (K.look keeper.old) pid (row_seen (K.look keeper.old) (process_in (K.look keeper.old (Proc pid))) row.now)) keeper.old) }
+    ensures ok { OnOk result
+        (keeper.new
+        ≡ wrote_all K.wrote
+        (writes_of (K.look keeper.old) pid
+        (row_seen (K.look keeper.old) (process_in (K.look keeper.old (Proc pid))) row.now))
+        keeper.old) }
     ensures err { OnErr result (keeper.new ≡ keeper.old) }
 {
     let mut text = Text::empty();
@@ -322,10 +381,17 @@ fn fill<K: Keeper>(
 fn act<K: Keeper>(keeper: &mut K, pid: Pid, row: &Row) -> Result<(), AllocError>
     requires there { IsProcess (K.look keeper.old (Proc pid)) }
     requires change { CanChange (process_in (K.look keeper.old (Proc pid))) row.now.change }
-    requires can { CanDo (K.look keeper.old) (beside_of (process_in (K.look keeper.old (Proc pid))) row.now.beside) }
-    requires apart { IsBeside pid (beside_of (process_in (K.look keeper.old (Proc pid))) row.now.beside) }
+    requires can { CanDo (K.look keeper.old)
+        (beside_of (process_in (K.look keeper.old (Proc pid))) row.now.beside) }
+    requires apart { IsBeside pid
+        (beside_of (process_in (K.look keeper.old (Proc pid))) row.now.beside) }
     requires version { IsWritable row.now.beside }
-    ensures ok { OnOk result (keeper.new ≡ wrote_all K.wrote (writes_of (K.look keeper.old) pid (row_seen (K.look keeper.old) (process_in (K.look keeper.old (Proc pid))) row.now)) keeper.old) }
+    ensures ok { OnOk result
+        (keeper.new
+        ≡ wrote_all K.wrote
+        (writes_of (K.look keeper.old) pid
+        (row_seen (K.look keeper.old) (process_in (K.look keeper.old (Proc pid))) row.now))
+        keeper.old) }
     ensures err { OnErr result (keeper.new ≡ keeper.old) }
 {
     match &row.change {
@@ -347,7 +413,11 @@ fn write_copy<K: Keeper, C: Becoming>(
     by: &C,
 ) -> Result<(), AllocError>
     requires { CanBecomeThere (C.can by.now) (K.look keeper.old (Proc pid)) }
-    ensures ok { OnOk result (keeper.new ≡ K.wrote (K.wrote keeper.old (Copy name.now) (Some (stored.Value (values.Copy content.now)))) (Proc pid) (Some (became (C.after by.now) (K.look keeper.old (Proc pid))))) }
+    ensures ok { OnOk result
+        (keeper.new
+        ≡ K.wrote (K.wrote keeper.old (Copy name.now)
+        (Some (stored.Value (values.Copy content.now)))) (Proc pid)
+        (Some (became (C.after by.now) (K.look keeper.old (Proc pid))))) }
     ensures err { OnErr result (keeper.new ≡ keeper.old) }
 {
     let back = keeper.write(
@@ -368,7 +438,12 @@ fn receive<K: Keeper>(
     requires there { IsProcess (K.look keeper.old (Proc pid)) }
     requires place { (process_in (K.look keeper.old (Proc pid))).place + 1 < 2 ^ 32 }
     requires content { HasContent (input_in input) }
-    ensures ok { OnOk result (keeper.new ≡ K.wrote (K.wrote keeper.old (Copy name.now) (Some (stored.Value (values.Copy (content_in (input_in input.entry)))))) (Proc pid) (Some (stored.Process (process_given (process_in (K.look keeper.old (Proc pid))) (input_in input.entry))))) }
+    ensures ok { OnOk result
+        (keeper.new
+        ≡ K.wrote (K.wrote keeper.old (Copy name.now)
+        (Some (stored.Value (values.Copy (content_in (input_in input.entry)))))) (Proc pid)
+        (Some (stored.Process
+        (process_given (process_in (K.look keeper.old (Proc pid))) (input_in input.entry))))) }
     ensures err { OnErr result (keeper.new ≡ keeper.old) }
 {
     match input {
@@ -391,7 +466,8 @@ fn receive<K: Keeper>(
 
 /// A child of a process.
 fn child_of(process: &Process, child: Pid, place: u32) -> Process
-    ensures { result ≡ child_of process.now (record { pid = child; place = place; registers = process.now.registers }) }
+    ensures { result ≡ child_of process.now
+        (record { pid = child; place = place; registers = process.now.registers }) }
 {
     Process {
         pid: child,
@@ -407,7 +483,11 @@ fn child_of(process: &Process, child: Pid, place: u32) -> Process
 /// A child's exit slot, and then its parent.
 fn bear_slot<K: Keeper>(keeper: &mut K, pid: Pid, by: &Forking) -> Result<(), AllocError>
     requires { CanBecomeThere (CanFork by.now) (K.look keeper.old (Proc pid)) }
-    ensures ok { OnOk result (keeper.new ≡ K.wrote (K.wrote keeper.old (Exit by.now.child) (Some (stored.Value (values.Exit None)))) (Proc pid) (Some (became (forked by.now) (K.look keeper.old (Proc pid))))) }
+    ensures ok { OnOk result
+        (keeper.new
+        ≡ K.wrote (K.wrote keeper.old (Exit by.now.child)
+        (Some (stored.Value (values.Exit None)))) (Proc pid)
+        (Some (became (forked by.now) (K.look keeper.old (Proc pid))))) }
     ensures err { OnErr result (keeper.new ≡ keeper.old) }
 {
     let back = keeper.write(
@@ -420,7 +500,12 @@ fn bear_slot<K: Keeper>(keeper: &mut K, pid: Pid, by: &Forking) -> Result<(), Al
 /// A child's queue of signals, and then the rest.
 fn bear_queue<K: Keeper>(keeper: &mut K, pid: Pid, by: &Forking) -> Result<(), AllocError>
     requires { CanBecomeThere (CanFork by.now) (K.look keeper.old (Proc pid)) }
-    ensures ok { OnOk result (keeper.new ≡ K.wrote (K.wrote (K.wrote keeper.old (Sig by.now.child) (Some (stored.Value (values.Signals [])))) (Exit by.now.child) (Some (stored.Value (values.Exit None)))) (Proc pid) (Some (became (forked by.now) (K.look keeper.old (Proc pid))))) }
+    ensures ok { OnOk result
+        (keeper.new
+        ≡ K.wrote (K.wrote
+        (K.wrote keeper.old (Sig by.now.child) (Some (stored.Value (values.Signals []))))
+        (Exit by.now.child) (Some (stored.Value (values.Exit None)))) (Proc pid)
+        (Some (became (forked by.now) (K.look keeper.old (Proc pid))))) }
     ensures err { OnErr result (keeper.new ≡ keeper.old) }
 {
     let queue = Value::empty(keeper.memory(), Kind::Signals)?;
@@ -437,7 +522,20 @@ fn bear_queue<K: Keeper>(keeper: &mut K, pid: Pid, by: &Forking) -> Result<(), A
 fn bear<K: Keeper>(keeper: &mut K, pid: Pid, by: &Forking, place: u32) -> Result<(), AllocError>
     requires can { CanBecomeThere (CanFork by.now) (K.look keeper.old (Proc pid)) }
     requires apart { pid < by.now.child }
-    ensures ok { OnOk result (keeper.new ≡ wrote_all K.wrote (writes_of (K.look keeper.old) pid (record { process = forked by.now (process_in (K.look keeper.old (Proc pid))); looks = Nowhere; beside = Birth (record { pid = by.now.child; place = place; registers = (process_in (K.look keeper.old (Proc pid))).registers }) })) keeper.old) }
+    ensures ok { OnOk result
+        (keeper.new
+        ≡ wrote_all K.wrote
+        (writes_of (K.look keeper.old) pid
+        (record {
+          process = forked by.now (process_in (K.look keeper.old (Proc pid)));
+          looks = Nowhere;
+          beside = Birth
+              (record {
+                pid = by.now.child;
+                place = place;
+                registers = (process_in (K.look keeper.old (Proc pid))).registers;
+              });
+        })) keeper.old) }
     ensures err { OnErr result (keeper.new ≡ keeper.old) }
 {
     let first = child_of(process_at(keeper, pid), by.child, place);
@@ -459,7 +557,12 @@ pub fn apply_plan<K: Keeper>(
     plan: &Plan,
 ) -> Result<(), AllocError>
     requires { CanPerform (K.look keeper.old) scripts.now pid (input_in input) plan.now }
-    ensures ok { OnOk result (keeper.new ≡ wrote_all K.wrote (writes_of (K.look keeper.old) pid (seen_with (K.look keeper.old) scripts.now pid (input_in input.entry) plan.now)) keeper.old) }
+    ensures ok { OnOk result
+        (keeper.new
+        ≡ wrote_all K.wrote
+        (writes_of (K.look keeper.old) pid
+        (seen_with (K.look keeper.old) scripts.now pid (input_in input.entry) plan.now))
+        keeper.old) }
     ensures err { OnErr result (keeper.new ≡ keeper.old) }
 {
     match plan {
@@ -495,8 +598,11 @@ fn speak<K: Keeper>(
     pid: Pid,
     process: &Process,
 ) -> Result<(), AllocError>
-    ensures writes { OnOk result (keeper.new ≡ K.wrote keeper.old (Proc pid) (Some (stored.Process process.now))) }
-    ensures says { OnOk result (terminals.new ≡ said_to terminals.old process.now.terminal (process.now.buffer, K.step_tags keeper.old)) }
+    ensures writes { OnOk result
+        (keeper.new ≡ K.wrote keeper.old (Proc pid) (Some (stored.Process process.now))) }
+    ensures says { OnOk result
+        (terminals.new
+        ≡ said_to terminals.old process.now.terminal (process.now.buffer, K.step_tags keeper.old)) }
     ensures unwritten { OnErr result (keeper.new ≡ keeper.old) }
     ensures unsaid { OnErr result (terminals.new ≡ terminals.old) }
 {
@@ -521,8 +627,14 @@ fn say_buffer<K: Keeper>(
 ) -> Result<(), AllocError>
     requires there { IsProcess (K.look keeper.old (Proc pid)) }
     requires place { (process_in (K.look keeper.old (Proc pid))).place + 1 < 2 ^ 32 }
-    ensures writes { OnOk result (keeper.new ≡ K.wrote keeper.old (Proc pid) (Some (stored.Process (moved (process_in (K.look keeper.old (Proc pid))))))) }
-    ensures says { OnOk result (terminals.new ≡ said_to terminals.old (process_in (K.look keeper.old (Proc pid))).terminal ((process_in (K.look keeper.old (Proc pid))).buffer, K.step_tags keeper.old)) }
+    ensures writes { OnOk result
+        (keeper.new
+        ≡ K.wrote keeper.old (Proc pid)
+        (Some (stored.Process (moved (process_in (K.look keeper.old (Proc pid))))))) }
+    ensures says { OnOk result
+        (terminals.new
+        ≡ said_to terminals.old (process_in (K.look keeper.old (Proc pid))).terminal
+        ((process_in (K.look keeper.old (Proc pid))).buffer, K.step_tags keeper.old)) }
     ensures unwritten { OnErr result (keeper.new ≡ keeper.old) }
     ensures unsaid { OnErr result (terminals.new ≡ terminals.old) }
 {
@@ -541,8 +653,16 @@ pub fn perform_plan<K: Keeper>(
     plan: &Plan,
 ) -> Result<(), AllocError>
     requires { CanPerform (K.look keeper.old) scripts.now pid (input_in input) plan.now }
-    ensures writes { OnOk result (keeper.new ≡ wrote_all K.wrote (writes_of (K.look keeper.old) pid (seen_with (K.look keeper.old) scripts.now pid (input_in input.entry) plan.now)) keeper.old) }
-    ensures says { OnOk result (terminals.new ≡ texts_after terminals.old (K.step_tags keeper.old) (said_by (seen_with (K.look keeper.old) scripts.now pid (input_in input.entry) plan.now))) }
+    ensures writes { OnOk result
+        (keeper.new
+        ≡ wrote_all K.wrote
+        (writes_of (K.look keeper.old) pid
+        (seen_with (K.look keeper.old) scripts.now pid (input_in input.entry) plan.now))
+        keeper.old) }
+    ensures says { OnOk result
+        (terminals.new
+        ≡ texts_after terminals.old (K.step_tags keeper.old)
+        (said_by (seen_with (K.look keeper.old) scripts.now pid (input_in input.entry) plan.now))) }
     ensures unwritten { OnErr result (keeper.new ≡ keeper.old) }
     ensures unsaid { OnErr result (terminals.new ≡ terminals.old) }
 {

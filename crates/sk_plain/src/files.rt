@@ -29,7 +29,8 @@ pub(crate) fn made<S: Look>(
 ) -> Row
     requires place { process.now.place + 1 < 2 ^ 32 }
     requires kind { kind ≢ Kind.Link }
-    ensures { PlansRow (S.look _store.now) process.now pid (made_row pid process.now register kind) (Ok result) }
+    ensures { PlansRow (S.look _store.now) process.now pid (made_row pid process.now register kind)
+        (Ok result) }
 {
     if process.objects >= u32::MAX {
         return alone(failed(Errno::NoSpace));
@@ -49,7 +50,8 @@ pub(crate) fn made<S: Look>(
 /// `size rF`
 pub(crate) fn size<S: Look>(store: &S, pid: Pid, process: &Process, file: Register) -> Row
     requires { process.now.place + 1 < 2 ^ 32 }
-    ensures { PlansRow (S.look store.now) process.now pid (size_row pid process.now (object_in (held process.now.registers file))) (Ok result) }
+    ensures { PlansRow (S.look store.now) process.now pid
+        (size_row pid process.now (object_in (held process.now.registers file))) (Ok result) }
 {
     let held = object_at(process, file);
     let Some(object) = &held else {
@@ -71,7 +73,9 @@ pub(crate) fn read<S: Look>(
     at: Register,
 ) -> Row
     requires { process.now.place + 1 < 2 ^ 32 }
-    ensures { PlansRow (S.look store.now) process.now pid (read_row pid process.now (object_in (held process.now.registers file)) (number_in (held process.now.registers at))) (Ok result) }
+    ensures { PlansRow (S.look store.now) process.now pid
+        (read_row pid process.now (object_in (held process.now.registers file))
+        (number_in (held process.now.registers at))) (Ok result) }
 {
     let held = object_at(process, file);
     let Some(object) = &held else {
@@ -102,7 +106,9 @@ fn written_at<S: Look>(
 ) -> Row
     requires place { process.now.place + 1 < 2 ^ 32 }
     requires there { S.look _store.now (Obj object.now) ≡ Some (stored.Value (values.File file.now)) }
-    ensures { PlansRow (S.look _store.now) process.now pid (Ask (Obj object.now) (λ v. written_at pid process.now object.now file.now at)) (Ok result) }
+    ensures { PlansRow (S.look _store.now) process.now pid
+        (Ask (Obj object.now) (λ v. written_at pid process.now object.now file.now at))
+        (Ok result) }
 {
     let len = process.buffer.len() as u64;
     if at > FILE_LIMIT as u64 - len {
@@ -124,7 +130,9 @@ pub(crate) fn write<S: Look>(
     at: Register,
 ) -> Row
     requires { process.now.place + 1 < 2 ^ 32 }
-    ensures { PlansRow (S.look store.now) process.now pid (write_row pid process.now (object_in (held process.now.registers file)) (number_in (held process.now.registers at))) (Ok result) }
+    ensures { PlansRow (S.look store.now) process.now pid
+        (write_row pid process.now (object_in (held process.now.registers file))
+        (number_in (held process.now.registers at))) (Ok result) }
 {
     let Some(object) = object_at(process, file) else {
         return alone(failed(Errno::BadObject));
@@ -150,7 +158,8 @@ fn cut_to<S: Look>(
 ) -> Row
     requires place { process.now.place + 1 < 2 ^ 32 }
     requires there { S.look _store.now (Obj object.now) ≡ Some (stored.Value (values.File file.now)) }
-    ensures { PlansRow (S.look _store.now) process.now pid (Ask (Obj object.now) (λ v. cut_to pid process.now object.now file.now size)) (Ok result) }
+    ensures { PlansRow (S.look _store.now) process.now pid
+        (Ask (Obj object.now) (λ v. cut_to pid process.now object.now file.now size)) (Ok result) }
 {
     if size > FILE_LIMIT as u64 {
         return looked(failed(Errno::TooBig), Entity::Obj(*object));
@@ -171,7 +180,9 @@ pub(crate) fn cut<S: Look>(
     size: Register,
 ) -> Row
     requires { process.now.place + 1 < 2 ^ 32 }
-    ensures { PlansRow (S.look store.now) process.now pid (cut_row pid process.now (object_in (held process.now.registers file)) (number_in (held process.now.registers size))) (Ok result) }
+    ensures { PlansRow (S.look store.now) process.now pid
+        (cut_row pid process.now (object_in (held process.now.registers file))
+        (number_in (held process.now.registers size))) (Ok result) }
 {
     let Some(object) = object_at(process, file) else {
         return alone(failed(Errno::BadObject));

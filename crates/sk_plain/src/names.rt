@@ -24,7 +24,9 @@ pub(crate) fn look<S: Look>(
     name: &Name,
 ) -> Row
     requires { process.now.place + 1 < 2 ^ 32 }
-    ensures { PlansRow (S.look store.now) process.now pid (look_row pid process.now register (object_in (held process.now.registers directory)) name.now) (Ok result) }
+    ensures { PlansRow (S.look store.now) process.now pid
+        (look_row pid process.now register (object_in (held process.now.registers directory))
+        name.now) (Ok result) }
 {
     let held = object_at(process, directory);
     let Some(at) = &held else {
@@ -50,7 +52,10 @@ fn link_to<S: Look>(
     object: &ObjId,
 ) -> Row
     requires { process.now.place + 1 < 2 ^ 32 }
-    ensures { PlansRow (S.look store.now) process.now pid (Ask (Obj at.now) (λ v. Ask (Link at.now name.now) (link_to pid process.now at.now name.now object.now))) (Ok result) }
+    ensures { PlansRow (S.look store.now) process.now pid
+        (Ask (Obj at.now)
+        (λ v. Ask (Link at.now name.now) (link_to pid process.now at.now name.now object.now)))
+        (Ok result) }
 {
     if store.value(Entity::Link(*at, *name)).is_some() {
         return looked_up(failed(Errno::Exists), at, name);
@@ -68,7 +73,9 @@ pub(crate) fn link<S: Look>(
     object: Register,
 ) -> Row
     requires { process.now.place + 1 < 2 ^ 32 }
-    ensures { PlansRow (S.look store.now) process.now pid (link_row pid process.now (object_in (held process.now.registers directory)) name.now (object_in (held process.now.registers object))) (Ok result) }
+    ensures { PlansRow (S.look store.now) process.now pid
+        (link_row pid process.now (object_in (held process.now.registers directory)) name.now
+        (object_in (held process.now.registers object))) (Ok result) }
 {
     let Some(at) = object_at(process, directory) else {
         return alone(failed(Errno::BadObject));
@@ -91,7 +98,9 @@ pub(crate) fn unlink<S: Look>(
     name: &Name,
 ) -> Row
     requires { process.now.place + 1 < 2 ^ 32 }
-    ensures { PlansRow (S.look store.now) process.now pid (unlink_row pid process.now (object_in (held process.now.registers directory)) name.now) (Ok result) }
+    ensures { PlansRow (S.look store.now) process.now pid
+        (unlink_row pid process.now (object_in (held process.now.registers directory)) name.now)
+        (Ok result) }
 {
     let held = object_at(process, directory);
     let Some(at) = &held else {

@@ -69,7 +69,8 @@ fn waits<S: Look>(store: &S, scripts: &Scripts, pid: Pid) -> bool
 
 /// What a process does next where no signal is due.
 fn next_instruction<S: Look>(store: &S, scripts: &Scripts, pid: Pid, process: &Process) -> Next
-    ensures { result ≡ next_instruction (S.look store.now) scripts.now pid process.now (next_in scripts.now process.now) }
+    ensures { result ≡ next_instruction (S.look store.now) scripts.now pid process.now
+        (next_in scripts.now process.now) }
 {
     match instruction_at(scripts, process) {
         Some(Instruction::Fetch(name)) => return Next::Fetch(*name),

@@ -32,7 +32,8 @@ fn put_in<S: Look>(
 ) -> Result<Row, Refusal>
     requires place { process.now.place + 1 < 2 ^ 32 }
     requires there { S.look _store.now (Obj object.now) ≡ Some (stored.Value (values.Pipe pipe.now)) }
-    ensures { PlansRow (S.look _store.now) process.now pid (Ask (Obj object.now) (λ v. put_in pid process.now object.now pipe.now)) result }
+    ensures { PlansRow (S.look _store.now) process.now pid
+        (Ask (Obj object.now) (λ v. put_in pid process.now object.now pipe.now)) result }
 {
     if pipe.is_shut() {
         return Ok(looked(failed(Errno::BrokenPipe), Entity::Obj(*object)));
@@ -56,7 +57,8 @@ pub(crate) fn put<S: Look>(
     pipe: Register,
 ) -> Result<Row, Refusal>
     requires { process.now.place + 1 < 2 ^ 32 }
-    ensures { PlansRow (S.look store.now) process.now pid (put_row pid process.now (object_in (held process.now.registers pipe))) result }
+    ensures { PlansRow (S.look store.now) process.now pid
+        (put_row pid process.now (object_in (held process.now.registers pipe))) result }
 {
     let Some(object) = object_at(process, pipe) else {
         return Ok(alone(failed(Errno::BadObject)));
@@ -90,7 +92,8 @@ fn take_from<S: Look>(
     requires place { process.now.place + 1 < 2 ^ 32 }
     requires there { S.look _store.now (Obj object.now) ≡ Some (stored.Value (values.Pipe pipe.now)) }
     requires most { (1 ≤ most) × (most ≤ 512) }
-    ensures { PlansRow (S.look _store.now) process.now pid (Ask (Obj object.now) (λ v. take_from pid process.now object.now pipe.now most)) result }
+    ensures { PlansRow (S.look _store.now) process.now pid
+        (Ask (Obj object.now) (λ v. take_from pid process.now object.now pipe.now most)) result }
 {
     let held = pipe.len();
     if held == 0 {
@@ -112,7 +115,9 @@ pub(crate) fn take<S: Look>(
     most: Register,
 ) -> Result<Row, Refusal>
     requires { process.now.place + 1 < 2 ^ 32 }
-    ensures { PlansRow (S.look store.now) process.now pid (take_row pid process.now (object_in (held process.now.registers pipe)) (number_to TEXT_LIMIT (held process.now.registers most))) result }
+    ensures { PlansRow (S.look store.now) process.now pid
+        (take_row pid process.now (object_in (held process.now.registers pipe))
+        (number_to TEXT_LIMIT (held process.now.registers most))) result }
 {
     let Some(object) = object_at(process, pipe) else {
         return Ok(alone(failed(Errno::BadObject)));
@@ -130,7 +135,8 @@ pub(crate) fn take<S: Look>(
 /// `shut rP`
 pub(crate) fn shut<S: Look>(store: &S, pid: Pid, process: &Process, pipe: Register) -> Row
     requires { process.now.place + 1 < 2 ^ 32 }
-    ensures { PlansRow (S.look store.now) process.now pid (shut_row pid process.now (object_in (held process.now.registers pipe))) (Ok result) }
+    ensures { PlansRow (S.look store.now) process.now pid
+        (shut_row pid process.now (object_in (held process.now.registers pipe))) (Ok result) }
 {
     let held = object_at(process, pipe);
     let Some(object) = &held else {

@@ -45,7 +45,12 @@ pub(crate) fn status_of(val: &Val) -> u8
 
 /// The process ends where it stands.
 pub(crate) fn ends(pid: Pid, status: u8) -> Row
-    ensures { result ≡ record { change = ProcessChange.Does Becomes.Ends; looks = Looks.Nowhere; beside = Beside.One (Entity.Exit pid) (Writes.Exited status) } }
+    ensures { result ≡ record {
+      change = ProcessChange.Does Becomes.Ends;
+      looks = Looks.Nowhere;
+      beside = Beside.One
+          (Entity.Exit pid) (Writes.Exited status);
+    } }
 {
     let change = ProcessChange::Does(Becomes::Ends);
     wrote(change, Entity::Exit(pid), Writes::Exited(status))
@@ -60,7 +65,9 @@ pub(crate) fn kill<S: Look>(
     signal: Register,
 ) -> Row
     requires { process.now.place + 1 < 2 ^ 32 }
-    ensures { PlansRow (S.look store.now) process.now pid (kill_row pid process.now (who_in (held process.now.registers who)) (number_to LAST_SIGNAL (held process.now.registers signal))) (Ok result) }
+    ensures { PlansRow (S.look store.now) process.now pid
+        (kill_row pid process.now (who_in (held process.now.registers who))
+        (number_to LAST_SIGNAL (held process.now.registers signal))) (Ok result) }
 {
     let Some(who) = who_at(process, who) else {
         return alone(failed(Errno::Invalid));
@@ -90,7 +97,8 @@ pub(crate) fn fork<S: Look>(
     _instruction: &Instruction,
 ) -> Plan
     requires { process.now.place + 1 < 2 ^ 32 }
-    ensures { PlansAfter (S.look _store.now) (Some _instruction.now) Input.None process.now [] pid (fork_row pid process.now register place) (Ok result) }
+    ensures { PlansAfter (S.look _store.now) (Some _instruction.now) Input.None process.now [] pid
+        (fork_row pid process.now register place) (Ok result) }
 {
     if process.children >= u16::MAX {
         return Plan::Acts(alone(failed(Errno::Again)));
@@ -111,7 +119,8 @@ pub(crate) fn wait<S: Look>(
     who: Register,
 ) -> Result<Row, Refusal>
     requires { process.now.place + 1 < 2 ^ 32 }
-    ensures { PlansRow (S.look store.now) process.now pid (wait_row pid process.now register (who_in (held process.now.registers who))) result }
+    ensures { PlansRow (S.look store.now) process.now pid
+        (wait_row pid process.now register (who_in (held process.now.registers who))) result }
 {
     let Some(who) = who_at(process, who) else {
         return Ok(alone(failed(Errno::Invalid)));

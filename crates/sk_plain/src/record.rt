@@ -81,10 +81,20 @@ fn take(
     plan: &Plan,
 ) -> Result<(), Refusal>
     requires { CanPerform (map.get store.old) scripts.now entry.now.pid entry.now.input plan.now }
-    ensures store { OnOk result (store.new ≡ put_all (writes_of (map.get store.old) entry.now.pid (seen_with (map.get store.old) scripts.now entry.now.pid entry.now.input plan.now)) store.old) }
-    ensures dirty { OnOk result (dirty.new.items ≡ (if depends guess dirty.old.items entry.now plan.now then written_in entry.now.pid plan.now ++ dirty.old.items else dirty.old.items)) }
+    ensures store { OnOk result
+        (store.new ≡ put_all
+        (writes_of (map.get store.old) entry.now.pid
+        (seen_with (map.get store.old) scripts.now entry.now.pid entry.now.input plan.now))
+        store.old) }
+    ensures dirty { OnOk result
+        (dirty.new.items
+        ≡ (if depends guess dirty.old.items entry.now plan.now then written_in entry.now.pid
+        plan.now ++ dirty.old.items else dirty.old.items)) }
     ensures memory { IfErr result (λ why. why ≡ Memory) }
-    ensures kept { OnOk result (kept.new.items ≡ (if depends guess dirty.old.items entry.now plan.now then kept.old.items else kept.old.items ++ entry.now ∷ [])) }
+    ensures kept { OnOk result
+        (kept.new.items
+        ≡ (if depends guess dirty.old.items entry.now plan.now then kept.old.items else
+        kept.old.items ++ entry.now ∷ [])) }
 {
     apply_plan(store, scripts, entry.pid, InputRef::of(&entry.input), plan)?;
     if depends(dirty, guess, entry, plan) {
@@ -105,12 +115,27 @@ fn one_entry(
     kept: &mut Vec<Entry>,
     entry: &Entry,
 ) -> Result<(), Refusal>
-    ensures kept { OnOk result ((rest : List EntryView) → kept.new.items ++ remaining scripts.now guess dirty.new.items store.new rest ≡ kept.old.items ++ remaining scripts.now guess dirty.old.items store.old (entry.now ∷ rest)) }
-    ensures legal { OnOk result ((rest : List EntryView) → IsLegal (plain scripts.now) store.new rest → IsLegal (plain scripts.now) store.old (entry.now ∷ rest)) }
-    ensures run { OnOk result ((rest : List EntryView) → run (plain scripts.now) store.new rest ≡ run (plain scripts.now) store.old (entry.now ∷ rest)) }
-    ensures passed { OnOk result ((rest : List EntryView) → refusal_in scripts.now store.new rest ≡ refusal_in scripts.now store.old (entry.now ∷ rest)) }
-    ensures refused { IfErr result (λ why. (rest : List EntryView) → EndsBy (refusal_in scripts.now store.old (entry.now ∷ rest)) why) }
-    ensures memory { IfErr result (λ why. why ≡ Memory → IsOk (outcome (plain scripts.now) store.old entry.now)) }
+    ensures kept { OnOk result
+        ((rest : List EntryView)
+        → kept.new.items ++ remaining scripts.now guess dirty.new.items store.new rest
+        ≡ kept.old.items
+        ++ remaining scripts.now guess dirty.old.items store.old (entry.now ∷ rest)) }
+    ensures legal { OnOk result
+        ((rest : List EntryView) → IsLegal (plain scripts.now) store.new rest
+        → IsLegal (plain scripts.now) store.old (entry.now ∷ rest)) }
+    ensures run { OnOk result
+        ((rest : List EntryView)
+        → run (plain scripts.now) store.new rest
+        ≡ run (plain scripts.now) store.old (entry.now ∷ rest)) }
+    ensures passed { OnOk result
+        ((rest : List EntryView)
+        → refusal_in scripts.now store.new rest
+        ≡ refusal_in scripts.now store.old (entry.now ∷ rest)) }
+    ensures refused { IfErr result
+        (λ why. (rest : List EntryView)
+        → EndsBy (refusal_in scripts.now store.old (entry.now ∷ rest)) why) }
+    ensures memory { IfErr result
+        (λ why. why ≡ Memory → IsOk (outcome (plain scripts.now) store.old entry.now)) }
 {
     let input = InputRef::of(&entry.input);
     let plan = match plan_step(store, scripts, entry.pid, input) {
@@ -129,11 +154,14 @@ pub fn strike_guess(
     entries: &[Entry],
     guess: GuessId,
 ) -> Result<Vec<Entry>, Refusal>
-    ensures kept { IfOk result (λ kept. kept.items ≡ strike (plain scripts.now) store.old entries.now guess) }
+    ensures kept { IfOk result
+        (λ kept. kept.items ≡ strike (plain scripts.now) store.old entries.now guess) }
     ensures legal { OnOk result (IsLegal (plain scripts.now) store.old entries.now) }
     ensures run { OnOk result (store.new ≡ run (plain scripts.now) store.old entries.now) }
-    ensures refused { IfErr result (λ why. EndsBy (refusal_in scripts.now store.old entries.now) why) }
-    ensures memory { IfErr result (λ why. why ≡ Memory → BeginsWell scripts.now store.old entries.now) }
+    ensures refused { IfErr result
+        (λ why. EndsBy (refusal_in scripts.now store.old entries.now) why) }
+    ensures memory { IfErr result
+        (λ why. why ≡ Memory → BeginsWell scripts.now store.old entries.now) }
 {
     let mut dirty: Vec<Entity> = Vec::new(alloc);
     let mut kept: Vec<Entry> = Vec::new(alloc);

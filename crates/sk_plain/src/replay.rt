@@ -139,7 +139,10 @@ fn commit(replay: &mut Replay, guess: GuessId) -> Result<(), Fault>
 
 /// Takes the step of an entry that was taken before.
 fn take_again(store: &mut Store, scripts: &Scripts, entry: &Entry) -> Result<(), Refusal>
-    ensures { OnOk result ((rest : List EntryView) → run (plain scripts.now) store.new rest ≡ run (plain scripts.now) store.old (entry.now ∷ rest)) }
+    ensures { OnOk result
+        ((rest : List EntryView)
+        → run (plain scripts.now) store.new rest
+        ≡ run (plain scripts.now) store.old (entry.now ∷ rest)) }
 {
     let input = InputRef::of(&entry.input);
     let plan = match plan_step(store, scripts, entry.pid, input) {
@@ -168,7 +171,8 @@ fn struck(
     entries: &[Entry],
     guess: GuessId,
 ) -> Result<(Vec<Entry>, Store), Refusal>
-    ensures kept { IfOk result (λ r. r.0.items ≡ strike (plain scripts.now) start.now entries.now guess) }
+    ensures kept { IfOk result
+        (λ r. r.0.items ≡ strike (plain scripts.now) start.now entries.now guess) }
     ensures now { IfOk result (λ r. r.1 ≡ run (plain scripts.now) start.now r.0.items) }
 {
     let mut whole = start.copy()?;
@@ -202,7 +206,8 @@ fn take_event(
     scripts: &Scripts,
     event: &Event,
 ) -> Result<(), Fault>
-    ensures { (es : List (Happens EntryView)) → IsReplay scripts.now es replay.old → Goes scripts.now es (image event.now) replay.old replay.new result }
+    ensures { (es : List (Happens EntryView)) → IsReplay scripts.now es replay.old
+        → Goes scripts.now es (image event.now) replay.old replay.new result }
 {
     match event {
         Event::Step { pid, input } => {
@@ -249,7 +254,9 @@ fn strike_at(
     trace: &Trace,
 ) -> Result<Vec<Entry>, TraceFault>
     ensures sound { OnOk result (IsSound (plain scripts.now) start (map image trace.now.events)) }
-    ensures left { IfOk result (λ entries. entries.items ≡ record_of (plain scripts.now) start (map image trace.now.events)) }
+    ensures left { IfOk result
+        (λ entries. entries.items
+        ≡ record_of (plain scripts.now) start (map image trace.now.events)) }
     ensures fault { IfErr result (FaultIn scripts.now start (map image trace.now.events)) }
 {
     let now = start.copy()?;
@@ -267,9 +274,13 @@ fn strike_at(
 /// The entries that a trace leaves: its steps and guesses, without those that depend on a guess that
 /// failed. Of a trace that is not sound, the first fault.
 pub fn strike(alloc: Global, boot: &Boot, trace: &Trace) -> Result<Vec<Entry>, TraceFault>
-    ensures sound { OnOk result (IsSound (plain boot.now.scripts) (start_of boot.now) (map image trace.now.events)) }
-    ensures left { IfOk result (λ entries. entries.items ≡ record_of (plain boot.now.scripts) (start_of boot.now) (map image trace.now.events)) }
-    ensures fault { IfErr result (FaultIn boot.now.scripts (start_of boot.now) (map image trace.now.events)) }
+    ensures sound { OnOk result
+        (IsSound (plain boot.now.scripts) (start_of boot.now) (map image trace.now.events)) }
+    ensures left { IfOk result
+        (λ entries. entries.items
+        ≡ record_of (plain boot.now.scripts) (start_of boot.now) (map image trace.now.events)) }
+    ensures fault { IfErr result
+        (FaultIn boot.now.scripts (start_of boot.now) (map image trace.now.events)) }
 {
     let start = Store::start(alloc, boot)?;
     strike_at(alloc, start, boot.scripts(), trace)
@@ -277,9 +288,13 @@ pub fn strike(alloc: Global, boot: &Boot, trace: &Trace) -> Result<Vec<Entry>, T
 
 /// The same where the trace begins at the state of a plain kernel, with its scripts.
 pub fn strike_from(alloc: Global, from: &Plain, trace: &Trace) -> Result<Vec<Entry>, TraceFault>
-    ensures sound { OnOk result (IsSound (plain from.now.scripts) from.now.state (map image trace.now.events)) }
-    ensures left { IfOk result (λ entries. entries.items ≡ record_of (plain from.now.scripts) from.now.state (map image trace.now.events)) }
-    ensures fault { IfErr result (FaultIn from.now.scripts from.now.state (map image trace.now.events)) }
+    ensures sound { OnOk result
+        (IsSound (plain from.now.scripts) from.now.state (map image trace.now.events)) }
+    ensures left { IfOk result
+        (λ entries. entries.items
+        ≡ record_of (plain from.now.scripts) from.now.state (map image trace.now.events)) }
+    ensures fault { IfErr result
+        (FaultIn from.now.scripts from.now.state (map image trace.now.events)) }
 {
     let start = from.state().copy()?;
     strike_at(alloc, start, from.scripts(), trace)

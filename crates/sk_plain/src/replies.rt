@@ -32,7 +32,8 @@ fn fetched(version: u64) -> ProcessChange
 /// A fetch from the cached copy.
 fn from_copy<S: Look>(store: &S, pid: Pid, process: &Process, name: Name) -> Result<Row, Refusal>
     requires { process.now.place + 1 < 2 ^ 32 }
-    ensures { PlansRow (S.look store.now) process.now pid (Ask (Copy name) (from_copy pid process.now)) result }
+    ensures { PlansRow (S.look store.now) process.now pid
+        (Ask (Copy name) (from_copy pid process.now)) result }
 {
     match store.value(Entity::Copy(name)) {
         Some(EntityState::Value(Value::Copy(content))) => {
@@ -46,7 +47,8 @@ fn from_copy<S: Look>(store: &S, pid: Pid, process: &Process, name: Name) -> Res
 /// A store over the cached copy, or over none.
 fn over_copy<S: Look>(store: &S, pid: Pid, process: &Process, name: Name) -> Result<Row, Refusal>
     requires { process.now.place + 1 < 2 ^ 32 }
-    ensures { PlansRow (S.look store.now) process.now pid (Ask (Copy name) (over_copy pid process.now name)) result }
+    ensures { PlansRow (S.look store.now) process.now pid
+        (Ask (Copy name) (over_copy pid process.now name)) result }
 {
     match store.value(Entity::Copy(name)) {
         None => Ok(changed(answered(1), &Entity::Copy(name), Writes::First)),
@@ -73,7 +75,8 @@ pub(crate) fn good<S: Look>(
     instruction: Option<&Instruction>,
 ) -> Result<Row, Refusal>
     requires { IsSome instruction → process.now.place + 1 < 2 ^ 32 }
-    ensures { PlansRow (S.look store.now) process.now pid (good_row pid process.now (option_copied instruction.entry)) result }
+    ensures { PlansRow (S.look store.now) process.now pid
+        (good_row pid process.now (option_copied instruction.entry)) result }
 {
     match instruction {
         Some(Instruction::Fetch(name)) => from_copy(store, pid, process, *name),
@@ -91,8 +94,13 @@ pub(crate) fn fresh<S: Look>(
     content: &Content,
 ) -> Result<Plan, Refusal>
     requires { IsSome instruction → process.now.place + 1 < 2 ^ 32 }
-    ensures quiet { IfOk result (λ plan. said_by (seen (S.look _store.now) (option_copied instruction.entry) (Input.Fresh content.now) process.now plan) ≡ None) }
-    ensures row { PlansAfter (S.look _store.now) (option_copied instruction.entry) (Input.Fresh content.now) process.now [] pid (fresh_row pid process.now content.now (option_copied instruction.entry)) result }
+    ensures quiet { IfOk result
+        (λ plan. said_by
+        (seen (S.look _store.now) (option_copied instruction.entry) (Input.Fresh content.now)
+        process.now plan) ≡ None) }
+    ensures row { PlansAfter (S.look _store.now) (option_copied instruction.entry)
+        (Input.Fresh content.now) process.now [] pid
+        (fresh_row pid process.now content.now (option_copied instruction.entry)) result }
 {
     match instruction {
         Some(Instruction::Fetch(name)) => Ok(Plan::Received(*name)),
@@ -109,8 +117,13 @@ pub(crate) fn stale<S: Look>(
     content: &Content,
 ) -> Result<Plan, Refusal>
     requires { IsSome instruction → process.now.place + 1 < 2 ^ 32 }
-    ensures quiet { IfOk result (λ plan. said_by (seen (S.look _store.now) (option_copied instruction.entry) (Input.Stale content.now) process.now plan) ≡ None) }
-    ensures row { PlansAfter (S.look _store.now) (option_copied instruction.entry) (Input.Stale content.now) process.now [] pid (stale_row pid process.now content.now (option_copied instruction.entry)) result }
+    ensures quiet { IfOk result
+        (λ plan. said_by
+        (seen (S.look _store.now) (option_copied instruction.entry) (Input.Stale content.now)
+        process.now plan) ≡ None) }
+    ensures row { PlansAfter (S.look _store.now) (option_copied instruction.entry)
+        (Input.Stale content.now) process.now [] pid
+        (stale_row pid process.now content.now (option_copied instruction.entry)) result }
 {
     match instruction {
         Some(Instruction::Store(name)) => Ok(Plan::Received(*name)),

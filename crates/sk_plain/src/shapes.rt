@@ -25,7 +25,8 @@ pub(crate) fn answered(number: u64) -> ProcessChange
 
 /// The same, with an error in r0.
 pub(crate) fn failed(error: Errno) -> ProcessChange
-    ensures { result ≡ ProcessChange.Does (Becomes.Gives 0 (vals.Num (neg_ℤ (pos (error_number error))))) }
+    ensures { result ≡ ProcessChange.Does
+        (Becomes.Gives 0 (vals.Num (neg_ℤ (pos (error_number error))))) }
 {
     given(Register::ANSWER, Val::Num(error.answer()))
 }
@@ -54,7 +55,8 @@ pub(crate) fn looked(change: ProcessChange, entity: Entity) -> Row
 
 /// The same after a name of a directory was looked at.
 pub(crate) fn looked_up(change: ProcessChange, directory: &ObjId, name: &Name) -> Row
-    ensures { result ≡ record { change = change; looks = Looks.AtName directory.now name.now; beside = Beside.Nothing } }
+    ensures { result ≡ record
+        { change = change; looks = Looks.AtName directory.now name.now; beside = Beside.Nothing } }
 {
     Row {
         change,
@@ -65,7 +67,12 @@ pub(crate) fn looked_up(change: ProcessChange, directory: &ObjId, name: &Name) -
 
 /// A name that was looked at is linked.
 pub(crate) fn linked(change: ProcessChange, directory: &ObjId, name: &Name, object: &ObjId) -> Row
-    ensures { result ≡ record { change = change; looks = Looks.AtName directory.now name.now; beside = Beside.One (Link directory.now name.now) (Writes.Linked object.now) } }
+    ensures { result ≡ record {
+      change = change;
+      looks = Looks.AtName directory.now name.now;
+      beside = Beside.One
+          (Link directory.now name.now) (Writes.Linked object.now);
+    } }
 {
     Row {
         change,
@@ -76,7 +83,12 @@ pub(crate) fn linked(change: ProcessChange, directory: &ObjId, name: &Name, obje
 
 /// A name that was looked at is taken out.
 pub(crate) fn unlinked(change: ProcessChange, directory: &ObjId, name: &Name) -> Row
-    ensures { result ≡ record { change = change; looks = Looks.AtName directory.now name.now; beside = Beside.Gone (Link directory.now name.now) } }
+    ensures { result ≡ record {
+      change = change;
+      looks = Looks.AtName directory.now name.now;
+      beside = Beside.Gone
+          (Link directory.now name.now);
+    } }
 {
     Row {
         change,
@@ -87,7 +99,8 @@ pub(crate) fn unlinked(change: ProcessChange, directory: &ObjId, name: &Name) ->
 
 /// An entity that was looked at is written too.
 pub(crate) fn changed(change: ProcessChange, entity: &Entity, writes: Writes) -> Row
-    ensures { result ≡ record { change = change; looks = Looks.At entity.now; beside = Beside.One entity.now writes } }
+    ensures { result ≡ record
+        { change = change; looks = Looks.At entity.now; beside = Beside.One entity.now writes } }
 {
     Row {
         change,
@@ -98,7 +111,8 @@ pub(crate) fn changed(change: ProcessChange, entity: &Entity, writes: Writes) ->
 
 /// An entity is written that was not looked at.
 pub(crate) fn wrote(change: ProcessChange, entity: Entity, writes: Writes) -> Row
-    ensures { result ≡ record { change = change; looks = Looks.Nowhere; beside = Beside.One entity writes } }
+    ensures { result ≡ record
+        { change = change; looks = Looks.Nowhere; beside = Beside.One entity writes } }
 {
     Row {
         change,

@@ -30,7 +30,12 @@ const KILLED: u8 = 137;
 
 /// The process alone becomes this.
 fn alone_does(becomes: Becomes) -> Plan
-    ensures { result ≡ Plan.Acts (record { change = ProcessChange.Does becomes; looks = Looks.Nowhere; beside = Beside.Nothing }) }
+    ensures { result ≡ Plan.Acts
+        (record {
+          change = ProcessChange.Does becomes;
+          looks = Looks.Nowhere;
+          beside = Beside.Nothing;
+        }) }
 {
     Plan::Acts(alone(ProcessChange::Does(becomes)))
 }
@@ -75,7 +80,8 @@ fn is_access(instruction: &Instruction) -> bool
 fn access<S: Look>(store: &S, pid: Pid, process: &Process, instruction: &Instruction) -> Row
     requires place { process.now.place + 1 < 2 ^ 32 }
     requires access { is_access instruction.now ≡ true }
-    ensures { PlansRow (S.look store.now) process.now pid (row pid process.now instruction.now) (Ok result) }
+    ensures { PlansRow (S.look store.now) process.now pid (row pid process.now instruction.now)
+        (Ok result) }
 {
     match instruction {
         Instruction::Read(file, at) => files::read(store, pid, process, *file, *at),
@@ -95,7 +101,8 @@ fn tabled<S: Look>(
     requires place { process.now.place + 1 < 2 ^ 32 }
     requires other { is_some (private_step process.now instruction.now) ≡ false }
     requires access { is_access instruction.now ≡ false }
-    ensures { PlansAfter (S.look store.now) (Some instruction.now) Input.None process.now [] pid (row pid process.now instruction.now) result }
+    ensures { PlansAfter (S.look store.now) (Some instruction.now) Input.None process.now [] pid
+        (row pid process.now instruction.now) result }
 {
     Ok(match instruction {
         Instruction::Handler(place) => alone_does(Becomes::Handler(*place)),
@@ -155,7 +162,8 @@ fn put_tabled<S: Look>(
     requires place { process.now.place + 1 < 2 ^ 32 }
     requires other { is_some (private_step process.now instruction.now) ≡ false }
     requires access { is_access instruction.now ≡ false }
-    ensures { PlansAfter (S.look store.now) (Some instruction.now) Input.None process.now [] pid (row pid process.now instruction.now) (told result plan.new) }
+    ensures { PlansAfter (S.look store.now) (Some instruction.now) Input.None process.now [] pid
+        (row pid process.now instruction.now) (told result plan.new) }
 {
     keep(plan, tabled(store, pid, process, instruction))
 }
@@ -171,7 +179,8 @@ fn acted<S: Look>(
 ) -> Result<(), Refusal>
     requires place { process.now.place + 1 < 2 ^ 32 }
     requires other { is_some (private_step process.now instruction.now) ≡ false }
-    ensures { PlansAfter (S.look store.now) (Some instruction.now) Input.None process.now [] pid (row pid process.now instruction.now) (told result plan.new) }
+    ensures { PlansAfter (S.look store.now) (Some instruction.now) Input.None process.now [] pid
+        (row pid process.now instruction.now) (told result plan.new) }
 {
     if is_access(instruction) {
         *plan = Plan::Acts(access(store, pid, process, instruction));
@@ -189,7 +198,8 @@ fn does<S: Look>(
     plan: &mut Plan,
 ) -> Result<(), Refusal>
     requires { IsSome instruction → process.now.place + 1 < 2 ^ 32 }
-    ensures { PlansAfter (S.look store.now) (option_copied instruction.entry) Input.None process.now [] pid (does pid process.now (option_copied instruction.entry)) (told result plan.new) }
+    ensures { PlansAfter (S.look store.now) (option_copied instruction.entry) Input.None process.now
+        [] pid (does pid process.now (option_copied instruction.entry)) (told result plan.new) }
 {
     let Some(instruction) = instruction else {
         *plan = Plan::Acts(ends(pid, 0));
@@ -213,7 +223,9 @@ fn handled<S: Look>(
 ) -> Result<(), Refusal>
     requires queue { S.look store.now (Sig pid) ≡ Some (stored.Value (values.Signals signals.now)) }
     requires small { IsSome instruction → process.now.place + 1 < 2 ^ 32 }
-    ensures { PlansAfter (S.look store.now) (option_copied instruction.entry) Input.None process.now [] pid (handled_row pid process.now (option_copied instruction.entry) signals.now process.now.handler process.now.saved) (told result plan.new) }
+    ensures { PlansAfter (S.look store.now) (option_copied instruction.entry) Input.None process.now
+        [] pid (handled_row pid process.now (option_copied instruction.entry) signals.now
+        process.now.handler process.now.saved) (told result plan.new) }
 {
     match (signals.as_slice(), process.handler, process.saved) {
         ([signal, ..], Some(handler), None) => {
@@ -240,7 +252,9 @@ fn signalled<S: Look>(
 ) -> Result<(), Refusal>
     requires queue { S.look store.now (Sig pid) ≡ Some (stored.Value (values.Signals signals.now)) }
     requires small { IsSome instruction → process.now.place + 1 < 2 ^ 32 }
-    ensures { PlansAfter (S.look store.now) (option_copied instruction.entry) Input.None process.now [] pid (due pid process.now (option_copied instruction.entry) signals.now) (told result plan.new) }
+    ensures { PlansAfter (S.look store.now) (option_copied instruction.entry) Input.None process.now
+        [] pid (due pid process.now (option_copied instruction.entry) signals.now)
+        (told result plan.new) }
 {
     if is_killed(signals.as_slice()) {
         *plan = Plan::Acts(ends(pid, KILLED));
@@ -258,7 +272,9 @@ fn with_signals<S: Look>(
     plan: &mut Plan,
 ) -> Result<(), Refusal>
     requires { IsSome instruction → process.now.place + 1 < 2 ^ 32 }
-    ensures { PlansAfter (S.look store.now) (option_copied instruction.entry) Input.None process.now [] pid (with_signals pid process.now (option_copied instruction.entry) (S.look store.now (Sig pid))) (told result plan.new) }
+    ensures { PlansAfter (S.look store.now) (option_copied instruction.entry) Input.None process.now
+        [] pid (with_signals pid process.now (option_copied instruction.entry)
+        (S.look store.now (Sig pid))) (told result plan.new) }
 {
     match store.value(Entity::Sig(pid)) {
         Some(EntityState::Value(Value::Signals(signals))) => match signals.as_slice() {
@@ -282,8 +298,14 @@ fn replied<S: Look>(
 ) -> Result<(), Refusal>
     requires reply { IsReply (input_in input) }
     requires small { IsSome instruction → process.now.place + 1 < 2 ^ 32 }
-    ensures row { PlansAfter (S.look store.now) (option_copied instruction.entry) (input_in input.entry) process.now [] pid (with_input pid process.now (option_copied instruction.entry) (input_in input.entry)) (told result plan.new) }
-    ensures quiet { IfOk (told result plan.new) (λ plan. said_by (seen (S.look store.now) (option_copied instruction.entry) (input_in input.entry) process.now plan) ≡ None) }
+    ensures row { PlansAfter (S.look store.now) (option_copied instruction.entry)
+        (input_in input.entry) process.now [] pid
+        (with_input pid process.now (option_copied instruction.entry) (input_in input.entry))
+        (told result plan.new) }
+    ensures quiet { IfOk (told result plan.new)
+        (λ plan. said_by
+        (seen (S.look store.now) (option_copied instruction.entry) (input_in input.entry)
+        process.now plan) ≡ None) }
 {
     match input {
         InputRef::Good => {
@@ -312,8 +334,15 @@ fn with_input<S: Look>(
     plan: &mut Plan,
 ) -> Result<(), Refusal>
     requires { IsSome instruction → process.now.place + 1 < 2 ^ 32 }
-    ensures row { PlansAfter (S.look store.now) (option_copied instruction.entry) (input_in input.entry) process.now (signals_read pid (input_in input.entry)) pid (with_input pid process.now (option_copied instruction.entry) (input_in input.entry)) (told result plan.new) }
-    ensures quiet { IsReply (input_in input.entry) → IfOk (told result plan.new) (λ plan. said_by (seen (S.look store.now) (option_copied instruction.entry) (input_in input.entry) process.now plan) ≡ None) }
+    ensures row { PlansAfter (S.look store.now) (option_copied instruction.entry)
+        (input_in input.entry) process.now (signals_read pid (input_in input.entry)) pid
+        (with_input pid process.now (option_copied instruction.entry) (input_in input.entry))
+        (told result plan.new) }
+    ensures quiet { IsReply (input_in input.entry)
+        → IfOk (told result plan.new)
+        (λ plan. said_by
+        (seen (S.look store.now) (option_copied instruction.entry) (input_in input.entry)
+        process.now plan) ≡ None) }
 {
     match input {
         InputRef::None => with_signals(store, pid, process, instruction, plan),
@@ -331,7 +360,9 @@ fn goes_alone<S: Look>(
     instruction: Option<&Instruction>,
     input: InputRef<'_>,
 ) -> bool
-    ensures { result ≡ true → IsAlone (S.look store.now) pid process.now (option_copied instruction.entry) (input_in input.entry) }
+    ensures { result ≡ true
+        → IsAlone (S.look store.now) pid process.now (option_copied instruction.entry)
+        (input_in input.entry) }
 {
     let (InputRef::None, Some(instruction)) = (input, instruction) else {
         return false;
@@ -360,8 +391,12 @@ pub fn plan_into<S: Look>(
     plan: &mut Plan,
 ) -> Result<(), Refusal>
     requires { plan.old ≡ Plan.Private }
-    ensures step { PlansStep (S.look store.now) scripts.now pid (input_in input.entry) (told result plan.new) }
-    ensures quiet { IsReply (input_in input.entry) → IfOk (told result plan.new) (λ plan. said_by (seen_with (S.look store.now) scripts.now pid (input_in input.entry) plan) ≡ None) }
+    ensures step { PlansStep (S.look store.now) scripts.now pid (input_in input.entry)
+        (told result plan.new) }
+    ensures quiet { IsReply (input_in input.entry)
+        → IfOk (told result plan.new)
+        (λ plan. said_by
+        (seen_with (S.look store.now) scripts.now pid (input_in input.entry) plan) ≡ None) }
 {
     let process = match store.value(Entity::Proc(pid)) {
         Some(EntityState::Process(process)) => process,
@@ -386,7 +421,10 @@ pub fn plan_step<S: Look>(
     input: InputRef<'_>,
 ) -> Result<Plan, Refusal>
     ensures step { PlansStep (S.look store.now) scripts.now pid (input_in input.entry) result }
-    ensures quiet { IsReply (input_in input.entry) → IfOk result (λ plan. said_by (seen_with (S.look store.now) scripts.now pid (input_in input.entry) plan) ≡ None) }
+    ensures quiet { IsReply (input_in input.entry)
+        → IfOk result
+        (λ plan. said_by
+        (seen_with (S.look store.now) scripts.now pid (input_in input.entry) plan) ≡ None) }
 {
     let mut plan = Plan::Private;
     match plan_into(store, scripts, pid, input, &mut plan) {

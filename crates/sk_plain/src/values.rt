@@ -58,7 +58,8 @@ pub(crate) fn who_at(process: &Process, register: Register) -> Option<Pid>
 
 /// The file that an object is, or the error of a row that is about one.
 pub(crate) fn file_at<'a, S: Look>(store: &'a S, object: &ObjId) -> Result<&'a File, Errno>
-    ensures ok { IfOk result (λ file. S.look store.now (Obj object.now) ≡ Some (stored.Value (values.File file.now))) }
+    ensures ok { IfOk result
+        (λ file. S.look store.now (Obj object.now) ≡ Some (stored.Value (values.File file.now))) }
     ensures err { IfErr result (λ error. file_in (S.look store.now (Obj object.now)) ≡ Err error) }
 {
     match store.value(Entity::Obj(*object)) {
@@ -92,7 +93,8 @@ pub(crate) fn target_at<S: Look>(store: &S, directory: &ObjId, name: &Name) -> O
 
 /// The pipe that an object is, or the error of a row that is about one.
 pub(crate) fn pipe_at<'a, S: Look>(store: &'a S, object: &ObjId) -> Result<&'a Pipe, Errno>
-    ensures ok { IfOk result (λ pipe. S.look store.now (Obj object.now) ≡ Some (stored.Value (values.Pipe pipe.now))) }
+    ensures ok { IfOk result
+        (λ pipe. S.look store.now (Obj object.now) ≡ Some (stored.Value (values.Pipe pipe.now))) }
     ensures err { IfErr result (λ error. pipe_in (S.look store.now (Obj object.now)) ≡ Err error) }
 {
     match store.value(Entity::Obj(*object)) {

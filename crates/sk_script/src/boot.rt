@@ -94,9 +94,20 @@ impl Model for Boot {
 
     ghost coded = { boot_code };
 
-    ghost view = { λ b. record { scripts = b.scripts; objects = b.objects.items; copies = b.copies.items; processes = b.processes.items } };
+    ghost view = { λ b. record {
+      scripts = b.scripts;
+      objects = b.objects.items;
+      copies = b.copies.items;
+      processes = b.processes.items;
+    } };
 
-    ghost invariant = { λ b. IsBoot (record { scripts = b.scripts; objects = b.objects.items; copies = b.copies.items; processes = b.processes.items }) };
+    ghost invariant = { λ b. IsBoot
+        (record {
+          scripts = b.scripts;
+          objects = b.objects.items;
+          copies = b.copies.items;
+          processes = b.processes.items;
+        }) };
 }
 
 impl Boot {
@@ -114,7 +125,8 @@ impl Boot {
 
     /// Declares a script. `Duplicate` where the name is a script's already.
     pub fn script(&mut self, name: Name, script: Script) -> Result<(), BootFault>
-        ensures { Declares result (script_fault self.old name) self.old (with_script self.old name script) self.new }
+        ensures { Declares result (script_fault self.old name) self.old
+            (with_script self.old name script) self.new }
     {
         if self.scripts.get(&name).is_some() {
             return Err(BootFault::Duplicate);
@@ -129,7 +141,8 @@ impl Boot {
         requires room { length self.old.objects < BOOT_OBJECTS }
         requires short { length bytes.now ≤ 512 }
         requires no_bytes { kind ≡ Dir → bytes.now ≡ [] }
-        ensures { Declares result (object_fault self.old name) self.old (with_object self.old name kind bytes.now) self.new }
+        ensures { Declares result (object_fault self.old name) self.old
+            (with_object self.old name kind bytes.now) self.new }
     {
         if self.has_object(&name) {
             return Err(BootFault::Duplicate);
@@ -143,7 +156,8 @@ impl Boot {
 
     /// Declares a cached copy. `Duplicate` where the name is a copy's already.
     pub fn copy(&mut self, name: Name, content: Content) -> Result<(), BootFault>
-        ensures { Declares result (copy_fault self.old name) self.old (with_copy self.old name content) self.new }
+        ensures { Declares result (copy_fault self.old name) self.old
+            (with_copy self.old name content) self.new }
     {
         if self.has_copy(&name) {
             return Err(BootFault::Duplicate);
@@ -157,7 +171,8 @@ impl Boot {
     pub fn process(&mut self, number: u16, script: &Name, terminal: u16) -> Result<(), BootFault>
         requires number { 0 < number }
         requires terminal { 0 < terminal }
-        ensures { Declares result (process_fault self.old number script.now) self.old (with_process self.old number script.now terminal) self.new }
+        ensures { Declares result (process_fault self.old number script.now) self.old
+            (with_process self.old number script.now terminal) self.new }
     {
         if self.has_process(number) {
             return Err(BootFault::Duplicate);

@@ -25,7 +25,8 @@ impl Model for Lease {
 
     ghost coded = { lease_code };
 
-    ghost view = { λ l. record { lent = l.lent; script = arc_value l.script; count = l.count; now = l.current } };
+    ghost view = { λ l. record
+        { lent = l.lent; script = arc_value l.script; count = l.count; now = l.current } };
 
     ghost invariant = { λ l. after_private (arc_value l.script) l.count l.lent ≡ Some l.current };
 }

@@ -111,7 +111,8 @@ impl Model for Reading {
 
     ghost coded = { state_code };
 
-    ghost view = { λ r. record { all = r.all; declared = r.declared; instructions = r.instructions.items } };
+    ghost view = { λ r. record
+        { all = r.all; declared = r.declared; instructions = r.instructions.items } };
 
     ghost invariant = { λ r. length r.instructions.items ≤ INSTRUCTIONS };
 }
@@ -163,7 +164,8 @@ impl Script {
 
     /// The script that these lines say, or their first faulty line.
     pub fn parse_lines(alloc: Global, lines: &Cursor) -> Result<Script, Fault>
-        ensures { Parses result (script_from (lines.now.line + 1) lines.now.lines) (lines.now.line + 1) (last_line lines.now) }
+        ensures { Parses result (script_from (lines.now.line + 1) lines.now.lines)
+            (lines.now.line + 1) (last_line lines.now) }
     {
         let Ok(all) = labels_of(alloc, lines) else {
             return Err(Fault {

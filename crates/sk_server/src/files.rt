@@ -111,10 +111,15 @@ impl Files {
     /// Does what an answer means: a store that is accepted is a write. Only a new file can want
     /// memory; then nothing has changed.
     pub(crate) fn take(&mut self, ask: &AskRef<'_>, verdict: Verdict) -> Result<(), AllocError>
-        requires { said self.old (ask_in ask.now) verdict ≡ Yes → judged self.old (ask_in ask.now) ≡ Yes }
-        ensures ok { OnOk result (self.new ≡ files_after self.old (ask_in ask.now) (said self.old (ask_in ask.now) verdict)) }
+        requires { said self.old (ask_in ask.now) verdict ≡ Yes
+            → judged self.old (ask_in ask.now) ≡ Yes }
+        ensures ok { OnOk result
+            (self.new ≡ files_after self.old (ask_in ask.now)
+            (said self.old (ask_in ask.now) verdict)) }
         ensures err { OnErr result (self.new ≡ self.old) }
-        ensures added { OnErr result ((said self.old (ask_in ask.now) verdict ≡ Yes) × (is_new_file self.old (ask_in ask.now) ≡ true)) }
+        ensures added { OnErr result
+            ((said self.old (ask_in ask.now) verdict ≡ Yes)
+            × (is_new_file self.old (ask_in ask.now) ≡ true)) }
     {
         match (ask, verdict) {
             (AskRef::Store(name, expected, bytes), Verdict::Yes) => {

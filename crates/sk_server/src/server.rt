@@ -99,7 +99,8 @@ impl Server {
     /// Sets a file before the first request. Without memory everything is as it was.
     pub fn seed(&mut self, name: Name, content: Content) -> Result<(), AllocError>
         requires { self.old.next ≡ 1 }
-        ensures ok { OnOk result (self.new ≡ record self.old { files = map.insert self.old.files name content }) }
+        ensures ok { OnOk result
+            (self.new ≡ record self.old { files = map.insert self.old.files name content }) }
         ensures err { OnErr result (self.new ≡ self.old) }
         ensures absent { OnErr result (map.get self.old.files name ≡ None) }
     {
@@ -132,7 +133,8 @@ impl Server {
         replies: &mut VecDeque<Reply>,
     ) -> Result<(), ServerRefusal>
         requires { length replies.old.items < deque_capacity replies.old }
-        ensures { AnswersBehind self.old replies.old.items (request_in request.now) result self.new replies.new.items }
+        ensures { AnswersBehind self.old replies.old.items (request_in request.now) result self.new
+            replies.new.items }
     {
         let verdict = self.decide(request)?;
         let answer = self.answer_of(&request.ask, verdict);
@@ -203,7 +205,8 @@ impl Server {
 
     /// Whether a request rests on a guess that was refused and that it can still rest on.
     fn is_dropped(&self, request: &RequestRef<'_>) -> bool
-        ensures { result ≡ is_dropped (request_in request.now) (remembered (request_in request.now) self.now.refused) }
+        ensures { result ≡ is_dropped (request_in request.now)
+            (remembered (request_in request.now) self.now.refused) }
     {
         self.refused.iter().any(|guess| is_open(*guess, request.settled)
             && request.rests.contains(*guess))
@@ -211,7 +214,8 @@ impl Server {
 
     /// The answer where nothing refused is rested on.
     fn judge(&self, ask: &AskRef<'_>) -> Verdict
-        ensures { said self.now.files (ask_in ask.now) result ≡ judged self.now.files (ask_in ask.now) }
+        ensures { said self.now.files (ask_in ask.now) result
+            ≡ judged self.now.files (ask_in ask.now) }
     {
         match ask {
             AskRef::Get(_) => Verdict::Copy,
@@ -231,7 +235,8 @@ impl Server {
     }
 
     fn verdict(&self, request: &RequestRef<'_>) -> Verdict
-        ensures { said self.now.files (ask_in request.now.ask) result ≡ answer_to self.now (request_in request.now) }
+        ensures { said self.now.files (ask_in request.now.ask) result
+            ≡ answer_to self.now (request_in request.now) }
     {
         if self.is_dropped(request) {
             return Verdict::Dropped;
@@ -243,10 +248,15 @@ impl Server {
     #[tactic(auto, using(crate::proofs::Judged::takes))]
     fn take(&mut self, request: &RequestRef<'_>, verdict: Verdict) -> Result<(), AllocError>
         requires turn { is_in_turn self.old (request_in request.now) ≡ true }
-        requires answer { said self.old.files (ask_in request.now.ask) verdict ≡ answer_to self.old (request_in request.now) }
-        ensures ok { OnOk result (self.new ≡ answered self.old (request_in request.now) (said self.old.files (ask_in request.now.ask) verdict)) }
+        requires answer { said self.old.files (ask_in request.now.ask) verdict
+            ≡ answer_to self.old (request_in request.now) }
+        ensures ok { OnOk result
+            (self.new ≡ answered self.old (request_in request.now)
+            (said self.old.files (ask_in request.now.ask) verdict)) }
         ensures err { OnErr result (self.new ≡ self.old) }
-        ensures added { OnErr result (adds self.old (request_in request.now) (said self.old.files (ask_in request.now.ask) verdict) ≡ true) }
+        ensures added { OnErr result
+            (adds self.old (request_in request.now)
+            (said self.old.files (ask_in request.now.ask) verdict) ≡ true) }
     {
         make_room(&mut self.refused, refused_by(request.guess, verdict))?;
         self.files.take(&request.ask, verdict)?;
@@ -267,7 +277,8 @@ fn is_open(guess: GuessId, settled: u64) -> bool
 /// Makes room for the guess that an answer refuses, if there is one.
 fn make_room(refused: &mut Vec<GuessId>, guess: Option<GuessId>) -> Result<(), AllocError>
     ensures items { refused.new.items ≡ refused.old.items }
-    ensures room { OnOk result (is_some guess ≡ true → vec_len refused.new < vec_capacity refused.new) }
+    ensures room { OnOk result
+        (is_some guess ≡ true → vec_len refused.new < vec_capacity refused.new) }
     ensures wanted { OnErr result (is_some guess ≡ true) }
 {
     if guess.is_some() {
@@ -280,7 +291,8 @@ fn make_room(refused: &mut Vec<GuessId>, guess: Option<GuessId>) -> Result<(), A
 /// that its answer refuses, for which there is room.
 fn remember(refused: &mut Vec<GuessId>, request: &RequestRef<'_>, guess: Option<GuessId>)
     requires { is_some guess ≡ true → vec_len refused.old < vec_capacity refused.old }
-    ensures { refused.new.items ≡ remembered (request_in request.now) refused.old.items ++ listed guess }
+    ensures { refused.new.items
+        ≡ remembered (request_in request.now) refused.old.items ++ listed guess }
 {
     refused.retain(|guess| is_open(*guess, request.settled));
     if let Some(guess) = guess {

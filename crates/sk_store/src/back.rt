@@ -53,9 +53,12 @@ fn change_back(store: &mut Store, entity: &Entity, undo: Undo)
 /// Changes a value where it stands. Without memory nothing has changed.
 fn change_in(store: &mut Store, entity: &Entity, change: Change) -> Result<Undo, AllocError>
     requires { FitsAt (map.get store.old entity.now) change }
-    ensures ok { OnOk result (store.new ≡ map.insert store.old entity.now (changed (map.get store.old entity.now) change)) }
+    ensures ok { OnOk result
+        (store.new ≡ map.insert store.old entity.now
+        (changed (map.get store.old entity.now) change)) }
     ensures can { IfOk result (λ undo. CanPutBack store.new entity.now (PutBack.Changed undo)) }
-    ensures back { IfOk result (λ undo. put_back_at store.new entity.now (PutBack.Changed undo) ≡ store.old) }
+    ensures back { IfOk result
+        (λ undo. put_back_at store.new entity.now (PutBack.Changed undo) ≡ store.old) }
     ensures err { OnErr result (store.new ≡ store.old) }
 {
     let alloc = store.alloc();
@@ -72,7 +75,9 @@ fn change_in(store: &mut Store, entity: &Entity, change: Change) -> Result<Undo,
 /// changed.
 fn change_alone_in(store: &mut Store, entity: &Entity, change: &Change) -> Result<(), AllocError>
     requires { FitsAt (map.get store.old entity.now) change.now }
-    ensures ok { OnOk result (store.new ≡ map.insert store.old entity.now (changed (map.get store.old entity.now) change.now)) }
+    ensures ok { OnOk result
+        (store.new ≡ map.insert store.old entity.now
+        (changed (map.get store.old entity.now) change.now)) }
     ensures err { OnErr result (store.new ≡ store.old) }
 {
     let alloc = store.alloc();
@@ -88,7 +93,8 @@ fn change_alone_in(store: &mut Store, entity: &Entity, change: &Change) -> Resul
 /// Changes a process where it stands, which takes no memory.
 fn become_in<C: Becoming>(store: &mut Store, pid: Pid, by: &C)
     requires { CanBecome (C.can by.now) (map.get store.old (Proc pid)) }
-    ensures { store.new ≡ map.insert store.old (Proc pid) (became (C.after by.now) (map.get store.old (Proc pid))) }
+    ensures { store.new ≡ map.insert store.old (Proc pid)
+        (became (C.after by.now) (map.get store.old (Proc pid))) }
 {
     match store.get_mut(&Entity::Proc(pid)) {
         Some(stored) => stored.become_by(by),
@@ -107,7 +113,10 @@ fn change_both<C: Becoming>(
     requires fits { FitsAt (map.get store.old entity.now) change.now }
     requires can { CanBecome (C.can by.now) (map.get store.old (Proc pid)) }
     requires apart { eq_by_cmp entity_cmp (Proc pid) entity.now ≡ false }
-    ensures ok { OnOk result (store.new ≡ map.insert (map.insert store.old entity.now (changed (map.get store.old entity.now) change.now)) (Proc pid) (became (C.after by.now) (map.get store.old (Proc pid)))) }
+    ensures ok { OnOk result
+        (store.new ≡ map.insert
+        (map.insert store.old entity.now (changed (map.get store.old entity.now) change.now))
+        (Proc pid) (became (C.after by.now) (map.get store.old (Proc pid)))) }
     ensures err { OnErr result (store.new ≡ store.old) }
 {
     change_alone_in(store, entity, change)?;

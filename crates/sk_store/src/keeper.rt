@@ -51,7 +51,8 @@ pub trait Keeper: Look {
     /// Changes the value of an entity. Without memory nothing has changed.
     fn change(&mut self, entity: Entity, change: Change) -> Result<Self::Back, AllocError>
         requires { FitsAt (Self.look self.old entity) change }
-        ensures ok { OnOk result (self.new ≡ wrote self.old entity (Some (changed (Self.look self.old entity) change))) }
+        ensures ok { OnOk result
+            (self.new ≡ wrote self.old entity (Some (changed (Self.look self.old entity) change))) }
         ensures can { IfOk result (λ back. can_take_back self.new back) }
         ensures back { IfOk result (λ back. taken_back self.new back ≡ self.old) }
         ensures err { OnErr result (self.new ≡ self.old) };
@@ -60,7 +61,9 @@ pub trait Keeper: Look {
     /// changed.
     fn change_process<C: Becoming>(&mut self, pid: Pid, by: &C) -> Result<(), AllocError>
         requires { CanBecome (C.can by.now) (Self.look self.old (Proc pid)) }
-        ensures ok { OnOk result (self.new ≡ wrote self.old (Proc pid) (Some (became (C.after by.now) (Self.look self.old (Proc pid))))) }
+        ensures ok { OnOk result
+            (self.new ≡ wrote self.old (Proc pid)
+            (Some (became (C.after by.now) (Self.look self.old (Proc pid))))) }
         ensures err { OnErr result (self.new ≡ self.old) };
 
     /// Whether nothing is noted of a write of a process, so that it wants no memory.
@@ -80,7 +83,11 @@ pub trait Keeper: Look {
         requires fits { FitsAt (Self.look self.old entity.now) change.now }
         requires can { CanBecome (C.can by.now) (Self.look self.old (Proc pid)) }
         requires apart { eq_by_cmp entity_cmp (Proc pid) entity.now ≡ false }
-        ensures ok { OnOk result (self.new ≡ wrote (wrote self.old entity.now (Some (changed (Self.look self.old entity.now) change.now))) (Proc pid) (Some (became (C.after by.now) (Self.look self.old (Proc pid))))) }
+        ensures ok { OnOk result
+            (self.new ≡ wrote
+            (wrote self.old entity.now
+            (Some (changed (Self.look self.old entity.now) change.now))) (Proc pid)
+            (Some (became (C.after by.now) (Self.look self.old (Proc pid))))) }
         ensures err { OnErr result (self.new ≡ self.old) };
 
     /// Makes an entity absent, as the last write of a step. Without memory nothing has changed.
@@ -94,5 +101,6 @@ pub trait Keeper: Look {
         ensures { self.new ≡ taken_back self.old back };
 
     /// A write leaves all other entities as they are.
-    ghost others: { (k : Self) (e q : Entity) (v : Option EntityState) → eq_by_cmp entity_cmp q e ≡ false → Self.look (wrote k e v) q ≡ Self.look k q };
+    ghost others: { (k : Self) (e q : Entity) (v : Option EntityState)
+        → eq_by_cmp entity_cmp q e ≡ false → Self.look (wrote k e v) q ≡ Self.look k q };
 }

@@ -87,7 +87,9 @@ impl Numbered {
 
     /// A guess is committed at one terminal.
     fn commit_at(&mut self, number: u16, id: GuessId)
-        ensures { (t : ℕ) → map.get self.new t ≡ (if number == t then option_map (lightened id) (map.get self.old t) else map.get self.old t) }
+        ensures { (t : ℕ) → map.get self.new t
+            ≡ (if number == t then option_map (lightened id) (map.get self.old t) else map.get
+            self.old t) }
     {
         if let Some(terminal) = self.terminals.get_mut(&number) {
             terminal.commit(id);
@@ -96,7 +98,9 @@ impl Numbered {
 
     /// A guess is committed at these terminals. This takes no memory.
     pub(crate) fn commit(&mut self, numbers: &[u16], id: GuessId)
-        ensures { (t : ℕ) → map.get self.new t ≡ (if has t numbers.now then option_map (lightened id) (map.get self.old t) else map.get self.old t) }
+        ensures { (t : ℕ) → map.get self.new t
+            ≡ (if has t numbers.now then option_map (lightened id) (map.get self.old t) else
+            map.get self.old t) }
     {
         for number in numbers {
             self.commit_at(*number, id);
@@ -105,7 +109,9 @@ impl Numbered {
 
     /// Throws away the texts of one terminal that rest on a guess.
     fn drop_at(&mut self, number: u16, id: GuessId)
-        ensures { (t : ℕ) → map.get self.new t ≡ (if number == t then option_map (not_dropped id) (map.get self.old t) else map.get self.old t) }
+        ensures { (t : ℕ) → map.get self.new t
+            ≡ (if number == t then option_map (not_dropped id) (map.get self.old t) else map.get
+            self.old t) }
     {
         if let Some(terminal) = self.terminals.get_mut(&number) {
             terminal.drop_of(id);
@@ -114,7 +120,9 @@ impl Numbered {
 
     /// Throws away the texts of these terminals that rest on a guess. This takes no memory.
     pub(crate) fn drop_of(&mut self, numbers: &[u16], id: GuessId)
-        ensures { (t : ℕ) → map.get self.new t ≡ (if has t numbers.now then option_map (not_dropped id) (map.get self.old t) else map.get self.old t) }
+        ensures { (t : ℕ) → map.get self.new t
+            ≡ (if has t numbers.now then option_map (not_dropped id) (map.get self.old t) else
+            map.get self.old t) }
     {
         for number in numbers {
             self.drop_at(*number, id);

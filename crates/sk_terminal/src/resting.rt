@@ -34,8 +34,10 @@ fn is_of_another(list: &Resting, guess: GuessId) -> bool
 
 /// Takes out the list of a guess.
 pub(crate) fn take_list(lists: &mut Vec<Resting>, guess: GuessId) -> Option<Vec<u16>>
-    ensures taken { MatchOption result (listed_for guess lists.old.items ≡ []) (λ numbers. numbers.items ≡ listed_for guess lists.old.items) }
-    ensures others { (g : ℕ) → (guess == g) ≡ false → listed_for g lists.new.items ≡ listed_for g lists.old.items }
+    ensures taken { MatchOption result (listed_for guess lists.old.items ≡ [])
+        (λ numbers. numbers.items ≡ listed_for guess lists.old.items) }
+    ensures others { (g : ℕ) → (guess == g) ≡ false
+        → listed_for g lists.new.items ≡ listed_for g lists.old.items }
 {
     let place = place_of(lists.as_slice(), guess);
     if place >= lists.len() {
@@ -93,7 +95,8 @@ pub(crate) fn list(
 ) -> Result<(), AllocError>
     requires { AllListed numbered.now lists.old.items }
     ensures kept { StayListed lists.old.items lists.new.items }
-    ensures listed { OnOk result ((g : ℕ) → has g tags.now ≡ true → has number (listed_for g lists.new.items) ≡ true) }
+    ensures listed { OnOk result
+        ((g : ℕ) → has g tags.now ≡ true → has number (listed_for g lists.new.items) ≡ true) }
 {
     for guess in tags.ids() {
         list_once(alloc, lists, numbered, *guess, number)?;
@@ -104,7 +107,8 @@ pub(crate) fn list(
 /// Where the terminals begin that stand last and at which nothing rests on the guess any more.
 fn stale_from(numbers: &[u16], numbered: &Numbered, guess: GuessId) -> usize
     ensures within { result ≤ length numbers.now }
-    ensures stale { list_all (λ t. not (rests_at guess numbered.now t)) (drop result numbers.now) ≡ true }
+    ensures stale { list_all (λ t. not (rests_at guess numbered.now t)) (drop result numbers.now)
+        ≡ true }
     ensures none { NoneRests guess numbered.now → result ≡ 0 }
 {
     let mut from = numbers.len();
@@ -118,7 +122,8 @@ fn stale_from(numbers: &[u16], numbered: &Numbered, guess: GuessId) -> usize
 /// nothing rests on the guess any more. Answers whether anything is left.
 fn refresh(list: &mut Resting, numbered: &Numbered, failed: GuessId) -> bool
     ensures guess { list.new.guess ≡ list.old.guess }
-    ensures kept { StayResting numbered.now list.old.guess list.old.terminals.items list.new.terminals.items }
+    ensures kept { StayResting numbered.now list.old.guess list.old.terminals.items
+        list.new.terminals.items }
     ensures some { (t : ℕ) → has t list.new.terminals.items ≡ true → result ≡ true }
     ensures gone { failed < list.old.guess → NoneRests list.old.guess numbered.now → result ≡ false }
 {
@@ -133,7 +138,8 @@ fn refresh(list: &mut Resting, numbered: &Numbered, failed: GuessId) -> bool
 pub(crate) fn forget(lists: &mut Vec<Resting>, numbered: &Numbered, failed: GuessId)
     requires { AllListed numbered.now lists.old.items }
     ensures kept { AllListed numbered.now lists.new.items }
-    ensures gone { (g : ℕ) → failed < g → NoneRests g numbered.now → listed_for g lists.new.items ≡ [] }
+    ensures gone { (g : ℕ) → failed < g → NoneRests g numbered.now
+        → listed_for g lists.new.items ≡ [] }
 {
     lists.retain_mut(|list: &mut Resting| refresh(list, numbered, failed));
 }

@@ -57,7 +57,9 @@ impl Model for Terminal {
 
     ghost view = { λ a. map clear a.out.items ++ texts_of a.waiting.items };
 
-    ghost invariant = { λ a. (released (texts_of a.waiting.items) ≡ []) × (length a.out.items + length a.waiting.items ≤ vec_capacity a.out) × AreBounded 0 a.waiting.items a.newest };
+    ghost invariant = { λ a. (released (texts_of a.waiting.items) ≡ [])
+        × (length a.out.items + length a.waiting.items ≤ vec_capacity a.out)
+        × AreBounded 0 a.waiting.items a.newest };
 }
 
 impl PartialEq for Terminal {
@@ -173,10 +175,12 @@ fn newest_of(newest: u64, tags: &TagSet) -> u64
 /// Releases the texts before the first that rests on a guess, into room that is there.
 fn release(out: &mut Vec<Text>, waiting: &mut Vec<Held>)
     requires { length out.old.items + length waiting.old.items ≤ vec_capacity out.old }
-    ensures texts { map clear out.new.items ++ texts_of waiting.new.items ≡ map clear out.old.items ++ texts_of waiting.old.items }
+    ensures texts { map clear out.new.items ++ texts_of waiting.new.items
+        ≡ map clear out.old.items ++ texts_of waiting.old.items }
     ensures held { released (texts_of waiting.new.items) ≡ [] }
     ensures room { length out.new.items + length waiting.new.items ≤ vec_capacity out.new }
-    ensures bounds { (high : ℕ) → AreBounded 0 waiting.old.items high → AreBounded 0 waiting.new.items high }
+    ensures bounds { (high : ℕ) → AreBounded 0 waiting.old.items high
+        → AreBounded 0 waiting.new.items high }
 {
     let count = clear_count(waiting.as_slice());
     if count > 0 {
@@ -219,7 +223,8 @@ fn drop_front(texts: &mut Vec<Held>, count: usize)
 
 /// Whether one of the texts rests on a guess.
 fn any_rest_on(texts: &[Held], id: GuessId) -> bool
-    ensures { (high : ℕ) → AreBounded 0 texts.now high → result ≡ list_any (λ h. has id h.said.1) texts.now }
+    ensures { (high : ℕ) → AreBounded 0 texts.now high
+        → result ≡ list_any (λ h. has id h.said.1) texts.now }
 {
     let mut place = texts.len();
     while place > 0 && texts[place - 1].newest >= id.number() {
@@ -233,8 +238,10 @@ fn any_rest_on(texts: &[Held], id: GuessId) -> bool
 
 /// Takes a guess from the texts that may rest on it.
 fn take_out(texts: &mut Vec<Held>, id: GuessId)
-    ensures texts { (high : ℕ) → AreBounded 0 texts.old.items high → texts_of texts.new.items ≡ lightened id (texts_of texts.old.items) }
-    ensures bounds { (high : ℕ) → AreBounded 0 texts.old.items high → AreBounded 0 texts.new.items high }
+    ensures texts { (high : ℕ) → AreBounded 0 texts.old.items high
+        → texts_of texts.new.items ≡ lightened id (texts_of texts.old.items) }
+    ensures bounds { (high : ℕ) → AreBounded 0 texts.old.items high
+        → AreBounded 0 texts.new.items high }
     ensures as_many { length texts.new.items ≡ length texts.old.items }
 {
     let mut before = texts.as_slice().len();
@@ -259,7 +266,8 @@ fn resting_from(texts: &[Held], id: GuessId) -> usize
 /// Whether a text before this place may rest on a guess.
 fn may_rest_before(texts: &[Held], place: usize, id: GuessId) -> bool
     requires { place ≤ length texts.now }
-    ensures { (high : ℕ) → AreBounded 0 texts.now high → result ≡ false → list_any (λ h. has id h.said.1) (take place texts.now) ≡ false }
+    ensures { (high : ℕ) → AreBounded 0 texts.now high → result ≡ false
+        → list_any (λ h. has id h.said.1) (take place texts.now) ≡ false }
 {
     if place == 0 {
         return false;
@@ -273,8 +281,10 @@ fn may_rest_before(texts: &[Held], place: usize, id: GuessId) -> bool
 /// Throws away the texts that rest on a guess. Those that stand last go at once, without a look at those
 /// that were said before it was drawn.
 fn throw_away(texts: &mut Vec<Held>, id: GuessId)
-    ensures texts { (high : ℕ) → AreBounded 0 texts.old.items high → texts_of texts.new.items ≡ not_dropped id (texts_of texts.old.items) }
-    ensures bounds { (high : ℕ) → AreBounded 0 texts.old.items high → AreBounded 0 texts.new.items high }
+    ensures texts { (high : ℕ) → AreBounded 0 texts.old.items high
+        → texts_of texts.new.items ≡ not_dropped id (texts_of texts.old.items) }
+    ensures bounds { (high : ℕ) → AreBounded 0 texts.old.items high
+        → AreBounded 0 texts.new.items high }
     ensures fewer { length texts.new.items ≤ length texts.old.items }
 {
     let from = resting_from(texts.as_slice(), id);

@@ -91,7 +91,8 @@ impl Terminals {
 
     /// A guess is committed: no text rests on it any more. This takes no memory.
     pub fn commit(&mut self, id: GuessId)
-        ensures terminals { (t : ℕ) → map.get self.new t ≡ option_map (lightened id) (map.get self.old t) }
+        ensures terminals { (t : ℕ) → map.get self.new t
+            ≡ option_map (lightened id) (map.get self.old t) }
         ensures texts { (t : ℕ) → texts_at self.new t ≡ lightened id (texts_at self.old t) }
     {
         if let Some(numbers) = take_list(&mut self.lists, id) {
@@ -101,7 +102,8 @@ impl Terminals {
 
     /// Throws away the texts that rest on a guess. This takes no memory.
     pub fn drop_of(&mut self, id: GuessId)
-        ensures terminals { (t : ℕ) → map.get self.new t ≡ option_map (not_dropped id) (map.get self.old t) }
+        ensures terminals { (t : ℕ) → map.get self.new t
+            ≡ option_map (not_dropped id) (map.get self.old t) }
         ensures texts { (t : ℕ) → texts_at self.new t ≡ not_dropped id (texts_at self.old t) }
     {
         throw_away(&mut self.numbered, &mut self.lists, id);
@@ -112,9 +114,11 @@ impl Terminals {
 /// struck.
 fn throw_away(numbered: &mut Numbered, lists: &mut Vec<Resting>, id: GuessId)
     requires { AllListed numbered.old lists.old.items }
-    ensures terminals { (t : ℕ) → map.get numbered.new t ≡ option_map (not_dropped id) (map.get numbered.old t) }
+    ensures terminals { (t : ℕ) → map.get numbered.new t
+        ≡ option_map (not_dropped id) (map.get numbered.old t) }
     ensures listed { AllListed numbered.new lists.new.items }
-    ensures gone { IsListed id lists.old.items → (g : ℕ) → id < g → NoneRests g numbered.new → listed_for g lists.new.items ≡ [] }
+    ensures gone { IsListed id lists.old.items → (g : ℕ) → id < g → NoneRests g numbered.new
+        → listed_for g lists.new.items ≡ [] }
 {
     if let Some(numbers) = take_list(lists, id) {
         numbered.drop_of(numbers.as_slice(), id);

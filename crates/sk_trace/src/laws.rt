@@ -17,5 +17,6 @@ pub fn trace_is_read_again(trace: &Trace)
 /// The text of events within their limits says these events, and is that of no others.
 pub fn texts()
     ensures again { (es : List Event) → All IsEvent es → trace_of (trace_text es) ≡ Ok es }
-    ensures once { (ds es : List Event) → All IsEvent ds → All IsEvent es → trace_text ds ≡ trace_text es → ds ≡ es }
+    ensures once { (ds es : List Event) → All IsEvent ds → All IsEvent es
+        → trace_text ds ≡ trace_text es → ds ≡ es }
 {}

@@ -30,7 +30,8 @@ impl Model for Trace {
 
     ghost coded = { trace_code };
 
-    ghost view = { λ t. record { events = t.events.items; room = vec_capacity t.events - vec_len t.events } };
+    ghost view = { λ t. record
+        { events = t.events.items; room = vec_capacity t.events - vec_len t.events } };
 
     ghost invariant = { λ t. All IsEvent t.events.items };
 }
@@ -54,7 +55,8 @@ impl Trace {
 
     /// The trace that the lines left of a text say, or the first of them that is faulty.
     pub fn read(alloc: Global, lines: &Cursor) -> Result<Trace, Fault>
-        ensures { Says result (trace_from (lines.now.line + 1) lines.now.lines) (lines.now.line + 1) (last_line lines.now) }
+        ensures { Says result (trace_from (lines.now.line + 1) lines.now.lines) (lines.now.line + 1)
+            (last_line lines.now) }
     {
         let events = read(Items::<EventRules>::new(alloc), lines)?;
         Ok(Trace {

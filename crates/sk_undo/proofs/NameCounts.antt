@@ -1,5 +1,5 @@
 -- How many names each directory has, after one entity was written.
-use Rattle.std.proofs.Common.{◌≡◌, ◌≤◌, ℕ, zero, suc, ◌+◌, ◌-◌, Bool, true, false, not, cond, ◌&&◌, ◌||◌, List, [], ◌∷◌, length, Option, Some, None, Result, Ok, Err, refl, sym, ◌∙◌, ap, subst, arith}
+use Rattle.std.proofs.Common.{◌≡◌, ◌≤◌, ℕ, zero, suc, ◌+◌, ◌-◌, Bool, true, false, not, cond, ◌&&◌, ◌||◌, List, [], ◌∷◌, Option, Some, None, Result, Ok, Err, refl, sym, ◌∙◌, ap, subst, arith}
 use Rattle.std.specs.Prelude.{is_some, OnOk, OnErr}
 use Rattle.std.specs.Option.{unwrap_or}
 use Rattle.std.specs.declared.cmp.Ordering.{Ordering}
@@ -9,18 +9,17 @@ use Rattle.std.specs.Cmp.{IsTotalOrder, Equal-is, eq_by_cmp_equiv, tied_itself}
 use Rattle.std.specs.Cmp.Lexicographic.{nat_list_cmp_total}
 use Rattle.std.specs.List.{list_any}
 use Rattle.std.specs.FinMap as map
-use Rattle.std.specs.FinMap.{IsAntisymmetric}
 use Rattle.std.specs.FinSet.{FinSet, contains, items, remove, len, empty, contains-items, contains-empty, contains-remove, len-empty, len-remove, same_set}
 use Rattle.std.proofs.lemmas.Bool.{true≢false}
 use Rattle.std.proofs.lemmas.Map.Lookups.{exact_bytes}
 use Rattle.sk_ids.specs.Name.{name_order}
 use Rattle.sk_ids.specs.Entity.{entity_cmp, object_cmp}
 use Rattle.sk_ids.specs.declared.pid.ObjId.{ObjId}
-use Rattle.sk_ids.specs.contracts.pid.ObjIdOrd.TheImpl as object_ord
 use Rattle.sk_ids.specs.contracts.pid.ObjIdOrd.TheImpl.Laws.{total-law}
 use Rattle.sk_ids.specs.declared.entity.Entity.{Entity}
 use Rattle.sk_ids.specs.declared.entity.Entity.TheVariants.{Proc, Sig, Exit, Obj, Link, Copy}
 use Rattle.sk_ids.proofs.Entities.{entity_total, entity_exact}
+use Rattle.sk_map.specs.KeyLemma.{object_same, object_exact}
 use Rattle.sk_store.specs.Names.{IsCount, name_there}
 use Rattle.sk_store.proofs.Names.{one_more, one_less, as_many}
 use Rattle.sk_store.specs.declared.entity_state.EntityState.{EntityState}
@@ -42,29 +41,10 @@ names_total = nat_list_cmp_total
 object_itself : (d : ObjId) → object_cmp d d ≡ Equal
 object_itself d = tied_itself entity_total (Obj d)
 
-abbrev object_of : ObjId → Entity → ObjId
-object_of d (Proc p) = d
-object_of d (Sig p) = d
-object_of d (Exit p) = d
-object_of d (Obj u) = u
-object_of d (Link u n) = d
-object_of d (Copy n) = d
-
--- directories that compare alike are one
-pub object_exact : IsAntisymmetric object_cmp
-object_exact d o h = ap (object_of d) (entity_exact (Obj d) (Obj o) h)
-
 object_is : (d o : ObjId) → eq_by_cmp object_cmp d o ≡ true → d ≡ o
 object_is d o is = object_exact d o ((Equal-is (object_cmp d o)).0 is)
 
-computed_is : (a b : ObjId) → (object_ord.ghosts).cmp a b ≡ object_cmp a b
-computed_is a b = refl
-
--- what the derive computes
-pub object_same : (object_ord.ghosts).cmp ≡ object_cmp
-object_same i a b = computed_is a b i
-
-pub object_total : IsTotalOrder object_cmp
+object_total : IsTotalOrder object_cmp
 object_total = subst IsTotalOrder object_same total-law
 
 -- ---- names of one directory, and of another
@@ -128,27 +108,13 @@ has_slot m e h = seen_there (map.get m e) h
 pub few_names : (m : SlotMap) (d : ObjId) (n : ℕ) → IsCount (name_there (look_at m)) d n → n ≤ map.len m
 few_names m d n a = within d n a.names m a.count (λ q inside. has_slot m (Link d q) (sym (a.all q) ∙ inside))
 
-pub few_for : (m : SlotMap) (names : NameMap) (e : Entity) (most : ℕ) → IsCounted m names → map.len m ≤ most → count_for names e ≤ most
-few_for m names (Proc p) most so le = omega arith
-few_for m names (Sig p) most so le = omega arith
-few_for m names (Exit p) most so le = omega arith
-few_for m names (Obj o) most so le = omega arith
-few_for m names (Link d n) most so le = let few : count_in names d ≤ map.len m = few_names m d (count_in names d) (so.count d) in omega (arith, few, le)
-few_for m names (Copy n) most so le = omega arith
-
-at_most_one : (b : Bool) (n k : ℕ) → k ≡ cond b n (n + 1) → k ≤ n + 1
-at_most_one true n k is = (let e : k ≡ n = is in omega (arith, e))
-at_most_one false n k is = (let e : k ≡ n + 1 = is in omega (arith, e))
-
-module _ {X : Type 0} where
-  -- no more slots than entries
-  pub len_entries : (es : List (Entity × X)) → map.len (map.from_entries {R = entity_cmp} es) ≤ length es
-  len_entries [] = (let none : map.len (map.empty {X = X} {R = entity_cmp}) ≡ 0 = map.len-empty entity_cmp X in omega (arith, none))
-  len_entries (e ∷ es) =
-      let m = map.from_entries {R = entity_cmp} es in
-      let rest : map.len m ≤ length es = len_entries es in
-      let one : map.len (map.insert m e.0 e.1) ≤ map.len m + 1 = at_most_one (map.contains_key m e.0) (map.len m) (map.len (map.insert m e.0 e.1)) (map.len-insert entity_total m e.0 e.1) in
-      omega (arith, rest, one)
+pub few_for : (m : SlotMap) (names : NameMap) (e : Entity) (most : ℕ) → IsCounted m names → most ≡ map.len m → count_for names e ≤ most
+few_for m names (Proc p) most so is = omega arith
+few_for m names (Sig p) most so is = omega arith
+few_for m names (Exit p) most so is = omega arith
+few_for m names (Obj o) most so is = omega arith
+few_for m names (Link d n) most so is = let few : count_in names d ≤ map.len m = few_names m d (count_in names d) (so.count d) in omega (arith, few, is)
+few_for m names (Copy n) most so is = omega arith
 
 -- ---- numbers made and set
 given_there : (b : Bool) (n : ℕ) (o : Option ℕ) → is_some o ≡ true → is_some (cond b (Some n) o) ≡ true

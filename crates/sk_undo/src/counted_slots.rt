@@ -64,8 +64,10 @@ fn move_over(
     entity: &Entity,
 ) -> Result<(), AllocError>
     requires { untagged.now ≡ [] }
-    ensures here { OnOk result (slots.new ≡ moved slots.old entity.now (map.get store.old entity.now)) }
-    ensures others { (e : Entity) → eq_by_cmp entity_cmp e entity.now ≡ false → map.get store.new e ≡ map.get store.old e }
+    ensures here { OnOk result
+        (slots.new ≡ moved slots.old entity.now (map.get store.old entity.now)) }
+    ensures others { (e : Entity) → eq_by_cmp entity_cmp e entity.now ≡ false
+        → map.get store.new e ≡ map.get store.old e }
 {
     let Some(state) = store.remove(*entity) else {
         return Ok(());
@@ -142,7 +144,8 @@ impl CountedSlots {
     /// The entities that are present, by their order, each once.
     pub fn entities(&self) -> Result<Vec<Entity>, AllocError>
         ensures rising { IfOk result (λ all. IsStrictlySortedBy entity_cmp all.items) }
-        ensures present { IfOk result (λ all. (e : Entity) → is_in entity_cmp all.items e ≡ is_some (look_at self.now e)) }
+        ensures present { IfOk result
+            (λ all. (e : Entity) → is_in entity_cmp all.items e ≡ is_some (look_at self.now e)) }
     {
         self.slots.entities()
     }
@@ -161,7 +164,8 @@ impl CountedSlots {
         tags: &TagSet,
         value: EntityState,
     ) -> Result<TakeBack, AllocError>
-        ensures ok { OnOk result (self.new ≡ slots_wrote tags.now self.old entity.now (Some value)) }
+        ensures ok { OnOk result
+            (self.new ≡ slots_wrote tags.now self.old entity.now (Some value)) }
         ensures can { IfOk result (λ how. CanTakeBack self.new entity.now how) }
         ensures back { IfOk result (λ how. slots_back self.new entity.now how ≡ self.old) }
         ensures err { OnErr result (self.new ≡ self.old) }
@@ -182,7 +186,9 @@ impl CountedSlots {
         by: &C,
     ) -> Result<(), AllocError>
         requires { CanBecome (C.can by.now) (look_at self.old (Proc pid)) }
-        ensures ok { OnOk result (self.new ≡ slots_wrote tags.now self.old (Proc pid) (Some (became (C.after by.now) (look_at self.old (Proc pid))))) }
+        ensures ok { OnOk result
+            (self.new ≡ slots_wrote tags.now self.old (Proc pid)
+            (Some (became (C.after by.now) (look_at self.old (Proc pid))))) }
         ensures err { OnErr result (self.new ≡ self.old) }
     {
         self.slots.change_process(pid, tags, by)
@@ -209,7 +215,9 @@ impl CountedSlots {
         change: Change,
     ) -> Result<TakeBack, AllocError>
         requires { FitsAt (look_at self.old entity.now) change }
-        ensures ok { OnOk result (self.new ≡ slots_wrote tags.now self.old entity.now (Some (changed (look_at self.old entity.now) change))) }
+        ensures ok { OnOk result
+            (self.new ≡ slots_wrote tags.now self.old entity.now
+            (Some (changed (look_at self.old entity.now) change))) }
         ensures can { IfOk result (λ how. CanTakeBack self.new entity.now how) }
         ensures back { IfOk result (λ how. slots_back self.new entity.now how ≡ self.old) }
         ensures err { OnErr result (self.new ≡ self.old) }
@@ -238,7 +246,11 @@ impl CountedSlots {
         requires fits { FitsAt (look_at self.old entity.now) change.now }
         requires can { CanBecome (C.can by.now) (look_at self.old (Proc pid)) }
         requires apart { eq_by_cmp entity_cmp (Proc pid) entity.now ≡ false }
-        ensures ok { OnOk result (self.new ≡ slots_wrote tags.now (slots_wrote tags.now self.old entity.now (Some (changed (look_at self.old entity.now) change.now))) (Proc pid) (Some (became (C.after by.now) (look_at self.old (Proc pid))))) }
+        ensures ok { OnOk result
+            (self.new ≡ slots_wrote tags.now
+            (slots_wrote tags.now self.old entity.now
+            (Some (changed (look_at self.old entity.now) change.now))) (Proc pid)
+            (Some (became (C.after by.now) (look_at self.old (Proc pid))))) }
         ensures err { OnErr result (self.new ≡ self.old) }
     {
         self.slots.change_both(entity, tags, change, pid, by)

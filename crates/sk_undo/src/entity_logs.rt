@@ -86,7 +86,9 @@ impl ObjectLog {
     /// Notes a write that rests on all that `tags` has.
     fn add(&mut self, tags: TagSet, undo: PutBack<Value>) -> Result<(), AllocError>
         requires { Covers tags (newest_tags (reverse self.old.log.notes.items)) }
-        ensures ok { OnOk result (self.new.log.notes.items ≡ self.old.log.notes.items ++ record { tags = tags; undo = undo } ∷ []) }
+        ensures ok { OnOk result
+            (self.new.log.notes.items
+            ≡ self.old.log.notes.items ++ record { tags = tags; undo = undo } ∷ []) }
         ensures err { OnErr result (self.new.log.notes.items ≡ self.old.log.notes.items) }
         ensures room { HasRoom self.old.log.notes → IsOk result }
     {
@@ -98,7 +100,10 @@ impl ObjectLog {
     /// Notes a change that rests on all that `tags` has.
     pub fn note(&mut self, tags: TagSet, undo: Undo) -> Result<(), AllocError>
         requires { Covers tags (newest_tags (reverse self.old.log.notes.items)) }
-        ensures ok { OnOk result (self.new.log.notes.items ≡ self.old.log.notes.items ++ record { tags = tags; undo = PutBack.Changed undo } ∷ []) }
+        ensures ok { OnOk result
+            (self.new.log.notes.items
+            ≡ self.old.log.notes.items
+            ++ record { tags = tags; undo = PutBack.Changed undo } ∷ []) }
         ensures err { OnErr result (self.new.log.notes.items ≡ self.old.log.notes.items) }
         ensures room { HasRoom self.old.log.notes → IsOk result }
     {
@@ -108,7 +113,9 @@ impl ObjectLog {
     /// Notes that the object appears, which rests on all that `tags` has.
     pub fn note_birth(&mut self, tags: TagSet) -> Result<(), AllocError>
         requires { Covers tags (newest_tags (reverse self.old.log.notes.items)) }
-        ensures ok { OnOk result (self.new.log.notes.items ≡ self.old.log.notes.items ++ record { tags = tags; undo = PutBack.Was None } ∷ []) }
+        ensures ok { OnOk result
+            (self.new.log.notes.items
+            ≡ self.old.log.notes.items ++ record { tags = tags; undo = PutBack.Was None } ∷ []) }
         ensures err { OnErr result (self.new.log.notes.items ≡ self.old.log.notes.items) }
         ensures room { HasRoom self.old.log.notes → IsOk result }
     {
@@ -119,7 +126,10 @@ impl ObjectLog {
     /// room was reserved the note is taken.
     pub fn note_death(&mut self, tags: TagSet, before: Value) -> Result<(), AllocError>
         requires { Covers tags (newest_tags (reverse self.old.log.notes.items)) }
-        ensures ok { OnOk result (self.new.log.notes.items ≡ self.old.log.notes.items ++ record { tags = tags; undo = PutBack.Was (Some before) } ∷ []) }
+        ensures ok { OnOk result
+            (self.new.log.notes.items
+            ≡ self.old.log.notes.items
+            ++ record { tags = tags; undo = PutBack.Was (Some before) } ∷ []) }
         ensures err { OnErr result (self.new.log.notes.items ≡ self.old.log.notes.items) }
         ensures room { HasRoom self.old.log.notes → IsOk result }
     {
@@ -130,9 +140,12 @@ impl ObjectLog {
     /// value is as the last note left it.
     pub fn unwind(&mut self, value: &mut Option<Value>, guess: GuessId)
         requires { CanGoBack ObjectFits object_undone value.old (reverse self.old.log.notes.items) }
-        ensures value { value.new ≡ unwound guess (log_of object_undone value.old self.old.log.notes.items) value.old }
-        ensures log { log_of object_undone value.new self.new.log.notes.items ≡ cut guess (log_of object_undone value.old self.old.log.notes.items) }
-        ensures can { CanGoBack ObjectFits object_undone value.new (reverse self.new.log.notes.items) }
+        ensures value { value.new ≡ unwound guess
+            (log_of object_undone value.old self.old.log.notes.items) value.old }
+        ensures log { log_of object_undone value.new self.new.log.notes.items
+            ≡ cut guess (log_of object_undone value.old self.old.log.notes.items) }
+        ensures can { CanGoBack ObjectFits object_undone value.new
+            (reverse self.new.log.notes.items) }
         ensures room { HasRoom self.old.log.notes → HasRoom self.new.log.notes }
     {
         self.log.unwind(value, guess);
@@ -141,8 +154,12 @@ impl ObjectLog {
     /// Takes a guess out of all notes, and drops those that then rest on nothing, without memory; the
     /// room that was made stays.
     pub fn commit(&mut self, guess: GuessId)
-        ensures log { (now : Option Value) → log_of object_undone now self.new.log.notes.items ≡ committed guess (log_of object_undone now self.old.log.notes.items) }
-        ensures can { (now : Option Value) → CanGoBack ObjectFits object_undone now (reverse self.old.log.notes.items) → CanGoBack ObjectFits object_undone now (reverse self.new.log.notes.items) }
+        ensures log { (now : Option Value)
+            → log_of object_undone now self.new.log.notes.items
+            ≡ committed guess (log_of object_undone now self.old.log.notes.items) }
+        ensures can { (now : Option Value)
+            → CanGoBack ObjectFits object_undone now (reverse self.old.log.notes.items)
+            → CanGoBack ObjectFits object_undone now (reverse self.new.log.notes.items) }
         ensures room { HasRoom self.old.log.notes → HasRoom self.new.log.notes }
     {
         self.log.commit(guess);
@@ -195,9 +212,13 @@ impl ProcessLog {
     /// Notes a write that rests on all that `tags` has; one of the newest run wants no memory.
     fn add(&mut self, tags: TagSet, before: Option<Process>) -> Result<(), AllocError>
         requires { Covers tags (last_tags [] (runs_of self.old.log.notes.items)) }
-        ensures ok { OnOk result (runs_of self.new.log.notes.items ≡ merged [] (runs_of self.old.log.notes.items ++ record { tags = tags; before = before } ∷ [])) }
+        ensures ok { OnOk result
+            (runs_of self.new.log.notes.items
+            ≡ merged []
+            (runs_of self.old.log.notes.items ++ record { tags = tags; before = before } ∷ [])) }
         ensures newest { OnOk result (last_tags [] (runs_of self.new.log.notes.items) ≡ tags) }
-        ensures err { OnErr result (runs_of self.new.log.notes.items ≡ runs_of self.old.log.notes.items) }
+        ensures err { OnErr result
+            (runs_of self.new.log.notes.items ≡ runs_of self.old.log.notes.items) }
         ensures room { HasRoom self.old.log.notes → IsOk result }
     {
         if self.log.goes_unnoted(&tags) {
@@ -212,9 +233,14 @@ impl ProcessLog {
     /// the newest run wants no memory.
     pub fn note(&mut self, tags: TagSet, before: Process) -> Result<(), AllocError>
         requires { Covers tags (last_tags [] (runs_of self.old.log.notes.items)) }
-        ensures ok { OnOk result (runs_of self.new.log.notes.items ≡ merged [] (runs_of self.old.log.notes.items ++ record { tags = tags; before = Some before } ∷ [])) }
+        ensures ok { OnOk result
+            (runs_of self.new.log.notes.items
+            ≡ merged []
+            (runs_of self.old.log.notes.items
+            ++ record { tags = tags; before = Some before } ∷ [])) }
         ensures newest { OnOk result (last_tags [] (runs_of self.new.log.notes.items) ≡ tags) }
-        ensures err { OnErr result (runs_of self.new.log.notes.items ≡ runs_of self.old.log.notes.items) }
+        ensures err { OnErr result
+            (runs_of self.new.log.notes.items ≡ runs_of self.old.log.notes.items) }
         ensures room { HasRoom self.old.log.notes → IsOk result }
     {
         self.add(tags, Some(before))
@@ -223,9 +249,13 @@ impl ProcessLog {
     /// Notes that the process appears, which rests on all that `tags` has.
     pub fn note_birth(&mut self, tags: TagSet) -> Result<(), AllocError>
         requires { Covers tags (last_tags [] (runs_of self.old.log.notes.items)) }
-        ensures ok { OnOk result (runs_of self.new.log.notes.items ≡ merged [] (runs_of self.old.log.notes.items ++ record { tags = tags; before = None } ∷ [])) }
+        ensures ok { OnOk result
+            (runs_of self.new.log.notes.items
+            ≡ merged []
+            (runs_of self.old.log.notes.items ++ record { tags = tags; before = None } ∷ [])) }
         ensures newest { OnOk result (last_tags [] (runs_of self.new.log.notes.items) ≡ tags) }
-        ensures err { OnErr result (runs_of self.new.log.notes.items ≡ runs_of self.old.log.notes.items) }
+        ensures err { OnErr result
+            (runs_of self.new.log.notes.items ≡ runs_of self.old.log.notes.items) }
         ensures room { HasRoom self.old.log.notes → IsOk result }
     {
         self.add(tags, None)
@@ -235,7 +265,8 @@ impl ProcessLog {
     /// after it, without memory; the room that was made stays.
     pub fn unwind(&mut self, value: &mut Option<Process>, guess: GuessId)
         ensures value { value.new ≡ unwound guess (runs_of self.old.log.notes.items) value.old }
-        ensures runs { runs_of self.new.log.notes.items ≡ cut guess (runs_of self.old.log.notes.items) }
+        ensures runs { runs_of self.new.log.notes.items
+            ≡ cut guess (runs_of self.old.log.notes.items) }
         ensures room { HasRoom self.old.log.notes → HasRoom self.new.log.notes }
     {
         self.log.unwind(value, guess);
@@ -244,7 +275,8 @@ impl ProcessLog {
     /// Takes a guess out of all tags, drops the runs that then rest on nothing, and joins those whose tags
     /// became equal, without memory; the room that was made stays.
     pub fn commit(&mut self, guess: GuessId)
-        ensures runs { runs_of self.new.log.notes.items ≡ merged [] (committed guess (runs_of self.old.log.notes.items)) }
+        ensures runs { runs_of self.new.log.notes.items
+            ≡ merged [] (committed guess (runs_of self.old.log.notes.items)) }
         ensures room { HasRoom self.old.log.notes → HasRoom self.new.log.notes }
     {
         self.log.commit(guess);

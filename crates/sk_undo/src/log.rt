@@ -82,7 +82,8 @@ pub struct Log<V> {
 /// Takes a guess out of the tags of the newest notes, back to the first that does not rest on it, and
 /// answers how many notes stand up to that one.
 fn lighten<V: Kept>(notes: &mut Vec<Note<PutBack<V>>>, guess: GuessId) -> usize
-    ensures notes { notes.new.items ≡ take result notes.old.items ++ lightened guess (drop result notes.old.items) }
+    ensures notes { notes.new.items
+        ≡ take result notes.old.items ++ lightened guess (drop result notes.old.items) }
     ensures before { rests_last guess (reverse (take result notes.old.items)) ≡ false }
     ensures len { vec_len notes.new ≡ vec_len notes.old }
     ensures capacity { vec_capacity notes.new ≡ vec_capacity notes.old }
@@ -221,20 +222,24 @@ impl<V: Kept> Log<V> {
     /// Notes a write, for which there is room.
     pub fn note_reserved(&mut self, tags: TagSet, undo: PutBack<V>)
         requires { HasRoom self.old.notes }
-        ensures { self.new.notes.items ≡ self.old.notes.items ++ record { tags = tags; undo = undo } ∷ [] }
+        ensures { self.new.notes.items
+            ≡ self.old.notes.items ++ record { tags = tags; undo = undo } ∷ [] }
     {
         self.notes.push_reserved(Note { tags, undo });
     }
 
     /// Undoes the newest write.
     pub fn undo_last(&mut self, value: &mut Option<V>)
-        requires can { CanGoBack (FitsBy V.fits) (undone_by V.undone) value.old (reverse self.old.notes.items) }
+        requires can { CanGoBack (FitsBy V.fits) (undone_by V.undone) value.old
+            (reverse self.old.notes.items) }
         requires some { HasNote (reverse self.old.notes.items) }
-        ensures value { value.new ≡ before_last value.old (seen (undone_by V.undone) value.old (reverse self.old.notes.items)) }
+        ensures value { value.new ≡ before_last value.old
+            (seen (undone_by V.undone) value.old (reverse self.old.notes.items)) }
         ensures notes { reverse self.new.notes.items ≡ less (reverse self.old.notes.items) }
         ensures fewer { vec_len self.new.notes + 1 ≡ vec_len self.old.notes }
         ensures capacity { vec_capacity self.new.notes ≡ vec_capacity self.old.notes }
-        ensures can { CanGoBack (FitsBy V.fits) (undone_by V.undone) value.new (reverse self.new.notes.items) }
+        ensures can { CanGoBack (FitsBy V.fits) (undone_by V.undone) value.new
+            (reverse self.new.notes.items) }
     {
         match self.notes.pop() {
             Some(note) => put_back(note.undo, value),
@@ -255,11 +260,18 @@ impl<V: Kept> Log<V> {
     /// Undoes the writes that rest on the guess, which are the newest where each note rests on
     /// what those before it rest on. It takes no memory, and leaves the room that was made.
     pub fn unwind(&mut self, value: &mut Option<V>, guess: GuessId)
-        requires can { CanGoBack (FitsBy V.fits) (undone_by V.undone) value.old (reverse self.old.notes.items) }
-        ensures value { IsGrowing (log_of (undone_by V.undone) value.old self.old.notes.items) → value.new ≡ unwound guess (log_of (undone_by V.undone) value.old self.old.notes.items) value.old }
-        ensures log { IsGrowing (log_of (undone_by V.undone) value.old self.old.notes.items) → log_of (undone_by V.undone) value.new self.new.notes.items ≡ cut guess (log_of (undone_by V.undone) value.old self.old.notes.items) }
-        ensures can { CanGoBack (FitsBy V.fits) (undone_by V.undone) value.new (reverse self.new.notes.items) }
-        ensures left { (p : Note (PutBack V) → Bool) → list_all p self.old.notes.items ≡ true → list_all p self.new.notes.items ≡ true }
+        requires can { CanGoBack (FitsBy V.fits) (undone_by V.undone) value.old
+            (reverse self.old.notes.items) }
+        ensures value { IsGrowing (log_of (undone_by V.undone) value.old self.old.notes.items)
+            → value.new
+            ≡ unwound guess (log_of (undone_by V.undone) value.old self.old.notes.items) value.old }
+        ensures log { IsGrowing (log_of (undone_by V.undone) value.old self.old.notes.items)
+            → log_of (undone_by V.undone) value.new self.new.notes.items
+            ≡ cut guess (log_of (undone_by V.undone) value.old self.old.notes.items) }
+        ensures can { CanGoBack (FitsBy V.fits) (undone_by V.undone) value.new
+            (reverse self.new.notes.items) }
+        ensures left { (p : Note (PutBack V) → Bool) → list_all p self.old.notes.items ≡ true
+            → list_all p self.new.notes.items ≡ true }
         ensures room { HasRoom self.old.notes → HasRoom self.new.notes }
     {
         while self.rests_last(guess) {
@@ -272,8 +284,11 @@ impl<V: Kept> Log<V> {
     /// no memory, leaves the room that was made, and looks at the notes alone that rest on the guess. Answers
     /// the place of the first of these.
     pub fn commit(&mut self, guess: GuessId) -> usize
-        ensures notes { Grows self.old.notes.items → self.new.notes.items ≡ dropped (lightened guess self.old.notes.items) }
-        ensures can { (now : Option V) → CanGoBack (FitsBy V.fits) (undone_by V.undone) now (reverse self.old.notes.items) → CanGoBack (FitsBy V.fits) (undone_by V.undone) now (reverse self.new.notes.items) }
+        ensures notes { Grows self.old.notes.items
+            → self.new.notes.items ≡ dropped (lightened guess self.old.notes.items) }
+        ensures can { (now : Option V)
+            → CanGoBack (FitsBy V.fits) (undone_by V.undone) now (reverse self.old.notes.items)
+            → CanGoBack (FitsBy V.fits) (undone_by V.undone) now (reverse self.new.notes.items) }
         ensures room { HasRoom self.old.notes → HasRoom self.new.notes }
     {
         let first = lighten(&mut self.notes, guess);
@@ -284,7 +299,8 @@ impl<V: Kept> Log<V> {
     /// Leaves out each note from a place on for which the note before it stands, without memory; the room
     /// that was made stays.
     pub fn join(&mut self, first: usize)
-        ensures notes { self.new.notes.items ≡ joined_from V.is_whole None first self.old.notes.items }
+        ensures notes { self.new.notes.items
+            ≡ joined_from V.is_whole None first self.old.notes.items }
         ensures room { HasRoom self.old.notes → HasRoom self.new.notes }
     {
         join_from(&mut self.notes, first);

@@ -78,7 +78,8 @@ impl Logs {
 
     /// What a store has, with nothing noted.
     pub fn open(store: Store) -> Result<Logs, AllocError>
-        ensures values { IfOk result (λ logs. (e : Entity) → look_at logs.slots e ≡ map.get store e) }
+        ensures values { IfOk result
+            (λ logs. (e : Entity) → look_at logs.slots e ≡ map.get store e) }
         ensures logs { IfOk result (λ logs. (e : Entity) → log_at logs.slots e ≡ []) }
         ensures bare { IfOk result (λ logs. NoneBare logs.slots) }
         ensures tags { IfOk result (λ logs. logs.tags ≡ []) }
@@ -93,7 +94,8 @@ impl Logs {
 
     /// The tags of an entity; `None` is as none.
     pub fn tags(&self, entity: Entity) -> Option<&TagSet>
-        ensures { unwrap_or (option_copied result) [] ≡ last_tags [] (log_at self.now.slots entity) }
+        ensures { unwrap_or (option_copied result) []
+            ≡ last_tags [] (log_at self.now.slots entity) }
     {
         self.slots.tags(entity)
     }
@@ -101,7 +103,9 @@ impl Logs {
     /// The entities that are present, by their order, each once.
     pub fn entities(&self) -> Result<Vec<Entity>, AllocError>
         ensures rising { IfOk result (λ all. IsStrictlySortedBy entity_cmp all.items) }
-        ensures present { IfOk result (λ all. (e : Entity) → is_in entity_cmp all.items e ≡ is_some (look_at self.now.slots e)) }
+        ensures present { IfOk result
+            (λ all. (e : Entity)
+            → is_in entity_cmp all.items e ≡ is_some (look_at self.now.slots e)) }
     {
         self.slots.entities()
     }
@@ -137,7 +141,9 @@ impl Logs {
 
     /// The tags of the next step become those of an entity. Without memory nothing has changed.
     pub fn set_tags_of(&mut self, entity: Entity) -> Result<(), AllocError>
-        ensures ok { OnOk result (self.new ≡ record { slots = self.old.slots; tags = last_tags [] (log_at self.old.slots entity) }) }
+        ensures ok { OnOk result
+            (self.new ≡ record
+            { slots = self.old.slots; tags = last_tags [] (log_at self.old.slots entity) }) }
         ensures err { OnErr result (self.new ≡ self.old) }
     {
         match self.slots.tags(entity) {

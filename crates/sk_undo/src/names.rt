@@ -4,25 +4,26 @@ ghost use Rattle.std.specs.FinMap as map;
 ghost use Rattle.sk_undo.specs.Names.{count_in, count_for, with_count, with_place, made_for, recounted_at, recounted};
 
 use sk_ids::{Entity, ObjId};
+use sk_map::Map;
 use std::alloc::{AllocError, Global};
-use std::collections::BTreeMap;
 use std::marker::Model;
 
 /// A number for each directory. One without a number has none of its names.
 #[derive(Drop)]
 pub struct Names {
-    counts: BTreeMap<ObjId, usize>,
+    counts: Map<ObjId, usize>,
 }
 
 impl Model for Names {
-    ghost use Rattle.std.specs.FinMap as map;
+    ghost use Rattle.sk_ids.specs.Entity.{object_cmp};
+    ghost use Rattle.sk_map.specs.Seen.{seen};
     ghost use Rattle.sk_undo.specs.Names.{NameMap, name_map_code};
 
     ghost Value = { NameMap };
 
     ghost coded = { name_map_code };
 
-    ghost view = { λ a. map.from_entries a.counts.entries };
+    ghost view = { λ a. seen object_cmp a.counts };
 }
 
 impl Names {
@@ -30,21 +31,15 @@ impl Names {
         ensures { result ≡ map.empty }
     {
         Names {
-            counts: BTreeMap::new(alloc),
+            counts: Map::new(alloc),
         }
-    }
-
-    fn get(&self, directory: &ObjId) -> Option<usize>
-        ensures { result ≡ map.get self.now directory.now }
-    {
-        self.counts.get(directory).copied()
     }
 
     /// The number of a directory.
     pub fn count(&self, directory: &ObjId) -> usize
         ensures { result ≡ count_in self.now directory.now }
     {
-        self.get(directory).unwrap_or(0)
+        self.counts.get(directory).copied().unwrap_or(0)
     }
 
     /// Sets the number of a directory that has one, which takes no memory.
@@ -61,13 +56,10 @@ impl Names {
         ensures ok { OnOk result (self.new ≡ with_place self.old directory.now) }
         ensures err { OnErr result (self.new ≡ self.old) }
     {
-        if self.get(directory).is_some() {
+        if self.counts.get(directory).is_some() {
             return Ok(());
         }
-        // The key is written by its fields, whose types the check wants to see here.
-        let ObjId { maker, count } = *directory;
-        self.counts.insert(ObjId { maker, count }, 0)?;
-        Ok(())
+        self.counts.put(*directory, 0)
     }
 
     /// Makes a number for the directory of a name, which a recount of it needs.

@@ -34,7 +34,8 @@ impl Model for Slot {
 
     ghost coded = { slot_code };
 
-    ghost view = { λ s. record { now = s.value; log = seen undone s.value (reverse s.log.notes.items) } };
+    ghost view = { λ s. record
+        { now = s.value; log = seen undone s.value (reverse s.log.notes.items) } };
 
     ghost invariant = { λ s. CanGoBack Fits undone s.value (reverse s.log.notes.items) };
 }
@@ -50,7 +51,8 @@ fn is_unnoted(value: &Option<Held>, log: &Log<Held>) -> bool
 /// Whether a write is not noted.
 fn goes_unnoted(tags: &TagSet, value: &Option<Held>, log: &Log<Held>) -> bool
     requires { CanGoBack Fits undone value.now (reverse log.now.notes.items) }
-    ensures seen { result ≡ goes_unnoted tags.now (seen undone value.now (reverse log.now.notes.items)) }
+    ensures seen { result ≡ goes_unnoted tags.now
+        (seen undone value.now (reverse log.now.notes.items)) }
     ensures stable { result ≡ true → is_stable_raw (reverse log.now.notes.items) ≡ true }
 {
     log.goes_unnoted(tags)
@@ -58,7 +60,8 @@ fn goes_unnoted(tags: &TagSet, value: &Option<Held>, log: &Log<Held>) -> bool
 
 /// Whether there is neither a value nor a note.
 fn is_bare(value: &Option<Held>, log: &Log<Held>) -> bool
-    ensures { result ≡ (is_none value.now && is_empty (seen undone value.now (reverse log.now.notes.items))) }
+    ensures { result ≡ (is_none value.now
+        && is_empty (seen undone value.now (reverse log.now.notes.items))) }
 {
     value.is_none() && is_unnoted(value, log)
 }
@@ -121,7 +124,8 @@ fn process_copy(alloc: Global, value: &Option<Held>) -> Result<Option<Held>, All
 /// The tags of the newest note.
 #[tactic(auto, using(crate::proofs::SeenNotes::tags_seen))]
 fn tags_in<'a>(value: &Option<Held>, log: &'a Log<Held>) -> &'a TagSet
-    ensures { result.now ≡ last_tags [] (reverse (seen undone value.now (reverse log.now.notes.items))) }
+    ensures { result.now ≡ last_tags []
+        (reverse (seen undone value.now (reverse log.now.notes.items))) }
 {
     log.tags()
 }
@@ -185,7 +189,9 @@ impl Slot {
         by: &C,
     ) -> Result<(), AllocError>
         requires { CanBecome (C.can by.now) self.old.now }
-        ensures ok { OnOk result (self.new ≡ slot_wrote tags.now self.old (Some (became (C.after by.now) self.old.now))) }
+        ensures ok { OnOk result
+            (self.new ≡ slot_wrote tags.now self.old
+            (Some (became (C.after by.now) self.old.now))) }
         ensures err { OnErr result (self.new ≡ self.old) }
     {
         if goes_unnoted(tags, &self.value, &self.log) {
@@ -216,7 +222,8 @@ impl Slot {
         change: Change,
     ) -> Result<Option<PutBack<Held>>, AllocError>
         requires { FitsAt self.old.now change }
-        ensures ok { OnOk result (self.new ≡ slot_wrote tags.now self.old (Some (changed self.old.now change))) }
+        ensures ok { OnOk result
+            (self.new ≡ slot_wrote tags.now self.old (Some (changed self.old.now change))) }
         ensures can { IfOk result (λ back. CanGoBackOnce self.new back) }
         ensures back { IfOk result (λ back. slot_back self.new back ≡ self.old) }
         ensures err { OnErr result (self.new ≡ self.old) }
@@ -242,7 +249,8 @@ impl Slot {
     /// Changes what is there, and answers nothing that takes it back. Without memory nothing has changed.
     pub fn change_alone(&mut self, tags: &TagSet, change: &Change) -> Result<(), AllocError>
         requires { FitsAt self.old.now change.now }
-        ensures ok { OnOk result (self.new ≡ slot_wrote tags.now self.old (Some (changed self.old.now change.now))) }
+        ensures ok { OnOk result
+            (self.new ≡ slot_wrote tags.now self.old (Some (changed self.old.now change.now))) }
         ensures err { OnErr result (self.new ≡ self.old) }
     {
         if goes_unnoted(tags, &self.value, &self.log) {
@@ -257,7 +265,8 @@ impl Slot {
     pub fn become_unnoted<C: Becoming>(&mut self, tags: &TagSet, by: &C)
         requires unnoted { goes_unnoted tags.now self.old.log ≡ true }
         requires can { CanBecome (C.can by.now) self.old.now }
-        ensures { self.new ≡ slot_wrote tags.now self.old (Some (became (C.after by.now) self.old.now)) }
+        ensures { self.new ≡ slot_wrote tags.now self.old
+            (Some (became (C.after by.now) self.old.now)) }
     {
         if !goes_unnoted(tags, &self.value, &self.log) {
             unreachable!();
@@ -299,8 +308,10 @@ impl Slot {
 
     /// Takes back what rests on the guess, in place and without memory.
     pub fn unwind(&mut self, guess: GuessId)
-        ensures now { IsGrowing (reverse self.old.log) → self.new.now ≡ unwound guess (reverse self.old.log) self.old.now }
-        ensures log { IsGrowing (reverse self.old.log) → reverse self.new.log ≡ cut guess (reverse self.old.log) }
+        ensures now { IsGrowing (reverse self.old.log)
+            → self.new.now ≡ unwound guess (reverse self.old.log) self.old.now }
+        ensures log { IsGrowing (reverse self.old.log)
+            → reverse self.new.log ≡ cut guess (reverse self.old.log) }
     {
         self.log.unwind(&mut self.value, guess);
     }
@@ -309,7 +320,8 @@ impl Slot {
     /// then an older one stands. It takes no memory.
     pub fn commit(&mut self, guess: GuessId)
         ensures now { self.new.now ≡ self.old.now }
-        ensures log { IsGrowing (reverse self.old.log) → Merges [] (committed guess (reverse self.old.log)) (reverse self.new.log) }
+        ensures log { IsGrowing (reverse self.old.log)
+            → Merges [] (committed guess (reverse self.old.log)) (reverse self.new.log) }
     {
         let first = self.log.commit(guess);
         self.log.join(first);

@@ -1,5 +1,5 @@
 //! All entities with their undo logs, in one map.
-ghost use Rattle.std.specs.Prelude.{◌≡◌, ◌≤◌, ◌<◌, [], min, ◌-◌, ◌^◌, true, false, OnOk, OnErr, IfOk, OnSome, Some, None, is_some};
+ghost use Rattle.std.specs.Prelude.{◌≡◌, ◌<◌, [], min, ◌-◌, ◌^◌, true, false, OnOk, OnErr, IfOk, OnSome, Some, None, is_some};
 ghost use Rattle.std.specs.Option.{option_copied, option_copied_mut, unwrap_or};
 ghost use Rattle.std.specs.FinMap as map;
 ghost use Rattle.std.specs.List.Sorted.{IsStrictlySortedBy};
@@ -24,9 +24,9 @@ ghost use Rattle.sk_undo.specs.contracts.slot.Slot.{the_row as slot_row};
 use crate::{Held, Slot};
 use sk_changes::Change;
 use sk_ids::{Entity, GuessId, Pid, TagSet};
+use sk_map::Map;
 use sk_store::{Becoming, EntityState, PutBack, Store};
 use std::alloc::{AllocError, Global};
-use std::collections::BTreeMap;
 use std::marker::Model;
 
 /// What takes a write back, at its entity.
@@ -40,19 +40,19 @@ pub enum TakeBack {
 /// The slots of entities. One without a slot is absent, and nothing is noted of it.
 #[derive(Drop)]
 pub struct Slots {
-    alloc: Global,
-    slots: BTreeMap<Entity, Slot>,
+    slots: Map<Entity, Slot>,
 }
 
 impl Model for Slots {
-    ghost use Rattle.std.specs.FinMap as map;
+    ghost use Rattle.sk_ids.specs.Entity.{entity_cmp};
+    ghost use Rattle.sk_map.specs.Seen.{seen};
     ghost use Rattle.sk_undo.specs.Logs.{SlotMap, slot_map_code};
 
     ghost Value = { SlotMap };
 
     ghost coded = { slot_map_code };
 
-    ghost view = { λ a. map.from_entries a.slots.entries };
+    ghost view = { λ a. seen entity_cmp a.slots };
 }
 
 /// The slot of an entity that had none.
@@ -82,20 +82,19 @@ impl Slots {
         ensures { result ≡ map.empty }
     {
         Slots {
-            alloc,
-            slots: BTreeMap::new(alloc),
+            slots: Map::new(alloc),
         }
     }
 
     pub fn alloc(&self) -> Global {
-        self.alloc
+        self.slots.alloc()
     }
 
     /// A copy of what entities have now.
     pub fn present(&self) -> Result<Store, AllocError>
         ensures { IfOk result (λ store. (e : Entity) → map.get store e ≡ look_at self.now e) }
     {
-        let mut store = Store::new(self.alloc);
+        let mut store = Store::new(self.alloc());
         let entities = self.entities()?;
         for entity in &entities {
             copy_over(self, &mut store, entity)?;
@@ -105,22 +104,16 @@ impl Slots {
 
     /// How many slots there are.
     pub fn len(&self) -> usize
-        ensures most { map.len self.now ≤ result }
+        ensures len { result ≡ map.len self.now }
         ensures small { result < 2 ^ 63 }
     {
         self.slots.len()
     }
 
-    fn slot(&self, entity: &Entity) -> Option<&Slot>
-        ensures { option_copied result ≡ map.get self.now entity.now }
-    {
-        self.slots.get(entity)
-    }
-
     pub fn value(&self, entity: Entity) -> Option<&EntityState>
         ensures { option_copied result ≡ look_at self.now entity }
     {
-        match self.slot(&entity) {
+        match self.slots.get(&entity) {
             Some(slot) => slot.value(),
             None => None,
         }
@@ -130,7 +123,7 @@ impl Slots {
     pub fn tags(&self, entity: Entity) -> Option<&TagSet>
         ensures { unwrap_or (option_copied result) [] ≡ last_tags [] (log_at self.now entity) }
     {
-        match self.slot(&entity) {
+        match self.slots.get(&entity) {
             Some(slot) => Some(slot.tags()),
             None => None,
         }
@@ -139,9 +132,10 @@ impl Slots {
     /// The entities that are present, by their order, each once.
     pub fn entities(&self) -> Result<Vec<Entity>, AllocError>
         ensures rising { IfOk result (λ all. IsStrictlySortedBy entity_cmp all.items) }
-        ensures present { IfOk result (λ all. (e : Entity) → is_in entity_cmp all.items e ≡ is_some (look_at self.now e)) }
+        ensures present { IfOk result
+            (λ all. (e : Entity) → is_in entity_cmp all.items e ≡ is_some (look_at self.now e)) }
     {
-        let mut all: Vec<Entity> = self.slots.keys().copied().collect(self.alloc)?;
+        let mut all: Vec<Entity> = self.slots.keys().copied().collect(self.alloc())?;
         all.retain(|entity: &Entity| self.value(*entity).is_some());
         Ok(all)
     }
@@ -158,7 +152,8 @@ impl Slots {
     }
 
     fn slot_mut(&mut self, entity: &Entity) -> Option<&mut Slot>
-        ensures* writes_back { sem 𝓛 (LendsSo slots_row slot_row self.entry result (λ n w. OnSome result (n ≡ map.insert self.old entity.now w)) (λ n. n ≡ self.old)) }
+        ensures* writes_back { sem 𝓛 (LendsSo slots_row slot_row self.entry result
+            (λ n w. OnSome result (n ≡ map.insert self.old entity.now w)) (λ n. n ≡ self.old)) }
         ensures value { option_copied_mut result ≡ map.get self.old entity.now }
     {
         self.slots.get_mut(entity)
@@ -168,8 +163,7 @@ impl Slots {
         ensures ok { OnOk result (self.new ≡ map.insert self.old entity slot) }
         ensures err { OnErr result (self.new ≡ self.old) }
     {
-        self.slots.insert(entity, slot)?;
-        Ok(())
+        self.slots.put(entity, slot)
     }
 
     fn remove(&mut self, entity: &Entity)
@@ -185,17 +179,18 @@ impl Slots {
         tags: &TagSet,
         value: EntityState,
     ) -> Result<TakeBack, AllocError>
-        ensures ok { OnOk result (self.new ≡ slots_wrote tags.now self.old entity.now (Some value)) }
+        ensures ok { OnOk result
+            (self.new ≡ slots_wrote tags.now self.old entity.now (Some value)) }
         ensures can { IfOk result (λ how. CanTakeBack self.new entity.now how) }
         ensures back { IfOk result (λ how. slots_back self.new entity.now how ≡ self.old) }
         ensures err { OnErr result (self.new ≡ self.old) }
     {
-        let value = Held::new(self.alloc, value)?;
+        let value = Held::new(self.alloc(), value)?;
         if let Some(slot) = self.slot_mut(entity) {
             let back = slot.set(tags, Some(value))?;
             return Ok(TakeBack::UndoLast(back));
         }
-        let slot = born(self.alloc, tags, Some(value))?;
+        let slot = born(self.alloc(), tags, Some(value))?;
         self.put(*entity, slot)?;
         Ok(TakeBack::DropSlot)
     }
@@ -208,10 +203,12 @@ impl Slots {
         by: &C,
     ) -> Result<(), AllocError>
         requires { CanBecome (C.can by.now) (look_at self.old (Proc pid)) }
-        ensures ok { OnOk result (self.new ≡ slots_wrote tags.now self.old (Proc pid) (Some (became (C.after by.now) (look_at self.old (Proc pid))))) }
+        ensures ok { OnOk result
+            (self.new ≡ slots_wrote tags.now self.old (Proc pid)
+            (Some (became (C.after by.now) (look_at self.old (Proc pid))))) }
         ensures err { OnErr result (self.new ≡ self.old) }
     {
-        let alloc = self.alloc;
+        let alloc = self.alloc();
         match self.slot_mut(&Entity::Proc(pid)) {
             Some(slot) => {
                 slot.change_process(alloc, tags, by)?;
@@ -236,7 +233,7 @@ impl Slots {
         if tags.ids().is_empty() {
             return Ok(());
         }
-        let slot = born(self.alloc, tags, None)?;
+        let slot = born(self.alloc(), tags, None)?;
         self.put(*entity, slot)
     }
 
@@ -248,7 +245,9 @@ impl Slots {
         change: Change,
     ) -> Result<TakeBack, AllocError>
         requires { FitsAt (look_at self.old entity.now) change }
-        ensures ok { OnOk result (self.new ≡ slots_wrote tags.now self.old entity.now (Some (changed (look_at self.old entity.now) change))) }
+        ensures ok { OnOk result
+            (self.new ≡ slots_wrote tags.now self.old entity.now
+            (Some (changed (look_at self.old entity.now) change))) }
         ensures can { IfOk result (λ how. CanTakeBack self.new entity.now how) }
         ensures back { IfOk result (λ how. slots_back self.new entity.now how ≡ self.old) }
         ensures err { OnErr result (self.new ≡ self.old) }
@@ -266,7 +265,7 @@ impl Slots {
     pub fn goes_unnoted(&self, pid: Pid, tags: &TagSet) -> bool
         ensures { result ≡ is_unnoted tags.now self.now (Proc pid) }
     {
-        match self.slot(&Entity::Proc(pid)) {
+        match self.slots.get(&Entity::Proc(pid)) {
             Some(slot) => slot.goes_unnoted(tags),
             None => tags.ids().is_empty(),
         }
@@ -281,7 +280,9 @@ impl Slots {
         change: &Change,
     ) -> Result<(), AllocError>
         requires { FitsAt (look_at self.old entity.now) change.now }
-        ensures ok { OnOk result (self.new ≡ slots_wrote tags.now self.old entity.now (Some (changed (look_at self.old entity.now) change.now))) }
+        ensures ok { OnOk result
+            (self.new ≡ slots_wrote tags.now self.old entity.now
+            (Some (changed (look_at self.old entity.now) change.now))) }
         ensures err { OnErr result (self.new ≡ self.old) }
     {
         match self.slot_mut(entity) {
@@ -297,7 +298,8 @@ impl Slots {
     fn become_unnoted<C: Becoming>(&mut self, pid: Pid, tags: &TagSet, by: &C)
         requires unnoted { is_unnoted tags.now self.old (Proc pid) ≡ true }
         requires can { CanBecome (C.can by.now) (look_at self.old (Proc pid)) }
-        ensures { self.new ≡ slots_wrote tags.now self.old (Proc pid) (Some (became (C.after by.now) (look_at self.old (Proc pid)))) }
+        ensures { self.new ≡ slots_wrote tags.now self.old (Proc pid)
+            (Some (became (C.after by.now) (look_at self.old (Proc pid)))) }
     {
         match self.slot_mut(&Entity::Proc(pid)) {
             Some(slot) => slot.become_unnoted(tags, by),
@@ -319,7 +321,11 @@ impl Slots {
         requires fits { FitsAt (look_at self.old entity.now) change.now }
         requires can { CanBecome (C.can by.now) (look_at self.old (Proc pid)) }
         requires apart { eq_by_cmp entity_cmp (Proc pid) entity.now ≡ false }
-        ensures ok { OnOk result (self.new ≡ slots_wrote tags.now (slots_wrote tags.now self.old entity.now (Some (changed (look_at self.old entity.now) change.now))) (Proc pid) (Some (became (C.after by.now) (look_at self.old (Proc pid))))) }
+        ensures ok { OnOk result
+            (self.new ≡ slots_wrote tags.now
+            (slots_wrote tags.now self.old entity.now
+            (Some (changed (look_at self.old entity.now) change.now))) (Proc pid)
+            (Some (became (C.after by.now) (look_at self.old (Proc pid))))) }
         ensures err { OnErr result (self.new ≡ self.old) }
     {
         self.change_alone(entity, tags, change)?;

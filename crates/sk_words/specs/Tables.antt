@@ -22,6 +22,7 @@ by_first rule (w ∷ ws) = rule w ws
 
 -- ---- a list to which each line adds what the rule of its first word says
 
+-- the list with what was said behind it, or the fault
 abbrev pub with_said : {A : Type 0} → List A → Result A FaultKind → Result (List A) FaultKind
 with_said before (Ok a) = Ok (before ++ a ∷ [])
 with_said before (Err e) = Err e

@@ -59,8 +59,10 @@ impl<'a> Cursor<'a> {
 
     /// The next line, without its end; `None` where none is left.
     pub fn next(&mut self) -> Option<&'a [u8]>
-        ensures lines { MatchOption result (self.old.lines ≡ [] × self.new.lines ≡ []) (λ line. self.old.lines ≡ line.now ∷ self.new.lines) }
-        ensures line { MatchOption result (self.new.line ≡ self.old.line) (λ line. self.new.line ≡ self.old.line + 1) }
+        ensures lines { MatchOption result (self.old.lines ≡ [] × self.new.lines ≡ [])
+            (λ line. self.old.lines ≡ line.now ∷ self.new.lines) }
+        ensures line { MatchOption result (self.new.line ≡ self.old.line)
+            (λ line. self.new.line ≡ self.old.line + 1) }
     {
         let line = self.lines.next()?;
         self.line += 1;

@@ -57,8 +57,10 @@ fn behind(place: Place, byte: u8) -> Place
     requires inside { place ≢ Between }
     requires no_end { place ≡ Word → is_blank byte ≡ false }
     ensures inside { result ≢ Between }
-    ensures stays_open { place ≢ Word → (bs : List ℕ) → is_open_from place (byte ∷ bs) ≡ is_open_from result bs }
-    ensures goes_on { (bs : List ℕ) → words_from place (byte ∷ bs) ≡ onto_first byte (words_from result bs) }
+    ensures stays_open { place ≢ Word → (bs : List ℕ)
+        → is_open_from place (byte ∷ bs) ≡ is_open_from result bs }
+    ensures goes_on { (bs : List ℕ)
+        → words_from place (byte ∷ bs) ≡ onto_first byte (words_from result bs) }
 {
     match place {
         Place::Between | Place::Word => Place::Word,
@@ -125,7 +127,8 @@ impl<'a> Words<'a> {
 
     /// The next word, which is then no longer among them; `None` where none is left.
     pub fn next(&mut self) -> Option<&'a [u8]>
-        ensures { MatchOption result (self.old ≡ [] × self.new ≡ []) (λ word. self.old ≡ word.now ∷ self.new) }
+        ensures { MatchOption result (self.old ≡ [] × self.new ≡ [])
+            (λ word. self.old ≡ word.now ∷ self.new) }
     {
         let rest = trimmed(self.rest);
         self.rest = rest;
@@ -161,7 +164,8 @@ impl<'a> Words<'a> {
 
 /// The first word of a line and the words behind it; `None` where the line is empty or a comment.
 pub fn first_word(line: &[u8]) -> Option<(&[u8], Words<'_>)>
-    ensures { MatchOption result (first_of (words line.now) ≡ None) (λ x. first_of (words line.now) ≡ Some (x.0.now, x.1)) }
+    ensures { MatchOption result (first_of (words line.now) ≡ None)
+        (λ x. first_of (words line.now) ≡ Some (x.0.now, x.1)) }
 {
     let mut words = Words::of(line);
     let first = words.next()?;

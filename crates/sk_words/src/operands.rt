@@ -95,7 +95,8 @@ fn both<A: Operand, B: Operand>(a: &[u8], b: &[u8]) -> Result<(A, B), FaultKind>
 /// The two words that are left.
 #[tactic(auto, unfolding(crate::specs::Operands::the_two))]
 fn the_two<'a>(mut words: Words<'a>) -> Result<(&'a [u8], &'a [u8]), FaultKind>
-    ensures { MatchResult result (λ two. the_two words.entry ≡ Ok (two.0.now, two.1.now)) (λ e. the_two words.entry ≡ Err e) }
+    ensures { MatchResult result (λ two. the_two words.entry ≡ Ok (two.0.now, two.1.now))
+        (λ e. the_two words.entry ≡ Err e) }
 {
     let a = next_word(&mut words)?;
     let b = next_word(&mut words)?;

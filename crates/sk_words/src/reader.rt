@@ -22,7 +22,8 @@ pub trait Reader: Sized + Drop {
 
 /// Takes in lines up to the first that has a fault.
 pub fn read<R: Reader>(reader: R, lines: &Cursor) -> Result<R, Fault>
-    ensures { Reads result (read_from R.said reader (lines.now.line + 1) lines.now.lines) (lines.now.line + 1) (last_line lines.now) }
+    ensures { Reads result (read_from R.said reader (lines.now.line + 1) lines.now.lines)
+        (lines.now.line + 1) (last_line lines.now) }
 {
     let mut reader = reader;
     let mut lines = lines.again();
@@ -37,5 +38,6 @@ pub fn read<R: Reader>(reader: R, lines: &Cursor) -> Result<R, Fault>
 /// The fault that is told of a text is that of its first faulty line, and one is told exactly where
 /// there is such a line.
 pub fn first_fault_is_told<R: Reader>()
-    ensures { (s : R) (first : ℕ) (ls : List (List ℕ)) (f : Fault) → (read_from R.said s first ls ≡ Err f) ↔ IsFirstFault R.said s first ls f }
+    ensures { (s : R) (first : ℕ) (ls : List (List ℕ)) (f : Fault)
+        → (read_from R.said s first ls ≡ Err f) ↔ IsFirstFault R.said s first ls f }
 {}

@@ -47,7 +47,8 @@ impl<'a> Lines<'a> {
 
     /// The next line without its end, which is then no longer among them; `None` where none is left.
     pub fn next(&mut self) -> Option<&'a [u8]>
-        ensures { MatchOption result (self.old ≡ [] × self.new ≡ []) (λ line. self.old ≡ line.now ∷ self.new) }
+        ensures { MatchOption result (self.old ≡ [] × self.new ≡ [])
+            (λ line. self.old ≡ line.now ∷ self.new) }
     {
         let rest = self.rest;
         if rest.is_empty() {
@@ -68,7 +69,8 @@ impl<'a> Lines<'a> {
 
 /// What stands before and behind the first separator.
 pub(crate) fn cut(text: &[u8], separator: u8) -> Option<(&[u8], &[u8])>
-    ensures parts { MatchOption result (parts separator text.now ≡ text.now ∷ []) (λ x. parts separator text.now ≡ x.0.now ∷ parts separator x.1.now) }
+    ensures parts { MatchOption result (parts separator text.now ≡ text.now ∷ [])
+        (λ x. parts separator text.now ≡ x.0.now ∷ parts separator x.1.now) }
     ensures shorter { IfSome result (λ x. length x.1.now < length text.now) }
 {
     for (i, byte) in text.iter().enumerate() {
@@ -132,7 +134,8 @@ impl<'a> Block<'a> {
 
     /// The next line, which is then no longer among them; `None` where none is left.
     pub(crate) fn next(&mut self) -> Option<&'a [u8]>
-        ensures { MatchOption result (self.old ≡ [] × self.new ≡ []) (λ line. self.old ≡ line.now ∷ self.new) }
+        ensures { MatchOption result (self.old ≡ [] × self.new ≡ [])
+            (λ line. self.old ≡ line.now ∷ self.new) }
     {
         match self.left {
             None => self.lines.next(),

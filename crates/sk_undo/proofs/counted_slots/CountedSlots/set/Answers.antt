@@ -9,7 +9,7 @@ pub recount-requires-clause-most : goal.recount-requires-clause-most
 recount-requires-clause-most c =
     let counted : IsCounted c.self.inside.slots c.make_for.new.self =
     subst (IsCounted c.self.inside.slots) (sym c.in_ok-make_for.ensures.ok) (counted_made c.self.inside.slots c.self.inside.names c.args.entity.now c.self.invariant) in
-    few_for c.self.inside.slots c.make_for.new.self c.args.entity.now c.len-len.result counted c.len-len.ensures.most
+    few_for c.self.inside.slots c.make_for.new.self c.args.entity.now c.len-len.result counted c.len-len.ensures.len
 
 pub invariant_of-self-in_err-back : goal.invariant_of-self-in_err-back
 invariant_of-self-in_err-back c =

@@ -6,7 +6,8 @@ use Rattle.std.specs.Ordering.{nat_cmp}
 use Rattle.std.specs.Cmp.{both_ways}
 use Rattle.std.specs.List.{filter, list_any}
 use Rattle.std.specs.List.Sorted.{IsStrictlySortedBy}
-use Rattle.std.proofs.lemmas.Bool.{true≢false, lt-ltb, le-ltb, or_cases}
+use Rattle.std.proofs.lemmas.Bool.{false_from_ne_true, lt-ltb, le-ltb, or_cases}
+use Rattle.sk_record.proofs.UndoStates.{and_both}
 use Rattle.std.proofs.lemmas.List.{length-append, append_assoc, append-nil, drop_more}
 use Rattle.std.proofs.lemmas.List.Kept.{IsStrictlySortedBy-filter}
 use Rattle.std.proofs.lemmas.List.Elements.{filter-append}
@@ -37,7 +38,7 @@ use Rattle.sk_plain.specs.Act.{plain, Saying}
 use Rattle.sk_plain.specs.Replay.{image}
 use Rattle.sk_plain.specs.View.{Shows}
 use Rattle.sk_plain.specs.declared.view.View.TheVariants as views
-use Rattle.sk_plain.specs.Planned.{IsReply}
+use Rattle.sk_plain.specs.Planned.{IsReply, refusal_of}
 use Rattle.sk_plain.proofs.Adds.{NoneAdded, reply_adds}
 use Rattle.sk_plain.specs.declared.refusal.Refusal.{Refusal}
 use Rattle.sk_plain.specs.declared.refusal.Refusal.TheVariants.{TraceFull}
@@ -56,6 +57,19 @@ use Rattle.sk_client.specs.Table.{buffer_of}
 use Rattle.sk_client.specs.declared.pending.Kept.{Kept}
 use Rattle.sk_client.specs.DeskInvariant.{guesses_of, IsTidy}
 use Rattle.sk_client.specs.Desk.{DeskView, pending, is_asked, asked_count, no_place, rule_refused, rests_of, is_lost, lost_by, guess_refused_at, no_number, kept_for, entry, input_of, decided, given_to, given}
+
+-- ---- what is done, or refused
+
+abbrev pub Did : Type 0
+Did = Effect Entity EntityState Saying
+
+pub ok_of : (r : Result Did Refusal) → refusal_of r ≡ None → (g : Did) × (r ≡ Ok g)
+ok_of (Ok g) h = (g, refl)
+ok_of (Err why) h = absurd cc
+
+pub none_test : (b : Bool) (why : Refusal) → cond b (Some why) None ≡ None → b ≡ false
+none_test true why h = absurd cc
+none_test false why h = refl
 
 -- ---- asked requests
 
@@ -104,10 +118,6 @@ given_reply answers.Dropped input is = cc
 
 -- ---- what a request rests on
 
-both : (a b : Bool) → (a && b) ≡ true → (a ≡ true) × (b ≡ true)
-both true b h = (refl, h)
-both false b h = absurd (true≢false (sym h))
-
 and_false : (b : Bool) → (b && false) ≡ false
 and_false true = refl
 and_false false = refl
@@ -118,7 +128,7 @@ none_some s h = absurd cc
 module _ (k : KernelView) (sound : HasSoundTrace k) where
   -- the tags of an entity are undecided
   tags_undecided : (e : Entity) (g : ℕ) → has g (tags_at k e) ≡ true → has g (undecided_at k) ≡ true
-  tags_undecided e g here = (both (_) (has g (undecided_at k)) (sym (has_filter _ g (undecided_at k)) ∙ here)).1
+  tags_undecided e g here = (and_both _ (has g (undecided_at k)) (sym (has_filter _ g (undecided_at k)) ∙ here)).1
 
   pub rests_are : (pid : ℕ) (name : List ℕ) (all : List ℕ) → IsStrictlySortedBy nat_cmp all
       → ((g : ℕ) → has g all ≡ (has g (tags_at k (Proc pid)) || has g (tags_at k (CopyOf name)))) → all ≡ rests_of k pid name
@@ -132,7 +142,7 @@ module _ (k : KernelView) (sound : HasSoundTrace k) where
       same_rising all (rests_of k pid name) rising (IsStrictlySortedBy-filter nat_cmp either (undecided_at k) (undecided_sorted k sound))
       (λ g. members g ∙ both_ways (either g) (has g (rests_of k pid name))
       (λ here. has_filter either g (undecided_at k) ∙ (λ i. here i && within g here i))
-      (λ here. (both (either g) (has g (undecided_at k)) (sym (has_filter either g (undecided_at k)) ∙ here)).0))
+      (λ here. (and_both (either g) (has g (undecided_at k)) (sym (has_filter either g (undecided_at k)) ∙ here)).0))
 
   pub rests_found : (pid : ℕ) (name : List ℕ) (r : Result (List ℕ) AllocError) (a b : List ℕ) → a ≡ tags_at k (Proc pid) → b ≡ tags_at k (CopyOf name)
       → IfOk r (λ all. (id : ℕ) → has id all ≡ (has id a || has id b)) → IfOk r (λ all. IsStrictlySortedBy nat_cmp all) → IfOk r (λ rests. rests ≡ rests_of k pid name)
@@ -154,17 +164,13 @@ module _ (k : KernelView) (sound : HasSoundTrace k) where
   pub committed_is : (g : ℕ) → list_any (commits g) k.trace ≡ list_any (is_commit g) (events_of k)
   committed_is g = mapped (commits g) (is_commit g) (commits_is g) k.trace
 
-  never : (b : Bool) → (b ≡ true → ⊥) → b ≡ false
-  never true h = absurd (h refl)
-  never false h = refl
-
   -- a guess of an earlier epoch is none of the trace
   pub earlier_lost : (g : ℕ) → g < length k.earlier + 1 → true ≡ is_lost k g
   earlier_lost g early =
       let here : (s : Status) → StatusIs (plain k.scripts) k.start (events_of k) g s → ⊥ =
       λ s is. let later = sound.above g ((one_status (plain k.scripts) k.start (events_of k) sound.sound g).0.1 (s, is)) in absurd (omega (arith, later, early)) in
-      let decided : has g (undecided_at k) ≡ false = never _ (λ there. here Undecided ((is_undecided (plain k.scripts) k.start (events_of k) sound.sound g).0 there)) in
-      let uncommitted : list_any (commits g) k.trace ≡ false = never _ (λ there. here Committed ((has_commit (events_of k) g).0 (sym (committed_is g) ∙ there))) in
+      let decided : has g (undecided_at k) ≡ false = false_from_ne_true _ (λ there. here Undecided ((is_undecided (plain k.scripts) k.start (events_of k) sound.sound g).0 there)) in
+      let uncommitted : list_any (commits g) k.trace ≡ false = false_from_ne_true _ (λ there. here Committed ((has_commit (events_of k) g).0 (sym (committed_is g) ∙ there))) in
       sym (λ i. not (decided i) && not (uncommitted i))
 
   module _ (g : ℕ) (later : length k.earlier < g) (r : Option Status) (told : (s : Status) → (r ≡ Some s) ↔ HasStatus k g s) where
@@ -181,8 +187,8 @@ module _ (k : KernelView) (sound : HasSoundTrace k) where
 
     others_lost : (r ≡ Some Undecided → ⊥) → (r ≡ Some Committed → ⊥) → is_lost k g ≡ true
     others_lost open_not commit_not =
-        let decided : has g (undecided_at k) ≡ false = never _ (λ here. open_not ((is Undecided).1 ((is_undecided (plain k.scripts) k.start (events_of k) sound.sound g).0 here))) in
-        let uncommitted : list_any (commits g) k.trace ≡ false = never _ (λ here. commit_not ((is Committed).1 ((has_commit (events_of k) g).0 (sym (committed_is g) ∙ here)))) in
+        let decided : has g (undecided_at k) ≡ false = false_from_ne_true _ (λ here. open_not ((is Undecided).1 ((is_undecided (plain k.scripts) k.start (events_of k) sound.sound g).0 here))) in
+        let uncommitted : list_any (commits g) k.trace ≡ false = false_from_ne_true _ (λ here. commit_not ((is Committed).1 ((has_commit (events_of k) g).0 (sym (committed_is g) ∙ here)))) in
         (λ i. not (decided i) && not (uncommitted i))
 
     lost_case : (q : Option Status) → r ≡ q → lost_by q ≡ is_lost k g
@@ -212,21 +218,17 @@ pub guesses_more : (xs ys : List PendingRequest) → guesses_of (xs ++ ys) ≡ g
 guesses_more [] ys = refl
 guesses_more (x ∷ xs) ys = ap (λ gs. marks x.guess ++ gs) (guesses_more xs ys) ∙ sym (append_assoc (marks x.guess) (guesses_of xs) (guesses_of ys))
 
--- one request more
-pub one_more : (taken waiting : List PendingRequest) (q : PendingRequest) → guesses_of (taken ++ (waiting ++ q ∷ [])) ≡ guesses_of (taken ++ waiting) ++ marks q.guess
-one_more taken waiting q =
-    ap guesses_of (sym (append_assoc taken waiting (q ∷ []))) ∙ guesses_more (taken ++ waiting) (q ∷ []) ∙ ap (λ gs. guesses_of (taken ++ waiting) ++ gs) (append-nil (marks q.guess))
-
 -- the parts of a desk with one request more
-pub tidy_more : (tokens more : List ℕ) (taken waiting : List PendingRequest) (q : PendingRequest) (taken2 waiting2 : List PendingRequest) (r r2 n n2 m m2 : ℕ) → IsTidy tokens taken waiting r n m
-    → more ≡ tokens ++ marks q.guess → taken2 ≡ taken → waiting2 ≡ waiting ++ q ∷ [] → n2 ≡ n → length taken + length waiting < r2 → n + (length taken + length waiting) < m2 → IsTidy more taken2 waiting2 r2 n2 m2
-tidy_more tokens more taken waiting q taken2 waiting2 r r2 n n2 m m2 tidy is same_taken same_waiting same_n room answers =
-    let longer : length waiting2 ≡ length waiting + 1 = ap length same_waiting ∙ length-append waiting (q ∷ []) in
-    let as_long : length taken2 ≡ length taken = ap length same_taken in
+pub tidy_more : (tokens more : List ℕ) (taken waiting : List PendingRequest) (q : PendingRequest) (taken2 waiting2 : List PendingRequest) (n n2 m m2 : ℕ) → IsTidy tokens taken waiting n m
+    → more ≡ tokens ++ marks q.guess → taken2 ≡ taken → waiting2 ≡ waiting ++ q ∷ [] → n2 ≡ n → n + length (taken ++ waiting) < m2 → IsTidy more taken2 waiting2 n2 m2
+tidy_more tokens more taken waiting q taken2 waiting2 n n2 m m2 tidy is same_taken same_waiting same_n answers =
+    let all = taken ++ waiting in
+    let one_more : taken2 ++ waiting2 ≡ all ++ q ∷ [] = (λ i. same_taken i ++ same_waiting i) ∙ sym (append_assoc taken waiting (q ∷ [])) in
+    let longer : length (taken2 ++ waiting2) ≡ length all + 1 = ap length one_more ∙ length-append all (q ∷ []) in
     record {
-      held = is ∙ ap (λ gs. gs ++ marks q.guess) tidy.held ∙ sym (one_more taken waiting q) ∙ (λ i. guesses_of (sym same_taken i ++ sym same_waiting i));
-      takes = omega (arith, longer, as_long, room);
-      keeps = omega (arith, longer, as_long, same_n, answers);
+      held = is ∙ ap (λ gs. gs ++ marks q.guess) tidy.held
+          ∙ sym (ap guesses_of one_more ∙ guesses_more all (q ∷ []) ∙ ap (λ gs. guesses_of all ++ gs) (append-nil (marks q.guess)));
+      keeps = omega (arith, longer, same_n, answers);
     }
 
 pub no_more : (qs : List PendingRequest) → length qs ≤ 0 → qs ≡ []

@@ -1,31 +1,52 @@
--- Where a world begins, and the laws.
+-- Where a world begins, and what its requests' steps are.
 use Rattle.std.proofs.Common.{◌≡◌, ℕ, zero, suc, ◌≤◌, length, true, false, List, [], ◌∷◌, ◌++◌, map, Some, None, inl, inr, refl, sym, ◌∙◌, ap, subst, arith}
 use Rattle.std.specs.Prelude.{◌⊎◌, slice_get}
-use Rattle.std.specs.List.{Contains}
+use Rattle.std.specs.List.{Contains, fold}
 use Rattle.std.specs.FinMap.{FinMap}
 use Rattle.std.proofs.lemmas.Bool.{true≢false}
-use Rattle.std.proofs.lemmas.List.Elements.{Contains-append_left}
+use Rattle.std.proofs.lemmas.List.{length-map, map-append}
+use Rattle.std.proofs.lemmas.List.Elements.{Contains-append_left, Contains-push_cases}
 use Rattle.sk_record.specs.Effects.{MarkedEffect}
-use Rattle.sk_record.specs.Run.{System, outcome, after, marked_effect, effects}
+use Rattle.sk_record.specs.Run.{System, outcome, after, marked_effect, effects, IsLegal}
 use Rattle.sk_record.specs.Notes.{has}
-use Rattle.sk_record.specs.Trace.{record_of}
-use Rattle.sk_record.specs.declared.status.Status.TheVariants.{Committed, Failed}
+use Rattle.sk_record.specs.Strike.{strike, struck}
+use Rattle.sk_record.specs.Trace.{Event as Happens, Taken, Commit, Fail, StatusIs, IsAllowed, IsDrawn, IsSound, record_of, record_after, undecided_of}
+use Rattle.sk_record.specs.declared.status.Status.TheVariants.{Undecided, Committed, Failed}
 use Rattle.sk_record.proofs.Laws.{one_status}
+use Rattle.sk_ids.specs.declared.entity.Entity.{Entity}
+use Rattle.sk_script.specs.Scripts.{ScriptMap}
 use Rattle.sk_script.specs.declared.instruction.Input.TheVariants.{Good}
-use Rattle.sk_server.specs.declared.request.Ask.TheVariants.{Get}
+use Rattle.sk_store.specs.State.{State}
+use Rattle.sk_store.specs.declared.entity_state.EntityState.{EntityState}
+use Rattle.sk_trace.specs.Entry.{EntryView}
+use Rattle.sk_plain.specs.Act.{Saying, plain}
+use Rattle.sk_kernel.specs.Kernel.{KernelView, events_of, record_at, last_guess}
+use Rattle.sk_kernel.proofs.Lawful.{below_next}
+use Rattle.sk_server.specs.Server.{ServerView}
+use Rattle.sk_server.specs.declared.request.Ask.TheVariants.{Get, Store}
 use Rattle.sk_server.specs.declared.reply.Answer.TheVariants.{Yes}
-use Rattle.sk_client.specs.declared.pending.PendingRequest.{PendingRequest}
-use Rattle.sk_client.proofs.CausedRequests.{Before, For, Caused, Served}
-use Rattle.sk_client.proofs.CausedWorld.{Table, World, WorldEvent, asked_count, kernel, undecided, pending, served, world_after}
 use Rattle.sk_client.specs.AcceptedStores.{paired}
-use Rattle.sk_client.proofs.CausedLaws.{IsTable, IsFirst, Stands, IsDueStep, AcceptedStand, AcceptedStood, PlacesAreKept, StoresAreReplied, Counts, IsStepped}
-use Rattle.sk_client.proofs.Each.{Each, each_at, no_member, cons_first, cons_later, cons_cases, contains_at, at_end}
-use Rattle.sk_client.proofs.TraceFacts.{entry_drawn}
+use Rattle.sk_client.specs.Desk.{opened}
+use Rattle.sk_client.specs.Exchanges.{Exchanges, Leads}
+use Rattle.sk_client.specs.Ready.{IsReady}
+use Rattle.sk_client.specs.Table.{Bytes}
+use Rattle.sk_client.specs.WorldView.{WorldView, joined}
+use Rattle.sk_client.specs.declared.pending.PendingRequest.{PendingRequest}
+use Rattle.sk_client.specs.declared.world.WorldEvent.{WorldEvent}
+use Rattle.sk_client.proofs.Labels.{bare_event, labelled, is_bare}
+use Rattle.sk_client.proofs.CausedWorld.{Before, For, Caused, Served, kernel, undecided, bare, table}
+use Rattle.sk_client.proofs.CausedLaws.{IsTable, Sets}
+use Rattle.sk_client.proofs.Each.{Each, no_member, cons_first, cons_later, cons_cases, contains_at, at_end, kept_was}
+use Rattle.sk_client.proofs.Invariant.{HasStep}
+use Rattle.sk_client.proofs.Events.{no_guess}
 use Rattle.sk_client.proofs.Queues.{queue_le}
-use Rattle.sk_client.proofs.Invariant.{Queue, Apart, HasStep}
-use Rattle.sk_client.proofs.KernelEvents.{no_guess}
-use Rattle.sk_client.proofs.Worlds.{Holds, HasFacts, Room, All, all_keep}
-use Rattle.sk_client.proofs.RequestFacts.{Numbers, Once, Rising, requests, in_map}
+use Rattle.sk_client.proofs.RequestFacts.{Once, Rising, in_map}
+use Rattle.sk_client.proofs.Seen.{Comes, all_events}
+use Rattle.sk_client.proofs.SeenWorld.{World, all_served, all_waiting, entries_of, from_before, event_before}
+use Rattle.sk_client.proofs.Table.{is_table}
+use Rattle.sk_client.proofs.TraceFacts.{entry_drawn}
+use Rattle.sk_client.proofs.WorldFacts.{begun_joined}
+use Rattle.sk_client.proofs.Worlds.{All, Reached}
 
 each_all : {A B : Type 0} (X : A → B → Type 0) (xs : List A) (ys : List B) → ((x : A) (y : B) → Contains xs x → X x y) → Each X xs ys
 each_all X [] ys h = tt
@@ -82,56 +103,217 @@ module _ {E V W F N : Type 0} (K : System E V W F N) where
             (found.0, cons_later (x, f) (paired ns rest) (n, found.0) found.1, found.2)
       ]
 
-module _ {E V W F : Type 0} (S : Table E V W F) (start : FinMap S.order V) (table : IsTable S start) where
-  -- some request stands for those of guesses that no request has made
-  pub holds_first : (some : PendingRequest) (w : World) → IsFirst S start w → Holds S start table w
-  holds_first some w is =
-      let K = kernel S in
-      let none_open : (y : ℕ) → has y (undecided S start w.trace) ≡ true → ⊥ = λ y h. true≢false (sym h ∙ ap (has y) is.decided) in
-      let none_served : (x : Served) → Contains (served w) x → ⊥ = λ x h. no_member x (subst (λ xs. Contains xs x) (λ i. is.given i ++ is.taken i) h) in
-      let none_given : (x : Served) → Contains w.given x → ⊥ = λ x h. no_member x (subst (λ xs. Contains xs x) is.given h) in
-      let none_waiting : (x : PendingRequest) → Contains w.waiting x → ⊥ = λ x h. no_member x (subst (λ xs. Contains xs x) is.waiting h) in
-      let no_pending : pending w ≡ [] = λ i. map (λ x. x.0) (is.taken i) ++ is.waiting i in
+pub out_of_map : {A B : Type 0} (g : A → B) (xs : List A) (y : B) → Contains (map g xs) y → (x : A) × Contains xs x × (g x ≡ y)
+out_of_map g [] y h = absurd (no_member y h)
+out_of_map g (x ∷ xs) y h =
+    elim (cons_cases (g x) (map g xs) y h) [
+      | inl is ↦ (x, cons_first x xs, is)
+      | inr later ↦ let rest = out_of_map g xs y later in (rest.0, cons_later x xs rest.0 rest.1, rest.2)
+    ]
+
+-- ---- a trace is sound where it is without its labels
+
+module _ {A N E V W F : Type 0} (bare : A → N) (K : System E V W F N) where
+  legal_bare : (s : FinMap K.order V) (xs : List A) → IsLegal K s (map bare xs) → IsLegal (labelled bare K) s xs
+  legal_bare s [] h = tt
+  legal_bare s (x ∷ xs) h = (h.0, legal_bare (after K (outcome K s (bare x)) s) xs h.1)
+
+  module _ (start : FinMap K.order V) where
+    status_bare : (es : List (Happens A)) (g : ℕ) → StatusIs K start (map (bare_event bare) es) g Undecided → StatusIs (labelled bare K) start es g Undecided
+    status_bare es g h = (
+      (λ there. h.0 (in_map (bare_event bare) es (Commit g) there)),
+      (λ there. h.1 (in_map (bare_event bare) es (Fail g) there)),
+      let n = h.2 in
+          let x = out_of_map bare (record_of (labelled bare K) start es) n.0 (subst (λ ns. Contains ns n.0) (sym (is_bare bare K start es).entries) n.1) in
+          (x.0, x.1, ap K.mark x.2 ∙ n.2),
+    )
+
+    allowed_bare : (es : List (Happens A)) (e : Happens A) → IsAllowed K start (map (bare_event bare) es) (bare_event bare e) → IsAllowed (labelled bare K) start es e
+    allowed_bare es (Taken n) h = λ g old mark drawn. h g old mark (bare drawn.0, in_map (bare_event bare) es (Taken drawn.0) drawn.1, drawn.2)
+    allowed_bare es (Commit g) h = status_bare es g h
+    allowed_bare es (Fail g) h = status_bare es g h
+
+    sound_bare : (es : List (Happens A)) → IsSound K start (map (bare_event bare) es) → IsSound (labelled bare K) start es
+    sound_bare es h = record {
+      legal = λ before later is.
+          legal_bare start (record_of (labelled bare K) start before)
+          (subst (IsLegal K start) (sym (is_bare bare K start before).entries)
+          (h.legal (map (bare_event bare) before) (map (bare_event bare) later) (ap (map (bare_event bare)) is ∙ map-append (bare_event bare) before later)));
+      allowed = λ before later e is.
+          allowed_bare before e
+          (h.allowed (map (bare_event bare) before) (map (bare_event bare) later) (bare_event bare e) (ap (map (bare_event bare)) is ∙ map-append (bare_event bare) before (e ∷ later)));
+    }
+
+-- ---- events of before
+
+pub back : (es : List (Happens EntryView)) → map (bare_event bare) (map event_before es) ≡ es
+back [] = refl
+back (Taken n ∷ es) = ap (λ xs. Taken n ∷ xs) (back es)
+back (Commit g ∷ es) = ap (λ xs. Commit g ∷ xs) (back es)
+back (Fail g ∷ es) = ap (λ xs. Fail g ∷ xs) (back es)
+
+module _ {E V W F : Type 0} (K : System E V W F Caused) (start : FinMap K.order V) where
+  all_before : (es : List (Happens EntryView)) (ns : List Caused) → ((n : Caused) → Contains ns n → n.cause ≡ Before)
+      → (n : Caused) → Contains (fold (record_after K start) ns (map event_before es)) n → n.cause ≡ Before
+  all_before [] ns h = h
+  all_before (Taken m ∷ es) ns h =
+      all_before es (ns ++ from_before m ∷ []) (λ n there. elim (Contains-push_cases ns (from_before m) n there) [
+        | inl before ↦ h n before
+        | inr is ↦ ap (λ (n : Caused). n.cause) (sym is)
+      ])
+  all_before (Commit g ∷ es) ns h = all_before es ns h
+  all_before (Fail g ∷ es) ns h = all_before es (strike K start ns g) (λ n there. h n (kept_was (struck K start ns g) ns n there))
+
+-- ---- a kernel that is ready
+
+ready_table : (k : KernelView) → IsReady k → IsTable (table k.scripts) k.start
+ready_table k r =
+    subst (λ (c : ScriptMap × State). IsTable (table c.0) c.1) (λ i. (sym r.0.scripts i, sym r.0.start i)) (is_table r.0.boot.scripts r.0.boot r.0.numbered)
+
+-- a kernel that is ready, and a server that has answered nothing, with all that the kernel did before
+abbrev pub first_world : KernelView → ServerView → World
+first_world k server = record { view = joined (opened k) server; trace = map event_before (events_of k); given = [] }
+
+module _ (k : KernelView) (ready : IsReady k) (server : ServerView) where
+  abbrev es : List (Happens Caused)
+  es = map event_before (events_of k)
+
+  sound : IsSound (kernel (table k.scripts)) k.start es
+  sound = sound_bare bare (plain k.scripts) k.start es (subst (IsSound (plain k.scripts) k.start) (sym (back (events_of k))) ready.0.sound.sound)
+
+  drawn : (g : ℕ) → IsDrawn (kernel (table k.scripts)) es g → g ≤ last_guess k
+  drawn g d =
+      let there = subst (λ es. Contains es (Taken (bare d.0))) (back (events_of k)) (in_map (bare_event bare) es (Taken d.0) d.1) in
+      let below = below_next k ready.0.sound g (bare d.0, there, d.2) in
+      omega (arith, below)
+
+  decided : undecided (table k.scripts) k.start es ≡ []
+  decided = (is_bare bare (plain k.scripts) k.start es).guesses ∙ ap (undecided_of (plain k.scripts) k.start) (back (events_of k)) ∙ ready.1
+
+  none_open : (y : ℕ) → has y (undecided (table k.scripts) k.start es) ≡ true → ⊥
+  none_open y h = true≢false (sym h ∙ ap (has y) decided)
+
+  before : (n : Caused) → Contains (record_of (kernel (table k.scripts)) k.start es) n → n.cause ≡ Before
+  before n there = all_before (kernel (table k.scripts)) k.start (events_of k) [] (λ n h. absurd (no_member n h)) n there
+
+  never : (n : Caused) (q : PendingRequest) → Contains (record_of (kernel (table k.scripts)) k.start es) n → n.cause ≡ For q → ⊥
+  never n q there cause = (let both : Before ≡ For q = sym (before n there) ∙ cause in cc)
+
+  length_is : length (record_of (kernel (table k.scripts)) k.start es) ≡ length (record_at k)
+  length_is = sym (length-map (record_of (kernel (table k.scripts)) k.start es) bare) ∙ ap length ((is_bare bare (plain k.scripts) k.start es).entries ∙ ap (record_of (plain k.scripts) k.start) (back (events_of k)))
+
+  -- it stands for those of guesses that no request has made
+  some : PendingRequest
+  some = record { number = 0; process = 0; ask = Get []; guess = None; rests = []; settled = 0 }
+
+  at_first : server.next ≡ 1 → server.refused ≡ [] → Reached (last_guess k) (length (record_at k)) (first_world k server) [] (joined (opened k) server)
+  at_first next refused =
+      let ns = record_of (kernel (table k.scripts)) k.start es in
+      let T = ready_table k ready in
       record {
-        made = λ x. some;
-        bad = λ x. false;
-        base = w.drawn;
-        a = w.drawn;
-        base_le = omega arith;
-        within = λ x h. absurd (none_given x h);
-        sound = is.sound;
-        drawn = is.drawn;
-        above = λ y h. absurd (none_open y h);
-        entries = record {
-          own = λ n g there mark above. absurd (let le = is.drawn g (entry_drawn K start w.trace is.sound g (n, there, mark)) in omega arith);
-          its = λ n q there cause. (let both : Before ≡ For q = sym (is.before n there) ∙ cause in cc);
-          tags = λ y h. absurd (none_open y h);
-          sets = each_all _ (record_of K start w.trace) (effects K start (record_of K start w.trace)) (λ n f there q cause good. (let both : Before ≡ For q = sym (is.before n there) ∙ cause in cc));
+        trace = es;
+        given = [];
+        answered = refl;
+        all = record {
+          is_table = T;
+          traced = record { trace = back (events_of k); sound = ready.0.sound };
+          kinds = tt;
+          holds = record {
+            made = λ x. some;
+            bad = λ x. false;
+            base = last_guess k;
+            a = last_guess k;
+            base_le = omega arith;
+            within = λ x h. absurd (no_member x h);
+            sound = sound;
+            drawn = drawn;
+            above = λ y h. absurd (none_open y h);
+            entries = record {
+              own = λ n g there mark above. absurd (let le = drawn g (entry_drawn (kernel (table k.scripts)) k.start es sound g (n, there, mark)) in omega (arith, le, above));
+              its = λ n q there cause. absurd (never n q there cause);
+              tags = λ y h. absurd (none_open y h);
+              sets = each_all _ ns (effects (kernel (table k.scripts)) k.start ns) (λ n f there q cause good. absurd (never n q there cause));
+            };
+            guesses = record {
+              own = λ x above le. absurd (omega (arith, above, le));
+              stand = λ x above le. absurd (omega (arith, above, le));
+              good = λ x above le. absurd (omega (arith, above, le));
+              early = λ x above le. absurd (omega (arith, above, le));
+              answered = λ y h. absurd (true≢false (sym h));
+              failed = λ x above there. absurd (let le = drawn x ((one_status (kernel (table k.scripts)) T.total T.exact k.start es x sound).0.1 (Failed, there)) in omega (arith, above, le));
+            };
+            queue = refl;
+            remembers = record { undecided = λ y h. absurd (none_open y h); waiting = λ q h. absurd (no_member q h) };
+            answers = λ x h. absurd (no_member x h);
+            stands = λ q m v b h. absurd (no_member (q, Yes) h);
+            asked = λ q h. absurd (no_member q h);
+            apart = tt;
+          };
+          facts = record {
+            low = omega arith;
+            answers = λ k there good. no_member k there;
+            numbers = record { below = λ q none. absurd (no_member q none); rising = tt };
+            owners = record {
+              good = λ n there _. inl (before n there);
+              owner = λ n q there cause. absurd (never n q there cause);
+              asked = λ n q there cause. absurd (never n q there cause);
+              once = once_before ns before;
+            };
+            decided = record {
+              committed = λ q g there. absurd (no_member (q, Yes) there);
+              done = λ g there. inl (drawn g ((one_status (kernel (table k.scripts)) T.total T.exact k.start es g sound).0.1 (Committed, there)));
+            };
+            still_served = λ x there. there;
+            still_given = λ x there. there;
+            still_made = λ q there. there;
+            new = λ i n le at _. at_end ns i n (subst (λ m. m ≤ i) (sym length_is) le) at;
+            came = λ n q g there _ _ _. there;
+            reach = omega arith;
+          };
+          room = (let place = ready.0.place in omega (arith, place));
         };
-        guesses = record {
-          own = λ x above le. absurd (omega arith);
-          stand = λ x above le. absurd (omega arith);
-          good = λ x above le. absurd (omega arith);
-          early = λ x above le. absurd (omega arith);
-          answered = λ y h. absurd (true≢false (sym h));
-          failed = λ x above there. absurd (let le = is.drawn x ((one_status K table.total table.exact start w.trace x is.sound).0.1 (Failed, there)) in omega arith);
-        };
-        queue = subst (Queue (λ x. some) (undecided S start w.trace) w.drawn w.drawn w.drawn) (sym is.waiting) refl;
-        remembers = record { undecided = λ y h. absurd (none_open y h); waiting = λ q h. absurd (none_waiting q h) };
-        answers = λ x h. absurd (none_served x h);
-        stands = λ q m v b h. absurd (none_given (q, Yes) h);
-        asked = λ q h. absurd (no_member q (subst (λ xs. Contains xs q) no_pending h));
-        apart = subst Apart (sym no_pending) tt;
       }
 
+  -- the world that some events lead to
+  pub reached : server.next ≡ 1 → server.refused ≡ [] → (es : List WorldEvent) (xs : Exchanges) (v : WorldView) → Leads (joined (opened k) server) es xs v
+      → Comes (last_guess k) (length (record_at k)) (first_world k server) xs v
+  reached next refused es xs v h =
+      all_events (last_guess k) (length (record_at k)) (first_world k server) [] (joined (opened k) server) es xs v (at_first next refused, begun_joined (opened k) server refl refl refl next) h
+
+-- ---- the steps of requests
+
+-- a step of the record that was taken for this request, with Good, and sets what the request says
+pub record Stands (w : World) (q : PendingRequest) : Type 0 where
+  pub entry : Caused
+  pub effect : MarkedEffect Entity EntityState Saying
+  pub there : Contains (paired (entries_of w) (effects (kernel (table w.view.desk.kernel.scripts)) w.view.desk.kernel.start (entries_of w))) (entry, effect)
+  pub cause : entry.cause ≡ For q
+  pub input : entry.input ≡ Good
+  pub sets : Sets (table w.view.desk.kernel.scripts) q.ask Good effect.written
+
+-- a request was made with a guess, or is a store
+abbrev pub IsStepped : PendingRequest → Type 0
+IsStepped q = ((g : ℕ) × (q.guess ≡ Some g)) ⊎ ((m : Bytes) × (v : ℕ) × (b : Bytes) × (q.ask ≡ Store m v b))
+
+-- its step is due: from its guess on, or from its reply on where it was asked
+abbrev pub IsDueStep : World → PendingRequest → Type 0
+IsDueStep w q = ((g : ℕ) × (q.guess ≡ Some g)) ⊎ Contains w.given (q, Yes)
+
+-- steps with Good that count: they were asked, or their guess committed
+abbrev pub Counts : World → Caused → Type 0
+Counts w n = (n.guess ≡ None) ⊎ ((g : ℕ) × (n.guess ≡ Some g) × Contains w.trace (Commit g))
+
+module _ (drawn begun : ℕ) (old w : World) (all : All drawn begun old w) where
   -- the step of an accepted request is there
-  pub request_stands : (w : World) → Holds S start table w → (q : PendingRequest) → Contains (served w) (q, Yes) → IsStepped q → IsDueStep w q → HasStep S start (record_of (kernel S) start w.trace) q
-  request_stands w i q there steps due =
+  pub request_stands : (q : PendingRequest) → Contains (all_served w) (q, Yes) → IsStepped q → IsDueStep w q → HasStep (table w.view.desk.kernel.scripts) w.view.desk.kernel.start (entries_of w) q
+  request_stands q there steps due =
+      let i = all.holds in
+      let K = w.view.desk.kernel in
       let s = i.answers (q, Yes) there in
-      elim q.guess as (λ o. q.guess ≡ o → HasStep S start (record_of (kernel S) start w.trace) q) [
+      elim q.guess as (λ o. q.guess ≡ o → HasStep (table K.scripts) K.start (entries_of w) q) [
         | Some g ↦ λ is.
             let own = s.own g is in
-            let g_le : g ≤ w.drawn = (let le = queue_le i.made (undecided S start w.trace) w.drawn i.base i.a w.waiting i.queue in let low = own.1 in omega arith) in
+            let g_le : g ≤ last_guess K = (let le = queue_le i.made (undecided (table K.scripts) K.start w.trace) (last_guess K) i.base i.a (all_waiting w) i.queue in let low = own.1 in omega (arith, le, low)) in
             elim (i.guesses.stand g own.0 g_le) [
               | inl entry ↦ let e = i.entries.own entry.0 g entry.1 entry.2 own.0 in (entry.0, entry.1, e.0 ∙ ap For own.2, e.1)
               | inr rests_on ↦ absurd (elim rests_on.2 [
@@ -145,96 +327,40 @@ module _ {E V W F : Type 0} (S : Table E V W F) (start : FinMap S.order V) (tabl
         ]
       ] refl
 
-  pub step_stands : (w : World) → Holds S start table w → (q : PendingRequest) → HasStep S start (record_of (kernel S) start w.trace) q → Stands S start w q
-  step_stands w i q h =
-      let at = entry_at (kernel S) _ start (record_of (kernel S) start w.trace) i.entries.sets h.0 h.1 in
-      record { entry = h.0; marked_effect = at.0; there = at.1; cause = h.2; process = i.entries.its h.0 q h.1 h.2; input = h.3; sets = at.2 q h.2 h.3 }
+  pub step_stands : (q : PendingRequest) → HasStep (table w.view.desk.kernel.scripts) w.view.desk.kernel.start (entries_of w) q → Stands w q
+  step_stands q h =
+      let K = w.view.desk.kernel in
+      let at = entry_at (kernel (table K.scripts)) _ K.start (entries_of w) all.holds.entries.sets h.0 h.1 in
+      record { entry = h.0; effect = at.0; there = at.1; cause = h.2; input = h.3; sets = at.2 q h.2 h.3 }
 
-  -- what holds of the requests at the beginning
-  facts_first : (w : World) → IsFirst S start w → HasFacts S start table w w w
-  facts_first w is =
-      let none_given : (x : Served) → Contains w.given x → ⊥ = λ x h. no_member x (subst (λ xs. Contains xs x) is.given h) in
-      let no_requests : requests S start w w (served w) w.waiting ≡ [] = λ i. map (λ x. x.0) (is.given i ++ is.taken i) ++ is.waiting i in
-      record {
-        low = omega arith;
-        answers = λ k there good. no_member k (subst (λ ks. Contains ks k) is.kept there);
-        numbers = subst (Numbers w.next) (sym no_requests) (record { below = λ q none. absurd (no_member q none); rising = tt });
-        owners = record {
-          good = λ n there _. inl (is.before n there);
-          owner = λ n q there cause. (let both : Before ≡ For q = sym (is.before n there) ∙ cause in cc);
-          asked = λ n q there cause. (let both : Before ≡ For q = sym (is.before n there) ∙ cause in cc);
-          once = once_before (record_of (kernel S) start w.trace) is.before;
-        };
-        decided = record { committed = λ q g there. absurd (none_given (q, Yes) there); done = λ g there. inl there };
-        still_served = λ x there. there;
-        still_given = λ x there. there;
-        still_made = λ q there. there;
-        new = λ i n le at before. at_end (record_of (kernel S) start w.trace) i n le at;
-        came = λ n q g there _ _ _. there;
-        reach = omega arith;
-      }
-
-  room_first : (w : World) → IsFirst S start w → Room S start table w w w
-  room_first w is =
-      let room = is.room in
-      let none = ap length is.decided in
-      let free = ap asked_count (λ i. map (λ (x : Served). x.0) (is.taken i) ++ is.waiting i) in
-      omega arith
-
-  -- it stands for those of guesses that no request has made
-  some : PendingRequest
-  some = record { number = 0; process = 0; ask = Get []; guess = None; rests = []; settled = 0 }
-
-  pub all_after : (first : World) → IsFirst S start first → (es : List WorldEvent) → All S start table first first (world_after S start first es)
-  all_after first is es = all_keep S start table first first es first (holds_first some first is, facts_first first is, room_first first is)
-
-  -- from a later world on
-  pub since : (first old w : World) → All S start table first old w → All S start table first w w
-  since first old w i = (
-    i.0,
-    record {
-      low = i.1.low;
-      answers = i.1.answers;
-      numbers = i.1.numbers;
-      owners = i.1.owners;
-      decided = i.1.decided;
+  -- from this world on
+  pub since : All drawn begun w w
+  since = record {
+    is_table = all.is_table;
+    traced = all.traced;
+    kinds = all.kinds;
+    holds = all.holds;
+    facts = record {
+      low = all.facts.low;
+      answers = all.facts.answers;
+      numbers = all.facts.numbers;
+      owners = all.facts.owners;
+      decided = all.facts.decided;
       still_served = λ x there. there;
       still_given = λ x there. there;
       still_made = λ q there. there;
-      new = i.1.new;
+      new = all.facts.new;
       came = λ n q g there _ _ _. there;
       reach = omega arith;
-    },
-    i.2,
-  )
-
-  -- ---- the laws
-  pub accepted_stand : AcceptedStand S start
-  accepted_stand first is es more q m v b there ask due =
-      let w = world_after S start first es in
-      let i = all_keep S start table first w more w (since first first w (all_after first is es)) in
-      let z = world_after S start w more in
-      step_stands z i.0 q (request_stands z i.0 q (i.1.still_served (q, Yes) there) (inr (m, v, b, ask))
-      (elim due as (λ _. IsDueStep z q) [ inl guess ↦ inl guess | inr given ↦ inr (i.1.still_given (q, Yes) given) ]))
-
-  pub accepted_stood : AcceptedStood S start
-  accepted_stood first is es more q m v b g made there ask its =
-      let w = world_after S start first es in
-      let before = all_after first is es in
-      let i = all_keep S start table first w more w (since first first w before) in
-      let z = world_after S start w more in
-      let h = request_stands z i.0 q there (inl (g, its)) (inl (g, its)) in
-      step_stands w before.0 q (h.0, i.1.came h.0 q g h.1 h.2 its made, h.2, h.3)
-
-  pub places_are_kept : PlacesAreKept S start
-  places_are_kept first is es = (all_after first is es).2
+    };
+    room = all.room;
+  }
 
   -- the request of a step that counts is accepted and has its reply
-  its_reply : (first : World) → IsFirst S start first → (w : World) → All S start table first first w → (n : Caused) → Contains (record_of (kernel S) start w.trace) n → n.input ≡ Good → Counts S start w n
-      → (n.cause ≡ Before) ⊎ ((q : PendingRequest) × (n.cause ≡ For q) × Contains w.given (q, Yes))
-  its_reply first is w all n there good counts =
-      let i = all.0 in
-      let t = all.1 in
+  pub its_reply : (n : Caused) → Contains (entries_of w) n → n.input ≡ Good → Counts w n → (n.cause ≡ Before) ⊎ ((q : PendingRequest) × (n.cause ≡ For q) × Contains w.given (q, Yes))
+  its_reply n there good counts =
+      let i = all.holds in
+      let t = all.facts in
       elim (t.owners.good n there good) [
         | inl before ↦ inl before
         | inr for ↦
@@ -247,7 +373,7 @@ module _ {E V W F : Type 0} (S : Table E V W F) (start : FinMap S.order V) (tabl
                   let g = done.0 in
                   let low = o.2 g (sym o.1 ∙ done.1) in
                   elim (t.decided.done g done.2) [
-                    | inl old ↦ absurd (let le = is.drawn g ((one_status (kernel S) table.total table.exact start first.trace g is.sound).0.1 (Committed, old)) in omega arith)
+                    | inl early ↦ absurd (omega (arith, early, low))
                     | inr r ↦
                         let own = (i.answers (r.0, Yes) (i.within (r.0, Yes) r.1)).own g r.2 in
                         (r.0, (i.entries.own n g there done.1 own.0).0 ∙ ap For own.2, r.1)
@@ -255,27 +381,29 @@ module _ {E V W F : Type 0} (S : Table E V W F) (start : FinMap S.order V) (tabl
             ])
       ]
 
-  pub stores_are_replied : StoresAreReplied S start
+  -- a request's step counts that was accepted and has its reply
+  pub its_step : (q : PendingRequest) → Contains w.given (q, Yes) → IsStepped q → (s : Stands w q) × Counts w s.entry
   unfolding step_stands
-  stores_are_replied first is es =
-      let w = world_after S start first es in
-      let all = all_after first is es in
-      let t = all.1 in
-      record {
-        steps = λ i n le at good counts. elim (its_reply first is w all n (contains_at (record_of (kernel S) start w.trace) i n at) good counts) [
-          | inl before ↦ absurd (t.new i n le at before)
-          | inr q ↦ q
-        ];
-        sets = λ n f q there cause good. each_at _ (record_of (kernel S) start w.trace) (effects (kernel S) start (record_of (kernel S) start w.trace)) all.0.entries.sets n f there q cause good;
-        its = all.0.entries.its;
-        replies = λ q there steps.
-            let h = request_stands w all.0 q (all.0.within (q, Yes) there) steps (inr there) in
-            let o = t.owners.owner h.0 q h.1 h.2 in (
-              step_stands w all.0 q h,
-              elim q.guess as (λ g. q.guess ≡ g → Counts S start w h.0) [
-                | None ↦ λ none. inl (o.1 ∙ none)
-                | Some g ↦ λ some. inr (g, o.1 ∙ some, t.decided.committed q g there some)
-              ] refl,
-            );
-        step_once = λ i j n o q r. once_places (record_of (kernel S) start w.trace) t.owners.once i j n o q r;
-      }
+  its_step q there steps =
+      let h = request_stands q (all.holds.within (q, Yes) there) steps (inr there) in
+      let o = all.facts.owners.owner h.0 q h.1 h.2 in (
+        step_stands q h,
+        elim q.guess as (λ g. q.guess ≡ g → Counts w h.0) [
+          | None ↦ λ none. inl (o.1 ∙ none)
+          | Some g ↦ λ some. inr (g, o.1 ∙ some, all.facts.decided.committed q g there some)
+        ] refl,
+      )
+
+  -- no two steps are one request's
+  pub step_once : (i j : ℕ) (n o : Caused) (q r : PendingRequest) → slice_get (entries_of w) i ≡ Some n → slice_get (entries_of w) j ≡ Some o → n.cause ≡ For q → o.cause ≡ For r → q.number ≡ r.number → i ≡ j
+  step_once i j n o q r = once_places (entries_of w) all.facts.owners.once i j n o q r
+
+-- the world of these events, and from there on
+abbrev pub world_of : (drawn begun : ℕ) (old : World) (xs : Exchanges) (v : WorldView) → Reached drawn begun old xs v → World
+world_of drawn begun old xs v r = record { view = v; trace = r.trace; given = r.given }
+
+pub later_on : (drawn begun : ℕ) (old : World) (xs : Exchanges) (v : WorldView) (r : Comes drawn begun old xs v) (es : List WorldEvent) (ys : Exchanges) (last : WorldView) → Leads v es ys last
+    → Reached drawn begun (world_of drawn begun old xs v r.0) (xs ++ ys) last
+later_on drawn begun old xs v r es ys last h =
+    let w = world_of drawn begun old xs v r.0 in
+    (all_events drawn begun w xs v es ys last (record { trace = r.0.trace; given = r.0.given; answered = r.0.answered; all = since drawn begun old w r.0.all }, r.1) h).0

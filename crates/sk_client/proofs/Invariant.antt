@@ -14,9 +14,8 @@ use Rattle.sk_server.specs.declared.request.Ask.{Ask}
 use Rattle.sk_server.specs.declared.request.Ask.TheVariants.{Get, Check, Store}
 use Rattle.sk_server.specs.declared.reply.Answer.TheVariants.{Yes, Dropped, No, Copy}
 use Rattle.sk_client.specs.declared.pending.PendingRequest.{PendingRequest}
-use Rattle.sk_client.proofs.CausedRequests.{For, Caused, Served}
+use Rattle.sk_client.proofs.CausedWorld.{For, Caused, Served, Table, kernel, is_lost}
 use Rattle.sk_client.specs.Desk.{name_of}
-use Rattle.sk_client.proofs.CausedWorld.{Table, kernel, is_lost}
 use Rattle.sk_client.proofs.CausedLaws.{Takes, Sets}
 use Rattle.sk_client.proofs.Each.{Each}
 use Rattle.sk_client.specs.Table.{Bytes}

@@ -1,14 +1,34 @@
--- Labels change nothing.
+-- Entries that carry more than a kernel looks at, as a cause: it changes nothing.
+use Rattle.std.specs.FinMap.{FinMap}
+use Rattle.sk_record.specs.Run.{System, run, effects, outcome, after, marked_effect}
+use Rattle.sk_record.specs.Trace.{Event, Taken, Commit, Fail, record_of, undecided_of, Record, recorded, all_recorded, no_record, still_marked, marks}
 use Rattle.std.proofs.Common.{◌≡◌, ℕ, Bool, true, false, List, [], ◌∷◌, ◌++◌, map, refl, sym, ◌∙◌, ap}
 use Rattle.std.specs.List.{filter}
-use Rattle.std.specs.FinMap.{FinMap}
 use Rattle.std.proofs.lemmas.List.{map-append}
 use Rattle.sk_record.specs.Effects.{keep, hits}
-use Rattle.sk_record.specs.Run.{System, outcome, after, marked_effect, run, effects}
 use Rattle.sk_record.specs.Strike.{struck, strike}
-use Rattle.sk_record.specs.Trace.{Event, Taken, Commit, Fail, record_of, Record, recorded, all_recorded, no_record, still_marked, marks}
 use Rattle.sk_record.proofs.Sound.{entries_are}
-use Rattle.sk_client.proofs.Bare.{bare_event, labelled, IsBare}
+
+module _ {A N : Type 0} (bare : A → N) where
+  -- the event without labels
+  abbrev pub bare_event : Event A → Event N
+  bare_event (Taken a) = Taken (bare a)
+  bare_event (Commit g) = Commit g
+  bare_event (Fail g) = Fail g
+
+  -- the kernel that looks at no label
+  abbrev pub labelled : {E V W F : Type 0} → System E V W F N → System E V W F A
+  labelled K = record { order = K.order; act = λ a. K.act (bare a); mark = λ a. K.mark (bare a); goes_to = K.goes_to }
+
+  -- its record is the kernel's with labels: the same steps, state and undecided guesses
+  pub record IsBare {E V W F : Type 0} (K : System E V W F N) (start : FinMap K.order V) (es : List (Event A)) : Type 0 where
+    pub entries : map bare (record_of (labelled K) start es) ≡ record_of K start (map bare_event es)
+    pub state :
+        run (labelled K) start (record_of (labelled K) start es) ≡ run K start (record_of K start (map bare_event es))
+    pub steps :
+        effects (labelled K) start (record_of (labelled K) start es)
+        ≡ effects K start (record_of K start (map bare_event es))
+    pub guesses : undecided_of (labelled K) start es ≡ undecided_of K start (map bare_event es)
 
 keep_map : {A B : Type 0} (f : A → B) (bs : List Bool) (xs : List A) → map f (keep bs xs) ≡ keep bs (map f xs)
 keep_map f [] xs = refl

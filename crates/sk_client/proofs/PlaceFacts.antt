@@ -1,20 +1,31 @@
--- The places of the trace.
-use Rattle.std.proofs.Common.{◌≡◌, ℕ, suc, ◌+◌, ◌≤◌, ◌<◌, length, Bool, true, false, cond, not, ◌&&◌, List, [], ◌∷◌, ◌++◌, Option, Some, None, inl, inr, refl, sym, ◌∙◌, ap, subst, arith}
-use Rattle.std.specs.Prelude.{◌==◌}
+-- What an event makes of a kernel's trace: its places, and that it is sound.
+use Rattle.std.proofs.Common.{◌≡◌, ℕ, suc, ◌+◌, ◌≤◌, ◌<◌, length, Bool, true, false, cond, not, ◌&&◌, List, [], ◌∷◌, ◌++◌, Some, None, Ok, inl, inr, refl, sym, ◌∙◌, ap, subst, arith}
+use Rattle.std.specs.Prelude.{◌==◌, is_ok}
 use Rattle.std.specs.List.{filter}
 use Rattle.std.specs.FinMap.{FinMap}
 use Rattle.std.proofs.lemmas.Bool.{or_cases, true≢false, eqb-true, cases_Bool, eq-eqb}
-use Rattle.std.proofs.lemmas.List.{length-append}
+use Rattle.std.proofs.lemmas.List.{length-append, map-append}
 use Rattle.sk_record.specs.Run.{System, effects}
 use Rattle.sk_record.specs.Strike.{strike}
 use Rattle.sk_record.specs.Notes.{has}
-use Rattle.sk_record.specs.Trace.{Event, Taken, Commit, Fail, IsSound, Record, no_record, all_recorded, still_marked, marks, undecided_of}
+use Rattle.sk_record.specs.Trace.{Event, Taken, Commit, Fail, IsDrawn, IsSound, StatusIs, Record, no_record, all_recorded, still_marked, marks, undecided_of}
 use Rattle.sk_record.proofs.Tidy.{recorded_more}
 use Rattle.sk_record.proofs.Machine.{has_filter}
 use Rattle.sk_client.proofs.TraceFacts.{failed_shut}
-use Rattle.sk_client.specs.declared.pending.PendingRequest.{PendingRequest}
-use Rattle.sk_client.proofs.CausedRequests.{Caused}
-use Rattle.sk_client.proofs.CausedWorld.{Table, kernel, undecided, places, asked_too, asked_count}
+use Rattle.sk_script.specs.declared.instruction.Input.{Input}
+use Rattle.sk_trace.specs.declared.event.Event.{Event as Logged}
+use Rattle.sk_trace.specs.declared.event.Event.TheVariants as events
+use Rattle.sk_plain.specs.Act.{plain}
+use Rattle.sk_plain.specs.Replay.{image}
+use Rattle.sk_ids.proofs.Entities.{entity_total, entity_exact}
+use Rattle.sk_record.specs.declared.status.Status.TheVariants.{Undecided}
+use Rattle.sk_record.proofs.Sound.{sound_taken, sound_commit, sound_fail, undecided_is}
+use Rattle.sk_kernel.specs.Kernel.{KernelView, events_of, undecided_at, next_guess, effect_at, with_event}
+use Rattle.sk_kernel.specs.Laws.{HasSoundTrace}
+use Rattle.sk_kernel.proofs.Lawful.{below_next}
+use Rattle.sk_kernel.proofs.Further.{epoch_step, epoch_guess, epoch_commit, epoch_fail}
+use Rattle.sk_client.proofs.DeskFacts.{Did}
+use Rattle.sk_client.specs.Desk.{entry}
 
 pub length_filter : (p : ℕ → Bool) (xs : List ℕ) → length (filter p xs) ≤ length xs
 length_filter p [] = omega arith
@@ -61,42 +72,70 @@ module _ {E V W F N : Type 0} (K : System E V W F N) (start : FinMap K.order V) 
       ] in
       subst (λ xs. length xs < length us) (sym same) (filter_shorter p g none us here)
 
-both_ways : (a b : Option ℕ) (n : ℕ) → asked_too a (asked_too b n) ≡ asked_too b (asked_too a n)
-both_ways None None n = refl
-both_ways None (Some g) n = refl
-both_ways (Some g) None n = refl
-both_ways (Some g) (Some h) n = refl
+-- the places of a kernel's trace that are taken, or kept free for a decision
+abbrev pub used : KernelView → ℕ
+used k = length k.trace + length (undecided_at k)
 
-pub asked_le : (o : Option ℕ) (n : ℕ) → n ≤ asked_too o n
-asked_le None n = omega arith
-asked_le (Some g) n = omega arith
+module _ (k : KernelView) where
+  open_event : (e : Logged) → undecided_at (with_event k e) ≡ undecided_of (plain k.scripts) k.start (events_of k ++ image e ∷ [])
+  open_event e = ap (undecided_of (plain k.scripts) k.start) (map-append image k.trace (e ∷ []))
 
-pub asked_push : (qs : List PendingRequest) (q : PendingRequest) → asked_count (qs ++ q ∷ []) ≡ asked_too q.guess (asked_count qs)
-asked_push [] q = refl
-asked_push (r ∷ qs) q = ap (asked_too r.guess) (asked_push qs q) ∙ both_ways r.guess q.guess (asked_count qs)
+  pub used_step : (p : ℕ) (input : Input) → used (with_event k (events.Step p input)) ≡ used k + 1
+  used_step p input =
+      let a = length_push k.trace (events.Step p input) in
+      let b = ap length (open_event (events.Step p input)) ∙ opens_taken (plain k.scripts) k.start (events_of k) (entry p input None) in
+      omega (arith, a, b)
 
-module _ {E V W F : Type 0} (S : Table E V W F) (start : FinMap S.order V) where
-  pub places_step : (es : List (Event Caused)) (n : Caused) (qs : List PendingRequest) → n.guess ≡ None → places S start (es ++ Taken n ∷ []) qs ≡ suc (places S start es qs)
-  places_step es n qs none =
-      let a = length_push es (Taken n) in
-      let b = opens_taken (kernel S) start es n ∙ ap (λ o. length (undecided S start es) + length (marks o)) none in
-      omega arith
+  pub used_guess : (g p : ℕ) (input : Input) → used (with_event k (events.Guess g p input)) ≡ used k + 2
+  used_guess g p input =
+      let a = length_push k.trace (events.Guess g p input) in
+      let b = ap length (open_event (events.Guess g p input)) ∙ opens_taken (plain k.scripts) k.start (events_of k) (entry p input (Some g)) in
+      omega (arith, a, b)
 
-  pub places_guess : (es : List (Event Caused)) (n : Caused) (qs : List PendingRequest) (g : ℕ) → n.guess ≡ Some g → places S start (es ++ Taken n ∷ []) qs ≡ suc (suc (places S start es qs))
-  places_guess es n qs g some =
-      let a = length_push es (Taken n) in
-      let b = opens_taken (kernel S) start es n ∙ ap (λ o. length (undecided S start es) + length (marks o)) some in
-      omega arith
+  module _ (g : ℕ) (here : has g (undecided_at k) ≡ true) where
+    pub used_commit : used (with_event k (events.Commit g)) ≤ used k
+    used_commit =
+        let a = length_push k.trace (events.Commit g) in
+        let b = ap length (open_event (events.Commit g)) in
+        let c = opens_commit (plain k.scripts) k.start (events_of k) g here in
+        omega (arith, a, b, c)
 
-  pub places_commit : (es : List (Event Caused)) (g : ℕ) (qs : List PendingRequest) → has g (undecided S start es) ≡ true → places S start (es ++ Commit g ∷ []) qs ≤ places S start es qs
-  places_commit es g qs here =
-      let a = length_push es (Commit g) in
-      let b = opens_commit (kernel S) start es g here in
-      omega arith
+-- ---- a sound trace stays so
 
-  pub places_fail : (es : List (Event Caused)) (g : ℕ) (qs : List PendingRequest) → IsSound (kernel S) start (es ++ Fail g ∷ []) → has g (undecided S start es) ≡ true
-      → places S start (es ++ Fail g ∷ []) qs ≤ places S start es qs
-  places_fail es g qs sound here =
-      let a = length_push es (Fail g) in
-      let b = opens_fail (kernel S) start es g sound here in
-      omega arith
+module _ (k : KernelView) (sound : HasSoundTrace k) where
+  sound_more : (e : Logged) → IsSound (plain k.scripts) k.start (events_of k ++ image e ∷ []) → IsSound (plain k.scripts) k.start (events_of (with_event k e))
+  sound_more e is = subst (IsSound (plain k.scripts) k.start) (sym (map-append image k.trace (e ∷ []))) is
+
+  pub step_sound : (p : ℕ) (input : Input) (f : Did) → effect_at k (entry p input None) ≡ Ok f → HasSoundTrace (with_event k (events.Step p input))
+  step_sound p input f is =
+      epoch_step k sound p input (sound_more (events.Step p input) (sound_taken (plain k.scripts) k.start (events_of k) (entry p input None) sound.sound (λ g h mark drawn. absurd cc) (ap is_ok is)))
+
+  drawn_below : (g h : ℕ) → Some (next_guess k) ≡ Some g → IsDrawn (plain k.scripts) (events_of k) h → h < g
+  drawn_below g h mark drawn =
+      let same : next_guess k ≡ g = cc in
+      let less = below_next k sound h drawn in
+      omega (arith, same, less)
+
+  pub guess_sound : (p : ℕ) (input : Input) (f : Did) → effect_at k (entry p input (Some (next_guess k))) ≡ Ok f → HasSoundTrace (with_event k (events.Guess (next_guess k) p input))
+  guess_sound p input f is =
+      epoch_guess k sound p input (sound_more (events.Guess (next_guess k) p input) (sound_taken (plain k.scripts) k.start (events_of k) (entry p input (Some (next_guess k))) sound.sound drawn_below (ap is_ok is)))
+
+  module _ (g : ℕ) (here : has g (undecided_at k) ≡ true) where
+    status : StatusIs (plain k.scripts) k.start (events_of k) g Undecided
+    status = (undecided_is (plain k.scripts) k.start (events_of k) sound.sound g).0 here
+
+    pub commit_sound : HasSoundTrace (with_event k (events.Commit g))
+    commit_sound = epoch_commit k sound g (sound_more (events.Commit g) (sound_commit (plain k.scripts) k.start (events_of k) g sound.sound status))
+
+    fails : IsSound (plain k.scripts) k.start (events_of k ++ Fail g ∷ [])
+    fails = sound_fail (plain k.scripts) k.start entity_total entity_exact (events_of k) g sound.sound status
+
+    pub fail_sound : HasSoundTrace (with_event k (events.Fail g))
+    fail_sound = epoch_fail k sound g (sound_more (events.Fail g) fails)
+
+    pub used_fail : used (with_event k (events.Fail g)) ≤ used k
+    used_fail =
+        let a = length_push k.trace (events.Fail g) in
+        let b = ap length (open_event k (events.Fail g)) in
+        let c = opens_fail (plain k.scripts) k.start (events_of k) g fails here in
+        omega (arith, a, b, c)

@@ -15,15 +15,14 @@ use Rattle.sk_record.specs.Trace.{Event, undecided_of, still_marked}
 use Rattle.sk_record.proofs.Struck.{footprint}
 use Rattle.sk_record.proofs.Machine.{unmarked_hits}
 use Rattle.sk_record.proofs.UndoStates.{and_both}
-use Rattle.sk_record.proofs.Sound.{any_from, mark_is}
+use Rattle.sk_record.proofs.Sound.{any_from, mark_is, is_commit}
 use Rattle.sk_script.specs.declared.instruction.Input.{Input}
 use Rattle.sk_script.specs.declared.instruction.Input.TheVariants.{Good, Fresh, Stale}
 use Rattle.sk_server.specs.declared.request.Ask.{Ask}
 use Rattle.sk_server.specs.declared.request.Ask.TheVariants.{Get, Check, Store}
 use Rattle.sk_client.specs.declared.pending.PendingRequest.{PendingRequest}
-use Rattle.sk_client.proofs.CausedRequests.{For, Caused}
+use Rattle.sk_client.proofs.CausedWorld.{For, Caused, Table, kernel, own, is_lost}
 use Rattle.sk_client.specs.Desk.{name_of}
-use Rattle.sk_client.proofs.CausedWorld.{Table, kernel, own, commits, is_lost}
 use Rattle.sk_client.proofs.CausedLaws.{Takes, Sets, IsTable, IsEither}
 use Rattle.sk_client.proofs.Each.{each_none, kept_was}
 use Rattle.sk_client.proofs.TraceFacts.{each_effects_more, each_hits_more, each_effects_left, each_hits_left, value_taken, dirt_taken, value_left, dirt_left}
@@ -180,10 +179,10 @@ module _ {E V W F : Type 0} (S : Table E V W F) (start : FinMap S.order V) (tabl
 
   -- a lost guess stays lost
   pub lost_more : (es : List (Event Caused)) (e : Event Caused) (y : ℕ)
-      → (has y (undecided_of (kernel S) start (es ++ e ∷ [])) ≡ true → has y (undecided_of (kernel S) start es) ≡ true) → commits y e ≡ false
+      → (has y (undecided_of (kernel S) start (es ++ e ∷ [])) ≡ true → has y (undecided_of (kernel S) start es) ≡ true) → is_commit y e ≡ false
       → is_lost S start es y ≡ true → is_lost S start (es ++ e ∷ []) y ≡ true
   lost_more es e y fewer other lost =
       let parts = and_both _ _ lost in
       let shut : has y (undecided_of (kernel S) start (es ++ e ∷ [])) ≡ false = false_from_ne_true _ (λ h. true≢false (sym (fewer h) ∙ not_true _ parts.0)) in
-      let none : list_any (commits y) (es ++ e ∷ []) ≡ false = list_any-append (commits y) es (e ∷ []) ∙ or_from _ _ (not_true _ parts.1) (or_from _ _ other refl) in
+      let none : list_any (is_commit y) (es ++ e ∷ []) ≡ false = list_any-append (is_commit y) es (e ∷ []) ∙ or_from _ _ (not_true _ parts.1) (or_from _ _ other refl) in
       λ i. not (shut i) && not (none i)

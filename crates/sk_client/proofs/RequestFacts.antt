@@ -1,5 +1,5 @@
 -- What holds of a world's requests beside the invariant: kept answers, request numbers, the request of each entry, and commits.
-use Rattle.std.proofs.Common.{◌≡◌, ℕ, suc, ◌≤◌, ◌<◌, Bool, true, false, List, [], ◌∷◌, ◌++◌, map, Some, None, inl, inr, refl, sym, ◌∙◌, ap, subst, arith, append_assoc, length, slice_get}
+use Rattle.std.proofs.Common.{◌≡◌, ℕ, suc, ◌≤◌, ◌<◌, Bool, true, false, List, [], ◌∷◌, ◌++◌, map, Some, None, inl, inr, refl, sym, ◌∙◌, ap, subst, arith, append_assoc, slice_get}
 use Rattle.std.specs.Prelude.{◌⊎◌}
 use Rattle.std.specs.List.{Contains}
 use Rattle.std.specs.FinMap.{FinMap}
@@ -12,10 +12,10 @@ use Rattle.sk_script.specs.declared.instruction.Input.TheVariants.{Good}
 use Rattle.sk_server.specs.declared.reply.Answer.{Answer}
 use Rattle.sk_server.specs.declared.reply.Answer.TheVariants.{Yes}
 use Rattle.sk_client.specs.declared.pending.PendingRequest.{PendingRequest}
-use Rattle.sk_client.proofs.CausedRequests.{Before, Own, For, Caused, Served}
-use Rattle.sk_client.proofs.CausedWorld.{Table, World, kernel}
+use Rattle.sk_client.proofs.CausedWorld.{Before, Own, For, Caused, Served, Table, kernel}
+use Rattle.sk_client.proofs.SeenWorld.{World, all_served, all_waiting, entries_of}
 use Rattle.sk_client.proofs.Each.{cons_first, cons_later, cons_cases, no_member, kept_was, at_push, at_kept}
-use Rattle.sk_client.proofs.KernelEvents.{no_guess}
+use Rattle.sk_client.proofs.Events.{no_guess}
 use Rattle.sk_client.specs.declared.pending.Kept.{Kept}
 
 -- ---- request numbers
@@ -166,19 +166,19 @@ owners_for drawn ns n q given qs own there mark above asks new h =
     }
 
 -- ---- what was committed
-pub record Decided (es0 es : List (Event Caused)) (given : List Served) : Type 0 where
+pub record Decided (drawn : ℕ) (es : List (Event Caused)) (given : List Served) : Type 0 where
   pub committed : (q : PendingRequest) (g : ℕ) → Contains given (q, Yes) → q.guess ≡ Some g → Contains es (Commit g)
-  pub done : (g : ℕ) → Contains es (Commit g) → Contains es0 (Commit g) ⊎ ((q : PendingRequest) × Contains given (q, Yes) × (q.guess ≡ Some g))
+  pub done : (g : ℕ) → Contains es (Commit g) → (g ≤ drawn) ⊎ ((q : PendingRequest) × Contains given (q, Yes) × (q.guess ≡ Some g))
 
-pub decided_other : (es0 es : List (Event Caused)) (e : Event Caused) (given : List Served) → ((g : ℕ) → e ≡ Commit g → ⊥) → Decided es0 es given → Decided es0 (es ++ e ∷ []) given
-decided_other es0 es e given other h = record {
+pub decided_other : (drawn : ℕ) (es : List (Event Caused)) (e : Event Caused) (given : List Served) → ((g : ℕ) → e ≡ Commit g → ⊥) → Decided drawn es given → Decided drawn (es ++ e ∷ []) given
+decided_other drawn es e given other h = record {
   committed = λ q g there is. Contains-append_left es (e ∷ []) (Commit g) (h.committed q g there is);
   done = λ g there. elim (Contains-push_cases es e (Commit g) there) [ inl before ↦ h.done g before | inr is ↦ absurd (other g is) ];
 }
 
-pub decided_given : (es0 es : List (Event Caused)) (given : List Served) (x : Served) → ((g : ℕ) → x.1 ≡ Yes → x.0.guess ≡ Some g → Contains es (Commit g))
-    → Decided es0 es given → Decided es0 es (given ++ x ∷ [])
-decided_given es0 es given x new h = record {
+pub decided_given : (drawn : ℕ) (es : List (Event Caused)) (given : List Served) (x : Served) → ((g : ℕ) → x.1 ≡ Yes → x.0.guess ≡ Some g → Contains es (Commit g))
+    → Decided drawn es given → Decided drawn es (given ++ x ∷ [])
+decided_given drawn es given x new h = record {
   committed = λ q g there is. elim (Contains-push_cases given x (q, Yes) there) [
     | inl before ↦ h.committed q g before is
     | inr same ↦ new g (ap (λ (x : Served). x.1) same) (ap (λ (x : Served). x.0.guess) same ∙ is)
@@ -186,9 +186,9 @@ decided_given es0 es given x new h = record {
   done = λ g there. elim (h.done g there) [ inl before ↦ inl before | inr q ↦ inr (q.0, Contains-append_left given (x ∷ []) (q.0, Yes) q.1, q.2) ];
 }
 
-pub decided_commit : (es0 es : List (Event Caused)) (given : List Served) (q : PendingRequest) (g : ℕ) → q.guess ≡ Some g
-    → Decided es0 es given → Decided es0 (es ++ Commit g ∷ []) (given ++ (q, Yes) ∷ [])
-decided_commit es0 es given q g its h = record {
+pub decided_commit : (drawn : ℕ) (es : List (Event Caused)) (given : List Served) (q : PendingRequest) (g : ℕ) → q.guess ≡ Some g
+    → Decided drawn es given → Decided drawn (es ++ Commit g ∷ []) (given ++ (q, Yes) ∷ [])
+decided_commit drawn es given q g its h = record {
   committed = λ r k there is. elim (Contains-push_cases given (q, Yes) (r, Yes) there) [
     | inl before ↦ Contains-append_left es (Commit g ∷ []) (Commit k) (h.committed r k before is)
     | inr same ↦
@@ -238,56 +238,73 @@ new_keep : (place : ℕ) (bs : List Bool) (ns : List Caused) → IsNew place ns 
 new_keep place bs ns h i m le at before = (let k = at_kept bs ns i m at in let more = k.1 in h k.0 m (omega (arith, le, more)) k.2 before)
 
 -- ---- all of these, and the events
-module _ {E V W F : Type 0} (S : Table E V W F) (start : FinMap S.order V) (first old : World) where
+module _ {E V W F : Type 0} (S : Table E V W F) (start : FinMap S.order V) (drawn begun : ℕ) (old : World) where
   abbrev pub requests : List Served → List PendingRequest → List PendingRequest
   requests served waiting = map (λ x. x.0) served ++ waiting
 
   abbrev pub Came : List Caused → Type 0
   Came ns =
-      (n : Caused) (q : PendingRequest) (g : ℕ) → Contains ns n → n.cause ≡ For q → q.guess ≡ Some g → q.number < old.next
-      → Contains (record_of (kernel S) start old.trace) n
+      (n : Caused) (q : PendingRequest) (g : ℕ) → Contains ns n → n.cause ≡ For q → q.guess ≡ Some g → q.number < old.view.desk.next
+      → Contains (entries_of old) n
 
   pub record RequestFacts (es : List (Event Caused)) (d : ℕ) (kept : List Kept) (next : ℕ) (served given : List Served) (waiting : List PendingRequest) : Type 0 where
-    pub low : first.drawn ≤ d
+    pub low : drawn ≤ d
     pub answers : NoGood kept
     pub numbers : Numbers next (requests served waiting)
-    pub owners : Owners first.drawn (record_of (kernel S) start es) given (requests served waiting)
-    pub decided : Decided first.trace es given
+    pub owners : Owners drawn (record_of (kernel S) start es) given (requests served waiting)
+    pub decided : Decided drawn es given
     -- what was answered or given before stays so
-    pub still_served : (x : Served) → Contains (old.given ++ old.taken) x → Contains served x
+    pub still_served : (x : Served) → Contains (all_served old) x → Contains served x
     pub still_given : (x : Served) → Contains old.given x → Contains given x
     -- and each request that was made
-    pub still_made : (q : PendingRequest) → Contains (requests (old.given ++ old.taken) old.waiting) q → Contains (requests served waiting) q
-    pub new : IsNew (length (record_of (kernel S) start first.trace)) (record_of (kernel S) start es)
+    pub still_made : (q : PendingRequest) → Contains (requests (all_served old) (all_waiting old)) q → Contains (requests served waiting) q
+    pub new : IsNew begun (record_of (kernel S) start es)
     -- the step of a guess that was made before was there before
     pub came : Came (record_of (kernel S) start es)
-    pub reach : old.next ≤ next
+    pub reach : old.view.desk.next ≤ next
 
   module _ (es : List (Event Caused)) (d : ℕ) (kept : List Kept) (next : ℕ) (served given : List Served) (waiting : List PendingRequest)
       (t : RequestFacts es d kept next served given waiting) where
     pub facts_kept : (after : List Kept) → NoGood after → RequestFacts es d after next served given waiting
     facts_kept after answers = record { low = t.low; answers = answers; numbers = t.numbers; owners = t.owners; decided = t.decided; still_served = t.still_served; still_given = t.still_given; still_made = t.still_made; new = t.new; came = t.came; reach = t.reach }
 
-    pub facts_own : (n : Caused) → n.cause ≡ Own → (n.input ≡ Good → ⊥) → RequestFacts (es ++ Taken n ∷ []) d kept next served given waiting
-    facts_own n own bad = record {
+    -- after these events, with these replies given
+    facts_event : (later : List (Event Caused)) (more : List Served) → ((x : Served) → Contains given x → Contains more x) → IsNew begun (record_of (kernel S) start later) → Came (record_of (kernel S) start later)
+        → Owners drawn (record_of (kernel S) start later) more (requests served waiting) → Decided drawn later more → RequestFacts later d kept next served more waiting
+    facts_event later more kept_given new came owners decided = record {
       low = t.low;
       answers = t.answers;
-      came = subst Came (sym (record_more (kernel S) start es (Taken n)))
-          (λ o q g there for its. elim (Contains-push_cases (record_of (kernel S) start es) n o there) [
-            | inl before ↦ t.came o q g before for its
-            | inr is ↦ (let both : Own ≡ For q = sym own ∙ ap (λ (n : Caused). n.cause) is ∙ for in cc)
-          ]);
-      reach = t.reach;
-      still_served = t.still_served;
-      still_given = t.still_given;
-      still_made = t.still_made;
-      new = subst (IsNew (length (record_of (kernel S) start first.trace))) (sym (record_more (kernel S) start es (Taken n)))
-          (new_push (length (record_of (kernel S) start first.trace)) (record_of (kernel S) start es) n (λ before. (let both : Own ≡ Before = sym own ∙ before in cc)) t.new);
       numbers = t.numbers;
-      owners = subst (λ ns. Owners first.drawn ns given (requests served waiting)) (sym (record_more (kernel S) start es (Taken n)))
-          (owners_own first.drawn (record_of (kernel S) start es) n given (requests served waiting) own bad t.owners);
-      decided = decided_other first.trace es (Taken n) given (λ g is. cc) t.decided;
+      owners = owners;
+      decided = decided;
+      still_served = t.still_served;
+      still_given = λ x there. kept_given x (t.still_given x there);
+      still_made = t.still_made;
+      new = new;
+      came = came;
+      reach = t.reach;
     }
+
+    -- an entry that was not there before
+    new_taken : (n : Caused) → (n.cause ≡ Before → ⊥) → IsNew begun (record_of (kernel S) start (es ++ Taken n ∷ []))
+    new_taken n other = subst (IsNew begun) (sym (record_more (kernel S) start es (Taken n))) (new_push begun (record_of (kernel S) start es) n other t.new)
+
+    came_taken : (n : Caused) → ((q : PendingRequest) (g : ℕ) → n.cause ≡ For q → q.guess ≡ Some g → q.number < old.view.desk.next → ⊥) → Came (record_of (kernel S) start (es ++ Taken n ∷ []))
+    came_taken n none =
+        subst Came (sym (record_more (kernel S) start es (Taken n)))
+        (λ o q g there for its was. elim (Contains-push_cases (record_of (kernel S) start es) n o there) [
+          | inl before ↦ t.came o q g before for its was
+          | inr is ↦ absurd (none q g (ap (λ (n : Caused). n.cause) is ∙ for) its was)
+        ])
+
+    pub facts_own : (n : Caused) → n.cause ≡ Own → (n.input ≡ Good → ⊥) → RequestFacts (es ++ Taken n ∷ []) d kept next served given waiting
+    facts_own n own bad =
+        facts_event (es ++ Taken n ∷ []) given (λ x there. there)
+        (new_taken n (λ before. (let both : Own ≡ Before = sym own ∙ before in cc)))
+        (came_taken n (λ q g for its was. (let both : Own ≡ For q = sym own ∙ for in cc)))
+        (subst (λ ns. Owners drawn ns given (requests served waiting)) (sym (record_more (kernel S) start es (Taken n)))
+        (owners_own drawn (record_of (kernel S) start es) n given (requests served waiting) own bad t.owners))
+        (decided_other drawn es (Taken n) given (λ g is. cc) t.decided)
 
     requests_push : (q : PendingRequest) → requests served waiting ++ q ∷ [] ≡ requests served (waiting ++ q ∷ [])
     requests_push q = append_assoc (map (λ (x : Served). x.0) served) waiting (q ∷ [])
@@ -303,8 +320,8 @@ module _ {E V W F : Type 0} (S : Table E V W F) (start : FinMap S.order V) (firs
       still_made = λ r there. subst (λ rs. Contains rs r) (requests_push q) (Contains-append_left (requests served waiting) (q ∷ []) r (t.still_made r there));
       new = t.new;
       numbers = subst (Numbers (suc next)) (requests_push q) (numbers_push next (requests served waiting) q is t.numbers);
-      owners = subst (Owners first.drawn (record_of (kernel S) start es) given) (requests_push q)
-          (owners_more first.drawn (record_of (kernel S) start es) given given (requests served waiting) (requests served waiting ++ q ∷ []) (λ x there. there)
+      owners = subst (Owners drawn (record_of (kernel S) start es) given) (requests_push q)
+          (owners_more drawn (record_of (kernel S) start es) given given (requests served waiting) (requests served waiting ++ q ∷ []) (λ x there. there)
           (λ r there. Contains-append_left (requests served waiting) (q ∷ []) r there) t.owners);
       decided = t.decided;
     }
@@ -318,31 +335,26 @@ module _ {E V W F : Type 0} (S : Table E V W F) (start : FinMap S.order V) (firs
         record {
           low = omega arith;
           answers = t.answers;
-          came = subst Came (sym (record_more (kernel S) start es (Taken n)))
-              (λ o r g there for its was. elim (Contains-push_cases (record_of (kernel S) start es) n o there) [
-                | inl before ↦ t.came o r g before for its was
-                | inr same ↦
-                    let both : For q ≡ For r = sym own ∙ ap (λ (n : Caused). n.cause) same ∙ for in
-                    let one : q ≡ r = cc in
-                    let eq = ap (λ (r : PendingRequest). r.number) one in
-                    let le = t.reach in
-                    absurd (omega (arith, eq, le, was, is))
-              ]);
+          came = came_taken n (λ r g for its was.
+              let both : For q ≡ For r = sym own ∙ for in
+              let one : q ≡ r = cc in
+              let eq = ap (λ (r : PendingRequest). r.number) one in
+              let le = t.reach in
+              omega (arith, eq, le, was, is));
           reach = asks.reach;
           still_served = t.still_served;
           still_given = t.still_given;
           still_made = asks.still_made;
-          new = subst (IsNew (length (record_of (kernel S) start first.trace))) (sym (record_more (kernel S) start es (Taken n)))
-              (new_push (length (record_of (kernel S) start first.trace)) (record_of (kernel S) start es) n (λ before. (let both : For q ≡ Before = sym own ∙ before in cc)) t.new);
+          new = new_taken n (λ before. (let both : For q ≡ Before = sym own ∙ before in cc));
           numbers = asks.numbers;
-          owners = subst (λ ns. Owners first.drawn ns given rs) (sym (record_more (kernel S) start es (Taken n)))
-              (owners_for first.drawn (record_of (kernel S) start es) n q given rs own
+          owners = subst (λ ns. Owners drawn ns given rs) (sym (record_more (kernel S) start es (Taken n)))
+              (owners_for drawn (record_of (kernel S) start es) n q given rs own
               (subst (λ rs. Contains rs q) (requests_push q) (Contains-push (requests served waiting) q)) mark
               (λ g g_is. (let both : Some (suc d) ≡ Some g = sym guess ∙ g_is in let one : suc d ≡ g = cc in omega arith))
               (λ none. absurd (no_guess q.guess (suc d) none guess))
               (λ o r o_in o_is same. let lt = t.numbers.below r (t.owners.owner o r o_in o_is).0 in omega arith)
               asks.owners);
-          decided = decided_other first.trace es (Taken n) given (λ g e. cc) t.decided;
+          decided = decided_other drawn es (Taken n) given (λ g e. cc) t.decided;
         }
 
   module _ (es : List (Event Caused)) (d : ℕ) (kept : List Kept) (next : ℕ) (served given : List Served) where
@@ -359,102 +371,63 @@ module _ {E V W F : Type 0} (S : Table E V W F) (start : FinMap S.order V) (firs
           still_made = λ r there. subst (λ rs. Contains rs r) (sym same) (t.still_made r there);
           new = t.new;
           numbers = subst (Numbers next) (sym same) t.numbers;
-          owners = subst (Owners first.drawn (record_of (kernel S) start es) given) (sym same) t.owners;
+          owners = subst (Owners drawn (record_of (kernel S) start es) given) (sym same) t.owners;
           decided = t.decided;
         }
 
   -- a reply x is given
   module _ (es : List (Event Caused)) (d : ℕ) (kept : List Kept) (next : ℕ) (served given : List Served) (waiting : List PendingRequest)
       (t : RequestFacts es d kept next served given waiting) where
-    given_owners : (x : Served) → Owners first.drawn (record_of (kernel S) start es) (given ++ x ∷ []) (requests served waiting)
+    given_owners : (x : Served) → Owners drawn (record_of (kernel S) start es) (given ++ x ∷ []) (requests served waiting)
     given_owners x =
-        owners_more first.drawn (record_of (kernel S) start es) given (given ++ x ∷ []) (requests served waiting) (requests served waiting) (λ y there. Contains-append_left given (x ∷ []) y there) (λ r there. there) t.owners
+        owners_more drawn (record_of (kernel S) start es) given (given ++ x ∷ []) (requests served waiting) (requests served waiting) (λ y there. Contains-append_left given (x ∷ []) y there) (λ r there. there) t.owners
+
+    keeps_given : (x y : Served) → Contains given y → Contains (given ++ x ∷ []) y
+    keeps_given x y there = Contains-append_left given (x ∷ []) y there
 
     pub facts_none : (x : Served) → ((g : ℕ) → x.1 ≡ Yes → x.0.guess ≡ Some g → Contains es (Commit g)) → RequestFacts es d kept next served (given ++ x ∷ []) waiting
-    facts_none x new = record {
-      low = t.low;
-      answers = t.answers;
-      came = t.came;
-      reach = t.reach;
-      still_served = t.still_served;
-      still_given = λ y there. Contains-append_left given (x ∷ []) y (t.still_given y there);
-      still_made = t.still_made;
-      new = t.new;
-      numbers = t.numbers;
-      owners = given_owners x;
-      decided = decided_given first.trace es given x new t.decided;
-    }
+    facts_none x new = facts_event es d kept next served given waiting t es (given ++ x ∷ []) (keeps_given x) t.new t.came (given_owners x) (decided_given drawn es given x new t.decided)
 
     pub facts_commit : (q : PendingRequest) (g : ℕ) → q.guess ≡ Some g → RequestFacts (es ++ Commit g ∷ []) d kept next served (given ++ (q, Yes) ∷ []) waiting
-    facts_commit q g its = record {
-      low = t.low;
-      answers = t.answers;
-      came = subst Came (sym (record_more (kernel S) start es (Commit g))) t.came;
-      reach = t.reach;
-      still_served = t.still_served;
-      still_given = λ y there. Contains-append_left given ((q, Yes) ∷ []) y (t.still_given y there);
-      still_made = t.still_made;
-      new = subst (IsNew (length (record_of (kernel S) start first.trace))) (sym (record_more (kernel S) start es (Commit g))) t.new;
-      numbers = t.numbers;
-      owners = subst (λ ns. Owners first.drawn ns (given ++ (q, Yes) ∷ []) (requests served waiting)) (sym (record_more (kernel S) start es (Commit g))) (given_owners (q, Yes));
-      decided = decided_commit first.trace es given q g its t.decided;
-    }
+    facts_commit q g its =
+        let same = sym (record_more (kernel S) start es (Commit g)) in
+        facts_event es d kept next served given waiting t (es ++ Commit g ∷ []) (given ++ (q, Yes) ∷ []) (keeps_given (q, Yes)) (subst (IsNew begun) same t.new) (subst Came same t.came)
+        (subst (λ ns. Owners drawn ns (given ++ (q, Yes) ∷ []) (requests served waiting)) same (given_owners (q, Yes)))
+        (decided_commit drawn es given q g its t.decided)
 
     pub facts_fail : (x : Served) (g : ℕ) → (x.1 ≡ Yes → ⊥) → RequestFacts (es ++ Fail g ∷ []) d kept next served (given ++ x ∷ []) waiting
-    facts_fail x g no_yes = record {
-      low = t.low;
-      answers = t.answers;
-      came = subst Came (sym (record_more (kernel S) start es (Fail g)))
-          (λ o r h there. t.came o r h (kept_was (struck (kernel S) start (record_of (kernel S) start es) g) (record_of (kernel S) start es) o there));
-      reach = t.reach;
-      still_served = t.still_served;
-      still_given = λ y there. Contains-append_left given (x ∷ []) y (t.still_given y there);
-      still_made = t.still_made;
-      new = subst (IsNew (length (record_of (kernel S) start first.trace))) (sym (record_more (kernel S) start es (Fail g)))
-          (new_keep (length (record_of (kernel S) start first.trace)) (struck (kernel S) start (record_of (kernel S) start es) g) (record_of (kernel S) start es) t.new);
-      numbers = t.numbers;
-      owners = subst (λ ns. Owners first.drawn ns (given ++ x ∷ []) (requests served waiting)) (sym (record_more (kernel S) start es (Fail g)))
-          (owners_keep first.drawn (struck (kernel S) start (record_of (kernel S) start es) g) (record_of (kernel S) start es) (given ++ x ∷ []) (requests served waiting) (given_owners x));
-      decided = decided_given first.trace (es ++ Fail g ∷ []) given x (λ h says. absurd (no_yes says)) (decided_other first.trace es (Fail g) given (λ h e. cc) t.decided);
-    }
+    facts_fail x g no_yes =
+        let ns = record_of (kernel S) start es in
+        let bs = struck (kernel S) start ns g in
+        let same = sym (record_more (kernel S) start es (Fail g)) in
+        facts_event es d kept next served given waiting t (es ++ Fail g ∷ []) (given ++ x ∷ []) (keeps_given x) (subst (IsNew begun) same (new_keep begun bs ns t.new))
+        (subst Came same (λ o r h there. t.came o r h (kept_was bs ns o there)))
+        (subst (λ ns. Owners drawn ns (given ++ x ∷ []) (requests served waiting)) same (owners_keep drawn bs ns (given ++ x ∷ []) (requests served waiting) (given_owners x)))
+        (decided_given drawn (es ++ Fail g ∷ []) given x (λ h says. absurd (no_yes says)) (decided_other drawn es (Fail g) given (λ h e. cc) t.decided))
 
     -- the step of an asked request, which is the first that has no reply
     pub facts_step : (q : PendingRequest) (a : Answer) (rest : List Served) (n : Caused) → served ≡ given ++ (q, a) ∷ rest → n.cause ≡ For q → n.guess ≡ None → q.guess ≡ None
         → (n.input ≡ Good → a ≡ Yes) → RequestFacts (es ++ Taken n ∷ []) d kept next served (given ++ (q, a) ∷ []) waiting
     facts_step q a rest n split own mark asks good =
-        let K = kernel S in
+        let ns = record_of (kernel S) start es in
         let rs = requests served waiting in
-        let ns = record_of K start es in
         let order : rs ≡ map (λ x. x.0) given ++ q ∷ (map (λ x. x.0) rest ++ waiting) =
         ap (λ xs. requests xs waiting) split ∙ map_split (λ (x : Served). x.0) given (q, a) rest waiting in
         let there : Contains rs q = subst (λ rs. Contains rs q) (sym order) (Contains-append_right (map (λ x. x.0) given) (q ∷ (map (λ x. x.0) rest ++ waiting)) q (cons_first q (map (λ x. x.0) rest ++ waiting))) in
-        record {
-          low = t.low;
-          answers = t.answers;
-          came = subst Came (sym (record_more K start es (Taken n)))
-              (λ o r g o_in for its was. elim (Contains-push_cases ns n o o_in) [
-                | inl before ↦ t.came o r g before for its was
-                | inr same ↦
-                    let both : For q ≡ For r = sym own ∙ ap (λ (n : Caused). n.cause) same ∙ for in
-                    let one : q ≡ r = cc in
-                    absurd (no_guess q.guess g asks (ap (λ (r : PendingRequest). r.guess) one ∙ its))
-              ]);
-          reach = t.reach;
-          still_served = t.still_served;
-          still_given = λ y there. Contains-append_left given ((q, a) ∷ []) y (t.still_given y there);
-          still_made = t.still_made;
-          new = subst (IsNew (length (record_of (kernel S) start first.trace))) (sym (record_more K start es (Taken n)))
-              (new_push (length (record_of (kernel S) start first.trace)) ns n (λ before. (let both : For q ≡ Before = sym own ∙ before in cc)) t.new);
-          numbers = t.numbers;
-          owners = subst (λ ns. Owners first.drawn ns (given ++ (q, a) ∷ []) rs) (sym (record_more K start es (Taken n)))
-              (owners_for first.drawn ns n q (given ++ (q, a) ∷ []) rs own there (mark ∙ sym asks) (λ g some. absurd (no_guess q.guess g asks some))
-              (λ none. (a, Contains-push given (q, a), good))
-              (λ o r o_in o_is same.
-              let r_in = (t.owners.owner o r o_in o_is).0 in
-              let one : r ≡ q = rising_same rs t.numbers.rising r q r_in there same in
-              let old = t.owners.asked o r o_in o_is (ap (λ (r : PendingRequest). r.guess) one ∙ asks) in
-              let lt = rising_before (map (λ x. x.0) given) q (map (λ x. x.0) rest ++ waiting) (subst Rising order t.numbers.rising) r (in_map (λ (x : Served). x.0) given (r, old.0) old.1) in
-              omega arith)
-              (given_owners (q, a)));
-          decided = decided_given first.trace (es ++ Taken n ∷ []) given (q, a) (λ g says its. absurd (no_guess q.guess g asks its)) (decided_other first.trace es (Taken n) given (λ h e. cc) t.decided);
-        }
+        facts_event es d kept next served given waiting t (es ++ Taken n ∷ []) (given ++ (q, a) ∷ []) (keeps_given (q, a))
+        (new_taken es d kept next served given waiting t n (λ before. (let both : For q ≡ Before = sym own ∙ before in cc)))
+        (came_taken es d kept next served given waiting t n (λ r g for its _.
+        let both : For q ≡ For r = sym own ∙ for in
+        let one : q ≡ r = cc in
+        no_guess q.guess g asks (ap (λ (r : PendingRequest). r.guess) one ∙ its)))
+        (subst (λ ns. Owners drawn ns (given ++ (q, a) ∷ []) rs) (sym (record_more (kernel S) start es (Taken n)))
+        (owners_for drawn ns n q (given ++ (q, a) ∷ []) rs own there (mark ∙ sym asks) (λ g some. absurd (no_guess q.guess g asks some))
+        (λ none. (a, Contains-push given (q, a), good))
+        (λ o r o_in o_is same.
+        let r_in = (t.owners.owner o r o_in o_is).0 in
+        let one : r ≡ q = rising_same rs t.numbers.rising r q r_in there same in
+        let old = t.owners.asked o r o_in o_is (ap (λ (r : PendingRequest). r.guess) one ∙ asks) in
+        let lt = rising_before (map (λ x. x.0) given) q (map (λ x. x.0) rest ++ waiting) (subst Rising order t.numbers.rising) r (in_map (λ (x : Served). x.0) given (r, old.0) old.1) in
+        omega arith)
+        (given_owners (q, a))))
+        (decided_given drawn (es ++ Taken n ∷ []) given (q, a) (λ g says its. absurd (no_guess q.guess g asks its)) (decided_other drawn es (Taken n) given (λ h e. cc) t.decided))

@@ -1,57 +1,140 @@
--- The steps of requests in a record: accepted stores have steps of their own, and the steps that count and the accepted requests
--- whose reply was given are one for one. Told of a world's calls.
-use Rattle.std.proofs.Common.{◌≡◌, ℕ, zero, suc, ◌+◌, Bool, true, false, cond, List, [], ◌∷◌, ◌++◌, map, Option, Some, None, inl, inr, refl, sym, ◌∙◌, ap, subst, arith, ◌≤◌, length}
-use Rattle.std.specs.Prelude.{◌==◌, slice_get}
+-- The steps of requests in a record: those of accepted stores stand, each at a place of its own; and the steps that count and the
+-- accepted requests whose reply was given are one for one. Told of a world's calls.
+use Rattle.std.proofs.Common.{◌≡◌, ℕ, suc, ◌+◌, ◌<◌, List, [], ◌∷◌, ◌++◌, map, length, Option, Some, inl, inr, refl, sym, ◌∙◌, ap, subst, arith, zero, Bool, true, false, cond, None, ◌≤◌}
 use Rattle.std.specs.List.{Contains}
+use Rattle.std.proofs.lemmas.List.Elements.{Contains-append_left, Contains-append_cases, Contains-append_right}
+use Rattle.sk_record.specs.Effects.{MarkedEffect}
+use Rattle.sk_record.specs.Run.{effects}
+use Rattle.sk_ids.specs.declared.entity.Entity.{Entity}
+use Rattle.sk_ids.specs.declared.entity.Entity.TheVariants.{Copy as CopyOf}
+use Rattle.sk_script.specs.declared.instruction.Input.TheVariants.{Good}
+use Rattle.sk_store.specs.declared.entity_state.EntityState.{EntityState}
+use Rattle.sk_plain.specs.Act.{Saying}
+use Rattle.sk_kernel.specs.Kernel.{KernelView, record_at, last_guess}
+use Rattle.sk_server.specs.Server.{ServerView}
+use Rattle.sk_server.specs.declared.request.Request.{Request as Sent}
+use Rattle.sk_server.specs.declared.request.Ask.TheVariants.{Store}
+use Rattle.sk_server.specs.declared.reply.Answer.TheVariants.{Yes}
+use Rattle.sk_server.specs.declared.reply.Reply.{Reply}
+use Rattle.sk_client.specs.AcceptedStores.{paired, StandsIn, IsDue, StoresStand, StoresStood, StandsAt, DueStore, StandApart, steps_at}
+use Rattle.sk_client.specs.Desk.{opened, pending}
+use Rattle.sk_client.specs.Exchanges.{Exchanges, Leads}
+use Rattle.sk_client.specs.Ready.{IsReady}
+use Rattle.sk_client.specs.Table.{Bytes, copy_of}
+use Rattle.sk_client.specs.WorldView.{WorldView, joined}
+use Rattle.sk_client.specs.declared.pending.PendingRequest.{PendingRequest}
+use Rattle.sk_client.specs.declared.world.WorldEvent.{WorldEvent}
+use Rattle.sk_client.proofs.CausedWorld.{Caused, Served, kernel, bare, table, Cause, Before, Own, For}
+use Rattle.sk_client.proofs.CausedLaws.{Sets}
+use Rattle.sk_client.proofs.Each.{cons_cases, cons_first, cons_later, no_member, contains_at, each_at, place_at}
+use Rattle.sk_client.proofs.First.{out_of_map, first_world, reached, world_of, later_on, Stands, IsDueStep, request_stands, step_stands, map_front, rising_places, IsStepped, Counts, its_reply, its_step, step_once}
+use Rattle.sk_client.proofs.RequestFacts.{in_map, Rising, rising_apart, rising_same}
+use Rattle.sk_client.proofs.SeenFacts.{entries_seen, steps_seen, Traced}
+use Rattle.sk_client.proofs.SeenWorld.{World, all_served, entries_of, law_served, answered_there, answered_here, all_waiting, unanswered}
+use Rattle.sk_client.proofs.Worlds.{All, Reached}
+use Rattle.std.specs.Prelude.{◌==◌, slice_get}
 use Rattle.std.specs.Option.{option_map}
 use Rattle.std.proofs.lemmas.Bool.{true≢false, eqb-true, eq-eqb}
 use Rattle.std.proofs.lemmas.Option.{slice_get-map}
-use Rattle.sk_record.specs.Effects.{MarkedEffect}
-use Rattle.sk_record.specs.Run.{effects}
-use Rattle.sk_record.specs.Trace.{record_of, Event as Happens, Taken, Commit, Fail}
-use Rattle.sk_ids.specs.declared.entity.Entity.{Entity}
-use Rattle.sk_ids.specs.declared.entity.Entity.TheVariants.{Copy as CopyOf}
+use Rattle.sk_record.specs.Trace.{Event as Happens, Taken, Commit, Fail}
 use Rattle.sk_script.specs.Scripts.{ScriptMap}
-use Rattle.sk_store.specs.State.{State}
-use Rattle.sk_store.specs.declared.entity_state.EntityState.{EntityState}
-use Rattle.sk_plain.specs.Act.{Saying, plain}
-use Rattle.sk_plain.specs.declared.refusal.Refusal.{Refusal}
-use Rattle.sk_kernel.specs.Kernel.{KernelView, events_of, record_at}
-use Rattle.sk_server.specs.Server.{ServerView}
-use Rattle.sk_server.specs.declared.request.Request.{Request as Sent}
-use Rattle.sk_server.specs.declared.request.Ask.TheVariants as asks
-use Rattle.sk_server.specs.declared.reply.Reply.{Reply}
-use Rattle.sk_script.specs.declared.instruction.Input.TheVariants.{Good}
-use Rattle.sk_client.specs.declared.pending.PendingRequest.{PendingRequest}
-use Rattle.sk_client.proofs.CausedRequests.{Caused, Cause, Before, Own, For, Served}
-use Rattle.sk_client.proofs.CausedWorld.{Table, World, kernel, served, pending as law_pending, places, event}
-use Rattle.sk_client.specs.AcceptedStores.{paired, StandsAt, DueStore, StandApart, steps_at}
-use Rattle.sk_client.proofs.CausedLaws.{record_now, Sets, Stands, AreReplied, Counts, IsStepped}
-use Rattle.sk_client.proofs.Each.{contains_at, place_at}
-use Rattle.sk_client.proofs.First.{rising_places, all_after, stores_are_replied, map_front, since, places_are_kept}
-use Rattle.sk_client.proofs.RequestFacts.{Rising, rising_apart, rising_same, in_map}
-use Rattle.sk_client.specs.Table.{copy_of}
-use Rattle.sk_client.proofs.WorldTable.{bare, table}
-use Rattle.sk_client.specs.Desk.{opened, pending}
-use Rattle.sk_client.specs.Exchanges.{Exchanges, Leads}
-use Rattle.sk_client.proofs.SeenWorld.{begun, answered_there, answered_here, IsSeen}
-use Rattle.sk_client.specs.Ready.{IsReady}
-use Rattle.sk_client.specs.WorldView.{WorldView, joined}
-use Rattle.sk_client.specs.declared.world.WorldEvent.{WorldEvent}
-use Rattle.sk_client.proofs.Before.{ready_table, begins, out_of_map, back}
-use Rattle.sk_client.proofs.SeenFacts.{steps_seen, places_seen, pending_seen}
-use Rattle.sk_client.proofs.Seen.{law_after, Reached, reached, later_on}
-use Rattle.sk_client.proofs.Accepted.{paired_map, found, entries_seen, its_step, its_guess}
-use Rattle.sk_client.proofs.Worlds.{HasFacts, all_keep}
 use Rattle.sk_trace.specs.Entry.{EntryView}
-use Rattle.std.proofs.lemmas.List.{length-map}
-use Rattle.std.proofs.lemmas.List.Sums.{fold-append}
-use Rattle.std.proofs.lemmas.List.Elements.{Contains-append_cases, Contains-append_left, Contains-append_right}
 use Rattle.sk_server.specs.declared.request.Ask.{Ask}
-use Rattle.sk_server.specs.declared.reply.Answer.TheVariants.{Yes}
+use Rattle.sk_server.specs.declared.request.Ask.TheVariants as asks
 use Rattle.sk_client.specs.Replied.{PlacesAreKept, Counts as CountsAt, DoesAsked, Replied, IsStepOf, IsStepped as IsSteppedSo, StepsAreReplied}
-use Rattle.sk_client.proofs.Bare.{bare_event}
-use Rattle.sk_client.proofs.Labels.{is_bare}
+use Rattle.sk_client.proofs.Labels.{bare_event}
+use Rattle.sk_client.proofs.Seen.{Comes}
+
+-- ---- elements of lists
+
+-- a request that has its reply on the way is pending
+served_pending : (qs : List PendingRequest) (rs : List Reply) (x : Served) → Contains (law_served qs rs) x → (p : PendingRequest) × Contains qs p × (x.0 ≡ p)
+served_pending [] rs x h = absurd (no_member x h)
+served_pending (q ∷ qs) [] x h = absurd (no_member x h)
+served_pending (q ∷ qs) (r ∷ rs) x h =
+    elim (cons_cases (q, r.answer) (law_served qs rs) x h) [
+      | inl is ↦ (q, cons_first q qs, ap (λ (y : Served). y.0) (sym is))
+      | inr later ↦ let rest = served_pending qs rs x later in (rest.0, cons_later q qs rest.0 rest.1, rest.2)
+    ]
+
+paired_map : {A B C : Type 0} (g : A → B) (xs : List A) (ys : List C) → map (λ p. (g p.0, p.1)) (paired xs ys) ≡ paired (map g xs) ys
+paired_map g [] ys = refl
+paired_map g (x ∷ xs) [] = refl
+paired_map g (x ∷ xs) (y ∷ ys) = ap (λ zs. (g x, y) ∷ zs) (paired_map g xs ys)
+
+paired_in : {A B : Type 0} (xs : List A) (ys : List B) (p : A × B) → Contains (paired xs ys) p → Contains xs p.0
+paired_in [] ys p h = absurd (no_member p h)
+paired_in (x ∷ xs) [] p h = absurd (no_member p h)
+paired_in (x ∷ xs) (y ∷ ys) p h =
+    elim (cons_cases (x, y) (paired xs ys) p h) [
+      | inl is ↦ subst (Contains (x ∷ xs)) (ap (λ q. q.0) is) (cons_first x xs)
+      | inr later ↦ cons_later x xs p.0 (paired_in xs ys p later)
+    ]
+
+-- ---- what the laws say of a request
+
+-- a request of the laws that was served with Yes, told as the calls tell it
+record Found (w : World) (q : Sent) (name : Bytes) (version : ℕ) (bytes : Bytes) : Type 0 where
+  pub request : PendingRequest
+  pub there : Contains (all_served w) (request, Yes)
+  pub number : request.number ≡ q.number
+  pub asks : request.ask ≡ Store name version bytes
+  pub guess : request.guess ≡ q.guess
+
+module _ (xs : Exchanges) (w : World) (seen : map answered_there (all_served w) ≡ map answered_here xs) (q : Sent) (r : Reply) (name : Bytes) (version : ℕ) (bytes : Bytes)
+    (there : Contains xs (q, r)) (accepted : r.answer ≡ Yes) (asks : q.ask ≡ Store name version bytes) where
+  found : Found w q name version bytes
+  found =
+      let told = subst (λ ys. Contains ys (answered_here (q, r))) (sym seen) (in_map answered_here xs (q, r) there) in
+      let x = out_of_map answered_there (all_served w) (answered_here (q, r)) told in
+      let same = x.2 in
+      let good : x.0.1 ≡ Yes = ap (λ t. t.1.1.1) same ∙ accepted in
+      record {
+        request = x.0.0;
+        there = subst (λ a. Contains (all_served w) (x.0.0, a)) good x.1;
+        number = ap (λ t. t.0) same;
+        asks = ap (λ t. t.1.0) same ∙ asks;
+        guess = ap (λ t. t.1.1.0) same;
+      }
+
+  due : (f : Found w q name version bytes) → IsDue w.view q → IsDueStep w f.request
+  due f (inl guessed) = inl (guessed.0, f.guess ∙ guessed.1)
+  due f (inr given) =
+      let v = w.view in
+      elim (Contains-append_cases w.given (law_served v.desk.taken v.replies) (f.request, Yes) f.there) [
+        | inl here ↦ inr here
+        | inr waits ↦
+            let p = served_pending v.desk.taken v.replies (f.request, Yes) waits in
+            absurd (given p.0 (Contains-append_left v.desk.taken v.desk.waiting p.0 p.1) (sym (ap (λ (x : PendingRequest). x.number) p.2) ∙ f.number))
+      ]
+
+-- ---- and of the record
+
+module _ (drawn begun : ℕ) (old w : World) (all : All drawn begun old w) where
+  -- a request's step is that of its guess, or of none
+  its_guess : (q : PendingRequest) (s : Stands w q) → s.entry.guess ≡ q.guess
+  its_guess q s =
+      let K = w.view.desk.kernel in
+      (all.facts.owners.owner s.entry q (paired_in (entries_of w) (effects (kernel (table K.scripts)) K.start (entries_of w)) (s.entry, s.effect) s.there) s.cause).1
+
+  stands_in : (q : PendingRequest) (mark : Option ℕ) (name : Bytes) (version : ℕ) (bytes : Bytes) → q.ask ≡ Store name version bytes → q.guess ≡ mark → Stands w q → StandsIn w.view.desk.kernel mark name version bytes
+  stands_in q mark name version bytes is its s =
+      let K = w.view.desk.kernel in
+      let ns = entries_of w in
+      let fs = effects (kernel (table K.scripts)) K.start ns in
+      let one : suc version ≡ version + 1 = omega arith in
+      record {
+        entry = bare s.entry;
+        effect = s.effect;
+        there =
+            subst (λ ps. Contains ps (bare s.entry, s.effect)) (paired_map bare ns fs ∙ (λ i. paired (entries_seen w.trace K all.traced i) (steps_seen w.trace K all.traced i)))
+            (in_map (λ (p : Caused × MarkedEffect Entity EntityState Saying). (bare p.0, p.1)) (paired ns fs) (s.entry, s.effect) s.there);
+        guess = its_guess q s ∙ its;
+        input = s.input;
+        sets =
+            subst (λ n. Contains s.effect.written (CopyOf name, Some (copy_of (record { version = n; bytes = bytes })))) one
+            (subst (λ ask. Sets (table K.scripts) ask Good s.effect.written) is s.sets);
+      }
 
 -- ---- places of lists
 
@@ -118,25 +201,41 @@ first_is ns once i e q n at cause number =
 
 -- ---- requests have numbers of their own
 
-module _ (xs : Exchanges) (w : World) (v : WorldView) (seen : IsSeen xs w v) (rising : Rising (map (λ x. x.0) (served w) ++ w.waiting)) where
-  there_too : (i : ℕ) (x : Sent × Reply) → slice_get xs i ≡ Some x → (z : Served) × (slice_get (served w) i ≡ Some z) × (answered_there z ≡ answered_here x)
-  there_too i x at =
-      under_map answered_there (slice_get (served w) i) (answered_here x)
-      (sym (slice_get-map answered_there (served w) i) ∙ (λ j. slice_get (seen.answered j) i) ∙ slice_get-map answered_here xs i ∙ ap (option_map answered_here) at)
+requests_seen : (qs : List PendingRequest) (rs : List Reply) (later : List PendingRequest) → map (λ x. x.0) (law_served qs rs) ++ (unanswered qs rs ++ later) ≡ qs ++ later
+requests_seen [] rs later = refl
+requests_seen (q ∷ qs) [] later = refl
+requests_seen (q ∷ qs) (r ∷ rs) later = ap (λ xs. q ∷ xs) (requests_seen qs rs later)
 
-  one_number : (i j : ℕ) (x y : Sent × Reply) → slice_get xs i ≡ Some x → slice_get xs j ≡ Some y → x.0.number ≡ y.0.number → i ≡ j
-  one_number i j x y at_i at_j same =
+-- the requests whose reply was given, and those that are pending
+all_requests : (w : World) → map (λ x. x.0) (all_served w) ++ all_waiting w ≡ map (λ x. x.0) w.given ++ pending w.view.desk
+all_requests w =
+    let d = w.view.desk in
+    map_front (λ (x : Served). x.0) w.given (law_served d.taken w.view.replies) (all_waiting w) ∙ ap (λ qs. map (λ (x : Served). x.0) w.given ++ qs) (requests_seen d.taken w.view.replies d.waiting)
+
+module _ (xs : Exchanges) (w : World) (seen : map answered_there (all_served w) ≡ map answered_here xs) where
+  there_too : (i : ℕ) (x : Sent × Reply) → slice_get xs i ≡ Some x → (z : Served) × (slice_get (all_served w) i ≡ Some z) × (answered_there z ≡ answered_here x)
+  there_too i x at =
+      under_map answered_there (slice_get (all_served w) i) (answered_here x)
+      (sym (slice_get-map answered_there (all_served w) i) ∙ (λ j. slice_get (seen j) i) ∙ slice_get-map answered_here xs i ∙ ap (option_map answered_here) at)
+
+  here_too : (z : Served) (i : ℕ) → slice_get (all_served w) i ≡ Some z → (x : Sent × Reply) × (slice_get xs i ≡ Some x) × (answered_here x ≡ answered_there z)
+  here_too z i at =
+      under_map answered_here (slice_get xs i) (answered_there z)
+      (sym (slice_get-map answered_here xs i) ∙ (λ j. slice_get (sym seen j) i) ∙ slice_get-map answered_there (all_served w) i ∙ ap (option_map answered_there) at)
+
+  one_number : Rising (map (λ x. x.0) (all_served w) ++ all_waiting w) → (i j : ℕ) (x y : Sent × Reply) → slice_get xs i ≡ Some x → slice_get xs j ≡ Some y → x.0.number ≡ y.0.number → i ≡ j
+  one_number rising i j x y at_i at_j same =
       let a = there_too i x at_i in
       let b = there_too j y at_j in
-      rising_places (served w) w.waiting rising i j a.0 b.0 a.1 b.1 (ap (λ t. t.0) a.2 ∙ same ∙ ap (λ t. t.0) (sym b.2))
+      rising_places (all_served w) (all_waiting w) rising i j a.0 b.0 a.1 b.1 (ap (λ t. t.0) a.2 ∙ same ∙ ap (λ t. t.0) (sym b.2))
 
 -- ---- the same words in both
 
-does_asked : (scripts : ScriptMap) (limit : ℕ) (ask : Ask) (ws : List (Entity × Option EntityState)) → Sets (table scripts limit) ask Good ws → DoesAsked ask ws
-does_asked scripts limit (asks.Store name version bytes) ws h =
+does_asked : (scripts : ScriptMap) (ask : Ask) (ws : List (Entity × Option EntityState)) → Sets (table scripts) ask Good ws → DoesAsked ask ws
+does_asked scripts (asks.Store name version bytes) ws h =
     (let one : suc version ≡ version + 1 = omega arith in subst (λ n. Contains ws (CopyOf name, Some (copy_of (record { version = n; bytes = bytes })))) one h)
-does_asked scripts limit (asks.Check name version) ws h = h
-does_asked scripts limit (asks.Get name) ws h = h
+does_asked scripts (asks.Check name version) ws h = h
+does_asked scripts (asks.Get name) ws h = h
 
 -- a commit is one without causes too
 commit_back : (g : ℕ) (e : Happens Caused) → bare_event bare e ≡ Commit g → e ≡ Commit g
@@ -144,15 +243,15 @@ commit_back g (Taken n) is = cc
 commit_back g (Commit h) is = (let same : h ≡ g = cc in ap Commit same)
 commit_back g (Fail h) is = cc
 
-module _ (xs : Exchanges) (w : World) (v : WorldView) (seen : IsSeen xs w v) where
-  counts_here : (n : Caused) → Counts (table v.desk.kernel.scripts v.desk.kernel.limit) v.desk.kernel.start w n → CountsAt v.desk.kernel (bare n)
+module _ (w : World) (t : Traced w.trace w.view.desk.kernel) where
+  counts_here : (n : Caused) → Counts w n → CountsAt w.view.desk.kernel (bare n)
   counts_here n (inl none) = inl none
-  counts_here n (inr g) = inr (g.0, g.1, subst (λ es. Contains es (Commit g.0)) seen.trace (in_map (bare_event bare) w.trace (Commit g.0) g.2))
+  counts_here n (inr g) = inr (g.0, g.1, subst (λ es. Contains es (Commit g.0)) t.trace (in_map (bare_event bare) w.trace (Commit g.0) g.2))
 
-  counts_there : (n : Caused) → CountsAt v.desk.kernel (bare n) → Counts (table v.desk.kernel.scripts v.desk.kernel.limit) v.desk.kernel.start w n
+  counts_there : (n : Caused) → CountsAt w.view.desk.kernel (bare n) → Counts w n
   counts_there n (inl none) = inl none
   counts_there n (inr g) =
-      let e = out_of_map (bare_event bare) w.trace (Commit g.0) (subst (λ es. Contains es (Commit g.0)) (sym seen.trace) g.2) in
+      let e = out_of_map (bare_event bare) w.trace (Commit g.0) (subst (λ es. Contains es (Commit g.0)) (sym t.trace) g.2) in
       inr (g.0, g.1, subst (Contains w.trace) (commit_back g.0 e.0 e.2) e.1)
 
 -- a request's place, where it has one
@@ -170,252 +269,252 @@ place_for (x ∷ xs) n m at =
 abbrev both : Caused × MarkedEffect Entity EntityState Saying → EntryView × MarkedEffect Entity EntityState Saying
 both p = (bare p.0, p.1)
 
-module _ (k : KernelView) (ready : IsReady k) where
-  abbrev S : Table Entity EntityState Saying Refusal
-  S = table k.scripts k.limit
+-- ---- all of it
 
-  module _ (xs : Exchanges) (v : WorldView) (a : Reached k [] xs v) (ys : Exchanges) (last : WorldView) (b : Reached k a.since (xs ++ ys) last) where
-    abbrev w : World
-    w = law_after k (a.since ++ b.since)
+-- a world, and a later one
+module _ (drawn begun : ℕ) (old : World) (xs : Exchanges) (v : WorldView) (a : Reached drawn begun old xs v) (ys : Exchanges) (last : WorldView)
+    (b : Reached drawn begun (world_of drawn begun old xs v a) (xs ++ ys) last) where
+  abbrev w : World
+  w = world_of drawn begun old xs v a
 
-    abbrev entries : List Caused
-    entries = record_of (kernel S) k.start w.trace
+  abbrev z : World
+  z = world_of drawn begun w (xs ++ ys) last b
 
-    facts : HasFacts S k.start (ready_table k ready) (begun k) (begun k) w
-    facts = (all_after S k.start (ready_table k ready) (begun k) (begins k ready) (a.since ++ b.since)).1
+  -- a store's step, once it is due
+  its_store : (q : Sent) (r : Reply) (name : Bytes) (version : ℕ) (bytes : Bytes) (there : Contains xs (q, r)) (accepted : r.answer ≡ Yes) (asks : q.ask ≡ Store name version bytes) → IsDue v q
+      → Stands (world_of drawn begun (world_of drawn begun old xs v a) (xs ++ ys) last b) (found xs (world_of drawn begun old xs v a) a.answered q r name version bytes there accepted asks).request
+  its_store q r name version bytes there accepted asks is_due =
+      let f = found xs w a.answered q r name version bytes there accepted asks in
+      step_stands drawn begun w z b.all f.request (request_stands drawn begun w z b.all f.request (b.all.facts.still_served (f.request, Yes) f.there) (inr (name, version, bytes, f.asks))
+      (elim (due xs w a.answered q r name version bytes there accepted asks f is_due) as (λ _. IsDueStep z f.request) [ inl guess ↦ inl guess | inr given ↦ inr (b.all.facts.still_given (f.request, Yes) given) ]))
 
-    law : AreReplied S k.start (begun k) w
-    law = stores_are_replied S k.start (ready_table k ready) (begun k) (begins k ready) (a.since ++ b.since)
+  stand : StoresStand xs v last
+  stand q r name version bytes there accepted asks is_due =
+      let f = found xs w a.answered q r name version bytes there accepted asks in
+      stands_in drawn begun w z b.all f.request q.guess name version bytes f.asks f.guess (its_store q r name version bytes there accepted asks is_due)
 
-    record_seen : map both (record_now S k.start w) ≡ steps_at last.desk.kernel
-    record_seen =
-        let K = last.desk.kernel in
-        let ns = record_of (kernel (table K.scripts K.limit)) K.start w.trace in
-        let fs = effects (kernel (table K.scripts K.limit)) K.start ns in
-        subst (λ (c : ScriptMap × (State × ℕ)). map both (record_now (table c.0 c.1.1) c.1.0 w) ≡ steps_at last.desk.kernel) (λ i. (b.scripts i, (b.start i, b.limit_is i)))
-        (paired_map bare ns fs ∙ (λ i. paired (entries_seen (xs ++ ys) w last b.fits.seen i) (steps_seen (xs ++ ys) w last b.fits.seen i)))
+  stood : StoresStood (xs ++ ys) v
+  stood q r name version bytes g there accepted asks its low =
+      let f = found (xs ++ ys) z b.answered q r name version bytes there accepted asks in
+      let guess : f.request.guess ≡ Some g = f.guess ∙ its in
+      let h = request_stands drawn begun w z b.all f.request f.there (inl (g, guess)) (inl (g, guess)) in
+      let made : f.request.number < v.desk.next = subst (λ n. n < v.desk.next) (sym f.number) low in
+      stands_in drawn begun old w a.all f.request (Some g) name version bytes f.asks guess (step_stands drawn begun old w a.all f.request (h.0, b.all.facts.came h.0 f.request g h.1 h.2 guess made, h.2, h.3))
 
-    at_kernel : (place : ℕ) (p : Caused × MarkedEffect Entity EntityState Saying) → slice_get (record_now S k.start w) place ≡ Some p
-        → slice_get (steps_at last.desk.kernel) place ≡ Some (both p)
-    at_kernel place p at = ap (λ ps. slice_get ps place) (sym record_seen) ∙ slice_get-map both (record_now S k.start w) place ∙ ap (option_map both) at
+  -- ---- places of the record
 
-    at_entry : (place : ℕ) (p : Caused × MarkedEffect Entity EntityState Saying) → slice_get (record_now S k.start w) place ≡ Some p
-        → slice_get entries place ≡ Some p.0
-    at_entry place p at = paired_first entries (effects (kernel S) k.start entries) place p at
+  abbrev entries : List Caused
+  entries = entries_of z
 
-    -- a request's step is at the place of its number
-    at_place : (q : PendingRequest) (s : Stands S k.start w q) (n : ℕ) → q.number ≡ n
-        → slice_get (record_now S k.start w) (place_in entries n) ≡ Some (s.entry, s.marked_effect)
-    at_place q s n number =
-        let here = place_at (record_now S k.start w) (s.entry, s.marked_effect) s.there in
-        ap (slice_get (record_now S k.start w)) (first_is entries law.step_once here.0 s.entry q n (at_entry here.0 (s.entry, s.marked_effect) here.1) s.cause number) ∙ here.1
+  abbrev does : List (MarkedEffect Entity EntityState Saying)
+  does = effects (kernel (table last.desk.kernel.scripts)) last.desk.kernel.start entries
 
-    -- and no two requests have one
-    one_request : (q r : PendingRequest) (s : Stands S k.start w q) (t : Stands S k.start w r) (n m : ℕ) → q.number ≡ n → r.number ≡ m
-        → place_in entries n ≡ place_in entries m → n ≡ m
-    one_request q r s t n m q_is r_is same =
-        let steps : s.entry ≡ t.entry = same_entry (s.entry, s.marked_effect) (t.entry, t.marked_effect) (sym (at_place q s n q_is) ∙ ap (slice_get (record_now S k.start w)) same ∙ at_place r t m r_is) in
-        sym q_is ∙ ap (λ (q : PendingRequest). q.number) (same_cause q r (sym s.cause ∙ ap (λ (n : Caused). n.cause) steps ∙ t.cause)) ∙ r_is
+  abbrev steps_now : List (Caused × MarkedEffect Entity EntityState Saying)
+  steps_now = paired entries does
 
-    -- ---- accepted stores
+  record_seen : map both steps_now ≡ steps_at last.desk.kernel
+  record_seen = paired_map bare entries does ∙ (λ i. paired (entries_seen b.trace last.desk.kernel b.all.traced i) (steps_seen b.trace last.desk.kernel b.all.traced i))
 
-    record IsFound (s : DueStore xs v) : Type 0 where
-      request : PendingRequest
-      step : Stands S k.start w request
-      number : request.number ≡ s.request.number
-      asks : request.ask ≡ asks.Store s.name s.version s.bytes
-      guess : request.guess ≡ s.request.guess
+  at_kernel : (place : ℕ) (p : Caused × MarkedEffect Entity EntityState Saying) → slice_get steps_now place ≡ Some p → slice_get (steps_at last.desk.kernel) place ≡ Some (both p)
+  at_kernel place p at = ap (λ ps. slice_get ps place) (sym record_seen) ∙ slice_get-map both steps_now place ∙ ap (option_map both) at
 
-    is_found : (s : DueStore xs v) → IsFound s
-    is_found s =
-        let there = contains_at xs s.at (s.request, s.reply) s.there in
-        let f = found xs (law_after k a.since) v a.fits.seen s.request s.reply s.name s.version s.bytes there s.accepted s.asks in
-        record {
-          request = f.request;
-          step = its_step k ready xs v a b.since s.request s.reply s.name s.version s.bytes there s.accepted s.asks s.due;
-          number = f.number;
-          asks = f.asks;
-          guess = f.guess;
-        }
+  at_entry : (place : ℕ) (p : Caused × MarkedEffect Entity EntityState Saying) → slice_get steps_now place ≡ Some p → slice_get entries place ≡ Some p.0
+  at_entry place p at = paired_first entries does place p at
 
-    stands_at : (s : DueStore xs v) → StandsAt last.desk.kernel (place_in entries s.request.number) s.request.guess s.name s.version s.bytes
-    stands_at s =
-        let f = is_found s in
-        let effect = f.step.marked_effect in
-        let one : suc s.version ≡ s.version + 1 = omega arith in
-        record {
-          entry = bare f.step.entry;
-          effect = effect;
-          there = at_kernel (place_in entries s.request.number) (f.step.entry, effect) (at_place f.request f.step s.request.number f.number);
-          guess = its_guess k ready (a.since ++ b.since) f.request f.step ∙ f.guess;
-          input = f.step.input;
-          sets = subst (λ n. Contains effect.written (CopyOf s.name, Some (copy_of (record { version = n; bytes = s.bytes })))) one (subst (λ ask. Sets S ask Good effect.written) f.asks f.step.sets);
-        }
+  -- a request's step is at the place of its number
+  at_place : (q : PendingRequest) (s : Stands z q) (n : ℕ) → q.number ≡ n → slice_get steps_now (place_in entries n) ≡ Some (s.entry, s.effect)
+  at_place q s n number =
+      let here = place_at steps_now (s.entry, s.effect) s.there in
+      ap (slice_get steps_now) (first_is entries (step_once drawn begun w z b.all) here.0 s.entry q n (at_entry here.0 (s.entry, s.effect) here.1) s.cause number) ∙ here.1
 
-    one_store : (s t : DueStore xs v) → place_in entries s.request.number ≡ place_in entries t.request.number → s.at ≡ t.at
-    one_store s t same =
-        let f = is_found s in
-        let g = is_found t in
-        one_number xs (law_after k a.since) v a.fits.seen (all_after S k.start (ready_table k ready) (begun k) (begins k ready) a.since).1.numbers.rising
-        s.at t.at (s.request, s.reply) (t.request, t.reply) s.there t.there (one_request f.request g.request f.step g.step s.request.number t.request.number f.number g.number same)
+  -- and no two requests have one
+  one_request : (q r : PendingRequest) (s : Stands z q) (t : Stands z r) (n m : ℕ) → q.number ≡ n → r.number ≡ m → place_in entries n ≡ place_in entries m → n ≡ m
+  one_request q r s t n m q_is r_is same =
+      let steps : s.entry ≡ t.entry = same_entry (s.entry, s.effect) (t.entry, t.effect) (sym (at_place q s n q_is) ∙ ap (slice_get steps_now) same ∙ at_place r t m r_is) in
+      sym q_is ∙ ap (λ (q : PendingRequest). q.number) (same_cause q r (sym s.cause ∙ ap (λ (n : Caused). n.cause) steps ∙ t.cause)) ∙ r_is
 
-    stand : StandApart xs v last
-    stand = record { place_of = place_in entries; stands = stands_at; apart = one_store }
+  -- ---- accepted stores
 
-    at_law : (place : ℕ) (n : EntryView) (f : MarkedEffect Entity EntityState Saying) → slice_get (steps_at last.desk.kernel) place ≡ Some (n, f)
-        → (p : Caused × MarkedEffect Entity EntityState Saying) × (slice_get (record_now S k.start w) place ≡ Some p) × (both p ≡ (n, f))
-    at_law place n f at =
-        under_map both (slice_get (record_now S k.start w) place) (n, f) (sym (slice_get-map both (record_now S k.start w) place) ∙ ap (λ ps. slice_get ps place) record_seen ∙ at)
+  record IsFound (s : DueStore xs v) : Type 0 where
+    request : PendingRequest
+    step : Stands z request
+    number : request.number ≡ s.request.number
+    asks : request.ask ≡ asks.Store s.name s.version s.bytes
+    guess : request.guess ≡ s.request.guess
 
-    step_of : (place : ℕ) (m : Caused) (f : MarkedEffect Entity EntityState Saying) (q : PendingRequest) (r : Sent) → slice_get (record_now S k.start w) place ≡ Some (m, f) → m.cause ≡ For q
-        → m.input ≡ Good → Counts S k.start w m → q.guess ≡ r.guess → q.ask ≡ r.ask → IsStepOf last.desk.kernel place r
-    step_of place m f q r at cause good counts guess ask = record {
-      entry = bare m;
-      effect = f;
-      there = at_kernel place (m, f) at;
-      guess = (facts.owners.owner m q (contains_at entries place m (at_entry place (m, f) at)) cause).1 ∙ guess;
-      input = good;
-      counts = counts_here (xs ++ ys) w last b.fits.seen m counts;
-      does = does_asked k.scripts k.limit r.ask f.written (subst (λ ask. Sets S ask Good f.written) ask (law.sets m f q (contains_at (record_now S k.start w) place (m, f) at) cause good));
-    }
+  is_found : (s : DueStore xs v) → IsFound s
+  is_found s =
+      let there = contains_at xs s.at (s.request, s.reply) s.there in
+      let f = found xs w a.answered s.request s.reply s.name s.version s.bytes there s.accepted s.asks in
+      record {
+        request = f.request;
+        step = its_store s.request s.reply s.name s.version s.bytes there s.accepted s.asks s.due;
+        number = f.number;
+        asks = f.asks;
+        guess = f.guess;
+      }
 
-    -- ---- a request whose reply was given
+  stands_at : (s : DueStore xs v) → StandsAt last.desk.kernel (place_in entries s.request.number) s.request.guess s.name s.version s.bytes
+  stands_at s =
+      let f = is_found s in
+      let effect = f.step.effect in
+      let one : suc s.version ≡ s.version + 1 = omega arith in
+      record {
+        entry = bare f.step.entry;
+        effect = effect;
+        there = at_kernel (place_in entries s.request.number) (f.step.entry, effect) (at_place f.request f.step s.request.number f.number);
+        guess = its_guess drawn begun w z b.all f.request f.step ∙ f.guess;
+        input = f.step.input;
+        sets = subst (λ n. Contains effect.written (CopyOf s.name, Some (copy_of (record { version = n; bytes = s.bytes })))) one (subst (λ ask. Sets (table last.desk.kernel.scripts) ask Good effect.written) f.asks f.step.sets);
+      }
 
-    pending_is : law_pending w ≡ pending last.desk
-    pending_is = pending_seen (xs ++ ys) w last b.fits.seen
+  one_store : (s t : DueStore xs v) → place_in entries s.request.number ≡ place_in entries t.request.number → s.at ≡ t.at
+  one_store s t same =
+      let f = is_found s in
+      let g = is_found t in
+      one_number xs w a.answered a.all.facts.numbers.rising
+      s.at t.at (s.request, s.reply) (t.request, t.reply) s.there t.there (one_request f.request g.request f.step g.step s.request.number t.request.number f.number g.number same)
 
-    not_pending : (q : PendingRequest) → Contains w.given (q, Yes) → (p : PendingRequest) → Contains (pending last.desk) p → p.number ≡ q.number → ⊥
-    not_pending q given p there same =
-        let order : Rising (map (λ x. x.0) w.given ++ law_pending w) = subst Rising (map_front (λ (x : Served). x.0) w.given w.taken w.waiting) facts.numbers.rising in
-        let less = rising_apart (map (λ x. x.0) w.given) (law_pending w) order q p (in_map (λ (x : Served). x.0) w.given (q, Yes) given) (subst (λ ps. Contains ps p) (sym pending_is) there) in
-        omega (arith, less, same)
+  standing : StandApart xs v last
+  standing = record { place_of = place_in entries; stands = stands_at; apart = one_store }
 
-    -- as the laws have it
-    record IsGiven (r : Replied (xs ++ ys) last) : Type 0 where
-      request : PendingRequest
-      given : Contains w.given (request, Yes)
-      number : request.number ≡ r.request.number
-      ask : request.ask ≡ r.request.ask
-      guess : request.guess ≡ r.request.guess
+  at_law : (place : ℕ) (n : EntryView) (f : MarkedEffect Entity EntityState Saying) → slice_get (steps_at last.desk.kernel) place ≡ Some (n, f)
+      → (p : Caused × MarkedEffect Entity EntityState Saying) × (slice_get steps_now place ≡ Some p) × (both p ≡ (n, f))
+  at_law place n f at = under_map both (slice_get steps_now place) (n, f) (sym (slice_get-map both steps_now place) ∙ ap (λ ps. slice_get ps place) record_seen ∙ at)
 
-    is_given : (r : Replied (xs ++ ys) last) → IsGiven r
-    is_given r =
-        let z = there_too (xs ++ ys) w last b.fits.seen facts.numbers.rising r.at (r.request, r.reply) r.there in
-        let number = ap (λ t. t.0) z.2 in
-        record {
-          request = z.0.0;
-          given = subst (λ a. Contains w.given (z.0.0, a)) (ap (λ t. t.1.1.1) z.2 ∙ r.accepted) (elim (Contains-append_cases w.given w.taken z.0 (contains_at (served w) r.at z.0 z.1)) as (λ _. Contains w.given z.0) [
-            | inl here ↦ here
-            | inr waits ↦ absurd (r.given z.0.0
-                (subst (λ ps. Contains ps z.0.0) pending_is (Contains-append_left (map (λ x. x.0) w.taken) w.waiting z.0.0 (in_map (λ (x : Served). x.0) w.taken z.0 waits))) number)
-          ]);
-          number = number;
-          ask = ap (λ t. t.1.0) z.2;
-          guess = ap (λ t. t.1.1.0) z.2;
-        }
+  step_of : (place : ℕ) (m : Caused) (f : MarkedEffect Entity EntityState Saying) (q : PendingRequest) (r : Sent) → slice_get steps_now place ≡ Some (m, f) → m.cause ≡ For q
+      → m.input ≡ Good → Counts z m → q.guess ≡ r.guess → q.ask ≡ r.ask → IsStepOf last.desk.kernel place r
+  step_of place m f q r at cause good counts guess ask = record {
+    entry = bare m;
+    effect = f;
+    there = at_kernel place (m, f) at;
+    guess = (b.all.facts.owners.owner m q (contains_at entries place m (at_entry place (m, f) at)) cause).1 ∙ guess;
+    input = good;
+    counts = counts_here z b.all.traced m counts;
+    does = does_asked last.desk.kernel.scripts r.ask f.written
+        (subst (λ ask. Sets (table last.desk.kernel.scripts) ask Good f.written) ask (each_at _ entries does b.all.holds.entries.sets m f (contains_at steps_now place (m, f) at) q cause good));
+  }
 
-    stepped : (r : Replied (xs ++ ys) last) (g : IsGiven r) → IsSteppedSo r.request → IsStepped g.request
-    stepped r g (inl guess) = inl (guess.0, g.guess ∙ guess.1)
-    stepped r g (inr store) = inr (store.0, store.1, store.2, g.ask ∙ store.3)
+  -- ---- a request whose reply was given
 
-    replies : (r : Replied (xs ++ ys) last) → IsSteppedSo r.request → IsStepOf last.desk.kernel (place_in entries r.request.number) r.request
-    replies r is =
-        let g = is_given r in
-        let s = law.replies g.request g.given (stepped r g is) in
-        step_of (place_in entries r.request.number) s.0.entry s.0.marked_effect g.request r.request (at_place g.request s.0 r.request.number g.number) s.0.cause s.0.input s.1 g.guess g.ask
+  not_pending : (q : PendingRequest) → Contains b.given (q, Yes) → (p : PendingRequest) → Contains (pending last.desk) p → p.number ≡ q.number → ⊥
+  not_pending q given p there same =
+      let order : Rising (map (λ x. x.0) b.given ++ pending last.desk) = subst Rising (all_requests z) b.all.facts.numbers.rising in
+      let less = rising_apart (map (λ x. x.0) b.given) (pending last.desk) order q p (in_map (λ (x : Served). x.0) b.given (q, Yes) given) there in
+      omega (arith, less, same)
 
-    apart : (r s : Replied (xs ++ ys) last) → IsSteppedSo r.request → IsSteppedSo s.request → place_in entries r.request.number ≡ place_in entries s.request.number → r.at ≡ s.at
-    apart r s r_is s_is same =
-        let g = is_given r in
-        let h = is_given s in
-        one_number (xs ++ ys) w last b.fits.seen facts.numbers.rising r.at s.at (r.request, r.reply) (s.request, s.reply) r.there s.there
-        (one_request g.request h.request (law.replies g.request g.given (stepped r g r_is)).0 (law.replies h.request h.given (stepped s h s_is)).0 r.request.number s.request.number g.number h.number same)
+  -- as the laws have it
+  record IsGiven (r : Replied (xs ++ ys) last) : Type 0 where
+    request : PendingRequest
+    given : Contains b.given (request, Yes)
+    number : request.number ≡ r.request.number
+    ask : request.ask ≡ r.request.ask
+    guess : request.guess ≡ r.request.guess
 
-    -- ---- a step that counts
+  is_given : (r : Replied (xs ++ ys) last) → IsGiven r
+  is_given r =
+      let x = there_too (xs ++ ys) z b.answered r.at (r.request, r.reply) r.there in
+      let number = ap (λ t. t.0) x.2 in
+      let served = law_served last.desk.taken last.replies in
+      record {
+        request = x.0.0;
+        given = subst (λ a. Contains b.given (x.0.0, a)) (ap (λ t. t.1.1.1) x.2 ∙ r.accepted) (elim (Contains-append_cases b.given served x.0 (contains_at (all_served z) r.at x.0 x.1)) as (λ _. Contains b.given x.0) [
+          | inl here ↦ here
+          | inr waits ↦
+              let p = served_pending last.desk.taken last.replies x.0 waits in
+              absurd (r.given p.0 (Contains-append_left last.desk.taken last.desk.waiting p.0 p.1) (sym (ap (λ (q : PendingRequest). q.number) p.2) ∙ number))
+        ]);
+        number = number;
+        ask = ap (λ t. t.1.0) x.2;
+        guess = ap (λ t. t.1.1.0) x.2;
+      }
 
-    here_too : (z : Served) (i : ℕ) → slice_get (served w) i ≡ Some z → (x : Sent × Reply) × (slice_get (xs ++ ys) i ≡ Some x) × (answered_here x ≡ answered_there z)
-    here_too z i at =
-        under_map answered_here (slice_get (xs ++ ys) i) (answered_there z)
-        (sym (slice_get-map answered_here (xs ++ ys) i) ∙ (λ j. slice_get (sym b.fits.seen.answered j) i) ∙ slice_get-map answered_there (served w) i ∙ ap (option_map answered_there) at)
+  stepped : (r : Replied (xs ++ ys) last) (g : IsGiven r) → IsSteppedSo r.request → IsStepped g.request
+  stepped r g (inl guess) = inl (guess.0, g.guess ∙ guess.1)
+  stepped r g (inr store) = inr (store.0, store.1, store.2, g.ask ∙ store.3)
 
-    -- a request of the laws whose reply was given, as the calls have it
-    is_replied : (q : PendingRequest) → Contains w.given (q, Yes) → (r : Replied (xs ++ ys) last) × (q.number ≡ r.request.number) × (q.guess ≡ r.request.guess) × (q.ask ≡ r.request.ask)
-    is_replied q given =
-        let i = place_at (served w) (q, Yes) (Contains-append_left w.given w.taken (q, Yes) given) in
-        let x = here_too (q, Yes) i.0 i.1 in
-        let number = ap (λ t. t.0) x.2 in (
-          record { at = i.0; request = x.0.0; reply = x.0.1; there = x.1; accepted = ap (λ t. t.1.1.1) x.2; given = λ p there same. not_pending q given p there (same ∙ number) },
-          sym number,
-          sym (ap (λ t. t.1.1.0) x.2),
-          sym (ap (λ t. t.1.0) x.2),
-        )
+  replies : (r : Replied (xs ++ ys) last) → IsSteppedSo r.request → IsStepOf last.desk.kernel (place_in entries r.request.number) r.request
+  replies r is =
+      let g = is_given r in
+      let s = its_step drawn begun w z b.all g.request g.given (stepped r g is) in
+      step_of (place_in entries r.request.number) s.0.entry s.0.effect g.request r.request (at_place g.request s.0 r.request.number g.number) s.0.cause s.0.input s.1 g.guess g.ask
 
-    before_is : length (record_of (kernel S) k.start (begun k).trace) ≡ length (record_at k)
-    before_is =
-        sym (length-map (record_of (kernel S) k.start (begun k).trace) bare)
-        ∙ ap length ((is_bare bare (plain k.scripts) k.start (begun k).trace).entries ∙ ap (record_of (plain k.scripts) k.start) (back (events_of k)))
+  apart : (r s : Replied (xs ++ ys) last) → IsSteppedSo r.request → IsSteppedSo s.request → place_in entries r.request.number ≡ place_in entries s.request.number → r.at ≡ s.at
+  apart r s r_is s_is same =
+      let g = is_given r in
+      let h = is_given s in
+      one_number (xs ++ ys) z b.answered b.all.facts.numbers.rising r.at s.at (r.request, r.reply) (s.request, s.reply) r.there s.there
+      (one_request g.request h.request (its_step drawn begun w z b.all g.request g.given (stepped r g r_is)).0 (its_step drawn begun w z b.all h.request h.given (stepped s h s_is)).0 r.request.number s.request.number g.number h.number same)
 
-    steps : (place : ℕ) (n : EntryView) (f : MarkedEffect Entity EntityState Saying) → length (record_at k) ≤ place → slice_get (steps_at last.desk.kernel) place ≡ Some (n, f)
-        → n.input ≡ Good → CountsAt last.desk.kernel n → (r : Replied (xs ++ ys) last) × (place_in entries r.request.number ≡ place) × IsStepOf last.desk.kernel place r.request
-    steps place n f le at good counts =
-        let u = at_law place n f at in
-        let m = u.0.0 in
-        let is : bare m ≡ n = ap (λ p. p.0) u.2 in
-        let good_there : m.input ≡ Good = ap (λ (n : EntryView). n.input) is ∙ good in
-        let counts_so = counts_there (xs ++ ys) w last b.fits.seen m (subst (CountsAt last.desk.kernel) (sym is) counts) in
-        let q = law.steps place m (subst (λ n. n ≤ place) (sym before_is) le) (at_entry place u.0 u.1) good_there counts_so in
-        let r = is_replied q.0 q.2 in (
-          r.0,
-          first_is entries law.step_once place m q.0 r.0.request.number (at_entry place u.0 u.1) q.1 r.1,
-          step_of place m u.0.1 q.0 r.0.request u.1 q.1 good_there counts_so r.2 r.3,
-        )
+  -- ---- a step that counts
 
-    -- ---- the step of a request that was pending
+  -- a request of the laws whose reply was given, as the calls have it
+  is_replied : (q : PendingRequest) → Contains b.given (q, Yes) → (r : Replied (xs ++ ys) last) × (q.number ≡ r.request.number) × (q.guess ≡ r.request.guess) × (q.ask ≡ r.request.ask)
+  is_replied q given =
+      let i = place_at (all_served z) (q, Yes) (Contains-append_left b.given (law_served last.desk.taken last.replies) (q, Yes) given) in
+      let x = here_too (xs ++ ys) z b.answered (q, Yes) i.0 i.1 in
+      let number = ap (λ t. t.0) x.2 in (
+        record { at = i.0; request = x.0.0; reply = x.0.1; there = x.1; accepted = ap (λ t. t.1.1.1) x.2; given = λ p there same. not_pending q given p there (same ∙ number) },
+        sym number,
+        sym (ap (λ t. t.1.1.0) x.2),
+        sym (ap (λ t. t.1.0) x.2),
+      )
 
-    still : (p : PendingRequest) → Contains (pending v.desk) p → Contains (map (λ x. x.0) (served w) ++ w.waiting) p
-    still p there =
-        let old = law_after k a.since in
-        let here : Contains (map (λ x. x.0) (served old) ++ old.waiting) p =
-        subst (λ ps. Contains ps p) (sym (map_front (λ (x : Served). x.0) old.given old.taken old.waiting))
-        (Contains-append_right (map (λ x. x.0) old.given) (law_pending old) p (subst (λ ps. Contains ps p) (sym (pending_seen xs old v a.fits.seen)) there)) in
-        let T = ready_table k ready in
-        let before = all_after S k.start T (begun k) (begins k ready) a.since in
-        let now = (all_keep S k.start T (begun k) old b.since old (since S k.start T (begun k) (begun k) old before)).1 in
-        subst (λ (z : World). Contains (map (λ x. x.0) (served z) ++ z.waiting) p) (sym (fold-append (event S k.start) (begun k) a.since b.since)) (now.still_made p here)
+  steps : (place : ℕ) (n : EntryView) (f : MarkedEffect Entity EntityState Saying) → begun ≤ place → slice_get (steps_at last.desk.kernel) place ≡ Some (n, f)
+      → n.input ≡ Good → CountsAt last.desk.kernel n → (r : Replied (xs ++ ys) last) × (place_in entries r.request.number ≡ place) × IsStepOf last.desk.kernel place r.request
+  steps place n f le at good counts =
+      let u = at_law place n f at in
+      let m = u.0.0 in
+      let is : bare m ≡ n = ap (λ p. p.0) u.2 in
+      let good_there : m.input ≡ Good = ap (λ (n : EntryView). n.input) is ∙ good in
+      let counts_so = counts_there z b.all.traced m (subst (CountsAt last.desk.kernel) (sym is) counts) in
+      let here = at_entry place u.0 u.1 in
+      let q : (q : PendingRequest) × (m.cause ≡ For q) × Contains b.given (q, Yes) =
+      elim (its_reply drawn begun w z b.all m (contains_at entries place m here) good_there counts_so) [ inl before ↦ absurd (b.all.facts.new place m le here before) | inr q ↦ q ] in
+      let r = is_replied q.0 q.2 in (
+        r.0,
+        first_is entries (step_once drawn begun w z b.all) place m q.0 r.0.request.number here q.1 r.1,
+        step_of place m u.0.1 q.0 r.0.request u.1 q.1 good_there counts_so r.2 r.3,
+      )
 
-    its : (p : PendingRequest) (n : EntryView) (f : MarkedEffect Entity EntityState Saying) → Contains (pending v.desk) p → slice_get (steps_at last.desk.kernel) (place_in entries p.number) ≡ Some (n, f)
-        → n.pid ≡ p.process
-    its p n f there at =
-        let u = at_law (place_in entries p.number) n f at in
-        let m = u.0.0 in
-        let here = at_entry (place_in entries p.number) u.0 u.1 in
-        let q = for_of p.number m.cause (place_for entries p.number m here) in
-        let in_record = contains_at entries (place_in entries p.number) m here in
-        let one : q.0 ≡ p = rising_same (map (λ x. x.0) (served w) ++ w.waiting) facts.numbers.rising q.0 p (facts.owners.owner m q.0 in_record q.1).0 (still p there) q.2 in
-        sym (ap (λ s. s.0.pid) u.2) ∙ law.its m q.0 in_record q.1 ∙ ap (λ (q : PendingRequest). q.process) one
+  -- ---- the step of a request that was pending
 
-    replied : StepsAreReplied (length (record_at k)) (xs ++ ys) v last
-    replied = record { place_of = place_in entries; replies = replies; apart = apart; steps = steps; its = its }
+  still : (p : PendingRequest) → Contains (pending v.desk) p → Contains (map (λ x. x.0) (all_served z) ++ all_waiting z) p
+  still p there = b.all.facts.still_made p (subst (λ ps. Contains ps p) (sym (all_requests w)) (Contains-append_right (map (λ x. x.0) a.given) (pending v.desk) p there))
 
-  pub stand_apart : (server : ServerView) → server.next ≡ 1 → server.refused ≡ [] → (es : List WorldEvent) (xs : Exchanges) (v : WorldView) → Leads (joined (opened k) server) es xs v
-      → (later : List WorldEvent) (ys : Exchanges) (last : WorldView) → Leads v later ys last → StandApart xs v last
-  stand_apart server next refused es xs v h later ys last more =
-      let a = reached k ready server next refused es xs v h in
-      stand xs v a ys last (later_on k ready xs v a later ys last more)
+  its : (p : PendingRequest) (n : EntryView) (f : MarkedEffect Entity EntityState Saying) → Contains (pending v.desk) p → slice_get (steps_at last.desk.kernel) (place_in entries p.number) ≡ Some (n, f)
+      → n.pid ≡ p.process
+  its p n f there at =
+      let u = at_law (place_in entries p.number) n f at in
+      let m = u.0.0 in
+      let here = at_entry (place_in entries p.number) u.0 u.1 in
+      let q = for_of p.number m.cause (place_for entries p.number m here) in
+      let in_record = contains_at entries (place_in entries p.number) m here in
+      let one : q.0 ≡ p = rising_same (map (λ x. x.0) (all_served z) ++ all_waiting z) b.all.facts.numbers.rising q.0 p (b.all.facts.owners.owner m q.0 in_record q.1).0 (still p there) q.2 in
+      sym (ap (λ s. s.0.pid) u.2) ∙ b.all.holds.entries.its m q.0 in_record q.1 ∙ ap (λ (q : PendingRequest). q.process) one
 
-  pub steps_are_replied : (server : ServerView) → server.next ≡ 1 → server.refused ≡ [] → (es : List WorldEvent) (xs : Exchanges) (v : WorldView) → Leads (joined (opened k) server) es xs v
-      → (later : List WorldEvent) (ys : Exchanges) (last : WorldView) → Leads v later ys last → StepsAreReplied (length (record_at k)) (xs ++ ys) v last
-  steps_are_replied server next refused es xs v h later ys last more =
-      let a = reached k ready server next refused es xs v h in
-      replied xs v a ys last (later_on k ready xs v a later ys last more)
+  replied : StepsAreReplied begun (xs ++ ys) v last
+  replied = record { place_of = place_in entries; replies = replies; apart = apart; steps = steps; its = its }
 
-  -- ---- the places of the trace
+module _ (k : KernelView) (ready : IsReady k) (server : ServerView) (next : server.next ≡ 1) (refused : server.refused ≡ []) (es : List WorldEvent) (xs : Exchanges) (v : WorldView) (h : Leads (joined (opened k) server) es xs v) where
+  abbrev now : Comes (last_guess k) (length (record_at k)) (first_world k server) xs v
+  now = reached k ready server next refused es xs v h
 
-  pub places_kept : (server : ServerView) → server.next ≡ 1 → server.refused ≡ [] → (es : List WorldEvent) (xs : Exchanges) (v : WorldView) → Leads (joined (opened k) server) es xs v → PlacesAreKept v
-  places_kept server next refused es xs v h =
-      let r = reached k ready server next refused es xs v h in
-      let w = law_after k r.since in
-      let kept = places_are_kept S k.start (ready_table k ready) (begun k) (begins k ready) r.since in
-      let here : places (table v.desk.kernel.scripts v.desk.kernel.limit) v.desk.kernel.start w.trace (law_pending w) ≤ v.desk.kernel.limit =
-      subst (λ (c : ScriptMap × (State × ℕ)). places (table c.0 c.1.1) c.1.0 w.trace (law_pending w) ≤ c.1.1) (λ i. (sym r.scripts i, (sym r.start i, sym r.limit_is i))) kept in
-      subst (λ n. n ≤ v.desk.kernel.limit) (places_seen xs w v r.fits.seen) here
+  pub places_kept : PlacesAreKept v
+  places_kept = now.0.all.room
+
+  module _ (later : List WorldEvent) (ys : Exchanges) (last : WorldView) (more : Leads v later ys last) where
+    abbrev hence : Reached (last_guess k) (length (record_at k)) (world_of (last_guess k) (length (record_at k)) (first_world k server) xs v now.0) (xs ++ ys) last
+    hence = later_on (last_guess k) (length (record_at k)) (first_world k server) xs v now later ys last more
+
+    pub stores_stand : StoresStand xs v last
+    stores_stand = stand (last_guess k) (length (record_at k)) (first_world k server) xs v now.0 ys last hence
+
+    pub stores_stood : StoresStood (xs ++ ys) v
+    stores_stood = stood (last_guess k) (length (record_at k)) (first_world k server) xs v now.0 ys last hence
+
+    pub stand_apart : StandApart xs v last
+    stand_apart = standing (last_guess k) (length (record_at k)) (first_world k server) xs v now.0 ys last hence
+
+    pub steps_are_replied : StepsAreReplied (length (record_at k)) (xs ++ ys) v last
+    steps_are_replied = replied (last_guess k) (length (record_at k)) (first_world k server) xs v now.0 ys last hence

@@ -15,9 +15,7 @@ use Rattle.sk_store.specs.declared.entity_state.EntityState.TheVariants as store
 use Rattle.sk_plain.specs.declared.refusal.Refusal.{Refusal}
 use Rattle.sk_plain.specs.declared.refusal.Refusal.TheVariants.{NoProcess, Ended}
 use Rattle.sk_plain.specs.Act.{Scripts, Saying, StepTree, act, goes_on, with_input, instruction_of}
-use Rattle.sk_client.proofs.CausedRequests.{Caused}
-use Rattle.sk_client.proofs.CausedWorld.{kernel}
-use Rattle.sk_client.proofs.WorldTable.{table}
+use Rattle.sk_client.proofs.CausedWorld.{Caused, kernel, table}
 use Rattle.sk_client.proofs.Ends.{written_so}
 use Rattle.sk_client.proofs.Tidy.{IsTidy}
 use Rattle.sk_client.proofs.Rows.{Keeps, CanWrite, ends_of, input_fine}
@@ -63,11 +61,11 @@ module _ (scripts : Scripts) (s : State) (pid : ℕ) (x : Input) (f : Effect Ent
   pub found : perform (get s) (act scripts pid x) ≡ Ok f → Found scripts s pid x f
   found is = found_alive (alive (Proc pid) (get s) (goes_on scripts pid x) (λ p. with_input pid p (next_in scripts p) x) f refl (λ v. refl) (λ p. refl) (get s (Proc pid)) is)
 
-module _ (scripts : Scripts) (limit : ℕ) where
-  after_tidy : (s : State) (n : Caused) (o : Result (Effect Entity EntityState Saying) Refusal) → outcome (kernel (table scripts limit)) s n ≡ o → IsTidy s → IsTidy (after (kernel (table scripts limit)) o s)
+module _ (scripts : Scripts) where
+  after_tidy : (s : State) (n : Caused) (o : Result (Effect Entity EntityState Saying) Refusal) → outcome (kernel (table scripts)) s n ≡ o → IsTidy s → IsTidy (after (kernel (table scripts)) o s)
   after_tidy s n (Ok f) is h = let step = found scripts s n.process n.input f is in step.keeps.tidy s step.there h
   after_tidy s n (Err why) is h = h
 
-  pub run_tidy : (s : State) (ns : List Caused) → IsTidy s → IsTidy (run (kernel (table scripts limit)) s ns)
+  pub run_tidy : (s : State) (ns : List Caused) → IsTidy s → IsTidy (run (kernel (table scripts)) s ns)
   run_tidy s [] h = h
-  run_tidy s (n ∷ ns) h = let K = kernel (table scripts limit) in run_tidy (after K (outcome K s n) s) ns (after_tidy s n (outcome K s n) refl h)
+  run_tidy s (n ∷ ns) h = let K = kernel (table scripts) in run_tidy (after K (outcome K s n) s) ns (after_tidy s n (outcome K s n) refl h)

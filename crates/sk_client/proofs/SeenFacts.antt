@@ -1,14 +1,17 @@
--- What the laws compute of a world is what its callers compute.
-use Rattle.std.proofs.Common.{◌≡◌, ℕ, suc, ◌+◌, ◌≤◌, Bool, true, false, not, ◌&&◌, ◌||◌, cond, List, [], ◌∷◌, ◌++◌, map, length, get_or, Option, Some, None, refl, sym, ◌∙◌, ap, arith}
-use Rattle.std.specs.Prelude.{◌==◌, nat_le}
+-- What the laws compute of a kernel's trace, whose entries have causes, is what its callers compute.
+use Rattle.std.proofs.Common.{◌≡◌, ℕ, suc, ◌≤◌, Bool, true, false, not, ◌&&◌, ◌||◌, cond, List, [], ◌∷◌, ◌++◌, map, get_or, Some, None, Ok, refl, sym, ◌∙◌, ap, arith}
+use Rattle.std.specs.Prelude.{◌==◌, nat_le, length}
+use Rattle.std.specs.FinMap.{get}
 use Rattle.std.specs.Ordering.{nat_cmp}
 use Rattle.std.specs.List.{filter, list_any}
 use Rattle.std.specs.List.Sorted.{IsStrictlySortedBy}
 use Rattle.std.proofs.lemmas.Bool.{eq-eqb, or_left, or_right, le-leb}
+use Rattle.std.proofs.lemmas.List.{map-append}
+use Rattle.std.proofs.lemmas.List.Sums.{fold-append}
 use Rattle.std.proofs.Math.Bool.{and-true}
-use Rattle.std.proofs.lemmas.List.{length-map}
+use Rattle.sk_record.specs.Step.{perform}
 use Rattle.sk_record.specs.Effects.{is_in, dirt}
-use Rattle.sk_record.specs.Run.{run, effects}
+use Rattle.sk_record.specs.Run.{outcome, run, effects}
 use Rattle.sk_record.specs.Notes.{has}
 use Rattle.sk_record.specs.Trace.{Event as Happens, Taken, Commit, Fail, record_of, undecided_of, all_recorded, no_record}
 use Rattle.sk_record.proofs.Machine.{has_filter}
@@ -17,29 +20,24 @@ use Rattle.sk_record.proofs.Sound.{entries_are, is_commit, undecided_is as is_un
 use Rattle.sk_ids.specs.Entity.{entity_cmp}
 use Rattle.sk_ids.specs.declared.entity.Entity.{Entity}
 use Rattle.sk_ids.specs.declared.entity.Entity.TheVariants.{Proc, Copy as CopyOf}
-use Rattle.sk_plain.specs.Act.{plain}
+use Rattle.sk_script.specs.declared.instruction.Input.{Input}
+use Rattle.sk_script.specs.declared.instruction.Input.TheVariants as inputs
+use Rattle.sk_trace.specs.declared.event.Event.{Event}
+use Rattle.sk_trace.specs.declared.event.Event.TheVariants as events
+use Rattle.sk_plain.specs.Act.{act, plain}
 use Rattle.sk_plain.specs.Replay.{image}
-use Rattle.sk_kernel.specs.Kernel.{KernelView, events_of, record_at, state_at, tags_at, undecided_at, next_guess, settled}
+use Rattle.sk_kernel.specs.Kernel.{KernelView, events_of, record_at, state_at, tags_at, undecided_at, last_guess, next_guess, number_after, settled, effect_at, with_event}
 use Rattle.sk_kernel.specs.Laws.{HasSoundTrace}
 use Rattle.sk_kernel.proofs.Undecided.{undecided_sorted}
 use Rattle.sk_kernel.proofs.Lawful.{below_next}
-use Rattle.sk_holder.specs.Tokens.{commits}
-use Rattle.sk_server.specs.declared.reply.Reply.{Reply}
-use Rattle.sk_client.specs.Desk.{pending, asked_count, asks_for, asks_on, rests_of, is_lost, is_void}
-use Rattle.sk_client.proofs.CausedWorld.{World, kernel, state, undecided, pending as law_pending, is_tag, rests_of as law_rests, is_lost as law_lost, is_void as law_void, commits as law_commits, least, places, asked_count as law_asked_count}
-use Rattle.sk_client.proofs.Bare.{bare_event}
-use Rattle.sk_client.proofs.Labels.{is_bare}
-use Rattle.sk_client.proofs.TraceFacts.{entry_drawn}
+use Rattle.sk_client.specs.Desk.{entry, rests_of, is_lost, is_void}
 use Rattle.sk_client.specs.Table.{Bytes}
-use Rattle.sk_client.proofs.WorldTable.{bare, table}
-use Rattle.sk_client.proofs.CausedRequests.{Caused}
 use Rattle.sk_client.specs.declared.pending.PendingRequest.{PendingRequest}
-use Rattle.sk_client.specs.WorldView.{WorldView}
-use Rattle.sk_client.proofs.SeenWorld.{law_served, unanswered, IsSeen}
-use Rattle.sk_client.specs.Exchanges.{Exchanges}
-use Rattle.sk_server.specs.declared.request.Ask.{Ask}
-use Rattle.sk_server.specs.declared.request.Ask.TheVariants as asks
-use Rattle.sk_client.proofs.DeskFacts.{committed_is}
+use Rattle.sk_client.proofs.Labels.{bare_event, is_bare}
+use Rattle.sk_client.proofs.CausedWorld.{Caused, kernel, state, undecided, own, is_tag, rests_of as law_rests, is_lost as law_lost, is_void as law_void, least, bare, table}
+use Rattle.sk_client.proofs.DeskFacts.{Did, committed_is}
+use Rattle.sk_client.proofs.PlaceFacts.{step_sound, guess_sound, commit_sound, fail_sound}
+use Rattle.sk_client.proofs.TraceFacts.{entry_drawn}
 
 -- ---- lists
 
@@ -70,7 +68,7 @@ below_least g d (x ∷ xs) low all =
       | false ↦ later
     ]
 
-pub least_is_first : (d : ℕ) (gs : List ℕ) → IsStrictlySortedBy nat_cmp gs → ((y : ℕ) → has y gs ≡ true → y ≤ d) → least d gs ≡ get_or gs 0 d
+least_is_first : (d : ℕ) (gs : List ℕ) → IsStrictlySortedBy nat_cmp gs → ((y : ℕ) → has y gs ≡ true → y ≤ d) → least d gs ≡ get_or gs 0 d
 unfolding IsStrictlySortedBy
 least_is_first d [] rises low = refl
 least_is_first d (g ∷ gs) rises low =
@@ -78,119 +76,91 @@ least_is_first d (g ∷ gs) rises low =
     let lowest = below_least g d gs here (λ y there. (let more = above g gs y rises.0 there in omega (arith, more))) in
     ap (λ b. cond b g (least d gs)) (le-leb g (least d gs) lowest)
 
--- ---- requests, of which the oldest have their replies on the way
-
-pub requests_seen : (qs : List PendingRequest) (rs : List Reply) (later : List PendingRequest)
-    → map (λ x. x.0) (law_served qs rs) ++ (unanswered qs rs ++ later) ≡ (qs ++ later)
-requests_seen [] rs later = refl
-requests_seen (q ∷ qs) [] later = refl
-requests_seen (q ∷ qs) (r ∷ rs) later = ap (λ xs. q ∷ xs) (requests_seen qs rs later)
-
-asked_seen : (qs : List PendingRequest) → law_asked_count qs ≡ asked_count qs
-asked_seen [] = refl
-asked_seen (q ∷ qs) = elim q.guess as (λ g. law_asked_count (record q { guess = g } ∷ qs) ≡ asked_count (record q { guess = g } ∷ qs)) [
-  | None ↦ ap suc (asked_seen qs)
-  | Some g ↦ asked_seen qs
-]
-
-commit_seen : (g : ℕ) (e : Happens Caused) → law_commits g e ≡ is_commit g (bare_event bare e)
+commit_seen : (g : ℕ) (e : Happens Caused) → is_commit g e ≡ is_commit g (bare_event bare e)
 commit_seen g (Taken n) = refl
 commit_seen g (Commit h) = refl
 commit_seen g (Fail h) = refl
 
--- a guess is made of what is cached, and a question asks for a file or a store
-abbrev pub IsFor : Option ℕ → Ask → Type 0
-IsFor (Some g) (asks.Get name) = ⊥
-IsFor (Some g) (asks.Check name version) = Unit {0}
-IsFor (Some g) (asks.Store name version bytes) = Unit {0}
-IsFor None (asks.Get name) = Unit {0}
-IsFor None (asks.Check name version) = ⊥
-IsFor None (asks.Store name version bytes) = Unit {0}
+-- the number of the last guess after an event
+pub last_more : (k : KernelView) (e : Event) → last_guess (with_event k e) ≡ number_after (last_guess k) e
+last_more k e = fold-append number_after (length k.earlier) k.trace (e ∷ [])
 
-abbrev pub AreFor : List PendingRequest → Type 0
-AreFor [] = Unit {0}
-AreFor (q ∷ qs) = IsFor q.guess q.ask × AreFor qs
+-- a kernel's trace is this one without its causes
+pub record Traced (es : List (Happens Caused)) (k : KernelView) : Type 0 where
+  pub trace : map (bare_event bare) es ≡ events_of k
+  pub sound : HasSoundTrace k
 
-pub more_for : (qs : List PendingRequest) (q : PendingRequest) → AreFor qs → IsFor q.guess q.ask → AreFor (qs ++ q ∷ [])
-more_for [] q all is = (is, tt)
-more_for (x ∷ xs) q all is = (all.0, more_for xs q all.1 is)
+module _ (es : List (Happens Caused)) (k : KernelView) (t : Traced es k) where
+  pub entries_seen : map bare (record_of (kernel (table k.scripts)) k.start es) ≡ record_at k
+  entries_seen = (is_bare bare (plain k.scripts) k.start es).entries ∙ ap (record_of (plain k.scripts) k.start) t.trace
 
--- a world of the laws that is seen so, and what holds besides
-pub record Fits (xs : Exchanges) (w : World) (v : WorldView) : Type 0 where
-  pub seen : IsSeen xs w v
-  pub sound : HasSoundTrace v.desk.kernel
-  pub kinds : AreFor (pending v.desk)
+  pub undecided_seen : undecided (table k.scripts) k.start es ≡ undecided_at k
+  undecided_seen = (is_bare bare (plain k.scripts) k.start es).guesses ∙ ap (undecided_of (plain k.scripts) k.start) t.trace
 
-module _ (xs : Exchanges) (w : World) (v : WorldView) (seen : IsSeen xs w v) where
-  abbrev K : KernelView
-  K = v.desk.kernel
+  pub state_seen : state (table k.scripts) k.start es ≡ state_at k
+  state_seen = (is_bare bare (plain k.scripts) k.start es).state ∙ ap (λ es. run (plain k.scripts) k.start (record_of (plain k.scripts) k.start es)) t.trace
 
-  pub pending_seen : law_pending w ≡ pending v.desk
-  pending_seen = (λ i. map (λ x. x.0) (seen.taken i) ++ seen.waiting i) ∙ requests_seen v.desk.taken v.replies v.desk.waiting
+  pub steps_seen : effects (kernel (table k.scripts)) k.start (record_of (kernel (table k.scripts)) k.start es) ≡ effects (plain k.scripts) k.start (record_at k)
+  steps_seen = (is_bare bare (plain k.scripts) k.start es).steps ∙ ap (λ es. effects (plain k.scripts) k.start (record_of (plain k.scripts) k.start es)) t.trace
 
-  -- ---- the kernel
-
-  pub undecided_seen : undecided (table v.desk.kernel.scripts v.desk.kernel.limit) v.desk.kernel.start w.trace ≡ undecided_at v.desk.kernel
-  undecided_seen = (is_bare bare (plain K.scripts) K.start w.trace).guesses ∙ ap (undecided_of (plain K.scripts) K.start) seen.trace
-
-  pub state_seen : state (table v.desk.kernel.scripts v.desk.kernel.limit) v.desk.kernel.start w.trace ≡ state_at v.desk.kernel
-  state_seen = (is_bare bare (plain K.scripts) K.start w.trace).state ∙ ap (λ es. run (plain K.scripts) K.start (record_of (plain K.scripts) K.start es)) seen.trace
-
-  pub steps_seen : effects (kernel (table K.scripts K.limit)) K.start (record_of (kernel (table K.scripts K.limit)) K.start w.trace) ≡ effects (plain K.scripts) K.start (record_at K)
-  steps_seen = (is_bare bare (plain K.scripts) K.start w.trace).steps ∙ ap (λ es. effects (plain K.scripts) K.start (record_of (plain K.scripts) K.start es)) seen.trace
+  -- what a step does
+  pub does_seen : (p : ℕ) (input : Input) → outcome (kernel (table k.scripts)) (state (table k.scripts) k.start es) (own p input) ≡ effect_at k (entry p input None)
+  does_seen p input = λ i. perform (get (state_seen i)) (act k.scripts p input)
 
   -- ---- what a request rests on
 
   abbrev marks_now : ℕ → Entity → Bool
-  marks_now g e = is_in entity_cmp (dirt entity_cmp g [] (effects (kernel (table K.scripts K.limit)) K.start (record_of (kernel (table K.scripts K.limit)) K.start w.trace))) e
+  marks_now g e = is_in entity_cmp (dirt entity_cmp g [] (effects (kernel (table k.scripts)) k.start (record_of (kernel (table k.scripts)) k.start es))) e
 
-  tag_seen : (g : ℕ) (e : Entity) → has g (undecided_at K) ≡ true → has g (tags_at K e) ≡ marks_now g e
+  tag_seen : (g : ℕ) (e : Entity) → has g (undecided_at k) ≡ true → has g (tags_at k e) ≡ marks_now g e
   tag_seen g e there =
-      has_filter (λ h. is_in entity_cmp (dirt entity_cmp h [] (effects (plain K.scripts) K.start (all_recorded (plain K.scripts) K.start no_record (events_of K)).entries)) e) g (undecided_at K)
-      ∙ (λ i. is_in entity_cmp (dirt entity_cmp g [] (effects (plain K.scripts) K.start (entries_are (plain K.scripts) K.start (events_of K) i))) e && there i)
+      has_filter (λ h. is_in entity_cmp (dirt entity_cmp h [] (effects (plain k.scripts) k.start (all_recorded (plain k.scripts) k.start no_record (events_of k)).entries)) e) g (undecided_at k)
+      ∙ (λ i. is_in entity_cmp (dirt entity_cmp g [] (effects (plain k.scripts) k.start (entries_are (plain k.scripts) k.start (events_of k) i))) e && there i)
       ∙ and-true _
       ∙ ap (λ fs. is_in entity_cmp (dirt entity_cmp g [] fs) e) (sym steps_seen)
 
-  pub rests_seen : (pid : ℕ) (name : Bytes) → law_rests (table v.desk.kernel.scripts v.desk.kernel.limit) v.desk.kernel.start w.trace pid name ≡ rests_of v.desk.kernel pid name
+  pub rests_seen : (pid : ℕ) (name : Bytes) → law_rests (table k.scripts) k.start es pid name ≡ rests_of k pid name
   rests_seen pid name =
-      ap (filter (is_tag (table K.scripts K.limit) K.start w.trace pid name)) undecided_seen
-      ∙ same_filter (is_tag (table K.scripts K.limit) K.start w.trace pid name) (λ g. has g (tags_at K (Proc pid)) || has g (tags_at K (CopyOf name))) (undecided_at K)
+      ap (filter (is_tag (table k.scripts) k.start es pid name)) undecided_seen
+      ∙ same_filter (is_tag (table k.scripts) k.start es pid name) (λ g. has g (tags_at k (Proc pid)) || has g (tags_at k (CopyOf name))) (undecided_at k)
       (λ g there i. sym (tag_seen g (Proc pid) there) i || sym (tag_seen g (CopyOf name) there) i)
 
-  pub settled_seen : HasSoundTrace v.desk.kernel → least (suc w.drawn) (undecided (table v.desk.kernel.scripts v.desk.kernel.limit) v.desk.kernel.start w.trace) ≡ settled v.desk.kernel
-  settled_seen sound =
-      let next : suc w.drawn ≡ next_guess K = (let same = seen.drawn in omega (arith, same)) in
+  pub settled_seen : least (suc (last_guess k)) (undecided (table k.scripts) k.start es) ≡ settled k
+  settled_seen =
+      let next : suc (last_guess k) ≡ next_guess k = omega arith in
       (λ i. least (next i) (undecided_seen i))
-      ∙ least_is_first (next_guess K) (undecided_at K) (undecided_sorted K sound)
-      (λ y there. (let less = below_next K sound y (entry_drawn (plain K.scripts) K.start (events_of K) sound.sound y ((is_undecided (plain K.scripts) K.start (events_of K) sound.sound y).0 there).2) in omega (arith, less)))
-
-  -- ---- places of the trace
-
-  pub length_seen : length w.trace ≡ length v.desk.kernel.trace
-  length_seen = sym (length-map w.trace (bare_event bare)) ∙ ap length seen.trace ∙ length-map K.trace image
-
-  pub places_seen : places (table v.desk.kernel.scripts v.desk.kernel.limit) v.desk.kernel.start w.trace (law_pending w) ≡ length v.desk.kernel.trace + length (undecided_at v.desk.kernel) + asked_count (pending v.desk)
-  places_seen = λ i. length_seen i + length (undecided_seen i) + (ap law_asked_count pending_seen ∙ asked_seen (pending v.desk)) i
-
-  -- ---- asked requests
-
-  pub asks_for_seen : (pid : ℕ) → asks_for pid (law_pending w) ≡ asks_for pid (pending v.desk)
-  asks_for_seen pid = ap (asks_for pid) pending_seen
-
-  pub asks_on_seen : (name : Bytes) → asks_on name (law_pending w) ≡ asks_on name (pending v.desk)
-  asks_on_seen name = ap (asks_on name) pending_seen
+      ∙ least_is_first (next_guess k) (undecided_at k) (undecided_sorted k t.sound)
+      (λ y there. (let less = below_next k t.sound y (entry_drawn (plain k.scripts) k.start (events_of k) t.sound.sound y ((is_undecided (plain k.scripts) k.start (events_of k) t.sound.sound y).0 there).2) in omega (arith, less)))
 
   -- ---- guesses that are lost
 
-  committed_seen : HasSoundTrace v.desk.kernel → (g : ℕ) → list_any (law_commits g) w.trace ≡ list_any (commits g) K.trace
-  committed_seen sound g =
-      any_same (law_commits g) (λ e. is_commit g (bare_event bare e)) w.trace (commit_seen g)
-      ∙ sym (any_map (is_commit g) (bare_event bare) w.trace)
-      ∙ ap (list_any (is_commit g)) seen.trace
-      ∙ sym (committed_is K sound g)
+  committed_seen : (g : ℕ) → list_any (is_commit g) es ≡ list_any (is_commit g) (events_of k)
+  committed_seen g = any_same (is_commit g) (λ e. is_commit g (bare_event bare e)) es (commit_seen g) ∙ sym (any_map (is_commit g) (bare_event bare) es) ∙ ap (list_any (is_commit g)) t.trace
 
-  lost_seen : HasSoundTrace v.desk.kernel → (g : ℕ) → law_lost (table v.desk.kernel.scripts v.desk.kernel.limit) v.desk.kernel.start w.trace g ≡ is_lost v.desk.kernel g
-  lost_seen sound g = λ i. not (has g (undecided_seen i)) && not (committed_seen sound g i)
+  lost_seen : (g : ℕ) → law_lost (table k.scripts) k.start es g ≡ is_lost k g
+  lost_seen g = λ i. not (has g (undecided_seen i)) && not ((committed_seen g ∙ sym (committed_is k t.sound g)) i)
 
-  pub void_seen : HasSoundTrace v.desk.kernel → (q : PendingRequest) → law_void (table v.desk.kernel.scripts v.desk.kernel.limit) v.desk.kernel.start w.trace q ≡ is_void v.desk.kernel q
-  void_seen sound q = any_same (law_lost (table K.scripts K.limit) K.start w.trace) (is_lost K) q.rests (lost_seen sound)
+  pub void_seen : (q : PendingRequest) → law_void (table k.scripts) k.start es q ≡ is_void k q
+  void_seen q = any_same (law_lost (table k.scripts) k.start es) (is_lost k) q.rests lost_seen
+
+  -- ---- one event more
+
+  more : (n : Happens Caused) (e : Event) → bare_event bare n ≡ image e → HasSoundTrace (with_event k e) → Traced (es ++ n ∷ []) (with_event k e)
+  more n e same sound = record {
+    trace = map-append (bare_event bare) es (n ∷ []) ∙ (λ i. t.trace i ++ same i ∷ []) ∙ sym (map-append image k.trace (e ∷ []));
+    sound = sound;
+  }
+
+  pub traced_step : (p : ℕ) (input : Input) (n : Caused) (f : Did) → bare n ≡ entry p input None → effect_at k (entry p input None) ≡ Ok f → Traced (es ++ Taken n ∷ []) (with_event k (events.Step p input))
+  traced_step p input n f same is = more (Taken n) (events.Step p input) (ap Taken same) (step_sound k t.sound p input f is)
+
+  pub traced_guess : (p : ℕ) (n : Caused) (f : Did) → bare n ≡ entry p inputs.Good (Some (next_guess k)) → effect_at k (entry p inputs.Good (Some (next_guess k))) ≡ Ok f
+      → Traced (es ++ Taken n ∷ []) (with_event k (events.Guess (next_guess k) p inputs.Good))
+  traced_guess p n f same is = more (Taken n) (events.Guess (next_guess k) p inputs.Good) (ap Taken same) (guess_sound k t.sound p inputs.Good f is)
+
+  module _ (g : ℕ) (here : has g (undecided_at k) ≡ true) where
+    pub traced_commit : Traced (es ++ Commit g ∷ []) (with_event k (events.Commit g))
+    traced_commit = more (Commit g) (events.Commit g) refl (commit_sound k t.sound g here)
+
+    pub traced_fail : Traced (es ++ Fail g ∷ []) (with_event k (events.Fail g))
+    traced_fail = more (Fail g) (events.Fail g) refl (fail_sound k t.sound g here)

@@ -1,208 +1,300 @@
--- A reply in a world of the laws, and in one that is seen so.
-use Rattle.std.proofs.Common.{◌≡◌, ℕ, suc, ◌+◌, ◌≤◌, true, false, cond, List, [], ◌∷◌, ◌++◌, map, length, Option, Some, None, Result, Ok, Err, refl, sym, ◌∙◌, ap, subst, arith}
-use Rattle.std.specs.Prelude.{is_none}
-use Rattle.std.specs.List.{filter}
-use Rattle.std.proofs.lemmas.Bool.{le-ltb, true≢false}
-use Rattle.std.proofs.lemmas.List.{append_assoc, map-append}
+-- A reply keeps all that holds of a world, and the step of an asked request is accepted.
+use Rattle.std.proofs.Common.{◌≡◌, ℕ, suc, ◌+◌, ◌≤◌, true, false, cond, not, ◌&&◌, List, [], ◌∷◌, ◌++◌, map, length, Option, Some, None, Ok, inl, inr, refl, sym, ◌∙◌, ap, subst, arith}
+use Rattle.std.specs.Prelude.{◌⊎◌, is_none}
+use Rattle.std.specs.List.{filter, list_any, Contains}
+use Rattle.std.proofs.lemmas.Bool.{true≢false, cases_Bool, false_from_ne_true, le-ltb}
+use Rattle.std.proofs.lemmas.List.{append_assoc}
+use Rattle.std.proofs.lemmas.List.Elements.{Contains-append_right, Contains-push}
 use Rattle.sk_record.specs.Notes.{has}
-use Rattle.sk_record.specs.Trace.{Event as Happens, Taken, Commit, Fail, StatusIs, IsSound}
-use Rattle.sk_record.specs.declared.status.Status.TheVariants.{Undecided}
-use Rattle.sk_record.proofs.Sound.{sound_commit, sound_fail, undecided_is as is_undecided}
-use Rattle.sk_ids.proofs.Entities.{entity_total, entity_exact}
+use Rattle.sk_record.specs.Trace.{Event, Taken, Commit, Fail, record_of}
+use Rattle.sk_record.proofs.Sound.{has_commit, is_commit, record_more}
 use Rattle.sk_script.specs.declared.instruction.Input.{Input}
-use Rattle.sk_script.specs.declared.instruction.Input.TheVariants as inputs
-use Rattle.sk_trace.specs.declared.event.Event.{Event}
+use Rattle.sk_script.specs.declared.instruction.Input.TheVariants.{Good}
 use Rattle.sk_trace.specs.declared.event.Event.TheVariants as events
-use Rattle.sk_plain.specs.Act.{plain}
-use Rattle.sk_plain.specs.Planned.{refusal_of, IsReply}
-use Rattle.sk_plain.specs.Replay.{image}
+use Rattle.sk_plain.specs.Planned.{refusal_of}
 use Rattle.sk_plain.specs.declared.refusal.Refusal.{Refusal}
 use Rattle.sk_plain.specs.declared.refusal.Refusal.TheVariants.{TraceFull}
-use Rattle.sk_kernel.specs.Kernel.{KernelView, events_of, undecided_at, last_guess, number_after, room, effect_at, state_at, no_room, or_else, trace_full, step_refused, with_event}
-use Rattle.sk_kernel.specs.Laws.{HasSoundTrace}
-use Rattle.sk_kernel.proofs.Further.{epoch_commit, epoch_fail}
-use Rattle.sk_server.specs.declared.request.Ask.{Ask}
-use Rattle.sk_server.specs.declared.request.Ask.TheVariants as asks
+use Rattle.sk_kernel.specs.Kernel.{KernelView, undecided_at, last_guess, room, effect_at, or_else, trace_full, step_refused, with_event}
+use Rattle.sk_server.specs.declared.request.Ask.TheVariants.{Store}
 use Rattle.sk_server.specs.declared.reply.Answer.{Answer}
-use Rattle.sk_server.specs.declared.reply.Answer.TheVariants as answers
+use Rattle.sk_server.specs.declared.reply.Answer.TheVariants.{Yes, No, Copy, Dropped}
 use Rattle.sk_server.specs.declared.reply.Reply.{Reply}
-use Rattle.sk_client.proofs.CausedWorld.{World, Reply as Replies, pending as law_pending, places, with_trace, with_kept, with_given, asked_entry, stepped as law_stepped, stepped_by, failed_with, decided as law_decided, stepped_for, given_to as law_given_to, reply, event, input_of as law_input_of}
-use Rattle.sk_client.proofs.Bare.{bare_event}
-use Rattle.sk_client.proofs.WorldTable.{bare, table}
-use Rattle.sk_client.proofs.CausedRequests.{Caused}
-use Rattle.sk_client.proofs.DeskFacts.{reply_free}
-use Rattle.sk_client.specs.Desk.{DeskView, pending, asked_count, with_kept as kept_with, entry, fits_ask, decided, input_of, stepped, answered, given_to, given, is_void, is_asked}
+use Rattle.sk_client.specs.Desk.{name_of, DeskView, is_asked, asked_count, kept_after, answer_kept, entry, fits_ask, decided, input_of, stepped, answered, given_to, given, is_void}
 use Rattle.sk_client.specs.Exchanges.{Exchanges}
-use Rattle.sk_client.proofs.SeenWorld.{answered_there, law_served, unanswered}
+use Rattle.sk_client.specs.Table.{Bytes}
 use Rattle.sk_client.specs.WorldView.{WorldView}
-use Rattle.sk_client.specs.declared.pending.PendingRequest.{PendingRequest}
 use Rattle.sk_client.specs.declared.pending.Kept.{Kept}
-use Rattle.sk_client.proofs.SeenFacts.{IsFor, AreFor, Fits, undecided_seen, places_seen, void_seen}
-use Rattle.sk_client.proofs.SeenTurn.{Did, does_seen, step_fits, last_more}
+use Rattle.sk_client.specs.declared.pending.PendingRequest.{PendingRequest}
+use Rattle.sk_client.proofs.CausedWorld.{Caused, For, Served, kernel, state, undecided, asked_entry, is_lost, is_void as law_void, table}
+use Rattle.sk_client.proofs.CausedLaws.{Takes, Sets, IsTable}
+use Rattle.sk_client.proofs.DeskFacts.{reply_free, given_reply}
+use Rattle.sk_client.proofs.Each.{cons_first}
+use Rattle.sk_client.proofs.Invariant.{Invariant, Ready, HasStep, is_accepted}
+use Rattle.sk_client.proofs.Events.{no_guess, inv_plain, inv_commit, inv_fail, inv_drop, inv_done}
+use Rattle.sk_client.proofs.PlaceFacts.{used, used_step, used_commit, used_fail}
+use Rattle.sk_client.proofs.Queues.{any_of}
+use Rattle.sk_client.proofs.Records.{tags_of_step}
+use Rattle.sk_client.proofs.RequestFacts.{RequestFacts, facts_kept, facts_none, facts_commit, facts_fail, facts_step}
+use Rattle.sk_client.proofs.SeenFacts.{Traced, does_seen, undecided_seen, void_seen, last_more, traced_step, traced_commit, traced_fail}
+use Rattle.sk_client.proofs.SeenWorld.{World, law_served, unanswered, answered_there, answered_here}
 use Rattle.sk_client.proofs.WorldFacts.{Oldest}
+use Rattle.sk_client.proofs.Worlds.{IsFor, AreFor, not_copied, takes_by, good_yes, keeps_more, good_open, not_void, Reached}
 
 -- an asked request has a place of the trace
-asked_more : (q : PendingRequest) (qs : List PendingRequest) → q.guess ≡ None → asked_count (q ∷ qs) ≡ asked_count qs + 1
-asked_more q qs none = ap (λ b. length (cond b (q ∷ filter is_asked qs) (filter is_asked qs))) (ap is_none none) ∙ (let one : suc (asked_count qs) ≡ asked_count qs + 1 = omega arith in one)
+asked_one : (q : PendingRequest) (qs : List PendingRequest) → q.guess ≡ None → asked_count (q ∷ qs) ≡ asked_count qs + 1
+asked_one q qs none = ap (λ b. length (cond b (q ∷ filter is_asked qs) (filter is_asked qs))) (ap is_none none) ∙ (let one : suc (asked_count qs) ≡ asked_count qs + 1 = omega arith in one)
 
-module _ (xs : Exchanges) (w : World) (v : WorldView) (f : Fits xs w v) where
+asked_less : (q : PendingRequest) (qs : List PendingRequest) → asked_count qs ≤ asked_count (q ∷ qs)
+asked_less q qs = elim (is_asked q) as (λ b. length (filter is_asked qs) ≤ length (cond b (q ∷ filter is_asked qs) (filter is_asked qs))) [ true ↦ omega arith | false ↦ omega arith ]
+
+not_dropped : (a : Answer) (x : Input) → input_of a ≡ Some x → a ≡ Dropped → ⊥
+not_dropped a x gives is = (let both : None ≡ Some x = ap input_of (sym is) ∙ gives in cc)
+
+module _ (drawn begun : ℕ) (old : World) (xs : Exchanges) (v : WorldView) (r : Reached drawn begun old xs v) (q : PendingRequest) (later : List PendingRequest) (rs : List Reply) where
   abbrev K : KernelView
   K = v.desk.kernel
 
-  -- ---- a decision
+  -- what is without a reply behind this one, and what is unanswered
+  abbrev pub rest : List PendingRequest
+  rest = later ++ v.desk.waiting
 
-  decision_fits : (e : Event) (n : Happens Caused) (kept : List Kept) (law : List Kept) → bare_event bare n ≡ image e → number_after (last_guess v.desk.kernel) e ≡ last_guess v.desk.kernel
-      → HasSoundTrace (with_event v.desk.kernel e) → law ≡ kept
-      → Fits xs (with_kept (with_trace w (w.trace ++ n ∷ [])) law) (record v { desk = record v.desk { kernel = with_event v.desk.kernel e; kept = kept } })
-  decision_fits e n kept law same number sound answers = record {
-    seen = record {
-      trace = map-append (bare_event bare) w.trace (n ∷ []) ∙ (λ i. f.seen.trace i ++ same i ∷ []) ∙ sym (map-append image K.trace (e ∷ []));
-      drawn = f.seen.drawn ∙ sym number ∙ sym (last_more K e);
-      next = f.seen.next;
-      kept = answers;
-      taken = f.seen.taken;
-      waiting = f.seen.waiting;
-      server = f.seen.server;
-      answered = f.seen.answered;
-    };
-    sound = sound;
-    kinds = f.kinds;
-  }
+  abbrev pub unserved : List PendingRequest
+  unserved = unanswered later rs ++ v.desk.waiting
 
-  module _ (g : ℕ) (here : has g (undecided_at v.desk.kernel) ≡ true) where
-    status : StatusIs (plain v.desk.kernel.scripts) v.desk.kernel.start (events_of v.desk.kernel) g Undecided
-    status = (is_undecided (plain K.scripts) K.start (events_of K) f.sound.sound g).0 here
+  -- the reply to the oldest request comes next
+  pub record Comes (a : Answer) : Type 0 where
+    pub kind : IsFor q.guess q.ask
+    pub kinds : AreFor rest
+    pub fits : fits_ask q.ask a ≡ true
+    pub replied : map answered_there (r.given ++ (q, a) ∷ law_served later rs) ≡ map answered_here xs
+    pub holds : Invariant (table v.desk.kernel.scripts) v.desk.kernel.start r.trace (last_guess v.desk.kernel) (r.given ++ (q, a) ∷ law_served later rs) r.given (q ∷ rest) unserved v.server.refused
+    pub facts : RequestFacts (table v.desk.kernel.scripts) v.desk.kernel.start drawn begun old r.trace (last_guess v.desk.kernel) v.desk.kept v.desk.next (r.given ++ (q, a) ∷ law_served later rs) r.given unserved
+    pub room : used v.desk.kernel + asked_count (q ∷ rest) ≤ v.desk.kernel.limit
 
-    sound_more : (e : Event) → IsSound (plain v.desk.kernel.scripts) v.desk.kernel.start (events_of v.desk.kernel ++ image e ∷ []) → IsSound (plain v.desk.kernel.scripts) v.desk.kernel.start (events_of (with_event v.desk.kernel e))
-    sound_more e is = subst (IsSound (plain K.scripts) K.start) (sym (map-append image K.trace (e ∷ []))) is
+  module _ (a : Answer) (c : Comes a) where
+    abbrev there : Contains (r.given ++ (q, a) ∷ law_served later rs) (q, a)
+    there = Contains-append_right r.given ((q, a) ∷ law_served later rs) (q, a) (cons_first (q, a) (law_served later rs))
 
-    commits_so : Fits xs (with_trace w (w.trace ++ Commit g ∷ [])) (record v { desk = record v.desk { kernel = with_event v.desk.kernel (events.Commit g) } })
-    commits_so = decision_fits (events.Commit g) (Commit g) v.desk.kept w.kept refl refl (epoch_commit K f.sound g (sound_more (events.Commit g) (sound_commit (plain K.scripts) K.start (events_of K) g f.sound.sound status))) f.seen.kept
+    -- a request that was not dropped rests on no lost guess
+    pub whole : (a ≡ Dropped → ⊥) → is_void v.desk.kernel q ≡ true → ⊥
+    whole kept void =
+        not_void (table K.scripts) K.start r.all.is_table r.trace (last_guess K) (r.given ++ (q, a) ∷ law_served later rs) r.given (q ∷ rest) unserved v.server.refused c.holds (q, a) there kept
+        (void_seen r.trace K r.all.traced q ∙ void)
 
-    fail_sound : HasSoundTrace (with_event v.desk.kernel (events.Fail g))
-    fail_sound = epoch_fail K f.sound g (sound_more (events.Fail g) (sound_fail (plain K.scripts) K.start entity_total entity_exact (events_of K) g f.sound.sound status))
+    -- the step of an asked request
+    pub asked_ready : q.guess ≡ None → law_void (table v.desk.kernel.scripts) v.desk.kernel.start r.trace q ≡ false → Ready (table v.desk.kernel.scripts) v.desk.kernel.start (record_of (kernel (table v.desk.kernel.scripts)) v.desk.kernel.start r.trace) (undecided (table v.desk.kernel.scripts) v.desk.kernel.start r.trace) q
+    asked_ready none sound = elim (c.holds.asked q (cons_first q rest) none) [
+      | inl void ↦ absurd (true≢false (sym (any_of (is_lost (table K.scripts) K.start r.trace) q.rests void.0 void.1 void.3) ∙ sound))
+      | inr ready ↦ ready
+    ]
 
-    fails_so : Fits xs (with_trace w (w.trace ++ Fail g ∷ [])) (record v { desk = record v.desk { kernel = with_event v.desk.kernel (events.Fail g) } })
-    fails_so = decision_fits (events.Fail g) (Fail g) v.desk.kept w.kept refl refl fail_sound f.seen.kept
+    module _ (none : q.guess ≡ None) (x : Input) (gives : input_of a ≡ Some x) where
+      sound : law_void (table v.desk.kernel.scripts) v.desk.kernel.start r.trace q ≡ false
+      sound = void_seen r.trace K r.all.traced q ∙ false_from_ne_true _ (whole (not_dropped a x gives))
 
-    keeps_so : (p : ℕ) (input : Input) → Fits xs (failed_with (table v.desk.kernel.scripts v.desk.kernel.limit) v.desk.kernel.start w p g input)
-        (record v { desk = record v.desk { kernel = with_event v.desk.kernel (events.Fail g); kept = kept_with p input v.desk.kept } })
-    keeps_so p input =
-        decision_fits (events.Fail g) (Fail g) (kept_with p input v.desk.kept) (kept_with p input w.kept) refl refl fail_sound (ap (kept_with p input) f.seen.kept)
+      takes : Takes (table v.desk.kernel.scripts) (state (table v.desk.kernel.scripts) v.desk.kernel.start r.trace) q.process q.ask x
+      takes =
+          takes_by (table K.scripts) K.start (state (table K.scripts) K.start r.trace) q.process q.ask a x (subst (λ g. IsFor g q.ask) none c.kind) c.fits (asked_ready none sound).step gives
+          (c.holds.answers (q, a) there).fits
 
-    by_kind : (q : PendingRequest) (ask : Ask) (a : Answer) → IsFor (Some g) ask → fits_ask ask a ≡ true
-        → Fits xs (law_decided (table v.desk.kernel.scripts v.desk.kernel.limit) v.desk.kernel.start w (record q { ask = ask }) g a) (record v { desk = decided v.desk (record q { ask = ask }) g a })
-    by_kind q (asks.Get name) a kind fits = absurd kind
-    by_kind q (asks.Check name version) answers.Yes kind fits = commits_so
-    by_kind q (asks.Check name version) (answers.No c) kind fits = keeps_so q.process (inputs.Fresh c)
-    by_kind q (asks.Check name version) (answers.Copy c) kind fits = absurd (true≢false (sym fits))
-    by_kind q (asks.Check name version) answers.Dropped kind fits = fails_so
-    by_kind q (asks.Store name version bytes) answers.Yes kind fits = commits_so
-    by_kind q (asks.Store name version bytes) (answers.No c) kind fits = keeps_so q.process (inputs.Stale c)
-    by_kind q (asks.Store name version bytes) (answers.Copy c) kind fits = absurd (true≢false (sym fits))
-    by_kind q (asks.Store name version bytes) answers.Dropped kind fits = fails_so
+      -- the kernel takes it
+      pub accepted : step_refused v.desk.kernel (entry q.process x None) ≡ None
+      accepted =
+          let e = entry q.process x None in
+          let does : effect_at K e ≡ Ok takes.effect = sym (does_seen r.trace K r.all.traced q.process x) ∙ takes.accepted in
+          let free = reply_free K q.process x (given_reply a x gives) (effect_at K e) refl in
+          let was = c.room in
+          let more = asked_one q rest none in
+          let full : trace_full K 1 ≡ None = ap (λ b. cond b (Some TraceFull) None) (le-ltb (room K) 1 (omega (arith, was, more))) in
+          (λ i. or_else (or_else (refusal_of (does i)) (free i)) (full i))
 
-  decided_fits : (q : PendingRequest) (a : Answer) (g : ℕ) → IsFor (Some g) q.ask → fits_ask q.ask a ≡ true
-      → Fits xs (law_given_to (table v.desk.kernel.scripts v.desk.kernel.limit) v.desk.kernel.start w q a (Some g)) (record v { desk = given_to v.desk q a (Some g) })
-  decided_fits q a g kind fits =
-      subst (λ (us : List ℕ). Fits xs (cond (has g us) (law_decided (table K.scripts K.limit) K.start w q g a) w) (record v { desk = given_to v.desk q a (Some g) })) (sym (undecided_seen xs w v f.seen))
-      (elim (has g (undecided_at K)) as (λ b. has g (undecided_at K) ≡ b → Fits xs (cond b (law_decided (table K.scripts K.limit) K.start w q g a) w) (record v { desk = cond b (decided v.desk q g a) v.desk })) [
-        | true ↦ λ here. by_kind g here q q.ask a kind fits
-        | false ↦ λ here. f
-      ] refl)
+  -- ---- what the reply leaves
 
-  -- ---- the step of an asked request
+  -- the trace is es then, of this kernel, with these kept answers
+  module _ (a : Answer) (c : Comes a) (k : KernelView) (es : List (Event Caused)) (kept : List Kept) where
+    finish : (is_table : IsTable (table k.scripts) k.start) → Traced es k
+        → (a ≡ Yes → (m : Bytes) (v : ℕ) (b : Bytes) → q.ask ≡ Store m v b → q.guess ≡ None → HasStep (table k.scripts) k.start (record_of (kernel (table k.scripts)) k.start es) q)
+        → Invariant (table k.scripts) k.start es (last_guess k) (r.given ++ (q, a) ∷ law_served later rs) r.given rest unserved v.server.refused
+        → RequestFacts (table k.scripts) k.start drawn begun old es (last_guess k) kept v.desk.next (r.given ++ (q, a) ∷ law_served later rs) (r.given ++ (q, a) ∷ []) unserved
+        → used k + asked_count rest ≤ k.limit
+        → Reached drawn begun old xs (record v { desk = record v.desk { kernel = k; kept = kept; taken = later }; replies = rs })
+    finish is_table traced stands holds facts room =
+        let S = table k.scripts in
+        let same = sym (append_assoc r.given ((q, a) ∷ []) (law_served later rs)) in
+        record {
+          trace = es;
+          given = r.given ++ (q, a) ∷ [];
+          answered = ap (map answered_there) (sym same) ∙ c.replied;
+          all = record {
+            is_table = is_table;
+            traced = traced;
+            kinds = c.kinds;
+            holds = subst (λ served. Invariant S k.start es (last_guess k) served (r.given ++ (q, a) ∷ []) rest unserved v.server.refused) same
+                (inv_done S k.start is_table es (last_guess k) (r.given ++ (q, a) ∷ law_served later rs) r.given rest unserved v.server.refused (q, a)
+                (Contains-append_right r.given ((q, a) ∷ law_served later rs) (q, a) (cons_first (q, a) (law_served later rs))) stands holds);
+            facts = subst (λ served. RequestFacts S k.start drawn begun old es (last_guess k) kept v.desk.next served (r.given ++ (q, a) ∷ []) unserved) same facts;
+            room = room;
+          };
+        }
 
-  module _ (full : trace_full v.desk.kernel 1 ≡ None) (q : PendingRequest) (input : Input) (reply : IsReply input) where
-    abbrev n : Caused
-    n = asked_entry q input
+  -- the request is no longer pending
+  module _ (a : Answer) (c : Comes a) where
+    abbrev served : List Served
+    served = r.given ++ (q, a) ∷ law_served later rs
 
-    by_result : (r : Result Did Refusal) → effect_at v.desk.kernel (entry q.process input None) ≡ r
-        → Fits xs (stepped_by (table v.desk.kernel.scripts v.desk.kernel.limit) v.desk.kernel.start w (asked_entry q input) r)
-        (record v { desk = record v.desk { kernel = stepped v.desk.kernel q.process input (or_else (or_else (refusal_of r) (no_room (state_at v.desk.kernel) r)) (trace_full v.desk.kernel 1)) } })
-    by_result (Err why) is = f
-    by_result (Ok does) is =
-        subst (λ (o : Option Refusal). Fits xs (with_trace w (w.trace ++ Taken n ∷ [])) (record v { desk = record v.desk { kernel = stepped K q.process input o } })) (sym (ap (λ o. or_else (or_else None o) (trace_full K 1)) (reply_free K q.process input reply (Ok does) is) ∙ full))
-        (step_fits xs w v f q.process input n w.kept (record v.desk { kernel = with_event K (events.Step q.process input) }) refl refl refl refl refl f.seen.kept (ap refusal_of is))
+    left : Invariant (table v.desk.kernel.scripts) v.desk.kernel.start r.trace (last_guess v.desk.kernel) served r.given rest unserved v.server.refused
+    left = inv_drop (table K.scripts) K.start r.all.is_table r.trace (last_guess K) served r.given q rest unserved v.server.refused c.holds
 
-    asked_fits : Fits xs (law_stepped (table v.desk.kernel.scripts v.desk.kernel.limit) v.desk.kernel.start w (asked_entry q input))
-        (record v { desk = record v.desk { kernel = stepped v.desk.kernel q.process input (step_refused v.desk.kernel (entry q.process input None)) } })
-    asked_fits =
-        subst (λ (r : Result Did Refusal). Fits xs (stepped_by (table K.scripts K.limit) K.start w n r) (record v { desk = record v.desk { kernel = stepped K q.process input (step_refused K (entry q.process input None)) } }))
-        (sym (does_seen xs w v f q.process input)) (by_result (effect_at K (entry q.process input None)) refl)
+    fewer : used v.desk.kernel + asked_count rest ≤ v.desk.kernel.limit
+    fewer = (let was = c.room in let le = asked_less q rest in omega (arith, was, le))
 
-  by_answer : trace_full v.desk.kernel 1 ≡ None → (q : PendingRequest) (ask : Ask) (a : Answer) → IsFor None ask → fits_ask ask a ≡ true
-      → Fits xs (stepped_for (table v.desk.kernel.scripts v.desk.kernel.limit) v.desk.kernel.start w (record q { ask = ask }) (law_input_of ask a))
-      (record v { desk = answered v.desk (record q { ask = ask }) (input_of a) })
-  by_answer full q (asks.Get name) answers.Yes kind fits = absurd (true≢false (sym fits))
-  by_answer full q (asks.Get name) (answers.No c) kind fits = absurd (true≢false (sym fits))
-  by_answer full q (asks.Get name) (answers.Copy c) kind fits = asked_fits full (record q { ask = asks.Get name }) (inputs.Fresh c) tt
-  by_answer full q (asks.Get name) answers.Dropped kind fits = f
-  by_answer full q (asks.Check name version) a kind fits = absurd kind
-  by_answer full q (asks.Store name version bytes) answers.Yes kind fits = asked_fits full (record q { ask = asks.Store name version bytes }) inputs.Good tt
-  by_answer full q (asks.Store name version bytes) (answers.No c) kind fits = asked_fits full (record q { ask = asks.Store name version bytes }) (inputs.Stale c) tt
-  by_answer full q (asks.Store name version bytes) (answers.Copy c) kind fits = absurd (true≢false (sym fits))
-  by_answer full q (asks.Store name version bytes) answers.Dropped kind fits = f
+    -- a reply that leaves the kernel as it is
+    unchanged : (a ≡ Yes → (m : Bytes) (v : ℕ) (b : Bytes) → q.ask ≡ Store m v b → q.guess ≡ None → ⊥) → ((g : ℕ) → a ≡ Yes → q.guess ≡ Some g → Contains r.trace (Commit g))
+        → Reached drawn begun old xs (record v { desk = record v.desk { taken = later }; replies = rs })
+    unchanged never committed =
+        finish a c K r.trace v.desk.kept r.all.is_table r.all.traced (λ says m n b ask asks. absurd (never says m n b ask asks)) left
+        (facts_none (table K.scripts) K.start drawn begun old r.trace (last_guess K) v.desk.kept v.desk.next served r.given unserved c.facts (q, a) committed) fewer
 
-  stepped_fits : trace_full v.desk.kernel 1 ≡ None → (q : PendingRequest) (a : Answer) → IsFor None q.ask → fits_ask q.ask a ≡ true
-      → Fits xs (law_given_to (table v.desk.kernel.scripts v.desk.kernel.limit) v.desk.kernel.start w q a None) (record v { desk = given_to v.desk q a None })
-  stepped_fits full q a kind fits =
-      subst (λ b. Fits xs (cond b w (stepped_for (table K.scripts K.limit) K.start w q (law_input_of q.ask a))) (record v { desk = given_to v.desk q a None })) (sym (void_seen xs w v f.seen f.sound q))
-      (elim (is_void K q) as (λ b. Fits xs (cond b w (stepped_for (table K.scripts K.limit) K.start w q (law_input_of q.ask a))) (record v { desk = cond b v.desk (answered v.desk q (input_of a)) })) [
-        | true ↦ f
-        | false ↦ by_answer full q q.ask a kind fits
-      ])
+    -- ---- of a guess
+
+    module _ (g : ℕ) (its : q.guess ≡ Some g) (here : has g (undecided_at v.desk.kernel) ≡ true) where
+      abbrev pub kept_then : List Kept
+      kept_then = kept_after q.process (answer_kept q.ask a) v.desk.kept
+
+      opens : has g (undecided (table v.desk.kernel.scripts) v.desk.kernel.start r.trace) ≡ true
+      opens = ap (has g) (undecided_seen r.trace K r.all.traced) ∙ here
+
+      commits : a ≡ Yes → Reached drawn begun old xs (record v { desk = record v.desk { kernel = with_event v.desk.kernel (events.Commit g); kept = kept_then; taken = later }; replies = rs })
+      commits says =
+          let S = table K.scripts in
+          let k = with_event K (events.Commit g) in
+          let es = r.trace ++ Commit g ∷ [] in
+          let more = sym (last_more K (events.Commit g)) in
+          finish a c k es kept_then r.all.is_table (traced_commit r.trace K r.all.traced g here) (λ _ m n b _ asks. absurd (no_guess q.guess g asks its))
+          (subst (λ d. Invariant S K.start es d served r.given rest unserved v.server.refused) more
+          (inv_commit S K.start r.all.is_table r.trace (last_guess K) served r.given rest unserved v.server.refused g left opens))
+          (subst (λ d. RequestFacts S K.start drawn begun old es d kept_then v.desk.next served (r.given ++ (q, a) ∷ []) unserved) more
+          (facts_kept S K.start drawn begun old es (last_guess K) v.desk.kept v.desk.next served (r.given ++ (q, a) ∷ []) unserved
+          (subst (λ b. RequestFacts S K.start drawn begun old es (last_guess K) v.desk.kept v.desk.next served (r.given ++ (q, b) ∷ []) unserved) (sym says)
+          (facts_commit S K.start drawn begun old r.trace (last_guess K) v.desk.kept v.desk.next served r.given unserved c.facts q g its))
+          kept_then (keeps_more v.desk.kept c.facts.answers q.process q.ask a)))
+          (let less = used_commit K g here in let was = fewer in omega (arith, less, was))
+
+      fails : is_accepted a ≡ false → (a ≡ Yes → ⊥) → Reached drawn begun old xs (record v { desk = record v.desk { kernel = with_event v.desk.kernel (events.Fail g); kept = kept_then; taken = later }; replies = rs })
+      fails bad no_yes =
+          let S = table K.scripts in
+          let k = with_event K (events.Fail g) in
+          let es = r.trace ++ Fail g ∷ [] in
+          let more = sym (last_more K (events.Fail g)) in
+          let refused : left.bad g ≡ true = ((left.answers (q, a) (there a c)).own g its).3 ∙ ap not bad in
+          finish a c k es kept_then r.all.is_table (traced_fail r.trace K r.all.traced g here) (λ says. absurd (no_yes says))
+          (subst (λ d. Invariant S K.start es d served r.given rest unserved v.server.refused) more
+          (inv_fail S K.start r.all.is_table r.trace (last_guess K) served r.given rest unserved v.server.refused g left refused opens))
+          (subst (λ d. RequestFacts S K.start drawn begun old es d kept_then v.desk.next served (r.given ++ (q, a) ∷ []) unserved) more
+          (facts_kept S K.start drawn begun old es (last_guess K) v.desk.kept v.desk.next served (r.given ++ (q, a) ∷ []) unserved
+          (facts_fail S K.start drawn begun old r.trace (last_guess K) v.desk.kept v.desk.next served r.given unserved c.facts (q, a) g no_yes)
+          kept_then (keeps_more v.desk.kept c.facts.answers q.process q.ask a)))
+          (let less = used_fail K r.all.traced.sound g here in let was = fewer in omega (arith, less, was))
+
+    -- ---- of a question
+
+    module _ (none : q.guess ≡ None) (x : Input) (gives : input_of a ≡ Some x) where
+      steps : Reached drawn begun old xs (record v { desk = record v.desk { kernel = with_event v.desk.kernel (events.Step q.process x); taken = later }; replies = rs })
+      steps =
+          let S = table K.scripts in
+          let G = kernel S in
+          let ns = record_of G K.start r.trace in
+          let us = undecided S K.start r.trace in
+          let n = asked_entry q x in
+          let es = r.trace ++ Taken n ∷ [] in
+          let k = with_event K (events.Step q.process x) in
+          let t = takes a c none x gives in
+          let ready = asked_ready a c none (sound a c none x gives) in
+          let more = sym (last_more K (events.Step q.process x)) in
+          let same : (o : PendingRequest) → n.cause ≡ For o → q ≡ o = λ o cause. (let both : For q ≡ For o = cause in cc) in
+          let good : a ≡ Yes → x ≡ Good = λ says. (let both : Some Good ≡ Some x = ap input_of (sym says) ∙ gives in cc) in
+          finish a c k es v.desk.kept r.all.is_table
+          (traced_step r.trace K r.all.traced q.process x n t.effect refl (sym (does_seen r.trace K r.all.traced q.process x) ∙ t.accepted))
+          (λ says m w b ask _. (n, subst (λ ns. Contains ns n) (sym (record_more G K.start r.trace (Taken n))) (Contains-push ns n), refl, good says))
+          (subst (λ d. Invariant S K.start es d served r.given rest unserved v.server.refused) more
+          (inv_plain S K.start r.all.is_table r.trace (last_guess K) served r.given rest unserved v.server.refused n t.effect left t.accepted refl
+          (λ y there hits o cause.
+          subst (λ (o : PendingRequest). (has y o.rests ≡ true) ⊎ (o.guess ≡ Some y)) (same o cause)
+          (elim (tags_of_step S K.start r.all.is_table ns us q.process (name_of q.ask) q.rests None t.effect t.reads t.writes ready.covers y (inl there) hits) [ inl carries ↦ inl carries | inr none ↦ cc ]))
+          (λ o cause. ap (λ (o : PendingRequest). o.process) (same o cause))
+          (λ o cause good. subst (λ (o : PendingRequest). Sets S o.ask Good t.effect.written) (same o cause) (subst (λ x. Sets S q.ask x t.effect.written) good t.sets))
+          (λ o there o_asks _.
+          let own = c.holds.apart.0 o there none o_asks in (
+            λ writes. elim (t.writes (S.proc o.process) writes) [ inl same ↦ own.0 (sym (r.all.is_table.processes o.process q.process same)) | inr copies ↦ r.all.is_table.apart o.process (name_of q.ask) copies ],
+            λ writes. elim (t.writes (S.copy (name_of o.ask)) writes) [ inl process ↦ r.all.is_table.apart q.process (name_of o.ask) (sym process) | inr same ↦ own.1 (sym (r.all.is_table.copies (name_of o.ask) (name_of q.ask) same)) ],
+          ))))
+          (subst (λ d. RequestFacts S K.start drawn begun old es d v.desk.kept v.desk.next served (r.given ++ (q, a) ∷ []) unserved) more
+          (facts_step S K.start drawn begun old r.trace (last_guess K) v.desk.kept v.desk.next served r.given unserved c.facts q a (law_served later rs) n refl refl refl none
+          (λ good. good_yes a (gives ∙ ap Some good))))
+          (let taken = used_step K q.process x in let was = c.room in let one = asked_one q rest none in omega (arith, taken, was, one))
+
+  -- ---- the reply
+
+  by_guess : (a : Answer) → Comes a → (g : ℕ) → q.guess ≡ Some g → has g (undecided_at v.desk.kernel) ≡ true
+      → Reached drawn begun old xs (record v { desk = decided (record v.desk { taken = later }) q g a; replies = rs })
+  by_guess Yes c g its here = commits Yes c g its here refl
+  by_guess (No content) c g its here = fails (No content) c g its here refl (λ is. cc)
+  by_guess (Copy content) c g its here = absurd (not_copied q.ask content g (subst (λ o. IsFor o q.ask) its c.kind) c.fits)
+  by_guess Dropped c g its here = fails Dropped c g its here refl (λ is. cc)
+
+  -- a guess that was accepted and is decided has committed
+  committed : (a : Answer) (c : Comes a) (g : ℕ) → q.guess ≡ Some g → has g (undecided_at v.desk.kernel) ≡ false → a ≡ Yes → Contains r.trace (Commit g)
+  committed a c g its shut says =
+      let S = table K.scripts in
+      let s = (c.holds.answers (q, a) (there a c)).own g its in
+      elim (cases_Bool (list_any (is_commit g) r.trace)) [
+        | inl done ↦ (has_commit r.trace g).0 done
+        | inr none ↦
+            let lost : is_lost S K.start r.trace g ≡ true = (λ j. not ((ap (has g) (undecided_seen r.trace K r.all.traced) ∙ shut) j) && not (none j)) in
+            absurd (good_open S K.start r.all.is_table r.trace (last_guess K) (r.given ++ (q, a) ∷ law_served later rs) r.given (q ∷ rest) unserved v.server.refused c.holds g s.0 s.1 (s.3 ∙ ap (λ a. not (is_accepted a)) says) lost)
+      ]
+
+  by_input : (a : Answer) (c : Comes a) → q.guess ≡ None → is_void v.desk.kernel q ≡ false → (o : Option Input) → input_of a ≡ o
+      → Reached drawn begun old xs (record v { desk = answered (record v.desk { taken = later }) q o; replies = rs })
+  by_input a c asks _ None gives = unchanged a c (λ says m n b _ _. (let both : Some Good ≡ None = ap input_of (sym says) ∙ gives in cc)) (λ g _ its. absurd (no_guess q.guess g asks its))
+  by_input a c asks _ (Some x) gives =
+      subst (λ (o : Option Refusal). Reached drawn begun old xs (record v { desk = record v.desk { kernel = stepped K q.process x o; taken = later }; replies = rs })) (sym (accepted a c asks x gives)) (steps a c asks x gives)
+
+  pub given_keeps : (a : Answer) → Comes a → (o : Option ℕ) → q.guess ≡ o → Reached drawn begun old xs (record v { desk = given_to (record v.desk { taken = later }) q a o; replies = rs })
+  given_keeps a c (Some g) its =
+      elim (has g (undecided_at K)) as (λ b. has g (undecided_at K) ≡ b → Reached drawn begun old xs (record v { desk = cond b (decided (record v.desk { taken = later }) q g a) (record v.desk { taken = later }); replies = rs })) [
+        | true ↦ λ here. by_guess a c g its here
+        | false ↦ λ shut. unchanged a c (λ _ m n b _ asks. no_guess q.guess g asks its)
+            (λ h says is. (let both : Some g ≡ Some h = sym its ∙ is in let one : g ≡ h = cc in subst (λ h. Contains r.trace (Commit h)) one (committed a c g its shut says)))
+      ] refl
+  given_keeps a c None asks =
+      elim (is_void K q) as (λ b. is_void K q ≡ b → Reached drawn begun old xs (record v { desk = cond b (record v.desk { taken = later }) (answered (record v.desk { taken = later }) q (input_of a)); replies = rs })) [
+        | true ↦ λ void. unchanged a c (λ says m n b _ _. whole a c (λ is. (let both : Dropped ≡ Yes = sym is ∙ says in cc)) void) (λ g _ its. absurd (no_guess q.guess g asks its))
+        | false ↦ λ sound. by_input a c asks sound (input_of a) refl
+      ] refl
 
 -- ---- the oldest reply
 
-module _ (xs : Exchanges) (w : World) (v : WorldView) (f : Fits xs w v) (r : Reply) (rs : List Reply) (is : v.replies ≡ r ∷ rs) (o : Oldest v.desk r rs v.back)
-    (placed : places (table v.desk.kernel.scripts v.desk.kernel.limit) v.desk.kernel.start w.trace (law_pending w) ≤ v.desk.kernel.limit) where
-  abbrev without : WorldView
-  without = record v { desk = record v.desk { taken = o.later }; replies = rs }
+module _ (drawn begun : ℕ) (old : World) (xs : Exchanges) (v : WorldView) (r : Reached drawn begun old xs v) (p : Reply) (rs : List Reply) (is : v.replies ≡ p ∷ rs) (o : Oldest v.desk p rs v.back) where
+  pub comes : Comes drawn begun old xs v r o.request o.later rs p.answer
+  comes =
+      let K = v.desk.kernel in
+      let S = table K.scripts in
+      let a = r.all in
+      let kinds = subst AreFor (ap (λ qs. qs ++ v.desk.waiting) o.taken) a.kinds in
+      record {
+        kind = kinds.0;
+        kinds = kinds.1;
+        fits = o.fits;
+        replied = ap (λ xs. map answered_there (r.given ++ xs)) (sym (λ i. law_served (o.taken i) (is i))) ∙ r.answered;
+        holds = subst (λ (c : List PendingRequest × List Reply). Invariant S K.start r.trace (last_guess K) (r.given ++ law_served c.0 c.1) r.given (c.0 ++ v.desk.waiting) (unanswered c.0 c.1 ++ v.desk.waiting) v.server.refused)
+            (λ i. (o.taken i, is i)) a.holds;
+        facts = subst (λ (c : List PendingRequest × List Reply). RequestFacts S K.start drawn begun old r.trace (last_guess K) v.desk.kept v.desk.next (r.given ++ law_served c.0 c.1) r.given (unanswered c.0 c.1 ++ v.desk.waiting))
+            (λ i. (o.taken i, is i)) a.facts;
+        room = subst (λ qs. used K + asked_count (qs ++ v.desk.waiting) ≤ K.limit) o.taken a.room;
+      }
 
-  abbrev answered_one : World
-  answered_one = with_given w (o.request, r.answer) (law_served o.later rs)
-
-  pub kinds_now : AreFor (o.request ∷ o.later ++ v.desk.waiting)
-  kinds_now = subst AreFor (ap (λ qs. qs ++ v.desk.waiting) o.taken) f.kinds
-
-  pub oldest_one : w.taken ≡ (o.request, r.answer) ∷ law_served o.later rs
-  oldest_one = f.seen.taken ∙ (λ i. law_served (o.taken i) (is i))
-
-  without_fits : Fits xs (with_given w (o.request, r.answer) (law_served o.later rs)) (record v { desk = record v.desk { taken = o.later }; replies = rs })
-  without_fits = record {
-    seen = record {
-      trace = f.seen.trace;
-      drawn = f.seen.drawn;
-      next = f.seen.next;
-      kept = f.seen.kept;
-      taken = refl;
-      waiting = f.seen.waiting ∙ (λ i. (unanswered (o.taken i) (is i) ++ v.desk.waiting));
-      server = f.seen.server;
-      answered =
-          ap (map answered_there) (append_assoc w.given ((o.request, r.answer) ∷ []) (law_served o.later rs))
-          ∙ ap (λ ts. map answered_there (w.given ++ ts)) (sym oldest_one)
-          ∙ f.seen.answered;
-    };
-    sound = f.sound;
-    kinds = kinds_now.1;
-  }
-
-  pub has_place : o.request.guess ≡ None → trace_full v.desk.kernel 1 ≡ None
-  has_place none =
-      let same = places_seen xs w v f.seen in
-      let asked : asked_count (pending v.desk) ≡ asked_count (o.later ++ v.desk.waiting) + 1 = ap (λ qs. asked_count (qs ++ v.desk.waiting)) o.taken ∙ asked_more o.request (o.later ++ v.desk.waiting) none in
-      ap (λ b. cond b (Some TraceFull) None) (le-ltb (room v.desk.kernel) 1 (omega (arith, same, placed, asked)))
-
-  by_guess : (g : Option ℕ) → o.request.guess ≡ g
-      → Fits xs (law_given_to (table v.desk.kernel.scripts v.desk.kernel.limit) v.desk.kernel.start answered_one o.request r.answer g)
-      (record without { desk = given_to without.desk o.request r.answer g })
-  by_guess None e = stepped_fits xs answered_one without without_fits (has_place e) o.request r.answer (subst (λ g. IsFor g o.request.ask) e kinds_now.0) o.fits
-  by_guess (Some g) e = decided_fits xs answered_one without without_fits o.request r.answer g (subst (λ g. IsFor g o.request.ask) e kinds_now.0) o.fits
-
-  pub reply_fits : (new : DeskView) → new ≡ given v.desk r v.desk.taken → Fits xs (event (table v.desk.kernel.scripts v.desk.kernel.limit) v.desk.kernel.start w Replies) (record v { desk = new; replies = rs })
-  reply_fits new e =
-      subst (λ (d : DeskView). Fits xs (event (table v.desk.kernel.scripts v.desk.kernel.limit) v.desk.kernel.start w Replies) (record v { desk = d; replies = rs })) (sym (e ∙ ap (given v.desk r) o.taken))
-      (subst (λ (x : World). Fits xs x (record without { desk = given_to without.desk o.request r.answer o.request.guess }))
-      (sym (ap (reply (table v.desk.kernel.scripts v.desk.kernel.limit) v.desk.kernel.start w) oldest_one))
-      (by_guess o.request.guess refl))
+  pub reply_keeps : (new : DeskView) → new ≡ given v.desk p v.desk.taken → Reached drawn begun old xs (record v { desk = new; replies = rs })
+  reply_keeps new e =
+      subst (λ (d : DeskView). Reached drawn begun old xs (record v { desk = d; replies = rs })) (sym (e ∙ ap (given v.desk p) o.taken))
+      (given_keeps drawn begun old xs v r o.request o.later rs p.answer comes o.request.guess refl)

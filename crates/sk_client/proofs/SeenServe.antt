@@ -1,17 +1,24 @@
--- The server answers in a world of the laws, and in one that is seen so.
-use Rattle.std.proofs.Common.{◌≡◌, List, [], ◌∷◌, ◌++◌, map, Option, Some, None, refl, sym, ◌∙◌, ap, subst}
+-- The server's answer keeps all that holds of a world.
+use Rattle.std.proofs.Common.{◌≡◌, ℕ, suc, ◌+◌, ◌≤◌, not, List, [], ◌∷◌, ◌++◌, map, Option, Some, None, inl, inr, true, false, refl, sym, ◌∙◌, ap, subst, arith}
+use Rattle.std.proofs.lemmas.Bool.{cases_eq}
 use Rattle.std.proofs.lemmas.List.{append_assoc, map-append}
-use Rattle.sk_server.specs.Server.{answer_to, answered}
+use Rattle.sk_record.specs.Notes.{has}
+use Rattle.sk_kernel.specs.Kernel.{last_guess}
+use Rattle.sk_server.specs.Server.{refused_by, listed, remembered, answer_to}
 use Rattle.sk_server.specs.declared.request.Request.{Request as Sent}
 use Rattle.sk_server.specs.declared.reply.Reply.{Reply}
-use Rattle.sk_client.proofs.CausedWorld.{World, Serve, serve, event}
-use Rattle.sk_client.proofs.WorldTable.{table}
-use Rattle.sk_client.specs.Desk.{sent, first_taken}
+use Rattle.sk_client.specs.Desk.{pending, sent, asked_count, first_taken}
 use Rattle.sk_client.specs.Exchanges.{Exchanges}
-use Rattle.sk_client.proofs.SeenWorld.{answered_there, answered_here, law_served, unanswered}
-use Rattle.sk_client.specs.WorldView.{WorldView, taken_by, taken_from, reply_to, served, AreReplies, IsJoined}
+use Rattle.sk_client.specs.WorldView.{WorldView, taken_by, taken_from, reply_to, served, AreReplies}
 use Rattle.sk_client.specs.declared.pending.PendingRequest.{PendingRequest}
-use Rattle.sk_client.proofs.SeenFacts.{AreFor, Fits}
+use Rattle.sk_client.proofs.CausedWorld.{Served, table}
+use Rattle.sk_client.proofs.Each.{at_number, at_same, at_other, has_left, has_right}
+use Rattle.sk_client.proofs.Invariant.{counted, Invariant, is_accepted}
+use Rattle.sk_client.proofs.Events.{no_guess, inv_answer}
+use Rattle.sk_client.proofs.PlaceFacts.{used}
+use Rattle.sk_client.proofs.RequestFacts.{RequestFacts, facts_serve}
+use Rattle.sk_client.proofs.SeenWorld.{World, answered_there, answered_here, law_served, unanswered}
+use Rattle.sk_client.proofs.Worlds.{AreFor, refused_there, drops_not, yes_fits, Reached}
 
 -- ---- each request that was taken has its reply
 
@@ -58,65 +65,104 @@ last_of (q ∷ []) [] b h = record { request = q; sent_so = h; alone = refl; ser
 last_of (q ∷ x ∷ xs) [] b h = absurd h
 last_of (q ∷ qs) (r ∷ rs) b h = last_more q qs r rs b (last_of qs rs b h.2)
 
--- ---- a request is taken, of which the laws see nothing
+module _ (drawn begun : ℕ) (old : World) (xs : Exchanges) (v : WorldView) (r : Reached drawn begun old xs v) where
+  -- ---- a request is taken
 
-module _ (xs : Exchanges) (w : World) (v : WorldView) (f : Fits xs w v) where
   taking : (q : PendingRequest) (qs : List PendingRequest) → v.desk.waiting ≡ q ∷ qs → AreReplies v.replies None v.desk.taken
-      → Fits xs w (record v { desk = first_taken v.desk (q ∷ qs); back = Some (sent q) })
-  taking q qs is replies = record {
-    seen = record {
-      trace = f.seen.trace;
-      drawn = f.seen.drawn;
-      next = f.seen.next;
-      kept = f.seen.kept;
-      taken = f.seen.taken ∙ sym (served_longer v.desk.taken v.replies q replies);
-      waiting = f.seen.waiting ∙ (λ i. (none_waits v.desk.taken v.replies replies i ++ is i)) ∙ (λ i. (sym (one_waits v.desk.taken v.replies q replies) i ++ qs));
-      server = f.seen.server;
-      answered = f.seen.answered;
-    };
-    sound = f.sound;
-    kinds = subst AreFor (ap (λ xs. v.desk.taken ++ xs) is ∙ sym (append_assoc v.desk.taken (q ∷ []) qs)) f.kinds;
-  }
+      → Reached drawn begun old xs (record v { desk = first_taken v.desk (q ∷ qs); back = Some (sent q) })
+  taking q qs is replies =
+      let K = v.desk.kernel in
+      let S = table K.scripts in
+      let a = r.all in
+      let same : law_served v.desk.taken v.replies ≡ law_served (v.desk.taken ++ q ∷ []) v.replies = sym (served_longer v.desk.taken v.replies q replies) in
+      let waits : unanswered v.desk.taken v.replies ++ v.desk.waiting ≡ unanswered (v.desk.taken ++ q ∷ []) v.replies ++ qs =
+      (λ i. none_waits v.desk.taken v.replies replies i ++ is i) ∙ (λ i. sym (one_waits v.desk.taken v.replies q replies) i ++ qs) in
+      let pends : pending v.desk ≡ (v.desk.taken ++ q ∷ []) ++ qs = ap (λ ws. v.desk.taken ++ ws) is ∙ sym (append_assoc v.desk.taken (q ∷ []) qs) in
+      record {
+        trace = r.trace;
+        given = r.given;
+        answered = ap (λ ys. map answered_there (r.given ++ ys)) (sym same) ∙ r.answered;
+        all = record {
+          is_table = a.is_table;
+          traced = a.traced;
+          kinds = subst AreFor pends a.kinds;
+          holds = subst (λ (c : List Served × (List PendingRequest × List PendingRequest)). Invariant S K.start r.trace (last_guess K) (r.given ++ c.0) r.given c.1.0 c.1.1 v.server.refused) (λ i. (same i, (pends i, waits i))) a.holds;
+          facts = subst (λ (c : List Served × List PendingRequest). RequestFacts S K.start drawn begun old r.trace (last_guess K) v.desk.kept v.desk.next (r.given ++ c.0) r.given c.1) (λ i. (same i, waits i)) a.facts;
+          room = subst (λ qs. used K + asked_count qs ≤ K.limit) pends a.room;
+        };
+      }
 
-  taking_any : (qs : List PendingRequest) → v.desk.waiting ≡ qs → AreReplies v.replies None v.desk.taken → Fits xs w (taken_from v qs)
-  taking_any [] is replies = f
+  taking_any : (qs : List PendingRequest) → v.desk.waiting ≡ qs → AreReplies v.replies None v.desk.taken → Reached drawn begun old xs (taken_from v qs)
+  taking_any [] is replies = r
   taking_any (q ∷ qs) is replies = taking q qs is replies
 
-  by_back : (b : Option Sent) → v.back ≡ b → AreReplies v.replies b v.desk.taken → Fits xs w (taken_by v b)
-  by_back (Some q) is replies = f
-  by_back None is replies = taking_any v.desk.waiting refl replies
-
-  pub taken_fits : IsJoined v.desk v.server v.replies v.back → Fits xs w (taken_by v v.back)
-  taken_fits j = by_back v.back refl j.replies
+  pub taken_keeps : (b : Option Sent) → AreReplies v.replies b v.desk.taken → Reached drawn begun old xs (taken_by v b)
+  taken_keeps (Some q) replies = r
+  taken_keeps None replies = taking_any v.desk.waiting refl replies
 
   -- ---- the answer
 
   module _ (b : Sent) (l : Last v.desk.taken v.replies b) where
-    first_is : w.waiting ≡ l.request ∷ v.desk.waiting
-    first_is = f.seen.waiting ∙ ap (λ xs. (xs ++ v.desk.waiting)) l.alone
+    serving : Reached drawn begun old (xs ++ (sent l.request, reply_to v.server (sent l.request)) ∷ []) (served v (sent l.request))
+    serving =
+        let q = l.request in
+        let K = v.desk.kernel in
+        let S = table K.scripts in
+        let a = r.all in
+        let ans = answer_to v.server (sent q) in
+        let new = served v (sent q) in
+        let before = r.given ++ law_served v.desk.taken v.replies in
+        let memory = new.server.refused in
+        let waits : unanswered v.desk.taken v.replies ++ v.desk.waiting ≡ q ∷ v.desk.waiting = ap (λ ys. ys ++ v.desk.waiting) l.alone in
+        let none : v.desk.waiting ≡ unanswered v.desk.taken (v.replies ++ reply_to v.server (sent q) ∷ []) ++ v.desk.waiting = ap (λ ys. ys ++ v.desk.waiting) (sym (l.none (reply_to v.server (sent q)))) in
+        let all_so : before ++ (q, ans) ∷ [] ≡ r.given ++ law_served v.desk.taken (v.replies ++ reply_to v.server (sent q) ∷ []) =
+        append_assoc r.given (law_served v.desk.taken v.replies) ((q, ans) ∷ [])
+        ∙ ap (λ ys. r.given ++ ys) (sym (l.served (reply_to v.server (sent q)))) in
+        let j : Invariant S K.start r.trace (last_guess K) before r.given (pending v.desk) (q ∷ v.desk.waiting) v.server.refused =
+        subst (λ ws. Invariant S K.start r.trace (last_guess K) before r.given (pending v.desk) ws v.server.refused) waits a.holds in
+        let here = j.queue.0 in
+        let keeps : (y : ℕ) → has y (remembered (sent q) v.server.refused) ≡ true → has y memory ≡ true = λ y there. has_left y (remembered (sent q) v.server.refused) (listed (refused_by q.guess ans)) there in
+        let joins : (g : ℕ) → q.guess ≡ Some g → is_accepted ans ≡ false → has g memory ≡ true =
+        λ g its no_yes. has_right g (remembered (sent q) v.server.refused) (listed (refused_by q.guess ans)) (refused_there q.guess ans g its no_yes) in
+        let after : Invariant S K.start r.trace (last_guess K) (before ++ (q, ans) ∷ []) r.given (pending v.desk) v.desk.waiting memory =
+        elim q.guess as (λ o. q.guess ≡ o → Invariant S K.start r.trace (last_guess K) (before ++ (q, ans) ∷ []) r.given (pending v.desk) v.desk.waiting memory) [
+          | None ↦ λ none.
+              inv_answer S K.start a.is_table r.trace (last_guess K) before r.given (pending v.desk) v.desk.waiting v.server.refused memory q ans j j.bad j.a
+              (ap (λ o. counted o j.a) (sym none)) (omega arith) (λ y le. refl) (λ y le. inl le) (λ y h. inl h) (λ g its. absurd (no_guess q.guess g none its))
+              (drops_not S K.start a.is_table v.server q) keeps joins (yes_fits S K.start a.is_table v.server q)
+          | Some g ↦ λ some.
+              let g_is : g ≡ suc j.a = (here.own g some).0 in
+              let bad = at_number g (not (is_accepted ans)) j.bad in
+              inv_answer S K.start a.is_table r.trace (last_guess K) before r.given (pending v.desk) v.desk.waiting v.server.refused memory q ans j bad (suc j.a)
+              (ap (λ o. counted o j.a) (sym some)) (omega arith)
+              (λ y le. at_other g (not (is_accepted ans)) j.bad y (λ same. omega arith))
+              (λ y le. elim (cases_eq y g) [ inl same ↦ inr (some ∙ ap Some (sym same)) | inr other ↦ inl (omega arith) ])
+              (λ y h. elim (cases_eq y g) [ inl same ↦ inr (some ∙ ap Some (sym same)) | inr other ↦ inl (sym (at_other g (not (is_accepted ans)) j.bad y other) ∙ h) ])
+              (λ h its. (let same : h ≡ g = (let both : Some g ≡ Some h = sym some ∙ its in cc) in (omega arith, ap bad same ∙ at_same g (not (is_accepted ans)) j.bad)))
+              (drops_not S K.start a.is_table v.server q) keeps joins (yes_fits S K.start a.is_table v.server q)
+        ] refl in
+        record {
+          trace = r.trace;
+          given = r.given;
+          answered =
+              ap (map answered_there) (sym all_so)
+              ∙ map-append answered_there before ((q, ans) ∷ [])
+              ∙ ap (λ ys. ys ++ answered_there (q, ans) ∷ []) r.answered
+              ∙ sym (map-append answered_here xs ((sent q, reply_to v.server (sent q)) ∷ []));
+          all = record {
+            is_table = a.is_table;
+            traced = a.traced;
+            kinds = a.kinds;
+            holds = subst (λ (c : List Served × List PendingRequest). Invariant S K.start r.trace (last_guess K) c.0 r.given (pending v.desk) c.1 memory) (λ i. (all_so i, none i)) after;
+            facts = subst (λ (c : List Served × List PendingRequest). RequestFacts S K.start drawn begun old r.trace (last_guess K) v.desk.kept v.desk.next c.0 r.given c.1) (λ i. (all_so i, none i))
+                (facts_serve S K.start drawn begun old r.trace (last_guess K) v.desk.kept v.desk.next before r.given q ans v.desk.waiting
+                (subst (λ ws. RequestFacts S K.start drawn begun old r.trace (last_guess K) v.desk.kept v.desk.next before r.given ws) waits a.facts));
+            room = a.room;
+          };
+        }
 
-    serving_fits : Fits (xs ++ (sent l.request, reply_to v.server (sent l.request)) ∷ []) (serve (table v.desk.kernel.scripts v.desk.kernel.limit) v.desk.kernel.start w (l.request ∷ v.desk.waiting)) (served v (sent l.request))
-    serving_fits = record {
-      seen = record {
-        trace = f.seen.trace;
-        drawn = f.seen.drawn;
-        next = f.seen.next;
-        kept = f.seen.kept;
-        taken = (λ i. f.seen.taken i ++ (l.request, answer_to (f.seen.server i) (sent l.request)) ∷ []) ∙ sym (l.served (reply_to v.server (sent l.request)));
-        waiting = ap (λ xs. xs ++ v.desk.waiting) (sym (l.none (reply_to v.server (sent l.request))));
-        server = ap (λ s. answered s (sent l.request) (answer_to s (sent l.request))) f.seen.server;
-        answered =
-            ap (map answered_there) (sym (append_assoc w.given w.taken ((l.request, answer_to w.server (sent l.request)) ∷ [])))
-            ∙ map-append answered_there (w.given ++ w.taken) ((l.request, answer_to w.server (sent l.request)) ∷ [])
-            ∙ (λ i. f.seen.answered i ++ answered_there (l.request, answer_to (f.seen.server i) (sent l.request)) ∷ [])
-            ∙ sym (map-append answered_here xs ((sent l.request, reply_to v.server (sent l.request)) ∷ []));
-      };
-      sound = f.sound;
-      kinds = f.kinds;
-    }
-
-    pub serve_fits : Fits (xs ++ (b, reply_to v.server b) ∷ []) (event (table v.desk.kernel.scripts v.desk.kernel.limit) v.desk.kernel.start w Serve) (served v b)
-    serve_fits =
-        subst (λ (q : Sent). Fits (xs ++ (q, reply_to v.server q) ∷ []) (event (table v.desk.kernel.scripts v.desk.kernel.limit) v.desk.kernel.start w Serve) (served v q)) (sym l.sent_so)
-        (subst (λ (x : World). Fits (xs ++ (sent l.request, reply_to v.server (sent l.request)) ∷ []) x (served v (sent l.request)))
-        (sym (ap (serve (table v.desk.kernel.scripts v.desk.kernel.limit) v.desk.kernel.start w) first_is)) serving_fits)
+  pub serve_keeps : (b : Sent) → AreReplies v.replies (Some b) v.desk.taken → Reached drawn begun old (xs ++ (b, reply_to v.server b) ∷ []) (served v b)
+  serve_keeps b replies =
+      let l = last_of v.desk.taken v.replies b replies in
+      subst (λ (q : Sent). Reached drawn begun old (xs ++ (q, reply_to v.server q) ∷ []) (served v q)) (sym l.sent_so)
+      (serving b l)

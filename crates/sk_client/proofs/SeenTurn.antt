@@ -1,60 +1,45 @@
--- A turn in a world of the laws, and in one that is seen so.
-use Rattle.std.proofs.Common.{◌≡◌, ℕ, suc, ◌+◌, ◌-◌, ◌≤◌, ◌<◌, Bool, true, false, ◌&&◌, ◌||◌, cond, List, [], ◌∷◌, ◌++◌, map, length, Option, Some, None, Result, Ok, Err, refl, sym, ◌∙◌, ap, subst, arith}
-use Rattle.std.specs.Prelude.{nat_le, nat_lt, is_ok, is_some}
+-- A turn keeps all that holds of a world.
+use Rattle.std.proofs.Common.{◌≡◌, ℕ, suc, ◌+◌, ◌-◌, ◌≤◌, ◌<◌, Bool, true, false, ◌&&◌, cond, List, [], ◌∷◌, ◌++◌, Option, Some, None, Result, Ok, Err, refl, sym, ◌∙◌, ap, subst, arith}
+use Rattle.std.specs.Prelude.{nat_lt, is_some}
 use Rattle.std.specs.FinMap.{get}
-use Rattle.std.proofs.lemmas.Bool.{ltb-false, leb-false, le-leb, lt-ltb}
-use Rattle.std.proofs.lemmas.List.{append_assoc, map-append}
-use Rattle.std.proofs.lemmas.List.Sums.{fold-append}
-use Rattle.sk_record.specs.Step.{Effect, perform}
-use Rattle.sk_record.specs.Run.{outcome}
-use Rattle.sk_record.specs.Trace.{Taken, IsDrawn, IsSound}
-use Rattle.sk_record.proofs.Sound.{sound_taken}
-use Rattle.sk_ids.specs.declared.entity.Entity.{Entity}
+use Rattle.std.proofs.lemmas.Bool.{ltb-false, ltb-true}
+use Rattle.std.proofs.lemmas.List.{append_assoc}
+use Rattle.sk_record.specs.Trace.{Taken, record_of}
 use Rattle.sk_ids.specs.declared.entity.Entity.TheVariants.{Proc, Copy as CopyOf}
-use Rattle.sk_ids.specs.declared.guess.TheConstants.{LAST_GUESS}
 use Rattle.sk_objects.specs.declared.content.TheConstants.{LAST_VERSION}
-use Rattle.sk_guesses.specs.declared.guesses.TheConstants.{GUESS_LIMIT}
 use Rattle.sk_script.specs.declared.instruction.Input.{Input}
 use Rattle.sk_script.specs.declared.instruction.Input.TheVariants as inputs
-use Rattle.sk_store.specs.declared.entity_state.EntityState.{EntityState}
-use Rattle.sk_trace.specs.declared.event.Event.{Event}
+use Rattle.sk_store.specs.State.{State}
 use Rattle.sk_trace.specs.declared.event.Event.TheVariants as events
-use Rattle.sk_plain.specs.Act.{Saying, act, plain}
 use Rattle.sk_plain.specs.Next.{next_of}
 use Rattle.sk_plain.specs.Planned.{refusal_of}
-use Rattle.sk_plain.specs.Replay.{image}
 use Rattle.sk_plain.specs.declared.next.Next.{Next}
 use Rattle.sk_plain.specs.declared.next.Next.TheVariants as nexts
 use Rattle.sk_plain.specs.declared.refusal.Refusal.{Refusal}
-use Rattle.sk_plain.specs.declared.refusal.Refusal.TheVariants.{Blocked, TooMany, TraceFull}
-use Rattle.sk_kernel.specs.Kernel.{KernelView, events_of, state_at, undecided_at, next_guess, last_guess, number_after, room, effect_at, or_else, is_other, or_full, no_room, step_misfit, guess_misfits, too_many, with_event}
-use Rattle.sk_kernel.specs.Laws.{HasSoundTrace}
-use Rattle.sk_kernel.proofs.Lawful.{below_next}
-use Rattle.sk_kernel.proofs.Further.{epoch_step, epoch_guess}
+use Rattle.sk_plain.specs.declared.refusal.Refusal.TheVariants.{Blocked, TraceFull}
+use Rattle.sk_kernel.specs.Kernel.{KernelView, state_at, next_guess, last_guess, room, effect_at, or_else, is_other, or_full, no_room, step_misfit, guess_misfits, too_many, with_event}
 use Rattle.sk_server.specs.declared.request.Ask.{Ask}
 use Rattle.sk_server.specs.declared.request.Ask.TheVariants as asks
-use Rattle.sk_server.specs.declared.server.TheConstants.{LAST_REQUEST}
-use Rattle.sk_server.specs.declared.request.Ask.TheVariants.{Store}
-use Rattle.sk_client.specs.declared.pending.PendingRequest.{PendingRequest}
-use Rattle.sk_client.proofs.CausedRequests.{Caused}
-use Rattle.sk_client.specs.Desk.{name_of, DeskView, pending, asked_count, asks_for, asks_on, kept_for, forgotten, fetch_rule, store_rule, unless_kept, cached, buffer, rule_next, rule_of, rule, no_place, no_number, entry, rule_refused, request_of, turned}
-use Rattle.sk_client.proofs.CausedWorld.{World, Turn, kernel, state, own, with_trace, with_kept, pending as law_pending, places, has_places, has_guess, has_number, used, used_by, other, guessed, guessed_by, guess_entry, guess_request, asked, asked_now, ask_request, fetched, stored, turned as law_turned, event}
-use Rattle.sk_client.proofs.Bare.{bare_event}
-use Rattle.sk_client.specs.Table.{Bytes, version_of, buffer_of}
-use Rattle.sk_client.proofs.WorldTable.{bare, table, turn_of, MOST_GUESSES}
+use Rattle.sk_client.specs.Desk.{name_of, DeskView, pending, asked_count, asks_for, asks_on, kept_for, forgotten, fetch_rule, store_rule, unless_kept, cached, buffer, rule_next, rule_of, no_place, no_number, entry, rule_refused, request_of, turned}
 use Rattle.sk_client.specs.DeskCalls.{RulePost, ByRule, TurnPost}
 use Rattle.sk_client.specs.Exchanges.{Exchanges}
-use Rattle.sk_client.proofs.SeenWorld.{law_served, unanswered}
+use Rattle.sk_client.specs.Table.{Bytes, version_of, buffer_of}
 use Rattle.sk_client.specs.WorldView.{WorldView}
-use Rattle.sk_client.specs.declared.pending.Kept.{Kept}
+use Rattle.sk_client.specs.declared.pending.PendingRequest.{PendingRequest}
 use Rattle.sk_client.specs.declared.rule.Rule.{Rule}
 use Rattle.sk_client.specs.declared.rule.Rule.TheVariants as rules
 use Rattle.sk_client.specs.declared.desk.Turn.{Turn as Told}
-use Rattle.sk_client.proofs.DeskFacts.{none_first, none_later}
-use Rattle.sk_client.proofs.SeenFacts.{IsFor, AreFor, more_for, Fits, undecided_seen, state_seen, rests_seen, settled_seen, places_seen, asks_for_seen, asks_on_seen}
-
-abbrev pub Did : Type 0
-Did = Effect Entity EntityState Saying
+use Rattle.sk_client.proofs.CausedWorld.{Caused, For, kernel, state, own, or_zero, table}
+use Rattle.sk_client.proofs.CausedLaws.{Takes}
+use Rattle.sk_client.proofs.DeskFacts.{asked_more, none_first, none_later, none_test, ok_of}
+use Rattle.sk_client.proofs.Invariant.{Invariant, ReadyFor}
+use Rattle.sk_client.proofs.Events.{inv_plain, inv_ask, inv_guess}
+use Rattle.sk_client.proofs.PlaceFacts.{used_step, used_guess}
+use Rattle.sk_client.proofs.RequestFacts.{RequestFacts, facts_kept, facts_own, facts_ask, facts_guess}
+use Rattle.sk_client.proofs.SeenFacts.{does_seen, state_seen, rests_seen, settled_seen, last_more, traced_step, traced_guess}
+use Rattle.sk_client.proofs.SeenWorld.{World, law_served, unanswered}
+use Rattle.sk_client.proofs.TraceFacts.{legal_of}
+use Rattle.sk_client.proofs.Worlds.{IsFor, AreFor, more_for, forgets, no_good, not_its, not_on, IsClear, quiet_turn, Reached}
 
 -- ---- small things
 
@@ -73,308 +58,224 @@ rule_full : (d : DeskView) (pid : ℕ) (full : Option Refusal) (r : Result Next 
 rule_full d pid full (Err why) = refl
 rule_full d pid full (Ok next) = ap (cond (asks_for pid (pending d)) (Err Blocked)) (full_next d pid (is_some full) next)
 
-pub ok_of : (r : Result Did Refusal) → refusal_of r ≡ None → (g : Did) × (r ≡ Ok g)
-ok_of (Ok g) h = (g, refl)
-ok_of (Err why) h = absurd cc
+-- so many places are free
+places_free : (d : DeskView) (n : ℕ) → no_place d n ≡ None → n ≤ room d.kernel - asked_count (pending d)
+places_free d n h = ltb-false (room d.kernel - asked_count (pending d)) n (none_test (nat_lt (room d.kernel - asked_count (pending d)) n) TraceFull h)
 
-or_first : (a b : Bool) → (a || b) ≡ false → a ≡ false
-or_first true b h = h
-or_first false b h = refl
+-- a request is asked more, or none
+asked_push : (taken waiting : List PendingRequest) (q : PendingRequest) → asked_count (taken ++ (waiting ++ q ∷ [])) ≡ asked_count (taken ++ waiting) + asked_count (q ∷ [])
+asked_push taken waiting q = ap asked_count (sym (append_assoc taken waiting (q ∷ []))) ∙ asked_more (taken ++ waiting) (q ∷ [])
 
-none_test : (b : Bool) (why : Refusal) → cond b (Some why) None ≡ None → b ≡ false
-none_test true why h = absurd cc
-none_test false why h = refl
+module _ (drawn begun : ℕ) (old : World) (xs : Exchanges) (v : WorldView) (r : Reached drawn begun old xs v) (p : ℕ) where
+  abbrev pub Now : WorldView → Type 0
+  Now = Reached drawn begun old xs
 
--- ---- numbers of guesses
-
-pub last_more : (k : KernelView) (e : Event) → last_guess (with_event k e) ≡ number_after (last_guess k) e
-last_more k e = fold-append number_after (length k.earlier) k.trace (e ∷ [])
-
-module _ (xs : Exchanges) (w : World) (v : WorldView) (f : Fits xs w v) where
   abbrev K : KernelView
   K = v.desk.kernel
 
-  pub next_same : suc w.drawn ≡ next_guess v.desk.kernel
-  next_same = (let same = f.seen.drawn in omega (arith, same))
+  abbrev pub its_state : State
+  its_state = state (table v.desk.kernel.scripts) v.desk.kernel.start r.trace
 
-  places_free : (n : ℕ) → 1 ≤ n → no_place v.desk n ≡ None → has_places (table v.desk.kernel.scripts v.desk.kernel.limit) v.desk.kernel.start n w ≡ true
-  places_free n some h =
-      let free = ltb-false (room K - asked_count (pending v.desk)) n (none_test (nat_lt (room K - asked_count (pending v.desk)) n) TraceFull h) in
-      let same = places_seen xs w v f.seen in
-      le-leb (n + places (table K.scripts K.limit) K.start w.trace (law_pending w)) K.limit (omega (arith, free, same, some))
+  abbrev pub does_next : Result Next Refusal
+  does_next = next_of (get its_state) v.desk.kernel.scripts p
 
-  number_free : no_number v.desk ≡ None → has_number (table v.desk.kernel.scripts v.desk.kernel.limit) v.desk.kernel.start w ≡ true
-  number_free h =
-      let least = ltb-false LAST_REQUEST v.desk.next (none_test (nat_lt LAST_REQUEST v.desk.next) TooMany h) in
-      let same = f.seen.next in
-      le-leb w.next LAST_VERSION (omega (arith, least, same))
+  -- no request of the process is asked, and none that is asked is on what it does next
+  module _ (none : asks_for p (pending v.desk) ≡ false) (t : Result Next Refusal) (is : does_next ≡ t) (clear : IsClear (pending v.desk) t) where
+    -- ---- a step
 
-  -- ---- the trace with one event more
+    steps_on : (input : Input) → (input ≡ inputs.Good → ⊥) → (t ≡ Ok nexts.Signal → input ≡ inputs.None) → rule_refused v.desk p (rules.Steps input) ≡ None → Now (record v { desk = turned v.desk p (rules.Steps input) })
+    steps_on input bad due h =
+        let S = table K.scripts in
+        let a = r.all in
+        let n = own p input in
+        let misfits = none_first (step_misfit K (entry p input None)) (no_place v.desk 1) h in
+        let g = ok_of (effect_at K (entry p input None)) (none_first (refusal_of (effect_at K (entry p input None))) (no_room (state_at K) (effect_at K (entry p input None))) misfits) in
+        let does = does_seen r.trace K a.traced p input ∙ g.1 in
+        let more = sym (last_more K (events.Step p input)) in
+        record {
+          trace = r.trace ++ Taken n ∷ [];
+          given = r.given;
+          answered = r.answered;
+          all = record {
+            is_table = a.is_table;
+            traced = traced_step r.trace K a.traced p input n g.0 refl g.1;
+            kinds = a.kinds;
+            holds = subst (λ d. Invariant S K.start (r.trace ++ Taken n ∷ []) d (r.given ++ law_served v.desk.taken v.replies) r.given (pending v.desk) (unanswered v.desk.taken v.replies ++ v.desk.waiting) v.server.refused) more
+                (inv_plain S K.start a.is_table r.trace (last_guess K) (r.given ++ law_served v.desk.taken v.replies) r.given (pending v.desk) (unanswered v.desk.taken v.replies ++ v.desk.waiting) v.server.refused n g.0 a.holds does refl
+                (λ y there hits q cause. cc) (λ q cause. cc) (λ q cause good. cc)
+                (quiet_turn S K.start a.is_table r.trace (pending v.desk) p input g.0 t does (legal_of (kernel S) K.start r.trace a.holds.sound) is clear due none));
+            facts = subst (λ d. RequestFacts S K.start drawn begun old (r.trace ++ Taken n ∷ []) d (forgotten p v.desk.kept) v.desk.next (r.given ++ law_served v.desk.taken v.replies) r.given (unanswered v.desk.taken v.replies ++ v.desk.waiting)) more
+                (facts_kept S K.start drawn begun old (r.trace ++ Taken n ∷ []) (last_guess K) v.desk.kept v.desk.next (r.given ++ law_served v.desk.taken v.replies) r.given (unanswered v.desk.taken v.replies ++ v.desk.waiting)
+                (facts_own S K.start drawn begun old r.trace (last_guess K) v.desk.kept v.desk.next (r.given ++ law_served v.desk.taken v.replies) r.given (unanswered v.desk.taken v.replies ++ v.desk.waiting) a.facts n refl bad)
+                (forgotten p v.desk.kept) (forgets v.desk.kept a.facts.answers p));
+            room =
+                (let free = places_free v.desk 1 (none_later (step_misfit K (entry p input None)) (no_place v.desk 1) h) in
+                let taken = used_step K p input in
+                omega (arith, free, taken));
+          };
+        }
 
-  pub trace_more : (n : Caused) (e : Event) → Taken (bare n) ≡ image e → map (bare_event bare) (w.trace ++ Taken n ∷ []) ≡ events_of (with_event v.desk.kernel e)
-  trace_more n e same =
-      map-append (bare_event bare) w.trace (Taken n ∷ [])
-      ∙ (λ i. f.seen.trace i ++ same i ∷ [])
-      ∙ sym (map-append image K.trace (e ∷ []))
+    -- ---- a guess
 
-  -- ---- a step
+    guesses_on : (ask : Ask) → IsFor (Some (next_guess v.desk.kernel)) ask → Takes (table v.desk.kernel.scripts) its_state p ask inputs.Good → (t ≡ Ok nexts.Signal → ⊥) → rule_refused v.desk p (rules.Guesses ask) ≡ None
+        → Now (record v { desk = turned v.desk p (rules.Guesses ask) })
+    guesses_on ask kind takes due h =
+        let S = table K.scripts in
+        let a = r.all in
+        let q = request_of v.desk p ask (Some (next_guess K)) in
+        let n : Caused = record { process = p; input = inputs.Good; guess = Some (next_guess K); cause = For q } in
+        let served = r.given ++ law_served v.desk.taken v.replies in
+        let waiting = unanswered v.desk.taken v.replies ++ v.desk.waiting in
+        let one : next_guess K ≡ suc (last_guess K) = omega arith in
+        let misfit = guess_misfits inputs.Good (effect_at K (entry p inputs.Good (Some (next_guess K)))) in
+        let later = none_later (too_many K) (or_else (no_number v.desk) (no_place v.desk 2)) (none_later misfit (or_else (too_many K) (or_else (no_number v.desk) (no_place v.desk 2))) h) in
+        let does = sym (does_seen r.trace K a.traced p inputs.Good) ∙ takes.accepted in
+        let num : suc (last_guess K) ≡ last_guess (with_event K (events.Guess (next_guess K) p inputs.Good)) = sym one ∙ sym (last_more K (events.Guess (next_guess K) p inputs.Good)) in
+        let numbers : suc v.desk.next ≡ v.desk.next + 1 = omega arith in
+        let waits = append_assoc (unanswered v.desk.taken v.replies) v.desk.waiting (q ∷ []) in
+        let pends = append_assoc v.desk.taken v.desk.waiting (q ∷ []) in
+        record {
+          trace = r.trace ++ Taken n ∷ [];
+          given = r.given;
+          answered = r.answered;
+          all = record {
+            is_table = a.is_table;
+            traced = traced_guess r.trace K a.traced p n takes.effect refl does;
+            kinds = subst AreFor pends (more_for (pending v.desk) q a.kinds kind);
+            holds =
+                subst (λ (c : ℕ × (List PendingRequest × List PendingRequest)). Invariant S K.start (r.trace ++ Taken n ∷ []) c.0 served r.given c.1.0 c.1.1 v.server.refused) (λ i. (num i, (pends i, waits i)))
+                (inv_guess S K.start a.is_table r.trace (last_guess K) served r.given (pending v.desk) waiting v.server.refused q n a.holds takes (ap Some one)
+                (sym (rests_seen r.trace K a.traced p (name_of ask))) (sym (settled_seen r.trace K a.traced)) refl
+                (quiet_turn S K.start a.is_table r.trace (pending v.desk) p inputs.Good takes.effect t takes.accepted (legal_of (kernel S) K.start r.trace a.holds.sound) is clear (λ at. absurd (due at)) none));
+            facts =
+                subst (λ (c : ℕ × (ℕ × List PendingRequest)). RequestFacts S K.start drawn begun old (r.trace ++ Taken n ∷ []) c.0 v.desk.kept c.1.0 served r.given c.1.1) (λ i. (num i, (numbers i, waits i)))
+                (facts_guess S K.start drawn begun old r.trace (last_guess K) v.desk.kept v.desk.next served r.given waiting a.facts q n refl (ap Some one) refl refl);
+            room =
+                (let free = places_free v.desk 2 (none_later (no_number v.desk) (no_place v.desk 2) later) in
+                let taken = used_guess K (next_guess K) p inputs.Good in
+                let more = asked_push v.desk.taken v.desk.waiting q in
+                omega (arith, free, taken, more));
+          };
+        }
 
-  pub does_seen : (p : ℕ) (input : Input) → outcome (kernel (table v.desk.kernel.scripts v.desk.kernel.limit)) (state (table v.desk.kernel.scripts v.desk.kernel.limit) v.desk.kernel.start w.trace) (own p input)
-      ≡ effect_at v.desk.kernel (entry p input None)
-  does_seen p input = λ i. perform (get (state_seen xs w v f.seen i)) (act K.scripts p input)
+    -- ---- a question
 
-  abbrev stepping : ℕ → Input → World
-  stepping p x = with_trace w (w.trace ++ Taken (own p x) ∷ [])
-
-  sound_step : (p : ℕ) (input : Input) → refusal_of (effect_at v.desk.kernel (entry p input None)) ≡ None → IsSound (plain v.desk.kernel.scripts) v.desk.kernel.start (events_of (with_event v.desk.kernel (events.Step p input)))
-  sound_step p input h =
-      let g = ok_of (effect_at K (entry p input None)) h in
-      subst (IsSound (plain K.scripts) K.start) (sym (map-append image K.trace (events.Step p input ∷ [])))
-      (sound_taken (plain K.scripts) K.start (events_of K) (entry p input None) f.sound.sound (λ g h mark drawn. absurd cc) (ap is_ok g.1))
-
-  pub step_fits : (p : ℕ) (input : Input) (n : Caused) (kept : List Kept) (desk : DeskView) → bare n ≡ entry p input None → desk.taken ≡ v.desk.taken → desk.waiting ≡ v.desk.waiting
-      → desk.next ≡ v.desk.next → desk.kernel ≡ with_event v.desk.kernel (events.Step p input) → kept ≡ desk.kept
-      → refusal_of (effect_at v.desk.kernel (entry p input None)) ≡ None → Fits xs (with_kept (with_trace w (w.trace ++ Taken n ∷ [])) kept) (record v { desk = desk })
-  step_fits p input n kept desk same t q number k answers h = record {
-    seen = record {
-      trace = trace_more n (events.Step p input) (ap Taken same) ∙ ap events_of (sym k);
-      drawn = f.seen.drawn ∙ sym (last_more K (events.Step p input)) ∙ ap last_guess (sym k);
-      next = f.seen.next ∙ sym number;
-      kept = answers;
-      taken = f.seen.taken ∙ (λ i. law_served (sym t i) v.replies);
-      waiting = f.seen.waiting ∙ (λ i. (unanswered (sym t i) v.replies ++ sym q i));
-      server = f.seen.server;
-      answered = f.seen.answered;
-    };
-    sound = subst (λ (x : KernelView). HasSoundTrace x) (sym k) (epoch_step K f.sound p input (sound_step p input h));
-    kinds = subst AreFor (λ i. sym t i ++ sym q i) f.kinds;
-  }
-
-  steps_fit : (p : ℕ) (input : Input) → rule_refused v.desk p (rules.Steps input) ≡ None
-      → Fits xs (used (table v.desk.kernel.scripts v.desk.kernel.limit) v.desk.kernel.start w p input) (record v { desk = turned v.desk p (rules.Steps input) })
-  steps_fit p input h =
-      let none = none_first (refusal_of (effect_at K (entry p input None))) (no_room (state_at K) (effect_at K (entry p input None))) (none_first (step_misfit K (entry p input None)) (no_place v.desk 1) h) in
-      let room = places_free 1 (omega arith) (none_later (step_misfit K (entry p input None)) (no_place v.desk 1) h) in
-      let g = ok_of (effect_at K (entry p input None)) none in
-      let same : used (table K.scripts K.limit) K.start w p input ≡ with_kept (stepping p input) (forgotten p w.kept) =
-      (λ i. cond (room i) (used_by (table K.scripts K.limit) K.start w p input ((does_seen p input ∙ g.1) i)) w) in
-      subst (λ (x : World). Fits xs x (record v { desk = turned v.desk p (rules.Steps input) })) (sym same)
-      (step_fits p input (own p input) (forgotten p w.kept) (turned v.desk p (rules.Steps input)) refl refl refl refl refl (ap (forgotten p) f.seen.kept) none)
-
-  -- ---- a request more
-
-  request_seen : (p : ℕ) (ask : Ask) (guess : Option ℕ) (x : PendingRequest) → x ≡ request_of v.desk p ask guess
-      → w.waiting ++ x ∷ [] ≡ (unanswered v.desk.taken v.replies ++ (v.desk.waiting ++ request_of v.desk p ask guess ∷ []))
-  request_seen p ask guess x is =
-      (λ i. f.seen.waiting i ++ is i ∷ [])
-      ∙ (append_assoc (unanswered v.desk.taken v.replies) v.desk.waiting (request_of v.desk p ask guess ∷ []))
-
-  kinds_more : (q : PendingRequest) → IsFor q.guess q.ask → AreFor (v.desk.taken ++ (v.desk.waiting ++ q ∷ []))
-  kinds_more q is = subst AreFor (append_assoc v.desk.taken v.desk.waiting (q ∷ [])) (more_for (pending v.desk) q f.kinds is)
-
-  -- ---- a guess
-
-  guess_request_seen : (p : ℕ) (ask : Ask) → guess_request (table v.desk.kernel.scripts v.desk.kernel.limit) v.desk.kernel.start w p ask ≡ (request_of v.desk p ask (Some (next_guess v.desk.kernel)))
-  guess_request_seen p ask = λ i. record {
-    number = f.seen.next i;
-    process = p;
-    ask = ask;
-    guess = Some (next_same i);
-    rests = (rests_seen xs w v f.seen p (name_of ask)) i;
-    settled = settled_seen xs w v f.seen f.sound i;
-  }
-
-  ask_request_seen : (p : ℕ) (ask : Ask) → ask_request (table v.desk.kernel.scripts v.desk.kernel.limit) v.desk.kernel.start w p ask ≡ request_of v.desk p ask None
-  ask_request_seen p ask = λ i. record {
-    number = f.seen.next i;
-    process = p;
-    ask = ask;
-    guess = None;
-    rests = (rests_seen xs w v f.seen p (name_of ask)) i;
-    settled = settled_seen xs w v f.seen f.sound i;
-  }
-
-  next_more : suc w.next ≡ v.desk.next + 1
-  next_more = (let same = f.seen.next in omega (arith, same))
-
-  -- the world of the laws behind a guess
-  abbrev guessing : ℕ → Ask → World
-  guessing p a = record w {
-    trace = w.trace ++ Taken (guess_entry (table K.scripts K.limit) K.start w p a) ∷ [];
-    drawn = suc w.drawn;
-    next = suc w.next;
-    waiting = w.waiting ++ guess_request (table K.scripts K.limit) K.start w p a ∷ [];
-  }
-
-  guess_does : (p : ℕ) (a : Ask) → outcome (kernel (table v.desk.kernel.scripts v.desk.kernel.limit)) (state (table v.desk.kernel.scripts v.desk.kernel.limit) v.desk.kernel.start w.trace) (guess_entry (table v.desk.kernel.scripts v.desk.kernel.limit) v.desk.kernel.start w p a)
-      ≡ effect_at v.desk.kernel (entry p inputs.Good (Some (next_guess v.desk.kernel)))
-  guess_does p a = λ i. perform (get (state_seen xs w v f.seen i)) (act K.scripts p inputs.Good)
-
-  few_guesses : too_many v.desk.kernel ≡ None → has_guess (table v.desk.kernel.scripts v.desk.kernel.limit) v.desk.kernel.start w ≡ true
-  few_guesses h =
-      let few : nat_le GUESS_LIMIT (length (undecided_at K)) ≡ false = or_first (nat_le GUESS_LIMIT (length (undecided_at K))) (nat_lt LAST_GUESS (next_guess K)) (none_test (nat_le GUESS_LIMIT (length (undecided_at K)) || nat_lt LAST_GUESS (next_guess K)) TooMany h) in
-      let less = leb-false GUESS_LIMIT (length (undecided_at K)) few in
-      ap (λ us. nat_lt (length us) MOST_GUESSES) (undecided_seen xs w v f.seen) ∙ lt-ltb (length (undecided_at K)) MOST_GUESSES (omega (arith, less))
-
-  drawn_below : (g h : ℕ) → Some (next_guess v.desk.kernel) ≡ Some g → IsDrawn (plain v.desk.kernel.scripts) (events_of v.desk.kernel) h → h < g
-  drawn_below g h mark drawn =
-      let same : next_guess K ≡ g = cc in
-      let less = below_next K f.sound h drawn in
-      omega (arith, same, less)
-
-  sound_guess : (p : ℕ) (does : Did) → effect_at v.desk.kernel (entry p inputs.Good (Some (next_guess v.desk.kernel))) ≡ Ok does
-      → IsSound (plain v.desk.kernel.scripts) v.desk.kernel.start (events_of (with_event v.desk.kernel (events.Guess (next_guess v.desk.kernel) p inputs.Good)))
-  sound_guess p does is =
-      subst (IsSound (plain K.scripts) K.start) (sym (map-append image K.trace (events.Guess (next_guess K) p inputs.Good ∷ [])))
-      (sound_taken (plain K.scripts) K.start (events_of K) (entry p inputs.Good (Some (next_guess K))) f.sound.sound drawn_below (ap is_ok is))
-
-  guessing_fits : (p : ℕ) (ask : Ask) (does : Did) → IsFor (Some (next_guess v.desk.kernel)) ask → effect_at v.desk.kernel (entry p inputs.Good (Some (next_guess v.desk.kernel))) ≡ Ok does
-      → Fits xs (guessing p ask) (record v { desk = turned v.desk p (rules.Guesses ask) })
-  guessing_fits p ask does kind is = record {
-    seen = record {
-      trace = trace_more (guess_entry (table K.scripts K.limit) K.start w p ask) (events.Guess (next_guess K) p inputs.Good) (λ i. Taken (entry p inputs.Good (Some (next_same i))));
-      drawn = next_same ∙ sym (last_more K (events.Guess (next_guess K) p inputs.Good));
-      next = next_more;
-      kept = f.seen.kept;
-      taken = f.seen.taken;
-      waiting = request_seen p ask (Some (next_guess K)) (guess_request (table K.scripts K.limit) K.start w p ask) (guess_request_seen p ask);
-      server = f.seen.server;
-      answered = f.seen.answered;
-    };
-    sound = epoch_guess K f.sound p inputs.Good (sound_guess p does is);
-    kinds = kinds_more (request_of v.desk p ask (Some (next_guess K))) kind;
-  }
-
-  guess_fits : (p : ℕ) (ask : Ask) → IsFor (Some (next_guess v.desk.kernel)) ask → rule_refused v.desk p (rules.Guesses ask) ≡ None
-      → Fits xs (guessed (table v.desk.kernel.scripts v.desk.kernel.limit) v.desk.kernel.start w p ask) (record v { desk = turned v.desk p (rules.Guesses ask) })
-  guess_fits p ask kind h =
-      let does = effect_at K (entry p inputs.Good (Some (next_guess K))) in
-      let later = or_else (too_many K) (or_else (no_number v.desk) (no_place v.desk 2)) in
-      let rest = none_later (guess_misfits inputs.Good does) later h in
-      let last = none_later (too_many K) (or_else (no_number v.desk) (no_place v.desk 2)) rest in
-      let g = ok_of does (none_first (guess_misfits inputs.Good does) later h) in
-      let few = few_guesses (none_first (too_many K) (or_else (no_number v.desk) (no_place v.desk 2)) rest) in
-      let number = number_free (none_first (no_number v.desk) (no_place v.desk 2) last) in
-      let room = places_free 2 (omega arith) (none_later (no_number v.desk) (no_place v.desk 2) last) in
-      let same : guessed (table K.scripts K.limit) K.start w p ask ≡ guessing p ask =
-      (λ i. cond (number i && (few i && room i)) (guessed_by (table K.scripts K.limit) K.start w p ask ((guess_does p ask ∙ g.1) i)) w) in
-      subst (λ (x : World). Fits xs x (record v { desk = turned v.desk p (rules.Guesses ask) })) (sym same) (guessing_fits p ask g.0 kind g.1)
-
-  -- ---- a question
-
-  asking_fits : (p : ℕ) (ask : Ask) → IsFor None ask → Fits xs (asked_now (table v.desk.kernel.scripts v.desk.kernel.limit) v.desk.kernel.start w p ask) (record v { desk = turned v.desk p (rules.Asks ask) })
-  asking_fits p ask kind = record {
-    seen = record {
-      trace = f.seen.trace;
-      drawn = f.seen.drawn;
-      next = next_more;
-      kept = f.seen.kept;
-      taken = f.seen.taken;
-      waiting = request_seen p ask None (ask_request (table K.scripts K.limit) K.start w p ask) (ask_request_seen p ask);
-      server = f.seen.server;
-      answered = f.seen.answered;
-    };
-    sound = f.sound;
-    kinds = kinds_more (request_of v.desk p ask None) kind;
-  }
-
-  ask_fits : (p : ℕ) (ask : Ask) → IsFor None ask → rule_refused v.desk p (rules.Asks ask) ≡ None
-      → Fits xs (asked (table v.desk.kernel.scripts v.desk.kernel.limit) v.desk.kernel.start w p ask) (record v { desk = turned v.desk p (rules.Asks ask) })
-  ask_fits p ask kind h =
-      let number = number_free (none_first (no_number v.desk) (no_place v.desk 1) h) in
-      let room = places_free 1 (omega arith) (none_later (no_number v.desk) (no_place v.desk 1) h) in
-      let same : asked (table K.scripts K.limit) K.start w p ask ≡ asked_now (table K.scripts K.limit) K.start w p ask =
-      (λ i. cond (number i && room i) (asked_now (table K.scripts K.limit) K.start w p ask) w) in
-      subst (λ (x : World). Fits xs x (record v { desk = turned v.desk p (rules.Asks ask) })) (sym same) (asking_fits p ask kind)
+    asks_on_it : (ask : Ask) → IsFor None ask → ReadyFor (table v.desk.kernel.scripts) v.desk.kernel.start its_state p ask → (get its_state (Proc p) ≡ None → ⊥) → asks_on (name_of ask) (pending v.desk) ≡ false
+        → rule_refused v.desk p (rules.Asks ask) ≡ None → Now (record v { desk = turned v.desk p (rules.Asks ask) })
+    asks_on_it ask kind ready there free h =
+        let S = table K.scripts in
+        let a = r.all in
+        let q = request_of v.desk p ask None in
+        let served = r.given ++ law_served v.desk.taken v.replies in
+        let waiting = unanswered v.desk.taken v.replies ++ v.desk.waiting in
+        let numbers : suc v.desk.next ≡ v.desk.next + 1 = omega arith in
+        let waits = append_assoc (unanswered v.desk.taken v.replies) v.desk.waiting (q ∷ []) in
+        let pends = append_assoc v.desk.taken v.desk.waiting (q ∷ []) in
+        record {
+          trace = r.trace;
+          given = r.given;
+          answered = r.answered;
+          all = record {
+            is_table = a.is_table;
+            traced = a.traced;
+            kinds = subst AreFor pends (more_for (pending v.desk) q a.kinds kind);
+            holds =
+                subst (λ (c : List PendingRequest × List PendingRequest). Invariant S K.start r.trace (last_guess K) served r.given c.0 c.1 v.server.refused) (λ i. (pends i, waits i))
+                (inv_ask S K.start a.is_table r.trace (last_guess K) served r.given (pending v.desk) waiting v.server.refused q a.holds refl
+                (sym (rests_seen r.trace K a.traced p (name_of ask))) (sym (settled_seen r.trace K a.traced)) ready there
+                (λ o o_in asked. ((λ same. not_its (pending v.desk) p none o o_in asked (sym same)), λ same. not_on (pending v.desk) (name_of ask) free o o_in asked (sym same))));
+            facts =
+                subst (λ (c : ℕ × List PendingRequest). RequestFacts S K.start drawn begun old r.trace (last_guess K) v.desk.kept c.0 served r.given c.1) (λ i. (numbers i, waits i))
+                (facts_ask S K.start drawn begun old r.trace (last_guess K) v.desk.kept v.desk.next served r.given waiting a.facts q refl);
+            room =
+                (let places = places_free v.desk 1 (none_later (no_number v.desk) (no_place v.desk 1) h) in
+                let more = asked_push v.desk.taken v.desk.waiting q in
+                omega (arith, places, more));
+          };
+        }
 
   -- ---- a turn
 
-  module _ (p : ℕ) (turn : Told) (new : DeskView) where
-    by_steps : (input : Input) → RulePost (Ok turn) v.desk p (rules.Steps input) new → Fits xs (used (table v.desk.kernel.scripts v.desk.kernel.limit) v.desk.kernel.start w p input) (record v { desk = new })
-    by_steps input h =
-        subst (λ (d : DeskView). Fits xs (used (table K.scripts K.limit) K.start w p input) (record v { desk = d })) (sym h.2) (steps_fit p input h.0)
+  module _ (turn : Told) (new : DeskView) where
+    by_rule : (rule : Rule) → RulePost (Ok turn) v.desk p rule new → (rule_refused v.desk p rule ≡ None → Now (record v { desk = turned v.desk p rule })) → Now (record v { desk = new })
+    by_rule rule h make = subst (λ (d : DeskView). Now (record v { desk = d })) (sym h.2) (make h.0)
 
-    by_guess : (ask : Ask) → IsFor (Some (next_guess v.desk.kernel)) ask → RulePost (Ok turn) v.desk p (rules.Guesses ask) new
-        → Fits xs (guessed (table v.desk.kernel.scripts v.desk.kernel.limit) v.desk.kernel.start w p ask) (record v { desk = new })
-    by_guess ask kind h =
-        subst (λ (d : DeskView). Fits xs (guessed (table K.scripts K.limit) K.start w p ask) (record v { desk = d })) (sym h.2) (guess_fits p ask kind h.0)
+    module _ (none : asks_for p (pending v.desk) ≡ false) where
+      by_kept : (t : Result Next Refusal) → does_next ≡ t → IsClear (pending v.desk) t → (t ≡ Ok nexts.Signal → ⊥) → (input : Input) → kept_for p v.desk.kept ≡ Some input → RulePost (Ok turn) v.desk p (rules.Steps input) new
+          → Now (record v { desk = new })
+      by_kept t is clear due input kept h = by_rule (rules.Steps input) h (steps_on none t is clear input (no_good v.desk.kept r.all.facts.answers p input kept) (λ at. absurd (due at)))
 
-    by_ask : (ask : Ask) → IsFor None ask → RulePost (Ok turn) v.desk p (rules.Asks ask) new
-        → Fits xs (asked (table v.desk.kernel.scripts v.desk.kernel.limit) v.desk.kernel.start w p ask) (record v { desk = new })
-    by_ask ask kind h =
-        subst (λ (d : DeskView). Fits xs (asked (table K.scripts K.limit) K.start w p ask) (record v { desk = d })) (sym h.2) (ask_fits p ask kind h.0)
+      by_none : (t : Result Next Refusal) → does_next ≡ t → IsClear (pending v.desk) t → RulePost (Ok turn) v.desk p (rules.Steps inputs.None) new → Now (record v { desk = new })
+      by_none t is clear h = by_rule (rules.Steps inputs.None) h (steps_on none t is clear inputs.None (λ good. cc) (λ _. refl))
 
-    by_fetch : (name : Bytes) (kept : Option Input) (version : Option ℕ) → RulePost (Ok turn) v.desk p (unless_kept kept (fetch_rule name version)) new
-        → Fits xs (fetched (table v.desk.kernel.scripts v.desk.kernel.limit) v.desk.kernel.start w p name kept version) (record v { desk = new })
-    by_fetch name (Some input) version h = by_steps input h
-    by_fetch name None (Some ver) h = by_guess (asks.Check name ver) tt h
-    by_fetch name None None h = by_ask (asks.Get name) tt h
+      by_else : (t : Result Next Refusal) → does_next ≡ t → IsClear (pending v.desk) t → (t ≡ Ok nexts.Signal → ⊥) → (kept : Option Input) → kept_for p v.desk.kept ≡ kept
+          → RulePost (Ok turn) v.desk p (unless_kept kept (rules.Steps inputs.None)) new → Now (record v { desk = new })
+      by_else t is clear due (Some input) has h = by_kept t is clear due input has h
+      by_else t is clear due None has h = by_none t is clear h
 
-    by_store : (name bytes : Bytes) (kept : Option Input) (version : Option ℕ) → RulePost (Ok turn) v.desk p (unless_kept kept (store_rule name bytes version)) new
-        → Fits xs (stored (table v.desk.kernel.scripts v.desk.kernel.limit) v.desk.kernel.start w p name bytes kept version) (record v { desk = new })
-    by_store name bytes (Some input) version h = by_steps input h
-    by_store name bytes None None h = by_ask (asks.Store name 0 bytes) tt h
-    by_store name bytes None (Some ver) h =
-        elim (nat_lt ver LAST_VERSION) as (λ b. RulePost (Ok turn) v.desk p (cond b (rules.Guesses (asks.Store name ver bytes)) (rules.Asks (asks.Store name ver bytes))) new
-        → Fits xs (cond b (guessed (table K.scripts K.limit) K.start w p (Store name ver bytes)) (asked (table K.scripts K.limit) K.start w p (Store name ver bytes))) (record v { desk = new })) [
-          | true ↦ λ h. by_guess (asks.Store name ver bytes) tt h
-          | false ↦ λ h. by_ask (asks.Store name ver bytes) tt h
-        ] h
+      by_fetch : (name : Bytes) → does_next ≡ Ok (nexts.Fetch name) → asks_on name (pending v.desk) ≡ false → (kept : Option Input) → kept_for p v.desk.kept ≡ kept
+          → (version : Option ℕ) → version_of (get its_state (CopyOf name)) ≡ version → RulePost (Ok turn) v.desk p (unless_kept kept (fetch_rule name version)) new → Now (record v { desk = new })
+      by_fetch name is free (Some input) has version at h = by_kept (Ok (nexts.Fetch name)) is free (λ due. cc) input has h
+      by_fetch name is free None has (Some ver) at h =
+          by_rule (rules.Guesses (asks.Check name ver)) h (guesses_on none (Ok (nexts.Fetch name)) is free (asks.Check name ver) tt (r.all.is_table.fetch_good its_state p name ver is at) (λ due. cc))
+      by_fetch name is free None has None at h =
+          by_rule (rules.Asks (asks.Get name)) h (asks_on_it none (Ok (nexts.Fetch name)) is free (asks.Get name) tt (λ c. r.all.is_table.fetch_fresh its_state p name c is) (r.all.is_table.fetch_there its_state p name is) free)
 
-    by_other : (kept : Option Input) → RulePost (Ok turn) v.desk p (unless_kept kept (rules.Steps inputs.None)) new
-        → Fits xs (other (table v.desk.kernel.scripts v.desk.kernel.limit) v.desk.kernel.start w p kept) (record v { desk = new })
-    by_other (Some input) h = by_steps input h
-    by_other None h = by_steps inputs.None h
+      module _ (name : Bytes) (is : does_next ≡ Ok (nexts.Store name)) (free : asks_on name (pending v.desk) ≡ false) where
+        store_good : (version : ℕ) → or_zero (version_of (get its_state (CopyOf name))) ≡ version → version < LAST_VERSION → Takes (table v.desk.kernel.scripts) its_state p (asks.Store name version (buffer v.desk.kernel p)) inputs.Good
+        store_good version at less =
+            let S = table K.scripts in
+            subst (λ bytes. Takes S its_state p (asks.Store name version bytes) inputs.Good) (λ i. buffer_of (get (state_seen r.trace K r.all.traced i) (Proc p)))
+            (r.all.is_table.store_good (record_of (kernel S) K.start r.trace) p name version (legal_of (kernel S) K.start r.trace r.all.holds.sound) is at less)
 
-    by_else : RulePost (Ok turn) v.desk p (unless_kept (kept_for p v.desk.kept) (rules.Steps inputs.None)) new
-        → Fits xs (other (table v.desk.kernel.scripts v.desk.kernel.limit) v.desk.kernel.start w p (kept_for p w.kept)) (record v { desk = new })
-    by_else h =
-        subst (λ (ks : List Kept). Fits xs (other (table K.scripts K.limit) K.start w p (kept_for p ks)) (record v { desk = new })) (sym f.seen.kept)
-        (by_other (kept_for p v.desk.kept) h)
+        store_asks : (version : ℕ) → or_zero (version_of (get its_state (CopyOf name))) ≡ version → RulePost (Ok turn) v.desk p (rules.Asks (asks.Store name version (buffer v.desk.kernel p))) new → Now (record v { desk = new })
+        store_asks version at h =
+            by_rule (rules.Asks (asks.Store name version (buffer v.desk.kernel p))) h (asks_on_it none (Ok (nexts.Store name)) is free (asks.Store name version (buffer v.desk.kernel p)) tt
+            (store_good version at, λ c. r.all.is_table.store_stale its_state p name (buffer K p) version c is) (r.all.is_table.store_there its_state p name is) free)
 
-    cached_seen : (name : Bytes) → version_of (get (state (table v.desk.kernel.scripts v.desk.kernel.limit) v.desk.kernel.start w.trace) (CopyOf name)) ≡ cached v.desk.kernel name
-    cached_seen name = λ i. version_of (get (state_seen xs w v f.seen i) (CopyOf name))
+        by_store : (kept : Option Input) → kept_for p v.desk.kept ≡ kept
+            → (version : Option ℕ) → version_of (get its_state (CopyOf name)) ≡ version → RulePost (Ok turn) v.desk p (unless_kept kept (store_rule name (buffer v.desk.kernel p) version)) new → Now (record v { desk = new })
+        by_store (Some input) has version at h = by_kept (Ok (nexts.Store name)) is free (λ due. cc) input has h
+        by_store None has None at h = store_asks 0 (ap or_zero at) h
+        by_store None has (Some ver) at h =
+            elim (nat_lt ver LAST_VERSION) as (λ b. nat_lt ver LAST_VERSION ≡ b → RulePost (Ok turn) v.desk p (cond b (rules.Guesses (asks.Store name ver (buffer v.desk.kernel p))) (rules.Asks (asks.Store name ver (buffer v.desk.kernel p)))) new → Now (record v { desk = new })) [
+              | true ↦ λ less h. by_rule (rules.Guesses (asks.Store name ver (buffer v.desk.kernel p))) h
+                  (guesses_on none (Ok (nexts.Store name)) is free (asks.Store name ver (buffer v.desk.kernel p)) tt (store_good ver (ap or_zero at) (ltb-true ver LAST_VERSION less)) (λ due. cc))
+              | false ↦ λ _ h. store_asks ver (ap or_zero at) h
+            ] refl h
 
-    by_name : (b : Bool) (rule : Rule) (x : World) → (RulePost (Ok turn) v.desk p rule new → Fits xs x (record v { desk = new })) → ByRule (Ok turn) v.desk p new (cond b (Err Blocked) (Ok rule))
-        → Fits xs (cond b w x) (record v { desk = new })
-    by_name true rule x fits h = absurd (let bad : Ok turn ≡ Err Blocked = h.0 in cc)
-    by_name false rule x fits h = fits h
+      cached_seen : (name : Bytes) → version_of (get its_state (CopyOf name)) ≡ cached v.desk.kernel name
+      cached_seen name = λ i. version_of (get (state_seen r.trace K r.all.traced i) (CopyOf name))
 
-    by_next : (n : Next) → ByRule (Ok turn) v.desk p new (rule_next v.desk p n)
-        → Fits xs (law_turned (table v.desk.kernel.scripts v.desk.kernel.limit) v.desk.kernel.start w p (turn_of (buffer v.desk.kernel p) (Ok n))) (record v { desk = new })
-    by_next nexts.Signal h = by_steps inputs.None h
-    by_next (nexts.Fetch name) h =
-        let kept = kept_for p v.desk.kept in
-        let same : law_turned (table K.scripts K.limit) K.start w p (turn_of (buffer K p) (Ok (nexts.Fetch name))) ≡ cond (asks_on name (pending v.desk)) w (fetched (table K.scripts K.limit) K.start w p name kept (cached K name)) =
-        (λ i. cond (asks_on_seen xs w v f.seen name i) w (fetched (table K.scripts K.limit) K.start w p name (kept_for p (f.seen.kept i)) (cached_seen name i))) in
-        subst (λ (x : World). Fits xs x (record v { desk = new })) (sym same)
-        (by_name (asks_on name (pending v.desk)) (unless_kept kept (fetch_rule name (cached K name))) (fetched (table K.scripts K.limit) K.start w p name kept (cached K name)) (by_fetch name kept (cached K name)) h)
-    by_next (nexts.Store name) h =
-        let kept = kept_for p v.desk.kept in
-        let bytes = buffer K p in
-        let same : law_turned (table K.scripts K.limit) K.start w p (turn_of (buffer K p) (Ok (nexts.Store name))) ≡ cond (asks_on name (pending v.desk)) w (stored (table K.scripts K.limit) K.start w p name bytes kept (cached K name)) =
-        (λ i. cond (asks_on_seen xs w v f.seen name i) w (stored (table K.scripts K.limit) K.start w p name bytes (kept_for p (f.seen.kept i)) (cached_seen name i))) in
-        subst (λ (x : World). Fits xs x (record v { desk = new })) (sym same)
-        (by_name (asks_on name (pending v.desk)) (unless_kept kept (store_rule name bytes (cached K name))) (stored (table K.scripts K.limit) K.start w p name bytes kept (cached K name)) (by_store name bytes kept (cached K name)) h)
-    by_next nexts.Private h = by_else h
-    by_next nexts.Waits h = by_else h
-    by_next nexts.Full h = by_else h
-    by_next nexts.Other h = by_else h
+      by_name : (name : Bytes) (rule : Rule) → (asks_on name (pending v.desk) ≡ false → RulePost (Ok turn) v.desk p rule new → Now (record v { desk = new }))
+          → ByRule (Ok turn) v.desk p new (cond (asks_on name (pending v.desk)) (Err Blocked) (Ok rule)) → Now (record v { desk = new })
+      by_name name rule make h =
+          elim (asks_on name (pending v.desk)) as (λ b. asks_on name (pending v.desk) ≡ b → ByRule (Ok turn) v.desk p new (cond b (Err Blocked) (Ok rule)) → Now (record v { desk = new })) [
+            | true ↦ λ _ h. absurd (let bad : Ok turn ≡ Err Blocked = h.0 in cc)
+            | false ↦ λ free h. make free h
+          ] refl h
 
-    by_result : (n : Result Next Refusal) → ByRule (Ok turn) v.desk p new (rule_of v.desk p n)
-        → Fits xs (cond (asks_for p (pending v.desk)) w (law_turned (table v.desk.kernel.scripts v.desk.kernel.limit) v.desk.kernel.start w p (turn_of (buffer v.desk.kernel p) n))) (record v { desk = new })
-    by_result (Err why) h = absurd (let bad : Ok turn ≡ Err why = h.0 in cc)
-    by_result (Ok n) h =
-        elim (asks_for p (pending v.desk)) as (λ b. ByRule (Ok turn) v.desk p new (cond b (Err Blocked) (rule_next v.desk p n))
-        → Fits xs (cond b w (law_turned (table K.scripts K.limit) K.start w p (turn_of (buffer K p) (Ok n)))) (record v { desk = new })) [
-          | true ↦ λ h. absurd (let bad : Ok turn ≡ Err Blocked = h.0 in cc)
-          | false ↦ λ h. by_next n h
-        ] h
+      by_next : (n : Next) → does_next ≡ Ok n → ByRule (Ok turn) v.desk p new (rule_next v.desk p n) → Now (record v { desk = new })
+      by_next nexts.Signal is h = by_none (Ok nexts.Signal) is tt h
+      by_next (nexts.Fetch name) is h =
+          by_name name (unless_kept (kept_for p v.desk.kept) (fetch_rule name (cached K name))) (λ free. by_fetch name is free (kept_for p v.desk.kept) refl (cached K name) (cached_seen name)) h
+      by_next (nexts.Store name) is h =
+          by_name name (unless_kept (kept_for p v.desk.kept) (store_rule name (buffer K p) (cached K name))) (λ free. by_store name is free (kept_for p v.desk.kept) refl (cached K name) (cached_seen name)) h
+      by_next nexts.Private is h = by_else (Ok nexts.Private) is tt (λ due. cc) (kept_for p v.desk.kept) refl h
+      by_next nexts.Waits is h = by_else (Ok nexts.Waits) is tt (λ due. cc) (kept_for p v.desk.kept) refl h
+      by_next nexts.Full is h = by_else (Ok nexts.Full) is tt (λ due. cc) (kept_for p v.desk.kept) refl h
+      by_next nexts.Other is h = by_else (Ok nexts.Other) is tt (λ due. cc) (kept_for p v.desk.kept) refl h
 
-    pub turn_fits : TurnPost (Ok turn) v.desk p new → Fits xs (event (table v.desk.kernel.scripts v.desk.kernel.limit) v.desk.kernel.start w (Turn p)) (record v { desk = new })
-    turn_fits h =
-        let same : event (table K.scripts K.limit) K.start w (Turn p)
-        ≡ cond (asks_for p (pending v.desk)) w (law_turned (table K.scripts K.limit) K.start w p (turn_of (buffer K p) (next_of (get (state_at K)) K.scripts p))) =
-        (λ i. cond (asks_for_seen xs w v f.seen p i) w (law_turned (table K.scripts K.limit) K.start w p (turn_of (buffer_of (get (state_seen xs w v f.seen i) (Proc p))) (next_of (get (state_seen xs w v f.seen i)) K.scripts p)))) in
-        subst (λ (x : World). Fits xs x (record v { desk = new })) (sym same)
-        (by_result (next_of (get (state_at K)) K.scripts p) (subst (ByRule (Ok turn) v.desk p new) (rule_full v.desk p (no_room (state_at K) (effect_at K (entry p inputs.None None))) (next_of (get (state_at K)) K.scripts p)) h))
+    by_result : (n : Result Next Refusal) → does_next ≡ n → ByRule (Ok turn) v.desk p new (rule_of v.desk p n) → Now (record v { desk = new })
+    by_result (Err why) is h = absurd (let bad : Ok turn ≡ Err why = h.0 in cc)
+    by_result (Ok n) is h =
+        elim (asks_for p (pending v.desk)) as (λ b. asks_for p (pending v.desk) ≡ b → ByRule (Ok turn) v.desk p new (cond b (Err Blocked) (rule_next v.desk p n)) → Now (record v { desk = new })) [
+          | true ↦ λ _ h. absurd (let bad : Ok turn ≡ Err Blocked = h.0 in cc)
+          | false ↦ λ none h. by_next none n is h
+        ] refl h
+
+    pub turn_keeps : TurnPost (Ok turn) v.desk p new → Reached drawn begun old xs (record v { desk = new })
+    turn_keeps h =
+        let n = next_of (get (state_at K)) K.scripts p in
+        by_result n (λ i. next_of (get (state_seen r.trace K r.all.traced i)) K.scripts p)
+        (subst (ByRule (Ok turn) v.desk p new) (rule_full v.desk p (no_room (state_at K) (effect_at K (entry p inputs.None None))) n) h)

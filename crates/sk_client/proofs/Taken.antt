@@ -26,11 +26,10 @@ use Rattle.sk_plain.specs.Replies.{fetched, from_copy, over_copy}
 use Rattle.sk_plain.specs.Act.{Scripts, Saying, act, goes_on, with_input}
 use Rattle.sk_script.specs.declared.instruction.Input.TheVariants.{Good, Fresh, Stale}
 use Rattle.sk_server.specs.declared.request.Ask.TheVariants.{Get, Check, Store}
-use Rattle.sk_client.proofs.CausedWorld.{or_zero}
+use Rattle.sk_client.proofs.CausedWorld.{or_zero, table}
 use Rattle.sk_client.proofs.CausedLaws.{Takes, IsEither}
 use Rattle.sk_client.proofs.Each.{cons_first}
 use Rattle.sk_client.specs.Table.{Bytes, copy_of, version_of}
-use Rattle.sk_client.proofs.WorldTable.{table}
 use Rattle.sk_client.proofs.Tidy.{IsCopy}
 use Rattle.sk_client.proofs.Rows.{one_of_two, only_one}
 use Rattle.sk_client.proofs.Runs.{next_in}
@@ -55,9 +54,9 @@ steps_so scripts s pid i x is =
     let p = is.process in
     does_so (Proc pid) (get s) (goes_on scripts pid x) (λ i. with_input pid p i x) p (next_in scripts p) (Some i) refl (get s (Proc pid)) is.there is.goes is.at
 
-module _ (scripts : Scripts) (limit : ℕ) (s : State) (pid : ℕ) (name : Bytes) where
+module _ (scripts : Scripts) (s : State) (pid : ℕ) (name : Bytes) where
   abbrev Own : Entity → Type 0
-  Own = IsEither (table scripts limit) pid name
+  Own = IsEither (table scripts) pid name
 
   both : (e : Entity) → Contains (Proc pid ∷ Copy name ∷ []) e → Own e
   both e h = elim (one_of_two (Proc pid) (Copy name) e h) [ inl is ↦ inl (sym is) | inr is ↦ inr (sym is) ]
@@ -68,7 +67,7 @@ module _ (scripts : Scripts) (limit : ℕ) (s : State) (pid : ℕ) (name : Bytes
   alone : (e : Entity) → Contains (Proc pid ∷ []) e → Own e
   alone e h = inl (sym (only_one (Proc pid) e h))
 
-  pub takes_fresh : (c : ContentView) → IsAt scripts s pid (does_.Fetch name) → Takes (table scripts limit) s pid (Get name) (Fresh c)
+  pub takes_fresh : (c : ContentView) → IsAt scripts s pid (does_.Fetch name) → Takes (table scripts) s pid (Get name) (Fresh c)
   takes_fresh c is = record {
     effect = record {
       read = (Proc pid, Some (stored.Process is.process)) ∷ [];
@@ -81,7 +80,7 @@ module _ (scripts : Scripts) (limit : ℕ) (s : State) (pid : ℕ) (name : Bytes
     sets = tt;
   }
 
-  pub takes_stale : (v : ℕ) (b : Bytes) (c : ContentView) → IsAt scripts s pid (does_.Store name) → Takes (table scripts limit) s pid (Store name v b) (Stale c)
+  pub takes_stale : (v : ℕ) (b : Bytes) (c : ContentView) → IsAt scripts s pid (does_.Store name) → Takes (table scripts) s pid (Store name v b) (Stale c)
   takes_stale v b c is = record {
     effect = record {
       read = (Proc pid, Some (stored.Process is.process)) ∷ [];
@@ -101,7 +100,7 @@ module _ (scripts : Scripts) (limit : ℕ) (s : State) (pid : ℕ) (name : Bytes
   copy_at (Some (stored.Value w)) v is = cc
   copy_at (Some (stored.Process p)) v is = cc
 
-  pub takes_checked : (v : ℕ) → IsAt scripts s pid (does_.Fetch name) → version_of (get s (Copy name)) ≡ Some v → Takes (table scripts limit) s pid (Check name v) Good
+  pub takes_checked : (v : ℕ) → IsAt scripts s pid (does_.Fetch name) → version_of (get s (Copy name)) ≡ Some v → Takes (table scripts) s pid (Check name v) Good
   takes_checked v is cached =
       let p = is.process in
       let c = copy_at (get s (Copy name)) v cached in
@@ -140,7 +139,7 @@ module _ (scripts : Scripts) (limit : ℕ) (s : State) (pid : ℕ) (name : Bytes
   stored_over p o v is cached lt = absurd is
 
   pub takes_stored : (v : ℕ) (b : Bytes) → (is : IsAt scripts s pid (does_.Store name)) → is.process.buffer ≡ b → IsCopy (get s (Copy name)) → or_zero (version_of (get s (Copy name))) ≡ v → v < LAST_VERSION
-      → Takes (table scripts limit) s pid (Store name v b) Good
+      → Takes (table scripts) s pid (Store name v b) Good
   takes_stored v b is buffer copy cached lt =
       let p = is.process in
       let does = stored_over p (get s (Copy name)) v copy cached lt in

@@ -24,8 +24,9 @@ use Rattle.sk_client.specs.declared.world.Cause.{Cause}
 use Rattle.sk_client.specs.declared.world.Cause.TheVariants as causes
 use Rattle.sk_client.specs.Desk.{DeskView, rule, turned, given, given_to, decided, answered, stepped, entry, input_of, is_void}
 use Rattle.sk_client.specs.DeskCalls.{ByRule}
-use Rattle.sk_client.specs.WorldView.{WorldView, EventPost, Turns, Serves, Replies, EditsFile, taken_by, taken_from}
+use Rattle.sk_client.specs.WorldView.{WorldView, EventPost, Turns, Serves, Replies, EditsFile, taken_by}
 use Rattle.sk_client.specs.Upcoming.{upcoming, turn_step, reply_step, first_reply_step}
+use Rattle.sk_client.proofs.WorldFacts.{taken_same}
 
 -- ---- a turn
 
@@ -54,13 +55,6 @@ turn_foreseen (Err (causes.Edit why)) w pid new h = absurd h
 turn_foreseen (Err causes.Memory) w pid new h = absurd h
 
 -- ---- a request that is served
-
-taken_keeps : (w : WorldView) (b : Option Request) → (taken_by w b).desk.kernel ≡ w.desk.kernel
-taken_keeps w (Some q) = refl
-taken_keeps w None = from w.desk.waiting where
-  from : (qs : List PendingRequest) → (taken_from w qs).desk.kernel ≡ w.desk.kernel
-  from [] = refl
-  from (q ∷ qs) = refl
 
 serve_keeps : (r : Result WorldAnswer Cause) (w new : WorldView) (q : Option Request) → Serves r w new q → new.desk.kernel ≡ w.desk.kernel
 serve_keeps r w new None h = ap (λ (x : WorldView). x.desk.kernel) h.1
@@ -127,6 +121,6 @@ edit_keeps (Err causes.Memory) w name expected bytes new h = absurd h
 pub event_foreseen : (r : Result WorldAnswer Cause) (w : WorldView) (e : WorldEvent) (new : WorldView) → EventPost r w e new → IsForeseen (upcoming w e) (appended w.desk.kernel new.desk.kernel)
 event_foreseen r w (events.Turn pid) new h = turn_foreseen r w pid new h
 event_foreseen r w events.Serve new h =
-    unchanged_foreseen None w.desk.kernel new.desk.kernel (serve_keeps r (taken_by w w.back) new (taken_by w w.back).back h ∙ taken_keeps w w.back)
+    unchanged_foreseen None w.desk.kernel new.desk.kernel (serve_keeps r (taken_by w w.back) new (taken_by w w.back).back h ∙ (taken_same w w.back).1)
 event_foreseen r w events.Reply new h = replies_foreseen r w new w.replies h
 event_foreseen r w (events.Edit name expected bytes) new h = unchanged_foreseen None w.desk.kernel new.desk.kernel (edit_keeps r w name expected bytes new h)

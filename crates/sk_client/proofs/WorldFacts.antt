@@ -1,9 +1,10 @@
 -- What holds of a world's parts, behind each of its events.
-use Rattle.std.proofs.Common.{◌≡◌, ℕ, ◌+◌, ◌-◌, ◌<◌, ◌≤◌, get_or, Bool, true, false, not, ◌&&◌, cond, List, [], ◌∷◌, ◌++◌, length, Option, Some, None, Result, Ok, Err, refl, sym, ◌∙◌, ap, subst, arith}
+use Rattle.std.proofs.Common.{◌≡◌, ℕ, ◌+◌, ◌-◌, ◌<◌, ◌≤◌, get_or, true, false, not, cond, List, [], ◌∷◌, ◌++◌, length, Option, Some, None, Result, Ok, Err, refl, sym, ◌∙◌, ap, subst, arith}
 use Rattle.std.specs.Prelude.{◌==◌, nat_lt, is_some}
-use Rattle.std.proofs.lemmas.Bool.{true≢false, eqb-true, eq-eqb, ltb-false, ltb-true, le-leb}
+use Rattle.std.proofs.lemmas.Bool.{true≢false, eqb-true, ltb-false, ltb-true}
 use Rattle.std.proofs.lemmas.List.{length-append, get_or_at}
 use Rattle.sk_record.specs.Notes.{has}
+use Rattle.sk_record.proofs.UndoStates.{and_both}
 use Rattle.sk_objects.specs.declared.content.TheConstants.{LAST_VERSION}
 use Rattle.sk_script.specs.declared.instruction.Input.{Input}
 use Rattle.sk_script.specs.declared.instruction.Input.TheVariants as inputs
@@ -18,19 +19,15 @@ use Rattle.sk_server.specs.declared.reply.Answer.{Answer}
 use Rattle.sk_server.specs.declared.reply.Answer.TheVariants.{Yes, No, Dropped}
 use Rattle.sk_server.specs.declared.server.TheConstants.{LAST_REQUEST}
 use Rattle.sk_server.specs.Files.{FileMap, file_of, is_fitting}
-use Rattle.sk_server.specs.Server.{ServerView, is_in_turn, is_dropped, remembered, judged, answer_to, answered}
+use Rattle.sk_server.specs.Server.{ServerView, is_dropped, remembered, judged, answer_to, answered}
 use Rattle.sk_client.specs.declared.pending.PendingRequest.{PendingRequest}
 use Rattle.sk_client.specs.declared.rule.Rule.{Rule}
 use Rattle.sk_client.specs.declared.rule.Rule.TheVariants as rules
 use Rattle.sk_client.specs.declared.desk.Turn.{Turn}
-use Rattle.sk_client.specs.declared.desk.ReplyRefusal.TheVariants as refusals
-use Rattle.sk_client.specs.Desk.{DeskView, entry, sent, first_sent, first_taken, fits_ask, out_of_turn, reply_refused, no_number, no_place, guess_refused_at, rule, turned, request_of, given, given_to, answered as stepped_for, decided, input_of, is_void}
+use Rattle.sk_client.specs.Desk.{DeskView, entry, sent, first_sent, first_taken, fits_ask, no_number, no_place, guess_refused_at, rule, turned, request_of, given, given_to, answered as stepped_for, decided, input_of, is_void}
 use Rattle.sk_client.specs.DeskCalls.{ByRule, TurnPost}
-use Rattle.sk_client.specs.declared.world.Cause.{Cause}
-use Rattle.sk_client.specs.declared.world.WorldAnswer.TheVariants as answers
-use Rattle.sk_client.specs.declared.world.Cause.TheVariants as causes
-use Rattle.sk_client.specs.WorldView.{WorldView, Numbered, AreReplies, IsNext, IsJoined, reply_to, served, taken_from, taken_by, Serves, ServesNext}
-use Rattle.sk_client.proofs.DeskFacts.{none_first, none_later}
+use Rattle.sk_client.specs.WorldView.{WorldView, Numbered, AreReplies, IsNext, IsJoined, reply_to, served, taken_from, taken_by, ServesNext}
+use Rattle.sk_client.proofs.DeskFacts.{none_first, none_later, none_test}
 
 -- ---- one request more
 
@@ -59,12 +56,8 @@ next_more s (Some b) d e q w n is h =
 
 -- ---- a turn
 
-some_number : (b : Bool) → cond b (Some TooMany) None ≡ None → b ≡ false
-some_number true h = absurd cc
-some_number false h = refl
-
 has_number : (d : DeskView) → no_number d ≡ None → d.next ≤ LAST_REQUEST
-has_number d h = ltb-false LAST_REQUEST d.next (some_number (nat_lt LAST_REQUEST d.next) h)
+has_number d h = ltb-false LAST_REQUEST d.next (none_test (nat_lt LAST_REQUEST d.next) TooMany h)
 
 guess_has_number : (d : DeskView) (pid : ℕ) → guess_refused_at d pid ≡ None → d.next ≤ LAST_REQUEST
 guess_has_number d pid h =
@@ -129,6 +122,14 @@ taken_joined s rs d e q qs w is j =
       last = last;
     })
 
+-- the server and the kernel are as they were
+pub taken_same : (w : WorldView) (b : Option Request) → ((taken_by w b).server ≡ w.server) × ((taken_by w b).desk.kernel ≡ w.desk.kernel)
+taken_same w (Some q) = (refl, refl)
+taken_same w None = from w.desk.waiting where
+  from : (qs : List PendingRequest) → ((taken_from w qs).server ≡ w.server) × ((taken_from w qs).desk.kernel ≡ w.desk.kernel)
+  from [] = (refl, refl)
+  from (q ∷ qs) = (refl, refl)
+
 pub none_is : (o : Option Request) → is_some o ≡ false → o ≡ None
 none_is None h = refl
 none_is (Some q) h = absurd (true≢false h)
@@ -146,10 +147,6 @@ not_last v less = elim (v == LAST_VERSION) as (λ b. (v == LAST_VERSION) ≡ b �
   | false ↦ λ e. refl
 ] refl
 
-second : (a b : Bool) → (a && b) ≡ true → b ≡ true
-second true b h = h
-second false b h = absurd (true≢false (sym h))
-
 fits_judged : (files : FileMap) (a : Ask) → fits_ask a (judged files a) ≡ true
 fits_judged files (Get name) = refl
 fits_judged files (Check name version) = elim ((file_of files name).version == version) as (λ b. fits_ask (Check name version) (cond b Yes (No (file_of files name))) ≡ true) [
@@ -158,7 +155,7 @@ fits_judged files (Check name version) = elim ((file_of files name).version == v
 ]
 fits_judged files (Store name expected bytes) =
     elim (is_fitting files name expected) as (λ b. is_fitting files name expected ≡ b → fits_ask (Store name expected bytes) (cond b Yes (No (file_of files name))) ≡ true) [
-      | true ↦ λ e. not_last expected (ltb-true expected LAST_VERSION (second _ (nat_lt expected LAST_VERSION) e))
+      | true ↦ λ e. not_last expected (ltb-true expected LAST_VERSION (and_both _ (nat_lt expected LAST_VERSION) e).1)
       | false ↦ λ e. refl
     ] refl
 
@@ -190,46 +187,11 @@ pub back_joined : (d : DeskView) (s t : ServerView) (rs all : List Reply) (b : O
 back_joined d s t rs all b is more j =
     subst (λ (x : ServerView). IsJoined d x all b) (sym is) (subst (λ (x : List Reply). IsJoined d s x b) (sym more) j)
 
--- the request is in turn
-pub in_turn : (d : DeskView) (s : ServerView) (rs : List Reply) (b : Request) → IsJoined d s rs (Some b) → is_in_turn s b ≡ true
-in_turn d s rs b j =
-    let is = j.next.0 in
-    let least = j.next.1 in
-    (λ i. eq-eqb b.number s.next is i && le-leb b.number LAST_REQUEST (omega (arith, is, least)) i)
-
 -- ---- a request that is served
-
--- without one
-pub idle_next : (w : WorldView) (ws : List PendingRequest) → first_sent ws ≡ None → w.back ≡ None → ServesNext (Err causes.Idle) (taken_from w ws) w (taken_from w ws).back
-idle_next w [] is none = subst (λ (b : Option Request). ServesNext (Err causes.Idle) w w b) (sym none) (refl, refl)
-idle_next w (p ∷ ps) is none = absurd cc
-
-abbrev pub served_from : WorldView → List PendingRequest → Request → WorldView
-served_from w ws q = record { desk = first_taken w.desk ws; server = answered w.server q (answer_to w.server q); replies = w.replies ++ reply_to w.server q ∷ []; back = None }
-
--- the oldest that waits
-pub served_next : (w new : WorldView) (ws : List PendingRequest) (q : Request) → first_sent ws ≡ Some q → new ≡ served_from w ws q → ServesNext (Ok tt) (taken_from w ws) new (taken_from w ws).back
-served_next w new [] q is h = absurd cc
-served_next w new (p ∷ ps) q is h = (let same : q ≡ sent p = cc in h ∙ ap (served_from w (p ∷ ps)) same)
-
--- refused, it is handed back
-pub kept_next : (w new : WorldView) (ws : List PendingRequest) (q : Request) (why : Cause) → first_sent ws ≡ Some q → why ≡ causes.Memory → new ≡ taken_from w ws
-    → ServesNext (Err why) (taken_from w ws) new (taken_from w ws).back
-kept_next w new [] q why is h here = absurd cc
-kept_next w new (p ∷ ps) q why is h here = (h, here)
 
 -- the one that was handed back
 pub back_served : (w new : WorldView) (q : Request) → w.back ≡ Some q → new ≡ served w q → ServesNext (Ok tt) w new w.back
 back_served w new q is h = subst (λ (b : Option Request). ServesNext (Ok tt) w new b) (sym is) h
-
--- one that was handed back comes first
-pub taken_back : (w : WorldView) (b : Option Request) → is_some b ≡ true → taken_by w b ≡ w
-taken_back w None h = absurd (true≢false (sym h))
-taken_back w (Some q) h = refl
-
-pub taken_next : (w : WorldView) (b : Option Request) → is_some b ≡ false → taken_by w b ≡ taken_from w w.desk.waiting
-taken_next w None h = refl
-taken_next w (Some q) h = absurd (true≢false h)
 
 -- the desk once the oldest of those that wait was handed out
 pub next_joined : (s : ServerView) (rs : List Reply) (b : Option Request) (d : DeskView) (ws : List PendingRequest) (q : Request) → is_some b ≡ false → d.waiting ≡ ws → first_sent ws ≡ Some q
@@ -246,20 +208,6 @@ pub newest_is : (all older : List Reply) (reply r : Reply) → all ≡ older ++ 
 newest_is all older reply r h is =
     let more : length (older ++ reply ∷ []) ≡ length older + 1 = length-append older (reply ∷ []) in
     sym (is ∙ ap (λ (rs : List Reply). get_or rs (length rs - 1) r) h ∙ get_or_at older reply [] r (length (older ++ reply ∷ []) - 1) (omega (arith, more)))
-
-pub some_newest : (all older : List Reply) (reply : Reply) → all ≡ older ++ reply ∷ [] → 0 < length all
-some_newest all older reply h =
-    let more : length (older ++ reply ∷ []) ≡ length older + 1 = length-append older (reply ∷ []) in
-    let same : length all ≡ length (older ++ reply ∷ []) = ap length h in
-    omega (arith, more, same)
-
-pub served_told : (t new : WorldView) (b : Option Request) → ServesNext (Ok tt) t new b → (reply : Reply) × (older : List Reply) × (new.replies ≡ older ++ reply ∷ []) × Serves (Ok (answers.Served reply)) t new b
-served_told t new None h = absurd cc
-served_told t new (Some q) h = (reply_to t.server q, t.replies, ap (λ (w : WorldView). w.replies) h, (refl, h))
-
-pub refused_told : (t new : WorldView) (b : Option Request) (why : Cause) → ServesNext (Err why) t new b → Serves (Err why) t new b
-refused_told t new None why h = (let same : why ≡ causes.Idle = cc in ap (λ (x : Cause). Err x) same, h.1)
-refused_told t new (Some q) why h = h
 
 -- ---- a reply
 
@@ -295,11 +243,6 @@ oldest_of d r rs b (q ∷ qs) e h = record { request = q; later = qs; taken = e;
 
 pub oldest : (d : DeskView) (s : ServerView) (r : Reply) (rs : List Reply) (b : Option Request) → IsJoined d s (r ∷ rs) b → Oldest d r rs b
 oldest d s r rs b j = oldest_of d r rs b d.taken refl j.replies
-
-pub fits_reply : (d : DeskView) (r : Reply) (rs : List Reply) (b : Option Request) → Oldest d r rs b → reply_refused d r d.taken ≡ None
-fits_reply d r rs b o =
-    ap (reply_refused d r) o.taken
-    ∙ (λ i. cond (not (eq-eqb o.request.number r.number o.number i)) (Some (out_of_turn d)) (cond (o.fits i) None (Some refusals.WrongKind)))
 
 pub given_joined : (d e : DeskView) (s : ServerView) (r : Reply) (rs : List Reply) (b : Option Request) → e ≡ given d r d.taken → IsJoined d s (r ∷ rs) b → IsJoined e s rs b
 given_joined d e s r rs b is j =

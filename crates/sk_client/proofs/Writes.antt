@@ -14,14 +14,14 @@ use Rattle.sk_server.specs.declared.reply.Answer.TheVariants as answers
 use Rattle.sk_server.specs.declared.reply.Reply.{Reply}
 use Rattle.sk_client.specs.Exchanges.{Exchanges, with_reply, exchange, exchanged, Leads}
 use Rattle.sk_client.specs.Writes.{Write, is_store, store_of, stores_of, written_by, writes_of, all_written, AllFit, AreWritten}
-use Rattle.sk_client.specs.WorldView.{WorldView, taken_by, taken_from, reply_to, served, Serves, Replies, Turns, EditsFile, EventPost}
-use Rattle.sk_client.specs.declared.pending.PendingRequest.{PendingRequest}
+use Rattle.sk_client.specs.WorldView.{WorldView, taken_by, reply_to, served, Serves, Replies, Turns, EditsFile, EventPost}
 use Rattle.sk_client.specs.declared.world.WorldEvent.{WorldEvent}
 use Rattle.sk_client.specs.declared.world.WorldEvent.TheVariants as events
 use Rattle.sk_client.specs.declared.world.WorldAnswer.{WorldAnswer}
 use Rattle.sk_client.specs.declared.world.WorldAnswer.TheVariants as told
 use Rattle.sk_client.specs.declared.world.Cause.{Cause}
 use Rattle.sk_client.specs.declared.world.Cause.TheVariants as causes
+use Rattle.sk_client.proofs.WorldFacts.{taken_same}
 
 -- ---- one list of writes after another
 
@@ -79,14 +79,6 @@ edits (Err causes.Memory) w new name expected bytes h = absurd h
 
 -- ---- the server's answer
 
-took : (w : WorldView) (qs : List PendingRequest) → (taken_from w qs).server ≡ w.server
-took w [] = refl
-took w (q ∷ qs) = refl
-
-took_any : (w : WorldView) (b : Option Sent) → (taken_by w b).server ≡ w.server
-took_any w (Some q) = refl
-took_any w None = took w w.desk.waiting
-
 -- a store that is accepted fits
 abbrev Fitting : FileMap → Ask → Answer → Type 0
 Fitting files (asks.Store name version bytes) answers.Yes = is_fitting files name version ≡ true
@@ -136,7 +128,7 @@ one answer w (events.Turn p) new h = nothing w new (turns answer w new p h)
 one answer w events.Serve new h =
     let t = taken_by w w.back in
     let a : AreWritten t (stores_of (exchange t.back answer)) (exchange t.back answer) new = serves answer t new t.back h in
-    let same : t.server ≡ w.server = took_any w w.back in
+    let same : t.server ≡ w.server = (taken_same w w.back).0 in
     record {
       files = a.files ∙ ap (λ (s : ServerView). all_written s.files (stores_of (exchange t.back answer))) same;
       fit = subst (λ (s : ServerView). AllFit s.files (stores_of (exchange t.back answer))) same a.fit;

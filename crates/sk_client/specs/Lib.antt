@@ -2,6 +2,7 @@ pub mod Table
 pub mod Desk
 pub mod DeskCalls
 pub mod Boxed
+pub mod Requests
 pub mod Wish
 pub mod DeskInvariant
 pub mod WorldView

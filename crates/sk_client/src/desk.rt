@@ -1,7 +1,6 @@
 //! The desk.
-ghost use Rattle.std.specs.Prelude.{◌≡◌, ℕ, List, ◌+◌, ◌-◌, ◌<◌, ◌≤◌, [], nat_lt, length, is_some, option_map, OnOk, IfOk, IfSome, Some, None, vec_capacity};
+ghost use Rattle.std.specs.Prelude.{◌≡◌, ℕ, List, ◌+◌, ◌-◌, ◌<◌, ◌≤◌, [], ◌++◌, nat_lt, length, is_some, option_map, OnOk, IfOk, IfSome, Some, None, vec_capacity};
 ghost use Rattle.std.specs.Option.{option_copied};
-ghost use Rattle.std.specs.VecDeque.{deque_capacity};
 ghost use Rattle.sk_plain.specs.Refusal.{cause};
 ghost use Rattle.sk_kernel.specs.Kernel.{undecided_at, room};
 ghost use Rattle.sk_server.specs.declared.server.TheConstants.{LAST_REQUEST};
@@ -14,7 +13,8 @@ ghost use Rattle.sk_client.specs.Desk.{opened, pending, requests_taken, asks_for
 ghost use Rattle.sk_client.specs.Upcoming.{turn_step, reply_step};
 ghost use Rattle.sk_client.specs.DeskCalls.{TurnPost, RulePost, ReplyPost, handed_back, ShutPost, DeskEpochPost};
 
-use crate::pending::{BoxedAsk, BoxedRequest, Kept, Waiting};
+use crate::pending::{BoxedAsk, BoxedRequest, Kept};
+use crate::requests::Requests;
 use crate::rule::{Wanted, Wish, fetch_wish, store_wish};
 use sk_guesses::Status;
 use sk_holder::Holder;
@@ -27,7 +27,6 @@ use sk_script::Input;
 use sk_server::{Answer, LAST_REQUEST, Reply, Request};
 use sk_terminal::Texts;
 use std::alloc::{AllocError, Global};
-use std::collections::VecDeque;
 use std::marker::Model;
 use thiserror::Error;
 
@@ -77,15 +76,13 @@ pub struct Pending(pub usize);
 pub struct Desk {
     pub(crate) holder: Holder,
     alloc: Global,
-    taken: VecDeque<BoxedRequest>,
-    waiting: VecDeque<Waiting>,
+    requests: Requests,
     first: u64,
     next: u64,
     kept: Vec<Kept>,
 }
 
 impl Model for Desk {
-    ghost use Rattle.std.specs.VecDeque.{deque_capacity};
     ghost use Rattle.std.specs.Prelude.{length, vec_capacity};
     ghost use Rattle.sk_client.specs.Desk.{DeskView, desk_code};
     ghost use Rattle.sk_client.specs.DeskInvariant.{IsTidy};
@@ -94,79 +91,33 @@ impl Model for Desk {
 
     ghost coded = { desk_code };
 
-    ghost view = { λ d. record { kernel = d.holder.kernel; taken = d.taken.items; waiting = d.waiting.items; first = d.first; next = d.next; kept = d.kept.items } };
+    ghost view = { λ d. record {
+      kernel = d.holder.kernel;
+      taken = d.requests.taken;
+      waiting = d.requests.waiting;
+      first = d.first;
+      next = d.next;
+      kept = d.kept.items;
+    } };
 
-    ghost invariant = { λ d. IsTidy d.holder.held d.taken.items d.waiting.items (deque_capacity d.taken) (length d.kept.items) (vec_capacity d.kept) };
+    ghost invariant = { λ d. IsTidy d.holder.held d.requests.taken d.requests.waiting
+        (length d.kept.items) (vec_capacity d.kept) };
 }
 
-/// Makes room for one more request, here and where it is taken, and for its answer.
-fn make_room(
-    taken: &mut VecDeque<BoxedRequest>,
-    waiting: &mut VecDeque<Waiting>,
-    kept: &mut Vec<Kept>,
-) -> Result<(), AllocError>
-    ensures taken { taken.new.items ≡ taken.old.items }
-    ensures waiting { waiting.new.items ≡ waiting.old.items }
+/// Makes room for one more request, and for its answer.
+fn make_room(requests: &mut Requests, kept: &mut Vec<Kept>) -> Result<(), AllocError>
+    ensures taken { requests.new.taken ≡ requests.old.taken }
+    ensures waiting { requests.new.waiting ≡ requests.old.waiting }
     ensures kept { kept.new.items ≡ kept.old.items }
-    ensures less { (deque_capacity taken.old ≤ deque_capacity taken.new) × (vec_capacity kept.old ≤ vec_capacity kept.new) }
-    ensures room { OnOk result ((length taken.old.items + length waiting.old.items < deque_capacity taken.new) × (length waiting.old.items < deque_capacity waiting.new) × (length kept.old.items + (length taken.old.items + length waiting.old.items) < vec_capacity kept.new)) }
+    ensures less { vec_capacity kept.old ≤ vec_capacity kept.new }
+    ensures room { OnOk result
+        (length (requests.old.taken ++ requests.old.waiting) < requests.new.room) }
+    ensures answer { OnOk result
+        (length kept.old.items + length (requests.old.taken ++ requests.old.waiting)
+        < vec_capacity kept.new) }
 {
-    let more = waiting.len() + 1;
-    waiting.reserve(1)?;
-    taken.reserve(more)?;
-    kept.reserve(taken.len() + more)?;
-    Ok(())
-}
-
-/// Whether one of the taken requests was asked for a process.
-fn taken_for(requests: &VecDeque<BoxedRequest>, pid: Pid) -> bool
-    ensures { result ≡ asks_for pid requests.now.items }
-{
-    requests.iter().any(|request| request.asks_for(pid))
-}
-
-/// Whether one of the waiting requests was asked for a process.
-fn waiting_for(requests: &VecDeque<Waiting>, pid: Pid) -> bool
-    ensures { result ≡ asks_for pid requests.now.items }
-{
-    requests
-        .iter()
-        .any(|waiting| waiting.request().asks_for(pid))
-}
-
-/// Whether one of the taken requests was asked on a name.
-fn taken_on(requests: &VecDeque<BoxedRequest>, name: &Name) -> bool
-    ensures { result ≡ asks_on name.now requests.now.items }
-{
-    requests.iter().any(|request| request.asks_on(name))
-}
-
-/// Whether one of the waiting requests was asked on a name.
-fn waiting_on(requests: &VecDeque<Waiting>, name: &Name) -> bool
-    ensures { result ≡ asks_on name.now requests.now.items }
-{
-    requests
-        .iter()
-        .any(|waiting| waiting.request().asks_on(name))
-}
-
-/// How many of the taken requests were asked.
-fn asked_taken(requests: &VecDeque<BoxedRequest>) -> usize
-    ensures count { result ≡ asked_count requests.now.items }
-    ensures limit { result ≤ length requests.now.items }
-{
-    requests.iter().filter(|request| request.is_asked()).count()
-}
-
-/// How many of the waiting requests were asked.
-fn asked_waiting(requests: &VecDeque<Waiting>) -> usize
-    ensures count { result ≡ asked_count requests.now.items }
-    ensures limit { result ≤ length requests.now.items }
-{
-    requests
-        .iter()
-        .filter(|waiting| waiting.request().is_asked())
-        .count()
+    requests.reserve()?;
+    kept.reserve(requests.len() + 1)
 }
 
 /// The answer that is kept for a process.
@@ -193,7 +144,9 @@ fn brought(kept: &[Kept], pid: Pid, takes_kept: bool) -> InputRef<'_>
 
 /// A step with the kept answer, or this wish where there is none.
 fn unless_kept(kept: Option<&Input>, wish: Wish) -> Wish
-    ensures { (bytes : List ℕ) → wished (option_copied kept.entry) bytes result ≡ unless_kept (option_copied kept.entry) (wished (option_copied kept.entry) bytes wish) }
+    ensures { (bytes : List ℕ)
+        → wished (option_copied kept.entry) bytes result
+        ≡ unless_kept (option_copied kept.entry) (wished (option_copied kept.entry) bytes wish) }
 {
     match kept {
         Some(_) => Wish::TakesKept,
@@ -295,7 +248,8 @@ fn forget(kept: &mut Vec<Kept>, pid: Pid)
 /// Keeps an answer for a process, for which there is room.
 fn keep(kept: &mut Vec<Kept>, pid: Pid, answer: Option<InputRef<'_>>)
     requires { length kept.old.items < vec_capacity kept.old }
-    ensures items { kept.new.items ≡ kept_after pid (option_map input_in answer.entry) kept.old.items }
+    ensures items { kept.new.items
+        ≡ kept_after pid (option_map input_in answer.entry) kept.old.items }
     ensures fewer { length kept.new.items ≤ length kept.old.items + 1 }
     ensures room { vec_capacity kept.new ≡ vec_capacity kept.old }
 {
@@ -317,8 +271,7 @@ impl Desk {
         Desk {
             holder: Holder::new(alloc, kernel),
             alloc,
-            taken: VecDeque::new(alloc),
-            waiting: VecDeque::new(alloc),
+            requests: Requests::new(alloc),
             first: FIRST_REQUEST,
             next: FIRST_REQUEST,
             kept: Vec::new(alloc),
@@ -343,7 +296,7 @@ impl Desk {
     pub fn pending(&self) -> usize
         ensures { result ≡ length (pending self.now) }
     {
-        self.taken.len() + self.waiting.len()
+        self.requests.len()
     }
 
     /// How many requests were taken since then, with or without a reply by now.
@@ -351,29 +304,28 @@ impl Desk {
         ensures { result ≡ requests_taken self.now }
     {
         let made = self.next.saturating_sub(self.first);
-        made.saturating_sub(self.waiting.len() as u64)
+        made.saturating_sub(self.requests.waiting() as u64)
     }
 
     /// Whether a process waits for a reply.
     pub(crate) fn asks_for(&self, pid: Pid) -> bool
         ensures { result ≡ asks_for pid (pending self.now) }
     {
-        taken_for(&self.taken, pid) || waiting_for(&self.waiting, pid)
+        self.requests.asks_for(pid)
     }
 
     /// Whether a process waits for a reply on this name.
     fn asks_on(&self, name: &Name) -> bool
         ensures { result ≡ asks_on name.now (pending self.now) }
     {
-        taken_on(&self.taken, name) || waiting_on(&self.waiting, name)
+        self.requests.asks_on(name)
     }
 
     /// The places of the trace that are free, with one kept for the step of each asked request.
     pub(crate) fn free_places(&self) -> usize
         ensures { result ≡ room self.now.kernel - asked_count (pending self.now) }
     {
-        let asked = asked_taken(&self.taken) + asked_waiting(&self.waiting);
-        self.kernel().room().saturating_sub(asked)
+        self.kernel().room().saturating_sub(self.requests.asked())
     }
 
     /// The version that is cached of a name.
@@ -448,7 +400,7 @@ impl Desk {
     pub fn reply_step(&self, reply: &Reply) -> Option<(Pid, Input)>
         ensures { result ≡ reply_step reply.now self.now.taken }
     {
-        let process = self.taken.front()?.process;
+        let process = self.requests.first_taken()?.process;
         let input = input_of(&reply.answer)?;
         Some((process, owned(input)))
     }
@@ -469,7 +421,8 @@ impl Desk {
 
     /// A step, which takes or forgets the kept answer of its process.
     fn take_step(&mut self, pid: Pid, takes_kept: bool) -> Result<Turn, Refusal>
-        ensures { RulePost result self.old pid (rules.Steps (brought takes_kept (kept_for pid self.old.kept))) self.new }
+        ensures { RulePost result self.old pid
+            (rules.Steps (brought takes_kept (kept_for pid self.old.kept))) self.new }
     {
         if self.free_places() < 1 {
             let kernel = self.holder.kernel();
@@ -509,9 +462,12 @@ impl Desk {
         }
     }
 
-    /// The next request, as it is made without a guess.
-    fn draft(&self, pid: Pid, want: &Wanted) -> Result<Waiting, AllocError>
-        ensures { IfOk result (λ waiting. waiting ≡ request_of self.now pid (wanted (buffer self.now.kernel pid) want.now) None) }
+    /// The next request, as it is made without a guess, and what it rests on once more.
+    fn draft(&self, pid: Pid, want: &Wanted) -> Result<(BoxedRequest, TagSet), AllocError>
+        ensures request { IfOk result
+            (λ draft. draft.0
+            ≡ request_of self.now pid (wanted (buffer self.now.kernel pid) want.now) None) }
+        ensures again { IfOk result (λ draft. draft.1 ≡ draft.0.rests) }
     {
         let ask = self.asking(pid, want)?;
         let rests = self.rests(pid, ask.name())?;
@@ -524,7 +480,7 @@ impl Desk {
             rests,
             settled: self.kernel().settled(),
         };
-        Ok(Waiting::new(request, again))
+        Ok((request, again))
     }
 
     /// Whether no number is left for a request.
@@ -560,7 +516,8 @@ impl Desk {
 
     /// A step with a guess that the cached copy is good, and a request that asks whether it is.
     fn guess(&mut self, pid: Pid, want: &Wanted) -> Result<Turn, Refusal>
-        ensures { RulePost result self.old pid (rules.Guesses (wanted (buffer self.old.kernel pid) want.now)) self.new }
+        ensures { RulePost result self.old pid
+            (rules.Guesses (wanted (buffer self.old.kernel pid) want.now)) self.new }
     {
         if self.is_numbered_out() {
             return Err(self.why_no_guess(pid));
@@ -568,24 +525,26 @@ impl Desk {
         if self.free_places() < 2 {
             return Err(self.why_no_guess(pid));
         }
-        let Ok(draft) = self.draft(pid, want) else {
+        let Ok((mut request, again)) = self.draft(pid, want) else {
             return Err(self.why_no_guess(pid));
         };
-        let Ok(()) = make_room(&mut self.taken, &mut self.waiting, &mut self.kept) else {
+        let Ok(()) = make_room(&mut self.requests, &mut self.kept) else {
             return Err(self.why_no_guess(pid));
         };
         let id = match self.holder.guess(pid, InputRef::Good) {
             Ok(id) => id,
             Err(why) => return Err(why),
         };
-        self.waiting.push_back_reserved(draft.with_guess(id));
+        request.guess = Some(id);
+        self.requests.push(request, again);
         self.next += 1;
         Ok(Turn::Guessed(id))
     }
 
     /// A request without a step.
     fn ask(&mut self, pid: Pid, want: &Wanted) -> Result<Turn, Refusal>
-        ensures { RulePost result self.old pid (rules.Asks (wanted (buffer self.old.kernel pid) want.now)) self.new }
+        ensures { RulePost result self.old pid
+            (rules.Asks (wanted (buffer self.old.kernel pid) want.now)) self.new }
     {
         if self.is_numbered_out() {
             return Err(Refusal::TooMany);
@@ -593,32 +552,30 @@ impl Desk {
         if self.free_places() < 1 {
             return Err(Refusal::TraceFull);
         }
-        let Ok(draft) = self.draft(pid, want) else {
+        let Ok((request, again)) = self.draft(pid, want) else {
             return Err(Refusal::Memory);
         };
-        let Ok(()) = make_room(&mut self.taken, &mut self.waiting, &mut self.kept) else {
+        let Ok(()) = make_room(&mut self.requests, &mut self.kept) else {
             return Err(Refusal::Memory);
         };
         let number = self.next;
-        self.waiting.push_back_reserved(draft);
+        self.requests.push(request, again);
         self.next += 1;
         Ok(Turn::Asked(number))
     }
 
     /// The oldest request that waits.
-    pub(crate) fn first_waiting(&self) -> Option<&Waiting>
+    pub(crate) fn first_waiting(&self) -> Option<&BoxedRequest>
         ensures { option_map sent (option_copied result) ≡ first_sent self.now.waiting }
     {
-        self.waiting.front()
+        self.requests.first_waiting()
     }
 
     /// Takes the oldest request that waits where nothing is to be sent of it, if there is one.
     pub(crate) fn take_unsent(&mut self)
         ensures { self.new ≡ first_taken self.old self.old.waiting }
     {
-        if let Some(waiting) = self.waiting.pop_front() {
-            self.taken.push_back_reserved(waiting.kept());
-        }
+        self.requests.take_unsent();
     }
 
     /// Takes the oldest request that waits; `None` where none does. This takes no memory.
@@ -626,17 +583,15 @@ impl Desk {
         ensures request { result ≡ first_sent self.old.waiting }
         ensures taken { self.new ≡ first_taken self.old self.old.waiting }
     {
-        let (pending, sent) = self.waiting.pop_front()?.taken();
-        self.taken.push_back_reserved(pending);
-        Some(sent)
+        self.requests.take()
     }
 
     /// The number of the next request to be taken.
     fn next_taken(&self) -> u64
         ensures { result ≡ expected self.now self.now.waiting }
     {
-        match self.waiting.front() {
-            Some(waiting) => waiting.request().number,
+        match self.requests.first_waiting() {
+            Some(waiting) => waiting.number,
             None => self.next,
         }
     }
@@ -646,7 +601,7 @@ impl Desk {
     pub fn expected(&self) -> u64
         ensures { result ≡ expected self.now (pending self.now) }
     {
-        match self.taken.front() {
+        match self.requests.first_taken() {
             Some(request) => request.number,
             None => self.next_taken(),
         }
@@ -657,7 +612,7 @@ impl Desk {
         ensures { result ≡ reply_refused self.now reply.now self.now.taken }
     {
         let expected = self.expected();
-        let Some(request) = self.taken.front() else {
+        let Some(request) = self.requests.first_taken() else {
             return Some(ReplyRefusal::OutOfTurn { expected });
         };
         if request.number != reply.number {
@@ -688,7 +643,7 @@ impl Desk {
         if let Some(why) = self.reply_refusal(reply) {
             return Err(why);
         }
-        match self.taken.front() {
+        match self.requests.first_taken() {
             Some(request) => match request.guess {
                 Some(id) => Ok(self.decide(id, reply)),
                 None => self.answer(reply),
@@ -704,7 +659,7 @@ impl Desk {
         ensures told { result ≡ given_answer self.old reply.now self.old.taken }
         ensures left { self.new ≡ given self.old reply.now self.old.taken }
     {
-        let Some(request) = self.taken.pop_front() else {
+        let Some(request) = self.requests.pop_taken() else {
             unreachable!();
         };
         let outcome = decide_guess(&mut self.holder, id, &reply.answer);
@@ -726,21 +681,21 @@ impl Desk {
         requires asked { first_guess self.old.taken ≡ None }
         ensures { ReplyPost (handed_back reply.now result) self.old reply.now self.new }
     {
-        let Some(request) = self.taken.front() else {
+        let Some(request) = self.requests.first_taken() else {
             unreachable!();
         };
         let (number, process) = (request.number, request.process);
         let input = match input_of(&reply.answer) {
             Some(input) if !is_void(self.holder.kernel(), request) => input,
             _ => {
-                self.taken.pop_front();
+                self.requests.pop_taken();
                 return Ok(Given::Forgotten(number));
             }
         };
         if let Err(Refusal::Memory) = self.holder.step(process, input) {
             return Err(ReplyRefusal::Memory);
         }
-        self.taken.pop_front();
+        self.requests.pop_taken();
         Ok(Given::Taken(number))
     }
 
@@ -772,8 +727,7 @@ impl Desk {
         let Desk {
             holder,
             alloc: _,
-            taken: _,
-            waiting: _,
+            requests: _,
             first: _,
             next: _,
             kept: _,
@@ -786,8 +740,7 @@ impl Desk {
         let Desk {
             holder,
             alloc: _,
-            taken: _,
-            waiting: _,
+            requests: _,
             first: _,
             next: _,
             kept: _,

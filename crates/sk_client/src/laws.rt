@@ -29,11 +29,14 @@ use sk_script::{Boot, BootProcess};
 /// numbers of its boot (`numbered`) it is so from `Kernel::boot` on. It is ready where nothing is undecided, which is what
 /// `Desk::new` requires of it.
 pub fn ready()
-    ensures boot { (number : ℕ) (boot : BootView) (limit : ℕ) → IsNumbered boot → WasBooted (booted number boot limit) }
+    ensures boot { (number : ℕ) (boot : BootView) (limit : ℕ) → IsNumbered boot
+        → WasBooted (booted number boot limit) }
     ensures step { (result : Result (Unit {0}) Refusal) (pid : ℕ) (input : Input) (old new : KernelView)
-        → StepPost result (step_refused old (entry pid input None)) (events.Step pid input) old new → WasBooted old → WasBooted new }
+        → StepPost result (step_refused old (entry pid input None)) (events.Step pid input) old
+        new → WasBooted old → WasBooted new }
     ensures guess { (result : Result Token Refusal) (pid : ℕ) (input : Input) (old new : KernelView)
-        → GuessPost result (guess_refused old (entry pid input (Some (next_guess old)))) pid input old new → WasBooted old → WasBooted new }
+        → GuessPost result (guess_refused old (entry pid input (Some (next_guess old)))) pid input
+        old new → WasBooted old → WasBooted new }
     ensures commit { (result : Result Outcome Stranger) (token : Token) (old new : KernelView)
         → CommitPost result token old new → WasBooted old → WasBooted new }
     ensures fail { (result : Result Outcome FailRefusal) (token : Token) (old new : KernelView)
@@ -46,19 +49,28 @@ pub fn ready()
 /// that was made with a guess by then, if the server accepts it in that list or in the one behind (`stood`). What is made by
 /// then has a number below that of the desk's next request.
 pub fn accepted()
-    ensures stand { (k : KernelView) (server : ServerView) → IsReady k → server.next ≡ 1 → server.refused ≡ []
-        → (es : List WorldEvent) (served : Exchanges) (v : WorldView) → Leads (joined (opened k) server) es served v
-        → (later : List WorldEvent) (more : Exchanges) (last : WorldView) → Leads v later more last → StoresStand served v last }
-    ensures stood { (k : KernelView) (server : ServerView) → IsReady k → server.next ≡ 1 → server.refused ≡ []
-        → (es : List WorldEvent) (served : Exchanges) (v : WorldView) → Leads (joined (opened k) server) es served v
-        → (later : List WorldEvent) (more : Exchanges) (last : WorldView) → Leads v later more last → StoresStood (served ++ more) v }
+    ensures stand { (k : KernelView) (server : ServerView) → IsReady k → server.next ≡ 1
+        → server.refused ≡ []
+        → (es : List WorldEvent) (served : Exchanges) (v : WorldView)
+        → Leads (joined (opened k) server) es served v
+        → (later : List WorldEvent) (more : Exchanges) (last : WorldView)
+        → Leads v later more last → StoresStand served v last }
+    ensures stood { (k : KernelView) (server : ServerView) → IsReady k → server.next ≡ 1
+        → server.refused ≡ []
+        → (es : List WorldEvent) (served : Exchanges) (v : WorldView)
+        → Leads (joined (opened k) server) es served v
+        → (later : List WorldEvent) (more : Exchanges) (last : WorldView)
+        → Leads v later more last → StoresStood (served ++ more) v }
 {}
 
 /// No two accepted stores have one step: each has a place of the record where its step stands, and no two have one place.
 pub fn apart()
-    ensures { (k : KernelView) (server : ServerView) → IsReady k → server.next ≡ 1 → server.refused ≡ []
-        → (es : List WorldEvent) (served : Exchanges) (v : WorldView) → Leads (joined (opened k) server) es served v
-        → (later : List WorldEvent) (more : Exchanges) (last : WorldView) → Leads v later more last → StandApart served v last }
+    ensures { (k : KernelView) (server : ServerView) → IsReady k → server.next ≡ 1
+        → server.refused ≡ []
+        → (es : List WorldEvent) (served : Exchanges) (v : WorldView)
+        → Leads (joined (opened k) server) es served v
+        → (later : List WorldEvent) (more : Exchanges) (last : WorldView)
+        → Leads v later more last → StandApart served v last }
 {}
 
 /// The steps that a record has since the world began, that were given Good and that were asked or whose guess committed, and
@@ -67,16 +79,20 @@ pub fn apart()
 /// check's leaves it, and no fetch of a copy that is not there has one. And it is by its request's process: said of the
 /// requests that were pending after the first list.
 pub fn replied()
-    ensures { (k : KernelView) (server : ServerView) → IsReady k → server.next ≡ 1 → server.refused ≡ []
-        → (es : List WorldEvent) (served : Exchanges) (v : WorldView) → Leads (joined (opened k) server) es served v
+    ensures { (k : KernelView) (server : ServerView) → IsReady k → server.next ≡ 1
+        → server.refused ≡ []
+        → (es : List WorldEvent) (served : Exchanges) (v : WorldView)
+        → Leads (joined (opened k) server) es served v
         → (later : List WorldEvent) (more : Exchanges) (last : WorldView) → Leads v later more last
         → StepsAreReplied (length (record_at k)) (served ++ more) v last }
 {}
 
 /// The trace keeps its limit, with a place for the decision of each undecided guess and for the step of each asked request.
 pub fn places()
-    ensures { (k : KernelView) (server : ServerView) → IsReady k → server.next ≡ 1 → server.refused ≡ []
-        → (es : List WorldEvent) (served : Exchanges) (v : WorldView) → Leads (joined (opened k) server) es served v
+    ensures { (k : KernelView) (server : ServerView) → IsReady k → server.next ≡ 1
+        → server.refused ≡ []
+        → (es : List WorldEvent) (served : Exchanges) (v : WorldView)
+        → Leads (joined (opened k) server) es served v
         → PlacesAreKept v }
 {}
 
@@ -84,11 +100,15 @@ pub fn places()
 /// accepted by the kernel and in the trace, and one that is answered by `Forgotten` says that the server dropped the
 /// request.
 pub fn taken()
-    ensures steps { (k : KernelView) (server : ServerView) → IsReady k → server.next ≡ 1 → server.refused ≡ []
-        → (es : List WorldEvent) (served : Exchanges) (v : WorldView) → Leads (joined (opened k) server) es served v
+    ensures steps { (k : KernelView) (server : ServerView) → IsReady k → server.next ≡ 1
+        → server.refused ≡ []
+        → (es : List WorldEvent) (served : Exchanges) (v : WorldView)
+        → Leads (joined (opened k) server) es served v
         → StepsAreTaken v }
-    ensures forgotten { (k : KernelView) (server : ServerView) → IsReady k → server.next ≡ 1 → server.refused ≡ []
-        → (es : List WorldEvent) (served : Exchanges) (v : WorldView) → Leads (joined (opened k) server) es served v
+    ensures forgotten { (k : KernelView) (server : ServerView) → IsReady k → server.next ≡ 1
+        → server.refused ≡ []
+        → (es : List WorldEvent) (served : Exchanges) (v : WorldView)
+        → Leads (joined (opened k) server) es served v
         → ForgottenAreDropped v }
 {}
 
@@ -96,7 +116,8 @@ pub fn taken()
 /// that were answered `Ok`, and just the stores that the server accepted. Each write expects the version that its file has
 /// then.
 pub fn files()
-    ensures { (w : WorldView) (es : List WorldEvent) (served : Exchanges) (last : WorldView) → (h : Leads w es served last)
+    ensures { (w : WorldView) (es : List WorldEvent) (served : Exchanges) (last : WorldView)
+        → (h : Leads w es served last)
         → AreWritten w (writes_of w es served last h) served last }
 {}
 

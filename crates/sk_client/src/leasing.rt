@@ -25,7 +25,8 @@ impl Desk {
 
     /// Why a process that waits for a reply is not lent.
     fn blocked_why(&self, pid: Pid) -> Refusal
-        ensures { result ≡ blocked_why (lease_of (map.get (state_at self.now.kernel)) self.now.kernel.scripts pid) }
+        ensures { result ≡ blocked_why
+            (lease_of (map.get (state_at self.now.kernel)) self.now.kernel.scripts pid) }
     {
         match self.kernel().value(&Entity::Proc(pid)) {
             Some(View::Process(process)) if process.ended => Refusal::Ended,

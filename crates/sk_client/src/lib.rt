@@ -5,6 +5,7 @@ pub mod desk;
 pub mod laws;
 pub mod leasing;
 pub mod pending;
+pub mod requests;
 pub mod rule;
 pub mod world;
 

@@ -1,5 +1,5 @@
 //! Requests without a reply, and kept answers.
-ghost use Rattle.std.specs.Prelude.{◌≡◌, ◌&&◌, ◌==◌, Some, bytes_eq};
+ghost use Rattle.std.specs.Prelude.{◌≡◌, ◌&&◌, ◌==◌, bytes_eq};
 ghost use Rattle.sk_server.specs.Lent.{ask_in, request_in};
 ghost use Rattle.sk_client.specs.Desk.{is_asked, name_of, sent};
 ghost use Rattle.sk_client.specs.Boxed.{ask_of};
@@ -51,26 +51,14 @@ impl Model for BoxedRequest {
 
     ghost coded = { request_code };
 
-    ghost view = { λ r. record { number = r.number; process = r.process; ask = ask_of r.ask; guess = r.guess; rests = r.rests; settled = r.settled } };
-}
-
-/// A request that waits to be taken; contracts see it as any other.
-#[derive(Drop)]
-pub(crate) struct Waiting {
-    request: BoxedRequest,
-    /// What it rests on, once more, to go with the request.
-    rests: TagSet,
-}
-
-impl Model for Waiting {
-    ghost use Rattle.std.specs.Prelude.{◌≡◌};
-    ghost use Rattle.sk_client.specs.declared.pending.PendingRequest.{PendingRequest};
-
-    ghost Value = { PendingRequest };
-
-    ghost view = { λ w. w.request };
-
-    ghost invariant = { λ w. w.rests ≡ w.request.rests };
+    ghost view = { λ r. record {
+      number = r.number;
+      process = r.process;
+      ask = ask_of r.ask;
+      guess = r.guess;
+      rests = r.rests;
+      settled = r.settled;
+    } };
 }
 
 /// An answer of the server that a process gets when it asks again.
@@ -143,75 +131,38 @@ impl BoxedRequest {
     {
         self.is_asked() && self.ask.name() == name
     }
-}
-
-impl Waiting {
-    /// A request, and what it rests on once more.
-    pub(crate) fn new(request: BoxedRequest, rests: TagSet) -> Waiting
-        requires { rests ≡ request.rests }
-        ensures { result ≡ request }
-    {
-        Waiting { request, rests }
-    }
-
-    /// The request.
-    pub(crate) fn request(&self) -> &BoxedRequest
-        ensures { result.now ≡ self.now }
-    {
-        &self.request
-    }
-
-    /// The same request, made with this guess.
-    pub(crate) fn with_guess(self, id: GuessId) -> Waiting
-        ensures { result ≡ record self { guess = Some id } }
-    {
-        let Waiting { mut request, rests } = self;
-        request.guess = Some(id);
-        Waiting { request, rests }
-    }
 
     /// What is asked.
     pub(crate) fn ask(&self) -> AskRef<'_>
         ensures { ask_in result ≡ self.now.ask }
     {
-        self.request.ask.lent()
+        self.ask.lent()
     }
 
-    /// Lends the request as it would be sent, with what it asks.
+    /// Lends it as it would be sent, with what it asks.
     pub(crate) fn lent_with<'a>(&'a self, ask: AskRef<'a>) -> RequestRef<'a>
         ensures { request_in result ≡ record (sent self.now) { ask = ask_in ask.entry } }
     {
-        let request = &self.request;
         RequestRef {
-            number: request.number,
+            number: self.number,
             rests: &self.rests,
-            settled: request.settled,
-            guess: request.guess,
+            settled: self.settled,
+            guess: self.guess,
             ask,
         }
     }
 
-    /// The request as it stays here.
-    pub(crate) fn kept(self) -> BoxedRequest
-        ensures { result ≡ self }
+    /// The same as it is sent, with what it rests on.
+    pub(crate) fn sent(&self, rests: TagSet) -> Request
+        requires { rests ≡ self.now.rests }
+        ensures { result ≡ sent self.now }
     {
-        let Waiting { request, rests: _ } = self;
-        request
-    }
-
-    /// The request as it stays here, and as it is sent.
-    pub(crate) fn taken(self) -> (BoxedRequest, Request)
-        ensures pending { result.0 ≡ self }
-        ensures sent { result.1 ≡ sent self }
-    {
-        let Waiting { request, rests } = self;
-        let sent = Request {
-            number: request.number,
+        Request {
+            number: self.number,
             rests,
-            settled: request.settled,
-            guess: request.guess,
-            ask: request.ask.sent(),
-        };
-        (request, sent)
+            settled: self.settled,
+            guess: self.guess,
+            ask: self.ask.sent(),
+        }
     }
 }

@@ -43,7 +43,8 @@ pub(crate) enum Wish {
 
 /// What a fetch does where this version is cached.
 pub(crate) fn fetch_wish(name: Name, cached: Option<u64>) -> Wish
-    ensures { (kept : Option Input) (bytes : List ℕ) → wished kept bytes result ≡ fetch_rule name cached }
+    ensures { (kept : Option Input) (bytes : List ℕ)
+        → wished kept bytes result ≡ fetch_rule name cached }
 {
     match cached {
         Some(version) => Wish::Guesses(Wanted::Check(name, version)),
@@ -53,7 +54,8 @@ pub(crate) fn fetch_wish(name: Name, cached: Option<u64>) -> Wish
 
 /// What a store does where this version is cached.
 pub(crate) fn store_wish(name: Name, cached: Option<u64>) -> Wish
-    ensures { (kept : Option Input) (bytes : List ℕ) → wished kept bytes result ≡ store_rule name bytes cached }
+    ensures { (kept : Option Input) (bytes : List ℕ)
+        → wished kept bytes result ≡ store_rule name bytes cached }
 {
     match cached {
         Some(version) if version < LAST_VERSION => Wish::Guesses(Wanted::Store(name, version)),

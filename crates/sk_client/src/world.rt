@@ -87,7 +87,8 @@ impl Model for World {
 
     ghost coded = { world_code };
 
-    ghost view = { λ w. record { desk = w.desk; server = w.server; replies = w.replies.items; back = w.back } };
+    ghost view = { λ w. record
+        { desk = w.desk; server = w.server; replies = w.replies.items; back = w.back } };
 
     ghost invariant = { λ w. IsJoined w.desk w.server w.replies.items w.back };
 }
@@ -99,7 +100,8 @@ fn answer_with(
     request: &RequestRef<'_>,
 ) -> Result<(), Cause>
     requires { is_in_turn server.old (request_in request.now) ≡ true }
-    ensures { AnswersWith result server.old replies.old.items (request_in request.now) server.new replies.new.items }
+    ensures { AnswersWith result server.old replies.old.items (request_in request.now) server.new
+        replies.new.items }
 {
     if replies.reserve(1).is_err() {
         return Err(Cause::Memory);
@@ -189,7 +191,9 @@ impl World {
     /// The newest reply on its way.
     pub fn newest(&self) -> Option<&Reply>
         ensures some { IsSome result ↔ (0 < length self.now.replies) }
-        ensures last { IfSome result (λ reply. reply.now ≡ slice_index_or self.now.replies (length self.now.replies - 1) reply.now) }
+        ensures last { IfSome result
+            (λ reply. reply.now
+            ≡ slice_index_or self.now.replies (length self.now.replies - 1) reply.now) }
     {
         self.replies.back()
     }
@@ -221,7 +225,8 @@ impl World {
 
     /// The server answers the request that it handed back, or the oldest that waits.
     fn serve(&mut self) -> Result<(), Cause>
-        ensures { ServesNext result (taken_by self.old self.old.back) self.new (taken_by self.old self.old.back).back }
+        ensures { ServesNext result (taken_by self.old self.old.back) self.new
+            (taken_by self.old self.old.back).back }
     {
         if self.back.is_some() {
             return self.answer();

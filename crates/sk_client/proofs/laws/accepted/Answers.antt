@@ -1,5 +1,5 @@
 -- From the laws of worlds, told of a world's calls.
-use Rattle.sk_client.proofs.Accepted.{stores_stand, stores_stood}
+use Rattle.sk_client.proofs.RequestSteps.{stores_stand, stores_stood}
 use Rattle.sk_client.proofs.laws.accepted.Goals as goal
 
 pub returns-clause-stand : goal.returns-clause-stand

@@ -1,5 +1,5 @@
 -- One request more, with its guess, and for which room was made; a guess that the desk does not refuse, the kernel does not refuse.
-use Rattle.std.proofs.Common.{◌≡◌, List, ◌∷◌, ◌++◌, [], length, ℕ, Some, None, cond, sym, ◌∙◌, ap, subst, deque_capacity}
+use Rattle.std.proofs.Common.{◌≡◌, List, ◌∷◌, ◌++◌, [], length, ℕ, Some, None, cond, sym, ◌∙◌, ap, subst}
 use Rattle.std.specs.Vec.{vec_capacity}
 use Rattle.sk_record.specs.Trace.{marks}
 use Rattle.sk_script.specs.declared.instruction.Input.TheVariants as inputs
@@ -7,6 +7,7 @@ use Rattle.sk_plain.specs.Refusal.{cause}
 use Rattle.sk_kernel.specs.Kernel.{guess_refused, next_guess}
 use Rattle.sk_holder.specs.Holder.{HolderView}
 use Rattle.sk_plain.specs.declared.refusal.Refusal.TheVariants.{TooMany}
+use Rattle.sk_client.specs.Boxed.{ask_of}
 use Rattle.sk_client.specs.Desk.{DeskView, entry, no_number}
 use Rattle.sk_client.specs.declared.pending.PendingRequest.{PendingRequest}
 use Rattle.sk_client.proofs.DeskFacts.{tidy_more, same_guess_refusal}
@@ -14,15 +15,16 @@ use Rattle.sk_client.proofs.desk.Desk.guess.Goals as goal
 
 pub invariant_of-self-2 : goal.invariant_of-self-2
 invariant_of-self-2 c =
-    let held : List ℕ = c.self.inside.holder.held in
-    let q : PendingRequest = c.with_guess.result in
+    let inside = c.self.inside in
+    let held : List ℕ = inside.holder.held in
+    let r = c.request.inside in
+    let q : PendingRequest = record { number = r.number; process = r.process; ask = ask_of r.ask; guess = Some c.in-Ok-guess.id; rests = r.rests; settled = r.settled } in
     let more = ap (λ (h : HolderView). h.held) c.in-Ok-guess.ensures.2 ∙ ap (λ (g : ℕ). held ++ g ∷ []) (sym c.in-Ok-guess.ensures.1) in
-    let made = ap (λ (r : PendingRequest). held ++ marks r.guess) c.with_guess.ensures in
-    tidy_more held c.guess.new.self.held c.self.inside.taken.items c.self.inside.waiting.items q c.make_room.new.taken.items c.push_back_reserved.new.self.items
-    (deque_capacity c.self.inside.taken) (deque_capacity c.make_room.new.taken) (length c.self.inside.kept.items) (length c.make_room.new.kept.items) (vec_capacity c.self.inside.kept) (vec_capacity c.make_room.new.kept)
-    c.self.invariant (more ∙ sym made) c.in-Ok-make_room.ensures.taken
-    (c.push_back_reserved.ensures.items ∙ ap (λ (qs : List PendingRequest). qs ++ q ∷ []) c.in-Ok-make_room.ensures.waiting)
-    (ap length c.in-Ok-make_room.ensures.kept) c.in-Ok-make_room.ensures.room.0 c.in-Ok-make_room.ensures.room.2
+    tidy_more held c.guess.new.self.held inside.requests.taken inside.requests.waiting q c.push.new.self.taken c.push.new.self.waiting
+    (length inside.kept.items) (length c.make_room.new.kept.items) (vec_capacity inside.kept) (vec_capacity c.make_room.new.kept)
+    c.self.invariant more (c.push.ensures.taken ∙ c.in-Ok-make_room.ensures.taken)
+    (c.push.ensures.waiting ∙ ap (λ (qs : List PendingRequest). qs ++ q ∷ []) c.in-Ok-make_room.ensures.waiting)
+    (ap length c.in-Ok-make_room.ensures.kept) c.in-Ok-make_room.ensures.answer
 
 pub returns-in-Err : goal.returns-in-Err
 returns-in-Err c =

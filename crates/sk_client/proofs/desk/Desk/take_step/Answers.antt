@@ -18,6 +18,6 @@ returns-in-Err c =
     let same = c.brought-input.ensures ∙ ap (λ (ks : List Kept). brought c.args.takes_kept (kept_for c.args.pid ks)) c.deref-2.ensures.value ∙ ap (λ (d : DeskView). brought c.args.takes_kept (kept_for c.args.pid d.kept)) c.self.view_is in (
       ap (λ (i : Input). rule_refused c.args.self.now c.args.pid (rules.Steps i)) (sym same)
           ∙ sym (same_refusal c.args.self.now c.free_places.result c.free_places.ensures c.args.pid (input_in input) c.if-free_places-lt1.false) ∙ refused,
-      (λ i. record { kernel = c.in-Err.ensures.kernel.1 i; taken = c.self.inside.taken.items; waiting = c.self.inside.waiting.items; first = c.self.inside.first; next = c.self.inside.next; kept = c.self.inside.kept.items })
+      (λ i. record { kernel = c.in-Err.ensures.kernel.1 i; taken = c.self.inside.requests.taken; waiting = c.self.inside.requests.waiting; first = c.self.inside.first; next = c.self.inside.next; kept = c.self.inside.kept.items })
           ∙ c.self.view_is,
     )

@@ -1,33 +1,38 @@
--- What holds of a world stays so: by a guess, by a question, by an answer of the server, by a reply that is given.
-use Rattle.std.proofs.Common.{◌≡◌, ℕ, suc, ◌≤◌, ◌<◌, Bool, true, false, cond, not, ◌&&◌, List, [], ◌∷◌, ◌++◌, Some, None, Ok, inl, inr, refl, sym, ◌∙◌, ap, subst, arith}
-use Rattle.std.specs.Prelude.{◌⊎◌, ◌==◌, is_ok, nat_le}
-use Rattle.std.specs.List.{Contains}
+-- What holds of a world stays so: by each event of its kernel, by a question, by an answer of the server, by a reply that is given.
+use Rattle.std.proofs.Common.{◌≡◌, ℕ, ◌≤◌, ◌<◌, true, false, not, ◌&&◌, List, [], ◌∷◌, ◌++◌, Option, Some, None, Ok, inl, inr, refl, sym, ◌∙◌, ap, subst, suc, Bool, cond, arith}
+use Rattle.std.specs.Prelude.{◌⊎◌, is_ok, ◌==◌, nat_le}
+use Rattle.std.specs.List.{list_any, Contains}
 use Rattle.std.specs.FinMap.{FinMap, get}
-use Rattle.std.proofs.lemmas.Bool.{or_cases, true≢false, false_from_ne_true, cases_Bool, eqb-true, cases_eq, leb-true, leb-false}
+use Rattle.std.proofs.lemmas.Bool.{or_from, true≢false, false_from_ne_true, cases_Bool, eqb-true, or_cases, cases_eq, leb-true, leb-false}
 use Rattle.std.proofs.lemmas.List.Elements.{Contains-push_cases, Contains-append_left, Contains-push}
-use Rattle.sk_record.specs.Run.{outcome, run}
+use Rattle.std.proofs.lemmas.List.Folds.{list_any-append}
+use Rattle.sk_record.specs.Step.{Effect}
+use Rattle.sk_record.specs.Effects.{hit, dirt}
+use Rattle.sk_record.specs.Run.{outcome, marked_effect, run, effects}
+use Rattle.sk_record.specs.Strike.{struck, strike}
 use Rattle.sk_record.specs.Notes.{has}
-use Rattle.sk_record.specs.Trace.{Event, Taken, Fail, HasEntry, IsSound, record_of, undecided_of}
-use Rattle.sk_record.proofs.Machine.{has_filter}
+use Rattle.sk_record.specs.Trace.{Event, Taken, Commit, Fail, HasEntry, IsSound, record_of, undecided_of, no_record, all_recorded}
+use Rattle.sk_record.proofs.Machine.{own_dirt, has_filter}
 use Rattle.sk_record.proofs.UndoStates.{and_both}
-use Rattle.sk_record.proofs.Sound.{record_more, sound_taken, drawn_more, has_entry}
+use Rattle.sk_record.proofs.Sound.{record_more, sound_taken, sound_commit, sound_fail, drawn_more, undecided_is, fresh_from, entries_are, has_commit, is_commit, has_entry}
 use Rattle.sk_script.specs.declared.instruction.Input.TheVariants.{Good}
-use Rattle.sk_server.specs.declared.request.Ask.TheVariants.{Store}
-use Rattle.sk_server.specs.declared.reply.Answer.{Answer}
 use Rattle.sk_server.specs.declared.reply.Answer.TheVariants.{Yes, Dropped}
 use Rattle.sk_client.specs.declared.pending.PendingRequest.{PendingRequest}
-use Rattle.sk_client.proofs.CausedRequests.{For, Caused, Served}
+use Rattle.sk_client.proofs.CausedWorld.{For, Caused, Served, Table, kernel, is_lost, least, rests_of}
 use Rattle.sk_client.specs.Desk.{name_of, sent}
+use Rattle.sk_client.proofs.CausedLaws.{Sets, IsTable, Takes}
+use Rattle.sk_client.proofs.Each.{survives, at_number, at_same, at_other, cons_first, cons_later}
+use Rattle.sk_client.proofs.TraceFacts.{has_mark, open_taken, open_commit, open_fail, failed_shut, legal_of, entry_drawn, open_entry}
+use Rattle.sk_client.proofs.Records.{Quiet, entries_taken, entries_fewer, entries_failed, ready_taken, ready_failed, lost_more, ready_kept, not_true, tags_of_step}
+use Rattle.sk_client.proofs.Queues.{queue_fewer, remembers_fewer, queue_le, queue_push, remembers_push, still_remembered, apart_push}
+use Rattle.sk_client.proofs.Invariant.{Allowed, RestsOnRefused, Entries, Void, tag_at, Ready, HasStep, Invariant, counted, Queue, IsServed, Guesses, ReadyFor, is_accepted}
+use Rattle.sk_server.specs.declared.request.Ask.TheVariants.{Store}
+use Rattle.sk_server.specs.declared.reply.Answer.{Answer}
 use Rattle.sk_server.specs.Server.{remembered}
-use Rattle.sk_client.proofs.CausedWorld.{Table, kernel, least, rests_of}
-use Rattle.sk_client.proofs.CausedLaws.{Takes, Sets, IsTable}
-use Rattle.sk_client.proofs.Each.{at_number, at_same, at_other, cons_first, cons_later}
-use Rattle.sk_client.proofs.TraceFacts.{open_taken, entry_drawn, open_entry}
-use Rattle.sk_client.proofs.Records.{Quiet, entries_taken, tags_of_step, ready_taken, lost_more}
-use Rattle.sk_client.proofs.Queues.{queue_le, queue_push, remembers_push, still_remembered, apart_push}
-use Rattle.sk_client.proofs.Invariant.{counted, Queue, IsServed, Entries, Guesses, ReadyFor, tag_at, Ready, HasStep, Invariant, is_accepted}
-use Rattle.sk_client.proofs.KernelEvents.{no_guess, entry_more, step_more, new_clean}
 use Rattle.sk_client.specs.Table.{Bytes}
+
+pub no_guess : (o : Option ℕ) (g : ℕ) → o ≡ None → o ≡ Some g → ⊥
+no_guess o g none some = let same : None ≡ Some g = sym none ∙ some in cc
 
 -- the least of some numbers
 pub least_le : (d : ℕ) (gs : List ℕ) → least d gs ≤ d
@@ -62,6 +67,155 @@ same_request : (q r : PendingRequest) → For q ≡ For r → q ≡ r
 same_request q r is = cc
 
 module _ {E V W F : Type 0} (S : Table E V W F) (start : FinMap S.order V) (table : IsTable S start) where
+  entry_more : (ns : List Caused) (n : Caused) (x : ℕ) → HasEntry (kernel S) ns x → HasEntry (kernel S) (ns ++ n ∷ []) x
+  entry_more ns n x h = (h.0, Contains-append_left ns (n ∷ []) h.0 h.1, h.2)
+
+  step_more : (ns : List Caused) (n : Caused) (q : PendingRequest) → HasStep S start ns q → HasStep S start (ns ++ n ∷ []) q
+  step_more ns n q h = (h.0, Contains-append_left ns (n ∷ []) h.0 h.1, h.2, h.3)
+
+  -- a guess without an entry in the record has dirtied nothing
+  new_clean : (es : List (Event Caused)) (n : Caused) → IsSound (kernel S) start (es ++ Taken n ∷ []) → (y : ℕ) → n.guess ≡ Some y
+      → dirt S.order y [] (effects (kernel S) start (record_of (kernel S) start es)) ≡ []
+  new_clean es n sound y is =
+      let K = kernel S in
+      ap (λ ns. dirt S.order y [] (effects K start ns)) (sym (entries_are K start es))
+      ∙ own_dirt K table.total table.exact start (all_recorded K start no_record es) n.guess (fresh_from K start es n sound) y (has_mark n.guess y is)
+
+  module _ (es : List (Event Caused)) (d : ℕ) (served given : List Served) (pending waiting : List PendingRequest) (memory : List ℕ) where
+    abbrev ns : List Caused
+    ns = record_of (kernel S) start es
+
+    abbrev us : List ℕ
+    us = undecided_of (kernel S) start es
+
+    abbrev ns_after : Event Caused → List Caused
+    ns_after e = record_of (kernel S) start (es ++ e ∷ [])
+
+    abbrev us_after : Event Caused → List ℕ
+    us_after e = undecided_of (kernel S) start (es ++ e ∷ [])
+
+    -- ---- an event that draws no guess
+    inv_event : (e : Event Caused) (i : Invariant S start es d served given pending waiting memory) → IsSound (kernel S) start (es ++ e ∷ [])
+        → ((n : Caused) → e ≡ Taken n → n.guess ≡ None) → ((x : ℕ) → e ≡ Fail x → i.bad x ≡ true) → ((y : ℕ) → has y (us_after e) ≡ true → has y us ≡ true)
+        → Entries S start i.made i.base (ns_after e) (us_after e)
+        → ((x : ℕ) → i.base < x → x ≤ d → HasEntry (kernel S) ns x → HasEntry (kernel S) (ns_after e) x ⊎ RestsOnRefused i.made i.bad x)
+        → ((q : PendingRequest) → Contains given (q, Yes) → q.guess ≡ None → HasStep S start ns q → HasStep S start (ns_after e) q)
+        → ((y : ℕ) → is_lost S start es y ≡ true → is_commit y e ≡ false)
+        → ((q : PendingRequest) → Contains pending q → q.guess ≡ None → Ready S start ns us q → Void S start (es ++ e ∷ []) d q ⊎ Ready S start (ns_after e) (us_after e) q)
+        → Invariant S start (es ++ e ∷ []) d served given pending waiting memory
+    inv_event e i sound none fails fewer entries stand stands lost ready = record {
+      made = i.made;
+      bad = i.bad;
+      base = i.base;
+      a = i.a;
+      base_le = i.base_le;
+      within = i.within;
+      sound = sound;
+      drawn = λ g dr. elim (drawn_more (kernel S) start es e g dr) [ inl before ↦ i.drawn g before | inr new ↦ absurd (no_guess new.0.guess g (none new.0 new.1) new.2) ];
+      above = λ y there. i.above y (fewer y there);
+      entries = entries;
+      guesses = record {
+        own = i.guesses.own;
+        stand = λ x above le. elim (i.guesses.stand x above le) [ inl there ↦ stand x above le there | inr rests_on ↦ inr rests_on ];
+        good = i.guesses.good;
+        early = i.guesses.early;
+        answered = i.guesses.answered;
+        failed = λ x above there. elim (Contains-push_cases es e (Fail x) there) [ inl before ↦ i.guesses.failed x above before | inr is ↦ fails x is ];
+      };
+      queue = queue_fewer i.made us (us_after e) fewer d i.base i.a waiting i.queue;
+      remembers = remembers_fewer i.bad us (us_after e) waiting memory fewer i.remembers;
+      answers = i.answers;
+      stands = λ q m v b there ask asked. stands q there asked (i.stands q m v b there ask asked);
+      asked = λ q there asked. elim (i.asked q there asked) [
+        | inl void ↦ inl (void.0, void.1, void.2, lost_more S start table es e void.0 (fewer void.0) (lost void.0 void.3) void.3)
+        | inr is ↦ ready q there asked is
+      ];
+      apart = i.apart;
+    }
+
+    -- ---- a step without a guess
+    pub inv_plain : (n : Caused) (f : Effect E V W) → Invariant S start es d served given pending waiting memory
+        → outcome (kernel S) (run (kernel S) start ns) n ≡ Ok f → n.guess ≡ None
+        → ((y : ℕ) → has y us ≡ true → hit S.order y (dirt S.order y [] (effects (kernel S) start ns)) (marked_effect (kernel S) n.guess (Ok f)) ≡ true → Allowed n y)
+        → ((q : PendingRequest) → n.cause ≡ For q → n.process ≡ q.process)
+        → ((q : PendingRequest) → n.cause ≡ For q → n.input ≡ Good → Sets S q.ask Good f.written)
+        → ((q : PendingRequest) → Contains pending q → q.guess ≡ None → Ready S start ns us q → Quiet S start table f q.process (name_of q.ask))
+        → Invariant S start (es ++ Taken n ∷ []) d served given pending waiting memory
+    inv_plain n f i is none tags its sets quiet =
+        let K = kernel S in
+        let e : Event Caused = Taken n in
+        let vs = us_after e in
+        let same : ns_after e ≡ ns ++ n ∷ [] = record_more K start es e in
+        let fewer : (y : ℕ) → has y vs ≡ true → has y us ≡ true = λ y there. elim (open_taken K start es n y there) [ inl was ↦ was | inr new ↦ absurd (no_guess n.guess y none new) ] in
+        inv_event e i (sound_taken K start es n i.sound (λ g h mark drawn. absurd (no_guess n.guess g none mark)) (ap is_ok is))
+        (λ m is. (let one : n ≡ m = cc in ap (λ (n : Caused). n.guess) (sym one) ∙ none)) (λ x is. cc) fewer
+        (subst (λ ns. Entries S start i.made i.base ns vs) (sym same)
+        (entries_taken S start table i.made i.made i.base ns us vs n f i.entries is (λ x g there mark above. refl) (λ y there. inl (fewer y there))
+        (λ y mark. absurd (no_guess n.guess y none mark)) (λ g mark above. absurd (no_guess n.guess g none mark)) (λ y there. tags y (fewer y there)) its sets))
+        (λ x _ _ there. inl (subst (λ ns. HasEntry K ns x) (sym same) (entry_more ns n x there)))
+        (λ q _ _ step. subst (λ ns. HasStep S start ns q) (sym same) (step_more ns n q step))
+        (λ y _. refl)
+        (λ q there asked ready. inr (subst (λ ns. Ready S start ns vs q) (sym same) (ready_taken S start table ns us vs n f q is (quiet q there asked ready) (λ y there. inl (fewer y there)) ready)))
+
+    -- ---- a commit
+    pub inv_commit : (h : ℕ) → Invariant S start es d served given pending waiting memory → has h us ≡ true → Invariant S start (es ++ Commit h ∷ []) d served given pending waiting memory
+    inv_commit h i is_open =
+        let K = kernel S in
+        let e : Event Caused = Commit h in
+        let vs = us_after e in
+        let same : ns_after e ≡ ns = record_more K start es e in
+        let fewer : (y : ℕ) → has y vs ≡ true → has y us ≡ true = open_commit K start es h in
+        inv_event e i (sound_commit K start es h i.sound ((undecided_is K start es i.sound h).0 is_open)) (λ m is. cc) (λ x is. cc) fewer
+        (subst (λ ns. Entries S start i.made i.base ns vs) (sym same) (entries_fewer S start table i.made i.base ns us vs fewer i.entries))
+        (λ x _ _ there. inl (subst (λ ns. HasEntry K ns x) (sym same) there))
+        (λ q _ _ step. subst (λ ns. HasStep S start ns q) (sym same) step)
+        (λ y lost. false_from_ne_true _ (λ same_h. true≢false (sym is_open ∙ ap (λ y. has y us) (eqb-true h y same_h) ∙ not_true _ (and_both _ _ lost).0)))
+        (λ q _ _ ready. inr (subst (λ ns. Ready S start ns vs q) (sym same) (ready_kept S start table ns ns us vs q refl refl (λ y there tag. (fewer y there, tag)) ready)))
+
+    -- ---- a failure, of a guess that the server refused
+    pub inv_fail : (h : ℕ) (i : Invariant S start es d served given pending waiting memory) → i.bad h ≡ true → has h us ≡ true → Invariant S start (es ++ Fail h ∷ []) d served given pending waiting memory
+    inv_fail h i is_bad is_open =
+        let K = kernel S in
+        let e : Event Caused = Fail h in
+        let vs = us_after e in
+        let legal = legal_of K start es i.sound in
+        let same : ns_after e ≡ strike K start ns h = record_more K start es e in
+        let fewer : (y : ℕ) → has y vs ≡ true → has y us ≡ true = open_fail K start es h in
+        let undecided = (undecided_is K start es i.sound h).0 is_open in
+        let sound = sound_fail K start table.total table.exact es h i.sound undecided in
+        let h_le : h ≤ d = i.drawn h (entry_drawn K start es i.sound h (open_entry K start es i.sound h is_open)) in
+        let lost : is_lost S start (es ++ e ∷ []) h ≡ true =
+        (let shut = failed_shut K start es h sound in
+        let none : list_any (is_commit h) (es ++ e ∷ []) ≡ false =
+        list_any-append (is_commit h) es (e ∷ []) ∙ or_from _ _ (false_from_ne_true _ (λ is. undecided.0 ((has_commit es h).0 is))) refl in
+        λ i. not (shut i) && not (none i)) in
+        inv_event e i sound (λ m is. cc) (λ x is. (let same_h : h ≡ x = cc in ap i.bad (sym same_h) ∙ is_bad)) fewer
+        (subst (λ ns. Entries S start i.made i.base ns vs) (sym same) (entries_failed S start table i.made i.base ns us vs legal h fewer i.entries))
+        (λ x above le there. elim (survives (λ n. Allowed n h) (struck K start ns h) ns (i.entries.tags h is_open) there.0 there.1) [
+          | inl kept ↦ inl (subst (λ ns. HasEntry K ns x) (sym same) (there.0, kept, there.2))
+          | inr allowed ↦ inr (
+            h,
+            is_bad,
+            elim (allowed (i.made x) (i.entries.own there.0 x there.1 there.2 above).0) [
+              | inl rests ↦ inr rests
+              | inr mine ↦ inl (let both : Some x ≡ Some h = sym (i.guesses.own x above le) ∙ mine in cc)
+            ],
+          )
+        ])
+        (λ q there asked s. subst (λ ns. HasStep S start ns q) (sym same)
+        (elim (survives (λ n. Allowed n h) (struck K start ns h) ns (i.entries.tags h is_open) s.0 s.1) [
+          | inl kept ↦ (s.0, kept, s.2, s.3)
+          | inr allowed ↦ absurd (elim (allowed q s.2) [
+            | inl rests ↦ true≢false (sym is_bad ∙ (i.answers (q, Yes) (i.within (q, Yes) there)).kept (λ is. cc) h rests)
+            | inr mine ↦ no_guess q.guess h asked mine
+          ])
+        ]))
+        (λ y _. refl)
+        (λ q there asked ready. elim (cases_Bool (tag_at S start ns q.process (name_of q.ask) h)) [
+          | inl tagged ↦ inl (h, ready.covers h is_open tagged, h_le, lost)
+          | inr clean ↦ inr (subst (λ ns. Ready S start ns vs q) (sym same) (ready_failed S start table ns us vs legal h q fewer clean ready))
+        ])
+
   -- what a request rests on
   pub rests_open : (es : List (Event Caused)) (p : ℕ) (m : Bytes) (y : ℕ) → has y (rests_of S start es p m) ≡ true → has y (undecided_of (kernel S) start es) ≡ true
   rests_open es p m y h = (and_both _ _ (sym (has_filter (tag_at S start (record_of (kernel S) start es) p m) y (undecided_of (kernel S) start es)) ∙ h)).1
@@ -185,7 +339,7 @@ module _ {E V W F : Type 0} (S : Table E V W F) (start : FinMap S.order V) (tabl
             | inr other ↦
                 let le_d : x ≤ d = omega arith in
                 elim (i.guesses.stand x above le_d) [
-                  | inl there ↦ inl (entry_more S start table ns n x there)
+                  | inl there ↦ inl (entry_more ns n x there)
                   | inr rests_on ↦ inr (rests_on.0, rests_on.1, elim rests_on.2 [ inl own ↦ inl own | inr carries ↦ inr (ap (λ (r : PendingRequest). has rests_on.0 r.rests) (kept x le_d) ∙ carries) ])
                 ]
           ];
@@ -211,7 +365,7 @@ module _ {E V W F : Type 0} (S : Table E V W F) (start : FinMap S.order V) (tabl
               own = λ g is. (let o = s.own g is in let le = o.1 in (o.0, o.1, kept g (omega arith) ∙ o.2, o.3));
               fits = s.fits;
             };
-        stands = λ r m v b there ask asked. subst (λ ns. HasStep S start ns r) (sym same) (step_more S start table ns n r (i.stands r m v b there ask asked));
+        stands = λ r m v b there ask asked. subst (λ ns. HasStep S start ns r) (sym same) (step_more ns n r (i.stands r m v b there ask asked));
         asked = λ r h asked. elim (Contains-push_cases pending q r h) [
           | inl before ↦ elim (i.asked r before asked) [
             | inl void ↦
@@ -224,7 +378,7 @@ module _ {E V W F : Type 0} (S : Table E V W F) (start : FinMap S.order V) (tabl
                 )
             | inr ready ↦ inr (subst (λ ns. Ready S start ns vs r) (sym same)
                 (ready_taken S start table ns us vs n f r accepted (quiet r before asked ready)
-                (λ y there. elim (fewer y there) [ inl was ↦ inl was | inr is ↦ inr (new_clean S start table es n sound y (mark ∙ ap Some (sym is))) ]) ready))
+                (λ y there. elim (fewer y there) [ inl was ↦ inl was | inr is ↦ inr (new_clean es n sound y (mark ∙ ap Some (sym is))) ]) ready))
           ]
           | inr is ↦ absurd (no_guess q.guess (suc d) (ap (λ (r : PendingRequest). r.guess) is ∙ asked) guess)
         ];

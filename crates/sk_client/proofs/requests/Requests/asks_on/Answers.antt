@@ -1,0 +1,20 @@
+-- Each of the queue is taken or waits.
+use Rattle.std.proofs.Common.{rules, tests, ◌≡◌, ◌++◌, ◌∙◌, ap, Bool, ◌&&◌}
+use Rattle.std.specs.Prelude.{bytes_eq}
+use Rattle.std.specs.List.{list_any}
+use Rattle.std.proofs.lemmas.Iterator.Consumers.{YieldsList-from_deque}
+use Rattle.std.proofs.lemmas.Iterator.Search.{any_from_yields_List}
+use Rattle.sk_client.specs.Desk.{is_asked, name_of, asks_on}
+use Rattle.sk_client.specs.Requests.{RequestsView}
+use Rattle.sk_client.specs.declared.pending.PendingRequest.{PendingRequest}
+use Rattle.sk_client.specs.declared.requests.Queued.{Queued}
+use Rattle.sk_client.proofs.QueueFacts.{any_of}
+use Rattle.sk_client.proofs.requests.Requests.asks_on.Goals as goal
+
+pub returns : goal.returns
+returns c =
+    let items = c.self.inside.queue.items in
+    let asks : PendingRequest → Bool = λ q. is_asked q && bytes_eq (name_of q.ask) c.args.name.now in
+    let any : c.any.result ≡ list_any (λ (q : Queued). asks q.request) items =
+    any_from_yields_List (λ (q : Queued). asks q.request) _ _ c.any.result c.any.ensures.ran (YieldsList-from_deque items cc) (λ x b f k. search (rules, tests)) in
+    any ∙ any_of asks c.self.inside.taken items ∙ ap (λ (r : RequestsView). asks_on c.args.name.now (r.taken ++ r.waiting)) c.self.view_is

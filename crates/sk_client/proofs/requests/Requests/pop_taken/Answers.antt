@@ -1,0 +1,26 @@
+-- The oldest of the queue was taken.
+use Rattle.std.proofs.Common.{rules, ◌≡◌, ◌∷◌, List, take, drop, sym, ◌∙◌, ap, subst, arith}
+use Rattle.sk_client.specs.Requests.{RequestsView, IsQueue, requests_in}
+use Rattle.sk_client.specs.declared.requests.Queued.{Queued}
+use Rattle.sk_client.proofs.QueueFacts.{out_is, out_taken, out_waiting}
+use Rattle.sk_client.proofs.requests.Requests.pop_taken.Goals as goal
+
+pub invariant_of-self-2 : goal.invariant_of-self-2
+invariant_of-self-2 c =
+    let taken = c.self.inside.taken in
+    let parts : c.self.inside.queue.items ≡ c.in_ok-request.field-0 ∷ c.pop_front.new.self.items = search rules in
+    out_is taken c.in_ok-request.field-0 c.pop_front.new.self.items (omega (arith, c.if-self-eq0.false)) (subst (IsQueue taken) parts c.self.invariant)
+
+pub returns-clause-items : goal.returns-clause-items
+returns-clause-items c =
+    let taken = c.self.inside.taken in
+    let parts : c.self.inside.queue.items ≡ c.in_ok-request.field-0 ∷ c.pop_front.new.self.items = search rules in
+    sym (ap (λ (r : RequestsView). r.taken) c.self.view_is) ∙ ap (λ (qs : List Queued). take taken (requests_in qs)) parts
+    ∙ out_taken taken c.in_ok-request.field-0 c.pop_front.new.self.items (omega (arith, c.if-self-eq0.false))
+
+pub returns-clause-waiting : goal.returns-clause-waiting
+returns-clause-waiting c =
+    let taken = c.self.inside.taken in
+    let parts : c.self.inside.queue.items ≡ c.in_ok-request.field-0 ∷ c.pop_front.new.self.items = search rules in
+    sym (ap (λ (qs : List Queued). drop taken (requests_in qs)) parts ∙ out_waiting taken c.in_ok-request.field-0 c.pop_front.new.self.items (omega (arith, c.if-self-eq0.false)))
+    ∙ ap (λ (r : RequestsView). r.waiting) c.self.view_is

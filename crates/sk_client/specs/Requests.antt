@@ -1,0 +1,28 @@
+-- The requests of a desk in one queue, and what is seen of them.
+use Rattle.std.specs.Prelude.{◌≡◌, ℕ, ◌≤◌, length, map, drop, List, [], ◌∷◌, All, Option, None, Some}
+use Rattle.std.specs.Borrow.{Bor}
+use Rattle.sk_client.specs.declared.pending.PendingRequest.{PendingRequest}
+use Rattle.sk_client.specs.declared.requests.Queued.{Queued}
+
+-- those that were taken and those that wait to be, the oldest first, and for how many requests there is room
+pub record RequestsView : Type 0 where
+  pub taken : List PendingRequest
+  pub waiting : List PendingRequest
+  pub room : ℕ
+
+abbrev pub requests_in : List Queued → List PendingRequest
+requests_in qs = map (λ q. q.request) qs
+
+-- it can be sent: what it rests on is there once more
+abbrev pub IsWhole : Queued → Type 0
+IsWhole q = q.again ≡ Some q.request.rests
+
+-- of so many that were taken, which are the first ones
+pub record IsQueue (taken : ℕ) (qs : List Queued) : Type 0 where
+  pub within : taken ≤ length qs
+  pub whole : All IsWhole (drop taken qs)
+
+-- the oldest of some requests, where there is one
+abbrev pub IsOldest : Option (Bor PendingRequest) → List PendingRequest → Type 0
+IsOldest None qs = qs ≡ []
+IsOldest (Some q) qs = qs ≡ q.now ∷ drop 1 qs

@@ -90,14 +90,6 @@ wish_file (Plain file) = file
 wish_file (Replay file) = file
 wish_file (Work file workers turns) = file
 
--- the wish is one for threads
-abbrev pub needs_threads : Wish → Bool
-needs_threads (Play file shows) = false
-needs_threads (Talk file) = false
-needs_threads (Plain file) = false
-needs_threads (Replay file) = false
-needs_threads (Work file workers turns) = true
-
 abbrev pub wish_of : Job → Wish
 wish_of (jobs.Play file shows) = Play file.now shows
 wish_of (jobs.Talk file) = Talk file.now

@@ -19,4 +19,3 @@ message_text (messages.Fault line kind) = codes "speculate: line " ++ decimal li
 message_text messages.WrongSection = codes "speculate: wrong section"
 message_text (messages.Entry number) = codes "speculate: trace entry " ++ decimal number ++ codes " refused"
 message_text (messages.Unread file) = codes "speculate: cannot read " ++ file.now
-message_text messages.NeedsThreads = codes "speculate: work needs threads"

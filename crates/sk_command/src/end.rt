@@ -16,7 +16,7 @@ pub enum End {
     Done,
     /// The file has a fault.
     Fault,
-    /// The words have a fault, or ask for a job that this run does not do.
+    /// The words have a fault.
     Usage,
     /// Want of memory, an input that can't be read, or a desk of workers that could not be closed.
     Trouble,
@@ -67,14 +67,6 @@ pub fn tell_wrong_section<E: Write>(err: &mut E) -> End
 {
     let _ = write_message(&Message::WrongSection, err);
     End::Fault
-}
-
-/// Tells that the job is one for threads, which a run without them does not do.
-pub fn tell_needs_threads<E: Write>(err: &mut E) -> End
-    ensures { result ≡ End.Usage }
-{
-    let _ = write_message(&Message::NeedsThreads, err);
-    End::Usage
 }
 
 /// Tells the number of a trace's entry that can't stand there.

@@ -8,7 +8,7 @@ ghost use Rattle.clap.specs.Simple.{app_of, subcommand_rows_of};
 ghost use Rattle.clap.specs.Values.{kind_of};
 ghost use Rattle.clap.specs.Walk.{rows_of, rule_of};
 ghost use Rattle.clap.specs.declared.builder.command.Command.TheViews.{out-Command as fields_of};
-ghost use Rattle.sk_command.specs.CommandLine.{bare_command_line, command_line, play_of_file, play_command, talk_command, plain_command, replay_command, work_command, file_rule, trace_rule, steps_rule, counts_rule, workers_rule, turns_rule, has_flag, shows_found, number_said, number_found, wish_to_work, IsWithinBounds, wish_of, wish_found, wished, faults_of, wish_file, needs_threads};
+ghost use Rattle.sk_command.specs.CommandLine.{bare_command_line, command_line, play_of_file, play_command, talk_command, plain_command, replay_command, work_command, file_rule, trace_rule, steps_rule, counts_rule, workers_rule, turns_rule, has_flag, shows_found, number_said, number_found, wish_to_work, IsWithinBounds, wish_of, wish_found, wished, faults_of, wish_file};
 ghost use Rattle.sk_command.specs.Ends.{EndsFor, EndsWithHelp, IsFlushed};
 
 use crate::end::{End, flushed};
@@ -69,16 +69,6 @@ impl<'a> Job<'a> {
             | Job::Plain { file }
             | Job::Replay { file }
             | Job::Work { file, .. } => file,
-        }
-    }
-
-    /// Whether it is one for threads.
-    pub fn needs_threads(self) -> bool
-        ensures { result ≡ needs_threads (wish_of self.entry) }
-    {
-        match self {
-            Job::Work { .. } => true,
-            Job::Play { .. } | Job::Talk { .. } | Job::Plain { .. } | Job::Replay { .. } => false,
         }
     }
 }

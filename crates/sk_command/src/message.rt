@@ -18,8 +18,6 @@ pub enum Message<'a> {
     Entry(usize),
     /// The input of this name can't be read.
     Unread(&'a str),
-    /// The job is one for threads, of which the run has none.
-    NeedsThreads,
 }
 
 impl fmt::Display for Message<'_> {
@@ -36,7 +34,6 @@ impl fmt::Display for Message<'_> {
             Message::WrongSection => write!(f, "speculate: wrong section"),
             Message::Entry(number) => write!(f, "speculate: trace entry {number} refused"),
             Message::Unread(file) => write!(f, "speculate: cannot read {file}"),
-            Message::NeedsThreads => write!(f, "speculate: work needs threads"),
         }
     }
 }

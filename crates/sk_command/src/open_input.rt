@@ -9,7 +9,7 @@ use std::io;
 use std::io::{Read, Write};
 
 /// Where inputs come from, by name.
-pub trait Open {
+pub trait OpenInput {
     type Reader: Read + Drop;
 
     /// The bytes of the input of a name, where they are known.
@@ -22,7 +22,7 @@ pub trait Open {
 
 /// The whole input of a name, which has at most `INPUT_LIMIT` bytes; or how the run ends, once it is
 /// told that the input can't be read.
-pub fn input<O: Open, E: Write>(
+pub fn input<O: OpenInput, E: Write>(
     alloc: Global,
     inputs: &O,
     file: &str,

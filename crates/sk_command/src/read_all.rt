@@ -32,7 +32,8 @@ pub enum ReadFault {
 /// All that a reader has left: at most `INPUT_LIMIT` bytes, in at most `READ_LIMIT` reads. An
 /// interrupted read counts, and is tried again.
 pub fn read_all<R: Read>(alloc: Global, reader: &mut R) -> Result<Vec<u8>, ReadFault>
-    ensures bytes { IfOk result (λ text. IfSome (R.remaining reader.old) (λ all. text.items ≡ all)) }
+    ensures bytes { IfOk result
+        (λ text. IfSome (R.remaining reader.old) (λ all. text.items ≡ all)) }
     ensures limit { IfOk result (λ text. vec_len text ≤ INPUT_LIMIT) }
     ensures fault { IfErr result (λ fault. IsFaultOf fault (R.remaining reader.old)) }
 {

@@ -1,4 +1,4 @@
-pub mod Files
+mod Ended
 pub mod Talked
 mod Plainly
 pub mod Listed

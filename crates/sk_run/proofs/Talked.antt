@@ -18,7 +18,7 @@ use Rattle.sk_command.specs.declared.end.End.{End}
 use Rattle.sk_command.specs.declared.end.End.TheVariants as ends
 use Rattle.sk_command.specs.Ends.{IsWritten}
 use Rattle.sk_run.specs.declared.talking.Talk.{Talk}
-use Rattle.sk_run.specs.Talk.{is_end, is_report, talked, number_behind, AnswersAs, Answers, Talks, Talked, begun, EndsTalk, EndsOpened, TakesLine}
+use Rattle.sk_run.specs.Talk.{is_end, is_report, talked, number_behind, AnswersAs, Answers, Talks, begun, EndsTalk, EndsOpened, TakesLine}
 
 -- ---- a line is what a reader gives up to a line feed
 

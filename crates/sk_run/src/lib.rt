@@ -1,12 +1,10 @@
-//! What the program does with a scenario where it needs no threads: its run, from its words or a text to its end.
+//! What the program does with a scenario, to the end of its run: it plays it, talks to it, replays a trace or runs it plainly.
 #![tactic(auto)]
 
+pub mod ending;
 pub mod listing;
 pub mod playing;
-pub mod program;
 pub mod replaying;
 pub mod striking;
 pub mod talking;
 pub mod worlds;
-
-pub use program::{run, run_file, run_text};

@@ -15,7 +15,7 @@ ghost use Rattle.sk_run.specs.Talk.{is_alone, fault_line, told_as, number_behind
 
 use sk_command::end::{End, flushed, tell_unread, tell_wrong_section};
 use sk_command::message::{Message, write_message};
-use sk_command::open_input::Open;
+use sk_command::open_input::OpenInput;
 use sk_command::read_all::ReadFault;
 use sk_play::{write_answer, write_told};
 use sk_report::Stop;
@@ -46,7 +46,8 @@ fn is_alone(word: &[u8], line: &[u8]) -> bool
 
 /// Reads the next line of a reader, with its end.
 fn next_line<R: BufRead>(reader: &mut R, line: &mut Vec<u8>) -> io::Result<()>
-    ensures { OnOk result (TakesLine (R.remaining reader.old) (R.remaining reader.new) (lines line.new.items)) }
+    ensures { OnOk result
+        (TakesLine (R.remaining reader.old) (R.remaining reader.new) (lines line.new.items)) }
 {
     line.clear();
     reader.read_until(b'\n', line)?;
@@ -63,7 +64,9 @@ fn read_fault(error: &io::Error) -> ReadFault {
 
 /// Tells the fault of the line of this number; of want of memory nothing is told.
 fn write_fault<W: Write>(line: u64, kind: FaultKind, out: &mut W) -> Result<(), Stop>
-    ensures written { OnOk result ((text : List ℕ) × (fault_line line kind ≡ Some text) × Appends (W.contents out.old) (W.contents out.new) text) }
+    ensures written { OnOk result
+        ((text : List ℕ) × (fault_line line kind ≡ Some text)
+        × Appends (W.contents out.old) (W.contents out.new) text) }
     ensures memory { result ≡ Err stops.Memory → (kind ≡ kinds.Memory) × (out.new ≡ out.old) }
 {
     match kind {
@@ -77,8 +80,11 @@ fn write_fault<W: Write>(line: u64, kind: FaultKind, out: &mut W) -> Result<(), 
 
 /// Writes what the line of this number is told, as that of the next event.
 fn write_line<W: Write>(line: u64, number: usize, told: &LineTold, out: &mut W) -> Result<(), Stop>
-    ensures written { OnOk result ((text : List ℕ) × (told_as line number told.now ≡ Some text) × Appends (W.contents out.old) (W.contents out.new) text) }
-    ensures memory { result ≡ Err stops.Memory → (told.now ≡ tells.Fault kinds.Memory) × (out.new ≡ out.old) }
+    ensures written { OnOk result
+        ((text : List ℕ) × (told_as line number told.now ≡ Some text)
+        × Appends (W.contents out.old) (W.contents out.new) text) }
+    ensures memory { result ≡ Err stops.Memory
+        → (told.now ≡ tells.Fault kinds.Memory) × (out.new ≡ out.old) }
 {
     match told {
         LineTold::Answered(answer) => {
@@ -108,7 +114,8 @@ fn number_behind(told: &LineTold, number: usize) -> usize
 impl Talk {
     /// Writes the report.
     fn report<W: Write>(&self, alloc: Global, out: &mut W) -> Result<(), Stop>
-        ensures written { OnOk result (Appends (W.contents out.old) (W.contents out.new) (report_of self.now.play)) }
+        ensures written { OnOk result
+            (Appends (W.contents out.old) (W.contents out.new) (report_of self.now.play)) }
         ensures memory { result ≡ Err stops.Memory → out.new ≡ out.old }
     {
         let text = self.play.report(alloc)?;
@@ -125,8 +132,11 @@ impl Talk {
         out: &mut W,
     ) -> Result<(), Stop>
         requires { self.old.number < 2 ^ 64 - 1 }
-        ensures written { OnOk result ((text : List ℕ) × AnswersAs false number line.now self.old self.new text × Appends (W.contents out.old) (W.contents out.new) text) }
-        ensures memory { result ≡ Err stops.Memory → WantsMemory line.now self.old.play self.new.play × (out.new ≡ out.old) }
+        ensures written { OnOk result
+            ((text : List ℕ) × AnswersAs false number line.now self.old self.new text
+            × Appends (W.contents out.old) (W.contents out.new) text) }
+        ensures memory { result ≡ Err stops.Memory
+            → WantsMemory line.now self.old.play self.new.play × (out.new ≡ out.old) }
     {
         let told = self.play.line(alloc, line);
         write_line(number, self.number, &told, out)?;
@@ -143,8 +153,11 @@ impl Talk {
         out: &mut W,
     ) -> Result<(), Stop>
         requires { self.old.number < 2 ^ 64 - 1 }
-        ensures written { OnOk result ((text : List ℕ) × Answers number line.now self.old self.new text × Appends (W.contents out.old) (W.contents out.new) text) }
-        ensures memory { result ≡ Err stops.Memory → WantsMemory line.now self.old.play self.new.play × (out.new ≡ out.old) }
+        ensures written { OnOk result
+            ((text : List ℕ) × Answers number line.now self.old self.new text
+            × Appends (W.contents out.old) (W.contents out.new) text) }
+        ensures memory { result ≡ Err stops.Memory
+            → WantsMemory line.now self.old.play self.new.play × (out.new ≡ out.old) }
     {
         if is_alone(b"report", line) {
             self.report(alloc, out)
@@ -162,10 +175,13 @@ impl Talk {
         out: &mut BufWriter<W>,
     ) -> Result<(), Stop>
         requires { self.old.number < 2 ^ 64 - 1 }
-        ensures written { OnOk result ((text : List ℕ) × Answers number line.now self.old self.new text
-            × Appends (writer_contents W.contents out.old) (writer_contents W.contents out.new) text) }
+        ensures written { OnOk result
+            ((text : List ℕ) × Answers number line.now self.old self.new text
+            × Appends (writer_contents W.contents out.old) (writer_contents W.contents out.new)
+            text) }
         ensures flushed { OnOk result (writer_buffer out.new ≡ []) }
-        ensures memory { result ≡ Err stops.Memory → WantsMemory line.now self.old.play self.new.play × (out.new ≡ out.old) }
+        ensures memory { result ≡ Err stops.Memory
+            → WantsMemory line.now self.old.play self.new.play × (out.new ≡ out.old) }
     {
         self.tell(alloc, number, line, out)?;
         out.flush()?;
@@ -184,7 +200,8 @@ pub fn answer_lines<R: BufRead, W: Write + Drop, E: Write>(
     ensures end { EndsTalk play (R.remaining reader.old) result
         (writer_contents W.contents out.old) (writer_contents W.contents out.new) }
     ensures flushed { IsFlushed result (writer_buffer out.new) }
-    ensures at_once { writer_buffer out.old ≡ [] → result ≡ End.Trouble → writer_buffer out.new ≡ [] }
+    ensures at_once { writer_buffer out.old ≡ []
+        → result ≡ End.Trouble → writer_buffer out.new ≡ [] }
 {
     let mut talk = Talk { play, number: 1 };
     let mut line = Vec::new(alloc);
@@ -208,7 +225,7 @@ pub fn answer_lines<R: BufRead, W: Write + Drop, E: Write>(
 }
 
 /// Talks by the lines of the standard input.
-fn talk_input<O: Open, W: Write + Drop, E: Write>(
+fn talk_input<O: OpenInput, W: Write + Drop, E: Write>(
     alloc: Global,
     play: Play,
     inputs: &O,
@@ -230,7 +247,7 @@ fn talk_input<O: Open, W: Write + Drop, E: Write>(
 }
 
 /// Talks to what is declared, by the lines of the standard input, or tells that the section is wrong.
-pub fn talk_declared<O: Open, W: Write + Drop, E: Write>(
+pub fn talk_declared<O: OpenInput, W: Write + Drop, E: Write>(
     alloc: Global,
     declarations: &Declarations,
     section: &Section,
@@ -238,7 +255,8 @@ pub fn talk_declared<O: Open, W: Write + Drop, E: Write>(
     out: &mut BufWriter<W>,
     err: &mut E,
 ) -> End
-    ensures end { EndsOpened (opened_in declarations.now (section_view section.now)) (O.bytes_of inputs.now (codes "-")) result
+    ensures end { EndsOpened (opened_in declarations.now (section_view section.now))
+        (O.bytes_of inputs.now (codes "-")) result
         (writer_contents W.contents out.old) (writer_contents W.contents out.new) }
     ensures flushed { IsFlushed result (writer_buffer out.new) }
 {

@@ -1,17 +1,19 @@
-//! `speculate`: plays a scenario on a kernel that runs ahead on guesses. What it does without threads is in `sk_run`.
+//! `speculate`: plays a scenario on a kernel that runs ahead on guesses. What it does with a scenario is in `sk_run`; here are
+//! its run, its threads, its inputs and its outputs.
 #![tactic(auto)]
 
+pub mod program;
 #[cfg(test)]
 mod talking_tests;
 #[cfg(test)]
 mod tests;
-pub mod working;
+mod working;
 #[cfg(test)]
 mod working_tests;
 
-use crate::working::run_work;
+use crate::program::run;
 use sk_command::end::End;
-use sk_command::open_input::Open;
+use sk_command::open_input::OpenInput;
 use sk_workers::Gate;
 use std::io::{BufWriter, ErrorKind, Read, Write};
 use std::process::ExitCode;
@@ -42,7 +44,7 @@ struct System<'a, R> {
     rt: &'a R,
 }
 
-impl<R: Files + Input> Open for System<'_, R> {
+impl<R: Files + Input> OpenInput for System<'_, R> {
     type Reader = Source<R::File, R::Reader>;
 
     fn open(&self, name: &str) -> io::Result<Source<R::File, R::Reader>> {
@@ -85,7 +87,7 @@ fn end_of<T: Threads + Wait + Sync>(rt: &HostRuntime, threads: &T) -> End {
     };
     let system = System { rt };
     let mut err = rt.stderr();
-    let end = run_work(
+    let end = run(
         threads,
         rt.alloc(),
         &words,

@@ -1,19 +1,23 @@
 //! The program, run on inputs and outputs that are known or fail, which a stored run can't have.
 
+use crate::Unguarded;
+use crate::program::run;
 use sk_command::end::End;
 use sk_command::job::{Job, Shows, asked};
-use sk_command::open_input::Open;
+use sk_command::open_input::OpenInput;
 use sk_command::read_all::{INPUT_LIMIT, READ_LIMIT, ReadFault, read_all};
-use sk_report::{Stop, write_workers};
+use sk_report::{Stop, write_plain_report, write_workers};
 use sk_run::playing::play;
-use sk_run::striking::{Unrun, run_left};
-use sk_run::{run, run_text};
+use sk_run::striking::run_left;
 use sk_scenario::{Scenario, Section};
+use sk_workers::Gate;
 use std::alloc::{AllocError, Global};
 use std::io;
 use std::io::{BufWriter, ErrorKind, Read, Write};
 use std::process::Abort;
+use std::sync::Wait;
 use std::test::*;
+use std::thread::Threads;
 
 // ---- inputs
 
@@ -23,7 +27,7 @@ pub(crate) struct Known<'a> {
     pub(crate) bytes: &'a [u8],
 }
 
-impl<'a> Open for Known<'a> {
+impl<'a> OpenInput for Known<'a> {
     ghost use Rattle.std.specs.Prelude.{Some};
 
     type Reader = &'a [u8];
@@ -48,7 +52,7 @@ pub(crate) enum Gives<'a> {
     Interruptions,
 }
 
-impl<'a> Open for Gives<'a> {
+impl<'a> OpenInput for Gives<'a> {
     type Reader = Source<'a>;
 
     fn open(&self, name: &str) -> io::Result<Source<'a>> {
@@ -186,13 +190,28 @@ pub(crate) struct Ran {
     pub(crate) err: Vec<u8>,
 }
 
-fn run_known<O: Open>(alloc: Global, words: &[&str], inputs: &O) -> io::Result<Ran> {
+pub(crate) fn run_with<R: Threads + Wait + Sync, O: OpenInput, G: Gate + Sync>(
+    rt: &R,
+    alloc: Global,
+    words: &[&str],
+    inputs: &O,
+    gate: &G,
+) -> io::Result<Ran> {
     let words = words_of(alloc, words)?;
     let mut out = BufWriter::new(alloc, Vec::new(alloc))?;
     let mut err = Vec::new(alloc);
-    let end = run(alloc, &words, inputs, &mut out, &mut err);
+    let end = run(rt, alloc, &words, inputs, gate, &mut out, &mut err);
     let (out, _unwritten) = out.into_parts();
     Ok(Ran { end, out, err })
+}
+
+fn run_known<R: Threads + Wait + Sync, O: OpenInput>(
+    rt: &R,
+    alloc: Global,
+    words: &[&str],
+    inputs: &O,
+) -> io::Result<Ran> {
+    run_with(rt, alloc, words, inputs, &Unguarded)
 }
 
 /// Compares what a run came to with what is wanted.
@@ -277,7 +296,7 @@ fn known_inputs(rt: HostRuntime) -> Result<(), Fail> {
         };
         check(
             &rt,
-            &run_known(alloc, &["play", "-"], &inputs)?,
+            &run_known(&rt, alloc, &["play", "-"], &inputs)?,
             status,
             out,
             err,
@@ -348,7 +367,7 @@ fn trace_text(rt: HostRuntime) -> Result<(), Fail> {
         let inputs = Known {
             bytes: text.as_bytes(),
         };
-        let ran = run_known(alloc, &["plain", "-"], &inputs)?;
+        let ran = run_known(&rt, alloc, &["plain", "-"], &inputs)?;
         check(&rt, &ran, status, out, err)?;
     }
     Ok(())
@@ -362,7 +381,7 @@ fn play_with_its_trace(rt: HostRuntime) -> Result<(), Fail> {
     let inputs = Known {
         bytes: FIRST_GUESS_COMMITS.as_bytes(),
     };
-    let ran = run_known(alloc, &["play", "--trace", "-"], &inputs)?;
+    let ran = run_known(&rt, alloc, &["play", "--trace", "-"], &inputs)?;
     check(&rt, &ran, 0, &out, "")
 }
 
@@ -377,7 +396,7 @@ fn too_long_script(rt: HostRuntime) -> Result<(), Fail> {
     let inputs = Known {
         bytes: text.as_bytes(),
     };
-    let ran = run_known(alloc, &["play", "-"], &inputs)?;
+    let ran = run_known(&rt, alloc, &["play", "-"], &inputs)?;
     check(&rt, &ran, 1, "", "speculate: line 4098: TooLong\n")
 }
 
@@ -410,11 +429,23 @@ fn faulty_words(rt: HostRuntime) -> Result<(), Fail> {
     let inputs = Known {
         bytes: FIRST_GUESS_COMMITS.as_bytes(),
     };
-    check(&rt, &run_known(alloc, &[], &inputs)?, 2, "", NO_SUBCOMMAND)?;
-    check(&rt, &run_known(alloc, &["play"], &inputs)?, 2, "", NO_FILE)?;
     check(
         &rt,
-        &run_known(alloc, &["play", "a", "b"], &inputs)?,
+        &run_known(&rt, alloc, &[], &inputs)?,
+        2,
+        "",
+        NO_SUBCOMMAND,
+    )?;
+    check(
+        &rt,
+        &run_known(&rt, alloc, &["play"], &inputs)?,
+        2,
+        "",
+        NO_FILE,
+    )?;
+    check(
+        &rt,
+        &run_known(&rt, alloc, &["play", "a", "b"], &inputs)?,
         2,
         "",
         SECOND_FILE,
@@ -462,7 +493,7 @@ fn words_of_work(rt: HostRuntime) -> Result<(), Fail> {
 fn faulty_words_of_work(rt: HostRuntime) -> Result<(), Fail> {
     let alloc = rt.alloc();
     let inputs = Known { bytes: b"" };
-    let ran = run_known(alloc, &["work", "-"], &inputs)?;
+    let ran = run_known(&rt, alloc, &["work", "-"], &inputs)?;
     check(&rt, &ran, 2, "", NO_WORKERS)?;
     for (workers, turns, fault) in [
         ("0", "1", "'0' for '--workers <N>': 0 is not in 1..=8"),
@@ -480,36 +511,13 @@ fn faulty_words_of_work(rt: HostRuntime) -> Result<(), Fail> {
         ),
     ] {
         let words = ["work", "-", "--workers", workers, "--turns", turns];
-        let ran = run_known(alloc, &words, &inputs)?;
+        let ran = run_known(&rt, alloc, &words, &inputs)?;
         let err = format!(in alloc;
             "error: invalid value {fault}\n\nFor more information, try '--help'.\n"
         )?;
         check(&rt, &ran, 2, "", &err)?;
     }
     Ok(())
-}
-
-#[test]
-fn work_needs_threads(rt: HostRuntime) -> Result<(), Fail> {
-    let alloc = rt.alloc();
-    let told = "speculate: work needs threads\n";
-    let ran = run_known(
-        alloc,
-        &["work", "gone", "--workers", "2"],
-        &Gives::Bytes(b""),
-    )?;
-    check(&rt, &ran, 2, "", told)?;
-    let job = Job::Work {
-        file: "-",
-        workers: 2,
-        turns: 1,
-    };
-    let mut out = BufWriter::new(alloc, Vec::new(alloc))?;
-    let mut err = Vec::new(alloc);
-    let inputs = Known { bytes: b"" };
-    let end = run_text(alloc, job, b"world\n", &inputs, &mut out, &mut err);
-    let (out, _unwritten) = out.into_parts();
-    check(&rt, &Ran { end, out, err }, 2, "", told)
 }
 
 #[test]
@@ -531,7 +539,7 @@ fn help(rt: HostRuntime) -> Result<(), Fail> {
         (["plain", "-h"].as_slice(), "Strikes a trace"),
         (["work", "-h"].as_slice(), "Lets workers take"),
     ] {
-        let ran = run_known(alloc, words, &inputs)?;
+        let ran = run_known(&rt, alloc, words, &inputs)?;
         assert!(rt; ran.out.starts_with(begins.as_bytes()));
         assert_eq!(rt; str::from_utf8(&ran.err), Ok(""));
         assert_eq!(rt; ran.end.status(), 0);
@@ -543,10 +551,10 @@ fn help(rt: HostRuntime) -> Result<(), Fail> {
 fn inputs_that_cannot_be_read(rt: HostRuntime) -> Result<(), Fail> {
     let alloc = rt.alloc();
     for gives in [Gives::ThenFails(b"steps\n"), Gives::Interruptions] {
-        let ran = run_known(alloc, &["play", "-"], &gives)?;
+        let ran = run_known(&rt, alloc, &["play", "-"], &gives)?;
         check(&rt, &ran, 3, "", "speculate: cannot read -\n")?;
     }
-    let ran = run_known(alloc, &["play", "gone"], &Gives::Bytes(b""))?;
+    let ran = run_known(&rt, alloc, &["play", "gone"], &Gives::Bytes(b""))?;
     check(&rt, &ran, 3, "", "speculate: cannot read gone\n")
 }
 
@@ -555,7 +563,7 @@ fn a_read_is_tried_again(rt: HostRuntime) -> Result<(), Fail> {
     let gives = Gives::InterruptedThen(FIRST_GUESS_COMMITS.as_bytes());
     check(
         &rt,
-        &run_known(rt.alloc(), &["play", "-"], &gives)?,
+        &run_known(&rt, rt.alloc(), &["play", "-"], &gives)?,
         0,
         REPORT,
         "",
@@ -619,10 +627,13 @@ fn every_refused_write_ends_the_plain_run(rt: HostRuntime) -> Result<(), Fail> {
     let Section::Trace(trace) = &scenario.section else {
         return Err(Fail::from("no scenario of a trace"));
     };
+    let Ok(left) = run_left(alloc, scenario.declarations.boot(), trace) else {
+        return Err(Fail::from("no sound trace"));
+    };
     for room in 0..PLAIN_REPORT.len() {
         let mut out = Paper::new(alloc, room);
-        let ran = run_left(alloc, scenario.declarations.boot(), trace, &mut out);
-        assert_eq!(rt; ran, Err(Unrun::Report(Stop::Output)), "room {room}");
+        let written = write_plain_report(alloc, &left.plain, left.steps, &mut out);
+        assert_eq!(rt; written, Err(Stop::Output), "room {room}");
         assert_eq!(rt; out.refused, 1, "room {room}");
         assert!(rt; PLAIN_REPORT.as_bytes().starts_with(&out.text));
     }
@@ -637,6 +648,11 @@ fn nothing_is_written_after_a_refusal(rt: HostRuntime) -> Result<(), Fail> {
         (["play", "--trace", "-"].as_slice(), FIRST_GUESS_COMMITS),
         (["play", "--steps", "-"].as_slice(), FIRST_GUESS_COMMITS),
         (["plain", "-"].as_slice(), FIRST_GUESS_FAILED),
+        (["replay", "-"].as_slice(), FIRST_GUESS_FAILED),
+        (
+            ["work", "-", "--workers", "2"].as_slice(),
+            FIRST_GUESS_COMMITS,
+        ),
         (["--help"].as_slice(), ""),
     ] {
         let inputs = Known {
@@ -648,7 +664,8 @@ fn nothing_is_written_after_a_refusal(rt: HostRuntime) -> Result<(), Fail> {
         };
         let mut out = BufWriter::new(alloc, refuses)?;
         let mut err = Vec::new(alloc);
-        let end = run(alloc, &words_of(alloc, words)?, &inputs, &mut out, &mut err);
+        let words = words_of(alloc, words)?;
+        let end = run(&rt, alloc, &words, &inputs, &Unguarded, &mut out, &mut err);
         let (out, _unwritten) = out.into_parts();
         assert_eq!(rt; end, End::OutputRefused);
         assert_eq!(rt; str::from_utf8(&out.text), Ok(""));

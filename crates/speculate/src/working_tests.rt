@@ -1,16 +1,11 @@
 //! Runs with threads, over inputs and outputs in memory.
 
-use crate::tests::{Known, Ran, check, words_of};
-use crate::working::run_work;
-use sk_command::open_input::Open;
+use crate::Unguarded;
+use crate::tests::{Known, check, run_with};
 use sk_workers::Gate;
-use std::alloc::Global;
-use std::io::BufWriter;
-use std::sync::Wait;
 use std::sync::atomic::{AtomicBool, AtomicU64, Ordering};
 use std::test::Fail;
-use std::thread::Threads;
-use std::{io, thread};
+use std::thread;
 
 const ROUNDS: u64 = 1_000_000_000;
 
@@ -36,14 +31,6 @@ obj 0:1 dir - tags -
 trace 6 undecided 0 pending 0
 workers 2 calls 8
 ";
-
-/// Waits for nothing.
-#[derive(Drop)]
-struct NoWait;
-
-impl Gate for NoWait {
-    fn before(&self, _worker: u8, _turn: u64) {}
-}
 
 /// Holds each of two workers before its turn 1 until the other has come to its own, or for so many rounds.
 #[derive(Drop)]
@@ -74,21 +61,6 @@ impl Gate for Meeting<'_> {
     }
 }
 
-fn run_known<R: Threads + Wait + Sync, O: Open, G: Gate + Sync>(
-    rt: &R,
-    alloc: Global,
-    words: &[&str],
-    inputs: &O,
-    gate: &G,
-) -> io::Result<Ran> {
-    let words = words_of(alloc, words)?;
-    let mut out = BufWriter::new(alloc, Vec::new(alloc))?;
-    let mut err = Vec::new(alloc);
-    let end = run_work(rt, alloc, &words, inputs, gate, &mut out, &mut err);
-    let (out, _unwritten) = out.into_parts();
-    Ok(Ran { end, out, err })
-}
-
 #[test]
 fn two_workers_meet(rt: HostRuntime) -> Result<(), Fail> {
     let (zero, one) = (AtomicBool::new(false), AtomicBool::new(false));
@@ -100,7 +72,7 @@ fn two_workers_meet(rt: HostRuntime) -> Result<(), Fail> {
     };
     let bytes = TWO_WORKERS.as_bytes();
     let words = ["work", "-", "--workers", "2"];
-    let ran = run_known(&rt, rt.alloc(), &words, &Known { bytes }, &gate)?;
+    let ran = run_with(&rt, rt.alloc(), &words, &Known { bytes }, &gate)?;
     assert!(rt; zero.load(Ordering::SeqCst) && one.load(Ordering::SeqCst));
     assert!(rt; !ran_out.load(Ordering::SeqCst));
     check(&rt, &ran, 0, TWO_WORKERS_REPORT, "")
@@ -130,15 +102,18 @@ fn two_workers_report(rt: HostRuntime) -> Result<(), Fail> {
     };
     let bytes = TWO_WORKERS.as_bytes();
     let words = ["work", "-", "--workers", "2"];
-    let ran = run_known(&rt, rt.alloc(), &words, &Known { bytes }, &gate)?;
+    let ran = run_with(&rt, rt.alloc(), &words, &Known { bytes }, &gate)?;
     assert_eq!(rt; zero.load(Ordering::SeqCst), 3);
     assert_eq!(rt; one.load(Ordering::SeqCst), 3);
     check(&rt, &ran, 0, TWO_WORKERS_REPORT, "")
 }
 
 #[test]
-fn other_commands_are_passed_on(rt: HostRuntime) -> Result<(), Fail> {
-    let bytes = TWO_WORKERS.as_bytes();
-    let ran = run_known(&rt, rt.alloc(), &["plain", "-"], &Known { bytes }, &NoWait)?;
-    check(&rt, &ran, 1, "", "speculate: wrong section\n")
+fn faulty_text_of_work(rt: HostRuntime) -> Result<(), Fail> {
+    let inputs = Known {
+        bytes: b"prosess 1 main 1\n",
+    };
+    let words = ["work", "-", "--workers", "2"];
+    let ran = run_with(&rt, rt.alloc(), &words, &inputs, &Unguarded)?;
+    check(&rt, &ran, 1, "", "speculate: line 1: Word\n")
 }

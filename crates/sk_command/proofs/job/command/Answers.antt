@@ -1,8 +1,7 @@
 -- The commands are added in turn, none of which has a global argument.
-use Rattle.std.proofs.Common.{◌∙◌, ◌≡◌, ap, ap₂}
+use Rattle.std.proofs.Common.{◌∙◌, ap, ap₂}
 use Rattle.std.proofs.lemmas.Result.{IfOk-weaker}
-use Rattle.clap.specs.Simple.{App, app_of, with_subcommand}
-use Rattle.sk_command.specs.CommandLine.{bare_command_line, play_command, talk_command, plain_command, replay_command}
+use Rattle.clap.specs.Simple.{App, with_subcommand}
 use Rattle.sk_command.proofs.job.command.Goals as goal
 
 pub returns : goal.returns

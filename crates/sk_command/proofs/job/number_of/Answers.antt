@@ -1,5 +1,5 @@
 -- The text of an argument is the first value of its row.
-use Rattle.std.proofs.Common.{codes, ◌∙◌, refl}
+use Rattle.std.proofs.Common.{◌∙◌, refl}
 use Rattle.clap.specs.Matches.{found_of}
 use Rattle.clap.proofs.WalkLemmas.{first_value-rows}
 use Rattle.sk_command.proofs.job.number_of.Goals as goal

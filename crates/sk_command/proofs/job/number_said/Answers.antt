@@ -1,5 +1,5 @@
 -- What is parsed is the number that the text says.
-use Rattle.std.proofs.Common.{arith, ◌≤◌, ◌<◌}
+use Rattle.std.proofs.Common.{arith}
 use Rattle.sk_command.proofs.Numbers.{is_said, not_said}
 use Rattle.sk_command.proofs.job.number_said.Goals as goal
 

@@ -1,5 +1,5 @@
 -- How far the talk has come where it ends.
-use Rattle.std.proofs.Common.{rules, ◌≡◌, List, [], ◌∷◌, true, false, Option, Err, ap, sym, subst}
+use Rattle.std.proofs.Common.{rules, ◌≡◌, [], ◌∷◌, true, false, Err, ap, sym, subst}
 use Rattle.std.specs.Str.Lines.{lines}
 use Rattle.std.specs.Io.Buffered.{writer_contents}
 use Rattle.sk_report.specs.declared.stop.Stop.{Stop}

@@ -8,4 +8,4 @@ use Rattle.sk_run.proofs.talking.talk_declared.Goals as goal
 
 pub returns-in-Err-clause-end : goal.returns-in-Err-clause-end
 returns-in-Err-clause-end g c =
-    not_opened (opened_in c.args.declarations.now (section_view c.args.section.now)) (g.O.Open.bytes_of c.args.inputs.now (codes "-")) (writer_contents g.W.Write.contents c.args.out.now) c.in-Err.ensures
+    not_opened (opened_in c.args.declarations.now (section_view c.args.section.now)) (g.O.OpenInput.bytes_of c.args.inputs.now (codes "-")) (writer_contents g.W.Write.contents c.args.out.now) c.in-Err.ensures

@@ -1,0 +1,96 @@
+-- What was done, once the buffer is written out.
+use Rattle.std.proofs.Common.{◌≡◌, inl, inr, ℕ, List, [], length, Option, Result, Ok, Err, sym, subst}
+use Rattle.std.specs.Prelude.{OnOk}
+use Rattle.std.specs.Io.KnownBytes.{Appends}
+use Rattle.std.proofs.KnownBytes.{Appends-kept, Keeps-refl}
+use Rattle.sk_client.specs.declared.world.WorldEvent.{WorldEvent}
+use Rattle.sk_kernel.specs.Kernel.{KernelView}
+use Rattle.sk_store.specs.Start.{start_of}
+use Rattle.sk_plain.specs.Plain.{PlainView}
+use Rattle.sk_plain.specs.Replay.{FaultIn}
+use Rattle.sk_plain.specs.declared.replay.TraceFault.{TraceFault}
+use Rattle.sk_plain.specs.declared.replay.TraceFault.TheVariants as faults
+use Rattle.sk_script.specs.Boot.{BootView}
+use Rattle.sk_trace.specs.declared.event.Event.{Event}
+use Rattle.sk_scenario.specs.Declarations.{Declared}
+use Rattle.sk_scenario.specs.declared.call.Call.{Call}
+use Rattle.sk_report.specs.Report.{plain_report_text, report_text}
+use Rattle.sk_report.specs.declared.stop.Stop.{Stop}
+use Rattle.sk_report.specs.declared.stop.Stop.TheVariants as stops
+use Rattle.sk_command.specs.declared.end.End.{End}
+use Rattle.sk_command.specs.declared.end.End.TheVariants as ends
+use Rattle.sk_command.specs.declared.job.Shows.{Shows}
+use Rattle.sk_command.specs.Ends.{IsFlushed}
+use Rattle.sk_play.proofs.Happened.{world_reported_kept}
+use Rattle.sk_play.proofs.Turns.{reported_kept}
+use Rattle.sk_play.specs.Plays.{Reported, declared_kernel}
+use Rattle.sk_play.specs.Replays.{Replays, replayed}
+use Rattle.sk_play.specs.Worlds.{declared_world, WorldReported}
+use Rattle.sk_run.specs.Listing.{beside}
+use Rattle.sk_run.specs.Plainly.{happened, left_by, trace_fault_end, HasRun, HasSoundTrace}
+use Rattle.sk_run.specs.Replayed.{EndsReplayed}
+use Rattle.sk_run.specs.Run.{IsPlayed, IsWorldPlayed, EndsReport, EndsPlain, EndsPlayed, EndsWorld}
+
+-- steps that were played
+pub played_out : (shows : Shows) (d : Declared) (steps : List Call) (written : Result (Unit {0}) Stop) (end : End) (buffer : List ℕ) (old mid new : Option (List ℕ))
+    → OnOk written (Reported (beside shows.steps) (IsPlayed shows) steps [] (declared_kernel d) old mid) → EndsReport written end buffer mid new → EndsPlayed shows d steps end old new
+played_out shows d steps (Ok u) ends.Done buffer old mid new played ended = reported_kept (beside shows.steps) (IsPlayed shows) steps [] (declared_kernel d) old mid new played ended.1
+played_out shows d steps (Ok u) ends.Fault buffer old mid new played ended = ended.0
+played_out shows d steps (Ok u) ends.Usage buffer old mid new played ended = ended.0
+played_out shows d steps (Ok u) ends.Trouble buffer old mid new played ended = tt
+played_out shows d steps (Ok u) ends.OutputRefused buffer old mid new played ended = tt
+played_out shows d steps (Err stops.Memory) end buffer old mid new played ended = subst (λ x. EndsPlayed shows d steps x old new) (sym ended) tt
+played_out shows d steps (Err stops.Output) end buffer old mid new played ended = subst (λ x. EndsPlayed shows d steps x old new) (sym ended) tt
+
+-- the events of a world
+pub world_out : (shows : Shows) (d : Declared) (es : List WorldEvent) (written : Result (Unit {0}) Stop) (end : End) (buffer : List ℕ) (old mid new : Option (List ℕ))
+    → OnOk written (WorldReported (beside shows.steps) (IsWorldPlayed shows) es (declared_world d) old mid) → EndsReport written end buffer mid new → EndsWorld shows d es end old new
+world_out shows d es (Ok u) ends.Done buffer old mid new played ended = world_reported_kept (beside shows.steps) (IsWorldPlayed shows) es (declared_world d) old mid new played ended.1
+world_out shows d es (Ok u) ends.Fault buffer old mid new played ended = ended.0
+world_out shows d es (Ok u) ends.Usage buffer old mid new played ended = ended.0
+world_out shows d es (Ok u) ends.Trouble buffer old mid new played ended = tt
+world_out shows d es (Ok u) ends.OutputRefused buffer old mid new played ended = tt
+world_out shows d es (Err stops.Memory) end buffer old mid new played ended = subst (λ x. EndsWorld shows d es x old new) (sym ended) tt
+world_out shows d es (Err stops.Output) end buffer old mid new played ended = subst (λ x. EndsWorld shows d es x old new) (sym ended) tt
+
+-- a trace of which all that it leaves was run
+pub plain_out : (boot : BootView) (es : List Event) (k : PlainView) (steps : ℕ) (written : Result (Unit {0}) Stop) (end : End) (buffer : List ℕ) (old mid new : Option (List ℕ))
+    → HasSoundTrace boot es → HasRun boot (left_by boot es) k → steps ≡ length (left_by boot es)
+    → OnOk written (Appends old mid (plain_report_text k steps)) → EndsReport written end buffer mid new → EndsPlain boot es end old new
+plain_out boot es k steps (Ok u) ends.Done buffer old mid new sound run counted report ended = record {
+  sound = sound;
+  kernel = k;
+  has_run = run;
+  report = subst (λ n. Appends old new (plain_report_text k n)) counted (Appends-kept old mid new _ report ended.1);
+}
+plain_out boot es k steps (Ok u) ends.Fault buffer old mid new sound run counted report ended = absurd ended.0
+plain_out boot es k steps (Ok u) ends.Usage buffer old mid new sound run counted report ended = ended.0
+plain_out boot es k steps (Ok u) ends.Trouble buffer old mid new sound run counted report ended = inl sound
+plain_out boot es k steps (Ok u) ends.OutputRefused buffer old mid new sound run counted report ended = sound
+plain_out boot es k steps (Err stops.Memory) end buffer old mid new sound run counted report ended = subst (λ x. EndsPlain boot es x old new) (sym ended) (inl sound)
+plain_out boot es k steps (Err stops.Output) end buffer old mid new sound run counted report ended = subst (λ x. EndsPlain boot es x old new) (sym ended) sound
+
+-- a trace with a fault
+pub faulty_out : (boot : BootView) (es : List Event) (fault : TraceFault) (end : End) (old : Option (List ℕ)) → FaultIn boot.scripts (start_of boot) (happened es) fault → end ≡ trace_fault_end fault
+    → EndsPlain boot es end old old
+faulty_out boot es (faults.Refused at) end old h is = subst (λ x. EndsPlain boot es x old old) (sym is) ((at, inl h), Keeps-refl old)
+faulty_out boot es (faults.UnknownGuess at) end old h is = subst (λ x. EndsPlain boot es x old old) (sym is) ((at, inr h), Keeps-refl old)
+faulty_out boot es faults.Memory end old h is = subst (λ x. EndsPlain boot es x old old) (sym is) (inr (Keeps-refl old))
+
+pub faulty_flushed : (fault : TraceFault) (end : End) (buffer : List ℕ) → end ≡ trace_fault_end fault → IsFlushed end buffer
+faulty_flushed (faults.Refused at) end buffer is = subst (λ x. IsFlushed x buffer) (sym is) tt
+faulty_flushed (faults.UnknownGuess at) end buffer is = subst (λ x. IsFlushed x buffer) (sym is) tt
+faulty_flushed faults.Memory end buffer is = subst (λ x. IsFlushed x buffer) (sym is) tt
+
+-- a trace that happened again
+pub replayed_out : (held : List ℕ) (k : KernelView) (es : List Event) (left : List ℕ) (last : KernelView) (written : Result (Unit {0}) Stop) (end : End) (buffer : List ℕ) (old mid new : Option (List ℕ))
+    → Replays es held k left last → last ≡ replayed k es
+    → OnOk written (Appends old mid (report_text last)) → EndsReport written end buffer mid new → EndsReplayed held k es end old new
+replayed_out held k es left last (Ok u) ends.Done buffer old mid new again is report ended =
+    (left, last, again, subst (λ (r : KernelView). Appends old new (report_text r)) is (Appends-kept old mid new _ report ended.1))
+replayed_out held k es left last (Ok u) ends.Fault buffer old mid new again is report ended = absurd ended.0
+replayed_out held k es left last (Ok u) ends.Usage buffer old mid new again is report ended = ended.0
+replayed_out held k es left last (Ok u) ends.Trouble buffer old mid new again is report ended = inl (left, last, again)
+replayed_out held k es left last (Ok u) ends.OutputRefused buffer old mid new again is report ended = (left, last, again)
+replayed_out held k es left last (Err stops.Memory) end buffer old mid new again is report ended = subst (λ x. EndsReplayed held k es x old new) (sym ended) (inl (left, last, again))
+replayed_out held k es left last (Err stops.Output) end buffer old mid new again is report ended = subst (λ x. EndsReplayed held k es x old new) (sym ended) (left, last, again)

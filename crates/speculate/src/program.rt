@@ -1,0 +1,135 @@
+//! The run of the program, from its words to its end.
+ghost use Rattle.std.specs.Prelude.{map, codes, string_bytes};
+ghost use Rattle.std.specs.Io.Buffered.{writer_buffer, writer_contents};
+ghost use Rattle.sk_command.specs.CommandLine.{wish_file, wish_of, IsWithinBounds};
+ghost use Rattle.sk_command.specs.Ends.{IsFlushed};
+ghost use Rattle.speculate.specs.Program.{EndsRead, EndsText, EndsFile, EndsWords};
+
+use crate::working::run_work;
+use sk_command::end::{End, tell_fault, tell_wrong_section};
+use sk_command::job::{Job, asked, explain};
+use sk_command::open_input::{OpenInput, input};
+use sk_run::playing::run_steps;
+use sk_run::replaying::run_replay;
+use sk_run::striking::run_trace;
+use sk_run::talking::talk_declared;
+use sk_run::worlds::run_world;
+use sk_scenario::{Scenario, Section};
+use sk_words::Fault;
+use sk_workers::Gate;
+use std::alloc::Global;
+use std::io::{BufWriter, Write};
+use std::sync::Wait;
+use std::thread::Threads;
+
+/// Runs the program on its words, of which the first is its own name. Of `work` each worker has a thread of its own and
+/// passes the gate before its turns, and the server has another. After a refused write of the output nothing more is
+/// written to it.
+pub fn run<R: Threads + Wait + Sync, O: OpenInput, W: Write + Drop, E: Write, G: Gate + Sync>(
+    rt: &R,
+    alloc: Global,
+    words: &[String],
+    inputs: &O,
+    gate: &G,
+    out: &mut BufWriter<W>,
+    err: &mut E,
+) -> End
+    ensures end { EndsWords (map string_bytes words.now) (O.bytes_of inputs.now) result
+        (writer_contents W.contents out.old) (writer_contents W.contents out.new) }
+    ensures flushed { IsFlushed result (writer_buffer out.new) }
+{
+    match asked(alloc, words) {
+        Ok(Some(job)) => run_file(rt, alloc, job, inputs, gate, out, err),
+        Ok(None) => End::Usage,
+        Err(error) => explain(alloc, &error, out, err),
+    }
+}
+
+/// Does a job with the file that it names.
+fn run_file<R: Threads + Wait + Sync, O: OpenInput, W: Write + Drop, E: Write, G: Gate + Sync>(
+    rt: &R,
+    alloc: Global,
+    job: Job,
+    inputs: &O,
+    gate: &G,
+    out: &mut BufWriter<W>,
+    err: &mut E,
+) -> End
+    requires { IsWithinBounds job }
+    ensures end { let wish = wish_of job.entry in
+        EndsFile wish (O.bytes_of inputs.now (codes "-"))
+        (O.bytes_of inputs.now (wish_file wish)) result
+        (writer_contents W.contents out.old) (writer_contents W.contents out.new) }
+    ensures flushed { IsFlushed result (writer_buffer out.new) }
+{
+    match input(alloc, inputs, job.file(), err) {
+        Ok(text) => run_text(rt, alloc, job, &text, inputs, gate, out, err),
+        Err(end) => end,
+    }
+}
+
+/// Does a job with a scenario's text, and with the standard input where it talks, or tells its first fault.
+fn run_text<R: Threads + Wait + Sync, O: OpenInput, W: Write + Drop, E: Write, G: Gate + Sync>(
+    rt: &R,
+    alloc: Global,
+    job: Job,
+    text: &[u8],
+    inputs: &O,
+    gate: &G,
+    out: &mut BufWriter<W>,
+    err: &mut E,
+) -> End
+    requires { IsWithinBounds job }
+    ensures end { EndsText (wish_of job.entry) (O.bytes_of inputs.now (codes "-")) text.now result
+        (writer_contents W.contents out.old) (writer_contents W.contents out.new) }
+    ensures flushed { IsFlushed result (writer_buffer out.new) }
+{
+    let read = Scenario::parse(alloc, text);
+    run_read(rt, alloc, job, read, inputs, gate, out, err)
+}
+
+/// Does a job with what was read, or tells its fault.
+fn run_read<R: Threads + Wait + Sync, O: OpenInput, W: Write + Drop, E: Write, G: Gate + Sync>(
+    rt: &R,
+    alloc: Global,
+    job: Job,
+    read: Result<Scenario, Fault>,
+    inputs: &O,
+    gate: &G,
+    out: &mut BufWriter<W>,
+    err: &mut E,
+) -> End
+    requires { IsWithinBounds job }
+    ensures end { EndsRead (wish_of job.entry) (O.bytes_of inputs.now (codes "-")) read result
+        (writer_contents W.contents out.old) (writer_contents W.contents out.new) }
+    ensures flushed { IsFlushed result (writer_buffer out.new) }
+{
+    let Scenario {
+        declarations,
+        section,
+    } = match read {
+        Ok(scenario) => scenario,
+        Err(fault) => return tell_fault(&fault, err),
+    };
+    match (job, section) {
+        (Job::Play { shows, .. }, Section::Steps(steps)) => {
+            run_steps(alloc, &declarations, steps.as_slice(), shows, out)
+        }
+        (Job::Play { shows, .. }, Section::World(events)) => {
+            run_world(alloc, &declarations, events.as_slice(), shows, out)
+        }
+        (Job::Talk { .. }, section) => {
+            talk_declared(alloc, &declarations, &section, inputs, out, err)
+        }
+        (Job::Plain { .. }, Section::Trace(trace)) => {
+            run_trace(alloc, declarations.boot(), &trace, out, err)
+        }
+        (Job::Replay { .. }, Section::Trace(trace)) => {
+            run_replay(alloc, &declarations, &trace, out, err)
+        }
+        (Job::Work { workers, turns, .. }, _) => {
+            run_work(rt, alloc, workers, turns, &declarations, gate, out)
+        }
+        _ => tell_wrong_section(err),
+    }
+}

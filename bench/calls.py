@@ -5,8 +5,8 @@
 
 Eight processes set their buffers for ever. In `work` each turn brings a process's next 64 private instructions with it, which
 its worker ran ahead on a lease, so the steps are counted that stand on the trace, and the turns beside them. One thread without
-a lock or leases is `play` of the same steps; it prints a line for each, which is part of its time. Each run is made five times,
-and the best counts. The status is 1 where one worker takes fewer than 1,000,000 steps a second, or two take fewer than one.
+a lock or leases is `play` of the same steps; it prints a line for each, which is part of its time. The runs with 1, 2 and 4
+workers are made fifteen times in turns, and the best of each counts. The status is 1 where one worker takes fewer than 1,000,000 steps a second, or two take fewer than one.
 """
 
 import re
@@ -14,32 +14,34 @@ import subprocess
 import sys
 import time
 
-TURNS = 32_000
+TURNS = 64_000
+ROUNDS = 15
 LEAST = 1_000_000
 SCRIPT = "script main\na:\ntext \"t\"\njump a\nend\n"
 BOOT = SCRIPT + "".join(f"process {n} main {n}\n" for n in range(1, 9)) + "limit 100000000\n"
 
 
-def best(words, text):
-    """The shortest time of five runs, in seconds, and how many events there were in it."""
-    runs = []
-    for _ in range(5):
-        start = time.perf_counter()
-        ran = subprocess.run(words, input=text.encode(), stdout=subprocess.PIPE, check=True)
-        spent = time.perf_counter() - start
-        runs.append((spent, int(re.search(rb"^trace (\d+)", ran.stdout, re.M)[1])))
-    return min(runs)
+def run(words, text):
+    """The time of a run, in seconds, and how many events there were in it."""
+    start = time.perf_counter()
+    ran = subprocess.run(words, input=text.encode(), stdout=subprocess.PIPE, check=True)
+    spent = time.perf_counter() - start
+    return spent, int(re.search(rb"^trace (\d+)", ran.stdout, re.M)[1])
 
 
 def main(program):
+    runs = {workers: [] for workers in (1, 2, 4)}
+    for _ in range(ROUNDS):
+        for workers, times in runs.items():
+            words = [program, "work", "-", "--workers", str(workers), "--turns", str(TURNS // workers)]
+            times.append(run(words, BOOT))
     rates = {}
-    for workers in (1, 2, 4):
-        words = [program, "work", "-", "--workers", str(workers), "--turns", str(TURNS // workers)]
-        spent, events = best(words, BOOT)
+    for workers, times in runs.items():
+        spent, events = min(times)
         rates[workers] = events / spent
         print(f"{workers} workers: {rates[workers]:,.0f} steps a second, {TURNS / spent:,.0f} turns a second")
     steps = "".join(f"step {n % 8 + 1} none\n" for n in range(events))
-    spent, events = best([program, "play", "-"], f"{BOOT}steps\n{steps}")
+    spent, events = min(run([program, "play", "-"], f"{BOOT}steps\n{steps}") for _ in range(3))
     print(f"one thread without a lock, played: {events / spent:,.0f} steps a second")
     return 1 if rates[1] < LEAST or rates[2] < rates[1] else 0
 

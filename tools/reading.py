@@ -24,11 +24,12 @@ PARTS = (("The heart: dependence, striking, traces, statuses, what is released",
 def clauses(text):
     """The lines of the clauses of the public functions of `Kernel` in one of its files."""
     body = text[text.index("\nimpl Kernel {"):]
-    found, is_public = [], False
+    found, is_public, is_clause = [], False, False
     for line in body[:body.index("\n}\n")].split("\n"):
         if re.match(r"    (pub )?fn ", line):
             is_public = "pub fn" in line
-        elif is_public and re.match(r"\s+(ensures|requires)", line):
+        is_clause = line.strip() != "{" and (is_clause or re.match(r"\s+(ensures|requires)", line) is not None)
+        if is_public and is_clause:
             found.append(line)
     return found
 

@@ -3,7 +3,7 @@ use sk_client::Desk;
 use sk_ids::Pid;
 use sk_kernel::HandIn;
 use sk_server::{Reply, Request, Server, ServerRefusal};
-use sk_workers::{Answered, Call, Entry};
+use sk_workers::{Answered, DeskCall, HistoryEntry};
 use std::alloc::{AllocError, Global};
 use tests_support::finding::Finding;
 
@@ -87,14 +87,14 @@ fn hand_in(desk: &mut Desk, pid: Pid, count: u32) -> Result<(), HandIn> {
 
 /// Makes a call, and tells the answer without what came back. Of a stale lease nothing is known but
 /// that nothing changed.
-fn make(desk: &mut Desk, entry: &Entry) -> Answered {
+fn make(desk: &mut Desk, entry: &HistoryEntry) -> Answered {
     match &entry.call {
-        Call::HandIn { .. } if entry.answer == Answered::HandedIn(Err(HandIn::Stale)) => {
+        DeskCall::HandIn { .. } if entry.answer == Answered::HandedIn(Err(HandIn::Stale)) => {
             entry.answer
         }
-        Call::HandIn { process, count } => Answered::HandedIn(hand_in(desk, *process, *count)),
-        Call::Turn(pid) => Answered::Turned(desk.turn(*pid)),
-        Call::Reply(reply) => match desk.give_reply(reply.reply()) {
+        DeskCall::HandIn { process, count } => Answered::HandedIn(hand_in(desk, *process, *count)),
+        DeskCall::Turn(pid) => Answered::Turned(desk.turn(*pid)),
+        DeskCall::Reply(reply) => match desk.give_reply(reply.reply()) {
             Ok(given) => Answered::Replied(Ok(given)),
             Err((_, why)) => Answered::Replied(Err(why)),
         },
@@ -103,10 +103,14 @@ fn make(desk: &mut Desk, entry: &Entry) -> Answered {
 
 /// Makes the calls of a history on a desk, each of which has to be answered as it was; the replies have to be those of the
 /// server to the desk's requests.
-pub fn run_again(desk: &mut Desk, peer: &mut Peer, entries: &[Entry]) -> Result<(), Finding> {
+pub fn run_again(
+    desk: &mut Desk,
+    peer: &mut Peer,
+    entries: &[HistoryEntry],
+) -> Result<(), Finding> {
     for (place, entry) in entries.iter().enumerate() {
         take_until(desk, peer, entry.taken)?;
-        if let Call::Reply(reply) = &entry.call {
+        if let DeskCall::Reply(reply) = &entry.call {
             if !peer.gives(&reply.reply()) {
                 return Err(Finding::Reply(place));
             }

@@ -6,11 +6,11 @@ use crate::again::{Peer, run_again};
 use crate::judge::judge_files;
 use crate::turns::judge_calls;
 use sk_client::Desk;
-use sk_crew::{Plan, run_crew};
+use sk_crew::{CrewPlan, run_crew};
 use sk_play::desk_of;
 use sk_scenario::Declarations;
 use sk_server::Server;
-use sk_workers::{Entry, Gate, History};
+use sk_workers::{Gate, History, HistoryEntry};
 use std::alloc::Global;
 use std::marker::Brand;
 use std::sync::Wait;
@@ -33,7 +33,7 @@ fn crew<R: Threads + Wait + Sync>(
     alloc: Global,
     desk: Desk,
     server: Server,
-    plan: Plan,
+    plan: CrewPlan,
 ) -> Result<(History, Server), Finding>
     requires count { (1 ≤ plan.workers) × (plan.workers ≤ 8) }
     requires opened { desk ≡ opened_at desk.kernel desk.first }
@@ -49,7 +49,7 @@ fn crew<R: Threads + Wait + Sync>(
 /// What a crew leaves.
 #[derive(Clone, Copy)]
 struct Left<'a> {
-    entries: &'a [Entry],
+    entries: &'a [HistoryEntry],
     desk: &'a Desk,
     server: &'a Server,
 }
@@ -67,7 +67,7 @@ fn repeat(fresh: &mut Desk, peer: &mut Peer, left: &Left) -> Result<(), Finding>
 fn judge_crew(
     alloc: Global,
     declarations: &Declarations,
-    plan: Plan,
+    plan: CrewPlan,
     left: &Left,
 ) -> Result<(), Finding>
     requires { 1 ≤ plan.workers }
@@ -90,7 +90,7 @@ fn one_crew<R: Threads + Wait + Sync>(
     rt: &R,
     alloc: Global,
     declarations: &Declarations,
-    plan: Plan,
+    plan: CrewPlan,
 ) -> Result<usize, Finding>
     requires count { (1 ≤ plan.workers) × (plan.workers ≤ 8) }
 {
@@ -112,7 +112,7 @@ pub fn judge_crews<R: Threads + Wait + Sync>(
     rt: &R,
     alloc: Global,
     declarations: &Declarations,
-    plan: Plan,
+    plan: CrewPlan,
     crews: u32,
 ) -> Result<usize, Finding>
     requires count { (1 ≤ plan.workers) × (plan.workers ≤ 8) }
@@ -121,7 +121,7 @@ pub fn judge_crews<R: Threads + Wait + Sync>(
     let mut calls = 0usize;
     for number in 0..crews {
         let turns = plan.turns - number % plan.turns;
-        let plan = Plan { turns, ..plan };
+        let plan = CrewPlan { turns, ..plan };
         let made = one_crew(rt, alloc, declarations, plan)?;
         calls = calls.saturating_add(made);
     }

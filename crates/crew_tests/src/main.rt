@@ -15,7 +15,7 @@ mod turns;
 
 use crate::crews::judge_crews;
 use sk_command::read_all::read_all;
-use sk_crew::Plan;
+use sk_crew::CrewPlan;
 use sk_scenario::Scenario;
 use std::env;
 use std::io::Write;
@@ -30,7 +30,7 @@ const AHEAD: u32 = 64;
 /// How many crews there are, and how large each is.
 #[derive(Clone, Copy, Debug)]
 struct Wish {
-    plan: Plan,
+    plan: CrewPlan,
     crews: u32,
 }
 
@@ -45,7 +45,7 @@ fn wish_of(words: &[String]) -> Option<Wish>
     if workers < 1 || 8 < workers || turns < 1 {
         return None;
     }
-    let plan = Plan {
+    let plan = CrewPlan {
         workers,
         turns,
         ahead: AHEAD,

@@ -2,7 +2,7 @@
 ghost use Rattle.std.specs.Prelude.{◌≤◌};
 
 use crate::crews::judge_crews;
-use sk_crew::Plan;
+use sk_crew::CrewPlan;
 use sk_scenario::Scenario;
 use std::alloc::Global;
 use std::process::Abort;
@@ -107,7 +107,7 @@ fn crews<R: Threads + Wait + Sync + Abort>(
 {
     let scenario = Scenario::parse(alloc, SCENARIO)?;
     let turns = 320;
-    let plan = Plan {
+    let plan = CrewPlan {
         workers,
         turns,
         ahead,

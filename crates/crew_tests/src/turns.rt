@@ -1,11 +1,11 @@
 //! Whose the calls of a history are, and in which order each worker made its own.
 ghost use Rattle.std.specs.Prelude.{◌≤◌};
 
-use sk_crew::Plan;
+use sk_crew::CrewPlan;
 use sk_ids::{Entity, Pid};
 use sk_kernel::Kernel;
 use sk_plain::Refusal;
-use sk_workers::{Answered, Call, Entry};
+use sk_workers::{Answered, DeskCall, HistoryEntry};
 use std::alloc::{AllocFailed, Global};
 use tests_support::finding::Finding;
 
@@ -46,7 +46,12 @@ struct Progress {
 
 /// Whether a worker's turns go round its processes, one each, until a whole round was answered `Ended`, or for as many turns
 /// as the plan says; before each of them at most one lease of its process is handed in.
-fn judge_turns(own: &[Pid], plan: Plan, worker: u8, entries: &[Entry]) -> Result<(), Finding> {
+fn judge_turns(
+    own: &[Pid],
+    plan: CrewPlan,
+    worker: u8,
+    entries: &[HistoryEntry],
+) -> Result<(), Finding> {
     let mut progress = Progress {
         turns: 0,
         taken: 0,
@@ -59,9 +64,9 @@ fn judge_turns(own: &[Pid], plan: Plan, worker: u8, entries: &[Entry]) -> Result
             continue;
         }
         let (pid, is_turn) = match &entry.call {
-            Call::Turn(pid) => (*pid, true),
-            Call::HandIn { process, .. } => (*process, false),
-            Call::Reply(_) => continue,
+            DeskCall::Turn(pid) => (*pid, true),
+            DeskCall::HandIn { process, .. } => (*process, false),
+            DeskCall::Reply(_) => continue,
         };
         if progress.has_stopped || own.get(progress.taken) != Some(&pid) {
             return Err(Finding::Turn(place));
@@ -100,18 +105,18 @@ impl Progress {
 pub fn judge_calls(
     alloc: Global,
     booted: &Kernel,
-    plan: Plan,
-    entries: &[Entry],
+    plan: CrewPlan,
+    entries: &[HistoryEntry],
 ) -> Result<(), Finding>
     requires { 1 ≤ plan.workers }
 {
     for (place, entry) in entries.iter().enumerate() {
         let is_own = match &entry.call {
-            Call::Turn(_) => entry.worker < plan.workers,
-            Call::HandIn { count, .. } => {
+            DeskCall::Turn(_) => entry.worker < plan.workers,
+            DeskCall::HandIn { count, .. } => {
                 entry.worker < plan.workers && 0 < *count && *count <= plan.ahead
             }
-            Call::Reply(_) => entry.worker == 0,
+            DeskCall::Reply(_) => entry.worker == 0,
         };
         if !is_own {
             return Err(Finding::Owner(place));

@@ -42,7 +42,8 @@ pub fn shown(kernel: &Kernel) -> usize
 /// A process goes on from its copy, and the guess is decided. Answers what terminal 1 shows in between, and
 /// at the end.
 pub fn go_on(holder: &mut Holder, pid: Pid, is_right: bool) -> Result<(usize, usize), Refusal>
-    ensures shown { IfOk result (λ seen. seen.1 ≡ length (released (texts_at holder.new.kernel 1))) }
+    ensures shown { IfOk result
+        (λ seen. seen.1 ≡ length (released (texts_at holder.new.kernel 1))) }
 {
     let guess = holder.guess(pid, InputRef::Good)?;
     holder.step(pid, InputRef::None)?;

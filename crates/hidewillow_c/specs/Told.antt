@@ -11,8 +11,8 @@ use Rattle.sk_client.specs.declared.desk.Given.{Given}
 use Rattle.sk_client.specs.declared.desk.Given.TheVariants as gives
 use Rattle.sk_client.specs.declared.world.WorldAnswer.{WorldAnswer}
 use Rattle.sk_client.specs.declared.world.WorldAnswer.TheVariants as happenings
-use Rattle.sk_play.specs.declared.answer.Answer.{Answer}
-use Rattle.sk_play.specs.declared.answer.Answer.TheVariants as answers
+use Rattle.sk_play.specs.declared.answer.CallAnswer.{CallAnswer}
+use Rattle.sk_play.specs.declared.answer.CallAnswer.TheVariants as answers
 use Rattle.sk_play.specs.declared.told.WorldTold.{WorldTold}
 use Rattle.sk_play.specs.declared.told.WorldTold.TheVariants as tells
 use Rattle.hidewillow_c.specs.declared.codes.TheConstants.{STEPPED, GUESSED, DONE, GONE, NO_TOKEN, REFUSED, FAULT, MEMORY, NOTHING, OPENED, ASKED, YES, NO, COPY, DROPPED, COMMITTED, FAILED, TAKEN, FORGOTTEN, EDITED, IDLE, OTHER_VERSION}
@@ -48,7 +48,7 @@ faulty kinds.Memory number = just MEMORY 0
 
 -- ---- what is told of a line
 
-abbrev pub told_of_answer : Answer → Told
+abbrev pub told_of_answer : CallAnswer → Told
 told_of_answer answers.Stepped = just STEPPED 0
 told_of_answer (answers.Guessed id) = just GUESSED id
 told_of_answer answers.Done = just DONE 0

@@ -80,7 +80,8 @@ pub extern "C" fn hidewillow_value(
     name: &[u8],
     room: &mut [u8],
 ) -> Told
-    ensures { Shows (value_shown name.now) result handle.old.held handle.new.held room.old room.new }
+    ensures { Shows (value_shown name.now) result handle.old.held handle.new.held room.old
+        room.new }
 {
     let Some(play) = replace(handle, Handle::closed()).into_box(alloc) else {
         return Told::of(CLOSED, 0);
@@ -116,7 +117,8 @@ pub extern "C" fn hidewillow_terminal(
     number: u16,
     room: &mut [u8],
 ) -> Told
-    ensures { Shows (terminal_shown number) result handle.old.held handle.new.held room.old room.new }
+    ensures { Shows (terminal_shown number) result handle.old.held handle.new.held room.old
+        room.new }
 {
     let Some(play) = replace(handle, Handle::closed()).into_box(alloc) else {
         return Told::of(CLOSED, 0);

@@ -7,7 +7,7 @@ use crate::codes::{
     MEMORY, NO, NO_TOKEN, NOTHING, OPENED, OTHER_VERSION, REFUSED, STEPPED, TAKEN, YES,
 };
 use sk_client::{Given, Turn, WorldAnswer};
-use sk_play::{Answer, WorldTold};
+use sk_play::{CallAnswer, WorldTold};
 use sk_server::Answer as ServerAnswer;
 use sk_talk::LineTold;
 use sk_words::{Fault, FaultKind};
@@ -103,16 +103,16 @@ impl Told {
         }
     }
 
-    fn of_answer(answer: Answer) -> Told
+    fn of_answer(answer: CallAnswer) -> Told
         ensures { result ≡ told_of_answer answer }
     {
         match answer {
-            Answer::Stepped => Told::of(STEPPED, 0),
-            Answer::Guessed(id) => Told::of(GUESSED, id.number()),
-            Answer::Done => Told::of(DONE, 0),
-            Answer::Gone => Told::of(GONE, 0),
-            Answer::NoToken => Told::of(NO_TOKEN, 0),
-            Answer::Refused(why) => Told::of(REFUSED, u64::from(why.number())),
+            CallAnswer::Stepped => Told::of(STEPPED, 0),
+            CallAnswer::Guessed(id) => Told::of(GUESSED, id.number()),
+            CallAnswer::Done => Told::of(DONE, 0),
+            CallAnswer::Gone => Told::of(GONE, 0),
+            CallAnswer::NoToken => Told::of(NO_TOKEN, 0),
+            CallAnswer::Refused(why) => Told::of(REFUSED, u64::from(why.number())),
         }
     }
 

@@ -36,7 +36,8 @@ fn file(alloc: Global) -> Result<Value, Fail> {
 /// Writes to a file on guess 1, and notes it in a log that has no notes, and that has made room.
 fn writes(alloc: Global, value: &mut Value, log: &mut ObjectLog) -> Result<(), Fail>
     requires { log.old.log.notes.items ≡ [] }
-    ensures { OnOk result (CanGoBack ObjectFits object_undone (Some value.new) (reverse log.new.log.notes.items)) }
+    ensures { OnOk result
+        (CanGoBack ObjectFits object_undone (Some value.new) (reverse log.new.log.notes.items)) }
 {
     let change = write(4, b"XYZ")?;
     let tags = tags(alloc, 1)?;
@@ -49,7 +50,9 @@ fn writes(alloc: Global, value: &mut Value, log: &mut ObjectLog) -> Result<(), F
 /// The file after it.
 fn written(alloc: Global, log: &mut ObjectLog) -> Result<Value, Fail>
     requires { log.old.log.notes.items ≡ [] }
-    ensures { IfOk result (λ value. CanGoBack ObjectFits object_undone (Some value) (reverse log.new.log.notes.items)) }
+    ensures { IfOk result
+        (λ value. CanGoBack ObjectFits object_undone (Some value)
+        (reverse log.new.log.notes.items)) }
 {
     let mut value = file(alloc)?;
     writes(alloc, &mut value, log)?;
@@ -73,7 +76,8 @@ fn unwinds(
     want: &[u8],
 ) -> Result<(), Fail>
     requires { CanGoBack ObjectFits object_undone value.old (reverse log.old.log.notes.items) }
-    ensures { OnOk result (CanGoBack ObjectFits object_undone value.new (reverse log.new.log.notes.items)) }
+    ensures { OnOk result
+        (CanGoBack ObjectFits object_undone value.new (reverse log.new.log.notes.items)) }
 {
     log.unwind(value, guess(number)?);
     assert_eq!(rt; bytes(value), Text::new(want));
@@ -106,7 +110,8 @@ fn small_calls_of_an_object_log(rt: HostRuntime) -> Result<(), Fail> {
 /// Notes on guess 1 that a file goes, in a log that has no notes.
 fn goes(alloc: Global, before: Value, log: &mut ObjectLog) -> Result<(), Fail>
     requires { log.old.log.notes.items ≡ [] }
-    ensures { OnOk result (CanGoBack ObjectFits object_undone None (reverse log.new.log.notes.items)) }
+    ensures { OnOk result
+        (CanGoBack ObjectFits object_undone None (reverse log.new.log.notes.items)) }
 {
     let tags = tags(alloc, 1)?;
     log.reserve()?;

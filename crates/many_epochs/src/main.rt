@@ -85,7 +85,8 @@ fn round(desk: &mut Desk, answer: Answer) -> Result<(), Stop> {
 
 /// Begins an epoch; says how many events the one before it had.
 fn begin(desk: &mut Desk) -> Result<usize, Stop>
-    ensures { IfOk result (λ events. (events ≡ length desk.old.kernel.trace) × (desk.new.kernel.trace ≡ [])) }
+    ensures { IfOk result
+        (λ events. (events ≡ length desk.old.kernel.trace) × (desk.new.kernel.trace ≡ [])) }
 {
     match desk.new_epoch() {
         Ok((trace, _texts)) => Ok(trace.events().len()),

@@ -24,7 +24,8 @@ fn empty_file(alloc: Global) -> Result<Value, Finding> {
 
 /// Makes a change that fits, and makes it again where memory was wanted and the size is as it was.
 fn changes(alloc: Global, value: &mut Value, change: &Change) -> Result<Undo, Finding>
-    ensures { IfOk result (λ undo. CanUndo value.new undo × (value_undone value.new undo ≡ value.old)) }
+    ensures { IfOk result
+        (λ undo. CanUndo value.new undo × (value_undone value.new undo ≡ value.old)) }
 {
     let size = value.size();
     match value.apply(alloc, *change) {
@@ -42,7 +43,8 @@ fn changes(alloc: Global, value: &mut Value, change: &Change) -> Result<Undo, Fi
 }
 
 fn written(alloc: Global, value: &mut Value, offset: u32, bytes: &[u8]) -> Result<Undo, Finding>
-    ensures { IfOk result (λ undo. CanUndo value.new undo × (value_undone value.new undo ≡ value.old)) }
+    ensures { IfOk result
+        (λ undo. CanUndo value.new undo × (value_undone value.new undo ≡ value.old)) }
 {
     let bytes = Text::new(bytes).ok_or(Finding::Changed)?;
     changes(alloc, value, &Change::WriteAt { offset, bytes })

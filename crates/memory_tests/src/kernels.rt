@@ -1,7 +1,7 @@
 //! Steps on a kernel.
 use crate::sights::{Sight, begins, report};
 use crate::texts::tells;
-use sk_play::{Answer, Session, write_answer};
+use sk_play::{CallAnswer, Session, write_answer};
 use sk_scenario::{Call, Declarations};
 use std::alloc::{AllocError, Global};
 use std::io::Write;
@@ -20,7 +20,7 @@ fn calls<W: Write>(
     session: &mut Session,
     call: &Call,
     out: &mut W,
-) -> Result<Answer, Finding> {
+) -> Result<CallAnswer, Finding> {
     let before = Sight::of(alloc, session.kernel())?;
     begins(out)?;
     match session.execute(call) {

@@ -10,12 +10,12 @@ use Rattle.std.specs.Prelude.{drop}
 use Rattle.sk_kernel.specs.Kernel.{KernelView}
 use Rattle.sk_kernel.specs.Opening.{OpeningView, opening_of}
 use Rattle.sk_client.specs.Desk.{DeskView, opened_at}
-use Rattle.sk_workers.specs.declared.entry.Call.{Call}
-use Rattle.sk_workers.specs.declared.entry.Call.TheVariants as calls
+use Rattle.sk_workers.specs.declared.entry.DeskCall.{DeskCall}
+use Rattle.sk_workers.specs.declared.entry.DeskCall.TheVariants as calls
 use Rattle.sk_workers.specs.declared.entry.Answered.{Answered}
 use Rattle.sk_workers.specs.declared.entry.Answered.TheVariants.{Turned}
 use Rattle.sk_workers.specs.declared.entry.Receipt.{Receipt}
-use Rattle.sk_workers.specs.declared.entry.Entry.{Entry}
+use Rattle.sk_workers.specs.declared.entry.HistoryEntry.{HistoryEntry}
 use Rattle.sk_workers.specs.Views.{WorkerView, SharedView}
 use Rattle.sk_workers.specs.History.{Runs, Told, TurnTold, AreFresh, entry, receipt}
 use Rattle.sk_workers.specs.Closing.{numbers, begins_turn, IsClosed}
@@ -61,7 +61,7 @@ is_its workers number processes r pid is =
 
 -- ---- receipts
 
-pub told_keeps : (workers : ℕ) (processes : List ℕ) (w w' : WorkerView) (call : Call) (answer : Answered) → Told w call answer w'
+pub told_keeps : (workers : ℕ) (processes : List ℕ) (w w' : WorkerView) (call : DeskCall) (answer : Answered) → Told w call answer w'
     → IsDuty workers processes w.number call → KeepsTo workers processes w → KeepsTo workers processes w'
 told_keeps workers processes w w' call answer told duty keeps =
     let new = receipt told.1 (entry w.number call answer told.2) in
@@ -70,7 +70,7 @@ told_keeps workers processes w w' call answer told duty keeps =
       | inr is ↦ subst (λ (x : Receipt). IsDuty workers processes w.number x.entry.call) is duty
     ])
 
-pub told_reply : (w w' : WorkerView) (call : Call) (answer : Answered) → Told w call answer w' → IsReply call → OnlyReplies w w'
+pub told_reply : (w w' : WorkerView) (call : DeskCall) (answer : Answered) → Told w call answer w' → IsReply call → OnlyReplies w w'
 told_reply w w' call answer told is_reply =
     let new = receipt told.1 (entry w.number call answer told.2) in
     subst (OnlyReplies w) (sym told.3) (λ r there. elim (Contains-push_cases w.receipts new r there) [
@@ -84,7 +84,7 @@ no_call w = λ r there. inl there
 pub one_and_more : (w v u : WorkerView) → OnlyReplies w v → OnlyReplies v u → OnlyReplies w u
 one_and_more w v u one more = λ r there. elim (more r there) [ inl before ↦ one r before | inr is ↦ inr is ]
 
-reply_duty : (workers : ℕ) (processes : List ℕ) (number : ℕ) (call : Call) → number ≡ 0 → IsReply call → IsDuty workers processes number call
+reply_duty : (workers : ℕ) (processes : List ℕ) (number : ℕ) (call : DeskCall) → number ≡ 0 → IsReply call → IsDuty workers processes number call
 reply_duty workers processes number (calls.Turn pid) first is = absurd is
 reply_duty workers processes number (calls.Reply reply) first is = first
 reply_duty workers processes number (calls.HandIn pid count) first is = tt
@@ -162,7 +162,7 @@ back_numbered n ws us are same = (
 
 -- ---- calls of a worker
 
-pub replied : {P : Type 0} (w w' : WorkerView) (call : Call) (answer : Answered) → IsReply call → (P × (w' ≡ w)) ⊎ Told w call answer w' → OnlyReplies w w'
+pub replied : {P : Type 0} (w w' : WorkerView) (call : DeskCall) (answer : Answered) → IsReply call → (P × (w' ≡ w)) ⊎ Told w call answer w' → OnlyReplies w w'
 replied w w' call answer is (inl none) = subst (OnlyReplies w) (sym none.1) (no_call w)
 replied w w' call answer is (inr told) = told_reply w w' call answer told is
 
@@ -246,7 +246,7 @@ same_kernel k l same first none =
     }
 
 -- so that the history of a close leads from the desk that was shared
-pub runs_from : (d : DeskView) (s : SharedView) (ws : List WorkerView) (history : List Entry) (last : DeskView) → d ≡ opened_at d.kernel d.first → d.kernel.trace ≡ []
+pub runs_from : (d : DeskView) (s : SharedView) (ws : List WorkerView) (history : List HistoryEntry) (last : DeskView) → d ≡ opened_at d.kernel d.first → d.kernel.trace ≡ []
     → (s.opening ≡ opening_of d.kernel) × (s.first ≡ d.first) → IsClosed s ws history last → d.kernel.earlier ≡ [] → Runs d history last
 runs_from d s ws history last is none from closed first =
     let kernel = same_kernel d.kernel last.kernel (closed.from.0 ∙ from.0) first none in
@@ -256,7 +256,7 @@ runs_from d s ws history last is none from closed first =
 from_start : (d : DeskView) (s : SharedView) → (s.opening ≡ opening_of d.kernel) × (s.first ≡ d.first) → s ≡ start_of d
 from_start d s from = λ i. record { opening = from.0 i; first = from.1 i }
 
-pub crewed : (n : ℕ) (d : DeskView) (s : SharedView) (ws us : List WorkerView) (processes : List ℕ) (history : List Entry) (last : DeskView)
+pub crewed : (n : ℕ) (d : DeskView) (s : SharedView) (ws us : List WorkerView) (processes : List ℕ) (history : List HistoryEntry) (last : DeskView)
     → (s.opening ≡ opening_of d.kernel) × (s.first ≡ d.first) → AreFresh n us → numbers ws ≡ numbers us → processes ≡ processes_of d
     → (AreFresh n us → AllKeepTo n processes ws) → IsClosed s ws history last → IsCrewed n d history last
 crewed n d s ws us processes history last from are same is keeps closed = record {

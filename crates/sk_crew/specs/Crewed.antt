@@ -2,7 +2,7 @@
 use Rattle.std.specs.Prelude.{ℕ, List, ⊤}
 use Rattle.sk_kernel.specs.Opening.{opening_of}
 use Rattle.sk_client.specs.Desk.{DeskView}
-use Rattle.sk_workers.specs.declared.entry.Entry.{Entry}
+use Rattle.sk_workers.specs.declared.entry.HistoryEntry.{HistoryEntry}
 use Rattle.sk_workers.specs.Views.{SharedView, BookView, WorkerView}
 use Rattle.sk_workers.specs.History.{IsLegal}
 use Rattle.sk_workers.specs.Closing.{IsClosed, Refuses}
@@ -16,7 +16,7 @@ start_of d = record { opening = opening_of d.kernel; first = d.first }
 
 -- so many workers, numbered from 0, have a receipt for each call of one legal history from the opening of this desk to the last one, on which
 -- nothing is pending; and each call is its worker's to make
-pub record IsCrewed (workers : ℕ) (d : DeskView) (history : List Entry) (last : DeskView) : Type 0 where
+pub record IsCrewed (workers : ℕ) (d : DeskView) (history : List HistoryEntry) (last : DeskView) : Type 0 where
   pub crew : List WorkerView
   pub numbered : AreNumbered workers crew
   pub closed : IsClosed (start_of d) crew history last

@@ -4,8 +4,8 @@ use Rattle.std.specs.List.{Contains}
 use Rattle.std.specs.FinMap as map
 use Rattle.sk_kernel.specs.Kernel.{state_at}
 use Rattle.sk_client.specs.Desk.{DeskView}
-use Rattle.sk_workers.specs.declared.entry.Call.{Call}
-use Rattle.sk_workers.specs.declared.entry.Call.TheVariants as calls
+use Rattle.sk_workers.specs.declared.entry.DeskCall.{DeskCall}
+use Rattle.sk_workers.specs.declared.entry.DeskCall.TheVariants as calls
 use Rattle.sk_workers.specs.declared.entry.Receipt.{Receipt}
 use Rattle.sk_workers.specs.Views.{WorkerView}
 use Rattle.sk_workers.specs.Closing.{numbers}
@@ -21,7 +21,7 @@ IsOf workers number processes pid =
     (round : ℕ) × (slice_get processes (number + workers * round) ≡ Some pid)
 
 -- a turn is of a process that the worker has, and a reply is given by worker 0; of a lease that is handed in nothing is said here
-abbrev pub IsDuty : ℕ → List ℕ → ℕ → Call → Type 0
+abbrev pub IsDuty : ℕ → List ℕ → ℕ → DeskCall → Type 0
 IsDuty workers processes number (calls.Turn pid) = IsOf workers number processes pid
 IsDuty workers processes number (calls.Reply reply) = number ≡ 0
 IsDuty workers processes number (calls.HandIn pid count) = Unit {0}
@@ -34,7 +34,7 @@ KeepsTo workers processes w =
 abbrev pub AllKeepTo : ℕ → List ℕ → List WorkerView → Type 0
 AllKeepTo workers processes ws = (w : WorkerView) → Contains ws w → KeepsTo workers processes w
 
-abbrev pub IsReply : Call → Type 0
+abbrev pub IsReply : DeskCall → Type 0
 IsReply (calls.Reply reply) = Unit {0}
 IsReply call = ⊥
 

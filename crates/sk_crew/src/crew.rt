@@ -1,6 +1,7 @@
 //! A crew, from its desk and server to the history of its calls.
 ghost use Rattle.std.specs.Prelude.{◌≡◌, ◌≤◌, ◌<◌, [], vec_len, IfOk, IfErr};
 ghost use Rattle.sk_client.specs.Desk.{opened_at, pending};
+ghost use Rattle.sk_workers.specs.declared.worker.TheConstants.{WORKERS_LIMIT};
 ghost use Rattle.sk_workers.specs.History.{Runs, AreFresh};
 ghost use Rattle.sk_workers.specs.Closing.{numbers, AreDistinct, IsClosed};
 ghost use Rattle.sk_crew.specs.Crewed.{IsCrewed, IsRefused, HasCause};
@@ -30,10 +31,10 @@ pub enum CrewFault {
     Close(CloseRefusal),
 }
 
-/// How many workers there are, 1 to 8, how many turns each of them takes at most, and how many
+/// How many workers there are, 1 to `WORKERS_LIMIT`, how many turns each of them takes at most, and how many
 /// private instructions it runs at most outside the lock before each turn.
 #[derive(Clone, Copy, Debug, PartialEq, Eq)]
-pub struct Plan {
+pub struct CrewPlan {
     pub workers: u8,
     pub turns: u32,
     pub ahead: u32,
@@ -46,7 +47,7 @@ fn run_served<L: Ledger + Send + Sync, R: Threads + Wait + Sync, G: Gate + Sync>
     workers: Vec<Worker<L>>,
     server: Server,
     setup: Setup,
-    plan: Plan,
+    plan: CrewPlan,
     gate: &G,
 ) -> Result<(Vec<Worker<L>>, Server), CrewFault>
     requires { 0 < vec_len workers }
@@ -113,13 +114,13 @@ pub fn run_crew<L: Ledger + Send + Sync, R: Threads + Wait + Sync, G: Gate + Syn
     blank: Blank,
     desk: Desk,
     server: Server,
-    plan: Plan,
+    plan: CrewPlan,
     gate: &G,
 ) -> Result<(History, Server), CrewFault>
     // The ledger has a part for each worker, and nothing was done on the desk in its epoch.
     requires ledger { (blank.name ≡ L.name) × (blank.parts ≡ L.parts)
         × (L.parts ≡ plan.workers) }
-    requires count { (1 ≤ plan.workers) × (plan.workers ≤ 8) }
+    requires count { (1 ≤ plan.workers) × (plan.workers ≤ WORKERS_LIMIT) }
     requires opened { desk ≡ opened_at desk.kernel desk.first }
     requires trace { desk.kernel.trace ≡ [] }
     // The calls are of such workers and make one legal history, and nothing is pending at its end.

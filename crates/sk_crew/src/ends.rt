@@ -1,16 +1,14 @@
 //! The two ends of a wire.
 ghost use Rattle.std.specs.Prelude.{◌≡◌, ◌+◌, ◌<◌, ◌^◌, ◌↔◌, length, IfOk, IfErr, OnOk, IsTrue};
 ghost use Rattle.crossbeam_queue.specs.Passes.{view};
+ghost use Rattle.sk_wire.specs.declared.rule.TheConstants.{WIRE_ITEMS};
 ghost use Rattle.sk_wire.specs.Rule.{sender, with_sent};
 ghost use Rattle.sk_wire.specs.Wire.{IsSending, IsReceiving};
 ghost use Rattle.sk_wire.specs.Calls.{PopPost};
 
-use sk_wire::{Numbered, Wire, WirePass};
+use sk_wire::{Numbered, WIRE_ITEMS, Wire, WirePass};
 use std::alloc::{AllocError, Global};
 use std::sync::Wait;
-
-/// A wire takes fewer items than this.
-const WIRE_ITEMS: u64 = 1 << 62;
 
 /// Both passes of a new wire, for items that are numbered from `first` on.
 #[derive(Drop)]
@@ -102,7 +100,7 @@ impl<'a, T: Numbered + Drop> SendingEnd<'a, T> {
 
     /// Whether the item of this number is next.
     fn is_next(&self, number: u64) -> bool
-        ensures { IsTrue result ↔ (number ≡ self.now.next) × (number < self.now.first + 2 ^ 62)
+        ensures { IsTrue result ↔ (number ≡ self.now.next) × (number < self.now.first + WIRE_ITEMS)
             × (number + 1 < 2 ^ 64) }
     {
         number == self.next && number - self.first < WIRE_ITEMS && number < u64::MAX

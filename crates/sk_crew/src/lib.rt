@@ -11,4 +11,4 @@ mod service;
 mod setup;
 mod working;
 
-pub use crew::{CrewFault, Plan, run_crew};
+pub use crew::{CrewFault, CrewPlan, run_crew};

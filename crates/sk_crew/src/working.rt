@@ -9,7 +9,7 @@ ghost use Rattle.sk_crew.specs.Ahead.{TakesTurn};
 ghost use Rattle.sk_crew.specs.Duties.{WorksOn, LeadsOn, AllWorkOn, OnlyReplies};
 
 use crate::carrier::Lead;
-use crate::crew::Plan;
+use crate::crew::CrewPlan;
 use crate::rounds::{Rounds, is_ended};
 use crate::service::Service;
 use sk_client::Turn;
@@ -163,7 +163,7 @@ fn work<L: Ledger, R: Wait, G: Gate>(
     shared: &Shared<L>,
     worker: Worker<L>,
     processes: &[Pid],
-    plan: Plan,
+    plan: CrewPlan,
     gate: &G,
 ) -> Worker<L>
     ensures { WorksOn plan.workers processes.now worker result }
@@ -198,7 +198,7 @@ fn lead_rounds<'a, L: Ledger, R: Wait, G: Gate>(
     shared: &Shared<L>,
     lead: Lead<'a, L>,
     processes: &[Pid],
-    plan: Plan,
+    plan: CrewPlan,
     gate: &G,
 ) -> Lead<'a, L>
     ensures { LeadsOn plan.workers processes.now lead.entry.worker result.worker }
@@ -257,7 +257,7 @@ fn work_all<L: Ledger + Send + Sync, R: Threads + Wait + Sync, G: Gate + Sync>(
     shared: &Shared<L>,
     workers: Vec<Worker<L>>,
     processes: &[Pid],
-    plan: Plan,
+    plan: CrewPlan,
     gate: &G,
 ) -> Vec<Worker<L>>
     ensures work { AllWorkOn plan.workers processes.now workers.items result.items }
@@ -291,7 +291,7 @@ fn work_together<'a, L: Ledger + Send + Sync, R: Threads + Wait + Sync, G: Gate 
     lead: Lead<'a, L>,
     others: Vec<Worker<L>>,
     processes: &[Pid],
-    plan: Plan,
+    plan: CrewPlan,
     gate: &G,
 ) -> (Lead<'a, L>, Vec<Worker<L>>)
     ensures lead { LeadsOn plan.workers processes.now lead.entry.worker result.0.worker }
@@ -327,7 +327,7 @@ pub(crate) fn work_served<'a, L: Ledger + Send + Sync, R: Threads + Wait + Sync,
     shared: &Shared<L>,
     crew: Crew<'a, L>,
     processes: &[Pid],
-    plan: Plan,
+    plan: CrewPlan,
     gate: &G,
 ) -> Crew<'a, L>
     ensures lead { LeadsOn plan.workers processes.now crew.entry.lead.worker result.lead.worker }

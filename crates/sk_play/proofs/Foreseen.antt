@@ -14,14 +14,14 @@ use Rattle.sk_client.specs.declared.world.WorldEvent.{WorldEvent}
 use Rattle.sk_client.specs.WorldView.{WorldView}
 use Rattle.sk_client.specs.Upcoming.{upcoming as upcoming_in}
 use Rattle.sk_client.proofs.Upcoming.{event_foreseen}
-use Rattle.sk_play.specs.declared.answer.Answer.{Answer}
-use Rattle.sk_play.specs.declared.answer.Answer.TheVariants as answers
+use Rattle.sk_play.specs.declared.answer.CallAnswer.{CallAnswer}
+use Rattle.sk_play.specs.declared.answer.CallAnswer.TheVariants as answers
 use Rattle.sk_play.specs.declared.told.WorldTold.{WorldTold}
 use Rattle.sk_play.specs.Session.{AnswerMatches, StepTold, GuessTold, DecisionTold}
 use Rattle.sk_play.specs.Upcoming.{upcoming}
 use Rattle.sk_play.specs.Worlds.{Happens}
 
-step_foreseen : (a : Answer) (refused : Option Refusal) (pid : ℕ) (input : Input) (old new : KernelView) → StepTold a refused (events.Step pid input) old new
+step_foreseen : (a : CallAnswer) (refused : Option Refusal) (pid : ℕ) (input : Input) (old new : KernelView) → StepTold a refused (events.Step pid input) old new
     → IsForeseen (Some (pid, input)) (appended old new)
 step_foreseen answers.Stepped refused pid input old new h = appended_foreseen (Some (pid, input)) old new (events.Step pid input) h.1 refl
 step_foreseen (answers.Refused why) refused pid input old new h = unchanged_foreseen (Some (pid, input)) old new h.1
@@ -30,7 +30,7 @@ step_foreseen answers.Done refused pid input old new h = absurd h
 step_foreseen answers.Gone refused pid input old new h = absurd h
 step_foreseen answers.NoToken refused pid input old new h = absurd h
 
-guess_foreseen : (a : Answer) (refused : Option Refusal) (g pid : ℕ) (input : Input) (old new : KernelView) → GuessTold a refused (events.Guess g pid input) old new
+guess_foreseen : (a : CallAnswer) (refused : Option Refusal) (g pid : ℕ) (input : Input) (old new : KernelView) → GuessTold a refused (events.Guess g pid input) old new
     → IsForeseen (Some (pid, input)) (appended old new)
 guess_foreseen (answers.Guessed id) refused g pid input old new h = appended_foreseen (Some (pid, input)) old new (events.Guess g pid input) h.2 refl
 guess_foreseen (answers.Refused why) refused g pid input old new h = unchanged_foreseen (Some (pid, input)) old new h.1
@@ -39,7 +39,7 @@ guess_foreseen answers.Done refused g pid input old new h = absurd h
 guess_foreseen answers.Gone refused g pid input old new h = absurd h
 guess_foreseen answers.NoToken refused g pid input old new h = absurd h
 
-decision_foreseen : (a : Answer) (e : Event) (held : Bool) (id : ℕ) (old new : KernelView) → IsForeseen None (Some e) → DecisionTold a e held id old new → IsForeseen None (appended old new)
+decision_foreseen : (a : CallAnswer) (e : Event) (held : Bool) (id : ℕ) (old new : KernelView) → IsForeseen None (Some e) → DecisionTold a e held id old new → IsForeseen None (appended old new)
 decision_foreseen answers.Done e held id old new foreseen h = appended_foreseen None old new e h.2 foreseen
 decision_foreseen answers.Gone e held id old new foreseen h = unchanged_foreseen None old new h.2
 decision_foreseen answers.NoToken e held id old new foreseen h = unchanged_foreseen None old new h.1
@@ -47,7 +47,7 @@ decision_foreseen answers.Stepped e held id old new foreseen h = absurd h
 decision_foreseen (answers.Guessed other) e held id old new foreseen h = absurd h
 decision_foreseen (answers.Refused why) e held id old new foreseen h = absurd h
 
-pub call_foreseen : (a : Answer) (s : Call) (held : List ℕ) (old new : KernelView) → AnswerMatches a s held old new → IsForeseen (upcoming s) (appended old new)
+pub call_foreseen : (a : CallAnswer) (s : Call) (held : List ℕ) (old new : KernelView) → AnswerMatches a s held old new → IsForeseen (upcoming s) (appended old new)
 call_foreseen a (calls.Step pid input) held old new h = step_foreseen a _ pid input old new h
 call_foreseen a (calls.Guess pid input) held old new h = guess_foreseen a _ (next_guess old) pid input old new h
 call_foreseen a (calls.Commit id) held old new h = decision_foreseen a (events.Commit id) (has id held) id old new tt h

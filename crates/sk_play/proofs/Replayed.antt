@@ -4,7 +4,7 @@ use Rattle.std.proofs.lemmas.List.{append-nil, append_assoc}
 use Rattle.sk_trace.specs.declared.event.Event.{Event}
 use Rattle.sk_trace.specs.declared.event.Event.TheVariants as events
 use Rattle.sk_kernel.specs.Kernel.{KernelView, with_event}
-use Rattle.sk_play.specs.declared.answer.Answer.{Answer}
+use Rattle.sk_play.specs.declared.answer.CallAnswer.{CallAnswer}
 use Rattle.sk_play.specs.Session.{AnswerMatches, held_after}
 use Rattle.sk_play.specs.Plays.{Plays}
 use Rattle.sk_play.specs.Replays.{Replays, StopsAt, call_of, told_by, replayed}
@@ -14,7 +14,7 @@ map_more : {A B : Type 0} (f : A → B) (xs : List A) (x : A) → map f (xs ++ x
 map_more f [] x = refl
 map_more f (y ∷ xs) x = ap (λ ys. f y ∷ ys) (map_more f xs x)
 
-pub replays_more : (es : List Event) (e : Event) (a : Answer) (ts us : List ℕ) (k mid last : KernelView) → Replays es ts k us mid → a ≡ told_by e → AnswerMatches a (call_of e) us mid last
+pub replays_more : (es : List Event) (e : Event) (a : CallAnswer) (ts us : List ℕ) (k mid last : KernelView) → Replays es ts k us mid → a ≡ told_by e → AnswerMatches a (call_of e) us mid last
     → Replays (es ++ e ∷ []) ts k (held_after a (call_of e) us) last
 replays_more es e a ts us k mid last p is told =
     subst (λ cs. Plays cs (map told_by (es ++ e ∷ [])) ts k (held_after a (call_of e) us) last) (sym (map_more call_of es e))
@@ -22,7 +22,7 @@ replays_more es e a ts us k mid last p is told =
     (plays_more (map call_of es) (map told_by es) (call_of e) a ts us k mid last p told))
 
 -- the place of the first event that does not happen parts the trace
-pub stops_at : (es : List Event) (i at : ℕ) (e : Event) (a : Answer) (ts us : List ℕ) (k mid last : KernelView) → i < length es → e ≡ get_or es i e → at ≡ i + 1 → Replays (take i es) ts k us mid
+pub stops_at : (es : List Event) (i at : ℕ) (e : Event) (a : CallAnswer) (ts us : List ℕ) (k mid last : KernelView) → i < length es → e ≡ get_or es i e → at ≡ i + 1 → Replays (take i es) ts k us mid
     → AnswerMatches a (call_of e) us mid last → ¬ (a ≡ told_by e) → StopsAt es ts k at
 stops_at es i at e a ts us k mid last within item place p told other = record {
   before = take i es;

@@ -6,19 +6,19 @@ use Rattle.std.proofs.lemmas.List.{append_assoc}
 use Rattle.std.proofs.lemmas.List.{append-nil}
 use Rattle.sk_scenario.specs.declared.call.Call.{Call}
 use Rattle.sk_kernel.specs.Kernel.{KernelView}
-use Rattle.sk_play.specs.declared.answer.Answer.{Answer}
+use Rattle.sk_play.specs.declared.answer.CallAnswer.{CallAnswer}
 use Rattle.sk_play.specs.Session.{AnswerMatches, held_after}
 use Rattle.sk_play.specs.Played.{answer_line}
 use Rattle.sk_play.specs.Plays.{Plays, Tells, Reported}
 
-pub plays_more : (ss : List Call) (bs : List Answer) (s : Call) (a : Answer) (ts us : List ℕ) (k mid last : KernelView) → Plays ss bs ts k us mid → AnswerMatches a s us mid last
+pub plays_more : (ss : List Call) (bs : List CallAnswer) (s : Call) (a : CallAnswer) (ts us : List ℕ) (k mid last : KernelView) → Plays ss bs ts k us mid → AnswerMatches a s us mid last
     → Plays (ss ++ s ∷ []) (bs ++ a ∷ []) ts k (held_after a s us) last
 plays_more [] [] s a ts us k mid last p told = rw (← p.0, ← p.1) (last, told, (refl, refl))
 plays_more [] (b ∷ bs) s a ts us k mid last p told = absurd p
 plays_more (x ∷ ss) [] s a ts us k mid last p told = absurd p
 plays_more (x ∷ ss) (b ∷ bs) s a ts us k mid last p told = (p.0, p.1, plays_more ss bs s a (held_after b x ts) us p.0 mid last p.2 told)
 
-pub tells_more : (beside : KernelView → KernelView → List ℕ) (n : ℕ) (ss : List Call) (s : Call) (a : Answer) (ts us : List ℕ) (k mid last : KernelView) (text : List ℕ)
+pub tells_more : (beside : KernelView → KernelView → List ℕ) (n : ℕ) (ss : List Call) (s : Call) (a : CallAnswer) (ts us : List ℕ) (k mid last : KernelView) (text : List ℕ)
     → Tells beside n ss ts k us mid text → AnswerMatches a s us mid last
     → Tells beside n (ss ++ s ∷ []) ts k (held_after a s us) last (text ++ (answer_line (n + length ss) a ++ beside mid last))
 tells_more beside n [] s a ts us k mid last text p told =

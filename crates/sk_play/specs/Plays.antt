@@ -4,7 +4,7 @@ use Rattle.std.specs.Io.KnownBytes.{Appends}
 use Rattle.sk_scenario.specs.Declarations.{Declared}
 use Rattle.sk_scenario.specs.declared.call.Call.{Call}
 use Rattle.sk_kernel.specs.Kernel.{KernelView, booted}
-use Rattle.sk_play.specs.declared.answer.Answer.{Answer}
+use Rattle.sk_play.specs.declared.answer.CallAnswer.{CallAnswer}
 use Rattle.sk_play.specs.Session.{AnswerMatches, held_after}
 use Rattle.sk_play.specs.Played.{answer_line}
 
@@ -13,7 +13,7 @@ abbrev pub declared_kernel : Declared → KernelView
 declared_kernel d = booted (unwrap_or d.number 1) d.boot (unwrap_or d.limit 1000000)
 
 -- from these held guesses and this kernel on, the steps are answered so in turn, which leaves those guesses held and that kernel
-abbrev pub Plays : List Call → List Answer → List ℕ → KernelView → List ℕ → KernelView → Type 0
+abbrev pub Plays : List Call → List CallAnswer → List ℕ → KernelView → List ℕ → KernelView → Type 0
 Plays [] [] held kernel left last = (left ≡ held) × (last ≡ kernel)
 Plays [] (a ∷ answers) held kernel left last = ⊥
 Plays (s ∷ steps) [] held kernel left last = ⊥
@@ -24,13 +24,13 @@ Plays (s ∷ steps) (a ∷ answers) held kernel left last =
 abbrev pub TellsOne :
     (KernelView → KernelView → List ℕ) → ℕ → Call → List ℕ → KernelView → List ℕ → KernelView → Option (List ℕ) → Option (List ℕ) → Type 0
 TellsOne beside number s held kernel left next old new =
-    (a : Answer) × AnswerMatches a s held kernel next × (left ≡ held_after a s held) × Appends old new (answer_line number a ++ beside kernel next)
+    (a : CallAnswer) × AnswerMatches a s held kernel next × (left ≡ held_after a s held) × Appends old new (answer_line number a ++ beside kernel next)
 
 -- the steps are answered in turn, numbered from here, and this text is told of them
 abbrev pub Tells : (KernelView → KernelView → List ℕ) → ℕ → List Call → List ℕ → KernelView → List ℕ → KernelView → List ℕ → Type 0
 Tells beside number [] held kernel left last text = (left ≡ held) × (last ≡ kernel) × (text ≡ [])
 Tells beside number (s ∷ steps) held kernel left last text =
-    (a : Answer) × (next : KernelView) × (rest : List ℕ) × AnswerMatches a s held kernel next
+    (a : CallAnswer) × (next : KernelView) × (rest : List ℕ) × AnswerMatches a s held kernel next
     × (text ≡ (answer_line number a ++ beside kernel next) ++ rest) × Tells beside (number + 1) steps (held_after a s held) next left last rest
 
 -- and it is written

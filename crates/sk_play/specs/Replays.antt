@@ -5,8 +5,8 @@ use Rattle.sk_trace.specs.declared.event.Event.TheVariants as events
 use Rattle.sk_scenario.specs.declared.call.Call.{Call}
 use Rattle.sk_scenario.specs.declared.call.Call.TheVariants as calls
 use Rattle.sk_kernel.specs.Kernel.{KernelView}
-use Rattle.sk_play.specs.declared.answer.Answer.{Answer}
-use Rattle.sk_play.specs.declared.answer.Answer.TheVariants as answers
+use Rattle.sk_play.specs.declared.answer.CallAnswer.{CallAnswer}
+use Rattle.sk_play.specs.declared.answer.CallAnswer.TheVariants as answers
 use Rattle.sk_play.specs.declared.replaying.Unreplayed.{Unreplayed}
 use Rattle.sk_play.specs.declared.replaying.Unreplayed.TheVariants as unreplayed
 use Rattle.sk_play.specs.Session.{AnswerMatches}
@@ -19,7 +19,7 @@ call_of (events.Commit id) = calls.Commit id
 call_of (events.Fail id) = calls.Fail id
 
 -- the answer that the event tells
-abbrev pub told_by : Event → Answer
+abbrev pub told_by : Event → CallAnswer
 told_by (events.Step pid input) = answers.Stepped
 told_by (events.Guess id pid input) = answers.Guessed id
 told_by (events.Commit id) = answers.Done
@@ -41,7 +41,7 @@ pub record StopsAt (es : List Event) (held : List ℕ) (kernel : KernelView) (at
   pub here : KernelView
   pub replays : Replays before held kernel left here
   -- and then its call is answered
-  pub answer : Answer
+  pub answer : CallAnswer
   pub next : KernelView
   pub answered : AnswerMatches answer (call_of event) left here next
   pub other : ¬ (answer ≡ told_by event)

@@ -13,13 +13,13 @@ use Rattle.sk_kernel.specs.Kernel.{KernelView, HasStatus, next_guess, with_event
 use Rattle.sk_kernel.specs.declared.kernel.Outcome.{Outcome}
 use Rattle.sk_kernel.specs.declared.kernel.Outcome.TheVariants as outcomes
 use Rattle.sk_holder.specs.Holder.{but}
-use Rattle.sk_play.specs.declared.answer.Answer.{Answer}
-use Rattle.sk_play.specs.declared.answer.Answer.TheVariants as answers
+use Rattle.sk_play.specs.declared.answer.CallAnswer.{CallAnswer}
+use Rattle.sk_play.specs.declared.answer.CallAnswer.TheVariants as answers
 
 -- ---- what the run answers, in terms of the kernel's calls
 
 -- a step: it is taken, or the first cause that stands against it is told and nothing changes
-abbrev pub StepTold : Answer → Option Refusal → Event → KernelView → KernelView → Type 0
+abbrev pub StepTold : CallAnswer → Option Refusal → Event → KernelView → KernelView → Type 0
 StepTold answers.Stepped refused event old new = (refused ≡ None) × (new ≡ with_event old event)
 StepTold (answers.Refused why) refused event old new = (refused ≡ Some why) × (new ≡ old)
 StepTold (answers.Guessed id) refused event old new = ⊥
@@ -28,7 +28,7 @@ StepTold answers.Gone refused event old new = ⊥
 StepTold answers.NoToken refused event old new = ⊥
 
 -- the same for a guess, whose number is the next one
-abbrev pub GuessTold : Answer → Option Refusal → Event → KernelView → KernelView → Type 0
+abbrev pub GuessTold : CallAnswer → Option Refusal → Event → KernelView → KernelView → Type 0
 GuessTold (answers.Guessed id) refused event old new = (refused ≡ None) × (id ≡ next_guess old) × (new ≡ with_event old event)
 GuessTold (answers.Refused why) refused event old new = (refused ≡ Some why) × (new ≡ old)
 GuessTold answers.Stepped refused event old new = ⊥
@@ -37,7 +37,7 @@ GuessTold answers.Gone refused event old new = ⊥
 GuessTold answers.NoToken refused event old new = ⊥
 
 -- the guesses that are held, and one that was drawn
-abbrev pub with_guess : Answer → List ℕ → List ℕ
+abbrev pub with_guess : CallAnswer → List ℕ → List ℕ
 with_guess (answers.Guessed id) held = held ++ id ∷ []
 with_guess answers.Stepped held = held
 with_guess answers.Done held = held
@@ -46,13 +46,13 @@ with_guess answers.NoToken held = held
 with_guess (answers.Refused why) held = held
 
 -- what a decision is told as; without a token nothing comes of it
-abbrev pub decision_told : Option Outcome → Answer
+abbrev pub decision_told : Option Outcome → CallAnswer
 decision_told (Some outcomes.Done) = answers.Done
 decision_told (Some outcomes.Gone) = answers.Gone
 decision_told None = answers.NoToken
 
 -- a decision: the guess of a held token is decided, or was struck before; without a token nothing changes
-abbrev pub DecisionTold : Answer → Event → Bool → ℕ → KernelView → KernelView → Type 0
+abbrev pub DecisionTold : CallAnswer → Event → Bool → ℕ → KernelView → KernelView → Type 0
 DecisionTold answers.Done event held id old new = (held ≡ true) × HasStatus old id Undecided × (new ≡ with_event old event)
 DecisionTold answers.Gone event held id old new = (held ≡ true) × HasStatus old id Struck × (new ≡ old)
 DecisionTold answers.NoToken event held id old new = (held ≡ false) × (new ≡ old)
@@ -64,7 +64,7 @@ abbrev pub entry : ℕ → Input → Option ℕ → EntryView
 entry pid input guess = record { pid = pid; input = input; guess = guess }
 
 -- what is answered to one step of a scenario, where these guesses are held, and what it leaves
-abbrev pub AnswerMatches : Answer → Call → List ℕ → KernelView → KernelView → Type 0
+abbrev pub AnswerMatches : CallAnswer → Call → List ℕ → KernelView → KernelView → Type 0
 AnswerMatches answer (calls.Step pid input) held old new = StepTold answer (step_refused old (entry pid input None)) (events.Step pid input) old new
 AnswerMatches answer (calls.Guess pid input) held old new =
     GuessTold answer (guess_refused old (entry pid input (Some (next_guess old)))) (events.Guess (next_guess old) pid input) old new
@@ -79,7 +79,7 @@ CanWantMemory (calls.Commit id) kernel = ⊥
 CanWantMemory (calls.Fail id) kernel = ⊥
 
 -- the guesses whose tokens are held after a step of a scenario: a guess gives one token, and a decision spends one
-abbrev pub held_after : Answer → Call → List ℕ → List ℕ
+abbrev pub held_after : CallAnswer → Call → List ℕ → List ℕ
 held_after answer (calls.Step pid input) held = held
 held_after answer (calls.Guess pid input) held = with_guess answer held
 held_after answer (calls.Commit id) held = but id held

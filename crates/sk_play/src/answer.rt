@@ -11,7 +11,7 @@ use std::{fmt, io};
 
 /// The answer to one step.
 #[derive(Clone, Copy, Debug, PartialEq, Eq)]
-pub enum Answer {
+pub enum CallAnswer {
     Stepped,
     Guessed(GuessId),
     Done,
@@ -21,20 +21,20 @@ pub enum Answer {
     Refused(Refusal),
 }
 
-impl fmt::Display for Answer {
+impl fmt::Display for CallAnswer {
     ghost output = { λ answer. Some (answer_text answer) };
 
     fn fmt<W: fmt::Write>(&self, f: &mut fmt::Formatter<W>) -> fmt::Result {
         match self {
-            Answer::Stepped => f.write_str("stepped"),
-            Answer::Guessed(id) => {
+            CallAnswer::Stepped => f.write_str("stepped"),
+            CallAnswer::Guessed(id) => {
                 let number = id.number();
                 write!(f, "guess {number}")
             }
-            Answer::Done => f.write_str("done"),
-            Answer::Gone => f.write_str("gone"),
-            Answer::NoToken => f.write_str("no token"),
-            Answer::Refused(refusal) => {
+            CallAnswer::Done => f.write_str("done"),
+            CallAnswer::Gone => f.write_str("gone"),
+            CallAnswer::NoToken => f.write_str("no token"),
+            CallAnswer::Refused(refusal) => {
                 let refusal = PrintedRefusal(*refusal);
                 write!(f, "refused {refusal}")
             }
@@ -43,13 +43,14 @@ impl fmt::Display for Answer {
 }
 
 /// Writes what the event of this number was answered.
-pub fn write_answer<W: Write>(number: usize, answer: &Answer, out: &mut W) -> io::Result<()>
-    ensures { OnOk result (Appends (W.contents out.old) (W.contents out.new) (answer_line number answer.now)) }
+pub fn write_answer<W: Write>(number: usize, answer: &CallAnswer, out: &mut W) -> io::Result<()>
+    ensures { OnOk result
+        (Appends (W.contents out.old) (W.contents out.new) (answer_line number answer.now)) }
 {
     match answer {
-        Answer::Stepped => write_words(number, b" stepped\n", out),
-        Answer::Guessed(id) => write_counted(number, b" guess ", id.number(), out),
-        Answer::Done => write_words(number, b" done\n", out),
+        CallAnswer::Stepped => write_words(number, b" stepped\n", out),
+        CallAnswer::Guessed(id) => write_counted(number, b" guess ", id.number(), out),
+        CallAnswer::Done => write_words(number, b" done\n", out),
         _ => writeln!(out, "{number} {answer}"),
     }
 }

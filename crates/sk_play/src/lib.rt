@@ -11,7 +11,7 @@ pub mod told;
 pub mod worlds;
 
 pub use ahead::upcoming;
-pub use answer::{Answer, write_answer};
+pub use answer::{CallAnswer, write_answer};
 pub use replaying::{Unreplayed, replay};
 pub use session::Session;
 pub use told::{WorldTold, write_told};

@@ -39,7 +39,8 @@ fn put(number: u64, words: &[u8], line: &mut [u8], end: usize) -> usize
 #[inline(always)]
 pub(crate) fn write_words<W: Write>(number: usize, words: &[u8], out: &mut W) -> io::Result<()>
     requires { DIGITS + length words.now ≤ LINE }
-    ensures { OnOk result (Appends (W.contents out.old) (W.contents out.new) (decimal number ++ words.now)) }
+    ensures { OnOk result
+        (Appends (W.contents out.old) (W.contents out.new) (decimal number ++ words.now)) }
 {
     let mut line = [b'\n'; LINE];
     let start = put(number as u64, words, &mut line, LINE);
@@ -54,7 +55,9 @@ pub(crate) fn write_counted<W: Write>(
     out: &mut W,
 ) -> io::Result<()>
     requires { DIGITS + length words.now + DIGITS < LINE }
-    ensures { OnOk result (Appends (W.contents out.old) (W.contents out.new) (decimal number ++ words.now ++ decimal other ++ 10 ∷ [])) }
+    ensures { OnOk result
+        (Appends (W.contents out.old) (W.contents out.new)
+        (decimal number ++ words.now ++ decimal other ++ 10 ∷ [])) }
 {
     let mut line = [b'\n'; LINE];
     let end = put(other, b"", &mut line, LINE - 1);

@@ -3,7 +3,7 @@ ghost use Rattle.std.specs.Prelude.{◌≡◌, IfOk};
 ghost use Rattle.sk_play.specs.Replays.{call_of, told_by, ReplaysSo};
 ghost use Rattle.sk_play.specs.Session.{held_after, AnswerMatches};
 
-use crate::{Answer, Session};
+use crate::{CallAnswer, Session};
 use sk_scenario::Call;
 use sk_trace::Event;
 use std::alloc::AllocError;
@@ -31,9 +31,13 @@ impl From<AllocError> for Unreplayed {
 }
 
 /// Makes the call of an event.
-fn call_again(session: &mut Session, event: &Event) -> Result<Answer, AllocError>
-    ensures held { IfOk result (λ answer. session.new.holder.held ≡ held_after answer (call_of event.now) session.old.holder.held) }
-    ensures told { IfOk result (λ answer. AnswerMatches answer (call_of event.now) session.old.holder.held session.old.holder.kernel session.new.holder.kernel) }
+fn call_again(session: &mut Session, event: &Event) -> Result<CallAnswer, AllocError>
+    ensures held { IfOk result
+        (λ answer. session.new.holder.held
+        ≡ held_after answer (call_of event.now) session.old.holder.held) }
+    ensures told { IfOk result
+        (λ answer. AnswerMatches answer (call_of event.now) session.old.holder.held
+        session.old.holder.kernel session.new.holder.kernel) }
 {
     match event {
         Event::Step { pid, input } => session.step(*pid, input.lend()),
@@ -44,20 +48,21 @@ fn call_again(session: &mut Session, event: &Event) -> Result<Answer, AllocError
 }
 
 /// The answer that an event tells.
-fn told_by(event: &Event) -> Answer
+fn told_by(event: &Event) -> CallAnswer
     ensures { result ≡ told_by event.now }
 {
     match event {
-        Event::Step { .. } => Answer::Stepped,
-        Event::Guess { id, .. } => Answer::Guessed(*id),
-        Event::Commit(_) | Event::Fail(_) => Answer::Done,
+        Event::Step { .. } => CallAnswer::Stepped,
+        Event::Guess { id, .. } => CallAnswer::Guessed(*id),
+        Event::Commit(_) | Event::Fail(_) => CallAnswer::Done,
     }
 }
 
 /// Makes the call of each event in order. It stops at the first that is answered otherwise than the
 /// trace has it: refused, gone, without a token, or with another guess.
 pub fn replay(session: &mut Session, events: &[Event]) -> Result<(), Unreplayed>
-    ensures { ReplaysSo result events.now session.old.holder.held session.old.holder.kernel session.new.holder.held session.new.holder.kernel }
+    ensures { ReplaysSo result events.now session.old.holder.held session.old.holder.kernel
+        session.new.holder.held session.new.holder.kernel }
 {
     for (place, event) in events.iter().enumerate() {
         let answer = call_again(session, event)?;

@@ -8,7 +8,7 @@ ghost use Rattle.sk_trace.specs.Kept.{input_in};
 ghost use Rattle.sk_trace.specs.declared.event.Event.TheVariants as events;
 ghost use Rattle.sk_plain.specs.Refusal.{cause};
 
-use crate::answer::Answer;
+use crate::answer::CallAnswer;
 use sk_holder::Holder;
 use sk_ids::Pid;
 use sk_kernel::{Kernel, Outcome};
@@ -40,7 +40,8 @@ pub(crate) fn declared_kernel(
 impl Session {
     /// The kernel that a scenario declares, at its start. It has no token.
     pub fn new(alloc: Global, declarations: &Declarations) -> Result<Session, AllocError>
-        ensures { IfOk result (λ session. session.holder ≡ holding (declared_kernel declarations.now)) }
+        ensures { IfOk result
+            (λ session. session.holder ≡ holding (declared_kernel declarations.now)) }
     {
         let kernel = declared_kernel(alloc, declarations)?;
         Ok(Session {
@@ -57,11 +58,14 @@ impl Session {
 
     /// Makes the call that a step says. Memory is wanted only where nothing else stands against the call, and then
     /// nothing changes. A commit and a failure take none.
-    pub fn execute(&mut self, step: &Call) -> Result<Answer, AllocError>
-        ensures held { IfOk result (λ answer. self.new.holder.held ≡ held_after answer step.now self.old.holder.held) }
+    pub fn execute(&mut self, step: &Call) -> Result<CallAnswer, AllocError>
+        ensures held { IfOk result
+            (λ answer. self.new.holder.held ≡ held_after answer step.now self.old.holder.held) }
         ensures told { MatchResult result
-            (λ answer. AnswerMatches answer step.now self.old.holder.held self.old.holder.kernel self.new.holder.kernel)
-            (λ _. CanWantMemory step.now self.old.holder.kernel × (self.new.holder ≡ self.old.holder)) }
+            (λ answer. AnswerMatches answer step.now self.old.holder.held self.old.holder.kernel
+            self.new.holder.kernel)
+            (λ _. CanWantMemory step.now self.old.holder.kernel
+            × (self.new.holder ≡ self.old.holder)) }
     {
         match step {
             Call::Step(pid, input) => self.step(*pid, input.lend()),
@@ -71,27 +75,32 @@ impl Session {
         }
     }
 
-    pub(crate) fn step(&mut self, pid: Pid, input: InputRef<'_>) -> Result<Answer, AllocError>
+    pub(crate) fn step(&mut self, pid: Pid, input: InputRef<'_>) -> Result<CallAnswer, AllocError>
         ensures held { self.new.holder.held ≡ self.old.holder.held }
         ensures told { let refused = step_refused self.old.holder.kernel (entry pid (input_in input.entry) None) in
-            MatchResult result (λ answer. StepTold answer refused (events.Step pid (input_in input.entry)) self.old.holder.kernel self.new.holder.kernel)
+            MatchResult result
+            (λ answer. StepTold answer refused (events.Step pid (input_in input.entry))
+            self.old.holder.kernel self.new.holder.kernel)
             (λ _. (refused ≡ None) × (self.new.holder ≡ self.old.holder)) }
     {
         match self.holder.step(pid, input) {
-            Ok(()) => Ok(Answer::Stepped),
+            Ok(()) => Ok(CallAnswer::Stepped),
             Err(refusal) => refused(refusal),
         }
     }
 
-    pub(crate) fn guess(&mut self, pid: Pid, input: InputRef<'_>) -> Result<Answer, AllocError>
-        ensures held { IfOk result (λ answer. self.new.holder.held ≡ with_guess answer self.old.holder.held) }
+    pub(crate) fn guess(&mut self, pid: Pid, input: InputRef<'_>) -> Result<CallAnswer, AllocError>
+        ensures held { IfOk result
+            (λ answer. self.new.holder.held ≡ with_guess answer self.old.holder.held) }
         ensures told { let next = next_guess self.old.holder.kernel in
             let refused = guess_refused self.old.holder.kernel (entry pid (input_in input.entry) (Some next)) in
-            MatchResult result (λ answer. GuessTold answer refused (events.Guess next pid (input_in input.entry)) self.old.holder.kernel self.new.holder.kernel)
+            MatchResult result
+            (λ answer. GuessTold answer refused (events.Guess next pid (input_in input.entry))
+            self.old.holder.kernel self.new.holder.kernel)
             (λ _. (refused ≡ None) × (self.new.holder ≡ self.old.holder)) }
     {
         match self.holder.guess(pid, input) {
-            Ok(id) => Ok(Answer::Guessed(id)),
+            Ok(id) => Ok(CallAnswer::Guessed(id)),
             Err(refusal) => refused(refusal),
         }
     }
@@ -104,22 +113,24 @@ impl Session {
 }
 
 /// A refusal that is an answer; want of memory is none.
-fn refused(refusal: Refusal) -> Result<Answer, AllocError>
-    ensures { MatchResult result (λ answer. (answer ≡ Answer.Refused refusal) × (cause refusal ≡ Some refusal)) (λ _. cause refusal ≡ None) }
+fn refused(refusal: Refusal) -> Result<CallAnswer, AllocError>
+    ensures { MatchResult result
+        (λ answer. (answer ≡ CallAnswer.Refused refusal) × (cause refusal ≡ Some refusal))
+        (λ _. cause refusal ≡ None) }
 {
     match refusal {
         Refusal::Memory => Err(AllocError),
-        _ => Ok(Answer::Refused(refusal)),
+        _ => Ok(CallAnswer::Refused(refusal)),
     }
 }
 
 /// What a decision is answered, of which nothing came where there was no token.
-fn answer_of(decided: Option<Outcome>) -> Answer
+fn answer_of(decided: Option<Outcome>) -> CallAnswer
     ensures { result ≡ decision_told decided }
 {
     match decided {
-        Some(Outcome::Done) => Answer::Done,
-        Some(Outcome::Gone) => Answer::Gone,
-        None => Answer::NoToken,
+        Some(Outcome::Done) => CallAnswer::Done,
+        Some(Outcome::Gone) => CallAnswer::Gone,
+        None => CallAnswer::NoToken,
     }
 }

@@ -128,7 +128,9 @@ impl fmt::Display for WorldTold {
 
 /// Writes what a turn did, in the line of its event.
 pub(crate) fn write_turn<W: Write>(number: usize, turn: &Turn, out: &mut W) -> io::Result<()>
-    ensures { OnOk result (Appends (W.contents out.old) (W.contents out.new) (told_line number (tells.Answered (answers.Turn turn.now)))) }
+    ensures { OnOk result
+        (Appends (W.contents out.old) (W.contents out.new)
+        (told_line number (tells.Answered (answers.Turn turn.now)))) }
 {
     match turn {
         Turn::Stepped => write_words(number, b" stepped\n", out),
@@ -139,7 +141,9 @@ pub(crate) fn write_turn<W: Write>(number: usize, turn: &Turn, out: &mut W) -> i
 
 /// Writes what the server answered, in the line of its event: of a content its version.
 pub(crate) fn write_reply<W: Write>(number: usize, reply: &Reply, out: &mut W) -> io::Result<()>
-    ensures { OnOk result (Appends (W.contents out.old) (W.contents out.new) (told_line number (tells.Answered (answers.Served reply.now)))) }
+    ensures { OnOk result
+        (Appends (W.contents out.old) (W.contents out.new)
+        (told_line number (tells.Answered (answers.Served reply.now)))) }
 {
     match &reply.answer {
         Answer::Yes => write_words(number, b" yes\n", out),
@@ -151,7 +155,9 @@ pub(crate) fn write_reply<W: Write>(number: usize, reply: &Reply, out: &mut W) -
 
 /// Writes what a reply did, in the line of its event.
 pub(crate) fn write_given<W: Write>(number: usize, given: &Given, out: &mut W) -> io::Result<()>
-    ensures { OnOk result (Appends (W.contents out.old) (W.contents out.new) (told_line number (tells.Answered (answers.Given given.now)))) }
+    ensures { OnOk result
+        (Appends (W.contents out.old) (W.contents out.new)
+        (told_line number (tells.Answered (answers.Given given.now)))) }
 {
     match given {
         Given::Committed(id) => write_counted(number, b" committed ", id.number(), out),
@@ -164,7 +170,8 @@ pub(crate) fn write_given<W: Write>(number: usize, given: &Given, out: &mut W) -
 
 /// Writes what is told of the event of this number.
 pub fn write_told<W: Write>(number: usize, told: &WorldTold, out: &mut W) -> io::Result<()>
-    ensures { OnOk result (Appends (W.contents out.old) (W.contents out.new) (told_line number told.now)) }
+    ensures { OnOk result
+        (Appends (W.contents out.old) (W.contents out.new) (told_line number told.now)) }
 {
     match told {
         WorldTold::Answered(WorldAnswer::Turn(turn)) => write_turn(number, turn, out),

@@ -53,7 +53,8 @@ fn seeded(alloc: Global, remotes: &[Remote]) -> Result<Server, AllocError>
 
 /// Lets an event happen. A refusal is told, but want of memory.
 pub fn happen(world: &mut World, event: &WorldEvent) -> Result<WorldTold, AllocError>
-    ensures { MatchResult result (λ told. Happens (Some told) world.old event.now world.new) (λ _. Happens None world.old event.now world.new) }
+    ensures { MatchResult result (λ told. Happens (Some told) world.old event.now world.new)
+        (λ _. Happens None world.old event.now world.new) }
 {
     match world.event(event) {
         Ok(answer) => Ok(WorldTold::Answered(answer)),
@@ -87,7 +88,9 @@ pub fn happen_told<W: Write>(
 
 /// Writes that an edit made this version.
 fn write_edited<W: Write>(number: usize, version: u64, out: &mut W) -> io::Result<()>
-    ensures { OnOk result (Appends (W.contents out.old) (W.contents out.new) (told_line number (tells.Answered (answers.Edited version)))) }
+    ensures { OnOk result
+        (Appends (W.contents out.old) (W.contents out.new)
+        (told_line number (tells.Answered (answers.Edited version)))) }
 {
     let told = WorldTold::Answered(WorldAnswer::Edited(version));
     write_told(number, &told, out)
@@ -110,7 +113,8 @@ fn write_cause<W: Write>(
 
 /// What is told of a refused event.
 fn told_of_cause(cause: Cause) -> Result<WorldTold, AllocError>
-    ensures { MatchResult result (λ told. cause_told cause ≡ Some told) (λ _. cause_told cause ≡ None) }
+    ensures { MatchResult result (λ told. cause_told cause ≡ Some told)
+        (λ _. cause_told cause ≡ None) }
 {
     match cause {
         Cause::Turn(refusal) => told_of_turn(refusal),
@@ -122,7 +126,8 @@ fn told_of_cause(cause: Cause) -> Result<WorldTold, AllocError>
 
 /// What is told of a refused turn.
 fn told_of_turn(refusal: Refusal) -> Result<WorldTold, AllocError>
-    ensures { MatchResult result (λ told. turn_told refusal ≡ Some told) (λ _. turn_told refusal ≡ None) }
+    ensures { MatchResult result (λ told. turn_told refusal ≡ Some told)
+        (λ _. turn_told refusal ≡ None) }
 {
     match refusal {
         Refusal::Memory => Err(AllocError),
@@ -132,7 +137,8 @@ fn told_of_turn(refusal: Refusal) -> Result<WorldTold, AllocError>
 
 /// What is told of a refused edit.
 fn told_of_edit(refusal: EditRefusal) -> Result<WorldTold, AllocError>
-    ensures { MatchResult result (λ told. edit_told refusal ≡ Some told) (λ _. edit_told refusal ≡ None) }
+    ensures { MatchResult result (λ told. edit_told refusal ≡ Some told)
+        (λ _. edit_told refusal ≡ None) }
 {
     match refusal {
         EditRefusal::Version(_) => Ok(WorldTold::OtherVersion),

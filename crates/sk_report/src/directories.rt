@@ -49,7 +49,9 @@ fn names_of<'a>(entities: &'a [Entity], directory: &ObjId) -> &'a [Entity]
 
 /// Writes a name and its object.
 fn write_link<S: Subject, W: Write>(subject: &S, link: &Entity, out: &mut W) -> io::Result<()>
-    ensures { OnOk result (Appends (W.contents out.old) (W.contents out.new) (link_text (S.look subject.now) link.now)) }
+    ensures { OnOk result
+        (Appends (W.contents out.old) (W.contents out.new)
+        (link_text (S.look subject.now) link.now)) }
 {
     if let Entity::Link(_, name) = link {
         write!(out, "{}", Printed(*name))?;
@@ -63,7 +65,9 @@ fn write_link<S: Subject, W: Write>(subject: &S, link: &Entity, out: &mut W) -> 
 
 /// Writes the names of a directory behind the first, each behind a space.
 fn write_more<S: Subject, W: Write>(subject: &S, links: &[Entity], out: &mut W) -> io::Result<()>
-    ensures { OnOk result (Appends (W.contents out.old) (W.contents out.new) (flat_map (λ link. 32 ∷ link_text (S.look subject.now) link) links.now)) }
+    ensures { OnOk result
+        (Appends (W.contents out.old) (W.contents out.new)
+        (flat_map (λ link. 32 ∷ link_text (S.look subject.now) link) links.now)) }
 {
     for link in links {
         write!(out, " ")?;
@@ -78,7 +82,9 @@ fn write_directory<S: Subject, W: Write>(
     links: &[Entity],
     out: &mut W,
 ) -> io::Result<()>
-    ensures { OnOk result (Appends (W.contents out.old) (W.contents out.new) (directory_text (S.look subject.now) links.now)) }
+    ensures { OnOk result
+        (Appends (W.contents out.old) (W.contents out.new)
+        (directory_text (S.look subject.now) links.now)) }
 {
     write!(out, "dir ")?;
     match links {
@@ -98,7 +104,9 @@ fn write_gathered<S: Subject, W: Write>(
     out: &mut W,
 ) -> io::Result<()>
     requires { IsStrictlySortedBy entity_cmp entities.now }
-    ensures { OnOk result (Appends (W.contents out.old) (W.contents out.new) (gathered_at (S.look subject.now) entities.now entity.now)) }
+    ensures { OnOk result
+        (Appends (W.contents out.old) (W.contents out.new)
+        (gathered_at (S.look subject.now) entities.now entity.now)) }
 {
     match entity {
         Entity::Obj(directory) => write_directory(subject, names_of(entities, directory), out),
@@ -117,7 +125,9 @@ pub fn write_held<S: Subject, W: Write>(
     out: &mut W,
 ) -> io::Result<()>
     requires { IsStrictlySortedBy entity_cmp entities.now }
-    ensures { OnOk result (Appends (W.contents out.old) (W.contents out.new) (held_there (S.look subject.now) entities.now entity.now)) }
+    ensures { OnOk result
+        (Appends (W.contents out.old) (W.contents out.new)
+        (held_there (S.look subject.now) entities.now entity.now)) }
 {
     match subject.show(entity) {
         None => Ok(()),

@@ -16,7 +16,8 @@ use std::io::Write;
 
 /// Writes the terminals, the entities and the last line.
 pub fn write_report<W: Write>(alloc: Global, kernel: &Kernel, out: &mut W) -> Result<(), Stop>
-    ensures { OnOk result (Appends (W.contents out.old) (W.contents out.new) (report_text kernel.now)) }
+    ensures { OnOk result
+        (Appends (W.contents out.old) (W.contents out.new) (report_text kernel.now)) }
 {
     write_kernel(alloc, kernel, out)?;
     write_last(kernel, out)?;
@@ -29,7 +30,8 @@ pub(crate) fn write_kernel<W: Write>(
     kernel: &Kernel,
     out: &mut W,
 ) -> Result<(), Stop>
-    ensures { OnOk result (Appends (W.contents out.old) (W.contents out.new) (kernel_text kernel.now)) }
+    ensures { OnOk result
+        (Appends (W.contents out.old) (W.contents out.new) (kernel_text kernel.now)) }
 {
     let entities = kernel.entities()?;
     write_body(alloc, kernel, &entities, out)
@@ -90,7 +92,8 @@ fn write_entities<S: Subject, W: Write>(
 ) -> io::Result<()>
     requires { IsStrictlySortedBy entity_cmp entities.now }
     ensures { OnOk result (Appends (W.contents out.old) (W.contents out.new)
-        (flat_map (line_of (S.look subject.now) (S.end_of subject.now) entities.now) entities.now)) }
+        (flat_map (line_of (S.look subject.now) (S.end_of subject.now) entities.now)
+        entities.now)) }
 {
     for entity in entities {
         write_entity(subject, entities, entity, out)?;
@@ -121,7 +124,8 @@ fn write_entity<S: Subject, W: Write>(
 
 /// Writes the number of events and of undecided guesses.
 fn write_last<W: Write>(kernel: &Kernel, out: &mut W) -> io::Result<()>
-    ensures { OnOk result (Appends (W.contents out.old) (W.contents out.new) (last_line kernel.now)) }
+    ensures { OnOk result
+        (Appends (W.contents out.old) (W.contents out.new) (last_line kernel.now)) }
 {
     let events = kernel.trace().events().len();
     let undecided = kernel.undecided();

@@ -121,7 +121,8 @@ fn write_shown<W: Write>(number: u16, terminal: &Terminal, out: &mut W) -> io::R
 
 /// Writes texts, a literal a line.
 fn write_texts<W: Write>(texts: &[Text], out: &mut W) -> io::Result<()>
-    ensures { OnOk result (Appends (W.contents out.old) (W.contents out.new) (texts_lines texts.now)) }
+    ensures { OnOk result
+        (Appends (W.contents out.old) (W.contents out.new) (texts_lines texts.now)) }
 {
     for text in texts {
         let literal = Literal(text.as_slice());

@@ -19,7 +19,8 @@ use std::io::Write;
 /// Writes the terminals and the entities of a world's kernel, the files of its server by rising name, and the last
 /// line.
 pub fn write_world_report<W: Write>(alloc: Global, world: &World, out: &mut W) -> Result<(), Stop>
-    ensures { OnOk result (Appends (W.contents out.old) (W.contents out.new) (world_report_text world.now)) }
+    ensures { OnOk result
+        (Appends (W.contents out.old) (W.contents out.new) (world_report_text world.now)) }
 {
     write_desk_report(alloc, world.desk(), world.server(), out)
 }
@@ -42,14 +43,16 @@ pub fn write_desk_report<W: Write>(
 
 /// Writes the line that tells how many workers there were, and how many calls they made.
 pub fn write_workers<W: Write>(workers: u8, calls: usize, out: &mut W) -> io::Result<()>
-    ensures { OnOk result (Appends (W.contents out.old) (W.contents out.new) (workers_line workers calls)) }
+    ensures { OnOk result
+        (Appends (W.contents out.old) (W.contents out.new) (workers_line workers calls)) }
 {
     writeln!(out, "workers {workers} calls {calls}")
 }
 
 /// Writes the files of a server.
 fn write_remotes<W: Write>(server: &Server, out: &mut W) -> Result<(), Stop>
-    ensures { OnOk result (Appends (W.contents out.old) (W.contents out.new) (remotes_text server.now.files)) }
+    ensures { OnOk result
+        (Appends (W.contents out.old) (W.contents out.new) (remotes_text server.now.files)) }
 {
     let names = server.names()?;
     write_files(server, &names, out)?;
@@ -91,7 +94,8 @@ fn write_desk_line<W: Write>(desk: &Desk, out: &mut W) -> io::Result<()>
 
 /// Writes the number of events, of undecided guesses and of requests without a reply.
 fn write_counts<W: Write>(kernel: &Kernel, pending: usize, out: &mut W) -> io::Result<()>
-    ensures { OnOk result (Appends (W.contents out.old) (W.contents out.new) (counts_of kernel.now pending)) }
+    ensures { OnOk result
+        (Appends (W.contents out.old) (W.contents out.new) (counts_of kernel.now pending)) }
 {
     let events = kernel.trace().events().len();
     let undecided = kernel.undecided();

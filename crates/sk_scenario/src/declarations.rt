@@ -62,7 +62,8 @@ impl Model for Declarations {
 
     ghost coded = { declared_code };
 
-    ghost view = { λ d. record { boot = d.boot; remotes = d.remotes.items; limit = d.limit; number = d.number } };
+    ghost view = { λ d. record
+        { boot = d.boot; remotes = d.remotes.items; limit = d.limit; number = d.number } };
 }
 
 /// The kind of a declaration's fault.
@@ -133,7 +134,8 @@ impl Declarations {
 
     /// Declares what a line says.
     pub fn line(&mut self, line: &[u8]) -> Result<Said, FaultKind>
-        ensures { SaysNext result (line_said self.old (first_of (words line.now))) self.old self.new }
+        ensures { SaysNext result (line_said self.old (first_of (words line.now))) self.old
+            self.new }
     {
         match first_word(line) {
             Some((first, words)) => self.said_in(first, &words),
@@ -295,7 +297,8 @@ impl Declarations {
     }
 
     fn trace_limit(&mut self, limit: u32) -> Result<(), FaultKind>
-        ensures { Leaves result (once self.old.limit (record self.old { limit = Some limit })) self.old self.new }
+        ensures { Leaves result (once self.old.limit (record self.old { limit = Some limit }))
+            self.old self.new }
     {
         if self.limit.is_some() {
             return Err(FaultKind::Label);
@@ -305,7 +308,8 @@ impl Declarations {
     }
 
     fn kernel_number(&mut self, number: Natural) -> Result<(), FaultKind>
-        ensures { Leaves result (once self.old.number (record self.old { number = Some number })) self.old self.new }
+        ensures { Leaves result (once self.old.number (record self.old { number = Some number }))
+            self.old self.new }
     {
         if self.number.is_some() {
             return Err(FaultKind::Label);

@@ -70,7 +70,12 @@ fn go_on(
     ensures left { length cursor.new.lines ≤ length cursor.old.lines }
     ensures last { last_line cursor.new ≡ last_line cursor.old }
     ensures rest { AreLeft cursor.new.lines cursor.old.lines }
-    ensures said { GoesOn result said (goes_on said declarations.old (cursor.old.line + 1) cursor.old.lines (λ begun. scenario_from declarations.old begun (cursor.old.line + 1) cursor.old.lines)) declarations.new (scenario_from declarations.new None (cursor.new.line + 1) cursor.new.lines) (cursor.old.line + 1) (last_line cursor.old) cursor.old.lines }
+    ensures said { GoesOn result said
+        (goes_on said declarations.old (cursor.old.line + 1) cursor.old.lines
+        (λ begun. scenario_from declarations.old begun (cursor.old.line + 1) cursor.old.lines))
+        declarations.new
+        (scenario_from declarations.new None (cursor.new.line + 1) cursor.new.lines)
+        (cursor.old.line + 1) (last_line cursor.old) cursor.old.lines }
 {
     match said {
         Said::Declared => Ok(None),
@@ -103,8 +108,13 @@ fn is_end(line: &[u8]) -> bool
 fn take_script<'a>(cursor: &mut Cursor<'a>) -> ScriptLines<'a>
     ensures first { result.lines.line ≡ cursor.old.line }
     ensures none { NoEnd result.lines.lines }
-    ensures end { MatchOption result.end (cursor.old.lines ≡ result.lines.lines × cursor.new.lines ≡ []) (λ line. (cursor.old.lines ≡ result.lines.lines ++ line.now ∷ cursor.new.lines) × (is_end line.now ≡ true)) }
-    ensures line { MatchOption result.end (cursor.new.line ≡ cursor.old.line + length result.lines.lines) (λ line. cursor.new.line ≡ cursor.old.line + length result.lines.lines + 1) }
+    ensures end { MatchOption result.end
+        (cursor.old.lines ≡ result.lines.lines × cursor.new.lines ≡ [])
+        (λ line. (cursor.old.lines ≡ result.lines.lines ++ line.now ∷ cursor.new.lines)
+        × (is_end line.now ≡ true)) }
+    ensures line { MatchOption result.end
+        (cursor.new.line ≡ cursor.old.line + length result.lines.lines)
+        (λ line. cursor.new.line ≡ cursor.old.line + length result.lines.lines + 1) }
 {
     let lines = cursor.again();
     let mut count = 0;
@@ -134,7 +144,12 @@ fn script(
     ensures left { length cursor.new.lines ≤ length cursor.old.lines }
     ensures last { last_line cursor.new ≡ last_line cursor.old }
     ensures rest { AreLeft cursor.new.lines cursor.old.lines }
-    ensures goes { Goes result (scenario_from declarations.old (Some (record { name = name; first = cursor.old.line + 1; lines = [] })) (cursor.old.line + 1) cursor.old.lines) (scenario_from declarations.new None (cursor.new.line + 1) cursor.new.lines) (cursor.old.line + 1) (last_line cursor.old) cursor.old.lines }
+    ensures goes { Goes result
+        (scenario_from declarations.old
+        (Some (record { name = name; first = cursor.old.line + 1; lines = [] }))
+        (cursor.old.line + 1) cursor.old.lines)
+        (scenario_from declarations.new None (cursor.new.line + 1) cursor.new.lines)
+        (cursor.old.line + 1) (last_line cursor.old) cursor.old.lines }
 {
     let taken = take_script(cursor);
     let script = Script::parse_lines(alloc, &taken.lines)?;
@@ -154,7 +169,8 @@ fn ended(
     script: Script,
     end: &[u8],
 ) -> Result<(), FaultKind>
-    ensures { Leaves result (ended declarations.old name script end.now) declarations.old declarations.new }
+    ensures { Leaves result (ended declarations.old name script end.now) declarations.old
+        declarations.new }
 {
     let mut words = Words::of(end);
     words.next();
@@ -164,7 +180,9 @@ fn ended(
 
 /// The section below a heading.
 fn section_of(alloc: Global, heading: Heading, lines: &Cursor) -> Result<Section, Fault>
-    ensures { (d : Declared) → SaysSection result (section_from d heading (lines.now.line + 1) lines.now.lines) d (lines.now.line + 1) (last_line lines.now) }
+    ensures { (d : Declared)
+        → SaysSection result (section_from d heading (lines.now.line + 1) lines.now.lines) d
+        (lines.now.line + 1) (last_line lines.now) }
 {
     match heading {
         Heading::Steps => Ok(Section::Steps(read(Calls::new(alloc), lines)?)),

@@ -2,7 +2,7 @@
 ghost use Rattle.std.specs.Prelude.{Some};
 ghost use Rattle.sk_talk.specs.Lines.{line_text};
 
-use sk_play::{Answer, WorldTold};
+use sk_play::{CallAnswer, WorldTold};
 use sk_words::FaultKind;
 use std::fmt;
 
@@ -10,7 +10,7 @@ use std::fmt;
 #[derive(Clone, Copy, Debug)]
 pub enum LineTold {
     /// What the kernel answers to a step.
-    Answered(Answer),
+    Answered(CallAnswer),
     /// What is told of an event of a world.
     Happened(WorldTold),
     /// The line says nothing.

@@ -36,7 +36,8 @@ fn begin_steps(
     declarations: &Declarations,
     steps: &[Call],
 ) -> Result<Option<Play>, AllocError>
-    ensures { MatchResult result (λ play. play ≡ opened_in declarations.now (scenarios.Steps steps.now))
+    ensures { MatchResult result
+        (λ play. play ≡ opened_in declarations.now (scenarios.Steps steps.now))
         (λ _. IsSome (opened_in declarations.now (scenarios.Steps steps.now))) }
 {
     if !steps.is_empty() {
@@ -51,7 +52,8 @@ fn begin_world(
     declarations: &Declarations,
     events: &[WorldEvent],
 ) -> Result<Option<Play>, AllocError>
-    ensures { MatchResult result (λ play. play ≡ opened_in declarations.now (scenarios.World events.now))
+    ensures { MatchResult result
+        (λ play. play ≡ opened_in declarations.now (scenarios.World events.now))
         (λ _. IsSome (opened_in declarations.now (scenarios.World events.now))) }
 {
     if !events.is_empty() {
@@ -102,7 +104,8 @@ impl Play {
         declarations: &Declarations,
         section: &Section,
     ) -> Result<Option<Play>, AllocError>
-        ensures { MatchResult result (λ play. play ≡ opened_in declarations.now (section_view section.now))
+        ensures { MatchResult result
+            (λ play. play ≡ opened_in declarations.now (section_view section.now))
             (λ _. IsSome (opened_in declarations.now (section_view section.now))) }
     {
         match section {

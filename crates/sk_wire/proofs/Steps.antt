@@ -1,10 +1,11 @@
 -- Each step of a pass keeps the rule of a wire.
-use Rattle.std.proofs.Common.{◌≡◌, ◌≢◌, ℕ, zero, suc, ◌+◌, true, false, true≢false, List, [], ◌∷◌, ◌++◌, length, set, sym, refl, ap, ◌∙◌, subst, ⊎_elim, append_assoc, arith, length-append, zero-le, ◌<◌, ◌^◌}
+use Rattle.std.proofs.Common.{◌≡◌, ◌≢◌, ℕ, zero, suc, ◌+◌, true, false, true≢false, List, [], ◌∷◌, ◌++◌, length, set, sym, refl, ap, ◌∙◌, subst, ⊎_elim, append_assoc, arith, length-append, zero-le, ◌<◌}
 use mathlib.Core.Option.{some, some-ne-none}
 use lib.ListN.{get_elem?}
 use Rattle.crossbeam_queue.specs.Fifo.{Pushes, Pops, Forks, Merges, Learns}
 use Rattle.crossbeam_queue.proofs.Lists.{at_set, at_snoc}
 use Rattle.sk_wire.specs.declared.rule.PassView.{PassView}
+use Rattle.sk_wire.specs.declared.rule.TheConstants.{WIRE_ITEMS}
 use Rattle.sk_wire.specs.Rule.{known, sender, receiver, with_sent, with_received, joined, IsLeft, IsNext, KnowsAll, AreNumbered, IsInTurn}
 
 off : false ≡ true → ⊥
@@ -72,7 +73,7 @@ module _ {T : Type 0} (number_of : T → ℕ) where
             )) (at_snoc vs r u j e),
       )
 
-  pub pushes : (n port : ℕ) (v : PassView T) (x : T) → v.sends ≡ true → number_of x ≡ v.first + length v.sent → number_of x < v.first + 2 ^ 62 → Pushes (IsInTurn number_of) n port v x (λ w. w ≡ with_sent v x)
+  pub pushes : (n port : ℕ) (v : PassView T) (x : T) → v.sends ≡ true → number_of x ≡ v.first + length v.sent → number_of x < v.first + WIRE_ITEMS → Pushes (IsInTurn number_of) n port v x (λ w. w ≡ with_sent v x)
   pushes n port v x may number limit items views _ h at =
       let mine = (h.8 port v at).0 may in
       let sent = h.3 ++ x ∷ [] in

@@ -1,8 +1,9 @@
 -- What the two passes of a wire know, and the rule that joins it to what the wire holds.
-use Rattle.std.specs.Prelude.{length, ◌≡◌, ℕ, ◌+◌, ◌^◌, ◌≤◌, ◌<◌, Bool, true, false, List, [], ◌∷◌, ◌++◌}
+use Rattle.std.specs.Prelude.{length, ◌≡◌, ℕ, ◌+◌, ◌≤◌, ◌<◌, Bool, true, false, List, [], ◌∷◌, ◌++◌}
 use mathlib.Core.Option.{some}
 use lib.ListN.{get_elem?}
 use Rattle.sk_wire.specs.declared.rule.PassView.{PassView}
+use Rattle.sk_wire.specs.declared.rule.TheConstants.{WIRE_ITEMS}
 
 module _ {T : Type 0} where
   abbrev pub known : Bool → Bool → ℕ → List T → List T → PassView T
@@ -46,11 +47,11 @@ module _ {T : Type 0} (number_of : T → ℕ) where
 
   -- the item that follows those that were received
   abbrev pub IsNext : PassView T → T → Type 0
-  IsNext v x = (number_of x ≡ v.first + length v.received) × (number_of x < v.first + 2 ^ 62)
+  IsNext v x = (number_of x ≡ v.first + length v.received) × (number_of x < v.first + WIRE_ITEMS)
 
   -- what was sent is what was received and then what the wire holds, and it is numbered from `first` on
   abbrev pub IsInTurn : List T → List (PassView T) → Type 0
   IsInTurn items views =
       (sender : ℕ) × (receiver : ℕ) × (first : ℕ) × (sent : List T) × (received : List T)
-      × (sent ≡ received ++ items) × AreNumbered first sent × (length sent ≤ 2 ^ 62)
+      × (sent ≡ received ++ items) × AreNumbered first sent × (length sent ≤ WIRE_ITEMS)
       × ((pass : ℕ) (v : PassView T) → get_elem? views pass ≡ some v → KnowsAll sender receiver first sent received pass v)

@@ -6,4 +6,5 @@ pub mod rule;
 pub mod wire;
 
 pub use numbered::Numbered;
+pub use rule::WIRE_ITEMS;
 pub use wire::{WIRE_LIMIT, Wire, WirePass};

@@ -6,6 +6,9 @@ use crossbeam_queue::protocol::{Join, Lesson, Outcome, Protocol, Split};
 use std::collections::LinkedList;
 use std::marker::{Brand, PhantomData};
 
+/// A wire takes fewer items than this in all.
+pub const WIRE_ITEMS: u64 = 1 << 62;
+
 /// What a pass may do, the first number of its wire, and what was sent and received by it. Contracts alone have
 /// values of it.
 pub struct PassView<T> {
@@ -100,5 +103,6 @@ impl<T: Numbered> Lesson<T, PassView<T>> for Ends {
     ghost use Rattle.std.specs.Prelude.{◌≡◌, ◌++◌};
     ghost use Rattle.sk_wire.specs.Rule.{AreNumbered};
 
-    ghost fact = { λ v items. (v.sent ≡ v.received ++ items) × AreNumbered T.number_of v.first v.sent };
+    ghost fact = { λ v items. (v.sent ≡ v.received ++ items)
+        × AreNumbered T.number_of v.first v.sent };
 }

@@ -1,8 +1,9 @@
 //! A wire between two threads.
-ghost use Rattle.std.specs.Prelude.{◌≡◌, ◌<◌, ◌+◌, ◌^◌, length, IfOk};
+ghost use Rattle.std.specs.Prelude.{◌≡◌, ◌<◌, ◌+◌, length, IfOk};
 ghost use Rattle.crossbeam_queue.specs.Passes.{view, ruled_capacity};
 ghost use Rattle.sk_record.specs.Release.{IsFront};
 ghost use Rattle.sk_wire.specs.declared.wire.TheConstants.{WIRE_LIMIT};
+ghost use Rattle.sk_wire.specs.declared.rule.TheConstants.{WIRE_ITEMS};
 ghost use Rattle.sk_wire.specs.Rule.{sender, receiver, joined, AreNumbered};
 ghost use Rattle.sk_wire.specs.Calls.{PushPost, PopPost};
 
@@ -41,7 +42,7 @@ impl<T: Numbered + Drop> Wire<T> {
     pub fn push<R: Wait>(&self, rt: &R, pass: WirePass<T>, item: T) -> (WirePass<T>, Result<(), T>)
         requires pass { IsSending self.now pass }
         requires number { T.number_of item ≡ (view pass).first + length (view pass).sent }
-        requires limit { T.number_of item < (view pass).first + 2 ^ 62 }
+        requires limit { T.number_of item < (view pass).first + WIRE_ITEMS }
         ensures pass { IsSending self.now result.0 }
         ensures item { PushPost result.1 item (view pass) (view result.0) }
     {

@@ -3,14 +3,14 @@ use Rattle.std.proofs.Common.{◌≡◌, ℕ, zero, suc, ◌<◌, List, [], ◌�
 use Rattle.std.specs.Prelude.{Option, Some, None, MatchOption, slice_get}
 use Rattle.std.proofs.lemmas.Option.{slice_get_within}
 use Rattle.sk_client.specs.Desk.{DeskView, pending}
-use Rattle.sk_workers.specs.declared.entry.Entry.{Entry}
+use Rattle.sk_workers.specs.declared.entry.HistoryEntry.{HistoryEntry}
 use Rattle.sk_workers.specs.declared.entry.Receipt.{Receipt}
 use Rattle.sk_workers.specs.Views.{BookView, WorkerView, SharedView}
 use Rattle.sk_workers.specs.History.{AreOwn, AreFresh, IsLegal}
 use Rattle.sk_workers.specs.Closing.{Agrees, Stands, AllStand, AreDistinct, AreApart, IsFrom, IsClosed, receipts_of, numbers}
 
 -- what was found of a worker's receipts, or that all stand
-pub found : (h : List Entry) (w : WorkerView) (rs : List Receipt) (o : Option ℕ) → rs ≡ w.receipts → AreOwn w.number w.receipts
+pub found : (h : List HistoryEntry) (w : WorkerView) (rs : List Receipt) (o : Option ℕ) → rs ≡ w.receipts → AreOwn w.number w.receipts
     → MatchOption o ((k : ℕ) → k < length rs → Agrees h rs k) (λ k. (k < length rs) × ¬ Agrees h rs k)
     → MatchOption o (Stands h w) (λ k. (k < length w.receipts) × ¬ Agrees h w.receipts k)
 found h w rs None is own all = record { own = own; agree = subst (λ (l : List Receipt). (k : ℕ) → k < length l → Agrees h l k) is all }
@@ -20,22 +20,22 @@ some_is : {A : Type 0} (x y : A) → Some x ≡ Some y → x ≡ y
 some_is x y e = cc
 
 -- receipts that stand, of workers with numbers of their own, are for different places
-apart : (h : List Entry) (ws : List WorkerView) → AllStand h ws → AreDistinct ws → AreApart ws
+apart : (h : List HistoryEntry) (ws : List WorkerView) → AllStand h ws → AreDistinct ws → AreApart ws
 apart h ws stand distinct i j k l v w r s atv atw other atr ats same =
     let sv = stand i v atv in
     let sw = stand j w atw in
     let one = (sv.agree k (slice_get_within v.receipts k r atr) r atr).0 in
     let two = (sw.agree l (slice_get_within w.receipts l s ats) s ats).0 in
     let is : r.entry ≡ s.entry = some_is r.entry s.entry (sym one ∙ ap (slice_get h) same ∙ two) in
-    distinct i j v w atv atw other (sym (sv.own k r atr) ∙ ap (λ (e : Entry). e.worker) is ∙ sw.own l s ats)
+    distinct i j v w atv atw other (sym (sv.own k r atr) ∙ ap (λ (e : HistoryEntry). e.worker) is ∙ sw.own l s ats)
 
 -- what was checked and counted is what a close promises
-pub closed : (s : SharedView) (b : BookView) (ws : List WorkerView) (h : List Entry) (d : DeskView) → h ≡ b.history → d ≡ b.desk
+pub closed : (s : SharedView) (b : BookView) (ws : List WorkerView) (h : List HistoryEntry) (d : DeskView) → h ≡ b.history → d ≡ b.desk
     → IsLegal b.history b.desk → length b.history ≡ receipts_of ws → (pending b.desk ≡ []) × AllStand b.history ws × IsFrom s b.desk → AreDistinct ws
     → IsClosed s ws h d
 closed s b ws h d is at legal count ok distinct =
     let done : IsClosed s ws b.history b.desk = record { legal = legal; from = ok.2; done = ok.0; stand = ok.1; apart = apart b.history ws ok.1 distinct; count = count } in
-    subst (λ (x : List Entry × DeskView). IsClosed s ws x.0 x.1) (λ i. (sym is i, sym at i)) done
+    subst (λ (x : List HistoryEntry × DeskView). IsClosed s ws x.0 x.1) (λ i. (sym is i, sym at i)) done
 
 at_number : (ws us : List WorkerView) (i : ℕ) (v : WorkerView) → numbers ws ≡ numbers us → slice_get ws i ≡ Some v → (u : WorkerView) × (slice_get us i ≡ Some u) × (v.number ≡ u.number)
 at_number [] us i v e at = absurd (cc)

@@ -2,13 +2,13 @@
 use Rattle.std.proofs.Common.{◌≡◌, ℕ, zero, suc, List, [], ◌∷◌, ◌++◌, ◌+◌, ◌<◌, length, length-append, arith, refl, sym, ap, ◌∙◌, subst}
 use Rattle.std.specs.Prelude.{Some, slice_get}
 use Rattle.sk_client.specs.Desk.{DeskView, first_taken, requests_taken}
-use Rattle.sk_workers.specs.declared.entry.Entry.{Entry}
+use Rattle.sk_workers.specs.declared.entry.HistoryEntry.{HistoryEntry}
 use Rattle.sk_workers.specs.declared.entry.Receipt.{Receipt}
 use Rattle.sk_workers.specs.History.{as_opened, Step, Runs, IsLegal, AreOwn}
 use Rattle.sk_workers.proofs.Steps.{step_keeps, taken_keeps}
 
 -- one call more at the end
-runs_push : (s : DeskView) (es : List Entry) (d : DeskView) (e : Entry) (d' : DeskView) → Runs s es d → e.taken ≡ requests_taken d → Step d e.call e.answer d' → Runs s (es ++ e ∷ []) d'
+runs_push : (s : DeskView) (es : List HistoryEntry) (d : DeskView) (e : HistoryEntry) (d' : DeskView) → Runs s es d → e.taken ≡ requests_taken d → Step d e.call e.answer d' → Runs s (es ++ e ∷ []) d'
 runs_push s [] d e d' run taken step =
     let at = run.1 in (
       run.0,
@@ -20,23 +20,23 @@ runs_push s [] d e d' run taken step =
 runs_push s (x ∷ es) d e d' run taken step = (run.0, run.1, run.2, run.3, runs_push run.1 es d e d' run.4 taken step)
 
 -- one request more at the end
-runs_take : (s : DeskView) (es : List Entry) (d : DeskView) → Runs s es d → Runs s es (first_taken d d.waiting)
+runs_take : (s : DeskView) (es : List HistoryEntry) (d : DeskView) → Runs s es d → Runs s es (first_taken d d.waiting)
 runs_take s [] d run = (suc run.0, ap (λ (x : DeskView). first_taken x x.waiting) run.1)
 runs_take s (x ∷ es) d run = (run.0, run.1, run.2, run.3, runs_take run.1 es d run.4)
 
 -- a history with a call more, and as long as the ledger counts
-pub entered : (d d' : DeskView) (es es' : List Entry) (e : Entry) (total total' parts : ℕ)
+pub entered : (d d' : DeskView) (es es' : List HistoryEntry) (e : HistoryEntry) (total total' parts : ℕ)
     → IsLegal es d × (total ≡ length es) × (0 < parts) → e.taken ≡ requests_taken d → Step d e.call e.answer d' → es' ≡ es ++ e ∷ [] → total' ≡ total + 1
     → IsLegal es' d' × (total' ≡ length es') × (0 < parts)
 entered d d' es es' e total total' parts before taken step is more =
     let run : Runs (as_opened d) (es ++ e ∷ []) d' = runs_push (as_opened d) es d e d' before.0 taken step in
     let legal : IsLegal (es ++ e ∷ []) d' = subst (λ (x : DeskView). Runs x (es ++ e ∷ []) d') (sym (step_keeps d d' e.call e.answer step)) run in (
-      subst (λ (x : List Entry). IsLegal x d') (sym is) legal,
+      subst (λ (x : List HistoryEntry). IsLegal x d') (sym is) legal,
       omega (arith, more, before.1, ap length is, length-append es (e ∷ [])),
       before.2,
     )
 
-pub took : (d d' : DeskView) (es : List Entry) → IsLegal es d → d' ≡ first_taken d d.waiting → IsLegal es d'
+pub took : (d d' : DeskView) (es : List HistoryEntry) → IsLegal es d → d' ≡ first_taken d d.waiting → IsLegal es d'
 took d d' es legal is =
     let e = first_taken d d.waiting in
     let run : Runs (as_opened d) es e = runs_take (as_opened d) es d legal in

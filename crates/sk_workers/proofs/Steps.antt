@@ -18,8 +18,8 @@ use Rattle.sk_client.specs.declared.desk.ReplyRefusal.{ReplyRefusal}
 use Rattle.sk_client.specs.Desk.{DeskView, rule, turned, given, given_to, decided, answered, stepped, is_void, input_of, entry, first_taken, requests_taken}
 use Rattle.sk_client.specs.DeskCalls.{TurnPost, ByRule, ReplyPost}
 use Rattle.sk_client.specs.Leasing.{DeskTakesIn}
-use Rattle.sk_workers.specs.declared.entry.Call.{Call}
-use Rattle.sk_workers.specs.declared.entry.Call.TheVariants as calls
+use Rattle.sk_workers.specs.declared.entry.DeskCall.{DeskCall}
+use Rattle.sk_workers.specs.declared.entry.DeskCall.TheVariants as calls
 use Rattle.sk_workers.specs.declared.entry.Answered.{Answered}
 use Rattle.sk_workers.specs.declared.entry.Answered.TheVariants.{Turned, Replied, HandedIn}
 use Rattle.sk_workers.specs.Views.{BookView, WorkerView}
@@ -85,7 +85,7 @@ hands_in d e l (Err Memory) done post = (l, (post.0, refl, refl, done), post)
 
 -- ---- calls
 
-pub step_keeps : (d e : DeskView) (call : Call) (answer : Answered) → Step d call answer e → as_opened e ≡ as_opened d
+pub step_keeps : (d e : DeskView) (call : DeskCall) (answer : Answered) → Step d call answer e → as_opened e ≡ as_opened d
 step_keeps d e (calls.Turn pid) (Turned r) step = by_rule_keeps d e pid r (rule d pid) step.0
 step_keeps d e (calls.Reply reply) (Replied r) step = reply_keeps d e reply (with_reply reply r) step.0
 step_keeps d e (calls.HandIn pid count) (HandedIn r) step = hand_in_keeps d e pid count r step.0

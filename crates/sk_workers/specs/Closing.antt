@@ -3,7 +3,7 @@ use Rattle.std.specs.Prelude.{◌≡◌, ◌≢◌, ℕ, ◌+◌, ◌<◌, List,
 use Rattle.std.specs.List.{sum_by}
 use Rattle.sk_kernel.specs.Opening.{opening_of}
 use Rattle.sk_client.specs.Desk.{DeskView, pending}
-use Rattle.sk_workers.specs.declared.entry.Entry.{Entry}
+use Rattle.sk_workers.specs.declared.entry.HistoryEntry.{HistoryEntry}
 use Rattle.sk_workers.specs.declared.entry.Receipt.{Receipt}
 use Rattle.sk_workers.specs.declared.entry.CloseRefusal.{CloseRefusal}
 use Rattle.sk_workers.specs.declared.entry.CloseRefusal.TheVariants.{Pending, Disagree, Other}
@@ -19,17 +19,17 @@ IsFrom s d = (opening_of d.kernel ≡ s.opening) × (d.first ≡ s.first)
 -- ---- receipts that stand
 
 -- a receipt stands at its place in the history, and above the one before it
-abbrev pub Agrees : List Entry → List Receipt → ℕ → Type 0
+abbrev pub Agrees : List HistoryEntry → List Receipt → ℕ → Type 0
 Agrees history rs k =
     (r : Receipt) → slice_get rs k ≡ Some r
     → (slice_get history r.place ≡ Some r.entry) × ((j : ℕ) (s : Receipt) → j + 1 ≡ k → slice_get rs j ≡ Some s → s.place < r.place)
 
 -- a worker's receipts are its own, each stands at its place, and the places rise
-pub record Stands (history : List Entry) (w : WorkerView) : Type 0 where
+pub record Stands (history : List HistoryEntry) (w : WorkerView) : Type 0 where
   pub own : AreOwn w.number w.receipts
   pub agree : (k : ℕ) → k < length w.receipts → Agrees history w.receipts k
 
-abbrev pub AllStand : List Entry → List WorkerView → Type 0
+abbrev pub AllStand : List HistoryEntry → List WorkerView → Type 0
 AllStand history ws = (i : ℕ) (w : WorkerView) → slice_get ws i ≡ Some w → Stands history w
 
 -- no two workers have a receipt for one place
@@ -62,7 +62,7 @@ begins_turn w = record w { turns = next_turn w.turns }
 
 -- one legal history leads to the desk, which began at this opening and on which nothing is pending; it has the calls of all workers, each at
 -- its receipt's place, and no others
-pub record IsClosed (s : SharedView) (ws : List WorkerView) (history : List Entry) (d : DeskView) : Type 0 where
+pub record IsClosed (s : SharedView) (ws : List WorkerView) (history : List HistoryEntry) (d : DeskView) : Type 0 where
   pub legal : IsLegal history d
   pub from : IsFrom s d
   pub done : pending d ≡ []
@@ -71,7 +71,7 @@ pub record IsClosed (s : SharedView) (ws : List WorkerView) (history : List Entr
   pub count : length history ≡ receipts_of ws
 
 -- this worker's receipt is the cause
-abbrev pub Disagrees : List Entry → List WorkerView → ℕ → ℕ → Type 0
+abbrev pub Disagrees : List HistoryEntry → List WorkerView → ℕ → ℕ → Type 0
 Disagrees history ws number k =
     (i : ℕ) × (w : WorkerView) × (slice_get ws i ≡ Some w) × (w.number ≡ number) × (k < length w.receipts) × ¬ Agrees history w.receipts k
 

@@ -15,18 +15,18 @@ use Rattle.sk_client.specs.declared.desk.Turn.{Turn}
 use Rattle.sk_client.specs.declared.desk.Given.{Given}
 use Rattle.sk_client.specs.declared.desk.ReplyRefusal.{ReplyRefusal}
 use Rattle.sk_client.specs.declared.desk.ReplyRefusal.TheVariants.{Memory}
-use Rattle.sk_workers.specs.declared.entry.Call.{Call}
-use Rattle.sk_workers.specs.declared.entry.Call.TheVariants as calls
+use Rattle.sk_workers.specs.declared.entry.DeskCall.{DeskCall}
+use Rattle.sk_workers.specs.declared.entry.DeskCall.TheVariants as calls
 use Rattle.sk_workers.specs.declared.entry.Answered.{Answered}
 use Rattle.sk_workers.specs.declared.entry.Answered.TheVariants.{Turned, Replied, HandedIn}
-use Rattle.sk_workers.specs.declared.entry.Entry.{Entry}
+use Rattle.sk_workers.specs.declared.entry.HistoryEntry.{HistoryEntry}
 use Rattle.sk_workers.specs.declared.entry.Receipt.{Receipt}
 use Rattle.sk_workers.specs.Views.{BookView, WorkerView}
 
-abbrev pub entry : ℕ → Call → Answered → ℕ → Entry
+abbrev pub entry : ℕ → DeskCall → Answered → ℕ → HistoryEntry
 entry worker call answer taken = record { worker = worker; call = call; answer = answer; taken = taken }
 
-abbrev pub receipt : ℕ → Entry → Receipt
+abbrev pub receipt : ℕ → HistoryEntry → Receipt
 receipt place e = record { place = place; entry = e }
 
 -- an answer with the reply that comes back, and without it
@@ -61,7 +61,7 @@ HandsIn (Err hand_ins.Stale) d pid count d' = d' ≡ d
 HandsIn r d pid count d' = (l : LeaseView) × Leases d pid count l × DeskTakesIn r l d d'
 
 -- a call does what the desk promises of it; want of memory is no answer
-abbrev pub Step : DeskView → Call → Answered → DeskView → Type 0
+abbrev pub Step : DeskView → DeskCall → Answered → DeskView → Type 0
 Step d (calls.Turn pid) (Turned r) d' = TurnPost r d pid d' × (r ≢ Err refusals.Memory)
 Step d (calls.Reply reply) (Replied r) d' = ReplyPost (with_reply reply r) d reply d' × (r ≢ Err Memory)
 Step d (calls.HandIn pid count) (HandedIn r) d' = HandsIn r d pid count d' × (r ≢ Err hand_ins.Memory)
@@ -74,7 +74,7 @@ taking (suc n) d = let e = taking n d in first_taken e e.waiting
 
 -- from a first desk on each answer is the desk's at that place, and the last desk is where the history ends: requests may be
 -- taken before each call and after the last, and an entry tells how many had been
-abbrev pub Runs : DeskView → List Entry → DeskView → Type 0
+abbrev pub Runs : DeskView → List HistoryEntry → DeskView → Type 0
 Runs d [] last = (n : ℕ) × (last ≡ taking n d)
 Runs d (e ∷ es) last =
     (n : ℕ) × (d' : DeskView)
@@ -83,13 +83,13 @@ Runs d (e ∷ es) last =
     × Runs d' es last
 
 -- a history from the opening of a desk to the desk
-abbrev pub IsLegal : List Entry → DeskView → Type 0
+abbrev pub IsLegal : List HistoryEntry → DeskView → Type 0
 IsLegal history d = Runs (as_opened d) history d
 
 -- ---- calls
 
 -- the call is the history's next entry and the worker's next receipt
-abbrev pub Adds : BookView → WorkerView → Call → Answered → BookView → WorkerView → Type 0
+abbrev pub Adds : BookView → WorkerView → DeskCall → Answered → BookView → WorkerView → Type 0
 Adds b w call answer b' w' =
     let e = entry w.number call answer (requests_taken b.desk) in
     Step b.desk call answer b'.desk
@@ -132,7 +132,7 @@ IsAnswer (Replied r) = r ≢ Err Memory
 IsAnswer (HandedIn r) = r ≢ Err hand_ins.Memory
 
 -- an answer and one receipt more, for this call and answer, at some place and after so many requests
-abbrev pub Told : WorkerView → Call → Answered → WorkerView → Type 0
+abbrev pub Told : WorkerView → DeskCall → Answered → WorkerView → Type 0
 Told w call answer w' =
     IsAnswer answer × (place : ℕ) × (taken : ℕ) × (w' ≡ record w { receipts = w.receipts ++ receipt place (entry w.number call answer taken) ∷ [] })
 

@@ -4,10 +4,11 @@ ghost use Rattle.sk_script.specs.Lease.{after_private};
 ghost use Rattle.sk_plain.specs.Leased.{Lends};
 ghost use Rattle.sk_client.specs.Desk.{opened_at, first_sent, first_taken};
 ghost use Rattle.sk_client.specs.Leasing.{desk_lease, DeskHandInPost};
+ghost use Rattle.sk_workers.specs.declared.worker.TheConstants.{WORKERS_LIMIT};
 ghost use Rattle.sk_workers.specs.History.{Step, Adds, TurnAdds, TakesInAdds, HandInAdds, TakesAny, LendsAny, AreFresh, IsLegal, receipt, without_reply};
 ghost use Rattle.sk_workers.specs.Views.{BookView, WorkerView};
 
-use crate::entry::{Answered, Call, Entry, Receipt};
+use crate::entry::{Answered, DeskCall, HistoryEntry, Receipt};
 use crate::kept_reply::KeptReply;
 use crate::worker::Worker;
 use sk_client::{Desk, Given, ReplyRefusal, Turn};
@@ -33,7 +34,7 @@ pub struct Leased {
 /// `reopen` it.
 pub struct Book<L: Ledger> {
     pub(crate) desk: Desk,
-    pub(crate) history: Vec<Entry>,
+    pub(crate) history: Vec<HistoryEntry>,
     pub(crate) tally: ledger::Book<L>,
 }
 
@@ -48,11 +49,12 @@ impl<L: Ledger> Model for Book<L> {
 
     ghost view = { λ b. record { desk = b.desk; history = b.history.items } };
 
-    ghost invariant = { λ b. IsLegal b.history.items b.desk × (b.tally.total ≡ length b.history.items) × (0 < L.parts) };
+    ghost invariant = { λ b. IsLegal b.history.items b.desk
+        × (b.tally.total ≡ length b.history.items) × (0 < L.parts) };
 }
 
 impl<L: Ledger> Book<L> {
-    /// A book round a desk on which nothing was done in its epoch, and n workers, 1 to 8, numbered from 0. Where memory runs out
+    /// A book round a desk on which nothing was done in its epoch, and n workers, 1 to `WORKERS_LIMIT`, numbered from 0. Where memory runs out
     /// the ledger and the desk come back.
     pub fn new(
         alloc: Global,
@@ -61,10 +63,11 @@ impl<L: Ledger> Book<L> {
         n: u8,
     ) -> Result<(Book<L>, Vec<Worker<L>>), (Blank, Desk, AllocError)>
         requires ledger { (blank.name ≡ L.name) × (blank.parts ≡ L.parts) × (L.parts ≡ n) }
-        requires count { (1 ≤ n) × (n ≤ 8) }
+        requires count { (1 ≤ n) × (n ≤ WORKERS_LIMIT) }
         requires opened { desk ≡ opened_at desk.kernel desk.first }
         requires trace { desk.kernel.trace ≡ [] }
-        ensures ok { IfOk result (λ made. (made.0 ≡ record { desk = desk; history = [] }) × AreFresh n made.1.items) }
+        ensures ok { IfOk result
+            (λ made. (made.0 ≡ record { desk = desk; history = [] }) × AreFresh n made.1.items) }
         ensures err { IfErr result (λ back. (back.0 ≡ blank) × (back.1 ≡ desk)) }
     {
         let mut workers = match Vec::with_capacity(alloc, usize::from(n)) {
@@ -102,9 +105,9 @@ impl<L: Ledger> Book<L> {
         let Some(answer) = turn_of(&mut self.desk, pid) else {
             return (worker, Err(Refusal::Memory));
         };
-        let entry = Entry {
+        let entry = HistoryEntry {
             worker: worker.number,
-            call: Call::Turn(pid),
+            call: DeskCall::Turn(pid),
             answer: turned(&answer),
             taken,
         };
@@ -114,7 +117,7 @@ impl<L: Ledger> Book<L> {
             &mut worker.receipts,
             &mut worker.share,
             entry,
-            Call::Turn(pid),
+            DeskCall::Turn(pid),
         );
         (worker, answer)
     }
@@ -127,7 +130,11 @@ impl<L: Ledger> Book<L> {
         reply: Reply,
     ) -> (Worker<L>, Result<Given, (Reply, ReplyRefusal)>)
         ensures back { IfErr result.1 (λ back. back.0 ≡ reply) }
-        ensures entered { ((without_reply result.1 ≡ Err ReplyRefusal.Memory) × (self.new ≡ self.old) × (result.0 ≡ worker)) ⊎ Adds self.old worker (Call.Reply reply) (Answered.Replied (without_reply result.1)) self.new result.0 }
+        ensures entered { ((without_reply result.1 ≡ Err ReplyRefusal.Memory)
+            × (self.new ≡ self.old) × (result.0 ≡ worker))
+            ⊎ Adds self.old worker (DeskCall.Reply reply)
+            (Answered.Replied (without_reply result.1))
+            self.new result.0 }
     {
         let mut worker = worker;
         if make_room(&mut self.history, &mut worker.receipts).is_err() {
@@ -142,7 +149,7 @@ impl<L: Ledger> Book<L> {
         if wants_memory(&answer) {
             return (worker, given);
         }
-        let entry = Entry {
+        let entry = HistoryEntry {
             worker: worker.number,
             call,
             answer: Answered::Replied(answer),
@@ -204,7 +211,7 @@ impl<L: Ledger> Book<L> {
         if is_short(&answer) {
             return (worker, answer);
         }
-        let entry = Entry {
+        let entry = HistoryEntry {
             worker: worker.number,
             call,
             answer: Answered::HandedIn(answer),
@@ -263,7 +270,9 @@ impl<L: Ledger> Book<L> {
         pid: Pid,
         next: Option<Pid>,
     ) -> (Worker<L>, Leased)
-        ensures calls { (b : BookView) × (v : WorkerView) × TakesAny result.1.handed self.old worker lease.old b v × TurnAdds result.1.answer b v pid self.new result.0 }
+        ensures calls { (b : BookView) × (v : WorkerView)
+            × TakesAny result.1.handed self.old worker lease.old b v
+            × TurnAdds result.1.answer b v pid self.new result.0 }
         ensures lent { LendsAny result.1.lent lease.new self.new.desk next }
         ensures legal { IsLegal self.new.history self.new.desk }
     {
@@ -281,7 +290,8 @@ impl<L: Ledger> Book<L> {
     /// Takes the desk's oldest request that waits; `None` where none does. This takes no memory and makes no entry.
     pub fn next_request(&mut self) -> Option<Request>
         ensures request { result ≡ first_sent self.old.desk.waiting }
-        ensures taken { self.new ≡ record self.old { desk = first_taken self.old.desk self.old.desk.waiting } }
+        ensures taken { self.new ≡ record self.old
+            { desk = first_taken self.old.desk self.old.desk.waiting } }
     {
         self.desk.take_request()
     }
@@ -314,10 +324,12 @@ fn hire<L: Ledger>(alloc: Global, all: Share<L>, n: u8, workers: &mut Vec<Worker
 }
 
 /// Makes room for one more entry and its receipt.
-fn make_room(history: &mut Vec<Entry>, receipts: &mut Vec<Receipt>) -> Result<(), AllocError>
+fn make_room(history: &mut Vec<HistoryEntry>, receipts: &mut Vec<Receipt>) -> Result<(), AllocError>
     ensures history { history.new.items ≡ history.old.items }
     ensures receipts { receipts.new.items ≡ receipts.old.items }
-    ensures room { OnOk result ((vec_len history.new < vec_capacity history.new) × (vec_len receipts.new < vec_capacity receipts.new)) }
+    ensures room { OnOk result
+        ((vec_len history.new < vec_capacity history.new)
+        × (vec_len receipts.new < vec_capacity receipts.new)) }
 {
     history.reserve(1)?;
     receipts.reserve(1)
@@ -325,24 +337,26 @@ fn make_room(history: &mut Vec<Entry>, receipts: &mut Vec<Receipt>) -> Result<()
 
 /// Adds an entry to the history, and a receipt for it with the same call, and counts both.
 fn enter<L: Ledger>(
-    history: &mut Vec<Entry>,
+    history: &mut Vec<HistoryEntry>,
     tally: &mut ledger::Book<L>,
     receipts: &mut Vec<Receipt>,
     share: &mut Share<L>,
-    entry: Entry,
-    again: Call,
+    entry: HistoryEntry,
+    again: DeskCall,
 )
     requires call { again ≡ entry.call }
     requires history { vec_len history.old < vec_capacity history.old }
     requires receipts { vec_len receipts.old < vec_capacity receipts.old }
     requires part { 0 < share.old.parts }
     ensures history { history.new.items ≡ history.old.items ++ entry ∷ [] }
-    ensures receipts { receipts.new.items ≡ receipts.old.items ++ receipt (length history.old.items) entry ∷ [] }
+    ensures receipts { receipts.new.items
+        ≡ receipts.old.items ++ receipt (length history.old.items) entry ∷ [] }
     ensures tally { tally.new.total ≡ tally.old.total + 1 }
-    ensures share { (share.new.amount ≡ share.old.amount + 1) × (share.new.parts ≡ share.old.parts) }
+    ensures share { (share.new.amount ≡ share.old.amount + 1)
+        × (share.new.parts ≡ share.old.parts) }
 {
     let place = history.len() as u64;
-    let told = Entry {
+    let told = HistoryEntry {
         worker: entry.worker,
         call: again,
         answer: entry.answer,
@@ -354,26 +368,28 @@ fn enter<L: Ledger>(
 }
 
 /// The call that gives a reply, for the history and for the receipt.
-fn calls_of(alloc: Global, reply: &Reply) -> Result<(Call, Call), AllocError>
-    ensures { IfOk result (λ calls. (calls.0 ≡ Call.Reply reply.now) × (calls.1 ≡ Call.Reply reply.now)) }
+fn calls_of(alloc: Global, reply: &Reply) -> Result<(DeskCall, DeskCall), AllocError>
+    ensures { IfOk result
+        (λ calls. (calls.0 ≡ DeskCall.Reply reply.now) × (calls.1 ≡ DeskCall.Reply reply.now)) }
 {
-    let call = Call::Reply(KeptReply::keep(alloc, reply)?);
-    let again = Call::Reply(KeptReply::keep(alloc, reply)?);
+    let call = DeskCall::Reply(KeptReply::keep(alloc, reply)?);
+    let again = DeskCall::Reply(KeptReply::keep(alloc, reply)?);
     Ok((call, again))
 }
 
 /// The call that hands a lease in, whose instructions were all private, for the history and for the receipt.
-fn calls_with(lease: &Lease) -> (Call, Call)
-    ensures call { result.0 ≡ Call.HandIn lease.now.lent.pid lease.now.count }
-    ensures again { result.1 ≡ Call.HandIn lease.now.lent.pid lease.now.count }
-    ensures done { after_private lease.now.script lease.now.count lease.now.lent ≡ Some lease.now.now }
+fn calls_with(lease: &Lease) -> (DeskCall, DeskCall)
+    ensures call { result.0 ≡ DeskCall.HandIn lease.now.lent.pid lease.now.count }
+    ensures again { result.1 ≡ DeskCall.HandIn lease.now.lent.pid lease.now.count }
+    ensures done { after_private lease.now.script lease.now.count lease.now.lent
+        ≡ Some lease.now.now }
 {
     let _ = lease.now();
     let process = lease.lent().pid;
     let count = lease.count();
     (
-        Call::HandIn { process, count },
-        Call::HandIn { process, count },
+        DeskCall::HandIn { process, count },
+        DeskCall::HandIn { process, count },
     )
 }
 
@@ -386,7 +402,8 @@ fn turned(answer: &Result<Turn, Refusal>) -> Answered
 
 /// A turn of the desk; `None` where it was refused for want of memory, and nothing has changed.
 fn turn_of(desk: &mut Desk, pid: Pid) -> Option<Result<Turn, Refusal>>
-    ensures { MatchOption result (desk.new ≡ desk.old) (λ answer. Step desk.old (Call.Turn pid) (Answered.Turned answer) desk.new) }
+    ensures { MatchOption result (desk.new ≡ desk.old)
+        (λ answer. Step desk.old (DeskCall.Turn pid) (Answered.Turned answer) desk.new) }
 {
     let answer = desk.turn(pid);
     if lacks_memory(&answer) {

@@ -6,7 +6,7 @@ ghost use Rattle.sk_workers.specs.History.{IsLegal};
 ghost use Rattle.sk_workers.specs.Closing.{IsFrom, Agrees, Stands, AllStand, receipts_of, AreDistinct, IsClosed, Disagrees, Refuses};
 
 use crate::book::Book;
-use crate::entry::{CloseRefusal, Entry, Receipt};
+use crate::entry::{CloseRefusal, HistoryEntry, Receipt};
 use crate::worker::Worker;
 use sk_client::Desk;
 use sk_kernel::Opening;
@@ -14,7 +14,7 @@ use std::sync::ledger::{Ledger, Share};
 
 /// The calls that workers made of a desk, the oldest first, and the desk as they left it.
 pub struct History {
-    pub entries: Vec<Entry>,
+    pub entries: Vec<HistoryEntry>,
     pub desk: Desk,
 }
 
@@ -29,10 +29,14 @@ impl<L: Ledger> Book<L> {
     ) -> Result<History, (Book<L>, Vec<Worker<L>>, CloseRefusal)>
         requires workers { vec_len workers ≡ L.parts }
         requires distinct { AreDistinct workers.items }
-        ensures closed { IfOk result (λ h. IsClosed (record { opening = opening.now; first = first }) workers.items h.entries.items h.desk) }
+        ensures closed { IfOk result
+            (λ h. IsClosed (record { opening = opening.now; first = first }) workers.items
+            h.entries.items h.desk) }
         ensures same { IfOk result (λ h. (h.entries.items ≡ self.history) × (h.desk ≡ self.desk)) }
         ensures back { IfErr result (λ back. (back.0 ≡ self) × (back.1 ≡ workers)) }
-        ensures refused { IfErr result (λ back. Refuses (record { opening = opening.now; first = first }) workers.items self back.2) }
+        ensures refused { IfErr result
+            (λ back. Refuses (record { opening = opening.now; first = first }) workers.items self
+            back.2) }
         ensures legal { IfErr result (λ back. IsLegal back.0.history back.0.desk) }
     {
         match self.check(&workers, opening, first) {
@@ -48,8 +52,11 @@ impl<L: Ledger> Book<L> {
         opening: &Opening,
         first: u64,
     ) -> Result<(), CloseRefusal>
-        ensures ok { OnOk result ((pending self.now.desk ≡ []) × AllStand self.now.history workers.now.items × IsFrom (record { opening = opening.now; first = first }) self.now.desk) }
-        ensures err { IfErr result (Refuses (record { opening = opening.now; first = first }) workers.now.items self.now) }
+        ensures ok { OnOk result
+            ((pending self.now.desk ≡ []) × AllStand self.now.history workers.now.items
+            × IsFrom (record { opening = opening.now; first = first }) self.now.desk) }
+        ensures err { IfErr result
+            (Refuses (record { opening = opening.now; first = first }) workers.now.items self.now) }
     {
         let pending = self.desk.pending();
         if pending > 0 {
@@ -66,7 +73,8 @@ impl<L: Ledger> Book<L> {
 
     /// The first of its workers with a receipt that does not stand, by its number, and that receipt.
     fn disagreement(&self, workers: &Vec<Worker<L>>) -> Option<(u8, usize)>
-        ensures { MatchOption result (AllStand self.now.history workers.now.items) (λ found. Disagrees self.now.history workers.now.items found.0 found.1) }
+        ensures { MatchOption result (AllStand self.now.history workers.now.items)
+            (λ found. Disagrees self.now.history workers.now.items found.0 found.1) }
     {
         disagreement(self.history.as_slice(), workers)
     }
@@ -120,8 +128,12 @@ fn gather<L: Ledger>(workers: Vec<Worker<L>>) -> Share<L>
 }
 
 /// The first worker with a receipt that does not stand, by its number, and that receipt.
-fn disagreement<L: Ledger>(history: &[Entry], workers: &Vec<Worker<L>>) -> Option<(u8, usize)>
-    ensures { MatchOption result (AllStand history.now workers.now.items) (λ found. Disagrees history.now workers.now.items found.0 found.1) }
+fn disagreement<L: Ledger>(
+    history: &[HistoryEntry],
+    workers: &Vec<Worker<L>>,
+) -> Option<(u8, usize)>
+    ensures { MatchOption result (AllStand history.now workers.now.items)
+        (λ found. Disagrees history.now workers.now.items found.0 found.1) }
 {
     for i in 0..workers.len() {
         let worker = &workers[i];
@@ -134,16 +146,19 @@ fn disagreement<L: Ledger>(history: &[Entry], workers: &Vec<Worker<L>>) -> Optio
 
 impl<L: Ledger> Worker<L> {
     /// The first of its receipts that does not stand in the history, or not above the one before it.
-    fn first_bad(&self, history: &[Entry]) -> Option<usize>
-        ensures { MatchOption result (Stands history.now self.now) (λ k. (k < length self.now.receipts) × ¬ Agrees history.now self.now.receipts k) }
+    fn first_bad(&self, history: &[HistoryEntry]) -> Option<usize>
+        ensures { MatchOption result (Stands history.now self.now)
+            (λ k. (k < length self.now.receipts) × ¬ Agrees history.now self.now.receipts k) }
     {
         bad_in(history, self.receipts.as_slice())
     }
 }
 
 /// The first receipt that does not stand, or not above the one before it.
-fn bad_in(history: &[Entry], receipts: &[Receipt]) -> Option<usize>
-    ensures { MatchOption result ((k : ℕ) → k < length receipts.now → Agrees history.now receipts.now k) (λ k. (k < length receipts.now) × ¬ Agrees history.now receipts.now k) }
+fn bad_in(history: &[HistoryEntry], receipts: &[Receipt]) -> Option<usize>
+    ensures { MatchOption result
+        ((k : ℕ) → k < length receipts.now → Agrees history.now receipts.now k)
+        (λ k. (k < length receipts.now) × ¬ Agrees history.now receipts.now k) }
 {
     for k in 0..receipts.len() {
         if !agrees(history, receipts, k) {
@@ -154,7 +169,7 @@ fn bad_in(history: &[Entry], receipts: &[Receipt]) -> Option<usize>
 }
 
 /// Whether a receipt stands in the history, above the one before it.
-fn agrees(history: &[Entry], receipts: &[Receipt], k: usize) -> bool
+fn agrees(history: &[HistoryEntry], receipts: &[Receipt], k: usize) -> bool
     requires { k < length receipts.now }
     ensures { IsTrue result ↔ Agrees history.now receipts.now k }
 {
@@ -163,7 +178,7 @@ fn agrees(history: &[Entry], receipts: &[Receipt], k: usize) -> bool
 }
 
 /// Whether a receipt stands in the history.
-fn stands(history: &[Entry], receipt: &Receipt) -> bool
+fn stands(history: &[HistoryEntry], receipt: &Receipt) -> bool
     ensures { IsTrue result ↔ (slice_get history.now receipt.now.place ≡ Some receipt.now.entry) }
 {
     if receipt.place >= history.len() as u64 {

@@ -10,7 +10,7 @@ use thiserror::Error;
 
 /// A call of the desk.
 #[derive(Debug, PartialEq, Eq, Drop)]
-pub enum Call {
+pub enum DeskCall {
     /// A turn of a process.
     Turn(Pid),
     Reply(KeptReply),
@@ -28,10 +28,10 @@ pub enum Answered {
 
 /// A call of a worker and its answer.
 #[derive(Debug, PartialEq, Eq, Drop)]
-pub struct Entry {
+pub struct HistoryEntry {
     /// The worker's number, from 0.
     pub worker: u8,
-    pub call: Call,
+    pub call: DeskCall,
     pub answer: Answered,
     /// How many requests had been taken from the desk before the call.
     pub taken: u64,
@@ -41,7 +41,7 @@ pub struct Entry {
 #[derive(Debug, PartialEq, Eq, Drop)]
 pub struct Receipt {
     pub place: u64,
-    pub entry: Entry,
+    pub entry: HistoryEntry,
 }
 
 /// Why a history was not closed, in the order in which the causes are tried.
@@ -56,17 +56,17 @@ pub enum CloseRefusal {
     Other,
 }
 
-impl Call {
+impl DeskCall {
     /// Whether both are the same.
-    pub fn is_same(&self, other: &Call) -> bool
+    pub fn is_same(&self, other: &DeskCall) -> bool
         ensures { IsTrue result ↔ (self.now ≡ other.now) }
     {
         match (self, other) {
-            (Call::Turn(pid), Call::Turn(other)) => *pid == *other,
-            (Call::Reply(reply), Call::Reply(other)) => reply.is_same(other),
+            (DeskCall::Turn(pid), DeskCall::Turn(other)) => *pid == *other,
+            (DeskCall::Reply(reply), DeskCall::Reply(other)) => reply.is_same(other),
             (
-                Call::HandIn { process, count },
-                Call::HandIn {
+                DeskCall::HandIn { process, count },
+                DeskCall::HandIn {
                     process: other,
                     count: times,
                 },
@@ -85,9 +85,9 @@ impl Answered {
     }
 }
 
-impl Entry {
+impl HistoryEntry {
     /// Whether both are the same.
-    pub fn is_same(&self, other: &Entry) -> bool
+    pub fn is_same(&self, other: &HistoryEntry) -> bool
         ensures { IsTrue result ↔ (self.now ≡ other.now) }
     {
         if self.worker != other.worker || self.taken != other.taken {

@@ -12,8 +12,8 @@ pub mod worker;
 
 pub use book::{Book, Leased};
 pub use closing::History;
-pub use entry::{Answered, Call, CloseRefusal, Entry, Receipt};
+pub use entry::{Answered, CloseRefusal, DeskCall, HistoryEntry, Receipt};
 pub use kept_reply::KeptReply;
 pub use shared::{Gate, Shared};
 pub use sk_wire::{Wire, WirePass};
-pub use worker::Worker;
+pub use worker::{WORKERS_LIMIT, Worker};

@@ -4,14 +4,15 @@ ghost use Rattle.sk_kernel.specs.Opening.{opening_of};
 ghost use Rattle.sk_plain.specs.Leased.{Lends};
 ghost use Rattle.sk_client.specs.Desk.{opened_at};
 ghost use Rattle.sk_client.specs.Leasing.{desk_lease};
-ghost use Rattle.sk_workers.specs.declared.entry.Entry.{Entry};
+ghost use Rattle.sk_workers.specs.declared.entry.HistoryEntry.{HistoryEntry};
+ghost use Rattle.sk_workers.specs.declared.worker.TheConstants.{WORKERS_LIMIT};
 ghost use Rattle.sk_workers.specs.Views.{BookView, WorkerView};
 ghost use Rattle.sk_workers.specs.History.{AreFresh, IsLegal, Told, TurnTold, HandInTold, AnyTold, IsLentAny, without_reply, without_lease};
 ghost use Rattle.sk_workers.specs.Closing.{AreDistinct, IsClosed, Refuses, begins_turn};
 
 use crate::book::{Book, Leased};
 use crate::closing::History;
-use crate::entry::{Answered, Call, CloseRefusal};
+use crate::entry::{Answered, CloseRefusal, DeskCall};
 use crate::worker::Worker;
 use sk_client::{Desk, Given, ReplyRefusal, Turn};
 use sk_ids::Pid;
@@ -20,6 +21,7 @@ use sk_plain::Refusal;
 use sk_script::Lease;
 use sk_server::{Reply, Request};
 use std::alloc::{AllocError, Global};
+use std::hint::spin_loop;
 use std::marker::Model;
 use std::sync::atomic::{AtomicBool, Ordering};
 use std::sync::ledger::{Blank, Ledger};
@@ -27,18 +29,24 @@ use std::sync::{Mutex, MutexGuard, Wait};
 use std::thread::yield_now;
 
 /// How often a thread tries to take the lock before it waits asleep, which costs far more than a call under it.
-const TRIES: u32 = 200;
+const TRIES: u32 = 10_000;
 
 /// After how many tries the thread lets others run first.
-const YIELDS: u32 = 50;
-
-/// How long a thread pauses between two tries.
-const PAUSES: u32 = 600;
+const YIELDS: u32 = 2_500;
 
 /// What a worker passes before its turn takes the lock.
 pub trait Gate {
     /// `turn` is the number of the worker's earlier calls of `turn`; it stays at its last value.
     fn before(&self, worker: u8, turn: u64);
+}
+
+/// Pauses before the next try; now and then the thread lets others run first.
+fn pause(tries: u32) {
+    if tries % YIELDS == YIELDS - 1 {
+        yield_now();
+    } else {
+        spin_loop();
+    }
 }
 
 /// A desk that workers in several threads share, and beside its lock where it was opened. It can't be dropped: `close` or
@@ -62,7 +70,7 @@ impl<L: Ledger> Model for Shared<L> {
 }
 
 impl<L: Ledger> Shared<L> {
-    /// Shares a desk on which nothing was done in its epoch among n workers, 1 to 8, numbered from 0. Where memory runs out the
+    /// Shares a desk on which nothing was done in its epoch among n workers, 1 to `WORKERS_LIMIT`, numbered from 0. Where memory runs out the
     /// ledger and the desk come back.
     pub fn new(
         alloc: Global,
@@ -71,10 +79,11 @@ impl<L: Ledger> Shared<L> {
         n: u8,
     ) -> Result<(Shared<L>, Vec<Worker<L>>), (Blank, Desk, AllocError)>
         requires ledger { (blank.name ≡ L.name) × (blank.parts ≡ L.parts) × (L.parts ≡ n) }
-        requires count { (1 ≤ n) × (n ≤ 8) }
+        requires count { (1 ≤ n) × (n ≤ WORKERS_LIMIT) }
         requires opened { desk ≡ opened_at desk.kernel desk.first }
         requires trace { desk.kernel.trace ≡ [] }
-        ensures shared { IfOk result (λ made. (made.0.opening ≡ opening_of desk.kernel) × (made.0.first ≡ desk.first)) }
+        ensures shared { IfOk result
+            (λ made. (made.0.opening ≡ opening_of desk.kernel) × (made.0.first ≡ desk.first)) }
         ensures workers { IfOk result (λ made. AreFresh n made.1.items) }
         ensures err { IfErr result (λ back. (back.0 ≡ blank) × (back.1 ≡ desk)) }
     {
@@ -121,7 +130,8 @@ impl<L: Ledger> Shared<L> {
         next: Option<Pid>,
         gate: &G,
     ) -> (Worker<L>, Leased)
-        ensures calls { (v : WorkerView) × AnyTold result.1.handed (begins_turn worker) lease.old v × TurnTold result.1.answer v pid result.0 }
+        ensures calls { (v : WorkerView) × AnyTold result.1.handed (begins_turn worker) lease.old v
+            × TurnTold result.1.answer v pid result.0 }
         ensures lent { IsLentAny result.1.lent lease.new next }
     {
         let (number, turn, worker) = worker.begin_turn();
@@ -137,21 +147,9 @@ impl<L: Ledger> Shared<L> {
             if let Some(book) = self.book.try_lock() {
                 return book;
             }
-            self.pause(tries);
+            pause(tries);
         }
         self.book.lock(rt)
-    }
-
-    /// Pauses before the next try, with no look at the lock, which its holder writes; now and then the thread lets others run
-    /// first.
-    fn pause(&self, tries: u32) {
-        if tries % YIELDS == YIELDS - 1 {
-            yield_now();
-            return;
-        }
-        for _ in 0..PAUSES {
-            let _ = self.may_wait.load(Ordering::Relaxed);
-        }
     }
 
     /// Notes that a request may wait, after a turn that made one.
@@ -169,7 +167,9 @@ impl<L: Ledger> Shared<L> {
         reply: Reply,
     ) -> (Worker<L>, Result<Given, (Reply, ReplyRefusal)>)
         ensures back { IfErr result.1 (λ back. back.0 ≡ reply) }
-        ensures receipt { ((without_reply result.1 ≡ Err ReplyRefusal.Memory) × (result.0 ≡ worker)) ⊎ Told worker (Call.Reply reply) (Answered.Replied (without_reply result.1)) result.0 }
+        ensures receipt { ((without_reply result.1 ≡ Err ReplyRefusal.Memory) × (result.0 ≡ worker))
+            ⊎ Told worker (DeskCall.Reply reply) (Answered.Replied (without_reply result.1))
+            result.0 }
     {
         self.hold(rt).reply(worker, reply)
     }
@@ -181,7 +181,8 @@ impl<L: Ledger> Shared<L> {
         worker: Worker<L>,
         pid: Pid,
     ) -> (Worker<L>, Result<Lease, Refusal>)
-        ensures lease { (book : BookView) × IsLegal book.history book.desk × Lends result.1 (desk_lease book.desk pid) }
+        ensures lease { (book : BookView) × IsLegal book.history book.desk
+            × Lends result.1 (desk_lease book.desk pid) }
         ensures same { result.0 ≡ worker }
     {
         self.hold(rt).lease(worker, pid)
@@ -229,7 +230,9 @@ impl<L: Ledger> Shared<L> {
         requires distinct { AreDistinct workers.items }
         ensures closed { IfOk result (λ h. IsClosed self workers.items h.entries.items h.desk) }
         ensures back { IfErr result (λ back. (back.0 ≡ self) × (back.1 ≡ workers)) }
-        ensures refused { IfErr result (λ back. (book : BookView) × IsLegal book.history book.desk × Refuses self workers.items book back.2) }
+        ensures refused { IfErr result
+            (λ back. (book : BookView) × IsLegal book.history book.desk
+            × Refuses self workers.items book back.2) }
     {
         let Shared {
             book,
@@ -253,7 +256,7 @@ impl<L: Ledger> Shared<L> {
 
     /// The desk alone, where a legal history ends. This takes no memory.
     pub fn reopen(self) -> Desk
-        ensures { (history : List Entry) × IsLegal history result }
+        ensures { (history : List HistoryEntry) × IsLegal history result }
     {
         let Shared {
             book,

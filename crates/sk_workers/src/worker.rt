@@ -8,6 +8,9 @@ use std::alloc::Global;
 use std::marker::Model;
 use std::sync::ledger::{Ledger, Share};
 
+/// How many workers share a desk at most.
+pub const WORKERS_LIMIT: u8 = 8;
+
 /// Who makes calls of a desk, with a receipt for each answer. It can't be copied. Where one is dropped, its
 /// book can no longer be closed.
 #[derive(Drop)]
@@ -25,9 +28,11 @@ impl<L: Ledger> Model for Worker<L> {
 
     ghost Value = { WorkerView };
 
-    ghost view = { λ w. record { number = w.number; turns = w.turns; receipts = w.receipts.items } };
+    ghost view = { λ w. record
+        { number = w.number; turns = w.turns; receipts = w.receipts.items } };
 
-    ghost invariant = { λ w. (w.share.parts ≡ 1) × (w.share.amount ≡ length w.receipts.items) × AreOwn w.number w.receipts.items };
+    ghost invariant = { λ w. (w.share.parts ≡ 1) × (w.share.amount ≡ length w.receipts.items)
+        × AreOwn w.number w.receipts.items };
 }
 
 impl<L: Ledger> Worker<L> {

@@ -29,7 +29,8 @@ pub fn text(bytes: &[u8]) -> Result<Text, Fail>
 
 /// A content.
 pub fn content(version: u64, bytes: &[u8]) -> Result<Content, Fail>
-    ensures value { IfOk result (λ content. content ≡ record { version = version; bytes = bytes.now }) }
+    ensures value { IfOk result
+        (λ content. content ≡ record { version = version; bytes = bytes.now }) }
 {
     Ok(Content::new(version, text(bytes)?).ok_or("content")?)
 }

@@ -8,7 +8,7 @@ use sk_ids::{GuessId, Pid};
 use sk_kernel::Opening;
 use sk_script::Boot;
 use sk_server::{Answer, Reply};
-use sk_workers::{Answered, Book, Call, CloseRefusal, History, Worker};
+use sk_workers::{Answered, Book, CloseRefusal, DeskCall, History, Worker};
 use std::alloc::Global;
 use std::marker::Brand;
 use std::process::Abort;
@@ -62,7 +62,7 @@ fn looks<L: Ledger>(rt: &impl Abort, worker: &Worker<L>, first: u64, pid: Pid) {
     for (turn, receipt) in worker.receipts().iter().take(ROUNDS as usize).enumerate() {
         assert_eq!(rt; receipt.place, first.saturating_add(2 * (turn as u64)));
         assert_eq!(rt; receipt.entry.worker, worker.number());
-        assert_eq!(rt; receipt.entry.call, Call::Turn(pid));
+        assert_eq!(rt; receipt.entry.call, DeskCall::Turn(pid));
         assert_eq!(rt; receipt.entry.answer, Answered::Turned(Ok(Turn::Stepped)));
     }
 }

@@ -7,7 +7,7 @@ use sk_client::{Desk, Turn};
 use sk_ids::Pid;
 use sk_kernel::HandIn;
 use sk_script::{Boot, Lease};
-use sk_workers::{Answered, Call, Leased, Shared, Worker};
+use sk_workers::{Answered, DeskCall, Leased, Shared, Worker};
 use std::alloc::Global;
 use std::marker::Brand;
 use std::process::Abort;
@@ -90,7 +90,7 @@ fn looks<L: Ledger>(rt: &impl Abort, worker: &Worker<L>, between: &Between) {
     };
     assert_eq!(rt; receipt.place, u64::from(between.turns));
     let process = between.leased;
-    assert_eq!(rt; receipt.entry.call, Call::HandIn { process, count: 2 });
+    assert_eq!(rt; receipt.entry.call, DeskCall::HandIn { process, count: 2 });
     assert_eq!(rt; receipt.entry.answer, Answered::HandedIn(between.answer));
 }
 
@@ -241,17 +241,17 @@ fn turns_with_leases<L: Ledger, R: Wait + Abort>(
 /// Looks at the receipts of these turns.
 fn looks_back<L: Ledger>(rt: &impl Abort, worker: &Worker<L>, sets: Pid, kills: Pid) {
     let calls = [
-        Call::HandIn {
+        DeskCall::HandIn {
             process: sets,
             count: 2,
         },
-        Call::Turn(sets),
-        Call::Turn(kills),
-        Call::HandIn {
+        DeskCall::Turn(sets),
+        DeskCall::Turn(kills),
+        DeskCall::HandIn {
             process: kills,
             count: 2,
         },
-        Call::Turn(kills),
+        DeskCall::Turn(kills),
     ];
     assert_eq!(rt; worker.receipts().len(), calls.len());
     for (receipt, call) in worker.receipts().iter().zip(calls.iter()) {

@@ -1,10 +1,10 @@
 //! What is kept of each call is small.
-use sk_workers::{Entry, Receipt};
+use sk_workers::{HistoryEntry, Receipt};
 use std::mem::size_of;
 
 #[test]
 fn an_entry_is_a_few_words(rt: HostRuntime) {
-    assert!(rt; size_of::<Entry>() <= 88);
+    assert!(rt; size_of::<HistoryEntry>() <= 88);
 }
 
 #[test]

@@ -22,7 +22,8 @@ fn fill<R: Wait>(
 ) -> (WirePass<Reply>, u64, Option<Reply>)
     requires { IsSending wire.now pass × (view pass ≡ sender 7) }
     ensures pass { IsSending wire.now result.0 }
-    ensures number { IfSome result.2 (λ back. back.number ≡ (view result.0).first + length (view result.0).sent) }
+    ensures number { IfSome result.2
+        (λ back. back.number ≡ (view result.0).first + length (view result.0).sent) }
     ensures limit { IfSome result.2 (λ back. back.number < (view result.0).first + 2 ^ 62) }
 {
     let mut pass = pass;

@@ -1,12 +1,12 @@
 use Rattle.std.proofs.Common.{List, ap, ◌∙◌, subst}
 use Rattle.std.specs.Prelude.{MatchOption}
-use Rattle.sk_workers.specs.declared.entry.Entry.{Entry}
+use Rattle.sk_workers.specs.declared.entry.HistoryEntry.{HistoryEntry}
 use Rattle.sk_workers.specs.Views.{BookView}
 use Rattle.sk_workers.specs.Closing.{AllStand, Disagrees}
 use Rattle.sk_workers.proofs.book.Book.disagreement.Goals as goal
 
 pub returns : goal.returns
 returns g c =
-    subst (λ (h : List Entry). MatchOption c.disagreement.result (AllStand h c.args.workers.now.items) (λ found. Disagrees h c.args.workers.now.items found.0 found.1))
+    subst (λ (h : List HistoryEntry). MatchOption c.disagreement.result (AllStand h c.args.workers.now.items) (λ found. Disagrees h c.args.workers.now.items found.0 found.1))
     (c.as_slice.ensures.value ∙ ap (λ (b : BookView). b.history) c.self.view_is)
     c.disagreement.ensures

@@ -1,9 +1,9 @@
 -- The answer that is entered is the desk's.
 use Rattle.std.proofs.Common.{◌++◌, ◌∷◌, [], List, refl, sym, ap, ◌∙◌, subst, length}
 use Rattle.std.proofs.lemmas.Bool.{false≢true}
-use Rattle.sk_workers.specs.declared.entry.Call.{Call}
+use Rattle.sk_workers.specs.declared.entry.DeskCall.{DeskCall}
 use Rattle.sk_workers.specs.declared.entry.Answered.TheVariants.{HandedIn}
-use Rattle.sk_workers.specs.declared.entry.Entry.{Entry}
+use Rattle.sk_workers.specs.declared.entry.HistoryEntry.{HistoryEntry}
 use Rattle.sk_workers.specs.declared.entry.Receipt.{Receipt}
 use Rattle.sk_workers.specs.History.{Step, entry, receipt}
 use Rattle.sk_workers.proofs.Runs.{entered, received}
@@ -32,7 +32,7 @@ invariant_of-self-2 g c =
     let told = hands_in old.desk left lease answer c.calls_with-call.ensures.done c.take_in-answer.ensures in
     entered old.desk left old.history.items c.enter.new.history.items e old.tally.total c.enter.new.tally.total g.L.Ledger.parts
     c.self.invariant c.requests_taken-taken.ensures
-    (subst (λ (call : Call). Step old.desk call (HandedIn answer) left) (sym c.calls_with-call.ensures.call)
+    (subst (λ (call : DeskCall). Step old.desk call (HandedIn answer) left) (sym c.calls_with-call.ensures.call)
     (told, λ memory. false≢true (sym c.if-is_short.false ∙ c.is_short.ensures.1 memory)))
-    (c.enter.ensures.history ∙ ap (λ (es : List Entry). es ++ e ∷ []) c.make_room.ensures.history)
+    (c.enter.ensures.history ∙ ap (λ (es : List HistoryEntry). es ++ e ∷ []) c.make_room.ensures.history)
     c.enter.ensures.tally

@@ -1,8 +1,8 @@
 -- The answer that is entered is the desk's.
 use Rattle.std.proofs.Common.{◌++◌, ◌∷◌, [], List, sym, ap, ◌∙◌, subst}
-use Rattle.sk_workers.specs.declared.entry.Call.TheVariants as calls
+use Rattle.sk_workers.specs.declared.entry.DeskCall.TheVariants as calls
 use Rattle.sk_workers.specs.declared.entry.Answered.{Answered}
-use Rattle.sk_workers.specs.declared.entry.Entry.{Entry}
+use Rattle.sk_workers.specs.declared.entry.HistoryEntry.{HistoryEntry}
 use Rattle.sk_workers.specs.History.{Step, entry}
 use Rattle.sk_workers.proofs.Runs.{entered}
 use Rattle.sk_workers.proofs.book.Book.turn.Goals as goal
@@ -15,5 +15,5 @@ invariant_of-self-2 g c =
     entered old.desk c.turn_of.new.desk old.history.items c.enter.new.history.items e old.tally.total c.enter.new.tally.total g.L.Ledger.parts
     c.self.invariant c.requests_taken-taken.ensures
     (subst (λ (a : Answered). Step old.desk call a c.turn_of.new.desk) (sym c.turned.ensures) c.in-Some.ensures)
-    (c.enter.ensures.history ∙ ap (λ (es : List Entry). es ++ e ∷ []) c.make_room.ensures.history)
+    (c.enter.ensures.history ∙ ap (λ (es : List HistoryEntry). es ++ e ∷ []) c.make_room.ensures.history)
     c.enter.ensures.tally

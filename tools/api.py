@@ -41,9 +41,14 @@ def first_words(crate):
 
 def whole_item(lines, at, kind):
     """The lines of an item, of a function those before its body."""
-    last = at
+    last, depth = at, 0
     if kind == "fn":
-        while not re.search(r"(^|[^{}] )\{\}?$|;$", lines[last]) or re.match(r" *(ensures|requires)\b.*[^;]$", lines[last]):
+        # A clause may go over several lines, with records in it whose fields end with `;`.
+        while True:
+            clause = depth > 0 or re.match(r" *(ensures|requires)\b", lines[last])
+            depth += lines[last].count("{") - lines[last].count("}")
+            if re.search(r";$" if clause else r"(^|[^{}] )\{\}?$|;$", lines[last]) and (depth == 0 or not clause):
+                break
             last += 1
     elif lines[at].endswith("{") and kind != "trait":
         while lines[last].strip() != "}":
@@ -76,7 +81,7 @@ def items(lines):
 def shortened(clause):
     for old, new in SHORT:
         clause = re.sub(old, new, clause)
-    return clause
+    return clause.replace("; }", " }")
 
 
 def shown(lines, owner):

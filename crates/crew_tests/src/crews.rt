@@ -21,9 +21,9 @@ use tests_support::judge::judge_settled;
 
 /// Waits for nothing.
 #[derive(Drop)]
-struct Open;
+struct FreeGate;
 
-impl Gate for Open {
+impl Gate for FreeGate {
     fn before(&self, _worker: u8, _turn: u64) {}
 }
 
@@ -40,7 +40,7 @@ fn crew<R: Threads + Wait + Sync>(
     requires trace { desk.kernel.trace ≡ [] }
 {
     let blank = Blank::new(u64::from(plan.workers));
-    match run_crew::<Brand, R, Open>(rt, alloc, blank, desk, server, plan, &Open) {
+    match run_crew::<Brand, R, FreeGate>(rt, alloc, blank, desk, server, plan, &FreeGate) {
         Ok(done) => Ok(done),
         Err(_) => Err(Finding::Crew),
     }
@@ -48,14 +48,14 @@ fn crew<R: Threads + Wait + Sync>(
 
 /// What a crew leaves.
 #[derive(Clone, Copy)]
-struct Left<'a> {
+struct CrewLeft<'a> {
     entries: &'a [HistoryEntry],
     desk: &'a Desk,
     server: &'a Server,
 }
 
 /// Runs the history again with a fresh desk and a fresh server, which have to come to the same trace and files.
-fn repeat(fresh: &mut Desk, peer: &mut Peer, left: &Left) -> Result<(), Finding> {
+fn repeat(fresh: &mut Desk, peer: &mut Peer, left: &CrewLeft) -> Result<(), Finding> {
     run_again(fresh, peer, left.entries)?;
     if fresh.kernel().trace().events() != left.desk.kernel().trace().events() {
         return Err(Finding::Trace);
@@ -68,7 +68,7 @@ fn judge_crew(
     alloc: Global,
     declarations: &Declarations,
     plan: CrewPlan,
-    left: &Left,
+    left: &CrewLeft,
 ) -> Result<(), Finding>
     requires { 1 ≤ plan.workers }
 {
@@ -96,7 +96,7 @@ fn one_crew<R: Threads + Wait + Sync>(
 {
     let (desk, server) = desk_of(alloc, declarations)?;
     let (History { entries, desk }, server) = crew(rt, alloc, desk, server, plan)?;
-    let left = Left {
+    let left = CrewLeft {
         entries: entries.as_slice(),
         desk: &desk,
         server: &server,

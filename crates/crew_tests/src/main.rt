@@ -29,13 +29,13 @@ const AHEAD: u32 = 64;
 
 /// How many crews there are, and how large each is.
 #[derive(Clone, Copy, Debug)]
-struct Wish {
+struct CrewSizes {
     plan: CrewPlan,
     crews: u32,
 }
 
 /// What the words after the program's name ask for.
-fn wish_of(words: &[String]) -> Option<Wish>
+fn wish_of(words: &[String]) -> Option<CrewSizes>
     ensures workers { IfSome result (λ wish. (1 ≤ wish.plan.workers) × (wish.plan.workers ≤ 8)) }
     ensures turns { IfSome result (λ wish. 1 ≤ wish.plan.turns) }
 {
@@ -50,7 +50,7 @@ fn wish_of(words: &[String]) -> Option<Wish>
         turns,
         ahead: AHEAD,
     };
-    Some(Wish { plan, crews })
+    Some(CrewSizes { plan, crews })
 }
 
 /// Judges crews of the scenario on the standard input: how many calls they make.

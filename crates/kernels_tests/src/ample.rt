@@ -1,6 +1,6 @@
 //! Calls past round numbers and at limits, where memory is ample. The contracts allow want of memory wherever
 //! something grows, so that it does not come here is tested.
-use crate::plays::{Count, Decision, Pick, Play, plays};
+use crate::plays::{Count, Decision, KernelPlay, Pick, plays};
 use crate::start::Start;
 use sk_kernel::Outcome;
 use sk_plain::Refusal;
@@ -25,9 +25,9 @@ fn five_thousand_events(rt: HostRuntime) -> Result<(), Fail> {
         ..one_process(&[(b"set r1 1\n", 2_500)], 5_000)
     };
     let table = [
-        Play::Steps(1, 2_500, Ok(())),
-        Play::Steps(2, 2_500, Ok(())),
-        Play::Has(Count::Events, 5_000),
+        KernelPlay::Steps(1, 2_500, Ok(())),
+        KernelPlay::Steps(2, 2_500, Ok(())),
+        KernelPlay::Has(Count::Events, 5_000),
     ];
     plays(&rt, rt.alloc(), start, &table)
 }
@@ -36,8 +36,8 @@ fn five_thousand_events(rt: HostRuntime) -> Result<(), Fail> {
 fn rounds(rt: &impl Abort, alloc: Global, decisions: [Decision; 2]) -> Result<(), Fail> {
     let start = one_process(&[(b"fetch /01\n", 501)], 2_000);
     let table = [
-        Play::Rounds(1_000, decisions),
-        Play::Has(Count::Events, 2_000),
+        KernelPlay::Rounds(1_000, decisions),
+        KernelPlay::Has(Count::Events, 2_000),
     ];
     plays(rt, alloc, start, &table)
 }
@@ -59,13 +59,13 @@ fn long_speculation(
 ) -> Result<(), Fail> {
     let start = one_process(&[(b"fetch /01\n", 1), (b"say\n", 2_500)], 2_502);
     let table = [
-        Play::Guesses(1, 1, 1),
-        Play::Steps(1, 2_500, Ok(())),
-        Play::Has(Count::Place(1), 2_501),
-        Play::Decides(Pick::Oldest, decision, Outcome::Done),
-        Play::Has(Count::Place(1), after),
-        Play::Has(Count::Released(1), said),
-        Play::Has(Count::Room, 0),
+        KernelPlay::Guesses(1, 1, 1),
+        KernelPlay::Steps(1, 2_500, Ok(())),
+        KernelPlay::Has(Count::Place(1), 2_501),
+        KernelPlay::Decides(Pick::Oldest, decision, Outcome::Done),
+        KernelPlay::Has(Count::Place(1), after),
+        KernelPlay::Has(Count::Released(1), said),
+        KernelPlay::Has(Count::Room, 0),
     ];
     plays(rt, alloc, start, &table)
 }
@@ -90,14 +90,14 @@ fn sixty_four_open(
         ..one_process(&[(b"fetch /01\n", 16)], 128)
     };
     let table = [
-        Play::Guesses(1, 1, 16),
-        Play::Guesses(2, 17, 32),
-        Play::Guesses(3, 33, 48),
-        Play::Guesses(4, 49, 64),
-        Play::Has(Count::Undecided, 64),
-        Play::DecidesAll(which, decision, done),
-        Play::Has(Count::Undecided, 0),
-        Play::Has(Count::Events, done.saturating_add(64)),
+        KernelPlay::Guesses(1, 1, 16),
+        KernelPlay::Guesses(2, 17, 32),
+        KernelPlay::Guesses(3, 33, 48),
+        KernelPlay::Guesses(4, 49, 64),
+        KernelPlay::Has(Count::Undecided, 64),
+        KernelPlay::DecidesAll(which, decision, done),
+        KernelPlay::Has(Count::Undecided, 0),
+        KernelPlay::Has(Count::Events, done.saturating_add(64)),
     ];
     plays(rt, alloc, start, &table)
 }
@@ -120,11 +120,11 @@ fn sixty_four_guesses_of_four_processes(rt: HostRuntime) -> Result<(), Fail> {
 fn nested_failure_at_first(rt: HostRuntime) -> Result<(), Fail> {
     let start = one_process(&[(b"fetch /01\n", 2)], 4);
     let table = [
-        Play::Guesses(1, 1, 2),
-        Play::Decides(Pick::Oldest, Decision::Fail, Outcome::Done),
-        Play::Decides(Pick::Oldest, Decision::Fail, Outcome::Gone),
-        Play::Has(Count::Place(1), 0),
-        Play::Has(Count::Room, 1),
+        KernelPlay::Guesses(1, 1, 2),
+        KernelPlay::Decides(Pick::Oldest, Decision::Fail, Outcome::Done),
+        KernelPlay::Decides(Pick::Oldest, Decision::Fail, Outcome::Gone),
+        KernelPlay::Has(Count::Place(1), 0),
+        KernelPlay::Has(Count::Room, 1),
     ];
     plays(&rt, rt.alloc(), start, &table)
 }
@@ -136,9 +136,9 @@ fn seventy_of_each(rt: HostRuntime) -> Result<(), Fail> {
         ..one_process(&[(b"say\n", 15)], 1_050)
     };
     let table = [
-        Play::AllStep(70, 15),
-        Play::Has(Count::Released(70), 15),
-        Play::Has(Count::Entities, 281),
+        KernelPlay::AllStep(70, 15),
+        KernelPlay::Has(Count::Released(70), 15),
+        KernelPlay::Has(Count::Entities, 281),
     ];
     plays(&rt, rt.alloc(), start, &table)
 }
@@ -151,7 +151,7 @@ fn trace_limits(rt: HostRuntime) -> Result<(), Fail> {
         (4_294_967_295, Ok(())),
     ] {
         let start = one_process(&[(b"say\n", 1)], limit);
-        plays(&rt, rt.alloc(), start, &[Play::Steps(1, 1, want)])?;
+        plays(&rt, rt.alloc(), start, &[KernelPlay::Steps(1, 1, want)])?;
     }
     Ok(())
 }

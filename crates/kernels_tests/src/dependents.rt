@@ -1,5 +1,5 @@
 //! What rests on a guess, through files, until the guess is decided.
-use crate::plays::{Decision, Pick, Play, Thing, plays_on};
+use crate::plays::{Decision, KernelPlay, Pick, Thing, plays_on};
 use crate::start::{declares_file, two_processes};
 use sk_kernel::{Kernel, Outcome};
 use sk_script::Boot;
@@ -29,14 +29,14 @@ fn rest_until(rt: &impl Abort, alloc: Global, decision: Decision) -> Result<(), 
     let boot = boot_of(alloc)?;
     let kernel = Kernel::boot(alloc, 1, &boot, 100)?;
     let table = [
-        Play::Steps(1, 1, Ok(())),
-        Play::Steps(2, 2, Ok(())),
-        Play::Rests(1, &[]),
-        Play::Guesses(1, 1, 1),
-        Play::Rests(1, &[Thing::Process(1)]),
-        Play::Steps(1, 1, Ok(())),
-        Play::Steps(2, 4, Ok(())),
-        Play::Rests(
+        KernelPlay::Steps(1, 1, Ok(())),
+        KernelPlay::Steps(2, 2, Ok(())),
+        KernelPlay::Rests(1, &[]),
+        KernelPlay::Guesses(1, 1, 1),
+        KernelPlay::Rests(1, &[Thing::Process(1)]),
+        KernelPlay::Steps(1, 1, Ok(())),
+        KernelPlay::Steps(2, 4, Ok(())),
+        KernelPlay::Rests(
             1,
             &[
                 Thing::Process(1),
@@ -45,9 +45,9 @@ fn rest_until(rt: &impl Abort, alloc: Global, decision: Decision) -> Result<(), 
                 Thing::Object(3),
             ],
         ),
-        Play::Rests(2, &[]),
-        Play::Decides(Pick::Oldest, decision, Outcome::Done),
-        Play::Rests(1, &[]),
+        KernelPlay::Rests(2, &[]),
+        KernelPlay::Decides(Pick::Oldest, decision, Outcome::Done),
+        KernelPlay::Rests(1, &[]),
     ];
     plays_on(rt, alloc, kernel, &table)
 }

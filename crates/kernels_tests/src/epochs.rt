@@ -1,5 +1,5 @@
 //! Epochs: what is handed out, and what is known of the guesses of earlier ones.
-use crate::plays::{Count, Decision, Pick, Play, Player, does_all, plays};
+use crate::plays::{Count, Decision, KernelPlay, Pick, Player, does_all, plays};
 use crate::start::{Start, kernel_of};
 use sk_guesses::Status;
 use sk_kernel::{EpochRefusal, Kernel, Outcome};
@@ -30,7 +30,7 @@ fn plays_to(
     rt: &impl Abort,
     alloc: Global,
     start: Start<'_>,
-    table: &[Play],
+    table: &[KernelPlay],
     want: usize,
 ) -> Result<(), Fail> {
     let mut player = Player::new(alloc, start)?;
@@ -40,30 +40,30 @@ fn plays_to(
     leaves(rt, alloc, &kernel, want)
 }
 
-const COMMITS: Play = Play::Decides(Pick::Oldest, Decision::Commit, Outcome::Done);
+const COMMITS: KernelPlay = KernelPlay::Decides(Pick::Oldest, Decision::Commit, Outcome::Done);
 
-const FAILS: Play = Play::Decides(Pick::Oldest, Decision::Fail, Outcome::Done);
+const FAILS: KernelPlay = KernelPlay::Decides(Pick::Oldest, Decision::Fail, Outcome::Done);
 
-const GONE: Play = Play::Decides(Pick::Oldest, Decision::Commit, Outcome::Gone);
+const GONE: KernelPlay = KernelPlay::Decides(Pick::Oldest, Decision::Commit, Outcome::Gone);
 
 /// A full trace is handed out, and there is room again.
 #[test]
 fn epoch_hands_out(rt: HostRuntime) -> Result<(), Fail> {
     let table = [
-        Play::Guesses(1, 1, 1),
-        Play::Good(1),
-        Play::Steps(1, 1, Err(Refusal::TraceFull)),
-        Play::Epoch(Err(EpochRefusal::Undecided(1))),
+        KernelPlay::Guesses(1, 1, 1),
+        KernelPlay::Good(1),
+        KernelPlay::Steps(1, 1, Err(Refusal::TraceFull)),
+        KernelPlay::Epoch(Err(EpochRefusal::Undecided(1))),
         COMMITS,
-        Play::Has(Count::Room, 0),
-        Play::Epoch(Ok((3, 0))),
-        Play::Has(Count::Events, 0),
-        Play::Has(Count::Room, 3),
-        Play::Became(1, Some(Status::Committed)),
-        Play::Steps(1, 1, Ok(())),
-        Play::Has(Count::Events, 1),
-        Play::Has(Count::Place(1), 2),
-        Play::Steps(1, 1, Err(Refusal::Ended)),
+        KernelPlay::Has(Count::Room, 0),
+        KernelPlay::Epoch(Ok((3, 0))),
+        KernelPlay::Has(Count::Events, 0),
+        KernelPlay::Has(Count::Room, 3),
+        KernelPlay::Became(1, Some(Status::Committed)),
+        KernelPlay::Steps(1, 1, Ok(())),
+        KernelPlay::Has(Count::Events, 1),
+        KernelPlay::Has(Count::Place(1), 2),
+        KernelPlay::Steps(1, 1, Err(Refusal::Ended)),
     ];
     plays_to(
         &rt,
@@ -78,17 +78,17 @@ fn epoch_hands_out(rt: HostRuntime) -> Result<(), Fail> {
 #[test]
 fn epoch_and_old_tokens(rt: HostRuntime) -> Result<(), Fail> {
     let table = [
-        Play::Guesses(1, 1, 2),
-        Play::Steps(1, 1, Ok(())),
+        KernelPlay::Guesses(1, 1, 2),
+        KernelPlay::Steps(1, 1, Ok(())),
         FAILS,
-        Play::Epoch(Ok((4, 0))),
+        KernelPlay::Epoch(Ok((4, 0))),
         GONE,
-        Play::Has(Count::Events, 0),
-        Play::Became(1, Some(Status::Failed)),
-        Play::Became(2, Some(Status::Struck)),
-        Play::Became(3, None),
-        Play::Guesses(1, 3, 3),
-        Play::Became(3, Some(Status::Undecided)),
+        KernelPlay::Has(Count::Events, 0),
+        KernelPlay::Became(1, Some(Status::Failed)),
+        KernelPlay::Became(2, Some(Status::Struck)),
+        KernelPlay::Became(3, None),
+        KernelPlay::Guesses(1, 3, 3),
+        KernelPlay::Became(3, Some(Status::Undecided)),
     ];
     let script: [(&[u8], usize); 2] = [(b"fetch /01\n", 2), (b"say\n", 1)];
     plays_to(&rt, rt.alloc(), one_process(&script, 100), &table, 1)
@@ -98,14 +98,14 @@ fn epoch_and_old_tokens(rt: HostRuntime) -> Result<(), Fail> {
 #[test]
 fn texts_of_two_epochs(rt: HostRuntime) -> Result<(), Fail> {
     let table = [
-        Play::Steps(1, 2, Ok(())),
-        Play::Has(Count::Released(1), 2),
-        Play::Epoch(Ok((2, 2))),
-        Play::Epoch(Ok((0, 0))),
-        Play::Has(Count::Place(1), 2),
-        Play::Steps(1, 1, Ok(())),
-        Play::Has(Count::Released(1), 1),
-        Play::Epoch(Ok((1, 1))),
+        KernelPlay::Steps(1, 2, Ok(())),
+        KernelPlay::Has(Count::Released(1), 2),
+        KernelPlay::Epoch(Ok((2, 2))),
+        KernelPlay::Epoch(Ok((0, 0))),
+        KernelPlay::Has(Count::Place(1), 2),
+        KernelPlay::Steps(1, 1, Ok(())),
+        KernelPlay::Has(Count::Released(1), 1),
+        KernelPlay::Epoch(Ok((1, 1))),
     ];
     plays(&rt, rt.alloc(), one_process(&[(b"say\n", 3)], 2), &table)
 }
@@ -125,9 +125,9 @@ fn epoch_after_the_boot(rt: HostRuntime) -> Result<(), Fail> {
 fn one_epoch(rt: &impl Abort, player: &mut Player, number: u64) -> Result<(), Fail> {
     let decides = if number % 3 == 0 { FAILS } else { COMMITS };
     let table = [
-        Play::Guesses(1, number, number),
+        KernelPlay::Guesses(1, number, number),
         decides,
-        Play::Epoch(Ok((2, 0))),
+        KernelPlay::Epoch(Ok((2, 0))),
     ];
     does_all(rt, player, &table)
 }
@@ -139,7 +139,7 @@ fn told(rt: &impl Abort, player: &mut Player, number: u64) -> Result<(), Fail> {
     } else {
         Status::Committed
     };
-    does_all(rt, player, &[Play::Became(number, Some(status))])
+    does_all(rt, player, &[KernelPlay::Became(number, Some(status))])
 }
 
 fn epochs(rt: &impl Abort, player: &mut Player, count: u64) -> Result<(), Fail> {

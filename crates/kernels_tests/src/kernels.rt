@@ -1,7 +1,7 @@
 //! The calls of the kernel that a scenario can't make: those with another kernel's token.
 ghost use Rattle.std.specs.Prelude.{◌≡◌};
 
-use crate::plays::{Decision, Pick, Play, Player, does, does_all};
+use crate::plays::{Decision, KernelPlay, Pick, Player, does, does_all};
 use crate::start::Start;
 use sk_guesses::Guess;
 use sk_ids::Text;
@@ -16,13 +16,13 @@ use tests_support::values::text;
 const SAY_FETCH_SAY: &[u8] = b"text \"a\"\nsay\nfetch /01\ntext \"b\"\nsay\n";
 
 /// The two steps before the fetch, or behind it.
-const STEPS: Play = Play::Steps(1, 2, Ok(()));
+const STEPS: KernelPlay = KernelPlay::Steps(1, 2, Ok(()));
 
 /// The guess at the fetch.
-const GUESS: Play = Play::Guesses(1, 1, 1);
+const GUESS: KernelPlay = KernelPlay::Guesses(1, 1, 1);
 
 /// Its commit.
-const COMMIT: Play = Play::Decides(Pick::Oldest, Decision::Commit, Outcome::Done);
+const COMMIT: KernelPlay = KernelPlay::Decides(Pick::Oldest, Decision::Commit, Outcome::Done);
 
 /// A kernel of this number with one process, which says `a`, fetches and says `b`.
 fn one_process(number: u64) -> Start<'static> {
@@ -36,9 +36,9 @@ fn one_process(number: u64) -> Start<'static> {
 
 /// Something that is done with two kernels.
 #[derive(Clone, Copy)]
-enum Turn {
-    One(Play),
-    Two(Play),
+enum PairTurn {
+    One(KernelPlay),
+    Two(KernelPlay),
     /// The first kernel's token is given to the second kernel's commit and to its failure, each of
     /// which hands it back.
     Lends,
@@ -83,13 +83,13 @@ fn takes(
     one: &mut Player,
     two: &mut Player,
     place: usize,
-    turn: Turn,
+    turn: PairTurn,
 ) -> Result<(), Fail> {
     match turn {
-        Turn::One(play) => does(rt, one, place, play),
-        Turn::Two(play) => does(rt, two, place, play),
-        Turn::Lends => lends(rt, &mut one.tokens, &mut two.kernel),
-        Turn::Alike => are_alike(rt, &one.kernel, &two.kernel),
+        PairTurn::One(play) => does(rt, one, place, play),
+        PairTurn::Two(play) => does(rt, two, place, play),
+        PairTurn::Lends => lends(rt, &mut one.tokens, &mut two.kernel),
+        PairTurn::Alike => are_alike(rt, &one.kernel, &two.kernel),
     }
 }
 
@@ -98,7 +98,7 @@ fn takes_all(
     rt: &impl Abort,
     one: &mut Player,
     two: &mut Player,
-    turns: &[Turn],
+    turns: &[PairTurn],
 ) -> Result<(), Fail> {
     for (place, turn) in turns.iter().enumerate() {
         takes(rt, one, two, place, *turn)?;
@@ -112,7 +112,7 @@ fn meets(
     alloc: Global,
     one: &mut Player,
     number: u64,
-    turns: &[Turn],
+    turns: &[PairTurn],
 ) -> Result<(), Fail> {
     let mut two = Player::new(alloc, one_process(number))?;
     let done = takes_all(rt, one, &mut two, turns);
@@ -121,7 +121,7 @@ fn meets(
 }
 
 /// Takes turns with two new kernels of these numbers.
-fn meet(rt: &impl Abort, alloc: Global, numbers: [u64; 2], turns: &[Turn]) -> Result<(), Fail> {
+fn meet(rt: &impl Abort, alloc: Global, numbers: [u64; 2], turns: &[PairTurn]) -> Result<(), Fail> {
     let mut one = Player::new(alloc, one_process(numbers[0]))?;
     let done = meets(rt, alloc, &mut one, numbers[1], turns);
     one.abandon(rt);
@@ -131,14 +131,14 @@ fn meet(rt: &impl Abort, alloc: Global, numbers: [u64; 2], turns: &[Turn]) -> Re
 #[test]
 fn tokens_of_two_kernels(rt: HostRuntime) -> Result<(), Fail> {
     let turns = [
-        Turn::One(STEPS),
-        Turn::One(GUESS),
-        Turn::Two(STEPS),
-        Turn::Two(GUESS),
-        Turn::Lends,
-        Turn::One(COMMIT),
-        Turn::Two(COMMIT),
-        Turn::Alike,
+        PairTurn::One(STEPS),
+        PairTurn::One(GUESS),
+        PairTurn::Two(STEPS),
+        PairTurn::Two(GUESS),
+        PairTurn::Lends,
+        PairTurn::One(COMMIT),
+        PairTurn::Two(COMMIT),
+        PairTurn::Alike,
     ];
     meet(&rt, rt.alloc(), [1, 2], &turns)
 }
@@ -148,14 +148,14 @@ fn tokens_of_two_kernels(rt: HostRuntime) -> Result<(), Fail> {
 #[test]
 fn tokens_of_guesses_that_are_not_undecided(rt: HostRuntime) -> Result<(), Fail> {
     let turns = [
-        Turn::One(STEPS),
-        Turn::One(GUESS),
-        Turn::Lends,
-        Turn::Two(STEPS),
-        Turn::Two(GUESS),
-        Turn::Two(COMMIT),
-        Turn::Lends,
-        Turn::One(COMMIT),
+        PairTurn::One(STEPS),
+        PairTurn::One(GUESS),
+        PairTurn::Lends,
+        PairTurn::Two(STEPS),
+        PairTurn::Two(GUESS),
+        PairTurn::Two(COMMIT),
+        PairTurn::Lends,
+        PairTurn::One(COMMIT),
     ];
     meet(&rt, rt.alloc(), [1, 1], &turns)
 }
@@ -169,7 +169,11 @@ fn shut(rt: &impl Abort, kernel: Kernel) -> (Trace, Texts) {
 }
 
 /// The trace and the texts of a new kernel after it was played with.
-fn shut_after(rt: &impl Abort, alloc: Global, plays: &[Play]) -> Result<(Trace, Texts), Fail> {
+fn shut_after(
+    rt: &impl Abort,
+    alloc: Global,
+    plays: &[KernelPlay],
+) -> Result<(Trace, Texts), Fail> {
     let mut one = Player::new(alloc, one_process(1))?;
     let done = does_all(rt, &mut one, plays);
     let shut = shut(rt, one.end(rt));

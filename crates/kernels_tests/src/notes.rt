@@ -1,5 +1,5 @@
 //! How many notes are held, until the guesses are decided that they are for.
-use crate::plays::{Count, Decision, Pick, Play, plays, plays_on};
+use crate::plays::{Count, Decision, KernelPlay, Pick, plays, plays_on};
 use crate::start::{Start, declares_file, two_processes};
 use sk_kernel::{Kernel, Outcome};
 use std::alloc::Global;
@@ -13,11 +13,11 @@ const WRITER: &[u8] = b"look r1 r7 f\nfetch /x\nwrite r1 r2\nwrite r1 r2\nwrite 
 /// Reads the file, and says something.
 const READER: &[u8] = b"look r1 r7 f\nread r1 r3\ntext \"c\"\nsay\n";
 
-const NONE: Play = Play::Has(Count::Notes, 0);
+const NONE: KernelPlay = KernelPlay::Has(Count::Notes, 0);
 
 /// The decision of the oldest guess whose token is kept.
-fn decides(decision: Decision) -> Play {
-    Play::Decides(Pick::Oldest, decision, Outcome::Done)
+fn decides(decision: Decision) -> KernelPlay {
+    KernelPlay::Decides(Pick::Oldest, decision, Outcome::Done)
 }
 
 /// A thousand private steps under one guess hold one note.
@@ -30,10 +30,10 @@ fn merged_until(rt: &impl Abort, alloc: Global, decision: Decision) -> Result<()
     };
     let table = [
         NONE,
-        Play::Guesses(1, 1, 1),
-        Play::Has(Count::Notes, 1),
-        Play::Steps(1, 1_000, Ok(())),
-        Play::Has(Count::Notes, 1),
+        KernelPlay::Guesses(1, 1, 1),
+        KernelPlay::Has(Count::Notes, 1),
+        KernelPlay::Steps(1, 1_000, Ok(())),
+        KernelPlay::Has(Count::Notes, 1),
         decides(decision),
         NONE,
     ];
@@ -52,15 +52,15 @@ fn noted_until(rt: &impl Abort, alloc: Global, decision: Decision) -> Result<(),
     declares_file(&mut boot, &name(b"f")?, b"f0")?;
     let kernel = Kernel::boot(alloc, 1, &boot, 100)?;
     let table = [
-        Play::Steps(1, 1, Ok(())),
-        Play::Steps(2, 1, Ok(())),
+        KernelPlay::Steps(1, 1, Ok(())),
+        KernelPlay::Steps(2, 1, Ok(())),
         NONE,
-        Play::Guesses(1, 1, 1),
-        Play::Has(Count::Notes, 1),
-        Play::Steps(1, 3, Ok(())),
-        Play::Has(Count::Notes, 4),
-        Play::Steps(2, 3, Ok(())),
-        Play::Has(Count::Notes, 5),
+        KernelPlay::Guesses(1, 1, 1),
+        KernelPlay::Has(Count::Notes, 1),
+        KernelPlay::Steps(1, 3, Ok(())),
+        KernelPlay::Has(Count::Notes, 4),
+        KernelPlay::Steps(2, 3, Ok(())),
+        KernelPlay::Has(Count::Notes, 5),
         decides(decision),
         NONE,
     ];
@@ -83,12 +83,12 @@ fn notes_of_two_guesses(rt: HostRuntime) -> Result<(), Fail> {
         limit: 100,
     };
     let table = [
-        Play::Guesses(1, 1, 2),
-        Play::Has(Count::Notes, 2),
-        Play::Steps(1, 5, Ok(())),
-        Play::Has(Count::Notes, 2),
+        KernelPlay::Guesses(1, 1, 2),
+        KernelPlay::Has(Count::Notes, 2),
+        KernelPlay::Steps(1, 5, Ok(())),
+        KernelPlay::Has(Count::Notes, 2),
         decides(Decision::Commit),
-        Play::Has(Count::Notes, 1),
+        KernelPlay::Has(Count::Notes, 1),
         decides(Decision::Fail),
         NONE,
     ];

@@ -53,7 +53,7 @@ pub enum Thing {
 
 /// Something that is done, and what comes of it.
 #[derive(Clone, Copy)]
-pub enum Play {
+pub enum KernelPlay {
     /// So many steps of a process, each without input, up to the first that is refused.
     Steps(u16, usize, Result<(), Refusal>),
     /// A step of a process with the input `good`.
@@ -323,30 +323,44 @@ fn became(
 }
 
 /// Does one thing.
-pub fn does(rt: &impl Abort, player: &mut Player, place: usize, play: Play) -> Result<(), Fail> {
+pub fn does(
+    rt: &impl Abort,
+    player: &mut Player,
+    place: usize,
+    play: KernelPlay,
+) -> Result<(), Fail> {
     match play {
-        Play::Steps(number, count, want) => {
+        KernelPlay::Steps(number, count, want) => {
             steps(rt, &mut player.kernel, place, number, count, want)
         }
-        Play::Good(number) => Ok(player.kernel.step(pid(number)?, Input::Good)?),
-        Play::AllStep(last, count) => all_step(rt, &mut player.kernel, place, last, count),
-        Play::Guesses(number, first, last) => {
+        KernelPlay::Good(number) => Ok(player.kernel.step(pid(number)?, Input::Good)?),
+        KernelPlay::AllStep(last, count) => all_step(rt, &mut player.kernel, place, last, count),
+        KernelPlay::Guesses(number, first, last) => {
             guesses(rt, player, place, pid(number)?, first, last)
         }
-        Play::Decides(which, decision, want) => decides(rt, player, place, which, decision, want),
-        Play::DecidesAll(which, decision, want) => {
+        KernelPlay::Decides(which, decision, want) => decides(
+            rt, player, place, which, decision, want,
+        ),
+        KernelPlay::DecidesAll(which, decision, want) => {
             decides_all(rt, player, place, which, decision, want)
         }
-        Play::Rounds(count, decisions) => rounds(rt, player, place, pid(1)?, count, decisions),
-        Play::Has(count, want) => has(rt, &player.kernel, place, count, want),
-        Play::Rests(number, want) => rests(rt, &player.kernel, place, number, want),
-        Play::Epoch(want) => epoch(rt, &mut player.kernel, place, want),
-        Play::Became(number, want) => became(rt, &player.kernel, place, number, want),
+        KernelPlay::Rounds(count, decisions) => rounds(
+            rt,
+            player,
+            place,
+            pid(1)?,
+            count,
+            decisions,
+        ),
+        KernelPlay::Has(count, want) => has(rt, &player.kernel, place, count, want),
+        KernelPlay::Rests(number, want) => rests(rt, &player.kernel, place, number, want),
+        KernelPlay::Epoch(want) => epoch(rt, &mut player.kernel, place, want),
+        KernelPlay::Became(number, want) => became(rt, &player.kernel, place, number, want),
     }
 }
 
 /// Does one thing after the other.
-pub fn does_all(rt: &impl Abort, player: &mut Player, plays: &[Play]) -> Result<(), Fail> {
+pub fn does_all(rt: &impl Abort, player: &mut Player, plays: &[KernelPlay]) -> Result<(), Fail> {
     for (place, play) in plays.iter().enumerate() {
         does(rt, player, place, *play)?;
     }
@@ -397,7 +411,7 @@ pub fn plays_on(
     rt: &impl Abort,
     alloc: Global,
     kernel: Kernel,
-    plays: &[Play],
+    plays: &[KernelPlay],
 ) -> Result<(), Fail> {
     let mut player = Player::with(alloc, kernel);
     let done = does_all(rt, &mut player, plays);
@@ -406,6 +420,11 @@ pub fn plays_on(
 }
 
 /// Plays with a new kernel.
-pub fn plays(rt: &impl Abort, alloc: Global, start: Start<'_>, plays: &[Play]) -> Result<(), Fail> {
+pub fn plays(
+    rt: &impl Abort,
+    alloc: Global,
+    start: Start<'_>,
+    plays: &[KernelPlay],
+) -> Result<(), Fail> {
     plays_on(rt, alloc, kernel_of(alloc, start)?, plays)
 }

@@ -25,7 +25,7 @@ const FILES: u64 = 50_000;
 
 /// Why a run stops.
 #[derive(Debug, Drop, Error)]
-enum Stop {
+enum RunStop {
     #[error("a turn is refused: {0}")]
     Turn(#[from] Refusal),
     #[error("a reply is refused: {0}")]
@@ -36,7 +36,7 @@ enum Stop {
 
 /// What is asked for.
 #[derive(Clone, Copy, Debug)]
-struct Plan {
+struct EpochPlan {
     epochs: u64,
     /// How often a guess is made and decided in each epoch.
     rounds: u64,
@@ -45,7 +45,7 @@ struct Plan {
 }
 
 /// So many turns of a process.
-fn turns(desk: &mut Desk, number: u16, count: u32) -> Result<(), Stop> {
+fn turns(desk: &mut Desk, number: u16, count: u32) -> Result<(), RunStop> {
     let Some(pid) = Pid::boot(number) else {
         return Ok(());
     };
@@ -56,19 +56,19 @@ fn turns(desk: &mut Desk, number: u16, count: u32) -> Result<(), Stop> {
 }
 
 /// The reply to the oldest request.
-fn reply(desk: &mut Desk, answer: Answer) -> Result<(), Stop> {
+fn reply(desk: &mut Desk, answer: Answer) -> Result<(), RunStop> {
     let Some(request) = desk.take_request() else {
         return Ok(());
     };
     let number = request.number;
     match desk.give_reply(Reply { number, answer }) {
         Ok(_) => Ok(()),
-        Err((_reply, why)) => Err(Stop::Reply(why)),
+        Err((_reply, why)) => Err(RunStop::Reply(why)),
     }
 }
 
 /// A guess, steps of another process, and its decision; then its process is back at its fetch.
-fn round(desk: &mut Desk, answer: Answer) -> Result<(), Stop> {
+fn round(desk: &mut Desk, answer: Answer) -> Result<(), RunStop> {
     turns(desk, 2, 1)?;
     turns(desk, 1, STEPS)?;
     match answer {
@@ -84,18 +84,18 @@ fn round(desk: &mut Desk, answer: Answer) -> Result<(), Stop> {
 }
 
 /// Begins an epoch; says how many events the one before it had.
-fn begin(desk: &mut Desk) -> Result<usize, Stop>
+fn begin(desk: &mut Desk) -> Result<usize, RunStop>
     ensures { IfOk result
         (λ events. (events ≡ length desk.old.kernel.trace) × (desk.new.kernel.trace ≡ [])) }
 {
     match desk.new_epoch() {
         Ok((trace, _texts)) => Ok(trace.events().len()),
-        Err(why) => Err(Stop::Epoch(why)),
+        Err(why) => Err(RunStop::Epoch(why)),
     }
 }
 
 /// Makes so many files.
-fn fill(desk: &mut Desk, files: u64) -> Result<(), Stop> {
+fn fill(desk: &mut Desk, files: u64) -> Result<(), RunStop> {
     for made in 0..files {
         if made % FILES == FILES - 1 {
             begin(desk)?;
@@ -107,7 +107,7 @@ fn fill(desk: &mut Desk, files: u64) -> Result<(), Stop> {
 }
 
 /// One epoch of rounds, in which every second guess is wrong.
-fn epoch(desk: &mut Desk, rounds: u64, content: Content) -> Result<usize, Stop> {
+fn epoch(desk: &mut Desk, rounds: u64, content: Content) -> Result<usize, RunStop> {
     for number in 0..rounds {
         let answer = if number % 2 == 0 {
             Answer::Yes
@@ -120,7 +120,7 @@ fn epoch(desk: &mut Desk, rounds: u64, content: Content) -> Result<usize, Stop> 
 }
 
 /// All of it; says how many events the epochs had.
-fn run(desk: &mut Desk, plan: Plan, content: Content) -> Result<u64, Stop> {
+fn run(desk: &mut Desk, plan: EpochPlan, content: Content) -> Result<u64, RunStop> {
     fill(desk, plan.files)?;
     let mut events = 0u64;
     for _ in 0..plan.epochs {
@@ -139,9 +139,9 @@ fn start(alloc: Global) -> anyhow::Result<Desk> {
 }
 
 /// The plan that three words of the command line say; 0 where there is no word.
-fn read_plan(rt: &HostRuntime) -> anyhow::Result<Plan> {
+fn read_plan(rt: &HostRuntime) -> anyhow::Result<EpochPlan> {
     let words = env::args(rt)?.collect::<Vec<String>>(rt.alloc())?;
-    Ok(Plan {
+    Ok(EpochPlan {
         epochs: number(words.get(1))?,
         rounds: number(words.get(2))?,
         files: number(words.get(3))?,

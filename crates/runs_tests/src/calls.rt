@@ -1,6 +1,6 @@
 //! Random calls, and what each of them should be answered.
 use crate::reckoning::{Reckoning, names_in};
-use crate::session::Answer;
+use crate::session::SessionAnswer;
 use rand_core::Rng;
 use rand_pcg::Pcg32;
 use sk_guesses::Status;
@@ -147,12 +147,12 @@ fn is_crowded(reckoning: &Reckoning, planned: &Result<Plan, Refusal>) -> Result<
 
 /// What a step is answered that the plain kernel plans so, where this much room is left, and a directory that it
 /// would add a name to has no room.
-fn step_answer(planned: Result<Plan, Refusal>, is_crowded: bool, room: usize) -> Answer {
+fn step_answer(planned: Result<Plan, Refusal>, is_crowded: bool, room: usize) -> SessionAnswer {
     match planned {
-        Err(refusal) => Answer::Refused(refusal),
-        Ok(_) if is_crowded => Answer::Refused(Refusal::NoRoom),
-        Ok(_) if room < 1 => Answer::Refused(Refusal::TraceFull),
-        Ok(_) => Answer::Stepped,
+        Err(refusal) => SessionAnswer::Refused(refusal),
+        Ok(_) if is_crowded => SessionAnswer::Refused(Refusal::NoRoom),
+        Ok(_) if room < 1 => SessionAnswer::Refused(Refusal::TraceFull),
+        Ok(_) => SessionAnswer::Stepped,
     }
 }
 
@@ -163,7 +163,7 @@ fn guess_answer(
     undecided: usize,
     room: usize,
     next: GuessId,
-) -> Answer {
+) -> SessionAnswer {
     let planned = match (input, planned) {
         (_, Err(Refusal::NoProcess)) => Err(Refusal::NoProcess),
         (_, Err(Refusal::Ended)) => Err(Refusal::Ended),
@@ -171,19 +171,19 @@ fn guess_answer(
         (_, planned) => planned,
     };
     match planned {
-        Err(refusal) => Answer::Refused(refusal),
-        Ok(_) if undecided >= 64 => Answer::Refused(Refusal::TooMany),
-        Ok(_) if room < 2 => Answer::Refused(Refusal::TraceFull),
-        Ok(_) => Answer::Guessed(next),
+        Err(refusal) => SessionAnswer::Refused(refusal),
+        Ok(_) if undecided >= 64 => SessionAnswer::Refused(Refusal::TooMany),
+        Ok(_) if room < 2 => SessionAnswer::Refused(Refusal::TraceFull),
+        Ok(_) => SessionAnswer::Guessed(next),
     }
 }
 
 /// What the decision of a guess is answered.
-fn decision_answer(status: Status, is_held: bool) -> Answer {
+fn decision_answer(status: Status, is_held: bool) -> SessionAnswer {
     match (is_held, status) {
-        (true, Status::Undecided) => Answer::Done,
-        (true, Status::Struck) => Answer::Gone,
-        _ => Answer::NoToken,
+        (true, Status::Undecided) => SessionAnswer::Done,
+        (true, Status::Struck) => SessionAnswer::Gone,
+        _ => SessionAnswer::NoToken,
     }
 }
 
@@ -196,7 +196,7 @@ pub fn answer(
     places: usize,
     held: &[GuessId],
     next: GuessId,
-) -> Result<Answer, AllocError> {
+) -> Result<SessionAnswer, AllocError> {
     let undecided = reckoning.undecided();
     let room = places.saturating_sub(undecided);
     Ok(match call {

@@ -1,6 +1,6 @@
 //! Whether a kernel is what its trace comes to.
 use crate::epochs::Before;
-use crate::reckoning::{Reckoning, Said, names_in};
+use crate::reckoning::{Reckoning, SaidText, names_in};
 use sk_ids::{Entity, GuessId, Text};
 use sk_kernel::Kernel;
 use sk_plain::Trace;
@@ -42,7 +42,7 @@ fn is_next(texts: &mut &[Text], text: &Text) -> bool {
 
 /// Whether a terminal has released the texts before the first that depends on a guess, and how many
 /// others wait.
-fn is_shown(texts: &[Said], number: u16, released: &[Text], waiting: usize) -> bool {
+fn is_shown(texts: &[SaidText], number: u16, released: &[Text], waiting: usize) -> bool {
     let mut out = released;
     let mut held = 0usize;
     for said in texts {

@@ -3,7 +3,7 @@ use crate::calls::{any_of, process};
 use crate::leasing::{Tally, any_count, given_up, hand_in_answer, lease_refusal};
 use crate::numbers::runs_after;
 use crate::reckoning::Reckoning;
-use crate::scenarios::{Kind, scenario};
+use crate::scenarios::{ScenarioKind, scenario};
 use crate::worlds::{Course, held};
 use rand_core::Rng;
 use rand_pcg::Pcg32;
@@ -35,7 +35,7 @@ struct Asked {
 
 /// What has come of a desk, and the requests that were taken from it and have no reply.
 #[derive(Drop)]
-struct Talk<'a> {
+struct DeskTalk<'a> {
     alloc: Global,
     declarations: &'a Declarations,
     sent: VecDeque<Request>,
@@ -99,7 +99,7 @@ fn is_void(reckoning: &Reckoning, trace: &Trace, request: &Request) -> bool {
     ))
 }
 
-impl Talk<'_> {
+impl DeskTalk<'_> {
     /// The number of the request whose reply is due.
     fn due(&self) -> u64 {
         match self.sent.front() {
@@ -323,7 +323,7 @@ fn talk_to(
     count: u32,
     out: &mut Option<Lease>,
 ) -> Result<Talked, Finding> {
-    let mut talk = Talk {
+    let mut talk = DeskTalk {
         alloc,
         declarations,
         sent: VecDeque::new(alloc),
@@ -343,7 +343,7 @@ fn talk_to(
 }
 
 /// The desk of a number.
-fn desk(alloc: Global, number: u64, kind: Kind) -> Result<Talked, Finding> {
+fn desk(alloc: Global, number: u64, kind: ScenarioKind) -> Result<Talked, Finding> {
     let mut rng = Pcg32::new(number, 5);
     let text = scenario(alloc, &mut rng, kind)?;
     let scenario = Scenario::parse(alloc, &text)?;
@@ -363,7 +363,7 @@ fn desk(alloc: Global, number: u64, kind: Kind) -> Result<Talked, Finding> {
 
 /// So many desks from a number on, in each of which nothing is found; some requests in them have
 /// replies, some hand-ins are taken, and some are stale.
-fn desks<R: Abort + Env + Alloc>(rt: &R, alloc: Global, kind: Kind, from: u64) {
+fn desks<R: Abort + Env + Alloc>(rt: &R, alloc: Global, kind: ScenarioKind, from: u64) {
     let mut replied = 0u64;
     let mut hand_ins = Tally::default();
     let first = runs_after(rt).saturating_add(from);
@@ -382,80 +382,80 @@ fn desks<R: Abort + Env + Alloc>(rt: &R, alloc: Global, kind: Kind, from: u64) {
 
 #[test]
 fn replies_that_lie_1(rt: HostRuntime) {
-    desks(&rt, rt.alloc(), Kind::Any, 1);
+    desks(&rt, rt.alloc(), ScenarioKind::Any, 1);
 }
 
 #[test]
 fn replies_that_lie_2(rt: HostRuntime) {
-    desks(&rt, rt.alloc(), Kind::Any, 1 + 1 * DESKS);
+    desks(&rt, rt.alloc(), ScenarioKind::Any, 1 + 1 * DESKS);
 }
 
 #[test]
 fn replies_that_lie_3(rt: HostRuntime) {
-    desks(&rt, rt.alloc(), Kind::Any, 1 + 2 * DESKS);
+    desks(&rt, rt.alloc(), ScenarioKind::Any, 1 + 2 * DESKS);
 }
 
 #[test]
 fn replies_that_lie_4(rt: HostRuntime) {
-    desks(&rt, rt.alloc(), Kind::Any, 1 + 3 * DESKS);
+    desks(&rt, rt.alloc(), ScenarioKind::Any, 1 + 3 * DESKS);
 }
 
 #[test]
 fn replies_that_lie_5(rt: HostRuntime) {
-    desks(&rt, rt.alloc(), Kind::Any, 1 + 4 * DESKS);
+    desks(&rt, rt.alloc(), ScenarioKind::Any, 1 + 4 * DESKS);
 }
 
 #[test]
 fn replies_that_lie_6(rt: HostRuntime) {
-    desks(&rt, rt.alloc(), Kind::Any, 1 + 5 * DESKS);
+    desks(&rt, rt.alloc(), ScenarioKind::Any, 1 + 5 * DESKS);
 }
 
 #[test]
 fn replies_that_lie_7(rt: HostRuntime) {
-    desks(&rt, rt.alloc(), Kind::Any, 1 + 6 * DESKS);
+    desks(&rt, rt.alloc(), ScenarioKind::Any, 1 + 6 * DESKS);
 }
 
 #[test]
 fn replies_that_lie_8(rt: HostRuntime) {
-    desks(&rt, rt.alloc(), Kind::Any, 1 + 7 * DESKS);
+    desks(&rt, rt.alloc(), ScenarioKind::Any, 1 + 7 * DESKS);
 }
 
 #[test]
 fn replies_that_lie_to_guesses_1(rt: HostRuntime) {
-    desks(&rt, rt.alloc(), Kind::Guessing, 1);
+    desks(&rt, rt.alloc(), ScenarioKind::Guessing, 1);
 }
 
 #[test]
 fn replies_that_lie_to_guesses_2(rt: HostRuntime) {
-    desks(&rt, rt.alloc(), Kind::Guessing, 1 + 1 * DESKS);
+    desks(&rt, rt.alloc(), ScenarioKind::Guessing, 1 + 1 * DESKS);
 }
 
 #[test]
 fn replies_that_lie_to_guesses_3(rt: HostRuntime) {
-    desks(&rt, rt.alloc(), Kind::Guessing, 1 + 2 * DESKS);
+    desks(&rt, rt.alloc(), ScenarioKind::Guessing, 1 + 2 * DESKS);
 }
 
 #[test]
 fn replies_that_lie_to_guesses_4(rt: HostRuntime) {
-    desks(&rt, rt.alloc(), Kind::Guessing, 1 + 3 * DESKS);
+    desks(&rt, rt.alloc(), ScenarioKind::Guessing, 1 + 3 * DESKS);
 }
 
 #[test]
 fn replies_that_lie_to_guesses_5(rt: HostRuntime) {
-    desks(&rt, rt.alloc(), Kind::Guessing, 1 + 4 * DESKS);
+    desks(&rt, rt.alloc(), ScenarioKind::Guessing, 1 + 4 * DESKS);
 }
 
 #[test]
 fn replies_that_lie_to_guesses_6(rt: HostRuntime) {
-    desks(&rt, rt.alloc(), Kind::Guessing, 1 + 5 * DESKS);
+    desks(&rt, rt.alloc(), ScenarioKind::Guessing, 1 + 5 * DESKS);
 }
 
 #[test]
 fn replies_that_lie_to_guesses_7(rt: HostRuntime) {
-    desks(&rt, rt.alloc(), Kind::Guessing, 1 + 6 * DESKS);
+    desks(&rt, rt.alloc(), ScenarioKind::Guessing, 1 + 6 * DESKS);
 }
 
 #[test]
 fn replies_that_lie_to_guesses_8(rt: HostRuntime) {
-    desks(&rt, rt.alloc(), Kind::Guessing, 1 + 7 * DESKS);
+    desks(&rt, rt.alloc(), ScenarioKind::Guessing, 1 + 7 * DESKS);
 }

@@ -18,7 +18,7 @@ struct Dirt {
 
 /// A text of the record, and whether its step depends on an undecided guess.
 #[derive(Drop)]
-pub struct Said {
+pub struct SaidText {
     pub terminal: u16,
     pub text: Text,
     pub is_held: bool,
@@ -35,7 +35,7 @@ pub struct Reckoning {
     pub store: Store,
     /// By rising number.
     dirt: Vec<Dirt>,
-    said: Vec<Said>,
+    said: Vec<SaidText>,
 }
 
 /// How many of these entities are names of a directory.
@@ -141,7 +141,7 @@ impl Reckoning {
         let text = self.plain.step(entry.pid, &entry.input)?;
         if let Some(text) = text {
             let terminal = terminal_of(&self.store, entry.pid);
-            self.said.push(Said {
+            self.said.push(SaidText {
                 terminal,
                 text,
                 is_held,
@@ -151,7 +151,7 @@ impl Reckoning {
     }
 
     /// The texts of the record.
-    pub fn said(&self) -> &[Said] {
+    pub fn said(&self) -> &[SaidText] {
         &self.said
     }
 

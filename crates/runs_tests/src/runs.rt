@@ -5,8 +5,8 @@ use crate::judge::judge;
 use crate::leasing::{Tally, any_count, hand_in_answer, lease_refusal};
 use crate::numbers::runs_after;
 use crate::reckoning::Reckoning;
-use crate::scenarios::{Kind, scenario};
-use crate::session::{Answer, Session};
+use crate::scenarios::{ScenarioKind, scenario};
+use crate::session::{SessionAnswer, TokenSession};
 use rand_core::Rng;
 use rand_pcg::Pcg32;
 use sk_ids::{Entity, GuessId, Pid};
@@ -92,17 +92,17 @@ impl Course {
     }
 
     /// Notes what a call was answered.
-    fn note(&mut self, call: &Call, told: Answer) -> Result<(), AllocError> {
+    fn note(&mut self, call: &Call, told: SessionAnswer) -> Result<(), AllocError> {
         self.trace.reserve(1)?;
         match call {
             Call::Step(pid, input) => {
-                if told == Answer::Stepped {
+                if told == SessionAnswer::Stepped {
                     let (pid, input) = (*pid, self.trace.keep(input.lend())?);
                     self.trace.push(Event::Step { pid, input });
                 }
             }
             Call::Guess(pid, input) => {
-                if let Answer::Guessed(id) = told {
+                if let SessionAnswer::Guessed(id) = told {
                     let (pid, input) = (*pid, self.trace.keep(input.lend())?);
                     self.trace.push(Event::Guess { id, pid, input });
                     self.held.push(id)?;
@@ -110,13 +110,13 @@ impl Course {
                 }
             }
             Call::Commit(id) => {
-                if told == Answer::Done {
+                if told == SessionAnswer::Done {
                     self.trace.push(Event::Commit(*id));
                 }
                 self.held.retain(|other| *other != *id);
             }
             Call::Fail(id) => {
-                if told == Answer::Done {
+                if told == SessionAnswer::Done {
                     self.trace.push(Event::Fail(*id));
                 }
                 self.held.retain(|other| *other != *id);
@@ -129,7 +129,7 @@ impl Course {
 /// Hands in the lease that is out, or leases any process where none is, and judges the answer.
 fn leases(
     rng: &mut Pcg32,
-    session: &mut Session,
+    session: &mut TokenSession,
     course: &mut Course,
     reckoning: &Reckoning,
 ) -> Result<(), Finding> {
@@ -154,7 +154,11 @@ fn leases(
 }
 
 /// Begins an epoch where no guess is undecided, and judges the answer.
-fn epoch(session: &mut Session, course: &mut Course, reckoning: &Reckoning) -> Result<(), Finding> {
+fn epoch(
+    session: &mut TokenSession,
+    course: &mut Course,
+    reckoning: &Reckoning,
+) -> Result<(), Finding> {
     let begun = begins(
         session.kernel_mut(),
         &course.trace,
@@ -174,7 +178,7 @@ fn one_call(
     rng: &mut Pcg32,
     habit: Habit,
     declarations: &Declarations,
-    session: &mut Session,
+    session: &mut TokenSession,
     course: &mut Course,
     reckoning: &Reckoning,
 ) -> Result<(), Finding> {
@@ -218,7 +222,7 @@ fn play(
     rng: &mut Pcg32,
     habit: Habit,
     declarations: &Declarations,
-    session: &mut Session,
+    session: &mut TokenSession,
     calls: u32,
 ) -> Result<Tally, Finding> {
     let mut course = Course::new(alloc);
@@ -249,7 +253,7 @@ fn play(
 /// What all runs of a kind have in common.
 #[derive(Clone, Copy, Debug)]
 struct Manner {
-    kind: Kind,
+    kind: ScenarioKind,
     habit: Habit,
     /// The fewest calls, and how many more there may be.
     least: u32,
@@ -264,7 +268,7 @@ fn run(rt: &impl Abort, alloc: Global, number: u64, manner: Manner) -> Result<Ta
     let calls = manner
         .least
         .saturating_add(rng.next_u32() % manner.more.max(1));
-    let mut session = Session::new(alloc, &scenario.declarations)?;
+    let mut session = TokenSession::new(alloc, &scenario.declarations)?;
     let told = play(
         rt,
         alloc,
@@ -293,7 +297,7 @@ fn runs<R: Abort + Env + Alloc>(rt: &R, alloc: Global, count: u64, manner: Manne
 }
 
 /// Short runs of a kind with these habits.
-fn short(kind: Kind, commits: u32, fails: u32) -> Manner {
+fn short(kind: ScenarioKind, commits: u32, fails: u32) -> Manner {
     Manner {
         kind,
         habit: Habit { commits, fails },
@@ -304,53 +308,58 @@ fn short(kind: Kind, commits: u32, fails: u32) -> Manner {
 
 #[test]
 fn as_many_commits_as_failures(rt: HostRuntime) {
-    runs(&rt, rt.alloc(), RUNS, short(Kind::Any, 10, 10));
+    runs(&rt, rt.alloc(), RUNS, short(ScenarioKind::Any, 10, 10));
 }
 
 #[test]
 fn few_decisions(rt: HostRuntime) {
-    runs(&rt, rt.alloc(), RUNS, short(Kind::Any, 4, 4));
+    runs(&rt, rt.alloc(), RUNS, short(ScenarioKind::Any, 4, 4));
 }
 
 #[test]
 fn mostly_failures(rt: HostRuntime) {
-    runs(&rt, rt.alloc(), RUNS, short(Kind::Any, 4, 20));
+    runs(&rt, rt.alloc(), RUNS, short(ScenarioKind::Any, 4, 20));
 }
 
 #[test]
 fn mostly_commits(rt: HostRuntime) {
-    runs(&rt, rt.alloc(), RUNS, short(Kind::Any, 20, 4));
+    runs(&rt, rt.alloc(), RUNS, short(ScenarioKind::Any, 20, 4));
 }
 
 #[test]
 fn hardly_any_decisions(rt: HostRuntime) {
-    runs(&rt, rt.alloc(), RUNS, short(Kind::Any, 1, 1));
+    runs(&rt, rt.alloc(), RUNS, short(ScenarioKind::Any, 1, 1));
 }
 
 #[test]
 fn hardly_any_failures(rt: HostRuntime) {
-    runs(&rt, rt.alloc(), RUNS, short(Kind::Any, 12, 1));
+    runs(&rt, rt.alloc(), RUNS, short(ScenarioKind::Any, 12, 1));
 }
 
 #[test]
 fn hardly_any_commits(rt: HostRuntime) {
-    runs(&rt, rt.alloc(), RUNS, short(Kind::Any, 1, 12));
+    runs(&rt, rt.alloc(), RUNS, short(ScenarioKind::Any, 1, 12));
 }
 
 #[test]
 fn many_guesses(rt: HostRuntime) {
-    runs(&rt, rt.alloc(), RUNS, short(Kind::Guessing, 6, 6));
+    runs(&rt, rt.alloc(), RUNS, short(ScenarioKind::Guessing, 6, 6));
 }
 
 #[test]
 fn names_up_to_the_limit(rt: HostRuntime) {
-    runs(&rt, rt.alloc(), NAMING_RUNS, short(Kind::Naming, 8, 12));
+    runs(
+        &rt,
+        rt.alloc(),
+        NAMING_RUNS,
+        short(ScenarioKind::Naming, 8, 12),
+    );
 }
 
 #[test]
 fn long_runs(rt: HostRuntime) {
     let manner = Manner {
-        kind: Kind::Any,
+        kind: ScenarioKind::Any,
         habit: Habit {
             commits: 6,
             fails: 6,
@@ -364,7 +373,7 @@ fn long_runs(rt: HostRuntime) {
 #[test]
 fn as_many_guesses_as_may_be(rt: HostRuntime) {
     let manner = Manner {
-        kind: Kind::Guessing,
+        kind: ScenarioKind::Guessing,
         habit: Habit {
             commits: 2,
             fails: 1,

@@ -6,7 +6,7 @@ use std::alloc::{AllocError, Global};
 
 /// What the processes of a scenario do.
 #[derive(Clone, Copy, Debug)]
-pub enum Kind {
+pub enum ScenarioKind {
     /// Anything.
     Any,
     /// Mostly fetches and stores.
@@ -289,18 +289,18 @@ fn names(text: &mut Vec<u8>) -> Result<(), AllocError> {
 }
 
 /// The text of a random scenario, without its steps.
-pub fn scenario(alloc: Global, rng: &mut Pcg32, kind: Kind) -> Result<Vec<u8>, AllocError> {
+pub fn scenario(alloc: Global, rng: &mut Pcg32, kind: ScenarioKind) -> Result<Vec<u8>, AllocError> {
     let mut text = Vec::new(alloc);
     for name in ["script s1", "script s2", "script s3"] {
         line(rng, name, &mut text)?;
         match kind {
-            Kind::Any => script(rng, &mut text)?,
-            Kind::Guessing => guessing_script(rng, &mut text)?,
-            Kind::Naming => naming_script(rng, &mut text)?,
+            ScenarioKind::Any => script(rng, &mut text)?,
+            ScenarioKind::Guessing => guessing_script(rng, &mut text)?,
+            ScenarioKind::Naming => naming_script(rng, &mut text)?,
         }
         line(rng, "end", &mut text)?;
     }
-    if let Kind::Naming = kind {
+    if let ScenarioKind::Naming = kind {
         names(&mut text)?;
     }
     others(rng, &mut text)?;

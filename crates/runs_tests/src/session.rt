@@ -13,7 +13,7 @@ use std::process::Abort;
 
 /// The answer to one call.
 #[derive(Clone, Copy, Debug, PartialEq, Eq)]
-pub enum Answer {
+pub enum SessionAnswer {
     Stepped,
     Guessed(GuessId),
     Done,
@@ -24,22 +24,22 @@ pub enum Answer {
 }
 
 /// A kernel, the tokens that are not spent, and a lease that is out.
-pub struct Session {
+pub struct TokenSession {
     kernel: Kernel,
     tokens: Vec<Guess>,
     lease: Option<Lease>,
 }
 
-impl Session {
+impl TokenSession {
     /// The kernel that a scenario declares, at its start.
-    pub fn new(alloc: Global, declarations: &Declarations) -> Result<Session, AllocError> {
+    pub fn new(alloc: Global, declarations: &Declarations) -> Result<TokenSession, AllocError> {
         let kernel = Kernel::boot(
             alloc,
             declarations.number(),
             declarations.boot(),
             declarations.limit(),
         )?;
-        Ok(Session {
+        Ok(TokenSession {
             kernel,
             tokens: Vec::new(alloc),
             lease: None,
@@ -81,11 +81,11 @@ impl Session {
     }
 
     /// Makes a call.
-    pub fn execute(&mut self, rt: &impl Abort, call: &Call) -> Result<Answer, AllocError> {
+    pub fn execute(&mut self, rt: &impl Abort, call: &Call) -> Result<SessionAnswer, AllocError> {
         match call {
             Call::Step(pid, input) => Ok(match self.kernel.step(*pid, input.input()) {
-                Ok(()) => Answer::Stepped,
-                Err(refusal) => Answer::Refused(refusal),
+                Ok(()) => SessionAnswer::Stepped,
+                Err(refusal) => SessionAnswer::Refused(refusal),
             }),
             Call::Guess(pid, input) => {
                 self.tokens.reserve(1)?;
@@ -93,9 +93,9 @@ impl Session {
                     Ok(token) => {
                         let id = token.id();
                         self.tokens.push_reserved(token);
-                        Answer::Guessed(id)
+                        SessionAnswer::Guessed(id)
                     }
-                    Err(refusal) => Answer::Refused(refusal),
+                    Err(refusal) => SessionAnswer::Refused(refusal),
                 })
             }
             Call::Commit(id) => Ok(self.decide(rt, *id, false)),
@@ -103,13 +103,13 @@ impl Session {
         }
     }
 
-    fn decide(&mut self, rt: &impl Abort, id: GuessId, fails: bool) -> Answer {
+    fn decide(&mut self, rt: &impl Abort, id: GuessId, fails: bool) -> SessionAnswer {
         match self.tokens.iter().position(|token| token.id() == id) {
             Some(place) if place < self.tokens.len() => {
                 let token = self.tokens.remove(place);
                 told(decided(rt, &mut self.kernel, token, fails))
             }
-            _ => Answer::NoToken,
+            _ => SessionAnswer::NoToken,
         }
     }
 
@@ -127,7 +127,7 @@ impl Session {
     pub fn end(self, rt: &impl Abort) {
         let mut session = self;
         session.spend(rt);
-        let Session {
+        let TokenSession {
             kernel: _,
             tokens,
             lease,
@@ -139,10 +139,10 @@ impl Session {
     }
 }
 
-fn told(outcome: Outcome) -> Answer {
+fn told(outcome: Outcome) -> SessionAnswer {
     match outcome {
-        Outcome::Done => Answer::Done,
-        Outcome::Gone => Answer::Gone,
+        Outcome::Done => SessionAnswer::Done,
+        Outcome::Gone => SessionAnswer::Gone,
     }
 }
 

@@ -6,7 +6,7 @@ use crate::epochs::Before;
 use crate::judge::judge;
 use crate::numbers::runs_after;
 use crate::reckoning::Reckoning;
-use crate::scenarios::{Kind, remotes, scenario};
+use crate::scenarios::{ScenarioKind, remotes, scenario};
 use rand_core::Rng;
 use rand_pcg::Pcg32;
 use sk_client::{Cause, Desk, Given, Turn, World, WorldAnswer, WorldEvent};
@@ -49,7 +49,7 @@ impl Pace {
 
 /// A store: what it left of which file.
 #[derive(Clone, Copy, Debug, PartialEq, Eq)]
-struct Store {
+struct StoredFile {
     name: Name,
     content: Content,
 }
@@ -58,7 +58,7 @@ struct Store {
 #[derive(Clone, Copy, Debug)]
 struct Accepted {
     request: u64,
-    store: Store,
+    store: StoredFile,
 }
 
 /// What all events of a world have in common.
@@ -224,7 +224,7 @@ impl Course {
     }
 
     /// Notes a store that the server accepted.
-    fn accepts(&mut self, reply: &Reply, store: &Store) -> Result<(), Finding> {
+    fn accepts(&mut self, reply: &Reply, store: &StoredFile) -> Result<(), Finding> {
         let request = reply.number;
         let store = *store;
         self.accepted.push(Accepted { request, store })?;
@@ -236,7 +236,7 @@ impl Course {
         &mut self,
         event: &WorldEvent,
         answer: Option<&WorldAnswer>,
-        changes: &[Store],
+        changes: &[StoredFile],
     ) -> Result<(), Finding> {
         match (event, answer, changes) {
             (WorldEvent::Edit(name, _, bytes), Some(WorldAnswer::Edited(version)), [change]) => {
@@ -253,7 +253,7 @@ impl Course {
 }
 
 /// Whether a change is what an edit of this file made.
-fn is_edit(change: &Store, name: &Name, version: u64, bytes: &Text) -> bool {
+fn is_edit(change: &StoredFile, name: &Name, version: u64, bytes: &Text) -> bool {
     change.name == *name && change.content.version() == version && change.content.bytes() == *bytes
 }
 
@@ -326,14 +326,14 @@ fn changes(
     setting: &Setting,
     before: &[Option<Content>],
     after: &[Option<Content>],
-) -> Result<Vec<Store>, AllocError> {
+) -> Result<Vec<StoredFile>, AllocError> {
     let mut all = Vec::new(setting.alloc);
     for (name, (before, after)) in setting.names.iter().zip(before.iter().zip(after.iter())) {
         if let Some(content) = *after
             && *after != *before
         {
             let name = *name;
-            all.push(Store { name, content })?;
+            all.push(StoredFile { name, content })?;
         }
     }
     Ok(all)
@@ -344,7 +344,7 @@ fn stored(
     setting: &Setting,
     plain: &mut Plain,
     entry: &Entry,
-    stores: &mut Vec<Store>,
+    stores: &mut Vec<StoredFile>,
 ) -> Result<(), Finding> {
     let before = copies_of(setting, plain)?;
     plain.step(entry.pid, &entry.input)?;
@@ -357,7 +357,7 @@ fn stored(
 }
 
 /// The stores of the struck record, in its order.
-fn stores_of(setting: &Setting, kernel: &Kernel) -> Result<Vec<Store>, Finding> {
+fn stores_of(setting: &Setting, kernel: &Kernel) -> Result<Vec<StoredFile>, Finding> {
     let boot = setting.declarations.boot();
     let mut plain = Plain::boot(setting.alloc, boot)?;
     let mut stores = Vec::new(setting.alloc);
@@ -368,7 +368,7 @@ fn stores_of(setting: &Setting, kernel: &Kernel) -> Result<Vec<Store>, Finding> 
 }
 
 /// Whether each accepted store whose reply was given stands among these.
-fn judge_stores(course: &Course, stores: &[Store]) -> Result<(), Finding> {
+fn judge_stores(course: &Course, stores: &[StoredFile]) -> Result<(), Finding> {
     for accepted in &course.accepted {
         let is_given = accepted.request <= course.replied;
         held(
@@ -499,7 +499,7 @@ fn declared(alloc: Global, declarations: &Declarations) -> Result<World, AllocEr
 }
 
 /// The world of a number.
-fn world(alloc: Global, number: u64, kind: Kind, pace: Pace) -> Result<usize, Finding> {
+fn world(alloc: Global, number: u64, kind: ScenarioKind, pace: Pace) -> Result<usize, Finding> {
     let mut rng = Pcg32::new(number, 3);
     let mut text = scenario(alloc, &mut rng, kind)?;
     remotes(&mut rng, &mut text)?;
@@ -518,7 +518,13 @@ fn world(alloc: Global, number: u64, kind: Kind, pace: Pace) -> Result<usize, Fi
 }
 
 /// So many worlds from a number on, in each of which nothing is found; some stores are accepted in them.
-fn worlds<R: Abort + Env + Alloc>(rt: &R, alloc: Global, kind: Kind, pace: Pace, from: u64) {
+fn worlds<R: Abort + Env + Alloc>(
+    rt: &R,
+    alloc: Global,
+    kind: ScenarioKind,
+    pace: Pace,
+    from: u64,
+) {
     let mut accepted = 0usize;
     let first = runs_after(rt).saturating_add(from);
     for number in first..first.saturating_add(WORLDS) {
@@ -532,17 +538,29 @@ fn worlds<R: Abort + Env + Alloc>(rt: &R, alloc: Global, kind: Kind, pace: Pace,
 
 #[test]
 fn a_server_that_keeps_pace(rt: HostRuntime) {
-    worlds(&rt, rt.alloc(), Kind::Any, Pace::new(24, 24, 8), 1);
+    worlds(&rt, rt.alloc(), ScenarioKind::Any, Pace::new(24, 24, 8), 1);
 }
 
 #[test]
 fn a_server_that_keeps_pace_again(rt: HostRuntime) {
-    worlds(&rt, rt.alloc(), Kind::Any, Pace::new(24, 24, 8), 1 + WORLDS);
+    worlds(
+        &rt,
+        rt.alloc(),
+        ScenarioKind::Any,
+        Pace::new(24, 24, 8),
+        1 + WORLDS,
+    );
 }
 
 #[test]
 fn a_slow_server(rt: HostRuntime) {
-    worlds(&rt, rt.alloc(), Kind::Guessing, Pace::new(8, 8, 6), 1);
+    worlds(
+        &rt,
+        rt.alloc(),
+        ScenarioKind::Guessing,
+        Pace::new(8, 8, 6),
+        1,
+    );
 }
 
 #[test]
@@ -550,7 +568,7 @@ fn a_slow_server_again(rt: HostRuntime) {
     worlds(
         &rt,
         rt.alloc(),
-        Kind::Guessing,
+        ScenarioKind::Guessing,
         Pace::new(8, 8, 6),
         1 + WORLDS,
     );
@@ -558,7 +576,13 @@ fn a_slow_server_again(rt: HostRuntime) {
 
 #[test]
 fn slow_replies(rt: HostRuntime) {
-    worlds(&rt, rt.alloc(), Kind::Guessing, Pace::new(32, 10, 4), 1);
+    worlds(
+        &rt,
+        rt.alloc(),
+        ScenarioKind::Guessing,
+        Pace::new(32, 10, 4),
+        1,
+    );
 }
 
 #[test]
@@ -566,7 +590,7 @@ fn slow_replies_again(rt: HostRuntime) {
     worlds(
         &rt,
         rt.alloc(),
-        Kind::Guessing,
+        ScenarioKind::Guessing,
         Pace::new(32, 10, 4),
         1 + WORLDS,
     );
@@ -574,7 +598,13 @@ fn slow_replies_again(rt: HostRuntime) {
 
 #[test]
 fn many_edits(rt: HostRuntime) {
-    worlds(&rt, rt.alloc(), Kind::Guessing, Pace::new(20, 20, 24), 1);
+    worlds(
+        &rt,
+        rt.alloc(),
+        ScenarioKind::Guessing,
+        Pace::new(20, 20, 24),
+        1,
+    );
 }
 
 #[test]
@@ -582,7 +612,7 @@ fn many_edits_again(rt: HostRuntime) {
     worlds(
         &rt,
         rt.alloc(),
-        Kind::Guessing,
+        ScenarioKind::Guessing,
         Pace::new(20, 20, 24),
         1 + WORLDS,
     );

@@ -14,6 +14,7 @@ use Rattle.clap.specs.declared.error.kind.ErrorKind.{ErrorKind}
 use Rattle.sk_command.specs.declared.job.Job.{Job}
 use Rattle.sk_command.specs.declared.job.Shows.{Shows}
 use Rattle.sk_command.specs.declared.job.Job.TheVariants as jobs
+use Rattle.sk_command.specs.declared.job.TheConstants.{WORKERS_MOST, TURNS_MOST}
 use Rattle.sk_command.specs.declared.end.End.{End}
 use Rattle.sk_command.specs.declared.end.End.TheVariants as ends
 use Rattle.sk_command.specs.Ends.{EndsFor, EndsUnwritten}
@@ -36,11 +37,11 @@ counts_rule = record (new_rule (codes "counts")) { long = Some (codes "counts");
 
 -- the option --workers, a number from 1 to 8
 abbrev pub workers_rule : Rule
-workers_rule = record (new_rule (codes "workers")) { long = Some (codes "workers"); required = true; action = Some Set; value_names = 1; parser = Some (parsers.Unsigned 1 8) }
+workers_rule = record (new_rule (codes "workers")) { long = Some (codes "workers"); required = true; action = Some Set; value_names = 1; parser = Some (parsers.Unsigned 1 WORKERS_MOST) }
 
 -- the option --turns, a number from 1 to 1,000,000
 abbrev pub turns_rule : Rule
-turns_rule = record (new_rule (codes "turns")) { long = Some (codes "turns"); action = Some Set; value_names = 1; defaults = codes "100000" ∷ []; parser = Some (parsers.Unsigned 1 1000000) }
+turns_rule = record (new_rule (codes "turns")) { long = Some (codes "turns"); action = Some Set; value_names = 1; defaults = codes "100000" ∷ []; parser = Some (parsers.Unsigned 1 TURNS_MOST) }
 
 abbrev pub play_of_file : App
 play_of_file = with_rule (with_rule (new_app (codes "play")) file_rule) trace_rule
@@ -116,7 +117,7 @@ number_found most argument rows = option_and_then (number_said most) (first_of a
 -- 1 to 8 workers, and 1 to 1,000,000 turns
 abbrev pub wish_to_work : List Row → Text → Option Wish
 wish_to_work rows file =
-    option_and_then (λ workers. option_map (λ turns. Work file workers turns) (number_found 1000000 (codes "turns") rows)) (number_found 8 (codes "workers") rows)
+    option_and_then (λ workers. option_map (λ turns. Work file workers turns) (number_found TURNS_MOST (codes "turns") rows)) (number_found WORKERS_MOST (codes "workers") rows)
 
 -- what a command of this name asks for
 abbrev pub wish_for : Text → List Row → Text → Option Wish
@@ -145,7 +146,7 @@ IsWithinBounds (jobs.Play file shows) = ⊤
 IsWithinBounds (jobs.Talk file) = ⊤
 IsWithinBounds (jobs.Plain file) = ⊤
 IsWithinBounds (jobs.Replay file) = ⊤
-IsWithinBounds (jobs.Work file workers turns) = IsInRange 1 8 workers × IsInRange 1 1000000 turns
+IsWithinBounds (jobs.Work file workers turns) = IsInRange 1 WORKERS_MOST workers × IsInRange 1 TURNS_MOST turns
 
 -- words ask for a job
 abbrev pub Asks : List Text → Wish → Type 0

@@ -73,6 +73,12 @@ impl<'a> Job<'a> {
     }
 }
 
+/// How many workers `work` can have.
+pub const WORKERS_MOST: u32 = 8;
+
+/// How many turns each worker of `work` can have.
+pub const TURNS_MOST: u32 = 1_000_000;
+
 const PLAY_HELP: &str =
     "Plays the events of a scenario and prints each answer, and then the report.";
 
@@ -170,7 +176,7 @@ fn workers_arg<'a>(alloc: Global) -> Arg<'a>
         .required(true)
         .action(ArgAction::Set)
         .value_name("N")
-        .value_parser(ValueParser::unsigned(1, 8))
+        .value_parser(ValueParser::unsigned(1, u64::from(WORKERS_MOST)))
         .help("The number of workers, 1 to 8")
 }
 
@@ -183,7 +189,7 @@ fn turns_arg<'a>(alloc: Global) -> Arg<'a>
         .action(ArgAction::Set)
         .value_name("T")
         .default_value("100000")
-        .value_parser(ValueParser::unsigned(1, 1_000_000))
+        .value_parser(ValueParser::unsigned(1, u64::from(TURNS_MOST)))
         .help("The greatest number of turns of each worker, 1 to 1000000")
 }
 
@@ -345,8 +351,8 @@ fn work_on<'a>(file: &'a str, words: &ArgMatches) -> Option<Job<'a>>
         ≡ wish_to_work (rows_of (found_of words.now)) file.entry.now }
     ensures within { IfSome result IsWithinBounds }
 {
-    let workers = u8::try_from(number_of(words, "workers", 8)?).ok()?;
-    let turns = number_of(words, "turns", 1_000_000)?;
+    let workers = u8::try_from(number_of(words, "workers", WORKERS_MOST)?).ok()?;
+    let turns = number_of(words, "turns", TURNS_MOST)?;
     Some(Job::Work {
         file,
         workers,

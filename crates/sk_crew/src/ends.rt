@@ -6,13 +6,13 @@ ghost use Rattle.sk_wire.specs.Rule.{sender, with_sent};
 ghost use Rattle.sk_wire.specs.Wire.{IsSending, IsReceiving};
 ghost use Rattle.sk_wire.specs.Calls.{PopPost};
 
-use sk_wire::{Numbered, WIRE_ITEMS, Wire, WirePass};
+use sk_wire::{HasNumber, WIRE_ITEMS, Wire, WirePass};
 use std::alloc::{AllocError, Global};
 use std::sync::Wait;
 
 /// Both passes of a new wire, for items that are numbered from `first` on.
 #[derive(Drop)]
-pub(crate) struct Passes<T: Numbered> {
+pub(crate) struct Passes<T: HasNumber> {
     sending: WirePass<T>,
     receiving: WirePass<T>,
     first: u64,
@@ -20,14 +20,14 @@ pub(crate) struct Passes<T: Numbered> {
 
 /// A new wire with its passes.
 #[derive(Drop)]
-pub(crate) struct WireEnds<T: Numbered> {
+pub(crate) struct WireEnds<T: HasNumber> {
     pub(crate) wire: Wire<T>,
     pub(crate) passes: Passes<T>,
     ghost sends: { IsSending wire passes.sending × (view passes.sending ≡ sender passes.first) },
     ghost receives: { IsReceiving wire passes.receiving },
 }
 
-impl<T: Numbered + Drop> WireEnds<T> {
+impl<T: HasNumber + Drop> WireEnds<T> {
     pub(crate) fn new(alloc: Global, first: u64) -> Result<WireEnds<T>, AllocError>
         ensures { IfOk result (λ ends. ends.passes.first ≡ first) }
     {
@@ -41,7 +41,7 @@ impl<T: Numbered + Drop> WireEnds<T> {
     }
 }
 
-impl<T: Numbered + Drop> Passes<T> {
+impl<T: HasNumber + Drop> Passes<T> {
     /// Both ends of the wire.
     pub(crate) fn ends<'a>(self, wire: &'a Wire<T>) -> (SendingEnd<'a, T>, ReceivingEnd<'a, T>)
         // They are the passes of this wire.
@@ -66,7 +66,7 @@ impl<T: Numbered + Drop> Passes<T> {
 
 /// The sending end of a wire, and the number of the item that is next.
 #[derive(Drop)]
-pub(crate) struct SendingEnd<'a, T: Numbered> {
+pub(crate) struct SendingEnd<'a, T: HasNumber> {
     wire: &'a Wire<T>,
     pass: WirePass<T>,
     first: u64,
@@ -78,13 +78,13 @@ pub(crate) struct SendingEnd<'a, T: Numbered> {
 
 /// The receiving end of a wire.
 #[derive(Drop)]
-pub(crate) struct ReceivingEnd<'a, T: Numbered> {
+pub(crate) struct ReceivingEnd<'a, T: HasNumber> {
     wire: &'a Wire<T>,
     pass: WirePass<T>,
     ghost receives: { IsReceiving wire.now pass },
 }
 
-impl<'a, T: Numbered + Drop> SendingEnd<'a, T> {
+impl<'a, T: HasNumber + Drop> SendingEnd<'a, T> {
     /// The end of a new wire, numbered from `first` on.
     pub(crate) fn new(wire: &'a Wire<T>, pass: WirePass<T>, first: u64) -> SendingEnd<'a, T>
         requires { IsSending wire.now pass × (view pass ≡ sender first) }
@@ -146,7 +146,7 @@ impl<'a, T: Numbered + Drop> SendingEnd<'a, T> {
     }
 }
 
-impl<'a, T: Numbered + Drop> ReceivingEnd<'a, T> {
+impl<'a, T: HasNumber + Drop> ReceivingEnd<'a, T> {
     pub(crate) fn new(wire: &'a Wire<T>, pass: WirePass<T>) -> ReceivingEnd<'a, T>
         requires { IsReceiving wire.now pass }
         ensures { view result.pass ≡ view pass }

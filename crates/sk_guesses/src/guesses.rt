@@ -55,24 +55,27 @@ pub struct Guesses {
 }
 
 impl Model for Guesses {
-    ghost use Rattle.std.specs.Prelude.{◌≡◌, ◌≤◌, ◌+◌, [], length, map, vec_capacity};
-    ghost use Rattle.sk_ids.specs.declared.guess.TheConstants.{LAST_GUESS};
-    ghost use Rattle.sk_guesses.specs.declared.guesses.TheConstants.{GUESS_LIMIT};
-    ghost use Rattle.sk_guesses.specs.Opens.{AreOpen};
+    ghost use Rattle.std.specs.Prelude.{map, vec_capacity};
+    ghost use Rattle.sk_guesses.specs.GuessesInvariant.{AreTidy};
     ghost use Rattle.sk_guesses.specs.Room.{Roomy};
 
     ghost Value = { Roomy };
 
     ghost view = { λ a. record {
-      view = record { kernel = a.kernel; earlier = a.earlier.statuses; statuses = a.statuses.items };
+      view = record {
+        kernel = a.kernel;
+        earlier = a.earlier.statuses;
+        statuses = a.statuses.items;
+      };
       opens = map (λ l. l.guess) a.opens.items;
       places = vec_capacity a.statuses;
       keys = vec_capacity a.opens;
       next = a.next.room;
     } };
 
-    ghost invariant = { λ a. AreOpen (record { kernel = a.kernel; earlier = a.earlier.statuses; statuses = a.statuses.items }) (map (λ l. l.guess) a.opens.items)
-        × (length a.opens.items ≤ GUESS_LIMIT) × (length a.earlier.statuses + length a.statuses.items ≤ LAST_GUESS) × (a.next.entities ≡ []) };
+    ghost invariant = { λ a. AreTidy
+        (record { kernel = a.kernel; earlier = a.earlier.statuses; statuses = a.statuses.items })
+        a.opens.items a.next.entities };
 }
 
 /// Makes room for one entity more in the lists of these guesses.
@@ -150,7 +153,8 @@ fn take_list(opens: &mut Vec<OpenGuess>, alloc: Global, id: GuessId) -> EntitySe
 
 /// Takes a guess out of the undecided ones.
 fn close(opens: &mut Vec<OpenGuess>, id: GuessId)
-    ensures opens { map (λ l. l.guess) opens.new.items ≡ but id (map (λ l. l.guess) opens.old.items) }
+    ensures opens { map (λ l. l.guess) opens.new.items
+        ≡ but id (map (λ l. l.guess) opens.old.items) }
     ensures fewer { length opens.new.items ≤ length opens.old.items }
 {
     opens.retain(|open: &OpenGuess| open.id() != id);

@@ -78,7 +78,8 @@ impl Model for Kernel {
         k.trace.events };
 
     ghost invariant = { λ k.
-        let v = begun_at k.opening k.machine.guesses.kernel k.machine.guesses.earlier k.trace.events in
+        let guesses = k.machine.guesses in
+        let v = begun_at k.opening guesses.kernel guesses.earlier k.trace.events in
         IsWhole v k.machine k.trace.room × (k.opening ≡ opening_of v) };
 }
 

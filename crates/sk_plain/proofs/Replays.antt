@@ -17,8 +17,8 @@ use Rattle.sk_trace.specs.Entry.{EntryView}
 use Rattle.sk_plain.specs.Act.{Scripts, plain}
 use Rattle.sk_trace.specs.declared.event.Event.{Event}
 use Rattle.sk_plain.specs.declared.replay.Replay.{Replay}
-use Rattle.sk_plain.specs.declared.replay.Fault.{Fault}
-use Rattle.sk_plain.specs.declared.replay.Fault.TheVariants as faults
+use Rattle.sk_plain.specs.declared.replay.EventFault.{EventFault}
+use Rattle.sk_plain.specs.declared.replay.EventFault.TheVariants as faults
 use Rattle.sk_plain.specs.declared.replay.TraceFault.{TraceFault}
 use Rattle.sk_plain.specs.declared.replay.TraceFault.TheVariants.{Refused, UnknownGuess, Memory}
 use Rattle.sk_plain.specs.Replay.{is_above, newest, IsGreatest, IsReplay, HasTaken, StepFault, HasCommitted, HasFailed, DecisionFault, Goes, image, IsFirstFault, FaultIn, StopsIn}
@@ -166,7 +166,7 @@ module _ (scripts : Scripts) (es : Events) (old new : Replay) (r : IsReplay scri
       }
 
   -- ---- and what is told where it does not go on
-  pub taken_goes : (n : EntryView) (result : Result (Unit {0}) Fault) → OnOk result (HasTaken scripts old n new) → IfErr result (StepFault scripts old n) → Goes scripts es (Taken n) old new result
+  pub taken_goes : (n : EntryView) (result : Result (Unit {0}) EventFault) → OnOk result (HasTaken scripts old n new) → IfErr result (StepFault scripts old n) → Goes scripts es (Taken n) old new result
   taken_goes n (Ok u) t fault = (took n t, t.start)
   taken_goes n (Err faults.Refused) t fault = subst (λ (s : State). IsErr (outcome (plain scripts) s n)) now_is fault
   taken_goes n (Err faults.Unknown) t fault = (
@@ -181,13 +181,13 @@ module _ (scripts : Scripts) (es : Events) (old new : Replay) (r : IsReplay scri
   not_open : (g : ℕ) → has g old.undecided.items ≡ false → StatusIs (plain scripts) old.start es g Undecided → ⊥
   not_open g unknown is = true≢false (sym ((undecided_is (plain scripts) old.start es r.sound g).1 is) ∙ ap (has g) (sym r.undecided) ∙ unknown)
 
-  pub commit_goes : (g : ℕ) (result : Result (Unit {0}) Fault) → OnOk result (HasCommitted old g new) → IfErr result (DecisionFault old g) → Goes scripts es (Commit g) old new result
+  pub commit_goes : (g : ℕ) (result : Result (Unit {0}) EventFault) → OnOk result (HasCommitted old g new) → IfErr result (DecisionFault old g) → Goes scripts es (Commit g) old new result
   commit_goes g (Ok u) c fault = (committed g c, c.start)
   commit_goes g (Err faults.Refused) c fault = absurd fault
   commit_goes g (Err faults.Unknown) c fault = (λ refused. refused, λ allowed. not_open g fault allowed)
   commit_goes g (Err faults.Memory) c fault = (λ refused. refused, is_open g fault)
 
-  pub fail_goes : (g : ℕ) (result : Result (Unit {0}) Fault) → OnOk result (HasFailed scripts old g new) → IfErr result (DecisionFault old g) → Goes scripts es (Fail g) old new result
+  pub fail_goes : (g : ℕ) (result : Result (Unit {0}) EventFault) → OnOk result (HasFailed scripts old g new) → IfErr result (DecisionFault old g) → Goes scripts es (Fail g) old new result
   fail_goes g (Ok u) f fault = (failed g f, f.start)
   fail_goes g (Err faults.Refused) f fault = absurd fault
   fail_goes g (Err faults.Unknown) f fault = (λ refused. refused, λ allowed. not_open g fault allowed)

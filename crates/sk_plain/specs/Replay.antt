@@ -12,8 +12,8 @@ use Rattle.sk_plain.specs.Act.{Scripts, plain}
 use Rattle.sk_trace.specs.declared.event.Event.{Event}
 use Rattle.sk_trace.specs.declared.event.Event.TheVariants as events
 use Rattle.sk_plain.specs.declared.replay.Replay.{Replay}
-use Rattle.sk_plain.specs.declared.replay.Fault.{Fault}
-use Rattle.sk_plain.specs.declared.replay.Fault.TheVariants as faults
+use Rattle.sk_plain.specs.declared.replay.EventFault.{EventFault}
+use Rattle.sk_plain.specs.declared.replay.EventFault.TheVariants as faults
 use Rattle.sk_plain.specs.declared.replay.TraceFault.{TraceFault}
 use Rattle.sk_plain.specs.declared.replay.TraceFault.TheVariants.{Refused, UnknownGuess, Memory}
 
@@ -104,7 +104,7 @@ pub record HasTaken (scripts : Scripts) (old : Replay) (n : EntryView) (new : Re
   pub greatest : new.greatest ≡ newest old.greatest n.guess
 
 -- or why not; memory is wanted only where nothing else is wrong
-abbrev pub StepFault : Scripts → Replay → EntryView → Fault → Type 0
+abbrev pub StepFault : Scripts → Replay → EntryView → EventFault → Type 0
 StepFault scripts old n faults.Refused = IsErr (outcome (plain scripts) old.now n)
 StepFault scripts old n faults.Unknown = IsOk (outcome (plain scripts) old.now n) × (is_above old.greatest n.guess ≡ false)
 StepFault scripts old n faults.Memory = IsOk (outcome (plain scripts) old.now n) × (is_above old.greatest n.guess ≡ true)
@@ -127,13 +127,13 @@ pub record HasFailed (scripts : Scripts) (old : Replay) (g : ℕ) (new : Replay)
   pub greatest : new.greatest ≡ old.greatest
 
 -- or why not
-abbrev pub DecisionFault : Replay → ℕ → Fault → Type 0
+abbrev pub DecisionFault : Replay → ℕ → EventFault → Type 0
 DecisionFault old g faults.Refused = ⊥
 DecisionFault old g faults.Unknown = has g old.undecided.items ≡ false
 DecisionFault old g faults.Memory = has g old.undecided.items ≡ true
 
 -- the replay goes on with an event, or tells its fault
-abbrev pub Goes : Scripts → List (Happens EntryView) → Happens EntryView → Replay → Replay → Result (Unit {0}) Fault → Type 0
+abbrev pub Goes : Scripts → List (Happens EntryView) → Happens EntryView → Replay → Replay → Result (Unit {0}) EventFault → Type 0
 Goes scripts es e old new (Ok u) = IsReplay scripts (es ++ e ∷ []) new × (new.start ≡ old.start)
 Goes scripts es e old new (Err faults.Refused) = IsRefused scripts old.start es e
 Goes scripts es e old new (Err faults.Unknown) = IsUnknown scripts old.start es e

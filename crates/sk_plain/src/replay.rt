@@ -43,29 +43,29 @@ impl From<AllocError> for TraceFault {
 
 /// Why an event is not taken.
 #[derive(Clone, Copy)]
-enum Fault {
+enum EventFault {
     Refused,
     Unknown,
     Memory,
 }
 
-impl From<AllocError> for Fault {
-    ghost use Rattle.sk_plain.specs.declared.replay.Fault.TheVariants.{Memory};
+impl From<AllocError> for EventFault {
+    ghost use Rattle.sk_plain.specs.declared.replay.EventFault.TheVariants.{Memory};
 
     ghost from_gives = { λ _ fault. fault ≡ Memory };
 
-    fn from(_error: AllocError) -> Fault {
-        Fault::Memory
+    fn from(_error: AllocError) -> EventFault {
+        EventFault::Memory
     }
 }
 
-impl<T: Drop> From<AllocFailed<T>> for Fault {
-    ghost use Rattle.sk_plain.specs.declared.replay.Fault.TheVariants.{Memory};
+impl<T: Drop> From<AllocFailed<T>> for EventFault {
+    ghost use Rattle.sk_plain.specs.declared.replay.EventFault.TheVariants.{Memory};
 
     ghost from_gives = { λ _ fault. fault ≡ Memory };
 
-    fn from(_error: AllocFailed<T>) -> Fault {
-        Fault::Memory
+    fn from(_error: AllocFailed<T>) -> EventFault {
+        EventFault::Memory
     }
 }
 
@@ -91,16 +91,16 @@ fn is_above(greatest: Option<GuessId>, guess: Option<GuessId>) -> bool
 }
 
 /// Takes the step of an entry.
-fn take_entry(replay: &mut Replay, scripts: &Scripts, entry: &Entry) -> Result<(), Fault>
+fn take_entry(replay: &mut Replay, scripts: &Scripts, entry: &Entry) -> Result<(), EventFault>
     ensures ok { OnOk result (HasTaken scripts.now replay.old entry.now replay.new) }
     ensures err { IfErr result (StepFault scripts.now replay.old entry.now) }
 {
     let input = InputRef::of(&entry.input);
     let Ok(plan) = plan_step(&replay.now, scripts, entry.pid, input) else {
-        return Err(Fault::Refused);
+        return Err(EventFault::Refused);
     };
     if !is_above(replay.greatest, entry.guess) {
-        return Err(Fault::Unknown);
+        return Err(EventFault::Unknown);
     }
     apply_plan(&mut replay.now, scripts, entry.pid, input, &plan)?;
     replay.entries.push(*entry)?;
@@ -126,12 +126,12 @@ fn is_made(entries: &[Entry], guess: GuessId) -> bool
 }
 
 /// Commits a guess.
-fn commit(replay: &mut Replay, guess: GuessId) -> Result<(), Fault>
+fn commit(replay: &mut Replay, guess: GuessId) -> Result<(), EventFault>
     ensures ok { OnOk result (HasCommitted replay.old guess replay.new) }
     ensures err { IfErr result (DecisionFault replay.old guess) }
 {
     if !is_undecided(&replay.undecided, guess) {
-        return Err(Fault::Unknown);
+        return Err(EventFault::Unknown);
     }
     replay.undecided.retain(|id| *id != guess);
     Ok(())
@@ -183,15 +183,20 @@ fn struck(
 }
 
 /// Fails a guess: the record loses what depends on it.
-fn fail(alloc: Global, replay: &mut Replay, scripts: &Scripts, guess: GuessId) -> Result<(), Fault>
+fn fail(
+    alloc: Global,
+    replay: &mut Replay,
+    scripts: &Scripts,
+    guess: GuessId,
+) -> Result<(), EventFault>
     ensures ok { OnOk result (HasFailed scripts.now replay.old guess replay.new) }
     ensures err { IfErr result (DecisionFault replay.old guess) }
 {
     if !is_undecided(&replay.undecided, guess) {
-        return Err(Fault::Unknown);
+        return Err(EventFault::Unknown);
     }
     let Ok((kept, now)) = struck(alloc, &replay.start, scripts, &replay.entries, guess) else {
-        return Err(Fault::Memory);
+        return Err(EventFault::Memory);
     };
     replay.undecided.retain(|id| is_made(&kept, *id));
     replay.entries = kept;
@@ -205,7 +210,7 @@ fn take_event(
     replay: &mut Replay,
     scripts: &Scripts,
     event: &Event,
-) -> Result<(), Fault>
+) -> Result<(), EventFault>
     ensures { (es : List (Happens EntryView)) → IsReplay scripts.now es replay.old
         → Goes scripts.now es (image event.now) replay.old replay.new result }
 {
@@ -238,9 +243,9 @@ fn take_events(
         at += 1;
         match take_event(alloc, replay, scripts, event) {
             Ok(()) => {}
-            Err(Fault::Refused) => return Err(TraceFault::Refused(at)),
-            Err(Fault::Unknown) => return Err(TraceFault::UnknownGuess(at)),
-            Err(Fault::Memory) => return Err(TraceFault::Memory),
+            Err(EventFault::Refused) => return Err(TraceFault::Refused(at)),
+            Err(EventFault::Unknown) => return Err(TraceFault::UnknownGuess(at)),
+            Err(EventFault::Memory) => return Err(TraceFault::Memory),
         }
     }
     Ok(())

@@ -3,6 +3,7 @@ use Rattle.std.specs.Prelude.{◌≡◌, ℕ, ◌+◌, List, [], ◌∷◌, ◌+
 use Rattle.std.specs.Io.KnownBytes.{Appends}
 use Rattle.sk_scenario.specs.Declarations.{Declared}
 use Rattle.sk_scenario.specs.declared.call.Call.{Call}
+use Rattle.sk_scenario.specs.declared.declarations.TheConstants.{TRACE_LIMIT, KERNEL_NUMBER}
 use Rattle.sk_kernel.specs.Kernel.{KernelView, booted}
 use Rattle.sk_play.specs.declared.answer.CallAnswer.{CallAnswer}
 use Rattle.sk_play.specs.Session.{AnswerMatches, held_after}
@@ -10,7 +11,7 @@ use Rattle.sk_play.specs.Played.{answer_line}
 
 -- the kernel that a scenario declares: number 1 and a trace of 1,000,000 where it names none
 abbrev pub declared_kernel : Declared → KernelView
-declared_kernel d = booted (unwrap_or d.number 1) d.boot (unwrap_or d.limit 1000000)
+declared_kernel d = booted (unwrap_or d.number KERNEL_NUMBER) d.boot (unwrap_or d.limit TRACE_LIMIT)
 
 -- from these held guesses and this kernel on, the steps are answered so in turn, which leaves those guesses held and that kernel
 abbrev pub Plays : List Call → List CallAnswer → List ℕ → KernelView → List ℕ → KernelView → Type 0

@@ -77,7 +77,8 @@ impl Session {
 
     pub(crate) fn step(&mut self, pid: Pid, input: InputRef<'_>) -> Result<CallAnswer, AllocError>
         ensures held { self.new.holder.held ≡ self.old.holder.held }
-        ensures told { let refused = step_refused self.old.holder.kernel (entry pid (input_in input.entry) None) in
+        ensures told { let asked = entry pid (input_in input.entry) None in
+            let refused = step_refused self.old.holder.kernel asked in
             MatchResult result
             (λ answer. StepTold answer refused (events.Step pid (input_in input.entry))
             self.old.holder.kernel self.new.holder.kernel)
@@ -93,7 +94,8 @@ impl Session {
         ensures held { IfOk result
             (λ answer. self.new.holder.held ≡ with_guess answer self.old.holder.held) }
         ensures told { let next = next_guess self.old.holder.kernel in
-            let refused = guess_refused self.old.holder.kernel (entry pid (input_in input.entry) (Some next)) in
+            let asked = entry pid (input_in input.entry) (Some next) in
+            let refused = guess_refused self.old.holder.kernel asked in
             MatchResult result
             (λ answer. GuessTold answer refused (events.Guess next pid (input_in input.entry))
             self.old.holder.kernel self.new.holder.kernel)

@@ -13,7 +13,7 @@ pub mod world_report;
 pub use directories::write_held;
 pub use footprints::{PrintedEntities, write_footprint};
 pub use printed::{
-    PrintedContent, PrintedEntity, PrintedProcess, PrintedTags, PrintedValue, PrintedView,
+    PrintedEntity, PrintedProcess, PrintedTags, PrintedValue, PrintedVersion, PrintedView,
 };
 pub use report::{write_plain_report, write_report};
 pub use stop::Stop;

@@ -184,9 +184,9 @@ impl fmt::Display for PrintedProcess<'_> {
 
 /// A version and its bytes.
 #[derive(Clone, Copy)]
-pub struct PrintedContent<'a>(pub &'a Content);
+pub struct PrintedVersion<'a>(pub &'a Content);
 
-impl fmt::Display for PrintedContent<'_> {
+impl fmt::Display for PrintedVersion<'_> {
     ghost output = { λ s. Some (content_text s.0.now) };
 
     fn fmt<W: fmt::Write>(&self, f: &mut fmt::Formatter<W>) -> fmt::Result {
@@ -252,7 +252,7 @@ impl fmt::Display for PrintedValue<'_> {
             }
             Value::Signals(signals) => write!(f, "{}", PrintedSignals(signals)),
             Value::Exit(status) => write!(f, "{}", PrintedOption(status.map(u32::from))),
-            Value::Copy(content) => write!(f, "{}", PrintedContent(content)),
+            Value::Copy(content) => write!(f, "{}", PrintedVersion(content)),
         }
     }
 }

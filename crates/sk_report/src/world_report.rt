@@ -5,7 +5,7 @@ ghost use Rattle.std.specs.Io.KnownBytes.{Appends};
 ghost use Rattle.sk_report.specs.Report.{remote_line, remotes_text, counts_of, desk_line, desk_report_text, world_report_text, workers_line};
 
 use crate::report::write_kernel;
-use crate::{PrintedContent, Stop};
+use crate::{PrintedVersion, Stop};
 use sk_client::{Desk, World};
 use sk_ids::Name;
 use sk_kernel::Kernel;
@@ -78,7 +78,7 @@ fn write_remote<W: Write>(name: Name, content: Option<Content>, out: &mut W) -> 
     match content {
         Some(content) => {
             let name = Printed(name);
-            let content = PrintedContent(&content);
+            let content = PrintedVersion(&content);
             writeln!(out, "remote {name} {content}")
         }
         None => Ok(()),

@@ -3,8 +3,8 @@
 
 pub mod ending;
 pub mod listing;
+pub mod plain_run;
 pub mod playing;
 pub mod replaying;
-pub mod striking;
 pub mod talking;
 pub mod worlds;

@@ -4,6 +4,7 @@ ghost use Rattle.sk_words.specs.Words.{words, first_of};
 ghost use Rattle.sk_script.specs.Boot.{has_object};
 ghost use Rattle.sk_script.specs.declared.boot.ObjectKind.TheVariants.{Dir};
 ghost use Rattle.sk_words.specs.Reading.{Leaves};
+ghost use Rattle.sk_scenario.specs.declared.declarations.TheConstants.{TRACE_LIMIT, KERNEL_NUMBER};
 ghost use Rattle.sk_scenario.specs.Declarations.{nothing_declared, script as script_added, boot_fault, content_of, object, copy, has_remote, remote, process, once, declares, new_script, declared_next, says_next, line_said, SaysNext};
 
 use sk_ids::{Name, Text};
@@ -113,14 +114,14 @@ impl Declarations {
 
     /// The trace limit.
     pub fn limit(&self) -> u32
-        ensures { result ≡ unwrap_or self.now.limit 1000000 }
+        ensures { result ≡ unwrap_or self.now.limit TRACE_LIMIT }
     {
         self.limit.unwrap_or(TRACE_LIMIT)
     }
 
     /// The kernel's number, up to 2^63 - 1.
     pub fn number(&self) -> u64
-        ensures { result ≡ unwrap_or self.now.number 1 }
+        ensures { result ≡ unwrap_or self.now.number KERNEL_NUMBER }
     {
         self.number.unwrap_or(KERNEL_NUMBER)
     }

@@ -9,11 +9,11 @@ use Rattle.sk_script.specs.contracts.instruction.Input as input
 use Rattle.sk_script.specs.contracts.instruction.InputPartialEq.TheImpl as test
 use Rattle.sk_trace.specs.declared.kept.InputRef.{InputRef}
 use Rattle.sk_trace.specs.declared.kept.InputRef.TheVariants as lent
-use Rattle.sk_trace.specs.declared.kept.Words.{Words}
-use Rattle.sk_trace.specs.declared.kept.Words.TheVariants.{None, Good, Fresh, Stale}
+use Rattle.sk_trace.specs.declared.kept.KeptWords.{KeptWords}
+use Rattle.sk_trace.specs.declared.kept.KeptWords.TheVariants.{None, Good, Fresh, Stale}
 
 -- the input, with its content out of its box
-abbrev pub input_of : Words → Input
+abbrev pub input_of : KeptWords → Input
 input_of None = inputs.None
 input_of Good = inputs.Good
 input_of (Fresh b) = inputs.Fresh b.value

@@ -35,7 +35,7 @@ impl<'a> InputRef<'a> {
 
 /// An input, with its content in a box.
 #[derive(Debug, Drop)]
-enum Words {
+enum KeptWords {
     None,
     Good,
     Fresh(Box<Content>),
@@ -45,7 +45,7 @@ enum Words {
 /// An input that is kept, of which contracts see what they see of an `Input`.
 #[derive(Debug, Drop)]
 pub struct KeptInput {
-    words: Words,
+    words: KeptWords,
 }
 
 impl Model for KeptInput {
@@ -84,14 +84,18 @@ impl KeptInput {
     pub fn none() -> KeptInput
         ensures { result ≡ inputs.None }
     {
-        KeptInput { words: Words::None }
+        KeptInput {
+            words: KeptWords::None,
+        }
     }
 
     /// That a cached copy is good. This takes no memory.
     pub fn good() -> KeptInput
         ensures { result ≡ inputs.Good }
     {
-        KeptInput { words: Words::Good }
+        KeptInput {
+            words: KeptWords::Good,
+        }
     }
 
     /// Keeps an input. It takes memory only for a content.
@@ -100,10 +104,10 @@ impl KeptInput {
         ensures err { OnErr result (HasContent (input_in input.entry)) }
     {
         let words = match input {
-            InputRef::None => Words::None,
-            InputRef::Good => Words::Good,
-            InputRef::Fresh(content) => Words::Fresh(Box::new(alloc, *content)?),
-            InputRef::Stale(content) => Words::Stale(Box::new(alloc, *content)?),
+            InputRef::None => KeptWords::None,
+            InputRef::Good => KeptWords::Good,
+            InputRef::Fresh(content) => KeptWords::Fresh(Box::new(alloc, *content)?),
+            InputRef::Stale(content) => KeptWords::Stale(Box::new(alloc, *content)?),
         };
         Ok(KeptInput { words })
     }
@@ -113,10 +117,10 @@ impl KeptInput {
         ensures { result ≡ self.now }
     {
         match &self.words {
-            Words::None => Input::None,
-            Words::Good => Input::Good,
-            Words::Fresh(content) => Input::Fresh(**content),
-            Words::Stale(content) => Input::Stale(**content),
+            KeptWords::None => Input::None,
+            KeptWords::Good => Input::Good,
+            KeptWords::Fresh(content) => Input::Fresh(**content),
+            KeptWords::Stale(content) => Input::Stale(**content),
         }
     }
 
@@ -125,10 +129,10 @@ impl KeptInput {
         ensures { input_in result ≡ self.now }
     {
         match &self.words {
-            Words::None => InputRef::None,
-            Words::Good => InputRef::Good,
-            Words::Fresh(content) => InputRef::Fresh(content),
-            Words::Stale(content) => InputRef::Stale(content),
+            KeptWords::None => InputRef::None,
+            KeptWords::Good => InputRef::Good,
+            KeptWords::Fresh(content) => InputRef::Fresh(content),
+            KeptWords::Stale(content) => InputRef::Stale(content),
         }
     }
 
@@ -137,8 +141,8 @@ impl KeptInput {
         ensures { IsInput self.now }
     {
         match &self.words {
-            Words::None | Words::Good => {}
-            Words::Fresh(content) | Words::Stale(content) => {
+            KeptWords::None | KeptWords::Good => {}
+            KeptWords::Fresh(content) | KeptWords::Stale(content) => {
                 content.known();
                 known_bytes(content.bytes().as_slice());
             }

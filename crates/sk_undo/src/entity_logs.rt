@@ -7,7 +7,7 @@ ghost use Rattle.sk_undo.specs.Kept.{ObjectFits, object_undone, runs_of, AllSet,
 ghost use Rattle.sk_objects.specs.declared.value.Value.{Value};
 ghost use Rattle.sk_store.specs.declared.back.PutBack.TheVariants as PutBack;
 
-use crate::{Kept, Log};
+use crate::{Log, Logged};
 use sk_changes::{Invertible, Undo};
 use sk_ids::{GuessId, TagSet};
 use sk_objects::Value;
@@ -15,7 +15,7 @@ use sk_script::Process;
 use sk_store::PutBack;
 use std::alloc::{AllocError, Global};
 
-impl Kept for Value {
+impl Logged for Value {
     ghost use Rattle.sk_changes.specs.Changes.{CanUndo, value_undone};
     ghost use Rattle.sk_undo.specs.Kept.{is_object_whole};
 
@@ -34,7 +34,7 @@ impl Kept for Value {
     }
 }
 
-impl Kept for Process {
+impl Logged for Process {
     ghost use Rattle.sk_undo.specs.Kept.{ProcessFits, process_changed_back, is_process_whole};
 
     ghost fits = { ProcessFits };

@@ -3,7 +3,7 @@ ghost use Rattle.std.specs.Prelude.{◌≡◌, OnOk, OnErr, IfOk, Some};
 ghost use Rattle.sk_store.specs.Changed.{FitsAt, changed, StateFits, state_undone};
 ghost use Rattle.sk_store.specs.Processes.{CanBecome, IsProcess, became};
 
-use crate::Kept;
+use crate::Logged;
 use sk_changes::{Change, Undo};
 use sk_store::{Becoming, EntityState};
 use std::alloc::{AllocError, Global};
@@ -11,11 +11,11 @@ use std::marker::Model;
 
 /// What an entity has; contracts see just that.
 #[derive(Drop)]
-pub struct Held {
+pub struct BoxedState {
     state: Box<EntityState>,
 }
 
-impl Model for Held {
+impl Model for BoxedState {
     ghost use Rattle.sk_store.specs.declared.entity_state.EntityState.{EntityState};
     ghost use Rattle.sk_store.specs.contracts.entity_state.EntityState as stored_row;
 
@@ -26,7 +26,7 @@ impl Model for Held {
     ghost view = { λ h. h.state.value };
 }
 
-impl Kept for Held {
+impl Logged for BoxedState {
     ghost use Rattle.sk_store.specs.Changed.{StateFits, state_undone};
     ghost use Rattle.sk_undo.specs.Slot.{is_process};
 
@@ -45,24 +45,24 @@ impl Kept for Held {
     }
 }
 
-impl Held {
+impl BoxedState {
     /// Takes what an entity has in.
-    pub fn new(alloc: Global, state: EntityState) -> Result<Held, AllocError>
+    pub fn new(alloc: Global, state: EntityState) -> Result<BoxedState, AllocError>
         ensures { IfOk result (λ held. held ≡ state) }
     {
         let state = Box::new(alloc, state)?;
-        Ok(Held { state })
+        Ok(BoxedState { state })
     }
 
     /// Another of the process that it is.
-    pub fn process_copy(&self, alloc: Global) -> Result<Held, AllocError>
+    pub fn process_copy(&self, alloc: Global) -> Result<BoxedState, AllocError>
         requires { IsProcess (Some self.now) }
         ensures { IfOk result (λ copy. copy ≡ self.now) }
     {
         match &*self.state {
             EntityState::Process(process) => {
                 let state = Box::new(alloc, EntityState::Process(*process))?;
-                Ok(Held { state })
+                Ok(BoxedState { state })
             }
             EntityState::Value(_) => unreachable!(),
         }

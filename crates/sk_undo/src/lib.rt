@@ -14,9 +14,9 @@ pub mod slots;
 
 pub use counted_slots::CountedSlots;
 pub use entity_logs::{ObjectLog, ProcessLog};
-pub use held::Held;
-pub use log::{Kept, Log, Note, put_back};
-pub use logs::{Back, Logs};
+pub use held::BoxedState;
+pub use log::{Log, Logged, Note, put_back};
+pub use logs::{EntityUndo, Logs};
 pub use names::Names;
 pub use slot::Slot;
 pub use slots::{Slots, TakeBack};

@@ -14,7 +14,7 @@ use sk_store::PutBack;
 use std::alloc::{AllocError, Global};
 
 /// What is kept with a log of its writes. Some of it is only ever set, and some is changed in place, too.
-pub trait Kept: Drop {
+pub trait Logged: Drop {
     ghost use Rattle.std.specs.Prelude.{◌≡◌, Bool};
     ghost use Rattle.sk_changes.specs.declared.change.Undo.{Undo};
 
@@ -38,7 +38,7 @@ pub trait Kept: Drop {
 }
 
 /// Puts back what was there before a write, which takes no memory.
-pub fn put_back<V: Kept>(undo: PutBack<V>, value: &mut Option<V>)
+pub fn put_back<V: Logged>(undo: PutBack<V>, value: &mut Option<V>)
     requires { FitsBy V.fits undo value.old }
     ensures { value.new ≡ undone_by V.undone undo value.old }
 {
@@ -53,7 +53,7 @@ pub fn put_back<V: Kept>(undo: PutBack<V>, value: &mut Option<V>)
 }
 
 /// Whether what was there is put back whatever stands there now: nothing was, or what is only ever set.
-fn restores<V: Kept>(undo: &PutBack<V>) -> bool
+fn restores<V: Logged>(undo: &PutBack<V>) -> bool
     ensures { result ≡ restores V.is_whole undo.now }
 {
     match undo {
@@ -81,7 +81,7 @@ pub struct Log<V> {
 
 /// Takes a guess out of the tags of the newest notes, back to the first that does not rest on it, and
 /// answers how many notes stand up to that one.
-fn lighten<V: Kept>(notes: &mut Vec<Note<PutBack<V>>>, guess: GuessId) -> usize
+fn lighten<V: Logged>(notes: &mut Vec<Note<PutBack<V>>>, guess: GuessId) -> usize
     ensures notes { notes.new.items
         ≡ take result notes.old.items ++ lightened guess (drop result notes.old.items) }
     ensures before { rests_last guess (reverse (take result notes.old.items)) ≡ false }
@@ -97,20 +97,20 @@ fn lighten<V: Kept>(notes: &mut Vec<Note<PutBack<V>>>, guess: GuessId) -> usize
 }
 
 /// How many of the oldest notes stand before the first that has tags.
-fn bare_count<V: Kept>(notes: &[Note<PutBack<V>>]) -> usize
+fn bare_count<V: Logged>(notes: &[Note<PutBack<V>>]) -> usize
     ensures { result ≡ prefix_len (λ n. is_empty n.tags) notes.now }
 {
     notes.iter().take_while(|note| is_bare(*note)).count()
 }
 
-fn is_bare<V: Kept>(note: &Note<PutBack<V>>) -> bool
+fn is_bare<V: Logged>(note: &Note<PutBack<V>>) -> bool
     ensures { result ≡ is_empty note.now.tags }
 {
     note.tags.ids().is_empty()
 }
 
 /// Drops the oldest notes, up to the first that has tags.
-fn drop_bare<V: Kept>(notes: &mut Vec<Note<PutBack<V>>>)
+fn drop_bare<V: Logged>(notes: &mut Vec<Note<PutBack<V>>>)
     ensures notes { notes.new.items ≡ dropped notes.old.items }
     ensures len { vec_len notes.new ≤ vec_len notes.old }
     ensures capacity { vec_capacity notes.new ≡ vec_capacity notes.old }
@@ -122,7 +122,7 @@ fn drop_bare<V: Kept>(notes: &mut Vec<Note<PutBack<V>>>)
 }
 
 /// Drops the oldest notes.
-fn drop_front<V: Kept>(notes: &mut Vec<Note<PutBack<V>>>, count: usize)
+fn drop_front<V: Logged>(notes: &mut Vec<Note<PutBack<V>>>, count: usize)
     requires { count ≤ length notes.old.items }
     ensures notes { notes.new.items ≡ drop count notes.old.items }
     ensures len { vec_len notes.new ≤ vec_len notes.old }
@@ -132,14 +132,14 @@ fn drop_front<V: Kept>(notes: &mut Vec<Note<PutBack<V>>>, count: usize)
 }
 
 /// Whether a note puts back what was there before a later write with these tags, too.
-fn stands_for<V: Kept>(note: &Note<PutBack<V>>, tags: &TagSet) -> bool
+fn stands_for<V: Logged>(note: &Note<PutBack<V>>, tags: &TagSet) -> bool
     ensures { result ≡ stands_for V.is_whole note.now tags.now }
 {
     restores(&note.undo) && tags.is_same(&note.tags)
 }
 
 /// Whether the note before stands for the one at a place.
-fn is_needless<V: Kept>(notes: &[Note<PutBack<V>>], place: usize) -> bool
+fn is_needless<V: Logged>(notes: &[Note<PutBack<V>>], place: usize) -> bool
     requires { place < length notes.now }
     ensures { result ≡ repeats V.is_whole None place notes.now }
 {
@@ -150,7 +150,7 @@ fn is_needless<V: Kept>(notes: &[Note<PutBack<V>>], place: usize) -> bool
 }
 
 /// Leaves out each note from a place on for which the note before it stands.
-fn join_from<V: Kept>(notes: &mut Vec<Note<PutBack<V>>>, first: usize)
+fn join_from<V: Logged>(notes: &mut Vec<Note<PutBack<V>>>, first: usize)
     ensures notes { notes.new.items ≡ joined_from V.is_whole None first notes.old.items }
     ensures len { vec_len notes.new ≤ vec_len notes.old }
     ensures capacity { vec_capacity notes.new ≡ vec_capacity notes.old }
@@ -165,7 +165,7 @@ fn join_from<V: Kept>(notes: &mut Vec<Note<PutBack<V>>>, first: usize)
     }
 }
 
-impl<V: Kept> Log<V> {
+impl<V: Logged> Log<V> {
     /// Nothing is noted.
     pub fn new(alloc: Global) -> Log<V>
         ensures { result.notes.items ≡ [] }

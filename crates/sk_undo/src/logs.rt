@@ -22,12 +22,12 @@ use std::marker::Model;
 
 /// An entity that was written, and what takes that back.
 #[derive(Drop)]
-pub struct Back {
+pub struct EntityUndo {
     entity: Entity,
     how: TakeBack,
 }
 
-impl Model for Back {
+impl Model for EntityUndo {
     ghost use Rattle.sk_undo.specs.Logs.{BackView, back_code};
 
     ghost Value = { BackView };
@@ -202,7 +202,7 @@ impl Keeper for Logs {
     ghost use Rattle.sk_ids.specs.declared.entity.Entity.TheVariants.{Proc};
     ghost use Rattle.sk_undo.specs.Logs.{wrote, is_unnoted, can_take_back, taken_back};
 
-    type Back = Back;
+    type Back = EntityUndo;
 
     ghost wrote = { wrote };
 
@@ -222,14 +222,14 @@ impl Keeper for Logs {
         self.tags.copy()
     }
 
-    fn write(&mut self, entity: Entity, stored: EntityState) -> Result<Back, AllocError> {
+    fn write(&mut self, entity: Entity, stored: EntityState) -> Result<EntityUndo, AllocError> {
         let how = self.slots.set(&entity, &self.tags, stored)?;
-        Ok(Back { entity, how })
+        Ok(EntityUndo { entity, how })
     }
 
-    fn change(&mut self, entity: Entity, change: Change) -> Result<Back, AllocError> {
+    fn change(&mut self, entity: Entity, change: Change) -> Result<EntityUndo, AllocError> {
         let how = self.slots.change(&entity, &self.tags, change)?;
-        Ok(Back { entity, how })
+        Ok(EntityUndo { entity, how })
     }
 
     fn change_process<C: Becoming>(&mut self, pid: Pid, by: &C) -> Result<(), AllocError> {
@@ -254,8 +254,8 @@ impl Keeper for Logs {
         self.slots.clear(&entity, &self.tags)
     }
 
-    fn take_back(&mut self, back: Back) {
-        let Back { entity, how } = back;
+    fn take_back(&mut self, back: EntityUndo) {
+        let EntityUndo { entity, how } = back;
         self.slots.take_back(&entity, how);
     }
 

@@ -11,7 +11,7 @@ ghost use Rattle.sk_undo.specs.Count.{note_count};
 ghost use Rattle.sk_undo.specs.Log.{is_empty, seen, CanGoBack};
 ghost use Rattle.sk_undo.specs.Slot.{undone, Fits, is_bare, slot_of, slot_wrote, slot_back, CanGoBackOnce, goes_unnoted, is_stable_raw};
 
-use crate::{Held, Log, put_back};
+use crate::{BoxedState, Log, put_back};
 use sk_changes::{Change, Undo};
 use sk_ids::{GuessId, TagSet};
 use sk_store::{Becoming, EntityState, PutBack};
@@ -21,8 +21,8 @@ use std::marker::Model;
 /// What an entity has, and the writes that can be undone.
 #[derive(Drop)]
 pub struct Slot {
-    value: Option<Held>,
-    log: Log<Held>,
+    value: Option<BoxedState>,
+    log: Log<BoxedState>,
 }
 
 impl Model for Slot {
@@ -41,7 +41,7 @@ impl Model for Slot {
 }
 
 /// Whether nothing is noted.
-fn is_unnoted(value: &Option<Held>, log: &Log<Held>) -> bool
+fn is_unnoted(value: &Option<BoxedState>, log: &Log<BoxedState>) -> bool
     ensures seen { result ≡ is_empty (seen undone value.now (reverse log.now.notes.items)) }
     ensures none { result ≡ true → log.now.notes.items ≡ [] }
 {
@@ -49,7 +49,7 @@ fn is_unnoted(value: &Option<Held>, log: &Log<Held>) -> bool
 }
 
 /// Whether a write is not noted.
-fn goes_unnoted(tags: &TagSet, value: &Option<Held>, log: &Log<Held>) -> bool
+fn goes_unnoted(tags: &TagSet, value: &Option<BoxedState>, log: &Log<BoxedState>) -> bool
     requires { CanGoBack Fits undone value.now (reverse log.now.notes.items) }
     ensures seen { result ≡ goes_unnoted tags.now
         (seen undone value.now (reverse log.now.notes.items)) }
@@ -59,7 +59,7 @@ fn goes_unnoted(tags: &TagSet, value: &Option<Held>, log: &Log<Held>) -> bool
 }
 
 /// Whether there is neither a value nor a note.
-fn is_bare(value: &Option<Held>, log: &Log<Held>) -> bool
+fn is_bare(value: &Option<BoxedState>, log: &Log<BoxedState>) -> bool
     ensures { result ≡ (is_none value.now
         && is_empty (seen undone value.now (reverse log.now.notes.items))) }
 {
@@ -67,7 +67,7 @@ fn is_bare(value: &Option<Held>, log: &Log<Held>) -> bool
 }
 
 /// Changes a value where it stands. Without memory nothing has changed.
-fn change_in(value: &mut Option<Held>, change: Change) -> Result<Undo, AllocError>
+fn change_in(value: &mut Option<BoxedState>, change: Change) -> Result<Undo, AllocError>
     requires { FitsAt value.old change }
     ensures ok { OnOk result (value.new ≡ Some (changed value.old change)) }
     ensures can { IfOk result (λ undo. Fits (PutBack.Changed undo) value.new) }
@@ -85,7 +85,7 @@ fn change_in(value: &mut Option<Held>, change: Change) -> Result<Undo, AllocErro
 
 /// Changes a value where it stands, and keeps nothing that takes that back. Without memory nothing has
 /// changed.
-fn change_alone_in(value: &mut Option<Held>, change: &Change) -> Result<(), AllocError>
+fn change_alone_in(value: &mut Option<BoxedState>, change: &Change) -> Result<(), AllocError>
     requires { FitsAt value.old change.now }
     ensures ok { OnOk result (value.new ≡ Some (changed value.old change.now)) }
     ensures err { OnErr result (value.new ≡ value.old) }
@@ -100,7 +100,7 @@ fn change_alone_in(value: &mut Option<Held>, change: &Change) -> Result<(), Allo
 }
 
 /// Changes the process that is there, where it stands.
-fn become_in<C: Becoming>(value: &mut Option<Held>, by: &C)
+fn become_in<C: Becoming>(value: &mut Option<BoxedState>, by: &C)
     requires { CanBecome (C.can by.now) value.old }
     ensures { value.new ≡ Some (became (C.after by.now) value.old) }
 {
@@ -111,7 +111,7 @@ fn become_in<C: Becoming>(value: &mut Option<Held>, by: &C)
 }
 
 /// Another of the process that is there, in a box of its own.
-fn process_copy(alloc: Global, value: &Option<Held>) -> Result<Option<Held>, AllocError>
+fn process_copy(alloc: Global, value: &Option<BoxedState>) -> Result<Option<BoxedState>, AllocError>
     requires { IsProcess value.now }
     ensures { IfOk result (λ copy. copy ≡ value.now) }
 {
@@ -123,7 +123,7 @@ fn process_copy(alloc: Global, value: &Option<Held>) -> Result<Option<Held>, All
 
 /// The tags of the newest note.
 #[tactic(auto, using(crate::proofs::SeenNotes::tags_seen))]
-fn tags_in<'a>(value: &Option<Held>, log: &'a Log<Held>) -> &'a TagSet
+fn tags_in<'a>(value: &Option<BoxedState>, log: &'a Log<BoxedState>) -> &'a TagSet
     ensures { result.now ≡ last_tags []
         (reverse (seen undone value.now (reverse log.now.notes.items))) }
 {
@@ -132,7 +132,7 @@ fn tags_in<'a>(value: &Option<Held>, log: &'a Log<Held>) -> &'a TagSet
 
 /// How many notes there are.
 #[tactic(auto, using(crate::proofs::Counted::as_many_seen))]
-fn count(value: &Option<Held>, log: &Log<Held>) -> usize
+fn count(value: &Option<BoxedState>, log: &Log<BoxedState>) -> usize
     ensures { result ≡ length (seen undone value.now (reverse log.now.notes.items)) }
 {
     log.len()
@@ -140,7 +140,7 @@ fn count(value: &Option<Held>, log: &Log<Held>) -> usize
 
 impl Slot {
     /// The slot of an entity that has this, of which nothing is noted.
-    pub fn new(alloc: Global, value: Option<Held>) -> Slot
+    pub fn new(alloc: Global, value: Option<BoxedState>) -> Slot
         ensures { result ≡ slot_of value }
     {
         Slot {
@@ -162,8 +162,8 @@ impl Slot {
     pub fn set(
         &mut self,
         tags: &TagSet,
-        value: Option<Held>,
-    ) -> Result<Option<PutBack<Held>>, AllocError>
+        value: Option<BoxedState>,
+    ) -> Result<Option<PutBack<BoxedState>>, AllocError>
         ensures ok { OnOk result (self.new ≡ slot_wrote tags.now self.old value) }
         ensures can { IfOk result (λ back. CanGoBackOnce self.new back) }
         ensures back { IfOk result (λ back. slot_back self.new back ≡ self.old) }
@@ -220,7 +220,7 @@ impl Slot {
         &mut self,
         tags: &TagSet,
         change: Change,
-    ) -> Result<Option<PutBack<Held>>, AllocError>
+    ) -> Result<Option<PutBack<BoxedState>>, AllocError>
         requires { FitsAt self.old.now change }
         ensures ok { OnOk result
             (self.new ≡ slot_wrote tags.now self.old (Some (changed self.old.now change))) }
@@ -275,7 +275,7 @@ impl Slot {
     }
 
     /// Takes the newest write back, which takes no memory.
-    pub fn take_back(&mut self, back: Option<PutBack<Held>>)
+    pub fn take_back(&mut self, back: Option<PutBack<BoxedState>>)
         requires { CanGoBackOnce self.old back }
         ensures { self.new ≡ slot_back self.old back }
     {

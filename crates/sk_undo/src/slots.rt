@@ -21,7 +21,7 @@ ghost use Rattle.sk_undo.specs.Decisions.{ChangedAt, SlotUnwound, SlotCommitted,
 ghost use Rattle.sk_undo.specs.contracts.slots.Slots.{the_row as slots_row};
 ghost use Rattle.sk_undo.specs.contracts.slot.Slot.{the_row as slot_row};
 
-use crate::{Held, Slot};
+use crate::{BoxedState, Slot};
 use sk_changes::Change;
 use sk_ids::{Entity, GuessId, Pid, TagSet};
 use sk_map::Map;
@@ -34,7 +34,7 @@ use std::marker::Model;
 pub enum TakeBack {
     /// The entity had no slot.
     DropSlot,
-    UndoLast(Option<PutBack<Held>>),
+    UndoLast(Option<PutBack<BoxedState>>),
 }
 
 /// The slots of entities. One without a slot is absent, and nothing is noted of it.
@@ -56,7 +56,7 @@ impl Model for Slots {
 }
 
 /// The slot of an entity that had none.
-fn born(alloc: Global, tags: &TagSet, value: Option<Held>) -> Result<Slot, AllocError>
+fn born(alloc: Global, tags: &TagSet, value: Option<BoxedState>) -> Result<Slot, AllocError>
     ensures { IfOk result (λ slot. slot ≡ slot_wrote tags.now (slot_of None) value) }
 {
     let mut slot = Slot::new(alloc, None);
@@ -185,7 +185,7 @@ impl Slots {
         ensures back { IfOk result (λ how. slots_back self.new entity.now how ≡ self.old) }
         ensures err { OnErr result (self.new ≡ self.old) }
     {
-        let value = Held::new(self.alloc(), value)?;
+        let value = BoxedState::new(self.alloc(), value)?;
         if let Some(slot) = self.slot_mut(entity) {
             let back = slot.set(tags, Some(value))?;
             return Ok(TakeBack::UndoLast(back));

@@ -5,6 +5,6 @@ pub mod numbered;
 pub mod rule;
 pub mod wire;
 
-pub use numbered::Numbered;
+pub use numbered::HasNumber;
 pub use rule::WIRE_ITEMS;
 pub use wire::{WIRE_LIMIT, Wire, WirePass};

@@ -4,7 +4,7 @@ ghost use Rattle.std.specs.Prelude.{◌≡◌, ℕ};
 use sk_server::{Reply, Request};
 
 /// What has a number.
-pub trait Numbered {
+pub trait HasNumber {
     ghost number_of: { Self → ℕ };
 
     /// Its number.
@@ -12,7 +12,7 @@ pub trait Numbered {
         ensures { result ≡ number_of self.now };
 }
 
-impl Numbered for Request {
+impl HasNumber for Request {
     ghost number_of = { λ r. r.number };
 
     fn number(&self) -> u64 {
@@ -20,7 +20,7 @@ impl Numbered for Request {
     }
 }
 
-impl Numbered for Reply {
+impl HasNumber for Reply {
     ghost number_of = { λ r. r.number };
 
     fn number(&self) -> u64 {

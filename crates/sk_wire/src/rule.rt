@@ -1,7 +1,7 @@
 //! The rule of a wire: what its passes know, and what each step with them does and tells.
 ghost use Rattle.std.specs.Prelude.{ℕ};
 
-use crate::numbered::Numbered;
+use crate::numbered::HasNumber;
 use crossbeam_queue::protocol::{Join, Lesson, Outcome, Protocol, Split};
 use std::collections::LinkedList;
 use std::marker::{Brand, PhantomData};
@@ -22,7 +22,7 @@ pub struct PassView<T> {
 /// The rule: what was sent is what was received and then what the wire holds, numbered from the first on.
 pub struct InTurn;
 
-impl<T: Numbered> Protocol<T, PassView<T>> for InTurn {
+impl<T: HasNumber> Protocol<T, PassView<T>> for InTurn {
     ghost use Rattle.std.specs.Prelude.{true, []};
     ghost use Rattle.sk_wire.specs.Rule.{known, IsInTurn};
 
@@ -82,7 +82,7 @@ impl<T> Lesson<T, PassView<T>> for Sends {
 /// An item is received, or the wire is empty.
 pub struct Receives;
 
-impl<T: Numbered> Outcome<T, PassView<T>> for Receives {
+impl<T: HasNumber> Outcome<T, PassView<T>> for Receives {
     ghost use Rattle.std.specs.Prelude.{◌≡◌};
     ghost use Rattle.sk_wire.specs.Rule.{with_received, IsNext};
 
@@ -99,7 +99,7 @@ impl<T> Lesson<T, PassView<T>> for Receives {
 /// Both passes of a wire are one.
 pub struct Ends;
 
-impl<T: Numbered> Lesson<T, PassView<T>> for Ends {
+impl<T: HasNumber> Lesson<T, PassView<T>> for Ends {
     ghost use Rattle.std.specs.Prelude.{◌≡◌, ◌++◌};
     ghost use Rattle.sk_wire.specs.Rule.{AreNumbered};
 

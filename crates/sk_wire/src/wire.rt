@@ -7,7 +7,7 @@ ghost use Rattle.sk_wire.specs.declared.rule.TheConstants.{WIRE_ITEMS};
 ghost use Rattle.sk_wire.specs.Rule.{sender, receiver, joined, AreNumbered};
 ghost use Rattle.sk_wire.specs.Calls.{PushPost, PopPost};
 
-use crate::numbered::Numbered;
+use crate::numbered::HasNumber;
 use crate::rule::{Both, Ends, First, InTurn, PassView, Receives, Sends, Sides};
 use crossbeam_queue::{Pass, RuledArrayQueue};
 use std::alloc::{AllocError, Global};
@@ -22,12 +22,12 @@ pub type WirePass<T> = Pass<T, PassView<T>>;
 
 /// A queue of at most `WIRE_LIMIT` items from one sender to one receiver: each item is handed out once, and in order.
 #[derive(Drop)]
-pub struct Wire<T: Numbered> {
+pub struct Wire<T: HasNumber> {
     line: RuledArrayQueue<T, PassView<T>, InTurn>,
     ghost room: { ruled_capacity line ≡ WIRE_LIMIT },
 }
 
-impl<T: Numbered + Drop> Wire<T> {
+impl<T: HasNumber + Drop> Wire<T> {
     ghost use Rattle.sk_wire.specs.Wire.{IsSending, IsReceiving};
 
     /// A wire for items that are numbered from `first` on, its sending and its receiving pass.

@@ -2,7 +2,7 @@
 ghost use Rattle.std.specs.Prelude.{◌≡◌, []};
 ghost use Rattle.sk_client.specs.Desk.{opened_at};
 
-use crate::start::{Open, declare, desk_of};
+use crate::start::{FreeGate, declare, desk_of};
 use sk_client::{Desk, Turn};
 use sk_ids::Pid;
 use sk_kernel::HandIn;
@@ -50,7 +50,7 @@ fn steps<L: Ledger, R: Wait + Abort>(
 ) -> Worker<L> {
     let mut worker = worker;
     for _ in 0..turns {
-        let (back, answer) = shared.turn(rt, worker, pid, &Open);
+        let (back, answer) = shared.turn(rt, worker, pid, &FreeGate);
         worker = back;
         assert_eq!(rt; answer, Ok(Turn::Stepped));
     }
@@ -227,13 +227,13 @@ fn turns_with_leases<L: Ledger, R: Wait + Abort>(
         &mut place,
         sets,
         Some(kills),
-        &Open,
+        &FreeGate,
     );
     looks_at(rt, leased, place, Ok(()), Some(kills));
     let (worker, lease) = runs(rt, shared, worker, kills);
     let worker = steps(rt, shared, worker, kills, 1);
     let mut place = Some(lease);
-    let (worker, leased) = shared.turn_with_leases(rt, worker, &mut place, kills, None, &Open);
+    let (worker, leased) = shared.turn_with_leases(rt, worker, &mut place, kills, None, &FreeGate);
     looks_at(rt, leased, place, Err(HandIn::Stale), None);
     worker
 }

@@ -3,7 +3,7 @@ ghost use Rattle.std.specs.Prelude.{◌≡◌, [], vec_len};
 ghost use Rattle.sk_client.specs.Desk.{opened_at};
 ghost use Rattle.sk_workers.specs.Closing.{AreDistinct};
 
-use crate::start::{Open, declare, desk_of};
+use crate::start::{FreeGate, declare, desk_of};
 use sk_client::{Desk, Given, Turn};
 use sk_ids::{Entity, GuessId, Pid, Text};
 use sk_plain::View;
@@ -227,7 +227,7 @@ fn waits_for_the_reply<L: Ledger, R: Wait + Abort>(
         unreachable!()
     };
     let id = GuessId::new(1).unwrap_or_default();
-    let (worker, answer) = shared.turn(rt, worker, pid, &Open);
+    let (worker, answer) = shared.turn(rt, worker, pid, &FreeGate);
     assert_eq!(rt; answer, Ok(Turn::Guessed(id)));
     workers.push_reserved(worker);
     let (shared, mut workers) = match shared.close(workers) {

@@ -12,9 +12,9 @@ use tests_support::values::name;
 
 /// Waits for nothing.
 #[derive(Drop)]
-pub struct Open;
+pub struct FreeGate;
 
-impl Gate for Open {
+impl Gate for FreeGate {
     fn before(&self, _worker: u8, _turn: u64) {}
 }
 

@@ -7,7 +7,7 @@ ghost use Rattle.sk_wire.specs.Wire.{IsSending, IsReceiving};
 use crate::replies::{empties, receives, reply};
 use sk_ids::TagSet;
 use sk_server::{Ask, Reply, Request};
-use sk_wire::{Numbered, WIRE_LIMIT, Wire, WirePass};
+use sk_wire::{HasNumber, WIRE_LIMIT, Wire, WirePass};
 use std::alloc::Global;
 use std::process::Abort;
 use std::sync::Wait;

@@ -1,5 +1,5 @@
 //! Many guesses and many rounds, and how a desk ends. With ample memory no call is refused for want of it.
-use crate::asking::{Told, Wish};
+use crate::asking::{ServerWish, ToldAnswer};
 use crate::plays::{Came, Did, Far, Sent, gives, serves, takes, turns};
 use crate::start::{Start, kernel_of, server_of};
 use sk_client::{Desk, World, WorldEvent};
@@ -25,7 +25,7 @@ fn check(number: u64) -> Sent<'static> {
         guess: Some(number),
         rests: &[],
         settled: 1,
-        wish: Wish::Check(b"/x", 3),
+        wish: ServerWish::Check(b"/x", 3),
     }
 }
 
@@ -56,7 +56,7 @@ fn rounds(rt: &impl Abort, desk: &mut Desk, far: &mut Far, count: usize) -> Resu
     for place in 1..=count {
         let guess = place as u64;
         turns(rt, desk, place, 1, Did::Guessed(guess))?;
-        serves(rt, desk, far, place, Told::Yes)?;
+        serves(rt, desk, far, place, ToldAnswer::Yes)?;
         gives(rt, desk, far, place, Came::Committed(guess))?;
         turns(rt, desk, place, 1, Did::Stepped)?;
     }
@@ -97,7 +97,7 @@ fn shuts(rt: &impl Abort, desk: Desk, length: usize) {
 
 /// Its request is served and its reply given.
 fn settles(rt: &impl Abort, desk: &mut Desk, far: &mut Far) -> Result<(), Fail> {
-    serves(rt, desk, far, 1, Told::Yes)?;
+    serves(rt, desk, far, 1, ToldAnswer::Yes)?;
     gives(rt, desk, far, 2, Came::Committed(1))
 }
 

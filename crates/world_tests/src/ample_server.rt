@@ -1,5 +1,5 @@
 //! With ample memory no call of a server is refused, however often and past round numbers.
-use crate::asking::{Ground, LOOSE, Told, Wish, with_file};
+use crate::asking::{Ground, LOOSE, ServerWish, ToldAnswer, with_file};
 use crate::turns::{asks, edits};
 use sk_server::Server;
 use std::alloc::Global;
@@ -23,8 +23,8 @@ fn stored(rt: &impl Abort, alloc: Global, count: u64) -> Result<Server, Fail> {
     let mut server = Server::new(alloc);
     for number in 0..count {
         let (own, other) = (numbered(number), numbered(count.saturating_add(number)));
-        let store = Wish::Store(&own, 0, b"s");
-        asks(rt, alloc, &mut server, store, LOOSE, Told::Yes)?;
+        let store = ServerWish::Store(&own, 0, b"s");
+        asks(rt, alloc, &mut server, store, LOOSE, ToldAnswer::Yes)?;
         edits(rt, &mut server, &other, 0, b"e", Ok(1))?;
     }
     Ok(server)
@@ -45,8 +45,8 @@ fn refuses(rt: &impl Abort, alloc: Global, server: &mut Server, guess: u64) -> R
         settled: 1,
         guess: Some(guess),
     };
-    let check = Wish::Check(b"/x", 2);
-    asks(rt, alloc, server, check, ground, Told::No(3, b"old"))
+    let check = ServerWish::Check(b"/x", 2);
+    asks(rt, alloc, server, check, ground, ToldAnswer::No(3, b"old"))
 }
 
 /// A request that rests on this guess is dropped.
@@ -56,7 +56,14 @@ fn drops(rt: &impl Abort, alloc: Global, server: &mut Server, guess: u64) -> Res
         settled: 1,
         guess: None,
     };
-    asks(rt, alloc, server, Wish::Get(b"/x"), ground, Told::Dropped)
+    asks(
+        rt,
+        alloc,
+        server,
+        ServerWish::Get(b"/x"),
+        ground,
+        ToldAnswer::Dropped,
+    )
 }
 
 #[test]

@@ -7,7 +7,7 @@ use tests_support::values::{content, guess, name, tags, text};
 
 /// What a server is asked: the file, the version that it is to have, and the bytes.
 #[derive(Clone, Copy, Debug)]
-pub enum Wish<'a> {
+pub enum ServerWish<'a> {
     Get(&'a [u8]),
     Check(&'a [u8], u64),
     Store(&'a [u8], u64, &'a [u8]),
@@ -15,7 +15,7 @@ pub enum Wish<'a> {
 
 /// What it answers, a content by its version and bytes.
 #[derive(Clone, Copy, Debug)]
-pub enum Told<'a> {
+pub enum ToldAnswer<'a> {
     Copy(u64, &'a [u8]),
     Yes,
     No(u64, &'a [u8]),
@@ -23,22 +23,22 @@ pub enum Told<'a> {
 }
 
 /// What is asked.
-pub fn ask_of(wish: Wish<'_>) -> Result<Ask, Fail> {
+pub fn ask_of(wish: ServerWish<'_>) -> Result<Ask, Fail> {
     match wish {
-        Wish::Get(at) => Ok(Ask::Get(name(at)?)),
-        Wish::Check(at, version) => Ok(Ask::Check(name(at)?, version)),
-        Wish::Store(at, version, bytes) => Ok(Ask::Store(name(at)?, version, text(bytes)?)),
+        ServerWish::Get(at) => Ok(Ask::Get(name(at)?)),
+        ServerWish::Check(at, version) => Ok(Ask::Check(name(at)?, version)),
+        ServerWish::Store(at, version, bytes) => Ok(Ask::Store(name(at)?, version, text(bytes)?)),
     }
 }
 
 /// Whether this is what was asked.
-pub fn is_asked(ask: &Ask, wish: Wish<'_>) -> bool {
+pub fn is_asked(ask: &Ask, wish: ServerWish<'_>) -> bool {
     match (ask, wish) {
-        (Ask::Get(name), Wish::Get(at)) => name.as_slice() == at,
-        (Ask::Check(name, has), Wish::Check(at, version)) => {
+        (Ask::Get(name), ServerWish::Get(at)) => name.as_slice() == at,
+        (Ask::Check(name, has), ServerWish::Check(at, version)) => {
             name.as_slice() == at && *has == version
         }
-        (Ask::Store(name, has, text), Wish::Store(at, version, bytes)) => {
+        (Ask::Store(name, has, text), ServerWish::Store(at, version, bytes)) => {
             name.as_slice() == at && *has == version && text.as_slice() == bytes
         }
         _ => false,
@@ -46,12 +46,12 @@ pub fn is_asked(ask: &Ask, wish: Wish<'_>) -> bool {
 }
 
 /// The answer itself.
-pub fn answer_of(told: Told<'_>) -> Result<Answer, Fail> {
+pub fn answer_of(told: ToldAnswer<'_>) -> Result<Answer, Fail> {
     match told {
-        Told::Copy(version, bytes) => Ok(Answer::Copy(content(version, bytes)?)),
-        Told::Yes => Ok(Answer::Yes),
-        Told::No(version, bytes) => Ok(Answer::No(content(version, bytes)?)),
-        Told::Dropped => Ok(Answer::Dropped),
+        ToldAnswer::Copy(version, bytes) => Ok(Answer::Copy(content(version, bytes)?)),
+        ToldAnswer::Yes => Ok(Answer::Yes),
+        ToldAnswer::No(version, bytes) => Ok(Answer::No(content(version, bytes)?)),
+        ToldAnswer::Dropped => Ok(Answer::Dropped),
     }
 }
 

@@ -1,6 +1,6 @@
 //! Runs with a desk and a server, and each kind of reply.
-use crate::asking::{Told, Wish};
-use crate::plays::{Came, Did, Play, Sent, Sight, plays, plays_both};
+use crate::asking::{ServerWish, ToldAnswer};
+use crate::plays::{Came, DeskPlay, Did, Sent, Sight, plays, plays_both};
 use crate::start::{Start, Version};
 use sk_client::ReplyRefusal;
 use sk_objects::content::LAST_VERSION;
@@ -25,7 +25,7 @@ fn old() -> Option<Version<'static>> {
 }
 
 /// A request that was made before any guess was decided.
-fn sent<'a>(number: u64, guess: Option<u64>, rests: &'a [u64], wish: Wish<'a>) -> Sent<'a> {
+fn sent<'a>(number: u64, guess: Option<u64>, rests: &'a [u64], wish: ServerWish<'a>) -> Sent<'a> {
     Sent {
         number,
         guess,
@@ -47,27 +47,27 @@ fn wrong_kind() -> Came {
 
 #[test]
 fn stale_store_dropped(rt: HostRuntime) -> Result<(), Fail> {
-    let check = sent(1, Some(1), &[], Wish::Check(b"/x", 3));
-    let store = sent(2, Some(2), &[1], Wish::Store(b"/x", 3, b"new"));
+    let check = sent(1, Some(1), &[], ServerWish::Check(b"/x", 3));
+    let store = sent(2, Some(2), &[1], ServerWish::Store(b"/x", 3, b"new"));
     let table = [
-        Play::Edit(b"/x", 3, b"foreign"),
-        Play::Turn(1, Did::Guessed(1)),
-        Play::Turn(1, Did::Stepped),
-        Play::Turn(1, Did::Guessed(2)),
-        Play::Take(check),
-        Play::Take(store),
-        Play::See(Sight::Copy(b"/x", 4, b"new")),
-        Play::Serve(Told::No(4, b"foreign")),
-        Play::Serve(Told::Dropped),
-        Play::Give(Came::Failed(1)),
-        Play::Give(Came::Gone(2)),
-        Play::Turn(1, Did::Stepped),
-        Play::See(Sight::Stands(1, 1, 4)),
-        Play::See(Sight::Buffer(1, b"foreign")),
-        Play::See(Sight::Copy(b"/x", 4, b"foreign")),
-        Play::See(Sight::Trace(5, 0)),
-        Play::See(Sight::Pending(0)),
-        Play::Reply(2, Told::Dropped, out_of_turn(3)),
+        DeskPlay::Edit(b"/x", 3, b"foreign"),
+        DeskPlay::Turn(1, Did::Guessed(1)),
+        DeskPlay::Turn(1, Did::Stepped),
+        DeskPlay::Turn(1, Did::Guessed(2)),
+        DeskPlay::Take(check),
+        DeskPlay::Take(store),
+        DeskPlay::See(Sight::Copy(b"/x", 4, b"new")),
+        DeskPlay::Serve(ToldAnswer::No(4, b"foreign")),
+        DeskPlay::Serve(ToldAnswer::Dropped),
+        DeskPlay::Give(Came::Failed(1)),
+        DeskPlay::Give(Came::Gone(2)),
+        DeskPlay::Turn(1, Did::Stepped),
+        DeskPlay::See(Sight::Stands(1, 1, 4)),
+        DeskPlay::See(Sight::Buffer(1, b"foreign")),
+        DeskPlay::See(Sight::Copy(b"/x", 4, b"foreign")),
+        DeskPlay::See(Sight::Trace(5, 0)),
+        DeskPlay::See(Sight::Pending(0)),
+        DeskPlay::Reply(2, ToldAnswer::Dropped, out_of_turn(3)),
     ];
     let start = Start {
         file: old(),
@@ -79,15 +79,15 @@ fn stale_store_dropped(rt: HostRuntime) -> Result<(), Fail> {
 #[test]
 fn ask_without_copy(rt: HostRuntime) -> Result<(), Fail> {
     let table = [
-        Play::Turn(1, Did::Asked(1)),
-        Play::Turn(1, Did::Refused(Refusal::Blocked)),
-        Play::Serve(Told::Copy(0, b"")),
-        Play::Give(Came::Taken(1)),
-        Play::NoRequest,
-        Play::See(Sight::NoReply),
-        Play::See(Sight::Copy(b"/x", 0, b"")),
-        Play::See(Sight::Stands(1, 1, 0)),
-        Play::See(Sight::Trace(1, 0)),
+        DeskPlay::Turn(1, Did::Asked(1)),
+        DeskPlay::Turn(1, Did::Refused(Refusal::Blocked)),
+        DeskPlay::Serve(ToldAnswer::Copy(0, b"")),
+        DeskPlay::Give(Came::Taken(1)),
+        DeskPlay::NoRequest,
+        DeskPlay::See(Sight::NoReply),
+        DeskPlay::See(Sight::Copy(b"/x", 0, b"")),
+        DeskPlay::See(Sight::Stands(1, 1, 0)),
+        DeskPlay::See(Sight::Trace(1, 0)),
     ];
     plays(&rt, rt.alloc(), with(&[b"fetch /x\n"], None), &table)
 }
@@ -95,16 +95,16 @@ fn ask_without_copy(rt: HostRuntime) -> Result<(), Fail> {
 #[test]
 fn two_processes_one_name(rt: HostRuntime) -> Result<(), Fail> {
     let table = [
-        Play::Turn(1, Did::Asked(1)),
-        Play::Turn(2, Did::Refused(Refusal::Blocked)),
-        Play::Serve(Told::Copy(0, b"")),
-        Play::Give(Came::Taken(1)),
-        Play::Turn(2, Did::Guessed(1)),
-        Play::Serve(Told::Yes),
-        Play::Give(Came::Committed(1)),
-        Play::See(Sight::Copy(b"/x", 1, b"")),
-        Play::See(Sight::Trace(3, 0)),
-        Play::See(Sight::File(b"/x", 1, b"")),
+        DeskPlay::Turn(1, Did::Asked(1)),
+        DeskPlay::Turn(2, Did::Refused(Refusal::Blocked)),
+        DeskPlay::Serve(ToldAnswer::Copy(0, b"")),
+        DeskPlay::Give(Came::Taken(1)),
+        DeskPlay::Turn(2, Did::Guessed(1)),
+        DeskPlay::Serve(ToldAnswer::Yes),
+        DeskPlay::Give(Came::Committed(1)),
+        DeskPlay::See(Sight::Copy(b"/x", 1, b"")),
+        DeskPlay::See(Sight::Trace(3, 0)),
+        DeskPlay::See(Sight::File(b"/x", 1, b"")),
     ];
     let start = with(&[b"fetch /x\n", b"store /x\n"], None);
     plays(&rt, rt.alloc(), start, &table)
@@ -112,35 +112,35 @@ fn two_processes_one_name(rt: HostRuntime) -> Result<(), Fail> {
 
 #[test]
 fn late_and_wrong_replies(rt: HostRuntime) -> Result<(), Fail> {
-    let check = sent(1, Some(1), &[], Wish::Check(b"/x", 3));
+    let check = sent(1, Some(1), &[], ServerWish::Check(b"/x", 3));
     let early = [
-        Play::See(Sight::Expected(1)),
-        Play::Turn(1, Did::Guessed(1)),
-        Play::See(Sight::Expected(1)),
-        Play::Reply(1, Told::Yes, out_of_turn(1)),
-        Play::Take(check),
-        Play::See(Sight::Expected(1)),
-        Play::Reply(2, Told::Copy(3, b"old"), out_of_turn(1)),
-        Play::Reply(0, Told::Yes, out_of_turn(1)),
-        Play::Reply(u64::MAX, Told::Yes, out_of_turn(1)),
-        Play::Reply(1, Told::Copy(3, b"old"), wrong_kind()),
-        Play::See(Sight::Trace(1, 1)),
-        Play::See(Sight::Pending(1)),
+        DeskPlay::See(Sight::Expected(1)),
+        DeskPlay::Turn(1, Did::Guessed(1)),
+        DeskPlay::See(Sight::Expected(1)),
+        DeskPlay::Reply(1, ToldAnswer::Yes, out_of_turn(1)),
+        DeskPlay::Take(check),
+        DeskPlay::See(Sight::Expected(1)),
+        DeskPlay::Reply(2, ToldAnswer::Copy(3, b"old"), out_of_turn(1)),
+        DeskPlay::Reply(0, ToldAnswer::Yes, out_of_turn(1)),
+        DeskPlay::Reply(u64::MAX, ToldAnswer::Yes, out_of_turn(1)),
+        DeskPlay::Reply(1, ToldAnswer::Copy(3, b"old"), wrong_kind()),
+        DeskPlay::See(Sight::Trace(1, 1)),
+        DeskPlay::See(Sight::Pending(1)),
     ];
     let dropped = [
-        Play::Reply(1, Told::Dropped, Came::Failed(1)),
-        Play::See(Sight::Expected(2)),
-        Play::Reply(1, Told::Dropped, out_of_turn(2)),
-        Play::Turn(1, Did::Guessed(2)),
-        Play::See(Sight::Expected(2)),
+        DeskPlay::Reply(1, ToldAnswer::Dropped, Came::Failed(1)),
+        DeskPlay::See(Sight::Expected(2)),
+        DeskPlay::Reply(1, ToldAnswer::Dropped, out_of_turn(2)),
+        DeskPlay::Turn(1, Did::Guessed(2)),
+        DeskPlay::See(Sight::Expected(2)),
     ];
     let believed = [
-        Play::Reply(1, Told::Yes, Came::Committed(1)),
-        Play::See(Sight::Expected(2)),
-        Play::Reply(1, Told::Yes, out_of_turn(2)),
-        Play::See(Sight::Trace(2, 0)),
-        Play::See(Sight::Copy(b"/x", 3, b"old")),
-        Play::See(Sight::File(b"/x", 4, b"new")),
+        DeskPlay::Reply(1, ToldAnswer::Yes, Came::Committed(1)),
+        DeskPlay::See(Sight::Expected(2)),
+        DeskPlay::Reply(1, ToldAnswer::Yes, out_of_turn(2)),
+        DeskPlay::See(Sight::Trace(2, 0)),
+        DeskPlay::See(Sight::Copy(b"/x", 3, b"old")),
+        DeskPlay::See(Sight::File(b"/x", 4, b"new")),
     ];
     let start = Start {
         file: Some((b"/x", 4, b"new")),
@@ -152,44 +152,44 @@ fn late_and_wrong_replies(rt: HostRuntime) -> Result<(), Fail> {
 
 #[test]
 fn last_version(rt: HostRuntime) -> Result<(), Fail> {
-    let store = sent(1, None, &[], Wish::Store(b"/x", LAST_VERSION, b""));
+    let store = sent(1, None, &[], ServerWish::Store(b"/x", LAST_VERSION, b""));
     let table = [
-        Play::Turn(1, Did::Asked(1)),
-        Play::Take(store),
-        Play::Reply(1, Told::Yes, wrong_kind()),
-        Play::See(Sight::Pending(1)),
-        Play::See(Sight::Trace(0, 0)),
-        Play::Reply(1, Told::No(LAST_VERSION, b"m"), Came::Taken(1)),
-        Play::See(Sight::Stands(1, 1, -116)),
-        Play::See(Sight::Copy(b"/x", LAST_VERSION, b"m")),
-        Play::See(Sight::Trace(1, 0)),
+        DeskPlay::Turn(1, Did::Asked(1)),
+        DeskPlay::Take(store),
+        DeskPlay::Reply(1, ToldAnswer::Yes, wrong_kind()),
+        DeskPlay::See(Sight::Pending(1)),
+        DeskPlay::See(Sight::Trace(0, 0)),
+        DeskPlay::Reply(1, ToldAnswer::No(LAST_VERSION, b"m"), Came::Taken(1)),
+        DeskPlay::See(Sight::Stands(1, 1, -116)),
+        DeskPlay::See(Sight::Copy(b"/x", LAST_VERSION, b"m")),
+        DeskPlay::See(Sight::Trace(1, 0)),
     ];
     let start = with(&[b"store /x\n"], Some((b"/x", LAST_VERSION, b"m")));
     plays(&rt, rt.alloc(), start, &table)
 }
 
 /// A guess on another, which fails; then the reply to the inner one, which was struck with it.
-fn struck_and_told(rt: &impl Abort, alloc: Global, told: Told<'_>) -> Result<(), Fail> {
-    let inner = sent(2, Some(2), &[1], Wish::Store(b"/x", 3, b"new"));
+fn struck_and_told(rt: &impl Abort, alloc: Global, told: ToldAnswer<'_>) -> Result<(), Fail> {
+    let inner = sent(2, Some(2), &[1], ServerWish::Store(b"/x", 3, b"new"));
     let table = [
-        Play::Turn(1, Did::Guessed(1)),
-        Play::Turn(1, Did::Stepped),
-        Play::Turn(1, Did::Guessed(2)),
-        Play::Take(sent(1, Some(1), &[], Wish::Check(b"/x", 3))),
-        Play::Take(inner),
-        Play::Reply(1, Told::No(5, b"z"), Came::Failed(1)),
-        Play::See(Sight::Trace(4, 0)),
-        Play::See(Sight::Expected(2)),
-        Play::Reply(2, told, Came::Gone(2)),
-        Play::See(Sight::Trace(4, 0)),
-        Play::See(Sight::Expected(3)),
-        Play::See(Sight::Pending(0)),
-        Play::See(Sight::Copy(b"/x", 3, b"old")),
-        Play::See(Sight::File(b"/x", 5, b"z")),
-        Play::Reply(2, told, out_of_turn(3)),
-        Play::Turn(1, Did::Stepped),
-        Play::See(Sight::Stands(1, 1, 5)),
-        Play::See(Sight::Buffer(1, b"z")),
+        DeskPlay::Turn(1, Did::Guessed(1)),
+        DeskPlay::Turn(1, Did::Stepped),
+        DeskPlay::Turn(1, Did::Guessed(2)),
+        DeskPlay::Take(sent(1, Some(1), &[], ServerWish::Check(b"/x", 3))),
+        DeskPlay::Take(inner),
+        DeskPlay::Reply(1, ToldAnswer::No(5, b"z"), Came::Failed(1)),
+        DeskPlay::See(Sight::Trace(4, 0)),
+        DeskPlay::See(Sight::Expected(2)),
+        DeskPlay::Reply(2, told, Came::Gone(2)),
+        DeskPlay::See(Sight::Trace(4, 0)),
+        DeskPlay::See(Sight::Expected(3)),
+        DeskPlay::See(Sight::Pending(0)),
+        DeskPlay::See(Sight::Copy(b"/x", 3, b"old")),
+        DeskPlay::See(Sight::File(b"/x", 5, b"z")),
+        DeskPlay::Reply(2, told, out_of_turn(3)),
+        DeskPlay::Turn(1, Did::Stepped),
+        DeskPlay::See(Sight::Stands(1, 1, 5)),
+        DeskPlay::See(Sight::Buffer(1, b"z")),
     ];
     let start = Start {
         file: Some((b"/x", 5, b"z")),
@@ -200,7 +200,11 @@ fn struck_and_told(rt: &impl Abort, alloc: Global, told: Told<'_>) -> Result<(),
 
 #[test]
 fn reply_to_struck_guess(rt: HostRuntime) -> Result<(), Fail> {
-    for told in [Told::Yes, Told::No(9, b"false"), Told::Dropped] {
+    for told in [
+        ToldAnswer::Yes,
+        ToldAnswer::No(9, b"false"),
+        ToldAnswer::Dropped,
+    ] {
         struck_and_told(&rt, rt.alloc(), told)?;
     }
     Ok(())
@@ -209,16 +213,16 @@ fn reply_to_struck_guess(rt: HostRuntime) -> Result<(), Fail> {
 #[test]
 fn each_kind_of_reply_to_a_get(rt: HostRuntime) -> Result<(), Fail> {
     let table = [
-        Play::Turn(1, Did::Asked(1)),
-        Play::Take(sent(1, None, &[], Wish::Get(b"/x"))),
-        Play::Reply(1, Told::Yes, wrong_kind()),
-        Play::Reply(1, Told::No(5, b"z"), wrong_kind()),
-        Play::Reply(1, Told::Dropped, Came::Forgotten(1)),
-        Play::See(Sight::Stands(1, 0, 0)),
-        Play::Turn(1, Did::Asked(2)),
-        Play::Take(sent(2, None, &[], Wish::Get(b"/x"))),
-        Play::Reply(2, Told::Copy(5, b"z"), Came::Taken(2)),
-        Play::See(Sight::Stands(1, 1, 5)),
+        DeskPlay::Turn(1, Did::Asked(1)),
+        DeskPlay::Take(sent(1, None, &[], ServerWish::Get(b"/x"))),
+        DeskPlay::Reply(1, ToldAnswer::Yes, wrong_kind()),
+        DeskPlay::Reply(1, ToldAnswer::No(5, b"z"), wrong_kind()),
+        DeskPlay::Reply(1, ToldAnswer::Dropped, Came::Forgotten(1)),
+        DeskPlay::See(Sight::Stands(1, 0, 0)),
+        DeskPlay::Turn(1, Did::Asked(2)),
+        DeskPlay::Take(sent(2, None, &[], ServerWish::Get(b"/x"))),
+        DeskPlay::Reply(2, ToldAnswer::Copy(5, b"z"), Came::Taken(2)),
+        DeskPlay::See(Sight::Stands(1, 1, 5)),
     ];
     plays(&rt, rt.alloc(), with(&[b"fetch /x\n"], None), &table)
 }
@@ -226,23 +230,23 @@ fn each_kind_of_reply_to_a_get(rt: HostRuntime) -> Result<(), Fail> {
 #[test]
 fn each_kind_of_reply_to_a_store(rt: HostRuntime) -> Result<(), Fail> {
     let asked = [
-        Play::Turn(1, Did::Asked(1)),
-        Play::Take(sent(1, None, &[], Wish::Store(b"/x", 0, b""))),
-        Play::Reply(1, Told::Copy(5, b"z"), wrong_kind()),
-        Play::Reply(1, Told::No(5, b"z"), Came::Taken(1)),
-        Play::See(Sight::Stands(1, 1, -116)),
-        Play::See(Sight::Copy(b"/x", 5, b"z")),
+        DeskPlay::Turn(1, Did::Asked(1)),
+        DeskPlay::Take(sent(1, None, &[], ServerWish::Store(b"/x", 0, b""))),
+        DeskPlay::Reply(1, ToldAnswer::Copy(5, b"z"), wrong_kind()),
+        DeskPlay::Reply(1, ToldAnswer::No(5, b"z"), Came::Taken(1)),
+        DeskPlay::See(Sight::Stands(1, 1, -116)),
+        DeskPlay::See(Sight::Copy(b"/x", 5, b"z")),
     ];
     plays(&rt, rt.alloc(), with(&[b"store /x\n"], None), &asked)?;
     let guessed = [
-        Play::Turn(1, Did::Guessed(1)),
-        Play::Take(sent(1, Some(1), &[], Wish::Store(b"/x", 3, b""))),
-        Play::Reply(1, Told::No(5, b"z"), Came::Failed(1)),
-        Play::Turn(1, Did::Stepped),
-        Play::See(Sight::Stands(1, 1, -116)),
-        Play::See(Sight::Copy(b"/x", 5, b"z")),
-        Play::See(Sight::Trace(3, 0)),
-        Play::See(Sight::LastStale(1, 5, b"z")),
+        DeskPlay::Turn(1, Did::Guessed(1)),
+        DeskPlay::Take(sent(1, Some(1), &[], ServerWish::Store(b"/x", 3, b""))),
+        DeskPlay::Reply(1, ToldAnswer::No(5, b"z"), Came::Failed(1)),
+        DeskPlay::Turn(1, Did::Stepped),
+        DeskPlay::See(Sight::Stands(1, 1, -116)),
+        DeskPlay::See(Sight::Copy(b"/x", 5, b"z")),
+        DeskPlay::See(Sight::Trace(3, 0)),
+        DeskPlay::See(Sight::LastStale(1, 5, b"z")),
     ];
     plays(&rt, rt.alloc(), with(&[b"store /x\n"], old()), &guessed)
 }
@@ -250,14 +254,14 @@ fn each_kind_of_reply_to_a_store(rt: HostRuntime) -> Result<(), Fail> {
 #[test]
 fn kept_answer_is_used_once(rt: HostRuntime) -> Result<(), Fail> {
     let table = [
-        Play::Turn(1, Did::Guessed(1)),
-        Play::Take(sent(1, Some(1), &[], Wish::Check(b"/x", 3))),
-        Play::Reply(1, Told::No(5, b"z"), Came::Failed(1)),
-        Play::Turn(1, Did::Stepped),
-        Play::See(Sight::Stands(1, 1, 5)),
-        Play::See(Sight::Buffer(1, b"z")),
-        Play::Turn(1, Did::Guessed(2)),
-        Play::See(Sight::Stands(1, 2, 5)),
+        DeskPlay::Turn(1, Did::Guessed(1)),
+        DeskPlay::Take(sent(1, Some(1), &[], ServerWish::Check(b"/x", 3))),
+        DeskPlay::Reply(1, ToldAnswer::No(5, b"z"), Came::Failed(1)),
+        DeskPlay::Turn(1, Did::Stepped),
+        DeskPlay::See(Sight::Stands(1, 1, 5)),
+        DeskPlay::See(Sight::Buffer(1, b"z")),
+        DeskPlay::Turn(1, Did::Guessed(2)),
+        DeskPlay::See(Sight::Stands(1, 2, 5)),
     ];
     let start = with(&[b"fetch /x\nfetch /x\n"], old());
     plays(&rt, rt.alloc(), start, &table)
@@ -266,19 +270,19 @@ fn kept_answer_is_used_once(rt: HostRuntime) -> Result<(), Fail> {
 #[test]
 fn kept_answer_is_forgotten_for_a_signal(rt: HostRuntime) -> Result<(), Fail> {
     let table = [
-        Play::Turn(1, Did::Stepped),
-        Play::Turn(1, Did::Guessed(1)),
-        Play::Take(sent(1, Some(1), &[], Wish::Check(b"/x", 3))),
-        Play::Reply(1, Told::No(5, b"z"), Came::Failed(1)),
-        Play::Turn(2, Did::Stepped),
-        Play::Turn(2, Did::Stepped),
-        Play::Turn(2, Did::Stepped),
-        Play::Turn(1, Did::Stepped),
-        Play::See(Sight::Stands(1, 2, 0)),
-        Play::Turn(1, Did::Stepped),
-        Play::See(Sight::Stands(1, 1, 0)),
-        Play::Turn(1, Did::Guessed(2)),
-        Play::See(Sight::Stands(1, 2, 3)),
+        DeskPlay::Turn(1, Did::Stepped),
+        DeskPlay::Turn(1, Did::Guessed(1)),
+        DeskPlay::Take(sent(1, Some(1), &[], ServerWish::Check(b"/x", 3))),
+        DeskPlay::Reply(1, ToldAnswer::No(5, b"z"), Came::Failed(1)),
+        DeskPlay::Turn(2, Did::Stepped),
+        DeskPlay::Turn(2, Did::Stepped),
+        DeskPlay::Turn(2, Did::Stepped),
+        DeskPlay::Turn(1, Did::Stepped),
+        DeskPlay::See(Sight::Stands(1, 2, 0)),
+        DeskPlay::Turn(1, Did::Stepped),
+        DeskPlay::See(Sight::Stands(1, 1, 0)),
+        DeskPlay::Turn(1, Did::Guessed(2)),
+        DeskPlay::See(Sight::Stands(1, 2, 3)),
     ];
     let handles = b"handler h\nfetch /x\nh:\nreturn\n";
     let kills = b"boot r1 1\nset r2 5\nkill r1 r2\n";
@@ -288,16 +292,16 @@ fn kept_answer_is_forgotten_for_a_signal(rt: HostRuntime) -> Result<(), Fail> {
 #[test]
 fn void_request_is_forgotten(rt: HostRuntime) -> Result<(), Fail> {
     let table = [
-        Play::Turn(1, Did::Guessed(1)),
-        Play::Turn(1, Did::Asked(2)),
-        Play::Take(sent(1, Some(1), &[], Wish::Check(b"/x", 3))),
-        Play::Take(sent(2, None, &[1], Wish::Get(b"/y"))),
-        Play::Reply(1, Told::No(4, b"new"), Came::Failed(1)),
-        Play::Reply(2, Told::Copy(1, b"y"), Came::Forgotten(2)),
-        Play::See(Sight::Stands(1, 0, 0)),
-        Play::Turn(1, Did::Stepped),
-        Play::See(Sight::Stands(1, 1, 4)),
-        Play::See(Sight::Buffer(1, b"new")),
+        DeskPlay::Turn(1, Did::Guessed(1)),
+        DeskPlay::Turn(1, Did::Asked(2)),
+        DeskPlay::Take(sent(1, Some(1), &[], ServerWish::Check(b"/x", 3))),
+        DeskPlay::Take(sent(2, None, &[1], ServerWish::Get(b"/y"))),
+        DeskPlay::Reply(1, ToldAnswer::No(4, b"new"), Came::Failed(1)),
+        DeskPlay::Reply(2, ToldAnswer::Copy(1, b"y"), Came::Forgotten(2)),
+        DeskPlay::See(Sight::Stands(1, 0, 0)),
+        DeskPlay::Turn(1, Did::Stepped),
+        DeskPlay::See(Sight::Stands(1, 1, 4)),
+        DeskPlay::See(Sight::Buffer(1, b"new")),
     ];
     let start = with(&[b"fetch /x\nfetch /y\n"], old());
     plays(&rt, rt.alloc(), start, &table)
@@ -306,12 +310,12 @@ fn void_request_is_forgotten(rt: HostRuntime) -> Result<(), Fail> {
 #[test]
 fn places_of_the_trace(rt: HostRuntime) -> Result<(), Fail> {
     let asks = [
-        Play::Turn(1, Did::Asked(1)),
-        Play::Turn(2, Did::Stepped),
-        Play::Turn(2, Did::Refused(Refusal::TraceFull)),
-        Play::Take(sent(1, None, &[], Wish::Get(b"/x"))),
-        Play::Reply(1, Told::Copy(0, b""), Came::Taken(1)),
-        Play::See(Sight::Trace(2, 0)),
+        DeskPlay::Turn(1, Did::Asked(1)),
+        DeskPlay::Turn(2, Did::Stepped),
+        DeskPlay::Turn(2, Did::Refused(Refusal::TraceFull)),
+        DeskPlay::Take(sent(1, None, &[], ServerWish::Get(b"/x"))),
+        DeskPlay::Reply(1, ToldAnswer::Copy(0, b""), Came::Taken(1)),
+        DeskPlay::See(Sight::Trace(2, 0)),
     ];
     let start = Start {
         limit: 2,
@@ -319,9 +323,9 @@ fn places_of_the_trace(rt: HostRuntime) -> Result<(), Fail> {
     };
     plays(&rt, rt.alloc(), start, &asks)?;
     let guesses = [
-        Play::Turn(1, Did::Refused(Refusal::TraceFull)),
-        Play::NoRequest,
-        Play::See(Sight::Trace(0, 0)),
+        DeskPlay::Turn(1, Did::Refused(Refusal::TraceFull)),
+        DeskPlay::NoRequest,
+        DeskPlay::See(Sight::Trace(0, 0)),
     ];
     let start = Start {
         limit: 1,
@@ -333,11 +337,11 @@ fn places_of_the_trace(rt: HostRuntime) -> Result<(), Fail> {
 #[test]
 fn two_askers(rt: HostRuntime) -> Result<(), Fail> {
     let table = [
-        Play::Turn(1, Did::Asked(1)),
-        Play::Turn(2, Did::Asked(2)),
-        Play::Take(sent(1, None, &[], Wish::Get(b"/x"))),
-        Play::Take(sent(2, None, &[], Wish::Get(b"/y"))),
-        Play::See(Sight::Pending(2)),
+        DeskPlay::Turn(1, Did::Asked(1)),
+        DeskPlay::Turn(2, Did::Asked(2)),
+        DeskPlay::Take(sent(1, None, &[], ServerWish::Get(b"/x"))),
+        DeskPlay::Take(sent(2, None, &[], ServerWish::Get(b"/y"))),
+        DeskPlay::See(Sight::Pending(2)),
     ];
     let start = with(&[b"fetch /x\n", b"fetch /y\n"], None);
     plays(&rt, rt.alloc(), start, &table)

@@ -1,6 +1,6 @@
 //! Epochs of a desk.
-use crate::asking::{Told, Wish};
-use crate::plays::{Came, Did, Play, Sent, Sight, plays};
+use crate::asking::{ServerWish, ToldAnswer};
+use crate::plays::{Came, DeskPlay, Did, Sent, Sight, plays};
 use crate::start::Start;
 use sk_kernel::EpochRefusal;
 use std::test::Fail;
@@ -21,28 +21,28 @@ fn epoch_waits_for_replies(rt: HostRuntime) -> Result<(), Fail> {
         guess: Some(2),
         rests: &[],
         settled: 2,
-        wish: Wish::Check(b"/x", 3),
+        wish: ServerWish::Check(b"/x", 3),
     };
     let table = [
-        Play::Turn(1, Did::Guessed(1)),
-        Play::Epoch(Err(EpochRefusal::Undecided(1))),
-        Play::See(Sight::Trace(1, 1)),
-        Play::Serve(Told::Yes),
-        Play::Epoch(Err(EpochRefusal::Undecided(1))),
-        Play::Give(Came::Committed(1)),
-        Play::See(Sight::Requests(1, 1)),
-        Play::Epoch(Ok(2)),
-        Play::See(Sight::Requests(2, 0)),
-        Play::See(Sight::Trace(0, 0)),
-        Play::See(Sight::Expected(2)),
-        Play::Turn(1, Did::Guessed(2)),
-        Play::Take(check),
-        Play::Serve(Told::Yes),
-        Play::Give(Came::Committed(2)),
-        Play::See(Sight::Requests(2, 1)),
-        Play::Epoch(Ok(2)),
-        Play::Epoch(Ok(0)),
-        Play::See(Sight::Requests(3, 0)),
+        DeskPlay::Turn(1, Did::Guessed(1)),
+        DeskPlay::Epoch(Err(EpochRefusal::Undecided(1))),
+        DeskPlay::See(Sight::Trace(1, 1)),
+        DeskPlay::Serve(ToldAnswer::Yes),
+        DeskPlay::Epoch(Err(EpochRefusal::Undecided(1))),
+        DeskPlay::Give(Came::Committed(1)),
+        DeskPlay::See(Sight::Requests(1, 1)),
+        DeskPlay::Epoch(Ok(2)),
+        DeskPlay::See(Sight::Requests(2, 0)),
+        DeskPlay::See(Sight::Trace(0, 0)),
+        DeskPlay::See(Sight::Expected(2)),
+        DeskPlay::Turn(1, Did::Guessed(2)),
+        DeskPlay::Take(check),
+        DeskPlay::Serve(ToldAnswer::Yes),
+        DeskPlay::Give(Came::Committed(2)),
+        DeskPlay::See(Sight::Requests(2, 1)),
+        DeskPlay::Epoch(Ok(2)),
+        DeskPlay::Epoch(Ok(0)),
+        DeskPlay::See(Sight::Requests(3, 0)),
     ];
     plays(&rt, rt.alloc(), FETCHING, &table)
 }
@@ -51,17 +51,17 @@ fn epoch_waits_for_replies(rt: HostRuntime) -> Result<(), Fail> {
 #[test]
 fn epoch_forgets_kept_answers(rt: HostRuntime) -> Result<(), Fail> {
     let table = [
-        Play::Edit(b"/x", 3, b"foreign"),
-        Play::Turn(1, Did::Guessed(1)),
-        Play::Serve(Told::No(4, b"foreign")),
-        Play::Give(Came::Failed(1)),
-        Play::Epoch(Ok(2)),
-        Play::Turn(1, Did::Guessed(2)),
-        Play::Serve(Told::No(4, b"foreign")),
-        Play::Give(Came::Failed(2)),
-        Play::Turn(1, Did::Stepped),
-        Play::See(Sight::Copy(b"/x", 4, b"foreign")),
-        Play::See(Sight::Trace(3, 0)),
+        DeskPlay::Edit(b"/x", 3, b"foreign"),
+        DeskPlay::Turn(1, Did::Guessed(1)),
+        DeskPlay::Serve(ToldAnswer::No(4, b"foreign")),
+        DeskPlay::Give(Came::Failed(1)),
+        DeskPlay::Epoch(Ok(2)),
+        DeskPlay::Turn(1, Did::Guessed(2)),
+        DeskPlay::Serve(ToldAnswer::No(4, b"foreign")),
+        DeskPlay::Give(Came::Failed(2)),
+        DeskPlay::Turn(1, Did::Stepped),
+        DeskPlay::See(Sight::Copy(b"/x", 4, b"foreign")),
+        DeskPlay::See(Sight::Trace(3, 0)),
     ];
     plays(&rt, rt.alloc(), FETCHING, &table)
 }

@@ -1,6 +1,6 @@
 //! Tests as tables: what is done with a desk and its server, each with what has to come of it.
 //! A table has plain numbers and bytes, so that a test is short to prove.
-use crate::asking::{Told, Wish, answer_of, is_asked};
+use crate::asking::{ServerWish, ToldAnswer, answer_of, is_asked};
 use crate::start::{Start, kernel_of, server_of};
 use sk_client::{Desk, Given, ReplyRefusal, Turn};
 use sk_ids::{Entity, GuessId, Name, Pid};
@@ -42,12 +42,12 @@ pub struct Sent<'a> {
     pub guess: Option<u64>,
     pub rests: &'a [u64],
     pub settled: u64,
-    pub wish: Wish<'a>,
+    pub wish: ServerWish<'a>,
 }
 
 /// Something that is done, and what comes of it.
 #[derive(Clone, Copy)]
-pub enum Play<'a> {
+pub enum DeskPlay<'a> {
     /// A turn of a process.
     Turn(u16, Did),
     /// The oldest request that waits is taken.
@@ -55,11 +55,11 @@ pub enum Play<'a> {
     /// No request waits.
     NoRequest,
     /// The oldest request that the server has not seen is served; it is taken first, if it waits.
-    Serve(Told<'a>),
+    Serve(ToldAnswer<'a>),
     /// The server's oldest reply is given.
     Give(Came),
     /// A reply that is made up for the request of this number.
-    Reply(u64, Told<'a>, Came),
+    Reply(u64, ToldAnswer<'a>, Came),
     /// Another client's edit of a file of this version.
     Edit(&'a [u8], u64, &'a [u8]),
     /// A new epoch, for which so many events are handed out.
@@ -164,7 +164,7 @@ fn replies(
     desk: &mut Desk,
     place: usize,
     number: u64,
-    told: Told<'_>,
+    told: ToldAnswer<'_>,
     want: Came,
 ) -> Result<(), Fail> {
     let answer = answer_of(told)?;
@@ -236,7 +236,7 @@ pub fn serves(
     desk: &mut Desk,
     far: &mut Far,
     place: usize,
-    told: Told<'_>,
+    told: ToldAnswer<'_>,
 ) -> Result<(), Fail> {
     let answer = answer_of(told)?;
     let request = match far.requests.pop_front() {
@@ -423,18 +423,18 @@ fn does(
     desk: &mut Desk,
     far: &mut Far,
     place: usize,
-    play: Play<'_>,
+    play: DeskPlay<'_>,
 ) -> Result<(), Fail> {
     match play {
-        Play::Turn(number, did) => turns(rt, desk, place, number, did),
-        Play::Take(sent) => takes(rt, desk, far, place, sent),
-        Play::NoRequest => rests(rt, desk, place),
-        Play::Serve(told) => serves(rt, desk, far, place, told),
-        Play::Give(came) => gives(rt, desk, far, place, came),
-        Play::Reply(number, told, came) => replies(rt, desk, place, number, told, came),
-        Play::Edit(at, version, bytes) => edits(rt, far, at, version, bytes),
-        Play::Epoch(want) => begins(rt, desk, place, want),
-        Play::See(sight) => sees(rt, desk, far, sight),
+        DeskPlay::Turn(number, did) => turns(rt, desk, place, number, did),
+        DeskPlay::Take(sent) => takes(rt, desk, far, place, sent),
+        DeskPlay::NoRequest => rests(rt, desk, place),
+        DeskPlay::Serve(told) => serves(rt, desk, far, place, told),
+        DeskPlay::Give(came) => gives(rt, desk, far, place, came),
+        DeskPlay::Reply(number, told, came) => replies(rt, desk, place, number, told, came),
+        DeskPlay::Edit(at, version, bytes) => edits(rt, far, at, version, bytes),
+        DeskPlay::Epoch(want) => begins(rt, desk, place, want),
+        DeskPlay::See(sight) => sees(rt, desk, far, sight),
     }
 }
 
@@ -443,7 +443,7 @@ pub fn does_all(
     rt: &impl Abort,
     desk: &mut Desk,
     far: &mut Far,
-    plays: &[Play<'_>],
+    plays: &[DeskPlay<'_>],
 ) -> Result<(), Fail> {
     for (place, play) in plays.iter().enumerate() {
         does(rt, desk, far, place, *play)?;
@@ -456,7 +456,7 @@ pub fn plays(
     rt: &impl Abort,
     alloc: Global,
     start: Start<'_>,
-    plays: &[Play<'_>],
+    plays: &[DeskPlay<'_>],
 ) -> Result<(), Fail> {
     let mut far = Far::new(alloc, start)?;
     let mut desk = Desk::new(alloc, kernel_of(alloc, start)?);
@@ -470,8 +470,8 @@ pub fn plays_both(
     rt: &impl Abort,
     alloc: Global,
     start: Start<'_>,
-    first: &[Play<'_>],
-    then: &[Play<'_>],
+    first: &[DeskPlay<'_>],
+    then: &[DeskPlay<'_>],
 ) -> Result<(), Fail> {
     let mut all = Vec::new(alloc);
     all.extend_from_slice(first)?;

@@ -1,8 +1,8 @@
 //! Each row of the server's table, requests out of turn, and edits.
 ghost use Rattle.std.specs.Prelude.{◌≡◌, OnOk};
 
-use crate::asking::{Ground, LOOSE, Told, Wish};
-use crate::turns::{Turn, holds, starts};
+use crate::asking::{Ground, LOOSE, ServerWish, ToldAnswer};
+use crate::turns::{ServerTurn, holds, starts};
 use sk_ids::Name;
 use sk_objects::content::LAST_VERSION;
 use sk_server::{EditRefusal, LAST_REQUEST, Server};
@@ -22,10 +22,10 @@ fn resting(rests: &[u64], guess: Option<u64>) -> Ground<'_> {
 #[test]
 fn get_copies(rt: HostRuntime) -> Result<(), Fail> {
     let turns = [
-        Turn::Asks(Wish::Get(b"/x"), LOOSE, Told::Copy(3, b"old")),
-        Turn::Asks(Wish::Get(b"/y"), LOOSE, Told::Copy(0, b"")),
-        Turn::Lacks(b"/y"),
-        Turn::Next(3),
+        ServerTurn::Asks(ServerWish::Get(b"/x"), LOOSE, ToldAnswer::Copy(3, b"old")),
+        ServerTurn::Asks(ServerWish::Get(b"/y"), LOOSE, ToldAnswer::Copy(0, b"")),
+        ServerTurn::Lacks(b"/y"),
+        ServerTurn::Next(3),
     ];
     starts(&rt, rt.alloc(), 3, b"old", &turns)
 }
@@ -33,10 +33,18 @@ fn get_copies(rt: HostRuntime) -> Result<(), Fail> {
 #[test]
 fn check_compares_versions(rt: HostRuntime) -> Result<(), Fail> {
     let turns = [
-        Turn::Asks(Wish::Check(b"/x", 3), LOOSE, Told::Yes),
-        Turn::Asks(Wish::Check(b"/x", 2), LOOSE, Told::No(3, b"old")),
-        Turn::Asks(Wish::Check(b"/x", 4), LOOSE, Told::No(3, b"old")),
-        Turn::Asks(Wish::Check(b"/y", 0), LOOSE, Told::Yes),
+        ServerTurn::Asks(ServerWish::Check(b"/x", 3), LOOSE, ToldAnswer::Yes),
+        ServerTurn::Asks(
+            ServerWish::Check(b"/x", 2),
+            LOOSE,
+            ToldAnswer::No(3, b"old"),
+        ),
+        ServerTurn::Asks(
+            ServerWish::Check(b"/x", 4),
+            LOOSE,
+            ToldAnswer::No(3, b"old"),
+        ),
+        ServerTurn::Asks(ServerWish::Check(b"/y", 0), LOOSE, ToldAnswer::Yes),
     ];
     starts(&rt, rt.alloc(), 3, b"old", &turns)
 }
@@ -44,59 +52,71 @@ fn check_compares_versions(rt: HostRuntime) -> Result<(), Fail> {
 #[test]
 fn store_writes_where_the_version_fits(rt: HostRuntime) -> Result<(), Fail> {
     let turns = [
-        Turn::Asks(Wish::Store(b"/x", 2, b"new"), LOOSE, Told::No(3, b"old")),
-        Turn::Holds(b"/x", 3, b"old"),
-        Turn::Asks(Wish::Store(b"/x", 3, b"new"), LOOSE, Told::Yes),
-        Turn::Holds(b"/x", 4, b"new"),
-        Turn::Asks(Wish::Store(b"/x", 3, b"new"), LOOSE, Told::No(4, b"new")),
+        ServerTurn::Asks(
+            ServerWish::Store(b"/x", 2, b"new"),
+            LOOSE,
+            ToldAnswer::No(3, b"old"),
+        ),
+        ServerTurn::Holds(b"/x", 3, b"old"),
+        ServerTurn::Asks(ServerWish::Store(b"/x", 3, b"new"), LOOSE, ToldAnswer::Yes),
+        ServerTurn::Holds(b"/x", 4, b"new"),
+        ServerTurn::Asks(
+            ServerWish::Store(b"/x", 3, b"new"),
+            LOOSE,
+            ToldAnswer::No(4, b"new"),
+        ),
     ];
     starts(&rt, rt.alloc(), 3, b"old", &turns)
 }
 
 #[test]
 fn last_version_is_kept(rt: HostRuntime) -> Result<(), Fail> {
-    let store = Wish::Store(b"/x", LAST_VERSION, b"n");
+    let store = ServerWish::Store(b"/x", LAST_VERSION, b"n");
     let refusal = EditRefusal::Version(LAST_VERSION);
     let turns = [
-        Turn::Asks(store, LOOSE, Told::No(LAST_VERSION, b"m")),
-        Turn::Edits(b"/x", LAST_VERSION, b"n", Err(refusal)),
-        Turn::Holds(b"/x", LAST_VERSION, b"m"),
+        ServerTurn::Asks(store, LOOSE, ToldAnswer::No(LAST_VERSION, b"m")),
+        ServerTurn::Edits(b"/x", LAST_VERSION, b"n", Err(refusal)),
+        ServerTurn::Holds(b"/x", LAST_VERSION, b"m"),
     ];
     starts(&rt, rt.alloc(), LAST_VERSION, b"m", &turns)
 }
 
 #[test]
 fn stale_store_dropped(rt: HostRuntime) -> Result<(), Fail> {
-    let check = Wish::Check(b"/x", 3);
-    let store = Wish::Store(b"/x", 3, b"new");
+    let check = ServerWish::Check(b"/x", 3);
+    let store = ServerWish::Store(b"/x", 3, b"new");
     let turns = [
-        Turn::Edits(b"/x", 3, b"foreign", Ok(4)),
-        Turn::Asks(check, resting(&[], Some(1)), Told::No(4, b"foreign")),
-        Turn::Asks(store, resting(&[1], Some(2)), Told::Dropped),
-        Turn::Holds(b"/x", 4, b"foreign"),
+        ServerTurn::Edits(b"/x", 3, b"foreign", Ok(4)),
+        ServerTurn::Asks(check, resting(&[], Some(1)), ToldAnswer::No(4, b"foreign")),
+        ServerTurn::Asks(store, resting(&[1], Some(2)), ToldAnswer::Dropped),
+        ServerTurn::Holds(b"/x", 4, b"foreign"),
     ];
     starts(&rt, rt.alloc(), 3, b"old", &turns)
 }
 
 #[test]
 fn dropped_guess_is_remembered(rt: HostRuntime) -> Result<(), Fail> {
-    let stale = Wish::Check(b"/x", 2);
-    let check = Wish::Check(b"/x", 3);
-    let store = Wish::Store(b"/x", 3, b"n");
+    let stale = ServerWish::Check(b"/x", 2);
+    let check = ServerWish::Check(b"/x", 3);
+    let store = ServerWish::Store(b"/x", 3, b"n");
     let turns = [
-        Turn::Asks(stale, resting(&[], Some(1)), Told::No(3, b"old")),
-        Turn::Asks(check, resting(&[1], Some(2)), Told::Dropped),
-        Turn::Asks(Wish::Get(b"/x"), resting(&[2], None), Told::Dropped),
-        Turn::Asks(store, resting(&[2], None), Told::Dropped),
-        Turn::Asks(check, resting(&[3], Some(4)), Told::Yes),
-        Turn::Asks(store, resting(&[4], None), Told::Yes),
-        Turn::Holds(b"/x", 4, b"n"),
+        ServerTurn::Asks(stale, resting(&[], Some(1)), ToldAnswer::No(3, b"old")),
+        ServerTurn::Asks(check, resting(&[1], Some(2)), ToldAnswer::Dropped),
+        ServerTurn::Asks(
+            ServerWish::Get(b"/x"),
+            resting(&[2], None),
+            ToldAnswer::Dropped,
+        ),
+        ServerTurn::Asks(store, resting(&[2], None), ToldAnswer::Dropped),
+        ServerTurn::Asks(check, resting(&[3], Some(4)), ToldAnswer::Yes),
+        ServerTurn::Asks(store, resting(&[4], None), ToldAnswer::Yes),
+        ServerTurn::Holds(b"/x", 4, b"n"),
     ];
     starts(&rt, rt.alloc(), 3, b"old", &turns)
 }
 
 /// The guess 5 is refused, and then a store rests on it.
-fn refused(settled: u64, told: Told<'_>) -> [Turn<'_>; 2] {
+fn refused(settled: u64, told: ToldAnswer<'_>) -> [ServerTurn<'_>; 2] {
     let refused = Ground {
         rests: &[],
         settled: 5,
@@ -108,22 +128,26 @@ fn refused(settled: u64, told: Told<'_>) -> [Turn<'_>; 2] {
         guess: None,
     };
     [
-        Turn::Asks(Wish::Check(b"/x", 2), refused, Told::No(3, b"old")),
-        Turn::Asks(Wish::Store(b"/x", 3, b"n"), later, told),
+        ServerTurn::Asks(
+            ServerWish::Check(b"/x", 2),
+            refused,
+            ToldAnswer::No(3, b"old"),
+        ),
+        ServerTurn::Asks(ServerWish::Store(b"/x", 3, b"n"), later, told),
     ]
 }
 
 #[test]
 fn settled_forgets(rt: HostRuntime) -> Result<(), Fail> {
-    let [stale, dropped] = refused(5, Told::Dropped);
+    let [stale, dropped] = refused(5, ToldAnswer::Dropped);
     starts(&rt, rt.alloc(), 3, b"old", &[stale, dropped])?;
-    let [stale, stored] = refused(6, Told::Yes);
-    let check = Wish::Check(b"/x", 4);
+    let [stale, stored] = refused(6, ToldAnswer::Yes);
+    let check = ServerWish::Check(b"/x", 4);
     let turns = [
         stale,
         stored,
-        Turn::Holds(b"/x", 4, b"n"),
-        Turn::Asks(check, resting(&[5], None), Told::Yes),
+        ServerTurn::Holds(b"/x", 4, b"n"),
+        ServerTurn::Asks(check, resting(&[5], None), ToldAnswer::Yes),
     ];
     starts(&rt, rt.alloc(), 3, b"old", &turns)
 }
@@ -131,13 +155,13 @@ fn settled_forgets(rt: HostRuntime) -> Result<(), Fail> {
 #[test]
 fn out_of_turn(rt: HostRuntime) -> Result<(), Fail> {
     let turns = [
-        Turn::Early(5, 1),
-        Turn::Early(0, 1),
-        Turn::Early(2, 1),
-        Turn::Early(LAST_REQUEST, 1),
-        Turn::Early(u64::MAX, 1),
-        Turn::Next(1),
-        Turn::Asks(Wish::Get(b"/x"), LOOSE, Told::Copy(3, b"old")),
+        ServerTurn::Early(5, 1),
+        ServerTurn::Early(0, 1),
+        ServerTurn::Early(2, 1),
+        ServerTurn::Early(LAST_REQUEST, 1),
+        ServerTurn::Early(u64::MAX, 1),
+        ServerTurn::Next(1),
+        ServerTurn::Asks(ServerWish::Get(b"/x"), LOOSE, ToldAnswer::Copy(3, b"old")),
     ];
     starts(&rt, rt.alloc(), 3, b"old", &turns)
 }
@@ -145,12 +169,12 @@ fn out_of_turn(rt: HostRuntime) -> Result<(), Fail> {
 #[test]
 fn edits(rt: HostRuntime) -> Result<(), Fail> {
     let turns = [
-        Turn::Edits(b"/x", 2, b"n", Err(EditRefusal::Version(3))),
-        Turn::Edits(b"/x", 3, b"n", Ok(4)),
-        Turn::Edits(b"/y", 1, b"n", Err(EditRefusal::Version(0))),
-        Turn::Edits(b"/y", 0, b"y", Ok(1)),
-        Turn::Holds(b"/x", 4, b"n"),
-        Turn::Holds(b"/y", 1, b"y"),
+        ServerTurn::Edits(b"/x", 2, b"n", Err(EditRefusal::Version(3))),
+        ServerTurn::Edits(b"/x", 3, b"n", Ok(4)),
+        ServerTurn::Edits(b"/y", 1, b"n", Err(EditRefusal::Version(0))),
+        ServerTurn::Edits(b"/y", 0, b"y", Ok(1)),
+        ServerTurn::Holds(b"/x", 4, b"n"),
+        ServerTurn::Holds(b"/y", 1, b"y"),
     ];
     starts(&rt, rt.alloc(), 3, b"old", &turns)
 }

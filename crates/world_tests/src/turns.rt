@@ -1,6 +1,8 @@
 //! Tests as tables: the turns that are taken with a server, each with what has to come of it.
 //! A table has plain numbers and bytes, so that a test is short to prove.
-use crate::asking::{Ground, LOOSE, Told, Wish, answer_of, ask_of, asked, request, with_file};
+use crate::asking::{
+    Ground, LOOSE, ServerWish, ToldAnswer, answer_of, ask_of, asked, request, with_file,
+};
 use sk_server::{Ask, EditRefusal, Server, ServerRefusal};
 use std::alloc::Global;
 use std::process::Abort;
@@ -9,9 +11,9 @@ use tests_support::values::{content, name, text};
 
 /// A turn with a server, and what comes of it.
 #[derive(Clone, Copy)]
-pub enum Turn<'a> {
+pub enum ServerTurn<'a> {
     /// The next request and its answer.
-    Asks(Wish<'a>, Ground<'a>, Told<'a>),
+    Asks(ServerWish<'a>, Ground<'a>, ToldAnswer<'a>),
     /// A request of this number, which is handed back since the other number is next.
     Early(u64, u64),
     /// Another client's edit of a file, as for a store: the version that comes, or the refusal.
@@ -29,9 +31,9 @@ pub fn asks(
     rt: &impl Abort,
     alloc: Global,
     server: &mut Server,
-    wish: Wish<'_>,
+    wish: ServerWish<'_>,
     ground: Ground<'_>,
-    told: Told<'_>,
+    told: ToldAnswer<'_>,
 ) -> Result<(), Fail> {
     let number = server.next();
     let want = answer_of(told)?;
@@ -87,17 +89,24 @@ pub fn holds(
 }
 
 /// Takes a turn.
-fn takes(rt: &impl Abort, alloc: Global, server: &mut Server, turn: Turn<'_>) -> Result<(), Fail> {
+fn takes(
+    rt: &impl Abort,
+    alloc: Global,
+    server: &mut Server,
+    turn: ServerTurn<'_>,
+) -> Result<(), Fail> {
     match turn {
-        Turn::Asks(wish, ground, told) => asks(rt, alloc, server, wish, ground, told),
-        Turn::Early(number, expected) => is_early(rt, alloc, server, number, expected),
-        Turn::Edits(at, expected, bytes, want) => edits(rt, server, at, expected, bytes, want),
-        Turn::Holds(at, version, bytes) => holds(rt, server, at, version, bytes),
-        Turn::Lacks(at) => {
+        ServerTurn::Asks(wish, ground, told) => asks(rt, alloc, server, wish, ground, told),
+        ServerTurn::Early(number, expected) => is_early(rt, alloc, server, number, expected),
+        ServerTurn::Edits(at, expected, bytes, want) => edits(
+            rt, server, at, expected, bytes, want,
+        ),
+        ServerTurn::Holds(at, version, bytes) => holds(rt, server, at, version, bytes),
+        ServerTurn::Lacks(at) => {
             assert!(rt; server.file(&name(at)?).is_none());
             Ok(())
         }
-        Turn::Next(number) => {
+        ServerTurn::Next(number) => {
             assert_eq!(rt; server.next(), number);
             Ok(())
         }
@@ -110,7 +119,7 @@ pub fn starts(
     alloc: Global,
     version: u64,
     bytes: &[u8],
-    turns: &[Turn<'_>],
+    turns: &[ServerTurn<'_>],
 ) -> Result<(), Fail> {
     let mut server = with_file(alloc, b"/x", content(version, bytes)?)?;
     for turn in turns {

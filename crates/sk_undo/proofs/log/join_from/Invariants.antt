@@ -6,7 +6,7 @@ use Rattle.sk_undo.proofs.log.join_from.Given as goal
 
 abbrev pub invariant-loop-place : goal.invariant-loop-place
 invariant-loop-place g l =
-    (joined_from g.V.Kept.is_whole None l.place l.notes.items ≡ joined_from g.V.Kept.is_whole None l.fn.first l.fn.notes.items)
+    (joined_from g.V.Logged.is_whole None l.place l.notes.items ≡ joined_from g.V.Logged.is_whole None l.fn.first l.fn.notes.items)
     × (vec_capacity l.notes ≡ vec_capacity l.fn.notes) × (vec_len l.notes ≤ vec_len l.fn.notes)
 
 abbrev pub decreases-loop-place : goal.decreases-loop-place

@@ -11,7 +11,7 @@ use Rattle.sk_guesses.proofs.Opens.{guess_of, open_same, same_opens, depending_k
 use Rattle.sk_guesses.proofs.guesses.Guesses.depend.Goals as goal
 
 pub are_earlier-requires : goal.are_earlier-requires
-are_earlier-requires c = subst (λ ls. IsStrictlySortedBy nat_cmp (numbers (opens_of (map guess_of ls)))) (sym c.as_slice.ensures.value) c.self.invariant.0.rising
+are_earlier-requires c = subst (λ ls. IsStrictlySortedBy nat_cmp (numbers (opens_of (map guess_of ls)))) (sym c.as_slice.ensures.value) c.self.invariant.opens.rising
 
 pub returns-then-are_earlier-clause-ok : goal.returns-then-are_earlier-clause-ok
 returns-then-are_earlier-clause-ok c =
@@ -26,9 +26,10 @@ invariant_of-self-2 c =
     let f = depending c.args.tags.now c.args.entity.now in
     let is : map guess_of c.depend_on.new.opens.items ≡ map f os = c.depend_on.ensures ∙ ap (map f) c.make_room.ensures.same in
     let as_many : length c.depend_on.new.opens.items ≡ length c.self.inside.opens.items =
-    sym (length-map c.depend_on.new.opens.items guess_of) ∙ ap length is ∙ length-map os f ∙ length-map c.self.inside.opens.items guess_of in (
-      open_same v (map guess_of c.depend_on.new.opens.items) os (ap opens_of is ∙ same_opens f (depending_keeps c.args.tags.now c.args.entity.now) os) c.self.invariant.0,
-      omega (arith, c.self.invariant.1, as_many),
-      c.self.invariant.2,
-      c.self.invariant.3,
-    )
+    sym (length-map c.depend_on.new.opens.items guess_of) ∙ ap length is ∙ length-map os f ∙ length-map c.self.inside.opens.items guess_of in
+    record {
+      opens = open_same v (map guess_of c.depend_on.new.opens.items) os (ap opens_of is ∙ same_opens f (depending_keeps c.args.tags.now c.args.entity.now) os) c.self.invariant.opens;
+      few = omega (arith, c.self.invariant.few, as_many);
+      numbered = c.self.invariant.numbered;
+      empty = c.self.invariant.empty;
+    }

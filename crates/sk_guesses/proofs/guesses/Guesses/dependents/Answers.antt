@@ -31,8 +31,8 @@ returns-clause-value c =
 
 pub returns-then-place-len-clause-known : goal.returns-then-place-len-clause-known
 returns-then-place-len-clause-known c = λ was.
-    subst (λ (g : Roomy). status_since g.view c.args.id ≡ Some Undecided → has c.args.id (numbers (opens_of g.opens)) ≡ true) c.self.view_is (λ is. c.self.invariant.0.tied c.args.id ∙ ap open_in is) was
+    subst (λ (g : Roomy). status_since g.view c.args.id ≡ Some Undecided → has c.args.id (numbers (opens_of g.opens)) ≡ true) c.self.view_is (λ is. c.self.invariant.opens.tied c.args.id ∙ ap open_in is) was
 
 pub returns-clause-known : goal.returns-clause-known
 returns-clause-known c = λ was.
-    subst (λ (g : Roomy). status_since g.view c.args.id ≡ Some Undecided → has c.args.id (numbers (opens_of g.opens)) ≡ true) c.self.view_is (λ is. c.self.invariant.0.tied c.args.id ∙ ap open_in is) was
+    subst (λ (g : Roomy). status_since g.view c.args.id ≡ Some Undecided → has c.args.id (numbers (opens_of g.opens)) ≡ true) c.self.view_is (λ is. c.self.invariant.opens.tied c.args.id ∙ ap open_in is) was

@@ -25,11 +25,12 @@ invariant_of-self c =
     let own : has l.guess.id l.guess.tags ≡ true =
     ap (λ (x : Listing). has x.guess.id x.guess.tags) c.new-2.ensures ∙ ap (λ n. has n c.args.tags) c.in-Some.ensures.value ∙ c.requires free.2 in
     let more : map guess_of c.push_reserved.new.self.items ≡ os ++ l.guess ∷ [] = ap (map guess_of) c.push_reserved.ensures.items ∙ rw map-append refl in
-    let few : length ls + 1 ≤ GUESS_LIMIT = omega (arith, free.0, counted v os c.self.invariant.0, length-map ls guess_of, ap (λ (w : GuessesView). undecided_of w.statuses) same) in
-    let numbered : length c.self.inside.earlier.statuses + (length c.self.inside.statuses.items + 1) ≤ LAST_GUESS = omega (arith, free.1, ap next_of same) in (
-      subst (λ ss. AreOpen (record v { statuses = ss }) (map guess_of c.push_reserved.new.self.items)) (sym c.push_reserved-2.ensures.items)
-          (subst (AreOpen (drawn v)) (sym more) (open_more v os l.guess c.self.invariant.0 number own)),
-      rw c.push_reserved.ensures.items (rw length-append few),
-      rw c.push_reserved-2.ensures.items (rw length-append numbered),
-      ap (λ (s : SetView). s.entities) c.replace-dependents.ensures.after ∙ c.new.ensures,
-    )
+    let few : length ls + 1 ≤ GUESS_LIMIT = omega (arith, free.0, counted v os c.self.invariant.opens, length-map ls guess_of, ap (λ (w : GuessesView). undecided_of w.statuses) same) in
+    let numbered : length c.self.inside.earlier.statuses + (length c.self.inside.statuses.items + 1) ≤ LAST_GUESS = omega (arith, free.1, ap next_of same) in
+    record {
+      opens = subst (λ ss. AreOpen (record v { statuses = ss }) (map guess_of c.push_reserved.new.self.items)) (sym c.push_reserved-2.ensures.items)
+          (subst (AreOpen (drawn v)) (sym more) (open_more v os l.guess c.self.invariant.opens number own));
+      few = rw c.push_reserved.ensures.items (rw length-append few);
+      numbered = rw c.push_reserved-2.ensures.items (rw length-append numbered);
+      empty = ap (λ (s : SetView). s.entities) c.replace-dependents.ensures.after ∙ c.new.ensures;
+    }

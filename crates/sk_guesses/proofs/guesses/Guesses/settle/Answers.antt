@@ -13,12 +13,13 @@ invariant_of-self-2 c =
     let none : undecided_of v.statuses ≡ 0 = ap (λ (g : Roomy). undecided_of g.view.statuses) c.self.view_is ∙ c.requires in
     let all : c.push_all.new.self.statuses ≡ v.earlier ++ v.statuses =
     c.push_all.ensures ∙ (λ j. c.in_ok-reserve.ensures.same j ++ c.deref.ensures.value j) in
-    let as_many : length c.push_all.new.self.statuses ≡ length v.earlier + length v.statuses = ap length all ∙ rw length-append (omega arith) in (
-      settled_open v w (map guess_of c.self.inside.opens.items) c.self.invariant.0 none c.clear.ensures.items,
-      c.self.invariant.1,
-      omega (arith, c.self.invariant.2, as_many, ap length c.clear.ensures.items),
-      c.self.invariant.3,
-    )
+    let as_many : length c.push_all.new.self.statuses ≡ length v.earlier + length v.statuses = ap length all ∙ rw length-append (omega arith) in
+    record {
+      opens = settled_open v w (map guess_of c.self.inside.opens.items) c.self.invariant.opens none c.clear.ensures.items;
+      few = c.self.invariant.few;
+      numbered = omega (arith, c.self.invariant.numbered, as_many, ap length c.clear.ensures.items);
+      empty = c.self.invariant.empty;
+    }
 
 pub returns-clause-ok : goal.returns-clause-ok
 returns-clause-ok c =

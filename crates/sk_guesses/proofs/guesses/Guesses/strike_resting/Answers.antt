@@ -34,7 +34,7 @@ strike_all-requires c =
     let v : GuessesView = record { kernel = c.self.inside.kernel; earlier = c.self.inside.earlier.statuses; statuses = c.self.inside.statuses.items } in
     subst (λ (n : ℕ). (k : ℕ) (d : Listing) → k < length c.as_slice-2.result.now → (slice_index_or c.as_slice-2.result.now k d).guess.id - n - 1 < length v.statuses) (sym c.len.ensures)
     (subst (λ ls. (k : ℕ) (d : Listing) → k < length ls → (slice_index_or ls k d).guess.id - length v.earlier - 1 < length v.statuses) (sym c.as_slice-2.ensures.value)
-    (in_range v c.self.inside.opens.items (open_drawn v (map guess_of c.self.inside.opens.items) c.self.invariant.0)))
+    (in_range v c.self.inside.opens.items (open_drawn v (map guess_of c.self.inside.opens.items) c.self.invariant.opens)))
 
 pub invariant_of-self : goal.invariant_of-self
 invariant_of-self c =
@@ -43,13 +43,14 @@ invariant_of-self c =
     let os = map guess_of c.self.inside.opens.items in
     let is : c.strike_all.new.statuses.items ≡ struck_by (length v.earlier) c.args.id os v.statuses =
     c.strike_all.ensures ∙ (λ j. struck_by (c.len.ensures j) c.args.id (map guess_of (c.as_slice-2.ensures.value j)) v.statuses) in
-    let as_many : length c.strike_all.new.statuses.items ≡ length v.statuses = ap length is ∙ struck_length (length v.earlier) c.args.id os v.statuses in (
-      subst (AreOpen w) (sym c.close_resting.ensures.opens)
-          (open_struck v w os c.args.id c.self.invariant.0 (λ g. ap (λ (ss : List Status). status_since (record v { statuses = ss }) g) is ∙ struck_are v c.args.id os (open_drawn v os c.self.invariant.0) g)),
-      omega (arith, c.self.invariant.1, c.close_resting.ensures.fewer),
-      omega (arith, c.self.invariant.2, as_many),
-      c.self.invariant.3,
-    )
+    let as_many : length c.strike_all.new.statuses.items ≡ length v.statuses = ap length is ∙ struck_length (length v.earlier) c.args.id os v.statuses in
+    record {
+      opens = subst (AreOpen w) (sym c.close_resting.ensures.opens)
+          (open_struck v w os c.args.id c.self.invariant.opens (λ g. ap (λ (ss : List Status). status_since (record v { statuses = ss }) g) is ∙ struck_are v c.args.id os (open_drawn v os c.self.invariant.opens) g));
+      few = omega (arith, c.self.invariant.few, c.close_resting.ensures.fewer);
+      numbered = omega (arith, c.self.invariant.numbered, as_many);
+      empty = c.self.invariant.empty;
+    }
 
 pub returns-clause-statuses : goal.returns-clause-statuses
 returns-clause-statuses c = λ g.
@@ -57,7 +58,7 @@ returns-clause-statuses c = λ g.
     let os = map guess_of c.self.inside.opens.items in
     let is : c.strike_all.new.statuses.items ≡ struck_by (length v.earlier) c.args.id os v.statuses =
     c.strike_all.ensures ∙ (λ j. struck_by (c.len.ensures j) c.args.id (map guess_of (c.as_slice-2.ensures.value j)) v.statuses) in
-    ap (λ (ss : List Status). status_since (record v { statuses = ss }) g) is ∙ struck_are v c.args.id os (open_drawn v os c.self.invariant.0) g
+    ap (λ (ss : List Status). status_since (record v { statuses = ss }) g) is ∙ struck_are v c.args.id os (open_drawn v os c.self.invariant.opens) g
     ∙ ap (λ (r : Roomy). cond (rests_on c.args.id (opens_of r.opens) g) (Some Struck) (status_since r.view g)) c.self.view_is
 
 pub returns-clause-drawn : goal.returns-clause-drawn

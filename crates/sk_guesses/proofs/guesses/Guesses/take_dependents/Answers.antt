@@ -7,9 +7,10 @@ use Rattle.sk_guesses.proofs.guesses.Guesses.take_dependents.Goals as goal
 
 pub invariant_of-self : goal.invariant_of-self
 invariant_of-self c =
-    let v : GuessesView = record { kernel = c.self.inside.kernel; earlier = c.self.inside.earlier.statuses; statuses = c.self.inside.statuses.items } in (
-      subst (AreOpen v) (sym c.take_list.ensures.opens) (open_taken v (map guess_of c.self.inside.opens.items) c.args.id c.self.invariant.0),
-      omega (arith, c.self.invariant.1, c.take_list.ensures.as_many),
-      c.self.invariant.2,
-      c.self.invariant.3,
-    )
+    let v : GuessesView = record { kernel = c.self.inside.kernel; earlier = c.self.inside.earlier.statuses; statuses = c.self.inside.statuses.items } in
+    record {
+      opens = subst (AreOpen v) (sym c.take_list.ensures.opens) (open_taken v (map guess_of c.self.inside.opens.items) c.args.id c.self.invariant.opens);
+      few = omega (arith, c.self.invariant.few, c.take_list.ensures.as_many);
+      numbered = c.self.invariant.numbered;
+      empty = c.self.invariant.empty;
+    }

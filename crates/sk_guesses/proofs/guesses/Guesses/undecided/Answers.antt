@@ -11,4 +11,4 @@ returns-clause-value c =
     let v : GuessesView = record { kernel = c.self.inside.kernel; earlier = c.self.inside.earlier.statuses; statuses = c.self.inside.statuses.items } in
     let as_many : c.len.result ≡ length c.self.inside.opens.items = omega (arith, c.len.ensures) in
     as_many ∙ sym (length-map c.self.inside.opens.items guess_of)
-    ∙ sym (counted v (map guess_of c.self.inside.opens.items) c.self.invariant.0) ∙ ap (λ (g : Roomy). undecided_of g.view.statuses) c.self.view_is
+    ∙ sym (counted v (map guess_of c.self.inside.opens.items) c.self.invariant.opens) ∙ ap (λ (g : Roomy). undecided_of g.view.statuses) c.self.view_is

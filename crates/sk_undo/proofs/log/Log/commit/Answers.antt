@@ -11,5 +11,5 @@ returns-clause-notes g c grows =
 
 pub returns-clause-can : goal.returns-clause-can
 returns-clause-can g c now can =
-    subst (λ ns. CanGoBack (FitsBy g.V.Kept.fits) (undone_by g.V.Kept.undone) now (reverse ns)) (sym (c.drop_bare.ensures.notes ∙ ap dropped c.lighten-first.ensures.notes))
-    (commit_can (FitsBy g.V.Kept.fits) (undone_by g.V.Kept.undone) c.args.guess c.lighten-first.result now c.args.self.now.notes.items can)
+    subst (λ ns. CanGoBack (FitsBy g.V.Logged.fits) (undone_by g.V.Logged.undone) now (reverse ns)) (sym (c.drop_bare.ensures.notes ∙ ap dropped c.lighten-first.ensures.notes))
+    (commit_can (FitsBy g.V.Logged.fits) (undone_by g.V.Logged.undone) c.args.guess c.lighten-first.result now c.args.self.now.notes.items can)

@@ -8,7 +8,7 @@ use Rattle.sk_undo.proofs.log.Log.unwind.Goals as goal
 
 pub loop-guess-init : goal.loop-guess-init
 loop-guess-init g c = (
-  all_left (FitsBy g.V.Kept.fits) (undone_by g.V.Kept.undone) c.args.guess c.args.value.now (reverse c.args.self.now.notes.items) c.requires.can,
+  all_left (FitsBy g.V.Logged.fits) (undone_by g.V.Logged.undone) c.args.guess c.args.value.now (reverse c.args.self.now.notes.items) c.requires.can,
   omega arith,
   refl,
 )
@@ -23,7 +23,7 @@ pub loop-guess-preserved : goal.loop-guess-preserved
 loop-guess-preserved g c =
     let fewer = c.undo_last.ensures.fewer in
     let within = c.loop-guess.invariant.1 in (
-      one_less (FitsBy g.V.Kept.fits) (undone_by g.V.Kept.undone) c.args.guess c.args.value.now c.loop-guess.value c.undo_last.new.value
+      one_less (FitsBy g.V.Logged.fits) (undone_by g.V.Logged.undone) c.args.guess c.args.value.now c.loop-guess.value c.undo_last.new.value
           (reverse c.args.self.now.notes.items) (reverse c.loop-guess.self.notes.items) (reverse c.undo_last.new.self.notes.items)
           c.loop-guess.invariant.0 (sym c.loop-guess-test.ensures) c.undo_last.ensures.value c.undo_last.ensures.notes c.undo_last.ensures.can,
       omega arith,
@@ -32,12 +32,12 @@ loop-guess-preserved g c =
 
 pub returns-clause-value : goal.returns-clause-value
 returns-clause-value g c grows =
-    (all_off (FitsBy g.V.Kept.fits) (undone_by g.V.Kept.undone) c.args.guess c.args.value.now c.loop-guess.value
+    (all_off (FitsBy g.V.Logged.fits) (undone_by g.V.Logged.undone) c.args.guess c.args.value.now c.loop-guess.value
     (reverse c.args.self.now.notes.items) (reverse c.loop-guess.self.notes.items) c.loop-guess.invariant.0 (sym c.loop-guess-test.ensures) grows).0
 
 pub returns-clause-log : goal.returns-clause-log
 returns-clause-log g c grows =
-    (all_off (FitsBy g.V.Kept.fits) (undone_by g.V.Kept.undone) c.args.guess c.args.value.now c.loop-guess.value
+    (all_off (FitsBy g.V.Logged.fits) (undone_by g.V.Logged.undone) c.args.guess c.args.value.now c.loop-guess.value
     (reverse c.args.self.now.notes.items) (reverse c.loop-guess.self.notes.items) c.loop-guess.invariant.0 (sym c.loop-guess-test.ensures) grows).1
 
 pub returns-clause-can : goal.returns-clause-can

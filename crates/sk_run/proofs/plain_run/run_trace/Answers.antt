@@ -1,6 +1,6 @@
 -- Writing out what is left changes no byte.
 use Rattle.sk_run.proofs.Ended.{faulty_flushed, faulty_out, plain_out}
-use Rattle.sk_run.proofs.striking.run_trace.Goals as goal
+use Rattle.sk_run.proofs.plain_run.run_trace.Goals as goal
 
 pub returns-in-Ok-clause-end : goal.returns-in-Ok-clause-end
 returns-in-Ok-clause-end g c =

@@ -2,7 +2,6 @@
 use Rattle.std.proofs.Common.{◌≡◌, ℕ, Bool, true, false, cond, List, [], ◌∷◌, length, Option, Some, None, Ok, Err, refl, sym, ◌∙◌, ap, subst}
 use Rattle.sk_record.specs.Notes.{has}
 use Rattle.sk_script.specs.declared.instruction.Input.{Input}
-use Rattle.sk_script.specs.declared.instruction.Input.TheVariants as inputs
 use Rattle.sk_trace.specs.declared.event.Event.TheVariants.{Step}
 use Rattle.sk_kernel.specs.Kernel.{KernelView, record_at, last_guess, undecided_at, step_refused, with_event}
 use Rattle.sk_server.specs.Server.{ServerView}
@@ -45,9 +44,7 @@ IsOfStep told = ⊥
 never_decided : (b : Bool) (g : ℕ) (a : Answer) → IsOfStep (cond b (decision_answer g a) (gives.Gone g)) → ⊥
 never_decided false g a h = h
 never_decided true g answers.Yes h = h
-never_decided true g (answers.No c) h = h
-never_decided true g (answers.Copy c) h = h
-never_decided true g answers.Dropped h = h
+never_decided true g a h = h
 
 step_took : (k : KernelView) (q : PendingRequest) (a : Answer) (number : ℕ) → q.guess ≡ None → is_void k q ≡ false → (o : Option Input) → input_of a ≡ o → gives.Taken number ≡ step_answer q.number o
     → Took k q a number
@@ -95,12 +92,9 @@ module _ (drawn begun : ℕ) (old : World) (xs : Exchanges) (v : WorldView) (r :
 
     forgotten : (n : ℕ) (a : Answer) → p.answer ≡ a → gives.Forgotten n ≡ answer_to v.desk.kernel o.request p.answer o.request.guess → a ≡ answers.Dropped
     forgotten n answers.Dropped its h = refl
-    forgotten n answers.Yes its h =
-        absurd (sound (λ is. (let both : answers.Yes ≡ answers.Dropped = sym its ∙ is in cc)) (forgot v.desk.kernel o.request p.answer n o.request.guess inputs.Good (ap input_of its) h))
-    forgotten n (answers.No c) its h =
-        absurd (sound (λ is. (let both : answers.No c ≡ answers.Dropped = sym its ∙ is in cc)) (forgot v.desk.kernel o.request p.answer n o.request.guess (inputs.Stale c) (ap input_of its) h))
-    forgotten n (answers.Copy c) its h =
-        absurd (sound (λ is. (let both : answers.Copy c ≡ answers.Dropped = sym its ∙ is in cc)) (forgot v.desk.kernel o.request p.answer n o.request.guess (inputs.Fresh c) (ap input_of its) h))
+    forgotten n a its h =
+        absurd (sound (λ is. (let both : a ≡ answers.Dropped = sym its ∙ is in cc))
+        (forgot v.desk.kernel o.request p.answer n o.request.guess _ (ap input_of its) h))
 
   oldest_here : (p : Reply) (rs : List Reply) → v.replies ≡ p ∷ rs → Oldest v.desk p rs v.back
   oldest_here p rs is = oldest v.desk v.server p rs v.back (subst (λ (ys : List Reply). IsJoined v.desk v.server ys v.back) is r.1)

@@ -48,9 +48,7 @@ was_booted number boot limit numbered = record {
 
 fits : (input : Input) (does : Result Did Refusal) → guess_misfits input does ≡ None → refusal_of does ≡ None
 fits inputs.None does h = absurd cc
-fits inputs.Good does h = h
-fits (inputs.Fresh content) does h = h
-fits (inputs.Stale content) does h = h
+fits input does h = h
 
 module _ (k : KernelView) (b : WasBooted k) where
   -- one event more
@@ -101,8 +99,7 @@ after_guess (Err why) pid input old new h b = subst WasBooted (sym h.1) b
 
 pub after_commit : (result : Result Outcome Stranger) (token : Token) (old new : KernelView) → CommitPost result token old new → WasBooted old → WasBooted new
 after_commit (Ok outcomes.Done) token old new h b = subst WasBooted (sym h.2) (commit_stays old b token.id h.1)
-after_commit (Ok outcomes.Gone) token old new h b = subst WasBooted (sym h.2) b
-after_commit (Err stranger) token old new h b = subst WasBooted (sym h.2) b
+after_commit result token old new h b = subst WasBooted (sym h.2) b
 
 pub after_fail : (result : Result Outcome FailRefusal) (token : Token) (old new : KernelView) → FailPost result token old new → WasBooted old → WasBooted new
 after_fail (Ok outcomes.Done) token old new h b = subst WasBooted (sym h.2) (fail_stays old b token.id h.1)

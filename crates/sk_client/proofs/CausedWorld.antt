@@ -1,21 +1,26 @@
--- The kernel of a desk, each of whose entries has why it is there, over a table of instructions.
-use Rattle.std.specs.Prelude.{ℕ, Option, zero, Bool, ◌&&◌, ◌||◌, not, nat_le, List, [], ◌∷◌, Some, None, Result, if◌then◌else◌}
+-- The kernel of a desk, each of whose entries has why it is there, over a table of instructions;
+-- and what the table has to say.
+use Rattle.std.specs.Prelude.{◌≡◌, ◌⊎◌, ℕ, suc, Option, zero, Bool, ◌&&◌, ◌||◌, not, nat_le, List, [], ◌∷◌, map, Some, None, Ok, if◌then◌else◌}
 use Rattle.sk_script.specs.declared.instruction.Input.{Input}
+use Rattle.sk_script.specs.declared.instruction.Input.TheVariants.{Good}
+use Rattle.sk_server.specs.declared.request.Ask.{Ask}
+use Rattle.sk_server.specs.declared.request.Ask.TheVariants.{Get, Check, Store}
 use Rattle.sk_server.specs.declared.reply.Answer.{Answer}
 use Rattle.sk_client.specs.declared.pending.PendingRequest.{PendingRequest}
-use Rattle.std.specs.List.{filter, list_any}
+use Rattle.std.specs.List.{filter, list_any, Contains}
+use Rattle.std.specs.Cmp.{IsTotalOrder}
 use Rattle.std.specs.declared.cmp.Ordering.{Ordering}
-use Rattle.std.specs.FinMap.{FinMap, get}
-use Rattle.sk_record.specs.Step.{Step}
+use Rattle.std.specs.FinMap.{FinMap, IsAntisymmetric}
+use Rattle.sk_record.specs.Step.{Step, Effect}
 use Rattle.sk_record.specs.Effects.{is_in, dirt}
-use Rattle.sk_record.specs.Run.{System, run, effects}
+use Rattle.sk_record.specs.Run.{System, outcome, run, effects}
 use Rattle.sk_record.specs.Notes.{has}
 use Rattle.sk_record.specs.Trace.{Event, record_of, undecided_of}
 use Rattle.sk_record.proofs.Sound.{is_commit}
 use Rattle.sk_objects.specs.Content.{ContentView}
-use Rattle.sk_plain.specs.declared.next.Next.{Next}
 use Rattle.sk_plain.specs.declared.refusal.Refusal.{Refusal}
-use Rattle.sk_client.specs.Table.{Bytes, copy_of, version_of, buffer_of}
+use Rattle.sk_client.specs.Desk.{name_of}
+use Rattle.sk_client.specs.Table.{Bytes, copy_of}
 use Rattle.sk_ids.specs.Entity.{entity_cmp}
 use Rattle.sk_ids.specs.declared.entity.Entity.{Entity}
 use Rattle.sk_ids.specs.declared.entity.Entity.TheVariants.{Proc, Copy}
@@ -23,7 +28,6 @@ use Rattle.sk_objects.specs.declared.content.TheConstants.{LAST_VERSION}
 use Rattle.sk_store.specs.declared.entity_state.EntityState.{EntityState}
 use Rattle.sk_trace.specs.Entry.{EntryView}
 use Rattle.sk_plain.specs.Act.{Scripts, Saying, act}
-use Rattle.sk_plain.specs.Next.{next_of}
 
 -- why an entry is in the record, which no step looks at: it was there when the world began; it is a turn that asked
 -- nothing of the server; it belongs to a request
@@ -48,11 +52,6 @@ pub record Table (E V W F : Type 0) : Type 0 where
   pub goes_to : W → ℕ
   -- the step of a process with an input
   pub act : ℕ → Input → Step E V W F
-  -- what a process does next, and its buffer
-  pub next : FinMap order V → ℕ → Result Next Refusal
-  pub buffer : FinMap order V → ℕ → Bytes
-  -- the version of the copy that is cached of a name
-  pub cached : FinMap order V → Bytes → Option ℕ
   pub proc : ℕ → E
   pub copy : Bytes → E
   pub content : ContentView → V
@@ -113,9 +112,6 @@ table scripts = record {
   order = entity_cmp;
   goes_to = λ said. said.to;
   act = λ pid x. act scripts pid x;
-  next = λ s pid. next_of (get s) scripts pid;
-  buffer = λ s pid. buffer_of (get s (Proc pid));
-  cached = λ s name. version_of (get s (Copy name));
   proc = Proc;
   copy = Copy;
   content = λ c. copy_of c;
@@ -125,3 +121,34 @@ table scripts = record {
 -- an entry of a world's record as the kernel has it, without its cause
 abbrev pub bare : Caused → EntryView
 bare n = record { pid = n.process; input = n.input; guess = n.guess }
+
+-- ---- what the table has to say
+
+module _ {E V W F : Type 0} (S : Table E V W F) where
+  -- what a fetch or store with Good writes: a store sets the copy, a fetch of a copy that is there leaves it, and one of a copy that is not
+  -- never gets Good
+  abbrev pub Sets : Ask → Input → List (E × Option V) → Type 0
+  Sets (Store m v b) Good ws = Contains ws (S.copy m, Some (S.content (record { version = suc v; bytes = b })))
+  Sets (Check m v) Good ws = Contains (map (λ w. w.0) ws) (S.copy m) → ⊥
+  Sets (Get m) Good ws = ⊥
+  Sets ask x ws = Unit {0}
+
+  -- an entity is the process or the copy
+  abbrev pub IsEither : ℕ → Bytes → E → Type 0
+  IsEither p m e = (e ≡ S.proc p) ⊎ (e ≡ S.copy m)
+
+  -- the step of a fetch or store with an input: it is accepted, and touches its process and its copy alone
+  pub record Takes (s : FinMap S.order V) (p : ℕ) (ask : Ask) (x : Input) : Type 0 where
+    pub effect : Effect E V W
+    pub accepted : outcome (kernel S) s (own p x) ≡ Ok effect
+    pub reads : (e : E) → Contains (map (λ r. r.0) effect.read) e → IsEither p (name_of ask) e
+    pub writes : (e : E) → Contains (map (λ w. w.0) effect.written) e → IsEither p (name_of ask) e
+    pub sets : Sets ask x effect.written
+
+  -- how entities are told apart
+  pub record IsTable : Type 0 where
+    pub total : IsTotalOrder S.order
+    pub exact : IsAntisymmetric S.order
+    pub apart : (p : ℕ) (m : Bytes) → S.proc p ≡ S.copy m → ⊥
+    pub processes : (p q : ℕ) → S.proc p ≡ S.proc q → p ≡ q
+    pub copies : (m n : Bytes) → S.copy m ≡ S.copy n → m ≡ n

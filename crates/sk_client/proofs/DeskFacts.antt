@@ -1,12 +1,12 @@
--- What the definitions of a desk come to.
-use Rattle.std.proofs.Common.{Bor, map, drop, get_or, ◌≡◌, ℕ, ◌+◌, ◌-◌, ◌<◌, ◌≤◌, Bool, true, false, not, ◌&&◌, ◌||◌, cond, List, [], ◌∷◌, ◌++◌, length, Option, Some, None, Result, Ok, Err, inl, inr, refl, sym, ◌∙◌, ap, subst, arith}
+-- What the definitions of a desk come to; and what it lends, from what its kernel would lend.
+use Rattle.std.proofs.Common.{Bor, drop, get_or, ◌≡◌, ℕ, ◌+◌, ◌-◌, ◌<◌, ◌≤◌, Bool, true, false, not, ◌&&◌, ◌||◌, cond, List, [], ◌∷◌, ◌++◌, length, Option, Some, None, Result, Ok, Err, inl, inr, refl, sym, ◌∙◌, ap, subst, arith}
 use Rattle.std.specs.Prelude.{◌↔◌, ◌==◌, nat_lt, IfOk}
 use Rattle.std.specs.declared.alloc.AllocError.{AllocError}
 use Rattle.std.specs.Ordering.{nat_cmp}
 use Rattle.std.specs.Cmp.{both_ways}
 use Rattle.std.specs.List.{filter, list_any}
 use Rattle.std.specs.List.Sorted.{IsStrictlySortedBy}
-use Rattle.std.proofs.lemmas.Bool.{false_from_ne_true, lt-ltb, le-ltb, or_cases}
+use Rattle.std.proofs.lemmas.Bool.{false_from_ne_true, le-ltb, or_cases}
 use Rattle.sk_record.proofs.UndoStates.{and_both}
 use Rattle.std.proofs.lemmas.List.{length-append, append_assoc, append-nil, drop_more}
 use Rattle.std.proofs.lemmas.List.Kept.{IsStrictlySortedBy-filter}
@@ -14,9 +14,9 @@ use Rattle.std.proofs.lemmas.List.Elements.{filter-append}
 use Rattle.std.specs.FinMap.{get}
 use Rattle.sk_record.specs.Notes.{has}
 use Rattle.sk_record.specs.Step.{Effect}
-use Rattle.sk_record.specs.Trace.{Event as Happens, StatusIs, marks}
+use Rattle.sk_record.specs.Trace.{StatusIs, marks}
 use Rattle.sk_record.specs.declared.status.Status.{Status}
-use Rattle.sk_record.specs.declared.status.Status.TheVariants.{Undecided, Committed, Failed, Struck}
+use Rattle.sk_record.specs.declared.status.Status.TheVariants.{Undecided, Committed}
 use Rattle.sk_record.proofs.Sound.{is_commit, has_commit, undecided_is as is_undecided}
 use Rattle.sk_record.proofs.Statuses.{one_status}
 use Rattle.sk_record.proofs.Machine.{has_filter}
@@ -31,7 +31,6 @@ use Rattle.sk_ids.specs.declared.entity.Entity.TheVariants.{Proc, Copy as CopyOf
 use Rattle.sk_objects.specs.declared.value.Value.{Value}
 use Rattle.sk_store.specs.declared.entity_state.EntityState.{EntityState}
 use Rattle.sk_store.specs.declared.entity_state.EntityState.TheVariants as stored
-use Rattle.sk_trace.specs.Entry.{EntryView}
 use Rattle.sk_trace.specs.declared.event.Event.{Event}
 use Rattle.sk_trace.specs.declared.event.Event.TheVariants as events
 use Rattle.sk_plain.specs.Act.{plain, Saying}
@@ -41,7 +40,7 @@ use Rattle.sk_plain.specs.declared.view.View.TheVariants as views
 use Rattle.sk_plain.specs.Planned.{IsReply, refusal_of}
 use Rattle.sk_plain.proofs.Adds.{NoneAdded, reply_adds}
 use Rattle.sk_plain.specs.declared.refusal.Refusal.{Refusal}
-use Rattle.sk_plain.specs.declared.refusal.Refusal.TheVariants.{TraceFull}
+use Rattle.sk_plain.specs.declared.refusal.Refusal.TheVariants.{Blocked, TraceFull}
 use Rattle.sk_kernel.specs.Kernel.{KernelView, HasStatus, events_of, tags_at, undecided_at, room, state_at, effect_at, crowded, no_room, or_else, trace_full, step_misfit, step_refused, guess_refused, guess_misfits, too_many, next_guess, with_event}
 use Rattle.sk_kernel.specs.Laws.{HasSoundTrace}
 use Rattle.sk_record.specs.Epoch.{StatusOr}
@@ -54,9 +53,13 @@ use Rattle.sk_holder.specs.Holder.{HolderView, DecidesPost}
 use Rattle.sk_kernel.specs.declared.kernel.Outcome.{Outcome}
 use Rattle.sk_kernel.specs.declared.kernel.Outcome.TheVariants as outcomes
 use Rattle.sk_client.specs.Table.{buffer_of}
-use Rattle.sk_client.specs.declared.pending.Kept.{Kept}
+use Rattle.sk_client.proofs.Each.{any_map, any_same}
+use Rattle.sk_client.specs.declared.pending.KeptAnswer.{KeptAnswer}
 use Rattle.sk_client.specs.DeskInvariant.{guesses_of, IsTidy}
-use Rattle.sk_client.specs.Desk.{DeskView, pending, is_asked, asked_count, no_place, rule_refused, rests_of, is_lost, lost_by, guess_refused_at, no_number, kept_for, entry, input_of, decided, given_to, given}
+use Rattle.sk_client.specs.Desk.{DeskView, pending, is_asked, asked_count, no_place, rule_refused, rests_of, is_lost, lost_by, guess_refused_at, no_number, kept_for, entry, input_of, decided, given_to, given, asks_for}
+use Rattle.sk_script.specs.Lease.{LeaseView}
+use Rattle.sk_plain.specs.Leased.{Lends, lease_of}
+use Rattle.sk_client.specs.Leasing.{blocked_why, unless_asked, desk_lease}
 
 -- ---- what is done, or refused
 
@@ -79,11 +82,6 @@ asked_more xs ys = ap length (filter-append is_asked xs ys) ∙ length-append (f
 -- ---- places of the trace
 
 module _ (d : DeskView) (free : ℕ) (is : free ≡ room d.kernel - asked_count (pending d)) where
-  pub short : (n : ℕ) → free < n → no_place d n ≡ Some TraceFull
-  short n less =
-      let small : nat_lt (room d.kernel - asked_count (pending d)) n ≡ true = lt-ltb (room d.kernel - asked_count (pending d)) n (omega (arith, is, less)) in
-      ap (λ b. cond b (Some TraceFull) None) small
-
   pub enough : (n : ℕ) → n ≤ free → no_place d n ≡ None
   enough n least =
       let large : nat_lt (room d.kernel - asked_count (pending d)) n ≡ false = le-ltb (room d.kernel - asked_count (pending d)) n (omega (arith, is, least)) in
@@ -111,19 +109,15 @@ reply_free k pid input reply (Err why) is = refl
 reply_free k pid input reply (Ok does) is = ap (crowded (state_at k)) (subst NoneAdded is (reply_adds (get (state_at k)) k.scripts pid input reply))
 
 pub given_reply : (a : Answer) (input : Input) → input_of a ≡ Some input → IsReply input
-given_reply answers.Yes input is = (let same : inputs.Good ≡ input = cc in subst IsReply same tt)
-given_reply (answers.No c) input is = (let same : inputs.Stale c ≡ input = cc in subst IsReply same tt)
-given_reply (answers.Copy c) input is = (let same : inputs.Fresh c ≡ input = cc in subst IsReply same tt)
 given_reply answers.Dropped input is = cc
+given_reply a inputs.None is = cc
+given_reply a input is = tt
 
 -- ---- what a request rests on
 
 and_false : (b : Bool) → (b && false) ≡ false
 and_false true = refl
 and_false false = refl
-
-none_some : (s : Status) → None ≡ Some s → ⊥
-none_some s h = absurd cc
 
 module _ (k : KernelView) (sound : HasSoundTrace k) where
   -- the tags of an entity are undecided
@@ -151,18 +145,12 @@ module _ (k : KernelView) (sound : HasSoundTrace k) where
 
   -- ---- guesses that are lost
 
-  mapped : (p : Event → Bool) (q : Happens EntryView → Bool) → ((e : Event) → p e ≡ q (image e)) → (es : List Event) → list_any p es ≡ list_any q (map image es)
-  mapped p q same [] = refl
-  mapped p q same (e ∷ es) = λ i. same e i || mapped p q same es i
-
   commits_is : (id : ℕ) (e : Event) → commits id e ≡ is_commit id (image e)
   commits_is id (events.Step pid input) = refl
-  commits_is id (events.Guess g pid input) = refl
-  commits_is id (events.Commit g) = refl
-  commits_is id (events.Fail g) = refl
+  commits_is id e = refl
 
   pub committed_is : (g : ℕ) → list_any (commits g) k.trace ≡ list_any (is_commit g) (events_of k)
-  committed_is g = mapped (commits g) (is_commit g) (commits_is g) k.trace
+  committed_is g = any_same (commits g) (λ e. is_commit g (image e)) k.trace (commits_is g) ∙ sym (any_map (is_commit g) image k.trace)
 
   -- a guess of an earlier epoch is none of the trace
   pub earlier_lost : (g : ℕ) → g < length k.earlier + 1 → true ≡ is_lost k g
@@ -177,14 +165,6 @@ module _ (k : KernelView) (sound : HasSoundTrace k) where
     is : (s : Status) → (r ≡ Some s) ↔ StatusIs (plain k.scripts) k.start (events_of k) g s
     is s = subst (λ o. (r ≡ Some s) ↔ StatusOr (plain k.scripts) k.start o (events_of k) g s) (beyond k.earlier g later) (told s)
 
-    undecided_not_lost : r ≡ Some Undecided → is_lost k g ≡ false
-    undecided_not_lost here = ap (λ b. not b && not (list_any (commits g) k.trace)) ((is_undecided (plain k.scripts) k.start (events_of k) sound.sound g).1 ((is Undecided).0 here))
-
-    committed_not_lost : r ≡ Some Committed → is_lost k g ≡ false
-    committed_not_lost here =
-        let there : list_any (commits g) k.trace ≡ true = committed_is g ∙ (has_commit (events_of k) g).1 ((is Committed).0 here) in
-        ap (λ b. not (has g (undecided_at k)) && not b) there ∙ and_false (not (has g (undecided_at k)))
-
     others_lost : (r ≡ Some Undecided → ⊥) → (r ≡ Some Committed → ⊥) → is_lost k g ≡ true
     others_lost open_not commit_not =
         let decided : has g (undecided_at k) ≡ false = false_from_ne_true _ (λ here. open_not ((is Undecided).1 ((is_undecided (plain k.scripts) k.start (events_of k) sound.sound g).0 here))) in
@@ -192,11 +172,12 @@ module _ (k : KernelView) (sound : HasSoundTrace k) where
         (λ i. not (decided i) && not (uncommitted i))
 
     lost_case : (q : Option Status) → r ≡ q → lost_by q ≡ is_lost k g
-    lost_case None e = sym (others_lost (λ o. none_some Undecided (sym e ∙ o)) (λ o. none_some Committed (sym e ∙ o)))
-    lost_case (Some Undecided) e = sym (undecided_not_lost e)
-    lost_case (Some Committed) e = sym (committed_not_lost e)
-    lost_case (Some Failed) e = sym (others_lost (λ o. let bad : Some Failed ≡ Some Undecided = sym e ∙ o in absurd cc) (λ o. let bad : Some Failed ≡ Some Committed = sym e ∙ o in absurd cc))
-    lost_case (Some Struck) e = sym (others_lost (λ o. let bad : Some Struck ≡ Some Undecided = sym e ∙ o in absurd cc) (λ o. let bad : Some Struck ≡ Some Committed = sym e ∙ o in absurd cc))
+    lost_case (Some Undecided) e =
+        sym (ap (λ b. not b && not (list_any (commits g) k.trace)) ((is_undecided (plain k.scripts) k.start (events_of k) sound.sound g).1 ((is Undecided).0 e)))
+    lost_case (Some Committed) e =
+        let there : list_any (commits g) k.trace ≡ true = committed_is g ∙ (has_commit (events_of k) g).1 ((is Committed).0 e) in
+        sym (ap (λ b. not (has g (undecided_at k)) && not b) there ∙ and_false (not (has g (undecided_at k))))
+    lost_case q e = sym (others_lost (λ o. let bad : q ≡ Some Undecided = sym e ∙ o in absurd cc) (λ o. let bad : q ≡ Some Committed = sym e ∙ o in absurd cc))
 
     pub lost_is : lost_by r ≡ is_lost k g
     lost_is = lost_case r refl
@@ -249,9 +230,8 @@ none_later (Some x) b h = absurd cc
 
 -- where it is done the guess was undecided
 pub done_left : (o : Option Outcome) (e : Event) (g : ℕ) (old new : HolderView) → o ≡ Some outcomes.Done → DecidesPost o e g old new → (has g (undecided_at old.kernel) ≡ true) × (new.kernel ≡ with_event old.kernel e)
-done_left None e g old new is h = absurd cc
 done_left (Some outcomes.Done) e g old new is h = (h.2, ap (λ (x : HolderView). x.kernel) h.3)
-done_left (Some outcomes.Gone) e g old new is h = absurd cc
+done_left o e g old new is h = absurd cc
 
 pub decided_left : (d e : DeskView) (r : Reply) (q : PendingRequest) (qs : List PendingRequest) (g : ℕ) → d.taken ≡ q ∷ qs → q.guess ≡ Some g → has g (undecided_at d.kernel) ≡ true
     → e ≡ decided (record d { taken = qs }) q g r.answer → e ≡ given d r d.taken
@@ -261,10 +241,25 @@ decided_left d e r q qs g taken guess there is =
 
 -- ---- kept answers
 
-pub kept_later : (pid i : ℕ) (ks : List Kept) (k : Kept) → i < length ks → k ≡ get_or ks i k → (k.process == pid) ≡ false → kept_for pid (drop i ks) ≡ kept_for pid (drop (i + 1) ks)
-kept_later pid i ks k lt is other =
-    ap (kept_for pid) (drop_more ks i k lt ∙ ap (λ x. x ∷ drop (i + 1) ks) (sym is)) ∙ ap (λ b. cond b (Some k.input) (kept_for pid (drop (i + 1) ks))) other
+pub kept_at : (pid i : ℕ) (ks : List KeptAnswer) (k : KeptAnswer) (own : Bool) → i < length ks → k ≡ get_or ks i k → (k.process == pid) ≡ own
+    → kept_for pid (drop i ks) ≡ cond own (Some k.input) (kept_for pid (drop (i + 1) ks))
+kept_at pid i ks k own lt is test =
+    ap (kept_for pid) (drop_more ks i k lt ∙ ap (λ x. x ∷ drop (i + 1) ks) (sym is)) ∙ ap (λ b. cond b (Some k.input) (kept_for pid (drop (i + 1) ks))) test
 
-pub kept_here : (pid i : ℕ) (ks : List Kept) (k : Kept) → i < length ks → k ≡ get_or ks i k → (k.process == pid) ≡ true → kept_for pid (drop i ks) ≡ Some k.input
-kept_here pid i ks k lt is own =
-    ap (kept_for pid) (drop_more ks i k lt ∙ ap (λ x. x ∷ drop (i + 1) ks) (sym is)) ∙ ap (λ b. cond b (Some k.input) (kept_for pid (drop (i + 1) ks))) own
+-- ---- what a desk lends
+
+-- a process that waits
+refused : (d : DeskView) (pid : ℕ) (m : Result LeaseView Refusal) → asks_for pid (pending d) ≡ true → Lends (Err (blocked_why m)) (unless_asked d pid m)
+refused d pid (Ok l) asks = subst (λ b. Lends (Err Blocked) (cond b (Err Blocked) (Ok l))) (sym asks) refl
+refused d pid (Err why) asks = refl
+
+pub lends_blocked : (d : DeskView) (pid : ℕ) → asks_for pid (pending d) ≡ true → Lends (Err (blocked_why (lease_of (get (state_at d.kernel)) d.kernel.scripts pid))) (desk_lease d pid)
+lends_blocked d pid asks = refused d pid (lease_of (get (state_at d.kernel)) d.kernel.scripts pid) asks
+
+-- any other
+unless_not : (d : DeskView) (pid : ℕ) (m : Result LeaseView Refusal) → asks_for pid (pending d) ≡ false → m ≡ unless_asked d pid m
+unless_not d pid (Ok l) asks = ap (λ b. cond b (Err Blocked) (Ok l)) (sym asks)
+unless_not d pid (Err why) asks = refl
+
+pub lends_free : (d : DeskView) (pid : ℕ) (r : Result LeaseView Refusal) → Lends r (lease_of (get (state_at d.kernel)) d.kernel.scripts pid) → asks_for pid (pending d) ≡ false → Lends r (desk_lease d pid)
+lends_free d pid r h asks = subst (Lends r) (unless_not d pid (lease_of (get (state_at d.kernel)) d.kernel.scripts pid) asks) h

@@ -1,8 +1,9 @@
 -- Parts of two lists side by side, and membership.
 use Rattle.std.proofs.Common.{◌≡◌, ℕ, Bool, true, false, cond, List, [], ◌∷◌, ◌++◌, inl, inr, refl, sym, ◌∙◌, ap, subst, arith, zero, suc, ◌≤◌, length, slice_get, Some}
-use Rattle.std.specs.Prelude.{◌⊎◌, ◌==◌}
+use Rattle.std.specs.Prelude.{◌⊎◌, ◌==◌, ◌||◌, map}
 use Rattle.std.specs.List.{list_any, Contains, filter}
 use Rattle.std.proofs.lemmas.Bool.{or_parts, or_left, or_right, or_cases, true≢false, eq-eqb, eqb-true, cases_Bool}
+use Rattle.std.proofs.lemmas.List.Folds.{list_any-append}
 use Rattle.std.proofs.lemmas.List.Elements.{Contains-push_cases, Contains-append_cases, Contains-append_left, Contains-append_right}
 use Rattle.sk_record.specs.Effects.{keep}
 use Rattle.sk_record.specs.Notes.{has}
@@ -47,6 +48,18 @@ cons_later y xs x h = Contains-append_right (y ∷ []) xs x h
 pub no_member : {A : Type 0} (x : A) → Contains [] x → ⊥
 no_member x h = let lt = h.1 in omega arith
 
+-- what holds of each element and each one behind it
+abbrev pub Pairs : {A : Type 0} → (A → A → Type 0) → List A → Type 0
+Pairs X [] = Unit {0}
+Pairs X (x ∷ xs) = ((y : _) → Contains xs y → X x y) × Pairs X xs
+
+pub pairs_push : {A : Type 0} (X : A → A → Type 0) (xs : List A) (x : A) → Pairs X xs → ((y : A) → Contains xs y → X y x) → Pairs X (xs ++ x ∷ [])
+pairs_push X [] x h new = ((λ y none. absurd (no_member y none)), tt)
+pairs_push X (z ∷ xs) x h new = (
+  (λ y there. elim (Contains-push_cases xs x y there) [ inl before ↦ h.0 y before | inr is ↦ subst (X z) is (new z (cons_first z xs)) ]),
+  pairs_push X xs x h.1 (λ y there. new y (cons_later z xs y there)),
+)
+
 -- the facts of each pair
 pub each_at : {A B : Type 0} (X : A → B → Type 0) (xs : List A) (ys : List B) → Each X xs ys → (x : A) (y : B) → Contains (paired xs ys) (x, y) → X x y
 each_at X [] ys h x y there = absurd (no_member (x, y) there)
@@ -83,6 +96,15 @@ kept_was (false ∷ bs) (y ∷ xs) x h =
       | inr later ↦ cons_later y xs x (kept_was bs xs x later)
     ]
 
+-- ---- tests of any element
+pub any_map : {A B : Type 0} (p : B → Bool) (f : A → B) (xs : List A) → list_any p (map f xs) ≡ list_any (λ x. p (f x)) xs
+any_map p f [] = refl
+any_map p f (x ∷ xs) = ap (λ b. p (f x) || b) (any_map p f xs)
+
+pub any_same : {A : Type 0} (p q : A → Bool) (xs : List A) → ((x : A) → p x ≡ q x) → list_any p xs ≡ list_any q xs
+any_same p q [] same = refl
+any_same p q (x ∷ xs) same = λ i. same x i || any_same p q xs same i
+
 -- ---- functions changed at one number
 abbrev pub at_number : {A : Type 0} → ℕ → A → (ℕ → A) → ℕ → A
 at_number k a f x = cond (x == k) a (f x)
@@ -99,24 +121,13 @@ at_other k a f x apart =
 
 -- ---- numbers in a list
 pub has_from : (x : ℕ) (xs ys : List ℕ) → has x (xs ++ ys) ≡ true → (has x xs ≡ true) ⊎ (has x ys ≡ true)
-has_from x [] ys h = inr h
-has_from x (k ∷ xs) ys h =
-    elim (or_cases (k == x) (has x (xs ++ ys)) h) [
-      | inl here ↦ inl (or_left (k == x) (has x xs) here)
-      | inr later ↦ elim (has_from x xs ys later) [ inl left ↦ inl (or_right (k == x) (has x xs) left) | inr right ↦ inr right ]
-    ]
+has_from x xs ys h = or_cases (has x xs) (has x ys) (sym (list_any-append (λ t. t == x) xs ys) ∙ h)
 
 pub has_left : (x : ℕ) (xs ys : List ℕ) → has x xs ≡ true → has x (xs ++ ys) ≡ true
-has_left x [] ys h = absurd (true≢false (sym h))
-has_left x (k ∷ xs) ys h =
-    elim (or_cases (k == x) (has x xs) h) [
-      | inl here ↦ or_left (k == x) (has x (xs ++ ys)) here
-      | inr later ↦ or_right (k == x) (has x (xs ++ ys)) (has_left x xs ys later)
-    ]
+has_left x xs ys h = list_any-append (λ t. t == x) xs ys ∙ or_left (has x xs) (has x ys) h
 
 pub has_right : (x : ℕ) (xs ys : List ℕ) → has x ys ≡ true → has x (xs ++ ys) ≡ true
-has_right x [] ys h = h
-has_right x (k ∷ xs) ys h = or_right (k == x) (has x (xs ++ ys)) (has_right x xs ys h)
+has_right x xs ys h = list_any-append (λ t. t == x) xs ys ∙ or_right (has x xs) (has x ys) h
 
 pub filter_was : {A : Type 0} (p : A → Bool) (xs : List A) (x : A) → Contains (filter p xs) x → Contains xs x
 filter_was p [] x h = h

@@ -1,5 +1,5 @@
 -- What holds of a world stays so: by each event of its kernel, by a question, by an answer of the server, by a reply that is given.
-use Rattle.std.proofs.Common.{◌≡◌, ℕ, ◌≤◌, ◌<◌, true, false, not, ◌&&◌, List, [], ◌∷◌, ◌++◌, Option, Some, None, Ok, inl, inr, refl, sym, ◌∙◌, ap, subst, suc, Bool, cond, arith}
+use Rattle.std.proofs.Common.{◌≡◌, ℕ, ◌≤◌, ◌<◌, true, false, not, ◌&&◌, List, [], ◌∷◌, ◌++◌, Option, Some, None, Ok, inl, inr, refl, sym, ◌∙◌, ap, subst, suc, Bool, cond, le_trans, arith}
 use Rattle.std.specs.Prelude.{◌⊎◌, is_ok, ◌==◌, nat_le}
 use Rattle.std.specs.List.{list_any, Contains}
 use Rattle.std.specs.FinMap.{FinMap, get}
@@ -18,14 +18,12 @@ use Rattle.sk_record.proofs.Sound.{record_more, sound_taken, sound_commit, sound
 use Rattle.sk_script.specs.declared.instruction.Input.TheVariants.{Good}
 use Rattle.sk_server.specs.declared.reply.Answer.TheVariants.{Yes, Dropped}
 use Rattle.sk_client.specs.declared.pending.PendingRequest.{PendingRequest}
-use Rattle.sk_client.proofs.CausedWorld.{For, Caused, Served, Table, kernel, is_lost, least, rests_of}
+use Rattle.sk_client.proofs.CausedWorld.{For, Caused, Served, Table, kernel, is_lost, least, rests_of, Sets, IsTable, Takes}
 use Rattle.sk_client.specs.Desk.{name_of, sent}
-use Rattle.sk_client.proofs.CausedLaws.{Sets, IsTable, Takes}
-use Rattle.sk_client.proofs.Each.{survives, at_number, at_same, at_other, cons_first, cons_later}
+use Rattle.sk_client.proofs.Each.{survives, at_number, at_same, at_other, cons_first, cons_later, pairs_push}
 use Rattle.sk_client.proofs.TraceFacts.{has_mark, open_taken, open_commit, open_fail, failed_shut, legal_of, entry_drawn, open_entry}
-use Rattle.sk_client.proofs.Records.{Quiet, entries_taken, entries_fewer, entries_failed, ready_taken, ready_failed, lost_more, ready_kept, not_true, tags_of_step}
-use Rattle.sk_client.proofs.Queues.{queue_fewer, remembers_fewer, queue_le, queue_push, remembers_push, still_remembered, apart_push}
-use Rattle.sk_client.proofs.Invariant.{Allowed, RestsOnRefused, Entries, Void, tag_at, Ready, HasStep, Invariant, counted, Queue, IsServed, Guesses, ReadyFor, is_accepted}
+use Rattle.sk_client.proofs.Records.{Quiet, entries_taken, entries_failed, ready_taken, ready_failed, lost_more, ready_kept, not_true, tags_of_step}
+use Rattle.sk_client.proofs.Invariant.{Allowed, RestsOnRefused, Entries, Void, tag_at, Ready, HasStep, Invariant, counted, Queue, IsServed, Guesses, ReadyFor, is_accepted, queue_fewer, queue_le, queue_push, remembers_push, still_remembered}
 use Rattle.sk_server.specs.declared.request.Ask.TheVariants.{Store}
 use Rattle.sk_server.specs.declared.reply.Answer.{Answer}
 use Rattle.sk_server.specs.Server.{remembered}
@@ -35,38 +33,28 @@ pub no_guess : (o : Option ℕ) (g : ℕ) → o ≡ None → o ≡ Some g → �
 no_guess o g none some = let same : None ≡ Some g = sym none ∙ some in cc
 
 -- the least of some numbers
+less_of : (g m : ℕ) → (cond (nat_le g m) g m ≤ g) × (cond (nat_le g m) g m ≤ m)
+less_of g m = elim (nat_le g m) as (λ b. nat_le g m ≡ b → (cond b g m ≤ g) × (cond b g m ≤ m)) [
+  | true ↦ λ is. (omega arith, leb-true g m is)
+  | false ↦ λ is. (let lt = leb-false g m is in omega (arith, lt), omega arith)
+] refl
+
 pub least_le : (d : ℕ) (gs : List ℕ) → least d gs ≤ d
 least_le d [] = omega arith
-least_le d (g ∷ gs) =
-    let rest = least_le d gs in
-    elim (cases_Bool (nat_le g (least d gs))) [
-      | inl is ↦ let le = leb-true g (least d gs) is in subst (λ b. cond b g (least d gs) ≤ d) (sym is) (omega arith)
-      | inr is ↦ subst (λ b. cond b g (least d gs) ≤ d) (sym is) rest
-    ]
+least_le d (g ∷ gs) = le_trans (less_of g (least d gs)).1 (least_le d gs)
 
 pub least_all : (d : ℕ) (gs : List ℕ) (y : ℕ) → has y gs ≡ true → least d gs ≤ y
 least_all d [] y h = absurd (true≢false (sym h))
 least_all d (g ∷ gs) y h =
-    let rest : (has y gs ≡ true) → least d gs ≤ y = least_all d gs y in
-    elim (cases_Bool (nat_le g (least d gs))) [
-      | inl is ↦
-          let le = leb-true g (least d gs) is in
-          subst (λ b. cond b g (least d gs) ≤ y) (sym is) (elim (or_cases (g == y) (has y gs) h) [
-            | inl here ↦ let same = eqb-true g y here in omega arith
-            | inr later ↦ let low = rest later in omega arith
-          ])
-      | inr is ↦
-          let lt = leb-false g (least d gs) is in
-          subst (λ b. cond b g (least d gs) ≤ y) (sym is) (elim (or_cases (g == y) (has y gs) h) [
-            | inl here ↦ let same = eqb-true g y here in omega arith
-            | inr later ↦ rest later
-          ])
+    elim (or_cases (g == y) (has y gs) h) [
+      | inl here ↦ subst (λ y. least d (g ∷ gs) ≤ y) (eqb-true g y here) (less_of g (least d gs)).0
+      | inr later ↦ le_trans (less_of g (least d gs)).1 (least_all d gs y later)
     ]
 
-same_request : (q r : PendingRequest) → For q ≡ For r → q ≡ r
+pub same_request : (q r : PendingRequest) → For q ≡ For r → q ≡ r
 same_request q r is = cc
 
-module _ {E V W F : Type 0} (S : Table E V W F) (start : FinMap S.order V) (table : IsTable S start) where
+module _ {E V W F : Type 0} (S : Table E V W F) (start : FinMap S.order V) (table : IsTable S) where
   entry_more : (ns : List Caused) (n : Caused) (x : ℕ) → HasEntry (kernel S) ns x → HasEntry (kernel S) (ns ++ n ∷ []) x
   entry_more ns n x h = (h.0, Contains-append_left ns (n ∷ []) h.0 h.1, h.2)
 
@@ -104,27 +92,28 @@ module _ {E V W F : Type 0} (S : Table E V W F) (start : FinMap S.order V) (tabl
         → ((q : PendingRequest) → Contains pending q → q.guess ≡ None → Ready S start ns us q → Void S start (es ++ e ∷ []) d q ⊎ Ready S start (ns_after e) (us_after e) q)
         → Invariant S start (es ++ e ∷ []) d served given pending waiting memory
     inv_event e i sound none fails fewer entries stand stands lost ready = record {
-      made = i.made;
-      bad = i.bad;
-      base = i.base;
-      a = i.a;
-      base_le = i.base_le;
-      within = i.within;
-      sound = sound;
-      drawn = λ g dr. elim (drawn_more (kernel S) start es e g dr) [ inl before ↦ i.drawn g before | inr new ↦ absurd (no_guess new.0.guess g (none new.0 new.1) new.2) ];
-      above = λ y there. i.above y (fewer y there);
-      entries = entries;
-      guesses = record {
-        own = i.guesses.own;
-        stand = λ x above le. elim (i.guesses.stand x above le) [ inl there ↦ stand x above le there | inr rests_on ↦ inr rests_on ];
-        good = i.guesses.good;
-        early = i.guesses.early;
-        answered = i.guesses.answered;
-        failed = λ x above there. elim (Contains-push_cases es e (Fail x) there) [ inl before ↦ i.guesses.failed x above before | inr is ↦ fails x is ];
+      core = record {
+        marks = i.marks;
+        sound = sound;
+        drawn = λ g dr. elim (drawn_more (kernel S) start es e g dr) [
+          | inl before ↦ i.drawn g before
+          | inr new ↦ absurd (no_guess new.0.guess g (none new.0 new.1) new.2)
+        ];
+        above = λ y there. i.above y (fewer y there);
+        entries = entries;
+        guesses = record {
+          own = i.guesses.own;
+          stand = λ x above le. elim (i.guesses.stand x above le) [ inl there ↦ stand x above le there | inr rests_on ↦ inr rests_on ];
+          good = i.guesses.good;
+          early = i.guesses.early;
+          answered = i.guesses.answered;
+          failed = λ x above there. elim (Contains-push_cases es e (Fail x) there) [ inl before ↦ i.guesses.failed x above before | inr is ↦ fails x is ];
+        };
+        queue = queue_fewer i.made us (us_after e) fewer d i.base i.a waiting i.queue;
+        remembers = record { undecided = λ y there. i.remembers.undecided y (fewer y there); waiting = i.remembers.waiting };
+        answers = i.answers;
       };
-      queue = queue_fewer i.made us (us_after e) fewer d i.base i.a waiting i.queue;
-      remembers = remembers_fewer i.bad us (us_after e) waiting memory fewer i.remembers;
-      answers = i.answers;
+      within = i.within;
       stands = λ q m v b there ask asked. stands q there asked (i.stands q m v b there ask asked);
       asked = λ q there asked. elim (i.asked q there asked) [
         | inl void ↦ inl (void.0, void.1, void.2, lost_more S start table es e void.0 (fewer void.0) (lost void.0 void.3) void.3)
@@ -166,7 +155,12 @@ module _ {E V W F : Type 0} (S : Table E V W F) (start : FinMap S.order V) (tabl
         let same : ns_after e ≡ ns = record_more K start es e in
         let fewer : (y : ℕ) → has y vs ≡ true → has y us ≡ true = open_commit K start es h in
         inv_event e i (sound_commit K start es h i.sound ((undecided_is K start es i.sound h).0 is_open)) (λ m is. cc) (λ x is. cc) fewer
-        (subst (λ ns. Entries S start i.made i.base ns vs) (sym same) (entries_fewer S start table i.made i.base ns us vs fewer i.entries))
+        (subst (λ ns. Entries S start i.made i.base ns vs) (sym same) (record {
+          own = i.entries.own;
+          its = i.entries.its;
+          tags = λ y there. i.entries.tags y (fewer y there);
+          sets = i.entries.sets;
+        }))
         (λ x _ _ there. inl (subst (λ ns. HasEntry K ns x) (sym same) there))
         (λ q _ _ step. subst (λ ns. HasStep S start ns q) (sym same) step)
         (λ y lost. false_from_ne_true _ (λ same_h. true≢false (sym is_open ∙ ap (λ y. has y us) (eqb-true h y same_h) ∙ not_true _ (and_both _ _ lost).0)))
@@ -240,33 +234,31 @@ module _ {E V W F : Type 0} (S : Table E V W F) (start : FinMap S.order V) (tabl
       let us = undecided_of K start es in
       let opens : (y : ℕ) → has y q.rests ≡ true → has y us ≡ true = λ y h. rests_open es q.process (name_of q.ask) y (ap (has y) (sym rests) ∙ h) in
       record {
-        made = i.made;
-        bad = i.bad;
-        base = i.base;
-        a = i.a;
-        base_le = i.base_le;
+        core = record {
+          marks = i.marks;
+          sound = i.sound;
+          drawn = i.drawn;
+          above = i.above;
+          entries = i.entries;
+          guesses = i.guesses;
+          queue = subst (λ d2. Queue i.made us d2 i.base i.a (waiting ++ q ∷ [])) (ap (λ o. counted o d) asks)
+              (queue_push i.made i.made us us d i.base q (record {
+                own = λ g mark. absurd (no_guess q.guess g asks mark);
+                known = λ y h. (opens y h, i.above y (opens y h), open_le es d served given pending waiting memory i y (opens y h));
+                undecided = λ y h. let low = least_all (suc d) us y h in omega arith;
+                next = let low = least_le (suc d) us in omega arith;
+              }) (λ y h. inl h) (λ x le. refl) i.a waiting i.queue);
+          remembers = remembers_push i.bad us us waiting q memory (λ y h is. h) opens i.remembers;
+          answers = i.answers;
+        };
         within = i.within;
-        sound = i.sound;
-        drawn = i.drawn;
-        above = i.above;
-        entries = i.entries;
-        guesses = i.guesses;
-        queue = subst (λ d2. Queue i.made us d2 i.base i.a (waiting ++ q ∷ [])) (ap (λ o. counted o d) asks)
-            (queue_push i.made i.made us us d i.base q (record {
-              own = λ g mark. absurd (no_guess q.guess g asks mark);
-              known = λ y h. (opens y h, i.above y (opens y h), open_le es d served given pending waiting memory i y (opens y h));
-              undecided = λ y h. let low = least_all (suc d) us y h in omega arith;
-              next = let low = least_le (suc d) us in omega arith;
-            }) (λ y h. inl h) (λ x le. refl) i.a waiting i.queue);
-        remembers = remembers_push i.bad us us waiting q memory (λ y h is. h) opens i.remembers;
-        answers = i.answers;
         stands = i.stands;
         asked = λ r h asked. elim (Contains-push_cases pending q r h) [
           | inl before ↦ i.asked r before asked
           | inr is ↦ inr (subst (λ (r : PendingRequest). Ready S start (record_of K start es) us r) is
               (record { step = ready; there = there; covers = λ y h tag. ap (has y) rests ∙ rests_cover es q.process (name_of q.ask) y h tag }))
         ];
-        apart = apart_push pending q (λ r h asked _. blocked r h asked) i.apart;
+        apart = pairs_push _ pending q i.apart (λ r h asked _. blocked r h asked);
       }
 
   -- ---- a guess
@@ -300,71 +292,81 @@ module _ {E V W F : Type 0} (S : Table E V W F) (start : FinMap S.order V) (tabl
       sound_taken K start es n i.sound (λ g h is drawn. let le = i.drawn h drawn in let new = is_new g is in omega arith) (ap is_ok accepted) in
       let g_own = i.guesses.own in
       record {
-        made = after;
-        bad = i.bad;
-        base = i.base;
-        a = i.a;
-        base_le = i.base_le;
+        core = record {
+          marks = record i.marks { made = after };
+          sound = sound;
+          drawn = λ g dr. elim (drawn_more K start es (Taken n) g dr) [
+            | inl before ↦ let le = i.drawn g before in omega arith
+            | inr new ↦ let same_n : n ≡ new.0 = cc in let is = is_new g (ap (λ (n : Caused). n.guess) same_n ∙ new.2) in omega arith
+          ];
+          above = λ y h. elim (fewer y h) [ inl was ↦ i.above y was | inr is ↦ omega arith ];
+          entries = subst (λ ns. Entries S start after i.base ns vs) (sym same)
+              (entries_taken S start table i.made after i.base ns us vs n f i.entries accepted
+              (λ x g there is above. kept g (entry_le g (x, there, is)))
+              (λ y h. elim (fewer y h) [ inl was ↦ inl was | inr is ↦ inr (mark ∙ ap Some (sym is)) ])
+              (λ y is. false_from_ne_true _ (λ marked. let le = entry_le y ((has_entry K start ns y).0 marked) in let new = is_new y is in omega arith))
+              (λ g is above. (cause ∙ ap For (sym (ap after (is_new g is) ∙ at_same (suc d) q i.made)), ap (λ (n : Caused). n.input) entry))
+              (λ y h hits r is.
+              let one : q ≡ r = same_request q r (sym cause ∙ is) in
+              subst (λ (r : PendingRequest). (has y r.rests ≡ true) ⊎ (r.guess ≡ Some y)) one
+              (elim (tags_of_step S start table ns us q.process (name_of q.ask) q.rests n.guess f t.reads t.writes
+              (λ y h tag. ap (has y) rests ∙ rests_cover es q.process (name_of q.ask) y h tag) y
+              (elim (fewer y h) [ inl was ↦ inl was | inr is ↦ inr (mark ∙ ap Some (sym is)) ]) hits) [
+                | inl carries ↦ inl carries
+                | inr its ↦ inr (guess ∙ sym mark ∙ its)
+              ]))
+              (λ r is. ap (λ (n : Caused). n.process) entry ∙ ap (λ (r : PendingRequest). r.process) (same_request q r (sym cause ∙ is)))
+              (λ r is good. subst (λ (r : PendingRequest). Sets S r.ask Good f.written) (same_request q r (sym cause ∙ is)) t.sets));
+          guesses = subst (Guesses S start after i.bad i.base i.a (suc d) (es ++ Taken n ∷ [])) (sym same) (record {
+            own = λ x above le. elim (cases_eq x (suc d)) [
+              | inl is ↦ ap (λ x. (after x).guess) is ∙ ap (λ (r : PendingRequest). r.guess) (at_same (suc d) q i.made) ∙ guess ∙ ap Some (sym is)
+              | inr other ↦ let le_d : x ≤ d = omega arith in ap (λ (r : PendingRequest). r.guess) (kept x le_d) ∙ g_own x above le_d
+            ];
+            stand = λ x above le. elim (cases_eq x (suc d)) [
+              | inl is ↦ inl (n, Contains-push ns n, mark ∙ ap Some (sym is))
+              | inr other ↦
+                  let le_d : x ≤ d = omega arith in
+                  elim (i.guesses.stand x above le_d) [
+                    | inl there ↦ inl (entry_more ns n x there)
+                    | inr rests_on ↦ inr (
+                      rests_on.0,
+                      rests_on.1,
+                      elim rests_on.2 [
+                        | inl own ↦ inl own
+                        | inr carries ↦ inr
+                            (ap (λ (r : PendingRequest). has rests_on.0 r.rests) (kept x le_d) ∙ carries)
+                      ],
+                    )
+                  ]
+            ];
+            good = λ x above le is y carries. i.guesses.good x above le is y (ap (λ (r : PendingRequest). has y r.rests) (sym (kept x (omega arith)))
+                ∙ carries);
+            early = λ x above le y carries. i.guesses.early x above le y (ap (λ (r : PendingRequest). has y r.rests) (sym (kept x (omega arith))) ∙ carries);
+            answered = i.guesses.answered;
+            failed = λ x above there. elim (Contains-push_cases es (Taken n) (Fail x) there) [ inl before ↦ i.guesses.failed x above before | inr is ↦ cc ];
+          });
+          queue = subst (λ d2. Queue after vs d2 i.base i.a (waiting ++ q ∷ [])) (ap (λ o. counted o d) guess)
+              (queue_push i.made after us vs d i.base q (record {
+                own = λ g is. (let new : g ≡ suc d = (let both : Some (suc d) ≡ Some g = sym guess ∙ is in cc) in (
+                  new,
+                  ap after new ∙ at_same (suc d) q i.made,
+                ));
+                known = λ y h. (opens y h, i.above y (opens y h), low y (opens y h));
+                undecided = λ y h. let le = least_all (suc d) us y h in omega arith;
+                next = let le = least_le (suc d) us in omega arith;
+              }) fewer kept i.a waiting i.queue);
+          remembers = remembers_push i.bad us vs waiting q memory
+              (λ y h is. elim (fewer y h) [ inl was ↦ was | inr new ↦ absurd (let le = i.guesses.answered y is in omega arith) ]) opens i.remembers;
+          answers = λ x there.
+              let s = i.answers x there in
+              record {
+                known = s.known;
+                kept = s.kept;
+                own = λ g is. (let o = s.own g is in let le = o.1 in (o.0, o.1, kept g (omega arith) ∙ o.2, o.3));
+                fits = s.fits;
+              };
+        };
         within = i.within;
-        sound = sound;
-        drawn = λ g dr. elim (drawn_more K start es (Taken n) g dr) [
-          | inl before ↦ let le = i.drawn g before in omega arith
-          | inr new ↦ let same_n : n ≡ new.0 = cc in let is = is_new g (ap (λ (n : Caused). n.guess) same_n ∙ new.2) in omega arith
-        ];
-        above = λ y h. elim (fewer y h) [ inl was ↦ i.above y was | inr is ↦ omega arith ];
-        entries = subst (λ ns. Entries S start after i.base ns vs) (sym same)
-            (entries_taken S start table i.made after i.base ns us vs n f i.entries accepted
-            (λ x g there is above. kept g (entry_le g (x, there, is)))
-            (λ y h. elim (fewer y h) [ inl was ↦ inl was | inr is ↦ inr (mark ∙ ap Some (sym is)) ])
-            (λ y is. false_from_ne_true _ (λ marked. let le = entry_le y ((has_entry K start ns y).0 marked) in let new = is_new y is in omega arith))
-            (λ g is above. (cause ∙ ap For (sym (ap after (is_new g is) ∙ at_same (suc d) q i.made)), ap (λ (n : Caused). n.input) entry))
-            (λ y h hits r is.
-            let one : q ≡ r = same_request q r (sym cause ∙ is) in
-            subst (λ (r : PendingRequest). (has y r.rests ≡ true) ⊎ (r.guess ≡ Some y)) one
-            (elim (tags_of_step S start table ns us q.process (name_of q.ask) q.rests n.guess f t.reads t.writes
-            (λ y h tag. ap (has y) rests ∙ rests_cover es q.process (name_of q.ask) y h tag) y
-            (elim (fewer y h) [ inl was ↦ inl was | inr is ↦ inr (mark ∙ ap Some (sym is)) ]) hits) [
-              | inl carries ↦ inl carries
-              | inr its ↦ inr (guess ∙ sym mark ∙ its)
-            ]))
-            (λ r is. ap (λ (n : Caused). n.process) entry ∙ ap (λ (r : PendingRequest). r.process) (same_request q r (sym cause ∙ is)))
-            (λ r is good. subst (λ (r : PendingRequest). Sets S r.ask Good f.written) (same_request q r (sym cause ∙ is)) t.sets));
-        guesses = subst (Guesses S start after i.bad i.base i.a (suc d) (es ++ Taken n ∷ [])) (sym same) (record {
-          own = λ x above le. elim (cases_eq x (suc d)) [
-            | inl is ↦ ap (λ x. (after x).guess) is ∙ ap (λ (r : PendingRequest). r.guess) (at_same (suc d) q i.made) ∙ guess ∙ ap Some (sym is)
-            | inr other ↦ let le_d : x ≤ d = omega arith in ap (λ (r : PendingRequest). r.guess) (kept x le_d) ∙ g_own x above le_d
-          ];
-          stand = λ x above le. elim (cases_eq x (suc d)) [
-            | inl is ↦ inl (n, Contains-push ns n, mark ∙ ap Some (sym is))
-            | inr other ↦
-                let le_d : x ≤ d = omega arith in
-                elim (i.guesses.stand x above le_d) [
-                  | inl there ↦ inl (entry_more ns n x there)
-                  | inr rests_on ↦ inr (rests_on.0, rests_on.1, elim rests_on.2 [ inl own ↦ inl own | inr carries ↦ inr (ap (λ (r : PendingRequest). has rests_on.0 r.rests) (kept x le_d) ∙ carries) ])
-                ]
-          ];
-          good = λ x above le is y carries. i.guesses.good x above le is y (ap (λ (r : PendingRequest). has y r.rests) (sym (kept x (omega arith))) ∙ carries);
-          early = λ x above le y carries. i.guesses.early x above le y (ap (λ (r : PendingRequest). has y r.rests) (sym (kept x (omega arith))) ∙ carries);
-          answered = i.guesses.answered;
-          failed = λ x above there. elim (Contains-push_cases es (Taken n) (Fail x) there) [ inl before ↦ i.guesses.failed x above before | inr is ↦ cc ];
-        });
-        queue = subst (λ d2. Queue after vs d2 i.base i.a (waiting ++ q ∷ [])) (ap (λ o. counted o d) guess)
-            (queue_push i.made after us vs d i.base q (record {
-              own = λ g is. (let new : g ≡ suc d = (let both : Some (suc d) ≡ Some g = sym guess ∙ is in cc) in (new, ap after new ∙ at_same (suc d) q i.made));
-              known = λ y h. (opens y h, i.above y (opens y h), low y (opens y h));
-              undecided = λ y h. let le = least_all (suc d) us y h in omega arith;
-              next = let le = least_le (suc d) us in omega arith;
-            }) fewer kept i.a waiting i.queue);
-        remembers = remembers_push i.bad us vs waiting q memory
-            (λ y h is. elim (fewer y h) [ inl was ↦ was | inr new ↦ absurd (let le = i.guesses.answered y is in omega arith) ]) opens i.remembers;
-        answers = λ x there.
-            let s = i.answers x there in
-            record {
-              known = s.known;
-              kept = s.kept;
-              own = λ g is. (let o = s.own g is in let le = o.1 in (o.0, o.1, kept g (omega arith) ∙ o.2, o.3));
-              fits = s.fits;
-            };
         stands = λ r m v b there ask asked. subst (λ ns. HasStep S start ns r) (sym same) (step_more ns n r (i.stands r m v b there ask asked));
         asked = λ r h asked. elim (Contains-push_cases pending q r h) [
           | inl before ↦ elim (i.asked r before asked) [
@@ -382,51 +384,22 @@ module _ {E V W F : Type 0} (S : Table E V W F) (start : FinMap S.order V) (tabl
           ]
           | inr is ↦ absurd (no_guess q.guess (suc d) (ap (λ (r : PendingRequest). r.guess) is ∙ asked) guess)
         ];
-        apart = apart_push pending q (λ r h asked none. absurd (no_guess q.guess (suc d) none guess)) i.apart;
+        apart = pairs_push _ pending q i.apart (λ r h asked none. absurd (no_guess q.guess (suc d) none guess));
       }
 
   -- ---- a reply that is given: the request is no longer pending
   pub inv_drop : (es : List (Event Caused)) (d : ℕ) (served given : List Served) (q : PendingRequest) (pending waiting : List PendingRequest) (memory : List ℕ)
       → Invariant S start es d served given (q ∷ pending) waiting memory → Invariant S start es d served given pending waiting memory
-  inv_drop es d served given q pending waiting memory i = record {
-    made = i.made;
-    bad = i.bad;
-    base = i.base;
-    a = i.a;
-    base_le = i.base_le;
-    within = i.within;
-    sound = i.sound;
-    drawn = i.drawn;
-    above = i.above;
-    entries = i.entries;
-    guesses = i.guesses;
-    queue = i.queue;
-    remembers = i.remembers;
-    answers = i.answers;
-    stands = i.stands;
-    asked = λ r there. i.asked r (cons_later q pending r there);
-    apart = i.apart.1;
-  }
+  inv_drop es d served given q pending waiting memory i =
+      record { core = i.core; within = i.within; stands = i.stands; asked = λ r there. i.asked r (cons_later q pending r there); apart = i.apart.1 }
 
   -- and it is written down, where its step stands if it was a store that was asked and accepted
   pub inv_done : (es : List (Event Caused)) (d : ℕ) (served given : List Served) (pending waiting : List PendingRequest) (memory : List ℕ) (x : Served)
       → Contains served x → (x.1 ≡ Yes → (m : Bytes) (v : ℕ) (b : Bytes) → x.0.ask ≡ Store m v b → x.0.guess ≡ None → HasStep S start (record_of (kernel S) start es) x.0)
       → Invariant S start es d served given pending waiting memory → Invariant S start es d served (given ++ x ∷ []) pending waiting memory
   inv_done es d served given pending waiting memory x there stands i = record {
-    made = i.made;
-    bad = i.bad;
-    base = i.base;
-    a = i.a;
-    base_le = i.base_le;
+    core = i.core;
     within = λ y h. elim (Contains-push_cases given x y h) [ inl before ↦ i.within y before | inr is ↦ subst (Contains served) is there ];
-    sound = i.sound;
-    drawn = i.drawn;
-    above = i.above;
-    entries = i.entries;
-    guesses = i.guesses;
-    queue = i.queue;
-    remembers = i.remembers;
-    answers = i.answers;
     stands = λ q m v b h ask asked. elim (Contains-push_cases given x (q, Yes) h) [
       | inl before ↦ i.stands q m v b before ask asked
       | inr is ↦
@@ -466,58 +439,57 @@ module _ {E V W F : Type 0} (S : Table E V W F) (start : FinMap S.order V) (tabl
       ] in
       let not_dropped : is_accepted ans ≡ true → ans ≡ Dropped → ⊥ = λ yes is. true≢false (sym yes ∙ ap is_accepted is) in
       record {
-        made = i.made;
-        bad = bad;
-        base = i.base;
-        a = a;
-        base_le = omega arith;
-        within = λ x there. Contains-append_left served ((q, ans) ∷ []) x (i.within x there);
-        sound = i.sound;
-        drawn = i.drawn;
-        above = i.above;
-        entries = i.entries;
-        guesses = record {
-          own = i.guesses.own;
-          stand = λ x above le. elim (i.guesses.stand x above le) [
-            | inl there ↦ inl there
-            | inr rests_on ↦ inr (rests_on.0, same rests_on.0 (i.guesses.answered rests_on.0 rests_on.1) ∙ rests_on.1, rests_on.2)
-          ];
-          good = λ x above le is y carries. elim (split x le) [
+        core = record {
+          marks = record { made = i.made; bad = bad; base = i.base; a = a; base_le = omega arith };
+          sound = i.sound;
+          drawn = i.drawn;
+          above = i.above;
+          entries = i.entries;
+          guesses = record {
+            own = i.guesses.own;
+            stand = λ x above le. elim (i.guesses.stand x above le) [
+              | inl there ↦ inl there
+              | inr rests_on ↦ inr (rests_on.0, same rests_on.0 (i.guesses.answered rests_on.0 rests_on.1) ∙ rests_on.1, rests_on.2)
+            ];
+            good = λ x above le is y carries. elim (split x le) [
+              | inl before ↦
+                  same y (i.guesses.early x above before y carries) ∙ i.guesses.good x above before (sym (same x before) ∙ is) y carries
+              | inr its ↦
+                  let o = own x its in
+                  let yes : is_accepted ans ≡ true = (let refused : false ≡ not (is_accepted ans) = sym is ∙ o.1 in elim
+                  (is_accepted ans) as (λ b. false ≡ not b → b ≡ true) [ true ↦ λ h. refl | false ↦ λ h. h ] refused) in
+                  kept (not_dropped yes) y (ap (λ (r : PendingRequest). has y r.rests) (sym (w.own x its).1) ∙ carries)
+            ];
+            early = λ x above le y carries. elim (split x le) [
+              | inl before ↦ let low = i.guesses.early x above before y carries in omega arith
+              | inr its ↦ let low = (w.known y (ap (λ (r : PendingRequest). has y r.rests) (sym (w.own x its).1) ∙ carries)).1 in omega arith
+            ];
+            answered = λ y is. elim (new_bad y is) [ inl was ↦ let low = i.guesses.answered y was in omega arith | inr its ↦ (own y its).0 ];
+            failed = λ x above there. let was = i.guesses.failed x above there in same x (i.guesses.answered x was) ∙ was;
+          };
+          queue = subst (λ a. Queue i.made us d i.base a waiting) (sym counts) i.queue.1;
+          remembers = record {
+            undecided = λ y there is. remember y (w.undecided y there) (i.remembers.undecided y there) is;
+            waiting = λ r there y carries is. remember y (w.after r there y carries) (i.remembers.waiting r (cons_later q waiting r there) y carries) is;
+          };
+          answers = λ x there. elim (Contains-push_cases served (q, ans) x there) [
             | inl before ↦
-                same y (i.guesses.early x above before y carries) ∙ i.guesses.good x above before (sym (same x before) ∙ is) y carries
-            | inr its ↦
-                let o = own x its in
-                let yes : is_accepted ans ≡ true = (let refused : false ≡ not (is_accepted ans) = sym is ∙ o.1 in elim (is_accepted ans) as (λ b. false ≡ not b → b ≡ true) [ true ↦ λ h. refl | false ↦ λ h. h ] refused) in
-                kept (not_dropped yes) y (ap (λ (r : PendingRequest). has y r.rests) (sym (w.own x its).1) ∙ carries)
+                let s = i.answers x before in
+                record {
+                  known = λ y carries. (let k = s.known y carries in let le = k.1 in (k.0, omega arith));
+                  kept = λ yes y carries. same y (s.known y carries).1 ∙ s.kept yes y carries;
+                  own = λ g is. (let o = s.own g is in let le = o.1 in (o.0, omega arith, o.2, same g o.1 ∙ o.3));
+                  fits = s.fits;
+                }
+            | inr is ↦ subst (IsServed i.made bad i.base a S.last) is (record {
+              known = λ y carries. (let k = w.known y carries in let le = k.1 in (k.0, omega arith));
+              kept = kept;
+              own = λ g its. (let o = own g its in let g_is = (w.own g its).0 in (omega arith, o.0, (w.own g its).1, o.1));
+              fits = fits;
+            })
           ];
-          early = λ x above le y carries. elim (split x le) [
-            | inl before ↦ let low = i.guesses.early x above before y carries in omega arith
-            | inr its ↦ let low = (w.known y (ap (λ (r : PendingRequest). has y r.rests) (sym (w.own x its).1) ∙ carries)).1 in omega arith
-          ];
-          answered = λ y is. elim (new_bad y is) [ inl was ↦ let low = i.guesses.answered y was in omega arith | inr its ↦ (own y its).0 ];
-          failed = λ x above there. let was = i.guesses.failed x above there in same x (i.guesses.answered x was) ∙ was;
         };
-        queue = subst (λ a. Queue i.made us d i.base a waiting) (sym counts) i.queue.1;
-        remembers = record {
-          undecided = λ y there is. remember y (w.undecided y there) (i.remembers.undecided y there) is;
-          waiting = λ r there y carries is. remember y (w.after r there y carries) (i.remembers.waiting r (cons_later q waiting r there) y carries) is;
-        };
-        answers = λ x there. elim (Contains-push_cases served (q, ans) x there) [
-          | inl before ↦
-              let s = i.answers x before in
-              record {
-                known = λ y carries. (let k = s.known y carries in let le = k.1 in (k.0, omega arith));
-                kept = λ yes y carries. same y (s.known y carries).1 ∙ s.kept yes y carries;
-                own = λ g is. (let o = s.own g is in let le = o.1 in (o.0, omega arith, o.2, same g o.1 ∙ o.3));
-                fits = s.fits;
-              }
-          | inr is ↦ subst (IsServed i.made bad i.base a S.last) is (record {
-            known = λ y carries. (let k = w.known y carries in let le = k.1 in (k.0, omega arith));
-            kept = kept;
-            own = λ g its. (let o = own g its in let g_is = (w.own g its).0 in (omega arith, o.0, (w.own g its).1, o.1));
-            fits = fits;
-          })
-        ];
+        within = λ x there. Contains-append_left served ((q, ans) ∷ []) x (i.within x there);
         stands = i.stands;
         asked = i.asked;
         apart = i.apart;

@@ -13,13 +13,9 @@ use Rattle.sk_record.specs.Strike.{strike, struck}
 use Rattle.sk_record.specs.Trace.{Event as Happens, Taken, Commit, Fail, StatusIs, IsAllowed, IsDrawn, IsSound, record_of, record_after, undecided_of}
 use Rattle.sk_record.specs.declared.status.Status.TheVariants.{Undecided, Committed, Failed}
 use Rattle.sk_record.proofs.Laws.{one_status}
-use Rattle.sk_ids.specs.declared.entity.Entity.{Entity}
-use Rattle.sk_script.specs.Scripts.{ScriptMap}
 use Rattle.sk_script.specs.declared.instruction.Input.TheVariants.{Good}
-use Rattle.sk_store.specs.State.{State}
-use Rattle.sk_store.specs.declared.entity_state.EntityState.{EntityState}
 use Rattle.sk_trace.specs.Entry.{EntryView}
-use Rattle.sk_plain.specs.Act.{Saying, plain}
+use Rattle.sk_plain.specs.Act.{plain}
 use Rattle.sk_kernel.specs.Kernel.{KernelView, events_of, record_at, last_guess}
 use Rattle.sk_kernel.proofs.Lawful.{below_next}
 use Rattle.sk_server.specs.Server.{ServerView}
@@ -35,15 +31,14 @@ use Rattle.sk_client.specs.declared.pending.PendingRequest.{PendingRequest}
 use Rattle.sk_client.specs.declared.world.WorldEvent.{WorldEvent}
 use Rattle.sk_client.proofs.Labels.{bare_event, labelled, is_bare}
 use Rattle.sk_client.proofs.CausedWorld.{Before, For, Caused, Served, kernel, undecided, bare, table}
-use Rattle.sk_client.proofs.CausedLaws.{IsTable, Sets}
 use Rattle.sk_client.proofs.Each.{Each, no_member, cons_first, cons_later, cons_cases, contains_at, at_end, kept_was}
-use Rattle.sk_client.proofs.Invariant.{HasStep}
+use Rattle.sk_client.proofs.Invariant.{HasStep, queue_le}
 use Rattle.sk_client.proofs.Events.{no_guess}
-use Rattle.sk_client.proofs.Queues.{queue_le}
 use Rattle.sk_client.proofs.RequestFacts.{Once, Rising, in_map}
 use Rattle.sk_client.proofs.Seen.{Comes, all_events}
 use Rattle.sk_client.proofs.SeenWorld.{World, all_served, all_waiting, entries_of, from_before, event_before}
 use Rattle.sk_client.proofs.Table.{is_table}
+use Rattle.sk_client.proofs.Tidy.{IsTidy, tidy_start}
 use Rattle.sk_client.proofs.TraceFacts.{entry_drawn}
 use Rattle.sk_client.proofs.WorldFacts.{begun_joined}
 use Rattle.sk_client.proofs.Worlds.{All, Reached}
@@ -56,21 +51,6 @@ each_all X (x ∷ xs) (y ∷ ys) h = (h x y (cons_first x xs), each_all X xs ys 
 once_before : (ns : List Caused) → ((n : Caused) → Contains ns n → n.cause ≡ Before) → Once ns
 once_before [] h = tt
 once_before (n ∷ ns) h = ((λ o there q r n_is o_is same. (let both : Before ≡ For q = sym (h n (cons_first n ns)) ∙ n_is in cc)), once_before ns (λ o there. h o (cons_later n ns o there)))
-
-pub map_front : {A B : Type 0} (f : A → B) (xs ys : List A) (zs : List B) → map f (xs ++ ys) ++ zs ≡ map f xs ++ (map f ys ++ zs)
-map_front f [] ys zs = refl
-map_front f (x ∷ xs) ys zs = ap (λ bs. f x ∷ bs) (map_front f xs ys zs)
-
--- no request at two places
-once_places : (ns : List Caused) → Once ns → (i j : ℕ) (n o : Caused) (q r : PendingRequest) → slice_get ns i ≡ Some n → slice_get ns j ≡ Some o
-    → n.cause ≡ For q → o.cause ≡ For r → q.number ≡ r.number → i ≡ j
-once_places [] h i j n o q r at_i at_j n_is o_is same = cc
-once_places (x ∷ ns) h zero zero n o q r at_i at_j n_is o_is same = refl
-once_places (x ∷ ns) h zero (suc j) n o q r at_i at_j n_is o_is same =
-    let is : x ≡ n = cc in absurd (h.0 o (contains_at ns j o at_j) q r (ap (λ (n : Caused). n.cause) is ∙ n_is) o_is same)
-once_places (x ∷ ns) h (suc i) zero n o q r at_i at_j n_is o_is same =
-    let is : x ≡ o = cc in absurd (h.0 n (contains_at ns i n at_i) r q (ap (λ (n : Caused). n.cause) is ∙ o_is) n_is (sym same))
-once_places (x ∷ ns) h (suc i) (suc j) n o q r at_i at_j n_is o_is same = ap suc (once_places ns h.1 i j n o q r at_i at_j n_is o_is same)
 
 pub rising_places : (xs : List Served) (zs : List PendingRequest) → Rising (map (λ x. x.0) xs ++ zs) → (i j : ℕ) (x y : Served) → slice_get xs i ≡ Some x → slice_get xs j ≡ Some y
     → x.0.number ≡ y.0.number → i ≡ j
@@ -90,18 +70,13 @@ rising_places (z ∷ xs) zs h (suc i) (suc j) x y at_i at_j same = ap suc (risin
 
 module _ {E V W F N : Type 0} (K : System E V W F N) where
   -- an entry of a record, with what its step did
-  entry_at : (X : N → MarkedEffect E V W → Type 0) (s : FinMap K.order V) (ns : List N) → Each X ns (effects K s ns) → (n : N) → Contains ns n
-      → (f : MarkedEffect E V W) × Contains (paired ns (effects K s ns)) (n, f) × X n f
-  entry_at X s [] all n there = absurd (no_member n there)
-  entry_at X s (x ∷ ns) all n there =
+  pub step_at : (s : FinMap K.order V) (ns : List N) (i : ℕ) (n : N) → slice_get ns i ≡ Some n → (f : MarkedEffect E V W) × (slice_get (paired ns (effects K s ns)) i ≡ Some (n, f))
+  step_at s [] i n at = cc
+  step_at s (x ∷ ns) zero n at =
+      let is : x ≡ n = cc in
       let f = marked_effect K (K.mark x) (outcome K s x) in
-      let rest = effects K (after K (outcome K s x) s) ns in
-      elim (cons_cases x ns n there) [
-        | inl is ↦ (f, subst (λ n. Contains ((x, f) ∷ paired ns rest) (n, f)) is (cons_first (x, f) (paired ns rest)), subst (λ n. X n f) is all.0)
-        | inr later ↦
-            let found = entry_at X (after K (outcome K s x) s) ns all.1 n later in
-            (found.0, cons_later (x, f) (paired ns rest) (n, found.0) found.1, found.2)
-      ]
+      (f, ap (λ n. Some (n, f)) is)
+  step_at s (x ∷ ns) (suc i) n at = step_at (after K (outcome K s x) s) ns i n at
 
 pub out_of_map : {A B : Type 0} (g : A → B) (xs : List A) (y : B) → Contains (map g xs) y → (x : A) × Contains xs x × (g x ≡ y)
 out_of_map g [] y h = absurd (no_member y h)
@@ -166,9 +141,8 @@ module _ {E V W F : Type 0} (K : System E V W F Caused) (start : FinMap K.order 
 
 -- ---- a kernel that is ready
 
-ready_table : (k : KernelView) → IsReady k → IsTable (table k.scripts) k.start
-ready_table k r =
-    subst (λ (c : ScriptMap × State). IsTable (table c.0) c.1) (λ i. (sym r.0.scripts i, sym r.0.start i)) (is_table r.0.boot.scripts r.0.boot r.0.numbered)
+ready_tidy : (k : KernelView) → IsReady k → IsTidy k.start
+ready_tidy k r = subst IsTidy (sym r.0.start) (tidy_start r.0.boot r.0.numbered)
 
 -- a kernel that is ready, and a server that has answered nothing, with all that the kernel did before
 abbrev pub first_world : KernelView → ServerView → World
@@ -209,49 +183,48 @@ module _ (k : KernelView) (ready : IsReady k) (server : ServerView) where
   at_first : server.next ≡ 1 → server.refused ≡ [] → Reached (last_guess k) (length (record_at k)) (first_world k server) [] (joined (opened k) server)
   at_first next refused =
       let ns = record_of (kernel (table k.scripts)) k.start es in
-      let T = ready_table k ready in
+      let T = is_table k.scripts in
       record {
         trace = es;
         given = [];
         answered = refl;
         all = record {
-          is_table = T;
+          tidy = ready_tidy k ready;
           traced = record { trace = back (events_of k); sound = ready.0.sound };
           kinds = tt;
           holds = record {
-            made = λ x. some;
-            bad = λ x. false;
-            base = last_guess k;
-            a = last_guess k;
-            base_le = omega arith;
+            core = record {
+              marks = record { made = λ x. some; bad = λ x. false; base = last_guess k; a = last_guess k; base_le = omega arith };
+              sound = sound;
+              drawn = drawn;
+              above = λ y h. absurd (none_open y h);
+              entries = record {
+                own = λ n g there mark above. absurd (let le = drawn g (entry_drawn (kernel (table k.scripts)) k.start es sound g (n, there, mark)) in omega
+                    (arith, le, above));
+                its = λ n q there cause. absurd (never n q there cause);
+                tags = λ y h. absurd (none_open y h);
+                sets = each_all _ ns (effects (kernel (table k.scripts)) k.start ns) (λ n f there q cause good. absurd (never n q there cause));
+              };
+              guesses = record {
+                own = λ x above le. absurd (omega (arith, above, le));
+                stand = λ x above le. absurd (omega (arith, above, le));
+                good = λ x above le. absurd (omega (arith, above, le));
+                early = λ x above le. absurd (omega (arith, above, le));
+                answered = λ y h. absurd (true≢false (sym h));
+                failed = λ x above there. absurd (let le = drawn x ((one_status (kernel (table k.scripts)) T.total T.exact k.start es x sound).0.1
+                    (Failed, there)) in omega (arith, above, le));
+              };
+              queue = refl;
+              remembers = record { undecided = λ y h. absurd (none_open y h); waiting = λ q h. absurd (no_member q h) };
+              answers = λ x h. absurd (no_member x h);
+            };
             within = λ x h. absurd (no_member x h);
-            sound = sound;
-            drawn = drawn;
-            above = λ y h. absurd (none_open y h);
-            entries = record {
-              own = λ n g there mark above. absurd (let le = drawn g (entry_drawn (kernel (table k.scripts)) k.start es sound g (n, there, mark)) in omega (arith, le, above));
-              its = λ n q there cause. absurd (never n q there cause);
-              tags = λ y h. absurd (none_open y h);
-              sets = each_all _ ns (effects (kernel (table k.scripts)) k.start ns) (λ n f there q cause good. absurd (never n q there cause));
-            };
-            guesses = record {
-              own = λ x above le. absurd (omega (arith, above, le));
-              stand = λ x above le. absurd (omega (arith, above, le));
-              good = λ x above le. absurd (omega (arith, above, le));
-              early = λ x above le. absurd (omega (arith, above, le));
-              answered = λ y h. absurd (true≢false (sym h));
-              failed = λ x above there. absurd (let le = drawn x ((one_status (kernel (table k.scripts)) T.total T.exact k.start es x sound).0.1 (Failed, there)) in omega (arith, above, le));
-            };
-            queue = refl;
-            remembers = record { undecided = λ y h. absurd (none_open y h); waiting = λ q h. absurd (no_member q h) };
-            answers = λ x h. absurd (no_member x h);
             stands = λ q m v b h. absurd (no_member (q, Yes) h);
             asked = λ q h. absurd (no_member q h);
             apart = tt;
           };
           facts = record {
             low = omega arith;
-            answers = λ k there good. no_member k there;
             numbers = record { below = λ q none. absurd (no_member q none); rising = tt };
             owners = record {
               good = λ n there _. inl (before n there);
@@ -270,6 +243,7 @@ module _ (k : KernelView) (ready : IsReady k) (server : ServerView) where
             came = λ n q g there _ _ _. there;
             reach = omega arith;
           };
+          answers = λ k there good. no_member k there;
           room = (let place = ready.0.place in omega (arith, place));
         };
       }
@@ -282,14 +256,9 @@ module _ (k : KernelView) (ready : IsReady k) (server : ServerView) where
 
 -- ---- the steps of requests
 
--- a step of the record that was taken for this request, with Good, and sets what the request says
-pub record Stands (w : World) (q : PendingRequest) : Type 0 where
-  pub entry : Caused
-  pub effect : MarkedEffect Entity EntityState Saying
-  pub there : Contains (paired (entries_of w) (effects (kernel (table w.view.desk.kernel.scripts)) w.view.desk.kernel.start (entries_of w))) (entry, effect)
-  pub cause : entry.cause ≡ For q
-  pub input : entry.input ≡ Good
-  pub sets : Sets (table w.view.desk.kernel.scripts) q.ask Good effect.written
+-- a step of the record that was taken for this request, with Good
+abbrev pub Stands : World → PendingRequest → Type 0
+Stands w q = HasStep (table w.view.desk.kernel.scripts) w.view.desk.kernel.start (entries_of w) q
 
 -- a request was made with a guess, or is a store
 abbrev pub IsStepped : PendingRequest → Type 0
@@ -305,12 +274,12 @@ Counts w n = (n.guess ≡ None) ⊎ ((g : ℕ) × (n.guess ≡ Some g) × Contai
 
 module _ (drawn begun : ℕ) (old w : World) (all : All drawn begun old w) where
   -- the step of an accepted request is there
-  pub request_stands : (q : PendingRequest) → Contains (all_served w) (q, Yes) → IsStepped q → IsDueStep w q → HasStep (table w.view.desk.kernel.scripts) w.view.desk.kernel.start (entries_of w) q
+  pub request_stands : (q : PendingRequest) → Contains (all_served w) (q, Yes) → IsStepped q → IsDueStep w q → Stands w q
   request_stands q there steps due =
       let i = all.holds in
       let K = w.view.desk.kernel in
       let s = i.answers (q, Yes) there in
-      elim q.guess as (λ o. q.guess ≡ o → HasStep (table K.scripts) K.start (entries_of w) q) [
+      elim q.guess as (λ o. q.guess ≡ o → Stands w q) [
         | Some g ↦ λ is.
             let own = s.own g is in
             let g_le : g ≤ last_guess K = (let le = queue_le i.made (undecided (table K.scripts) K.start w.trace) (last_guess K) i.base i.a (all_waiting w) i.queue in let low = own.1 in omega (arith, le, low)) in
@@ -327,22 +296,15 @@ module _ (drawn begun : ℕ) (old w : World) (all : All drawn begun old w) where
         ]
       ] refl
 
-  pub step_stands : (q : PendingRequest) → HasStep (table w.view.desk.kernel.scripts) w.view.desk.kernel.start (entries_of w) q → Stands w q
-  step_stands q h =
-      let K = w.view.desk.kernel in
-      let at = entry_at (kernel (table K.scripts)) _ K.start (entries_of w) all.holds.entries.sets h.0 h.1 in
-      record { entry = h.0; effect = at.0; there = at.1; cause = h.2; input = h.3; sets = at.2 q h.2 h.3 }
-
   -- from this world on
   pub since : All drawn begun w w
   since = record {
-    is_table = all.is_table;
+    tidy = all.tidy;
     traced = all.traced;
     kinds = all.kinds;
     holds = all.holds;
     facts = record {
       low = all.facts.low;
-      answers = all.facts.answers;
       numbers = all.facts.numbers;
       owners = all.facts.owners;
       decided = all.facts.decided;
@@ -353,6 +315,7 @@ module _ (drawn begun : ℕ) (old w : World) (all : All drawn begun old w) where
       came = λ n q g there _ _ _. there;
       reach = omega arith;
     };
+    answers = all.answers;
     room = all.room;
   }
 
@@ -382,21 +345,16 @@ module _ (drawn begun : ℕ) (old w : World) (all : All drawn begun old w) where
       ]
 
   -- a request's step counts that was accepted and has its reply
-  pub its_step : (q : PendingRequest) → Contains w.given (q, Yes) → IsStepped q → (s : Stands w q) × Counts w s.entry
-  unfolding step_stands
+  pub its_step : (q : PendingRequest) → Contains w.given (q, Yes) → IsStepped q → (s : Stands w q) × Counts w s.0
   its_step q there steps =
       let h = request_stands q (all.holds.within (q, Yes) there) steps (inr there) in
       let o = all.facts.owners.owner h.0 q h.1 h.2 in (
-        step_stands q h,
+        h,
         elim q.guess as (λ g. q.guess ≡ g → Counts w h.0) [
           | None ↦ λ none. inl (o.1 ∙ none)
           | Some g ↦ λ some. inr (g, o.1 ∙ some, all.facts.decided.committed q g there some)
         ] refl,
       )
-
-  -- no two steps are one request's
-  pub step_once : (i j : ℕ) (n o : Caused) (q r : PendingRequest) → slice_get (entries_of w) i ≡ Some n → slice_get (entries_of w) j ≡ Some o → n.cause ≡ For q → o.cause ≡ For r → q.number ≡ r.number → i ≡ j
-  step_once i j n o q r = once_places (entries_of w) all.facts.owners.once i j n o q r
 
 -- the world of these events, and from there on
 abbrev pub world_of : (drawn begun : ℕ) (old : World) (xs : Exchanges) (v : WorldView) → Reached drawn begun old xs v → World

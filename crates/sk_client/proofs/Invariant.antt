@@ -1,7 +1,8 @@
--- What holds of a world after every list of events.
-use Rattle.std.proofs.Common.{◌≡◌, ℕ, suc, ◌≤◌, ◌<◌, Bool, true, false, not, ◌||◌, List, [], ◌∷◌, Option, Some, None}
-use Rattle.std.specs.Prelude.{◌⊎◌}
-use Rattle.std.specs.List.{Contains}
+-- What holds of a world after every list of events; and how the requests that wait change, and the
+-- refused guesses that the server remembers.
+use Rattle.std.proofs.Common.{◌≡◌, ℕ, suc, ◌≤◌, ◌<◌, Bool, true, false, not, ◌||◌, List, [], ◌∷◌, Option, Some, None, ◌&&◌, ◌++◌, inl, inr, sym, ◌∙◌, ap, subst, arith}
+use Rattle.std.specs.Prelude.{◌⊎◌, ◌==◌, nat_le}
+use Rattle.std.specs.List.{Contains, list_any}
 use Rattle.std.specs.FinMap.{FinMap, get}
 use Rattle.sk_record.specs.Effects.{is_in, dirt}
 use Rattle.sk_record.specs.Run.{run, effects}
@@ -14,12 +15,17 @@ use Rattle.sk_server.specs.declared.request.Ask.{Ask}
 use Rattle.sk_server.specs.declared.request.Ask.TheVariants.{Get, Check, Store}
 use Rattle.sk_server.specs.declared.reply.Answer.TheVariants.{Yes, Dropped, No, Copy}
 use Rattle.sk_client.specs.declared.pending.PendingRequest.{PendingRequest}
-use Rattle.sk_client.proofs.CausedWorld.{For, Caused, Served, Table, kernel, is_lost}
-use Rattle.sk_client.specs.Desk.{name_of}
-use Rattle.sk_client.proofs.CausedLaws.{Takes, Sets}
-use Rattle.sk_client.proofs.Each.{Each}
+use Rattle.sk_client.proofs.CausedWorld.{For, Caused, Served, Table, kernel, is_lost, Takes, Sets}
+use Rattle.sk_client.specs.Desk.{name_of, sent}
+use Rattle.sk_client.proofs.Each.{Each, Pairs, no_member}
 use Rattle.sk_client.specs.Table.{Bytes}
 use Rattle.sk_server.specs.declared.reply.Answer.{Answer}
+use Rattle.std.proofs.lemmas.Bool.{true≢false, eqb-true, le-leb}
+use Rattle.std.proofs.lemmas.List.Elements.{Contains-push_cases}
+use Rattle.sk_record.proofs.Machine.{has_filter}
+use Rattle.sk_record.proofs.UndoStates.{any_at}
+use Rattle.sk_record.proofs.Sound.{any_from}
+use Rattle.sk_server.specs.Server.{remembered, is_dropped}
 
 abbrev pub is_accepted : Answer → Bool
 is_accepted Yes = true
@@ -30,6 +36,14 @@ is_accepted Dropped = false
 abbrev pub counted : Option ℕ → ℕ → ℕ
 counted None a = a
 counted (Some g) a = suc a
+
+-- the request of each guess, the guesses that were refused, how many were drawn before, how many were answered
+pub record Marks : Type 0 where
+  pub made : ℕ → PendingRequest
+  pub bad : ℕ → Bool
+  pub base : ℕ
+  pub a : ℕ
+  pub base_le : base ≤ a
 
 -- the step of a request may carry the tag y
 abbrev pub Allowed : Caused → ℕ → Type 0
@@ -66,8 +80,7 @@ pub record IsServed (made : ℕ → PendingRequest) (bad : ℕ → Bool) (base a
 
 -- asked requests have processes and names of their own
 abbrev pub Apart : List PendingRequest → Type 0
-Apart [] = Unit {0}
-Apart (q ∷ qs) = ((r : PendingRequest) → Contains qs r → q.guess ≡ None → r.guess ≡ None → (q.process ≡ r.process → ⊥) × (name_of q.ask ≡ name_of r.ask → ⊥)) × Apart qs
+Apart qs = Pairs (λ q r. q.guess ≡ None → r.guess ≡ None → (q.process ≡ r.process → ⊥) × (name_of q.ask ≡ name_of r.ask → ⊥)) qs
 
 module _ {E V W F : Type 0} (S : Table E V W F) (start : FinMap S.order V) where
   -- ---- the record
@@ -116,14 +129,10 @@ module _ {E V W F : Type 0} (S : Table E V W F) (start : FinMap S.order V) where
   HasStep ns q = (n : Caused) × Contains ns n × (n.cause ≡ For q) × (n.input ≡ Good)
 
   -- ---- all of it: served requests, those whose reply was given, those without a reply, those that wait, the server's memory
-  pub record Invariant (es : List (Event Caused)) (d : ℕ) (served given : List Served) (pending waiting : List PendingRequest) (memory : List ℕ) : Type 0 where
-    -- the request of each guess, the guesses that were refused, how many were drawn before, how many were answered
-    pub made : ℕ → PendingRequest
-    pub bad : ℕ → Bool
-    pub base : ℕ
-    pub a : ℕ
-    pub base_le : base ≤ a
-    pub within : (x : Served) → Contains given x → Contains served x
+  -- but for what a reply that is given changes
+  pub record Core (es : List (Event Caused)) (d : ℕ) (served : List Served) (waiting : List PendingRequest) (memory : List ℕ) : Type 0 where
+    pub marks : Marks
+    pub open marks use *
     pub sound : IsSound (kernel S) start es
     pub drawn : (g : ℕ) → IsDrawn (kernel S) es g → g ≤ d
     pub above : (y : ℕ) → has y (undecided_of (kernel S) start es) ≡ true → base < y
@@ -132,6 +141,97 @@ module _ {E V W F : Type 0} (S : Table E V W F) (start : FinMap S.order V) where
     pub queue : Queue made (undecided_of (kernel S) start es) d base a waiting
     pub remembers : Remembers bad (undecided_of (kernel S) start es) waiting memory
     pub answers : (x : Served) → Contains served x → IsServed made bad base a S.last x
+
+  pub record Invariant (es : List (Event Caused)) (d : ℕ) (served given : List Served) (pending waiting : List PendingRequest) (memory : List ℕ) : Type 0 where
+    pub core : Core es d served waiting memory
+    pub open core use *
+    pub within : (x : Served) → Contains given x → Contains served x
     pub stands : (q : PendingRequest) (m : Bytes) (v : ℕ) (b : Bytes) → Contains given (q, Yes) → q.ask ≡ Store m v b → q.guess ≡ None → HasStep (record_of (kernel S) start es) q
     pub asked : (q : PendingRequest) → Contains pending q → IsPending es d (record_of (kernel S) start es) (undecided_of (kernel S) start es) q
     pub apart : Apart pending
+
+-- ---- the requests that wait
+
+pub any_of : (p : ℕ → Bool) (xs : List ℕ) (y : ℕ) → has y xs ≡ true → p y ≡ true → list_any p xs ≡ true
+any_of p xs y h is = let z = any_from (λ t. t == y) xs h in any_at p xs z.0 z.1 (ap p (eqb-true z.0 y z.2) ∙ is)
+
+pub queue_le : (made : ℕ → PendingRequest) (us : List ℕ) (d base a : ℕ) (qs : List PendingRequest) → Queue made us d base a qs → a ≤ d
+queue_le made us d base a [] h = omega arith
+queue_le made us d base a (q ∷ qs) h =
+    let rest = queue_le made us d base (counted q.guess a) qs h.1 in
+    elim q.guess as (λ o. counted o a ≤ d → a ≤ d) [ None ↦ λ le. le | Some g ↦ λ le. omega arith ] rest
+
+pub queue_fewer : (made : ℕ → PendingRequest) (us vs : List ℕ) → ((y : ℕ) → has y vs ≡ true → has y us ≡ true) → (d base a : ℕ) (qs : List PendingRequest)
+    → Queue made us d base a qs → Queue made vs d base a qs
+queue_fewer made us vs fewer d base a [] h = h
+queue_fewer made us vs fewer d base a (q ∷ qs) h = (
+  record { own = h.0.own; known = h.0.known; undecided = λ y there. h.0.undecided y (fewer y there); low = h.0.low; after = h.0.after; next = h.0.next },
+  queue_fewer made us vs fewer d base (counted q.guess a) qs h.1,
+)
+
+-- a new request
+pub record Joins (made : ℕ → PendingRequest) (us : List ℕ) (d base : ℕ) (q : PendingRequest) : Type 0 where
+  pub own : (g : ℕ) → q.guess ≡ Some g → (g ≡ suc d) × (made g ≡ q)
+  pub known : (y : ℕ) → has y q.rests ≡ true → (has y us ≡ true) × (base < y) × (y ≤ d)
+  pub undecided : (y : ℕ) → has y us ≡ true → q.settled ≤ y
+  pub next : q.settled ≤ suc d
+
+pub queue_push : (made after : ℕ → PendingRequest) (us vs : List ℕ) (d base : ℕ) (q : PendingRequest) → Joins after us d base q
+    → ((y : ℕ) → has y vs ≡ true → (has y us ≡ true) ⊎ (y ≡ suc d)) → ((x : ℕ) → x ≤ d → after x ≡ made x)
+    → (a : ℕ) (qs : List PendingRequest) → Queue made us d base a qs → Queue after vs (counted q.guess d) base a (qs ++ q ∷ [])
+queue_push made after us vs d base q joins fewer same a [] h =
+    let up : suc d ≤ suc (counted q.guess d) = elim q.guess as (λ o. suc d ≤ suc (counted o d)) [ None ↦ omega arith | Some g ↦ omega arith ] in
+    let next = joins.next in (
+      record {
+        own = λ g is. let o = joins.own g is in (o.0 ∙ ap suc (sym h), o.1);
+        known = λ y there. let k = joins.known y there in (k.1, let le = k.2 in omega arith);
+        undecided = λ y there. elim (fewer y there) [ inl was ↦ joins.undecided y was | inr is ↦ omega arith ];
+        low = λ y there. joins.undecided y (joins.known y there).0;
+        after = λ r none. absurd (no_member r none);
+        next = omega arith;
+      },
+      ap (counted q.guess) h,
+    )
+queue_push made after us vs d base q joins fewer same a (r ∷ qs) h =
+    let le = queue_le made us d base (counted r.guess a) qs h.1 in
+    let up : suc d ≤ suc (counted q.guess d) = elim q.guess as (λ o. suc d ≤ suc (counted o d)) [ None ↦ omega arith | Some g ↦ omega arith ] in
+    let next = h.0.next in (
+      record {
+        own = λ g is.
+            let o = h.0.own g is in
+            let counts : suc a ≤ d = subst (λ o. counted o a ≤ d) is le in
+            (o.0, same g (let is_g = o.0 in omega arith) ∙ o.1);
+        known = h.0.known;
+        undecided = λ y there. elim (fewer y there) [ inl was ↦ h.0.undecided y was | inr is ↦ omega arith ];
+        low = h.0.low;
+        after = λ s there y rests.
+            elim (Contains-push_cases qs q s there) [
+              | inl before ↦ h.0.after s before y rests
+              | inr is ↦ h.0.undecided y (joins.known y (ap (λ (q : PendingRequest). has y q.rests) is ∙ rests)).0
+            ];
+        next = omega arith;
+      },
+      queue_push made after us vs d base q joins fewer same (counted r.guess a) qs h.1,
+    )
+
+-- ---- what the server remembers
+pub remembers_push : (bad : ℕ → Bool) (us vs : List ℕ) (qs : List PendingRequest) (q : PendingRequest) (memory : List ℕ)
+    → ((y : ℕ) → has y vs ≡ true → bad y ≡ true → has y us ≡ true) → ((y : ℕ) → has y q.rests ≡ true → has y us ≡ true)
+    → Remembers bad us qs memory → Remembers bad vs (qs ++ q ∷ []) memory
+remembers_push bad us vs qs q memory fewer rests old = record {
+  undecided = λ y there is. old.undecided y (fewer y there is) is;
+  waiting = λ r there y carries is.
+      elim (Contains-push_cases qs q r there) [
+        | inl before ↦ old.waiting r before y carries is
+        | inr same ↦ old.undecided y (rests y (ap (λ (q : PendingRequest). has y q.rests) same ∙ carries)) is
+      ];
+}
+
+-- what is not below the request's number is not forgotten
+pub still_remembered : (q : PendingRequest) (memory : List ℕ) (y : ℕ) → q.settled ≤ y → has y memory ≡ true → has y (remembered (sent q) memory) ≡ true
+still_remembered q memory y le there =
+    has_filter (λ g. nat_le q.settled g) y memory ∙ (λ i. le-leb q.settled y le i && there i)
+
+-- a request that is not dropped rests on no guess that is remembered
+pub not_dropped : (q : PendingRequest) (memory : List ℕ) → is_dropped (sent q) memory ≡ false → (y : ℕ) → has y q.rests ≡ true → has y memory ≡ true → ⊥
+not_dropped q memory none y rests there = true≢false (sym (any_of (λ g. has g q.rests) memory y there rests) ∙ none)

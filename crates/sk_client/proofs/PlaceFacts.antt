@@ -47,10 +47,6 @@ filter_shorter p g none (x ∷ xs) here =
           elim (p x) as (λ b. length (cond b (x ∷ filter p xs) (filter p xs)) < suc (length xs)) [ true ↦ omega arith | false ↦ omega arith ]
     ]
 
-pub length_push : {A : Type 0} (xs : List A) (x : A) → length (xs ++ x ∷ []) ≡ suc (length xs)
-length_push [] x = refl
-length_push (y ∷ xs) x = ap suc (length_push xs x)
-
 module _ {E V W F N : Type 0} (K : System E V W F N) (start : FinMap K.order V) where
   pub opens_taken : (es : List (Event N)) (n : N) → length (undecided_of K start (es ++ Taken n ∷ [])) ≡ length (undecided_of K start es) + length (marks (K.mark n))
   opens_taken es n = ap (λ (r : Record N). length r.undecided) (recorded_more K start no_record es (Taken n)) ∙ length-append (undecided_of K start es) (marks (K.mark n))
@@ -82,23 +78,24 @@ module _ (k : KernelView) where
 
   pub used_step : (p : ℕ) (input : Input) → used (with_event k (events.Step p input)) ≡ used k + 1
   used_step p input =
-      let a = length_push k.trace (events.Step p input) in
+      let a = length-append k.trace (events.Step p input ∷ []) in
       let b = ap length (open_event (events.Step p input)) ∙ opens_taken (plain k.scripts) k.start (events_of k) (entry p input None) in
       omega (arith, a, b)
 
   pub used_guess : (g p : ℕ) (input : Input) → used (with_event k (events.Guess g p input)) ≡ used k + 2
   used_guess g p input =
-      let a = length_push k.trace (events.Guess g p input) in
+      let a = length-append k.trace (events.Guess g p input ∷ []) in
       let b = ap length (open_event (events.Guess g p input)) ∙ opens_taken (plain k.scripts) k.start (events_of k) (entry p input (Some g)) in
       omega (arith, a, b)
 
-  module _ (g : ℕ) (here : has g (undecided_at k) ≡ true) where
-    pub used_commit : used (with_event k (events.Commit g)) ≤ used k
-    used_commit =
-        let a = length_push k.trace (events.Commit g) in
-        let b = ap length (open_event (events.Commit g)) in
-        let c = opens_commit (plain k.scripts) k.start (events_of k) g here in
-        omega (arith, a, b, c)
+  used_shut : (e : Logged) → length (undecided_of (plain k.scripts) k.start (events_of k ++ image e ∷ [])) < length (undecided_at k) → used (with_event k e) ≤ used k
+  used_shut e less =
+      let a = length-append k.trace (e ∷ []) in
+      let b = ap length (open_event e) in
+      omega (arith, a, b, less)
+
+  pub used_commit : (g : ℕ) → has g (undecided_at k) ≡ true → used (with_event k (events.Commit g)) ≤ used k
+  used_commit g here = used_shut (events.Commit g) (opens_commit (plain k.scripts) k.start (events_of k) g here)
 
 -- ---- a sound trace stays so
 
@@ -134,8 +131,4 @@ module _ (k : KernelView) (sound : HasSoundTrace k) where
     fail_sound = epoch_fail k sound g (sound_more (events.Fail g) fails)
 
     pub used_fail : used (with_event k (events.Fail g)) ≤ used k
-    used_fail =
-        let a = length_push k.trace (events.Fail g) in
-        let b = ap length (open_event k (events.Fail g)) in
-        let c = opens_fail (plain k.scripts) k.start (events_of k) g fails here in
-        omega (arith, a, b, c)
+    used_fail = used_shut k (events.Fail g) (opens_fail (plain k.scripts) k.start (events_of k) g fails here)

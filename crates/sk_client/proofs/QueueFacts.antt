@@ -1,10 +1,11 @@
 -- What is seen of a desk's requests in their queue, and how it changes.
-use Rattle.std.proofs.Common.{take, drop, get_or, set, ◌≡◌, ℕ, suc, ◌+◌, ◌-◌, ◌<◌, ◌≤◌, Bool, true, false, ◌||◌, cond, List, [], ◌∷◌, ◌++◌, All, length, Option, refl, sym, ◌∙◌, ap, subst, arith}
+use Rattle.std.proofs.Common.{take, drop, get_or, set, ◌≡◌, ℕ, suc, ◌+◌, ◌-◌, ◌<◌, ◌≤◌, Bool, true, false, cond, List, [], ◌∷◌, ◌++◌, All, length, Option, refl, sym, ◌∙◌, ap, subst, arith}
 use Rattle.std.specs.List.{filter, list_any}
-use Rattle.std.proofs.lemmas.List.{take-append-drop, length-append, length-map, length-set, map-append, map-set, set-get_or, take-append-le, drop-append-le, drop-map, drop_more, take_more, drop-set-lt, get_or-map}
+use Rattle.std.proofs.lemmas.List.{take-append-drop, length-append, length-map, length-set, map-set, set-get_or, drop-append-le, drop-map, drop_more, take_more, drop-set-lt, get_or-map}
 use Rattle.std.proofs.lemmas.List.Elements.{All-push, All-head, All-tail}
 use Rattle.sk_client.specs.declared.pending.PendingRequest.{PendingRequest}
 use Rattle.sk_client.specs.declared.requests.Queued.{Queued}
+use Rattle.sk_client.proofs.Each.{any_map}
 use Rattle.sk_client.specs.Requests.{requests_in, IsWhole, IsQueue}
 
 -- ---- all of them
@@ -12,15 +13,8 @@ use Rattle.sk_client.specs.Requests.{requests_in, IsWhole, IsQueue}
 whole : (n : ℕ) (qs : List Queued) → take n (requests_in qs) ++ drop n (requests_in qs) ≡ requests_in qs
 whole n qs = take-append-drop n (requests_in qs)
 
-pub length_of : (n : ℕ) (qs : List Queued) → length (take n (requests_in qs) ++ drop n (requests_in qs)) ≡ length qs
-length_of n qs = ap length (whole n qs) ∙ length-map qs (λ q. q.request)
-
-any_in : (p : PendingRequest → Bool) (qs : List Queued) → list_any (λ q. p q.request) qs ≡ list_any p (requests_in qs)
-any_in p [] = refl
-any_in p (q ∷ qs) = ap (λ b. p q.request || b) (any_in p qs)
-
 pub any_of : (p : PendingRequest → Bool) (n : ℕ) (qs : List Queued) → list_any (λ q. p q.request) qs ≡ list_any p (take n (requests_in qs) ++ drop n (requests_in qs))
-any_of p n qs = any_in p qs ∙ ap (list_any p) (sym (whole n qs))
+any_of p n qs = sym (any_map p (λ q. q.request) qs) ∙ ap (list_any p) (sym (whole n qs))
 
 picked : (p : PendingRequest → Bool) (qs : List Queued) → filter p (requests_in qs) ≡ requests_in (filter (λ q. p q.request) qs)
 picked p [] = refl
@@ -36,15 +30,6 @@ count_of p n qs = sym (length-map (filter (λ q. p q.request) qs) (λ q. q.reque
 -- ---- one more
 
 module _ (n : ℕ) (qs : List Queued) (q : Queued) (within : n ≤ length qs) where
-  long : n ≤ length (requests_in qs)
-  long = let same = length-map qs (λ q. q.request) in omega arith
-
-  pub more_taken : take n (requests_in (qs ++ q ∷ [])) ≡ take n (requests_in qs)
-  more_taken = ap (take n) (map-append (λ q. q.request) qs (q ∷ [])) ∙ take-append-le n (requests_in qs) (q.request ∷ []) long
-
-  pub more_waiting : drop n (requests_in (qs ++ q ∷ [])) ≡ drop n (requests_in qs) ++ q.request ∷ []
-  more_waiting = ap (drop n) (map-append (λ q. q.request) qs (q ∷ [])) ∙ drop-append-le n (requests_in qs) (q.request ∷ []) long
-
   pub more_is : All IsWhole (drop n qs) → IsWhole q → IsQueue n (qs ++ q ∷ [])
   more_is all here = record {
     within = (let longer = length-append qs (q ∷ []) in omega arith);

@@ -21,9 +21,8 @@ use Rattle.sk_script.specs.declared.instruction.Input.TheVariants.{Good, Fresh, 
 use Rattle.sk_server.specs.declared.request.Ask.{Ask}
 use Rattle.sk_server.specs.declared.request.Ask.TheVariants.{Get, Check, Store}
 use Rattle.sk_client.specs.declared.pending.PendingRequest.{PendingRequest}
-use Rattle.sk_client.proofs.CausedWorld.{For, Caused, Table, kernel, own, is_lost}
+use Rattle.sk_client.proofs.CausedWorld.{For, Caused, Table, kernel, own, is_lost, Takes, Sets, IsTable, IsEither}
 use Rattle.sk_client.specs.Desk.{name_of}
-use Rattle.sk_client.proofs.CausedLaws.{Takes, Sets, IsTable, IsEither}
 use Rattle.sk_client.proofs.Each.{each_none, kept_was}
 use Rattle.sk_client.proofs.TraceFacts.{each_effects_more, each_hits_more, each_effects_left, each_hits_left, value_taken, dirt_taken, value_left, dirt_left}
 use Rattle.sk_client.proofs.Invariant.{Allowed, Entries, Ready, ReadyFor, tag_at}
@@ -33,7 +32,7 @@ pub not_true : (b : Bool) → not b ≡ true → b ≡ false
 not_true true h = absurd (true≢false (sym h))
 not_true false h = refl
 
-module _ {E V W F : Type 0} (S : Table E V W F) (start : FinMap S.order V) (table : IsTable S start) where
+module _ {E V W F : Type 0} (S : Table E V W F) (start : FinMap S.order V) (table : IsTable S) where
   abbrev pub Quiet : Effect E V W → ℕ → Bytes → Type 0
   Quiet f p m = (Contains (map (λ w. w.0) f.written) (S.proc p) → ⊥) × (Contains (map (λ w. w.0) f.written) (S.copy m) → ⊥)
 
@@ -90,11 +89,7 @@ module _ {E V W F : Type 0} (S : Table E V W F) (start : FinMap S.order V) (tabl
             ]))
       ]
 
-  -- ---- a commit, and a failure
-  pub entries_fewer : (made : ℕ → PendingRequest) (base : ℕ) (ns : List Caused) (us vs : List ℕ) → ((y : ℕ) → has y vs ≡ true → has y us ≡ true)
-      → Entries S start made base ns us → Entries S start made base ns vs
-  entries_fewer made base ns us vs fewer old = record { own = old.own; its = old.its; tags = λ y there. old.tags y (fewer y there); sets = old.sets }
-
+  -- ---- a failure
   pub entries_failed : (made : ℕ → PendingRequest) (base : ℕ) (ns : List Caused) (us vs : List ℕ) → IsLegal (kernel S) start ns → (h : ℕ)
       → ((y : ℕ) → has y vs ≡ true → has y us ≡ true) → Entries S start made base ns us → Entries S start made base (strike (kernel S) start ns h) vs
   entries_failed made base ns us vs legal h fewer old =

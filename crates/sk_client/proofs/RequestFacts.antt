@@ -1,5 +1,5 @@
 -- What holds of a world's requests beside the invariant: kept answers, request numbers, the request of each entry, and commits.
-use Rattle.std.proofs.Common.{◌≡◌, ℕ, suc, ◌≤◌, ◌<◌, Bool, true, false, List, [], ◌∷◌, ◌++◌, map, Some, None, inl, inr, refl, sym, ◌∙◌, ap, subst, arith, append_assoc, slice_get}
+use Rattle.std.proofs.Common.{◌≡◌, ℕ, suc, ◌≤◌, ◌<◌, Bool, true, false, List, [], ◌∷◌, ◌++◌, map, Some, None, inl, inr, refl, sym, ◌∙◌, ap, subst, arith, le_trans, append_assoc, slice_get}
 use Rattle.std.specs.Prelude.{◌⊎◌}
 use Rattle.std.specs.List.{Contains}
 use Rattle.std.specs.FinMap.{FinMap}
@@ -14,24 +14,13 @@ use Rattle.sk_server.specs.declared.reply.Answer.TheVariants.{Yes}
 use Rattle.sk_client.specs.declared.pending.PendingRequest.{PendingRequest}
 use Rattle.sk_client.proofs.CausedWorld.{Before, Own, For, Caused, Served, Table, kernel}
 use Rattle.sk_client.proofs.SeenWorld.{World, all_served, all_waiting, entries_of}
-use Rattle.sk_client.proofs.Each.{cons_first, cons_later, cons_cases, no_member, kept_was, at_push, at_kept}
+use Rattle.sk_client.proofs.Each.{Pairs, pairs_push, cons_first, cons_later, cons_cases, no_member, kept_was, at_push, at_kept}
 use Rattle.sk_client.proofs.Events.{no_guess}
-use Rattle.sk_client.specs.declared.pending.Kept.{Kept}
+use Rattle.sk_client.specs.declared.pending.KeptAnswer.{KeptAnswer}
 
 -- ---- request numbers
 abbrev pub Rising : List PendingRequest → Type 0
-Rising [] = Unit {0}
-Rising (q ∷ qs) = ((r : PendingRequest) → Contains qs r → q.number < r.number) × Rising qs
-
-pub rising_push : (qs : List PendingRequest) (q : PendingRequest) → Rising qs → ((r : PendingRequest) → Contains qs r → r.number < q.number) → Rising (qs ++ q ∷ [])
-rising_push [] q h below = ((λ r none. absurd (no_member r none)), tt)
-rising_push (x ∷ qs) q h below = (
-  (λ r there. elim (Contains-push_cases qs q r there) [
-    | inl before ↦ h.0 r before
-    | inr is ↦ subst (λ (r : PendingRequest). x.number < r.number) is (below x (cons_first x qs))
-  ]),
-  rising_push qs q h.1 (λ r there. below r (cons_later x qs r there)),
-)
+Rising qs = Pairs (λ q r. q.number < r.number) qs
 
 pub rising_same : (qs : List PendingRequest) → Rising qs → (q r : PendingRequest) → Contains qs q → Contains qs r → q.number ≡ r.number → q ≡ r
 rising_same [] h q r q_in r_in same = absurd (no_member q q_in)
@@ -47,14 +36,6 @@ rising_same (x ∷ qs) h q r q_in r_in same =
       ]
     ]
 
-pub rising_before : (xs : List PendingRequest) (q : PendingRequest) (ys : List PendingRequest) → Rising (xs ++ q ∷ ys) → (r : PendingRequest) → Contains xs r → r.number < q.number
-rising_before [] q ys h r none = absurd (no_member r none)
-rising_before (x ∷ xs) q ys h r there =
-    elim (cons_cases x xs r there) [
-      | inl is ↦ subst (λ (r : PendingRequest). r.number < q.number) is (h.0 q (Contains-append_right xs (q ∷ ys) q (cons_first q ys)))
-      | inr later ↦ rising_before xs q ys h.1 r later
-    ]
-
 pub rising_apart : (xs ys : List PendingRequest) → Rising (xs ++ ys) → (q r : PendingRequest) → Contains xs q → Contains ys r → q.number < r.number
 rising_apart [] ys h q r none there = absurd (no_member q none)
 rising_apart (x ∷ xs) ys h q r here there =
@@ -65,25 +46,13 @@ rising_apart (x ∷ xs) ys h q r here there =
 
 -- no two entries are one request's
 abbrev pub Once : List Caused → Type 0
-Once [] = Unit {0}
-Once (n ∷ ns) = ((o : Caused) → Contains ns o → (q r : PendingRequest) → n.cause ≡ For q → o.cause ≡ For r → q.number ≡ r.number → ⊥) × Once ns
+Once ns = Pairs (λ n o. (q r : PendingRequest) → n.cause ≡ For q → o.cause ≡ For r → q.number ≡ r.number → ⊥) ns
 
 pub once_keep : (bs : List Bool) (ns : List Caused) → Once ns → Once (keep bs ns)
 once_keep [] ns h = h
 once_keep (b ∷ bs) [] h = tt
 once_keep (true ∷ bs) (n ∷ ns) h = once_keep bs ns h.1
 once_keep (false ∷ bs) (n ∷ ns) h = ((λ o there. h.0 o (kept_was bs ns o there)), once_keep bs ns h.1)
-
-pub once_push : (ns : List Caused) (n : Caused) → Once ns
-    → ((o : Caused) → Contains ns o → (q r : PendingRequest) → o.cause ≡ For q → n.cause ≡ For r → q.number ≡ r.number → ⊥) → Once (ns ++ n ∷ [])
-once_push [] n h new = ((λ o none. absurd (no_member o none)), tt)
-once_push (x ∷ ns) n h new = (
-  (λ o there. elim (Contains-push_cases ns n o there) [
-    | inl before ↦ h.0 o before
-    | inr is ↦ λ q r x_is o_is same. new x (cons_first x ns) q r x_is (ap (λ (n : Caused). n.cause) is ∙ o_is) same
-  ]),
-  once_push ns n h.1 (λ o there. new o (cons_later x ns o there)),
-)
 
 pub record Numbers (next : ℕ) (qs : List PendingRequest) : Type 0 where
   pub below : (q : PendingRequest) → Contains qs q → q.number < next
@@ -95,7 +64,7 @@ numbers_push next qs q is h = record {
     | inl before ↦ let lt = h.below r before in omega arith
     | inr same ↦ let eq = ap (λ (r : PendingRequest). r.number) same in omega arith
   ];
-  rising = rising_push qs q h.rising (λ r there. let lt = h.below r there in omega arith);
+  rising = pairs_push (λ (q r : PendingRequest). q.number < r.number) qs q h.rising (λ r there. let lt = h.below r there in omega arith);
 }
 
 -- ---- the request of each entry
@@ -132,7 +101,7 @@ owners_own drawn ns n given qs own bad h =
       good = λ o there good. elim (Contains-push_cases ns n o there) [ inl before ↦ h.good o before good | inr is ↦ absurd (bad (ap (λ (n : Caused). n.input) is ∙ good)) ];
       owner = λ o q there for. elim (Contains-push_cases ns n o there) [ inl before ↦ h.owner o q before for | inr is ↦ absurd (not_for o is q for) ];
       asked = λ o q there for asks. elim (Contains-push_cases ns n o there) [ inl before ↦ h.asked o q before for asks | inr is ↦ absurd (not_for o is q for) ];
-      once = once_push ns n h.once (λ o there q r o_is n_is same. not_for n refl r n_is);
+      once = pairs_push _ ns n h.once (λ o there q r o_is n_is same. not_for n refl r n_is);
     }
 
 -- the entry of a request
@@ -162,7 +131,7 @@ owners_for drawn ns n q given qs own there mark above asks new h =
             let a = asks (ap (λ (r : PendingRequest). r.guess) one ∙ none) in
             (a.0, subst (λ r. Contains given (r, a.0)) one a.1, λ good. a.2 (ap (λ (n : Caused). n.input) is ∙ good))
       ];
-      once = once_push ns n h.once (λ o o_in r s o_is n_is numbers. new o r o_in o_is (numbers ∙ ap (λ (r : PendingRequest). r.number) (sym (same n refl s n_is))));
+      once = pairs_push _ ns n h.once (λ o o_in r s o_is n_is numbers. new o r o_in o_is (numbers ∙ ap (λ (r : PendingRequest). r.number) (sym (same n refl s n_is))));
     }
 
 -- ---- what was committed
@@ -203,13 +172,9 @@ decided_commit drawn es given q g its h = record {
 }
 
 -- ---- lists of requests
-pub map_push : {A B : Type 0} (f : A → B) (xs : List A) (x : A) (ys : List B) → map f (xs ++ x ∷ []) ++ ys ≡ map f xs ++ f x ∷ ys
-map_push f [] x ys = refl
-map_push f (y ∷ xs) x ys = ap (λ zs. f y ∷ zs) (map_push f xs x ys)
-
-map_split : {A B : Type 0} (f : A → B) (xs : List A) (x : A) (rest : List A) (ys : List B) → map f (xs ++ x ∷ rest) ++ ys ≡ map f xs ++ f x ∷ (map f rest ++ ys)
-map_split f [] x rest ys = refl
-map_split f (y ∷ xs) x rest ys = ap (λ zs. f y ∷ zs) (map_split f xs x rest ys)
+pub map_front : {A B : Type 0} (f : A → B) (xs ys : List A) (zs : List B) → map f (xs ++ ys) ++ zs ≡ map f xs ++ (map f ys ++ zs)
+map_front f [] ys zs = refl
+map_front f (x ∷ xs) ys zs = ap (λ bs. f x ∷ bs) (map_front f xs ys zs)
 
 pub in_map : {A B : Type 0} (f : A → B) (xs : List A) (x : A) → Contains xs x → Contains (map f xs) (f x)
 in_map f [] x there = absurd (no_member x there)
@@ -220,8 +185,8 @@ in_map f (y ∷ xs) x there =
     ]
 
 -- no process is kept a Good
-abbrev pub NoGood : List Kept → Type 0
-NoGood ks = (k : Kept) → Contains ks k → k.input ≡ Good → ⊥
+abbrev pub NoGood : List KeptAnswer → Type 0
+NoGood ks = (k : KeptAnswer) → Contains ks k → k.input ≡ Good → ⊥
 
 -- ---- what is in a record from this place on was not there before
 abbrev pub IsNew : ℕ → List Caused → Type 0
@@ -242,14 +207,16 @@ module _ {E V W F : Type 0} (S : Table E V W F) (start : FinMap S.order V) (draw
   abbrev pub requests : List Served → List PendingRequest → List PendingRequest
   requests served waiting = map (λ x. x.0) served ++ waiting
 
+  requests_push : (served : List Served) (waiting : List PendingRequest) (q : PendingRequest) → requests served waiting ++ q ∷ [] ≡ requests served (waiting ++ q ∷ [])
+  requests_push served waiting q = append_assoc (map (λ (x : Served). x.0) served) waiting (q ∷ [])
+
   abbrev pub Came : List Caused → Type 0
   Came ns =
       (n : Caused) (q : PendingRequest) (g : ℕ) → Contains ns n → n.cause ≡ For q → q.guess ≡ Some g → q.number < old.view.desk.next
       → Contains (entries_of old) n
 
-  pub record RequestFacts (es : List (Event Caused)) (d : ℕ) (kept : List Kept) (next : ℕ) (served given : List Served) (waiting : List PendingRequest) : Type 0 where
+  pub record RequestFacts (es : List (Event Caused)) (d : ℕ) (next : ℕ) (served given : List Served) (waiting : List PendingRequest) : Type 0 where
     pub low : drawn ≤ d
-    pub answers : NoGood kept
     pub numbers : Numbers next (requests served waiting)
     pub owners : Owners drawn (record_of (kernel S) start es) given (requests served waiting)
     pub decided : Decided drawn es given
@@ -263,17 +230,14 @@ module _ {E V W F : Type 0} (S : Table E V W F) (start : FinMap S.order V) (draw
     pub came : Came (record_of (kernel S) start es)
     pub reach : old.view.desk.next ≤ next
 
-  module _ (es : List (Event Caused)) (d : ℕ) (kept : List Kept) (next : ℕ) (served given : List Served) (waiting : List PendingRequest)
-      (t : RequestFacts es d kept next served given waiting) where
-    pub facts_kept : (after : List Kept) → NoGood after → RequestFacts es d after next served given waiting
-    facts_kept after answers = record { low = t.low; answers = answers; numbers = t.numbers; owners = t.owners; decided = t.decided; still_served = t.still_served; still_given = t.still_given; still_made = t.still_made; new = t.new; came = t.came; reach = t.reach }
-
+  module _ (es : List (Event Caused)) (d : ℕ) (next : ℕ) (served given : List Served) (waiting : List PendingRequest)
+      (t : RequestFacts es d next served given waiting) where
     -- after these events, with these replies given
-    facts_event : (later : List (Event Caused)) (more : List Served) → ((x : Served) → Contains given x → Contains more x) → IsNew begun (record_of (kernel S) start later) → Came (record_of (kernel S) start later)
-        → Owners drawn (record_of (kernel S) start later) more (requests served waiting) → Decided drawn later more → RequestFacts later d kept next served more waiting
-    facts_event later more kept_given new came owners decided = record {
-      low = t.low;
-      answers = t.answers;
+    facts_event : (e : ℕ) (later : List (Event Caused)) (more : List Served) → d ≤ e → ((x : Served) → Contains given x → Contains more x) → IsNew begun (record_of (kernel S) start later)
+        → Came (record_of (kernel S) start later) → Owners drawn (record_of (kernel S) start later) more (requests served waiting) → Decided drawn later more
+        → RequestFacts later e next served more waiting
+    facts_event e later more le kept_given new came owners decided = record {
+      low = le_trans t.low le;
       numbers = t.numbers;
       owners = owners;
       decided = decided;
@@ -297,87 +261,70 @@ module _ {E V W F : Type 0} (S : Table E V W F) (start : FinMap S.order V) (draw
           | inr is ↦ absurd (none q g (ap (λ (n : Caused). n.cause) is ∙ for) its was)
         ])
 
-    pub facts_own : (n : Caused) → n.cause ≡ Own → (n.input ≡ Good → ⊥) → RequestFacts (es ++ Taken n ∷ []) d kept next served given waiting
+    pub facts_own : (n : Caused) → n.cause ≡ Own → (n.input ≡ Good → ⊥) → RequestFacts (es ++ Taken n ∷ []) d next served given waiting
     facts_own n own bad =
-        facts_event (es ++ Taken n ∷ []) given (λ x there. there)
+        facts_event d (es ++ Taken n ∷ []) given (omega arith) (λ x there. there)
         (new_taken n (λ before. (let both : Own ≡ Before = sym own ∙ before in cc)))
         (came_taken n (λ q g for its was. (let both : Own ≡ For q = sym own ∙ for in cc)))
         (subst (λ ns. Owners drawn ns given (requests served waiting)) (sym (record_more (kernel S) start es (Taken n)))
         (owners_own drawn (record_of (kernel S) start es) n given (requests served waiting) own bad t.owners))
         (decided_other drawn es (Taken n) given (λ g is. cc) t.decided)
 
-    requests_push : (q : PendingRequest) → requests served waiting ++ q ∷ [] ≡ requests served (waiting ++ q ∷ [])
-    requests_push q = append_assoc (map (λ (x : Served). x.0) served) waiting (q ∷ [])
-
-    pub facts_ask : (q : PendingRequest) → q.number ≡ next → RequestFacts es d kept (suc next) served given (waiting ++ q ∷ [])
-    facts_ask q is = record {
+    -- with these requests
+    facts_listed : (n : ℕ) (more : List Served) (later : List PendingRequest) → next ≤ n → ((x : Served) → Contains served x → Contains more x) → Numbers n (requests more later)
+        → ((q : PendingRequest) → Contains (requests served waiting) q → Contains (requests more later) q) → RequestFacts es d n more given later
+    facts_listed n more later le still numbers made = record {
       low = t.low;
-      answers = t.answers;
-      came = t.came;
-      reach = (let le = t.reach in omega arith);
-      still_served = t.still_served;
-      still_given = t.still_given;
-      still_made = λ r there. subst (λ rs. Contains rs r) (requests_push q) (Contains-append_left (requests served waiting) (q ∷ []) r (t.still_made r there));
-      new = t.new;
-      numbers = subst (Numbers (suc next)) (requests_push q) (numbers_push next (requests served waiting) q is t.numbers);
-      owners = subst (Owners drawn (record_of (kernel S) start es) given) (requests_push q)
-          (owners_more drawn (record_of (kernel S) start es) given given (requests served waiting) (requests served waiting ++ q ∷ []) (λ x there. there)
-          (λ r there. Contains-append_left (requests served waiting) (q ∷ []) r there) t.owners);
+      numbers = numbers;
+      owners = owners_more drawn (record_of (kernel S) start es) given given (requests served waiting) (requests more later) (λ x there. there) made t.owners;
       decided = t.decided;
+      still_served = λ x there. still x (t.still_served x there);
+      still_given = t.still_given;
+      still_made = λ q there. made q (t.still_made q there);
+      new = t.new;
+      came = t.came;
+      reach = le_trans t.reach le;
     }
 
-    pub facts_guess : (q : PendingRequest) (n : Caused) → q.number ≡ next → q.guess ≡ Some (suc d) → n.cause ≡ For q → n.guess ≡ q.guess
-        → RequestFacts (es ++ Taken n ∷ []) (suc d) kept (suc next) served given (waiting ++ q ∷ [])
-    facts_guess q n is guess own mark =
-        let asks = facts_ask q is in
+    pub facts_ask : (q : PendingRequest) → q.number ≡ next → RequestFacts es d (suc next) served given (waiting ++ q ∷ [])
+    facts_ask q is =
+        let same = requests_push served waiting q in
+        facts_listed (suc next) served (waiting ++ q ∷ []) (omega arith) (λ x there. there) (subst (Numbers (suc next)) same (numbers_push next (requests served waiting) q is t.numbers))
+        (λ r there. subst (λ rs. Contains rs r) same (Contains-append_left (requests served waiting) (q ∷ []) r there))
+
+  module _ (es : List (Event Caused)) (d : ℕ) (next : ℕ) (served given : List Served) where
+    pub facts_serve : (q : PendingRequest) (a : Answer) (waiting : List PendingRequest) → RequestFacts es d next served given (q ∷ waiting) → RequestFacts es d next (served ++ (q, a) ∷ []) given waiting
+    facts_serve q a waiting t =
+        let same : requests served (q ∷ waiting) ≡ requests (served ++ (q, a) ∷ []) waiting = sym (map_front (λ (x : Served). x.0) served ((q, a) ∷ []) waiting) in
+        facts_listed es d next served given (q ∷ waiting) t next (served ++ (q, a) ∷ []) waiting (omega arith) (λ x there. Contains-append_left served ((q, a) ∷ []) x there)
+        (subst (Numbers next) same t.numbers) (λ r there. subst (λ rs. Contains rs r) same there)
+
+    pub facts_guess : (waiting : List PendingRequest) (t : RequestFacts es d next served given waiting) (q : PendingRequest) (n : Caused) → q.number ≡ next → q.guess ≡ Some (suc d)
+        → n.cause ≡ For q → n.guess ≡ q.guess → RequestFacts (es ++ Taken n ∷ []) (suc d) (suc next) served given (waiting ++ q ∷ [])
+    facts_guess waiting t q n is guess own mark =
+        let asks = facts_ask es d next served given waiting t q is in
         let rs = requests served (waiting ++ q ∷ []) in
         let low = t.low in
-        record {
-          low = omega arith;
-          answers = t.answers;
-          came = came_taken n (λ r g for its was.
-              let both : For q ≡ For r = sym own ∙ for in
-              let one : q ≡ r = cc in
-              let eq = ap (λ (r : PendingRequest). r.number) one in
-              let le = t.reach in
-              omega (arith, eq, le, was, is));
-          reach = asks.reach;
-          still_served = t.still_served;
-          still_given = t.still_given;
-          still_made = asks.still_made;
-          new = new_taken n (λ before. (let both : For q ≡ Before = sym own ∙ before in cc));
-          numbers = asks.numbers;
-          owners = subst (λ ns. Owners drawn ns given rs) (sym (record_more (kernel S) start es (Taken n)))
-              (owners_for drawn (record_of (kernel S) start es) n q given rs own
-              (subst (λ rs. Contains rs q) (requests_push q) (Contains-push (requests served waiting) q)) mark
-              (λ g g_is. (let both : Some (suc d) ≡ Some g = sym guess ∙ g_is in let one : suc d ≡ g = cc in omega arith))
-              (λ none. absurd (no_guess q.guess (suc d) none guess))
-              (λ o r o_in o_is same. let lt = t.numbers.below r (t.owners.owner o r o_in o_is).0 in omega arith)
-              asks.owners);
-          decided = decided_other drawn es (Taken n) given (λ g e. cc) t.decided;
-        }
-
-  module _ (es : List (Event Caused)) (d : ℕ) (kept : List Kept) (next : ℕ) (served given : List Served) where
-    pub facts_serve : (q : PendingRequest) (a : Answer) (waiting : List PendingRequest) → RequestFacts es d kept next served given (q ∷ waiting) → RequestFacts es d kept next (served ++ (q, a) ∷ []) given waiting
-    facts_serve q a waiting t =
-        let same : requests (served ++ (q, a) ∷ []) waiting ≡ requests served (q ∷ waiting) = map_push (λ (x : Served). x.0) served (q, a) waiting in
-        record {
-          low = t.low;
-          answers = t.answers;
-          came = t.came;
-          reach = t.reach;
-          still_served = λ x there. Contains-append_left served ((q, a) ∷ []) x (t.still_served x there);
-          still_given = t.still_given;
-          still_made = λ r there. subst (λ rs. Contains rs r) (sym same) (t.still_made r there);
-          new = t.new;
-          numbers = subst (Numbers next) (sym same) t.numbers;
-          owners = subst (Owners drawn (record_of (kernel S) start es) given) (sym same) t.owners;
-          decided = t.decided;
-        }
+        facts_event es d (suc next) served given (waiting ++ q ∷ []) asks (suc d) (es ++ Taken n ∷ []) given (omega arith) (λ x there. there)
+        (new_taken es d next served given waiting t n (λ before. (let both : For q ≡ Before = sym own ∙ before in cc)))
+        (came_taken es d next served given waiting t n (λ r g for its was.
+        let both : For q ≡ For r = sym own ∙ for in
+        let one : q ≡ r = cc in
+        let eq = ap (λ (r : PendingRequest). r.number) one in
+        let le = t.reach in
+        omega (arith, eq, le, was, is)))
+        (subst (λ ns. Owners drawn ns given rs) (sym (record_more (kernel S) start es (Taken n)))
+        (owners_for drawn (record_of (kernel S) start es) n q given rs own
+        (subst (λ rs. Contains rs q) (requests_push served waiting q) (Contains-push (requests served waiting) q)) mark
+        (λ g g_is. (let both : Some (suc d) ≡ Some g = sym guess ∙ g_is in let one : suc d ≡ g = cc in omega arith))
+        (λ none. absurd (no_guess q.guess (suc d) none guess))
+        (λ o r o_in o_is same. let lt = t.numbers.below r (t.owners.owner o r o_in o_is).0 in omega arith)
+        asks.owners))
+        (decided_other drawn es (Taken n) given (λ g e. cc) t.decided)
 
   -- a reply x is given
-  module _ (es : List (Event Caused)) (d : ℕ) (kept : List Kept) (next : ℕ) (served given : List Served) (waiting : List PendingRequest)
-      (t : RequestFacts es d kept next served given waiting) where
+  module _ (es : List (Event Caused)) (d : ℕ) (next : ℕ) (served given : List Served) (waiting : List PendingRequest)
+      (t : RequestFacts es d next served given waiting) where
     given_owners : (x : Served) → Owners drawn (record_of (kernel S) start es) (given ++ x ∷ []) (requests served waiting)
     given_owners x =
         owners_more drawn (record_of (kernel S) start es) given (given ++ x ∷ []) (requests served waiting) (requests served waiting) (λ y there. Contains-append_left given (x ∷ []) y there) (λ r there. there) t.owners
@@ -385,38 +332,38 @@ module _ {E V W F : Type 0} (S : Table E V W F) (start : FinMap S.order V) (draw
     keeps_given : (x y : Served) → Contains given y → Contains (given ++ x ∷ []) y
     keeps_given x y there = Contains-append_left given (x ∷ []) y there
 
-    pub facts_none : (x : Served) → ((g : ℕ) → x.1 ≡ Yes → x.0.guess ≡ Some g → Contains es (Commit g)) → RequestFacts es d kept next served (given ++ x ∷ []) waiting
-    facts_none x new = facts_event es d kept next served given waiting t es (given ++ x ∷ []) (keeps_given x) t.new t.came (given_owners x) (decided_given drawn es given x new t.decided)
+    pub facts_none : (x : Served) → ((g : ℕ) → x.1 ≡ Yes → x.0.guess ≡ Some g → Contains es (Commit g)) → RequestFacts es d next served (given ++ x ∷ []) waiting
+    facts_none x new = facts_event es d next served given waiting t d es (given ++ x ∷ []) (omega arith) (keeps_given x) t.new t.came (given_owners x) (decided_given drawn es given x new t.decided)
 
-    pub facts_commit : (q : PendingRequest) (g : ℕ) → q.guess ≡ Some g → RequestFacts (es ++ Commit g ∷ []) d kept next served (given ++ (q, Yes) ∷ []) waiting
+    pub facts_commit : (q : PendingRequest) (g : ℕ) → q.guess ≡ Some g → RequestFacts (es ++ Commit g ∷ []) d next served (given ++ (q, Yes) ∷ []) waiting
     facts_commit q g its =
         let same = sym (record_more (kernel S) start es (Commit g)) in
-        facts_event es d kept next served given waiting t (es ++ Commit g ∷ []) (given ++ (q, Yes) ∷ []) (keeps_given (q, Yes)) (subst (IsNew begun) same t.new) (subst Came same t.came)
+        facts_event es d next served given waiting t d (es ++ Commit g ∷ []) (given ++ (q, Yes) ∷ []) (omega arith) (keeps_given (q, Yes)) (subst (IsNew begun) same t.new) (subst Came same t.came)
         (subst (λ ns. Owners drawn ns (given ++ (q, Yes) ∷ []) (requests served waiting)) same (given_owners (q, Yes)))
         (decided_commit drawn es given q g its t.decided)
 
-    pub facts_fail : (x : Served) (g : ℕ) → (x.1 ≡ Yes → ⊥) → RequestFacts (es ++ Fail g ∷ []) d kept next served (given ++ x ∷ []) waiting
+    pub facts_fail : (x : Served) (g : ℕ) → (x.1 ≡ Yes → ⊥) → RequestFacts (es ++ Fail g ∷ []) d next served (given ++ x ∷ []) waiting
     facts_fail x g no_yes =
         let ns = record_of (kernel S) start es in
         let bs = struck (kernel S) start ns g in
         let same = sym (record_more (kernel S) start es (Fail g)) in
-        facts_event es d kept next served given waiting t (es ++ Fail g ∷ []) (given ++ x ∷ []) (keeps_given x) (subst (IsNew begun) same (new_keep begun bs ns t.new))
+        facts_event es d next served given waiting t d (es ++ Fail g ∷ []) (given ++ x ∷ []) (omega arith) (keeps_given x) (subst (IsNew begun) same (new_keep begun bs ns t.new))
         (subst Came same (λ o r h there. t.came o r h (kept_was bs ns o there)))
         (subst (λ ns. Owners drawn ns (given ++ x ∷ []) (requests served waiting)) same (owners_keep drawn bs ns (given ++ x ∷ []) (requests served waiting) (given_owners x)))
         (decided_given drawn (es ++ Fail g ∷ []) given x (λ h says. absurd (no_yes says)) (decided_other drawn es (Fail g) given (λ h e. cc) t.decided))
 
     -- the step of an asked request, which is the first that has no reply
     pub facts_step : (q : PendingRequest) (a : Answer) (rest : List Served) (n : Caused) → served ≡ given ++ (q, a) ∷ rest → n.cause ≡ For q → n.guess ≡ None → q.guess ≡ None
-        → (n.input ≡ Good → a ≡ Yes) → RequestFacts (es ++ Taken n ∷ []) d kept next served (given ++ (q, a) ∷ []) waiting
+        → (n.input ≡ Good → a ≡ Yes) → RequestFacts (es ++ Taken n ∷ []) d next served (given ++ (q, a) ∷ []) waiting
     facts_step q a rest n split own mark asks good =
         let ns = record_of (kernel S) start es in
         let rs = requests served waiting in
         let order : rs ≡ map (λ x. x.0) given ++ q ∷ (map (λ x. x.0) rest ++ waiting) =
-        ap (λ xs. requests xs waiting) split ∙ map_split (λ (x : Served). x.0) given (q, a) rest waiting in
+        ap (λ xs. requests xs waiting) split ∙ map_front (λ (x : Served). x.0) given ((q, a) ∷ rest) waiting in
         let there : Contains rs q = subst (λ rs. Contains rs q) (sym order) (Contains-append_right (map (λ x. x.0) given) (q ∷ (map (λ x. x.0) rest ++ waiting)) q (cons_first q (map (λ x. x.0) rest ++ waiting))) in
-        facts_event es d kept next served given waiting t (es ++ Taken n ∷ []) (given ++ (q, a) ∷ []) (keeps_given (q, a))
-        (new_taken es d kept next served given waiting t n (λ before. (let both : For q ≡ Before = sym own ∙ before in cc)))
-        (came_taken es d kept next served given waiting t n (λ r g for its _.
+        facts_event es d next served given waiting t d (es ++ Taken n ∷ []) (given ++ (q, a) ∷ []) (omega arith) (keeps_given (q, a))
+        (new_taken es d next served given waiting t n (λ before. (let both : For q ≡ Before = sym own ∙ before in cc)))
+        (came_taken es d next served given waiting t n (λ r g for its _.
         let both : For q ≡ For r = sym own ∙ for in
         let one : q ≡ r = cc in
         no_guess q.guess g asks (ap (λ (r : PendingRequest). r.guess) one ∙ its)))
@@ -427,7 +374,8 @@ module _ {E V W F : Type 0} (S : Table E V W F) (start : FinMap S.order V) (draw
         let r_in = (t.owners.owner o r o_in o_is).0 in
         let one : r ≡ q = rising_same rs t.numbers.rising r q r_in there same in
         let old = t.owners.asked o r o_in o_is (ap (λ (r : PendingRequest). r.guess) one ∙ asks) in
-        let lt = rising_before (map (λ x. x.0) given) q (map (λ x. x.0) rest ++ waiting) (subst Rising order t.numbers.rising) r (in_map (λ (x : Served). x.0) given (r, old.0) old.1) in
+        let lt = rising_apart (map (λ x. x.0) given) (q ∷ (map (λ x. x.0) rest ++ waiting)) (subst Rising order t.numbers.rising) r q
+        (in_map (λ (x : Served). x.0) given (r, old.0) old.1) (cons_first q (map (λ x. x.0) rest ++ waiting)) in
         omega arith)
         (given_owners (q, a))))
         (decided_given drawn (es ++ Taken n ∷ []) given (q, a) (λ g says its. absurd (no_guess q.guess g asks its)) (decided_other drawn es (Taken n) given (λ h e. cc) t.decided))

@@ -1,10 +1,11 @@
--- What every row of the table writes: the process, and beside it an entity that is no process, or a child and what it is born with.
-use Rattle.std.proofs.Common.{◌≡◌, ℕ, suc, ◌+◌, Bool, true, false, cond, ◌&&◌, List, [], ◌∷◌, map, Option, Some, None, inl, inr, refl, sym, ◌∙◌, subst, arith}
-use Rattle.std.specs.Prelude.{◌⊎◌, ◌==◌, nat_lt, nat_le, length, ℤ}
+-- What a step can end with; and what every row of the table writes: the process, and beside it an
+-- entity that is no process, or a child and what it is born with.
+use Rattle.std.proofs.Common.{◌≡◌, ℕ, suc, ◌+◌, Bool, true, false, cond, ◌&&◌, List, [], ◌∷◌, map, Option, Some, None, inl, inr, refl, sym, ◌∙◌, subst, arith, Result, Ok, Err}
+use Rattle.std.specs.Prelude.{◌⊎◌, ◌==◌, nat_lt, nat_le, length}
 use Rattle.std.specs.List.{Contains}
 use Rattle.std.specs.FinMap.{get}
 use Rattle.std.proofs.lemmas.Bool.{leb-true}
-use Rattle.sk_record.specs.Step.{Ask, Refuse, Done}
+use Rattle.sk_record.specs.Step.{Ask, Refuse, Done, Step, Effect, perform, with_read}
 use Rattle.sk_record.specs.Run.{put, put_all}
 use Rattle.sk_record.proofs.UndoStates.{and_both}
 use Rattle.sk_ids.specs.Pid.{boot_pid}
@@ -31,18 +32,42 @@ use Rattle.sk_store.specs.State.{State}
 use Rattle.sk_store.specs.declared.entity_state.EntityState.{EntityState}
 use Rattle.sk_store.specs.declared.entity_state.EntityState.TheVariants as stored
 use Rattle.sk_plain.specs.declared.refusal.Refusal.{Refusal}
-use Rattle.sk_plain.specs.declared.refusal.Errno.{Errno}
 use Rattle.sk_plain.specs.declared.refusal.Errno.TheVariants.{Again}
 use Rattle.sk_plain.specs.Rows.{StepTree, Saying, object_in, number_in, number_to, who_in, failed, alone, with_write, with_removal, on_object, on_number}
-use Rattle.sk_plain.specs.Files.{on_file, made, size, write, read, cut}
-use Rattle.sk_plain.specs.Names.{no_directory, unless_error, on_directory, target_at, named, look, link_to, linking, link, unlink_from, unlink}
-use Rattle.sk_plain.specs.Pipes.{on_pipe, put_in, put as pipe_put, take_none, take_out, shut}
+use Rattle.sk_plain.specs.Files.{on_file, made}
+use Rattle.sk_plain.specs.Names.{no_directory, unless_error, on_directory, target_at, named, link_to, linking, unlink_from}
+use Rattle.sk_plain.specs.Pipes.{on_pipe, put_in, take_none}
 use Rattle.sk_plain.specs.Processes.{LEVEL_FOUR, LAST_CHILD, next_child, forked, parent_of, born, fork, signalled, kill, waited, wait, returned}
 use Rattle.sk_plain.specs.Replies.{from_copy, over_copy, good, fresh, stale}
 use Rattle.sk_plain.specs.Act.{row, private_or, does, handled, with_signals, with_input}
 use Rattle.sk_client.proofs.Each.{cons_cases, no_member}
-use Rattle.sk_client.proofs.Ends.{Ends}
 use Rattle.sk_client.proofs.Tidy.{elsewhere, IsTidy, IsPlace, IsNextChild, tidy_own, tidy_place, tidy_copy, tidy_birth}
+
+module _ {E V W F : Type 0} (P : List (E × Option V) → Type 0) where
+  -- whatever it is answered, it writes such a list where it is done
+  abbrev pub Ends : Step E V W F → Type 0
+  Ends (Ask e next) = (o : Option V) → Ends (next o)
+  Ends (Refuse why) = Unit {0}
+  Ends (Done written said) = P written
+
+  abbrev EndsSo : Result (Effect E V W) F → Type 0
+  EndsSo (Ok f) = P f.written
+  EndsSo (Err why) = Unit {0}
+
+  ends_read : (e : E) (v : Option V) (o : Result (Effect E V W) F) → EndsSo o → EndsSo (with_read e v o)
+  ends_read e v (Ok f) h = h
+  ends_read e v (Err why) h = tt
+
+  ends_so : (look : E → Option V) (step : Step E V W F) → Ends step → EndsSo (perform look step)
+  ends_so look (Ask e next) h = ends_read e (look e) (perform look (next (look e))) (ends_so look (next (look e)) (h (look e)))
+  ends_so look (Refuse why) h = tt
+  ends_so look (Done written said) h = h
+
+  -- so it writes such a list where it is accepted, also after one more read
+  pub written_so : (look : E → Option V) (step : Step E V W F) (e : E) (v : Option V) (f : Effect E V W) → Ends step → with_read e v (perform look step) ≡ Ok f → P f.written
+  written_so look step e v f h is = subst EndsSo is (ends_read e v (perform look step) (ends_so look step h))
+
+-- ---- rows
 
 -- ---- what a step's writes keep, where it may write these copies
 
@@ -155,12 +180,8 @@ module _ (can : List ℕ → Type 0) (pid : ℕ) (p : Process) where
   file_fine row (Some (stored.Value (values.File bytes))) h = h bytes
   file_fine row v h = alone_fine _ refl
 
-  unless_fine : (row : StepTree) (error : Option Errno) → Fine row → Fine (unless_error pid p row error)
-  unless_fine row None h = h
-  unless_fine row (Some error) h = alone_fine _ refl
-
   directory_fine : (row : StepTree) (v : Option EntityState) → Fine row → Fine (on_directory pid p row v)
-  directory_fine row v h = unless_fine row (no_directory v) h
+  directory_fine row v h = elim (no_directory v) as (λ e. Fine (unless_error pid p row e)) [ None ↦ h | Some error ↦ alone_fine _ refl ]
 
   pipe_fine : (row : PipeView → StepTree) (v : Option EntityState) → ((held : PipeView) → Fine (row held)) → Fine (on_pipe pid p row v)
   pipe_fine row (Some (stored.Value (values.Pipe held))) h = h held
@@ -171,28 +192,11 @@ module _ (can : List ℕ → Type 0) (pid : ℕ) (p : Process) where
   made_fine : (r : ℕ) (kind : Kind) → Fine (made pid p r kind)
   made_fine r kind = if_fine _ _ _ (write_fine _ _ _ tt refl) (alone_fine _ refl)
 
-  size_fine : (o : Option ObjId) → Fine (size pid p o)
-  size_fine o = object_fine _ o (λ o v. file_fine _ v (λ bytes. alone_fine _ refl))
-
-  write_row_fine : (o : Option ObjId) (n : Option ℕ) → Fine (write pid p o n)
-  write_row_fine o n = object_fine _ o (λ o v. file_fine _ v (λ bytes. number_fine _ n (λ n.
-      if_fine _ _ _ (if_fine _ _ _ (alone_fine _ refl) (write_fine _ _ _ tt refl)) (alone_fine _ refl))))
-
-  read_fine : (o : Option ObjId) (n : Option ℕ) → Fine (read pid p o n)
-  read_fine o n = object_fine _ o (λ o v. file_fine _ v (λ bytes. number_fine _ n (λ n. alone_fine _ refl)))
-
-  cut_fine : (o : Option ObjId) (n : Option ℕ) → Fine (cut pid p o n)
-  cut_fine o n = object_fine _ o (λ o v. file_fine _ v (λ bytes. number_fine _ n (λ n.
-      if_fine _ _ _ (if_fine _ _ _ (alone_fine _ refl) (write_fine _ _ _ tt refl)) (alone_fine _ refl))))
-
   -- ---- directories
 
   named_fine : (r : ℕ) (o : Option ObjId) → Fine (named pid p r o)
   named_fine r (Some o) = alone_fine _ refl
   named_fine r None = alone_fine _ refl
-
-  look_fine : (r : ℕ) (d : Option ObjId) (name : List ℕ) → Fine (look pid p r d name)
-  look_fine r d name = object_fine _ d (λ d v. directory_fine _ v (ask_fine _ _ (λ there. named_fine r (target_at there))))
 
   link_to_fine : (d : ObjId) (name : List ℕ) (object : ObjId) (there : Option EntityState) → Fine (link_to pid p d name object there)
   link_to_fine d name object (Some there) = alone_fine _ refl
@@ -202,15 +206,9 @@ module _ (can : List ℕ → Type 0) (pid : ℕ) (p : Process) where
   linking_fine d name (Some object) v = directory_fine _ v (ask_fine _ _ (λ there. link_to_fine d name object there))
   linking_fine d name None v = alone_fine _ refl
 
-  link_fine : (d : Option ObjId) (name : List ℕ) (object : Option ObjId) → Fine (link pid p d name object)
-  link_fine d name object = object_fine _ d (λ d v. linking_fine d name object v)
-
   unlink_from_fine : (d : ObjId) (name : List ℕ) (there : Option EntityState) → Fine (unlink_from pid p d name there)
   unlink_from_fine d name (Some there) = gone_fine (Link d name) _ tt refl
   unlink_from_fine d name None = alone_fine _ refl
-
-  unlink_fine : (d : Option ObjId) (name : List ℕ) → Fine (unlink pid p d name)
-  unlink_fine d name = object_fine _ d (λ d v. directory_fine _ v (ask_fine _ _ (λ there. unlink_from_fine d name there)))
 
   -- ---- pipes
 
@@ -219,24 +217,11 @@ module _ (can : List ℕ → Type 0) (pid : ℕ) (p : Process) where
       if_fine _ _ held.shut (alone_fine _ refl) (if_fine _ _ (length p.buffer == 0) (alone_fine _ refl)
       (if_fine _ _ (nat_le (length held.bytes + length p.buffer) PIPE_LIMIT) (write_fine (Obj o) _ _ tt refl) (refuse_fine _)))
 
-  put_fine : (o : Option ObjId) → Fine (pipe_put pid p o)
-  put_fine o = object_fine _ o (λ o v. pipe_fine _ v (λ held. put_in_fine o held))
-
   take_none_fine : (shut : Bool) → Fine (take_none pid p shut)
   take_none_fine true = alone_fine _ refl
   take_none_fine false = refuse_fine _
 
-  take_fine : (o : Option ObjId) (n : Option ℕ) → Fine (take_out pid p o n)
-  take_fine o n = object_fine _ o (λ o v. pipe_fine _ v (λ held. number_fine _ n (λ n. if_fine _ _ _ (take_none_fine held.shut) (write_fine _ _ _ tt refl))))
-
-  shut_fine : (o : Option ObjId) → Fine (shut pid p o)
-  shut_fine o = object_fine _ o (λ o v. pipe_fine _ v (λ held. if_fine _ _ _ (alone_fine _ refl) (write_fine _ _ _ tt refl)))
-
   -- ---- processes
-
-  returned_same : (o : Option ℕ) → (returned p o).children ≡ p.children
-  returned_same (Some place) = refl
-  returned_same None = refl
 
   signalled_fine : (who n : ℕ) (v : Option EntityState) → Fine (signalled pid p who n v)
   signalled_fine who n (Some (stored.Value (values.Signals queue))) = if_fine _ _ _ (write_fine _ _ _ tt refl) (alone_fine _ refl)
@@ -266,21 +251,25 @@ module _ (can : List ℕ → Type 0) (pid : ℕ) (p : Process) where
 
   row_fine : (i : Instruction) → Fine (row pid p i)
   row_fine (does_.Handler place) = alone_fine _ refl
-  row_fine does_.Return = alone_fine _ (returned_same p.saved)
+  row_fine does_.Return = alone_fine _ (elim p.saved as (λ o. (returned p o).children ≡ p.children) [ Some place ↦ refl | None ↦ refl ])
   row_fine does_.Say = done_fine _ _ refl
   row_fine (does_.MakeFile r) = made_fine r kinds.File
   row_fine (does_.MakeDir r) = made_fine r kinds.Dir
   row_fine (does_.MakePipe r) = made_fine r kinds.Pipe
-  row_fine (does_.Look r d name) = look_fine r (object_in (held p.registers d)) name
-  row_fine (does_.Link d name r) = link_fine (object_in (held p.registers d)) name (object_in (held p.registers r))
-  row_fine (does_.Unlink d name) = unlink_fine (object_in (held p.registers d)) name
-  row_fine (does_.Size f) = size_fine (object_in (held p.registers f))
-  row_fine (does_.Write f at) = write_row_fine (object_in (held p.registers f)) (number_in (held p.registers at))
-  row_fine (does_.Read f at) = read_fine (object_in (held p.registers f)) (number_in (held p.registers at))
-  row_fine (does_.Cut f n) = cut_fine (object_in (held p.registers f)) (number_in (held p.registers n))
-  row_fine (does_.Put q) = put_fine (object_in (held p.registers q))
-  row_fine (does_.Take q n) = take_fine (object_in (held p.registers q)) (number_to TEXT_LIMIT (held p.registers n))
-  row_fine (does_.Shut q) = shut_fine (object_in (held p.registers q))
+  row_fine (does_.Look r d name) = object_fine _ _ (λ d v. directory_fine _ v (ask_fine _ _ (λ there. named_fine r (target_at there))))
+  row_fine (does_.Link d name r) = object_fine _ _ (λ d v. linking_fine d name (object_in (held p.registers r)) v)
+  row_fine (does_.Unlink d name) = object_fine _ _ (λ d v. directory_fine _ v (ask_fine _ _ (λ there. unlink_from_fine d name there)))
+  row_fine (does_.Size f) = object_fine _ _ (λ o v. file_fine _ v (λ bytes. alone_fine _ refl))
+  row_fine (does_.Write f at) = object_fine _ _ (λ o v. file_fine _ v (λ bytes. number_fine _ (number_in (held p.registers at)) (λ n.
+      if_fine _ _ _ (if_fine _ _ _ (alone_fine _ refl) (write_fine _ _ _ tt refl)) (alone_fine _ refl))))
+  row_fine (does_.Read f at) = object_fine _ _ (λ o v. file_fine _ v (λ bytes. number_fine _ _ (λ n. alone_fine _ refl)))
+  row_fine (does_.Cut f n) = object_fine _ _ (λ o v. file_fine _ v (λ bytes. number_fine _ (number_in (held p.registers n)) (λ n.
+      if_fine _ _ _ (if_fine _ _ _ (alone_fine _ refl) (write_fine _ _ _ tt refl)) (alone_fine _ refl))))
+  row_fine (does_.Put q) = object_fine _ _ (λ o v. pipe_fine _ v (λ held. put_in_fine o held))
+  row_fine (does_.Take q n) =
+      object_fine _ _ (λ o v. pipe_fine _ v (λ pipe. number_fine _ (number_to TEXT_LIMIT (held p.registers n)) (λ n.
+      if_fine _ _ _ (take_none_fine pipe.shut) (write_fine _ _ _ tt refl))))
+  row_fine (does_.Shut q) = object_fine _ _ (λ o v. pipe_fine _ v (λ held. if_fine _ _ _ (alone_fine _ refl) (write_fine _ _ _ tt refl)))
   row_fine (does_.Fork r place) = fork_fine r place
   row_fine (does_.Wait r w) = wait_fine r (who_in (held p.registers w))
   row_fine (does_.Kill w n) = kill_fine (who_in (held p.registers w)) (number_to LAST_SIGNAL (held p.registers n))
@@ -298,40 +287,28 @@ module _ (can : List ℕ → Type 0) (pid : ℕ) (p : Process) where
   at_place_same true place = refl
   at_place_same false place = refl
 
-  number_same : (r : ℕ) (n : Option ℤ) → (number_given p r n).children ≡ p.children
-  number_same r (Some n) = refl
-  number_same r None = refl
-
-  process_same : (r : ℕ) (q : Option ℕ) → (process_given p r q).children ≡ p.children
-  process_same r (Some q) = refl
-  process_same r None = refl
-
   private_same : (i : Instruction) → IsKept (private_step p i)
   private_same (does_.Set r n) = refl
   private_same (does_.Move to from) = refl
-  private_same (does_.Add to from) = number_same to (sum_in p to from)
+  private_same (does_.Add to from) = elim (sum_in p to from) as (λ n. (number_given p to n).children ≡ p.children) [ Some n ↦ refl | None ↦ refl ]
   private_same (does_.Text text) = refl
   private_same (does_.Len r) = refl
   private_same (does_.SelfPid r) = refl
-  private_same (does_.BootPid r n) = process_same r (boot_pid n)
+  private_same (does_.BootPid r n) = elim (boot_pid n) as (λ q. (process_given p r q).children ≡ p.children) [ Some q ↦ refl | None ↦ refl ]
   private_same (does_.Jump place) = refl
   private_same (does_.Zero r place) = at_place_same (is_zero (held p.registers r)) place
   private_same (does_.Negative r place) = at_place_same (is_negative (held p.registers r)) place
   private_same i = tt
 
-  private_fine : (o : Option Process) (other : StepTree) → IsKept o → Fine other → Fine (private_or pid o other)
-  private_fine (Some q) other same h = alone_fine q same
-  private_fine None other same h = h
-
   does_fine : (i : Option Instruction) → Fine (does pid p i)
-  does_fine (Some i) = private_fine (private_step p i) (row pid p i) (private_same i) (row_fine i)
+  does_fine (Some i) =
+      elim (private_step p i) as (λ o. IsKept o → Fine (private_or pid o (row pid p i))) [ Some q ↦ λ same. alone_fine q same | None ↦ λ _. row_fine i ]
+      (private_same i)
   does_fine None = write_fine _ _ _ tt refl
 
   handled_fine : (i : Option Instruction) (queue : List ℕ) (handler saved : Option ℕ) → Fine (handled pid p i queue handler saved)
   handled_fine i (n ∷ ns) (Some handler) None = write_fine _ _ _ tt refl
-  handled_fine i (n ∷ ns) (Some handler) (Some place) = does_fine i
-  handled_fine i (n ∷ ns) None saved = does_fine i
-  handled_fine i [] handler saved = does_fine i
+  handled_fine i queue handler saved = does_fine i
 
   signals_fine : (i : Option Instruction) (v : Option EntityState) → Fine (with_signals pid p i v)
   signals_fine i (Some (stored.Value (values.Signals queue))) = if_fine _ _ _ (write_fine _ _ _ tt refl) (handled_fine i queue p.handler p.saved)

@@ -45,30 +45,22 @@ module _ (drawn begun : ℕ) (old : World) where
     turns : (told : Result WorldAnswer Cause) (p : ℕ) (new : WorldView) → Turns told v p new → Comes xs new
     turns (Ok (answers.Turn turn)) p new h =
         subst (λ (x : WorldView). Comes xs x) (sym h.1) (turn_keeps drawn begun old xs v r.0 p turn new.desk h.0, turn_joined v.server v.replies v.back v.desk new.desk p turn r.1 h.0)
-    turns (Ok (answers.Served reply)) p new h = absurd h
-    turns (Ok (answers.Given told)) p new h = absurd h
-    turns (Ok (answers.Edited version)) p new h = absurd h
+    turns (Ok told) p new h = absurd h
     turns (Err (causes.Turn why)) p new h = same new h.1
-    turns (Err causes.Idle) p new h = absurd h
-    turns (Err (causes.Edit why)) p new h = absurd h
-    turns (Err causes.Memory) p new h = absurd h
+    turns (Err why) p new h = absurd h
 
     edited_on : (name : Bytes) (expected : ℕ) (bytes : Bytes) (version : ℕ) (new : WorldView) → Edits v.server name expected bytes (Ok version) new.server → new ≡ record v { server = new.server } → Comes xs new
     edited_on name expected bytes version new h is =
         subst (λ (x : WorldView). Comes xs x) (sym (is ∙ ap (λ (s : ServerView). record v { server = s }) h.2)) (
-          record { trace = r.0.trace; given = r.0.given; answered = r.0.answered; all = record { is_table = r.0.all.is_table; traced = r.0.all.traced; kinds = r.0.all.kinds; holds = r.0.all.holds; facts = r.0.all.facts; room = r.0.all.room } },
+          record { trace = r.0.trace; given = r.0.given; answered = r.0.answered; all = record { tidy = r.0.all.tidy; traced = r.0.all.traced; kinds = r.0.all.kinds; holds = r.0.all.holds; facts = r.0.all.facts; answers = r.0.all.answers; room = r.0.all.room } },
           record { replies = r.1.replies; next = edited_next v.server v.back v.desk name expected bytes r.1.next; last = r.1.last },
         )
 
     edits : (told : Result WorldAnswer Cause) (name : Bytes) (expected : ℕ) (bytes : Bytes) (new : WorldView) → EditsFile told v name expected bytes new → Comes xs new
-    edits (Ok (answers.Turn turn)) name expected bytes new h = absurd h
-    edits (Ok (answers.Served reply)) name expected bytes new h = absurd h
-    edits (Ok (answers.Given told)) name expected bytes new h = absurd h
     edits (Ok (answers.Edited version)) name expected bytes new h = edited_on name expected bytes version new h.0 h.1
-    edits (Err (causes.Turn why)) name expected bytes new h = absurd h
-    edits (Err causes.Idle) name expected bytes new h = absurd h
+    edits (Ok told) name expected bytes new h = absurd h
     edits (Err (causes.Edit why)) name expected bytes new h = same new h.1
-    edits (Err causes.Memory) name expected bytes new h = absurd h
+    edits (Err why) name expected bytes new h = absurd h
 
     -- a request is taken
     took : (qs : List PendingRequest) → v.desk.waiting ≡ qs → v.back ≡ None → IsJoined (taken_from v qs).desk (taken_from v qs).server (taken_from v qs).replies (taken_from v qs).back
@@ -95,9 +87,7 @@ module _ (drawn begun : ℕ) (old : World) where
         let before : IsJoined v.desk v.server (p ∷ rs) v.back = subst (λ (ys : List Reply). IsJoined v.desk v.server ys v.back) is r.1 in
         subst (λ (x : WorldView). Comes xs x) (sym h.1)
         (reply_keeps drawn begun old xs v r.0 p rs is (oldest v.desk v.server p rs v.back before) new.desk h.0.2, given_joined v.desk new.desk v.server p rs v.back h.0.2 before)
-    replies (Ok (answers.Turn turn)) new (p ∷ rs) is h = absurd h
-    replies (Ok (answers.Served reply)) new (p ∷ rs) is h = absurd h
-    replies (Ok (answers.Edited version)) new (p ∷ rs) is h = absurd h
+    replies (Ok told) new (p ∷ rs) is h = absurd h
     replies (Err why) new (p ∷ rs) is h = same new h.2
 
   one_event : (xs : Exchanges) (v : WorldView) → Comes xs v → (told : Result WorldAnswer Cause) (e : WorldEvent) (new : WorldView) → EventPost told v e new → Comes (xs ++ exchanged told v e) new

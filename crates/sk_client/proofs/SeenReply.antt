@@ -23,22 +23,21 @@ use Rattle.sk_client.specs.Desk.{name_of, DeskView, is_asked, asked_count, kept_
 use Rattle.sk_client.specs.Exchanges.{Exchanges}
 use Rattle.sk_client.specs.Table.{Bytes}
 use Rattle.sk_client.specs.WorldView.{WorldView}
-use Rattle.sk_client.specs.declared.pending.Kept.{Kept}
+use Rattle.sk_client.specs.declared.pending.KeptAnswer.{KeptAnswer}
 use Rattle.sk_client.specs.declared.pending.PendingRequest.{PendingRequest}
-use Rattle.sk_client.proofs.CausedWorld.{Caused, For, Served, kernel, state, undecided, asked_entry, is_lost, is_void as law_void, table}
-use Rattle.sk_client.proofs.CausedLaws.{Takes, Sets, IsTable}
+use Rattle.sk_client.proofs.CausedWorld.{Caused, For, Served, kernel, state, undecided, asked_entry, is_lost, is_void as law_void, table, Takes, Sets}
 use Rattle.sk_client.proofs.DeskFacts.{reply_free, given_reply}
 use Rattle.sk_client.proofs.Each.{cons_first}
-use Rattle.sk_client.proofs.Invariant.{Invariant, Ready, HasStep, is_accepted}
+use Rattle.sk_client.proofs.Invariant.{Invariant, Ready, HasStep, is_accepted, any_of}
 use Rattle.sk_client.proofs.Events.{no_guess, inv_plain, inv_commit, inv_fail, inv_drop, inv_done}
 use Rattle.sk_client.proofs.PlaceFacts.{used, used_step, used_commit, used_fail}
-use Rattle.sk_client.proofs.Queues.{any_of}
 use Rattle.sk_client.proofs.Records.{tags_of_step}
-use Rattle.sk_client.proofs.RequestFacts.{RequestFacts, facts_kept, facts_none, facts_commit, facts_fail, facts_step}
-use Rattle.sk_client.proofs.SeenFacts.{Traced, does_seen, undecided_seen, void_seen, last_more, traced_step, traced_commit, traced_fail}
-use Rattle.sk_client.proofs.SeenWorld.{World, law_served, unanswered, answered_there, answered_here}
+use Rattle.sk_client.proofs.RequestFacts.{RequestFacts, NoGood, facts_none, facts_commit, facts_fail, facts_step}
+use Rattle.sk_client.proofs.SeenWorld.{Traced, does_seen, undecided_seen, void_seen, last_more, traced_step, traced_commit, traced_fail, World, law_served, unanswered, answered_there, answered_here}
+use Rattle.sk_client.proofs.Table.{is_table}
+use Rattle.sk_client.proofs.Tidy.{IsTidy}
 use Rattle.sk_client.proofs.WorldFacts.{Oldest}
-use Rattle.sk_client.proofs.Worlds.{IsFor, AreFor, not_copied, takes_by, good_yes, keeps_more, good_open, not_void, Reached}
+use Rattle.sk_client.proofs.Worlds.{IsFor, AreFor, not_copied, takes_by, good_yes, keeps_input, never_good, good_open, not_void, Reached, reached_by}
 
 -- an asked request has a place of the trace
 asked_one : (q : PendingRequest) (qs : List PendingRequest) → q.guess ≡ None → asked_count (q ∷ qs) ≡ asked_count qs + 1
@@ -68,7 +67,7 @@ module _ (drawn begun : ℕ) (old : World) (xs : Exchanges) (v : WorldView) (r :
     pub fits : fits_ask q.ask a ≡ true
     pub replied : map answered_there (r.given ++ (q, a) ∷ law_served later rs) ≡ map answered_here xs
     pub holds : Invariant (table v.desk.kernel.scripts) v.desk.kernel.start r.trace (last_guess v.desk.kernel) (r.given ++ (q, a) ∷ law_served later rs) r.given (q ∷ rest) unserved v.server.refused
-    pub facts : RequestFacts (table v.desk.kernel.scripts) v.desk.kernel.start drawn begun old r.trace (last_guess v.desk.kernel) v.desk.kept v.desk.next (r.given ++ (q, a) ∷ law_served later rs) r.given unserved
+    pub facts : RequestFacts (table v.desk.kernel.scripts) v.desk.kernel.start drawn begun old r.trace (last_guess v.desk.kernel) v.desk.next (r.given ++ (q, a) ∷ law_served later rs) r.given unserved
     pub room : used v.desk.kernel + asked_count (q ∷ rest) ≤ v.desk.kernel.limit
 
   module _ (a : Answer) (c : Comes a) where
@@ -78,7 +77,7 @@ module _ (drawn begun : ℕ) (old : World) (xs : Exchanges) (v : WorldView) (r :
     -- a request that was not dropped rests on no lost guess
     pub whole : (a ≡ Dropped → ⊥) → is_void v.desk.kernel q ≡ true → ⊥
     whole kept void =
-        not_void (table K.scripts) K.start r.all.is_table r.trace (last_guess K) (r.given ++ (q, a) ∷ law_served later rs) r.given (q ∷ rest) unserved v.server.refused c.holds (q, a) there kept
+        not_void (table K.scripts) K.start r.trace (last_guess K) (r.given ++ (q, a) ∷ law_served later rs) r.given (q ∷ rest) unserved v.server.refused c.holds (q, a) there kept
         (void_seen r.trace K r.all.traced q ∙ void)
 
     -- the step of an asked request
@@ -111,31 +110,21 @@ module _ (drawn begun : ℕ) (old : World) (xs : Exchanges) (v : WorldView) (r :
   -- ---- what the reply leaves
 
   -- the trace is es then, of this kernel, with these kept answers
-  module _ (a : Answer) (c : Comes a) (k : KernelView) (es : List (Event Caused)) (kept : List Kept) where
-    finish : (is_table : IsTable (table k.scripts) k.start) → Traced es k
+  module _ (a : Answer) (c : Comes a) (k : KernelView) (es : List (Event Caused)) (kept : List KeptAnswer) where
+    finish : IsTidy k.start → Traced es k
         → (a ≡ Yes → (m : Bytes) (v : ℕ) (b : Bytes) → q.ask ≡ Store m v b → q.guess ≡ None → HasStep (table k.scripts) k.start (record_of (kernel (table k.scripts)) k.start es) q)
         → Invariant (table k.scripts) k.start es (last_guess k) (r.given ++ (q, a) ∷ law_served later rs) r.given rest unserved v.server.refused
-        → RequestFacts (table k.scripts) k.start drawn begun old es (last_guess k) kept v.desk.next (r.given ++ (q, a) ∷ law_served later rs) (r.given ++ (q, a) ∷ []) unserved
-        → used k + asked_count rest ≤ k.limit
+        → RequestFacts (table k.scripts) k.start drawn begun old es (last_guess k) v.desk.next (r.given ++ (q, a) ∷ law_served later rs) (r.given ++ (q, a) ∷ []) unserved
+        → NoGood kept → used k + asked_count rest ≤ k.limit
         → Reached drawn begun old xs (record v { desk = record v.desk { kernel = k; kept = kept; taken = later }; replies = rs })
-    finish is_table traced stands holds facts room =
+    finish tidy traced stands holds facts answers room =
         let S = table k.scripts in
         let same = sym (append_assoc r.given ((q, a) ∷ []) (law_served later rs)) in
-        record {
-          trace = es;
-          given = r.given ++ (q, a) ∷ [];
-          answered = ap (map answered_there) (sym same) ∙ c.replied;
-          all = record {
-            is_table = is_table;
-            traced = traced;
-            kinds = c.kinds;
-            holds = subst (λ served. Invariant S k.start es (last_guess k) served (r.given ++ (q, a) ∷ []) rest unserved v.server.refused) same
-                (inv_done S k.start is_table es (last_guess k) (r.given ++ (q, a) ∷ law_served later rs) r.given rest unserved v.server.refused (q, a)
-                (Contains-append_right r.given ((q, a) ∷ law_served later rs) (q, a) (cons_first (q, a) (law_served later rs))) stands holds);
-            facts = subst (λ served. RequestFacts S k.start drawn begun old es (last_guess k) kept v.desk.next served (r.given ++ (q, a) ∷ []) unserved) same facts;
-            room = room;
-          };
-        }
+        reached_by drawn begun old xs _ es (r.given ++ (q, a) ∷ []) (ap (map answered_there) (sym same) ∙ c.replied) tidy traced c.kinds
+        (subst (λ served. Invariant S k.start es (last_guess k) served (r.given ++ (q, a) ∷ []) rest unserved v.server.refused) same
+        (inv_done S k.start (is_table k.scripts) es (last_guess k) (r.given ++ (q, a) ∷ law_served later rs) r.given rest unserved v.server.refused (q, a)
+        (Contains-append_right r.given ((q, a) ∷ law_served later rs) (q, a) (cons_first (q, a) (law_served later rs))) stands holds))
+        (subst (λ served. RequestFacts S k.start drawn begun old es (last_guess k) v.desk.next served (r.given ++ (q, a) ∷ []) unserved) same facts) answers room
 
   -- the request is no longer pending
   module _ (a : Answer) (c : Comes a) where
@@ -143,7 +132,7 @@ module _ (drawn begun : ℕ) (old : World) (xs : Exchanges) (v : WorldView) (r :
     served = r.given ++ (q, a) ∷ law_served later rs
 
     left : Invariant (table v.desk.kernel.scripts) v.desk.kernel.start r.trace (last_guess v.desk.kernel) served r.given rest unserved v.server.refused
-    left = inv_drop (table K.scripts) K.start r.all.is_table r.trace (last_guess K) served r.given q rest unserved v.server.refused c.holds
+    left = inv_drop (table K.scripts) K.start (is_table K.scripts) r.trace (last_guess K) served r.given q rest unserved v.server.refused c.holds
 
     fewer : used v.desk.kernel + asked_count rest ≤ v.desk.kernel.limit
     fewer = (let was = c.room in let le = asked_less q rest in omega (arith, was, le))
@@ -152,14 +141,17 @@ module _ (drawn begun : ℕ) (old : World) (xs : Exchanges) (v : WorldView) (r :
     unchanged : (a ≡ Yes → (m : Bytes) (v : ℕ) (b : Bytes) → q.ask ≡ Store m v b → q.guess ≡ None → ⊥) → ((g : ℕ) → a ≡ Yes → q.guess ≡ Some g → Contains r.trace (Commit g))
         → Reached drawn begun old xs (record v { desk = record v.desk { taken = later }; replies = rs })
     unchanged never committed =
-        finish a c K r.trace v.desk.kept r.all.is_table r.all.traced (λ says m n b ask asks. absurd (never says m n b ask asks)) left
-        (facts_none (table K.scripts) K.start drawn begun old r.trace (last_guess K) v.desk.kept v.desk.next served r.given unserved c.facts (q, a) committed) fewer
+        finish a c K r.trace v.desk.kept r.all.tidy r.all.traced (λ says m n b ask asks. absurd (never says m n b ask asks)) left
+        (facts_none (table K.scripts) K.start drawn begun old r.trace (last_guess K) v.desk.next served r.given unserved c.facts (q, a) committed) r.all.answers fewer
 
     -- ---- of a guess
 
     module _ (g : ℕ) (its : q.guess ≡ Some g) (here : has g (undecided_at v.desk.kernel) ≡ true) where
-      abbrev pub kept_then : List Kept
+      abbrev pub kept_then : List KeptAnswer
       kept_then = kept_after q.process (answer_kept q.ask a) v.desk.kept
+
+      answers_then : NoGood kept_then
+      answers_then = keeps_input v.desk.kept r.all.answers q.process (answer_kept q.ask a) (never_good q.ask a)
 
       opens : has g (undecided (table v.desk.kernel.scripts) v.desk.kernel.start r.trace) ≡ true
       opens = ap (has g) (undecided_seen r.trace K r.all.traced) ∙ here
@@ -170,14 +162,13 @@ module _ (drawn begun : ℕ) (old : World) (xs : Exchanges) (v : WorldView) (r :
           let k = with_event K (events.Commit g) in
           let es = r.trace ++ Commit g ∷ [] in
           let more = sym (last_more K (events.Commit g)) in
-          finish a c k es kept_then r.all.is_table (traced_commit r.trace K r.all.traced g here) (λ _ m n b _ asks. absurd (no_guess q.guess g asks its))
+          finish a c k es kept_then r.all.tidy (traced_commit r.trace K r.all.traced g here) (λ _ m n b _ asks. absurd (no_guess q.guess g asks its))
           (subst (λ d. Invariant S K.start es d served r.given rest unserved v.server.refused) more
-          (inv_commit S K.start r.all.is_table r.trace (last_guess K) served r.given rest unserved v.server.refused g left opens))
-          (subst (λ d. RequestFacts S K.start drawn begun old es d kept_then v.desk.next served (r.given ++ (q, a) ∷ []) unserved) more
-          (facts_kept S K.start drawn begun old es (last_guess K) v.desk.kept v.desk.next served (r.given ++ (q, a) ∷ []) unserved
-          (subst (λ b. RequestFacts S K.start drawn begun old es (last_guess K) v.desk.kept v.desk.next served (r.given ++ (q, b) ∷ []) unserved) (sym says)
-          (facts_commit S K.start drawn begun old r.trace (last_guess K) v.desk.kept v.desk.next served r.given unserved c.facts q g its))
-          kept_then (keeps_more v.desk.kept c.facts.answers q.process q.ask a)))
+          (inv_commit S K.start (is_table K.scripts) r.trace (last_guess K) served r.given rest unserved v.server.refused g left opens))
+          (subst (λ d. RequestFacts S K.start drawn begun old es d v.desk.next served (r.given ++ (q, a) ∷ []) unserved) more
+          (subst (λ b. RequestFacts S K.start drawn begun old es (last_guess K) v.desk.next served (r.given ++ (q, b) ∷ []) unserved) (sym says)
+          (facts_commit S K.start drawn begun old r.trace (last_guess K) v.desk.next served r.given unserved c.facts q g its)))
+          answers_then
           (let less = used_commit K g here in let was = fewer in omega (arith, less, was))
 
       fails : is_accepted a ≡ false → (a ≡ Yes → ⊥) → Reached drawn begun old xs (record v { desk = record v.desk { kernel = with_event v.desk.kernel (events.Fail g); kept = kept_then; taken = later }; replies = rs })
@@ -187,13 +178,12 @@ module _ (drawn begun : ℕ) (old : World) (xs : Exchanges) (v : WorldView) (r :
           let es = r.trace ++ Fail g ∷ [] in
           let more = sym (last_more K (events.Fail g)) in
           let refused : left.bad g ≡ true = ((left.answers (q, a) (there a c)).own g its).3 ∙ ap not bad in
-          finish a c k es kept_then r.all.is_table (traced_fail r.trace K r.all.traced g here) (λ says. absurd (no_yes says))
+          finish a c k es kept_then r.all.tidy (traced_fail r.trace K r.all.traced g here) (λ says. absurd (no_yes says))
           (subst (λ d. Invariant S K.start es d served r.given rest unserved v.server.refused) more
-          (inv_fail S K.start r.all.is_table r.trace (last_guess K) served r.given rest unserved v.server.refused g left refused opens))
-          (subst (λ d. RequestFacts S K.start drawn begun old es d kept_then v.desk.next served (r.given ++ (q, a) ∷ []) unserved) more
-          (facts_kept S K.start drawn begun old es (last_guess K) v.desk.kept v.desk.next served (r.given ++ (q, a) ∷ []) unserved
-          (facts_fail S K.start drawn begun old r.trace (last_guess K) v.desk.kept v.desk.next served r.given unserved c.facts (q, a) g no_yes)
-          kept_then (keeps_more v.desk.kept c.facts.answers q.process q.ask a)))
+          (inv_fail S K.start (is_table K.scripts) r.trace (last_guess K) served r.given rest unserved v.server.refused g left refused opens))
+          (subst (λ d. RequestFacts S K.start drawn begun old es d v.desk.next served (r.given ++ (q, a) ∷ []) unserved) more
+          (facts_fail S K.start drawn begun old r.trace (last_guess K) v.desk.next served r.given unserved c.facts (q, a) g no_yes))
+          answers_then
           (let less = used_fail K r.all.traced.sound g here in let was = fewer in omega (arith, less, was))
 
     -- ---- of a question
@@ -213,24 +203,25 @@ module _ (drawn begun : ℕ) (old : World) (xs : Exchanges) (v : WorldView) (r :
           let more = sym (last_more K (events.Step q.process x)) in
           let same : (o : PendingRequest) → n.cause ≡ For o → q ≡ o = λ o cause. (let both : For q ≡ For o = cause in cc) in
           let good : a ≡ Yes → x ≡ Good = λ says. (let both : Some Good ≡ Some x = ap input_of (sym says) ∙ gives in cc) in
-          finish a c k es v.desk.kept r.all.is_table
+          finish a c k es v.desk.kept r.all.tidy
           (traced_step r.trace K r.all.traced q.process x n t.effect refl (sym (does_seen r.trace K r.all.traced q.process x) ∙ t.accepted))
           (λ says m w b ask _. (n, subst (λ ns. Contains ns n) (sym (record_more G K.start r.trace (Taken n))) (Contains-push ns n), refl, good says))
           (subst (λ d. Invariant S K.start es d served r.given rest unserved v.server.refused) more
-          (inv_plain S K.start r.all.is_table r.trace (last_guess K) served r.given rest unserved v.server.refused n t.effect left t.accepted refl
+          (inv_plain S K.start (is_table K.scripts) r.trace (last_guess K) served r.given rest unserved v.server.refused n t.effect left t.accepted refl
           (λ y there hits o cause.
           subst (λ (o : PendingRequest). (has y o.rests ≡ true) ⊎ (o.guess ≡ Some y)) (same o cause)
-          (elim (tags_of_step S K.start r.all.is_table ns us q.process (name_of q.ask) q.rests None t.effect t.reads t.writes ready.covers y (inl there) hits) [ inl carries ↦ inl carries | inr none ↦ cc ]))
+          (elim (tags_of_step S K.start (is_table K.scripts) ns us q.process (name_of q.ask) q.rests None t.effect t.reads t.writes ready.covers y (inl there) hits) [ inl carries ↦ inl carries | inr none ↦ cc ]))
           (λ o cause. ap (λ (o : PendingRequest). o.process) (same o cause))
           (λ o cause good. subst (λ (o : PendingRequest). Sets S o.ask Good t.effect.written) (same o cause) (subst (λ x. Sets S q.ask x t.effect.written) good t.sets))
           (λ o there o_asks _.
           let own = c.holds.apart.0 o there none o_asks in (
-            λ writes. elim (t.writes (S.proc o.process) writes) [ inl same ↦ own.0 (sym (r.all.is_table.processes o.process q.process same)) | inr copies ↦ r.all.is_table.apart o.process (name_of q.ask) copies ],
-            λ writes. elim (t.writes (S.copy (name_of o.ask)) writes) [ inl process ↦ r.all.is_table.apart q.process (name_of o.ask) (sym process) | inr same ↦ own.1 (sym (r.all.is_table.copies (name_of o.ask) (name_of q.ask) same)) ],
+            λ writes. elim (t.writes (S.proc o.process) writes) [ inl same ↦ own.0 (sym ((is_table K.scripts).processes o.process q.process same)) | inr copies ↦ (is_table K.scripts).apart o.process (name_of q.ask) copies ],
+            λ writes. elim (t.writes (S.copy (name_of o.ask)) writes) [ inl process ↦ (is_table K.scripts).apart q.process (name_of o.ask) (sym process) | inr same ↦ own.1 (sym ((is_table K.scripts).copies (name_of o.ask) (name_of q.ask) same)) ],
           ))))
-          (subst (λ d. RequestFacts S K.start drawn begun old es d v.desk.kept v.desk.next served (r.given ++ (q, a) ∷ []) unserved) more
-          (facts_step S K.start drawn begun old r.trace (last_guess K) v.desk.kept v.desk.next served r.given unserved c.facts q a (law_served later rs) n refl refl refl none
+          (subst (λ d. RequestFacts S K.start drawn begun old es d v.desk.next served (r.given ++ (q, a) ∷ []) unserved) more
+          (facts_step S K.start drawn begun old r.trace (last_guess K) v.desk.next served r.given unserved c.facts q a (law_served later rs) n refl refl refl none
           (λ good. good_yes a (gives ∙ ap Some good))))
+          r.all.answers
           (let taken = used_step K q.process x in let was = c.room in let one = asked_one q rest none in omega (arith, taken, was, one))
 
   -- ---- the reply
@@ -251,7 +242,7 @@ module _ (drawn begun : ℕ) (old : World) (xs : Exchanges) (v : WorldView) (r :
         | inl done ↦ (has_commit r.trace g).0 done
         | inr none ↦
             let lost : is_lost S K.start r.trace g ≡ true = (λ j. not ((ap (has g) (undecided_seen r.trace K r.all.traced) ∙ shut) j) && not (none j)) in
-            absurd (good_open S K.start r.all.is_table r.trace (last_guess K) (r.given ++ (q, a) ∷ law_served later rs) r.given (q ∷ rest) unserved v.server.refused c.holds g s.0 s.1 (s.3 ∙ ap (λ a. not (is_accepted a)) says) lost)
+            absurd (good_open S K.start r.trace (last_guess K) (r.given ++ (q, a) ∷ law_served later rs) r.given (q ∷ rest) unserved v.server.refused c.holds g s.0 s.1 (s.3 ∙ ap (λ a. not (is_accepted a)) says) lost)
       ]
 
   by_input : (a : Answer) (c : Comes a) → q.guess ≡ None → is_void v.desk.kernel q ≡ false → (o : Option Input) → input_of a ≡ o
@@ -289,7 +280,7 @@ module _ (drawn begun : ℕ) (old : World) (xs : Exchanges) (v : WorldView) (r :
         replied = ap (λ xs. map answered_there (r.given ++ xs)) (sym (λ i. law_served (o.taken i) (is i))) ∙ r.answered;
         holds = subst (λ (c : List PendingRequest × List Reply). Invariant S K.start r.trace (last_guess K) (r.given ++ law_served c.0 c.1) r.given (c.0 ++ v.desk.waiting) (unanswered c.0 c.1 ++ v.desk.waiting) v.server.refused)
             (λ i. (o.taken i, is i)) a.holds;
-        facts = subst (λ (c : List PendingRequest × List Reply). RequestFacts S K.start drawn begun old r.trace (last_guess K) v.desk.kept v.desk.next (r.given ++ law_served c.0 c.1) r.given (unanswered c.0 c.1 ++ v.desk.waiting))
+        facts = subst (λ (c : List PendingRequest × List Reply). RequestFacts S K.start drawn begun old r.trace (last_guess K) v.desk.next (r.given ++ law_served c.0 c.1) r.given (unanswered c.0 c.1 ++ v.desk.waiting))
             (λ i. (o.taken i, is i)) a.facts;
         room = subst (λ qs. used K + asked_count (qs ++ v.desk.waiting) ≤ K.limit) o.taken a.room;
       }

@@ -20,7 +20,7 @@ use Rattle.sk_plain.specs.declared.refusal.Refusal.TheVariants.{Blocked, TraceFu
 use Rattle.sk_kernel.specs.Kernel.{KernelView, state_at, next_guess, last_guess, room, effect_at, or_else, is_other, or_full, no_room, step_misfit, guess_misfits, too_many, with_event}
 use Rattle.sk_server.specs.declared.request.Ask.{Ask}
 use Rattle.sk_server.specs.declared.request.Ask.TheVariants as asks
-use Rattle.sk_client.specs.Desk.{name_of, DeskView, pending, asked_count, asks_for, asks_on, kept_for, forgotten, fetch_rule, store_rule, unless_kept, cached, buffer, rule_next, rule_of, no_place, no_number, entry, rule_refused, request_of, turned}
+use Rattle.sk_client.specs.Desk.{name_of, DeskView, pending, asked_count, asks_for, asks_on, kept_for, fetch_rule, store_rule, unless_kept, cached, buffer, rule_next, rule_of, no_place, no_number, entry, rule_refused, request_of, turned}
 use Rattle.sk_client.specs.DeskCalls.{RulePost, ByRule, TurnPost}
 use Rattle.sk_client.specs.Exchanges.{Exchanges}
 use Rattle.sk_client.specs.Table.{Bytes, version_of, buffer_of}
@@ -29,29 +29,24 @@ use Rattle.sk_client.specs.declared.pending.PendingRequest.{PendingRequest}
 use Rattle.sk_client.specs.declared.rule.Rule.{Rule}
 use Rattle.sk_client.specs.declared.rule.Rule.TheVariants as rules
 use Rattle.sk_client.specs.declared.desk.Turn.{Turn as Told}
-use Rattle.sk_client.proofs.CausedWorld.{Caused, For, kernel, state, own, or_zero, table}
-use Rattle.sk_client.proofs.CausedLaws.{Takes}
+use Rattle.sk_client.proofs.CausedWorld.{Caused, For, kernel, state, own, or_zero, table, Takes}
 use Rattle.sk_client.proofs.DeskFacts.{asked_more, none_first, none_later, none_test, ok_of}
 use Rattle.sk_client.proofs.Invariant.{Invariant, ReadyFor}
 use Rattle.sk_client.proofs.Events.{inv_plain, inv_ask, inv_guess}
 use Rattle.sk_client.proofs.PlaceFacts.{used_step, used_guess}
-use Rattle.sk_client.proofs.RequestFacts.{RequestFacts, facts_kept, facts_own, facts_ask, facts_guess}
-use Rattle.sk_client.proofs.SeenFacts.{does_seen, state_seen, rests_seen, settled_seen, last_more, traced_step, traced_guess}
-use Rattle.sk_client.proofs.SeenWorld.{World, law_served, unanswered}
-use Rattle.sk_client.proofs.TraceFacts.{legal_of}
-use Rattle.sk_client.proofs.Worlds.{IsFor, AreFor, more_for, forgets, no_good, not_its, not_on, IsClear, quiet_turn, Reached}
+use Rattle.sk_client.proofs.RequestFacts.{RequestFacts, facts_own, facts_ask, facts_guess}
+use Rattle.sk_client.proofs.SeenWorld.{does_seen, state_seen, rests_seen, settled_seen, last_more, traced_step, traced_guess, World, law_served, unanswered}
+use Rattle.sk_client.proofs.Table.{is_table, not_there, takes_fresh, takes_checked, takes_stale, takes_store}
+use Rattle.sk_client.proofs.Runs.{fetch_at, store_at}
+use Rattle.sk_script.specs.declared.instruction.Instruction.TheVariants as does_
+use Rattle.sk_client.proofs.Worlds.{IsFor, AreFor, more_for, forgets, no_good, not_its, not_on, IsClear, quiet_turn, Reached, reached_by}
 
 -- ---- small things
 
 full_next : (d : DeskView) (pid : ℕ) (some : Bool) (next : Next) → rule_next d pid (cond (is_other next && some) nexts.Full next) ≡ rule_next d pid next
 full_next d pid true nexts.Other = refl
 full_next d pid false nexts.Other = refl
-full_next d pid some nexts.Full = refl
-full_next d pid some nexts.Waits = refl
-full_next d pid some nexts.Private = refl
-full_next d pid some nexts.Signal = refl
-full_next d pid some (nexts.Fetch name) = refl
-full_next d pid some (nexts.Store name) = refl
+full_next d pid some next = refl
 
 -- a step without room has the rule of any other
 rule_full : (d : DeskView) (pid : ℕ) (full : Option Refusal) (r : Result Next Refusal) → rule_of d pid (or_full full r) ≡ rule_of d pid r
@@ -92,28 +87,17 @@ module _ (drawn begun : ℕ) (old : World) (xs : Exchanges) (v : WorldView) (r :
         let g = ok_of (effect_at K (entry p input None)) (none_first (refusal_of (effect_at K (entry p input None))) (no_room (state_at K) (effect_at K (entry p input None))) misfits) in
         let does = does_seen r.trace K a.traced p input ∙ g.1 in
         let more = sym (last_more K (events.Step p input)) in
-        record {
-          trace = r.trace ++ Taken n ∷ [];
-          given = r.given;
-          answered = r.answered;
-          all = record {
-            is_table = a.is_table;
-            traced = traced_step r.trace K a.traced p input n g.0 refl g.1;
-            kinds = a.kinds;
-            holds = subst (λ d. Invariant S K.start (r.trace ++ Taken n ∷ []) d (r.given ++ law_served v.desk.taken v.replies) r.given (pending v.desk) (unanswered v.desk.taken v.replies ++ v.desk.waiting) v.server.refused) more
-                (inv_plain S K.start a.is_table r.trace (last_guess K) (r.given ++ law_served v.desk.taken v.replies) r.given (pending v.desk) (unanswered v.desk.taken v.replies ++ v.desk.waiting) v.server.refused n g.0 a.holds does refl
-                (λ y there hits q cause. cc) (λ q cause. cc) (λ q cause good. cc)
-                (quiet_turn S K.start a.is_table r.trace (pending v.desk) p input g.0 t does (legal_of (kernel S) K.start r.trace a.holds.sound) is clear due none));
-            facts = subst (λ d. RequestFacts S K.start drawn begun old (r.trace ++ Taken n ∷ []) d (forgotten p v.desk.kept) v.desk.next (r.given ++ law_served v.desk.taken v.replies) r.given (unanswered v.desk.taken v.replies ++ v.desk.waiting)) more
-                (facts_kept S K.start drawn begun old (r.trace ++ Taken n ∷ []) (last_guess K) v.desk.kept v.desk.next (r.given ++ law_served v.desk.taken v.replies) r.given (unanswered v.desk.taken v.replies ++ v.desk.waiting)
-                (facts_own S K.start drawn begun old r.trace (last_guess K) v.desk.kept v.desk.next (r.given ++ law_served v.desk.taken v.replies) r.given (unanswered v.desk.taken v.replies ++ v.desk.waiting) a.facts n refl bad)
-                (forgotten p v.desk.kept) (forgets v.desk.kept a.facts.answers p));
-            room =
-                (let free = places_free v.desk 1 (none_later (step_misfit K (entry p input None)) (no_place v.desk 1) h) in
-                let taken = used_step K p input in
-                omega (arith, free, taken));
-          };
-        }
+        reached_by drawn begun old xs _ (r.trace ++ Taken n ∷ []) r.given r.answered a.tidy (traced_step r.trace K a.traced p input n g.0 refl g.1) a.kinds
+        (subst (λ d. Invariant S K.start (r.trace ++ Taken n ∷ []) d (r.given ++ law_served v.desk.taken v.replies) r.given (pending v.desk) (unanswered v.desk.taken v.replies ++ v.desk.waiting) v.server.refused) more
+        (inv_plain S K.start (is_table K.scripts) r.trace (last_guess K) (r.given ++ law_served v.desk.taken v.replies) r.given (pending v.desk) (unanswered v.desk.taken v.replies ++ v.desk.waiting) v.server.refused n g.0 a.holds does refl
+        (λ y there hits q cause. cc) (λ q cause. cc) (λ q cause good. cc)
+        (quiet_turn K.scripts K.start a.tidy r.trace (pending v.desk) p input g.0 t does is clear due none)))
+        (subst (λ d. RequestFacts S K.start drawn begun old (r.trace ++ Taken n ∷ []) d v.desk.next (r.given ++ law_served v.desk.taken v.replies) r.given (unanswered v.desk.taken v.replies ++ v.desk.waiting)) more
+        (facts_own S K.start drawn begun old r.trace (last_guess K) v.desk.next (r.given ++ law_served v.desk.taken v.replies) r.given (unanswered v.desk.taken v.replies ++ v.desk.waiting) a.facts n refl bad))
+        (forgets v.desk.kept a.answers p)
+        (let free = places_free v.desk 1 (none_later (step_misfit K (entry p input None)) (no_place v.desk 1) h) in
+        let taken = used_step K p input in
+        omega (arith, free, taken))
 
     -- ---- a guess
 
@@ -134,29 +118,19 @@ module _ (drawn begun : ℕ) (old : World) (xs : Exchanges) (v : WorldView) (r :
         let numbers : suc v.desk.next ≡ v.desk.next + 1 = omega arith in
         let waits = append_assoc (unanswered v.desk.taken v.replies) v.desk.waiting (q ∷ []) in
         let pends = append_assoc v.desk.taken v.desk.waiting (q ∷ []) in
-        record {
-          trace = r.trace ++ Taken n ∷ [];
-          given = r.given;
-          answered = r.answered;
-          all = record {
-            is_table = a.is_table;
-            traced = traced_guess r.trace K a.traced p n takes.effect refl does;
-            kinds = subst AreFor pends (more_for (pending v.desk) q a.kinds kind);
-            holds =
-                subst (λ (c : ℕ × (List PendingRequest × List PendingRequest)). Invariant S K.start (r.trace ++ Taken n ∷ []) c.0 served r.given c.1.0 c.1.1 v.server.refused) (λ i. (num i, (pends i, waits i)))
-                (inv_guess S K.start a.is_table r.trace (last_guess K) served r.given (pending v.desk) waiting v.server.refused q n a.holds takes (ap Some one)
-                (sym (rests_seen r.trace K a.traced p (name_of ask))) (sym (settled_seen r.trace K a.traced)) refl
-                (quiet_turn S K.start a.is_table r.trace (pending v.desk) p inputs.Good takes.effect t takes.accepted (legal_of (kernel S) K.start r.trace a.holds.sound) is clear (λ at. absurd (due at)) none));
-            facts =
-                subst (λ (c : ℕ × (ℕ × List PendingRequest)). RequestFacts S K.start drawn begun old (r.trace ++ Taken n ∷ []) c.0 v.desk.kept c.1.0 served r.given c.1.1) (λ i. (num i, (numbers i, waits i)))
-                (facts_guess S K.start drawn begun old r.trace (last_guess K) v.desk.kept v.desk.next served r.given waiting a.facts q n refl (ap Some one) refl refl);
-            room =
-                (let free = places_free v.desk 2 (none_later (no_number v.desk) (no_place v.desk 2) later) in
-                let taken = used_guess K (next_guess K) p inputs.Good in
-                let more = asked_push v.desk.taken v.desk.waiting q in
-                omega (arith, free, taken, more));
-          };
-        }
+        reached_by drawn begun old xs _ (r.trace ++ Taken n ∷ []) r.given r.answered a.tidy (traced_guess r.trace K a.traced p n takes.effect refl does)
+        (subst AreFor pends (more_for (pending v.desk) q a.kinds kind))
+        (subst (λ (c : ℕ × (List PendingRequest × List PendingRequest)). Invariant S K.start (r.trace ++ Taken n ∷ []) c.0 served r.given c.1.0 c.1.1 v.server.refused) (λ i. (num i, (pends i, waits i)))
+        (inv_guess S K.start (is_table K.scripts) r.trace (last_guess K) served r.given (pending v.desk) waiting v.server.refused q n a.holds takes (ap Some one)
+        (sym (rests_seen r.trace K a.traced p (name_of ask))) (sym (settled_seen r.trace K a.traced)) refl
+        (quiet_turn K.scripts K.start a.tidy r.trace (pending v.desk) p inputs.Good takes.effect t takes.accepted is clear (λ at. absurd (due at)) none)))
+        (subst (λ (c : ℕ × (ℕ × List PendingRequest)). RequestFacts S K.start drawn begun old (r.trace ++ Taken n ∷ []) c.0 c.1.0 served r.given c.1.1) (λ i. (num i, (numbers i, waits i)))
+        (facts_guess S K.start drawn begun old r.trace (last_guess K) v.desk.next served r.given waiting a.facts q n refl (ap Some one) refl refl))
+        a.answers
+        (let free = places_free v.desk 2 (none_later (no_number v.desk) (no_place v.desk 2) later) in
+        let taken = used_guess K (next_guess K) p inputs.Good in
+        let more = asked_push v.desk.taken v.desk.waiting q in
+        omega (arith, free, taken, more))
 
     -- ---- a question
 
@@ -171,28 +145,17 @@ module _ (drawn begun : ℕ) (old : World) (xs : Exchanges) (v : WorldView) (r :
         let numbers : suc v.desk.next ≡ v.desk.next + 1 = omega arith in
         let waits = append_assoc (unanswered v.desk.taken v.replies) v.desk.waiting (q ∷ []) in
         let pends = append_assoc v.desk.taken v.desk.waiting (q ∷ []) in
-        record {
-          trace = r.trace;
-          given = r.given;
-          answered = r.answered;
-          all = record {
-            is_table = a.is_table;
-            traced = a.traced;
-            kinds = subst AreFor pends (more_for (pending v.desk) q a.kinds kind);
-            holds =
-                subst (λ (c : List PendingRequest × List PendingRequest). Invariant S K.start r.trace (last_guess K) served r.given c.0 c.1 v.server.refused) (λ i. (pends i, waits i))
-                (inv_ask S K.start a.is_table r.trace (last_guess K) served r.given (pending v.desk) waiting v.server.refused q a.holds refl
-                (sym (rests_seen r.trace K a.traced p (name_of ask))) (sym (settled_seen r.trace K a.traced)) ready there
-                (λ o o_in asked. ((λ same. not_its (pending v.desk) p none o o_in asked (sym same)), λ same. not_on (pending v.desk) (name_of ask) free o o_in asked (sym same))));
-            facts =
-                subst (λ (c : ℕ × List PendingRequest). RequestFacts S K.start drawn begun old r.trace (last_guess K) v.desk.kept c.0 served r.given c.1) (λ i. (numbers i, waits i))
-                (facts_ask S K.start drawn begun old r.trace (last_guess K) v.desk.kept v.desk.next served r.given waiting a.facts q refl);
-            room =
-                (let places = places_free v.desk 1 (none_later (no_number v.desk) (no_place v.desk 1) h) in
-                let more = asked_push v.desk.taken v.desk.waiting q in
-                omega (arith, places, more));
-          };
-        }
+        reached_by drawn begun old xs _ r.trace r.given r.answered a.tidy a.traced (subst AreFor pends (more_for (pending v.desk) q a.kinds kind))
+        (subst (λ (c : List PendingRequest × List PendingRequest). Invariant S K.start r.trace (last_guess K) served r.given c.0 c.1 v.server.refused) (λ i. (pends i, waits i))
+        (inv_ask S K.start (is_table K.scripts) r.trace (last_guess K) served r.given (pending v.desk) waiting v.server.refused q a.holds refl
+        (sym (rests_seen r.trace K a.traced p (name_of ask))) (sym (settled_seen r.trace K a.traced)) ready there
+        (λ o o_in asked. ((λ same. not_its (pending v.desk) p none o o_in asked (sym same)), λ same. not_on (pending v.desk) (name_of ask) free o o_in asked (sym same)))))
+        (subst (λ (c : ℕ × List PendingRequest). RequestFacts S K.start drawn begun old r.trace (last_guess K) c.0 served r.given c.1) (λ i. (numbers i, waits i))
+        (facts_ask S K.start drawn begun old r.trace (last_guess K) v.desk.next served r.given waiting a.facts q refl))
+        a.answers
+        (let places = places_free v.desk 1 (none_later (no_number v.desk) (no_place v.desk 1) h) in
+        let more = asked_push v.desk.taken v.desk.waiting q in
+        omega (arith, places, more))
 
   -- ---- a turn
 
@@ -203,7 +166,7 @@ module _ (drawn begun : ℕ) (old : World) (xs : Exchanges) (v : WorldView) (r :
     module _ (none : asks_for p (pending v.desk) ≡ false) where
       by_kept : (t : Result Next Refusal) → does_next ≡ t → IsClear (pending v.desk) t → (t ≡ Ok nexts.Signal → ⊥) → (input : Input) → kept_for p v.desk.kept ≡ Some input → RulePost (Ok turn) v.desk p (rules.Steps input) new
           → Now (record v { desk = new })
-      by_kept t is clear due input kept h = by_rule (rules.Steps input) h (steps_on none t is clear input (no_good v.desk.kept r.all.facts.answers p input kept) (λ at. absurd (due at)))
+      by_kept t is clear due input kept h = by_rule (rules.Steps input) h (steps_on none t is clear input (no_good v.desk.kept r.all.answers p input kept) (λ at. absurd (due at)))
 
       by_none : (t : Result Next Refusal) → does_next ≡ t → IsClear (pending v.desk) t → RulePost (Ok turn) v.desk p (rules.Steps inputs.None) new → Now (record v { desk = new })
       by_none t is clear h = by_rule (rules.Steps inputs.None) h (steps_on none t is clear inputs.None (λ good. cc) (λ _. refl))
@@ -217,21 +180,21 @@ module _ (drawn begun : ℕ) (old : World) (xs : Exchanges) (v : WorldView) (r :
           → (version : Option ℕ) → version_of (get its_state (CopyOf name)) ≡ version → RulePost (Ok turn) v.desk p (unless_kept kept (fetch_rule name version)) new → Now (record v { desk = new })
       by_fetch name is free (Some input) has version at h = by_kept (Ok (nexts.Fetch name)) is free (λ due. cc) input has h
       by_fetch name is free None has (Some ver) at h =
-          by_rule (rules.Guesses (asks.Check name ver)) h (guesses_on none (Ok (nexts.Fetch name)) is free (asks.Check name ver) tt (r.all.is_table.fetch_good its_state p name ver is at) (λ due. cc))
+          by_rule (rules.Guesses (asks.Check name ver)) h (guesses_on none (Ok (nexts.Fetch name)) is free (asks.Check name ver) tt (takes_checked K.scripts its_state p name ver (fetch_at K.scripts its_state p name is) at) (λ due. cc))
       by_fetch name is free None has None at h =
-          by_rule (rules.Asks (asks.Get name)) h (asks_on_it none (Ok (nexts.Fetch name)) is free (asks.Get name) tt (λ c. r.all.is_table.fetch_fresh its_state p name c is) (r.all.is_table.fetch_there its_state p name is) free)
+          by_rule (rules.Asks (asks.Get name)) h (asks_on_it none (Ok (nexts.Fetch name)) is free (asks.Get name) tt (λ c. takes_fresh K.scripts its_state p name c (fetch_at K.scripts its_state p name is)) (not_there K.scripts its_state p (does_.Fetch name) (fetch_at K.scripts its_state p name is)) free)
 
       module _ (name : Bytes) (is : does_next ≡ Ok (nexts.Store name)) (free : asks_on name (pending v.desk) ≡ false) where
         store_good : (version : ℕ) → or_zero (version_of (get its_state (CopyOf name))) ≡ version → version < LAST_VERSION → Takes (table v.desk.kernel.scripts) its_state p (asks.Store name version (buffer v.desk.kernel p)) inputs.Good
         store_good version at less =
             let S = table K.scripts in
             subst (λ bytes. Takes S its_state p (asks.Store name version bytes) inputs.Good) (λ i. buffer_of (get (state_seen r.trace K r.all.traced i) (Proc p)))
-            (r.all.is_table.store_good (record_of (kernel S) K.start r.trace) p name version (legal_of (kernel S) K.start r.trace r.all.holds.sound) is at less)
+            (takes_store K.scripts K.start r.all.tidy (record_of (kernel S) K.start r.trace) p name version is at less)
 
         store_asks : (version : ℕ) → or_zero (version_of (get its_state (CopyOf name))) ≡ version → RulePost (Ok turn) v.desk p (rules.Asks (asks.Store name version (buffer v.desk.kernel p))) new → Now (record v { desk = new })
         store_asks version at h =
             by_rule (rules.Asks (asks.Store name version (buffer v.desk.kernel p))) h (asks_on_it none (Ok (nexts.Store name)) is free (asks.Store name version (buffer v.desk.kernel p)) tt
-            (store_good version at, λ c. r.all.is_table.store_stale its_state p name (buffer K p) version c is) (r.all.is_table.store_there its_state p name is) free)
+            (store_good version at, λ c. takes_stale K.scripts its_state p name version (buffer K p) c (store_at K.scripts its_state p name is)) (not_there K.scripts its_state p (does_.Store name) (store_at K.scripts its_state p name is)) free)
 
         by_store : (kept : Option Input) → kept_for p v.desk.kept ≡ kept
             → (version : Option ℕ) → version_of (get its_state (CopyOf name)) ≡ version → RulePost (Ok turn) v.desk p (unless_kept kept (store_rule name (buffer v.desk.kernel p) version)) new → Now (record v { desk = new })
@@ -261,10 +224,7 @@ module _ (drawn begun : ℕ) (old : World) (xs : Exchanges) (v : WorldView) (r :
           by_name name (unless_kept (kept_for p v.desk.kept) (fetch_rule name (cached K name))) (λ free. by_fetch name is free (kept_for p v.desk.kept) refl (cached K name) (cached_seen name)) h
       by_next (nexts.Store name) is h =
           by_name name (unless_kept (kept_for p v.desk.kept) (store_rule name (buffer K p) (cached K name))) (λ free. by_store name is free (kept_for p v.desk.kept) refl (cached K name) (cached_seen name)) h
-      by_next nexts.Private is h = by_else (Ok nexts.Private) is tt (λ due. cc) (kept_for p v.desk.kept) refl h
-      by_next nexts.Waits is h = by_else (Ok nexts.Waits) is tt (λ due. cc) (kept_for p v.desk.kept) refl h
-      by_next nexts.Full is h = by_else (Ok nexts.Full) is tt (λ due. cc) (kept_for p v.desk.kept) refl h
-      by_next nexts.Other is h = by_else (Ok nexts.Other) is tt (λ due. cc) (kept_for p v.desk.kept) refl h
+      by_next n is h = by_else (Ok n) is tt (λ due. cc) (kept_for p v.desk.kept) refl h
 
     by_result : (n : Result Next Refusal) → does_next ≡ n → ByRule (Ok turn) v.desk p new (rule_of v.desk p n) → Now (record v { desk = new })
     by_result (Err why) is h = absurd (let bad : Ok turn ≡ Err why = h.0 in cc)

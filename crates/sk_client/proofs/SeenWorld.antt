@@ -1,14 +1,51 @@
--- A world as its callers see it, with what the laws know of it besides.
-use Rattle.std.specs.Prelude.{ℕ, List, [], ◌∷◌, ◌++◌, Option}
-use Rattle.sk_record.specs.Trace.{Event as Happens, Taken, Commit, Fail, record_of}
+-- A world as its callers see it, with what the laws know of it besides. What the laws compute of
+-- a kernel's trace, whose entries have causes, is what its callers compute.
+use Rattle.std.proofs.Common.{◌≡◌, ℕ, suc, ◌≤◌, Bool, true, false, not, ◌&&◌, ◌||◌, cond, List, [], ◌∷◌, ◌++◌, map, get_or, Option, Some, None, Ok, refl, sym, ◌∙◌, ap, arith}
+use Rattle.std.specs.Prelude.{◌==◌, nat_le, length}
+use Rattle.std.specs.FinMap.{get}
+use Rattle.std.specs.Ordering.{nat_cmp}
+use Rattle.std.specs.List.{filter, list_any}
+use Rattle.std.specs.List.Sorted.{IsStrictlySortedBy}
+use Rattle.std.proofs.lemmas.Bool.{eq-eqb, or_left, or_right, le-leb}
+use Rattle.std.proofs.lemmas.List.{map-append}
+use Rattle.std.proofs.lemmas.List.Sums.{fold-append}
+use Rattle.std.proofs.Math.Bool.{and-true}
+use Rattle.sk_record.specs.Step.{perform}
+use Rattle.sk_record.specs.Effects.{is_in, dirt}
+use Rattle.sk_record.specs.Run.{outcome, run, effects}
+use Rattle.sk_record.specs.Notes.{has}
+use Rattle.sk_record.specs.Trace.{Event as Happens, Taken, Commit, Fail, record_of, undecided_of, all_recorded, no_record}
+use Rattle.sk_record.proofs.Machine.{has_filter}
+use Rattle.sk_record.proofs.Rising.{above}
+use Rattle.sk_record.proofs.Sound.{entries_are, is_commit, undecided_is as is_undecided}
+use Rattle.sk_ids.specs.Entity.{entity_cmp}
+use Rattle.sk_ids.specs.declared.entity.Entity.{Entity}
+use Rattle.sk_ids.specs.declared.entity.Entity.TheVariants.{Proc, Copy as CopyOf}
+use Rattle.sk_script.specs.declared.instruction.Input.{Input}
+use Rattle.sk_script.specs.declared.instruction.Input.TheVariants as inputs
+use Rattle.sk_trace.specs.declared.event.Event.{Event}
+use Rattle.sk_trace.specs.declared.event.Event.TheVariants as events
+use Rattle.sk_plain.specs.Act.{act, plain}
+use Rattle.sk_plain.specs.Replay.{image}
+use Rattle.sk_kernel.specs.Kernel.{KernelView, events_of, record_at, state_at, tags_at, undecided_at, last_guess, next_guess, number_after, settled, effect_at, with_event}
+use Rattle.sk_kernel.specs.Laws.{HasSoundTrace}
+use Rattle.sk_kernel.proofs.Undecided.{undecided_sorted}
+use Rattle.sk_kernel.proofs.Lawful.{below_next}
+use Rattle.sk_client.specs.Desk.{entry, rests_of, is_lost, is_void}
+use Rattle.sk_client.specs.Table.{Bytes}
+use Rattle.sk_client.specs.declared.pending.PendingRequest.{PendingRequest}
+use Rattle.sk_client.proofs.Labels.{bare_event, is_bare}
+use Rattle.sk_client.proofs.CausedWorld.{Caused, kernel, state, undecided, own, is_tag, rests_of as law_rests, is_lost as law_lost, is_void as law_void, least, bare, table, Before, Served}
+use Rattle.sk_client.proofs.DeskFacts.{Did, committed_is}
+use Rattle.sk_client.proofs.Each.{any_map, any_same}
+use Rattle.sk_client.proofs.PlaceFacts.{step_sound, guess_sound, commit_sound, fail_sound}
+use Rattle.sk_client.proofs.TraceFacts.{entry_drawn}
 use Rattle.sk_trace.specs.Entry.{EntryView}
 use Rattle.sk_server.specs.declared.request.Request.{Request as Sent}
 use Rattle.sk_server.specs.declared.request.Ask.{Ask}
 use Rattle.sk_server.specs.declared.reply.Answer.{Answer}
 use Rattle.sk_server.specs.declared.reply.Reply.{Reply}
 use Rattle.sk_client.specs.WorldView.{WorldView}
-use Rattle.sk_client.specs.declared.pending.PendingRequest.{PendingRequest}
-use Rattle.sk_client.proofs.CausedWorld.{Caused, Before, Served, kernel, table}
 
 -- the oldest requests have the replies that are on their way
 abbrev pub law_served : List PendingRequest → List Reply → List Served
@@ -57,3 +94,122 @@ abbrev pub event_before : Happens EntryView → Happens Caused
 event_before (Taken n) = Taken (from_before n)
 event_before (Commit g) = Commit g
 event_before (Fail g) = Fail g
+
+-- ---- what the laws compute
+
+-- ---- lists
+
+pub same_filter : (p q : ℕ → Bool) (xs : List ℕ) → ((g : ℕ) → has g xs ≡ true → p g ≡ q g) → filter p xs ≡ filter q xs
+same_filter p q [] same = refl
+same_filter p q (x ∷ xs) same =
+    let head : p x ≡ q x = same x (or_left (x == x) (has x xs) (eq-eqb x x refl)) in
+    let tail : filter p xs ≡ filter q xs = same_filter p q xs (λ g there. same g (or_right (x == g) (has g xs) there)) in
+    (λ i. cond (head i) (x ∷ tail i) (tail i))
+
+-- ---- the least of some numbers that rise is the first
+
+below_least : (g d : ℕ) (gs : List ℕ) → g ≤ d → ((y : ℕ) → has y gs ≡ true → g ≤ y) → g ≤ least d gs
+below_least g d [] low all = low
+below_least g d (x ∷ xs) low all =
+    let here = all x (or_left (x == x) (has x xs) (eq-eqb x x refl)) in
+    let later = below_least g d xs low (λ y there. all y (or_right (x == y) (has y xs) there)) in
+    elim (nat_le x (least d xs)) as (λ b. g ≤ cond b x (least d xs)) [
+      | true ↦ here
+      | false ↦ later
+    ]
+
+least_is_first : (d : ℕ) (gs : List ℕ) → IsStrictlySortedBy nat_cmp gs → ((y : ℕ) → has y gs ≡ true → y ≤ d) → least d gs ≡ get_or gs 0 d
+unfolding IsStrictlySortedBy
+least_is_first d [] rises low = refl
+least_is_first d (g ∷ gs) rises low =
+    let here = low g (or_left (g == g) (has g gs) (eq-eqb g g refl)) in
+    let lowest = below_least g d gs here (λ y there. (let more = above g gs y rises.0 there in omega (arith, more))) in
+    ap (λ b. cond b g (least d gs)) (le-leb g (least d gs) lowest)
+
+commit_seen : (g : ℕ) (e : Happens Caused) → is_commit g e ≡ is_commit g (bare_event bare e)
+commit_seen g (Taken n) = refl
+commit_seen g e = refl
+
+-- the number of the last guess after an event
+pub last_more : (k : KernelView) (e : Event) → last_guess (with_event k e) ≡ number_after (last_guess k) e
+last_more k e = fold-append number_after (length k.earlier) k.trace (e ∷ [])
+
+-- a kernel's trace is this one without its causes
+pub record Traced (es : List (Happens Caused)) (k : KernelView) : Type 0 where
+  pub trace : map (bare_event bare) es ≡ events_of k
+  pub sound : HasSoundTrace k
+
+module _ (es : List (Happens Caused)) (k : KernelView) (t : Traced es k) where
+  pub entries_seen : map bare (record_of (kernel (table k.scripts)) k.start es) ≡ record_at k
+  entries_seen = (is_bare bare (plain k.scripts) k.start es).entries ∙ ap (record_of (plain k.scripts) k.start) t.trace
+
+  pub undecided_seen : undecided (table k.scripts) k.start es ≡ undecided_at k
+  undecided_seen = (is_bare bare (plain k.scripts) k.start es).guesses ∙ ap (undecided_of (plain k.scripts) k.start) t.trace
+
+  pub state_seen : state (table k.scripts) k.start es ≡ state_at k
+  state_seen = (is_bare bare (plain k.scripts) k.start es).state ∙ ap (λ es. run (plain k.scripts) k.start (record_of (plain k.scripts) k.start es)) t.trace
+
+  pub steps_seen : effects (kernel (table k.scripts)) k.start (record_of (kernel (table k.scripts)) k.start es) ≡ effects (plain k.scripts) k.start (record_at k)
+  steps_seen = (is_bare bare (plain k.scripts) k.start es).steps ∙ ap (λ es. effects (plain k.scripts) k.start (record_of (plain k.scripts) k.start es)) t.trace
+
+  -- what a step does
+  pub does_seen : (p : ℕ) (input : Input) → outcome (kernel (table k.scripts)) (state (table k.scripts) k.start es) (own p input) ≡ effect_at k (entry p input None)
+  does_seen p input = λ i. perform (get (state_seen i)) (act k.scripts p input)
+
+  -- ---- what a request rests on
+
+  abbrev marks_now : ℕ → Entity → Bool
+  marks_now g e = is_in entity_cmp (dirt entity_cmp g [] (effects (kernel (table k.scripts)) k.start (record_of (kernel (table k.scripts)) k.start es))) e
+
+  tag_seen : (g : ℕ) (e : Entity) → has g (undecided_at k) ≡ true → has g (tags_at k e) ≡ marks_now g e
+  tag_seen g e there =
+      has_filter (λ h. is_in entity_cmp (dirt entity_cmp h [] (effects (plain k.scripts) k.start (all_recorded (plain k.scripts) k.start no_record (events_of k)).entries)) e) g (undecided_at k)
+      ∙ (λ i. is_in entity_cmp (dirt entity_cmp g [] (effects (plain k.scripts) k.start (entries_are (plain k.scripts) k.start (events_of k) i))) e && there i)
+      ∙ and-true _
+      ∙ ap (λ fs. is_in entity_cmp (dirt entity_cmp g [] fs) e) (sym steps_seen)
+
+  pub rests_seen : (pid : ℕ) (name : Bytes) → law_rests (table k.scripts) k.start es pid name ≡ rests_of k pid name
+  rests_seen pid name =
+      ap (filter (is_tag (table k.scripts) k.start es pid name)) undecided_seen
+      ∙ same_filter (is_tag (table k.scripts) k.start es pid name) (λ g. has g (tags_at k (Proc pid)) || has g (tags_at k (CopyOf name))) (undecided_at k)
+      (λ g there i. sym (tag_seen g (Proc pid) there) i || sym (tag_seen g (CopyOf name) there) i)
+
+  pub settled_seen : least (suc (last_guess k)) (undecided (table k.scripts) k.start es) ≡ settled k
+  settled_seen =
+      let next : suc (last_guess k) ≡ next_guess k = omega arith in
+      (λ i. least (next i) (undecided_seen i))
+      ∙ least_is_first (next_guess k) (undecided_at k) (undecided_sorted k t.sound)
+      (λ y there. (let less = below_next k t.sound y (entry_drawn (plain k.scripts) k.start (events_of k) t.sound.sound y ((is_undecided (plain k.scripts) k.start (events_of k) t.sound.sound y).0 there).2) in omega (arith, less)))
+
+  -- ---- guesses that are lost
+
+  committed_seen : (g : ℕ) → list_any (is_commit g) es ≡ list_any (is_commit g) (events_of k)
+  committed_seen g = any_same (is_commit g) (λ e. is_commit g (bare_event bare e)) es (commit_seen g) ∙ sym (any_map (is_commit g) (bare_event bare) es) ∙ ap (list_any (is_commit g)) t.trace
+
+  lost_seen : (g : ℕ) → law_lost (table k.scripts) k.start es g ≡ is_lost k g
+  lost_seen g = λ i. not (has g (undecided_seen i)) && not ((committed_seen g ∙ sym (committed_is k t.sound g)) i)
+
+  pub void_seen : (q : PendingRequest) → law_void (table k.scripts) k.start es q ≡ is_void k q
+  void_seen q = any_same (law_lost (table k.scripts) k.start es) (is_lost k) q.rests lost_seen
+
+  -- ---- one event more
+
+  more : (n : Happens Caused) (e : Event) → bare_event bare n ≡ image e → HasSoundTrace (with_event k e) → Traced (es ++ n ∷ []) (with_event k e)
+  more n e same sound = record {
+    trace = map-append (bare_event bare) es (n ∷ []) ∙ (λ i. t.trace i ++ same i ∷ []) ∙ sym (map-append image k.trace (e ∷ []));
+    sound = sound;
+  }
+
+  pub traced_step : (p : ℕ) (input : Input) (n : Caused) (f : Did) → bare n ≡ entry p input None → effect_at k (entry p input None) ≡ Ok f → Traced (es ++ Taken n ∷ []) (with_event k (events.Step p input))
+  traced_step p input n f same is = more (Taken n) (events.Step p input) (ap Taken same) (step_sound k t.sound p input f is)
+
+  pub traced_guess : (p : ℕ) (n : Caused) (f : Did) → bare n ≡ entry p inputs.Good (Some (next_guess k)) → effect_at k (entry p inputs.Good (Some (next_guess k))) ≡ Ok f
+      → Traced (es ++ Taken n ∷ []) (with_event k (events.Guess (next_guess k) p inputs.Good))
+  traced_guess p n f same is = more (Taken n) (events.Guess (next_guess k) p inputs.Good) (ap Taken same) (guess_sound k t.sound p inputs.Good f is)
+
+  module _ (g : ℕ) (here : has g (undecided_at k) ≡ true) where
+    pub traced_commit : Traced (es ++ Commit g ∷ []) (with_event k (events.Commit g))
+    traced_commit = more (Commit g) (events.Commit g) refl (commit_sound k t.sound g here)
+
+    pub traced_fail : Traced (es ++ Fail g ∷ []) (with_event k (events.Fail g))
+    traced_fail = more (Fail g) (events.Fail g) refl (fail_sound k t.sound g here)

@@ -1,38 +1,152 @@
--- The kernel's table is one: what the laws of worlds ask of a table holds of it, from the start of every boot on.
-use Rattle.std.proofs.Common.{◌≡◌, ℕ, false, List, map, Some, None, Ok, IsSome, inl, inr, refl, sym, ◌∙◌, ap, subst}
-use Rattle.std.specs.Prelude.{◌⊎◌}
+-- The kernel's table is one: what the laws of worlds ask of a table holds of it, from the start of
+-- every boot on, by the steps of a fetch and of a store with each input.
+use Rattle.std.proofs.Common.{◌≡◌, ℕ, false, List, map, Some, None, Ok, IsSome, inl, inr, refl, sym, ◌∙◌, ap, subst, suc, ◌+◌, ◌<◌, true, cond, [], ◌∷◌, Option, arith}
+use Rattle.std.specs.Prelude.{◌⊎◌, nat_lt}
 use Rattle.std.specs.List.{Contains}
 use Rattle.std.specs.FinMap.{get}
-use Rattle.sk_record.specs.Step.{Effect}
 use Rattle.sk_record.specs.Run.{outcome, run}
-use Rattle.sk_ids.specs.declared.entity.Entity.{Entity}
 use Rattle.sk_ids.specs.declared.entity.Entity.TheVariants.{Proc, Copy}
 use Rattle.sk_ids.proofs.Entities.{entity_total, entity_exact}
-use Rattle.sk_script.specs.Boot.{BootView}
 use Rattle.sk_script.specs.declared.process.Process.{Process}
 use Rattle.sk_script.specs.declared.instruction.Instruction.{Instruction}
 use Rattle.sk_script.specs.declared.instruction.Instruction.TheVariants as does_
 use Rattle.sk_store.specs.State.{State}
-use Rattle.sk_store.specs.Start.{start_of}
-use Rattle.sk_store.specs.declared.entity_state.EntityState.{EntityState}
 use Rattle.sk_store.specs.declared.entity_state.EntityState.TheVariants as stored
-use Rattle.sk_plain.specs.Act.{Scripts, Saying}
+use Rattle.sk_plain.specs.Act.{Scripts, act, with_input}
 use Rattle.sk_plain.specs.declared.next.Next.TheVariants as nexts
 use Rattle.sk_script.specs.declared.instruction.Input.{Input}
-use Rattle.sk_script.specs.declared.instruction.Input.TheVariants.{Good, Fresh, Stale}
-use Rattle.sk_client.proofs.CausedWorld.{Caused, kernel, own, table}
+use Rattle.sk_client.proofs.CausedWorld.{Caused, kernel, own, table, IsTable, or_zero, Takes, IsEither}
 use Rattle.sk_script.specs.declared.instruction.Input.TheVariants as inputs
-use Rattle.sk_client.proofs.CausedLaws.{IsTable}
-use Rattle.sk_client.specs.Table.{Bytes, buffer_of, IsNumbered}
-use Rattle.sk_client.proofs.Tidy.{IsTidy, IsNextChild, unborn}
-use Rattle.sk_client.proofs.Rows.{IsOf, CanWrite}
-use Rattle.sk_client.proofs.Runs.{next_in, found, run_tidy}
-use Rattle.sk_client.proofs.Begins.{tidy_start}
-use Rattle.sk_client.proofs.Turns.{IsAt, IsFree, next_turn, fetch_at, store_at, turn_at}
-use Rattle.sk_client.proofs.Taken.{takes_fresh, takes_stale, takes_checked, takes_stored}
+use Rattle.sk_client.proofs.DeskFacts.{Did}
+use Rattle.sk_client.specs.Table.{Bytes, buffer_of, copy_of, version_of}
+use Rattle.sk_client.proofs.Tidy.{IsTidy, IsNextChild, unborn, IsCopy}
+use Rattle.sk_client.proofs.Rows.{IsOf, CanWrite, one_of_two, only_one}
+use Rattle.sk_client.proofs.Runs.{next_in, found, run_tidy, IsAt, IsFree, next_turn, store_at, turn_at, steps_on}
+use Rattle.std.proofs.lemmas.Bool.{lt-ltb}
+use Rattle.sk_record.specs.Step.{Refuse, perform, with_read}
+use Rattle.sk_ids.specs.declared.entity.Entity.{Entity}
+use Rattle.sk_objects.specs.Content.{ContentView}
+use Rattle.sk_objects.specs.declared.content.TheConstants.{LAST_VERSION}
+use Rattle.sk_objects.specs.declared.value.Value.TheVariants as values
+use Rattle.sk_store.specs.declared.entity_state.EntityState.{EntityState}
+use Rattle.sk_plain.specs.declared.refusal.Refusal.TheVariants.{Mismatch}
+use Rattle.sk_plain.specs.declared.refusal.Errno.TheVariants.{StaleCopy}
+use Rattle.sk_plain.specs.Rows.{answered, failed, with_write}
+use Rattle.sk_plain.specs.Replies.{fetched, from_copy, over_copy}
+use Rattle.sk_script.specs.declared.instruction.Input.TheVariants.{Good, Fresh, Stale}
+use Rattle.sk_server.specs.declared.request.Ask.TheVariants.{Get, Check, Store}
+use Rattle.sk_client.proofs.Each.{cons_first}
 
-abbrev Did : Type 0
-Did = Effect Entity EntityState Saying
+pub steps_so : (scripts : Scripts) (s : State) (pid : ℕ) (i : Instruction) (x : Input) (is : IsAt scripts s pid i)
+    → perform (get s) (act scripts pid x) ≡ with_read (Proc pid) (Some (stored.Process is.process)) (perform (get s) (with_input pid is.process (Some i) x))
+steps_so scripts s pid i x is =
+    let p = is.process in
+    steps_on scripts s pid x p is.there is.goes ∙ ap (λ i. with_read (Proc pid) (Some (stored.Process p)) (perform (get s) (with_input pid p i x))) is.at
+
+module _ (scripts : Scripts) (s : State) (pid : ℕ) (name : Bytes) where
+  abbrev Own : Entity → Type 0
+  Own = IsEither (table scripts) pid name
+
+  both : (e : Entity) → Contains (Proc pid ∷ Copy name ∷ []) e → Own e
+  both e h = elim (one_of_two (Proc pid) (Copy name) e h) [ inl is ↦ inl (sym is) | inr is ↦ inr (sym is) ]
+
+  turned : (e : Entity) → Contains (Copy name ∷ Proc pid ∷ []) e → Own e
+  turned e h = elim (one_of_two (Copy name) (Proc pid) e h) [ inl is ↦ inr (sym is) | inr is ↦ inl (sym is) ]
+
+  alone : (e : Entity) → Contains (Proc pid ∷ []) e → Own e
+  alone e h = inl (sym (only_one (Proc pid) e h))
+
+  pub takes_fresh : (c : ContentView) → IsAt scripts s pid (does_.Fetch name) → Takes (table scripts) s pid (Get name) (Fresh c)
+  takes_fresh c is = record {
+    effect = record {
+      read = (Proc pid, Some (stored.Process is.process)) ∷ [];
+      written = (Copy name, Some (copy_of c)) ∷ (Proc pid, Some (stored.Process (fetched is.process c))) ∷ [];
+      said = None;
+    };
+    accepted = steps_so scripts s pid (does_.Fetch name) (inputs.Fresh c) is;
+    reads = alone;
+    writes = turned;
+    sets = tt;
+  }
+
+  pub takes_stale : (v : ℕ) (b : Bytes) (c : ContentView) → IsAt scripts s pid (does_.Store name) → Takes (table scripts) s pid (Store name v b) (Stale c)
+  takes_stale v b c is = record {
+    effect = record {
+      read = (Proc pid, Some (stored.Process is.process)) ∷ [];
+      written = (Copy name, Some (copy_of c)) ∷ (Proc pid, Some (stored.Process (failed is.process StaleCopy))) ∷ [];
+      said = None;
+    };
+    accepted = steps_so scripts s pid (does_.Store name) (inputs.Stale c) is;
+    reads = alone;
+    writes = turned;
+    sets = tt;
+  }
+
+  -- a cached copy, by its version
+  copy_at : (o : Option EntityState) (v : ℕ) → version_of o ≡ Some v → (c : ContentView) × (o ≡ Some (stored.Value (values.Copy c)))
+  copy_at None v is = cc
+  copy_at (Some (stored.Value (values.Copy c))) v is = (c, refl)
+  copy_at (Some (stored.Value w)) v is = cc
+  copy_at (Some (stored.Process p)) v is = cc
+
+  pub takes_checked : (v : ℕ) → IsAt scripts s pid (does_.Fetch name) → version_of (get s (Copy name)) ≡ Some v → Takes (table scripts) s pid (Check name v) Good
+  takes_checked v is cached =
+      let p = is.process in
+      let c = copy_at (get s (Copy name)) v cached in
+      record {
+        effect = record {
+          read = (Proc pid, Some (stored.Process p)) ∷ (Copy name, Some (stored.Value (values.Copy c.0))) ∷ [];
+          written = (Proc pid, Some (stored.Process (fetched p c.0))) ∷ [];
+          said = None;
+        };
+        accepted = steps_so scripts s pid (does_.Fetch name) inputs.Good is
+            ∙ ap (λ o. with_read (Proc pid) (Some (stored.Process p)) (with_read (Copy name) o (perform (get s) (from_copy pid p o)))) c.1;
+        reads = both;
+        writes = alone;
+        sets = λ there. (let no : Proc pid ≡ Copy name = only_one (Proc pid) (Copy name) there in cc);
+      }
+
+  -- what a store over this copy writes
+  abbrev StoredOver : Process → Option EntityState → ℕ → Type 0
+  StoredOver p o v = (q : Process)
+      × (perform (get s) (over_copy pid p name o) ≡ Ok (record { read = []; written = (Copy name, Some (copy_of (record { version = suc v; bytes = p.buffer }))) ∷ (Proc pid, Some (stored.Process q)) ∷ []; said = None }))
+
+  version_after : (n v : ℕ) → n ≡ v → n + 1 ≡ suc v
+  version_after n v is = omega arith
+
+  stored_over : (p : Process) (o : Option EntityState) (v : ℕ) → IsCopy o → or_zero (version_of o) ≡ v → v < LAST_VERSION → StoredOver p o v
+  stored_over p None v is cached lt =
+      let version : 1 ≡ suc v = version_after 0 v cached in
+      (answered p 1, (λ i. perform (get s) (with_write pid (Copy name) (values.Copy (record { version = version i; bytes = p.buffer })) (answered p 1))))
+  stored_over p (Some (stored.Value (values.Copy c))) v is cached lt =
+      let version : c.version + 1 ≡ suc v = version_after c.version v cached in
+      let below : nat_lt c.version LAST_VERSION ≡ true = lt-ltb c.version LAST_VERSION (subst (λ n. n < LAST_VERSION) (sym cached) lt) in (
+        answered p (c.version + 1),
+        ap (λ t. perform (get s) (cond t (with_write pid (Copy name) (values.Copy (record { version = c.version + 1; bytes = p.buffer })) (answered p (c.version + 1))) (Refuse Mismatch))) below
+            ∙ (λ i. perform (get s) (with_write pid (Copy name) (values.Copy (record { version = version i; bytes = p.buffer })) (answered p (c.version + 1)))),
+      )
+  stored_over p o v is cached lt = absurd is
+
+  pub takes_stored : (v : ℕ) (b : Bytes) → (is : IsAt scripts s pid (does_.Store name)) → is.process.buffer ≡ b → IsCopy (get s (Copy name)) → or_zero (version_of (get s (Copy name))) ≡ v → v < LAST_VERSION
+      → Takes (table scripts) s pid (Store name v b) Good
+  takes_stored v b is buffer copy cached lt =
+      let p = is.process in
+      let does = stored_over p (get s (Copy name)) v copy cached lt in
+      let written = (Copy name, Some (copy_of (record { version = suc v; bytes = p.buffer }))) ∷ (Proc pid, Some (stored.Process does.0)) ∷ [] in
+      record {
+        effect = record {
+          read = (Proc pid, Some (stored.Process p)) ∷ (Copy name, get s (Copy name)) ∷ [];
+          written = written;
+          said = None;
+        };
+        accepted = steps_so scripts s pid (does_.Store name) inputs.Good is
+            ∙ ap (λ r. with_read (Proc pid) (Some (stored.Process p)) (with_read (Copy name) (get s (Copy name)) r)) does.1;
+        reads = both;
+        writes = turned;
+        sets = subst (λ bytes. Contains written (Copy name, Some (copy_of (record { version = suc v; bytes = bytes })))) buffer (cons_first (Copy name, Some (copy_of (record { version = suc v; bytes = p.buffer }))) ((Proc pid, Some (stored.Process does.0)) ∷ []));
+      }
+
+-- ---- the table
 
 module _ (scripts : Scripts) (start : State) (tidy : IsTidy start) where
   abbrev reached : List Caused → State
@@ -48,7 +162,7 @@ module _ (scripts : Scripts) (start : State) (tidy : IsTidy start) where
         | Some v ↦ λ is. absurd (unborn (reached ns) pid p c (run_tidy scripts start ns tidy) there next (subst IsSome (sym is) refl))
       ] refl
 
-  owns : (ns : List Caused) (c pid : ℕ) (x : Input) (f : Did) → outcome (kernel (table scripts)) (reached ns) (own pid x) ≡ Ok f
+  pub owns : (ns : List Caused) (c pid : ℕ) (x : Input) (f : Did) → outcome (kernel (table scripts)) (reached ns) (own pid x) ≡ Ok f
       → Contains (map (λ w. w.0) f.written) (Proc c) → (pid ≡ c) ⊎ (get (reached ns) (Proc c) ≡ None)
   owns ns c pid x f is writes =
       let step = found scripts (reached ns) pid x f is in
@@ -64,38 +178,31 @@ module _ (scripts : Scripts) (s : State) (name : Bytes) (pid : ℕ) where
 
   can_next : (x : Input) (p : Process) → get s (Proc pid) ≡ Some (stored.Process p) → p.ended ≡ false → (next_turn scripts s pid ≡ Ok nexts.Signal → x ≡ inputs.None) → CanWrite x (next_in scripts p) name → IsNext
   can_next inputs.None p there goes due may = absurd may
-  can_next Good p there goes due may = is_next p there goes (λ is. (let no : Good ≡ inputs.None = due is in cc)) may
-  can_next (Fresh c) p there goes due may = is_next p there goes (λ is. (let no : Fresh c ≡ inputs.None = due is in cc)) may
-  can_next (Stale c) p there goes due may = is_next p there goes (λ is. (let no : Stale c ≡ inputs.None = due is in cc)) may
+  can_next x p there goes due may = is_next p there goes (λ is. (let no : x ≡ inputs.None = due is in cc)) may
 
   -- a copy is written by a fetch or a store of its name
-  copies : (x : Input) (f : Did) → (next_turn scripts s pid ≡ Ok nexts.Signal → x ≡ inputs.None) → outcome (kernel (table scripts)) s (own pid x) ≡ Ok f → Contains (map (λ w. w.0) f.written) (Copy name) → IsNext
+  pub copies : (x : Input) (f : Did) → (next_turn scripts s pid ≡ Ok nexts.Signal → x ≡ inputs.None) → outcome (kernel (table scripts)) s (own pid x) ≡ Ok f → Contains (map (λ w. w.0) f.written) (Copy name) → IsNext
   copies x f due is writes =
       let step = found scripts s pid x f is in
       can_next x step.process step.there step.goes due (step.keeps.copies name writes)
 
-not_there : (scripts : Scripts) (s : State) (pid : ℕ) (i : Instruction) → IsAt scripts s pid i → get s (Proc pid) ≡ None → ⊥
+pub not_there : (scripts : Scripts) (s : State) (pid : ℕ) (i : Instruction) → IsAt scripts s pid i → get s (Proc pid) ≡ None → ⊥
 not_there scripts s pid i is none = (let both : None ≡ Some (stored.Process is.process) = sym none ∙ is.there in cc)
 
-pub is_table : (scripts : Scripts) (boot : BootView) → IsNumbered boot → IsTable (table scripts) (start_of boot)
-is_table scripts boot numbered =
-    let tidy = tidy_start boot numbered in
-    record {
-      last = refl;
-      total = entity_total;
-      exact = entity_exact;
-      apart = λ p m h. cc;
-      processes = λ p q h. (let h2 : Proc p ≡ Proc q = h in cc);
-      copies = λ m n h. (let h2 : Copy m ≡ Copy n = h in cc);
-      own_process = λ ns c q x f legal is writes. owns scripts (start_of boot) tidy ns c q x f is writes;
-      own_copy = λ s m q x f due is writes. copies scripts s m q x f due is writes;
-      fetch_there = λ s p m next none. not_there scripts s p (does_.Fetch m) (fetch_at scripts s p m next) none;
-      store_there = λ s p m next none. not_there scripts s p (does_.Store m) (store_at scripts s p m next) none;
-      fetch_fresh = λ s p m c next. takes_fresh scripts s p m c (fetch_at scripts s p m next);
-      fetch_good = λ s p m v next cached. takes_checked scripts s p m v (fetch_at scripts s p m next) cached;
-      store_good = λ ns p m v legal next cached lt.
-          let s = run (kernel (table scripts)) (start_of boot) ns in
-          let is = store_at scripts s p m next in
-          takes_stored scripts s p m v (buffer_of (get s (Proc p))) is (sym (ap buffer_of is.there)) ((run_tidy scripts (start_of boot) ns tidy).copies m) cached lt;
-      store_stale = λ s p m b v c next. takes_stale scripts s p m v b c (store_at scripts s p m next);
-    }
+-- a store sets the copy, in the states that a tidy one leads to
+pub takes_store : (scripts : Scripts) (start : State) → IsTidy start → (ns : List Caused) (p : ℕ) (m : Bytes) (v : ℕ)
+    → let s = run (kernel (table scripts)) start ns in
+    next_turn scripts s p ≡ Ok (nexts.Store m) → or_zero (version_of (get s (Copy m))) ≡ v → v < LAST_VERSION → Takes (table scripts) s p (Store m v (buffer_of (get s (Proc p)))) Good
+takes_store scripts start tidy ns p m v next cached lt =
+    let s = run (kernel (table scripts)) start ns in
+    let is = store_at scripts s p m next in
+    takes_stored scripts s p m v (buffer_of (get s (Proc p))) is (sym (ap buffer_of is.there)) ((run_tidy scripts start ns tidy).copies m) cached lt
+
+pub is_table : (scripts : Scripts) → IsTable (table scripts)
+is_table scripts = record {
+  total = entity_total;
+  exact = entity_exact;
+  apart = λ p m h. cc;
+  processes = λ p q h. (let h2 : Proc p ≡ Proc q = h in cc);
+  copies = λ m n h. (let h2 : Copy m ≡ Copy n = h in cc);
+}

@@ -1,11 +1,11 @@
--- What holds of every state that a kernel comes to: a process that is there has a number from 1 on, a child is counted by
--- its parent, and a cached copy is one.
-use Rattle.std.proofs.Common.{◌≡◌, ℕ, ◌+◌, ◌*◌, ◌/◌, ◌%◌, ◌≤◌, ◌<◌, Bool, true, false, cond, List, [], Option, Some, None, IsSome, inl, inr, refl, sym, ◌∙◌, ap, subst, arith}
-use Rattle.std.specs.Prelude.{◌⊎◌}
-use Rattle.std.specs.FinMap.{get}
+-- What holds of every state that a kernel comes to, from the start of a boot on: a process that is
+-- there has a number from 1 on, a child is counted by its parent, and a cached copy is one.
+use Rattle.std.proofs.Common.{◌≡◌, ℕ, ◌+◌, ◌*◌, ◌/◌, ◌%◌, ◌≤◌, ◌<◌, Bool, true, false, cond, List, [], Option, Some, None, IsSome, inl, inr, refl, sym, ◌∙◌, ap, subst, arith, ◌∷◌}
+use Rattle.std.specs.Prelude.{◌⊎◌, All}
+use Rattle.std.specs.FinMap.{get, empty, get-empty}
 use Rattle.std.specs.Ordering.{eq_by_cmp}
 use Rattle.std.specs.Cmp.{eq_by_cmp_equiv, Equal-is}
-use Rattle.std.proofs.lemmas.Bool.{cases_eq}
+use Rattle.std.proofs.lemmas.Bool.{cases_eq, false≢true}
 use Rattle.std.proofs.lemmas.Nat.{div-mul-add, mod-mul-add}
 use Rattle.sk_record.specs.Run.{put}
 use Rattle.sk_record.proofs.Sets.{get-put}
@@ -20,6 +20,13 @@ use Rattle.sk_store.specs.State.{State}
 use Rattle.sk_store.specs.declared.entity_state.EntityState.{EntityState}
 use Rattle.sk_store.specs.declared.entity_state.EntityState.TheVariants as stored
 use Rattle.sk_plain.specs.Processes.{LAST_CHILD, next_child}
+use Rattle.std.proofs.lemmas.List.Elements.{All-head, All-tail}
+use Rattle.sk_script.specs.Boot.{BootView}
+use Rattle.sk_script.specs.Process.{root, beginning}
+use Rattle.sk_script.specs.declared.boot.BootObject.{BootObject}
+use Rattle.sk_script.specs.declared.boot.BootProcess.{BootProcess}
+use Rattle.sk_store.specs.Start.{boot_object, first_value, with_objects, with_links, with_process, with_processes, with_copies, with_root, start_of}
+use Rattle.sk_client.specs.Table.{HasNumber, IsNumbered}
 
 -- ---- reads after a write
 
@@ -83,16 +90,20 @@ proc_is : (s : State) (pid k : ℕ) (o : Option EntityState) → (k ≡ pid → 
 proc_is s pid k o apart = elsewhere s (Proc pid) (Proc k) o (λ same. apart (let is : k ≡ pid = cc in is))
 
 -- a process that was there is written
+own_grows : (s t : State) (pid k : ℕ) (p q r : Process) → get s (Proc pid) ≡ Some (stored.Process p) → get t (Proc pid) ≡ Some (stored.Process q) → p.children ≤ q.children → k ≡ pid
+    → get s (Proc k) ≡ Some (stored.Process r) → (x : Process) × (get t (Proc k) ≡ Some (stored.Process x)) × (r.children ≤ x.children)
+own_grows s t pid k p q r there now le same is =
+    let both : Some (stored.Process r) ≡ Some (stored.Process p) = sym is ∙ (λ i. get s (Proc (same i))) ∙ there in
+    let one : r ≡ p = cc in
+    let fewer = ap (λ (p : Process). p.children) one in
+    (q, (λ i. get t (Proc (same i))) ∙ now, omega arith)
+
 pub tidy_own : (s : State) (pid : ℕ) (p q : Process) → get s (Proc pid) ≡ Some (stored.Process p) → p.children ≤ q.children → IsTidy s → IsTidy (put s (Proc pid) (Some (stored.Process q)))
 tidy_own s pid p q there le h =
     let t = put s (Proc pid) (Some (stored.Process q)) in
     tidy_still s t
     (λ k r is. elim (cases_eq k pid) [
-      | inl same ↦ (
-          let both : Some (stored.Process r) ≡ Some (stored.Process p) = sym is ∙ (λ i. get s (Proc (same i))) ∙ there in
-          let one : r ≡ p = cc in
-          let fewer = ap (λ (p : Process). p.children) one in
-          (q, (λ i. get t (Proc (same i))) ∙ here s (Proc pid) (Some (stored.Process q)), omega arith))
+      | inl same ↦ own_grows s t pid k p q r there (here s (Proc pid) (Some (stored.Process q))) le same is
       | inr apart ↦ (r, proc_is s pid k (Some (stored.Process q)) apart ∙ is, omega arith)
     ])
     (λ c is. elim (cases_eq c pid) [
@@ -161,24 +172,21 @@ abbrev after_birth : State → ℕ → Process → Process → State
 after_birth s pid child parent =
     put (put (put (put s (Proc child.pid) (Some (stored.Process child))) (Sig child.pid) (Some (stored.Value (values.Signals [])))) (Exit child.pid) (Some (stored.Value (values.Exit None)))) (Proc pid) (Some (stored.Process parent))
 
-birth_proc : (s : State) (pid k : ℕ) (child parent : Process) → (k ≡ pid → ⊥) → get (after_birth s pid child parent) (Proc k) ≡ get (put s (Proc child.pid) (Some (stored.Process child))) (Proc k)
-birth_proc s pid k child parent apart =
+-- what is none of the last three is as after the first
+birth_else : (s : State) (pid : ℕ) (child parent : Process) (e : Entity) → (e ≡ Proc pid → ⊥) → (e ≡ Exit child.pid → ⊥) → (e ≡ Sig child.pid → ⊥)
+    → get (after_birth s pid child parent) e ≡ get (put s (Proc child.pid) (Some (stored.Process child))) e
+birth_else s pid child parent e no_parent no_exit no_queue =
     let a = put s (Proc child.pid) (Some (stored.Process child)) in
     let b = put a (Sig child.pid) (Some (stored.Value (values.Signals []))) in
     let c = put b (Exit child.pid) (Some (stored.Value (values.Exit None))) in
-    proc_is c pid k (Some (stored.Process parent)) apart
-    ∙ elsewhere b (Exit child.pid) (Proc k) (Some (stored.Value (values.Exit None))) (λ is. cc)
-    ∙ elsewhere a (Sig child.pid) (Proc k) (Some (stored.Value (values.Signals []))) (λ is. cc)
+    elsewhere c (Proc pid) e (Some (stored.Process parent)) no_parent
+    ∙ elsewhere b (Exit child.pid) e (Some (stored.Value (values.Exit None))) no_exit
+    ∙ elsewhere a (Sig child.pid) e (Some (stored.Value (values.Signals []))) no_queue
 
-birth_copy : (s : State) (pid : ℕ) (name : List ℕ) (child parent : Process) → get (after_birth s pid child parent) (Copy name) ≡ get s (Copy name)
-birth_copy s pid name child parent =
-    let a = put s (Proc child.pid) (Some (stored.Process child)) in
-    let b = put a (Sig child.pid) (Some (stored.Value (values.Signals []))) in
-    let c = put b (Exit child.pid) (Some (stored.Value (values.Exit None))) in
-    elsewhere c (Proc pid) (Copy name) (Some (stored.Process parent)) (λ is. cc)
-    ∙ elsewhere b (Exit child.pid) (Copy name) (Some (stored.Value (values.Exit None))) (λ is. cc)
-    ∙ elsewhere a (Sig child.pid) (Copy name) (Some (stored.Value (values.Signals []))) (λ is. cc)
-    ∙ elsewhere s (Proc child.pid) (Copy name) (Some (stored.Process child)) (λ is. cc)
+-- nor the first
+birth_proc : (s : State) (pid k : ℕ) (child parent : Process) → (k ≡ pid → ⊥) → (k ≡ child.pid → ⊥) → get (after_birth s pid child parent) (Proc k) ≡ get s (Proc k)
+birth_proc s pid k child parent apart old =
+    birth_else s pid child parent (Proc k) (λ same. apart (let is : k ≡ pid = cc in is)) (λ is. cc) (λ is. cc) ∙ proc_is s child.pid k (Some (stored.Process child)) old
 
 pub tidy_birth : (s : State) (pid : ℕ) (p child parent : Process) → get s (Proc pid) ≡ Some (stored.Process p) → IsNextChild pid p child.pid → parent.children ≡ p.children + 1
     → IsTidy s → IsTidy (after_birth s pid child parent)
@@ -192,14 +200,10 @@ tidy_birth s pid p child parent there next count h =
     let under : child.pid % 65536 ≡ p.children + 1 = ap (λ c. c % 65536) number ∙ child_under pid p.children few in
     tidy_still s t
     (λ k r is. elim (cases_eq k pid) [
-      | inl same ↦ (
-          let both : Some (stored.Process r) ≡ Some (stored.Process p) = sym is ∙ (λ i. get s (Proc (same i))) ∙ there in
-          let one : r ≡ p = cc in
-          let fewer = ap (λ (p : Process). p.children) one in
-          (parent, (λ i. get t (Proc (same i))) ∙ own_now, omega arith))
+      | inl same ↦ own_grows s t pid k p parent r there own_now (omega arith) same is
       | inr apart ↦ (
           let old : k ≡ child.pid → ⊥ = λ same. unborn s pid p child.pid h there next (some_there _ (stored.Process r) ((λ i. get s (Proc (sym same i))) ∙ is)) in
-          (r, birth_proc s pid k child parent apart ∙ proc_is s child.pid k (Some (stored.Process child)) old ∙ is, omega arith))
+          (r, birth_proc s pid k child parent apart old ∙ is, omega arith))
     ])
     (λ c is. elim (cases_eq c pid) [
       | inl same ↦ inl (some_there _ (stored.Process p) ((λ i. get s (Proc (same i))) ∙ there))
@@ -208,8 +212,80 @@ tidy_birth s pid p child parent there next count h =
           some = omega arith;
           counted = λ _. (parent, (λ i. get t (Proc (((λ j. same j / 65536) ∙ over) i))) ∙ own_now, (let its = ap (λ c. c % 65536) same in omega arith));
         })
-        | inr old ↦ inl (subst IsSome (birth_proc s pid c child parent apart ∙ proc_is s child.pid c (Some (stored.Process child)) old) is)
+        | inr old ↦ inl (subst IsSome (birth_proc s pid c child parent apart old) is)
       ]
     ])
-    (λ name. subst IsCopy (sym (birth_copy s pid name child parent)) (h.copies name))
+    (λ name. subst IsCopy (sym (birth_else s pid child parent (Copy name) (λ is. cc) (λ is. cc) (λ is. cc)
+    ∙ elsewhere s (Proc child.pid) (Copy name) (Some (stored.Process child)) (λ is. cc))) (h.copies name))
     h
+
+-- ---- the state that a kernel starts from: its processes are those of the boot
+
+-- they have the numbers of a boot's
+pub record IsNew (s : State) : Type 0 where
+  pub numbers : (c : ℕ) → IsSome (get s (Proc c)) → (0 < c) × (c < 65536)
+  pub copies : (name : List ℕ) → IsCopy (get s (Copy name))
+
+new_place : (s : State) (e : Entity) (v : EntityState) → IsPlace e → IsNew s → IsNew (put s e (Some v))
+new_place s e v place h = record {
+  numbers = λ c is. h.numbers c (subst IsSome (elsewhere s e (Proc c) (Some v) (λ same. subst IsPlace (sym same) place)) is);
+  copies = λ name. subst IsCopy (sym (elsewhere s e (Copy name) (Some v) (λ same. subst IsPlace (sym same) place))) (h.copies name);
+}
+
+new_process : (s : State) (pid : ℕ) (v : EntityState) → (0 < pid) × (pid < 65536) → IsNew s → IsNew (put s (Proc pid) (Some v))
+new_process s pid v fits h = record {
+  numbers = λ c is. elim (cases_eq c pid) [
+    | inl same ↦ (let low = fits.0 in let high = fits.1 in (omega arith, omega arith))
+    | inr apart ↦ h.numbers c (subst IsSome (elsewhere s (Proc pid) (Proc c) (Some v) (λ same. apart (let one : c ≡ pid = cc in one))) is)
+  ];
+  copies = λ name. subst IsCopy (sym (elsewhere s (Proc pid) (Copy name) (Some v) (λ same. cc))) (h.copies name);
+}
+
+new_copy : (s : State) (name : List ℕ) (c : ContentView) → IsNew s → IsNew (put s (Copy name) (Some (stored.Value (values.Copy c))))
+new_copy s name c h = record {
+  numbers = λ pid is. h.numbers pid (subst IsSome (elsewhere s (Copy name) (Proc pid) (Some (stored.Value (values.Copy c))) (λ same. cc)) is);
+  copies = λ other. still IsCopy s (Copy name) (Copy other) (Some (stored.Value (values.Copy c))) tt (h.copies other);
+}
+
+new_empty : IsNew empty
+new_empty = record {
+  numbers = λ c is. absurd (false≢true (subst IsSome (get-empty entity_cmp (Proc c)) is));
+  copies = λ name. subst IsCopy (sym (get-empty entity_cmp (Copy name))) tt;
+}
+
+new_objects : (s : State) (n : ℕ) (os : List BootObject) → IsNew s → IsNew (with_objects s n os)
+new_objects s n [] h = h
+new_objects s n (o ∷ os) h =
+    new_objects (put s (Obj (boot_object n)) (Some (stored.Value (first_value o.kind o.bytes)))) (n + 1) os (new_place s (Obj (boot_object n)) (stored.Value (first_value o.kind o.bytes)) tt h)
+
+new_links : (s : State) (n : ℕ) (os : List BootObject) → IsNew s → IsNew (with_links s n os)
+new_links s n [] h = h
+new_links s n (o ∷ os) h =
+    new_links (put s (Link root o.name) (Some (stored.Value (values.Link (boot_object n))))) (n + 1) os (new_place s (Link root o.name) (stored.Value (values.Link (boot_object n))) tt h)
+
+new_processes : (s : State) (ps : List BootProcess) → All HasNumber ps → IsNew s → IsNew (with_processes s ps)
+new_processes s [] all h = h
+new_processes s (p ∷ ps) all h =
+    let first = stored.Process (beginning p.number p.script p.terminal) in
+    let queue = stored.Value (values.Signals []) in
+    let a = put s (Proc p.number) (Some first) in
+    let b = put a (Sig p.number) (Some queue) in
+    new_processes (with_process s p) ps (All-tail HasNumber p ps all)
+    (new_place b (Exit p.number) (stored.Value (values.Exit None)) tt (new_place a (Sig p.number) queue tt
+    (new_process s p.number first (All-head HasNumber p ps all) h)))
+
+new_copies : (s : State) (cs : List (List ℕ × ContentView)) → IsNew s → IsNew (with_copies s cs)
+new_copies s [] h = h
+new_copies s (c ∷ cs) h = new_copies (put s (Copy c.0) (Some (stored.Value (values.Copy c.1)))) cs (new_copy s c.0 c.1 h)
+
+pub tidy_start : (boot : BootView) → IsNumbered boot → IsTidy (start_of boot)
+tidy_start boot numbered =
+    let bare = stored.Value values.Dir in
+    let new = new_copies (with_processes (with_root boot.objects) boot.processes) boot.copies
+    (new_processes (with_root boot.objects) boot.processes numbered
+    (new_links (put (with_objects empty 2 boot.objects) (Obj root) (Some bare)) 2 boot.objects
+    (new_place (with_objects empty 2 boot.objects) (Obj root) bare tt (new_objects empty 2 boot.objects new_empty)))) in
+    record {
+      placed = λ c is. (let fits = new.numbers c is in let low = fits.0 in let high = fits.1 in record { some = low; counted = λ child. absurd (omega arith) });
+      copies = new.copies;
+    }

@@ -11,7 +11,7 @@ use Rattle.sk_kernel.proofs.Appended.{unchanged_foreseen, appended_foreseen}
 use Rattle.sk_server.specs.declared.request.Request.{Request}
 use Rattle.sk_server.specs.declared.reply.Reply.{Reply}
 use Rattle.sk_server.specs.declared.reply.Answer.{Answer}
-use Rattle.sk_server.specs.declared.reply.Answer.TheVariants.{Yes, No, Copy, Dropped}
+use Rattle.sk_server.specs.declared.reply.Answer.TheVariants.{Yes}
 use Rattle.sk_client.specs.declared.pending.PendingRequest.{PendingRequest}
 use Rattle.sk_client.specs.declared.rule.Rule.{Rule}
 use Rattle.sk_client.specs.declared.rule.Rule.TheVariants as rules
@@ -46,13 +46,9 @@ same u w new is = unchanged_foreseen u w.desk.kernel new.desk.kernel (ap (λ (x 
 
 turn_foreseen : (r : Result WorldAnswer Cause) (w : WorldView) (pid : ℕ) (new : WorldView) → Turns r w pid new → IsForeseen (turn_step pid (rule w.desk pid)) (appended w.desk.kernel new.desk.kernel)
 turn_foreseen (Ok (answers.Turn turn)) w pid new h = by_rule (Ok turn) w.desk new.desk pid (rule w.desk pid) h.0
-turn_foreseen (Ok (answers.Served reply)) w pid new h = absurd h
-turn_foreseen (Ok (answers.Given told)) w pid new h = absurd h
-turn_foreseen (Ok (answers.Edited version)) w pid new h = absurd h
+turn_foreseen (Ok told) w pid new h = absurd h
 turn_foreseen (Err (causes.Turn why)) w pid new h = same (turn_step pid (rule w.desk pid)) w new h.1
-turn_foreseen (Err causes.Idle) w pid new h = absurd h
-turn_foreseen (Err (causes.Edit why)) w pid new h = absurd h
-turn_foreseen (Err causes.Memory) w pid new h = absurd h
+turn_foreseen (Err why) w pid new h = absurd h
 
 -- ---- a request that is served
 
@@ -65,9 +61,7 @@ serve_keeps (Err why) w new (Some q) h = ap (λ (x : WorldView). x.desk.kernel) 
 
 decides : (u : Option (ℕ × Input)) (d : DeskView) (q : PendingRequest) (g : ℕ) (a : Answer) → IsForeseen u (appended d.kernel (decided d q g a).kernel)
 decides u d q g Yes = appended_foreseen u d.kernel (decided d q g Yes).kernel (trace.Commit g) refl tt
-decides u d q g (No content) = appended_foreseen u d.kernel (decided d q g (No content)).kernel (trace.Fail g) refl tt
-decides u d q g (Copy content) = appended_foreseen u d.kernel (decided d q g (Copy content)).kernel (trace.Fail g) refl tt
-decides u d q g Dropped = appended_foreseen u d.kernel (decided d q g Dropped).kernel (trace.Fail g) refl tt
+decides u d q g a = appended_foreseen u d.kernel (decided d q g a).kernel (trace.Fail g) refl tt
 
 steps : (k : KernelView) (pid : ℕ) (input : Input) (refused : Option Refusal) → IsForeseen (Some (pid, input)) (appended k (stepped k pid input refused))
 steps k pid input None = appended_foreseen (Some (pid, input)) k (stepped k pid input None) (trace.Step pid input) refl refl
@@ -101,22 +95,16 @@ replies_foreseen : (r : Result WorldAnswer Cause) (w new : WorldView) (rs : List
     → IsForeseen (first_reply_step rs w.desk.taken) (appended w.desk.kernel new.desk.kernel)
 replies_foreseen r w new [] h = same None w new h.1
 replies_foreseen (Ok (answers.Given told)) w new (r ∷ rs) h = reply_foreseen w.desk new.desk r w.desk.taken h.0.2
-replies_foreseen (Ok (answers.Turn turn)) w new (r ∷ rs) h = absurd h
-replies_foreseen (Ok (answers.Served reply)) w new (r ∷ rs) h = absurd h
-replies_foreseen (Ok (answers.Edited version)) w new (r ∷ rs) h = absurd h
+replies_foreseen (Ok told) w new (r ∷ rs) h = absurd h
 replies_foreseen (Err why) w new (r ∷ rs) h = same (reply_step r w.desk.taken) w new h.2
 
 -- ---- an edit
 
 edit_keeps : (r : Result WorldAnswer Cause) (w : WorldView) (name : List ℕ) (expected : ℕ) (bytes : List ℕ) (new : WorldView) → EditsFile r w name expected bytes new → new.desk.kernel ≡ w.desk.kernel
 edit_keeps (Ok (answers.Edited version)) w name expected bytes new h = ap (λ (x : WorldView). x.desk.kernel) h.1
-edit_keeps (Ok (answers.Turn turn)) w name expected bytes new h = absurd h
-edit_keeps (Ok (answers.Served reply)) w name expected bytes new h = absurd h
-edit_keeps (Ok (answers.Given told)) w name expected bytes new h = absurd h
+edit_keeps (Ok told) w name expected bytes new h = absurd h
 edit_keeps (Err (causes.Edit why)) w name expected bytes new h = ap (λ (x : WorldView). x.desk.kernel) h.1
-edit_keeps (Err (causes.Turn why)) w name expected bytes new h = absurd h
-edit_keeps (Err causes.Idle) w name expected bytes new h = absurd h
-edit_keeps (Err causes.Memory) w name expected bytes new h = absurd h
+edit_keeps (Err why) w name expected bytes new h = absurd h
 
 pub event_foreseen : (r : Result WorldAnswer Cause) (w : WorldView) (e : WorldEvent) (new : WorldView) → EventPost r w e new → IsForeseen (upcoming w e) (appended w.desk.kernel new.desk.kernel)
 event_foreseen r w (events.Turn pid) new h = turn_foreseen r w pid new h

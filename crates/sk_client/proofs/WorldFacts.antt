@@ -106,9 +106,8 @@ turn_any s rs b old new pid (Err why) h j = subst (λ (d : DeskView). IsJoined d
 
 replies_taken : (rs : List Reply) (qs : List PendingRequest) (q : PendingRequest) → AreReplies rs None qs → AreReplies rs (Some (sent q)) (qs ++ q ∷ [])
 replies_taken [] [] q h = refl
-replies_taken [] (x ∷ xs) q h = absurd h
-replies_taken (r ∷ rs) [] q h = absurd h
 replies_taken (r ∷ rs) (x ∷ xs) q h = (h.0, h.1, replies_taken rs xs q h.2)
+replies_taken rs qs q h = absurd h
 
 pub taken_joined : (s : ServerView) (rs : List Reply) (d e : DeskView) (q : PendingRequest) (qs : List PendingRequest) → d.waiting ≡ q ∷ qs → e ≡ first_taken d (q ∷ qs)
     → IsJoined d s rs None → IsJoined e s rs (Some (sent q))
@@ -136,10 +135,18 @@ none_is (Some q) h = absurd (true≢false h)
 
 -- ---- the server's answer
 
-fits_dropped : (a : Ask) → fits_ask a Dropped ≡ true
-fits_dropped (Get name) = refl
-fits_dropped (Check name version) = refl
-fits_dropped (Store name version bytes) = refl
+-- a store that is accepted fits
+abbrev pub Fitting : FileMap → Ask → Answer → Type 0
+Fitting files (Store name version bytes) Yes = is_fitting files name version ≡ true
+Fitting files ask answer = Unit {0}
+
+-- it is of the kind that its request asks for, too
+abbrev pub Suits : FileMap → Ask → Answer → Type 0
+Suits files ask answer = (fits_ask ask answer ≡ true) × Fitting files ask answer
+
+dropped_suits : (files : FileMap) (ask : Ask) → Suits files ask Dropped
+dropped_suits files (Get name) = (refl, tt)
+dropped_suits files ask = (refl, tt)
 
 not_last : (v : ℕ) → v < LAST_VERSION → not (v == LAST_VERSION) ≡ true
 not_last v less = elim (v == LAST_VERSION) as (λ b. (v == LAST_VERSION) ≡ b → not b ≡ true) [
@@ -147,37 +154,35 @@ not_last v less = elim (v == LAST_VERSION) as (λ b. (v == LAST_VERSION) ≡ b �
   | false ↦ λ e. refl
 ] refl
 
-fits_judged : (files : FileMap) (a : Ask) → fits_ask a (judged files a) ≡ true
-fits_judged files (Get name) = refl
-fits_judged files (Check name version) = elim ((file_of files name).version == version) as (λ b. fits_ask (Check name version) (cond b Yes (No (file_of files name))) ≡ true) [
-  | true ↦ refl
-  | false ↦ refl
+judged_suits : (files : FileMap) (ask : Ask) → Suits files ask (judged files ask)
+judged_suits files (Get name) = (refl, tt)
+judged_suits files (Check name version) = elim ((file_of files name).version == version) as (λ b. Suits files (Check name version) (cond b Yes (No (file_of files name)))) [
+  | true ↦ (refl, tt)
+  | false ↦ (refl, tt)
 ]
-fits_judged files (Store name expected bytes) =
-    elim (is_fitting files name expected) as (λ b. is_fitting files name expected ≡ b → fits_ask (Store name expected bytes) (cond b Yes (No (file_of files name))) ≡ true) [
-      | true ↦ λ e. not_last expected (ltb-true expected LAST_VERSION (and_both _ (nat_lt expected LAST_VERSION) e).1)
-      | false ↦ λ e. refl
+judged_suits files (Store name expected bytes) =
+    elim (is_fitting files name expected) as (λ b. is_fitting files name expected ≡ b → Suits files (Store name expected bytes) (cond b Yes (No (file_of files name)))) [
+      | true ↦ λ e. (not_last expected (ltb-true expected LAST_VERSION (and_both _ (nat_lt expected LAST_VERSION) e).1), e)
+      | false ↦ λ e. (refl, tt)
     ] refl
 
-fits_answer : (s : ServerView) (q : Request) → fits_ask q.ask (answer_to s q) ≡ true
-fits_answer s q = elim (is_dropped q (remembered q s.refused)) as (λ b. fits_ask q.ask (cond b Dropped (judged s.files q.ask)) ≡ true) [
-  | true ↦ fits_dropped q.ask
-  | false ↦ fits_judged s.files q.ask
+pub answer_suits : (s : ServerView) (q : Request) → Suits s.files q.ask (answer_to s q)
+answer_suits s q = elim (is_dropped q (remembered q s.refused)) as (λ b. Suits s.files q.ask (cond b Dropped (judged s.files q.ask))) [
+  | true ↦ dropped_suits s.files q.ask
+  | false ↦ judged_suits s.files q.ask
 ]
 
 replies_more : (rs : List Reply) (b : Request) (qs : List PendingRequest) (r : Reply) → r.number ≡ b.number → fits_ask b.ask r.answer ≡ true → AreReplies rs (Some b) qs → AreReplies (rs ++ r ∷ []) None qs
-replies_more [] b [] r n f h = absurd h
 replies_more [] b (q ∷ []) r n f h =
     (sym (n ∙ ap (λ (x : Request). x.number) h), subst (λ (x : Request). fits_ask x.ask r.answer ≡ true) h f, tt)
-replies_more [] b (q ∷ x ∷ xs) r n f h = absurd h
-replies_more (x ∷ xs) b [] r n f h = absurd h
 replies_more (x ∷ xs) b (q ∷ qs) r n f h = (h.0, h.1, replies_more xs b qs r n f h.2)
+replies_more rs b qs r n f h = absurd h
 
 pub answer_joined : (d : DeskView) (s t : ServerView) (rs all : List Reply) (b : Request) → all ≡ rs ++ reply_to s b ∷ [] → t ≡ answered s b (answer_to s b) → IsJoined d s rs (Some b) → IsJoined d t all None
 answer_joined d s t rs all b more is j =
     let next = j.next.3 in
     subst (λ (xs : List Reply). IsJoined d t xs None) (sym more) (subst (λ (x : ServerView). IsJoined d x (rs ++ reply_to s b ∷ []) None) (sym is) (record {
-      replies = replies_more rs b d.taken (reply_to s b) refl (fits_answer s b) j.replies;
+      replies = replies_more rs b d.taken (reply_to s b) refl (answer_suits s b).0 j.replies;
       next = (j.next.2, next);
       last = j.last;
     }))
@@ -233,13 +238,12 @@ pub record Oldest (d : DeskView) (r : Reply) (rs : List Reply) (b : Option Reque
   pub request : PendingRequest
   pub later : List PendingRequest
   pub taken : d.taken ≡ request ∷ later
-  pub number : request.number ≡ r.number
   pub fits : fits_ask request.ask r.answer ≡ true
   pub replies : AreReplies rs b later
 
 oldest_of : (d : DeskView) (r : Reply) (rs : List Reply) (b : Option Request) (qs : List PendingRequest) → d.taken ≡ qs → AreReplies (r ∷ rs) b qs → Oldest d r rs b
 oldest_of d r rs b [] e h = absurd h
-oldest_of d r rs b (q ∷ qs) e h = record { request = q; later = qs; taken = e; number = h.0; fits = h.1; replies = h.2 }
+oldest_of d r rs b (q ∷ qs) e h = record { request = q; later = qs; taken = e; fits = h.1; replies = h.2 }
 
 pub oldest : (d : DeskView) (s : ServerView) (r : Reply) (rs : List Reply) (b : Option Request) → IsJoined d s (r ∷ rs) b → Oldest d r rs b
 oldest d s r rs b j = oldest_of d r rs b d.taken refl j.replies

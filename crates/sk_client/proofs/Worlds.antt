@@ -6,8 +6,7 @@ use Rattle.std.specs.FinMap.{FinMap}
 use Rattle.std.proofs.lemmas.Bool.{true≢false, cases_Bool, leb-true, eq-eqb}
 use Rattle.std.proofs.lemmas.List.Elements.{Contains-push_cases}
 use Rattle.std.proofs.lemmas.Slice.Eq.{bytes_eq-Decides}
-use Rattle.sk_record.specs.Step.{Effect}
-use Rattle.sk_record.specs.Run.{outcome, IsLegal}
+use Rattle.sk_record.specs.Run.{outcome}
 use Rattle.sk_record.specs.Notes.{has}
 use Rattle.sk_record.specs.Trace.{Event, record_of}
 use Rattle.sk_record.proofs.UndoStates.{and_both, any_at}
@@ -17,11 +16,13 @@ use Rattle.sk_objects.specs.declared.content.TheConstants.{LAST_VERSION}
 use Rattle.sk_script.specs.declared.instruction.Input.{Input}
 use Rattle.sk_script.specs.declared.instruction.Input.TheVariants.{Good, Fresh, Stale}
 use Rattle.sk_script.specs.declared.instruction.Input.TheVariants as inputs
+use Rattle.sk_store.specs.State.{State}
+use Rattle.sk_plain.specs.Act.{Scripts}
 use Rattle.sk_plain.specs.declared.next.Next.{Next}
 use Rattle.sk_plain.specs.declared.next.Next.TheVariants as nexts
 use Rattle.sk_plain.specs.declared.refusal.Refusal.{Refusal}
 use Rattle.sk_kernel.specs.Kernel.{last_guess}
-use Rattle.sk_server.specs.Files.{file_of, is_fitting}
+use Rattle.sk_server.specs.Files.{is_fitting}
 use Rattle.sk_server.specs.Server.{ServerView, refused_by, listed, remembered, is_dropped, judged, answer_to}
 use Rattle.sk_server.specs.declared.request.Ask.{Ask}
 use Rattle.sk_server.specs.declared.request.Ask.TheVariants.{Get, Check, Store}
@@ -32,26 +33,25 @@ use Rattle.sk_client.specs.Exchanges.{Exchanges}
 use Rattle.sk_client.specs.Replied.{PlacesAreKept}
 use Rattle.sk_client.specs.Table.{Bytes}
 use Rattle.sk_client.specs.WorldView.{WorldView}
-use Rattle.sk_client.specs.declared.pending.Kept.{Kept}
+use Rattle.sk_client.specs.declared.pending.KeptAnswer.{KeptAnswer}
 use Rattle.sk_client.specs.declared.pending.PendingRequest.{PendingRequest}
-use Rattle.sk_client.proofs.CausedWorld.{Caused, Served, Table, kernel, own, is_lost, is_void, state, undecided, table}
-use Rattle.sk_client.proofs.CausedLaws.{Takes, IsTable}
+use Rattle.sk_client.proofs.CausedWorld.{Caused, Served, Table, kernel, own, is_lost, is_void, state, undecided, table, Takes}
 use Rattle.sk_client.proofs.Each.{cons_first, cons_later, filter_was}
 use Rattle.sk_client.proofs.Records.{Quiet, not_true}
-use Rattle.sk_client.proofs.Queues.{queue_le, not_dropped}
-use Rattle.sk_client.proofs.Invariant.{ReadyFor, Ready, Invariant, is_accepted}
+use Rattle.sk_client.proofs.Invariant.{ReadyFor, Ready, Invariant, is_accepted, queue_le, not_dropped}
 use Rattle.sk_client.proofs.RequestFacts.{RequestFacts, NoGood}
-use Rattle.sk_client.proofs.SeenFacts.{Traced}
-use Rattle.sk_client.proofs.SeenWorld.{World, all_served, all_waiting, answered_there, answered_here}
+use Rattle.sk_client.proofs.SeenWorld.{Traced, World, all_served, all_waiting, law_served, unanswered, answered_there, answered_here}
+use Rattle.sk_client.proofs.Table.{is_table, owns, copies}
+use Rattle.sk_client.proofs.Runs.{next_turn}
+use Rattle.sk_client.proofs.Tidy.{IsTidy}
+use Rattle.sk_client.proofs.DeskFacts.{Did}
+use Rattle.sk_client.proofs.WorldFacts.{Fitting, answer_suits}
 
 -- a guess is made of what is cached, and a question asks for a file or a store
 abbrev pub IsFor : Option ℕ → Ask → Type 0
 IsFor (Some g) (Get name) = ⊥
-IsFor (Some g) (Check name version) = Unit {0}
-IsFor (Some g) (Store name version bytes) = Unit {0}
-IsFor None (Get name) = Unit {0}
 IsFor None (Check name version) = ⊥
-IsFor None (Store name version bytes) = Unit {0}
+IsFor g ask = Unit {0}
 
 abbrev pub AreFor : List PendingRequest → Type 0
 AreFor [] = Unit {0}
@@ -64,75 +64,56 @@ more_for (x ∷ xs) q all is = (all.0, more_for xs q all.1 is)
 -- an answer that fits a guess is no copy
 pub not_copied : (ask : Ask) (c : ContentView) (g : ℕ) → IsFor (Some g) ask → fits_ask ask (Copy c) ≡ true → ⊥
 not_copied (Get m) c g kind fits = kind
-not_copied (Check m v) c g kind fits = true≢false (sym fits)
-not_copied (Store m v b) c g kind fits = true≢false (sym fits)
+not_copied ask c g kind fits = true≢false (sym fits)
 
 -- the step that an asked request's answer gives is accepted
 pub takes_by : {E V W F : Type 0} (S : Table E V W F) (start s : FinMap S.order V) (p : ℕ) (ask : Ask) (ans : Answer) (x : Input) → IsFor None ask → fits_ask ask ans ≡ true
     → ReadyFor S start s p ask → input_of ans ≡ Some x → ((m : Bytes) (v : ℕ) (b : Bytes) → ask ≡ Store m v b → ans ≡ Yes → v < S.last) → Takes S s p ask x
 takes_by S start s p (Get m) (Copy c) x kind fit ready is fits = let same : Fresh c ≡ x = cc in subst (Takes S s p (Get m)) same (ready c)
-takes_by S start s p (Get m) Yes x kind fit ready is fits = absurd (true≢false (sym fit))
-takes_by S start s p (Get m) (No c) x kind fit ready is fits = absurd (true≢false (sym fit))
-takes_by S start s p (Get m) Dropped x kind fit ready is fits = cc
 takes_by S start s p (Check m v) ans x kind fit ready is fits = absurd kind
 takes_by S start s p (Store m v b) Yes x kind fit ready is fits = let same : Good ≡ x = cc in subst (Takes S s p (Store m v b)) same (ready.0 (fits m v b refl refl))
 takes_by S start s p (Store m v b) (No c) x kind fit ready is fits = let same : Stale c ≡ x = cc in subst (Takes S s p (Store m v b)) same (ready.1 c)
-takes_by S start s p (Store m v b) (Copy c) x kind fit ready is fits = absurd (true≢false (sym fit))
-takes_by S start s p (Store m v b) Dropped x kind fit ready is fits = cc
+takes_by S start s p ask ans x kind fit ready is fits = cc
 
 -- only an answer that accepts gives Good to an asked step
 pub good_yes : (ans : Answer) → input_of ans ≡ Some Good → ans ≡ Yes
 good_yes Yes is = refl
-good_yes (No c) is = cc
-good_yes (Copy c) is = cc
-good_yes Dropped is = cc
+good_yes ans is = cc
 
 -- a guess that an answer refuses is remembered
 pub refused_there : (o : Option ℕ) (a : Answer) (g : ℕ) → o ≡ Some g → is_accepted a ≡ false → has g (listed (refused_by o a)) ≡ true
 refused_there o Yes g its bad = absurd (true≢false bad)
-refused_there o (No c) g its bad = ap (λ o. has g (listed o)) its ∙ ap (λ b. b || false) (eq-eqb g g refl)
 refused_there o (Copy c) g its bad = absurd (true≢false bad)
-refused_there o Dropped g its bad = ap (λ o. has g (listed o)) its ∙ ap (λ b. b || false) (eq-eqb g g refl)
+refused_there o a g its bad = ap (λ o. has g (listed o)) its ∙ ap (λ b. b || false) (eq-eqb g g refl)
 
 -- ---- kept answers
 
-pub forgets : (kept : List Kept) → NoGood kept → (p : ℕ) → NoGood (forgotten p kept)
-forgets kept answers p k there = answers k (filter_was (λ (k : Kept). not (k.process == p)) kept k there)
+pub forgets : (kept : List KeptAnswer) → NoGood kept → (p : ℕ) → NoGood (forgotten p kept)
+forgets kept answers p k there = answers k (filter_was (λ (k : KeptAnswer). not (k.process == p)) kept k there)
 
-never_good : (ask : Ask) (a : Answer) (x : Input) → answer_kept ask a ≡ Some x → x ≡ Good → ⊥
+pub never_good : (ask : Ask) (a : Answer) (x : Input) → answer_kept ask a ≡ Some x → x ≡ Good → ⊥
 never_good (Get m) Yes x is good = cc
-never_good (Get m) (No c) x is good = cc
-never_good (Get m) (Copy c) x is good = cc
-never_good (Get m) Dropped x is good = cc
 never_good (Check m v) Yes x is good = cc
-never_good (Check m v) (No c) x is good = cc
-never_good (Check m v) (Copy c) x is good = cc
-never_good (Check m v) Dropped x is good = cc
 never_good (Store m v b) Yes x is good = cc
-never_good (Store m v b) (No c) x is good = cc
-never_good (Store m v b) (Copy c) x is good = cc
-never_good (Store m v b) Dropped x is good = cc
+never_good ask a x is good = cc
 
-keeps_input : (kept : List Kept) → NoGood kept → (p : ℕ) (o : Option Input) → ((x : Input) → o ≡ Some x → x ≡ Good → ⊥) → NoGood (kept_after p o kept)
+pub keeps_input : (kept : List KeptAnswer) → NoGood kept → (p : ℕ) (o : Option Input) → ((x : Input) → o ≡ Some x → x ≡ Good → ⊥) → NoGood (kept_after p o kept)
 keeps_input kept answers p None never k there good = answers k there good
 keeps_input kept answers p (Some x) never k there good =
     elim (Contains-push_cases (forgotten p kept) (record { process = p; input = x }) k there) [
       | inl before ↦ forgets kept answers p k before good
-      | inr is ↦ never x refl (ap (λ (k : Kept). k.input) is ∙ good)
+      | inr is ↦ never x refl (ap (λ (k : KeptAnswer). k.input) is ∙ good)
     ]
 
-pub keeps_more : (kept : List Kept) → NoGood kept → (p : ℕ) (ask : Ask) (a : Answer) → NoGood (kept_after p (answer_kept ask a) kept)
-keeps_more kept answers p ask a = keeps_input kept answers p (answer_kept ask a) (never_good ask a)
-
-kept_in : (p : ℕ) (ks : List Kept) (x : Input) → kept_for p ks ≡ Some x → (k : Kept) × Contains ks k × (k.input ≡ x)
+kept_in : (p : ℕ) (ks : List KeptAnswer) (x : Input) → kept_for p ks ≡ Some x → (k : KeptAnswer) × Contains ks k × (k.input ≡ x)
 kept_in p [] x is = cc
 kept_in p (k ∷ ks) x is =
-    elim (k.process == p) as (λ b. cond b (Some k.input) (kept_for p ks) ≡ Some x → (j : Kept) × Contains (k ∷ ks) j × (j.input ≡ x)) [
+    elim (k.process == p) as (λ b. cond b (Some k.input) (kept_for p ks) ≡ Some x → (j : KeptAnswer) × Contains (k ∷ ks) j × (j.input ≡ x)) [
       | true ↦ λ is. (k, cons_first k ks, (let same : k.input ≡ x = cc in same))
       | false ↦ λ is. (let rest = kept_in p ks x is in (rest.0, cons_later k ks rest.0 rest.1, rest.2))
     ] is
 
-pub no_good : (kept : List Kept) → NoGood kept → (p : ℕ) (x : Input) → kept_for p kept ≡ Some x → x ≡ Good → ⊥
+pub no_good : (kept : List KeptAnswer) → NoGood kept → (p : ℕ) (x : Input) → kept_for p kept ≡ Some x → x ≡ Good → ⊥
 no_good kept answers p x is good = (let k = kept_in p kept x is in answers k.0 k.1 (k.2 ∙ good))
 
 -- ---- asked requests
@@ -154,47 +135,43 @@ IsClear qs (Ok (nexts.Fetch m)) = asks_on m qs ≡ false
 IsClear qs (Ok (nexts.Store m)) = asks_on m qs ≡ false
 IsClear qs t = Unit {0}
 
-module _ {E V W F : Type 0} (S : Table E V W F) (start : FinMap S.order V) (table : IsTable S start) where
-  -- a step of a turn does not touch what asked requests wait for
-  pub quiet_turn : (es : List (Event Caused)) (qs : List PendingRequest) (p : ℕ) (x : Input) (f : Effect E V W) (t : Result Next Refusal) → outcome (kernel S) (state S start es) (own p x) ≡ Ok f
-      → IsLegal (kernel S) start (record_of (kernel S) start es) → S.next (state S start es) p ≡ t → IsClear qs t → (t ≡ Ok nexts.Signal → x ≡ inputs.None) → asks_for p qs ≡ false
-      → (q : PendingRequest) → Contains qs q → q.guess ≡ None → Ready S start (record_of (kernel S) start es) (undecided S start es) q
-      → Quiet S start table f q.process (name_of q.ask)
-  quiet_turn es qs p x f t is legal next clear due none q there asks ready = (
-    λ writes. elim (table.own_process (record_of (kernel S) start es) q.process p x f legal is writes) [
-      | inl same ↦ not_its qs p none q there asks same
-      | inr absent ↦ ready.there absent
-    ],
-    λ writes.
-        let m = name_of q.ask in
-        let free : asks_on m qs ≡ false =
-        elim (table.own_copy (state S start es) m p x f (λ h. due (sym next ∙ h)) is writes) as (λ _. asks_on m qs ≡ false) [
-          | inl fetch ↦ subst (IsClear qs) (sym next ∙ fetch) clear
-          | inr store ↦ subst (IsClear qs) (sym next ∙ store) clear
-        ] in
-        not_on qs m free q there asks refl,
-  )
+-- a step of a turn does not touch what asked requests wait for
+pub quiet_turn : (scripts : Scripts) (start : State) → IsTidy start → (es : List (Event Caused)) (qs : List PendingRequest) (p : ℕ) (x : Input) (f : Did) (t : Result Next Refusal)
+    → outcome (kernel (table scripts)) (state (table scripts) start es) (own p x) ≡ Ok f → next_turn scripts (state (table scripts) start es) p ≡ t → IsClear qs t
+    → (t ≡ Ok nexts.Signal → x ≡ inputs.None) → asks_for p qs ≡ false → (q : PendingRequest) → Contains qs q → q.guess ≡ None
+    → Ready (table scripts) start (record_of (kernel (table scripts)) start es) (undecided (table scripts) start es) q → Quiet (table scripts) start (is_table scripts) f q.process (name_of q.ask)
+quiet_turn scripts start tidy es qs p x f t is next clear due none q there asks ready = (
+  λ writes. elim (owns scripts start tidy (record_of (kernel (table scripts)) start es) q.process p x f is writes) [
+    | inl same ↦ not_its qs p none q there asks same
+    | inr absent ↦ ready.there absent
+  ],
+  λ writes.
+      let m = name_of q.ask in
+      let free : asks_on m qs ≡ false =
+      elim (copies scripts (state (table scripts) start es) m p x f (λ h. due (sym next ∙ h)) is writes) as (λ _. asks_on m qs ≡ false) [
+        | inl fetch ↦ subst (IsClear qs) (sym next ∙ fetch) clear
+        | inr store ↦ subst (IsClear qs) (sym next ∙ store) clear
+      ] in
+      not_on qs m free q there asks refl,
+)
 
-  -- ---- an answer of the server
-  pub drops_not : (server : ServerView) (q : PendingRequest) → (answer_to server (sent q) ≡ Dropped → ⊥) → (y : ℕ) → has y q.rests ≡ true → has y (remembered (sent q) server.refused) ≡ true → ⊥
-  drops_not server q kept y carries there =
-      elim (cases_Bool (is_dropped (sent q) (remembered (sent q) server.refused))) [
-        | inl is ↦ kept (ap (λ b. cond b Dropped (judged server.files q.ask)) is)
-        | inr no_drop ↦ not_dropped q (remembered (sent q) server.refused) no_drop y carries there
-      ]
+-- ---- an answer of the server
+pub drops_not : (server : ServerView) (q : PendingRequest) → (answer_to server (sent q) ≡ Dropped → ⊥) → (y : ℕ) → has y q.rests ≡ true → has y (remembered (sent q) server.refused) ≡ true → ⊥
+drops_not server q kept y carries there =
+    elim (cases_Bool (is_dropped (sent q) (remembered (sent q) server.refused))) [
+      | inl is ↦ kept (ap (λ b. cond b Dropped (judged server.files q.ask)) is)
+      | inr no_drop ↦ not_dropped q (remembered (sent q) server.refused) no_drop y carries there
+    ]
 
-  pub yes_fits : (server : ServerView) (q : PendingRequest) (m : Bytes) (v : ℕ) (b : Bytes) → q.ask ≡ Store m v b → answer_to server (sent q) ≡ Yes → v < S.last
-  yes_fits server q m v b ask says =
-      elim (is_dropped (sent q) (remembered (sent q) server.refused)) as (λ t. cond t Dropped (judged server.files q.ask) ≡ Yes → v < S.last) [
-        | true ↦ λ is. cc
-        | false ↦ λ is.
-            elim (is_fitting server.files m v) as (λ t. is_fitting server.files m v ≡ t → cond t Yes (No (file_of server.files m)) ≡ Yes → v < S.last) [
-              | true ↦ λ fits _. subst (λ n. v < n) (sym table.last) (leb-true (suc v) LAST_VERSION (and_both _ _ fits).1)
-              | false ↦ λ _ no_yes. cc
-            ] refl (ap (judged server.files) (sym ask) ∙ is)
-      ] says
+pub yes_fits : (server : ServerView) (q : PendingRequest) (m : Bytes) (v : ℕ) (b : Bytes) → q.ask ≡ Store m v b → answer_to server (sent q) ≡ Yes → v < LAST_VERSION
+yes_fits server q m v b ask says =
+    let fits : is_fitting server.files m v ≡ true =
+    subst (λ (c : Ask × Answer). Fitting server.files c.0 c.1) (λ i. (ask i, says i)) (answer_suits server (sent q)).1 in
+    leb-true (suc v) LAST_VERSION (and_both _ _ fits).1
 
-  -- ---- a reply
+-- ---- a reply
+
+module _ {E V W F : Type 0} (S : Table E V W F) (start : FinMap S.order V) where
   -- a guess that the server accepted is undecided or committed
   pub good_open : (es : List (Event Caused)) (d : ℕ) (served given : List Served) (pending waiting : List PendingRequest) (memory : List ℕ)
       (i : Invariant S start es d served given pending waiting memory) (x : ℕ) → i.base < x → x ≤ i.a → i.bad x ≡ false → is_lost S start es x ≡ true → ⊥
@@ -229,13 +206,14 @@ module _ {E V W F : Type 0} (S : Table E V W F) (start : FinMap S.order V) (tabl
 module _ (drawn begun : ℕ) (old : World) where
   -- all that is shown to hold after every event
   pub record All (w : World) : Type 0 where
-    pub is_table : IsTable (table w.view.desk.kernel.scripts) w.view.desk.kernel.start
+    pub tidy : IsTidy w.view.desk.kernel.start
     pub traced : Traced w.trace w.view.desk.kernel
     pub kinds : AreFor (pending w.view.desk)
     pub holds :
         Invariant (table w.view.desk.kernel.scripts) w.view.desk.kernel.start w.trace (last_guess w.view.desk.kernel) (all_served w) w.given (pending w.view.desk) (all_waiting w) w.view.server.refused
     pub facts :
-        RequestFacts (table w.view.desk.kernel.scripts) w.view.desk.kernel.start drawn begun old w.trace (last_guess w.view.desk.kernel) w.view.desk.kept w.view.desk.next (all_served w) w.given (all_waiting w)
+        RequestFacts (table w.view.desk.kernel.scripts) w.view.desk.kernel.start drawn begun old w.trace (last_guess w.view.desk.kernel) w.view.desk.next (all_served w) w.given (all_waiting w)
+    pub answers : NoGood w.view.desk.kept
     pub room : PlacesAreKept w.view
 
   -- a world that these exchanges lead to
@@ -244,3 +222,24 @@ module _ (drawn begun : ℕ) (old : World) where
     pub given : List Served
     pub answered : map answered_there (all_served (record { view = v; trace = trace; given = given })) ≡ map answered_here xs
     pub all : All (record { view = v; trace = trace; given = given })
+
+  pub reached_by : (xs : Exchanges) (v : WorldView) (es : List (Event Caused)) (given : List Served) → map answered_there (given ++ law_served v.desk.taken v.replies) ≡ map answered_here xs
+      → IsTidy v.desk.kernel.start → Traced es v.desk.kernel → AreFor (pending v.desk)
+      → Invariant (table v.desk.kernel.scripts) v.desk.kernel.start es (last_guess v.desk.kernel) (given ++ law_served v.desk.taken v.replies) given (pending v.desk)
+      (unanswered v.desk.taken v.replies ++ v.desk.waiting) v.server.refused
+      → RequestFacts (table v.desk.kernel.scripts) v.desk.kernel.start drawn begun old es (last_guess v.desk.kernel) v.desk.next (given ++ law_served v.desk.taken v.replies) given
+      (unanswered v.desk.taken v.replies ++ v.desk.waiting) → NoGood v.desk.kept → PlacesAreKept v → Reached xs v
+  reached_by xs v es given answered tidy traced kinds holds facts answers room = record {
+    trace = es;
+    given = given;
+    answered = answered;
+    all = record {
+      tidy = tidy;
+      traced = traced;
+      kinds = kinds;
+      holds = holds;
+      facts = facts;
+      answers = answers;
+      room = room;
+    };
+  }

@@ -1,11 +1,10 @@
 -- The server's files after any list of a world's events.
-use Rattle.std.proofs.Common.{◌≡◌, ℕ, true, false, cond, List, [], ◌∷◌, ◌++◌, Option, Some, None, Result, Ok, Err, refl, sym, ◌∙◌, ap, subst}
-use Rattle.std.specs.Prelude.{◌==◌}
+use Rattle.std.proofs.Common.{◌≡◌, ℕ, List, [], ◌∷◌, ◌++◌, Option, Some, None, Result, Ok, Err, refl, sym, ◌∙◌, ap, subst}
 use Rattle.std.proofs.lemmas.List.{append_assoc}
 use Rattle.std.proofs.lemmas.List.Elements.{filter-append}
 use Rattle.std.proofs.lemmas.List.Sums.{fold-append}
-use Rattle.sk_server.specs.Files.{FileMap, file_of, is_fitting, written}
-use Rattle.sk_server.specs.Server.{ServerView, is_dropped, remembered, judged, answer_to, files_after}
+use Rattle.sk_server.specs.Files.{FileMap, written}
+use Rattle.sk_server.specs.Server.{ServerView, answer_to, files_after}
 use Rattle.sk_server.specs.declared.request.Request.{Request as Sent}
 use Rattle.sk_server.specs.declared.request.Ask.{Ask}
 use Rattle.sk_server.specs.declared.request.Ask.TheVariants as asks
@@ -21,7 +20,7 @@ use Rattle.sk_client.specs.declared.world.WorldAnswer.{WorldAnswer}
 use Rattle.sk_client.specs.declared.world.WorldAnswer.TheVariants as told
 use Rattle.sk_client.specs.declared.world.Cause.{Cause}
 use Rattle.sk_client.specs.declared.world.Cause.TheVariants as causes
-use Rattle.sk_client.proofs.WorldFacts.{taken_same}
+use Rattle.sk_client.proofs.WorldFacts.{Fitting, answer_suits, taken_same}
 
 -- ---- one list of writes after another
 
@@ -50,75 +49,36 @@ nothing w new same = record { files = ap (λ (s : ServerView). s.files) same; fi
 
 turns : (answer : Result WorldAnswer Cause) (w new : WorldView) (p : ℕ) → Turns answer w p new → new.server ≡ w.server
 turns (Ok (told.Turn turn)) w new p h = ap (λ (x : WorldView). x.server) h.1
-turns (Ok (told.Served reply)) w new p h = absurd h
-turns (Ok (told.Given given)) w new p h = absurd h
-turns (Ok (told.Edited version)) w new p h = absurd h
+turns (Ok x) w new p h = absurd h
 turns (Err (causes.Turn why)) w new p h = ap (λ (x : WorldView). x.server) h.1
-turns (Err causes.Idle) w new p h = absurd h
-turns (Err (causes.Edit why)) w new p h = absurd h
-turns (Err causes.Memory) w new p h = absurd h
+turns (Err why) w new p h = absurd h
 
 replies : (answer : Result WorldAnswer Cause) (w new : WorldView) (rs : List Reply) → Replies answer w new rs → new.server ≡ w.server
 replies answer w new [] h = ap (λ (x : WorldView). x.server) h.1
-replies (Ok (told.Turn turn)) w new (r ∷ rs) h = absurd h
-replies (Ok (told.Served reply)) w new (r ∷ rs) h = absurd h
 replies (Ok (told.Given given)) w new (r ∷ rs) h = ap (λ (x : WorldView). x.server) h.1
-replies (Ok (told.Edited version)) w new (r ∷ rs) h = absurd h
+replies (Ok x) w new (r ∷ rs) h = absurd h
 replies (Err why) w new (r ∷ rs) h = ap (λ (x : WorldView). x.server) h.2
 
 edits : (answer : Result WorldAnswer Cause) (w new : WorldView) (name : List ℕ) (expected : ℕ) (bytes : List ℕ) → EditsFile answer w name expected bytes new
     → AreWritten w (written_by answer w (events.Edit name expected bytes)) [] new
-edits (Ok (told.Turn turn)) w new name expected bytes h = absurd h
-edits (Ok (told.Served reply)) w new name expected bytes h = absurd h
-edits (Ok (told.Given given)) w new name expected bytes h = absurd h
 edits (Ok (told.Edited version)) w new name expected bytes h = record { files = ap (λ (s : ServerView). s.files) h.0.2; fit = (h.0.0, tt); stores = refl }
-edits (Err (causes.Turn why)) w new name expected bytes h = absurd h
-edits (Err causes.Idle) w new name expected bytes h = absurd h
+edits (Ok x) w new name expected bytes h = absurd h
 edits (Err (causes.Edit why)) w new name expected bytes h = nothing w new (ap (λ (x : WorldView). x.server) h.1)
-edits (Err causes.Memory) w new name expected bytes h = absurd h
+edits (Err why) w new name expected bytes h = absurd h
 
 -- ---- the server's answer
-
--- a store that is accepted fits
-abbrev Fitting : FileMap → Ask → Answer → Type 0
-Fitting files (asks.Store name version bytes) answers.Yes = is_fitting files name version ≡ true
-Fitting files ask answer = Unit {0}
-
-dropped_fits : (files : FileMap) (ask : Ask) → Fitting files ask answers.Dropped
-dropped_fits files (asks.Get name) = tt
-dropped_fits files (asks.Check name version) = tt
-dropped_fits files (asks.Store name version bytes) = tt
-
-judged_fits : (files : FileMap) (ask : Ask) → Fitting files ask (judged files ask)
-judged_fits files (asks.Get name) = tt
-judged_fits files (asks.Check name version) = elim ((file_of files name).version == version) as (λ b. Fitting files (asks.Check name version) (cond b answers.Yes (answers.No (file_of files name)))) [ true ↦ tt | false ↦ tt ]
-judged_fits files (asks.Store name version bytes) =
-    elim (is_fitting files name version) as (λ b. is_fitting files name version ≡ b → Fitting files (asks.Store name version bytes) (cond b answers.Yes (answers.No (file_of files name)))) [
-      | true ↦ λ is. is
-      | false ↦ λ is. tt
-    ] refl
-
-answer_fits : (s : ServerView) (q : Sent) → Fitting s.files q.ask (answer_to s q)
-answer_fits s q = elim (is_dropped q (remembered q s.refused)) as (λ b. Fitting s.files q.ask (cond b answers.Dropped (judged s.files q.ask))) [
-  | true ↦ dropped_fits s.files q.ask
-  | false ↦ judged_fits s.files q.ask
-]
 
 -- what the answer writes
 by_answer : (w : WorldView) (new : WorldView) (q : Sent) (r : Reply) (ask : Ask) (a : Answer) → q.ask ≡ ask → r.answer ≡ a → new.server.files ≡ files_after w.server.files ask a → Fitting w.server.files ask a
     → AreWritten w (store_of q ask a ++ []) ((q, r) ∷ []) new
-by_answer w new q r (asks.Get name) a ask answer is fits = record { files = is; fit = tt; stores = (λ i. store_of q (sym ask i) (sym answer i) ++ []) }
-by_answer w new q r (asks.Check name version) a ask answer is fits = record { files = is; fit = tt; stores = (λ i. store_of q (sym ask i) (sym answer i) ++ []) }
 by_answer w new q r (asks.Store name version bytes) answers.Yes ask answer is fits = record { files = is; fit = (fits, tt); stores = (λ i. store_of q (sym ask i) (sym answer i) ++ []) }
-by_answer w new q r (asks.Store name version bytes) (answers.No c) ask answer is fits = record { files = is; fit = tt; stores = (λ i. store_of q (sym ask i) (sym answer i) ++ []) }
-by_answer w new q r (asks.Store name version bytes) (answers.Copy c) ask answer is fits = record { files = is; fit = tt; stores = (λ i. store_of q (sym ask i) (sym answer i) ++ []) }
-by_answer w new q r (asks.Store name version bytes) answers.Dropped ask answer is fits = record { files = is; fit = tt; stores = (λ i. store_of q (sym ask i) (sym answer i) ++ []) }
+by_answer w new q r kind a ask answer is fits = record { files = is; fit = tt; stores = (λ i. store_of q (sym ask i) (sym answer i) ++ []) }
 
 serves : (answer : Result WorldAnswer Cause) (w new : WorldView) (b : Option Sent) → Serves answer w new b → AreWritten w (stores_of (exchange b answer)) (exchange b answer) new
 serves answer w new None h = nothing w new (ap (λ (x : WorldView). x.server) h.1)
 serves (Ok x) w new (Some q) h =
     subst (λ (y : WorldAnswer). AreWritten w (stores_of (with_reply q (Ok y))) (with_reply q (Ok y)) new) (sym h.0)
-    (by_answer w new q (reply_to w.server q) q.ask (answer_to w.server q) refl refl (ap (λ (y : WorldView). y.server.files) h.1) (answer_fits w.server q))
+    (by_answer w new q (reply_to w.server q) q.ask (answer_to w.server q) refl refl (ap (λ (y : WorldView). y.server.files) h.1) (answer_suits w.server q).1)
 serves (Err why) w new (Some q) h = nothing w new (ap (λ (x : WorldView). x.server) h.1)
 
 -- ---- all events

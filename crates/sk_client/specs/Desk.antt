@@ -28,9 +28,9 @@ use Rattle.sk_server.specs.declared.reply.Reply.{Reply}
 use Rattle.sk_server.specs.declared.server.TheConstants.{LAST_REQUEST}
 use Rattle.sk_client.specs.Table.{version_of, buffer_of}
 use Rattle.sk_client.specs.declared.pending.PendingRequest.{PendingRequest}
-use Rattle.sk_client.specs.declared.pending.Kept.{Kept}
+use Rattle.sk_client.specs.declared.pending.KeptAnswer.{KeptAnswer}
 use Rattle.sk_client.specs.contracts.pending.PendingRequest as pending_row
-use Rattle.sk_client.specs.contracts.pending.Kept as kept_row
+use Rattle.sk_client.specs.contracts.pending.KeptAnswer as kept_row
 use Rattle.sk_client.specs.declared.rule.Rule.{Rule}
 use Rattle.sk_client.specs.declared.rule.Rule.TheVariants as rules
 use Rattle.sk_client.specs.declared.desk.Turn.{Turn}
@@ -48,11 +48,11 @@ pub record DeskView : Type 0 where
   pub waiting : List PendingRequest
   pub first : ℕ
   pub next : ℕ
-  pub kept : List Kept
+  pub kept : List KeptAnswer
 
 abbrev pub desk_code : Coded DeskView
 desk_code =
-    code_by (KernelView × (List PendingRequest × (List PendingRequest × (ℕ × (ℕ × List Kept)))))
+    code_by (KernelView × (List PendingRequest × (List PendingRequest × (ℕ × (ℕ × List KeptAnswer)))))
     (coded× kernel_code (coded× (coded_list pending_row.the_row.coded) (coded× (coded_list pending_row.the_row.coded) (coded× coded_ℕ (coded× coded_ℕ (coded_list kept_row.the_row.coded))))))
     (λ d. (d.kernel, (d.taken, (d.waiting, (d.first, (d.next, d.kept))))))
     (λ p. record { kernel = p.0; taken = p.1.0; waiting = p.1.1.0; first = p.1.1.1.0; next = p.1.1.1.1.0; kept = p.1.1.1.1.1 }) (λ _. refl)
@@ -100,14 +100,14 @@ asks_on name qs = list_any (λ q. is_asked q && bytes_eq (name_of q.ask) name) q
 
 -- ---- kept answers: one for a process at most
 
-abbrev pub kept_for : ℕ → List Kept → Option Input
+abbrev pub kept_for : ℕ → List KeptAnswer → Option Input
 kept_for pid [] = None
 kept_for pid (k ∷ ks) = if k.process == pid then Some k.input else kept_for pid ks
 
-abbrev pub forgotten : ℕ → List Kept → List Kept
+abbrev pub forgotten : ℕ → List KeptAnswer → List KeptAnswer
 forgotten pid ks = filter (λ k. not (k.process == pid)) ks
 
-abbrev pub with_kept : ℕ → Input → List Kept → List Kept
+abbrev pub with_kept : ℕ → Input → List KeptAnswer → List KeptAnswer
 with_kept pid input ks = forgotten pid ks ++ record { process = pid; input = input } ∷ []
 
 -- ---- which rule a turn takes
@@ -269,7 +269,7 @@ answer_kept (Store name version bytes) (No content) = Some (inputs.Stale content
 answer_kept ask (No content) = Some (inputs.Fresh content)
 answer_kept ask _ = None
 
-abbrev pub kept_after : ℕ → Option Input → List Kept → List Kept
+abbrev pub kept_after : ℕ → Option Input → List KeptAnswer → List KeptAnswer
 kept_after pid None ks = ks
 kept_after pid (Some input) ks = with_kept pid input ks
 

@@ -13,7 +13,7 @@ ghost use Rattle.sk_client.specs.Desk.{opened, pending, requests_taken, asks_for
 ghost use Rattle.sk_client.specs.Upcoming.{turn_step, reply_step};
 ghost use Rattle.sk_client.specs.DeskCalls.{TurnPost, RulePost, ReplyPost, handed_back, ShutPost, DeskEpochPost};
 
-use crate::pending::{BoxedAsk, BoxedRequest, Kept};
+use crate::pending::{BoxedAsk, BoxedRequest, KeptAnswer};
 use crate::requests::Requests;
 use crate::rule::{Wanted, Wish, fetch_wish, store_wish};
 use sk_guesses::Status;
@@ -79,7 +79,7 @@ pub struct Desk {
     requests: Requests,
     first: u64,
     next: u64,
-    kept: Vec<Kept>,
+    kept: Vec<KeptAnswer>,
 }
 
 impl Model for Desk {
@@ -105,7 +105,7 @@ impl Model for Desk {
 }
 
 /// Makes room for one more request, and for its answer.
-fn make_room(requests: &mut Requests, kept: &mut Vec<Kept>) -> Result<(), AllocError>
+fn make_room(requests: &mut Requests, kept: &mut Vec<KeptAnswer>) -> Result<(), AllocError>
     ensures taken { requests.new.taken ≡ requests.old.taken }
     ensures waiting { requests.new.waiting ≡ requests.old.waiting }
     ensures kept { kept.new.items ≡ kept.old.items }
@@ -121,7 +121,7 @@ fn make_room(requests: &mut Requests, kept: &mut Vec<Kept>) -> Result<(), AllocE
 }
 
 /// The answer that is kept for a process.
-fn kept_for(kept: &[Kept], pid: Pid) -> Option<&Input>
+fn kept_for(kept: &[KeptAnswer], pid: Pid) -> Option<&Input>
     ensures { option_copied result ≡ kept_for pid kept.now }
 {
     for one in kept {
@@ -133,7 +133,7 @@ fn kept_for(kept: &[Kept], pid: Pid) -> Option<&Input>
 }
 
 /// The input of a step of a process, which brings its kept answer or none.
-fn brought(kept: &[Kept], pid: Pid, takes_kept: bool) -> InputRef<'_>
+fn brought(kept: &[KeptAnswer], pid: Pid, takes_kept: bool) -> InputRef<'_>
     ensures { input_in result ≡ brought takes_kept (kept_for pid kept.now) }
 {
     match kept_for(kept, pid) {
@@ -237,16 +237,16 @@ fn decide_guess(holder: &mut Holder, id: GuessId, answer: &Answer) -> Option<Out
 }
 
 /// Forgets the kept answer of a process.
-fn forget(kept: &mut Vec<Kept>, pid: Pid)
+fn forget(kept: &mut Vec<KeptAnswer>, pid: Pid)
     ensures items { kept.new.items ≡ forgotten pid kept.old.items }
     ensures fewer { length kept.new.items ≤ length kept.old.items }
     ensures room { vec_capacity kept.new ≡ vec_capacity kept.old }
 {
-    kept.retain(|one: &Kept| one.process != pid);
+    kept.retain(|one: &KeptAnswer| one.process != pid);
 }
 
 /// Keeps an answer for a process, for which there is room.
-fn keep(kept: &mut Vec<Kept>, pid: Pid, answer: Option<InputRef<'_>>)
+fn keep(kept: &mut Vec<KeptAnswer>, pid: Pid, answer: Option<InputRef<'_>>)
     requires { length kept.old.items < vec_capacity kept.old }
     ensures items { kept.new.items
         ≡ kept_after pid (option_map input_in answer.entry) kept.old.items }
@@ -255,7 +255,7 @@ fn keep(kept: &mut Vec<Kept>, pid: Pid, answer: Option<InputRef<'_>>)
 {
     if let Some(input) = answer {
         forget(kept, pid);
-        kept.push_reserved(Kept {
+        kept.push_reserved(KeptAnswer {
             process: pid,
             input: owned(input),
         });

@@ -31,7 +31,8 @@ use sk_script::{Boot, BootProcess};
 pub fn ready()
     ensures boot { (number : ℕ) (boot : BootView) (limit : ℕ) → IsNumbered boot
         → WasBooted (booted number boot limit) }
-    ensures step { (result : Result (Unit {0}) Refusal) (pid : ℕ) (input : Input) (old new : KernelView)
+    ensures step { (result : Result (Unit {0}) Refusal) (pid : ℕ) (input : Input)
+        (old new : KernelView)
         → StepPost result (step_refused old (entry pid input None)) (events.Step pid input) old
         new → WasBooted old → WasBooted new }
     ensures guess { (result : Result Token Refusal) (pid : ℕ) (input : Input) (old new : KernelView)

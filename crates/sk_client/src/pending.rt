@@ -63,7 +63,7 @@ impl Model for BoxedRequest {
 
 /// An answer of the server that a process gets when it asks again.
 #[derive(Clone, Copy, Debug)]
-pub struct Kept {
+pub struct KeptAnswer {
     pub process: Pid,
     pub input: Input,
 }

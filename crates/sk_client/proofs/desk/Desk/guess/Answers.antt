@@ -1,7 +1,6 @@
 -- One request more, with its guess, and for which room was made; a guess that the desk does not refuse, the kernel does not refuse.
 use Rattle.std.proofs.Common.{◌≡◌, List, ◌∷◌, ◌++◌, [], length, ℕ, Some, None, cond, sym, ◌∙◌, ap, subst}
 use Rattle.std.specs.Vec.{vec_capacity}
-use Rattle.sk_record.specs.Trace.{marks}
 use Rattle.sk_script.specs.declared.instruction.Input.TheVariants as inputs
 use Rattle.sk_plain.specs.Refusal.{cause}
 use Rattle.sk_kernel.specs.Kernel.{guess_refused, next_guess}

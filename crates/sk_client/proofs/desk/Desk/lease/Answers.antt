@@ -5,7 +5,7 @@ use Rattle.sk_plain.specs.Leased.{Lends, lease_of}
 use Rattle.sk_plain.specs.declared.refusal.Refusal.{Refusal}
 use Rattle.sk_kernel.specs.Kernel.{KernelView, state_at}
 use Rattle.sk_client.specs.Leasing.{desk_lease}
-use Rattle.sk_client.proofs.Lending.{lends_blocked, lends_free}
+use Rattle.sk_client.proofs.DeskFacts.{lends_blocked, lends_free}
 use Rattle.sk_client.proofs.desk.Desk.lease.Goals as goal
 
 pub returns-then-asks_for : goal.returns-then-asks_for

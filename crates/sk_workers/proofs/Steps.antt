@@ -23,7 +23,7 @@ use Rattle.sk_workers.specs.declared.entry.DeskCall.TheVariants as calls
 use Rattle.sk_workers.specs.declared.entry.Answered.{Answered}
 use Rattle.sk_workers.specs.declared.entry.Answered.TheVariants.{Turned, Replied, HandedIn}
 use Rattle.sk_workers.specs.Views.{BookView, WorkerView}
-use Rattle.sk_workers.specs.History.{as_opened, Leases, HandsIn, Step, TakesInAdds, HandInAdds, TurnAdds, TakesAny, TurnTold, HandInTold, AnyTold, with_reply, without_reply}
+use Rattle.sk_workers.specs.History.{as_opened, Leases, HandsIn, CallPost, TakesInAdds, HandInAdds, TurnAdds, TakesAny, TurnTold, HandInTold, AnyTold, with_reply, without_reply}
 
 -- the opening stays
 abbrev Keeps : DeskView → DeskView → Type 0
@@ -85,7 +85,7 @@ hands_in d e l (Err Memory) done post = (l, (post.0, refl, refl, done), post)
 
 -- ---- calls
 
-pub step_keeps : (d e : DeskView) (call : DeskCall) (answer : Answered) → Step d call answer e → as_opened e ≡ as_opened d
+pub step_keeps : (d e : DeskView) (call : DeskCall) (answer : Answered) → CallPost d call answer e → as_opened e ≡ as_opened d
 step_keeps d e (calls.Turn pid) (Turned r) step = by_rule_keeps d e pid r (rule d pid) step.0
 step_keeps d e (calls.Reply reply) (Replied r) step = reply_keeps d e reply (with_reply reply r) step.0
 step_keeps d e (calls.HandIn pid count) (HandedIn r) step = hand_in_keeps d e pid count r step.0

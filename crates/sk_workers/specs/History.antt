@@ -61,11 +61,11 @@ HandsIn (Err hand_ins.Stale) d pid count d' = d' ≡ d
 HandsIn r d pid count d' = (l : LeaseView) × Leases d pid count l × DeskTakesIn r l d d'
 
 -- a call does what the desk promises of it; want of memory is no answer
-abbrev pub Step : DeskView → DeskCall → Answered → DeskView → Type 0
-Step d (calls.Turn pid) (Turned r) d' = TurnPost r d pid d' × (r ≢ Err refusals.Memory)
-Step d (calls.Reply reply) (Replied r) d' = ReplyPost (with_reply reply r) d reply d' × (r ≢ Err Memory)
-Step d (calls.HandIn pid count) (HandedIn r) d' = HandsIn r d pid count d' × (r ≢ Err hand_ins.Memory)
-Step d call answer d' = ⊥
+abbrev pub CallPost : DeskView → DeskCall → Answered → DeskView → Type 0
+CallPost d (calls.Turn pid) (Turned r) d' = TurnPost r d pid d' × (r ≢ Err refusals.Memory)
+CallPost d (calls.Reply reply) (Replied r) d' = ReplyPost (with_reply reply r) d reply d' × (r ≢ Err Memory)
+CallPost d (calls.HandIn pid count) (HandedIn r) d' = HandsIn r d pid count d' × (r ≢ Err hand_ins.Memory)
+CallPost d call answer d' = ⊥
 
 -- the oldest request that waits is taken, so many times
 abbrev pub taking : ℕ → DeskView → DeskView
@@ -79,7 +79,7 @@ Runs d [] last = (n : ℕ) × (last ≡ taking n d)
 Runs d (e ∷ es) last =
     (n : ℕ) × (d' : DeskView)
     × (e.taken ≡ requests_taken (taking n d))
-    × Step (taking n d) e.call e.answer d'
+    × CallPost (taking n d) e.call e.answer d'
     × Runs d' es last
 
 -- a history from the opening of a desk to the desk
@@ -92,7 +92,7 @@ IsLegal history d = Runs (as_opened d) history d
 abbrev pub Adds : BookView → WorkerView → DeskCall → Answered → BookView → WorkerView → Type 0
 Adds b w call answer b' w' =
     let e = entry w.number call answer (requests_taken b.desk) in
-    Step b.desk call answer b'.desk
+    CallPost b.desk call answer b'.desk
     × (b'.history ≡ b.history ++ e ∷ [])
     × (w' ≡ record w { receipts = w.receipts ++ receipt (length b.history) e ∷ [] })
 

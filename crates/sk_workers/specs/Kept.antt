@@ -6,11 +6,11 @@ use Rattle.sk_server.specs.declared.reply.Answer.TheVariants as answers
 use Rattle.sk_server.specs.declared.reply.Reply.{Reply}
 use Rattle.sk_server.specs.contracts.reply.Reply as reply
 use Rattle.sk_server.specs.contracts.reply.ReplyPartialEq.TheImpl as test
-use Rattle.sk_workers.specs.declared.kept_reply.KeptAnswer.{KeptAnswer}
-use Rattle.sk_workers.specs.declared.kept_reply.KeptAnswer.TheVariants.{Yes, No, Copy, Dropped}
+use Rattle.sk_workers.specs.declared.kept_reply.BoxedAnswer.{BoxedAnswer}
+use Rattle.sk_workers.specs.declared.kept_reply.BoxedAnswer.TheVariants.{Yes, No, Copy, Dropped}
 
 -- the answer, with its content out of its box
-abbrev pub answer_of : KeptAnswer → Answer
+abbrev pub answer_of : BoxedAnswer → Answer
 answer_of Yes = answers.Yes
 answer_of (No b) = answers.No b.value
 answer_of (Copy b) = answers.Copy b.value

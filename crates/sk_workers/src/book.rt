@@ -5,7 +5,7 @@ ghost use Rattle.sk_plain.specs.Leased.{Lends};
 ghost use Rattle.sk_client.specs.Desk.{opened_at, first_sent, first_taken};
 ghost use Rattle.sk_client.specs.Leasing.{desk_lease, DeskHandInPost};
 ghost use Rattle.sk_workers.specs.declared.worker.TheConstants.{WORKERS_LIMIT};
-ghost use Rattle.sk_workers.specs.History.{Step, Adds, TurnAdds, TakesInAdds, HandInAdds, TakesAny, LendsAny, AreFresh, IsLegal, receipt, without_reply};
+ghost use Rattle.sk_workers.specs.History.{CallPost, Adds, TurnAdds, TakesInAdds, HandInAdds, TakesAny, LendsAny, AreFresh, IsLegal, receipt, without_reply};
 ghost use Rattle.sk_workers.specs.Views.{BookView, WorkerView};
 
 use crate::entry::{Answered, DeskCall, HistoryEntry, Receipt};
@@ -39,9 +39,8 @@ pub struct Book<L: Ledger> {
 }
 
 impl<L: Ledger> Model for Book<L> {
-    ghost use Rattle.std.specs.Prelude.{◌≡◌, ◌<◌, length};
     ghost use Rattle.sk_workers.specs.Views.{BookView, book_code};
-    ghost use Rattle.sk_workers.specs.History.{IsLegal};
+    ghost use Rattle.sk_workers.specs.Invariants.{IsTidyBook};
 
     ghost Value = { BookView };
 
@@ -49,8 +48,7 @@ impl<L: Ledger> Model for Book<L> {
 
     ghost view = { λ b. record { desk = b.desk; history = b.history.items } };
 
-    ghost invariant = { λ b. IsLegal b.history.items b.desk
-        × (b.tally.total ≡ length b.history.items) × (0 < L.parts) };
+    ghost invariant = { λ b. IsTidyBook b.history.items b.desk b.tally.total L.parts };
 }
 
 impl<L: Ledger> Book<L> {
@@ -75,7 +73,7 @@ impl<L: Ledger> Book<L> {
             Err(error) => return Err((blank, desk, error)),
         };
         let (tally, all) = blank.open::<L>();
-        hire(alloc, all, n, &mut workers);
+        new_workers(alloc, all, n, &mut workers);
         let book = Book {
             desk,
             history: Vec::new(alloc),
@@ -311,7 +309,7 @@ impl<L: Ledger> Book<L> {
 }
 
 /// Workers with one part of the ledger each, numbered from 0.
-fn hire<L: Ledger>(alloc: Global, all: Share<L>, n: u8, workers: &mut Vec<Worker<L>>)
+fn new_workers<L: Ledger>(alloc: Global, all: Share<L>, n: u8, workers: &mut Vec<Worker<L>>)
     requires parts { (all.parts ≡ n) × (all.amount ≡ 0) }
     requires room { (workers.old.items ≡ []) × (n ≤ vec_capacity workers.old) }
     ensures { AreFresh n workers.new.items }
@@ -403,7 +401,7 @@ fn turned(answer: &Result<Turn, Refusal>) -> Answered
 /// A turn of the desk; `None` where it was refused for want of memory, and nothing has changed.
 fn turn_of(desk: &mut Desk, pid: Pid) -> Option<Result<Turn, Refusal>>
     ensures { MatchOption result (desk.new ≡ desk.old)
-        (λ answer. Step desk.old (DeskCall.Turn pid) (Answered.Turned answer) desk.new) }
+        (λ answer. CallPost desk.old (DeskCall.Turn pid) (Answered.Turned answer) desk.new) }
 {
     let answer = desk.turn(pid);
     if lacks_memory(&answer) {

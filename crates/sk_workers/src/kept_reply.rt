@@ -9,7 +9,7 @@ use std::marker::Model;
 
 /// An answer, with its content in a box.
 #[derive(Debug, Drop)]
-enum KeptAnswer {
+enum BoxedAnswer {
     Yes,
     No(Box<Content>),
     Copy(Box<Content>),
@@ -20,7 +20,7 @@ enum KeptAnswer {
 #[derive(Debug, Drop)]
 pub struct KeptReply {
     number: u64,
-    answer: KeptAnswer,
+    answer: BoxedAnswer,
 }
 
 impl Model for KeptReply {
@@ -61,10 +61,10 @@ impl KeptReply {
         ensures err { OnErr result (BringsContent reply.now) }
     {
         let answer = match &reply.answer {
-            Answer::Yes => KeptAnswer::Yes,
-            Answer::Dropped => KeptAnswer::Dropped,
-            Answer::No(content) => KeptAnswer::No(Box::new(alloc, *content)?),
-            Answer::Copy(content) => KeptAnswer::Copy(Box::new(alloc, *content)?),
+            Answer::Yes => BoxedAnswer::Yes,
+            Answer::Dropped => BoxedAnswer::Dropped,
+            Answer::No(content) => BoxedAnswer::No(Box::new(alloc, *content)?),
+            Answer::Copy(content) => BoxedAnswer::Copy(Box::new(alloc, *content)?),
         };
         let number = reply.number;
         Ok(KeptReply { number, answer })
@@ -75,10 +75,10 @@ impl KeptReply {
         ensures { result ≡ self.now }
     {
         let answer = match &self.answer {
-            KeptAnswer::Yes => Answer::Yes,
-            KeptAnswer::Dropped => Answer::Dropped,
-            KeptAnswer::No(content) => Answer::No(**content),
-            KeptAnswer::Copy(content) => Answer::Copy(**content),
+            BoxedAnswer::Yes => Answer::Yes,
+            BoxedAnswer::Dropped => Answer::Dropped,
+            BoxedAnswer::No(content) => Answer::No(**content),
+            BoxedAnswer::Copy(content) => Answer::Copy(**content),
         };
         let number = self.number;
         Reply { number, answer }
@@ -92,9 +92,12 @@ impl KeptReply {
             return false;
         }
         match (&self.answer, &other.answer) {
-            (KeptAnswer::Yes, KeptAnswer::Yes) | (KeptAnswer::Dropped, KeptAnswer::Dropped) => true,
-            (KeptAnswer::No(content), KeptAnswer::No(other)) => is_same_content(content, other),
-            (KeptAnswer::Copy(content), KeptAnswer::Copy(other)) => is_same_content(content, other),
+            (BoxedAnswer::Yes, BoxedAnswer::Yes) | (BoxedAnswer::Dropped, BoxedAnswer::Dropped) =>
+                true,
+            (BoxedAnswer::No(content), BoxedAnswer::No(other)) => is_same_content(content, other),
+            (BoxedAnswer::Copy(content), BoxedAnswer::Copy(other)) => is_same_content(
+                content, other,
+            ),
             _ => false,
         }
     }

@@ -210,9 +210,10 @@ impl<L: Ledger> Shared<L> {
     /// Takes the desk's oldest request that waits; `None` where none does. This takes no memory, and the lock only
     /// where one may wait.
     pub fn next_request<R: Wait>(&self, rt: &R) -> Option<Request> {
-        if !self.may_wait.swap(false, Ordering::SeqCst) {
+        if !self.may_wait() {
             return None;
         }
+        self.may_wait.store(false, Ordering::SeqCst);
         let request = self.hold(rt).next_request();
         if request.is_some() {
             self.may_wait.store(true, Ordering::SeqCst);

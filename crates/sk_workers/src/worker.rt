@@ -22,17 +22,16 @@ pub struct Worker<L: Ledger> {
 }
 
 impl<L: Ledger> Model for Worker<L> {
-    ghost use Rattle.std.specs.Prelude.{◌≡◌, length};
     ghost use Rattle.sk_workers.specs.Views.{WorkerView};
-    ghost use Rattle.sk_workers.specs.History.{AreOwn};
+    ghost use Rattle.sk_workers.specs.Invariants.{IsTidyWorker};
 
     ghost Value = { WorkerView };
 
     ghost view = { λ w. record
         { number = w.number; turns = w.turns; receipts = w.receipts.items } };
 
-    ghost invariant = { λ w. (w.share.parts ≡ 1) × (w.share.amount ≡ length w.receipts.items)
-        × AreOwn w.number w.receipts.items };
+    ghost invariant = { λ w. IsTidyWorker w.number w.receipts.items
+        w.share.parts w.share.amount };
 }
 
 impl<L: Ledger> Worker<L> {

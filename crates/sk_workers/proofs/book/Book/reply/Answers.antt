@@ -4,7 +4,7 @@ use Rattle.std.proofs.lemmas.Bool.{false≢true}
 use Rattle.sk_workers.specs.declared.entry.DeskCall.{DeskCall}
 use Rattle.sk_workers.specs.declared.entry.Answered.TheVariants.{Replied}
 use Rattle.sk_workers.specs.declared.entry.HistoryEntry.{HistoryEntry}
-use Rattle.sk_workers.specs.History.{Step, entry}
+use Rattle.sk_workers.specs.History.{CallPost, entry}
 use Rattle.sk_workers.proofs.Runs.{entered}
 use Rattle.sk_workers.proofs.Steps.{with_back}
 use Rattle.sk_workers.proofs.book.Book.reply.Goals as goal
@@ -18,7 +18,7 @@ invariant_of-self-2 g c =
     let told = with_back old.desk left c.args.reply c.give_reply-given.result answer c.give_reply-given.ensures c.without_reply-answer.ensures in
     entered old.desk left old.history.items c.enter.new.history.items e old.tally.total c.enter.new.tally.total g.L.Ledger.parts
     c.self.invariant c.requests_taken-taken.ensures
-    (subst (λ (call : DeskCall). Step old.desk call (Replied answer) left) (sym c.in-Ok.ensures.0)
+    (subst (λ (call : DeskCall). CallPost old.desk call (Replied answer) left) (sym c.in-Ok.ensures.0)
     (told, λ memory. false≢true (sym c.if-wants_memory.false ∙ c.wants_memory.ensures.1 memory)))
     (c.enter.ensures.history ∙ ap (λ (es : List HistoryEntry). es ++ e ∷ []) c.make_room.ensures.history)
     c.enter.ensures.tally

@@ -3,7 +3,7 @@ use Rattle.std.proofs.Common.{◌++◌, ◌∷◌, [], List, sym, ap, ◌∙◌,
 use Rattle.sk_workers.specs.declared.entry.DeskCall.TheVariants as calls
 use Rattle.sk_workers.specs.declared.entry.Answered.{Answered}
 use Rattle.sk_workers.specs.declared.entry.HistoryEntry.{HistoryEntry}
-use Rattle.sk_workers.specs.History.{Step, entry}
+use Rattle.sk_workers.specs.History.{CallPost, entry}
 use Rattle.sk_workers.proofs.Runs.{entered}
 use Rattle.sk_workers.proofs.book.Book.turn.Goals as goal
 
@@ -14,6 +14,6 @@ invariant_of-self-2 g c =
     let e = entry c.worker.inside.number call c.turned.result c.requests_taken-taken.result in
     entered old.desk c.turn_of.new.desk old.history.items c.enter.new.history.items e old.tally.total c.enter.new.tally.total g.L.Ledger.parts
     c.self.invariant c.requests_taken-taken.ensures
-    (subst (λ (a : Answered). Step old.desk call a c.turn_of.new.desk) (sym c.turned.ensures) c.in-Some.ensures)
+    (subst (λ (a : Answered). CallPost old.desk call a c.turn_of.new.desk) (sym c.turned.ensures) c.in-Some.ensures)
     (c.enter.ensures.history ∙ ap (λ (es : List HistoryEntry). es ++ e ∷ []) c.make_room.ensures.history)
     c.enter.ensures.tally

@@ -9,6 +9,9 @@ use std::process::Abort;
 use std::test::Fail;
 use tests_support::values::{name, pid};
 
+/// An answer, the number of events, and the place of a process.
+type AfterHandIn = (Result<(), HandIn>, usize, Option<u32>);
+
 /// A kernel of a process with two private instructions and one that is not, and of one that ends it
 /// by a signal.
 fn kernel(alloc: Global) -> Result<Kernel, Fail> {
@@ -53,23 +56,40 @@ fn hands_in(
     Ok(answer)
 }
 
+/// Where a process stands, if it is there.
+fn place_of(kernel: &Kernel, pid: Pid) -> Option<u32> {
+    match kernel.value(&Entity::Proc(pid)) {
+        Some(View::Process(process)) => Some(process.place),
+        _ => None,
+    }
+}
+
+/// What the hand-in of process 1 comes to, how many events there are then, and where it stands.
+fn handed_in(
+    rt: &impl Abort,
+    alloc: Global,
+    between: u16,
+    steps: u32,
+) -> Result<AfterHandIn, Fail> {
+    let leased = pid(1)?;
+    let mut kernel = kernel(alloc)?;
+    let answer = hands_in(rt, &mut kernel, leased, pid(between)?, steps)?;
+    Ok((
+        answer,
+        kernel.trace().events().len(),
+        place_of(&kernel, leased),
+    ))
+}
+
 #[test]
 fn lease_and_hand_in(rt: HostRuntime) -> Result<(), Fail> {
     let stale = Err(HandIn::Stale);
-    let leased = pid(1)?;
-    for (between, steps, want, events, at) in [
-        (2, 0, Ok(()), 2, 2),
-        (2, 3, stale, 3, 0),
-        (1, 1, stale, 1, 1),
+    for (between, steps, want) in [
+        (2, 0, (Ok(()), 2, Some(2))),
+        (2, 3, (stale, 3, Some(0))),
+        (1, 1, (stale, 1, Some(1))),
     ] {
-        let mut kernel = kernel(rt.alloc())?;
-        let answer = hands_in(&rt, &mut kernel, leased, pid(between)?, steps)?;
-        assert_eq!(rt; answer, want);
-        assert_eq!(rt; kernel.trace().events().len(), events);
-        match kernel.value(&Entity::Proc(leased)) {
-            Some(View::Process(process)) => assert_eq!(rt; process.place, at),
-            _ => panic!(rt; "no process"),
-        }
+        assert_eq!(rt; handed_in(&rt, rt.alloc(), between, steps)?, want);
     }
     Ok(())
 }

@@ -110,13 +110,19 @@ fn texts_of_two_epochs(rt: HostRuntime) -> Result<(), Fail> {
     plays(&rt, rt.alloc(), one_process(&[(b"say\n", 3)], 2), &table)
 }
 
+/// Begins an epoch whose opening is that of before.
+fn begins_as_before(rt: &impl Abort, kernel: &mut Kernel) -> Result<(), Fail> {
+    let before = kernel.opening().copy()?;
+    assert!(rt; kernel.new_epoch().is_ok());
+    assert!(rt; *kernel.opening() == before);
+    Ok(())
+}
+
 /// An epoch directly after the boot changes nothing.
 #[test]
 fn epoch_after_the_boot(rt: HostRuntime) -> Result<(), Fail> {
     let mut kernel = kernel_of(rt.alloc(), one_process(&[(b"say\n", 1)], 10))?;
-    let before = kernel.opening().copy()?;
-    assert!(rt; kernel.new_epoch().is_ok());
-    assert!(rt; *kernel.opening() == before);
+    begins_as_before(&rt, &mut kernel)?;
     assert_eq!(rt; kernel.trace().events().len(), 0);
     Ok(())
 }

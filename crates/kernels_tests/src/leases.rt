@@ -12,20 +12,19 @@ use tests_support::values::{name, pid};
 /// An answer, the number of events, and the place of a process.
 type AfterHandIn = (Result<(), HandIn>, usize, Option<u32>);
 
-/// A kernel of a process with two private instructions and one that is not, and of one that ends it
-/// by a signal.
+/// Declares a process with two private instructions and one that is not, and one that ends it by a signal.
+fn declares_lent_and_killer(alloc: Global, boot: &mut Boot) -> Result<(), Fail> {
+    let (sets, kills) = (name(b"sets")?, name(b"kills")?);
+    declares_script(alloc, boot, &sets, b"set r1 1\nset r2 2\nsay\n")?;
+    declares_script(alloc, boot, &kills, b"boot r1 1\nset r2 9\nkill r1 r2\n")?;
+    boot.process(1, &sets, 1)?;
+    Ok(boot.process(2, &kills, 2)?)
+}
+
+/// A kernel of both.
 fn kernel(alloc: Global) -> Result<Kernel, Fail> {
     let mut boot = Boot::new(alloc);
-    let (sets, kills) = (name(b"sets")?, name(b"kills")?);
-    declares_script(alloc, &mut boot, &sets, b"set r1 1\nset r2 2\nsay\n")?;
-    declares_script(
-        alloc,
-        &mut boot,
-        &kills,
-        b"boot r1 1\nset r2 9\nkill r1 r2\n",
-    )?;
-    boot.process(1, &sets, 1)?;
-    boot.process(2, &kills, 2)?;
+    declares_lent_and_killer(alloc, &mut boot)?;
     Ok(Kernel::boot(alloc, 0, &boot, 1_000)?)
 }
 

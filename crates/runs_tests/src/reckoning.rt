@@ -99,21 +99,34 @@ fn follow(all: &mut Vec<Dirt>, entry: &Entry, plan: &Plan) -> Result<bool, Alloc
 }
 
 impl Reckoning {
+    /// What a boot comes to.
+    fn start(alloc: Global, boot: &Boot) -> Result<Reckoning, Finding> {
+        let plain = Plain::boot(alloc, boot)?;
+        let store = Store::start(alloc, boot)?;
+        Ok(Reckoning {
+            alloc,
+            entries: Vec::new(alloc),
+            plain,
+            store,
+            dirt: Vec::new(alloc),
+            said: Vec::new(alloc),
+        })
+    }
+
+    /// Takes these steps of a trace.
+    fn take_all(&mut self, boot: &Boot, trace: &Trace, entries: &[Entry]) -> Result<(), Finding> {
+        for entry in entries {
+            self.open(trace, entry)?;
+            self.take(boot.scripts(), entry)?;
+        }
+        Ok(())
+    }
+
     /// What this trace comes to.
     pub fn of(alloc: Global, boot: &Boot, trace: &Trace) -> Result<Reckoning, Finding> {
         let entries = strike(alloc, boot, trace)?;
-        let mut reckoning = Reckoning {
-            alloc,
-            entries: Vec::new(alloc),
-            plain: Plain::boot(alloc, boot)?,
-            store: Store::start(alloc, boot)?,
-            dirt: Vec::new(alloc),
-            said: Vec::new(alloc),
-        };
-        for entry in &entries {
-            reckoning.open(trace, entry)?;
-            reckoning.take(boot.scripts(), entry)?;
-        }
+        let mut reckoning = Reckoning::start(alloc, boot)?;
+        reckoning.take_all(boot, trace, &entries)?;
         reckoning.entries = entries;
         Ok(reckoning)
     }

@@ -215,8 +215,59 @@ fn one_call(
     Ok(())
 }
 
-/// Makes so many random calls, leases, hand-ins and epochs; says how many hand-ins and epochs there were.
+/// Makes a random call, lease, hand-in or epoch.
+fn one_turn(
+    rt: &impl Abort,
+    rng: &mut Pcg32,
+    habit: Habit,
+    declarations: &Declarations,
+    session: &mut TokenSession,
+    course: &mut Course,
+    reckoning: &Reckoning,
+) -> Result<(), Finding> {
+    let roll = rng.next_u32() % 12;
+    if roll < 2 {
+        return leases(rng, session, course, reckoning);
+    }
+    if roll == 2 {
+        return epoch(session, course, reckoning);
+    }
+    one_call(rt, rng, habit, declarations, session, course, reckoning)
+}
+
+/// Reckons anew what all that was done comes to, and judges the kernel by it.
+fn reckon(
+    alloc: Global,
+    declarations: &Declarations,
+    session: &TokenSession,
+    course: &mut Course,
+) -> Result<Reckoning, Finding> {
+    let reckoning = Reckoning::of(alloc, declarations.boot(), &course.trace)?;
+    course.judge(session.kernel(), &reckoning, declarations.limit())?;
+    Ok(reckoning)
+}
+
+/// Makes so many random calls, leases, hand-ins and epochs, and judges the kernel after each.
 fn play(
+    rt: &impl Abort,
+    alloc: Global,
+    rng: &mut Pcg32,
+    habit: Habit,
+    declarations: &Declarations,
+    session: &mut TokenSession,
+    course: &mut Course,
+    calls: u32,
+) -> Result<(), Finding> {
+    let mut reckoning = Reckoning::of(alloc, declarations.boot(), &course.trace)?;
+    for _ in 0..calls {
+        one_turn(rt, rng, habit, declarations, session, course, &reckoning)?;
+        reckoning = reckon(alloc, declarations, session, course)?;
+    }
+    Ok(())
+}
+
+/// How many hand-ins and epochs there were in a run of so many calls.
+fn tally_of(
     rt: &impl Abort,
     alloc: Global,
     rng: &mut Pcg32,
@@ -226,27 +277,16 @@ fn play(
     calls: u32,
 ) -> Result<Tally, Finding> {
     let mut course = Course::new(alloc);
-    let mut reckoning = Reckoning::of(alloc, declarations.boot(), &course.trace)?;
-    for _ in 0..calls {
-        let roll = rng.next_u32() % 12;
-        if roll < 2 {
-            leases(rng, session, &mut course, &reckoning)?;
-        } else if roll == 2 {
-            epoch(session, &mut course, &reckoning)?;
-        } else {
-            one_call(
-                rt,
-                rng,
-                habit,
-                declarations,
-                session,
-                &mut course,
-                &reckoning,
-            )?;
-        }
-        reckoning = Reckoning::of(alloc, declarations.boot(), &course.trace)?;
-        course.judge(session.kernel(), &reckoning, declarations.limit())?;
-    }
+    play(
+        rt,
+        alloc,
+        rng,
+        habit,
+        declarations,
+        session,
+        &mut course,
+        calls,
+    )?;
     Ok(course.tally)
 }
 
@@ -269,7 +309,7 @@ fn run(rt: &impl Abort, alloc: Global, number: u64, manner: Manner) -> Result<Ta
         .least
         .saturating_add(rng.next_u32() % manner.more.max(1));
     let mut session = TokenSession::new(alloc, &scenario.declarations)?;
-    let told = play(
+    let told = tally_of(
         rt,
         alloc,
         &mut rng,

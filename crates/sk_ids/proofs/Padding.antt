@@ -1,8 +1,9 @@
 -- Names with zeros past their ends compare as the names do, since no byte of a name is 0.
-use Rattle.std.proofs.Common.{◌≡◌, ℕ, zero, suc, ◌+◌, ◌-◌, ◌<◌, ◌≤◌, IsTrue, true≢false, List, [], ◌∷◌, ◌++◌, length, take, drop, replicate, All, arith, sym, ◌∙◌, ap, length-take-le, take-append-drop}
+use Rattle.std.proofs.Common.{◌≡◌, ℕ, zero, suc, ◌+◌, ◌-◌, ◌<◌, IsTrue, true≢false, List, [], ◌∷◌, ◌++◌, length, take, replicate, All, arith, sym, ◌∙◌, ap, length-take-le, take-append-drop}
 use Rattle.std.specs.Ordering.{nat_cmp, ordering_then}
 use Rattle.std.specs.Cmp.Lexicographic.{slice_cmp}
-use Rattle.sk_ids.specs.Name.{is_name_byte, IsName}
+use Rattle.sk_ids.specs.Name.{is_name_byte}
+use Rattle.sk_ids.specs.Invariants.{IsTidyName}
 use Rattle.sk_ids.specs.declared.name.TheConstants.{NAME_LIMIT}
 use Rattle.sk_ids.proofs.Words.{below, above, level}
 
@@ -25,14 +26,11 @@ with_zeros (x ∷ xs) (y ∷ ys) k l e g h =
     ap (ordering_then (nat_cmp x y)) (with_zeros xs ys k l (omega (arith, e)) (λ i d lt. g (suc i) d (omega (arith, lt))) (λ i d lt. h (suc i) d (omega (arith, lt))))
 
 -- cells compare as the names at their front
-pub as_names : (a b : List ℕ) (n m : ℕ)
-    → (n ≤ NAME_LIMIT) × (length a ≡ NAME_LIMIT) × (drop n a ≡ replicate (NAME_LIMIT - n) 0) × IsName (take n a)
-    → (m ≤ NAME_LIMIT) × (length b ≡ NAME_LIMIT) × (drop m b ≡ replicate (NAME_LIMIT - m) 0) × IsName (take m b)
-    → slice_cmp nat_cmp a b ≡ slice_cmp nat_cmp (take n a) (take m b)
+pub as_names : (a b : List ℕ) (n m : ℕ) → IsTidyName n a → IsTidyName m b → slice_cmp nat_cmp a b ≡ slice_cmp nat_cmp (take n a) (take m b)
 as_names a b n m g h =
-    let a_len : length (take n a) ≡ n = length-take-le n a (omega (arith, g.0, g.1)) in
-    let b_len : length (take m b) ≡ m = length-take-le m b (omega (arith, h.0, h.1)) in
-    let a_is : take n a ++ replicate (NAME_LIMIT - n) 0 ≡ a = ap (λ z. take n a ++ z) (sym g.2) ∙ take-append-drop n a in
-    let b_is : take m b ++ replicate (NAME_LIMIT - m) 0 ≡ b = ap (λ z. take m b ++ z) (sym h.2) ∙ take-append-drop m b in
+    let a_len : length (take n a) ≡ n = length-take-le n a (omega (arith, g.fits, g.count)) in
+    let b_len : length (take m b) ≡ m = length-take-le m b (omega (arith, h.fits, h.count)) in
+    let a_is : take n a ++ replicate (NAME_LIMIT - n) 0 ≡ a = ap (λ z. take n a ++ z) (sym g.zeros) ∙ take-append-drop n a in
+    let b_is : take m b ++ replicate (NAME_LIMIT - m) 0 ≡ b = ap (λ z. take m b ++ z) (sym h.zeros) ∙ take-append-drop m b in
     sym (λ i. slice_cmp nat_cmp (a_is i) (b_is i))
-    ∙ with_zeros (take n a) (take m b) (NAME_LIMIT - n) (NAME_LIMIT - m) (omega (arith, a_len, b_len, g.0, h.0)) g.3.letters h.3.letters
+    ∙ with_zeros (take n a) (take m b) (NAME_LIMIT - n) (NAME_LIMIT - m) (omega (arith, a_len, b_len, g.fits, h.fits)) g.named.letters h.named.letters

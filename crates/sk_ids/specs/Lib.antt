@@ -1,8 +1,9 @@
 pub mod Pid
 pub mod Padded
-pub mod PaddedLemma
 pub mod Name
 pub mod Word
+pub mod Invariants
+pub mod PaddedLemma
 pub mod NameLemma
 pub mod Entity
 pub mod Guess

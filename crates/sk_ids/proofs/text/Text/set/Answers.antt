@@ -1,5 +1,5 @@
 -- The bytes, and zeros behind them as far as there were none, fill the cells.
-use Rattle.std.proofs.Common.{◌≡◌, ◌≤◌, length, arith, sym, ap, ◌∙◌}
+use Rattle.std.proofs.Common.{◌≤◌, length, arith}
 use Rattle.sk_ids.specs.declared.text.TheConstants.{TEXT_LIMIT}
 use Rattle.sk_ids.proofs.Cells.{replaced_len, replaced_zeros, replaced_first}
 use Rattle.sk_ids.proofs.text.Text.set.Goals as goal
@@ -10,11 +10,12 @@ invariant_of-self c =
     let b = c.args.bytes.now in
     let short : length c.args.bytes.now ≤ c.max-end.result = omega (arith, c.max-end.ensures) in
     let most : c.self.inside.len ≤ c.max-end.result = omega (arith, c.max-end.ensures) in
-    let room : c.max-end.result ≤ TEXT_LIMIT = omega (arith, c.max-end.ensures, c.requires, c.self.invariant.0) in (
-      c.requires,
-      replaced_len TEXT_LIMIT b t.cells c.place.new.cells c.clear.new.cells t.len c.max-end.result c.self.invariant.1 c.self.invariant.2 short most room c.place.ensures c.clear.ensures,
-      replaced_zeros TEXT_LIMIT b t.cells c.place.new.cells c.clear.new.cells t.len c.max-end.result c.self.invariant.1 c.self.invariant.2 short most room c.place.ensures c.clear.ensures,
-    )
+    let room : c.max-end.result ≤ TEXT_LIMIT = omega (arith, c.max-end.ensures, c.requires, c.self.invariant.fits) in
+    record {
+      fits = c.requires;
+      count = replaced_len TEXT_LIMIT b t.cells c.place.new.cells c.clear.new.cells t.len c.max-end.result c.self.invariant.count c.self.invariant.zeros short most room c.place.ensures c.clear.ensures;
+      zeros = replaced_zeros TEXT_LIMIT b t.cells c.place.new.cells c.clear.new.cells t.len c.max-end.result c.self.invariant.count c.self.invariant.zeros short most room c.place.ensures c.clear.ensures;
+    }
 
 pub returns : goal.returns
 returns c =
@@ -22,5 +23,5 @@ returns c =
     let b = c.args.bytes.now in
     let short : length c.args.bytes.now ≤ c.max-end.result = omega (arith, c.max-end.ensures) in
     let most : c.self.inside.len ≤ c.max-end.result = omega (arith, c.max-end.ensures) in
-    let room : c.max-end.result ≤ TEXT_LIMIT = omega (arith, c.max-end.ensures, c.requires, c.self.invariant.0) in
-    replaced_first TEXT_LIMIT b t.cells c.place.new.cells c.clear.new.cells t.len c.max-end.result c.self.invariant.1 c.self.invariant.2 short most room c.place.ensures c.clear.ensures
+    let room : c.max-end.result ≤ TEXT_LIMIT = omega (arith, c.max-end.ensures, c.requires, c.self.invariant.fits) in
+    replaced_first TEXT_LIMIT b t.cells c.place.new.cells c.clear.new.cells t.len c.max-end.result c.self.invariant.count c.self.invariant.zeros short most room c.place.ensures c.clear.ensures

@@ -5,6 +5,7 @@ pub mod Slots
 pub mod Pipe
 pub mod Ring
 pub mod Signals
+pub mod Invariants
 pub mod Value
 pub mod Same
 pub mod SameLemma

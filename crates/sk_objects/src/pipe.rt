@@ -26,17 +26,15 @@ pub struct Pipe {
 }
 
 impl Model for Pipe {
-    ghost use Rattle.std.specs.Prelude.{◌≡◌, ◌≤◌, ◌<◌, length};
+    ghost use Rattle.sk_objects.specs.Invariants.{IsTidyPipe};
     ghost use Rattle.sk_objects.specs.Pipe.{PipeView};
     ghost use Rattle.sk_objects.specs.Ring.{ring_bytes};
-    ghost use Rattle.sk_objects.specs.declared.pipe.TheConstants.{PIPE_LIMIT};
 
     ghost Value = { PipeView };
 
     ghost view = { λ p. record { bytes = ring_bytes p.head p.len p.cells.value; shut = p.shut } };
 
-    ghost invariant = { λ p. (length p.cells.value ≡ PIPE_LIMIT) × (p.head < PIPE_LIMIT)
-        × (p.len ≤ PIPE_LIMIT) };
+    ghost invariant = { λ p. IsTidyPipe p.cells.value p.head p.len };
 }
 
 /// Writes bytes into the cells from one on, round the end.
@@ -44,7 +42,8 @@ fn write_round(cells: &mut [u8], at: usize, bytes: &[u8])
     requires cells { length cells.old ≡ PIPE_LIMIT }
     requires at { at < PIPE_LIMIT }
     requires fits { length bytes.now ≤ PIPE_LIMIT }
-    ensures cells { turned at cells.new ≡ bytes.now ++ drop (length bytes.now) (turned at cells.old) }
+    ensures cells { turned at cells.new
+        ≡ bytes.now ++ drop (length bytes.now) (turned at cells.old) }
     ensures len { length cells.new ≡ PIPE_LIMIT }
 {
     let room = PIPE_LIMIT - at;

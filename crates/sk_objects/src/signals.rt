@@ -20,16 +20,14 @@ pub struct Signals {
 }
 
 impl Model for Signals {
-    ghost use Rattle.std.specs.Prelude.{ℕ, List, ◌≤◌, All, vec_len, vec_capacity};
-    ghost use Rattle.sk_objects.specs.Signals.{IsSignal};
-    ghost use Rattle.sk_objects.specs.declared.signals.TheConstants.{SIGNALS_LIMIT};
+    ghost use Rattle.std.specs.Prelude.{ℕ, List, vec_capacity};
+    ghost use Rattle.sk_objects.specs.Invariants.{IsTidyQueue};
 
     ghost Value = { List ℕ };
 
     ghost view = { λ s. s.signals.items };
 
-    ghost invariant = { λ s. (vec_len s.signals ≤ SIGNALS_LIMIT)
-        × (SIGNALS_LIMIT ≤ vec_capacity s.signals) × All IsSignal s.signals.items };
+    ghost invariant = { λ s. IsTidyQueue s.signals.items (vec_capacity s.signals) };
 }
 
 impl PartialEq for Signals {

@@ -1,4 +1,4 @@
-use Rattle.std.proofs.Common.{◌≡◌, ◌≤◌, ◌+◌, ◌-◌, ◌/◌, ◌%◌, Bool, true, cond, List, ℕ, [], length, take, get_or, rules, arith, sym, ap, ap₂, subst, ◌∙◌}
+use Rattle.std.proofs.Common.{◌≡◌, ◌+◌, ◌-◌, ◌/◌, ◌%◌, Bool, true, cond, List, ℕ, [], length, take, get_or, rules, arith, sym, ap, ap₂, subst, ◌∙◌}
 use Rattle.std.specs.Prelude.{slice_set}
 use Rattle.sk_objects.specs.File.{overwritten, written}
 use Rattle.sk_objects.specs.Blocks.{joined}

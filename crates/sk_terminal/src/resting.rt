@@ -125,7 +125,8 @@ fn refresh(list: &mut Resting, numbered: &Numbered, failed: GuessId) -> bool
     ensures kept { StayResting numbered.now list.old.guess list.old.terminals.items
         list.new.terminals.items }
     ensures some { (t : ℕ) → has t list.new.terminals.items ≡ true → result ≡ true }
-    ensures gone { failed < list.old.guess → NoneRests list.old.guess numbered.now → result ≡ false }
+    ensures gone { failed < list.old.guess → NoneRests list.old.guess numbered.now
+        → result ≡ false }
 {
     if list.guess > failed {
         let from = stale_from(list.terminals.as_slice(), numbered, list.guess);

@@ -39,7 +39,8 @@ impl PartialEq for Held {
 
     ghost eq = { λ a b. same_said a.said b.said };
 
-    ghost laws = { partial_equiv_from_equiv (on_equiv (λ h. h.said) (decided same_said exact_said)) };
+    ghost laws = { partial_equiv_from_equiv
+        (on_equiv (λ h. h.said) (decided same_said exact_said)) };
 
     fn eq(&self, other: &Held) -> bool {
         self.said == other.said
@@ -47,19 +48,18 @@ impl PartialEq for Held {
 }
 
 impl Model for Terminal {
-    ghost use Rattle.std.specs.Prelude.{◌≡◌, ◌+◌, ◌≤◌, ◌++◌, List, [], length, map};
+    ghost use Rattle.std.specs.Prelude.{◌++◌, List, length, map};
     ghost use Rattle.std.specs.Vec.{vec_capacity};
-    ghost use Rattle.sk_record.specs.Machine.{released};
     ghost use Rattle.sk_terminal.specs.Terminal.{TaggedText, clear};
-    ghost use Rattle.sk_terminal.specs.Held.{texts_of, AreBounded};
+    ghost use Rattle.sk_terminal.specs.Held.{texts_of};
+    ghost use Rattle.sk_terminal.specs.TerminalInvariant.{IsTidyTerminal};
 
     ghost Value = { List TaggedText };
 
     ghost view = { λ a. map clear a.out.items ++ texts_of a.waiting.items };
 
-    ghost invariant = { λ a. (released (texts_of a.waiting.items) ≡ [])
-        × (length a.out.items + length a.waiting.items ≤ vec_capacity a.out)
-        × AreBounded 0 a.waiting.items a.newest };
+    ghost invariant = { λ a. IsTidyTerminal (length a.out.items) (vec_capacity a.out)
+        a.waiting.items a.newest };
 }
 
 impl PartialEq for Terminal {

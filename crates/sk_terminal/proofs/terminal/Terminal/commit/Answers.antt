@@ -8,5 +8,5 @@ use Rattle.sk_terminal.proofs.terminal.Terminal.commit.Goals as goal
 
 pub returns : goal.returns
 returns c =
-    c.release.ensures.texts ∙ ap (λ ws. map clear c.self.inside.out.items ++ ws) (c.take_out.ensures.texts c.self.inside.newest c.self.invariant.2)
+    c.release.ensures.texts ∙ ap (λ ws. map clear c.self.inside.out.items ++ ws) (c.take_out.ensures.texts c.self.inside.newest c.self.invariant.bounds)
     ∙ sym (lightened-clear c.args.id c.self.inside.out.items (texts_of c.self.inside.waiting.items)) ∙ ap (lightened c.args.id) c.self.view_is

@@ -8,5 +8,5 @@ use Rattle.sk_terminal.proofs.terminal.Terminal.drop_of.Goals as goal
 
 pub returns : goal.returns
 returns c =
-    c.release.ensures.texts ∙ ap (λ ws. map clear c.self.inside.out.items ++ ws) (c.throw_away.ensures.texts c.self.inside.newest c.self.invariant.2)
+    c.release.ensures.texts ∙ ap (λ ws. map clear c.self.inside.out.items ++ ws) (c.throw_away.ensures.texts c.self.inside.newest c.self.invariant.bounds)
     ∙ sym (not_dropped-clear c.args.id c.self.inside.out.items (texts_of c.self.inside.waiting.items)) ∙ ap (not_dropped c.args.id) c.self.view_is

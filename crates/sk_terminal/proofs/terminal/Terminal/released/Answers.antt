@@ -4,4 +4,4 @@ use Rattle.std.proofs.Common.{sym}
 use Rattle.sk_terminal.proofs.terminal.Terminal.released.Goals as goal
 
 pub returns : goal.returns
-returns c = rw (c.as_slice.ensures.value, ← c.self.view_is) (sym (released-clear _ _ c.self.invariant.0))
+returns c = rw (c.as_slice.ensures.value, ← c.self.view_is) (sym (released-clear _ _ c.self.invariant.held))

@@ -13,5 +13,5 @@ returns c =
     let hs = c.self.inside.waiting.items in
     let n = c.self.inside.newest in
     let slice = c.as_slice.ensures.value in
-    c.any_rest_on.ensures n (subst (λ (xs : List Held). AreBounded 0 xs n) (sym slice) c.self.invariant.2) ∙ ap (list_any (rests c.args.id)) slice
+    c.any_rest_on.ensures n (subst (λ (xs : List Held). AreBounded 0 xs n) (sym slice) c.self.invariant.bounds) ∙ ap (list_any (rests c.args.id)) slice
     ∙ rests_texts c.args.id hs ∙ sym (rests-clear c.args.id c.self.inside.out.items (texts_of hs)) ∙ ap (any_rests c.args.id) c.self.view_is

@@ -10,10 +10,11 @@ use Rattle.sk_terminal.proofs.terminal.Terminal.say.Goals as goal
 pub invariant_of-self-2 : goal.invariant_of-self-2
 invariant_of-self-2 c =
     let n = c.newest_of-newest.result in
-    let x : Held = record { said = c.new-said.result; newest = n } in (
-      c.release.ensures.held,
-      c.release.ensures.room,
-      c.release.ensures.bounds n (subst (λ (xs : List Held). AreBounded 0 xs n) (sym c.in_ok-push.ensures.items)
-          (bounded_more 0 c.self.inside.newest n c.self.inside.waiting.items x c.self.invariant.2 c.newest_of-newest.ensures.above refl
-          (λ g here. c.newest_of-newest.ensures.tags g (sym (ap (λ (s : TaggedText). has g s.1) c.new-said.ensures) ∙ here)))),
-    )
+    let x : Held = record { said = c.new-said.result; newest = n } in
+    record {
+      held = c.release.ensures.held;
+      fits = c.release.ensures.room;
+      bounds = c.release.ensures.bounds n (subst (λ (xs : List Held). AreBounded 0 xs n) (sym c.in_ok-push.ensures.items)
+          (bounded_more 0 c.self.inside.newest n c.self.inside.waiting.items x c.self.invariant.bounds c.newest_of-newest.ensures.above refl
+          (λ g here. c.newest_of-newest.ensures.tags g (sym (ap (λ (s : TaggedText). has g s.1) c.new-said.ensures) ∙ here))));
+    }

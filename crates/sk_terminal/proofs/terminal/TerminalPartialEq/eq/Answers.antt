@@ -16,7 +16,7 @@ returns-then-released-clause-computed c =
     c.same_waiting.ensures
     ∙ (λ i. same_texts (texts_of (c.as_slice-then-released.ensures.value i)) (texts_of (c.as_slice-then-released-2.ensures.value i)))
     ∙ ap (λ b. b && wait) (sym c.if-released.true ∙ out)
-    ∙ test_views c.self.inside.out.items c.other.inside.out.items (texts_of c.self.inside.waiting.items) (texts_of c.other.inside.waiting.items) c.self.invariant.0 c.other.invariant.0
+    ∙ test_views c.self.inside.out.items c.other.inside.out.items (texts_of c.self.inside.waiting.items) (texts_of c.other.inside.waiting.items) c.self.invariant.held c.other.invariant.held
     ∙ (λ i. same_texts (c.self.view_is i) (c.other.view_is i))
 
 pub returns-then-released-clause-exact : goal.returns-then-released-clause-exact
@@ -29,7 +29,7 @@ returns-else-released-clause-computed c =
     let out : c.eq-released.result ≡ pointwise (text.ghosts).eq c.self.inside.out.items c.other.inside.out.items = c.eq-released.ensures ∙ (λ i. pointwise (text.ghosts).eq (c.as_slice.ensures.value i) (c.as_slice-2.ensures.value i)) in
     c.if-released.false
     ∙ ap (λ b. b && wait) (sym c.if-released.false ∙ out)
-    ∙ test_views c.self.inside.out.items c.other.inside.out.items (texts_of c.self.inside.waiting.items) (texts_of c.other.inside.waiting.items) c.self.invariant.0 c.other.invariant.0
+    ∙ test_views c.self.inside.out.items c.other.inside.out.items (texts_of c.self.inside.waiting.items) (texts_of c.other.inside.waiting.items) c.self.invariant.held c.other.invariant.held
     ∙ (λ i. same_texts (c.self.view_is i) (c.other.view_is i))
 
 pub returns-else-released-clause-exact : goal.returns-else-released-clause-exact

@@ -481,7 +481,7 @@ fn child_of(process: &Process, child: Pid, place: u32) -> Process
 }
 
 /// A child's exit slot, and then its parent.
-fn bear_slot<K: Keeper>(keeper: &mut K, pid: Pid, by: &Forking) -> Result<(), AllocError>
+fn write_child_slot<K: Keeper>(keeper: &mut K, pid: Pid, by: &Forking) -> Result<(), AllocError>
     requires { CanBecomeThere (CanFork by.now) (K.look keeper.old (Proc pid)) }
     ensures ok { OnOk result
         (keeper.new
@@ -498,7 +498,7 @@ fn bear_slot<K: Keeper>(keeper: &mut K, pid: Pid, by: &Forking) -> Result<(), Al
 }
 
 /// A child's queue of signals, and then the rest.
-fn bear_queue<K: Keeper>(keeper: &mut K, pid: Pid, by: &Forking) -> Result<(), AllocError>
+fn write_child_queue<K: Keeper>(keeper: &mut K, pid: Pid, by: &Forking) -> Result<(), AllocError>
     requires { CanBecomeThere (CanFork by.now) (K.look keeper.old (Proc pid)) }
     ensures ok { OnOk result
         (keeper.new
@@ -510,7 +510,7 @@ fn bear_queue<K: Keeper>(keeper: &mut K, pid: Pid, by: &Forking) -> Result<(), A
 {
     let queue = Value::empty(keeper.memory(), Kind::Signals)?;
     let back = keeper.write(Entity::Sig(by.child), EntityState::Value(queue))?;
-    if bear_slot(keeper, pid, by).is_err() {
+    if write_child_slot(keeper, pid, by).is_err() {
         keeper.take_back(back);
         return Err(AllocError);
     }
@@ -540,7 +540,7 @@ fn bear<K: Keeper>(keeper: &mut K, pid: Pid, by: &Forking, place: u32) -> Result
 {
     let first = child_of(process_at(keeper, pid), by.child, place);
     let back = keeper.write(Entity::Proc(by.child), EntityState::Process(first))?;
-    if bear_queue(keeper, pid, by).is_err() {
+    if write_child_queue(keeper, pid, by).is_err() {
         keeper.take_back(back);
         return Err(AllocError);
     }

@@ -8,8 +8,8 @@ use Rattle.sk_plain.specs.Planned.{child_of}
 use Rattle.sk_plain.proofs.Others.{apart_from_child, can_still, from_ok, then_more}
 use Rattle.sk_plain.proofs.apply.bear.Goals as goal
 
-pub bear_queue-requires : goal.bear_queue-requires
-bear_queue-requires g c =
+pub write_child_queue-requires : goal.write_child_queue-requires
+write_child_queue-requires g c =
     can_still g.K.Look.look g.K.Keeper.wrote g.met.K.Keeper.others (CanFork c.args.by.now) c.args.keeper.now c.write.new.self (Proc c.args.by.now.child) _ c.args.pid c.in_ok-back.ensures.ok
     (apart_from_child c.args.pid c.args.by.now.child c.requires.apart) c.requires.can
 
@@ -19,7 +19,7 @@ returns-clause-ok g c =
     let child = c.args.by.now.child in
     let first = c.child_of-first.ensures ∙ ap (λ (q : Process). child_of q (record { pid = child; place = c.args.place; registers = q.registers })) c.process_at.ensures in
     let born = c.in_ok-back.ensures.ok ∙ ap (λ q. g.K.Keeper.wrote k (Proc child) (Some (stored.Process q))) first in
-    then_more g.K.Look.look g.K.Keeper.wrote g.met.K.Keeper.others (forked c.args.by.now) k c.write.new.self c.bear_queue.new.keeper (Proc child) _ c.args.pid
+    then_more g.K.Look.look g.K.Keeper.wrote g.met.K.Keeper.others (forked c.args.by.now) k c.write.new.self c.write_child_queue.new.keeper (Proc child) _ c.args.pid
     (λ m. g.K.Keeper.wrote (g.K.Keeper.wrote m (Sig child) (Some (stored.Value (values.Signals [])))) (Exit child) (Some (stored.Value (values.Exit None))))
     born (apart_from_child c.args.pid child c.requires.apart)
-    (from_ok c.bear_queue.result c.if-is_err.ensures.value c.bear_queue.ensures.ok)
+    (from_ok c.write_child_queue.result c.if-is_err.ensures.value c.write_child_queue.ensures.ok)

@@ -16,7 +16,8 @@ pub fn apply_all<V: Invertible>(
     ensures ok { OnOk result (value.new ≡ after_all V.applied value.old changes.now) }
     ensures unfit { result ≡ Err NotApplied.Unfit
         → all_fit V.fits V.applied value.old changes.now ≡ false }
-    ensures back { back V.undone value.new undos.new.items ≡ back V.undone value.old undos.old.items }
+    ensures back { back V.undone value.new undos.new.items
+        ≡ back V.undone value.old undos.old.items }
     ensures can { CanGoBack V.undone V.can_undo value.old undos.old.items
         → CanGoBack V.undone V.can_undo value.new undos.new.items }
 {

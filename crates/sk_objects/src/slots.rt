@@ -28,7 +28,11 @@ impl Model for Blocks {
 
     ghost Value = { BlocksView };
 
-    ghost view = { λ b. record { at = 512 * b.slot; bytes = joined b.blocks.items; size = b.size } };
+    ghost view = { λ b. record {
+      at = 512 * b.slot;
+      bytes = joined b.blocks.items;
+      size = b.size;
+    } };
 
     ghost invariant = { λ b. AreBlocks b.blocks.items };
 }

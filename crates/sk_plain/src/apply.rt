@@ -321,7 +321,8 @@ fn write_beside<K: Keeper, C: Becoming>(
     requires process { CanBecomeThere (C.can by.now) (K.look keeper.old (Proc pid)) }
     requires can { CanDo (K.look keeper.old)
         (beside_of (process_in (K.look keeper.old (Proc pid))) beside.now) }
-    requires apart { IsBeside pid (beside_of (process_in (K.look keeper.old (Proc pid))) beside.now) }
+    requires apart { IsBeside pid
+        (beside_of (process_in (K.look keeper.old (Proc pid))) beside.now) }
     requires version { IsWritable beside.now }
     ensures ok { OnOk result
         (keeper.new

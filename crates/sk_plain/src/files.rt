@@ -105,7 +105,8 @@ fn written_at<S: Look>(
     at: u64,
 ) -> Row
     requires place { process.now.place + 1 < 2 ^ 32 }
-    requires there { S.look _store.now (Obj object.now) ≡ Some (stored.Value (values.File file.now)) }
+    requires there { S.look _store.now (Obj object.now)
+        ≡ Some (stored.Value (values.File file.now)) }
     ensures { PlansRow (S.look _store.now) process.now pid
         (Ask (Obj object.now) (λ v. written_at pid process.now object.now file.now at))
         (Ok result) }
@@ -157,7 +158,8 @@ fn cut_to<S: Look>(
     size: u64,
 ) -> Row
     requires place { process.now.place + 1 < 2 ^ 32 }
-    requires there { S.look _store.now (Obj object.now) ≡ Some (stored.Value (values.File file.now)) }
+    requires there { S.look _store.now (Obj object.now)
+        ≡ Some (stored.Value (values.File file.now)) }
     ensures { PlansRow (S.look _store.now) process.now pid
         (Ask (Obj object.now) (λ v. cut_to pid process.now object.now file.now size)) (Ok result) }
 {

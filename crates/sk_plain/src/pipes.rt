@@ -31,7 +31,8 @@ fn put_in<S: Look>(
     pipe: &Pipe,
 ) -> Result<Row, Refusal>
     requires place { process.now.place + 1 < 2 ^ 32 }
-    requires there { S.look _store.now (Obj object.now) ≡ Some (stored.Value (values.Pipe pipe.now)) }
+    requires there { S.look _store.now (Obj object.now)
+        ≡ Some (stored.Value (values.Pipe pipe.now)) }
     ensures { PlansRow (S.look _store.now) process.now pid
         (Ask (Obj object.now) (λ v. put_in pid process.now object.now pipe.now)) result }
 {
@@ -90,7 +91,8 @@ fn take_from<S: Look>(
     most: u16,
 ) -> Result<Row, Refusal>
     requires place { process.now.place + 1 < 2 ^ 32 }
-    requires there { S.look _store.now (Obj object.now) ≡ Some (stored.Value (values.Pipe pipe.now)) }
+    requires there { S.look _store.now (Obj object.now)
+        ≡ Some (stored.Value (values.Pipe pipe.now)) }
     requires most { (1 ≤ most) × (most ≤ 512) }
     ensures { PlansRow (S.look _store.now) process.now pid
         (Ask (Obj object.now) (λ v. take_from pid process.now object.now pipe.now most)) result }

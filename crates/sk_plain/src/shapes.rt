@@ -44,7 +44,8 @@ pub(crate) fn alone(change: ProcessChange) -> Row
 
 /// The same after an entity was looked at.
 pub(crate) fn looked(change: ProcessChange, entity: Entity) -> Row
-    ensures { result ≡ record { change = change; looks = Looks.At entity; beside = Beside.Nothing } }
+    ensures { result
+        ≡ record { change = change; looks = Looks.At entity; beside = Beside.Nothing } }
 {
     Row {
         change,

@@ -113,7 +113,8 @@ impl Model for Boot {
 impl Boot {
     /// Nothing declared.
     pub fn new(alloc: Global) -> Boot
-        ensures { result ≡ record { scripts = map.empty; objects = []; copies = []; processes = [] } }
+        ensures { result
+            ≡ record { scripts = map.empty; objects = []; copies = []; processes = [] } }
     {
         Boot {
             scripts: Scripts::new(alloc),

@@ -88,7 +88,8 @@ impl Lease {
     /// The process after the instructions.
     pub fn now(&self) -> &Process
         ensures value { result.now ≡ self.now.now }
-        ensures done { after_private self.now.script self.now.count self.now.lent ≡ Some result.now }
+        ensures done { after_private self.now.script self.now.count self.now.lent
+            ≡ Some result.now }
     {
         &self.current
     }

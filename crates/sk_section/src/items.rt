@@ -27,7 +27,8 @@ pub trait Rules: Listed {
 
     /// Adds what a line says whose first word this is, or says what is wrong with it; nothing has changed then.
     fn add(items: &mut Items<Self>, word: &[u8], words: &Words) -> Result<(), FaultKind>
-        ensures { Leaves result (with_said items.old (rule word.now words.now)) items.old items.new };
+        ensures { Leaves result
+            (with_said items.old (rule word.now words.now)) items.old items.new };
 
     /// Adds what a line says; one without words adds nothing.
     fn line(items: &mut Items<Self>, line: &[u8]) -> Result<(), FaultKind>

@@ -56,7 +56,8 @@ pub fn lines_add<R: Reader, A>()
 
 /// A text is read again that has the line of each item, where each is read again behind those before.
 pub fn texts<A>()
-    ensures { (said : List A → List ℕ → Result (List A) FaultKind) (line_of : A → List ℕ) (first : ℕ) (xs : List A) →
+    ensures { (said : List A → List ℕ → Result (List A) FaultKind) (line_of : A → List ℕ)
+        (first : ℕ) (xs : List A) →
         AllByRecursion (IsReadAgain said line_of) xs →
         read_from said [] first (lines (flat_map (λ x. line_of x ++ 10 ∷ []) xs)) ≡ Ok xs }
 {}

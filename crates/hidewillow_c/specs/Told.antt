@@ -1,5 +1,5 @@
 -- What calls are told: the number of an answer, that of what it names, and the length of a text.
-use Rattle.std.specs.Prelude.{ℕ, List, [], ◌++◌, take, drop, length}
+use Rattle.std.specs.Prelude.{ℕ, List, ◌++◌, take, drop, length}
 use Rattle.sk_words.specs.declared.fault.FaultKind.{FaultKind}
 use Rattle.sk_words.specs.declared.fault.FaultKind.TheVariants as kinds
 use Rattle.sk_plain.specs.Refusal.{refusal_number}

@@ -1,5 +1,5 @@
 -- What the tags of the newest run are covered by.
-use Rattle.std.proofs.Common.{◌≡◌, ℕ, true, false, List, [], ◌∷◌, sym, ◌∙◌, ap, subst}
+use Rattle.std.proofs.Common.{◌≡◌, ℕ, true, false, List, [], sym, ◌∙◌, ap}
 use Rattle.std.proofs.lemmas.Bool.{true≢false}
 use Rattle.sk_record.specs.Notes.{has}
 use Rattle.sk_undo.specs.Log.{Covers}

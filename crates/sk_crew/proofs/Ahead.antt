@@ -1,5 +1,5 @@
 -- What is handed in before a turn is a lease of no more instructions than the worker was to run.
-use Rattle.std.specs.Prelude.{◌≡◌, ◌⊎◌, ◌<◌, ◌≤◌, ◌+◌, ◌==◌, ℕ, zero, suc, Bool, true, false, List, Option, Some, None, IfSome, Result, Ok, Err, if◌then◌else◌}
+use Rattle.std.specs.Prelude.{◌≡◌, ◌<◌, ◌≤◌, ◌+◌, ◌==◌, ℕ, zero, suc, Bool, true, false, List, Option, Some, None, IfSome, Result, Ok, Err, if◌then◌else◌}
 use Rattle.std.proofs.Common.{inl, inr, arith, ap, subst}
 use Rattle.std.specs.FinMap as map
 use Rattle.sk_ids.specs.declared.entity.Entity.TheVariants.{Proc}
@@ -19,7 +19,7 @@ use Rattle.sk_kernel.specs.declared.hand_in.HandIn.{HandIn}
 use Rattle.sk_client.specs.Desk.{DeskView, pending, asks_for}
 use Rattle.sk_client.specs.Leasing.{unless_asked, desk_lease}
 use Rattle.sk_workers.specs.Views.{WorkerView}
-use Rattle.sk_workers.specs.History.{Told, HandInTold, AnyTold, IsLentAny}
+use Rattle.sk_workers.specs.History.{HandInTold, AnyTold, IsLentAny}
 use Rattle.sk_crew.specs.Ahead.{RunsAhead}
 
 -- ---- the count of a lease that ran

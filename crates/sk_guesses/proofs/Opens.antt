@@ -1,10 +1,10 @@
 -- The undecided guesses after a draw, a decision and a strike.
 use Rattle.std.proofs.Common.{◌≡◌, ◌≢◌, ℕ, zero, suc, ◌<◌, ◌≤◌, ◌+◌, ◌-◌, length, length-set, take, drop, Bool, true, false, cond, not, ◌||◌, ◌&&◌, List, [], ◌∷◌, ◌++◌, map, Option, Some, None, refl, sym, ◌∙◌, ap, subst, arith}
-use Rattle.std.specs.Prelude.{◌==◌, ◌↔◌, slice_get, slice_set, slice_index_or, is_some}
+use Rattle.std.specs.Prelude.{◌==◌, slice_set, slice_index_or, is_some}
 use Rattle.std.specs.Ordering.{nat_cmp}
 use Rattle.std.specs.declared.cmp.Ordering.TheVariants.{Less}
 use Rattle.std.specs.Cmp.{nat_cmp_is}
-use Rattle.std.specs.List.{AllByRecursion, filter, list_any, prefix_len}
+use Rattle.std.specs.List.{AllByRecursion, filter, prefix_len}
 use Rattle.std.specs.List.Sorted.{IsStrictlySortedBy}
 use Rattle.std.specs.List.Retain.{RetainsInTurn}
 use Rattle.std.specs.Prelude.{nat_le, nat_lt}
@@ -15,7 +15,7 @@ use Rattle.std.proofs.lemmas.List.Folds.{list_any-append}
 use Rattle.std.proofs.lemmas.List.Kept.{IsStrictlySortedBy-filter}
 use Rattle.std.proofs.lemmas.Option.{slice_get_within}
 use Rattle.sk_record.specs.Notes.{has, without}
-use Rattle.sk_record.specs.Machine.{rests_on, with_failure, with_status}
+use Rattle.sk_record.specs.Machine.{rests_on, with_failure}
 use Rattle.sk_record.specs.UndoState.{numbers, not_struck}
 use Rattle.sk_record.specs.declared.status.Status.{Status}
 use Rattle.sk_record.specs.declared.status.Status.TheVariants.{Undecided, Committed, Failed, Struck}

@@ -1,12 +1,10 @@
 -- A hand-in decides no guess and opens none: the tokens stay.
-use Rattle.std.proofs.Common.{◌≡◌, ℕ, zero, suc, true, List, [], ◌∷◌, ◌++◌, Result, Ok, Err, refl, sym, ap, subst, append_assoc}
+use Rattle.std.proofs.Common.{◌≡◌, ℕ, zero, suc, true, List, [], ◌∷◌, Result, Ok, Err, sym, ap, subst, append_assoc}
 use Rattle.std.specs.Prelude.{replicate}
-use Rattle.sk_record.specs.Notes.{has}
 use Rattle.sk_guesses.specs.Token.{Token}
 use Rattle.sk_script.specs.declared.instruction.Input.TheVariants as inputs
 use Rattle.sk_script.specs.Lease.{LeaseView}
-use Rattle.sk_trace.specs.declared.event.Event.{Event}
-use Rattle.sk_kernel.specs.Kernel.{KernelView, undecided_at, with_event}
+use Rattle.sk_kernel.specs.Kernel.{KernelView, with_event}
 use Rattle.sk_kernel.proofs.HandedIn.{no_step}
 use Rattle.sk_kernel.specs.HandIn.{TakesIn, alone_step, with_steps}
 use Rattle.sk_kernel.specs.declared.hand_in.HandIn.{HandIn}

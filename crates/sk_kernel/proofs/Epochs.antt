@@ -1,5 +1,5 @@
 -- A kernel behind a new epoch goes on as the one without it.
-use Rattle.std.proofs.Common.{◌≡◌, ℕ, ◌+◌, ◌||◌, nat_le, nat_lt, length, cond, List, [], ◌++◌, map, Option, Some, None, refl, sym, ◌∙◌, ap, subst}
+use Rattle.std.proofs.Common.{◌≡◌, ℕ, ◌+◌, ◌||◌, nat_le, nat_lt, length, cond, List, [], ◌++◌, map, Some, None, refl, sym, ◌∙◌, ap, subst}
 use Rattle.std.specs.Prelude.{◌↔◌}
 use Rattle.std.specs.List.{fold}
 use Rattle.std.proofs.lemmas.List.{map-append}
@@ -19,7 +19,7 @@ use Rattle.sk_trace.specs.declared.event.Event.{Event}
 use Rattle.sk_plain.specs.Act.{plain}
 use Rattle.sk_plain.specs.Replay.{image}
 use Rattle.sk_plain.specs.declared.refusal.Refusal.TheVariants.{TooMany}
-use Rattle.sk_kernel.specs.Kernel.{KernelView, HasStatus, RestsOn, events_of, state_at, undecided_at, tags_at, number_after, last_guess, next_guess, too_many}
+use Rattle.sk_kernel.specs.Kernel.{KernelView, HasStatus, RestsOn, events_of, state_at, undecided_at, tags_at, number_after, next_guess}
 use Rattle.sk_kernel.specs.Calls.{IsNextEpoch}
 use Rattle.sk_kernel.specs.Laws.{HasSoundTrace, AnswersAlike, with_events}
 use Rattle.sk_kernel.proofs.Continues.{Continues, continues, state_is, tags_are, rests_are, status_behind, next_is_sound, old_is_sound}

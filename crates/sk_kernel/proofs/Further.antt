@@ -1,5 +1,5 @@
 -- One event more in an epoch: its trace is sound in the epoch where it is sound.
-use Rattle.std.proofs.Common.{◌≡◌, ℕ, ◌<◌, ◌≤◌, ◌+◌, length, Bool, true, List, [], ◌∷◌, ◌++◌, map, Option, Some, None, inl, inr, refl, sym, ◌∙◌, ap, subst, arith}
+use Rattle.std.proofs.Common.{◌≡◌, ℕ, ◌<◌, ◌≤◌, length, true, List, [], ◌∷◌, map, Option, Some, None, inl, inr, refl, ◌∙◌, ap, subst, arith}
 use Rattle.std.specs.List.{fold, list_any}
 use Rattle.std.proofs.lemmas.Bool.{or_left, or_right, eq-eqb}
 use Rattle.sk_record.specs.Trace.{Event as Happens, Taken, Commit, Fail, IsDrawn, IsSound}
@@ -10,7 +10,7 @@ use Rattle.sk_trace.specs.declared.event.Event.{Event}
 use Rattle.sk_trace.specs.declared.event.Event.TheVariants as events
 use Rattle.sk_plain.specs.Act.{plain}
 use Rattle.sk_plain.specs.Replay.{image}
-use Rattle.sk_kernel.specs.Kernel.{KernelView, events_of, last_guess, next_guess, number_after, with_event}
+use Rattle.sk_kernel.specs.Kernel.{KernelView, events_of, next_guess, number_after, with_event}
 use Rattle.sk_kernel.specs.Laws.{HasSoundTrace}
 use Rattle.sk_kernel.proofs.Whole.{map_more, some_same}
 

@@ -1,5 +1,5 @@
 -- Where nothing is undecided, the parts with their statuses and texts put away stand for the empty trace at the state now.
-use Rattle.std.proofs.Common.{◌≡◌, ℕ, ◌≤◌, ◌+◌, length, true, List, [], ◌++◌, map, Option, Some, None, refl, sym, ◌∙◌, ap, subst, arith}
+use Rattle.std.proofs.Common.{◌≡◌, ℕ, ◌+◌, length, true, List, [], ◌++◌, Option, Some, None, refl, sym, ◌∙◌, ap, arith}
 use Rattle.std.specs.Prelude.{◌↔◌}
 use Rattle.std.specs.Option.{unwrap_or}
 use Rattle.std.specs.Ordering.{nat_cmp}
@@ -7,20 +7,18 @@ use Rattle.std.specs.FinMap as fin
 use Rattle.std.proofs.lemmas.Bool.{false≢true}
 use Rattle.std.proofs.lemmas.List.{length-append}
 use Rattle.sk_record.specs.Notes.{has}
-use Rattle.sk_record.specs.Run.{run}
-use Rattle.sk_record.specs.Trace.{record_of}
 use Rattle.sk_record.specs.Machine.{Machine}
 use Rattle.sk_record.specs.Merged.{MergedStands}
-use Rattle.sk_record.specs.Epoch.{status_in, or_since, StatusOr}
+use Rattle.sk_record.specs.Epoch.{status_in, or_since}
 use Rattle.sk_record.specs.declared.status.Status.{Status}
 use Rattle.sk_record.specs.declared.status.Status.TheVariants.{Undecided}
 use Rattle.sk_record.proofs.Epoch.{stands_anew, no_opens, undecided_now, either_is}
 use Rattle.sk_record.proofs.Statuses.{none_yet}
 use Rattle.sk_ids.specs.declared.entity.Entity.{Entity}
 use Rattle.sk_ids.proofs.Entities.{entity_total, entity_exact}
-use Rattle.sk_guesses.specs.Guesses.{GuessesView, status_of, status_since, settled}
+use Rattle.sk_guesses.specs.Guesses.{status_of, status_since, settled}
 use Rattle.sk_guesses.proofs.Statuses.{nothing_in, status-settled}
-use Rattle.sk_terminal.specs.Terminals.{TerminalMap, texts_at as texts_in}
+use Rattle.sk_terminal.specs.Terminals.{texts_at as texts_in}
 use Rattle.sk_store.specs.State.{State}
 use Rattle.sk_store.specs.declared.entity_state.EntityState.{EntityState}
 use Rattle.sk_undo.specs.Logs.{look_at}

@@ -1,6 +1,6 @@
 -- What the parts of a kernel say of its trace.
-use Rattle.std.proofs.Common.{Bor, ◌≡◌, ℕ, zero, suc, ◌<◌, ◌≤◌, ◌-◌, ◌+◌, length, cond, true, false, not, List, [], ◌∷◌, ◌++◌, map, Option, Some, None, refl, sym, ◌∙◌, ap, subst, arith}
-use Rattle.std.specs.Prelude.{◌↔◌, ◌==◌, is_some, slice_get, MatchOption}
+use Rattle.std.proofs.Common.{Bor, ◌≡◌, ℕ, zero, suc, ◌<◌, ◌≤◌, ◌-◌, ◌+◌, length, true, false, not, List, [], ◌∷◌, ◌++◌, map, Option, Some, None, refl, sym, ◌∙◌, ap, subst, arith}
+use Rattle.std.specs.Prelude.{◌↔◌, is_some, slice_get, MatchOption}
 use Rattle.std.specs.declared.cmp.Ordering.TheVariants.{Less}
 use Rattle.std.specs.Cmp.{nat_cmp_is}
 use Rattle.std.proofs.lemmas.Bool.{eq-eqb, or_left, or_right}
@@ -47,7 +47,7 @@ use Rattle.sk_trace.specs.declared.event.Event.TheVariants as events
 use Rattle.sk_plain.specs.Act.{plain, act, Saying}
 use Rattle.sk_plain.specs.Replay.{image}
 use Rattle.sk_machine.specs.Parts.{Parts, machine_of, undo_state_of, said_at}
-use Rattle.sk_guesses.proofs.Count.{at_place, count_of}
+use Rattle.sk_guesses.proofs.Count.{count_of}
 use Rattle.sk_kernel.specs.Kernel.{KernelView, events_of, record_at, state_at, undecided_at, tags_at, texts_at, said_by_record, HasStatus, RestsOn, effect_at, number_after, last_guess, with_event, room}
 use Rattle.sk_kernel.specs.Calls.{ShowsTerminal, SaysNothing, LeavesTexts}
 use Rattle.sk_kernel.proofs.Clear.{AllClear, all_clear, clear_released}

@@ -1,11 +1,11 @@
 -- Many private instructions of one process at once: the guesses that they rest on, and what the machine becomes.
-use Rattle.std.proofs.Common.{◌≡◌, ℕ, Bool, true, false, ◌||◌, List, [], ◌∷◌, ◌++◌, Option, Some, None, refl, sym, ◌∙◌, ap, subst}
+use Rattle.std.proofs.Common.{◌≡◌, ℕ, Bool, true, false, ◌||◌, List, [], ◌∷◌, ◌++◌, Some, None, refl, sym, ◌∙◌, ap, subst}
 use Rattle.std.proofs.lemmas.Bool.{true≢false}
 use Rattle.std.specs.List.{list_any, filter}
 use Rattle.std.specs.List.Sorted.{IsStrictlySortedBy}
 use Rattle.std.specs.Ordering.{nat_cmp, eq_by_cmp}
 use Rattle.std.proofs.lemmas.List.{append-nil}
-use Rattle.sk_record.specs.Effects.{MarkedEffect, is_in}
+use Rattle.sk_record.specs.Effects.{MarkedEffect}
 use Rattle.sk_record.specs.Notes.{has, noted}
 use Rattle.sk_record.specs.Merged.{HandsIn, Merges, alone_tags}
 use Rattle.sk_record.specs.UndoState.{IsTidy, numbers, step_tags, tags_at}

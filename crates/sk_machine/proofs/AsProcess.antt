@@ -1,7 +1,7 @@
 -- Steps that rest on just what their process rests on.
-use Rattle.std.proofs.Common.{◌≡◌, ℕ, suc, ◌<◌, ◌≤◌, length, Bool, true, false, cond, ◌||◌, List, [], ◌∷◌, ◌++◌, Option, Some, None, Result, Ok, Err, inl, inr, refl, sym, ◌∙◌, ap, subst, arith}
+use Rattle.std.proofs.Common.{◌≡◌, ℕ, suc, ◌<◌, ◌≤◌, length, true, false, cond, List, [], ◌∷◌, ◌++◌, Option, None, Result, Ok, Err, inl, inr, refl, sym, ◌∙◌, ap, subst, arith}
 use Rattle.std.specs.List.{list_any}
-use Rattle.std.specs.Prelude.{◌==◌, OnOk, OnErr}
+use Rattle.std.specs.Prelude.{OnOk, OnErr}
 use Rattle.std.specs.Cmp.{both_ways, eq_by_cmp_equiv}
 use Rattle.std.specs.Ordering.{nat_cmp, eq_by_cmp}
 use Rattle.std.specs.List.Sorted.{IsStrictlySortedBy}
@@ -14,7 +14,7 @@ use Rattle.sk_record.specs.Notes.{has}
 use Rattle.sk_record.specs.UndoState.{IsTidy, Open, numbers, step_tags}
 use Rattle.sk_ids.specs.Entity.{entity_cmp}
 use Rattle.sk_ids.specs.declared.entity.Entity.{Entity}
-use Rattle.sk_ids.specs.declared.entity.Entity.TheVariants.{Proc, Sig}
+use Rattle.sk_ids.specs.declared.entity.Entity.TheVariants.{Proc}
 use Rattle.sk_ids.proofs.Entities.{entity_total}
 use Rattle.sk_guesses.specs.Opens.{OpenGuess, opens_of}
 use Rattle.sk_guesses.proofs.Places.{tied_is}
@@ -32,7 +32,7 @@ use Rattle.sk_plain.proofs.Plans.{written_is}
 use Rattle.sk_plain.proofs.Scan.{changed_are}
 use Rattle.sk_machine.proofs.Joins.{clean_of}
 use Rattle.sk_machine.specs.Dependents.{tags_in, with_tags, AllExact, Covers, RestAlike}
-use Rattle.sk_machine.specs.Parts.{Parts, undo_state_of, planned_effect, any_rests}
+use Rattle.sk_machine.specs.Parts.{Parts, undo_state_of, planned_effect}
 use Rattle.sk_machine.specs.Performed.{IsClean, Performed, entities_of}
 use Rattle.sk_machine.proofs.Listed.{exact_as, performed_exact}
 use Rattle.sk_machine.proofs.Tags.{tags_are}

@@ -1,5 +1,5 @@
 -- What a call appends was foreseen.
-use Rattle.std.proofs.Common.{◌≡◌, ℕ, Bool, List, Option, Some, None, refl}
+use Rattle.std.proofs.Common.{ℕ, Bool, List, Option, Some, None, refl}
 use Rattle.sk_record.specs.Notes.{has}
 use Rattle.sk_script.specs.declared.instruction.Input.{Input}
 use Rattle.sk_plain.specs.declared.refusal.Refusal.{Refusal}

@@ -1,14 +1,13 @@
 -- A directory has one count of names, which goes up and down with them, and which a state's names have.
-use Rattle.std.proofs.Common.{◌≡◌, ◌≤◌, ℕ, ◌+◌, ◌-◌, Bool, true, false, not, cond, ◌&&◌, ◌||◌, List, [], ◌∷◌, Option, Some, None, refl, sym, ◌∙◌, ap}
-use Rattle.std.specs.Prelude.{is_some}
+use Rattle.std.proofs.Common.{◌≡◌, ℕ, ◌+◌, ◌-◌, Bool, true, false, not, cond, ◌&&◌, ◌||◌, List, [], ◌∷◌, Some, None, refl, sym, ◌∙◌, ap}
 use Rattle.std.specs.declared.cmp.Ordering.{Ordering}
 use Rattle.std.specs.declared.cmp.Ordering.TheVariants.{Less, Equal, Greater}
-use Rattle.std.specs.Ordering.{nat_cmp, eq_by_cmp, is_eq, ordering_then}
+use Rattle.std.specs.Ordering.{eq_by_cmp, is_eq, ordering_then}
 use Rattle.std.specs.List.{list_any}
 use Rattle.std.specs.Cmp.{IsTotalOrder}
 use Rattle.std.specs.Cmp.Lexicographic.{nat_list_cmp_total}
 use Rattle.std.specs.FinMap as map
-use Rattle.std.specs.FinSet.{FinSet, contains, insert, remove, len, from_list, contains-insert, contains-remove, contains-from_list, len-insert, len-remove, same_set}
+use Rattle.std.specs.FinSet.{insert, remove, len, from_list, contains-insert, contains-remove, contains-from_list, len-insert, len-remove, same_set}
 use Rattle.std.proofs.lemmas.Map.Lookups.{exact_bytes}
 use Rattle.sk_ids.specs.Name.{name_order}
 use Rattle.sk_ids.specs.Entity.{entity_cmp, object_cmp}
@@ -16,7 +15,7 @@ use Rattle.sk_ids.specs.declared.pid.ObjId.{ObjId}
 use Rattle.sk_ids.specs.declared.entity.Entity.{Entity}
 use Rattle.sk_ids.specs.declared.entity.Entity.TheVariants.{Proc, Sig, Exit, Obj, Link, Copy}
 use Rattle.sk_store.specs.State.{State}
-use Rattle.sk_store.specs.Names.{IsCount, name_there, name_of, with_name, names_among, names_in}
+use Rattle.sk_store.specs.Names.{IsCount, name_there, with_name, names_among, names_in}
 
 total : IsTotalOrder name_order
 total = nat_list_cmp_total

@@ -1,5 +1,5 @@
 -- A process among what entities have.
-use Rattle.std.specs.Prelude.{◌<◌, ◌+◌, ◌^◌, ℕ, Option, Some, None, [], unwrap_or}
+use Rattle.std.specs.Prelude.{◌<◌, ◌+◌, ◌^◌, Option, Some, None, [], unwrap_or}
 use Rattle.sk_script.specs.Process.{beginning}
 use Rattle.sk_script.specs.Private.{private_step}
 use Rattle.sk_script.specs.declared.process.Process.{Process}

@@ -1,6 +1,5 @@
 -- A guess that is taken back gives each entity what it had before the first write that rests on it.
 use Rattle.std.proofs.Common.{◌≡◌, ℕ, List, [], ◌∷◌, ◌++◌, reverse, Bool, true, false, cond, not, ◌||◌, ◌&&◌, Option, Some, None, refl, sym, ◌∙◌, ap, subst}
-use Rattle.std.specs.List.{list_any, list_all}
 use Rattle.std.specs.Ordering.{eq_by_cmp}
 use Rattle.std.specs.Cmp.{Equal-is}
 use Rattle.std.specs.FinMap.{get, insert, remove, get-insert, get-remove}
@@ -14,9 +13,8 @@ use Rattle.sk_record.specs.Notes.{Note, has, cut, unwound}
 use Rattle.sk_record.specs.Merged.{same_tags}
 use Rattle.sk_store.specs.declared.entity_state.EntityState.{EntityState}
 use Rattle.sk_undo.specs.Log.{is_empty, carries}
-use Rattle.sk_undo.specs.Slot.{SlotView, slot_of, slot_wrote, is_bare, is_whole, goes_unnoted, noted_on}
+use Rattle.sk_undo.specs.Slot.{SlotView, slot_of, slot_wrote, is_bare, is_whole, goes_unnoted}
 use Rattle.sk_undo.specs.Logs.{SlotMap, slot_in, placed, slots_wrote, look_at, log_at}
-use Rattle.sk_undo.specs.Decisions.{Unwound}
 use Rattle.sk_undo.specs.Laws.{Write, all_wrote, AllRestOn, GivesBack}
 use Rattle.sk_undo.proofs.Notes.{any_reverse}
 

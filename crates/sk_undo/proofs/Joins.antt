@@ -1,8 +1,7 @@
 -- Notes left out, for which the note before them stands: what is left is seen as before, but for these.
-use Rattle.std.proofs.Common.{◌≡◌, ℕ, zero, suc, ◌<◌, ◌≤◌, length, take, drop, Bool, true, false, cond, not, ◌&&◌, List, [], ◌∷◌, ◌++◌, Option, Some, None, inl, inr, refl, sym, ◌∙◌, ap, subst, arith}
+use Rattle.std.proofs.Common.{◌≡◌, ℕ, zero, suc, ◌<◌, ◌≤◌, length, take, drop, Bool, true, false, cond, ◌&&◌, List, [], ◌∷◌, ◌++◌, Option, Some, None, inr, refl, sym, ap, subst, arith}
 use Rattle.std.specs.Prelude.{reverse, slice_index_or}
 use Rattle.std.specs.List.{list_all}
-use Rattle.std.specs.Cmp.{first_so}
 use Rattle.std.proofs.lemmas.Bool.{true≢false}
 use Rattle.std.proofs.lemmas.Grind.{reverse_onto}
 use Rattle.std.proofs.lemmas.List.{reverse-reverse}
@@ -11,7 +10,7 @@ use Rattle.sk_changes.specs.declared.change.Undo.{Undo}
 use Rattle.sk_store.specs.declared.back.PutBack.{PutBack}
 use Rattle.sk_store.specs.declared.back.PutBack.TheVariants.{Was, Changed}
 use Rattle.sk_record.specs.Notes.{Note}
-use Rattle.sk_record.specs.Merged.{Merges, same_tags}
+use Rattle.sk_record.specs.Merged.{Merges}
 use Rattle.sk_record.proofs.Merged.{past}
 use Rattle.sk_record.proofs.UndoStates.{and_both}
 use Rattle.sk_undo.specs.declared.log.Note.{Note as RawNote}

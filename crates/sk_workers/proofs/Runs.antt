@@ -1,6 +1,5 @@
 -- A legal history stays legal where a call is entered, and where a request is taken.
-use Rattle.std.proofs.Common.{◌≡◌, ℕ, zero, suc, List, [], ◌∷◌, ◌++◌, ◌+◌, ◌<◌, length, length-append, arith, refl, sym, ap, ◌∙◌, subst}
-use Rattle.std.specs.Prelude.{Some, slice_get}
+use Rattle.std.proofs.Common.{◌≡◌, ℕ, zero, suc, List, [], ◌∷◌, ◌++◌, ◌+◌, length, length-append, arith, refl, sym, ap, ◌∙◌, subst}
 use Rattle.sk_client.specs.Desk.{DeskView, first_taken, requests_taken}
 use Rattle.sk_workers.specs.declared.entry.HistoryEntry.{HistoryEntry}
 use Rattle.sk_workers.specs.declared.entry.Receipt.{Receipt}

@@ -23,7 +23,7 @@ use Rattle.sk_workers.specs.declared.entry.DeskCall.TheVariants as calls
 use Rattle.sk_workers.specs.declared.entry.Answered.{Answered}
 use Rattle.sk_workers.specs.declared.entry.Answered.TheVariants.{Turned, Replied, HandedIn}
 use Rattle.sk_workers.specs.Views.{BookView, WorkerView}
-use Rattle.sk_workers.specs.History.{as_opened, Leases, HandsIn, CallPost, TakesInAdds, HandInAdds, TurnAdds, TakesAny, TurnTold, HandInTold, AnyTold, with_reply, without_reply}
+use Rattle.sk_workers.specs.History.{as_opened, HandsIn, CallPost, TakesInAdds, HandInAdds, TurnAdds, TakesAny, TurnTold, HandInTold, AnyTold, with_reply, without_reply}
 
 -- the opening stays
 abbrev Keeps : DeskView → DeskView → Type 0

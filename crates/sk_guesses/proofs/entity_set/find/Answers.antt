@@ -1,7 +1,5 @@
-use Rattle.std.proofs.Common.{◌≡◌, ◌≤◌, ◌<◌, ◌∙◌, ap, sym, subst, arith, length}
-use Rattle.std.specs.Prelude.{slice_index_or}
+use Rattle.std.proofs.Common.{◌∙◌, sym, subst}
 use Rattle.std.specs.List.Sorted.{IsBinarySearchResult}
-use Rattle.sk_ids.specs.Entity.{entity_cmp}
 use Rattle.sk_ids.proofs.Entities.{entity_same}
 use Rattle.sk_guesses.proofs.Places.{all_before}
 use Rattle.sk_guesses.proofs.entity_set.find.Goals as goal

@@ -1,5 +1,5 @@
 -- One list more has the entity.
-use Rattle.std.proofs.Common.{◌≡◌, ◌+◌, ◌<◌, ◌≤◌, ◌++◌, ◌∙◌, suc, length, length-set, map, take, drop, sym, subst, arith}
+use Rattle.std.proofs.Common.{◌≡◌, ◌+◌, ◌<◌, ◌++◌, ◌∙◌, suc, length, length-set, map, take, drop, subst, arith}
 use Rattle.std.specs.Prelude.{slice_set}
 use Rattle.sk_guesses.specs.Opens.{depending}
 use Rattle.sk_guesses.proofs.Opens.{guess_of, set_after, done_more}

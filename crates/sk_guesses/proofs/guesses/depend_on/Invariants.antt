@@ -1,4 +1,4 @@
-use Rattle.std.proofs.Common.{◌≡◌, ◌<◌, ◌≤◌, ◌++◌, ℕ, map, length, take, drop}
+use Rattle.std.proofs.Common.{◌≡◌, ◌≤◌, ◌++◌, ℕ, map, length, take, drop}
 use Rattle.std.specs.Prelude.{slice_index_or}
 use Rattle.sk_guesses.specs.Opens.{depending}
 use Rattle.sk_guesses.specs.Room.{Listing}

@@ -1,6 +1,5 @@
 -- Room changes nothing that is seen.
-use Rattle.std.proofs.Common.{◌≡◌, ◌+◌, ◌<◌, ◌∙◌, length, length-set, sym, arith}
-use Rattle.std.specs.Prelude.{slice_set}
+use Rattle.std.proofs.Common.{◌+◌, ◌<◌, ◌∙◌, length, length-set, arith}
 use Rattle.sk_guesses.proofs.Opens.{set_same, ready_more}
 use Rattle.sk_guesses.proofs.guesses.make_room.Goals as goal
 

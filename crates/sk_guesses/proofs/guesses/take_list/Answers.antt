@@ -1,7 +1,6 @@
 -- The list at the place is the guess's, or there is none.
-use Rattle.std.proofs.Common.{◌≡◌, ◌<◌, ◌≤◌, length, ◌∙◌, ap, sym, arith}
+use Rattle.std.proofs.Common.{◌<◌, ◌≤◌, length, ◌∙◌, ap, arith}
 use Rattle.std.specs.List.{prefix_len}
-use Rattle.sk_guesses.specs.Room.{Listing}
 use Rattle.sk_guesses.proofs.Opens.{is_other, found, missing, none_taken, taken}
 use Rattle.sk_guesses.proofs.guesses.take_list.Goals as goal
 

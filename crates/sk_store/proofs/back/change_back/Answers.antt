@@ -1,4 +1,4 @@
-use Rattle.std.proofs.Common.{◌∙◌, rules}
+use Rattle.std.proofs.Common.{◌∙◌}
 use Rattle.sk_store.proofs.InPlace.{put_undone}
 use Rattle.sk_store.proofs.back.change_back.Goals as goal
 

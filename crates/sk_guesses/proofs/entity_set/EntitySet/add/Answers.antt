@@ -1,6 +1,6 @@
 -- The search tells the place.
 use Rattle.std.proofs.Common.{◌≡◌, ◌<◌, ◌≤◌, length, sym, ◌∙◌, ap, subst, arith}
-use Rattle.std.specs.Prelude.{slice_index_or, Result, Ok, Err}
+use Rattle.std.specs.Prelude.{Ok, Err}
 use Rattle.std.specs.List.Sorted.{IsStrictlySortedBy, IsBinarySearchResult}
 use Rattle.sk_ids.specs.Entity.{entity_cmp}
 use Rattle.sk_guesses.specs.EntitySet.{SetView, with_entity}

@@ -1,4 +1,4 @@
-use Rattle.std.proofs.Common.{◌≡◌, [], sym, subst}
+use Rattle.std.proofs.Common.{sym, subst}
 use Rattle.std.specs.List.Sorted.{IsStrictlySortedBy}
 use Rattle.sk_ids.specs.Entity.{entity_cmp}
 use Rattle.sk_guesses.proofs.entity_set.EntitySet.new.Goals as goal

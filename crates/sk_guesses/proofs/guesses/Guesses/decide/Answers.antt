@@ -1,9 +1,9 @@
 -- What is left is undecided still, and the list of the guess is gone.
-use Rattle.std.proofs.Common.{◌≡◌, ◌-◌, ◌<◌, ◌≤◌, ◌∙◌, [], Some, ℕ, ap, false, length, length-set, map, sym, subst, arith}
+use Rattle.std.proofs.Common.{◌≡◌, ◌-◌, ◌∙◌, Some, ap, false, length-set, map, sym, subst, arith}
 use Rattle.std.specs.Prelude.{slice_set}
 use Rattle.sk_record.specs.declared.status.Status.TheVariants.{Undecided}
 use Rattle.sk_guesses.specs.Guesses.{GuessesView, decided, status_since}
-use Rattle.sk_guesses.specs.Opens.{AreOpen, OpenGuess, dependents_of, open_in, but, not_resting, opens_of}
+use Rattle.sk_guesses.specs.Opens.{AreOpen, dependents_of, open_in, not_resting, opens_of}
 use Rattle.sk_guesses.specs.Room.{Roomy}
 use Rattle.sk_guesses.proofs.Opens.{guess_of, emptied, open_is, within, open_but, closed_list, closed_resting, struck_opens}
 use Rattle.sk_record.specs.UndoState.{not_struck}

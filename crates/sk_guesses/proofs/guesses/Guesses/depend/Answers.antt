@@ -1,12 +1,12 @@
 -- Numbers and tags stay.
-use Rattle.std.proofs.Common.{◌≡◌, ◌∙◌, ◌≤◌, ap, length, map, sym, subst, arith}
+use Rattle.std.proofs.Common.{◌≡◌, ◌∙◌, ap, length, map, sym, subst, arith}
 use Rattle.std.specs.Ordering.{nat_cmp}
 use Rattle.std.specs.List.Sorted.{IsStrictlySortedBy}
 use Rattle.sk_record.specs.UndoState.{numbers}
 use Rattle.sk_guesses.specs.Room.{Roomy}
 use Rattle.std.proofs.lemmas.List.{length-map}
 use Rattle.sk_guesses.specs.Guesses.{GuessesView}
-use Rattle.sk_guesses.specs.Opens.{OpenGuess, opens_of, depending}
+use Rattle.sk_guesses.specs.Opens.{opens_of, depending}
 use Rattle.sk_guesses.proofs.Opens.{guess_of, open_same, same_opens, depending_keeps}
 use Rattle.sk_guesses.proofs.guesses.Guesses.depend.Goals as goal
 

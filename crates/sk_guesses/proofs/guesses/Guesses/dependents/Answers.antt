@@ -1,8 +1,7 @@
 -- The list at the place is the guess's, or there is none.
-use Rattle.std.proofs.Common.{◌≡◌, ◌<◌, ◌≤◌, [], length, true, Some, ◌∙◌, ap, sym, subst, arith}
+use Rattle.std.proofs.Common.{◌≡◌, ◌<◌, ◌≤◌, length, true, Some, ◌∙◌, ap, subst, arith}
 use Rattle.std.specs.List.{prefix_len}
 use Rattle.std.specs.List.Sorted.{IsStrictlySortedBy}
-use Rattle.sk_ids.specs.Entity.{entity_cmp}
 use Rattle.sk_record.specs.Notes.{has}
 use Rattle.sk_record.specs.UndoState.{numbers}
 use Rattle.sk_record.specs.declared.status.Status.TheVariants.{Undecided}

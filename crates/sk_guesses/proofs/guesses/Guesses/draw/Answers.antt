@@ -2,11 +2,10 @@
 use Rattle.std.proofs.Common.{◌≡◌, ◌+◌, ◌≤◌, ◌∙◌, [], ◌∷◌, ◌++◌, true, length, length-append, map, refl, ap, sym, subst, arith}
 use Rattle.std.proofs.lemmas.List.{length-map, map-append}
 use Rattle.sk_record.specs.Notes.{has}
-use Rattle.sk_record.specs.declared.status.Status.TheVariants.{Undecided}
 use Rattle.sk_ids.specs.declared.guess.TheConstants.{LAST_GUESS}
 use Rattle.sk_guesses.specs.declared.guesses.TheConstants.{GUESS_LIMIT}
-use Rattle.sk_guesses.specs.Guesses.{GuessesView, drawn, is_full, next_of, undecided_of}
-use Rattle.sk_guesses.specs.Opens.{AreOpen, OpenGuess}
+use Rattle.sk_guesses.specs.Guesses.{GuessesView, drawn, next_of, undecided_of}
+use Rattle.sk_guesses.specs.Opens.{AreOpen}
 use Rattle.sk_guesses.specs.EntitySet.{SetView}
 use Rattle.sk_guesses.specs.Room.{Listing, Roomy}
 use Rattle.sk_guesses.proofs.Opens.{guess_of, counted, not_full, open_more}

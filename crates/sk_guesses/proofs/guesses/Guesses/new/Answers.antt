@@ -1,8 +1,5 @@
 -- None is drawn.
-use Rattle.std.proofs.Common.{◌≡◌, ℕ, [], List, ◌≤◌, length, false, map, refl, sym, ap, subst, arith}
-use Rattle.sk_record.specs.declared.status.Status.{Status}
-use Rattle.sk_guesses.specs.Opens.{AreOpen, OpenGuess}
-use Rattle.sk_guesses.specs.Room.{Listing}
+use Rattle.std.proofs.Common.{length, map, ap, arith}
 use Rattle.sk_guesses.proofs.Opens.{guess_of, none_open}
 use Rattle.sk_guesses.proofs.guesses.Guesses.new.Goals as goal
 

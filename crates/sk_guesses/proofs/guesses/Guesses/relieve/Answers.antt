@@ -1,7 +1,6 @@
 -- Numbers and tags stay.
-use Rattle.std.proofs.Common.{◌≡◌, ◌∙◌, ◌≤◌, ap, length, map, refl, sym, rules, arith}
-use Rattle.std.proofs.lemmas.List.{length-map}
-use Rattle.sk_guesses.specs.Opens.{OpenGuess, opens_of, relieved}
+use Rattle.std.proofs.Common.{◌≡◌, ◌∙◌, ap, map, rules, arith}
+use Rattle.sk_guesses.specs.Opens.{opens_of, relieved}
 use Rattle.sk_guesses.specs.Room.{Roomy}
 use Rattle.sk_guesses.proofs.Opens.{guess_of, all_in_turn, open_same, same_opens, relieved_keeps}
 use Rattle.sk_guesses.proofs.guesses.Guesses.relieve.Goals as goal

@@ -1,6 +1,5 @@
 -- None is open, and the statuses of the epoch are behind those of earlier ones.
-use Rattle.std.proofs.Common.{◌≡◌, ◌+◌, ◌≤◌, ◌++◌, ◌∙◌, [], List, ap, length, length-append, map, sym, arith}
-use Rattle.sk_record.specs.declared.status.Status.{Status}
+use Rattle.std.proofs.Common.{◌≡◌, ◌+◌, ◌++◌, ◌∙◌, ap, length, length-append, map, arith}
 use Rattle.sk_guesses.specs.Guesses.{GuessesView, undecided_of, settled}
 use Rattle.sk_guesses.specs.Room.{Roomy}
 use Rattle.sk_guesses.proofs.Opens.{guess_of, settled_open}

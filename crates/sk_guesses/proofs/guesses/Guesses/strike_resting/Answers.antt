@@ -1,5 +1,5 @@
 -- The statuses and the undecided guesses after the strikes.
-use Rattle.std.proofs.Common.{◌≡◌, ◌<◌, ◌≤◌, ◌+◌, ◌-◌, ◌∙◌, ℕ, false, List, Some, cond, ap, length, map, sym, subst, arith}
+use Rattle.std.proofs.Common.{◌≡◌, ◌<◌, ◌-◌, ◌∙◌, ℕ, false, List, Some, cond, ap, length, map, sym, subst, arith}
 use Rattle.std.specs.Prelude.{slice_index_or}
 use Rattle.std.specs.List.{list_any}
 use Rattle.sk_record.specs.Machine.{rests_on}
@@ -7,7 +7,7 @@ use Rattle.sk_record.specs.Notes.{has}
 use Rattle.sk_record.specs.declared.status.Status.{Status}
 use Rattle.sk_record.specs.declared.status.Status.TheVariants.{Struck}
 use Rattle.sk_guesses.specs.Guesses.{GuessesView, status_since}
-use Rattle.sk_guesses.specs.Opens.{AreOpen, OpenGuess, not_resting, opens_of, struck_by}
+use Rattle.sk_guesses.specs.Opens.{AreOpen, not_resting, opens_of, struck_by}
 use Rattle.sk_guesses.specs.Room.{Listing, Roomy}
 use Rattle.sk_guesses.proofs.Opens.{guess_of, in_range, open_drawn, open_struck, struck_are, struck_length}
 use Rattle.sk_guesses.proofs.Unstruck.{all_stay, none_rest}

@@ -1,7 +1,7 @@
 -- Numbers and tags stay.
-use Rattle.std.proofs.Common.{◌≡◌, ap, map, sym, subst, arith}
+use Rattle.std.proofs.Common.{map, sym, subst, arith}
 use Rattle.sk_guesses.specs.Guesses.{GuessesView}
-use Rattle.sk_guesses.specs.Opens.{AreOpen, OpenGuess}
+use Rattle.sk_guesses.specs.Opens.{AreOpen}
 use Rattle.sk_guesses.proofs.Opens.{guess_of, open_taken}
 use Rattle.sk_guesses.proofs.guesses.Guesses.take_dependents.Goals as goal
 

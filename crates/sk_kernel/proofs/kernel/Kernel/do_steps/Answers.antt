@@ -1,11 +1,9 @@
 -- The machine takes the process as it became, and stands for the trace with as many steps more.
-use Rattle.std.proofs.Common.{◌≡◌, ℕ, ◌+◌, ◌<◌, ◌≤◌, ◌^◌, Some, ◌++◌, length, refl, sym, ◌∙◌, ap, subst, arith, rules}
+use Rattle.std.proofs.Common.{◌≡◌, ◌+◌, ◌<◌, ◌≤◌, ◌^◌, ◌++◌, sym, ◌∙◌, ap, subst, arith, rules}
 use Rattle.std.specs.Prelude.{replicate}
 use Rattle.sk_ids.specs.declared.entity.Entity.TheVariants.{Proc}
-use Rattle.sk_script.specs.Lease.{after_private}
 use Rattle.sk_store.specs.Processes.{IsProcess}
 use Rattle.sk_undo.specs.Logs.{look_at}
-use Rattle.sk_trace.specs.declared.event.Event.{Event}
 use Rattle.sk_machine.specs.HandsIn.{HandsInProcess}
 use Rattle.sk_machine.proofs.Given.{from_ok, from_err}
 use Rattle.sk_kernel.specs.Kernel.{KernelView, room}

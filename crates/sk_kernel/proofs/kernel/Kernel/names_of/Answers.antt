@@ -1,5 +1,5 @@
 -- The names that the machine counts are those of the trace's state.
-use Rattle.std.proofs.Common.{◌≡◌, Option, sym, subst, ap, ◌∙◌}
+use Rattle.std.proofs.Common.{◌≡◌, Option, subst, ap, ◌∙◌}
 use Rattle.std.specs.FinMap as map
 use Rattle.sk_ids.specs.declared.entity.Entity.{Entity}
 use Rattle.sk_store.specs.declared.entity_state.EntityState.{EntityState}

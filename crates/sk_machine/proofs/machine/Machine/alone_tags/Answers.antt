@@ -1,10 +1,9 @@
 -- The guesses of the process and of its signals are those of its private instructions.
-use Rattle.std.proofs.Common.{◌≡◌, ℕ, ◌||◌, List, [], ◌∷◌, ap, sym, subst, ◌∙◌}
+use Rattle.std.proofs.Common.{◌||◌, [], ◌∷◌, ap, sym, subst, ◌∙◌}
 use Rattle.std.specs.Ordering.{nat_cmp}
 use Rattle.std.specs.List.Sorted.{IsStrictlySortedBy}
 use Rattle.sk_record.specs.Notes.{has}
 use Rattle.sk_plain.specs.Leased.{alone_reads}
-use Rattle.sk_ids.specs.declared.entity.Entity.{Entity}
 use Rattle.sk_ids.specs.declared.entity.Entity.TheVariants.{Proc, Sig}
 use Rattle.sk_machine.specs.Parts.{any_rests}
 use Rattle.sk_machine.proofs.Given.{if_ok}

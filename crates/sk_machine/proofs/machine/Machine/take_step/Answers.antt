@@ -1,5 +1,5 @@
 -- What rests on just what its process does leaves the lists as they are; the rest is as for any step.
-use Rattle.std.proofs.Common.{◌≡◌, List, None, Ok, refl, ◌∙◌, subst, sym}
+use Rattle.std.proofs.Common.{◌≡◌, None, Ok, refl, ◌∙◌, subst, sym}
 use Rattle.std.specs.Ordering.{nat_cmp}
 use Rattle.std.specs.List.Sorted.{IsStrictlySortedBy}
 use Rattle.std.proofs.lemmas.List.{append-nil}
@@ -11,7 +11,7 @@ use Rattle.sk_trace.specs.Kept.{input_in}
 use Rattle.sk_trace.specs.Entry.{EntryView}
 use Rattle.sk_undo.specs.Logs.{look_at}
 use Rattle.sk_plain.specs.Act.{act, plain}
-use Rattle.sk_plain.specs.Planned.{IsBeside, effect_of, writes_of}
+use Rattle.sk_plain.specs.Planned.{effect_of, writes_of}
 use Rattle.sk_plain.specs.Seen.{CanPerform, seen_with}
 use Rattle.sk_machine.specs.Dependents.{AllExact, tags_in}
 use Rattle.sk_machine.specs.Parts.{Parts, machine_of, undo_state_of}

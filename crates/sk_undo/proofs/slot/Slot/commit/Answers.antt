@@ -1,4 +1,4 @@
-use Rattle.std.proofs.Common.{◌≡◌, [], None, ◌∙◌, ap, sym, subst, rules}
+use Rattle.std.proofs.Common.{◌≡◌, [], None, ◌∙◌, ap, sym, subst}
 use Rattle.std.specs.Prelude.{reverse}
 use Rattle.sk_undo.specs.Log.{seen, CanGoBack, joined_from}
 use Rattle.sk_store.specs.Changed.{StateFits, state_undone}

@@ -1,5 +1,5 @@
 -- The process is as it was after the change of the other entity.
-use Rattle.std.proofs.Common.{◌≡◌, ap, sym, subst, ◌∙◌, Some}
+use Rattle.std.proofs.Common.{ap, sym, subst, ◌∙◌, Some}
 use Rattle.sk_ids.specs.declared.entity.Entity.TheVariants.{Proc}
 use Rattle.sk_store.specs.Changed.{changed}
 use Rattle.sk_store.specs.Processes.{CanBecome, became}

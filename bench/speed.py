@@ -202,6 +202,9 @@ def held_rounds(count, decision, held, amount):
         others, before, drawn = [("other", ["fetch /x"] + looping(["set r0 1"], 64), [(2, 2)])], ["guess 2 good"] + ["step 2 none"] * amount, 1
     if held == "noted files":
         others, before, drawn = [("other", ["fetch /x"] + looping(["mkfile r1"], 64), [(2, 2)])], ["guess 2 good"] + ["step 2 none"] * amount, 1
+    if held == "files, one guess open":
+        makers = ("maker", looping(["mkfile r1"], 64), [(3, 3)])
+        others, before, drawn = [("other", ["fetch /x"], [(2, 2)]), makers], ["step 3 none"] * amount + ["guess 2 good"], 1
     if held == "files":
         others, before = [("other", looping(["mkfile r1"], 64), [(2, 2)])], ["step 2 none"] * amount
     if held == "waiting texts":
@@ -225,11 +228,13 @@ def held_rows(meter):
         lines = 3 if decision == "commit" else 2
         cost = lambda held, amount: meter.each(lambda n: held_rounds(n, decision, held, amount), 100, 200, lines)
         none, costs = cost("files", 0), {}
-        for held in ("notes", "noted files", "files", "waiting texts", "waiting texts there", "terminals", "open guesses"):
+        for held in ("notes", "noted files", "files", "files, one guess open", "waiting texts", "waiting texts there", "terminals", "open guesses"):
             amount = 62 if held == "open guesses" else 1000
             costs[held] = cost(held, amount)
             yield f"guess and {decision}: {amount} {held} held / none", costs[held], none, limits.get(held, LOOSE)
-        yield f"guess and {decision}: 1000 noted files / 1000 files", costs["noted files"], costs["files"], BESIDE_OTHERS
+        # one guess of another process is open on both sides: 1,000 files rest on it on the left, none on the right
+        yield f"guess and {decision}: 1000 noted files / 1000 files, one guess open", costs["noted files"], costs["files, one guess open"], BESIDE_OTHERS
+        yield f"guess and {decision}: 1000 noted files / 1000 files, no guess open", costs["noted files"], costs["files"], LOOSE
 
 
 def nested(count, decision, kind):

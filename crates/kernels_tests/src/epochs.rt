@@ -115,6 +115,7 @@ fn begins_as_before(rt: &impl Abort, kernel: &mut Kernel) -> Result<(), Fail> {
     let before = kernel.opening().copy()?;
     assert!(rt; kernel.new_epoch().is_ok());
     assert!(rt; *kernel.opening() == before);
+    assert_eq!(rt; kernel.trace().events().len(), 0);
     Ok(())
 }
 
@@ -122,9 +123,7 @@ fn begins_as_before(rt: &impl Abort, kernel: &mut Kernel) -> Result<(), Fail> {
 #[test]
 fn epoch_after_the_boot(rt: HostRuntime) -> Result<(), Fail> {
     let mut kernel = kernel_of(rt.alloc(), one_process(&[(b"say\n", 1)], 10))?;
-    begins_as_before(&rt, &mut kernel)?;
-    assert_eq!(rt; kernel.trace().events().len(), 0);
-    Ok(())
+    begins_as_before(&rt, &mut kernel)
 }
 
 /// A guess, its decision and a new epoch.

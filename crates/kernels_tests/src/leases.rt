@@ -63,21 +63,29 @@ fn place_of(kernel: &Kernel, pid: Pid) -> Option<u32> {
     }
 }
 
-/// What the hand-in of process 1 comes to, how many events there are then, and where it stands.
+/// What the hand-in of a process comes to, how many events there are then, and where it stands.
+fn outcome(
+    rt: &impl Abort,
+    kernel: &mut Kernel,
+    leased: Pid,
+    between: Pid,
+    steps: u32,
+) -> Result<AfterHandIn, Fail> {
+    let answer = hands_in(rt, kernel, leased, between, steps)?;
+    let events = kernel.trace().events().len();
+    Ok((answer, events, place_of(kernel, leased)))
+}
+
+/// The same of process 1 in a new kernel.
 fn handed_in(
     rt: &impl Abort,
     alloc: Global,
     between: u16,
     steps: u32,
 ) -> Result<AfterHandIn, Fail> {
-    let leased = pid(1)?;
+    let (leased, between) = (pid(1)?, pid(between)?);
     let mut kernel = kernel(alloc)?;
-    let answer = hands_in(rt, &mut kernel, leased, pid(between)?, steps)?;
-    Ok((
-        answer,
-        kernel.trace().events().len(),
-        place_of(&kernel, leased),
-    ))
+    outcome(rt, &mut kernel, leased, between, steps)
 }
 
 #[test]

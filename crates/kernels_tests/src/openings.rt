@@ -18,10 +18,15 @@ const START: Start<'static> = Start {
 /// The opening of a kernel with so many events.
 fn opening_after(alloc: Global, start: Start<'_>, steps: usize) -> Result<Opening, Fail> {
     let mut kernel = kernel_of(alloc, start)?;
-    for _ in 0..steps {
-        say_once(&mut kernel)?;
-    }
+    say(&mut kernel, steps)?;
     Ok(opening_of(&kernel)?)
+}
+
+fn say(kernel: &mut Kernel, steps: usize) -> Result<(), Fail> {
+    for _ in 0..steps {
+        say_once(kernel)?;
+    }
+    Ok(())
 }
 
 fn say_once(kernel: &mut Kernel) -> Result<(), Fail> {
@@ -72,10 +77,15 @@ fn openings_that_differ(rt: HostRuntime) -> Result<(), Fail> {
 fn plain_after(alloc: Global, steps: usize) -> Result<Plain, Fail> {
     let boot = boot_of(alloc, START)?;
     let mut plain = Plain::boot(alloc, &boot)?;
-    for _ in 0..steps {
-        step_once(&mut plain)?;
-    }
+    step(&mut plain, steps)?;
     Ok(plain)
+}
+
+fn step(plain: &mut Plain, steps: usize) -> Result<(), Fail> {
+    for _ in 0..steps {
+        step_once(plain)?;
+    }
+    Ok(())
 }
 
 fn step_once(plain: &mut Plain) -> Result<(), Fail> {
@@ -89,15 +99,21 @@ fn is_after(alloc: Global, plain: &Plain, steps: usize) -> Result<bool, Fail> {
     Ok(*plain == other)
 }
 
+/// Whether it is the one after so many steps, after one more and after two more.
+fn compared(alloc: Global, plain: &Plain, steps: usize) -> Result<[bool; 3], Fail> {
+    let same = is_after(alloc, plain, steps)?;
+    let next = is_after(alloc, plain, steps.saturating_add(1))?;
+    let later = is_after(alloc, plain, steps.saturating_add(2))?;
+    Ok([same, next, later])
+}
+
 /// Every second step leaves the process where it was, with one text more.
 #[test]
 fn plain_kernels_that_differ_in_one_text(rt: HostRuntime) -> Result<(), Fail> {
     for steps in [0, 1, 2, 3] {
         let plain = plain_after(rt.alloc(), steps)?;
-        let same = is_after(rt.alloc(), &plain, steps)?;
-        let next = is_after(rt.alloc(), &plain, steps + 1)?;
-        let later = is_after(rt.alloc(), &plain, steps + 2)?;
-        assert_eq!(rt; (same, next, later), (true, false, false));
+        let told = compared(rt.alloc(), &plain, steps)?;
+        assert_eq!(rt; told, [true, false, false]);
     }
     Ok(())
 }

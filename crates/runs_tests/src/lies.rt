@@ -99,7 +99,34 @@ fn is_void(reckoning: &Reckoning, trace: &Trace, request: &Request) -> bool {
     ))
 }
 
-impl DeskTalk<'_> {
+impl<'a> DeskTalk<'a> {
+    fn new(alloc: Global, declarations: &'a Declarations) -> DeskTalk<'a> {
+        DeskTalk {
+            alloc,
+            declarations,
+            sent: VecDeque::new(alloc),
+            taken: 0,
+            asked: Vec::new(alloc),
+            course: Course::new(alloc),
+            hand_ins: Tally::default(),
+        }
+    }
+
+    /// So many things happen.
+    fn go_on(
+        &mut self,
+        desk: &mut Desk,
+        rng: &mut Pcg32,
+        count: u32,
+        out: &mut Option<Lease>,
+    ) -> Result<(), Finding> {
+        let mut reckoning = self.judge(desk)?;
+        for _ in 0..count {
+            reckoning = self.happen(desk, rng, &reckoning, out)?;
+        }
+        Ok(())
+    }
+
     /// The number of the request whose reply is due.
     fn due(&self) -> u64 {
         match self.sent.front() {
@@ -323,23 +350,27 @@ fn talk_to(
     count: u32,
     out: &mut Option<Lease>,
 ) -> Result<Talked, Finding> {
-    let mut talk = DeskTalk {
-        alloc,
-        declarations,
-        sent: VecDeque::new(alloc),
-        taken: 0,
-        asked: Vec::new(alloc),
-        course: Course::new(alloc),
-        hand_ins: Tally::default(),
-    };
-    let mut reckoning = talk.judge(desk)?;
-    for _ in 0..count {
-        reckoning = talk.happen(desk, rng, &reckoning, out)?;
-    }
+    let mut talk = DeskTalk::new(alloc, declarations);
+    talk.go_on(desk, rng, count, out)?;
     Ok(Talked {
         replied: talk.course.replied(),
         hand_ins: talk.hand_ins,
     })
+}
+
+/// A desk of what is declared, to which 20 things or more happen.
+fn desk_of(alloc: Global, rng: &mut Pcg32, declarations: &Declarations) -> Result<Talked, Finding> {
+    let (boot, limit) = (declarations.boot(), declarations.limit());
+    let kernel = Kernel::boot(alloc, declarations.number(), boot, limit)?;
+    let mut desk = Desk::new(alloc, kernel);
+    let count = 20 + rng.next_u32() % 60;
+    let mut out = None;
+    let told = talk_to(alloc, declarations, &mut desk, rng, count, &mut out);
+    if let Some(lease) = out {
+        lease.give_up();
+    }
+    desk.abandon();
+    told
 }
 
 /// The desk of a number.
@@ -347,18 +378,7 @@ fn desk(alloc: Global, number: u64, kind: ScenarioKind) -> Result<Talked, Findin
     let mut rng = Pcg32::new(number, 5);
     let text = scenario(alloc, &mut rng, kind)?;
     let scenario = Scenario::parse(alloc, &text)?;
-    let declarations = &scenario.declarations;
-    let (boot, limit) = (declarations.boot(), declarations.limit());
-    let kernel = Kernel::boot(alloc, declarations.number(), boot, limit)?;
-    let mut desk = Desk::new(alloc, kernel);
-    let count = 20 + rng.next_u32() % 60;
-    let mut out = None;
-    let told = talk_to(alloc, declarations, &mut desk, &mut rng, count, &mut out);
-    if let Some(lease) = out {
-        lease.give_up();
-    }
-    desk.abandon();
-    told
+    desk_of(alloc, &mut rng, &scenario.declarations)
 }
 
 /// So many desks from a number on, in each of which nothing is found; some requests in them have

@@ -163,13 +163,19 @@ fn any(rng: &mut Pcg32, words: &[&'static str]) -> &'static str {
     }
 }
 
+/// Writes a letter, or an operand for a capital one.
+fn letter(rng: &mut Pcg32, byte: u8, text: &mut Vec<u8>) -> Result<(), AllocError> {
+    match operands(byte) {
+        [] => text.push(byte)?,
+        words => text.extend_from_slice(any(rng, words).as_bytes())?,
+    }
+    Ok(())
+}
+
 /// Writes a line, with an operand for each capital letter.
 fn line(rng: &mut Pcg32, template: &str, text: &mut Vec<u8>) -> Result<(), AllocError> {
     for byte in template.as_bytes() {
-        match operands(*byte) {
-            [] => text.push(*byte)?,
-            words => text.extend_from_slice(any(rng, words).as_bytes())?,
-        }
+        letter(rng, *byte, text)?;
     }
     text.push(b'\n')?;
     Ok(())

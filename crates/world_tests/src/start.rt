@@ -30,22 +30,40 @@ fn script_of(number: u16) -> Result<Name, Fail> {
     Ok(name(&[b's', b'0' + tens, b'0' + ones])?)
 }
 
+/// Declares a script.
+fn declares_script(alloc: Global, boot: &mut Boot, name: Name, text: &[u8]) -> Result<(), Fail> {
+    let script = Script::parse(alloc, text)?;
+    Ok(boot.script(name, script)?)
+}
+
 /// Declares the process after this one, with its script and a terminal of its own.
 fn declares(alloc: Global, boot: &mut Boot, before: u16, script: &[u8]) -> Result<(), Fail> {
     let number = before.checked_add(1).ok_or("number")?;
     let name = script_of(number)?;
-    boot.script(name, Script::parse(alloc, script)?)?;
+    declares_script(alloc, boot, name, script)?;
     Ok(boot.process(number, &name, number)?)
+}
+
+/// Declares the cached copy.
+fn declares_copy(boot: &mut Boot, copy: Option<Version<'_>>) -> Result<(), Fail> {
+    if let Some((at, version, bytes)) = copy {
+        boot.copy(name(at)?, content(version, bytes)?)?;
+    }
+    Ok(())
+}
+
+/// Declares all.
+fn declares_all(alloc: Global, boot: &mut Boot, start: Start<'_>) -> Result<(), Fail> {
+    declares_copy(boot, start.copy)?;
+    for (script, before) in start.scripts.iter().zip(0..u16::MAX) {
+        declares(alloc, boot, before, script)?;
+    }
+    Ok(())
 }
 
 fn boot_of(alloc: Global, start: Start<'_>) -> Result<Boot, Fail> {
     let mut boot = Boot::new(alloc);
-    if let Some((at, version, bytes)) = start.copy {
-        boot.copy(name(at)?, content(version, bytes)?)?;
-    }
-    for (script, before) in start.scripts.iter().zip(0..u16::MAX) {
-        declares(alloc, &mut boot, before, script)?;
-    }
+    declares_all(alloc, &mut boot, start)?;
     Ok(boot)
 }
 

@@ -231,10 +231,11 @@ def held_rows(meter):
         for held in ("notes", "noted files", "files", "files, one guess open", "waiting texts", "waiting texts there", "terminals", "open guesses"):
             amount = 62 if held == "open guesses" else 1000
             costs[held] = cost(held, amount)
-            yield f"guess and {decision}: {amount} {held} held / none", costs[held], none, limits.get(held, LOOSE)
+            if held != "files, one guess open":
+                yield f"guess and {decision}: {amount} {held} held / none", costs[held], none, limits.get(held, LOOSE)
         # one guess of another process is open on both sides: 1,000 files rest on it on the left, none on the right
         yield f"guess and {decision}: 1000 noted files / 1000 files, one guess open", costs["noted files"], costs["files, one guess open"], BESIDE_OTHERS
-        yield f"guess and {decision}: 1000 noted files / 1000 files, no guess open", costs["noted files"], costs["files"], LOOSE
+        yield f"guess and {decision}: 1000 noted files / 1000 files, no guess open", costs["noted files"], costs["files"], BESIDE_OTHERS
 
 
 def nested(count, decision, kind):

@@ -14,24 +14,26 @@ use Rattle.sk_record.specs.Notes.{has}
 use Rattle.sk_record.specs.UndoState.{IsTidy, Open, numbers, step_tags}
 use Rattle.sk_ids.specs.Entity.{entity_cmp}
 use Rattle.sk_ids.specs.declared.entity.Entity.{Entity}
-use Rattle.sk_ids.specs.declared.entity.Entity.TheVariants.{Proc}
+use Rattle.sk_ids.specs.declared.entity.Entity.TheVariants.{Proc, Sig}
 use Rattle.sk_ids.proofs.Entities.{entity_total}
 use Rattle.sk_guesses.specs.Opens.{OpenGuess, opens_of}
 use Rattle.sk_guesses.proofs.Places.{tied_is}
 use Rattle.sk_script.specs.declared.instruction.Input.{Input}
+use Rattle.sk_script.specs.declared.instruction.Input.TheVariants as inputs
 use Rattle.sk_store.specs.declared.entity_state.EntityState.{EntityState}
 use Rattle.sk_undo.specs.Log.{is_empty}
 use Rattle.sk_undo.specs.Logs.{SlotMap, look_at}
 use Rattle.sk_undo.specs.Decisions.{undo_state}
-use Rattle.sk_plain.specs.Plan.{PlanView, LooksView}
+use Rattle.sk_plain.specs.Plan.{PlanView, LooksView, Nowhere}
 use Rattle.sk_plain.specs.Act.{Scripts}
 use Rattle.sk_plain.specs.Planned.{looked_at, read_by, signals_read, written_by, writes_of}
 use Rattle.sk_plain.specs.Seen.{looked, looks_of, seen_with, written_in}
 use Rattle.sk_plain.specs.declared.plan.Plan.{Plan}
+use Rattle.sk_plain.specs.declared.plan.Plan.TheVariants.{Private}
 use Rattle.sk_plain.proofs.Plans.{written_is}
 use Rattle.sk_plain.proofs.Scan.{changed_are}
 use Rattle.sk_machine.proofs.Joins.{clean_of}
-use Rattle.sk_machine.specs.Dependents.{tags_in, with_tags, AllExact, Covers, RestAlike}
+use Rattle.sk_machine.specs.Dependents.{tags_in, with_tags, AllExact, Covers, IsEnough, RestAlike}
 use Rattle.sk_machine.specs.Parts.{Parts, undo_state_of, planned_effect}
 use Rattle.sk_machine.specs.Performed.{IsClean, Performed, entities_of}
 use Rattle.sk_machine.proofs.Listed.{exact_as, performed_exact}
@@ -154,6 +156,33 @@ module _ (m : SlotMap) (os : List Open) (tidy : IsTidy (undo_state m os)) where
 
   pub untagged : os ≡ [] → (e : Entity) → tags_in m e ≡ []
   untagged none e = nothing_at none e (tags_in m e) refl
+
+-- ---- where a process goes on with the guesses that it rests on
+open_count : (os : List Open) → length (numbers os) ≡ length os
+open_count [] = refl
+open_count (o ∷ os) = ap suc (open_count os)
+
+-- as many as are undecided are all
+pub all_enough : (m : SlotMap) (os : List Open) (pid all : ℕ) → IsTidy (undo_state m os) → IsStrictlySortedBy nat_cmp (numbers os) → all ≡ length os → IsEnough all pid m
+all_enough m os pid all tidy opens_rise count = λ many rises.
+    let tags = tags_in m (Proc pid) in
+    let known : (g : ℕ) → has g tags ≡ true → has g (numbers os) ≡ true = λ g here. tidy.known (Proc pid) g here in
+    let few = no_longer tags (numbers os) rises opens_rise known in
+    let len = open_count os in
+    let as_many : length tags ≡ length (numbers os) = omega arith in
+    open_covered m os tidy tags (Sig pid ∷ []) (as_long tags (numbers os) rises opens_rise known as_many)
+
+-- and any are where the signals rest on none
+pub none_enough : (m : SlotMap) (pid : ℕ) (own : List ℕ) → is_empty own ≡ true → own ≡ tags_in m (Sig pid) → IsEnough 0 pid m
+none_enough m pid own none is = λ _ _. none_within (tags_in m (Proc pid)) own (Sig pid) (tags_in m) none is
+
+pub reads_on : (pid : ℕ) (input : Input) (base : Entity → List ℕ) → Covers (base (Proc pid)) (Sig pid ∷ []) base → Covers (base (Proc pid)) (read_by pid input (looked (looks_of Private))) base
+reads_on pid input base signals = covers_reads (base (Proc pid)) pid input Nowhere base refl (when input) (covers_none (base (Proc pid)) base) where
+  when : (input : Input) → Covers (base (Proc pid)) (signals_read pid input) base
+  when inputs.None = signals
+  when inputs.Good = covers_none (base (Proc pid)) base
+  when (inputs.Fresh content) = covers_none (base (Proc pid)) base
+  when (inputs.Stale content) = covers_none (base (Proc pid)) base
 
 -- ---- the tags of the step
 covers_any : (tags : List ℕ) (base : Entity → List ℕ) (g : ℕ) (es : List Entity) → Covers tags es base → list_any (λ e. has g (base e)) es ≡ true → has g tags ≡ true

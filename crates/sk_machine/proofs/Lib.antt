@@ -6,3 +6,4 @@ pub mod Listed
 pub mod Becomes
 pub mod Alone
 pub mod AsProcess
+pub mod GoingOn

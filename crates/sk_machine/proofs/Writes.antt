@@ -23,18 +23,14 @@ use Rattle.sk_undo.specs.Logs.{SlotMap, LogsView, slot_in, look_at, log_at, slot
 use Rattle.sk_record.specs.Merged.{Merges, same_tags}
 use Rattle.sk_record.proofs.Merged.{all_kept, left_out, both_more, in_turn, none_left}
 use Rattle.sk_record.proofs.UndoStates.{and_both}
-use Rattle.sk_undo.proofs.SeenNotes.{none_reverse}
+use Rattle.sk_undo.proofs.SeenNotes.{newest_of, none_reverse}
 use Rattle.sk_undo.proofs.Passes.{placed_at}
-
-last_more : (t : List ℕ) (ns : List (Note EntityState)) (n : Note EntityState) → last_tags t (ns ++ n ∷ []) ≡ n.tags
-last_more t [] n = refl
-last_more t (x ∷ ns) n = last_more x.tags ns n
 
 -- a write that is not noted has the tags of the newest note
 unnoted_tags : (t : ℕ) (tags : List ℕ) (log : List (Note EntityState)) → goes_unnoted (t ∷ tags) log ≡ true → last_tags [] (reverse log) ≡ t ∷ tags
 unnoted_tags t tags [] h = absurd (true≢false (sym h))
 unnoted_tags t tags (n ∷ ns) h =
-    ap (last_tags []) (reverse_onto ns n []) ∙ last_more [] (reverse ns) n ∙ sym ((exact_bytes (t ∷ tags) n.tags).0 (and_both (is_whole n.before) (same_tags (t ∷ tags) n.tags) h).1)
+    newest_of n ns ∙ sym ((exact_bytes (t ∷ tags) n.tags).0 (and_both (is_whole n.before) (same_tags (t ∷ tags) n.tags) h).1)
 
 -- the log after a write
 noted_more : (tags : List ℕ) (before : Option EntityState) (log : List (Note EntityState)) → (tags ≡ [] → reverse log ≡ []) → Merges [] (reverse log ++ noted true tags before []) (reverse (noted_on tags before log))

@@ -1,10 +1,13 @@
 -- Lists of the entities that rest on each undecided guess.
-use Rattle.std.specs.Prelude.{◌≡◌, ◌⊎◌, ℕ, true, false, List, [], map, if◌then◌else◌}
+use Rattle.std.specs.Prelude.{◌≡◌, ◌⊎◌, ◌≤◌, ℕ, true, false, List, [], ◌∷◌, length, map, if◌then◌else◌}
 use Rattle.std.specs.List.{AllByRecursion}
+use Rattle.std.specs.List.Sorted.{IsStrictlySortedBy}
+use Rattle.std.specs.Ordering.{nat_cmp}
 use Rattle.sk_record.specs.Effects.{is_in}
 use Rattle.sk_record.specs.Notes.{has, last_tags}
 use Rattle.sk_ids.specs.Entity.{entity_cmp}
 use Rattle.sk_ids.specs.declared.entity.Entity.{Entity}
+use Rattle.sk_ids.specs.declared.entity.Entity.TheVariants.{Proc, Sig}
 use Rattle.sk_guesses.specs.Opens.{OpenGuess, depending}
 use Rattle.sk_undo.specs.Logs.{SlotMap, log_at}
 
@@ -39,3 +42,7 @@ RestAlike tags es before = (e : Entity) → is_in entity_cmp es e ≡ true → b
 -- an entity is added to the lists of these guesses, where it does not rest on all of them already
 abbrev pub Depends : List ℕ → List ℕ → Entity → List OpenGuess → List OpenGuess → Type 0
 Depends own tags e old new = (((g : ℕ) → has g tags ≡ true → has g own ≡ true) × (new ≡ old)) ⊎ (new ≡ map (depending tags e) old)
+
+-- a process that rests on at least so many guesses has signals that rest on none but these
+abbrev pub IsEnough : ℕ → ℕ → SlotMap → Type 0
+IsEnough least pid m = least ≤ length (tags_in m (Proc pid)) → IsStrictlySortedBy nat_cmp (tags_in m (Proc pid)) → Covers (tags_in m (Proc pid)) (Sig pid ∷ []) (tags_in m)

@@ -4,6 +4,7 @@
 #![tactic(auto)]
 
 mod alike;
+mod going_on;
 pub mod hand_in;
 mod lists;
 pub mod machine;

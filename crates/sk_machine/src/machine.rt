@@ -314,6 +314,36 @@ impl Machine {
         ensures guesses { self.new.guesses ≡ self.old.guesses }
         ensures err { OnErr result (self.new ≡ self.old) }
     {
+        if self.go_on(scripts, pid, input, plan) {
+            return Ok(());
+        }
+        self.take_tagged(scripts, pid, input, plan)
+    }
+
+    /// The same, of any kind. Without memory nothing has changed.
+    fn take_tagged(
+        &mut self,
+        scripts: &Scripts,
+        pid: Pid,
+        input: InputRef<'_>,
+        plan: &Plan,
+    ) -> Result<(), AllocError>
+        requires accepted { perform (look_at self.old.slots) (act scripts.now pid (input_in input))
+            ≡ Ok (effect_of (look_at self.old.slots) pid (input_in input)
+            (seen_with (look_at self.old.slots) scripts.now pid (input_in input) plan.now)) }
+        requires can { CanPerform (look_at self.old.slots) scripts.now pid (input_in input)
+            plan.now }
+        requires beside { IsBeside pid
+            (seen_with (look_at self.old.slots) scripts.now pid (input_in input) plan.now).beside }
+        requires tidy { IsTidy (undo_state_of self.old) }
+        requires rising { IsStrictlySortedBy nat_cmp (numbers self.old.opens) }
+        ensures ok { OnOk result
+            (MergedTakes (plain scripts.now) (machine_of self.old)
+            (record { pid = pid; input = (input_in input.entry); guess = None })
+            (machine_of self.new)) }
+        ensures guesses { self.new.guesses ≡ self.old.guesses }
+        ensures err { OnErr result (self.new ≡ self.old) }
+    {
         let alike = set_alike(
             &mut self.logs,
             &self.guesses,

@@ -113,8 +113,8 @@ impl<'a> Becoming for Filling<'a> {
 
 /// A process does its next instruction, which is private.
 #[derive(Clone, Copy)]
-pub(crate) struct Doing<'a> {
-    pub(crate) scripts: &'a Scripts,
+pub struct Doing<'a> {
+    pub scripts: &'a Scripts,
 }
 
 impl<'a> Becoming for Doing<'a> {

@@ -1,5 +1,5 @@
 -- Notes counted: as many are seen as are there, and none are counted exactly where no entity has one.
-use Rattle.std.proofs.Common.{◌≡◌, ℕ, ◌+◌, zero, suc, length, Bool, true, false, cond, ◌&&◌, List, [], ◌∷◌, Option, Some, None, refl, sym, ◌∙◌, ap, arith}
+use Rattle.std.proofs.Common.{◌≡◌, ℕ, ◌+◌, suc, length, Bool, true, false, cond, ◌&&◌, List, [], ◌∷◌, Option, Some, None, refl, sym, ◌∙◌, ap, arith}
 use Rattle.std.specs.Prelude.{◌↔◌, map as each, T, min, ◌-◌, ◌^◌, reverse}
 use Rattle.std.specs.List.{sum_by}
 use Rattle.std.specs.FinMap as map

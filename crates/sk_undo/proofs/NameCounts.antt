@@ -396,6 +396,10 @@ pub either_way : {A F P Q R : Type 0} (r : Result A F) → OnOk r P → OnErr r 
 either_way (Ok x) p q f g = f p
 either_way (Err why) p q f g = g q
 
+pub whether : {P Q R : Type 0} (b : Bool) → (b ≡ true → P) → (b ≡ false → Q) → (P → R) → (Q → R) → R
+whether true p q f g = f (p refl)
+whether false p q f g = g (q refl)
+
 -- a change of a value, and then of a process
 pub both_counted : (m n : SlotMap) (e : Entity) (names : NameMap) → IsCounted m names → (tags : List ℕ) (change : Change) → FitsAt (look_at m e) change → (pid : ℕ) (v : Option EntityState)
     → n ≡ slots_wrote tags (slots_wrote tags m e (Some (changed (look_at m e) change))) (Proc pid) v → IsCounted n names

@@ -13,7 +13,7 @@ use Rattle.sk_record.proofs.Merged.{past, same_last, grow_in, committed_some}
 use Rattle.sk_record.proofs.Tidy.{AllSome}
 use Rattle.sk_record.proofs.UndoStates.{and_both}
 use Rattle.sk_undo.specs.declared.log.Note.{Note as RawNote}
-use Rattle.sk_undo.specs.Log.{is_empty, log_of, seen, CanGoBack, undone_by, FitsBy, restores, newest_tags, lightened, dropped, Grows, goes_unnoted_raw, joined_from}
+use Rattle.sk_undo.specs.Log.{is_empty, log_of, CanGoBack, undone_by, FitsBy, restores, newest_tags, lightened, dropped, Grows, goes_unnoted_raw, joined_from}
 use Rattle.sk_undo.specs.Kept.{is_process_whole, process_changed_back, ProcessFits, was, run_of, runs_of, AllSet, is_apart}
 use Rattle.sk_undo.proofs.SeenNotes.{tags_seen, all_reverse, grow_cut}
 use Rattle.sk_undo.proofs.Commits.{value_before, in_order, order_is, commit_seen, grow_commit}

@@ -220,14 +220,14 @@ module _ {V : Type 0} where
   last_onto tags [] n = refl
   last_onto tags (x ∷ ns) n = last_onto x.tags ns n
 
+  pub newest_of : (n : Note V) (ns : List (Note V)) → last_tags [] (reverse (n ∷ ns)) ≡ n.tags
+  newest_of n ns = ap (last_tags []) (reverse_onto ns n []) ∙ last_onto [] (reverse ns) n
+
 -- the tags of the newest note are those of the last that is seen
 module _ {U V : Type 0} (undone : U → Option V → Option V) where
   pub tags_seen : (now : Option V) (rs : List (RawNote U)) → newest_tags rs ≡ last_tags [] (reverse (seen undone now rs))
   tags_seen now [] = refl
-  tags_seen now (r ∷ rs) =
-      let n : Note V = record { tags = r.tags; before = undone r.undo now } in
-      let ns = seen undone (undone r.undo now) rs in
-      sym (ap (last_tags []) (reverse_onto ns n []) ∙ last_onto [] (reverse ns) n)
+  tags_seen now (r ∷ rs) = sym (newest_of (record { tags = r.tags; before = undone r.undo now }) (seen undone (undone r.undo now) rs))
 
 pub has_note : {U : Type 0} (g : ℕ) (rs : List (RawNote U)) → rests_last g rs ≡ true → HasNote rs
 has_note g [] here = absurd (true≢false (sym here))

@@ -1,16 +1,22 @@
 -- Where the newest note puts back what was there whatever stands there now, the log is the same over any value.
-use Rattle.std.proofs.Common.{◌≡◌, ℕ, true, ◌&&◌, List, [], ◌∷◌, Option, Some, None, refl, sym, ap, subst}
+use Rattle.std.proofs.Common.{◌≡◌, ℕ, ◌≤◌, length, true, cond, ◌&&◌, List, [], ◌∷◌, Option, Some, None, refl, sym, ◌∙◌, ap, subst, arith}
+use Rattle.std.specs.Prelude.{reverse, nat_le}
 use Rattle.std.specs.Cmp.{first_so}
+use Rattle.std.proofs.lemmas.Bool.{eqb-true, leb-true}
+use Rattle.sk_ids.proofs.Same.{exact_bytes}
+use Rattle.sk_record.specs.Notes.{Note, last_tags}
+use Rattle.sk_record.proofs.UndoStates.{and_both}
 use Rattle.sk_record.specs.Merged.{same_tags}
 use Rattle.sk_store.specs.declared.entity_state.EntityState.{EntityState}
 use Rattle.sk_store.specs.declared.entity_state.EntityState.TheVariants as stored
 use Rattle.sk_store.specs.declared.back.PutBack.{PutBack}
 use Rattle.sk_store.specs.declared.back.PutBack.TheVariants.{Was, Changed}
 use Rattle.sk_undo.specs.declared.log.Note.{Note as RawNote}
-use Rattle.sk_undo.specs.Log.{seen, CanGoBack, restores, goes_unnoted_raw}
+use Rattle.sk_undo.specs.Log.{seen, CanGoBack, restores, goes_on_raw, goes_unnoted_raw}
 use Rattle.sk_store.specs.Changed.{StateFits, state_undone}
-use Rattle.sk_undo.specs.Slot.{undone, Fits, is_process, is_whole, goes_unnoted, is_stable, is_stable_raw}
+use Rattle.sk_undo.specs.Slot.{undone, Fits, is_process, is_whole, goes_on, goes_unnoted, noted_on, is_stable, is_stable_raw}
 use Rattle.sk_undo.proofs.Joins.{same_undone, fits_any}
+use Rattle.sk_undo.proofs.SeenNotes.{newest_of}
 
 whole_is : (undo : PutBack EntityState) (now : Option EntityState) → Fits undo now → restores is_process undo ≡ is_whole (undone undo now)
 whole_is (Was v) now fits = refl
@@ -40,3 +46,32 @@ pub stable_can : (a b : Option EntityState) (rs : List (RawNote (PutBack EntityS
 stable_can a b [] h can = tt
 stable_can a b (r ∷ rs) h can =
     (fits_any is_process state_undone StateFits r.undo b h, subst (λ v. CanGoBack Fits undone v rs) (same_undone is_process state_undone StateFits r.undo a b h) can.1)
+
+-- ---- a write with the tags of the newest note
+
+pub on_seen : (least : ℕ) (now : Option EntityState) (rs : List (RawNote (PutBack EntityState))) → CanGoBack Fits undone now rs → goes_on_raw is_process least rs ≡ goes_on least (seen undone now rs)
+on_seen least now [] can = refl
+on_seen least now (r ∷ rs) can = ap (λ b. nat_le least (length r.tags) && b) (whole_is r.undo now can.0)
+
+pub on_stable : (least : ℕ) (rs : List (RawNote (PutBack EntityState))) → goes_on_raw is_process least rs ≡ true → is_stable_raw rs ≡ true
+on_stable least [] h = refl
+on_stable least (r ∷ rs) h = (and_both (nat_le least (length r.tags)) (restores is_process r.undo) h).1
+
+-- it is not noted
+on_unnoted : (least : ℕ) (log : List (Note EntityState)) → goes_on least log ≡ true → goes_unnoted (last_tags [] (reverse log)) log ≡ true
+on_unnoted least [] h = refl
+on_unnoted least (n ∷ ns) h =
+    let whole = (and_both (nat_le least (length n.tags)) (is_whole n.before) h).1 in
+    let same = (exact_bytes n.tags n.tags).1 refl in
+    subst (λ tags. goes_unnoted tags (n ∷ ns) ≡ true) (sym (newest_of n ns)) (λ i. whole i && same i)
+
+-- and there are so many
+pub on_many : (least : ℕ) (log : List (Note EntityState)) → goes_on least log ≡ true → least ≤ length (last_tags [] (reverse log))
+on_many least [] h = let none = eqb-true least 0 h in omega arith
+on_many least (n ∷ ns) h = subst (λ tags. least ≤ length tags) (sym (newest_of n ns)) (leb-true least (length n.tags) (and_both (nat_le least (length n.tags)) (is_whole n.before) h).0)
+
+pub on_wrote : (least : ℕ) (a b : Option EntityState) (rs : List (RawNote (PutBack EntityState))) → is_stable_raw rs ≡ true → goes_on least (seen undone a rs) ≡ true
+    → seen undone b rs ≡ noted_on (last_tags [] (reverse (seen undone a rs))) a (seen undone a rs)
+on_wrote least a b rs stable h =
+    let log = seen undone a rs in
+    stable_seen b a rs stable ∙ ap (λ t. cond t log (record { tags = last_tags [] (reverse log); before = a } ∷ log)) (sym (on_unnoted least log h))

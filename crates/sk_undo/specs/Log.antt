@@ -1,5 +1,5 @@
 -- The writes of one value, seen as the value before each.
-use Rattle.std.specs.Prelude.{◌≡◌, ◌<◌, ◌&&◌, ℕ, zero, suc, Bool, true, false, List, [], ◌∷◌, reverse, Option, Some, None, if◌then◌else◌}
+use Rattle.std.specs.Prelude.{◌≡◌, ◌<◌, ◌==◌, ◌&&◌, ℕ, zero, suc, Bool, true, false, nat_le, List, [], ◌∷◌, length, reverse, Option, Some, None, if◌then◌else◌}
 use Rattle.std.specs.List.{list_any, list_all}
 use Rattle.std.specs.declared.vec.Vec.{Vec}
 use Rattle.std.specs.Vec.{vec_len, vec_capacity}
@@ -122,6 +122,11 @@ module _ {V : Type 0} (whole : V → Bool) where
   abbrev pub goes_unnoted_raw : List ℕ → List (RawNote (PutBack V)) → Bool
   goes_unnoted_raw tags [] = is_empty tags
   goes_unnoted_raw tags (n ∷ ns) = stands_for n tags
+
+  -- whether a write with the tags of the newest of these notes is not noted, which are at least so many
+  abbrev pub goes_on_raw : ℕ → List (RawNote (PutBack V)) → Bool
+  goes_on_raw least [] = least == 0
+  goes_on_raw least (n ∷ ns) = nat_le least (length n.tags) && restores whole n.undo
 
   -- the same of the note before, where there is one
   abbrev pub is_covered : Option (RawNote (PutBack V)) → List ℕ → Bool

@@ -11,7 +11,7 @@ use Rattle.sk_store.specs.declared.back.PutBack.{PutBack}
 use Rattle.sk_undo.specs.declared.slots.TakeBack.{TakeBack}
 use Rattle.sk_undo.specs.declared.slots.TakeBack.TheVariants.{DropSlot, UndoLast}
 use Rattle.sk_undo.specs.contracts.slots.TakeBack as how_row
-use Rattle.sk_undo.specs.Slot.{SlotView, slot_code, slot_of, is_bare, goes_unnoted, slot_wrote, slot_back, CanGoBackOnce}
+use Rattle.sk_undo.specs.Slot.{SlotView, slot_code, slot_of, is_bare, goes_on, goes_unnoted, slot_wrote, slot_back, CanGoBackOnce}
 
 abbrev pub SlotMap : Type 0
 SlotMap = map.FinMap entity_cmp SlotView
@@ -42,6 +42,10 @@ slots_wrote tags m e v = placed m e (slot_wrote tags (slot_in (map.get m e)) v)
 -- whether a write of an entity with these tags is not noted
 abbrev pub is_unnoted : List ℕ → SlotMap → Entity → Bool
 is_unnoted tags m e = goes_unnoted tags (slot_in (map.get m e)).log
+
+-- whether a write of an entity with the tags that it has is not noted, which are at least so many
+abbrev pub goes_on_at : ℕ → SlotMap → Entity → Bool
+goes_on_at least m e = goes_on least (slot_in (map.get m e)).log
 
 -- what an entity had in a store, written without tags
 abbrev pub moved : SlotMap → Entity → Option EntityState → SlotMap

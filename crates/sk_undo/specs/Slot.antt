@@ -1,7 +1,7 @@
 -- What an entity has with its undo log, seen as the value now and the value before each note, the newest first.
-use Rattle.std.specs.Prelude.{◌≡◌, ℕ, Bool, true, false, ◌&&◌, List, [], ◌∷◌, Option, Some, None, is_none, refl, if◌then◌else◌}
+use Rattle.std.specs.Prelude.{◌≡◌, ◌==◌, ℕ, Bool, true, false, ◌&&◌, nat_le, List, [], ◌∷◌, length, reverse, Option, Some, None, is_none, refl, if◌then◌else◌}
 use Rattle.std.specs.Coded.{Coded, code_by, coded×, coded_ℕ, coded_list, coded_option}
-use Rattle.sk_record.specs.Notes.{Note}
+use Rattle.sk_record.specs.Notes.{Note, last_tags}
 use Rattle.sk_record.specs.Merged.{same_tags}
 use Rattle.sk_store.specs.declared.entity_state.EntityState.{EntityState}
 use Rattle.sk_store.specs.declared.entity_state.EntityState.TheVariants as stored
@@ -49,6 +49,15 @@ is_whole = is_whole_at is_process
 abbrev pub goes_unnoted : List ℕ → List (Note EntityState) → Bool
 goes_unnoted tags [] = is_empty tags
 goes_unnoted tags (n ∷ ns) = is_whole n.before && same_tags tags n.tags
+
+-- whether a write with the tags of the newest note is not noted, which are at least so many
+abbrev pub goes_on : ℕ → List (Note EntityState) → Bool
+goes_on least [] = least == 0
+goes_on least (n ∷ ns) = nat_le least (length n.tags) && is_whole n.before
+
+-- the tags of the newest note
+abbrev pub own_tags : SlotView → List ℕ
+own_tags s = last_tags [] (reverse s.log)
 
 -- the log after a write
 abbrev pub noted_on : List ℕ → Option EntityState → List (Note EntityState) → List (Note EntityState)

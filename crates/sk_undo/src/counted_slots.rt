@@ -3,7 +3,7 @@ ghost use Rattle.std.specs.Prelude.{◌≡◌, ◌≤◌, ◌<◌, ◌^◌, [], 
 ghost use Rattle.std.specs.Option.{option_copied, unwrap_or};
 ghost use Rattle.std.specs.FinMap as map;
 ghost use Rattle.std.specs.List.Sorted.{IsStrictlySortedBy};
-ghost use Rattle.std.specs.Ordering.{eq_by_cmp};
+ghost use Rattle.std.specs.Ordering.{eq_by_cmp, nat_cmp};
 ghost use Rattle.sk_ids.specs.Entity.{entity_cmp};
 ghost use Rattle.sk_ids.specs.declared.entity.Entity.{Entity};
 ghost use Rattle.sk_ids.specs.declared.entity.Entity.TheVariants.{Proc};
@@ -13,7 +13,7 @@ ghost use Rattle.sk_store.specs.Changed.{FitsAt, changed};
 ghost use Rattle.sk_store.specs.Names.{IsCount, name_there};
 ghost use Rattle.sk_store.specs.Processes.{CanBecome, became};
 ghost use Rattle.sk_undo.specs.Count.{notes_in};
-ghost use Rattle.sk_undo.specs.Logs.{look_at, log_at, is_unnoted, moved, slots_wrote, slots_back, CanTakeBack};
+ghost use Rattle.sk_undo.specs.Logs.{look_at, log_at, goes_on_at, is_unnoted, moved, slots_wrote, slots_back, CanTakeBack};
 ghost use Rattle.sk_undo.specs.Names.{IsCounted, count_for, link_there, recounted};
 ghost use Rattle.sk_undo.specs.Decisions.{ChangedAt, SlotUnwound, Unwound, Lightened, AreListed, AllRest, AllGrow, NoneBare};
 
@@ -254,6 +254,20 @@ impl CountedSlots {
         ensures err { OnErr result (self.new ≡ self.old) }
     {
         self.slots.change_both(entity, tags, change, pid, by)
+    }
+
+    /// Changes a process where it stands, if it rests on at least so many guesses and nothing need be noted of a write that
+    /// rests on just these. Answers whether; else nothing has changed. This takes no memory.
+    pub fn go_on<C: Becoming>(&mut self, pid: Pid, least: usize, by: &C) -> bool
+        requires { CanBecome (C.can by.now) (look_at self.old (Proc pid)) }
+        ensures exact { result ≡ goes_on_at least self.old (Proc pid) }
+        ensures wrote { result ≡ true
+            → self.new ≡ slots_wrote (last_tags [] (log_at self.old (Proc pid))) self.old
+            (Proc pid) (Some (became (C.after by.now) (look_at self.old (Proc pid)))) }
+        ensures rising { IsStrictlySortedBy nat_cmp (last_tags [] (log_at self.old (Proc pid))) }
+        ensures same { result ≡ false → self.new ≡ self.old }
+    {
+        self.slots.go_on(pid, least, by)
     }
 
     /// Takes the newest write back, which takes no memory.

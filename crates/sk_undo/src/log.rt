@@ -2,11 +2,13 @@
 ghost use Rattle.std.specs.Prelude.{◌≡◌, ◌≤◌, ◌<◌, ◌+◌, ◌++◌, ◌∷◌, [], Bool, true, false, length, take, drop, None, OnOk, OnErr, Option, IsOk, reverse};
 ghost use Rattle.std.specs.Vec.{vec_len, vec_capacity};
 ghost use Rattle.std.specs.List.{prefix_len, list_all};
+ghost use Rattle.std.specs.List.Sorted.{IsStrictlySortedBy};
+ghost use Rattle.std.specs.Ordering.{nat_cmp};
 ghost use Rattle.sk_record.specs.Notes.{unwound, cut};
 ghost use Rattle.sk_record.specs.UndoState.{IsGrowing};
 ghost use Rattle.sk_store.specs.declared.back.PutBack.{PutBack};
 ghost use Rattle.sk_undo.specs.declared.log.Note.{Note};
-ghost use Rattle.sk_undo.specs.Log.{is_empty, seen, log_of, CanGoBack, HasNote, HasRoom, before_last, less, rests_last, newest_tags, lightened, dropped, Grows, undone_by, FitsBy, restores, stands_for, goes_unnoted_raw, joined_from, repeats};
+ghost use Rattle.sk_undo.specs.Log.{is_empty, seen, log_of, CanGoBack, HasNote, HasRoom, before_last, less, rests_last, newest_tags, lightened, dropped, Grows, undone_by, FitsBy, restores, stands_for, goes_on_raw, goes_unnoted_raw, joined_from, repeats};
 
 use sk_changes::Undo;
 use sk_ids::{GuessId, TagSet};
@@ -197,6 +199,21 @@ impl<V: Logged> Log<V> {
         match self.notes.last() {
             Some(newest) => stands_for(newest, tags),
             None => tags.ids().is_empty(),
+        }
+    }
+
+    /// Whether a write with the tags of the newest note is not noted, which are at least so many: that note stands for it, or there
+    /// are no notes and no tags.
+    pub fn goes_on(&self, least: usize) -> bool
+        ensures exact { result
+            ≡ goes_on_raw V.is_whole least (reverse self.now.notes.items) }
+        ensures rising { IsStrictlySortedBy nat_cmp
+            (newest_tags (reverse self.now.notes.items)) }
+    {
+        let ids = self.tags().ids();
+        match self.notes.last() {
+            Some(newest) => ids.len() >= least && restores(&newest.undo),
+            None => least == 0,
         }
     }
 

@@ -1,11 +1,14 @@
 //! What performs the writes of steps, and notes what takes them back with the guesses that they rest on.
-ghost use Rattle.std.specs.Prelude.{◌≡◌, ◌↔◌, [], min, ◌-◌, ◌^◌, not, is_some, IfOk, OnOk, OnErr};
+ghost use Rattle.std.specs.Prelude.{◌≡◌, ◌↔◌, [], min, ◌-◌, ◌^◌, true, false, not, Some, is_some, IfOk, OnOk, OnErr};
 ghost use Rattle.std.specs.FinMap as map;
 ghost use Rattle.std.specs.List.Sorted.{IsStrictlySortedBy};
 ghost use Rattle.sk_ids.specs.Entity.{entity_cmp};
 ghost use Rattle.sk_ids.specs.declared.entity.Entity.{Entity};
-ghost use Rattle.sk_undo.specs.Logs.{look_at, log_at};
+ghost use Rattle.sk_ids.specs.declared.entity.Entity.TheVariants.{Proc};
+ghost use Rattle.sk_store.specs.Processes.{CanBecome, became};
+ghost use Rattle.sk_undo.specs.Logs.{look_at, log_at, goes_on_at, slots_wrote};
 ghost use Rattle.std.specs.Option.{option_copied, unwrap_or};
+ghost use Rattle.std.specs.Ordering.{nat_cmp};
 ghost use Rattle.sk_record.specs.Effects.{is_in};
 ghost use Rattle.sk_record.specs.Notes.{last_tags};
 ghost use Rattle.sk_undo.specs.Count.{AreUnnoted, notes_in};
@@ -153,6 +156,21 @@ impl Logs {
                 Ok(())
             }
         }
+    }
+
+    /// Changes a process where it stands, if it rests on at least so many guesses and nothing need be noted of a write that
+    /// rests on just these. Answers whether; else nothing has changed. This takes no memory.
+    pub fn go_on<C: Becoming>(&mut self, pid: Pid, least: usize, by: &C) -> bool
+        requires { CanBecome (C.can by.now) (look_at self.old.slots (Proc pid)) }
+        ensures exact { result ≡ goes_on_at least self.old.slots (Proc pid) }
+        ensures wrote { result ≡ true
+            → self.new.slots ≡ slots_wrote (last_tags [] (log_at self.old.slots (Proc pid))) self.old.slots
+            (Proc pid) (Some (became (C.after by.now) (look_at self.old.slots (Proc pid)))) }
+        ensures tags { self.new.tags ≡ self.old.tags }
+        ensures rising { IsStrictlySortedBy nat_cmp (last_tags [] (log_at self.old.slots (Proc pid))) }
+        ensures same { result ≡ false → self.new.slots ≡ self.old.slots }
+    {
+        self.slots.go_on(pid, least, by)
     }
 
     /// The tags of the next step.

@@ -1,6 +1,8 @@
 //! What an entity has, with its undo log.
-ghost use Rattle.std.specs.Prelude.{◌≡◌, [], OnOk, OnErr, IfOk, Some, None, is_none, true, not, ◌&&◌, length, reverse};
+ghost use Rattle.std.specs.Prelude.{◌≡◌, [], OnOk, OnErr, IfOk, Some, None, is_none, true, false, not, ◌&&◌, length, reverse};
+ghost use Rattle.std.specs.List.Sorted.{IsStrictlySortedBy};
 ghost use Rattle.std.specs.Option.{option_copied};
+ghost use Rattle.std.specs.Ordering.{nat_cmp};
 ghost use Rattle.sk_record.specs.Notes.{last_tags, unwound, cut, committed};
 ghost use Rattle.sk_record.specs.Merged.{Merges};
 ghost use Rattle.sk_record.specs.UndoState.{IsGrowing};
@@ -9,7 +11,7 @@ ghost use Rattle.sk_store.specs.Processes.{CanBecome, IsProcess, became};
 ghost use Rattle.sk_store.specs.declared.back.PutBack.TheVariants as PutBack;
 ghost use Rattle.sk_undo.specs.Count.{note_count};
 ghost use Rattle.sk_undo.specs.Log.{is_empty, seen, CanGoBack};
-ghost use Rattle.sk_undo.specs.Slot.{undone, Fits, is_bare, slot_of, slot_wrote, slot_back, CanGoBackOnce, goes_unnoted, is_stable_raw};
+ghost use Rattle.sk_undo.specs.Slot.{undone, Fits, is_bare, slot_of, slot_wrote, slot_back, CanGoBackOnce, goes_on, goes_unnoted, own_tags, is_stable_raw};
 
 use crate::{BoxedState, Log, put_back};
 use sk_changes::{Change, Undo};
@@ -56,6 +58,18 @@ fn goes_unnoted(tags: &TagSet, value: &Option<BoxedState>, log: &Log<BoxedState>
     ensures stable { result ≡ true → is_stable_raw (reverse log.now.notes.items) ≡ true }
 {
     log.goes_unnoted(tags)
+}
+
+/// Whether a write with the tags of the newest note is not noted, which are at least so many.
+fn goes_on(least: usize, value: &Option<BoxedState>, log: &Log<BoxedState>) -> bool
+    requires { CanGoBack Fits undone value.now (reverse log.now.notes.items) }
+    ensures exact { result
+        ≡ goes_on least (seen undone value.now (reverse log.now.notes.items)) }
+    ensures stable { result ≡ true → is_stable_raw (reverse log.now.notes.items) ≡ true }
+    ensures rising { IsStrictlySortedBy nat_cmp
+        (last_tags [] (reverse (seen undone value.now (reverse log.now.notes.items)))) }
+{
+    log.goes_on(least)
 }
 
 /// Whether there is neither a value nor a note.
@@ -272,6 +286,24 @@ impl Slot {
             unreachable!();
         }
         become_in(&mut self.value, by);
+    }
+
+    /// Changes the process that is there, where it stands, if it rests on at least so many guesses and nothing need be noted of
+    /// a write that rests on just these. Answers whether; else nothing has changed. This takes no memory.
+    pub fn go_on<C: Becoming>(&mut self, least: usize, by: &C) -> bool
+        requires { CanBecome (C.can by.now) self.old.now }
+        ensures exact { result ≡ goes_on least self.old.log }
+        ensures wrote { result ≡ true
+            → self.new ≡ slot_wrote (own_tags self.old) self.old
+            (Some (became (C.after by.now) self.old.now)) }
+        ensures rising { IsStrictlySortedBy nat_cmp (own_tags self.old) }
+        ensures same { result ≡ false → self.new ≡ self.old }
+    {
+        if !goes_on(least, &self.value, &self.log) {
+            return false;
+        }
+        become_in(&mut self.value, by);
+        true
     }
 
     /// Takes the newest write back, which takes no memory.

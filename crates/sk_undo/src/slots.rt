@@ -4,7 +4,7 @@ ghost use Rattle.std.specs.Option.{option_copied, option_copied_mut, unwrap_or};
 ghost use Rattle.std.specs.FinMap as map;
 ghost use Rattle.std.specs.List.Sorted.{IsStrictlySortedBy};
 ghost use Rattle.std.specs.Borrow.{LendsSo, sem};
-ghost use Rattle.std.specs.Ordering.{eq_by_cmp};
+ghost use Rattle.std.specs.Ordering.{eq_by_cmp, nat_cmp};
 ghost use Rattle.sk_ids.specs.Entity.{entity_cmp};
 ghost use Rattle.sk_ids.specs.declared.entity.Entity.{Entity};
 ghost use Rattle.sk_ids.specs.declared.entity.Entity.TheVariants.{Proc};
@@ -16,7 +16,7 @@ ghost use Rattle.sk_store.specs.Processes.{CanBecome, became};
 ghost use Rattle.sk_undo.specs.Count.{notes_in};
 ghost use Rattle.sk_undo.specs.Log.{is_empty};
 ghost use Rattle.sk_undo.specs.Slot.{slot_of, slot_wrote};
-ghost use Rattle.sk_undo.specs.Logs.{look_at, log_at, slot_in, is_unnoted, slots_wrote, slots_back, CanTakeBack};
+ghost use Rattle.sk_undo.specs.Logs.{look_at, log_at, slot_in, goes_on_at, is_unnoted, slots_wrote, slots_back, CanTakeBack};
 ghost use Rattle.sk_undo.specs.Decisions.{ChangedAt, SlotUnwound, SlotCommitted, IsWithin, Lightened, AreListed, AllRest, AllGrow, NoneBare};
 ghost use Rattle.sk_undo.specs.contracts.slots.Slots.{the_row as slots_row};
 ghost use Rattle.sk_undo.specs.contracts.slot.Slot.{the_row as slot_row};
@@ -331,6 +331,23 @@ impl Slots {
         self.change_alone(entity, tags, change)?;
         self.become_unnoted(pid, tags, by);
         Ok(())
+    }
+
+    /// Changes a process where it stands, if it rests on at least so many guesses and nothing need be noted of a write that
+    /// rests on just these. Answers whether; else nothing has changed. This takes no memory.
+    pub fn go_on<C: Becoming>(&mut self, pid: Pid, least: usize, by: &C) -> bool
+        requires { CanBecome (C.can by.now) (look_at self.old (Proc pid)) }
+        ensures exact { result ≡ goes_on_at least self.old (Proc pid) }
+        ensures wrote { result ≡ true
+            → self.new ≡ slots_wrote (last_tags [] (log_at self.old (Proc pid))) self.old
+            (Proc pid) (Some (became (C.after by.now) (look_at self.old (Proc pid)))) }
+        ensures rising { IsStrictlySortedBy nat_cmp (last_tags [] (log_at self.old (Proc pid))) }
+        ensures same { result ≡ false → self.new ≡ self.old }
+    {
+        match self.slot_mut(&Entity::Proc(pid)) {
+            Some(slot) => slot.go_on(least, by),
+            None => unreachable!(),
+        }
     }
 
     /// Takes the newest write back, which takes no memory.

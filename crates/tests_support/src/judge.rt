@@ -2,7 +2,7 @@
 use crate::finding::Finding;
 use sk_ids::Entity;
 use sk_kernel::Kernel;
-use sk_plain::{Plain, View, strike};
+use sk_plain::{Entry, Plain, Trace, View, strike};
 use sk_script::Boot;
 use std::alloc::Global;
 
@@ -53,12 +53,31 @@ pub fn judge_settled(alloc: Global, boot: &Boot, kernel: &Kernel) -> Result<(), 
     if kernel.undecided() > 0 {
         return Err(Finding::Undecided);
     }
+    let plain = plain_after(alloc, boot, kernel.trace())?;
+    judge_values(kernel, &plain)?;
+    judge_terminals(boot, kernel, &plain)
+}
+
+/// The plain kernel on a struck trace.
+fn plain_after(alloc: Global, boot: &Boot, trace: &Trace) -> Result<Plain, Finding> {
+    let entries = strike(alloc, boot, trace)?;
     let mut plain = Plain::boot(alloc, boot)?;
-    for entry in &strike(alloc, boot, kernel.trace())? {
+    take_all(&mut plain, &entries)?;
+    Ok(plain)
+}
+
+fn take_all(plain: &mut Plain, entries: &[Entry]) -> Result<(), Finding> {
+    for entry in entries {
         plain.step(entry.pid, &entry.input)?;
     }
-    for entity in &judge_present(kernel, &plain)? {
-        judge_value(kernel, &plain, entity)?;
+    Ok(())
+}
+
+/// Compares all that is there.
+fn judge_values(kernel: &Kernel, plain: &Plain) -> Result<(), Finding> {
+    let present = judge_present(kernel, plain)?;
+    for entity in &present {
+        judge_value(kernel, plain, entity)?;
     }
-    judge_terminals(boot, kernel, &plain)
+    Ok(())
 }

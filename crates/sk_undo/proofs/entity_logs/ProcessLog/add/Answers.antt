@@ -1,4 +1,4 @@
-use Rattle.std.proofs.Common.{◌≡◌, ◌++◌, ◌∷◌, [], subst, sym, ap, ◌∙◌, true}
+use Rattle.std.proofs.Common.{◌≡◌, ◌++◌, ◌∷◌, [], subst, sym, ap, ◌∙◌}
 use Rattle.sk_script.specs.declared.process.Process.{Process}
 use Rattle.sk_store.specs.declared.back.PutBack.{PutBack}
 use Rattle.sk_store.specs.declared.back.PutBack.TheVariants.{Was}

@@ -1,0 +1,58 @@
+-- What its step reads rests on what it rests on, and its log stays as it is.
+use Rattle.std.proofs.Common.{◌≡◌, true, false, None, Ok, refl, sym, ◌∙◌, subst}
+use Rattle.std.specs.Ordering.{nat_cmp}
+use Rattle.std.specs.List.Sorted.{IsStrictlySortedBy}
+use Rattle.std.specs.FinMap as map
+use Rattle.sk_record.specs.Step.{perform}
+use Rattle.sk_record.specs.UndoState.{IsTidy, numbers}
+use Rattle.sk_record.specs.Merged.{MergedTakes}
+use Rattle.sk_ids.specs.declared.entity.Entity.TheVariants.{Proc}
+use Rattle.sk_guesses.specs.Opens.{opens_of}
+use Rattle.sk_trace.specs.Entry.{EntryView}
+use Rattle.sk_trace.specs.Kept.{input_in}
+use Rattle.sk_undo.specs.Logs.{look_at, slot_in}
+use Rattle.sk_undo.proofs.Stable.{on_many}
+use Rattle.sk_plain.specs.Act.{act, plain}
+use Rattle.sk_plain.specs.Planned.{effect_of}
+use Rattle.sk_plain.specs.Seen.{seen_with}
+use Rattle.sk_plain.specs.declared.plan.Plan.{Plan}
+use Rattle.sk_machine.specs.Dependents.{AllExact, IsEnough, tags_in}
+use Rattle.sk_machine.specs.Parts.{Parts, machine_of, undo_state_of}
+use Rattle.sk_machine.proofs.GoingOn.{went_exact, went_on}
+use Rattle.sk_machine.proofs.machine.Machine.go_on.Goals as goal
+
+pub invariant_of-self : goal.invariant_of-self
+invariant_of-self c =
+    let m = c.self.inside.logs.slots in
+    let os = c.self.inside.guesses.opens in
+    let p : Parts = record { slots = m; opens = opens_of os; guesses = c.self.inside.guesses.view; texts = c.self.inside.terminals } in
+    let tidy = subst (λ (q : Parts). IsTidy (undo_state_of q)) (sym c.self.view_is) c.requires.tidy in
+    let opens_rise = subst (λ (q : Parts). IsStrictlySortedBy nat_cmp (numbers q.opens)) (sym c.self.view_is) c.requires.rising in
+    let enough = subst (λ (q : Parts). IsEnough c.in-Some.least c.args.pid q.slots) (sym c.self.view_is) c.in-Some.ensures in (
+      elim c.go_on.result as (λ b. c.go_on.result ≡ b → AllExact (tags_in c.go_on.new.self.slots) os) [
+        | true ↦ λ is.
+            let many = on_many c.in-Some.least (slot_in (map.get m (Proc c.args.pid))).log (sym c.go_on.ensures.exact ∙ is) in
+            went_exact p c.args.scripts.now c.args.pid (input_in c.args.input) tidy opens_rise c.go_on.ensures.rising (enough many c.go_on.ensures.rising) c.go_on.new.self.slots (c.go_on.ensures.wrote is) os c.self.invariant.0
+        | false ↦ λ no. subst (λ k. AllExact (tags_in k) os) (sym (c.go_on.ensures.same no)) c.self.invariant.0
+      ] refl,
+      c.self.invariant.1,
+    )
+
+pub returns-clause-takes : goal.returns-clause-takes
+returns-clause-takes c = λ is.
+    let scripts = c.args.scripts.now in
+    let pid = c.args.pid in
+    let input = input_in c.args.input in
+    let m = c.self.inside.logs.slots in
+    let os = c.self.inside.guesses.opens in
+    let p : Parts = record { slots = m; opens = opens_of os; guesses = c.self.inside.guesses.view; texts = c.self.inside.terminals } in
+    let b : Parts = record { slots = c.go_on.new.self.slots; opens = opens_of os; guesses = c.self.inside.guesses.view; texts = c.self.inside.terminals } in
+    let tidy = subst (λ (q : Parts). IsTidy (undo_state_of q)) (sym c.self.view_is) c.requires.tidy in
+    let opens_rise = subst (λ (q : Parts). IsStrictlySortedBy nat_cmp (numbers q.opens)) (sym c.self.view_is) c.requires.rising in
+    let enough = subst (λ (q : Parts). IsEnough c.in-Some.least pid q.slots) (sym c.self.view_is) c.in-Some.ensures in
+    let many = on_many c.in-Some.least (slot_in (map.get m (Proc pid))).log (sym c.go_on.ensures.exact ∙ is) in
+    let accepted = subst (λ (q : Parts). perform (look_at q.slots) (act scripts pid input) ≡ Ok (effect_of (look_at q.slots) pid input (seen_with (look_at q.slots) scripts pid input c.args.plan.now))) (sym c.self.view_is) c.requires.accepted in
+    let n : EntryView = record { pid = pid; input = input; guess = None } in
+    subst (λ (q : Parts). MergedTakes (plain scripts) (machine_of q) n (machine_of b)) c.self.view_is
+    (went_on p scripts pid input tidy opens_rise c.go_on.ensures.rising (enough many c.go_on.ensures.rising) c.go_on.new.self.slots (c.go_on.ensures.wrote is) b refl refl refl refl
+    (subst (λ (plan : Plan). perform (look_at m) (act scripts pid input) ≡ Ok (effect_of (look_at m) pid input (seen_with (look_at m) scripts pid input plan))) c.in-Private.is accepted))

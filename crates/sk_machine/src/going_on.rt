@@ -1,0 +1,75 @@
+//! Private steps of a process that rests on all that its step reads rests on: it is changed where it stands, and neither notes
+//! nor lists change.
+ghost use Rattle.std.specs.Prelude.{◌≡◌, ℕ, IfSome, None, Some, Ok, true, false};
+ghost use Rattle.std.specs.List.Sorted.{IsStrictlySortedBy};
+ghost use Rattle.std.specs.Ordering.{nat_cmp};
+ghost use Rattle.sk_record.specs.Step.{perform};
+ghost use Rattle.sk_record.specs.Merged.{MergedTakes};
+ghost use Rattle.sk_record.specs.UndoState.{IsTidy, numbers};
+ghost use Rattle.sk_undo.specs.Logs.{look_at};
+ghost use Rattle.sk_trace.specs.Kept.{input_in};
+ghost use Rattle.sk_plain.specs.Act.{act, plain};
+ghost use Rattle.sk_plain.specs.Planned.{IsBeside, effect_of};
+ghost use Rattle.sk_plain.specs.Seen.{CanPerform, seen_with};
+ghost use Rattle.sk_machine.specs.Dependents.{IsEnough};
+ghost use Rattle.sk_machine.specs.Parts.{machine_of, undo_state_of};
+
+use crate::Machine;
+use crate::lists::tags_of;
+use crate::machine::is_none;
+use sk_ids::{Entity, Pid};
+use sk_plain::{Doing, InputRef, Plan};
+use sk_script::Scripts;
+
+impl Machine {
+    /// So many guesses a process has to rest on at least, for its signals to rest on no others: all that are undecided, or none
+    /// where the signals rest on none. The last step tells which is looked for first.
+    fn least_tags(&self, pid: Pid) -> Option<usize>
+        requires tidy { IsTidy (undo_state_of self.now) }
+        requires rising { IsStrictlySortedBy nat_cmp (numbers self.now.opens) }
+        ensures { IfSome result (λ least. IsEnough least pid self.now.slots) }
+    {
+        let all = self.open_count();
+        if self.logs.next_tags().ids().len() == all {
+            return Some(all);
+        }
+        if is_none(tags_of(&self.logs, &self.untagged, &Entity::Sig(pid))) {
+            return Some(0);
+        }
+        None
+    }
+
+    /// Takes a planned private step where its process goes on with the guesses that it rests on. Answers whether; else nothing
+    /// has changed. This takes no memory.
+    pub(crate) fn go_on(
+        &mut self,
+        scripts: &Scripts,
+        pid: Pid,
+        input: InputRef<'_>,
+        plan: &Plan,
+    ) -> bool
+        requires accepted { perform (look_at self.old.slots) (act scripts.now pid (input_in input))
+            ≡ Ok (effect_of (look_at self.old.slots) pid (input_in input)
+            (seen_with (look_at self.old.slots) scripts.now pid (input_in input) plan.now)) }
+        requires can { CanPerform (look_at self.old.slots) scripts.now pid (input_in input)
+            plan.now }
+        requires beside { IsBeside pid
+            (seen_with (look_at self.old.slots) scripts.now pid (input_in input) plan.now).beside }
+        requires tidy { IsTidy (undo_state_of self.old) }
+        requires rising { IsStrictlySortedBy nat_cmp (numbers self.old.opens) }
+        ensures takes { result ≡ true
+            → MergedTakes (plain scripts.now) (machine_of self.old)
+            (record { pid = pid; input = (input_in input.entry); guess = None })
+            (machine_of self.new) }
+        ensures guesses { self.new.guesses ≡ self.old.guesses }
+        ensures same { result ≡ false → self.new ≡ self.old }
+    {
+        let Plan::Private = plan else {
+            return false;
+        };
+        let Some(least) = self.least_tags(pid) else {
+            return false;
+        };
+        self.logs.go_on(pid, least, &Doing { scripts })
+    }
+}

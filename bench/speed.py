@@ -169,6 +169,28 @@ def step_rows(meter):
             yield f"step, {name}: {drawn} open ({whose}) / none", cost(True), cost(False), step_limit(name, guesser, drawn)
 
 
+def coming_to_rest(count, guesses, reads):
+    """Rounds of process 2: a guess, a write of a file and the commit; between these process 1 reads the file, where it does, and
+    so comes to rest on that guess, beside 62 of its own or none."""
+    own = OPEN - 1
+    lead = ["look r1 r7 f", "set r2 0"]
+    first = ["fetch /x"] * own + lead + looping(["read r1 r2"], count + 1)
+    other = lead + ['text "abcdefgh"'] + looping(["fetch /x", "write r1 r2"], count + 1)
+    before = [f"{'guess' if guesses else 'step'} 1 good"] * own + ["step 1 none"] * 2 + ["step 2 none"] * 3
+    drawn = own if guesses else 0
+    events = []
+    for number in range(drawn + 1, drawn + count + 1):
+        events += ["guess 2 good", "step 2 none"] + ["step 1 none"] * reads + [f"commit {number}"]
+    return scenario(first, events, [("other", other, [(2, 2)])], FILES, before)
+
+
+def rest_rows(meter):
+    """A read that changes what its process rests on, with its share of the commit: the rounds with it less those without."""
+    rounds = lambda guesses, reads: meter.each(lambda n: coming_to_rest(n, guesses, reads), 200, 400, 3 + reads)
+    read = lambda guesses: rounds(guesses, True) - rounds(guesses, False)
+    yield f"step, a read that comes to rest on one guess more: {OPEN - 1} open (its own) / none", read(True), read(False), NEW_TAGS
+
+
 def decided(body, count, decision, instruction):
     """Rounds of process 1: a guess, `body` steps, and the decision of the guess."""
     first = (["look r1 r7 f", "set r2 0", 'text "abcdefgh"'] if instruction.startswith("write") else [])
@@ -402,7 +424,7 @@ def main():
     unit = "microseconds" if words.seconds else "instructions"
     print(f"{'ratio':>7} {'limit':>6} {unit + ' left':>20} {'right':>14}  what")
     over = 0
-    for rows in (table_rows, step_rows, long_rows, decision_rows, held_rows, nested_rows, text_rows, block_rows):
+    for rows in (table_rows, step_rows, rest_rows, long_rows, decision_rows, held_rows, nested_rows, text_rows, block_rows):
         if words.only and words.only not in rows.__name__:
             continue
         for name, left, right, limit in rows(meter):

@@ -1,11 +1,12 @@
 -- A list of numbers that rise has no number above its last, and is left as it is without one that it does not have.
-use Rattle.std.proofs.Common.{◌≡◌, ℕ, suc, ◌-◌, ◌<◌, ◌≤◌, true, false, not, cond, ◌||◌, eqb, nat_lt, List, [], ◌∷◌, length, slice_index_or, arith, refl, subst, sym, ap}
+use Rattle.std.proofs.Common.{◌≡◌, ℕ, suc, ◌-◌, ◌<◌, ◌≤◌, true, false, not, cond, ◌||◌, eqb, nat_lt, List, [], ◌∷◌, length, slice_index_or, arith, inl, inr, refl, subst, sym, ap}
 use Rattle.std.specs.Ordering.{nat_cmp}
 use Rattle.std.specs.List.Sorted.{IsStrictlySortedBy}
 use Rattle.std.proofs.lemmas.Map.Keys.{IsStrictlyIncreasing-from_sorted}
 use Rattle.std.proofs.lemmas.List.Kept.{AllPairs-from_increasing}
-use Rattle.std.proofs.lemmas.Bool.{eqb-true, ltb-false, ltb-true}
+use Rattle.std.proofs.lemmas.Bool.{eqb-true, ltb-false, ltb-true, or_cases}
 use Rattle.sk_record.specs.Notes.{has, without}
+use Rattle.sk_record.proofs.Rising.{above}
 
 pub other : (x g : ℕ) → x < g → eqb x g ≡ false
 other x g below = elim (eqb x g) as (λ b. eqb x g ≡ b → b ≡ false) [
@@ -33,6 +34,19 @@ none_above g last xs rises some is above = all_below g last xs (λ j within.
           let here : j ≡ length xs - 1 = omega (late, within, some, arith) in
           subst (λ n. slice_index_or xs n last < g) (sym here) (omega (is, above, arith))
     ] refl)
+
+-- nor one below its first
+pub none_below : (g first : ℕ) (xs : List ℕ) → IsStrictlySortedBy nat_cmp xs → 1 ≤ length xs → first ≡ slice_index_or xs 0 first → g < first → has g xs ≡ false
+unfolding IsStrictlySortedBy
+none_below g first [] rises some is below = refl
+none_below g first (x ∷ xs) rises some is below =
+    elim (has g (x ∷ xs)) as (λ b. has g (x ∷ xs) ≡ b → b ≡ false) [
+      | true ↦ λ here. elim (or_cases (eqb x g) (has g xs) here) [
+        | inl same ↦ (let at : x ≡ g = eqb-true x g same in absurd (omega (at, is, below, arith)))
+        | inr later ↦ (let behind : x < g = above x xs g rises.0 later in absurd (omega (behind, is, below, arith)))
+      ]
+      | false ↦ λ _. refl
+    ] refl
 
 pub without_none : (g : ℕ) (xs : List ℕ) → has g xs ≡ false → without g xs ≡ xs
 without_none g [] none = refl

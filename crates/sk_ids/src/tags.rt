@@ -1,10 +1,10 @@
 //! Sets of guesses.
-ghost use Rattle.std.specs.Prelude.{◌≡◌, ◌||◌, ◌<◌, ◌∷◌, ℕ, IfOk, IfSome, None, [], true, false, length, get_or};
+ghost use Rattle.std.specs.Prelude.{◌≡◌, ◌&&◌, ◌||◌, ◌<◌, ◌∷◌, ◌++◌, ℕ, IfOk, IfSome, OnOk, None, [], true, false, not, length, get_or};
 ghost use Rattle.std.specs.Ordering.{nat_cmp};
 ghost use Rattle.std.specs.List.Sorted.{IsStrictlySortedBy};
 ghost use Rattle.sk_record.specs.Notes.{has, without};
 ghost use Rattle.sk_record.specs.Merged.{same_tags};
-ghost use Rattle.std.specs.List.{list_all};
+ghost use Rattle.std.specs.List.{filter, list_all};
 
 use crate::GuessId;
 use crate::front::Fronted;
@@ -58,16 +58,43 @@ fn is_same_run(ids: &[GuessId], others: &[GuessId]) -> bool
     }
 }
 
-/// Whether a guess in a list that rises has at least this number. Most lists that are asked for a guess have only
-/// older ones.
-fn reaches(ids: &[GuessId], id: GuessId) -> bool
+/// Whether a guess lies between the oldest and the newest of a list that rises. Most that are asked for do not.
+fn spans(ids: &[GuessId], id: GuessId) -> bool
     requires { IsStrictlySortedBy nat_cmp ids.now }
     ensures { result ≡ false → has id ids.now ≡ false }
 {
     match ids {
+        [oldest, ..] if oldest.number() > id.number() => false,
         [.., newest] => newest.number() >= id.number(),
         [] => false,
     }
+}
+
+/// Where a guess stands in a list that rises, if each from the oldest to it is there. In most lists each is.
+fn place_in_run(ids: &[GuessId], id: GuessId) -> Option<usize>
+    ensures { IfSome result
+        (λ place. (place < length ids.now) × (get_or ids.now place 0 ≡ id)) }
+{
+    let [oldest, ..] = ids else {
+        return None;
+    };
+    let place = id.number().saturating_sub(oldest.number()) as usize;
+    match ids.get(place) {
+        Some(found) if *found == id => Some(place),
+        _ => None,
+    }
+}
+
+/// Adds a guess at the end of a list, if it is not in a set.
+fn push_new(list: &mut SmallVec<GuessId, 4>, set: &TagSet, id: GuessId) -> Result<(), AllocError>
+    ensures { OnOk result
+        (list.new.items ≡ list.old.items ++ filter (λ g. not (has g set.now)) (id ∷ [])) }
+{
+    if set.contains(id) {
+        return Ok(());
+    }
+    list.push(id)?;
+    Ok(())
 }
 
 impl TagSet {
@@ -102,8 +129,11 @@ impl TagSet {
             Some(oldest) if *oldest == id => return Some(0),
             _ => {}
         }
-        if !reaches(ids, id) {
+        if !spans(ids, id) {
             return None;
+        }
+        if let Some(place) = place_in_run(ids, id) {
+            return Some(place);
         }
         match ids.last() {
             Some(newest) if *newest == id => return Some(ids.len() - 1),
@@ -133,10 +163,21 @@ impl TagSet {
     pub fn covers(&self, other: &TagSet) -> bool
         ensures { result ≡ true → (id : ℕ) → has id other.now ≡ true → has id self.now ≡ true }
     {
-        if let [] = other.ids.as_slice() {
+        let ids = self.ids.as_slice();
+        let others = other.ids.as_slice();
+        if let [] = others {
             return true;
         }
-        self.is_same(other) || self.has_all(other)
+        if others.len() > ids.len() {
+            return false;
+        }
+        if self.is_same(other) {
+            return true;
+        }
+        if ids.starts_with(others) {
+            return true;
+        }
+        self.has_all(other)
     }
 
     fn has_all(&self, other: &TagSet) -> bool
@@ -179,6 +220,19 @@ impl TagSet {
         ensures { IfOk result (λ copy. copy ≡ self.now) }
     {
         let ids = Fronted::of(self.ids.copied()?);
+        Ok(TagSet { ids })
+    }
+
+    /// The guesses of this set that are not in the other.
+    pub fn beyond(&self, other: &TagSet) -> Result<TagSet, AllocError>
+        ensures members { IfOk result
+            (λ rest. (id : ℕ) → has id rest ≡ (has id self.now && not (has id other.now))) }
+    {
+        let mut rest = SmallVec::new(self.ids.alloc());
+        for id in self.ids.as_slice() {
+            push_new(&mut rest, other, *id)?;
+        }
+        let ids = Fronted::of(rest);
         Ok(TagSet { ids })
     }
 

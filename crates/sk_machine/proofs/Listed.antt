@@ -7,7 +7,7 @@ use Rattle.std.specs.Cmp.{eq_by_cmp_equiv}
 use Rattle.std.proofs.Common.{inl, inr}
 use Rattle.sk_ids.proofs.Entities.{entity_total}
 use Rattle.sk_guesses.proofs.Opens.{same_opens, depending_keeps}
-use Rattle.std.proofs.lemmas.Bool.{true≢false, false≢true, or_left, or_right, eqb-true, eq-eqb}
+use Rattle.std.proofs.lemmas.Bool.{true≢false, false≢true, or_left, or_right, eqb-true, eq-eqb, or_cases}
 use Rattle.std.proofs.lemmas.List.{append-nil}
 use Rattle.std.proofs.lemmas.List.Folds.{list_any-append}
 use Rattle.sk_record.specs.Effects.{is_in}
@@ -62,11 +62,6 @@ with_all false true false = refl
 with_all false false true = refl
 with_all false false false = refl
 
-with_none : (i q b : Bool) → (q ≡ true → b ≡ false) → cond i false b ≡ cond (i || (q || false)) false b
-with_none true q b h = refl
-with_none false true b h = h refl
-with_none false false b h = refl
-
 with_same : (i q t b : Bool) → (q ≡ true → b ≡ t) → cond i t b ≡ cond (i || (q || false)) t b
 with_same true q t b h = refl
 with_same false true t b h = h refl
@@ -81,50 +76,37 @@ module _ (tags : List ℕ) (es : List Entity) (x : Entity) (base : Entity → Li
   before : (h : ℕ) (e : Entity) → has h (with_tags tags es base e) ≡ cond (is_in entity_cmp es e) (has h tags) (has h (base e))
   before h e = picked h (is_in entity_cmp es e) tags (base e)
 
-  -- it is added to the lists of these
-  pub depend_more : ((g : ℕ) → has g (base x) ≡ true → has g tags ≡ true) → (os : List OpenGuess) → AllExact (with_tags tags es base) os → AllExact (with_tags tags (es ++ x ∷ []) base) (map (depending tags x) os)
-  depend_more covers [] all = tt
-  depend_more covers (o ∷ os) all =
-      let rest = depend_more covers os all.1 in
-      elim (has o.id tags) as (λ b. has o.id tags ≡ b → AllExact (with_tags tags (es ++ x ∷ []) base) (cond b (record o { dependents = with_entity o.dependents x }) o ∷ map (depending tags x) os)) [
-        | true ↦ λ is. (
-          (λ e.
-              with_in o.dependents x e ∙ ap (λ b. b || eq_by_cmp entity_cmp e x) (all.0 e ∙ before o.id e ∙ ap (λ t. cond (is_in entity_cmp es e) t (has o.id (base e))) is)
-              ∙ with_all (is_in entity_cmp es e) (eq_by_cmp entity_cmp e x) (has o.id (base e))
-              ∙ ap (λ t. cond (is_in entity_cmp es e || (eq_by_cmp entity_cmp e x || false)) t (has o.id (base e))) (sym is) ∙ sym (after o.id e)),
-          rest,
-        )
-        | false ↦ λ is. (
-          (λ e.
-              all.0 e ∙ before o.id e ∙ ap (λ t. cond (is_in entity_cmp es e) t (has o.id (base e))) is
-              ∙ with_none (is_in entity_cmp es e) (eq_by_cmp entity_cmp e x) (has o.id (base e)) (λ same. off o.id is e same)
-              ∙ ap (λ t. cond (is_in entity_cmp es e || (eq_by_cmp entity_cmp e x || false)) t (has o.id (base e))) (sym is) ∙ sym (after o.id e)),
-          rest,
-        )
-      ] refl where
-        off : (h : ℕ) → has h tags ≡ false → (e : Entity) → eq_by_cmp entity_cmp e x ≡ true → has h (base e) ≡ false
-        off h none e same =
-            elim (has h (base e)) as (λ b. has h (base e) ≡ b → b ≡ false) [
-              | true ↦ λ here. absurd (true≢false (sym (covers h (ap (λ y. has h (base y)) (sym (tied_is e x same)) ∙ here)) ∙ none))
-              | false ↦ λ _. refl
-            ] refl
-
   both_ways : (a b : Bool) → (a ≡ true → b ≡ true) → (b ≡ true → a ≡ true) → a ≡ b
   both_ways true b f g = sym (f refl)
   both_ways false true f g = g refl
   both_ways false false f g = refl
 
-  -- it is in them already
-  pub depend_none : ((g : ℕ) → has g (base x) ≡ true → has g tags ≡ true) → ((g : ℕ) → has g tags ≡ true → has g (base x) ≡ true) → (os : List OpenGuess) → AllExact (with_tags tags es base) os → AllExact (with_tags tags (es ++ x ∷ []) base) os
-  depend_none covers covered [] all = tt
-  depend_none covers covered (o ∷ os) all = (
-    (λ e.
-        all.0 e ∙ before o.id e
-        ∙ with_same (is_in entity_cmp es e) (eq_by_cmp entity_cmp e x) (has o.id tags) (has o.id (base e)) (λ same.
-        ap (λ y. has o.id (base y)) (tied_is e x same) ∙ both_ways (has o.id (base x)) (has o.id tags) (covers o.id) (covered o.id))
-        ∙ sym (after o.id e)),
-    depend_none covers covered os all.1,
-  )
+  -- it is added to the lists of some of these, among them those in which it is not
+  pub depend_part : (added : List ℕ) → ((g : ℕ) → has g (base x) ≡ true → has g tags ≡ true) → ((g : ℕ) → has g tags ≡ true → (has g (base x) || has g added) ≡ true) → ((g : ℕ) → has g added ≡ true → has g tags ≡ true)
+      → (os : List OpenGuess) → AllExact (with_tags tags es base) os → AllExact (with_tags tags (es ++ x ∷ []) base) (map (depending added x) os)
+  depend_part added covers covered within [] all = tt
+  depend_part added covers covered within (o ∷ os) all =
+      let rest = depend_part added covers covered within os all.1 in
+      elim (has o.id added) as (λ b. has o.id added ≡ b → AllExact (with_tags tags (es ++ x ∷ []) base) (cond b (record o { dependents = with_entity o.dependents x }) o ∷ map (depending added x) os)) [
+        | true ↦ λ here. (
+          (λ e.
+              let is = within o.id here in
+              with_in o.dependents x e ∙ ap (λ b. b || eq_by_cmp entity_cmp e x) (all.0 e ∙ before o.id e ∙ ap (λ t. cond (is_in entity_cmp es e) t (has o.id (base e))) is)
+              ∙ with_all (is_in entity_cmp es e) (eq_by_cmp entity_cmp e x) (has o.id (base e))
+              ∙ ap (λ t. cond (is_in entity_cmp es e || (eq_by_cmp entity_cmp e x || false)) t (has o.id (base e))) (sym is) ∙ sym (after o.id e)),
+          rest,
+        )
+        | false ↦ λ out. (
+          (λ e.
+              all.0 e ∙ before o.id e
+              ∙ with_same (is_in entity_cmp es e) (eq_by_cmp entity_cmp e x) (has o.id tags) (has o.id (base e)) (λ same.
+              ap (λ y. has o.id (base y)) (tied_is e x same) ∙ both_ways (has o.id (base x)) (has o.id tags) (covers o.id) (in_own o.id out))
+              ∙ sym (after o.id e)),
+          rest,
+        )
+      ] refl where
+        in_own : (g : ℕ) → has g added ≡ false → has g tags ≡ true → has g (base x) ≡ true
+        in_own g out there = elim (or_cases (has g (base x)) (has g added) (covered g there)) [ inl own ↦ own | inr more ↦ absurd (true≢false (sym more ∙ out)) ]
 
 -- ---- what is taken out again
 not_in : (a b : Bool) → (a ≡ true → b ≡ true) → b ≡ false → a ≡ false
@@ -387,14 +369,13 @@ fresh (x ∷ xs) y rises =
 
 -- ---- what a step adds
 pub depends_opens : (own tags : List ℕ) (x : Entity) (os new : List OpenGuess) → Depends own tags x os new → opens_of new ≡ opens_of os
-depends_opens own tags x os new (inl same) = ap opens_of same.1
-depends_opens own tags x os new (inr more) = ap opens_of more ∙ same_opens (depending tags x) (depending_keeps tags x) os
+depends_opens own tags x os new d = ap opens_of d.opens ∙ same_opens (depending d.added x) (depending_keeps d.added x) os
 
 pub depends_exact : (tags : List ℕ) (es : List Entity) (x : Entity) (base : Entity → List ℕ) (own : List ℕ) → own ≡ base x → ((g : ℕ) → has g (base x) ≡ true → has g tags ≡ true)
     → (os new : List OpenGuess) → Depends own tags x os new → AllExact (with_tags tags es base) os → AllExact (with_tags tags (es ++ x ∷ []) base) new
-depends_exact tags es x base own is covers os new (inl same) all =
-    subst (AllExact (with_tags tags (es ++ x ∷ []) base)) (sym same.1) (depend_none tags es x base covers (λ g here. ap (has g) (sym is) ∙ same.0 g here) os all)
-depends_exact tags es x base own is covers os new (inr more) all = subst (AllExact (with_tags tags (es ++ x ∷ []) base)) (sym more) (depend_more tags es x base covers os all)
+depends_exact tags es x base own is covers os new d all =
+    subst (AllExact (with_tags tags (es ++ x ∷ []) base)) (sym d.opens)
+    (depend_part tags es x base d.added covers (λ g there. ap (λ ys. has g ys || has g d.added) (sym is) ∙ d.all g there) d.none os all)
 
 pub in_place : (es : List Entity) (i : ℕ) (x : Entity) → i < length es → x ≡ slice_index_or es i x → is_in entity_cmp es x ≡ true
 in_place [] i x lt is = absurd (omega arith)

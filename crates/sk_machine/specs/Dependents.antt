@@ -1,5 +1,5 @@
 -- Lists of the entities that rest on each undecided guess.
-use Rattle.std.specs.Prelude.{◌≡◌, ◌⊎◌, ◌≤◌, ℕ, true, false, List, [], ◌∷◌, length, map, if◌then◌else◌}
+use Rattle.std.specs.Prelude.{◌≡◌, ◌||◌, ◌≤◌, ℕ, true, false, List, [], ◌∷◌, length, map, if◌then◌else◌}
 use Rattle.std.specs.List.{AllByRecursion}
 use Rattle.std.specs.List.Sorted.{IsStrictlySortedBy}
 use Rattle.std.specs.Ordering.{nat_cmp}
@@ -39,9 +39,12 @@ Covers tags es before = (e : Entity) (g : ℕ) → is_in entity_cmp es e ≡ tru
 abbrev pub RestAlike : List ℕ → List Entity → (Entity → List ℕ) → Type 0
 RestAlike tags es before = (e : Entity) → is_in entity_cmp es e ≡ true → before e ≡ tags
 
--- an entity is added to the lists of these guesses, where it does not rest on all of them already
-abbrev pub Depends : List ℕ → List ℕ → Entity → List OpenGuess → List OpenGuess → Type 0
-Depends own tags e old new = (((g : ℕ) → has g tags ≡ true → has g own ≡ true) × (new ≡ old)) ⊎ (new ≡ map (depending tags e) old)
+-- an entity is added to the lists of some of these guesses, among them those that it does not rest on already
+pub record Depends (own tags : List ℕ) (e : Entity) (old new : List OpenGuess) : Type 0 where
+  pub added : List ℕ
+  pub all : (g : ℕ) → has g tags ≡ true → (has g own || has g added) ≡ true
+  pub none : (g : ℕ) → has g added ≡ true → has g tags ≡ true
+  pub opens : new ≡ map (depending added e) old
 
 -- a process that rests on at least so many guesses has signals that rest on none but these
 abbrev pub IsEnough : ℕ → ℕ → SlotMap → Type 0

@@ -23,13 +23,16 @@ use sk_script::Scripts;
 
 impl Machine {
     /// So many guesses a process has to rest on at least, for its signals to rest on no others: all that are undecided, or none
-    /// where the signals rest on none. The last step tells which is looked for first.
+    /// where the signals rest on none. The last step tells which is looked for. `None` where neither is known.
     fn least_tags(&self, pid: Pid) -> Option<usize>
         requires tidy { IsTidy (undo_state_of self.now) }
         requires rising { IsStrictlySortedBy nat_cmp (numbers self.now.opens) }
         ensures { IfSome result (λ least. IsEnough least pid self.now.slots) }
     {
         let all = self.open_count();
+        if all == 0 {
+            return Some(all);
+        }
         if self.logs.next_tags().ids().len() == all {
             return Some(all);
         }

@@ -3,6 +3,7 @@ ghost use Rattle.std.specs.Prelude.{◌≡◌, OnOk, OnErr, []};
 ghost use Rattle.sk_guesses.specs.Opens.{opens_of};
 ghost use Rattle.sk_machine.specs.Dependents.{AllAlmostExact, AllExact, Covers, Depends, tags_in, with_tags};
 
+use crate::machine::is_none;
 use sk_guesses::Guesses;
 use sk_ids::{Entity, TagSet};
 use sk_undo::Logs;
@@ -34,7 +35,11 @@ fn depend(
     if own.covers(tags) {
         return Ok(());
     }
-    guesses.depend(tags, entity)
+    if is_none(own) {
+        return guesses.depend(tags, entity);
+    }
+    let added = tags.beyond(own)?;
+    guesses.depend(&added, entity)
 }
 
 /// Adds what a step writes to the lists of the guesses that the step rests on. Without memory the lists

@@ -1,10 +1,42 @@
--- It is in them already, or is added.
-use Rattle.std.proofs.Common.{inl, inr, refl}
+-- It is in them already, or is added to those that it does not rest on.
+use Rattle.std.proofs.Common.{◌≡◌, Bool, true, false, not, ◌&&◌, ◌||◌, List, [], ◌∷◌, refl, sym, ◌∙◌, ap}
+use Rattle.std.specs.Prelude.{map}
+use Rattle.std.proofs.lemmas.Bool.{false≢true, or_left, or_right}
+use Rattle.sk_ids.specs.declared.entity.Entity.{Entity}
+use Rattle.sk_record.specs.Notes.{has}
+use Rattle.sk_record.proofs.UndoStates.{and_both}
+use Rattle.sk_guesses.specs.Opens.{OpenGuess, depending}
 use Rattle.sk_machine.proofs.Given.{then_ok}
 use Rattle.sk_machine.proofs.lists.depend.Goals as goal
 
+to_none : (e : Entity) (os : List OpenGuess) → os ≡ map (depending [] e) os
+to_none e [] = refl
+to_none e (o ∷ os) = ap (λ ys. o ∷ ys) (to_none e os)
+
+split : (own there more : Bool) → more ≡ (there && not own) → there ≡ true → (own || more) ≡ true
+split true there more is here = refl
+split false there more is here = is ∙ ap (λ b. b && true) here
+
 pub returns-then-covers-clause-ok : goal.returns-then-covers-clause-ok
-returns-then-covers-clause-ok c = inl (c.covers.ensures c.if-covers.true, refl)
+returns-then-covers-clause-ok c = record {
+  added = [];
+  all = λ g there. or_left (has g c.args.own.now) false (c.covers.ensures c.if-covers.true g there);
+  none = λ g here. absurd (false≢true here);
+  opens = to_none c.args.entity.now c.args.guesses.now.opens;
+}
+
+pub returns-then-is_none-clause-ok : goal.returns-then-is_none-clause-ok
+returns-then-is_none-clause-ok c = then_ok c.depend.result c.depend.ensures.ok (λ is. record {
+  added = c.args.tags.now;
+  all = λ g there. or_right (has g c.args.own.now) (has g c.args.tags.now) there;
+  none = λ g here. here;
+  opens = is;
+})
 
 pub returns-clause-ok : goal.returns-clause-ok
-returns-clause-ok c = then_ok c.depend.result c.depend.ensures.ok (λ is. inr is)
+returns-clause-ok c = then_ok c.depend-2.result c.depend-2.ensures.ok (λ is. record {
+  added = c.in_ok-added.added;
+  all = λ g there. split (has g c.args.own.now) (has g c.args.tags.now) (has g c.in_ok-added.added) (c.in_ok-added.ensures.members g) there;
+  none = λ g here. (and_both (has g c.args.tags.now) (not (has g c.args.own.now)) (sym (c.in_ok-added.ensures.members g) ∙ here)).0;
+  opens = is;
+})

@@ -8,7 +8,6 @@ use Rattle.std.proofs.lemmas.Bool.{leb-true}
 use Rattle.sk_record.specs.Step.{Ask, Refuse, Done, Step, Effect, perform, with_read}
 use Rattle.sk_record.specs.Run.{put, put_all}
 use Rattle.sk_record.proofs.UndoStates.{and_both}
-use Rattle.sk_ids.specs.Pid.{boot_pid}
 use Rattle.sk_ids.specs.declared.text.TheConstants.{TEXT_LIMIT}
 use Rattle.sk_ids.specs.declared.pid.ObjId.{ObjId}
 use Rattle.sk_ids.specs.declared.entity.Entity.{Entity}
@@ -27,7 +26,7 @@ use Rattle.sk_script.specs.declared.instruction.Instruction.TheVariants as does_
 use Rattle.sk_script.specs.declared.instruction.Input.{Input}
 use Rattle.sk_script.specs.declared.instruction.Input.TheVariants as inputs
 use Rattle.sk_script.specs.Registers.{held}
-use Rattle.sk_script.specs.Private.{at_place_if, number_given, process_given, sum_in, is_zero, is_negative, private_step}
+use Rattle.sk_script.specs.Private.{private_step}
 use Rattle.sk_store.specs.State.{State}
 use Rattle.sk_store.specs.declared.entity_state.EntityState.{EntityState}
 use Rattle.sk_store.specs.declared.entity_state.EntityState.TheVariants as stored
@@ -40,6 +39,7 @@ use Rattle.sk_plain.specs.Pipes.{on_pipe, put_in, take_none}
 use Rattle.sk_plain.specs.Processes.{LEVEL_FOUR, LAST_CHILD, next_child, forked, parent_of, born, fork, signalled, kill, waited, wait, returned}
 use Rattle.sk_plain.specs.Replies.{from_copy, over_copy, good, fresh, stale}
 use Rattle.sk_plain.specs.Act.{row, private_or, does, handled, with_signals, with_input}
+use Rattle.sk_plain.proofs.Alone.{keeps_step}
 use Rattle.sk_client.proofs.Each.{cons_cases, no_member}
 use Rattle.sk_client.proofs.Tidy.{elsewhere, IsTidy, IsPlace, IsNextChild, tidy_own, tidy_place, tidy_copy, tidy_birth}
 
@@ -283,22 +283,8 @@ module _ (can : List ℕ → Type 0) (pid : ℕ) (p : Process) where
   IsKept (Some q) = q.children ≡ p.children
   IsKept None = Unit {0}
 
-  at_place_same : (t : Bool) (place : ℕ) → (at_place_if t p place).children ≡ p.children
-  at_place_same true place = refl
-  at_place_same false place = refl
-
   private_same : (i : Instruction) → IsKept (private_step p i)
-  private_same (does_.Set r n) = refl
-  private_same (does_.Move to from) = refl
-  private_same (does_.Add to from) = elim (sum_in p to from) as (λ n. (number_given p to n).children ≡ p.children) [ Some n ↦ refl | None ↦ refl ]
-  private_same (does_.Text text) = refl
-  private_same (does_.Len r) = refl
-  private_same (does_.SelfPid r) = refl
-  private_same (does_.BootPid r n) = elim (boot_pid n) as (λ q. (process_given p r q).children ≡ p.children) [ Some q ↦ refl | None ↦ refl ]
-  private_same (does_.Jump place) = refl
-  private_same (does_.Zero r place) = at_place_same (is_zero (held p.registers r)) place
-  private_same (does_.Negative r place) = at_place_same (is_negative (held p.registers r)) place
-  private_same i = tt
+  private_same i = elim (private_step p i) as (λ o. private_step p i ≡ o → IsKept o) [ Some q ↦ λ is. (keeps_step p q i is).children | None ↦ λ _. tt ] refl
 
   does_fine : (i : Option Instruction) → Fine (does pid p i)
   does_fine (Some i) =

@@ -36,41 +36,42 @@ pub record GoesOn (look : Entity → Option EntityState) (scripts : Scripts) (pi
   pub undisturbed : is_due p (look (Sig pid)) ≡ false
 
 -- ---- what a private instruction keeps
-record Keeps (p q : Process) : Type 0 where
-  pid : q.pid ≡ p.pid
-  script : q.script ≡ p.script
-  handler : q.handler ≡ p.handler
-  saved : q.saved ≡ p.saved
+pub record Keeps (p q : Process) : Type 0 where
+  pub pid : q.pid ≡ p.pid
+  pub script : q.script ≡ p.script
+  pub handler : q.handler ≡ p.handler
+  pub saved : q.saved ≡ p.saved
+  pub children : q.children ≡ p.children
 
 same : (p : Process) → Keeps p p
-same p = record { pid = refl; script = refl; handler = refl; saved = refl }
+same p = record { pid = refl; script = refl; handler = refl; saved = refl; children = refl }
 
 number_keeps : (p : Process) (r : ℕ) (o : Option _) → Keeps p (number_given p r o)
-number_keeps p r (Some n) = record { pid = refl; script = refl; handler = refl; saved = refl }
-number_keeps p r None = record { pid = refl; script = refl; handler = refl; saved = refl }
+number_keeps p r (Some n) = record { pid = refl; script = refl; handler = refl; saved = refl; children = refl }
+number_keeps p r None = record { pid = refl; script = refl; handler = refl; saved = refl; children = refl }
 
 process_keeps : (p : Process) (r : ℕ) (o : Option ℕ) → Keeps p (process_given p r o)
-process_keeps p r (Some q) = record { pid = refl; script = refl; handler = refl; saved = refl }
-process_keeps p r None = record { pid = refl; script = refl; handler = refl; saved = refl }
+process_keeps p r (Some q) = record { pid = refl; script = refl; handler = refl; saved = refl; children = refl }
+process_keeps p r None = record { pid = refl; script = refl; handler = refl; saved = refl; children = refl }
 
 jump_keeps : (b : Bool) (p : Process) (place : ℕ) → Keeps p (at_place_if b p place)
-jump_keeps true p place = record { pid = refl; script = refl; handler = refl; saved = refl }
-jump_keeps false p place = record { pid = refl; script = refl; handler = refl; saved = refl }
+jump_keeps true p place = record { pid = refl; script = refl; handler = refl; saved = refl; children = refl }
+jump_keeps false p place = record { pid = refl; script = refl; handler = refl; saved = refl; children = refl }
 
 of_some : (p q r : Process) → Keeps p r → Some r ≡ Some q → Keeps p q
 of_some p q r keeps is = subst (Keeps p) (some_same r q is) keeps where
   some_same : (a b : Process) → Some a ≡ Some b → a ≡ b
   some_same a b is = cc
 
-keeps_step : (p q : Process) (i : Instruction) → private_step p i ≡ Some q → Keeps p q
-keeps_step p q (does_.Set r n) is = of_some p q _ (record { pid = refl; script = refl; handler = refl; saved = refl }) is
-keeps_step p q (does_.Move to from) is = of_some p q _ (record { pid = refl; script = refl; handler = refl; saved = refl }) is
+pub keeps_step : (p q : Process) (i : Instruction) → private_step p i ≡ Some q → Keeps p q
+keeps_step p q (does_.Set r n) is = of_some p q _ (record { pid = refl; script = refl; handler = refl; saved = refl; children = refl }) is
+keeps_step p q (does_.Move to from) is = of_some p q _ (record { pid = refl; script = refl; handler = refl; saved = refl; children = refl }) is
 keeps_step p q (does_.Add to from) is = of_some p q _ (number_keeps p to (sum_in p to from)) is
-keeps_step p q (does_.Text text) is = of_some p q _ (record { pid = refl; script = refl; handler = refl; saved = refl }) is
-keeps_step p q (does_.Len r) is = of_some p q _ (record { pid = refl; script = refl; handler = refl; saved = refl }) is
-keeps_step p q (does_.SelfPid r) is = of_some p q _ (record { pid = refl; script = refl; handler = refl; saved = refl }) is
+keeps_step p q (does_.Text text) is = of_some p q _ (record { pid = refl; script = refl; handler = refl; saved = refl; children = refl }) is
+keeps_step p q (does_.Len r) is = of_some p q _ (record { pid = refl; script = refl; handler = refl; saved = refl; children = refl }) is
+keeps_step p q (does_.SelfPid r) is = of_some p q _ (record { pid = refl; script = refl; handler = refl; saved = refl; children = refl }) is
 keeps_step p q (does_.BootPid r n) is = of_some p q _ (process_keeps p r (boot_pid n)) is
-keeps_step p q (does_.Jump place) is = of_some p q _ (record { pid = refl; script = refl; handler = refl; saved = refl }) is
+keeps_step p q (does_.Jump place) is = of_some p q _ (record { pid = refl; script = refl; handler = refl; saved = refl; children = refl }) is
 keeps_step p q (does_.Zero r place) is = of_some p q _ (jump_keeps (is_zero (held p.registers r)) p place) is
 keeps_step p q (does_.Negative r place) is = of_some p q _ (jump_keeps (is_negative (held p.registers r)) p place) is
 keeps_step p q _ is = cc

@@ -164,10 +164,12 @@ impl Logs {
         requires { CanBecome (C.can by.now) (look_at self.old.slots (Proc pid)) }
         ensures exact { result ≡ goes_on_at least self.old.slots (Proc pid) }
         ensures wrote { result ≡ true
-            → self.new.slots ≡ slots_wrote (last_tags [] (log_at self.old.slots (Proc pid))) self.old.slots
-            (Proc pid) (Some (became (C.after by.now) (look_at self.old.slots (Proc pid)))) }
+            → self.new.slots
+            ≡ slots_wrote (last_tags [] (log_at self.old.slots (Proc pid))) self.old.slots (Proc pid)
+            (Some (became (C.after by.now) (look_at self.old.slots (Proc pid)))) }
         ensures tags { self.new.tags ≡ self.old.tags }
-        ensures rising { IsStrictlySortedBy nat_cmp (last_tags [] (log_at self.old.slots (Proc pid))) }
+        ensures rising { IsStrictlySortedBy nat_cmp
+            (last_tags [] (log_at self.old.slots (Proc pid))) }
         ensures same { result ≡ false → self.new.slots ≡ self.old.slots }
     {
         self.slots.go_on(pid, least, by)

@@ -1,7 +1,8 @@
 -- What a kernel keeps beside its trace, and the machine of records that it is.
-use Rattle.std.specs.Prelude.{ℕ, Bool, List, map, refl}
+use Rattle.std.specs.Prelude.{◌≡◌, ℕ, Bool, List, Ok, map, refl}
 use Rattle.std.specs.List.{list_any}
 use Rattle.sk_record.specs.Notes.{has}
+use Rattle.sk_record.specs.Step.{perform}
 use Rattle.std.specs.Coded.{Coded, code_by, coded×, coded_ℕ, coded_list}
 use Rattle.sk_record.specs.Effects.{MarkedEffect}
 use Rattle.sk_record.specs.Machine.{Machine, Tagged}
@@ -12,13 +13,16 @@ use Rattle.sk_ids.specs.declared.entity.Entity.{Entity}
 use Rattle.sk_guesses.specs.Guesses.{GuessesView, status_since}
 use Rattle.sk_terminal.specs.Terminal.{TaggedText}
 use Rattle.sk_terminal.specs.Terminals.{TerminalMap, terminals_code, texts_at}
+use Rattle.sk_script.specs.declared.instruction.Input.{Input}
 use Rattle.sk_store.specs.declared.entity_state.EntityState.{EntityState}
 use Rattle.sk_undo.specs.Logs.{SlotMap, slot_map_code, look_at}
 use Rattle.sk_undo.specs.Decisions.{undo_state}
 use Rattle.sk_trace.specs.Entry.{EntryView}
-use Rattle.sk_plain.specs.Act.{Saying}
+use Rattle.sk_plain.specs.Act.{Saying, Scripts, act}
 use Rattle.sk_plain.specs.Planned.{effect_of}
 use Rattle.sk_plain.specs.Plan.{PlanView}
+use Rattle.sk_plain.specs.Seen.{CanPerform, seen_with}
+use Rattle.sk_plain.specs.declared.plan.Plan.{Plan}
 
 -- what each entity has with its notes, the open guesses with the tags of their own steps, the status of each guess, and
 -- each terminal's texts
@@ -58,6 +62,11 @@ abbrev pub planned_effect : Parts → EntryView → PlanView → MarkedEffect En
 planned_effect m n plan =
     let f = effect_of (look_at m.slots) n.pid n.input plan in
     record { mark = n.guess; read = f.read; written = f.written; said = f.said }
+
+-- the plan is what the step of a process with this input does here, and it can be done
+pub record IsPlanned (m : Parts) (scripts : Scripts) (pid : ℕ) (input : Input) (plan : Plan) : Type 0 where
+  pub accepted : perform (look_at m.slots) (act scripts pid input) ≡ Ok (effect_of (look_at m.slots) pid input (seen_with (look_at m.slots) scripts pid input plan))
+  pub can : CanPerform (look_at m.slots) scripts pid input plan
 
 -- whether one of these entities rests on a guess
 abbrev pub any_rests : Parts → ℕ → List Entity → Bool

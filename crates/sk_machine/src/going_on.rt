@@ -1,18 +1,14 @@
 //! Private steps of a process that rests on all that its step reads rests on: it is changed where it stands, and neither notes
 //! nor lists change.
-ghost use Rattle.std.specs.Prelude.{◌≡◌, ℕ, IfSome, None, Some, Ok, true, false};
+ghost use Rattle.std.specs.Prelude.{◌≡◌, IfSome, None, true, false};
 ghost use Rattle.std.specs.List.Sorted.{IsStrictlySortedBy};
 ghost use Rattle.std.specs.Ordering.{nat_cmp};
-ghost use Rattle.sk_record.specs.Step.{perform};
 ghost use Rattle.sk_record.specs.Merged.{MergedTakes};
 ghost use Rattle.sk_record.specs.UndoState.{IsTidy, numbers};
-ghost use Rattle.sk_undo.specs.Logs.{look_at};
 ghost use Rattle.sk_trace.specs.Kept.{input_in};
-ghost use Rattle.sk_plain.specs.Act.{act, plain};
-ghost use Rattle.sk_plain.specs.Planned.{IsBeside, effect_of};
-ghost use Rattle.sk_plain.specs.Seen.{CanPerform, seen_with};
+ghost use Rattle.sk_plain.specs.Act.{plain};
 ghost use Rattle.sk_machine.specs.Dependents.{IsEnough};
-ghost use Rattle.sk_machine.specs.Parts.{machine_of, undo_state_of};
+ghost use Rattle.sk_machine.specs.Parts.{IsPlanned, machine_of, undo_state_of};
 
 use crate::Machine;
 use crate::lists::tags_of;
@@ -51,13 +47,7 @@ impl Machine {
         input: InputRef<'_>,
         plan: &Plan,
     ) -> bool
-        requires accepted { perform (look_at self.old.slots) (act scripts.now pid (input_in input))
-            ≡ Ok (effect_of (look_at self.old.slots) pid (input_in input)
-            (seen_with (look_at self.old.slots) scripts.now pid (input_in input) plan.now)) }
-        requires can { CanPerform (look_at self.old.slots) scripts.now pid (input_in input)
-            plan.now }
-        requires beside { IsBeside pid
-            (seen_with (look_at self.old.slots) scripts.now pid (input_in input) plan.now).beside }
+        requires planned { IsPlanned self.old scripts.now pid (input_in input) plan.now }
         requires tidy { IsTidy (undo_state_of self.old) }
         requires rising { IsStrictlySortedBy nat_cmp (numbers self.old.opens) }
         ensures takes { result ≡ true

@@ -3,7 +3,6 @@ ghost use Rattle.std.specs.Prelude.{◌≡◌, [], ◌++◌, ◌||◌, ◌&&◌,
 ghost use Rattle.std.specs.List.Sorted.{IsStrictlySortedBy};
 ghost use Rattle.std.specs.Ordering.{nat_cmp};
 ghost use Rattle.sk_record.specs.Notes.{has};
-ghost use Rattle.sk_record.specs.Step.{perform};
 ghost use Rattle.sk_record.specs.Trace.{marks};
 ghost use Rattle.sk_record.specs.Effects.{is_in, is_marked};
 ghost use Rattle.sk_record.specs.UndoState.{IsTidy, numbers, step_tags, tags_at};
@@ -23,10 +22,10 @@ ghost use Rattle.sk_store.specs.Names.{IsCount, name_there};
 ghost use Rattle.sk_store.specs.Start.{start_of};
 ghost use Rattle.sk_undo.specs.Logs.{look_at};
 ghost use Rattle.sk_trace.specs.Kept.{input_in};
-ghost use Rattle.sk_plain.specs.Act.{act, plain};
-ghost use Rattle.sk_plain.specs.Planned.{IsBeside, effect_of, said_by, texts_after, writes_of};
+ghost use Rattle.sk_plain.specs.Act.{plain};
+ghost use Rattle.sk_plain.specs.Planned.{said_by, texts_after, writes_of};
 ghost use Rattle.sk_plain.specs.Seen.{CanPerform, seen_with, written_in};
-ghost use Rattle.sk_machine.specs.Parts.{any_rests, machine_of, planned_effect, undo_state_of};
+ghost use Rattle.sk_machine.specs.Parts.{IsPlanned, any_rests, machine_of, planned_effect, undo_state_of};
 ghost use Rattle.sk_guesses.specs.Room.{HasRoom};
 ghost use Rattle.sk_machine.specs.Dependents.{Covers, tags_in};
 ghost use Rattle.sk_machine.specs.Performed.{entities_of, AreApart, IsClean, Performed};
@@ -298,13 +297,7 @@ impl Machine {
         input: InputRef<'_>,
         plan: &Plan,
     ) -> Result<(), AllocError>
-        requires accepted { perform (look_at self.old.slots) (act scripts.now pid (input_in input))
-            ≡ Ok (effect_of (look_at self.old.slots) pid (input_in input)
-            (seen_with (look_at self.old.slots) scripts.now pid (input_in input) plan.now)) }
-        requires can { CanPerform (look_at self.old.slots) scripts.now pid (input_in input)
-            plan.now }
-        requires beside { IsBeside pid
-            (seen_with (look_at self.old.slots) scripts.now pid (input_in input) plan.now).beside }
+        requires planned { IsPlanned self.old scripts.now pid (input_in input) plan.now }
         requires tidy { IsTidy (undo_state_of self.old) }
         requires rising { IsStrictlySortedBy nat_cmp (numbers self.old.opens) }
         ensures ok { OnOk result
@@ -328,13 +321,7 @@ impl Machine {
         input: InputRef<'_>,
         plan: &Plan,
     ) -> Result<(), AllocError>
-        requires accepted { perform (look_at self.old.slots) (act scripts.now pid (input_in input))
-            ≡ Ok (effect_of (look_at self.old.slots) pid (input_in input)
-            (seen_with (look_at self.old.slots) scripts.now pid (input_in input) plan.now)) }
-        requires can { CanPerform (look_at self.old.slots) scripts.now pid (input_in input)
-            plan.now }
-        requires beside { IsBeside pid
-            (seen_with (look_at self.old.slots) scripts.now pid (input_in input) plan.now).beside }
+        requires planned { IsPlanned self.old scripts.now pid (input_in input) plan.now }
         requires tidy { IsTidy (undo_state_of self.old) }
         requires rising { IsStrictlySortedBy nat_cmp (numbers self.old.opens) }
         ensures ok { OnOk result
@@ -374,13 +361,7 @@ impl Machine {
         input: InputRef<'_>,
         plan: &Plan,
     ) -> Result<(), AllocError>
-        requires accepted { perform (look_at self.old.slots) (act scripts.now pid (input_in input))
-            ≡ Ok (effect_of (look_at self.old.slots) pid (input_in input)
-            (seen_with (look_at self.old.slots) scripts.now pid (input_in input) plan.now)) }
-        requires can { CanPerform (look_at self.old.slots) scripts.now pid (input_in input)
-            plan.now }
-        requires beside { IsBeside pid
-            (seen_with (look_at self.old.slots) scripts.now pid (input_in input) plan.now).beside }
+        requires planned { IsPlanned self.old scripts.now pid (input_in input) plan.now }
         requires tidy { IsTidy (undo_state_of self.old) }
         requires rising { IsStrictlySortedBy nat_cmp (numbers self.old.opens) }
         ensures ok { OnOk result
@@ -425,13 +406,7 @@ impl Machine {
         input: InputRef<'_>,
         plan: &Plan,
     ) -> Result<Guess, AllocError>
-        requires accepted { perform (look_at self.old.slots) (act scripts.now pid (input_in input))
-            ≡ Ok (effect_of (look_at self.old.slots) pid (input_in input)
-            (seen_with (look_at self.old.slots) scripts.now pid (input_in input) plan.now)) }
-        requires can { CanPerform (look_at self.old.slots) scripts.now pid (input_in input)
-            plan.now }
-        requires beside { IsBeside pid
-            (seen_with (look_at self.old.slots) scripts.now pid (input_in input) plan.now).beside }
+        requires planned { IsPlanned self.old scripts.now pid (input_in input) plan.now }
         requires tidy { IsTidy (undo_state_of self.old) }
         requires rising { IsStrictlySortedBy nat_cmp
             (numbers self.old.opens ++ marks (Some (next_of self.old.guesses))) }

@@ -51,7 +51,7 @@ returns-clause-takes c = λ is.
     let opens_rise = subst (λ (q : Parts). IsStrictlySortedBy nat_cmp (numbers q.opens)) (sym c.self.view_is) c.requires.rising in
     let enough = subst (λ (q : Parts). IsEnough c.in-Some.least pid q.slots) (sym c.self.view_is) c.in-Some.ensures in
     let many = on_many c.in-Some.least (slot_in (map.get m (Proc pid))).log (sym c.go_on.ensures.exact ∙ is) in
-    let accepted = subst (λ (q : Parts). perform (look_at q.slots) (act scripts pid input) ≡ Ok (effect_of (look_at q.slots) pid input (seen_with (look_at q.slots) scripts pid input c.args.plan.now))) (sym c.self.view_is) c.requires.accepted in
+    let accepted = subst (λ (q : Parts). perform (look_at q.slots) (act scripts pid input) ≡ Ok (effect_of (look_at q.slots) pid input (seen_with (look_at q.slots) scripts pid input c.args.plan.now))) (sym c.self.view_is) c.requires.planned.accepted in
     let n : EntryView = record { pid = pid; input = input; guess = None } in
     subst (λ (q : Parts). MergedTakes (plain scripts) (machine_of q) n (machine_of b)) c.self.view_is
     (went_on p scripts pid input tidy opens_rise c.go_on.ensures.rising (enough many c.go_on.ensures.rising) c.go_on.new.self.slots (c.go_on.ensures.wrote is) b refl refl refl refl

@@ -78,7 +78,7 @@ returns-clause-ok c =
     let n : EntryView = record { pid = c.args.pid; input = (input_in c.args.input); guess = None } in
     let a : Parts = record { slots = c.self.inside.logs.slots; opens = opens_of c.self.inside.guesses.opens; guesses = c.self.inside.guesses.view; texts = c.self.inside.terminals } in
     let b : Parts = record { slots = c.perform.new.logs.slots; opens = opens_of c.depend_all.new.guesses.opens; guesses = c.depend_all.new.guesses.view; texts = c.perform.new.terminals } in
-    let accepted = subst (λ (p : Parts). perform (look_at p.slots) (act scripts n.pid n.input) ≡ Ok (effect_of (look_at p.slots) n.pid n.input (seen_with (look_at p.slots) scripts n.pid n.input plan))) (sym c.self.view_is) c.requires.accepted in
+    let accepted = subst (λ (p : Parts). perform (look_at p.slots) (act scripts n.pid n.input) ≡ Ok (effect_of (look_at p.slots) n.pid n.input (seen_with (look_at p.slots) scripts n.pid n.input plan))) (sym c.self.view_is) c.requires.planned.accepted in
     let tags = subst (λ (p : Parts). c.in_ok-tags.tags ≡ step_tags (undo_state_of p) (planned_effect p n (seen_with (look_at p.slots) scripts n.pid n.input plan))) (sym c.self.view_is) c.in_ok-tags.ensures.exact in
     subst (λ (p : Parts). MergedTakes (plain scripts) (machine_of p) n (machine_of b)) c.self.view_is
     (takes_of scripts a b n (seen_with (look_at a.slots) scripts n.pid n.input plan) c.in_ok-tags.tags accepted tags (from_ok c.perform.result c.if-is_err.ensures.value c.perform.ensures.writes) (c.depend_all.ensures.opens ∙ sym (append-nil a.opens))
@@ -89,4 +89,4 @@ pub perform-requires-clause-apart : goal.perform-requires-clause-apart
 perform-requires-clause-apart c =
     let planned = λ (m : Parts). seen_with (look_at m.slots) c.args.scripts.now c.args.pid (input_in c.args.input) c.args.plan.now in
     subst (λ (m : Parts). AreApart (entities_of (writes_of (look_at m.slots) c.args.pid (planned m)))) (sym c.self.view_is)
-    (apart_of (look_at c.args.self.now.slots) c.args.pid (planned c.args.self.now) c.requires.beside)
+    (apart_of (look_at c.args.self.now.slots) c.args.pid (planned c.args.self.now) c.requires.planned.can.apart)

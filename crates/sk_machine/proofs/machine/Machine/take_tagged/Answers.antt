@@ -32,7 +32,7 @@ perform_next-requires-clause-can c =
     let was : Parts = record { slots = c.self.inside.logs.slots; opens = opens_of os; guesses = c.self.inside.guesses.view; texts = c.self.inside.terminals } in
     let p : Parts = record { slots = c.set_alike.new.logs.slots; opens = opens_of os; guesses = c.self.inside.guesses.view; texts = c.self.inside.terminals } in
     let view = same_parts p was c.set_alike.ensures.slots refl refl refl ∙ c.self.view_is in
-    subst (λ (q : Parts). CanPerform (look_at q.slots) scripts pid input plan) (sym view) c.requires.can
+    subst (λ (q : Parts). CanPerform (look_at q.slots) scripts pid input plan) (sym view) c.requires.planned.can
 
 pub perform_next-requires-clause-apart : goal.perform_next-requires-clause-apart
 perform_next-requires-clause-apart c =
@@ -45,7 +45,7 @@ perform_next-requires-clause-apart c =
     let p : Parts = record { slots = c.set_alike.new.logs.slots; opens = opens_of os; guesses = c.self.inside.guesses.view; texts = c.self.inside.terminals } in
     let view = same_parts p was c.set_alike.ensures.slots refl refl refl ∙ c.self.view_is in
     subst (λ (q : Parts). AreApart (entities_of (writes_of (look_at q.slots) pid (seen_with (look_at q.slots) scripts pid input plan)))) (sym view)
-    (apart_of (look_at c.args.self.now.slots) pid (seen_with (look_at c.args.self.now.slots) scripts pid input plan) c.requires.beside)
+    (apart_of (look_at c.args.self.now.slots) pid (seen_with (look_at c.args.self.now.slots) scripts pid input plan) c.requires.planned.can.apart)
 
 pub perform_next-requires-clause-clean : goal.perform_next-requires-clause-clean
 perform_next-requires-clause-clean c =
@@ -111,7 +111,7 @@ returns-then-alike-clause-ok c =
     let writes = c.in_ok-alike.ensures.writes c.if-alike.true in
     let n : EntryView = record { pid = pid; input = input; guess = None } in
     let b : Parts = record { slots = c.perform_next.new.logs.slots; opens = opens_of os; guesses = c.self.inside.guesses.view; texts = c.perform_next.new.terminals } in
-    let accepted = subst (λ (q : Parts). perform (look_at q.slots) (act scripts pid input) ≡ Ok (effect_of (look_at q.slots) pid input (seen_with (look_at q.slots) scripts pid input plan))) (sym view) c.requires.accepted in
+    let accepted = subst (λ (q : Parts). perform (look_at q.slots) (act scripts pid input) ≡ Ok (effect_of (look_at q.slots) pid input (seen_with (look_at q.slots) scripts pid input plan))) (sym view) c.requires.planned.accepted in
     on_ok c.perform_next.result c.perform_next.ensures.writes c.perform_next.ensures.says (λ writes says.
     subst (λ (q : Parts). MergedTakes (plain scripts) (machine_of q) n (machine_of b)) view
     (takes_of scripts p b n (seen_with (look_at p.slots) scripts pid input plan) tags accepted (planned_tags p scripts pid input plan tags tidy opens_rise rises own reads (c.in_ok-alike.ensures.writes c.if-alike.true)) writes (sym (append-nil p.opens)) (λ g. refl) says))

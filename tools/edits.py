@@ -200,8 +200,8 @@ def judged(edit, ran, texts):
     if ran.returncode == 1 and lines[-1].startswith(("only=", "logic=not-proved")):
         refused = next((it for it in lines if re.match(r"fn .*: (?:not proved|no proof|depends)", it)), lines[-1])
         errors = [it for it in places if "error" in it]
-        by_name = errors and all(BY_NAME.match(it) for it in errors)
-        return True, f"refused: {refused[:120]}" + by_name * " (only as a proof names what the edit took away)"
+        why = " (only as a proof names what the edit took away)" if errors and all(BY_NAME.match(it) for it in errors) else ""
+        return True, f"refused: {refused[:120]}{why}"
     if ran.returncode == 0:
         return False, "NOT REFUSED: it is proved"
     return False, f"BAD EDIT: it did not reach the prover: {' / '.join(lines[:4])[:400]}"

@@ -1,5 +1,6 @@
-//! Safe Rust over the proved library. Nothing compares these declarations with those of the header:
-//! change both together.
+//! Safe Rust over the proved library. `.ci/declarations` compares what is declared here with the
+//! sources of the library.
+#![warn(missing_docs)]
 use std::ffi::c_void;
 use std::fmt;
 
@@ -21,7 +22,9 @@ struct Told {
 pub struct Counts {
     /// The guesses that were made.
     pub guesses: usize,
+    /// Those that were committed.
     pub committed: usize,
+    /// Those that were failed.
     pub failed: usize,
     /// Those whose own step the failure of another took away.
     pub struck: usize,
@@ -37,6 +40,9 @@ pub struct Counts {
 
 type Asks = unsafe extern "C" fn(*mut Handle, *const u8, usize, *mut u8, usize) -> Told;
 
+// Each of these takes for granted: the handle is of zeros, or as the last call left it, and this is
+// the thread that opened it; no pointer is null, not where a length is 0 either, and each is good
+// for its length; what one call is given does not overlap; a room is set, and so are the counts.
 unsafe extern "C" {
     fn hidewillow_open(handle: *mut Handle, text: *const u8, bytes: usize) -> Told;
     fn hidewillow_line(
@@ -76,22 +82,28 @@ const ABSENT: u32 = 11;
 /// An answer is at most this long.
 const ANSWER_BYTES: usize = 64;
 
-/// What a line is answered.
+/// The first room for a text that is asked for.
+const ROOM_BYTES: usize = 4096;
+
+/// What a line is answered: its call was made.
 #[derive(Debug, Clone, PartialEq, Eq)]
 pub struct Answer {
     /// As the header numbers it.
     pub code: u32,
     /// What it names, as a guess; 0 where it names nothing.
     pub number: u64,
-    /// As the program prints it.
-    pub text: String,
+    /// As the program prints it; `None` where there was no memory for the text.
+    pub text: Option<String>,
 }
 
 /// Why a call gives nothing.
 #[derive(Debug, Clone, Copy, PartialEq, Eq)]
 pub enum Error {
-    /// Of a text its first faulty line; of a line the number of its fault. Nothing has changed.
+    /// Of a text its first faulty line, or 0 where its section is a trace or has a line; of a line
+    /// the number of its fault, as the header has it. Nothing has changed.
     Fault(u64),
+    /// Want of memory. Nothing has changed, with one exception: the line `serve` of a world may
+    /// have taken the oldest request, which the next `serve` then answers.
     Memory,
 }
 
@@ -106,28 +118,48 @@ impl fmt::Display for Error {
 
 impl std::error::Error for Error {}
 
-/// A kernel or a world at play; it ends when it is dropped. It is neither `Send` nor `Sync`: it stays
-/// on its thread.
+/// A kernel or a world at play; it ends when it is dropped. It may be moved, but it is neither `Send`
+/// nor `Sync`: it stays on its thread.
 pub struct Play {
     handle: Handle,
 }
 
+/// A room for a text.
+fn room(bytes: usize) -> Result<Vec<u8>, Error> {
+    let mut room = Vec::new();
+    room.try_reserve_exact(bytes).map_err(|_| Error::Memory)?;
+    room.resize(bytes, 0);
+    Ok(room)
+}
+
 /// The text of a call that has a room of its own: it is made again where the room is too short.
 fn shown(mut ask: impl FnMut(&mut [u8]) -> Told) -> Result<Option<String>, Error> {
-    let mut room = vec![0; 4096];
+    let mut into = room(ROOM_BYTES)?;
     loop {
-        let told = ask(&mut room);
+        let told = ask(&mut into);
         match told.answer {
-            SHOWN if told.bytes > room.len() => room.resize(told.bytes, 0),
-            SHOWN => return Ok(Some(text(&room, told.bytes))),
+            SHOWN if told.bytes > into.len() => into = room(told.bytes)?,
+            SHOWN => return text(&into[..told.bytes]).map(Some).ok_or(Error::Memory),
             ABSENT => return Ok(None),
             _ => return Err(Error::Memory),
         }
     }
 }
 
-fn text(room: &[u8], bytes: usize) -> String {
-    String::from_utf8_lossy(&room[..bytes.min(room.len())]).into_owned()
+/// A text of the library, which is ASCII; `None` without memory for it.
+fn text(bytes: &[u8]) -> Option<String> {
+    let mut text = String::new();
+    text.try_reserve_exact(bytes.len()).ok()?;
+    text.extend(bytes.iter().copied().map(char::from));
+    Some(text)
+}
+
+/// The text of an answer, which is never empty: it is so where the library had no memory for it.
+fn answer_text(room: &[u8], bytes: usize) -> Option<String> {
+    match bytes {
+        0 => None,
+        _ => text(&room[..bytes.min(room.len())]),
+    }
 }
 
 impl Play {
@@ -137,7 +169,8 @@ impl Play {
         let mut handle = Handle {
             at: std::ptr::null_mut(),
         };
-        // SAFETY: the handle holds nothing, as the function requires.
+        // SAFETY: the handle is of zeros. The pointers are those of references, one of them
+        // exclusive: none is null, each is good for its length, and they don't overlap.
         let told = unsafe { hidewillow_open(&mut handle, text.as_ptr(), text.len()) };
         match told.answer {
             OPENED => Ok(Play { handle }),
@@ -146,11 +179,15 @@ impl Play {
         }
     }
 
-    /// Makes the call that a line says, as `guess 1 good`; `None` where the line says nothing.
+    /// Makes the call that a line says, as `guess 1 good`; `None` where the line says nothing. A
+    /// line comes without its line feed.
     pub fn line(&mut self, line: &str) -> Result<Option<Answer>, Error> {
         let mut room = [0; ANSWER_BYTES];
         let (to, of) = (room.as_mut_ptr(), room.len());
-        // SAFETY: a `Play` always holds something, as the function requires; the room is its own.
+        // SAFETY: the handle is as the last call left it, since none but these methods pass it, and
+        // it is on its thread, since a `Play` is not `Send`. The pointers are those of references,
+        // the handle's and the room's exclusive ones: none is null, each is good for its length,
+        // and they don't overlap. The room is set.
         let told = unsafe { hidewillow_line(&mut self.handle, line.as_ptr(), line.len(), to, of) };
         match told.answer {
             NOTHING => Ok(None),
@@ -159,14 +196,14 @@ impl Play {
             code => Ok(Some(Answer {
                 code,
                 number: told.number,
-                text: text(&room, told.bytes),
+                text: answer_text(&room, told.bytes),
             })),
         }
     }
 
     /// The report.
     pub fn report(&mut self) -> Result<String, Error> {
-        // SAFETY: as above.
+        // SAFETY: of the handle and the room as in `line`.
         let ask = |room: &mut [u8]| unsafe {
             hidewillow_report(&mut self.handle, room.as_mut_ptr(), room.len())
         };
@@ -178,22 +215,25 @@ impl Play {
         self.named(hidewillow_value, name)
     }
 
-    /// The undecided guesses that it rests on.
+    /// The undecided guesses that such an entity rests on, as `1,3`, or `-`.
     pub fn tags(&mut self, name: &str) -> Result<Option<String>, Error> {
         self.named(hidewillow_tags, name)
     }
 
     fn named(&mut self, call: Asks, name: &str) -> Result<Option<String>, Error> {
-        // SAFETY: as above.
-        shown(|room| unsafe {
+        // SAFETY: of the handle, the name and the room as in `line`; the call is `hidewillow_value`
+        // or `hidewillow_tags`.
+        let ask = |room: &mut [u8]| unsafe {
             let (to, of) = (room.as_mut_ptr(), room.len());
             call(&mut self.handle, name.as_ptr(), name.len(), to, of)
-        })
+        };
+        shown(ask)
     }
 
-    /// The lines of a terminal.
+    /// The lines of a terminal: how many texts are released and how many wait, and those that are
+    /// released.
     pub fn terminal(&mut self, number: u16) -> Result<String, Error> {
-        // SAFETY: as above.
+        // SAFETY: of the handle and the room as in `line`.
         let ask = |room: &mut [u8]| unsafe {
             hidewillow_terminal(&mut self.handle, number, room.as_mut_ptr(), room.len())
         };
@@ -203,7 +243,7 @@ impl Play {
     /// The guesses and the steps so far.
     pub fn counts(&mut self) -> Result<Counts, Error> {
         let mut counts = Counts::default();
-        // SAFETY: as above.
+        // SAFETY: of the handle as in `line`; the counts are set, and apart from it.
         let told = unsafe { hidewillow_counts(&mut self.handle, &mut counts) };
         match told.answer {
             SHOWN => Ok(counts),
@@ -214,7 +254,7 @@ impl Play {
 
 impl Drop for Play {
     fn drop(&mut self) {
-        // SAFETY: as above, and nothing uses the handle behind this.
+        // SAFETY: of the handle as in `line`, and nothing uses it behind this.
         unsafe { hidewillow_close(&mut self.handle) };
     }
 }

@@ -6,7 +6,9 @@ const START: &str = "script main\nfetch /x\nsay\nend\ncopy /x 3 \"old\"\nprocess
 /// Makes the call of a line, prints its answer, and gives what that names.
 fn line(kernel: &mut Play, text: &str) -> Result<u64, Error> {
     let answer = kernel.line(text)?;
-    let (number, told) = answer.map_or((0, String::new()), |it| (it.number, it.text));
+    let (number, told) = answer.map_or((0, String::new()), |it| {
+        (it.number, it.text.unwrap_or_default())
+    });
     println!("{text:<13} {told}");
     Ok(number)
 }

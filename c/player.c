@@ -1,4 +1,5 @@
-/* Plays the scenario of standard input call by call, and prints what `speculate play -` prints. */
+/* Plays the scenario of standard input call by call, and prints what `speculate play -` prints; with
+ * --counts the counts too. */
 #include "hidewillow.h"
 
 #include <stdio.h>
@@ -85,8 +86,21 @@ static int report(hidewillow_handle *handle)
     return told.answer == HIDEWILLOW_SHOWN;
 }
 
-int main(void)
+/* Prints the counts. */
+static int counts(hidewillow_handle *handle)
 {
+    hidewillow_counted it = {0};
+    hidewillow_told told = hidewillow_counts(handle, &it);
+    if (told.answer != HIDEWILLOW_SHOWN) return 0;
+    puts("counts");
+    printf("guesses %zu committed %zu failed %zu struck %zu\n", it.guesses, it.committed, it.failed, it.struck);
+    printf("steps %zu back %zu open %zu\n", it.steps, it.taken_back, it.most_open);
+    return printf("notes %zu\n", it.notes) > 0;
+}
+
+int main(int words, char **word)
+{
+    int is_counted = words > 1 && !strcmp(word[1], "--counts");
     size_t bytes;
     uint8_t *text = input(&bytes);
     if (!text) return 3;
@@ -96,7 +110,7 @@ int main(void)
     hidewillow_told told = hidewillow_open(&handle, text, (size_t)(lines - text));
     int is_played = told.answer == HIDEWILLOW_OPENED;
     if (is_played) {
-        is_played = play(&handle, lines, end) && report(&handle);
+        is_played = play(&handle, lines, end) && report(&handle) && (!is_counted || counts(&handle));
         hidewillow_close(&handle);
     }
     free(text);

@@ -2,10 +2,11 @@
  * kernel and a server.
  *
  * What is at play is held by a handle, which begins as {0}, and holds nothing then. A handle is
- * passed by its address, never copied or written, and used by one thread, that which opened it;
- * hidewillow_close lets go of what it holds, after which it may be opened again. Memory comes from
- * malloc, realloc and free. No call keeps a pointer that it was given, starts a thread, waits, or
- * ends the process.
+ * passed by its address, never written, and used by one thread, that which opened it. It may be
+ * moved, as by an assignment, if only the copy is used from then on: it is just the pointer of a
+ * block that has what it holds, and no call keeps a pointer that it was given. hidewillow_close
+ * lets go of what it holds, after which it may be opened again. Memory comes from malloc, realloc
+ * and free. No call starts a thread, waits, or ends the process.
  *
  * What the proofs take for granted, and nothing tests: a handle is {0} or as the last call left it;
  * no pointer is null, not where a length is 0 either; what one call is given does not overlap; a
@@ -42,8 +43,8 @@ enum hidewillow_answer {
     HIDEWILLOW_FAULT = 6,          /* nothing has changed; of a line `number` is 1 word, 2 operand,
                                       3 label, 4 too long; of hidewillow_open the first faulty line,
                                       or 0 where the section is a trace or has a line */
-    HIDEWILLOW_MEMORY = 7,         /* want of memory: nothing has changed, but that a world may have
-                                      taken a request */
+    HIDEWILLOW_MEMORY = 7,         /* want of memory: nothing has changed, but that a `serve` may
+                                      have taken the oldest request, which the next one answers */
     HIDEWILLOW_NOTHING = 8,        /* the line is blank or a comment: nothing has changed */
     /* of the other calls */
     HIDEWILLOW_OPENED = 9,         /* the handle holds what the text declares */
@@ -91,9 +92,11 @@ typedef struct {
 hidewillow_told hidewillow_open(hidewillow_handle *handle, const uint8_t *text, size_t text_bytes);
 
 /* Makes the call that a line of the section says: `step PID INPUT`, `guess PID INPUT`, `commit G`
- * or `fail G`; of a world `turn PID`, `serve`, `reply` or `edit NAME VERSION BYTES`. The text is
- * the answer as the program prints it behind the number of the event; it has at most 40 bytes.
- * Without memory for it there is none, and the answer holds all the same. */
+ * or `fail G`; of a world `turn PID`, `serve`, `reply` or `edit NAME VERSION BYTES`. A line comes
+ * without its line feed, and without a carriage return before it: here they are bytes of a word.
+ * The text is the answer as the program prints it behind the number of the event; it has at most 40
+ * bytes. Without memory for it `bytes` is 0, the room is as it was, and the answer holds all the
+ * same: no answer to a call that was made has an empty text. */
 hidewillow_told hidewillow_line(hidewillow_handle *handle, const uint8_t *line, size_t line_bytes,
                                 uint8_t *room, size_t room_bytes);
 

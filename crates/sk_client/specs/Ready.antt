@@ -6,7 +6,7 @@ use Rattle.sk_kernel.specs.Kernel.{KernelView, undecided_at}
 use Rattle.sk_kernel.specs.Laws.{HasSoundTrace}
 use Rattle.sk_client.specs.Table.{IsNumbered}
 
--- a kernel was booted, whatever it did since: its trace is sound, with a place for the decision of each undecided guess
+-- a kernel was booted, whatever it did since but begin an epoch: its trace is sound, with a place for the decision of each undecided guess
 pub record WasBooted (k : KernelView) : Type 0 where
   pub boot : BootView
   pub numbered : IsNumbered boot

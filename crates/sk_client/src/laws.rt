@@ -25,9 +25,10 @@ ghost use Rattle.sk_client.specs.declared.world.WorldEvent.{WorldEvent};
 
 use sk_script::{Boot, BootProcess};
 
-/// A kernel that was booted is such after each of its calls, whatever they are answered, by what they ensure. With the
-/// numbers of its boot (`numbered`) it is so from `Kernel::boot` on. It is ready where nothing is undecided, which is what
-/// `Desk::new` requires of it.
+/// A kernel that was booted is such after each step, guess, commit and failure, whatever they are answered, by what these
+/// calls ensure; of a hand-in nothing is said here, and a kernel behind a new epoch begins at the state there. With the numbers
+/// of its boot (`numbered`) it is so from `Kernel::boot` on. It is ready where nothing is undecided, which is what `Desk::new`
+/// requires of it.
 pub fn ready()
     ensures boot { (number : ℕ) (boot : BootView) (limit : ℕ) → IsNumbered boot
         → WasBooted (booted number boot limit) }

@@ -3,16 +3,17 @@
 
     tools/api.py            the page
     tools/api.py --write    puts it into docs/API.md
-    tools/api.py --check    whether it stands there, and each definition that it lists has a comment; the last line is
-                            'N passed, M failed'
+    tools/api.py --check    whether it stands there, each definition that it lists has a comment, and `hidewillow` passes on
+                            what the contracts behind it cite; the last line is 'N passed, M failed'
     tools/api.py --bare     the definitions that contracts cite and that have no comment
 """
 import re
 import sys
 sys.dont_write_bytecode = True
-from sources import Index, ROOT, crates, imports_of, words_of
+from sources import Index, ROOT, crates, imports_of, module_of, words_of
 
 PAGE = ROOT / "docs/API.md"
+DOOR = ROOT / "crates/hidewillow"
 HEAD = """# The calls and their contracts
 
 Made from the sources by `tools/api.py`; the gate compares. Each item has its first words and its contract. In a
@@ -104,11 +105,33 @@ def shown(lines, owner):
     return out
 
 
+def passed_on():
+    """The names that `hidewillow` passes on of each crate, or None where it passes on the crate whole."""
+    text = (DOOR / "src/lib.rt").read_text()
+    some = re.findall(r"^pub use (sk_\w+)::(\{.*?\}|\w+);", text, re.M | re.S)
+    return {crate: re.findall(r"\w+", names) for crate, names in some} | dict.fromkeys(re.findall(r"^pub use (sk_\w+) as", text, re.M))
+
+
 def listed():
     """The crates of the page: those that `hidewillow` passes on, highest first, and then those for threads."""
-    door = (ROOT / "crates/hidewillow/src/lib.rt").read_text()
-    passed = set(re.findall(r"^pub use (sk_\w+)", door, re.M))
+    passed = passed_on()
     return [it for it in reversed(crates()) if it in passed] + ["sk_crew", "sk_workers", "sk_wire"]
+
+
+def cited_by(index, crate, names):
+    """The definitions that the contracts of these names of a crate cite, or of all its names."""
+    for path in pages_of(crate):
+        lines = path.read_text().split("\n")
+        for _, whole, owner in items(lines):
+            if names is None or (owner or ITEM.match(whole[0])[2]) in names:
+                yield from (index.find(*it) for it in words_of(shown(whole, owner)[1:], imports_of(lines)) if it[0])
+
+
+def not_passed_on(index):
+    """The modules of definitions that contracts behind `hidewillow` cite and that it does not pass on."""
+    passed = set(re.findall(r"^pub use Rattle\.([\w.]+)", (DOOR / "specs/Lib.antt").read_text(), re.M))
+    cited = (it for crate, names in passed_on().items() for it in cited_by(index, crate, names))
+    return sorted({module_of(it.file) for it in cited if it and it.file.suffix == ".antt"} - passed)
 
 
 def page(index):
@@ -134,14 +157,15 @@ def page(index):
 
 
 def main():
-    new, cited = page(Index())
+    index = Index()
+    new, cited = page(index)
     bare = [f"{it.file.relative_to(ROOT)}: {it.name}" for it in cited if not it.comment]
     if sys.argv[1:] == ["--write"]:
         PAGE.write_text(new)
     elif sys.argv[1:] == ["--bare"]:
         print("\n".join(bare))
     elif sys.argv[1:] == ["--check"]:
-        faults = [f"{it} has no comment" for it in bare]
+        faults = [f"{it} has no comment" for it in bare] + [f"hidewillow does not pass on {it}" for it in not_passed_on(index)]
         if not PAGE.exists() or PAGE.read_text() != new:
             faults.append("docs/API.md is not what `tools/api.py --write` makes")
         print("\n".join(faults))

@@ -1,14 +1,14 @@
 #!/usr/bin/env python3
 """Measures what the kernel's calls cost, on generated scenarios, and prints the ratios.
 
-    bench/speed.py [--program PATH] [--only WORD] [--seconds]
+    bench/speed.py [--program PATH] [--unproved PATH] [--only WORD] [--seconds]
 
-PATH is the program `speculate`, as `rt run` leaves it: `crates/speculate/out/speculate` where none is
-given. Costs are instructions, counted by valgrind's cachegrind, and so the same at each run; with
-`--seconds` they are the processor's seconds, the best of five runs. Reading the scenario and printing the answers is
-taken off: the first is what `speculate plain` does of the same file before it refuses the section, the
-second what an event costs for which the run holds no token. What stands left and right of a ratio is
-named in its row. The status is 1 where a ratio is over its limit.
+PATH is the program `speculate`, as `rt run` leaves it: `crates/speculate/out/speculate` where none is given. With
+`--unproved` one row more compares another build with it, as `tools/build.py` leaves one in `build/speculate`. Costs are
+instructions, counted by valgrind's cachegrind, and so the same at each run; with `--seconds` they are the processor's
+seconds, the best of five runs. Reading the scenario and printing the answers is taken off: the first is what `speculate
+plain` does of the same file before it refuses the section, the second what an event costs for which the run holds no
+token. What stands left and right of a ratio is named in its row. The status is 1 where a ratio is over its limit.
 """
 import argparse
 import functools
@@ -32,6 +32,8 @@ SAME_TAGS = 2
 NEW_TAGS = 4
 # A long computation under a guess, in instructions and in peak memory.
 UNDER_A_GUESS = 1.1
+# A build without proofs, in which the checks are left that a proof makes needless.
+UNPROVED = 3.5
 
 
 def spent():
@@ -149,15 +151,11 @@ def steps(before, body, count, guesses, guesser, drawn=OPEN):
     return scenario(first, ["step 1 none"] * count, others, FILES, [f"{take} 2 good"] * drawn + lead)
 
 
-def step_limit(name, guesser, drawn):
+def step_limit(name, guesser):
     """The limit of a row of `step_rows`."""
     if guesser == 2:
         return LOOSE
-    if drawn == 1:
-        return None
-    if name in ("private", "read", "look in a directory"):
-        return SAME_TAGS
-    return NEW_TAGS if name in ("make a file", "fork") else None
+    return SAME_TAGS if name in ("private", "read", "look in a directory") else NEW_TAGS
 
 
 def step_rows(meter):
@@ -166,7 +164,7 @@ def step_rows(meter):
     for guesser, drawn, whose in ((2, OPEN, "of others"), (1, 1, "its own"), (1, OPEN, "its own")):
         for name, before, body in kinds():
             cost = lambda guesses: meter.each(lambda n: steps(before, body, n, guesses, guesser, drawn), 600, 1200, 1)
-            yield f"step, {name}: {drawn} open ({whose}) / none", cost(True), cost(False), step_limit(name, guesser, drawn)
+            yield f"step, {name}: {drawn} open ({whose}) / none", cost(True), cost(False), step_limit(name, guesser)
 
 
 def coming_to_rest(count, guesses, reads):
@@ -323,10 +321,13 @@ def long_rows(meter):
 TABLE_EVENTS = 20_000
 
 
+def private_steps(count):
+    return scenario(looping(["set r0 1"], 64), ["step 1 none"] * count)
+
+
 def table():
     """The kinds of runs of which the whole program is measured: a scenario of so many events, and the most instructions that
     an event may take."""
-    private = lambda count: scenario(looping(["set r0 1"], 64), ["step 1 none"] * count)
     lead = ["look r1 r7 f", "set r2 0", 'text "abcdefgh"']
     file = lambda count: scenario(lead + looping(["write r1 r2", "read r1 r2"], 32), ["step 1 none"] * count, objects=FILES)
     body = looping(["fetch /x", "set r0 1", "set r0 2"], 32)
@@ -334,7 +335,7 @@ def table():
     turns = ["turn 1"] * 4 + ["serve"] * 2 + ["reply"] * 2
     world = lambda count: "\n".join(script("first", looping(["fetch /x", "set r0 1"], 32)) + ['copy /x 3 "old"', 'remote /x 3 "old"', "process 1 first 1", "world"] + turns * (count // 8)) + "\n"
     return [
-        ("private steps", private, 1_300),
+        ("private steps", private_steps, 1_300),
         ("writes and reads of 8 bytes of a file", file, 1_900),
         ("guess, two steps, commit", guess, 2_000),
         ("a world: four turns, two serves, two replies", world, 2_600),
@@ -347,11 +348,15 @@ def table_rows(meter):
         yield f"{name}: an event / its limit", meter.run("play", make(TABLE_EVENTS)) / TABLE_EVENTS, limit, 1
     # So many that the peak is the program's own, above that of this script, from which it is started.
     many = 400_000
-    private = looping(["set r0 1"], 64)
-    plain = scenario(private, ["step 1 none"] * many)
-    under = scenario(["fetch /x"] + private, ["step 1 none"] * many, before=["guess 1 good"])
-    yield "private steps: peak bytes an event / their limit", meter.peak(plain) * 1024 / many, 130, 1
+    under = scenario(["fetch /x"] + looping(["set r0 1"], 64), ["step 1 none"] * many, before=["guess 1 good"])
+    yield "private steps: peak bytes an event / their limit", meter.peak(private_steps(many)) * 1024 / many, 130, 1
     yield "the same under one guess", meter.peak(under) * 1024 / many, 130, 1
+
+
+def unproved_rows(meter, unproved):
+    """The whole run of a build without proofs, by that of the proved program."""
+    text = private_steps(TABLE_EVENTS)
+    yield f"{TABLE_EVENTS:,} private steps played, without proofs / proved", unproved.run("play", text), meter.run("play", text), UNPROVED
 
 
 BLOCK = "b" * 512
@@ -415,6 +420,7 @@ def shown(cost, seconds):
 def main():
     words = argparse.ArgumentParser(description=__doc__, formatter_class=argparse.RawDescriptionHelpFormatter)
     words.add_argument("--program", default=os.path.join(TOP, "crates/speculate/out/speculate"))
+    words.add_argument("--unproved", help="a build without proofs, for a row more")
     words.add_argument("--only", default="", help="the rows whose name has this word")
     words.add_argument("--seconds", action="store_true", help="seconds in place of instructions")
     words = words.parse_args()
@@ -423,16 +429,16 @@ def main():
     meter = Meter(words.program, words.seconds)
     unit = "microseconds" if words.seconds else "instructions"
     print(f"{'ratio':>7} {'limit':>6} {unit + ' left':>20} {'right':>14}  what")
+    kinds = (table_rows, step_rows, rest_rows, long_rows, decision_rows, held_rows, nested_rows, text_rows, block_rows)
+    tables = [(it.__name__, it(meter)) for it in kinds]
+    if words.unproved:
+        tables.append(("unproved_rows", unproved_rows(meter, Meter(words.unproved, words.seconds))))
     over = 0
-    for rows in (table_rows, step_rows, rest_rows, long_rows, decision_rows, held_rows, nested_rows, text_rows, block_rows):
-        if words.only and words.only not in rows.__name__:
-            continue
-        for name, left, right, limit in rows(meter):
-            ratio = left / right
-            bad = limit is not None and ratio > limit
-            over += bad
-            mark = " OVER" if bad else ""
-            print(f"{ratio:7.3f} {limit if limit else '-':>6} {shown(left, words.seconds):>20} {shown(right, words.seconds)}  {name}{mark}", flush=True)
+    for name, left, right, limit in (row for kind, rows in tables if words.only in kind for row in rows):
+        ratio = left / right
+        over += ratio > limit
+        mark = " OVER" if ratio > limit else ""
+        print(f"{ratio:7.3f} {limit:>6} {shown(left, words.seconds):>20} {shown(right, words.seconds)}  {name}{mark}", flush=True)
     print(f"{over} over their limit")
     return 1 if over else 0
 

@@ -1,26 +1,26 @@
 #!/usr/bin/env python3
 """Draws the run of a scenario: lanes, guesses as bands, what went from lane to lane, and what a failure took back.
 
-    tools/picture.py SCENARIO [--program PATH | --try] [--html PAGE] [--svg FILE]
+    tools/picture.py SCENARIO [--program PATH] [--html PAGE] [--svg FILE]
 
-PATH is the program `speculate`: `crates/speculate/out/speculate` where none is given. Where that is not built, or with
-`--try`, `rt try` builds one for this run without proofs, in some three minutes. The page stands alone and replays
-the run by a slider; `PAGE#at=8` opens it after event 8. The SVG is its last state, for documents. Where neither is
-asked for, the page is written to NAME.html in the current folder. The status is 1 where the program refuses the
-scenario, which is one of `steps` or of a `world`.
+PATH is the program `speculate`: `build/speculate` where none is given, which `tools/build.py` builds in some two minutes where
+it does not stand. The page stands alone and replays the run by a slider; `PAGE#at=8` opens it after event 8. The SVG
+is its last state, for documents. Where neither is asked for, the page is written to NAME.html in the current folder. The
+status is 1 where the program refuses the scenario, which is one of `steps` or of a `world`.
 """
 import argparse
 import html
 import json
 import os
 import re
+import subprocess
 import sys
 
 sys.dont_write_bytecode = True
 import told  # noqa: E402
 
 HERE = os.path.dirname(os.path.abspath(__file__))
-PROGRAM = os.path.join(os.path.dirname(HERE), "crates/speculate/out/speculate")
+PROGRAM = os.path.join(os.path.dirname(HERE), "build/speculate")
 INK, SOFT, RULE, GREY, RED, GREEN = "#1f2328", "#6e7781", "#d8dee4", "#8c959f", "#cf222e", "#1a7f37"
 HUES = ["#2f6fde", "#8250df", "#0b8a94", "#c76a00", "#bf3989", "#57713a", "#4b5fa8", "#9a5b34"]
 FACE = "Inter, Helvetica, Arial, DejaVu Sans, sans-serif"
@@ -569,18 +569,26 @@ def write(program, scenario, to_page, to_svg):
                 file.write(words)
 
 
+def program():
+    """The program in build/, which is built where it does not stand."""
+    if not os.path.exists(PROGRAM):
+        print("no program is built: tools/build.py builds it, in some two minutes", file=sys.stderr)
+        if subprocess.run([f"{HERE}/build.py", "program"], check=False).returncode:
+            sys.exit(1)
+    return PROGRAM
+
+
 def main():
     words = argparse.ArgumentParser(description=__doc__, formatter_class=argparse.RawDescriptionHelpFormatter)
     words.add_argument("scenario")
-    words.add_argument("--program", default=PROGRAM if os.path.exists(PROGRAM) else None)
-    words.add_argument("--try", dest="program", action="store_const", const=None)
+    words.add_argument("--program")
     words.add_argument("--html")
     words.add_argument("--svg")
     given = words.parse_args()
     if not given.html and not given.svg:
         given.html = re.sub(r"\.scenario$", "", os.path.basename(given.scenario)) + ".html"
     try:
-        write(given.program, given.scenario, given.html, given.svg)
+        write(given.program or program(), given.scenario, given.html, given.svg)
     except (told.Fault, OSError) as fault:
         sys.exit(f"{given.scenario}: {fault}")
 

@@ -2,16 +2,11 @@
 
 The program is run once with `--steps` on the whole scenario, and once on each beginning of its section; all values,
 tags, reads, writes and outputs are its own. What is looked up here in the scenario is what no report repeats: the
-instruction at a place, the script of a process and its terminal. Where no program is built, `rt try` builds one for
-these runs, without proofs.
+instruction at a place, the script of a process and its terminal.
 """
-import os
 import re
 import subprocess
-import sys
-import tempfile
 
-CRATE = os.path.join(os.path.dirname(os.path.dirname(os.path.abspath(__file__))), "crates/speculate")
 SECTIONS = ("steps", "world")
 WORD = re.compile(r'"(?:\\.|[^"\\])*"[^ \t]*|[^ \t]+')
 PROCESS = re.compile(r'at (\d+) regs \S+(?: \S+){7} buf (".*") kids .* ended (yes|no)')
@@ -42,38 +37,6 @@ def played(program, text, *flags):
     if ran.returncode:
         raise Fault(ran.stderr.decode(errors="replace").strip() or f"the program ended with {ran.returncode}")
     return ran.stdout.decode("ascii").split("\n")[:-1]
-
-
-def played_unproved(texts):
-    """The lines for each of these scenarios, the last of them with `--steps`, by a program that `rt try` builds for them."""
-    print("no program is built: rt try builds one without proofs, in some three minutes", file=sys.stderr)
-    with tempfile.TemporaryDirectory() as room:
-        for number, text in enumerate(texts):
-            with open(f"{room}/{number:06}", "wb") as file:
-                file.write(text.encode("utf-8", "surrogateescape"))
-        with open(f"{room}/{len(texts) - 1:06}.args", "w", encoding="ascii") as file:
-            file.write("--steps\n")
-        try:
-            ran = subprocess.run(["rt", "try", "--cases", room, "--", "play", "-"], cwd=CRATE, capture_output=True)
-        except OSError as error:
-            raise Fault(f"no program is built, and rt cannot be run: {error.strerror}") from error
-    said = ran.stderr.decode(errors="replace")
-    if len(re.findall(r"^case=\d+ run=ended status=0 ", said, re.M)) != len(texts):
-        raise Fault(next((it for it in said.split("\n") if it.startswith("speculate: ")), said.strip()))
-    runs = {}
-    for line in ran.stdout.decode("ascii").split("\n")[:-1]:
-        if line.startswith("== "):
-            lines = runs[int(line[3:])] = []
-        else:
-            lines.append(line)
-    return [runs[number] for number in range(len(texts))]
-
-
-def all_played(program, texts):
-    """The lines for each of these scenarios, the last of them with `--steps`."""
-    if program is None:
-        return played_unproved(texts)
-    return [*(played(program, text) for text in texts[:-1]), played(program, texts[-1], "--steps")]
 
 
 class Scenario:
@@ -223,8 +186,8 @@ class Run:
         self.scenario = Scenario(text)
         events = self.scenario.events
         beginnings = [self.scenario.beginning(count) for count in range(len(events) + 1)]
-        *reports, listed = all_played(program, [*beginnings, beginnings[-1]])
-        listed = iter(listed)
+        reports = [played(program, it) for it in beginnings]
+        listed = iter(played(program, beginnings[-1], "--steps"))
         self.states = [State(report[count:]) for count, report in enumerate(reports)]
         self.events, self.texts, self.guesses = [], [], {}
         line = next(listed)

@@ -1,7 +1,7 @@
 //! Random desks whose server lies: replies of the wrong number or kind, replies that are false, twice or late.
 use crate::calls::{any_of, process};
 use crate::leasing::{Tally, any_count, given_up, hand_in_answer, lease_refusal};
-use crate::numbers::runs_after;
+use crate::numbers::{at_most, runs_after};
 use crate::reckoning::Reckoning;
 use crate::scenarios::{ScenarioKind, scenario};
 use crate::worlds::{Course, held};
@@ -387,7 +387,7 @@ fn desks<R: Abort + Env + Alloc>(rt: &R, alloc: Global, kind: ScenarioKind, from
     let mut replied = 0u64;
     let mut hand_ins = Tally::default();
     let first = runs_after(rt).saturating_add(from);
-    for number in first..first.saturating_add(DESKS) {
+    for number in first..first.saturating_add(at_most(rt, DESKS)) {
         match desk(alloc, number, kind) {
             Ok(talked) => {
                 replied = replied.saturating_add(talked.replied);

@@ -10,3 +10,11 @@ pub fn runs_after<R: Env + Alloc>(rt: &R) -> u64 {
         Err(_) => 0,
     }
 }
+
+/// How many of so many runs are made: all, or what RUNS in the environment says, where that is fewer.
+pub fn at_most<R: Env + Alloc>(rt: &R, all: u64) -> u64 {
+    match env::var(rt, "RUNS") {
+        Ok(text) => text.parse::<u64>().unwrap_or(all).min(all),
+        Err(_) => all,
+    }
+}

@@ -3,7 +3,7 @@ use crate::calls::{Habit, answer, call, process};
 use crate::epochs::{Before, begins};
 use crate::judge::judge;
 use crate::leasing::{Tally, any_count, hand_in_answer, lease_refusal};
-use crate::numbers::runs_after;
+use crate::numbers::{at_most, runs_after};
 use crate::reckoning::Reckoning;
 use crate::scenarios::{ScenarioKind, scenario};
 use crate::session::{SessionAnswer, TokenSession};
@@ -327,7 +327,7 @@ fn run(rt: &impl Abort, alloc: Global, number: u64, manner: Manner) -> Result<Ta
 fn runs<R: Abort + Env + Alloc>(rt: &R, alloc: Global, count: u64, manner: Manner) {
     let mut all = Tally::default();
     let first = runs_after(rt).saturating_add(1);
-    for number in first..first.saturating_add(count) {
+    for number in first..first.saturating_add(at_most(rt, count)) {
         match run(rt, alloc, number, manner) {
             Ok(tally) => all.add(tally),
             Err(finding) => panic!(rt; "run {number}, {manner:?}: {finding:?}"),

@@ -4,7 +4,7 @@ ghost use Rattle.std.specs.Prelude.{◌≡◌, IfOk};
 use crate::calls::{any_of, process};
 use crate::epochs::Before;
 use crate::judge::judge;
-use crate::numbers::runs_after;
+use crate::numbers::{at_most, runs_after};
 use crate::reckoning::Reckoning;
 use crate::scenarios::{ScenarioKind, remotes, scenario};
 use rand_core::Rng;
@@ -527,7 +527,7 @@ fn worlds<R: Abort + Env + Alloc>(
 ) {
     let mut accepted = 0usize;
     let first = runs_after(rt).saturating_add(from);
-    for number in first..first.saturating_add(WORLDS) {
+    for number in first..first.saturating_add(at_most(rt, WORLDS)) {
         match world(alloc, number, kind, pace) {
             Ok(count) => accepted = accepted.saturating_add(count),
             Err(finding) => panic!(rt; "world {number}, {kind:?}, {pace:?}: {finding:?}"),

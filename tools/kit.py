@@ -1,4 +1,4 @@
-"""What scripts need to call the kit's prover on one crate, over the libraries that `rt ci` has built."""
+"""What `crates.txt` says, and what it takes to call the kit's prover on one crate, over the libraries that `rt ci` has built."""
 import functools
 import os
 import pathlib
@@ -17,8 +17,8 @@ def kit():
 @functools.cache
 def lines_of_crates():
     """The words before and behind the colon of each line of `crates.txt`, by crate."""
-    lines = [it.partition(":") for it in (ROOT / "crates.txt").read_text().splitlines() if ":" in it]
-    return {head.split()[0]: (head.split()[1:], tail.split()) for head, _, tail in lines}
+    lines = [it.partition("#")[0].partition(":") for it in (ROOT / "crates.txt").read_text().splitlines()]
+    return {head.split()[0]: (head.split()[1:], tail.split()) for head, _, tail in lines if head.strip()}
 
 
 def listed(crate):

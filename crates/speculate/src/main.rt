@@ -3,13 +3,7 @@
 #![tactic(auto)]
 
 pub mod program;
-#[cfg(test)]
-mod talking_tests;
-#[cfg(test)]
-mod tests;
 mod working;
-#[cfg(test)]
-mod working_tests;
 
 use crate::program::run;
 use sk_command::end::End;

@@ -4,13 +4,14 @@ ghost use Rattle.sk_client.specs.Desk.{opened_at};
 
 use crate::again::{Peer, run_again};
 use crate::judge::judge_files;
+use crate::meeting::Meeting;
 use crate::turns::judge_calls;
 use sk_client::Desk;
 use sk_crew::{CrewPlan, run_crew};
 use sk_play::desk_of;
 use sk_scenario::Declarations;
 use sk_server::Server;
-use sk_workers::{Gate, History, HistoryEntry};
+use sk_workers::{History, HistoryEntry};
 use std::alloc::Global;
 use std::marker::Brand;
 use std::sync::Wait;
@@ -19,14 +20,6 @@ use std::thread::Threads;
 use tests_support::finding::Finding;
 use tests_support::judge::judge_settled;
 
-/// Waits for nothing.
-#[derive(Drop)]
-struct FreeGate;
-
-impl Gate for FreeGate {
-    fn before(&self, _worker: u8, _turn: u64) {}
-}
-
 /// Has a crew work on a desk.
 fn crew<R: Threads + Wait + Sync>(
     rt: &R,
@@ -34,13 +27,14 @@ fn crew<R: Threads + Wait + Sync>(
     desk: Desk,
     server: Server,
     plan: CrewPlan,
+    meeting: &Meeting,
 ) -> Result<(History, Server), Finding>
     requires count { (1 ≤ plan.workers) × (plan.workers ≤ 8) }
     requires opened { desk ≡ opened_at desk.kernel desk.first }
     requires trace { desk.kernel.trace ≡ [] }
 {
     let blank = Blank::new(u64::from(plan.workers));
-    match run_crew::<Brand, R, FreeGate>(rt, alloc, blank, desk, server, plan, &FreeGate) {
+    match run_crew::<Brand, R, Meeting>(rt, alloc, blank, desk, server, plan, meeting) {
         Ok(done) => Ok(done),
         Err(_) => Err(Finding::Crew),
     }
@@ -63,8 +57,23 @@ fn repeat(fresh: &mut Desk, peer: &mut Peer, left: &CrewLeft) -> Result<(), Find
     judge_files(peer.server(), left.server)
 }
 
-/// Judges what a crew leaves.
-fn judge_crew(
+/// Judges the calls of a history on a fresh desk.
+fn judge_fresh(
+    alloc: Global,
+    fresh: &mut Desk,
+    server: Server,
+    plan: CrewPlan,
+    left: &CrewLeft,
+) -> Result<(), Finding>
+    requires { 1 ≤ plan.workers }
+{
+    let mut peer = Peer::new(alloc, server);
+    judge_calls(alloc, fresh.kernel(), plan, left.entries)?;
+    repeat(fresh, &mut peer, left)
+}
+
+/// Judges the calls of a history.
+fn judge_history(
     alloc: Global,
     declarations: &Declarations,
     plan: CrewPlan,
@@ -72,49 +81,70 @@ fn judge_crew(
 ) -> Result<(), Finding>
     requires { 1 ≤ plan.workers }
 {
+    let (mut fresh, server) = desk_of(alloc, declarations)?;
+    let judged = judge_fresh(alloc, &mut fresh, server, plan, left);
+    fresh.abandon();
+    judged
+}
+
+/// Judges what a crew leaves whose workers met: how many calls it made.
+fn judge_crew(
+    alloc: Global,
+    declarations: &Declarations,
+    plan: CrewPlan,
+    meeting: &Meeting,
+    left: &CrewLeft,
+) -> Result<usize, Finding>
+    requires { 1 ≤ plan.workers }
+{
     if left.desk.pending() > 0 {
         return Err(Finding::Pending);
     }
     judge_settled(alloc, declarations.boot(), left.desk.kernel())?;
-    let (mut fresh, server) = desk_of(alloc, declarations)?;
-    let mut peer = Peer::new(alloc, server);
-    let calls = judge_calls(alloc, fresh.kernel(), plan, left.entries);
-    let repeated = repeat(&mut fresh, &mut peer, left);
-    fresh.abandon();
-    calls?;
-    repeated
+    meeting.judge(left.entries)?;
+    judge_history(alloc, declarations, plan, left)?;
+    Ok(left.entries.len())
 }
 
-/// One crew: how many calls it makes.
+/// One crew, whose workers meet: how many calls it makes.
 fn one_crew<R: Threads + Wait + Sync>(
     rt: &R,
     alloc: Global,
     declarations: &Declarations,
     plan: CrewPlan,
+    meeting: &Meeting,
 ) -> Result<usize, Finding>
     requires count { (1 ≤ plan.workers) × (plan.workers ≤ 8) }
 {
     let (desk, server) = desk_of(alloc, declarations)?;
-    let (History { entries, desk }, server) = crew(rt, alloc, desk, server, plan)?;
+    let (History { entries, desk }, server) = crew(rt, alloc, desk, server, plan, meeting)?;
     let left = CrewLeft {
         entries: entries.as_slice(),
         desk: &desk,
         server: &server,
     };
-    let judged = judge_crew(alloc, declarations, plan, &left);
+    let judged = judge_crew(alloc, declarations, plan, meeting, &left);
     desk.abandon();
-    judged?;
-    Ok(entries.len())
+    judged
 }
 
-/// Has so many crews work, each with a turn fewer a worker than the one before, and judges each: how many calls they make.
+/// How many workers meet in the crew of a number: in every second one all that have a process.
+fn guests_of(declarations: &Declarations, number: u32) -> usize {
+    if number % 2 == 0 {
+        declarations.boot().processes().len()
+    } else {
+        0
+    }
+}
+
+/// Has so many crews work, each with a turn fewer a worker than the one before, and judges each; some call has to be made.
 pub fn judge_crews<R: Threads + Wait + Sync>(
     rt: &R,
     alloc: Global,
     declarations: &Declarations,
     plan: CrewPlan,
     crews: u32,
-) -> Result<usize, Finding>
+) -> Result<(), Finding>
     requires count { (1 ≤ plan.workers) × (plan.workers ≤ 8) }
     requires turns { 1 ≤ plan.turns }
 {
@@ -122,8 +152,12 @@ pub fn judge_crews<R: Threads + Wait + Sync>(
     for number in 0..crews {
         let turns = plan.turns - number % plan.turns;
         let plan = CrewPlan { turns, ..plan };
-        let made = one_crew(rt, alloc, declarations, plan)?;
+        let meeting = Meeting::new(alloc, plan.workers, guests_of(declarations, number))?;
+        let made = one_crew(rt, alloc, declarations, plan, &meeting)?;
         calls = calls.saturating_add(made);
     }
-    Ok(calls)
+    if calls == 0 {
+        return Err(Finding::Crew);
+    }
+    Ok(())
 }

@@ -1,16 +1,16 @@
-//! `crew_tests WORKERS TURNS CREWS < SCENARIO`: crews run the processes of a scenario, one crew after the other, and each is
-//! judged: each worker makes the turns that are its own, in its rounds; a fresh desk and a fresh server answer each call as the
-//! crew's did and come to the same trace and files; and the kernel stands as the plain kernel does. Its tests judge crews of a
-//! scenario of their own.
+//! `crew_tests WORKERS TURNS CREWS [AHEAD] < SCENARIO`: crews run the processes of a scenario, one crew after the other, and each
+//! is judged: each worker makes the turns that are its own, in its rounds, and passes the gate before each of them, where in every
+//! second crew all meet; a fresh desk and a fresh server answer each call as the crew's did and come to the same trace and files;
+//! and the kernel stands as the plain kernel does. A worker runs up to AHEAD private instructions before a turn, 64 where the
+//! word is not there.
 #![tactic(auto)]
 
-ghost use Rattle.std.specs.Prelude.{◌≤◌, IfSome};
+ghost use Rattle.std.specs.Prelude.{◌≤◌, IfOk, IfSome};
 
 mod again;
 mod crews;
 mod judge;
-#[cfg(test)]
-mod tests;
+mod meeting;
 mod turns;
 
 use crate::crews::judge_crews;
@@ -24,7 +24,7 @@ use std::sync::Wait;
 use std::thread::Threads;
 use tests_support::finding::Finding;
 
-/// How many private instructions a worker runs at most before each of its turns.
+/// How many private instructions a worker runs at most before each of its turns, where no word says it.
 const AHEAD: u32 = 64;
 
 /// How many crews there are, and how large each is.
@@ -42,37 +42,51 @@ fn wish_of(words: &[String]) -> Option<CrewSizes>
     let workers = words.get(1)?.parse::<u8>().ok()?;
     let turns = words.get(2)?.parse::<u32>().ok()?;
     let crews = words.get(3)?.parse::<u32>().ok()?;
+    let ahead = match words.get(4) {
+        Some(word) => word.parse::<u32>().ok()?,
+        None => AHEAD,
+    };
     if workers < 1 || 8 < workers || turns < 1 {
         return None;
     }
     let plan = CrewPlan {
         workers,
         turns,
-        ahead: AHEAD,
+        ahead,
     };
     Some(CrewSizes { plan, crews })
 }
 
-/// Judges crews of the scenario on the standard input: how many calls they make.
-fn judge_input<T: Threads + Wait + Sync>(rt: &HostRuntime, threads: &T) -> Result<usize, Finding> {
+/// What the words of the process ask for.
+fn read_wish(rt: &HostRuntime) -> Result<CrewSizes, Finding>
+    ensures workers { IfOk result (λ wish. (1 ≤ wish.plan.workers) × (wish.plan.workers ≤ 8)) }
+    ensures turns { IfOk result (λ wish. 1 ≤ wish.plan.turns) }
+{
     let words = env::args(rt)?.collect::<Vec<String>>(rt.alloc())?;
-    let Some(wish) = wish_of(&words) else {
-        return Err(Finding::Words);
-    };
-    let text = read_all(rt.alloc(), &mut rt.reader()).map_err(|_fault| Finding::Input)?;
-    let scenario = Scenario::parse(rt.alloc(), &text)?;
-    judge_crews(
-        threads,
-        rt.alloc(),
-        &scenario.declarations,
-        wish.plan,
-        wish.crews,
-    )
+    match wish_of(&words) {
+        Some(wish) => Ok(wish),
+        None => Err(Finding::Words),
+    }
+}
+
+/// The scenario on the standard input.
+fn read_scenario(rt: &HostRuntime) -> Result<Scenario, Finding> {
+    match read_all(rt.alloc(), &mut rt.reader()) {
+        Ok(text) => Ok(Scenario::parse(rt.alloc(), &text)?),
+        Err(_) => Err(Finding::Input),
+    }
+}
+
+/// Judges crews of the scenario on the standard input.
+fn judge_input<T: Threads + Wait + Sync>(rt: &HostRuntime, threads: &T) -> Result<(), Finding> {
+    let CrewSizes { plan, crews } = read_wish(rt)?;
+    let scenario = read_scenario(rt)?;
+    judge_crews(threads, rt.alloc(), &scenario.declarations, plan, crews)
 }
 
 fn main(rt: HostRuntime) -> ExitCode {
     match judge_input(&rt, &rt) {
-        Ok(_calls) => ExitCode::SUCCESS,
+        Ok(()) => ExitCode::SUCCESS,
         Err(finding) => {
             let _ = writeln!(rt.stderr(), "{finding}");
             ExitCode::FAILURE

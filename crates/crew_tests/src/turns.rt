@@ -101,15 +101,9 @@ impl Progress {
     }
 }
 
-/// Whether each worker made the turns that are its own, on a kernel just booted, and worker 0 gave the replies.
-pub fn judge_calls(
-    alloc: Global,
-    booted: &Kernel,
-    plan: CrewPlan,
-    entries: &[HistoryEntry],
-) -> Result<(), Finding>
-    requires { 1 ≤ plan.workers }
-{
+/// Whether each call is one that its worker may make: worker 0 gives the replies, and a lease has no more instructions than
+/// the plan says.
+fn judge_owners(plan: CrewPlan, entries: &[HistoryEntry]) -> Result<(), Finding> {
     for (place, entry) in entries.iter().enumerate() {
         let is_own = match &entry.call {
             DeskCall::Turn(_) => entry.worker < plan.workers,
@@ -122,10 +116,35 @@ pub fn judge_calls(
             return Err(Finding::Owner(place));
         }
     }
-    let present = booted.entities()?;
+    Ok(())
+}
+
+/// Whether each worker made the turns that are its own, of these that are there.
+fn judge_workers(
+    alloc: Global,
+    present: &[Entity],
+    plan: CrewPlan,
+    entries: &[HistoryEntry],
+) -> Result<(), Finding>
+    requires { 1 ≤ plan.workers }
+{
     for worker in 0..plan.workers {
-        let own = processes_of(alloc, &present, plan.workers, worker)?;
+        let own = processes_of(alloc, present, plan.workers, worker)?;
         judge_turns(&own, plan, worker, entries)?;
     }
     Ok(())
+}
+
+/// Whether each worker made the calls that are its own, on a kernel just booted.
+pub fn judge_calls(
+    alloc: Global,
+    booted: &Kernel,
+    plan: CrewPlan,
+    entries: &[HistoryEntry],
+) -> Result<(), Finding>
+    requires { 1 ≤ plan.workers }
+{
+    judge_owners(plan, entries)?;
+    let present = booted.entities()?;
+    judge_workers(alloc, &present, plan, entries)
 }

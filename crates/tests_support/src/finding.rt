@@ -76,6 +76,8 @@ pub enum Finding {
     Turn(usize),
     #[error("worker {0} stopped too early")]
     Stopped(u8),
+    #[error("worker {0} did not pass the gate before each of its turns, or did not meet the others there")]
+    Gate(usize),
     #[error("a fresh desk answers call {0} otherwise")]
     Entry(usize),
     #[error("a fresh server gives another reply at call {0}")]

@@ -1,292 +1,335 @@
-//! A worker leases a process, and hands it in.
+//! A worker leases processes, and hands them in.
 ghost use Rattle.std.specs.Prelude.{◌≡◌, []};
 ghost use Rattle.sk_client.specs.Desk.{opened_at};
 
-use crate::start::{FreeGate, declare, desk_of};
+use crate::same::same;
+use crate::start::{FreeGate, desk_of, process, shared_by};
 use sk_client::{Desk, Turn};
 use sk_ids::Pid;
 use sk_kernel::HandIn;
-use sk_script::{Boot, Lease};
-use sk_workers::{Answered, DeskCall, Leased, Shared, Worker};
+use sk_plain::Refusal;
+use sk_script::Lease;
+use sk_workers::{Answered, DeskCall, HistoryEntry, Leased, Shared, Worker};
 use std::alloc::Global;
 use std::marker::Brand;
 use std::process::Abort;
 use std::sync::Wait;
 use std::sync::ledger::{Blank, Ledger};
 use std::test::Fail;
-use tests_support::values::pid;
-
-/// The process that is leased, the turns between the lease and the hand-in, and what that is
-/// answered.
-#[derive(Clone, Copy)]
-struct Between {
-    leased: Pid,
-    other: Pid,
-    turns: u32,
-    answer: Result<(), HandIn>,
-}
 
 /// A process with two private instructions and one that is not, and one that ends it by a signal.
-fn boot(alloc: Global) -> Result<Boot, Fail> {
-    let mut boot = Boot::new(alloc);
-    declare(alloc, &mut boot, 1, b"sets", b"set r1 1\nset r2 2\nsay\n")?;
-    declare(
-        alloc,
-        &mut boot,
-        2,
-        b"kills",
-        b"boot r1 1\nset r2 9\nkill r1 r2\n",
-    )?;
-    Ok(boot)
+const SCENARIO: &[u8] = b"
+script sets
+set r1 1
+set r2 2
+say
+end
+script kills
+boot r1 1
+set r2 9
+kill r1 r2
+end
+process 1 sets 1
+process 2 kills 2
+";
+
+/// What a worker does.
+#[derive(Clone, Copy)]
+enum Act {
+    /// It takes a turn, which is a step.
+    Steps(Pid),
+    /// It leases a process, and runs its two private instructions.
+    Lends(Pid),
+    /// It hands in the lease that is out, and is answered so.
+    HandsIn(Result<(), HandIn>),
+    /// It takes a turn that is a step. The lease that is out is handed in before and answered so; behind it a process is lent,
+    /// where one is named, and given up.
+    Between(Pid, Result<(), HandIn>, Option<Pid>),
 }
 
-/// Takes so many turns of a process, each of which is a step.
+/// What a receipt is for: a turn of a process, or the hand-in of one with so many instructions.
+type Seen = (Option<Pid>, u32, Answered);
+
+/// Takes a turn, which is a step.
 fn steps<L: Ledger, R: Wait + Abort>(
     rt: &R,
     shared: &Shared<L>,
     worker: Worker<L>,
     pid: Pid,
-    turns: u32,
 ) -> Worker<L> {
-    let mut worker = worker;
-    for _ in 0..turns {
-        let (back, answer) = shared.turn(rt, worker, pid, &FreeGate);
-        worker = back;
-        assert_eq!(rt; answer, Ok(Turn::Stepped));
-    }
+    let (worker, answer) = shared.turn(rt, worker, pid, &FreeGate);
+    same(rt, &answer, &Ok(Turn::Stepped));
     worker
 }
 
-/// A worker leases a process, runs its two private instructions, and hands it in after those turns.
-fn leases<L: Ledger, R: Wait + Abort>(
+/// Leases a process, and runs its two private instructions.
+fn lends<L: Ledger, R: Wait + Abort>(
     rt: &R,
     shared: &Shared<L>,
     worker: Worker<L>,
-    between: &Between,
-) -> Worker<L> {
-    let (worker, lent) = shared.lease(rt, worker, between.leased);
-    let Ok(mut lease) = lent else {
-        panic!(rt; "not lent");
-    };
-    lease.run(10);
-    assert_eq!(rt; lease.count(), 2);
-    let worker = steps(rt, shared, worker, between.other, between.turns);
-    let (worker, done) = shared.hand_in(rt, worker, lease);
-    let answer = match done {
-        Ok(()) => Ok(()),
-        Err((lease, why)) => {
-            lease.give_up();
-            Err(why)
-        }
-    };
-    assert_eq!(rt; answer, between.answer);
-    worker
-}
-
-/// Looks at a worker's last receipt: it is for the hand-in.
-fn looks<L: Ledger>(rt: &impl Abort, worker: &Worker<L>, between: &Between) {
-    let Some(receipt) = worker.receipts().last() else {
-        panic!(rt; "no receipt");
-    };
-    assert_eq!(rt; receipt.place, u64::from(between.turns));
-    let process = between.leased;
-    assert_eq!(rt; receipt.entry.call, DeskCall::HandIn { process, count: 2 });
-    assert_eq!(rt; receipt.entry.answer, Answered::HandedIn(between.answer));
-}
-
-/// A desk that one worker shares, and the worker.
-fn shared_by_one<L: Ledger>(
-    rt: &impl Abort,
-    alloc: Global,
-    blank: Blank,
-    desk: Desk,
-) -> (Shared<L>, Worker<L>)
-    requires ledger { (blank.name ≡ L.name) × (blank.parts ≡ L.parts) × (L.parts ≡ 1) }
-    requires opened { desk ≡ opened_at desk.kernel desk.first }
-    requires trace { desk.kernel.trace ≡ [] }
-{
-    let (shared, mut workers) = match Shared::<L>::new(alloc, blank, desk, 1) {
-        Ok(made) => made,
-        Err((_blank, desk, _error)) => {
-            desk.abandon();
-            panic!(rt; "out of memory")
-        }
-    };
-    let Some(worker) = workers.pop() else {
-        unreachable!()
-    };
-    (shared, worker)
-}
-
-/// One worker's lease on a desk of its own: how many steps the trace has in the end.
-fn leased<L: Ledger, R: Wait + Abort>(
-    rt: &R,
-    alloc: Global,
-    blank: Blank,
-    desk: Desk,
-    between: &Between,
-) -> usize
-    requires ledger { (blank.name ≡ L.name) × (blank.parts ≡ L.parts) × (L.parts ≡ 1) }
-    requires opened { desk ≡ opened_at desk.kernel desk.first }
-    requires trace { desk.kernel.trace ≡ [] }
-{
-    let (shared, worker) = shared_by_one::<L>(rt, alloc, blank, desk);
-    let worker = leases(rt, &shared, worker, between);
-    looks(rt, &worker, between);
-    let desk = shared.reopen();
-    let steps = desk.kernel().trace().events().len();
-    desk.abandon();
-    steps
-}
-
-#[test]
-fn lease_and_hand_in(rt: HostRuntime) -> Result<(), Fail> {
-    let alloc = rt.alloc();
-    let (sets, kills) = (pid(1)?, pid(2)?);
-    let stale = Err(HandIn::Stale);
-    for (other, turns, answer, steps) in [
-        (kills, 0, Ok(()), 2),
-        (kills, 2, Ok(()), 4),
-        (kills, 3, stale, 3),
-        (sets, 1, stale, 1),
-    ] {
-        let between = Between {
-            leased: sets,
-            other,
-            turns,
-            answer,
-        };
-        let desk = desk_of(alloc, &boot(alloc)?)?;
-        let all = leased::<Brand, _>(&rt, alloc, Blank::new(1), desk, &between);
-        assert_eq!(rt; all, steps);
-    }
-    Ok(())
-}
-
-/// A worker leases a process and runs its private instructions.
-fn runs<L: Ledger, R: Wait + Abort>(
-    rt: &R,
-    shared: &Shared<L>,
-    worker: Worker<L>,
+    out: &mut Option<Lease>,
     pid: Pid,
-) -> (Worker<L>, Lease) {
+) -> Worker<L> {
     let (worker, lent) = shared.lease(rt, worker, pid);
     let Ok(mut lease) = lent else {
         panic!(rt; "not lent");
     };
     lease.run(10);
-    assert_eq!(rt; lease.count(), 2);
-    (worker, lease)
-}
-
-/// Looks at what a turn with a lease before it came to, and at the lease in its place; it is of this process, with nothing
-/// done.
-fn looks_at<R: Abort>(
-    rt: &R,
-    leased: Leased,
-    place: Option<Lease>,
-    answer: Result<(), HandIn>,
-    next: Option<Pid>,
-) {
-    let Leased {
-        handed,
-        answer: turn,
-        lent,
-    } = leased;
-    assert_eq!(rt; turn, Ok(Turn::Stepped));
-    assert_eq!(rt; handed, Some(answer));
-    match (place, next) {
-        (Some(lease), Some(pid)) => {
-            let (process, count) = (lease.lent().pid, lease.count());
-            lease.give_up();
-            assert_eq!(rt; lent, Some(Ok(())));
-            assert_eq!(rt; (process, count), (pid, 0));
-        }
-        (None, None) => assert!(rt; lent.is_none()),
-        (Some(lease), None) => {
-            lease.give_up();
-            panic!(rt; "lent unasked")
-        }
-        (None, Some(_)) => panic!(rt; "not lent"),
+    same(rt, &lease.count(), &2);
+    if let Some(before) = out.replace(lease) {
+        before.give_up();
     }
-}
-
-/// A turn with a lease that is taken in before it and one that is lent after it; then one whose lease is stale.
-fn turns_with_leases<L: Ledger, R: Wait + Abort>(
-    rt: &R,
-    shared: &Shared<L>,
-    worker: Worker<L>,
-    sets: Pid,
-    kills: Pid,
-) -> Worker<L> {
-    let (worker, lease) = runs(rt, shared, worker, sets);
-    let mut place = Some(lease);
-    let (worker, leased) = shared.turn_with_leases(
-        rt,
-        worker,
-        &mut place,
-        sets,
-        Some(kills),
-        &FreeGate,
-    );
-    looks_at(rt, leased, place, Ok(()), Some(kills));
-    let (worker, lease) = runs(rt, shared, worker, kills);
-    let worker = steps(rt, shared, worker, kills, 1);
-    let mut place = Some(lease);
-    let (worker, leased) = shared.turn_with_leases(rt, worker, &mut place, kills, None, &FreeGate);
-    looks_at(rt, leased, place, Err(HandIn::Stale), None);
     worker
 }
 
-/// Looks at the receipts of these turns.
-fn looks_back<L: Ledger>(rt: &impl Abort, worker: &Worker<L>, sets: Pid, kills: Pid) {
-    let calls = [
-        DeskCall::HandIn {
-            process: sets,
-            count: 2,
-        },
-        DeskCall::Turn(sets),
-        DeskCall::Turn(kills),
-        DeskCall::HandIn {
-            process: kills,
-            count: 2,
-        },
-        DeskCall::Turn(kills),
-    ];
-    assert_eq!(rt; worker.receipts().len(), calls.len());
-    for (receipt, call) in worker.receipts().iter().zip(calls.iter()) {
-        assert_eq!(rt; receipt.entry.call, *call);
+/// What a hand-in is answered, without a lease that came back.
+fn told(done: Result<(), (Lease, HandIn)>) -> Result<(), HandIn> {
+    match done {
+        Ok(()) => Ok(()),
+        Err((lease, why)) => {
+            lease.give_up();
+            Err(why)
+        }
     }
 }
 
-/// One worker's turns with leases on a desk of its own: how many steps the trace has in the end.
-fn turned<L: Ledger, R: Wait + Abort>(
+/// Hands in the lease that is out.
+fn hands_in<L: Ledger, R: Wait + Abort>(
+    rt: &R,
+    shared: &Shared<L>,
+    worker: Worker<L>,
+    out: &mut Option<Lease>,
+    answer: Result<(), HandIn>,
+) -> Worker<L> {
+    let Some(lease) = out.take() else {
+        panic!(rt; "no lease is out");
+    };
+    let (worker, done) = shared.hand_in(rt, worker, lease);
+    same(rt, &told(done), &answer);
+    worker
+}
+
+/// Gives up the lease that is out: its process, and how many instructions were done.
+fn given_up(out: &mut Option<Lease>) -> Option<(Pid, u32)> {
+    let lease = out.take()?;
+    let seen = (lease.lent().pid, lease.count());
+    lease.give_up();
+    Some(seen)
+}
+
+/// Takes a turn that is a step. The hand-in before it is answered so, and behind it this process is lent, with nothing done.
+fn takes_between<L: Ledger, R: Wait + Abort>(
+    rt: &R,
+    shared: &Shared<L>,
+    worker: Worker<L>,
+    out: &mut Option<Lease>,
+    pid: Pid,
+    wanted: Result<(), HandIn>,
+    next: &Option<Pid>,
+) -> Worker<L> {
+    let (worker, leased) = shared.turn_with_leases(rt, worker, out, pid, *next, &FreeGate);
+    let Leased {
+        handed,
+        answer,
+        lent,
+    } = leased;
+    same(rt, &answer, &Ok(Turn::Stepped));
+    same(rt, &handed, &Some(wanted));
+    let place = given_up(out);
+    looks_at(rt, &lent, &place, next);
+    worker
+}
+
+/// Looks at what was lent, where a process was to be.
+fn looks_at(
+    rt: &impl Abort,
+    lent: &Option<Result<(), Refusal>>,
+    place: &Option<(Pid, u32)>,
+    next: &Option<Pid>,
+) {
+    match next {
+        Some(pid) => {
+            same(rt, lent, &Some(Ok(())));
+            same(rt, place, &Some((*pid, 0)));
+        }
+        None => {
+            same(rt, lent, &None);
+            same(rt, place, &None);
+        }
+    }
+}
+
+/// Does one thing.
+fn acts<L: Ledger, R: Wait + Abort>(
+    rt: &R,
+    shared: &Shared<L>,
+    worker: Worker<L>,
+    out: &mut Option<Lease>,
+    act: Act,
+) -> Worker<L> {
+    match act {
+        Act::Steps(pid) => steps(rt, shared, worker, pid),
+        Act::Lends(pid) => lends(rt, shared, worker, out, pid),
+        Act::HandsIn(answer) => hands_in(rt, shared, worker, out, answer),
+        Act::Between(pid, answer, next) => {
+            takes_between(rt, shared, worker, out, pid, answer, &next)
+        }
+    }
+}
+
+/// Does all in turn; no lease is out at the end.
+fn acts_all<L: Ledger, R: Wait + Abort>(
+    rt: &R,
+    shared: &Shared<L>,
+    worker: Worker<L>,
+    all: &[Act],
+) -> Worker<L> {
+    let mut worker = worker;
+    let mut out = None;
+    for act in all {
+        worker = acts(rt, shared, worker, &mut out, *act);
+    }
+    if let Some(lease) = out {
+        lease.give_up();
+        panic!(rt; "a lease is out");
+    }
+    worker
+}
+
+/// What a receipt's entry is for.
+fn seen(entry: &HistoryEntry) -> Seen {
+    match &entry.call {
+        DeskCall::Turn(pid) => (Some(*pid), 0, entry.answer),
+        DeskCall::HandIn { process, count } => (Some(*process), *count, entry.answer),
+        DeskCall::Reply(_) => (None, 0, entry.answer),
+    }
+}
+
+/// Looks at a worker's receipts: they are for these calls, and have the places of the history in their order.
+fn looks<L: Ledger>(rt: &impl Abort, worker: &Worker<L>, wanted: &[Seen]) {
+    same(rt, &worker.receipts().len(), &wanted.len());
+    for (place, (receipt, wanted)) in worker.receipts().iter().zip(wanted.iter()).enumerate() {
+        same(rt, &receipt.place, &(place as u64));
+        same(rt, &seen(&receipt.entry), wanted);
+    }
+}
+
+/// One worker on a desk of its own: how many steps the trace has in the end.
+fn plays<L: Ledger, R: Wait + Abort>(
     rt: &R,
     alloc: Global,
     blank: Blank,
     desk: Desk,
-    sets: Pid,
-    kills: Pid,
+    all: &[Act],
+    receipts: &[Seen],
 ) -> usize
     requires ledger { (blank.name ≡ L.name) × (blank.parts ≡ L.parts) × (L.parts ≡ 1) }
     requires opened { desk ≡ opened_at desk.kernel desk.first }
     requires trace { desk.kernel.trace ≡ [] }
 {
-    let (shared, worker) = shared_by_one::<L>(rt, alloc, blank, desk);
-    let worker = turns_with_leases(rt, &shared, worker, sets, kills);
-    looks_back(rt, &worker, sets, kills);
+    let (shared, mut workers) = shared_by::<L>(rt, alloc, blank, desk, 1);
+    let Some(worker) = workers.pop() else {
+        unreachable!()
+    };
+    let worker = acts_all(rt, &shared, worker, all);
+    looks(rt, &worker, receipts);
     let desk = shared.reopen();
     let steps = desk.kernel().trace().events().len();
     desk.abandon();
     steps
 }
 
+/// What a worker does on a desk of its own, what its receipts are for, and how many steps the trace has in the end.
+fn session<R: Wait + Abort>(
+    rt: &R,
+    alloc: Global,
+    all: &[Act],
+    receipts: &[Seen],
+    steps: usize,
+) -> Result<(), Fail> {
+    let desk = desk_of(alloc, SCENARIO)?;
+    let taken = plays::<Brand, _>(rt, alloc, Blank::new(1), desk, all, receipts);
+    same(rt, &taken, &steps);
+    Ok(())
+}
+
+/// What the receipt of a turn is for.
+fn turn_of(pid: Pid) -> Seen {
+    (Some(pid), 0, Answered::Turned(Ok(Turn::Stepped)))
+}
+
+/// What the receipt of a hand-in is for.
+fn hand_in_of(pid: Pid, answer: Result<(), HandIn>) -> Seen {
+    (Some(pid), 2, Answered::HandedIn(answer))
+}
+
+#[test]
+fn lease_is_handed_in(rt: HostRuntime) -> Result<(), Fail> {
+    let sets = process(1);
+    let acts = [Act::Lends(sets), Act::HandsIn(Ok(()))];
+    session(&rt, rt.alloc(), &acts, &[hand_in_of(sets, Ok(()))], 2)
+}
+
+#[test]
+fn lease_is_handed_in_behind_turns_of_another(rt: HostRuntime) -> Result<(), Fail> {
+    let (sets, kills) = (process(1), process(2));
+    let acts = [
+        Act::Lends(sets),
+        Act::Steps(kills),
+        Act::Steps(kills),
+        Act::HandsIn(Ok(())),
+    ];
+    let receipts = [turn_of(kills), turn_of(kills), hand_in_of(sets, Ok(()))];
+    session(&rt, rt.alloc(), &acts, &receipts, 4)
+}
+
+#[test]
+fn lease_is_stale_behind_a_signal(rt: HostRuntime) -> Result<(), Fail> {
+    let (sets, kills) = (process(1), process(2));
+    let acts = [
+        Act::Lends(sets),
+        Act::Steps(kills),
+        Act::Steps(kills),
+        Act::Steps(kills),
+        Act::HandsIn(Err(HandIn::Stale)),
+    ];
+    let receipts = [
+        turn_of(kills),
+        turn_of(kills),
+        turn_of(kills),
+        hand_in_of(sets, Err(HandIn::Stale)),
+    ];
+    session(&rt, rt.alloc(), &acts, &receipts, 3)
+}
+
+#[test]
+fn lease_is_stale_behind_a_turn(rt: HostRuntime) -> Result<(), Fail> {
+    let sets = process(1);
+    let acts = [
+        Act::Lends(sets),
+        Act::Steps(sets),
+        Act::HandsIn(Err(HandIn::Stale)),
+    ];
+    let receipts = [turn_of(sets), hand_in_of(sets, Err(HandIn::Stale))];
+    session(&rt, rt.alloc(), &acts, &receipts, 1)
+}
+
 #[test]
 fn turn_between_leases(rt: HostRuntime) -> Result<(), Fail> {
-    let alloc = rt.alloc();
-    let (sets, kills) = (pid(1)?, pid(2)?);
-    let desk = desk_of(alloc, &boot(alloc)?)?;
-    let all = turned::<Brand, _>(&rt, alloc, Blank::new(1), desk, sets, kills);
-    assert_eq!(rt; all, 5);
-    Ok(())
+    let (sets, kills) = (process(1), process(2));
+    let acts = [
+        Act::Lends(sets),
+        Act::Between(sets, Ok(()), Some(kills)),
+        Act::Lends(kills),
+        Act::Steps(kills),
+        Act::Between(kills, Err(HandIn::Stale), None),
+    ];
+    let receipts = [
+        hand_in_of(sets, Ok(())),
+        turn_of(sets),
+        turn_of(kills),
+        hand_in_of(kills, Err(HandIn::Stale)),
+        turn_of(kills),
+    ];
+    session(&rt, rt.alloc(), &acts, &receipts, 5)
 }

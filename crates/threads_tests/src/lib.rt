@@ -10,6 +10,8 @@ mod replies;
 #[cfg(test)]
 mod rounds;
 #[cfg(test)]
+mod same;
+#[cfg(test)]
 mod shares;
 #[cfg(test)]
 mod sizes;

@@ -3,6 +3,7 @@ ghost use Rattle.std.specs.Prelude.{◌≡◌, ◌<◌, ◌+◌, ◌^◌, length
 ghost use Rattle.crossbeam_queue.specs.Passes.{view};
 ghost use Rattle.sk_wire.specs.Wire.{IsSending, IsReceiving};
 
+use crate::same::same;
 use sk_ids::Text;
 use sk_objects::Content;
 use sk_objects::content::LAST_VERSION;
@@ -54,7 +55,7 @@ pub fn receives<R: Wait + Abort>(
     ensures { IsReceiving wire.now result }
 {
     let (pass, received) = wire.pop(rt, pass);
-    assert_eq!(rt; received, Some(reply(number)));
+    same(rt, &received, &Some(reply(number)));
     pass
 }
 
@@ -74,6 +75,6 @@ pub fn empties<R: Wait + Abort>(
         pass = receives(rt, wire, pass, number);
     }
     let (pass, none) = wire.pop(rt, pass);
-    assert_eq!(rt; none, None);
+    same(rt, &none, &None);
     pass
 }

@@ -3,13 +3,14 @@ ghost use Rattle.std.specs.Prelude.{◌≡◌, [], vec_len};
 ghost use Rattle.sk_client.specs.Desk.{opened_at};
 ghost use Rattle.sk_workers.specs.Closing.{AreDistinct};
 
-use crate::start::{FreeGate, declare, desk_of};
+use crate::same::same;
+use crate::start::{FreeGate, desk_of, process, shared_by};
 use sk_client::{Desk, Given, Turn};
 use sk_ids::{Entity, GuessId, Pid, Text};
 use sk_plain::View;
-use sk_script::{Boot, ObjectKind, Register, Val};
+use sk_script::{Register, Val};
 use sk_server::{Answer, Reply};
-use sk_workers::{Answered, CloseRefusal, Gate, History, Shared, Worker};
+use sk_workers::{Answered, CloseRefusal, Gate, History, HistoryEntry, Shared, Worker};
 use std::alloc::Global;
 use std::marker::Brand;
 use std::process::Abort;
@@ -19,7 +20,6 @@ use std::sync::ledger::{Blank, Ledger};
 use std::test::Fail;
 use std::thread;
 use std::thread::Threads;
-use tests_support::values::{content, name, pid, text};
 
 const ROUNDS: u64 = 1_000_000_000;
 
@@ -51,27 +51,25 @@ impl Gate for UntilThree<'_> {
 }
 
 /// The file `f`, a copy of `/x`, a process that reads `f`, one that writes to it, and one that fetches.
-fn boot(alloc: Global) -> Result<Boot, Fail> {
-    let mut boot = Boot::new(alloc);
-    boot.copy(name(b"/x")?, content(3, b"old")?)?;
-    boot.object(name(b"f")?, ObjectKind::File, b"f0")?;
-    declare(
-        alloc,
-        &mut boot,
-        1,
-        b"reading",
-        b"look r1 r7 f\nread r1 r2\n",
-    )?;
-    declare(
-        alloc,
-        &mut boot,
-        2,
-        b"writing",
-        b"look r1 r7 f\ntext \"z\"\nwrite r1 r2\n",
-    )?;
-    declare(alloc, &mut boot, 3, b"fetching", b"fetch /x\n")?;
-    Ok(boot)
-}
+const SCENARIO: &[u8] = b"
+copy /x 3 \"old\"
+file f \"f0\"
+script reading
+look r1 r7 f
+read r1 r2
+end
+script writing
+look r1 r7 f
+text \"z\"
+write r1 r2
+end
+script fetching
+fetch /x
+end
+process 1 reading 1
+process 2 writing 2
+process 3 fetching 3
+";
 
 /// Takes so many turns of a process, each of which is a step, and counts the answers.
 fn steps<L: Ledger, R: Wait + Abort, G: Gate>(
@@ -89,7 +87,7 @@ fn steps<L: Ledger, R: Wait + Abort, G: Gate>(
     for _ in 0..turns {
         let (back, answer) = shared.turn(rt, worker, pid, gate);
         worker = back;
-        assert_eq!(rt; answer, Ok(Turn::Stepped));
+        same(rt, &answer, &Ok(Turn::Stepped));
         answers.fetch_add(1, Ordering::SeqCst);
     }
     worker
@@ -101,7 +99,6 @@ fn five<L: Ledger + Send + Sync, R: Threads + Wait + Sync + Abort>(
     shared: &Shared<L>,
     zero: Worker<L>,
     one: Worker<L>,
-    pids: (Pid, Pid),
 ) -> (Worker<L>, Worker<L>)
     ensures { (result.0.number ≡ zero.number) × (result.1.number ≡ one.number) }
 {
@@ -113,7 +110,7 @@ fn five<L: Ledger + Send + Sync, R: Threads + Wait + Sync + Abort>(
         zero: &came,
         one: &other,
     };
-    let (first, second) = pids;
+    let (first, second) = (process(1), process(2));
     let (zero, one) = thread::join(
         rt,
         || -> Worker<L>
@@ -123,8 +120,8 @@ fn five<L: Ledger + Send + Sync, R: Threads + Wait + Sync + Abort>(
             ensures { result.number ≡ one.number }
         { steps(rt, shared, one, second, 3, &gate, &answers) },
     );
-    assert_eq!(rt; came.load(Ordering::SeqCst), 2);
-    assert_eq!(rt; other.load(Ordering::SeqCst), 3);
+    same(rt, &came.load(Ordering::SeqCst), &2);
+    same(rt, &other.load(Ordering::SeqCst), &3);
     (zero, one)
 }
 
@@ -148,60 +145,108 @@ fn two_workers<L: Ledger + Send + Sync, R: Threads + Wait + Sync + Abort>(
     alloc: Global,
     blank: Blank,
     desk: Desk,
-    pids: (Pid, Pid),
 ) -> History
     requires ledger { (blank.name ≡ L.name) × (blank.parts ≡ L.parts) × (L.parts ≡ 2) }
     requires opened { desk ≡ opened_at desk.kernel desk.first }
     requires trace { desk.kernel.trace ≡ [] }
 {
-    let (shared, mut workers) = match Shared::<L>::new(alloc, blank, desk, 2) {
-        Ok(made) => made,
-        Err((_blank, desk, _error)) => {
-            desk.abandon();
-            panic!(rt; "out of memory")
-        }
-    };
+    let (shared, mut workers) = shared_by::<L>(rt, alloc, blank, desk, 2);
     let (Some(one), Some(zero)) = (workers.pop(), workers.pop()) else {
         unreachable!()
     };
-    let (zero, one) = five(rt, &shared, zero, one, pids);
+    let (zero, one) = five(rt, &shared, zero, one);
     workers.push_reserved(zero);
     workers.push_reserved(one);
     closes(rt, shared, workers)
 }
 
-/// What the first process read, and how much of it.
-fn reads(rt: &impl Abort, desk: &Desk, pid: Pid, text: Text) {
+/// Looks at the five entries: the first three are worker 1's, and each is a step.
+fn looks(rt: &impl Abort, entries: &[HistoryEntry]) {
+    same(rt, &entries.len(), &5);
+    for (place, entry) in entries.iter().enumerate() {
+        let worker = if place < 3 { 1 } else { 0 };
+        same(rt, &entry.worker, &worker);
+        same(rt, &entry.answer, &Answered::Turned(Ok(Turn::Stepped)));
+    }
+}
+
+/// What a process has in its buffer, and was told at last.
+fn read_by(desk: &Desk, pid: Pid) -> Option<(Text, Val)> {
     match desk.kernel().value(&Entity::Proc(pid)) {
         Some(View::Process(process)) => {
-            assert_eq!(rt; process.buffer, text);
-            assert_eq!(rt; process.registers.get(Register::ANSWER), Val::Num(2));
+            Some((process.buffer, process.registers.get(Register::ANSWER)))
         }
-        _ => panic!(rt; "no process"),
+        _ => None,
     }
+}
+
+/// The history of two workers on a desk: worker 1 wrote before worker 0 read. Gives the desk back.
+fn one_history<R: Threads + Wait + Sync + Abort>(rt: &R, alloc: Global, desk: Desk) -> Desk
+    requires opened { desk ≡ opened_at desk.kernel desk.first }
+    requires trace { desk.kernel.trace ≡ [] }
+{
+    let History { entries, desk } = two_workers::<Brand, _>(rt, alloc, Blank::new(2), desk);
+    looks(rt, &entries);
+    let read = read_by(&desk, process(1));
+    same(rt, &read, &Text::new(b"z0").map(|text| (text, Val::Num(2))));
+    desk
 }
 
 #[test]
 fn two_workers_one_history(rt: HostRuntime) -> Result<(), Fail> {
-    let alloc = rt.alloc();
-    let (first, second, text) = (pid(1)?, pid(2)?, text(b"z0")?);
-    let desk = desk_of(alloc, &boot(alloc)?)?;
-    let History { entries, desk } = two_workers::<Brand, _>(
-        &rt,
-        alloc,
-        Blank::new(2),
-        desk,
-        (first, second),
-    );
-    assert_eq!(rt; entries.len(), 5);
-    for (place, entry) in entries.iter().enumerate() {
-        let worker = if place < 3 { 1 } else { 0 };
-        assert_eq!(rt; entry.worker, worker);
-        assert_eq!(rt; entry.answer, Answered::Turned(Ok(Turn::Stepped)));
-    }
-    reads(&rt, &desk, first, text);
-    desk.abandon();
+    let desk = desk_of(rt.alloc(), SCENARIO)?;
+    one_history(&rt, rt.alloc(), desk).abandon();
     Ok(())
+}
+
+/// Takes a turn that is a guess.
+fn guesses<L: Ledger, R: Wait + Abort>(
+    rt: &R,
+    shared: &Shared<L>,
+    worker: Worker<L>,
+    id: GuessId,
+) -> Worker<L> {
+    let (worker, answer) = shared.turn(rt, worker, process(3), &FreeGate);
+    same(rt, &answer, &Ok(Turn::Guessed(id)));
+    worker
+}
+
+/// With a request that has no reply the desk is not closed.
+fn stays_open<L: Ledger>(
+    rt: &impl Abort,
+    shared: Shared<L>,
+    workers: Vec<Worker<L>>,
+) -> (Shared<L>, Vec<Worker<L>>)
+    requires workers { vec_len workers ≡ L.parts }
+    requires distinct { AreDistinct workers.items }
+    ensures { result.1 ≡ workers }
+{
+    match shared.close(workers) {
+        Ok(History { entries: _, desk }) => {
+            desk.abandon();
+            panic!(rt; "closed with a request pending")
+        }
+        Err((shared, workers, refusal)) => {
+            same(rt, &refusal, &CloseRefusal::Pending(1));
+            (shared, workers)
+        }
+    }
+}
+
+/// Takes the only request, and gives its reply, which commits the guess.
+fn commits<L: Ledger, R: Wait + Abort>(
+    rt: &R,
+    shared: &Shared<L>,
+    worker: Worker<L>,
+    id: GuessId,
+) -> Worker<L> {
+    same(rt, &shared.next_request(rt).is_some(), &true);
+    same(rt, &shared.next_request(rt).is_none(), &true);
+    let number = 1;
+    let answer = Answer::Yes;
+    let (worker, given) = shared.reply(rt, worker, Reply { number, answer });
+    same(rt, &given, &Ok(Given::Committed(id)));
+    worker
 }
 
 /// With a request that has no reply the desk is not closed; with its reply given it is.
@@ -210,47 +255,42 @@ fn waits_for_the_reply<L: Ledger, R: Wait + Abort>(
     alloc: Global,
     blank: Blank,
     desk: Desk,
-    pid: Pid,
 ) -> History
     requires ledger { (blank.name ≡ L.name) × (blank.parts ≡ L.parts) × (L.parts ≡ 1) }
     requires opened { desk ≡ opened_at desk.kernel desk.first }
     requires trace { desk.kernel.trace ≡ [] }
 {
-    let (shared, mut workers) = match Shared::<L>::new(alloc, blank, desk, 1) {
-        Ok(made) => made,
-        Err((_blank, desk, _error)) => {
-            desk.abandon();
-            panic!(rt; "out of memory")
-        }
-    };
-    let Some(worker) = workers.pop() else {
-        unreachable!()
-    };
     let id = GuessId::new(1).unwrap_or_default();
-    let (worker, answer) = shared.turn(rt, worker, pid, &FreeGate);
-    assert_eq!(rt; answer, Ok(Turn::Guessed(id)));
-    workers.push_reserved(worker);
-    let (shared, mut workers) = match shared.close(workers) {
-        Ok(History { entries: _, desk }) => {
-            desk.abandon();
-            panic!(rt; "closed with a request pending")
-        }
-        Err((shared, workers, refusal)) => {
-            assert_eq!(rt; refusal, CloseRefusal::Pending(1));
-            (shared, workers)
-        }
-    };
-    assert!(rt; shared.next_request(rt).is_some());
-    assert!(rt; shared.next_request(rt).is_none());
+    let (shared, mut workers) = shared_by::<L>(rt, alloc, blank, desk, 1);
     let Some(worker) = workers.pop() else {
         unreachable!()
     };
-    let number = 1;
-    let answer = Answer::Yes;
-    let (worker, given) = shared.reply(rt, worker, Reply { number, answer });
-    assert_eq!(rt; given, Ok(Given::Committed(id)));
+    let worker = guesses(rt, &shared, worker, id);
+    workers.push_reserved(worker);
+    let (shared, mut workers) = stays_open(rt, shared, workers);
+    let Some(worker) = workers.pop() else {
+        unreachable!()
+    };
+    let worker = commits(rt, &shared, worker, id);
     workers.push_reserved(worker);
     closes(rt, shared, workers)
+}
+
+/// The history of one worker that waits for a reply. Gives the desk back.
+fn settled<R: Wait + Abort>(rt: &R, alloc: Global, desk: Desk) -> Desk
+    requires opened { desk ≡ opened_at desk.kernel desk.first }
+    requires trace { desk.kernel.trace ≡ [] }
+{
+    let History { entries, desk } = waits_for_the_reply::<Brand, _>(rt, alloc, Blank::new(1), desk);
+    same(rt, &(entries.len(), desk.pending()), &(2, 0));
+    desk
+}
+
+#[test]
+fn closed_when_settled(rt: HostRuntime) -> Result<(), Fail> {
+    let desk = desk_of(rt.alloc(), SCENARIO)?;
+    settled(&rt, rt.alloc(), desk).abandon();
+    Ok(())
 }
 
 /// Begins an epoch of a desk, for which so many events are handed out.
@@ -261,7 +301,7 @@ fn next_epoch(rt: &impl Abort, desk: Desk, events: usize) -> Desk
     let mut desk = desk;
     match desk.new_epoch() {
         Ok((trace, _texts)) => {
-            assert_eq!(rt; trace.events().len(), events);
+            same(rt, &trace.events().len(), &events);
             desk
         }
         Err(why) => {
@@ -274,48 +314,17 @@ fn next_epoch(rt: &impl Abort, desk: Desk, events: usize) -> Desk
 /// Two workers close a desk, which is shared again in each of two more epochs.
 #[test]
 fn shared_again_in_the_next_epoch(rt: HostRuntime) -> Result<(), Fail> {
-    let alloc = rt.alloc();
-    let (first, second, third) = (pid(1)?, pid(2)?, pid(3)?);
-    let desk = desk_of(alloc, &boot(alloc)?)?;
-    let History { entries, desk } = two_workers::<Brand, _>(
-        &rt,
-        alloc,
-        Blank::new(2),
-        desk,
-        (first, second),
-    );
-    assert_eq!(rt; entries.len(), 5);
+    let desk = desk_of(rt.alloc(), SCENARIO)?;
+    let desk = one_history(&rt, rt.alloc(), desk);
     let desk = next_epoch(&rt, desk, 5);
-    assert_eq!(rt; desk.first(), 1);
-    let History { entries, desk } = waits_for_the_reply::<Brand, _>(
-        &rt,
-        alloc,
-        Blank::new(1),
-        desk,
-        third,
-    );
-    assert_eq!(rt; entries.len(), 2);
+    same(&rt, &desk.first(), &1);
+    let desk = settled(&rt, rt.alloc(), desk);
     let desk = next_epoch(&rt, desk, 2);
-    assert_eq!(rt; desk.first(), 2);
-    assert_eq!(rt; desk.kernel().opening().guess(), 2);
-    desk.abandon();
-    Ok(())
-}
-
-#[test]
-fn closed_when_settled(rt: HostRuntime) -> Result<(), Fail> {
-    let alloc = rt.alloc();
-    let pid = pid(3)?;
-    let desk = desk_of(alloc, &boot(alloc)?)?;
-    let History { entries, desk } = waits_for_the_reply::<Brand, _>(
+    same(
         &rt,
-        alloc,
-        Blank::new(1),
-        desk,
-        pid,
+        &(desk.first(), desk.kernel().opening().guess()),
+        &(2, 2),
     );
-    assert_eq!(rt; entries.len(), 2);
-    assert_eq!(rt; desk.pending(), 0);
     desk.abandon();
     Ok(())
 }

@@ -5,6 +5,7 @@ ghost use Rattle.sk_wire.specs.Rule.{sender};
 ghost use Rattle.sk_wire.specs.Wire.{IsSending, IsReceiving};
 
 use crate::replies::{empties, reply};
+use crate::same::same;
 use sk_server::Reply;
 use sk_wire::{Wire, WirePass};
 use std::sync::Wait;
@@ -102,7 +103,7 @@ fn both<R: Threads + Wait + Sync>(
 fn two_threads(rt: HostRuntime) -> Result<(), Fail> {
     let (wire, sending, receiving) = Wire::<Reply>::new(rt.alloc(), 1)?;
     let (pass, right) = both(&rt, &wire, sending, receiving);
-    assert_eq!(rt; right, 5_000);
+    same(&rt, &right, &5_000);
     let _pass = empties(&rt, &wire, pass, 0, 0);
     Ok(())
 }

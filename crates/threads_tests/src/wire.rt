@@ -1,11 +1,12 @@
 //! A wire fills up and empties.
-ghost use Rattle.std.specs.Prelude.{◌≡◌, ◌<◌, ◌+◌, ◌^◌, length, IfSome, IfOk};
+ghost use Rattle.std.specs.Prelude.{◌≡◌, ◌<◌, ◌+◌, ◌^◌, length, IfSome};
 ghost use Rattle.crossbeam_queue.specs.Passes.{view};
 ghost use Rattle.sk_wire.specs.Rule.{sender};
 ghost use Rattle.sk_wire.specs.Wire.{IsSending, IsReceiving};
 
 use crate::replies::{empties, receives, reply};
-use sk_ids::TagSet;
+use crate::same::same;
+use sk_ids::{Name, TagSet};
 use sk_server::{Ask, Reply, Request};
 use sk_wire::{HasNumber, WIRE_LIMIT, Wire, WirePass};
 use std::alloc::Global;
@@ -37,21 +38,34 @@ fn fill<R: Wait>(
     (pass, 100, None)
 }
 
+/// Fills a wire, which hands back what it does not take, and empties it.
+fn fills_and_empties<R: Wait + Abort>(
+    rt: &R,
+    wire: &Wire<Reply>,
+    sending: WirePass<Reply>,
+    receiving: WirePass<Reply>,
+)
+    requires sending { IsSending wire.now sending × (view sending ≡ sender 7) }
+    requires receiving { IsReceiving wire.now receiving }
+{
+    let (sending, count, back) = fill(rt, wire, sending);
+    same(rt, &count, &(WIRE_LIMIT as u64));
+    same(rt, &back, &Some(reply(71)));
+    let receiving = receives(rt, wire, receiving, 7);
+    let Some(item) = back else {
+        panic!(rt; "no item")
+    };
+    let (sending, sent) = wire.push(rt, sending, item);
+    same(rt, &sent, &Ok(()));
+    let receiving = empties(rt, wire, receiving, 8, 72);
+    let both = wire.end(rt, sending, receiving);
+    let _both = empties(rt, wire, both, 0, 0);
+}
+
 #[test]
 fn full_wire_hands_back(rt: HostRuntime) -> Result<(), Fail> {
     let (wire, sending, receiving) = Wire::<Reply>::new(rt.alloc(), 7)?;
-    let (sending, count, back) = fill(&rt, &wire, sending);
-    assert_eq!(rt; count, WIRE_LIMIT as u64);
-    assert_eq!(rt; back, Some(reply(71)));
-    let receiving = receives(&rt, &wire, receiving, 7);
-    let Some(item) = back else {
-        return Err("no item")?;
-    };
-    let (sending, sent) = wire.push(&rt, sending, item);
-    assert_eq!(rt; sent, Ok(()));
-    let receiving = empties(&rt, &wire, receiving, 8, 72);
-    let both = wire.end(&rt, sending, receiving);
-    let _both = empties(&rt, &wire, both, 0, 0);
+    fills_and_empties(&rt, &wire, sending, receiving);
     Ok(())
 }
 
@@ -63,60 +77,71 @@ fn empty_wire_has_none(rt: HostRuntime) -> Result<(), Fail> {
 }
 
 /// A request of a number, which asks for a file.
-fn request(alloc: Global, number: u64, at: &[u8]) -> Result<Request, Fail>
-    ensures { IfOk result (λ r. r.number ≡ number) }
+fn request(alloc: Global, number: u64, at: Name) -> Request
+    ensures { result.number ≡ number }
 {
-    Ok(Request {
+    Request {
         number,
         rests: TagSet::new(alloc),
         settled: 1,
         guess: None,
-        ask: Ask::Get(name(at)?),
-    })
-}
-
-/// Whether a request asks for a file.
-fn asks_for(request: &Request, at: &[u8]) -> bool {
-    match &request.ask {
-        Ask::Get(asked) => asked.as_slice() == at,
-        Ask::Check(_, _) | Ask::Store(_, _, _) => false,
+        ask: Ask::Get(at),
     }
 }
 
-/// Receives the request of a number, which asks for a file.
+/// The number of a request that asks for a file, and that file.
+fn asked_by(received: &Option<Request>) -> Option<(u64, Name)> {
+    match received {
+        Some(request) => match &request.ask {
+            Ask::Get(at) => Some((request.number(), *at)),
+            Ask::Check(_, _) | Ask::Store(_, _, _) => None,
+        },
+        None => None,
+    }
+}
+
+/// Receives the request of a number, which asks for a file; or none.
 fn receives_request<R: Wait + Abort>(
     rt: &R,
     wire: &Wire<Request>,
     pass: WirePass<Request>,
-    number: u64,
-    at: &[u8],
+    wanted: Option<(u64, Name)>,
 ) -> WirePass<Request>
     requires { IsReceiving wire.now pass }
     ensures { IsReceiving wire.now result }
 {
     let (pass, received) = wire.pop(rt, pass);
-    match received {
-        Some(request) => {
-            assert_eq!(rt; request.number(), number);
-            assert_eq!(rt; asks_for(&request, at), true);
-        }
-        None => panic!(rt; "no request"),
-    }
+    same(rt, &received.is_some(), &wanted.is_some());
+    same(rt, &asked_by(&received), &wanted);
     pass
+}
+
+/// Sends two requests, which ask for these files, and receives them in their order.
+fn sends_two<R: Wait + Abort>(
+    rt: &R,
+    alloc: Global,
+    wire: &Wire<Request>,
+    sending: WirePass<Request>,
+    receiving: WirePass<Request>,
+    names: (Name, Name),
+)
+    requires sending { IsSending wire.now sending × (view sending ≡ sender 1) }
+    requires receiving { IsReceiving wire.now receiving }
+{
+    let (sending, sent) = wire.push(rt, sending, request(alloc, 1, names.0));
+    same(rt, &sent.is_ok(), &true);
+    let (sending, sent) = wire.push(rt, sending, request(alloc, 2, names.1));
+    same(rt, &sent.is_ok(), &true);
+    let receiving = receives_request(rt, wire, receiving, Some((1, names.0)));
+    let receiving = receives_request(rt, wire, receiving, Some((2, names.1)));
+    let receiving = receives_request(rt, wire, receiving, None);
+    let _both = wire.end(rt, sending, receiving);
 }
 
 #[test]
 fn requests_in_turn(rt: HostRuntime) -> Result<(), Fail> {
-    let alloc = rt.alloc();
-    let (wire, sending, receiving) = Wire::<Request>::new(alloc, 1)?;
-    let (sending, sent) = wire.push(&rt, sending, request(alloc, 1, b"/x")?);
-    assert_eq!(rt; sent.is_ok(), true);
-    let (sending, sent) = wire.push(&rt, sending, request(alloc, 2, b"/y")?);
-    assert_eq!(rt; sent.is_ok(), true);
-    let receiving = receives_request(&rt, &wire, receiving, 1, b"/x");
-    let receiving = receives_request(&rt, &wire, receiving, 2, b"/y");
-    let (receiving, none) = wire.pop(&rt, receiving);
-    assert_eq!(rt; none.is_none(), true);
-    let _both = wire.end(&rt, sending, receiving);
+    let names = (name(b"/x")?, name(b"/y")?);
+    let (wire, sending, receiving) = Wire::<Request>::new(rt.alloc(), 1)?;
+    sends_two(&rt, rt.alloc(), &wire, sending, receiving, names);
     Ok(())
 }

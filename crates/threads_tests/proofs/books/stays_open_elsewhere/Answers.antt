@@ -3,4 +3,4 @@ use Rattle.sk_workers.proofs.Closed.{distinct}
 use Rattle.threads_tests.proofs.books.stays_open_elsewhere.Goals as goal
 
 pub close-requires-clause-distinct : goal.close-requires-clause-distinct
-close-requires-clause-distinct g c = distinct 2 c.in-Ok.made.1.items c.in-Ok.made.1.items c.in-Ok.ensures.ok.1 refl
+close-requires-clause-distinct g c = distinct 2 c.book_of-book.result.1.items c.book_of-book.result.1.items c.book_of-book.ensures refl

@@ -13,5 +13,5 @@ closes-requires-clause-distinct g c =
     let second = c.pop-2.ensures.items ∙ ap (λ (o : Option WorkerView). c.pop-2.new.self.items ++ option_to_list o) s.is-1 in
     let back = numbers_push c.pop-2.new.self.items c.pop-2.new.self.items _ s.zero refl j.0 in
     let both = numbers_push _ _ _ s.one (ap numbers c.push_reserved.ensures.items ∙ back) j.1 in
-    distinct 2 c.push_reserved-2.new.self.items c.in-Ok.made.1.items c.in-Ok.ensures.workers
+    distinct 2 c.push_reserved-2.new.self.items c.shared_by-shared.result.1.items c.shared_by-shared.ensures
     (ap numbers c.push_reserved-2.ensures.items ∙ both ∙ ap (λ (l : List WorkerView). numbers (l ++ s.one ∷ [])) (sym second) ∙ ap numbers (sym first))

@@ -1,4 +1,4 @@
-use Rattle.threads_tests.proofs.shares.two_workers_one_history.Given as goal
+use Rattle.threads_tests.proofs.shares.one_history.Given as goal
 
 abbrev pub ghosts-two_workers : goal.ghosts-two_workers
 ghosts-two_workers g a = record { name = a.blank.name; parts = a.blank.parts }

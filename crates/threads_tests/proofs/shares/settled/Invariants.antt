@@ -1,4 +1,4 @@
-use Rattle.threads_tests.proofs.shares.closed_when_settled.Given as goal
+use Rattle.threads_tests.proofs.shares.settled.Given as goal
 
 abbrev pub ghosts-waits_for_the_reply : goal.ghosts-waits_for_the_reply
 ghosts-waits_for_the_reply g a = record { name = a.blank.name; parts = a.blank.parts }

@@ -1,12 +1,12 @@
 //! Epochs: what is handed out, and what is known of the guesses of earlier ones.
-use crate::plays::{Count, Decision, KernelPlay, Pick, Player, does_all, plays};
+use crate::plays::{Count, Decision, KernelPlay, Player, does_all, plays};
 use crate::start::{Start, kernel_of};
 use sk_guesses::Status;
 use sk_kernel::{EpochRefusal, Kernel, Outcome};
 use sk_plain::{Refusal, strike_from};
 use std::alloc::Global;
 use std::process::Abort;
-use std::test::Fail;
+use tests_support::wrong::{Wrong, holds, passes};
 
 /// The only process of a kernel of number 1.
 fn one_process<'a>(script: &'a [(&'a [u8], usize)], limit: u32) -> Start<'a> {
@@ -18,37 +18,35 @@ fn one_process<'a>(script: &'a [(&'a [u8], usize)], limit: u32) -> Start<'a> {
     }
 }
 
-/// The entries that the trace leaves where it begins at the opening's state.
-fn leaves(rt: &impl Abort, alloc: Global, kernel: &Kernel, want: usize) -> Result<(), Fail> {
+/// The trace leaves so many entries where it begins at the opening's state.
+fn leaves(alloc: Global, kernel: &Kernel, want: usize) -> Result<(), Wrong> {
     let entries = strike_from(alloc, kernel.opening().start(), kernel.trace())?;
-    assert_eq!(rt; entries.len(), want);
-    Ok(())
+    holds(0, entries.len() == want)
 }
 
-/// Plays with a new kernel, whose trace leaves so many entries in the end.
-fn plays_to(
+/// Plays with a new kernel, whose trace leaves one entry in the end.
+fn plays_to_one(
     rt: &impl Abort,
     alloc: Global,
     start: Start<'_>,
     table: &[KernelPlay],
-    want: usize,
-) -> Result<(), Fail> {
+) -> Result<(), Wrong> {
     let mut player = Player::new(alloc, start)?;
     let done = does_all(rt, &mut player, table);
     let kernel = player.end(rt);
-    done?;
-    leaves(rt, alloc, &kernel, want)
+    let left = leaves(alloc, &kernel, 1);
+    done.and(left)
 }
 
-const COMMITS: KernelPlay = KernelPlay::Decides(Pick::Oldest, Decision::Commit, Outcome::Done);
+const COMMITS: KernelPlay = KernelPlay::Decides(Decision::Commit, Outcome::Done);
 
-const FAILS: KernelPlay = KernelPlay::Decides(Pick::Oldest, Decision::Fail, Outcome::Done);
+const FAILS: KernelPlay = KernelPlay::Decides(Decision::Fail, Outcome::Done);
 
-const GONE: KernelPlay = KernelPlay::Decides(Pick::Oldest, Decision::Commit, Outcome::Gone);
+const GONE: KernelPlay = KernelPlay::Decides(Decision::Commit, Outcome::Gone);
 
 /// A full trace is handed out, and there is room again.
 #[test]
-fn epoch_hands_out(rt: HostRuntime) -> Result<(), Fail> {
+fn epoch_hands_out(rt: HostRuntime) {
     let table = [
         KernelPlay::Guesses(1, 1, 1),
         KernelPlay::Good(1),
@@ -65,18 +63,13 @@ fn epoch_hands_out(rt: HostRuntime) -> Result<(), Fail> {
         KernelPlay::Has(Count::Place(1), 2),
         KernelPlay::Steps(1, 1, Err(Refusal::Ended)),
     ];
-    plays_to(
-        &rt,
-        rt.alloc(),
-        one_process(&[(b"fetch /01\n", 2)], 3),
-        &table,
-        1,
-    )
+    let start = one_process(&[(b"fetch /01\n", 2)], 3);
+    passes(&rt, plays_to_one(&rt, rt.alloc(), start, &table));
 }
 
 /// A guess that was struck in an earlier epoch has nothing to decide.
 #[test]
-fn epoch_and_old_tokens(rt: HostRuntime) -> Result<(), Fail> {
+fn epoch_and_old_tokens(rt: HostRuntime) {
     let table = [
         KernelPlay::Guesses(1, 1, 2),
         KernelPlay::Steps(1, 1, Ok(())),
@@ -91,12 +84,13 @@ fn epoch_and_old_tokens(rt: HostRuntime) -> Result<(), Fail> {
         KernelPlay::Became(3, Some(Status::Undecided)),
     ];
     let script: [(&[u8], usize); 2] = [(b"fetch /01\n", 2), (b"say\n", 1)];
-    plays_to(&rt, rt.alloc(), one_process(&script, 100), &table, 1)
+    let start = one_process(&script, 100);
+    passes(&rt, plays_to_one(&rt, rt.alloc(), start, &table));
 }
 
 /// Texts go with the epoch in which they were said.
 #[test]
-fn texts_of_two_epochs(rt: HostRuntime) -> Result<(), Fail> {
+fn texts_of_two_epochs(rt: HostRuntime) {
     let table = [
         KernelPlay::Steps(1, 2, Ok(())),
         KernelPlay::Has(Count::Released(1), 2),
@@ -107,27 +101,31 @@ fn texts_of_two_epochs(rt: HostRuntime) -> Result<(), Fail> {
         KernelPlay::Has(Count::Released(1), 1),
         KernelPlay::Epoch(Ok((1, 1))),
     ];
-    plays(&rt, rt.alloc(), one_process(&[(b"say\n", 3)], 2), &table)
+    let start = one_process(&[(b"say\n", 3)], 2);
+    passes(&rt, plays(&rt, rt.alloc(), start, &table));
 }
 
 /// Begins an epoch whose opening is that of before.
-fn begins_as_before(rt: &impl Abort, kernel: &mut Kernel) -> Result<(), Fail> {
+fn begins_as_before(kernel: &mut Kernel) -> Result<(), Wrong> {
     let before = kernel.opening().copy()?;
-    assert!(rt; kernel.new_epoch().is_ok());
-    assert!(rt; *kernel.opening() == before);
-    assert_eq!(rt; kernel.trace().events().len(), 0);
-    Ok(())
+    let begun = kernel.new_epoch().is_ok();
+    let is_same = *kernel.opening() == before;
+    holds(0, begun && is_same && kernel.trace().events().is_empty())
+}
+
+fn begins_after_the_boot(alloc: Global) -> Result<(), Wrong> {
+    let mut kernel = kernel_of(alloc, one_process(&[(b"say\n", 1)], 10))?;
+    begins_as_before(&mut kernel)
 }
 
 /// An epoch directly after the boot changes nothing.
 #[test]
-fn epoch_after_the_boot(rt: HostRuntime) -> Result<(), Fail> {
-    let mut kernel = kernel_of(rt.alloc(), one_process(&[(b"say\n", 1)], 10))?;
-    begins_as_before(&rt, &mut kernel)
+fn epoch_after_the_boot(rt: HostRuntime) {
+    passes(&rt, begins_after_the_boot(rt.alloc()));
 }
 
 /// A guess, its decision and a new epoch.
-fn one_epoch(rt: &impl Abort, player: &mut Player, number: u64) -> Result<(), Fail> {
+fn one_epoch(rt: &impl Abort, player: &mut Player, number: u64) -> Result<(), Wrong> {
     let decides = if number % 3 == 0 { FAILS } else { COMMITS };
     let table = [
         KernelPlay::Guesses(1, number, number),
@@ -138,7 +136,7 @@ fn one_epoch(rt: &impl Abort, player: &mut Player, number: u64) -> Result<(), Fa
 }
 
 /// What became of the guess of an epoch.
-fn told(rt: &impl Abort, player: &mut Player, number: u64) -> Result<(), Fail> {
+fn told(rt: &impl Abort, player: &mut Player, number: u64) -> Result<(), Wrong> {
     let status = if number % 3 == 0 {
         Status::Failed
     } else {
@@ -147,7 +145,7 @@ fn told(rt: &impl Abort, player: &mut Player, number: u64) -> Result<(), Fail> {
     does_all(rt, player, &[KernelPlay::Became(number, Some(status))])
 }
 
-fn epochs(rt: &impl Abort, player: &mut Player, count: u64) -> Result<(), Fail> {
+fn epochs(rt: &impl Abort, player: &mut Player, count: u64) -> Result<(), Wrong> {
     for number in 1..=count {
         one_epoch(rt, player, number)?;
     }
@@ -157,11 +155,15 @@ fn epochs(rt: &impl Abort, player: &mut Player, count: u64) -> Result<(), Fail> 
     Ok(())
 }
 
-#[test]
-fn three_hundred_epochs(rt: HostRuntime) -> Result<(), Fail> {
+fn plays_epochs(rt: &impl Abort, alloc: Global, count: u64) -> Result<(), Wrong> {
     let start = one_process(&[(b"fetch /01\n", 201)], 2);
-    let mut player = Player::new(rt.alloc(), start)?;
-    let done = epochs(&rt, &mut player, 300);
-    player.abandon(&rt);
+    let mut player = Player::new(alloc, start)?;
+    let done = epochs(rt, &mut player, count);
+    player.abandon(rt);
     done
+}
+
+#[test]
+fn three_hundred_epochs(rt: HostRuntime) {
+    passes(&rt, plays_epochs(&rt, rt.alloc(), 300));
 }

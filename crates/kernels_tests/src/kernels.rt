@@ -1,17 +1,16 @@
 //! The calls of the kernel that a scenario can't make: those with another kernel's token.
 ghost use Rattle.std.specs.Prelude.{◌≡◌};
 
-use crate::plays::{Decision, KernelPlay, Pick, Player, does, does_all};
+use crate::plays::{Decision, KernelPlay, Player, does, does_all};
 use crate::start::Start;
 use sk_guesses::Guess;
-use sk_ids::Text;
 use sk_kernel::{FailRefusal, Kernel, Outcome, Stranger};
 use sk_plain::Trace;
 use sk_terminal::Texts;
 use std::alloc::Global;
 use std::process::Abort;
-use std::test::Fail;
-use tests_support::values::text;
+use tests_support::plain::text;
+use tests_support::wrong::{Wrong, holds, passes};
 
 const SAY_FETCH_SAY: &[u8] = b"text \"a\"\nsay\nfetch /01\ntext \"b\"\nsay\n";
 
@@ -22,7 +21,7 @@ const STEPS: KernelPlay = KernelPlay::Steps(1, 2, Ok(()));
 const GUESS: KernelPlay = KernelPlay::Guesses(1, 1, 1);
 
 /// Its commit.
-const COMMIT: KernelPlay = KernelPlay::Decides(Pick::Oldest, Decision::Commit, Outcome::Done);
+const COMMIT: KernelPlay = KernelPlay::Decides(Decision::Commit, Outcome::Done);
 
 /// A kernel of this number with one process, which says `a`, fetches and says `b`.
 fn one_process(number: u64) -> Start<'static> {
@@ -62,34 +61,34 @@ fn refused_twice(rt: &impl Abort, kernel: &mut Kernel, token: Guess) -> Guess
     }
 }
 
-/// Lends the newest of these tokens to a kernel to which it is strange.
-fn lends(rt: &impl Abort, tokens: &mut Vec<Guess>, kernel: &mut Kernel) -> Result<(), Fail> {
+/// Lends the newest of these tokens to a kernel to which it is strange: whether there is one.
+fn lends(rt: &impl Abort, tokens: &mut Vec<Guess>, kernel: &mut Kernel) -> bool {
     match tokens.pop() {
-        Some(token) => tokens.push_reserved(refused_twice(rt, kernel, token)),
-        None => panic!(rt; "no token is kept"),
+        Some(token) => {
+            tokens.push_reserved(refused_twice(rt, kernel, token));
+            true
+        }
+        None => false,
     }
-    Ok(())
 }
 
-/// Both kernels have the same events.
-fn are_alike(rt: &impl Abort, one: &Kernel, two: &Kernel) -> Result<(), Fail> {
-    assert_eq!(rt; one.trace().events(), two.trace().events());
-    Ok(())
+/// Whether both kernels have the same events.
+fn are_alike(one: &Kernel, two: &Kernel) -> bool {
+    one.trace().events() == two.trace().events()
 }
 
-/// Takes a turn.
+/// Takes a turn: whether it comes to what is wanted.
 fn takes(
     rt: &impl Abort,
     one: &mut Player,
     two: &mut Player,
-    place: usize,
     turn: PairTurn,
-) -> Result<(), Fail> {
+) -> Result<bool, Wrong> {
     match turn {
-        PairTurn::One(play) => does(rt, one, place, play),
-        PairTurn::Two(play) => does(rt, two, place, play),
-        PairTurn::Lends => lends(rt, &mut one.tokens, &mut two.kernel),
-        PairTurn::Alike => are_alike(rt, &one.kernel, &two.kernel),
+        PairTurn::One(play) => does(rt, one, play),
+        PairTurn::Two(play) => does(rt, two, play),
+        PairTurn::Lends => Ok(lends(rt, &mut one.tokens, &mut two.kernel)),
+        PairTurn::Alike => Ok(are_alike(&one.kernel, &two.kernel)),
     }
 }
 
@@ -99,9 +98,9 @@ fn takes_all(
     one: &mut Player,
     two: &mut Player,
     turns: &[PairTurn],
-) -> Result<(), Fail> {
+) -> Result<(), Wrong> {
     for (place, turn) in turns.iter().enumerate() {
-        takes(rt, one, two, place, *turn)?;
+        holds(place, takes(rt, one, two, *turn)?)?;
     }
     Ok(())
 }
@@ -113,7 +112,7 @@ fn meets(
     one: &mut Player,
     number: u64,
     turns: &[PairTurn],
-) -> Result<(), Fail> {
+) -> Result<(), Wrong> {
     let mut two = Player::new(alloc, one_process(number))?;
     let done = takes_all(rt, one, &mut two, turns);
     two.abandon(rt);
@@ -121,7 +120,12 @@ fn meets(
 }
 
 /// Takes turns with two new kernels of these numbers.
-fn meet(rt: &impl Abort, alloc: Global, numbers: [u64; 2], turns: &[PairTurn]) -> Result<(), Fail> {
+fn meet(
+    rt: &impl Abort,
+    alloc: Global,
+    numbers: [u64; 2],
+    turns: &[PairTurn],
+) -> Result<(), Wrong> {
     let mut one = Player::new(alloc, one_process(numbers[0]))?;
     let done = meets(rt, alloc, &mut one, numbers[1], turns);
     one.abandon(rt);
@@ -129,7 +133,7 @@ fn meet(rt: &impl Abort, alloc: Global, numbers: [u64; 2], turns: &[PairTurn]) -
 }
 
 #[test]
-fn tokens_of_two_kernels(rt: HostRuntime) -> Result<(), Fail> {
+fn tokens_of_two_kernels(rt: HostRuntime) {
     let turns = [
         PairTurn::One(STEPS),
         PairTurn::One(GUESS),
@@ -140,13 +144,13 @@ fn tokens_of_two_kernels(rt: HostRuntime) -> Result<(), Fail> {
         PairTurn::Two(COMMIT),
         PairTurn::Alike,
     ];
-    meet(&rt, rt.alloc(), [1, 2], &turns)
+    passes(&rt, meet(&rt, rt.alloc(), [1, 2], &turns));
 }
 
 /// A token is lent to a kernel of the same number that has drawn no guess, and again after that has
 /// committed its first.
 #[test]
-fn tokens_of_guesses_that_are_not_undecided(rt: HostRuntime) -> Result<(), Fail> {
+fn tokens_of_guesses_that_are_not_undecided(rt: HostRuntime) {
     let turns = [
         PairTurn::One(STEPS),
         PairTurn::One(GUESS),
@@ -157,7 +161,7 @@ fn tokens_of_guesses_that_are_not_undecided(rt: HostRuntime) -> Result<(), Fail>
         PairTurn::Lends,
         PairTurn::One(COMMIT),
     ];
-    meet(&rt, rt.alloc(), [1, 1], &turns)
+    passes(&rt, meet(&rt, rt.alloc(), [1, 1], &turns));
 }
 
 /// The trace and the texts of a kernel of which no guess is undecided.
@@ -168,43 +172,32 @@ fn shut(rt: &impl Abort, kernel: Kernel) -> (Trace, Texts) {
     kernel.shut()
 }
 
-/// The trace and the texts of a new kernel after it was played with.
-fn shut_after(
-    rt: &impl Abort,
-    alloc: Global,
-    plays: &[KernelPlay],
-) -> Result<(Trace, Texts), Fail> {
-    let mut one = Player::new(alloc, one_process(1))?;
-    let done = does_all(rt, &mut one, plays);
-    let shut = shut(rt, one.end(rt));
-    match done {
-        Ok(()) => Ok(shut),
-        Err(fail) => Err(fail),
-    }
-}
-
-/// A trace is printed so.
-fn prints(rt: &impl Abort, alloc: Global, trace: &Trace, want: &[u8]) -> Result<(), Fail> {
-    let printed = trace.print(alloc)?;
-    assert_eq!(rt; printed.as_slice(), want);
-    Ok(())
-}
-
-/// Terminal 1 has released these texts, and terminal 2 none.
-fn has_released(rt: &impl Abort, texts: &Texts, said: &[Text]) -> Result<(), Fail> {
-    assert_eq!(rt; texts.of(1), said);
-    assert!(rt; texts.of(2).is_empty());
-    Ok(())
-}
-
 const COMMITTED: &[u8] =
     b"step 1 none\nstep 1 none\nguess 1 1 good\nstep 1 none\nstep 1 none\ncommit 1\n";
 
-#[test]
-fn shut_after_a_commit(rt: HostRuntime) -> Result<(), Fail> {
+/// A trace is printed as that of the commit.
+fn prints(alloc: Global, trace: &Trace) -> Result<(), Wrong> {
+    let printed = trace.print(alloc)?;
+    holds(0, printed.as_slice() == COMMITTED)
+}
+
+/// Terminal 1 has released both texts, and terminal 2 none.
+fn has_released(texts: &Texts) -> Result<(), Wrong> {
     let said = [text(b"a")?, text(b"b")?];
-    let table = [STEPS, GUESS, STEPS, COMMIT];
-    let (trace, texts) = shut_after(&rt, rt.alloc(), &table)?;
-    prints(&rt, rt.alloc(), &trace, COMMITTED)?;
-    has_released(&rt, &texts, &said)
+    holds(1, texts.of(1) == said.as_slice())?;
+    holds(2, texts.of(2).is_empty())
+}
+
+/// A kernel commits its guess, and is shut.
+fn shuts(rt: &impl Abort, alloc: Global) -> Result<(), Wrong> {
+    let mut one = Player::new(alloc, one_process(1))?;
+    let done = does_all(rt, &mut one, &[STEPS, GUESS, STEPS, COMMIT]);
+    let (trace, texts) = shut(rt, one.end(rt));
+    let printed = prints(alloc, &trace);
+    done.and(printed).and(has_released(&texts))
+}
+
+#[test]
+fn shut_after_a_commit(rt: HostRuntime) {
+    passes(&rt, shuts(&rt, rt.alloc()));
 }

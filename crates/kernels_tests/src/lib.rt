@@ -2,8 +2,6 @@
 #![tactic(auto)]
 
 #[cfg(test)]
-mod ample;
-#[cfg(test)]
 mod dependents;
 #[cfg(test)]
 mod epochs;

@@ -10,45 +10,41 @@ use sk_objects::{Kind, Value};
 use sk_script::Process;
 use sk_undo::{ObjectLog, ProcessLog};
 use std::alloc::Global;
-use std::process::Abort;
-use std::test::Fail;
-use tests_support::values::{guess, name, pid, text};
+use tests_support::plain::{guess, name, pid, tag, text};
+use tests_support::wrong::{Wrong, holds, passes};
 
-fn tags(alloc: Global, number: u64) -> Result<TagSet, Fail>
-    ensures { IfOk result (λ tags. tags ≡ number ∷ []) }
-{
-    Ok(TagSet::of(alloc, guess(number)?))
-}
-
-fn write(offset: u32, bytes: &[u8]) -> Result<Change, Fail> {
+fn write(offset: u32, bytes: &[u8]) -> Result<Change, Wrong> {
     let bytes = text(bytes)?;
     Ok(Change::WriteAt { offset, bytes })
 }
 
 /// A file that has `abcdef`.
-fn file(alloc: Global) -> Result<Value, Fail> {
+fn file(alloc: Global) -> Result<Value, Wrong> {
     let change = write(0, b"abcdef")?;
     let mut file = Value::empty(alloc, Kind::File)?;
-    file.apply(alloc, change)?;
-    Ok(file)
+    match file.apply(alloc, change) {
+        Ok(_undo) => Ok(file),
+        Err(_) => Err(Wrong::Refused),
+    }
 }
 
 /// Writes to a file on guess 1, and notes it in a log that has no notes, and that has made room.
-fn writes(alloc: Global, value: &mut Value, log: &mut ObjectLog) -> Result<(), Fail>
+fn writes(alloc: Global, value: &mut Value, log: &mut ObjectLog) -> Result<(), Wrong>
     requires { log.old.log.notes.items ≡ [] }
     ensures { OnOk result
         (CanGoBack ObjectFits object_undone (Some value.new) (reverse log.new.log.notes.items)) }
 {
     let change = write(4, b"XYZ")?;
-    let tags = tags(alloc, 1)?;
+    let tags = tag(alloc, 1)?;
     log.reserve()?;
-    let undo = value.apply(alloc, change)?;
-    log.note(tags, undo)?;
-    Ok(())
+    match value.apply(alloc, change) {
+        Ok(undo) => Ok(log.note(tags, undo)?),
+        Err(_) => Err(Wrong::Refused),
+    }
 }
 
 /// The file after it.
-fn written(alloc: Global, log: &mut ObjectLog) -> Result<Value, Fail>
+fn written(alloc: Global, log: &mut ObjectLog) -> Result<Value, Wrong>
     requires { log.old.log.notes.items ≡ [] }
     ensures { IfOk result
         (λ value. CanGoBack ObjectFits object_undone (Some value)
@@ -67,76 +63,81 @@ fn bytes(value: &Option<Value>) -> Option<Text> {
     }
 }
 
-/// The failure of a guess leaves these bytes of a file.
+/// The failure of a guess: whether it leaves these bytes of a file.
 fn unwinds(
-    rt: &impl Abort,
     log: &mut ObjectLog,
     value: &mut Option<Value>,
     number: u64,
     want: &[u8],
-) -> Result<(), Fail>
+) -> Result<bool, Wrong>
     requires { CanGoBack ObjectFits object_undone value.old (reverse log.old.log.notes.items) }
     ensures { OnOk result
         (CanGoBack ObjectFits object_undone value.new (reverse log.new.log.notes.items)) }
 {
     log.unwind(value, guess(number)?);
-    assert_eq!(rt; bytes(value), Text::new(want));
-    Ok(())
+    Ok(bytes(value) == Text::new(want))
 }
 
-/// The newest note of a log rests on these guesses.
-fn rests_on(rt: &impl Abort, log: &ObjectLog, guesses: &[GuessId]) -> Result<(), Fail> {
-    assert_eq!(rt; log.tags().ids(), guesses);
-    Ok(())
+/// Whether the newest note of a log rests on these guesses.
+fn rests_on(log: &ObjectLog, guesses: &[GuessId]) -> bool {
+    log.tags().ids() == guesses
 }
 
 /// The failure of guess 2 leaves the write on guess 1, and that of guess 1 takes it back.
-fn unwinds_both(rt: &impl Abort, log: &mut ObjectLog, value: &mut Option<Value>) -> Result<(), Fail>
+fn unwinds_both(log: &mut ObjectLog, value: &mut Option<Value>) -> Result<(), Wrong>
     requires { CanGoBack ObjectFits object_undone value.old (reverse log.old.log.notes.items) }
 {
-    rests_on(rt, log, &[guess(1)?])?;
-    unwinds(rt, log, value, 2, b"abcdXYZ")?;
-    unwinds(rt, log, value, 1, b"abcdef")?;
-    rests_on(rt, log, &[])
+    holds(0, rests_on(log, &[guess(1)?]))?;
+    holds(1, unwinds(log, value, 2, b"abcdXYZ")?)?;
+    holds(2, unwinds(log, value, 1, b"abcdef")?)?;
+    holds(3, rests_on(log, &[]))
+}
+
+fn writes_and_unwinds(alloc: Global) -> Result<(), Wrong> {
+    let mut log = ObjectLog::new(alloc);
+    let mut value = Some(written(alloc, &mut log)?);
+    unwinds_both(&mut log, &mut value)
 }
 
 #[test]
-fn small_calls_of_an_object_log(rt: HostRuntime) -> Result<(), Fail> {
-    let mut log = ObjectLog::new(rt.alloc());
-    let mut value = Some(written(rt.alloc(), &mut log)?);
-    unwinds_both(&rt, &mut log, &mut value)
+fn small_calls_of_an_object_log(rt: HostRuntime) {
+    passes(&rt, writes_and_unwinds(rt.alloc()));
 }
 
 /// Notes on guess 1 that a file goes, in a log that has no notes.
-fn goes(alloc: Global, before: Value, log: &mut ObjectLog) -> Result<(), Fail>
+fn goes(alloc: Global, before: Value, log: &mut ObjectLog) -> Result<(), Wrong>
     requires { log.old.log.notes.items ≡ [] }
     ensures { OnOk result
         (CanGoBack ObjectFits object_undone None (reverse log.new.log.notes.items)) }
 {
-    let tags = tags(alloc, 1)?;
+    let tags = tag(alloc, 1)?;
     log.reserve()?;
     log.note_death(tags, before)?;
     Ok(())
 }
 
 /// The failure of guess 1 brings back what went.
-fn comes_back(rt: &impl Abort, log: &mut ObjectLog, value: &mut Option<Value>) -> Result<(), Fail>
+fn comes_back(log: &mut ObjectLog, value: &mut Option<Value>) -> Result<(), Wrong>
     requires { CanGoBack ObjectFits object_undone value.old (reverse log.old.log.notes.items) }
 {
-    rests_on(rt, log, &[guess(1)?])?;
-    unwinds(rt, log, value, 1, b"abcdef")?;
-    rests_on(rt, log, &[])
+    holds(0, rests_on(log, &[guess(1)?]))?;
+    holds(1, unwinds(log, value, 1, b"abcdef")?)?;
+    holds(2, rests_on(log, &[]))
+}
+
+fn goes_and_comes_back(alloc: Global) -> Result<(), Wrong> {
+    let mut log = ObjectLog::new(alloc);
+    goes(alloc, file(alloc)?, &mut log)?;
+    comes_back(&mut log, &mut None)
 }
 
 #[test]
-fn a_death_is_taken_back(rt: HostRuntime) -> Result<(), Fail> {
-    let mut log = ObjectLog::new(rt.alloc());
-    goes(rt.alloc(), file(rt.alloc())?, &mut log)?;
-    comes_back(&rt, &mut log, &mut None)
+fn a_death_is_taken_back(rt: HostRuntime) {
+    passes(&rt, goes_and_comes_back(rt.alloc()));
 }
 
 /// A process at this place.
-fn process(place: u32) -> Result<Process, Fail> {
+fn process(place: u32) -> Result<Process, Wrong> {
     Ok(Process {
         place,
         ..Process::new(pid(1)?, name(b"main")?, 1)
@@ -146,11 +147,11 @@ fn process(place: u32) -> Result<Process, Fail> {
 /// Notes the first step of a process on guess 1 in a log that has no notes, and that has made room:
 /// the process after it.
 #[tactic(auto, using(crate::proofs::Covered::covers_none, crate::proofs::Covered::covers_same, crate::proofs::Covered::covers_that, crate::proofs::Covered::covered_by))]
-fn stepped(alloc: Global, log: &mut ProcessLog) -> Result<Process, Fail>
+fn stepped(alloc: Global, log: &mut ProcessLog) -> Result<Process, Wrong>
     requires { last_tags [] (runs_of log.old.log.notes.items) ≡ [] }
 {
     let (before, after) = (process(3)?, process(4)?);
-    let tags = tags(alloc, 1)?;
+    let tags = tag(alloc, 1)?;
     log.reserve()?;
     log.note(tags, before)?;
     Ok(after)
@@ -164,48 +165,56 @@ fn place(process: &Option<Process>) -> Option<u32> {
     }
 }
 
-/// The failure of a guess leaves a process at this place.
+/// The failure of a guess: whether it leaves a process at this place.
 fn goes_back(
-    rt: &impl Abort,
     log: &mut ProcessLog,
     value: &mut Option<Process>,
     number: u64,
     want: u32,
-) -> Result<(), Fail> {
+) -> Result<bool, Wrong> {
     log.unwind(value, guess(number)?);
-    assert_eq!(rt; place(value), Some(want));
-    Ok(())
+    Ok(place(value) == Some(want))
+}
+
+/// The failure of guess 2 leaves the step on guess 1, and that of guess 1 takes it back.
+fn goes_back_twice(log: &mut ProcessLog, value: &mut Option<Process>) -> Result<(), Wrong> {
+    holds(0, goes_back(log, value, 2, 4)?)?;
+    holds(1, goes_back(log, value, 1, 3)?)
+}
+
+fn steps_and_goes_back(alloc: Global) -> Result<(), Wrong> {
+    let mut log = ProcessLog::new(alloc);
+    let mut value = Some(stepped(alloc, &mut log)?);
+    goes_back_twice(&mut log, &mut value)
 }
 
 #[test]
-fn small_calls_of_a_process_log(rt: HostRuntime) -> Result<(), Fail> {
-    let mut log = ProcessLog::new(rt.alloc());
-    let mut value = Some(stepped(rt.alloc(), &mut log)?);
-    goes_back(&rt, &mut log, &mut value, 2, 4)?;
-    goes_back(&rt, &mut log, &mut value, 1, 3)
+fn small_calls_of_a_process_log(rt: HostRuntime) {
+    passes(&rt, steps_and_goes_back(rt.alloc()));
 }
 
 /// The set of the guesses 1 and 2.
-fn both(alloc: Global) -> Result<TagSet, Fail>
+fn both(alloc: Global) -> Result<TagSet, Wrong>
     ensures { IfOk result (λ tags. Covers tags (1 ∷ [])) }
 {
-    Ok(tags(alloc, 1)?.union(&tags(alloc, 2)?)?)
+    Ok(tag(alloc, 1)?.union(&tag(alloc, 2)?)?)
 }
 
 /// Notes a step on guess 1, of a process at this place, where nothing rests on another guess.
 #[tactic(auto, using(crate::proofs::Covered::covers_none, crate::proofs::Covered::covers_same, crate::proofs::Covered::covers_that, crate::proofs::Covered::covered_by))]
-fn note_one(alloc: Global, log: &mut ProcessLog, at: u32) -> Result<(), Fail>
+fn note_one(alloc: Global, log: &mut ProcessLog, at: u32) -> Result<(), Wrong>
     requires { Covers (1 ∷ []) (last_tags [] (runs_of log.old.log.notes.items)) }
     ensures { OnOk result (last_tags [] (runs_of log.new.log.notes.items) ≡ 1 ∷ []) }
 {
-    let (tags, before) = (tags(alloc, 1)?, process(at)?);
+    let before = process(at)?;
+    let tags = tag(alloc, 1)?;
     log.note(tags, before)?;
     Ok(())
 }
 
 /// Notes a hundred steps on guess 1, the first of a process at place 3.
 #[tactic(auto, using(crate::proofs::Covered::covers_none, crate::proofs::Covered::covers_same, crate::proofs::Covered::covers_that, crate::proofs::Covered::covered_by))]
-fn note_hundred(alloc: Global, log: &mut ProcessLog) -> Result<(), Fail>
+fn note_hundred(alloc: Global, log: &mut ProcessLog) -> Result<(), Wrong>
     requires { last_tags [] (runs_of log.old.log.notes.items) ≡ [] }
     ensures { OnOk result (last_tags [] (runs_of log.new.log.notes.items) ≡ 1 ∷ []) }
 {
@@ -216,16 +225,29 @@ fn note_hundred(alloc: Global, log: &mut ProcessLog) -> Result<(), Fail>
     Ok(())
 }
 
-#[test]
+/// A step on guesses 1 and 2 behind the hundred has a run of its own, until guess 2 is committed.
 #[tactic(auto, using(crate::proofs::Covered::covers_none, crate::proofs::Covered::covers_same, crate::proofs::Covered::covers_that, crate::proofs::Covered::covered_by))]
-fn a_process_log_keeps_its_runs(rt: HostRuntime) -> Result<(), Fail> {
-    let mut log = ProcessLog::new(rt.alloc());
-    note_hundred(rt.alloc(), &mut log)?;
-    assert_eq!(rt; log.kept(), 1);
-    log.note(both(rt.alloc())?, process(103)?)?;
-    assert_eq!(rt; log.kept(), 2);
+fn keeps_runs(alloc: Global, log: &mut ProcessLog) -> Result<(), Wrong>
+    requires { last_tags [] (runs_of log.old.log.notes.items) ≡ [] }
+{
+    note_hundred(alloc, log)?;
+    holds(0, log.kept() == 1)?;
+    let before = process(103)?;
+    log.note(both(alloc)?, before)?;
+    holds(1, log.kept() == 2)?;
     log.commit(guess(2)?);
-    assert_eq!(rt; log.kept(), 1);
+    holds(2, log.kept() == 1)
+}
+
+/// The failure of guess 1 goes back to before the first of them.
+fn keeps_and_goes_back(alloc: Global) -> Result<(), Wrong> {
+    let mut log = ProcessLog::new(alloc);
+    keeps_runs(alloc, &mut log)?;
     let mut value = Some(process(104)?);
-    goes_back(&rt, &mut log, &mut value, 1, 3)
+    holds(3, goes_back(&mut log, &mut value, 1, 3)?)
+}
+
+#[test]
+fn a_process_log_keeps_its_runs(rt: HostRuntime) {
+    passes(&rt, keeps_and_goes_back(rt.alloc()));
 }

@@ -1,11 +1,11 @@
 //! How many notes are held, until the guesses are decided that they are for.
-use crate::plays::{Count, Decision, KernelPlay, Pick, plays, plays_on};
+use crate::plays::{Count, Decision, KernelPlay, plays, plays_on};
 use crate::start::{Start, declares_file, two_processes};
 use sk_kernel::{Kernel, Outcome};
 use std::alloc::Global;
 use std::process::Abort;
-use std::test::Fail;
-use tests_support::values::name;
+use tests_support::plain::name;
+use tests_support::wrong::{Wrong, passes};
 
 /// Writes what it fetches to a file, three times.
 const WRITER: &[u8] = b"look r1 r7 f\nfetch /x\nwrite r1 r2\nwrite r1 r2\nwrite r1 r2\n";
@@ -17,11 +17,11 @@ const NONE: KernelPlay = KernelPlay::Has(Count::Notes, 0);
 
 /// The decision of the oldest guess whose token is kept.
 fn decides(decision: Decision) -> KernelPlay {
-    KernelPlay::Decides(Pick::Oldest, decision, Outcome::Done)
+    KernelPlay::Decides(decision, Outcome::Done)
 }
 
 /// A thousand private steps under one guess hold one note.
-fn merged_until(rt: &impl Abort, alloc: Global, decision: Decision) -> Result<(), Fail> {
+fn merged_until(rt: &impl Abort, alloc: Global, decision: Decision) -> Result<(), Wrong> {
     let start = Start {
         number: 1,
         script: &[(b"fetch /01\n", 1), (b"set r1 1\n", 1_000)],
@@ -41,16 +41,20 @@ fn merged_until(rt: &impl Abort, alloc: Global, decision: Decision) -> Result<()
 }
 
 #[test]
-fn merged_notes_are_one(rt: HostRuntime) -> Result<(), Fail> {
-    merged_until(&rt, rt.alloc(), Decision::Commit)?;
-    merged_until(&rt, rt.alloc(), Decision::Fail)
+fn merged_notes_are_one(rt: HostRuntime) {
+    passes(&rt, merged_until(&rt, rt.alloc(), Decision::Commit));
+    passes(&rt, merged_until(&rt, rt.alloc(), Decision::Fail));
+}
+
+/// A kernel of the writer and the reader, and their file.
+fn kernel_of_both(alloc: Global) -> Result<Kernel, Wrong> {
+    let mut boot = two_processes(alloc, [WRITER, READER])?;
+    declares_file(&mut boot, &name(b"f")?, b"f0")?;
+    Ok(Kernel::boot(alloc, 1, &boot, 100)?)
 }
 
 /// Each write of a file is noted, and both processes are, once; the steps before the guess are not.
-fn noted_until(rt: &impl Abort, alloc: Global, decision: Decision) -> Result<(), Fail> {
-    let mut boot = two_processes(alloc, [WRITER, READER])?;
-    declares_file(&mut boot, &name(b"f")?, b"f0")?;
-    let kernel = Kernel::boot(alloc, 1, &boot, 100)?;
+fn noted_until(rt: &impl Abort, alloc: Global, decision: Decision) -> Result<(), Wrong> {
     let table = [
         KernelPlay::Steps(1, 1, Ok(())),
         KernelPlay::Steps(2, 1, Ok(())),
@@ -64,18 +68,18 @@ fn noted_until(rt: &impl Abort, alloc: Global, decision: Decision) -> Result<(),
         decides(decision),
         NONE,
     ];
-    plays_on(rt, alloc, kernel, &table)
+    plays_on(rt, alloc, kernel_of_both(alloc)?, &table)
 }
 
 #[test]
-fn notes_of_files_and_processes(rt: HostRuntime) -> Result<(), Fail> {
-    noted_until(&rt, rt.alloc(), Decision::Commit)?;
-    noted_until(&rt, rt.alloc(), Decision::Fail)
+fn notes_of_files_and_processes(rt: HostRuntime) {
+    passes(&rt, noted_until(&rt, rt.alloc(), Decision::Commit));
+    passes(&rt, noted_until(&rt, rt.alloc(), Decision::Fail));
 }
 
 /// A guess behind another has a note of its own, until one of them is decided.
 #[test]
-fn notes_of_two_guesses(rt: HostRuntime) -> Result<(), Fail> {
+fn notes_of_two_guesses(rt: HostRuntime) {
     let start = Start {
         number: 1,
         script: &[(b"fetch /01\n", 2), (b"set r1 1\n", 5)],
@@ -92,5 +96,5 @@ fn notes_of_two_guesses(rt: HostRuntime) -> Result<(), Fail> {
         decides(Decision::Fail),
         NONE,
     ];
-    plays(&rt, rt.alloc(), start, &table)
+    passes(&rt, plays(&rt, rt.alloc(), start, &table));
 }

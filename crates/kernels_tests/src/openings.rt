@@ -3,9 +3,9 @@ use crate::start::{Start, boot_of, kernel_of};
 use sk_kernel::{Kernel, Opening};
 use sk_plain::Plain;
 use sk_script::Input;
-use std::alloc::{AllocError, Global};
-use std::test::Fail;
-use tests_support::values::pid;
+use std::alloc::Global;
+use tests_support::plain::pid;
+use tests_support::wrong::{Wrong, holds, passes};
 
 /// A kernel of number 1 with one process, which says nothing again and again.
 const START: Start<'static> = Start {
@@ -15,42 +15,67 @@ const START: Start<'static> = Start {
     limit: 100,
 };
 
-/// The opening of a kernel with so many events.
-fn opening_after(alloc: Global, start: Start<'_>, steps: usize) -> Result<Opening, Fail> {
-    let mut kernel = kernel_of(alloc, start)?;
-    say(&mut kernel, steps)?;
-    Ok(opening_of(&kernel)?)
-}
-
-fn say(kernel: &mut Kernel, steps: usize) -> Result<(), Fail> {
+/// Takes so many steps.
+fn says(kernel: &mut Kernel, steps: usize) -> Result<(), Wrong> {
+    let pid = pid(1)?;
     for _ in 0..steps {
-        say_once(kernel)?;
+        kernel.step(pid, Input::None)?;
     }
     Ok(())
 }
 
-fn say_once(kernel: &mut Kernel) -> Result<(), Fail> {
-    kernel.step(pid(1)?, Input::None)?;
-    Ok(())
+/// The opening of a kernel after so many steps.
+fn said(kernel: &mut Kernel, steps: usize) -> Result<Opening, Wrong> {
+    says(kernel, steps)?;
+    Ok(kernel.opening().copy()?)
 }
 
-fn opening_of(kernel: &Kernel) -> Result<Opening, AllocError> {
-    kernel.opening().copy()
+/// The opening of a new kernel after so many steps.
+fn opening_after(alloc: Global, start: Start<'_>, steps: usize) -> Result<Opening, Wrong> {
+    let mut kernel = kernel_of(alloc, start)?;
+    said(&mut kernel, steps)
+}
+
+/// Whether it is that of another kernel after so many steps.
+fn is_opening(
+    alloc: Global,
+    opening: &Opening,
+    start: Start<'_>,
+    steps: usize,
+) -> Result<bool, Wrong> {
+    let other = opening_after(alloc, start, steps)?;
+    Ok(*opening == other)
+}
+
+/// What an opening has is as a kernel of this start has it.
+fn begins(opening: &Opening) -> bool {
+    opening.number() == 1
+        && opening.limit() == 100
+        && opening.guess() == 1
+        && opening.start().said(1).is_empty()
+}
+
+fn is_same_later(alloc: Global) -> Result<(), Wrong> {
+    let first = opening_after(alloc, START, 0)?;
+    let is_same = is_opening(alloc, &first, START, 5);
+    let is_first = holds(1, begins(&first));
+    holds(0, is_same == Ok(true)).and(is_first)
 }
 
 #[test]
-fn openings_after_the_same_boot(rt: HostRuntime) -> Result<(), Fail> {
-    let first = opening_after(rt.alloc(), START, 0)?;
-    let later = opening_after(rt.alloc(), START, 5)?;
-    assert!(rt; first == later);
-    assert_eq!(rt; (first.number(), first.limit(), first.guess()), (1, 100, 1));
-    assert!(rt; first.start().said(1).is_empty());
+fn openings_after_the_same_boot(rt: HostRuntime) {
+    passes(&rt, is_same_later(rt.alloc()));
+}
+
+/// An opening is none of these kernels'.
+fn is_none_of(alloc: Global, opening: &Opening, table: &[Start<'_>]) -> Result<(), Wrong> {
+    for (place, start) in table.iter().enumerate() {
+        holds(place, !is_opening(alloc, opening, *start, 0)?)?;
+    }
     Ok(())
 }
 
-#[test]
-fn openings_that_differ(rt: HostRuntime) -> Result<(), Fail> {
-    let first = opening_after(rt.alloc(), START, 0)?;
+fn all_differ(alloc: Global) -> Result<(), Wrong> {
     let table = [
         Start { number: 2, ..START },
         Start {
@@ -66,54 +91,69 @@ fn openings_that_differ(rt: HostRuntime) -> Result<(), Fail> {
             ..START
         },
     ];
-    for start in table {
-        let other = opening_after(rt.alloc(), start, 0)?;
-        assert!(rt; first != other);
+    let first = opening_after(alloc, START, 0)?;
+    is_none_of(alloc, &first, &table)
+}
+
+#[test]
+fn openings_that_differ(rt: HostRuntime) {
+    passes(&rt, all_differ(rt.alloc()));
+}
+
+/// Takes so many steps.
+fn steps(plain: &mut Plain, count: usize) -> Result<(), Wrong> {
+    let pid = pid(1)?;
+    for _ in 0..count {
+        plain.step(pid, &Input::None)?;
     }
     Ok(())
+}
+
+/// A plain kernel at its start.
+fn plain_at_start(alloc: Global) -> Result<Plain, Wrong> {
+    let boot = boot_of(alloc, START)?;
+    Ok(Plain::boot(alloc, &boot)?)
 }
 
 /// The plain kernel after so many steps.
-fn plain_after(alloc: Global, steps: usize) -> Result<Plain, Fail> {
-    let boot = boot_of(alloc, START)?;
-    let mut plain = Plain::boot(alloc, &boot)?;
-    step(&mut plain, steps)?;
+fn plain_after(alloc: Global, count: usize) -> Result<Plain, Wrong> {
+    let mut plain = plain_at_start(alloc)?;
+    steps(&mut plain, count)?;
     Ok(plain)
 }
 
-fn step(plain: &mut Plain, steps: usize) -> Result<(), Fail> {
-    for _ in 0..steps {
-        step_once(plain)?;
-    }
-    Ok(())
-}
-
-fn step_once(plain: &mut Plain) -> Result<(), Fail> {
-    plain.step(pid(1)?, &Input::None)?;
-    Ok(())
-}
-
 /// Whether it is the plain kernel after so many steps.
-fn is_after(alloc: Global, plain: &Plain, steps: usize) -> Result<bool, Fail> {
-    let other = plain_after(alloc, steps)?;
+fn is_after(alloc: Global, plain: &Plain, count: usize) -> Result<bool, Wrong> {
+    let other = plain_after(alloc, count)?;
     Ok(*plain == other)
 }
 
 /// Whether it is the one after so many steps, after one more and after two more.
-fn compared(alloc: Global, plain: &Plain, steps: usize) -> Result<[bool; 3], Fail> {
-    let same = is_after(alloc, plain, steps)?;
-    let next = is_after(alloc, plain, steps.saturating_add(1))?;
-    let later = is_after(alloc, plain, steps.saturating_add(2))?;
+fn compared(alloc: Global, plain: &Plain, count: usize) -> Result<[bool; 3], Wrong> {
+    let same = is_after(alloc, plain, count)?;
+    let next = is_after(alloc, plain, count.saturating_add(1))?;
+    let later = is_after(alloc, plain, count.saturating_add(2))?;
     Ok([same, next, later])
+}
+
+/// The plain kernel after so many steps is no other.
+fn is_itself(alloc: Global, count: usize) -> Result<(), Wrong> {
+    let plain = plain_after(alloc, count)?;
+    holds(
+        count,
+        compared(alloc, &plain, count)? == [true, false, false],
+    )
+}
+
+fn all_are_themselves(alloc: Global) -> Result<(), Wrong> {
+    for count in 0..=3 {
+        is_itself(alloc, count)?;
+    }
+    Ok(())
 }
 
 /// Every second step leaves the process where it was, with one text more.
 #[test]
-fn plain_kernels_that_differ_in_one_text(rt: HostRuntime) -> Result<(), Fail> {
-    for steps in [0, 1, 2, 3] {
-        let plain = plain_after(rt.alloc(), steps)?;
-        let told = compared(rt.alloc(), &plain, steps)?;
-        assert_eq!(rt; told, [true, false, false]);
-    }
-    Ok(())
+fn plain_kernels_that_differ_in_one_text(rt: HostRuntime) {
+    passes(&rt, all_are_themselves(rt.alloc()));
 }

@@ -10,21 +10,14 @@ use sk_plain::{Refusal, View};
 use sk_script::Input;
 use std::alloc::Global;
 use std::process::Abort;
-use std::test::Fail;
-use tests_support::values::{guess, pid};
+use tests_support::plain::{guess, pid};
+use tests_support::wrong::{Wrong, holds};
 
 /// How a guess is decided.
 #[derive(Clone, Copy)]
 pub enum Decision {
     Commit,
     Fail,
-}
-
-/// Which token is taken.
-#[derive(Clone, Copy)]
-pub enum Pick {
-    Oldest,
-    Newest,
 }
 
 /// What there is to count.
@@ -34,9 +27,7 @@ pub enum Count {
     Place(u16),
     /// The texts that a terminal has released.
     Released(u16),
-    Entities,
     Events,
-    Undecided,
     /// The places of the trace that are free.
     Room,
     /// The notes that are held.
@@ -58,16 +49,10 @@ pub enum KernelPlay {
     Steps(u16, usize, Result<(), Refusal>),
     /// A step of a process with the input `good`.
     Good(u16),
-    /// So many steps of each process from 1 on to this one, of which none is refused.
-    AllStep(u16, usize),
     /// The guesses of a process from this number on to that; their tokens are kept.
     Guesses(u16, u64, u64),
-    /// The decision of a guess whose token is kept.
-    Decides(Pick, Decision, Outcome),
-    /// The decisions of all of them, and how many are undecided when their turn comes.
-    DecidesAll(Pick, Decision, usize),
-    /// So many rounds of a guess of process 1 and its decision: first this one, then the other, in turn.
-    Rounds(u64, [Decision; 2]),
+    /// The decision of the oldest guess whose token is kept.
+    Decides(Decision, Outcome),
     /// How much there is.
     Has(Count, usize),
     /// Just these rest on the guess of this number, by rising order.
@@ -92,36 +77,23 @@ fn stepped(kernel: &mut Kernel, pid: Pid, count: usize) -> Result<(), Refusal> {
     Ok(())
 }
 
-/// Steps of a process come to this.
+/// Whether the steps of a process come to this.
 fn steps(
-    rt: &impl Abort,
     kernel: &mut Kernel,
-    place: usize,
     number: u16,
     count: usize,
     want: Result<(), Refusal>,
-) -> Result<(), Fail> {
-    let answer = stepped(kernel, pid(number)?, count);
-    assert_eq!(rt; answer, want, "play {place}");
-    Ok(())
+) -> Result<bool, Wrong> {
+    Ok(stepped(kernel, pid(number)?, count) == want)
 }
 
-/// So many steps of each process are taken.
-fn all_step(
-    rt: &impl Abort,
-    kernel: &mut Kernel,
-    place: usize,
-    last: u16,
-    count: usize,
-) -> Result<(), Fail> {
-    for number in 1..=last {
-        steps(rt, kernel, place, number, count, Ok(()))?;
-    }
-    Ok(())
+/// Whether a step with the input `good` is taken.
+fn is_good(kernel: &mut Kernel, number: u16) -> Result<bool, Wrong> {
+    Ok(kernel.step(pid(number)?, Input::Good).is_ok())
 }
 
 /// Draws the next guess of a process, and keeps its token: the number of the guess.
-fn drawn(player: &mut Player, pid: Pid) -> Result<u64, Fail> {
+fn drawn(player: &mut Player, pid: Pid) -> Result<u64, Wrong> {
     player.tokens.reserve(1)?;
     let token = player.kernel.create_speculation(pid, Input::Good)?;
     let number = token.id().number();
@@ -129,30 +101,15 @@ fn drawn(player: &mut Player, pid: Pid) -> Result<u64, Fail> {
     Ok(number)
 }
 
-/// The next guesses of a process have these numbers.
-fn guesses(
-    rt: &impl Abort,
-    player: &mut Player,
-    place: usize,
-    pid: Pid,
-    first: u64,
-    last: u64,
-) -> Result<(), Fail> {
+/// Whether the next guesses of a process have these numbers.
+fn guesses(player: &mut Player, process: u16, first: u64, last: u64) -> Result<bool, Wrong> {
+    let pid = pid(process)?;
     for number in first..=last {
-        assert_eq!(rt; drawn(player, pid)?, number, "play {place}");
+        if drawn(player, pid)? != number {
+            return Ok(false);
+        }
     }
-    Ok(())
-}
-
-/// Takes a token.
-fn taken(rt: &impl Abort, tokens: &mut Vec<Guess>, which: Pick) -> Guess {
-    if tokens.is_empty() {
-        panic!(rt; "no token is kept");
-    }
-    match which {
-        Pick::Oldest => tokens.remove(0),
-        Pick::Newest => tokens.remove(tokens.len() - 1),
-    }
+    Ok(true)
 }
 
 /// Commits the guess of a token.
@@ -171,64 +128,16 @@ fn failed(rt: &impl Abort, kernel: &mut Kernel, token: Guess) -> Outcome {
     }
 }
 
-/// What the decision of a guess comes to whose token is kept.
-fn decided(rt: &impl Abort, player: &mut Player, which: Pick, decision: Decision) -> Outcome {
-    let token = taken(rt, &mut player.tokens, which);
-    match decision {
+/// What the decision of the oldest guess comes to whose token is kept.
+fn decided(rt: &impl Abort, player: &mut Player, decision: Decision) -> Option<Outcome> {
+    if player.tokens.is_empty() {
+        return None;
+    }
+    let token = player.tokens.remove(0);
+    Some(match decision {
         Decision::Commit => committed(rt, &mut player.kernel, token),
         Decision::Fail => failed(rt, &mut player.kernel, token),
-    }
-}
-
-/// The decision of a guess comes to this.
-fn decides(
-    rt: &impl Abort,
-    player: &mut Player,
-    place: usize,
-    which: Pick,
-    decision: Decision,
-    want: Outcome,
-) -> Result<(), Fail> {
-    let outcome = decided(rt, player, which, decision);
-    assert_eq!(rt; outcome, want, "play {place}");
-    Ok(())
-}
-
-/// The decisions of all guesses whose tokens are kept: so many are undecided when their turn comes.
-fn decides_all(
-    rt: &impl Abort,
-    player: &mut Player,
-    place: usize,
-    which: Pick,
-    decision: Decision,
-    want: usize,
-) -> Result<(), Fail> {
-    let mut done = 0usize;
-    for _ in 0..player.tokens.len() {
-        if decided(rt, player, which, decision) == Outcome::Done {
-            done = done.saturating_add(1);
-        }
-    }
-    assert_eq!(rt; done, want, "play {place}");
-    Ok(())
-}
-
-/// So many rounds of a guess of a process and its decision.
-fn rounds(
-    rt: &impl Abort,
-    player: &mut Player,
-    place: usize,
-    pid: Pid,
-    count: u64,
-    decisions: [Decision; 2],
-) -> Result<(), Fail> {
-    let [odd, even] = decisions;
-    for number in 1..=count {
-        let decision = if number % 2 == 1 { odd } else { even };
-        guesses(rt, player, place, pid, number, number)?;
-        decides(rt, player, place, Pick::Oldest, decision, Outcome::Done)?;
-    }
-    Ok(())
+    })
 }
 
 /// The place of a process, where it is present.
@@ -247,122 +156,74 @@ fn released(kernel: &Kernel, number: u16) -> Option<usize> {
     }
 }
 
-fn counted(kernel: &Kernel, count: Count) -> Result<Option<usize>, Fail> {
+fn counted(kernel: &Kernel, count: Count) -> Result<Option<usize>, Wrong> {
     match count {
         Count::Place(number) => Ok(place_of(kernel, pid(number)?)),
         Count::Released(number) => Ok(released(kernel, number)),
-        Count::Entities => Ok(Some(kernel.entities()?.len())),
         Count::Events => Ok(Some(kernel.trace().events().len())),
-        Count::Undecided => Ok(Some(kernel.undecided())),
         Count::Room => Ok(Some(kernel.room())),
         Count::Notes => Ok(Some(kernel.notes())),
     }
 }
 
-/// There is so much.
-fn has(
-    rt: &impl Abort,
-    kernel: &Kernel,
-    place: usize,
-    count: Count,
-    want: usize,
-) -> Result<(), Fail> {
-    assert_eq!(rt; counted(kernel, count)?, Some(want), "play {place}");
-    Ok(())
+/// Whether there is so much.
+fn has(kernel: &Kernel, count: Count, want: usize) -> Result<bool, Wrong> {
+    Ok(counted(kernel, count)? == Some(want))
 }
 
-fn entity_of(thing: Thing) -> Result<Entity, Fail> {
-    Ok(match thing {
-        Thing::Process(number) => Entity::Proc(pid(number)?),
-        Thing::Object(count) => Entity::Obj(ObjId { maker: None, count }),
-    })
-}
-
-/// Just these rest on a guess, by rising order.
-fn rests(
-    rt: &impl Abort,
-    kernel: &Kernel,
-    place: usize,
-    number: u64,
-    want: &[Thing],
-) -> Result<(), Fail> {
-    let dependents = kernel.dependents(guess(number)?);
-    assert_eq!(rt; dependents.len(), want.len(), "play {place}");
-    for (entity, thing) in dependents.iter().zip(want) {
-        assert_eq!(rt; *entity, entity_of(*thing)?, "play {place}");
+fn entity_of(thing: Thing) -> Result<Entity, Wrong> {
+    match thing {
+        Thing::Process(number) => Ok(Entity::Proc(pid(number)?)),
+        Thing::Object(count) => Ok(Entity::Obj(ObjId { maker: None, count })),
     }
-    Ok(())
 }
 
-/// A new epoch comes to this.
-fn epoch(
-    rt: &impl Abort,
-    kernel: &mut Kernel,
-    place: usize,
-    want: Result<(usize, usize), EpochRefusal>,
-) -> Result<(), Fail> {
-    let answer = match kernel.new_epoch() {
+/// Whether the entities are these.
+fn are_things(entities: &[Entity], things: &[Thing]) -> Result<bool, Wrong> {
+    for (entity, thing) in entities.iter().zip(things) {
+        if *entity != entity_of(*thing)? {
+            return Ok(false);
+        }
+    }
+    Ok(entities.len() == things.len())
+}
+
+/// Whether just these rest on a guess, by rising order.
+fn rests(kernel: &Kernel, number: u64, want: &[Thing]) -> Result<bool, Wrong> {
+    are_things(kernel.dependents(guess(number)?), want)
+}
+
+/// What a new epoch comes to.
+fn epoch(kernel: &mut Kernel) -> Result<(usize, usize), EpochRefusal> {
+    match kernel.new_epoch() {
         Ok((trace, texts)) => Ok((trace.events().len(), texts.of(1).len())),
         Err(why) => Err(why),
-    };
-    assert_eq!(rt; answer, want, "play {place}");
-    Ok(())
+    }
 }
 
-/// This became of a guess.
-fn became(
-    rt: &impl Abort,
-    kernel: &Kernel,
-    place: usize,
-    number: u64,
-    want: Option<Status>,
-) -> Result<(), Fail> {
-    let status = kernel.status(guess(number)?);
-    assert_eq!(rt; status, want, "play {place}");
-    Ok(())
+/// Whether this became of a guess.
+fn became(kernel: &Kernel, number: u64, want: Option<Status>) -> Result<bool, Wrong> {
+    Ok(kernel.status(guess(number)?) == want)
 }
 
-/// Does one thing.
-pub fn does(
-    rt: &impl Abort,
-    player: &mut Player,
-    place: usize,
-    play: KernelPlay,
-) -> Result<(), Fail> {
+/// Does one thing: whether it comes to what is wanted.
+pub fn does(rt: &impl Abort, player: &mut Player, play: KernelPlay) -> Result<bool, Wrong> {
     match play {
-        KernelPlay::Steps(number, count, want) => {
-            steps(rt, &mut player.kernel, place, number, count, want)
-        }
-        KernelPlay::Good(number) => Ok(player.kernel.step(pid(number)?, Input::Good)?),
-        KernelPlay::AllStep(last, count) => all_step(rt, &mut player.kernel, place, last, count),
-        KernelPlay::Guesses(number, first, last) => {
-            guesses(rt, player, place, pid(number)?, first, last)
-        }
-        KernelPlay::Decides(which, decision, want) => decides(
-            rt, player, place, which, decision, want,
-        ),
-        KernelPlay::DecidesAll(which, decision, want) => {
-            decides_all(rt, player, place, which, decision, want)
-        }
-        KernelPlay::Rounds(count, decisions) => rounds(
-            rt,
-            player,
-            place,
-            pid(1)?,
-            count,
-            decisions,
-        ),
-        KernelPlay::Has(count, want) => has(rt, &player.kernel, place, count, want),
-        KernelPlay::Rests(number, want) => rests(rt, &player.kernel, place, number, want),
-        KernelPlay::Epoch(want) => epoch(rt, &mut player.kernel, place, want),
-        KernelPlay::Became(number, want) => became(rt, &player.kernel, place, number, want),
+        KernelPlay::Steps(number, count, want) => steps(&mut player.kernel, number, count, want),
+        KernelPlay::Good(number) => is_good(&mut player.kernel, number),
+        KernelPlay::Guesses(number, first, last) => guesses(player, number, first, last),
+        KernelPlay::Decides(decision, want) => Ok(decided(rt, player, decision) == Some(want)),
+        KernelPlay::Has(count, want) => has(&player.kernel, count, want),
+        KernelPlay::Rests(number, want) => rests(&player.kernel, number, want),
+        KernelPlay::Epoch(want) => Ok(epoch(&mut player.kernel) == want),
+        KernelPlay::Became(number, want) => became(&player.kernel, number, want),
     }
 }
 
 /// Does one thing after the other.
-pub fn does_all(rt: &impl Abort, player: &mut Player, plays: &[KernelPlay]) -> Result<(), Fail> {
+pub fn does_all(rt: &impl Abort, player: &mut Player, plays: &[KernelPlay]) -> Result<(), Wrong> {
     for (place, play) in plays.iter().enumerate() {
-        does(rt, player, place, *play)?;
+        holds(place, does(rt, player, *play)?)?;
     }
     Ok(())
 }
@@ -379,7 +240,7 @@ fn spends(rt: &impl Abort, player: &mut Player)
 
 impl Player {
     /// A new kernel.
-    pub fn new(alloc: Global, start: Start<'_>) -> Result<Player, Fail> {
+    pub fn new(alloc: Global, start: Start<'_>) -> Result<Player, Wrong> {
         Ok(Player::with(alloc, kernel_of(alloc, start)?))
     }
 
@@ -412,7 +273,7 @@ pub fn plays_on(
     alloc: Global,
     kernel: Kernel,
     plays: &[KernelPlay],
-) -> Result<(), Fail> {
+) -> Result<(), Wrong> {
     let mut player = Player::with(alloc, kernel);
     let done = does_all(rt, &mut player, plays);
     player.abandon(rt);
@@ -425,6 +286,6 @@ pub fn plays(
     alloc: Global,
     start: Start<'_>,
     plays: &[KernelPlay],
-) -> Result<(), Fail> {
+) -> Result<(), Wrong> {
     plays_on(rt, alloc, kernel_of(alloc, start)?, plays)
 }

@@ -5,8 +5,8 @@ use sk_ids::Name;
 use sk_kernel::Kernel;
 use sk_script::{Boot, ObjectKind, Script};
 use std::alloc::{AllocError, Global};
-use std::test::Fail;
-use tests_support::values::{content, name};
+use tests_support::plain::{content, name};
+use tests_support::wrong::Wrong;
 
 /// What a kernel starts from.
 #[derive(Clone, Copy)]
@@ -43,18 +43,18 @@ pub fn declares_script(
     boot: &mut Boot,
     name: &Name,
     text: &[u8],
-) -> Result<(), Fail> {
+) -> Result<(), Wrong> {
     Ok(boot.script(*name, Script::parse(alloc, text)?)?)
 }
 
 /// Declares a copy.
-pub fn declares_copy(boot: &mut Boot, at: &[u8], version: u64, bytes: &[u8]) -> Result<(), Fail> {
+pub fn declares_copy(boot: &mut Boot, at: &[u8], version: u64, bytes: &[u8]) -> Result<(), Wrong> {
     Ok(boot.copy(name(at)?, content(version, bytes)?)?)
 }
 
 /// Declares a process with a terminal and a copy; the copy's name has three bytes, another for each
 /// number below 100.
-fn declares_process(boot: &mut Boot, number: u8, script: &Name) -> Result<(), Fail>
+fn declares_process(boot: &mut Boot, number: u8, script: &Name) -> Result<(), Wrong>
     requires { 0 < number }
 {
     let at = [b'/', b'0' + number / 10 % 10, b'0' + number % 10];
@@ -63,7 +63,7 @@ fn declares_process(boot: &mut Boot, number: u8, script: &Name) -> Result<(), Fa
     Ok(boot.process(number, script, number)?)
 }
 
-fn declares_all(alloc: Global, boot: &mut Boot, start: Start<'_>) -> Result<(), Fail> {
+fn declares_all(alloc: Global, boot: &mut Boot, start: Start<'_>) -> Result<(), Wrong> {
     let main = name(b"main")?;
     declares_script(alloc, boot, &main, &text_of(alloc, start.script)?)?;
     for number in 1..=start.processes {
@@ -73,20 +73,20 @@ fn declares_all(alloc: Global, boot: &mut Boot, start: Start<'_>) -> Result<(), 
 }
 
 /// What is declared.
-pub fn boot_of(alloc: Global, start: Start<'_>) -> Result<Boot, Fail> {
+pub fn boot_of(alloc: Global, start: Start<'_>) -> Result<Boot, Wrong> {
     let mut boot = Boot::new(alloc);
     declares_all(alloc, &mut boot, start)?;
     Ok(boot)
 }
 
 /// The kernel.
-pub fn kernel_of(alloc: Global, start: Start<'_>) -> Result<Kernel, Fail> {
+pub fn kernel_of(alloc: Global, start: Start<'_>) -> Result<Kernel, Wrong> {
     let boot = boot_of(alloc, start)?;
     Ok(Kernel::boot(alloc, start.number, &boot, start.limit)?)
 }
 
 /// Declares two processes with these scripts, and copies `/x` and `/y`.
-fn declares(alloc: Global, boot: &mut Boot, scripts: [&[u8]; 2]) -> Result<(), Fail> {
+fn declares(alloc: Global, boot: &mut Boot, scripts: [&[u8]; 2]) -> Result<(), Wrong> {
     let (one, two) = (name(b"one")?, name(b"two")?);
     declares_script(alloc, boot, &one, scripts[0])?;
     declares_script(alloc, boot, &two, scripts[1])?;
@@ -97,16 +97,16 @@ fn declares(alloc: Global, boot: &mut Boot, scripts: [&[u8]; 2]) -> Result<(), F
 }
 
 /// A boot of both.
-pub fn two_processes(alloc: Global, scripts: [&[u8]; 2]) -> Result<Boot, Fail> {
+pub fn two_processes(alloc: Global, scripts: [&[u8]; 2]) -> Result<Boot, Wrong> {
     let mut boot = Boot::new(alloc);
     declares(alloc, &mut boot, scripts)?;
     Ok(boot)
 }
 
 /// Declares a file, where there is room.
-pub fn declares_file(boot: &mut Boot, at: &Name, bytes: &[u8]) -> Result<(), Fail> {
+pub fn declares_file(boot: &mut Boot, at: &Name, bytes: &[u8]) -> Result<(), Wrong> {
     if boot.objects().len() >= 64 || bytes.len() > 512 {
-        return Err("room".into());
+        return Err(Wrong::Start);
     }
     Ok(boot.object(*at, ObjectKind::File, bytes)?)
 }

@@ -3,4 +3,6 @@
 
 pub mod finding;
 pub mod judge;
+pub mod plain;
 pub mod values;
+pub mod wrong;

@@ -1,0 +1,3 @@
+mod Passes
+mod Firsts
+mod Waiting

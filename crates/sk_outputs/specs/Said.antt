@@ -1,0 +1,31 @@
+-- Outputs that were said, each with its channel and the guesses that it rests on.
+use Rattle.std.specs.Prelude.{ℕ, ◌==◌, ◌-◌, Bool, true, false, List, [], ◌∷◌, length, refl}
+use Rattle.std.specs.List.{filter}
+use Rattle.std.specs.Coded.{Coded, code_by, coded×, coded_ℕ, coded_list}
+use Rattle.sk_record.specs.Machine.{Tagged, released}
+
+abbrev pub Said : Type 0 → Type 0
+Said O = List (Tagged (ℕ × O))
+
+-- the outputs in the order in which they were said, and for how many more there is room
+pub record SaidView (O : Type 0) : Type 0 where
+  pub said : Said O
+  pub room : ℕ
+
+abbrev pub one_code : {O : Type 0} → Coded O → Coded (Tagged (ℕ × O))
+one_code code = coded× (coded× coded_ℕ code) (coded_list coded_ℕ)
+
+abbrev pub said_code : {O : Type 0} → Coded O → Coded (SaidView O)
+said_code {O} code = code_by (Said O × ℕ) (coded× (coded_list (one_code code)) coded_ℕ) (λ s. (s.said, s.room)) (λ p. record { said = p.0; room = p.1 }) (λ _. refl)
+
+-- those of one channel
+abbrev pub said_at : {O : Type 0} → Said O → ℕ → List (Tagged (ℕ × O))
+said_at xs t = filter (λ x. x.0.0 == t) xs
+
+-- how many of a channel wait: the first that rests on a guess, and all behind it
+abbrev pub waiting_of : {W : Type 0} → List (Tagged W) → ℕ
+waiting_of xs = length xs - length (released xs)
+
+abbrev pub is_empty : {A : Type 0} → List A → Bool
+is_empty [] = true
+is_empty (x ∷ xs) = false

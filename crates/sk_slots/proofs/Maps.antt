@@ -1,0 +1,204 @@
+-- One slot of all is changed.
+use Rattle.std.proofs.Common.{◌≡◌, ℕ, List, [], ◌∷◌, Bool, true, false, cond, ◌||◌, ◌&&◌, not, Option, Some, None, ◌+◌, ◌<◌, length, drop, refl, sym, ◌∙◌, ap, subst}
+use Rattle.std.specs.Prelude.{◌==◌, get_or, is_none, Result, Ok, Err, OnOk, OnErr}
+use Rattle.std.specs.Ordering.{eq_by_cmp}
+use Rattle.std.specs.declared.cmp.Ordering.{Ordering}
+use Rattle.std.specs.Cmp.{IsTotalOrder, eq_by_cmp_equiv, Equal-is}
+use Rattle.std.specs.FinMap.{FinMap, IsAntisymmetric, get, insert, remove, get-insert, get-remove}
+use Rattle.std.proofs.lemmas.Bool.{true≢false}
+use Rattle.sk_record.specs.Effects.{is_in}
+use Rattle.sk_record.specs.Notes.{Note, has, without, noted, unwound, cut, committed}
+use Rattle.std.proofs.Math.Seq.{drop-cons}
+use Rattle.std.proofs.Math.Numerals.{suc-eq-add-one}
+use Rattle.sk_record.proofs.UndoStates.{and_both}
+use Rattle.std.specs.Option.{unwrap_or}
+use Rattle.sk_slots.specs.Slot.{SlotView, is_bare, is_empty, is_settled, IsPrepared}
+use Rattle.sk_slots.specs.Slots.{slot_in, HasPrepared}
+
+empty_is : {A : Type 0} (xs : List A) → is_empty xs ≡ true → xs ≡ []
+empty_is [] is = refl
+empty_is (x ∷ xs) is = absurd (true≢false (sym is))
+
+none_is : {A : Type 0} (o : Option A) → is_none o ≡ true → o ≡ None
+none_is None is = refl
+none_is (Some x) is = absurd (true≢false (sym is))
+
+same_by : {K : Type 0} {R : K → K → Ordering} → IsAntisymmetric R → (q k : K) → eq_by_cmp R q k ≡ true → q ≡ k
+same_by {R = R} exact q k is = exact q k ((Equal-is (R q k)).0 is)
+
+module _ {K V : Type 0} {R : K → K → Ordering} (total : IsTotalOrder R) (exact : IsAntisymmetric R) where
+
+  -- what is told of a slot, where one is changed
+  pub one_changed : {A : Type 0} (f h : SlotView V → A) (m n : FinMap R (SlotView V)) (k : K) (s w : SlotView V) → get m k ≡ Some s → n ≡ insert m k w → f w ≡ h s
+      → (q : K) → f (slot_in (get n q)) ≡ cond (eq_by_cmp R q k) (h (slot_in (get m q))) (f (slot_in (get m q)))
+  one_changed f h m n k s w here all is q =
+      ap (λ (x : FinMap R (SlotView V)). f (slot_in (get x q))) all ∙ ap (λ o. f (slot_in o)) (get-insert total m k w q)
+      ∙ elim (eq_by_cmp R q k) as (λ b. eq_by_cmp R q k ≡ b → f (slot_in (cond b (Some w) (get m q))) ≡ cond b (h (slot_in (get m q))) (f (slot_in (get m q)))) [
+        | true ↦ λ e. is ∙ ap (λ o. h (slot_in o)) (sym here ∙ ap (get m) (sym (same_by exact q k e)))
+        | false ↦ λ _. refl
+      ] refl
+
+  pub none_changed : {A : Type 0} (f h : SlotView V → A) (m n : FinMap R (SlotView V)) (k : K) → get m k ≡ None → n ≡ m → f (slot_in None) ≡ h (slot_in None)
+      → (q : K) → f (slot_in (get n q)) ≡ cond (eq_by_cmp R q k) (h (slot_in (get m q))) (f (slot_in (get m q)))
+  none_changed f h m n k none all is q =
+      ap (λ (x : FinMap R (SlotView V)). f (slot_in (get x q))) all
+      ∙ elim (eq_by_cmp R q k) as (λ b. eq_by_cmp R q k ≡ b → f (slot_in (get m q)) ≡ cond b (h (slot_in (get m q))) (f (slot_in (get m q)))) [
+        | true ↦ λ e. let at = ap (get m) (same_by exact q k e) ∙ none in ap (λ o. f (slot_in o)) at ∙ is ∙ ap (λ o. h (slot_in o)) (sym at)
+        | false ↦ λ _. refl
+      ] refl
+
+  -- a slot that tells the same
+  pub one_same : {A : Type 0} (f : SlotView V → A) (m n : FinMap R (SlotView V)) (k : K) (s w : SlotView V) → get m k ≡ Some s → n ≡ insert m k w → f w ≡ f s
+      → (q : K) → f (slot_in (get n q)) ≡ f (slot_in (get m q))
+  one_same f m n k s w here all is q =
+      one_changed f f m n k s w here all is q ∙ elim (eq_by_cmp R q k) as (λ b. cond b (f (slot_in (get m q))) (f (slot_in (get m q))) ≡ f (slot_in (get m q))) [ true ↦ refl | false ↦ refl ]
+
+  -- a slot where there was none
+  pub one_born : {A : Type 0} (f : SlotView V → A) (m n : FinMap R (SlotView V)) (k : K) (w : SlotView V) → get m k ≡ None → n ≡ insert m k w → f w ≡ f (slot_in None)
+      → (q : K) → f (slot_in (get n q)) ≡ f (slot_in (get m q))
+  one_born f m n k w none all is q =
+      ap (λ (x : FinMap R (SlotView V)). f (slot_in (get x q))) all ∙ ap (λ o. f (slot_in o)) (get-insert total m k w q)
+      ∙ elim (eq_by_cmp R q k) as (λ b. eq_by_cmp R q k ≡ b → f (slot_in (cond b (Some w) (get m q))) ≡ f (slot_in (get m q))) [
+        | true ↦ λ e. is ∙ ap (λ o. f (slot_in o)) (sym (ap (get m) (same_by exact q k e) ∙ none))
+        | false ↦ λ _. refl
+      ] refl
+
+  -- a slot of which there is nothing, left out
+  pub one_gone : {A : Type 0} (f : SlotView V → A) (m n : FinMap R (SlotView V)) (k : K) (s : SlotView V) → get m k ≡ Some s → n ≡ remove m k → f (slot_in None) ≡ f s
+      → (q : K) → f (slot_in (get n q)) ≡ f (slot_in (get m q))
+  one_gone f m n k s here all is q =
+      ap (λ (x : FinMap R (SlotView V)). f (slot_in (get x q))) all ∙ ap (λ o. f (slot_in o)) (get-remove total m k q)
+      ∙ elim (eq_by_cmp R q k) as (λ b. eq_by_cmp R q k ≡ b → f (slot_in (cond b None (get m q))) ≡ f (slot_in (get m q))) [
+        | true ↦ λ e. is ∙ ap (λ o. f (slot_in o)) (sym (ap (get m) (same_by exact q k e) ∙ here))
+        | false ↦ λ _. refl
+      ] refl
+
+  -- the same, where the slot was changed before
+  pub same_gone : {A : Type 0} (f : SlotView V → A) (m n : FinMap R (SlotView V)) (k : K) (s w : SlotView V) → get m k ≡ Some s → n ≡ remove (insert m k w) k → f (slot_in None) ≡ f s
+      → (q : K) → f (slot_in (get n q)) ≡ f (slot_in (get m q))
+  same_gone f m n k s w here all is q =
+      ap (λ (x : FinMap R (SlotView V)). f (slot_in (get x q))) all ∙ ap (λ o. f (slot_in o)) (get-remove total (insert m k w) k q ∙ ap (cond (eq_by_cmp R q k) None) (get-insert total m k w q))
+      ∙ elim (eq_by_cmp R q k) as (λ b. eq_by_cmp R q k ≡ b → f (slot_in (cond b None (cond b (Some w) (get m q)))) ≡ f (slot_in (get m q))) [
+        | true ↦ λ e. is ∙ ap (λ o. f (slot_in o)) (sym (ap (get m) (same_by exact q k e) ∙ here))
+        | false ↦ λ _. refl
+      ] refl
+
+  -- what is ready stays so where the one slot that is changed does
+  pub still_ready : (tags : List ℕ) (m n : FinMap R (SlotView V)) (k : K) (w : SlotView V) → n ≡ insert m k w → (HasPrepared tags (get m k) → IsPrepared tags w)
+      → (q : K) → HasPrepared tags (get m q) → HasPrepared tags (get n q)
+  still_ready tags m n k w all is q ready =
+      subst (λ (x : FinMap R (SlotView V)). HasPrepared tags (get x q)) (sym all)
+      (subst (HasPrepared tags) (sym (get-insert total m k w q))
+      (elim (eq_by_cmp R q k) as (λ b. eq_by_cmp R q k ≡ b → HasPrepared tags (cond b (Some w) (get m q))) [
+        | true ↦ λ e. is (subst (λ x. HasPrepared tags (get m x)) (same_by exact q k e) ready)
+        | false ↦ λ _. ready
+      ] refl))
+
+  pub ready_at : (tags : List ℕ) (m n : FinMap R (SlotView V)) (k : K) (w : SlotView V) → n ≡ insert m k w → IsPrepared tags w → HasPrepared tags (get n k)
+  ready_at tags m n k w all is =
+      subst (λ (x : FinMap R (SlotView V)). HasPrepared tags (get x k)) (sym all)
+      (subst (HasPrepared tags) (sym (get-insert total m k w k)) (subst (λ b. HasPrepared tags (cond b (Some w) (get m k))) (sym ((eq_by_cmp_equiv total).refl k)) is))
+
+-- after a slot let go of its room
+pub settled_of : {V : Type 0} (s : SlotView V) → is_bare s ≡ false → is_settled (record s { ready = None }) ≡ true
+settled_of s some = ap not some
+
+pub bare_of : (b : Bool) → not b ≡ false → b ≡ true
+bare_of true is = refl
+bare_of false is = sym is
+
+pub left_of : (b : Bool) → not b ≡ true → b ≡ false
+left_of true is = sym is
+left_of false is = refl
+
+-- slots that are settled, but for those of some keys
+abbrev pub Settled : {K V : Type 0} {R : K → K → Ordering} → List K → FinMap R (SlotView V) → Type 0
+Settled {K} {V} {R} ks m = (q : K) (s : SlotView V) → get m q ≡ Some s → is_in R ks q ≡ false → is_settled s ≡ true
+
+some_is : {A : Type 0} (x y : A) → Some x ≡ Some y → x ≡ y
+some_is x y same = ap (λ o. unwrap_or o x) same
+
+module _ {K V : Type 0} {R : K → K → Ordering} (total : IsTotalOrder R) (exact : IsAntisymmetric R) where
+  -- one of those keys has another slot
+  pub settled_kept : (ks : List K) (m n : FinMap R (SlotView V)) (k : K) (w : SlotView V) → n ≡ insert m k w → is_in R ks k ≡ true → Settled ks m → Settled ks n
+  settled_kept ks m n k w all among settled q s here out =
+      elim (eq_by_cmp R q k) as (λ b. eq_by_cmp R q k ≡ b → cond b (Some w) (get m q) ≡ Some s → is_settled s ≡ true) [
+        | true ↦ λ e _. absurd (true≢false (sym among ∙ ap (is_in R ks) (sym (same_by exact q k e)) ∙ out))
+        | false ↦ λ _ there. settled q s there out
+      ] refl (sym (get-insert total m k w q) ∙ ap (λ (x : FinMap R (SlotView V)). get x q) (sym all) ∙ here)
+
+  -- one key more is settled
+  pub settled_set : (ks : List K) (m n : FinMap R (SlotView V)) (k : K) (w : SlotView V) → n ≡ insert m k w → is_settled w ≡ true → Settled (k ∷ ks) m → Settled ks n
+  settled_set ks m n k w all is settled q s here out =
+      elim (eq_by_cmp R q k) as (λ b. eq_by_cmp R q k ≡ b → cond b (Some w) (get m q) ≡ Some s → is_settled s ≡ true) [
+        | true ↦ λ _ there. ap is_settled (sym (some_is w s there)) ∙ is
+        | false ↦ λ apart there. settled q s there (ap (λ b. b || is_in R ks q) apart ∙ out)
+      ] refl (sym (get-insert total m k w q) ∙ ap (λ (x : FinMap R (SlotView V)). get x q) (sym all) ∙ here)
+
+  pub settled_gone : (ks : List K) (m n : FinMap R (SlotView V)) (k : K) (w : SlotView V) → n ≡ remove (insert m k w) k → Settled (k ∷ ks) m → Settled ks n
+  settled_gone ks m n k w all settled q s here out =
+      elim (eq_by_cmp R q k) as (λ b. eq_by_cmp R q k ≡ b → cond b None (cond b (Some w) (get m q)) ≡ Some s → is_settled s ≡ true) [
+        | true ↦ λ _ there. cc
+        | false ↦ λ apart there. settled q s there (ap (λ b. b || is_in R ks q) apart ∙ out)
+      ] refl (ap (cond (eq_by_cmp R q k) None) (sym (get-insert total m k w q)) ∙ sym (get-remove total (insert m k w) k q) ∙ ap (λ (x : FinMap R (SlotView V)). get x q) (sym all) ∙ here)
+
+  pub settled_none : (ks : List K) (m n : FinMap R (SlotView V)) (k : K) → n ≡ m → get m k ≡ None → Settled (k ∷ ks) m → Settled ks n
+  settled_none ks m n k all none settled q s here out =
+      let there : get m q ≡ Some s = ap (λ (x : FinMap R (SlotView V)). get x q) (sym all) ∙ here in
+      elim (eq_by_cmp R q k) as (λ b. eq_by_cmp R q k ≡ b → is_settled s ≡ true) [
+        | true ↦ λ e. let no : None ≡ Some s = sym none ∙ ap (get m) (sym (same_by exact q k e)) ∙ there in cc
+        | false ↦ λ apart. settled q s there (ap (λ b. b || is_in R ks q) apart ∙ out)
+      ] refl
+
+-- of a slot of which there is nothing
+module _ {V : Type 0} where
+  pub bare_value : (s : SlotView V) → is_bare s ≡ true → None ≡ s.value
+  bare_value s bare = sym (none_is s.value (and_both _ _ bare).0)
+
+  pub bare_log : (s : SlotView V) → is_bare s ≡ true → [] ≡ s.log
+  bare_log s bare = sym (empty_is s.log (and_both _ _ bare).1)
+
+-- ---- what is done twice
+cut_twice_go : {V : Type 0} (g : ℕ) (log : List (Note V)) → cut g (cut g log) ≡ cut g log
+cut_twice_go g [] = refl
+cut_twice_go g (n ∷ log) =
+    elim (has g n.tags) as (λ b. has g n.tags ≡ b → cut g (cond b [] (n ∷ cut g log)) ≡ cond b [] (n ∷ cut g log)) [
+      | true ↦ λ _. refl
+      | false ↦ λ off. ap (λ b. cond b [] (n ∷ cut g (cut g log))) off ∙ ap (λ ns. n ∷ ns) (cut_twice_go g log)
+    ] refl
+
+pub cut_twice : {V : Type 0} (g : ℕ) (log : List (Note V)) → cut g (cut g log) ≡ cut g log
+cut_twice = cut_twice_go
+
+pub unwound_twice : {V : Type 0} (g : ℕ) (log : List (Note V)) (now : Option V) → unwound g (cut g log) now ≡ now
+unwound_twice g [] now = refl
+unwound_twice g (n ∷ log) now =
+    elim (has g n.tags) as (λ b. has g n.tags ≡ b → unwound g (cond b [] (n ∷ cut g log)) now ≡ now) [
+      | true ↦ λ _. refl
+      | false ↦ λ off. ap (λ b. cond b n.before (unwound g (cut g log) now)) off ∙ unwound_twice g log now
+    ] refl
+
+-- a pass over keys: those that are left give the same from here
+pub pass_more : {A : Type 0} (f : A → A) → ((x : A) → f (f x) ≡ f x) → (e rest : Bool) (x y : A) → y ≡ cond e (f x) x → cond rest (f y) y ≡ cond (e || rest) (f x) x
+pass_more f idem true true x y is = ap f is ∙ idem x
+pass_more f idem true false x y is = is
+pass_more f idem false true x y is = ap f is
+pass_more f idem false false x y is = is
+
+pub when_ok : {A E P Q : Type 0} (r : Result A E) → OnOk r P → (P → Q) → OnOk r Q
+when_ok (Ok x) p f = f p
+when_ok (Err why) p f = tt
+
+pub either : {A E P Q Z : Type 0} (r : Result A E) → OnOk r P → OnErr r Q → (P → Z) → (Q → Z) → Z
+either (Ok x) p q f h = f p
+either (Err why) p q f h = h q
+
+pub both_more : {V : Type 0} (g : ℕ) (e rest : Bool) (v w : Option V) (x y : List (Note V)) → w ≡ cond e (unwound g x v) v → y ≡ cond e (cut g x) x
+    → (cond rest (unwound g y w) w ≡ cond (e || rest) (unwound g x v) v) × (cond rest (cut g y) y ≡ cond (e || rest) (cut g x) x)
+both_more g true true v w x y is log = ((λ i. unwound g (log i) (is i)) ∙ unwound_twice g x (unwound g x v), ap (cut g) log ∙ cut_twice g x)
+both_more g true false v w x y is log = (is, log)
+both_more g false true v w x y is log = ((λ i. unwound g (log i) (is i)), ap (cut g) log)
+both_more g false false v w x y is log = (is, log)
+
+pub next_of : {K : Type 0} (es : List K) (i : ℕ) (e : K) → i < length es → e ≡ get_or es i e → drop i es ≡ e ∷ drop (i + 1) es
+next_of es i e within is = drop-cons es i e within ∙ (λ k. sym is k ∷ drop (suc-eq-add-one i k) es)

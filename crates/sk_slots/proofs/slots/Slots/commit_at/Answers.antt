@@ -1,0 +1,63 @@
+use Rattle.std.proofs.Common.{◌≡◌, ◌||◌, List, [], ◌∷◌, Option, Some, None, cond, refl, sym, ◌∙◌, ap, subst, drop, ◌+◌, arith}
+use Rattle.std.specs.Option.{option_copied_mut}
+use Rattle.std.specs.Ordering.{eq_by_cmp}
+use Rattle.std.specs.Cmp.{IsTotalOrder}
+use Rattle.std.specs.FinMap.{IsAntisymmetric, get, insert, remove}
+use Rattle.sk_record.specs.Effects.{is_in}
+use Rattle.sk_record.specs.Notes.{last_tags, unwound, cut, committed}
+use Rattle.sk_record.specs.Merged.{merged}
+use Rattle.sk_map.specs.Seen.{seen}
+use Rattle.sk_slots.specs.Slot.{SlotView, noted_on, IsPrepared}
+use Rattle.sk_slots.specs.Slots.{slot_in, look_at, log_at, IsReady, HasPrepared, SettledBut}
+use Rattle.sk_slots.proofs.Maps.{one_changed, none_changed, one_same, one_born, one_gone, bare_value, bare_log, still_ready, ready_at, settled_kept}
+use Rattle.sk_slots.proofs.slots.Slots.commit_at.Goals as goal
+
+pub returns-clause-look : goal.returns-clause-look
+returns-clause-look g c =
+    let R = g.K.Key.order in
+    let total = subst IsTotalOrder g.met.K.Key.same g.met.K.Ord.total in
+    let exact = subst IsAntisymmetric g.met.K.Key.same g.met.K.Key.exact in
+    let k = c.args.key.now in
+    let m = seen R c.self.inside.slots in
+    let all = rw c.in-Some.is at (c.get_mut.follows.holds c.commit.new.self) in
+    let here = sym c.in-Some.ensures.value in
+    λ q. one_same total exact (λ (s : SlotView _). s.value) m _ k _ c.commit.new.self here all c.commit.ensures.value q ∙ ap (λ es. look_at R es q) c.self.view_is
+
+pub returns-clause-log : goal.returns-clause-log
+returns-clause-log g c =
+    let R = g.K.Key.order in
+    let total = subst IsTotalOrder g.met.K.Key.same g.met.K.Ord.total in
+    let exact = subst IsAntisymmetric g.met.K.Key.same g.met.K.Key.exact in
+    let k = c.args.key.now in
+    let m = seen R c.self.inside.slots in
+    let all = rw c.in-Some.is at (c.get_mut.follows.holds c.commit.new.self) in
+    let here = sym c.in-Some.ensures.value in
+    λ q. one_changed total exact (λ (s : SlotView _). s.log) (λ (s : SlotView _). merged [] (committed c.args.id s.log)) m _ k _ c.commit.new.self here all c.commit.ensures.log q ∙ ap (λ es. cond (eq_by_cmp R q k) (merged [] (committed c.args.id (log_at R es q))) (log_at R es q)) c.self.view_is
+
+pub returns-in_default-clause-look : goal.returns-in_default-clause-look
+returns-in_default-clause-look g c =
+    let R = g.K.Key.order in
+    let total = subst IsTotalOrder g.met.K.Key.same g.met.K.Ord.total in
+    let exact = subst IsAntisymmetric g.met.K.Key.same g.met.K.Key.exact in
+    let k = c.args.key.now in
+    let m = seen R c.self.inside.slots in
+    λ q. ap (λ es. look_at R es q) c.get_mut.follows.holds-at-none ∙ ap (λ es. look_at R es q) c.self.view_is
+
+pub returns-in_default-clause-log : goal.returns-in_default-clause-log
+returns-in_default-clause-log g c =
+    let R = g.K.Key.order in
+    let total = subst IsTotalOrder g.met.K.Key.same g.met.K.Ord.total in
+    let exact = subst IsAntisymmetric g.met.K.Key.same g.met.K.Key.exact in
+    let k = c.args.key.now in
+    let m = seen R c.self.inside.slots in
+    λ q. none_changed total exact (λ (s : SlotView _). s.log) (λ (s : SlotView _). merged [] (committed c.args.id s.log)) m _ k (sym c.get_mut.ensures.value ∙ ap option_copied_mut c.in_default.is) (ap (seen R) c.get_mut.follows.holds-at-none) refl q ∙ ap (λ es. cond (eq_by_cmp R q k) (merged [] (committed c.args.id (log_at R es q))) (log_at R es q)) c.self.view_is
+
+pub returns-clause-settled : goal.returns-clause-settled
+returns-clause-settled g c =
+    let R = g.K.Key.order in
+    let total = subst IsTotalOrder g.met.K.Key.same g.met.K.Ord.total in
+    let exact = subst IsAntisymmetric g.met.K.Key.same g.met.K.Key.exact in
+    let k = c.args.key.now in
+    let m = seen R c.self.inside.slots in
+    let all = rw c.in-Some.is at (c.get_mut.follows.holds c.commit.new.self) in
+    λ keys among settled. settled_kept total exact keys m _ k c.commit.new.self all among (subst (SettledBut R keys) (sym c.self.view_is) settled)

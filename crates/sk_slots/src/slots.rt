@@ -1,0 +1,206 @@
+//! All keys with their slots.
+ghost use Rattle.std.specs.Prelude.{◌≡◌, ◌∷◌, [], List, Some, true, is_some, OnOk, IsOk, if◌then◌else◌};
+ghost use Rattle.std.specs.Option.{option_copied, unwrap_or};
+ghost use Rattle.std.specs.Ordering.{eq_by_cmp};
+ghost use Rattle.sk_record.specs.Effects.{is_in};
+ghost use Rattle.std.specs.List.Sorted.{IsStrictlySortedBy};
+ghost use Rattle.std.specs.Map.Iter.{ShowsInOrder, deref};
+ghost use Rattle.sk_record.specs.Merged.{merged};
+ghost use Rattle.sk_record.specs.Notes.{last_tags, unwound, cut, committed};
+ghost use Rattle.sk_slots.specs.Slot.{SlotView, goes_unnoted, noted_on};
+ghost use Rattle.sk_slots.specs.Slots.{found, look_at, log_at, AllSettled, IsReady, SettledBut};
+
+use crate::Slot;
+use sk_ids::{GuessId, TagSet};
+use sk_map::{Key, Map};
+use std::alloc::{AllocError, Global};
+use std::collections::btree_map::Keys;
+use std::marker::Model;
+
+/// What keys have. One without a slot is absent, and nothing is noted of it.
+#[derive(Drop)]
+pub struct Slots<K: Key, V> {
+    slots: Map<K, Slot<V>>,
+}
+
+impl<K: Key, V> Model for Slots<K, V> {
+    ghost use Rattle.std.specs.Prelude.{List};
+    ghost use Rattle.std.specs.Coded.{coded_list, coded×};
+    ghost use Rattle.sk_slots.specs.Slot.{SlotView, slot_code};
+
+    ghost Value = { List (K × SlotView V) };
+
+    ghost coded = { coded_list (coded× K.code (slot_code V.code)) };
+
+    ghost view = { λ a. a.slots };
+}
+
+impl<K: Key, V> Slots<K, V> {
+    pub fn new(alloc: Global) -> Slots<K, V>
+        ensures look { (k : K) → look_at K.order result k ≡ None }
+        ensures log { (k : K) → log_at K.order result k ≡ [] }
+        ensures settled { AllSettled K.order result }
+    {
+        Slots {
+            slots: Map::new(alloc),
+        }
+    }
+
+    pub fn value(&self, key: &K) -> Option<&V>
+        ensures { option_copied result ≡ look_at K.order self.now key.now }
+    {
+        match self.slots.get(key) {
+            Some(slot) => slot.value(),
+            None => None,
+        }
+    }
+
+    /// The tags of a key, where it has a note.
+    pub fn tags(&self, key: &K) -> Option<&TagSet>
+        ensures { unwrap_or (option_copied result) [] ≡ last_tags [] (log_at K.order self.now key.now) }
+    {
+        match self.slots.get(key) {
+            Some(slot) => slot.tags(),
+            None => None,
+        }
+    }
+}
+
+impl<K: Key, V> Slots<K, V> {
+    /// Whether a key has a slot.
+    pub fn has(&self, key: &K) -> bool
+        ensures { result ≡ is_some (found K.order self.now key.now) }
+    {
+        self.slots.get(key).is_some()
+    }
+
+    /// The keys that have slots, by their order, each once.
+    pub fn keys(&self) -> Keys<'_, K, Slot<V>>
+        ensures all { (q : K) → is_in K.order result q ≡ is_some (found K.order self.now q) }
+        ensures rising { IsStrictlySortedBy K.order result }
+        ensures runs { ShowsInOrder (deref {X = K}) }
+    {
+        self.slots.keys()
+    }
+}
+
+impl<K: Key, V: Drop> Slots<K, V> {
+    /// Makes room for what a write of a key with these tags notes.
+    pub fn prepare(&mut self, key: &K, tags: &TagSet) -> Result<(), AllocError>
+        ensures look { (q : K) → look_at K.order self.new q ≡ look_at K.order self.old q }
+        ensures log { (q : K) → log_at K.order self.new q ≡ log_at K.order self.old q }
+        ensures ok { OnOk result (IsReady K.order tags.now self.new key.now) }
+        ensures kept { (q : K) → IsReady K.order tags.now self.old q
+            → IsReady K.order tags.now self.new q }
+        ensures settled { (keys : List K) → is_in K.order keys key.now ≡ true
+            → SettledBut K.order keys self.old → SettledBut K.order keys self.new }
+        ensures room { (slot : SlotView V) → found K.order self.old key.now ≡ Some slot
+            → goes_unnoted tags.now slot.log ≡ true → IsOk result }
+    {
+        if let Some(slot) = self.slots.get_mut(key) {
+            return slot.prepare(tags);
+        }
+        let mut slot = Slot::new(self.slots.alloc());
+        slot.prepare(tags)?;
+        self.slots.put(*key, slot)
+    }
+
+    /// Sets what a key has, where what is to be noted has room.
+    pub fn write(&mut self, key: &K, tags: &TagSet, value: Option<V>)
+        requires { IsReady K.order tags.now self.old key.now }
+        ensures look { (q : K) → look_at K.order self.new q
+            ≡ (if eq_by_cmp K.order q key.now then value else look_at K.order self.old q) }
+        ensures log { (q : K) → log_at K.order self.new q
+            ≡ (if eq_by_cmp K.order q key.now then noted_on tags.now (look_at K.order self.old q)
+            (log_at K.order self.old q) else log_at K.order self.old q) }
+        ensures ready { (q : K) → IsReady K.order tags.now self.old q
+            → IsReady K.order tags.now self.new q }
+        ensures settled { (keys : List K) → is_in K.order keys key.now ≡ true
+            → SettledBut K.order keys self.old → SettledBut K.order keys self.new }
+    {
+        match self.slots.get_mut(key) {
+            Some(slot) => slot.write(tags, value),
+            None => unreachable!(),
+        }
+    }
+
+    /// Lets go of the room that was made for a note of a key, and of its slot where nothing is there and nothing is noted.
+    /// It takes no memory.
+    pub fn settle(&mut self, key: &K)
+        ensures look { (q : K) → look_at K.order self.new q ≡ look_at K.order self.old q }
+        ensures log { (q : K) → log_at K.order self.new q ≡ log_at K.order self.old q }
+        ensures settled { (keys : List K) → SettledBut K.order (key.now ∷ keys) self.old
+            → SettledBut K.order keys self.new }
+    {
+        let Some(slot) = self.slots.get_mut(key) else {
+            return;
+        };
+        if slot.settle() {
+            return;
+        }
+        self.slots.remove(key);
+    }
+
+    /// Takes a guess out of the notes of one key.
+    fn commit_at(&mut self, key: &K, id: GuessId)
+        ensures look { (q : K) → look_at K.order self.new q ≡ look_at K.order self.old q }
+        ensures log { (q : K) → log_at K.order self.new q
+            ≡ (if eq_by_cmp K.order q key.now then merged [] (committed id
+            (log_at K.order self.old q)) else log_at K.order self.old q) }
+        ensures settled { (keys : List K) → is_in K.order keys key.now ≡ true
+            → SettledBut K.order keys self.old → SettledBut K.order keys self.new }
+    {
+        let Some(slot) = self.slots.get_mut(key) else {
+            return;
+        };
+        slot.commit(id);
+    }
+
+    /// Takes back what rests on a guess at one key.
+    fn unwind_at(&mut self, key: &K, id: GuessId)
+        ensures look { (q : K) → look_at K.order self.new q
+            ≡ (if eq_by_cmp K.order q key.now then unwound id (log_at K.order self.old q)
+            (look_at K.order self.old q) else look_at K.order self.old q) }
+        ensures log { (q : K) → log_at K.order self.new q
+            ≡ (if eq_by_cmp K.order q key.now then cut id (log_at K.order self.old q) else log_at
+            K.order self.old q) }
+        ensures settled { (keys : List K) → is_in K.order keys key.now ≡ true
+            → SettledBut K.order keys self.old → SettledBut K.order keys self.new }
+    {
+        let Some(slot) = self.slots.get_mut(key) else {
+            return;
+        };
+        slot.unwind(id);
+    }
+
+    /// Takes a guess out of the notes of these keys, and leaves out those that then rest on just what the note before them
+    /// rests on. It takes no memory.
+    pub fn commit(&mut self, id: GuessId, keys: &[K])
+        ensures look { (q : K) → look_at K.order self.new q ≡ look_at K.order self.old q }
+        ensures log { (q : K) → log_at K.order self.new q
+            ≡ (if is_in K.order keys.now q then merged [] (committed id
+            (log_at K.order self.old q)) else log_at K.order self.old q) }
+        ensures settled { AllSettled K.order self.old → AllSettled K.order self.new }
+    {
+        for key in keys {
+            self.commit_at(key, id);
+            self.settle(key);
+        }
+    }
+
+    /// Takes back what rests on a guess at these keys. It takes no memory.
+    pub fn unwind(&mut self, id: GuessId, keys: &[K])
+        ensures look { (q : K) → look_at K.order self.new q
+            ≡ (if is_in K.order keys.now q then unwound id (log_at K.order self.old q)
+            (look_at K.order self.old q) else look_at K.order self.old q) }
+        ensures log { (q : K) → log_at K.order self.new q
+            ≡ (if is_in K.order keys.now q then cut id (log_at K.order self.old q) else log_at
+            K.order self.old q) }
+        ensures settled { AllSettled K.order self.old → AllSettled K.order self.new }
+    {
+        for key in keys {
+            self.unwind_at(key, id);
+            self.settle(key);
+        }
+    }
+}

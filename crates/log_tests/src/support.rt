@@ -1,0 +1,97 @@
+//! Segments that are written and read.
+use sk_log::{End, FrameRefusal, PieceRefusal, Recovery, append};
+use std::alloc::{AllocError, Global};
+
+/// The segment that is read.
+pub const SEGMENT: u64 = 3;
+
+/// The number of its first frame.
+pub const FIRST: u64 = 129;
+
+/// Appends a frame; once more where memory was refused.
+pub fn append_again(
+    log: &mut Vec<u8>,
+    segment: u64,
+    number: u64,
+    payload: &[u8],
+) -> Result<(), FrameRefusal> {
+    match append(log, segment, number, payload) {
+        Err(FrameRefusal::Memory) => append(log, segment, number, payload),
+        answer => answer,
+    }
+}
+
+/// The bytes, up to so many of them; asked for once more where memory was refused.
+pub fn copied(alloc: Global, bytes: &[u8]) -> Result<Vec<u8>, AllocError> {
+    let mut copy = Vec::new(alloc);
+    if copy.extend_from_slice(bytes).is_err() {
+        copy.extend_from_slice(bytes)?;
+    }
+    Ok(copy)
+}
+
+/// The frames of these payloads, and so many zeros.
+pub fn written(
+    alloc: Global,
+    segment: u64,
+    first: u64,
+    payloads: &[&[u8]],
+    zeros: &[u8],
+) -> Result<Vec<u8>, FrameRefusal> {
+    let mut log = Vec::new(alloc);
+    let mut number = first;
+    for payload in payloads {
+        append_again(&mut log, segment, number, payload)?;
+        number = number.saturating_add(1);
+    }
+    if log.extend_from_slice(zeros).is_err() {
+        log.extend_from_slice(zeros)?;
+    }
+    Ok(log)
+}
+
+/// What was read of a segment.
+#[derive(Drop)]
+pub struct Found {
+    /// The payloads, with a comma behind each.
+    pub payloads: Vec<u8>,
+    pub end: End,
+}
+
+fn feed_again(recovery: &mut Recovery, piece: &[u8]) -> Result<(), PieceRefusal> {
+    match recovery.feed(piece) {
+        Err(PieceRefusal::Memory) => recovery.feed(piece),
+        answer => answer,
+    }
+}
+
+/// Takes the payloads of all frames that came.
+fn take_payloads(recovery: &mut Recovery, payloads: &mut Vec<u8>) -> Result<(), AllocError> {
+    for _ in 0..1_000 {
+        let Some(payload) = recovery.payload() else {
+            return Ok(());
+        };
+        if payloads.reserve(payload.len().saturating_add(1)).is_err() {
+            payloads.reserve(payload.len().saturating_add(1))?;
+        }
+        payloads.extend_from_slice(payload)?;
+        payloads.push(b',')?;
+        recovery.pass();
+    }
+    Ok(())
+}
+
+/// Reads a segment in pieces of at most so many bytes, where 40 may have been in flight.
+pub fn read(alloc: Global, bytes: &[u8], piece_len: usize) -> Result<Found, PieceRefusal> {
+    let mut recovery = Recovery::new(alloc, SEGMENT, FIRST);
+    let mut payloads = Vec::new(alloc);
+    let mut rest = bytes;
+    while !rest.is_empty() {
+        let (piece, behind) = rest.split_at(piece_len.clamp(1, rest.len()));
+        feed_again(&mut recovery, piece)?;
+        take_payloads(&mut recovery, &mut payloads)?;
+        rest = behind;
+    }
+    let end = recovery.end(40);
+    Ok(Found { payloads, end })
+}

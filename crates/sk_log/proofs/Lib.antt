@@ -1,0 +1,10 @@
+mod Digits
+mod Fade
+mod Crash
+mod Read
+mod Blanked
+mod Reading
+mod Further
+mod Segments
+mod First
+mod Told

@@ -1,0 +1,7 @@
+use Rattle.std.proofs.Common.{refl}
+use Rattle.sk_log.specs.Frame.{digits}
+use Rattle.sk_log.proofs.bytes.unchecked.Goals as goal
+
+pub returns : goal.returns
+unfolding digits
+returns c = refl

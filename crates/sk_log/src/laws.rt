@@ -1,0 +1,39 @@
+//! Laws of logs. Each is the contract of a function that does nothing.
+ghost use Rattle.sk_log.specs.Crash.{CrashKeepsPrefix, CrashesAgain, BlankingKeeps, GoesOn, CrashesAreShort, WholeBytesFade, SomeBitsFade};
+ghost use Rattle.sk_log.specs.Segments.{SegmentsJoin};
+
+/// Whatever a crash leaves, the frames that are read are the first ones, at least those that were told as synced.
+pub fn crash_law()
+    ensures { CrashKeepsPrefix }
+{}
+
+/// The same holds where a start crashed before, however often.
+pub fn again_law()
+    ensures { CrashesAgain }
+{}
+
+/// A crash while zeros are written behind the frames that were read changes nothing of what is read.
+pub fn blank_law()
+    ensures { BlankingKeeps }
+{}
+
+/// It holds of what is written on behind them, over zeros that were told as synced.
+pub fn on_law()
+    ensures { GoesOn }
+{}
+
+/// No crash leaves more behind the frames that are read than may have been in flight.
+pub fn damage_law()
+    ensures { CrashesAreShort }
+{}
+
+/// Of two segments just what the later one goes on from counts, and all that was told as synced.
+pub fn segments_law()
+    ensures { SegmentsJoin }
+{}
+
+/// The crash law holds for a disk that tears at bytes, and for one that tears at bits.
+pub fn fade_law()
+    ensures bytes { WholeBytesFade }
+    ensures bits { SomeBitsFade }
+{}

@@ -85,12 +85,9 @@ fn take_payloads(recovery: &mut Recovery, payloads: &mut Vec<u8>) -> Result<(), 
 pub fn read(alloc: Global, bytes: &[u8], piece_len: usize) -> Result<Found, PieceRefusal> {
     let mut recovery = Recovery::new(alloc, SEGMENT, FIRST);
     let mut payloads = Vec::new(alloc);
-    let mut rest = bytes;
-    while !rest.is_empty() {
-        let (piece, behind) = rest.split_at(piece_len.clamp(1, rest.len()));
+    for piece in bytes.chunks(piece_len.max(1)) {
         feed_again(&mut recovery, piece)?;
         take_payloads(&mut recovery, &mut payloads)?;
-        rest = behind;
     }
     let end = recovery.end(40);
     Ok(Found { payloads, end })

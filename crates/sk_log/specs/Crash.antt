@@ -29,6 +29,7 @@ pub record UsesFront (n : ℕ) (bytes : List ℕ) : Type 0 where
 abbrev pub ReadsPrefix : List (List ℕ) → ℕ → List (List ℕ) → Type 0
 ReadsPrefix payloads synced read = (n : ℕ) × (synced ≤ n) × (n ≤ length payloads) × (read ≡ take n payloads)
 
+-- Whatever a crash leaves reads as the first payloads, with all that were told as synced.
 abbrev pub CrashKeepsPrefix : Type 0
 CrashKeepsPrefix = (segment number synced : ℕ) (payloads read : List (List ℕ)) (left : List ℕ)
     → Crashed segment number payloads synced left → IsLog segment number read left → ReadsPrefix payloads synced read

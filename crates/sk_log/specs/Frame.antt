@@ -17,9 +17,11 @@ head_of segment number len total =
     let bytes = front segment number len total in
     bytes ++ digits 2 (5632 - sum bytes)
 
+-- the head of a payload
 abbrev pub head : ℕ → ℕ → List ℕ → List ℕ
 head segment number payload = head_of segment number (length payload) (sum payload)
 
+-- the head, and the payload as it is
 abbrev pub frame : ℕ → ℕ → List ℕ → List ℕ
 frame segment number payload = head segment number payload ++ payload
 

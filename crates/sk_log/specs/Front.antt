@@ -29,6 +29,7 @@ pub record SaysNumber (segment : ℕ) (bytes : List ℕ) (number : ℕ) : Type 0
 abbrev pub IsOther : ℕ → ℕ → List ℕ → Type 0
 IsOther segment number bytes = (later : List ℕ) → Ends segment number (bytes ++ later)
 
+-- What the bytes begin with, as it is answered.
 abbrev pub FrontIs : ℕ → ℕ → List ℕ → Front → Type 0
 FrontIs segment number bytes (Whole n) = BeginsFrame segment number bytes n
 FrontIs segment number bytes (Short n) = IsShort segment number bytes n

@@ -9,6 +9,8 @@ mod ids;
 #[cfg(test)]
 mod lists;
 #[cfg(test)]
+mod plain;
+#[cfg(test)]
 mod private;
 #[cfg(test)]
 mod random;

@@ -1,9 +1,10 @@
 //! Values as plain lists, and the table of changes told of the lists alone.
 use crate::values::linked;
 use sk_changes::Change;
-use sk_ids::{ObjId, Text};
+use sk_ids::Text;
 use sk_objects::{Content, Kind, Value};
-use std::alloc::{AllocError, Global};
+use std::alloc::Global;
+use std::process::Abort;
 
 /// The greatest length of a file, of a block, and of a pipe, in bytes.
 const FILE: usize = 32_768;
@@ -17,150 +18,171 @@ const SIGNALS: usize = 32;
 
 /// What a value holds.
 #[derive(Drop)]
-pub enum Lists {
-    File(Vec<u8>),
-    Dir,
-    Link(ObjId),
-    Pipe { bytes: Vec<u8>, shut: bool },
-    Signals(Vec<u8>),
-    Exit(Option<u8>),
-    Copy(Content),
+pub struct Lists {
+    kind: Kind,
+    /// The bytes, or the signals of a queue.
+    items: Vec<u8>,
+    /// Of a pipe: whether it is shut.
+    shut: bool,
+    /// Of an exit slot.
+    status: Option<u8>,
+    /// Of a copy.
+    version: u64,
 }
 
-/// The items of both lists, in turn.
-fn joined(alloc: Global, front: &[u8], back: &[u8]) -> Result<Vec<u8>, AllocError> {
-    let mut all = Vec::new(alloc);
-    all.extend_from_slice(front)?;
-    all.extend_from_slice(back)?;
-    Ok(all)
+/// Adds items behind the others.
+fn add(rt: &impl Abort, items: &mut Vec<u8>, new: &[u8]) {
+    items.extend_from_slice(new).expect(rt, "memory");
 }
 
-/// The first items, so many, with zeros where there are fewer.
-fn cut(alloc: Global, bytes: &[u8], len: usize) -> Result<Vec<u8>, AllocError> {
-    let mut all = joined(alloc, bytes.get(..len).unwrap_or(bytes), &[])?;
-    all.resize(len, 0)?;
-    Ok(all)
+/// Cuts items to so many, or adds zeros up to there.
+fn resize(rt: &impl Abort, items: &mut Vec<u8>, len: usize) {
+    items.resize(len, 0).expect(rt, "memory");
 }
 
-fn written(
-    alloc: Global,
-    bytes: &[u8],
-    offset: usize,
-    new: &[u8],
-) -> Result<Option<Lists>, AllocError> {
+/// Writes bytes over those of a file, where they fit.
+fn write(rt: &impl Abort, alloc: Global, items: &mut Vec<u8>, offset: usize, new: &[u8]) -> bool {
     let end = offset.saturating_add(new.len());
     if new.is_empty() || end > FILE {
-        return Ok(None);
+        return false;
     }
-    let mut all = cut(alloc, bytes, offset)?;
-    all.extend_from_slice(new)?;
-    all.extend_from_slice(bytes.get(end..).unwrap_or(&[]))?;
-    Ok(Some(Lists::File(all)))
+    let mut rest = Vec::new(alloc);
+    add(rt, &mut rest, items.as_slice().get(end..).unwrap_or(&[]));
+    resize(rt, items, offset);
+    add(rt, items, new);
+    add(rt, items, &rest);
+    true
+}
+
+/// Cuts a file to a length, where it may have that.
+fn cut(rt: &impl Abort, items: &mut Vec<u8>, len: usize) -> bool {
+    if len > FILE {
+        return false;
+    }
+    resize(rt, items, len);
+    true
+}
+
+/// Puts bytes to the end of a pipe, where they fit.
+fn put(rt: &impl Abort, items: &mut Vec<u8>, new: &[u8]) -> bool {
+    if new.is_empty() || new.len() > PIPE.saturating_sub(items.len()) {
+        return false;
+    }
+    add(rt, items, new);
+    true
+}
+
+/// Takes so many items off the front, at most a block, where there are as many.
+fn take(items: &mut Vec<u8>, count: usize) -> bool {
+    if count < 1 || count > BLOCK || count > items.len() {
+        return false;
+    }
+    let rest = items.len() - count;
+    items.rotate_left(count);
+    items.truncate(rest);
+    true
+}
+
+/// Queues a signal, where there is such a signal and room for it.
+fn push(rt: &impl Abort, items: &mut Vec<u8>, number: u8) -> bool {
+    if items.len() >= SIGNALS || number < 1 || number > 31 {
+        return false;
+    }
+    add(rt, items, &[number]);
+    true
 }
 
 impl Lists {
     /// What the first value of a kind holds.
-    pub fn empty(alloc: Global, kind: Kind) -> Result<Lists, &'static str> {
-        Ok(match kind {
-            Kind::File => Lists::File(Vec::new(alloc)),
-            Kind::Dir => Lists::Dir,
-            Kind::Link => Lists::Link(linked()),
-            Kind::Pipe => Lists::Pipe {
-                bytes: Vec::new(alloc),
-                shut: false,
-            },
-            Kind::Signals => Lists::Signals(Vec::new(alloc)),
-            Kind::Exit => Lists::Exit(None),
-            Kind::Copy => Lists::Copy(Content::new(0, Text::empty()).ok_or("a content")?),
-        })
+    pub fn empty(alloc: Global, kind: Kind) -> Lists {
+        Lists {
+            kind,
+            items: Vec::new(alloc),
+            shut: false,
+            status: None,
+            version: 0,
+        }
     }
 
-    fn changed_pipe(
-        alloc: Global,
-        bytes: &[u8],
-        shut: bool,
-        change: &Change,
-    ) -> Result<Option<Lists>, AllocError> {
-        Ok(match change {
-            Change::Put(new) if !shut && !new.is_empty() => {
-                let bytes = joined(alloc, bytes, new.as_slice())?;
-                (bytes.len() <= PIPE).then_some(Lists::Pipe { bytes, shut })
-            }
-            Change::Take(count) if *count >= 1 && *count as usize <= BLOCK => {
-                match bytes.get(*count as usize..) {
-                    Some(rest) => Some(Lists::Pipe {
-                        bytes: joined(alloc, rest, &[])?,
-                        shut,
-                    }),
-                    None => None,
-                }
-            }
-            Change::Shut if !shut => Some(Lists::Pipe {
-                bytes: joined(alloc, bytes, &[])?,
-                shut: true,
-            }),
-            _ => None,
-        })
+    /// The same once more.
+    pub fn copy(&self, rt: &impl Abort, alloc: Global) -> Lists {
+        let mut copy = Lists::empty(alloc, self.kind);
+        add(rt, &mut copy.items, &self.items);
+        copy.shut = self.shut;
+        copy.status = self.status;
+        copy.version = self.version;
+        copy
     }
 
-    fn changed_queue(
-        alloc: Global,
-        numbers: &[u8],
-        change: &Change,
-    ) -> Result<Option<Lists>, AllocError> {
-        Ok(match change {
-            Change::PushSignal(number)
-                if numbers.len() < SIGNALS && *number >= 1 && *number <= 31 => {
-                Some(Lists::Signals(joined(alloc, numbers, &[*number])?))
-            }
-            Change::TakeSignal => match numbers.get(1..) {
-                Some(rest) => Some(Lists::Signals(joined(alloc, rest, &[])?)),
-                None => None,
-            },
-            _ => None,
-        })
+    fn shut(&mut self) -> bool {
+        let fits = !self.shut;
+        self.shut = true;
+        fits
     }
 
-    /// What a value that holds this holds after a change; `None` where the change does not fit.
-    pub fn changed(&self, alloc: Global, change: &Change) -> Result<Option<Lists>, AllocError> {
-        match (self, change) {
-            (Lists::File(held), Change::WriteAt { offset, bytes }) => {
-                written(alloc, held, *offset as usize, bytes.as_slice())
+    fn set_status(&mut self, status: u8) -> bool {
+        let fits = self.status.is_none();
+        if fits {
+            self.status = Some(status);
+        }
+        fits
+    }
+
+    fn set_copy(&mut self, rt: &impl Abort, content: &Content) -> bool {
+        self.version = content.version();
+        self.items.clear();
+        add(rt, &mut self.items, content.bytes().as_slice());
+        true
+    }
+
+    /// Makes a change of what a value holds, and says whether it fits. One that does not changes nothing.
+    pub fn change(&mut self, rt: &impl Abort, alloc: Global, change: &Change) -> bool {
+        match (self.kind, change) {
+            (Kind::File, Change::WriteAt { offset, bytes }) => {
+                let offset = *offset as usize;
+                write(rt, alloc, &mut self.items, offset, bytes.as_slice())
             }
-            (Lists::File(held), Change::CutTo(len)) if *len as usize <= FILE => {
-                Ok(Some(Lists::File(cut(alloc, held, *len as usize)?)))
+            (Kind::File, Change::CutTo(len)) => cut(rt, &mut self.items, *len as usize),
+            (Kind::Pipe, Change::Put(bytes)) if !self.shut => {
+                put(rt, &mut self.items, bytes.as_slice())
             }
-            (Lists::Pipe { bytes, shut }, change) => {
-                Lists::changed_pipe(alloc, bytes, *shut, change)
-            }
-            (Lists::Signals(numbers), change) => Lists::changed_queue(alloc, numbers, change),
-            (Lists::Exit(None), Change::SetExit(status)) => Ok(Some(Lists::Exit(Some(*status)))),
-            (Lists::Copy(_), Change::SetCopy(content)) => Ok(Some(Lists::Copy(*content))),
-            _ => Ok(None),
+            (Kind::Pipe, Change::Take(count)) => take(&mut self.items, *count as usize),
+            (Kind::Pipe, Change::Shut) => self.shut(),
+            (Kind::Signals, Change::PushSignal(number)) => push(rt, &mut self.items, *number),
+            (Kind::Signals, Change::TakeSignal) => take(&mut self.items, 1),
+            (Kind::Exit, Change::SetExit(status)) => self.set_status(*status),
+            (Kind::Copy, Change::SetCopy(content)) => self.set_copy(rt, content),
+            _ => false,
         }
     }
 
     /// Whether the readers of a value tell just this.
     pub fn is_held_by(&self, value: &Value) -> bool {
-        match self {
-            Lists::File(bytes) => value.kind() == Kind::File && are_read(bytes, value),
-            Lists::Dir => value.kind() == Kind::Dir && value.target().is_none(),
-            Lists::Link(object) => value.target() == Some(*object),
-            Lists::Pipe { bytes, shut } => {
-                value.is_shut() == Some(*shut) && are_read(bytes, value)
-            }
-            Lists::Signals(numbers) => {
-                let all = numbers.iter().enumerate();
-                let mut all = all.map(|(place, number)| value.signal_at(place) == Some(*number));
-                all.all(|same| same) && value.signal_at(numbers.len()).is_none()
-            }
-            Lists::Exit(status) => value.status() == Some(*status),
-            Lists::Copy(content) => {
-                value.version() == Some(content.version())
-                    && are_read(content.bytes().as_slice(), value)
-            }
+        value.kind() == self.kind && self.is_told_by(value)
+    }
+
+    /// The same of a value of this kind.
+    fn is_told_by(&self, value: &Value) -> bool {
+        match self.kind {
+            Kind::File => are_read(&self.items, value),
+            Kind::Dir => value.target().is_none(),
+            Kind::Link => value.target() == Some(linked()),
+            Kind::Pipe => value.is_shut() == Some(self.shut) && are_read(&self.items, value),
+            Kind::Signals => are_queued(&self.items, value),
+            Kind::Exit => value.status() == Some(self.status),
+            Kind::Copy => { value.version() == Some(self.version) && are_read(&self.items, value) }
         }
     }
+}
+
+/// Whether these are the signals of a queue, and all of them.
+fn are_queued(numbers: &[u8], value: &Value) -> bool {
+    for (place, number) in numbers.iter().enumerate() {
+        if value.signal_at(place) != Some(*number) {
+            return false;
+        }
+    }
+    value.signal_at(numbers.len()).is_none()
 }
 
 /// Whether these are the bytes of a value, and all of them.

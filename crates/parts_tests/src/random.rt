@@ -12,7 +12,6 @@ use sk_ids::Text;
 use sk_objects::{Content, Kind, Value};
 use std::alloc::Global;
 use std::process::Abort;
-use std::test::Fail;
 
 /// A number below a limit.
 fn below(rng: &mut Pcg32, limit: u32) -> u32
@@ -23,7 +22,7 @@ fn below(rng: &mut Pcg32, limit: u32) -> u32
 }
 
 /// Mostly some bytes, at times as many as there may be, one more, or none.
-fn text(rng: &mut Pcg32) -> Result<Text, Fail> {
+fn text(rt: &impl Abort, rng: &mut Pcg32) -> Text {
     let mut cells = [0; 512];
     rng.fill_bytes(&mut cells);
     let len = match below(rng, 8) {
@@ -32,7 +31,7 @@ fn text(rng: &mut Pcg32) -> Result<Text, Fail> {
         2 => below(rng, 513) as usize,
         _ => below(rng, 40) as usize,
     };
-    Ok(Text::new(&cells[..len.min(512)]).ok_or("a text")?)
+    Text::new(&cells[..len.min(512)]).expect(rt, "a text")
 }
 
 /// A place in a file, mostly near the edge of a block.
@@ -45,43 +44,49 @@ fn place(rng: &mut Pcg32) -> u32 {
     }
 }
 
-fn of_file(rng: &mut Pcg32) -> Result<Change, Fail> {
-    Ok(match below(rng, 8) {
-        0 => Change::CutTo(place(rng)),
-        _ => Change::WriteAt {
-            offset: place(rng),
-            bytes: text(rng)?,
-        },
-    })
+fn of_file(rt: &impl Abort, rng: &mut Pcg32) -> Change {
+    if below(rng, 8) == 0 {
+        return Change::CutTo(place(rng));
+    }
+    let offset = place(rng);
+    let bytes = text(rt, rng);
+    Change::WriteAt { offset, bytes }
 }
 
-fn of_pipe(rng: &mut Pcg32) -> Result<Change, Fail> {
-    Ok(match below(rng, 400) {
+fn of_pipe(rt: &impl Abort, rng: &mut Pcg32) -> Change {
+    match below(rng, 400) {
         0 => Change::Shut,
         n if n % 3 == 0 => Change::Take(below(rng, 514)),
-        _ => Change::Put(text(rng)?),
-    })
+        _ => Change::Put(text(rt, rng)),
+    }
+}
+
+fn of_queue(rng: &mut Pcg32) -> Change {
+    if below(rng, 5) < 2 {
+        return Change::TakeSignal;
+    }
+    Change::PushSignal(below(rng, 34) as u8)
+}
+
+fn of_copy(rt: &impl Abort, rng: &mut Pcg32) -> Change {
+    let version = u64::from(rng.next_u32());
+    let bytes = text(rt, rng);
+    Change::SetCopy(Content::new(version, bytes).expect(rt, "a content"))
 }
 
 /// A change that is meant for a kind of value.
-fn of_kind(rng: &mut Pcg32, kind: Kind) -> Result<Change, Fail> {
+fn of_kind(rt: &impl Abort, rng: &mut Pcg32, kind: Kind) -> Change {
     match kind {
-        Kind::File => of_file(rng),
-        Kind::Dir | Kind::Link => of_file(rng),
-        Kind::Pipe => of_pipe(rng),
-        Kind::Signals if below(rng, 5) < 2 => Ok(Change::TakeSignal),
-        Kind::Signals => Ok(Change::PushSignal(below(rng, 34) as u8)),
-        Kind::Exit => Ok(Change::SetExit(below(rng, 256) as u8)),
-        Kind::Copy => {
-            let version = u64::from(rng.next_u32());
-            let content = Content::new(version, text(rng)?).ok_or("a content")?;
-            Ok(Change::SetCopy(content))
-        }
+        Kind::File | Kind::Dir | Kind::Link => of_file(rt, rng),
+        Kind::Pipe => of_pipe(rt, rng),
+        Kind::Signals => of_queue(rng),
+        Kind::Exit => Change::SetExit(below(rng, 256) as u8),
+        Kind::Copy => of_copy(rt, rng),
     }
 }
 
 /// A change, one in twenty meant for any kind of value.
-fn change(rng: &mut Pcg32, kind: Kind) -> Result<Change, Fail> {
+fn change(rt: &impl Abort, rng: &mut Pcg32, kind: Kind) -> Change {
     let kind = match below(rng, 120) {
         0 => Kind::File,
         1 => Kind::Dir,
@@ -91,7 +96,7 @@ fn change(rng: &mut Pcg32, kind: Kind) -> Result<Change, Fail> {
         5 => Kind::Copy,
         _ => kind,
     };
-    of_kind(rng, kind)
+    of_kind(rt, rng, kind)
 }
 
 /// The change leads from what these lists hold to what the others hold, and its undo back; then it is made for good.
@@ -115,90 +120,97 @@ fn leads(
     assert!(rt; after.is_held_by(value));
 }
 
+/// The change does not fit a value that holds what the lists do.
+fn stays(rt: &impl Abort, alloc: Global, value: &mut Value, change: &Change, lists: &Lists) {
+    assert!(rt; matches!(value.apply(alloc, *change), Err(NotApplied::Unfit)));
+    assert!(rt; lists.is_held_by(value));
+}
+
 /// All of these changes fit in turn and lead to the given value, and taken back they leave the first.
-fn chain_leads(
+fn leads_back(
     rt: &impl Abort,
     alloc: Global,
-    kind: Kind,
+    value: &mut Value,
     changes: &[Change],
+    first: &Lists,
     last: &Value,
-) -> Result<(), Fail> {
-    let mut value = value_of(alloc, kind)?;
-    let first = Lists::empty(alloc, kind)?;
-    assert_eq!(rt; try_all(alloc, &mut value, changes), Ok(()));
-    assert!(rt; first.is_held_by(&value));
+) {
+    assert_eq!(rt; try_all(alloc, value, changes), Ok(()));
+    assert!(rt; first.is_held_by(value));
     let mut undos = Vec::new(alloc);
-    assert_eq!(rt; apply_all(&mut value, changes, &mut undos), Ok(()));
-    assert_same(rt, &value, last);
-    undo_all(&mut value, &mut undos);
-    assert!(rt; first.is_held_by(&value));
-    Ok(())
+    assert_eq!(rt; apply_all(value, changes, &mut undos), Ok(()));
+    assert_same(rt, value, last);
+    undo_all(value, &mut undos);
+    assert!(rt; first.is_held_by(value));
+}
+
+/// One change more of a value that holds what the lists do: it is noted where it fits.
+fn one_more(
+    rt: &impl Abort,
+    alloc: Global,
+    value: &mut Value,
+    lists: &mut Lists,
+    change: Change,
+    made: &mut Vec<Change>,
+) {
+    let before = lists.copy(rt, alloc);
+    if lists.change(rt, alloc, &change) {
+        leads(rt, alloc, value, &change, &before, lists);
+        made.push(change).expect(rt, "memory");
+    } else {
+        stays(rt, alloc, value, &change, &before);
+    }
 }
 
 /// So many changes of one value.
-fn chain(
-    rt: &impl Abort,
-    alloc: Global,
-    rng: &mut Pcg32,
-    kind: Kind,
-    len: u32,
-) -> Result<(), Fail> {
-    let mut value = value_of(alloc, kind)?;
-    let mut lists = Lists::empty(alloc, kind)?;
+fn chain(rt: &impl Abort, alloc: Global, rng: &mut Pcg32, kind: Kind, len: u32) {
+    let mut value = value_of(rt, alloc, kind);
+    let mut lists = Lists::empty(alloc, kind);
     let mut made = Vec::new(alloc);
     for _ in 0..len {
-        let change = change(rng, kind)?;
-        match lists.changed(alloc, &change)? {
-            Some(after) => {
-                leads(rt, alloc, &mut value, &change, &lists, &after);
-                made.push(change)?;
-                lists = after;
-            }
-            None => {
-                assert!(rt; matches!(value.apply(alloc, change), Err(NotApplied::Unfit)));
-                assert!(rt; lists.is_held_by(&value));
-            }
-        }
+        let change = change(rt, rng, kind);
+        one_more(rt, alloc, &mut value, &mut lists, change, &mut made);
     }
-    chain_leads(rt, alloc, kind, &made, &value)
+    let first = Lists::empty(alloc, kind);
+    let mut again = value_of(rt, alloc, kind);
+    leads_back(rt, alloc, &mut again, &made, &first, &value);
 }
 
 /// So many chains of a hundred changes each.
-fn chains(rt: &impl Abort, alloc: Global, kind: Kind, count: u32) -> Result<(), Fail> {
+fn chains(rt: &impl Abort, alloc: Global, kind: Kind, count: u32) {
     let mut rng = Pcg32::new(27, u64::from(count));
     for _ in 0..count {
-        chain(rt, alloc, &mut rng, kind, 100)?;
+        chain(rt, alloc, &mut rng, kind, 100);
     }
-    Ok(())
 }
 
 #[test]
-fn random_changes_of_files(rt: HostRuntime) -> Result<(), Fail> {
-    chains(&rt, rt.alloc(), Kind::File, 300)
+fn random_changes_of_files(rt: HostRuntime) {
+    chains(&rt, rt.alloc(), Kind::File, 300);
 }
 
 #[test]
-fn no_change_of_a_directory_or_a_link(rt: HostRuntime) -> Result<(), Fail> {
-    chains(&rt, rt.alloc(), Kind::Dir, 20)?;
-    chains(&rt, rt.alloc(), Kind::Link, 20)
+fn no_change_of_a_directory_or_a_link(rt: HostRuntime) {
+    chains(&rt, rt.alloc(), Kind::Dir, 20);
+    chains(&rt, rt.alloc(), Kind::Link, 20);
 }
 
 #[test]
-fn random_changes_of_pipes(rt: HostRuntime) -> Result<(), Fail> {
-    chains(&rt, rt.alloc(), Kind::Pipe, 250)
+fn random_changes_of_pipes(rt: HostRuntime) {
+    chains(&rt, rt.alloc(), Kind::Pipe, 250);
 }
 
 #[test]
-fn random_changes_of_queues(rt: HostRuntime) -> Result<(), Fail> {
-    chains(&rt, rt.alloc(), Kind::Signals, 100)
+fn random_changes_of_queues(rt: HostRuntime) {
+    chains(&rt, rt.alloc(), Kind::Signals, 100);
 }
 
 #[test]
-fn random_changes_of_exit_slots(rt: HostRuntime) -> Result<(), Fail> {
-    chains(&rt, rt.alloc(), Kind::Exit, 50)
+fn random_changes_of_exit_slots(rt: HostRuntime) {
+    chains(&rt, rt.alloc(), Kind::Exit, 50);
 }
 
 #[test]
-fn random_changes_of_copies(rt: HostRuntime) -> Result<(), Fail> {
-    chains(&rt, rt.alloc(), Kind::Copy, 100)
+fn random_changes_of_copies(rt: HostRuntime) {
+    chains(&rt, rt.alloc(), Kind::Copy, 100);
 }

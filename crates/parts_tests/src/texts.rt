@@ -1,199 +1,105 @@
-//! Scripts, inputs and boots, and the faults of their texts.
-use crate::scripts::fault;
+//! Scripts, inputs and boots, and what is printed of things.
+use crate::plain::{child, content, name, pid, text};
 use sk_ids::{Name, ObjId, Pid};
-use sk_objects::Content;
 use sk_script::step_input::input;
 use sk_script::{
     Boot, BootFault, Input, Instruction, ObjectKind, ROOT, Register, Script, Scripts, Val,
 };
-use sk_words::FaultKind::{Label, Operand as Malformed, Word};
+use sk_words::FaultKind::{Operand as Malformed, Word};
 use sk_words::{Cursor, Fault, FaultKind, Literal, Operand, Printed, Words};
-use std::alloc::{AllocError, Global};
+use std::alloc::Global;
 use std::fmt;
-use std::test::Fail;
-use tests_support::values::{content, name, pid, text};
+use std::process::Abort;
 
-#[test]
-fn script_faults(rt: HostRuntime) {
-    let rows: [(&[u8], Option<(u64, FaultKind)>); 5] = [
-        (b"sett r1 1", Some((1, Word))),
-        (b"set r8 1", Some((1, Malformed))),
-        (b"text \"ab", Some((1, Malformed))),
-        (b"say\nset", Some((2, Word))),
-        (b"", None),
-    ];
-    for (text, want) in rows {
-        assert_eq!(rt; fault(rt.alloc(), text), want);
-    }
+/// A script that is well.
+fn script(rt: &impl Abort, alloc: Global, text: &[u8]) -> Script {
+    Script::parse(alloc, text).expect(rt, "a script")
 }
 
-#[test]
-fn fault_is_printed(rt: HostRuntime) -> Result<(), Fail> {
-    let fault = Fault {
-        line: 2,
-        kind: Word,
-    };
-    assert_eq!(rt; printed(rt.alloc(), fault)?.as_str(), "line 2: Word");
-    Ok(())
+/// A script has this instruction at a place.
+fn has_at(rt: &impl Abort, script: &Script, place: u32, want: Instruction) {
+    assert!(rt; script.at(place) == Some(want));
 }
 
+/// A copy of a script has just the instructions that its text says.
 #[test]
-fn fault_order(rt: HostRuntime) {
-    let rows: [(&[u8], Option<(u64, FaultKind)>); 15] = [
-        (b"set r1 1\nset r8 1", Some((2, Malformed))),
-        (b"sat \"a", Some((1, Word))),
-        (b"set \"a", Some((1, Malformed))),
-        (b"set r8", Some((1, Word))),
-        (b"set r1 1 2", Some((1, Word))),
-        (b"set r1 +1", Some((1, Malformed))),
-        (b"set r1 9223372036854775808", Some((1, Malformed))),
-        (b"text \"a\"b", Some((1, Malformed))),
-        (b"text \"\\q\"", Some((1, Malformed))),
-        (b"text \"\xff\"", Some((1, Malformed))),
-        (b"\xff", Some((1, Word))),
-        (b"say\nend", Some((2, Word))),
-        (b"fetch a:b", Some((1, Malformed))),
-        (b"set r1 -9223372036854775808", None),
-        (b"# \xff", None),
-    ];
-    for (text, want) in rows {
-        assert_eq!(rt; fault(rt.alloc(), text), want);
-    }
-}
-
-#[test]
-fn labels(rt: HostRuntime) {
-    let rows: [(&[u8], Option<(u64, FaultKind)>); 7] = [
-        (b"a:\nsay\na:", Some((3, Label))),
-        (b"a: b", Some((1, Word))),
-        (b"a: \"b", Some((1, Malformed))),
-        (b"a: b\na:", Some((1, Word))),
-        (b"a.b:", Some((1, Word))),
-        (b":", Some((1, Word))),
-        (b"a:\nsay\nb_2:", None),
-    ];
-    for (text, want) in rows {
-        assert_eq!(rt; fault(rt.alloc(), text), want);
-    }
-}
-
-/// The first four instructions of a script's copy, and how many it has.
-fn first_four(script: &Script) -> Result<([Option<Instruction>; 4], u32), AllocError> {
-    let copy = script.copy()?;
-    Ok(([0, 1, 2, 3].map(|place| copy.at(place)), copy.len()))
-}
-
-#[test]
-fn reads_scripts(rt: HostRuntime) -> Result<(), Fail> {
+fn reads_scripts(rt: HostRuntime) {
     let lines = b"# a\r\n set\tr1 -0012 \n\nagain:\ntext \"a \\x4a\\n\\\"\"\nfetch /x";
-    let one = Register::new(1).ok_or("register")?;
-    let literal = text(b"a J\n\"")?;
-    let file = name(b"/x")?;
-    let want = [
-        Some(Instruction::Set(one, -12)),
-        Some(Instruction::Text(literal)),
-        Some(Instruction::Fetch(file)),
-        None,
-    ];
-    let script = Script::parse(rt.alloc(), lines)?;
-    assert_eq!(rt; first_four(&script)?, (want, 3));
-    Ok(())
-}
-
-/// The length of a script that was read, or its first fault.
-fn length(parsed: Result<Script, Fault>) -> Result<u32, Fault> {
-    match parsed {
-        Ok(script) => Ok(script.len()),
-        Err(fault) => Err(fault),
-    }
+    let script = script(&rt, rt.alloc(), lines);
+    let copy = script.copy().expect(&rt, "memory");
+    let one = Register::new(1).expect(&rt, "a register");
+    has_at(&rt, &copy, 0, Instruction::Set(one, -12));
+    has_at(&rt, &copy, 1, Instruction::Text(text(&rt, b"a J\n\"")));
+    has_at(&rt, &copy, 2, Instruction::Fetch(name(&rt, b"/x")));
+    assert!(rt; copy.len() == 3 && copy.at(3).is_none());
 }
 
 #[test]
 fn reads_part_of_a_text(rt: HostRuntime) {
     let mut lines = Cursor::of(b"script a\nsay\nset r9 1\nend\n");
     let _ = lines.next();
-    let one = length(Script::parse_lines(rt.alloc(), &lines.first(1)));
-    assert_eq!(rt; one, Ok(1));
-    let kind = Malformed;
-    let two = length(Script::parse_lines(rt.alloc(), &lines.first(2)));
-    assert_eq!(rt; two, Err(Fault { line: 3, kind }));
+    let one = Script::parse_lines(rt.alloc(), &lines.first(1));
+    assert!(rt; one.is_ok_and(|script| script.len() == 1));
+    let two = Script::parse_lines(rt.alloc(), &lines.first(2)).err();
+    let (line, kind) = (3, Malformed);
+    assert!(rt; two == Some(Fault { line, kind }));
 }
 
-/// What a boot answers to a script, and to its copy under the same name.
-fn two_scripts(alloc: Global, boot: &mut Boot, name: Name) -> Result<[Answer; 2], Fail> {
-    let script = Script::parse(alloc, b"say")?;
-    let copy = script.copy()?;
-    let first = boot.script(name, script);
-    Ok([first, boot.script(name, copy)])
+/// A boot takes a script once under a name.
+fn declares_scripts(rt: &impl Abort, alloc: Global, boot: &mut Boot, name: Name) {
+    let script = script(rt, alloc, b"say");
+    let copy = script.copy().expect(rt, "memory");
+    assert!(rt; boot.script(name, script) == Ok(()));
+    assert!(rt; boot.script(name, copy) == Err(BootFault::Duplicate));
 }
 
-type Answer = Result<(), BootFault>;
-
-/// What it answers to three processes, and how many it then has.
-fn three_processes(boot: &mut Boot, main: &Name, other: &Name) -> ([Answer; 3], usize) {
-    let first = boot.process(1, main, 2);
-    let second = boot.process(1, other, 1);
-    let third = boot.process(2, other, 1);
-    ([first, second, third], boot.processes().len())
+/// It takes a process once under a number, where there is its script.
+fn declares_processes(rt: &impl Abort, boot: &mut Boot, main: &Name, other: &Name) {
+    assert!(rt; boot.process(1, main, 2) == Ok(()));
+    assert!(rt; boot.process(1, other, 1) == Err(BootFault::Duplicate));
+    assert!(rt; boot.process(2, other, 1) == Err(BootFault::NoScript));
+    assert!(rt; boot.processes().len() == 1);
 }
 
-/// What it answers to two objects of one name, where there is room, and how many it then has.
-fn two_objects(boot: &mut Boot, name: Name) -> ([Option<Answer>; 2], usize) {
-    let first = if boot.objects().len() < 64 {
-        Some(boot.object(name, ObjectKind::File, b"a"))
-    } else {
-        None
-    };
-    let second = if boot.objects().len() < 64 {
-        Some(boot.object(name, ObjectKind::Dir, b""))
-    } else {
-        None
-    };
-    ([first, second], boot.objects().len())
+/// It takes an object once under a name.
+fn declares_objects(rt: &impl Abort, boot: &mut Boot, name: Name) {
+    assert!(rt; boot.objects().len() < 64);
+    assert!(rt; boot.object(name, ObjectKind::File, b"a") == Ok(()));
+    assert!(rt; boot.objects().len() < 64);
+    assert!(rt; boot.object(name, ObjectKind::Dir, b"") == Err(BootFault::Duplicate));
+    assert!(rt; boot.objects().len() == 1);
 }
 
-/// What it answers to two copies of one name, and how many it then has.
-fn two_copies(boot: &mut Boot, name: Name, content: Content) -> ([Answer; 2], usize) {
-    let first = boot.copy(name, content);
-    let second = boot.copy(name, content);
-    ([first, second], boot.copies().len())
+/// It takes a copy once under a name.
+fn declares_copies(rt: &impl Abort, boot: &mut Boot, name: Name) {
+    let content = content(rt, 3, b"");
+    assert!(rt; boot.copy(name, content) == Ok(()));
+    assert!(rt; boot.copy(name, content) == Err(BootFault::Duplicate));
+    assert!(rt; boot.copies().len() == 1);
 }
 
-/// Whether a copy of the scripts has these.
-fn has(scripts: &Scripts, names: [&Name; 2]) -> Result<[bool; 2], AllocError> {
-    let scripts = scripts.copy()?;
-    Ok([
-        scripts.get(names[0]).is_some(),
-        scripts.get(names[1]).is_some(),
-    ])
+/// A copy of the scripts has this one and not the other.
+fn has_one(rt: &impl Abort, scripts: &Scripts, one: &Name, other: &Name) {
+    let scripts = scripts.copy().expect(rt, "memory");
+    assert!(rt; scripts.get(one).is_some() && scripts.get(other).is_none());
 }
 
+/// Scripts, processes, objects and copies of one name are told apart.
 #[test]
-fn boot_refusals(rt: HostRuntime) -> Result<(), Fail> {
-    use BootFault::{Duplicate, NoScript};
-    let (main, other) = (name(b"main")?, name(b"other")?);
-    let content = content(3, b"")?;
+fn boot_refusals(rt: HostRuntime) {
     let mut boot = Boot::new(rt.alloc());
-    assert_eq!(rt; boot.process(1, &main, 1), Err(NoScript));
-    assert_eq!(rt;
-        two_scripts(rt.alloc(), &mut boot, main)?,
-        [Ok(()), Err(Duplicate)]
-    );
-    let processes = [Ok(()), Err(Duplicate), Err(NoScript)];
-    assert_eq!(rt; three_processes(&mut boot, &main, &other), (processes, 1));
-    let objects = [Some(Ok(())), Some(Err(Duplicate))];
-    assert_eq!(rt; two_objects(&mut boot, main), (objects, 1));
-    assert_eq!(rt;
-        two_copies(&mut boot, main, content),
-        ([Ok(()), Err(Duplicate)], 1)
-    );
-    assert_eq!(rt; has(boot.scripts(), [&main, &other])?, [true, false]);
-    Ok(())
+    let (main, other) = (name(&rt, b"main"), name(&rt, b"other"));
+    assert!(rt; boot.process(1, &main, 1) == Err(BootFault::NoScript));
+    declares_scripts(&rt, rt.alloc(), &mut boot, main);
+    declares_processes(&rt, &mut boot, &main, &other);
+    declares_objects(&rt, &mut boot, main);
+    declares_copies(&rt, &mut boot, main);
+    has_one(&rt, boot.scripts(), &main, &other);
 }
 
 #[test]
-fn inputs_of_words(rt: HostRuntime) -> Result<(), Fail> {
-    let content = content(3, b"x")?;
+fn inputs_of_words(rt: HostRuntime) {
+    let content = content(&rt, 3, b"x");
     let rows: [(&[u8], Result<Input, FaultKind>); 9] = [
         (b"none", Ok(Input::None)),
         (b"good", Ok(Input::Good)),
@@ -206,33 +112,37 @@ fn inputs_of_words(rt: HostRuntime) -> Result<(), Fail> {
         (b"bad 3", Err(Word)),
     ];
     for (text, want) in rows {
-        assert_eq!(rt; input(&Words::of(text)), want);
+        assert!(rt; input(&Words::of(text)) == want);
     }
-    Ok(())
 }
 
-/// What is printed of a thing.
-fn printed<T: fmt::Display + Drop>(alloc: Global, thing: T) -> Result<String, AllocError> {
-    format!(in alloc; "{thing}")
+/// A thing is printed so.
+fn prints<T: fmt::Display + Drop>(rt: &impl Abort, alloc: Global, thing: T, want: &str) {
+    let printed = format!(in alloc; "{thing}").expect(rt, "memory");
+    assert!(rt; printed.as_str() == want);
 }
 
 #[test]
-fn prints(rt: HostRuntime) -> Result<(), Fail> {
+fn prints_identifiers(rt: HostRuntime) {
     let alloc = rt.alloc();
-    let deep: Pid = Operand::read(b"1.3.05.65535").map_err(|_| "pid")?;
-    let child = pid(1)?.child(3).ok_or("child")?;
-    let maker = Some(child);
-    assert_eq!(rt; printed(alloc, Printed(deep))?.as_str(), "1.3.5.65535");
-    assert_eq!(rt;
-        printed(alloc, Printed(ObjId { maker, count: 2 }))?.as_str(),
-        "1.3:2"
-    );
-    assert_eq!(rt; printed(alloc, Val::Obj(ROOT))?.as_str(), "0:1");
-    assert_eq!(rt; printed(alloc, Val::Who(child))?.as_str(), "@1.3");
-    assert_eq!(rt; printed(alloc, Val::Num(-2))?.as_str(), "-2");
-    let literal = printed(alloc, Literal(b"a\"\\\n\x7f"))?;
-    assert_eq!(rt; literal.as_str(), "\"a\\\"\\\\\\n\\x7f\"");
-    Ok(())
+    let deep: Pid = Operand::read(b"1.3.05.65535").expect(&rt, "a process");
+    prints(&rt, alloc, Printed(deep), "1.3.5.65535");
+    let maker = Some(child(&rt, pid(&rt, 1), 3));
+    prints(&rt, alloc, Printed(ObjId { maker, count: 2 }), "1.3:2");
+}
+
+#[test]
+fn prints_values(rt: HostRuntime) {
+    let alloc = rt.alloc();
+    let who = child(&rt, pid(&rt, 1), 3);
+    for (val, want) in [
+        (Val::Obj(ROOT), "0:1"),
+        (Val::Who(who), "@1.3"),
+        (Val::Num(-2), "-2"),
+    ] {
+        prints(&rt, alloc, val, want);
+    }
+    prints(&rt, alloc, Literal(b"a\"\\\n\x7f"), "\"a\\\"\\\\\\n\\x7f\"");
 }
 
 #[test]
@@ -240,6 +150,6 @@ fn faulty_processes(rt: HostRuntime) {
     let rows: [&[u8]; 4] = [b"1.0", b"1.1.1.1.1", b"65536", b"1."];
     for text in rows {
         let said: Result<Pid, FaultKind> = Operand::read(text);
-        assert_eq!(rt; said, Err(Malformed));
+        assert!(rt; said == Err(Malformed));
     }
 }

@@ -1,4 +1,5 @@
 //! Traces, the faults of their texts, and that what is printed of them is read again.
+use crate::plain::{child, content, guess, pid};
 use rand_core::Rng;
 use rand_pcg::Pcg32;
 use sk_ids::Pid;
@@ -8,8 +9,7 @@ use sk_trace::{Event, InputRef, KeptInput, Trace};
 use sk_words::FaultKind::{Operand as Malformed, Word};
 use sk_words::{Cursor, Fault, FaultKind};
 use std::alloc::Global;
-use std::test::Fail;
-use tests_support::values::{content, guess, pid};
+use std::process::Abort;
 
 /// A step with no input.
 fn step_of(pid: Pid) -> Event {
@@ -17,73 +17,103 @@ fn step_of(pid: Pid) -> Event {
     Event::Step { pid, input }
 }
 
-#[test]
-fn trace_text(rt: HostRuntime) -> Result<(), Fail> {
-    let text = b"step 1 none\nstep 1 none\nguess 1 1 good\nstep 1 none\nstep 1 none\nfail 1\n";
-    let pid = pid(1)?;
-    let id = guess(1)?;
-    let input = KeptInput::keep(rt.alloc(), InputRef::Good)?;
-    let want = [
-        step_of(pid),
-        step_of(pid),
-        Event::Guess { id, pid, input },
-        step_of(pid),
-        step_of(pid),
-        Event::Fail(id),
-    ];
-    let trace = Trace::parse(rt.alloc(), text)?;
-    assert_eq!(rt; trace.events(), want.as_slice());
-    assert_eq!(rt; trace.print(rt.alloc())?.as_slice(), text.as_slice());
-    Ok(())
+/// A trace whose text is well.
+fn parsed(rt: &impl Abort, alloc: Global, text: &[u8]) -> Trace {
+    Trace::parse(alloc, text).expect(rt, "a trace")
+}
+
+/// A trace is printed so.
+fn prints(rt: &impl Abort, alloc: Global, trace: &Trace, text: &[u8]) {
+    let printed = trace.print(alloc).expect(rt, "memory");
+    assert!(rt; printed.as_slice() == text);
+}
+
+/// A trace has this event at a place.
+fn has_at(rt: &impl Abort, trace: &Trace, place: usize, want: &Event) {
+    assert!(rt;
+        trace
+            .events()
+            .get(place)
+            .is_some_and(|event| *event == *want)
+    );
+}
+
+/// A trace has just a guess of the process, with steps around it, and its failure.
+fn has_six(rt: &impl Abort, trace: &Trace, pid: Pid, want: &Event) {
+    let step = step_of(pid);
+    for place in [0, 1, 3, 4] {
+        has_at(rt, trace, place, &step);
+    }
+    has_at(rt, trace, 2, want);
+    has_at(rt, trace, 5, &Event::Fail(guess(rt, 1)));
+    assert!(rt; trace.events().len() == 6);
 }
 
 #[test]
-fn one_text_of_a_trace(rt: HostRuntime) -> Result<(), Fail> {
+fn trace_text(rt: HostRuntime) {
+    let text = b"step 1 none\nstep 1 none\nguess 1 1 good\nstep 1 none\nstep 1 none\nfail 1\n";
+    let (id, pid) = (guess(&rt, 1), pid(&rt, 1));
+    let input = KeptInput::keep(rt.alloc(), InputRef::Good).expect(&rt, "memory");
+    let trace = parsed(&rt, rt.alloc(), text);
+    has_six(&rt, &trace, pid, &Event::Guess { id, pid, input });
+    prints(&rt, rt.alloc(), &trace, text);
+}
+
+#[test]
+fn one_text_of_a_trace(rt: HostRuntime) {
     let text =
         b"# a\r\n\n step\t1.03  fresh 007 \"a\\x4A\\n\\\"\x20\"\r\n\t# commit 0\ncommit 0009";
-    let trace = Trace::parse(rt.alloc(), text)?;
+    let trace = parsed(&rt, rt.alloc(), text);
     let want = b"step 1.3 fresh 7 \"aJ\\n\\\" \"\ncommit 9\n";
-    assert_eq!(rt; trace.print(rt.alloc())?.as_slice(), want.as_slice());
-    Ok(())
+    prints(&rt, rt.alloc(), &trace, want);
 }
 
-/// The first fault of a trace's text, its line and its kind; none where it is well.
-fn fault(alloc: Global, text: &[u8]) -> Option<(u64, FaultKind)> {
-    match Trace::parse(alloc, text) {
-        Ok(_) => None,
-        Err(fault) => Some((fault.line, fault.kind)),
+/// The first fault of a trace's text stands in this line and is of this kind.
+fn faulty(rt: &impl Abort, alloc: Global, text: &[u8], line: u64, kind: FaultKind) {
+    let fault = Trace::parse(alloc, text).err();
+    assert!(rt; fault == Some(Fault { line, kind }), "{text:?}: {fault:?}");
+}
+
+#[test]
+fn faulty_words_of_traces(rt: HostRuntime) {
+    let rows: [&[u8]; 7] = [
+        b"stop 1 none",
+        b"\xff 1",
+        b"guess 1 good",
+        b"step 1 1 none",
+        b"step 1 fresh 1",
+        b"commit",
+        b"fail 1 1",
+    ];
+    for text in rows {
+        faulty(&rt, rt.alloc(), text, 1, Word);
     }
 }
 
 #[test]
-fn trace_faults(rt: HostRuntime) {
-    let rows: [(&[u8], Option<(u64, FaultKind)>); 15] = [
-        (b"stop 1 none", Some((1, Word))),
-        (b"\xff 1", Some((1, Word))),
-        (b"step 1 \"a", Some((1, Malformed))),
-        (b"guess 1 good", Some((1, Word))),
-        (b"step 1 1 none", Some((1, Word))),
-        (b"step 1 fresh 1", Some((1, Word))),
-        (b"step 1 bad", Some((1, Malformed))),
-        (b"step 0 none", Some((1, Malformed))),
-        (b"step 1 none\n# a\nguess 0 1 good", Some((3, Malformed))),
-        (b"commit", Some((1, Word))),
-        (b"commit 0\nstop", Some((1, Malformed))),
-        (b"commit 9223372036854775808", Some((1, Malformed))),
-        (b"fail 1 1", Some((1, Word))),
-        (b"guess 9223372036854775807 1.2.3.4 good\r\n", None),
-        (b"# \xff\n\r\n", None),
+fn faulty_operands_of_traces(rt: HostRuntime) {
+    let rows: [&[u8]; 5] = [
+        b"step 1 \"a",
+        b"step 1 bad",
+        b"step 0 none",
+        b"commit 0\nstop",
+        b"commit 9223372036854775808",
     ];
-    for (text, want) in rows {
-        assert_eq!(rt; fault(rt.alloc(), text), want);
+    for text in rows {
+        faulty(&rt, rt.alloc(), text, 1, Malformed);
     }
+    let third = b"step 1 none\n# a\nguess 0 1 good";
+    faulty(&rt, rt.alloc(), third, 3, Malformed);
 }
 
-/// How many events are read of lines, or their first fault.
-fn count(read: Result<Trace, Fault>) -> Result<usize, Fault> {
-    match read {
-        Ok(trace) => Ok(trace.events().len()),
-        Err(fault) => Err(fault),
+#[test]
+fn traces_that_are_well(rt: HostRuntime) {
+    let rows: [&[u8]; 2] = [
+        b"guess 9223372036854775807 1.2.3.4 good\r\n",
+        b"# \xff\n\r\n",
+    ];
+    for text in rows {
+        assert!(rt; Trace::parse(rt.alloc(), text).is_ok());
     }
 }
 
@@ -92,12 +122,11 @@ fn reads_below_a_heading(rt: HostRuntime) {
     let mut lines = Cursor::of(b"limit 3\ntrace\nstep 1 none\nfail 0\n");
     let _ = lines.next();
     let _ = lines.next();
-    assert_eq!(rt; count(Trace::read(rt.alloc(), &lines.first(1))), Ok(1));
+    let one = Trace::read(rt.alloc(), &lines.first(1));
+    assert!(rt; one.is_ok_and(|trace| trace.events().len() == 1));
     let (line, kind) = (4, Malformed);
-    assert_eq!(rt;
-        count(Trace::read(rt.alloc(), &lines)),
-        Err(Fault { line, kind })
-    );
+    let both = Trace::read(rt.alloc(), &lines).err();
+    assert!(rt; both == Some(Fault { line, kind }));
 }
 
 /// A number of a path: the least, the greatest, a small one or any.
@@ -121,100 +150,108 @@ fn number(rng: &mut Pcg32) -> u64 {
 }
 
 /// A process of any level.
-fn process(rng: &mut Pcg32) -> Result<Pid, Fail> {
-    let mut pid = pid(index(rng))?;
+fn process(rt: &impl Abort, rng: &mut Pcg32) -> Pid {
+    let mut pid = pid(rt, index(rng));
     for _ in 0..rng.next_u32() % 4 {
-        pid = pid.child(index(rng)).ok_or("child")?;
+        pid = child(rt, pid, index(rng));
     }
-    Ok(pid)
+    pid
 }
 
 /// A version and bytes of every kind, in one of eight cases as many as there may be.
-fn any_content(rng: &mut Pcg32) -> Result<Content, Fail> {
+fn any_content(rt: &impl Abort, rng: &mut Pcg32) -> Content {
     let mut cells = [0; 512];
     rng.fill_bytes(&mut cells);
     let len = match rng.next_u32() % 8 {
         0 => 512,
         _ => (rng.next_u32() % 24) as usize,
     };
-    content(number(rng), &cells[..len.min(512)])
+    content(rt, number(rng), &cells[..len.min(512)])
 }
 
-fn input(rng: &mut Pcg32) -> Result<Input, Fail> {
-    Ok(match rng.next_u32() % 4 {
+fn input(rt: &impl Abort, rng: &mut Pcg32) -> Input {
+    match rng.next_u32() % 4 {
         0 => Input::None,
         1 => Input::Good,
-        2 => Input::Fresh(any_content(rng)?),
-        _ => Input::Stale(any_content(rng)?),
-    })
+        2 => Input::Fresh(any_content(rt, rng)),
+        _ => Input::Stale(any_content(rt, rng)),
+    }
+}
+
+/// An event with this input, if it has one.
+fn event(rt: &impl Abort, rng: &mut Pcg32, input: KeptInput) -> Event {
+    let kind = rng.next_u32() % 4;
+    let id = guess(rt, number(rng).max(1));
+    let pid = process(rt, rng);
+    match kind {
+        0 => Event::Step { pid, input },
+        1 => Event::Guess { id, pid, input },
+        2 => Event::Commit(id),
+        _ => Event::Fail(id),
+    }
 }
 
 /// Adds an event.
-fn happens(trace: &mut Trace, rng: &mut Pcg32) -> Result<(), Fail> {
-    let kind = rng.next_u32() % 4;
-    let id = guess(number(rng).max(1))?;
-    let pid = process(rng)?;
-    let input = trace.keep(InputRef::of(&input(rng)?))?;
-    trace.reserve(1)?;
-    match kind {
-        0 => trace.push(Event::Step { pid, input }),
-        1 => trace.push(Event::Guess { id, pid, input }),
-        2 => trace.push(Event::Commit(id)),
-        _ => trace.push(Event::Fail(id)),
+fn happens(rt: &impl Abort, trace: &mut Trace, event: Event) {
+    if trace.reserve(1).is_err() {
+        panic!(rt; "memory");
     }
-    Ok(())
+    trace.push(event);
 }
 
 /// A trace of so many events.
-fn random_trace(alloc: Global, rng: &mut Pcg32, len: u32) -> Result<Trace, Fail> {
+fn random_trace(rt: &impl Abort, alloc: Global, rng: &mut Pcg32, len: u32) -> Trace {
     let mut trace = Trace::new(alloc);
     for _ in 0..len {
-        happens(&mut trace, rng)?;
+        let input = KeptInput::keep(alloc, InputRef::of(&input(rt, rng))).expect(rt, "memory");
+        happens(rt, &mut trace, event(rt, rng, input));
     }
-    Ok(trace)
+    trace
 }
 
-/// Whether a trace is read again from its text, and printed as that text again.
-fn is_read_again(alloc: Global, trace: &Trace) -> Result<bool, Fail> {
-    let text = trace.print(alloc)?;
-    let again = Trace::parse(alloc, &text)?;
-    let same = again.events() == trace.events();
-    Ok(same && again.print(alloc)? == text)
+/// A trace is read again from its text, and printed as that text again.
+fn is_read_again(rt: &impl Abort, alloc: Global, trace: &Trace) {
+    let text = trace.print(alloc).expect(rt, "memory");
+    let again = parsed(rt, alloc, &text);
+    assert!(rt; again.events() == trace.events());
+    prints(rt, alloc, &again, &text);
 }
 
 #[test]
-fn random_traces(rt: HostRuntime) -> Result<(), Fail> {
+fn random_traces(rt: HostRuntime) {
     let mut rng = Pcg32::new(20, 1);
     for _ in 0..3_000 {
         let len = rng.next_u32() % 40;
-        let trace = random_trace(rt.alloc(), &mut rng, len)?;
-        assert!(rt; is_read_again(rt.alloc(), &trace)?);
+        let trace = random_trace(&rt, rt.alloc(), &mut rng, len);
+        is_read_again(&rt, rt.alloc(), &trace);
     }
-    Ok(())
+}
+
+/// The event of a number: guesses, steps and commits come in turn.
+fn event_of(rt: &impl Abort, pid: Pid, number: u32, input: KeptInput) -> Event {
+    let id = guess(rt, u64::from(number / 3 + 1));
+    match number % 3 {
+        0 => Event::Guess { id, pid, input },
+        1 => Event::Step { pid, input },
+        _ => Event::Commit(id),
+    }
 }
 
 /// A trace of so many events, guesses and their commits among them.
-fn long_trace(alloc: Global, pid: Pid, len: u32) -> Result<Trace, Fail> {
+fn long_trace(rt: &impl Abort, alloc: Global, pid: Pid, len: u32) -> Trace {
     let mut trace = Trace::new(alloc);
     for number in 0..len {
-        let id = guess(u64::from(number / 3 + 1))?;
-        let input = trace.keep(InputRef::Good)?;
-        trace.reserve(1)?;
-        match number % 3 {
-            0 => trace.push(Event::Guess { id, pid, input }),
-            1 => trace.push(Event::Step { pid, input }),
-            _ => trace.push(Event::Commit(id)),
-        }
+        let input = KeptInput::keep(alloc, InputRef::Good).expect(rt, "memory");
+        happens(rt, &mut trace, event_of(rt, pid, number, input));
     }
-    Ok(trace)
+    trace
 }
 
 #[test]
-fn long_traces(rt: HostRuntime) -> Result<(), Fail> {
-    let pid = pid(1)?;
+fn long_traces(rt: HostRuntime) {
+    let pid = pid(&rt, 1);
     for len in [1_025, 4_097, 65_537, 100_001] {
-        let trace = long_trace(rt.alloc(), pid, len)?;
-        assert!(rt; is_read_again(rt.alloc(), &trace)?);
+        let trace = long_trace(&rt, rt.alloc(), pid, len);
+        is_read_again(&rt, rt.alloc(), &trace);
     }
-    Ok(())
 }

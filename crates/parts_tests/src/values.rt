@@ -3,82 +3,29 @@ ghost use Rattle.std.specs.Prelude.{◌<◌};
 
 use sk_ids::{ObjId, Pid, Text};
 use sk_objects::{Content, File, Kind, Value};
-use std::alloc::{AllocError, Global};
+use std::alloc::Global;
 use std::process::Abort;
-use std::test::Fail;
+
+/// The kinds of values.
+const KINDS: [Kind; 7] = [
+    Kind::File,
+    Kind::Dir,
+    Kind::Link,
+    Kind::Pipe,
+    Kind::Signals,
+    Kind::Exit,
+    Kind::Copy,
+];
 
 /// Both values are of one kind and have the same contents.
 pub fn assert_same(rt: &impl Abort, left: &Value, right: &Value) {
-    assert_eq!(rt; left.kind(), right.kind());
+    assert!(rt; left.kind() == right.kind());
     assert!(rt; *left == *right);
 }
 
-/// What the readers tell of the first value of a kind, whose copy is the same.
-fn first_value(
-    rt: &impl Abort,
-    alloc: Global,
-    kind: Kind,
-) -> Result<(Kind, Option<u32>, Option<bool>), AllocError> {
-    let value = value_of(alloc, kind)?;
-    let copy = value.copy()?;
-    assert_same(rt, &copy, &value);
-    Ok((value.kind(), value.size(), value.is_shut()))
-}
-
-#[test]
-fn first_values(rt: HostRuntime) -> Result<(), Fail> {
-    let table = [
-        (Kind::File, Some(0), None),
-        (Kind::Dir, None, None),
-        (Kind::Link, None, None),
-        (Kind::Pipe, Some(0), Some(false)),
-        (Kind::Signals, None, None),
-        (Kind::Exit, None, None),
-        (Kind::Copy, Some(0), None),
-    ];
-    for (kind, size, shut) in table {
-        assert_eq!(rt; first_value(&rt, rt.alloc(), kind)?, (kind, size, shut));
-    }
-    Ok(())
-}
-
-/// `abcdef`, written over from place 4 on.
-fn written(alloc: Global) -> Result<File, AllocError> {
-    let mut file = File::new(alloc)?;
-    file.write_at(0, b"abcdef")?;
-    file.write_at(4, b"XYZ")?;
-    Ok(file)
-}
-
-/// What is read of the file from a place on.
-fn read_of_written(alloc: Global, offset: u64, count: usize) -> Result<Option<Text>, AllocError> {
-    Ok(Value::File(written(alloc)?).bytes_at(offset, count))
-}
-
-/// The number of bytes that one read of a file of 600 bytes gives.
-fn longest_read(alloc: Global) -> Result<Option<usize>, AllocError> {
-    let mut file = written(alloc)?;
-    file.cut_to(600)?;
-    let bytes = Value::File(file).bytes_at(0, 600);
-    Ok(bytes.map(|bytes| bytes.len()))
-}
-
-#[test]
-fn bytes_of_a_file(rt: HostRuntime) -> Result<(), Fail> {
-    let table = [
-        (2, 3, b"cdX".as_slice()),
-        (5, 9, b"YZ".as_slice()),
-        (7, 1, b"".as_slice()),
-        (1_099_511_627_776, 4, b"".as_slice()),
-    ];
-    for (offset, count, want) in table {
-        assert_eq!(rt;
-            read_of_written(rt.alloc(), offset, count)?,
-            Text::new(want)
-        );
-    }
-    assert_eq!(rt; longest_read(rt.alloc())?, Some(512));
-    Ok(())
+/// A copy of a value.
+pub fn copy(rt: &impl Abort, value: &Value) -> Value {
+    value.copy().expect(rt, "memory")
 }
 
 /// An object that a name is linked to.
@@ -90,77 +37,122 @@ pub fn linked() -> ObjId {
 }
 
 /// The first value of a kind, or a link.
-pub fn value_of(alloc: Global, kind: Kind) -> Result<Value, AllocError> {
+pub fn value_of(rt: &impl Abort, alloc: Global, kind: Kind) -> Value {
     match kind {
-        Kind::Link => Ok(Value::link(linked())),
-        Kind::File | Kind::Dir | Kind::Pipe | Kind::Signals | Kind::Exit | Kind::Copy => {
-            Value::empty(alloc, kind)
-        }
+        Kind::Link => Value::link(linked()),
+        kind => Value::empty(alloc, kind).expect(rt, "memory"),
     }
 }
 
+/// The readers tell this of the first value of a kind, whose copy is the same.
+fn first_tells(rt: &impl Abort, alloc: Global, kind: Kind, size: Option<u32>, shut: Option<bool>) {
+    let value = value_of(rt, alloc, kind);
+    assert_same(rt, &copy(rt, &value), &value);
+    assert!(rt; value.kind() == kind);
+    assert!(rt; value.size() == size && value.is_shut() == shut);
+}
+
 #[test]
-fn a_link_tells_its_target(rt: HostRuntime) -> Result<(), Fail> {
+fn first_values(rt: HostRuntime) {
+    let alloc = rt.alloc();
+    first_tells(&rt, alloc, Kind::File, Some(0), None);
+    first_tells(&rt, alloc, Kind::Pipe, Some(0), Some(false));
+    first_tells(&rt, alloc, Kind::Copy, Some(0), None);
+    for kind in [Kind::Dir, Kind::Link, Kind::Signals, Kind::Exit] {
+        first_tells(&rt, alloc, kind, None, None);
+    }
+}
+
+/// `abcdef`, written over from place 4 on.
+fn written(rt: &impl Abort, alloc: Global) -> File {
+    let mut file = File::new(alloc).expect(rt, "memory");
+    file.write_at(0, b"abcdef").expect(rt, "memory");
+    file.write_at(4, b"XYZ").expect(rt, "memory");
+    file
+}
+
+#[test]
+fn bytes_of_a_file(rt: HostRuntime) {
+    let file = Value::File(written(&rt, rt.alloc()));
+    let rows: [(u64, usize, &[u8]); 4] = [
+        (2, 3, b"cdX"),
+        (5, 9, b"YZ"),
+        (7, 1, b""),
+        (1_099_511_627_776, 4, b""),
+    ];
+    for (offset, count, want) in rows {
+        assert!(rt; file.bytes_at(offset, count) == Text::new(want));
+    }
+}
+
+/// One read of a file of 600 bytes gives 512.
+#[test]
+fn longest_read(rt: HostRuntime) {
+    let mut file = written(&rt, rt.alloc());
+    file.cut_to(600).expect(&rt, "memory");
+    let bytes = Value::File(file).bytes_at(0, 600);
+    assert!(rt; bytes.is_some_and(|bytes| bytes.len() == 512));
+}
+
+#[test]
+fn a_link_tells_its_target(rt: HostRuntime) {
     let link = Value::link(linked());
-    assert_eq!(rt; link.target(), Some(linked()));
-    assert_eq!(rt; link.copy()?.target(), Some(linked()));
-    assert_eq!(rt; link.kind(), Kind::Link);
-    assert_eq!(rt; link.status(), None);
-    assert_eq!(rt; Value::Dir.target(), None);
-    Ok(())
+    assert!(rt; link.target() == Some(linked()));
+    assert!(rt; copy(&rt, &link).target() == Some(linked()));
+    assert!(rt; link.kind() == Kind::Link);
+    assert!(rt; link.status().is_none());
+    assert!(rt; Value::Dir.target().is_none());
+}
+
+#[test]
+fn exit_slots(rt: HostRuntime) {
+    let set = Value::Exit(Some(3));
+    assert!(rt; set.status() == Some(Some(3)));
+    assert!(rt; set.signal_at(0).is_none());
 }
 
 /// The version of a cached copy, where there can be such a copy.
 fn version(number: u64) -> Option<Option<u64>> {
-    Content::new(number, Text::empty()).map(|content| Value::Copy(content).version())
+    let content = Content::new(number, Text::empty())?;
+    Some(Value::Copy(content).version())
 }
 
 #[test]
-fn slots(rt: HostRuntime) {
-    let set = Value::Exit(Some(3));
-    assert_eq!(rt; set.status(), Some(Some(3)));
-    assert_eq!(rt; set.signal_at(0), None);
-    assert_eq!(rt;
-        version(9_223_372_036_854_775_807),
-        Some(Some(9_223_372_036_854_775_807))
-    );
-    assert_eq!(rt; version(9_223_372_036_854_775_808), None);
+fn versions_of_copies(rt: HostRuntime) {
+    let last = 9_223_372_036_854_775_807;
+    assert!(rt; version(last) == Some(Some(last)));
+    assert!(rt; version(last + 1).is_none());
 }
 
 /// The file of `written` with another byte at a place.
-fn written_otherwise(alloc: Global, place: usize) -> Result<Value, AllocError>
+fn written_otherwise(rt: &impl Abort, alloc: Global, place: usize) -> Value
     requires { place < 7 }
 {
-    let mut file = written(alloc)?;
-    file.write_at(place, b"#")?;
-    Ok(Value::File(file))
+    let mut file = written(rt, alloc);
+    file.write_at(place, b"#").expect(rt, "memory");
+    Value::File(file)
 }
 
 #[test]
-fn equal_values(rt: HostRuntime) -> Result<(), Fail> {
-    let value = Value::File(written(rt.alloc())?);
-    assert!(rt; value == value.copy()?);
+fn equal_values(rt: HostRuntime) {
+    let value = Value::File(written(&rt, rt.alloc()));
+    assert!(rt; value == copy(&rt, &value));
     for place in 0..7 {
-        assert!(rt; value != written_otherwise(rt.alloc(), place)?);
+        assert!(rt; value != written_otherwise(&rt, rt.alloc(), place));
     }
-    Ok(())
+}
+
+/// The first values of two kinds are equal just where the kinds are.
+fn equal_by_kind(rt: &impl Abort, alloc: Global, one: Kind, other: Kind) {
+    let value = value_of(rt, alloc, one);
+    assert!(rt; (value == value_of(rt, alloc, other)) == (one == other));
 }
 
 #[test]
-fn first_values_of_two_kinds(rt: HostRuntime) -> Result<(), Fail> {
-    let kinds = [
-        Kind::File,
-        Kind::Dir,
-        Kind::Link,
-        Kind::Pipe,
-        Kind::Signals,
-        Kind::Exit,
-    ];
-    for one in kinds {
-        for other in kinds {
-            let value = value_of(rt.alloc(), one)?;
-            assert_eq!(rt; value == value_of(rt.alloc(), other)?, one == other);
+fn first_values_of_two_kinds(rt: HostRuntime) {
+    for one in KINDS {
+        for other in KINDS {
+            equal_by_kind(&rt, rt.alloc(), one, other);
         }
     }
-    Ok(())
 }

@@ -1,9 +1,11 @@
 //! The tests of the parts of a kernel over their public calls: identifiers, values and changes, scripts, what is read and printed,
-//! traces and terminals. Tests stand in crates of their own, since the checker proves a crate anew for its tests.
+//! traces, terminals and guesses. Tests stand in crates of their own, since the checker proves a crate anew for its tests.
 #![tactic(auto)]
 
 #[cfg(test)]
 mod changes;
+#[cfg(test)]
+mod guesses;
 #[cfg(test)]
 mod ids;
 #[cfg(test)]

@@ -1,0 +1,292 @@
+//! The limit of undecided guesses, tokens of decided ones, second decisions, and lists of dependents.
+use crate::plain::{guess, pid, tags};
+use sk_guesses::{DrawRefusal, GUESS_LIMIT, Guess, Guesses, Redeemed, Status};
+use sk_ids::{Entity, GuessId, TagSet};
+use std::alloc::Global;
+use std::process::Abort;
+
+/// The number of the kernel that the guesses are of.
+const KERNEL: u64 = 7;
+
+/// Draws a guess whose step rests on itself alone, and on which these entities rest.
+fn draw(alloc: Global, guesses: &mut Guesses, entities: &[Entity]) -> Result<Guess, DrawRefusal> {
+    let tags = match guesses.free() {
+        Some(id) => TagSet::of(alloc, id),
+        None => TagSet::new(alloc),
+    };
+    guesses.draw(tags, entities)
+}
+
+/// Draws a guess, whose number is the next.
+fn drawn(rt: &impl Abort, alloc: Global, guesses: &mut Guesses, entities: &[Entity]) -> Guess {
+    assert!(rt; !guesses.is_full());
+    let next = guesses.next();
+    let token = draw(alloc, guesses, entities).expect(rt, "a guess");
+    assert!(rt; token.kernel() == KERNEL && token.id().number() == next);
+    token
+}
+
+/// What a token says that is taken in.
+fn said(rt: &impl Abort, guesses: &Guesses, token: Guess) -> Redeemed {
+    match guesses.redeem(token) {
+        Ok(redeemed) => redeemed,
+        Err(_token) => panic!(rt; "the token is taken in"),
+    }
+}
+
+/// Spends the token of an undecided guess, which stays so.
+fn spend(rt: &impl Abort, guesses: &Guesses, token: Guess) -> GuessId {
+    let id = token.id();
+    assert!(rt; said(rt, guesses, token) == Redeemed::Undecided(id));
+    id
+}
+
+/// Draws a guess on which nothing rests, and spends its token.
+fn draws(rt: &impl Abort, alloc: Global, guesses: &mut Guesses) -> GuessId {
+    let token = drawn(rt, alloc, guesses, &[]);
+    spend(rt, guesses, token)
+}
+
+/// No guess can be drawn.
+fn refuses(rt: &impl Abort, alloc: Global, guesses: &mut Guesses) {
+    match draw(alloc, guesses, &[]) {
+        Ok(_token) => panic!(rt; "a guess too many"),
+        Err(why) => assert!(rt; why == DrawRefusal::TooMany),
+    }
+}
+
+#[test]
+fn sixty_four_guesses(rt: HostRuntime) {
+    let mut guesses = Guesses::new(rt.alloc(), KERNEL);
+    for number in 1..=64u64 {
+        assert!(rt; draws(&rt, rt.alloc(), &mut guesses).number() == number);
+    }
+    assert!(rt; guesses.undecided() == GUESS_LIMIT);
+    refuses(&rt, rt.alloc(), &mut guesses);
+}
+
+/// Decides the guess so.
+fn decide(guesses: &mut Guesses, id: GuessId, to: Status) {
+    match to {
+        Status::Undecided => {}
+        Status::Committed => guesses.commit(id),
+        Status::Failed => guesses.fail(id),
+        Status::Struck => guesses.strike(id),
+    }
+}
+
+/// The token of an undecided or a struck guess says what became of it.
+fn tells(rt: &impl Abort, alloc: Global, guesses: &mut Guesses, to: Status) {
+    let token = drawn(rt, alloc, guesses, &[]);
+    let id = token.id();
+    decide(guesses, id, to);
+    let want = match to {
+        Status::Struck => Redeemed::Struck(id),
+        _ => Redeemed::Undecided(id),
+    };
+    assert!(rt; said(rt, guesses, token) == want);
+    assert!(rt; guesses.status(id) == Some(to));
+}
+
+/// The token of a guess that is decided so comes back. It is spent at a twin, which has drawn the guess and not decided it.
+fn comes_back(
+    rt: &impl Abort,
+    alloc: Global,
+    guesses: &mut Guesses,
+    twin: &mut Guesses,
+    to: Status,
+) {
+    let id = draws(rt, alloc, twin);
+    let token = drawn(rt, alloc, guesses, &[]);
+    decide(guesses, id, to);
+    match guesses.redeem(token) {
+        Ok(_) => panic!(rt; "the guess is decided"),
+        Err(token) => assert!(rt; spend(rt, twin, token) == id),
+    }
+    assert!(rt; guesses.status(id) == Some(to));
+}
+
+#[test]
+fn tokens_after_a_decision(rt: HostRuntime) {
+    let mut guesses = Guesses::new(rt.alloc(), KERNEL);
+    let mut twin = Guesses::new(rt.alloc(), KERNEL);
+    comes_back(&rt, rt.alloc(), &mut guesses, &mut twin, Status::Committed);
+    comes_back(&rt, rt.alloc(), &mut guesses, &mut twin, Status::Failed);
+    tells(&rt, rt.alloc(), &mut guesses, Status::Undecided);
+    tells(&rt, rt.alloc(), &mut guesses, Status::Struck);
+    assert!(rt; guesses.undecided() == 1);
+    assert!(rt; guesses.status(guess(&rt, 5)).is_none());
+}
+
+/// A guess keeps what became of it through a second decision.
+fn stays(
+    rt: &impl Abort,
+    guesses: &mut Guesses,
+    id: GuessId,
+    status: Option<Status>,
+    again: Status,
+) {
+    decide(guesses, id, again);
+    assert!(rt; guesses.status(id) == status);
+}
+
+/// The next guess is decided so, and then in each way once more.
+fn decides_again(rt: &impl Abort, alloc: Global, guesses: &mut Guesses, first: Status) {
+    let id = draws(rt, alloc, guesses);
+    decide(guesses, id, first);
+    for second in [Status::Committed, Status::Failed, Status::Struck] {
+        stays(rt, guesses, id, Some(first), second);
+    }
+}
+
+#[test]
+fn decided_once(rt: HostRuntime) {
+    let mut guesses = Guesses::new(rt.alloc(), KERNEL);
+    for first in [Status::Committed, Status::Failed, Status::Struck] {
+        decides_again(&rt, rt.alloc(), &mut guesses, first);
+    }
+    let undrawn = guess(&rt, guesses.next());
+    stays(&rt, &mut guesses, undrawn, None, Status::Committed);
+    assert!(rt; guesses.undecided() == 0);
+}
+
+/// Draws a guess on which these entities rest, and spends its token.
+fn draws_with(rt: &impl Abort, alloc: Global, guesses: &mut Guesses, entities: &[Entity]) {
+    let token = drawn(rt, alloc, guesses, entities);
+    spend(rt, guesses, token);
+}
+
+/// A process as an entity.
+fn process(rt: &impl Abort, number: u16) -> Entity {
+    Entity::Proc(pid(rt, number))
+}
+
+/// These entities are just these processes, in this order.
+fn are(rt: &impl Abort, entities: &[Entity], processes: &[u16]) {
+    assert!(rt; entities.len() == processes.len());
+    for (entity, number) in entities.iter().zip(processes) {
+        assert!(rt; *entity == process(rt, *number));
+    }
+}
+
+/// Just these processes rest on the guess of a number.
+fn rest(rt: &impl Abort, guesses: &Guesses, number: u64, processes: &[u16]) {
+    are(rt, guesses.dependents(guess(rt, number)), processes);
+}
+
+/// Each entity stands once in the list of a guess.
+fn draws_two(rt: &impl Abort, alloc: Global, guesses: &mut Guesses) {
+    let twice = [process(rt, 2), process(rt, 1), process(rt, 2)];
+    draws_with(rt, alloc, guesses, &twice);
+    rest(rt, guesses, 1, &[1, 2]);
+    draws_with(rt, alloc, guesses, &[process(rt, 2)]);
+}
+
+/// The third process comes to rest on both guesses, which is told twice. Nothing rests on a guess that was not drawn.
+fn rests_on_both(rt: &impl Abort, alloc: Global, guesses: &mut Guesses) {
+    let (both, third) = (tags(rt, alloc, &[1, 2]), process(rt, 3));
+    guesses.depend(&both, &third).expect(rt, "memory");
+    guesses.depend(&both, &third).expect(rt, "memory");
+    rest(rt, guesses, 1, &[1, 2, 3]);
+    rest(rt, guesses, 2, &[2, 3]);
+    rest(rt, guesses, 3, &[]);
+}
+
+/// The second process rests on the second guess no more, and the third on that alone.
+fn relieves(rt: &impl Abort, alloc: Global, guesses: &mut Guesses) {
+    let second = TagSet::of(alloc, guess(rt, 2));
+    guesses.relieve(&second, &process(rt, 2));
+    guesses.leave_to(&second, &process(rt, 3));
+    rest(rt, guesses, 1, &[1, 2]);
+    rest(rt, guesses, 2, &[3]);
+}
+
+/// The list of the first guess is moved out: it is just this, and none is left.
+fn gives_up(rt: &impl Abort, guesses: &mut Guesses) {
+    let list = guesses.take_dependents(guess(rt, 1));
+    are(rt, list.as_slice(), &[1, 2]);
+    rest(rt, guesses, 1, &[]);
+}
+
+/// The first guess fails and the second is struck: no list is left.
+fn decides_both(rt: &impl Abort, guesses: &mut Guesses) {
+    let (first, second) = (guess(rt, 1), guess(rt, 2));
+    guesses.fail(first);
+    guesses.strike_resting(first);
+    assert!(rt; guesses.oldest() == Some(second));
+    guesses.strike(second);
+    assert!(rt; guesses.dependents(second).is_empty());
+    assert!(rt; guesses.oldest().is_none());
+}
+
+#[test]
+fn lists_of_dependents(rt: HostRuntime) {
+    let mut guesses = Guesses::new(rt.alloc(), KERNEL);
+    draws_two(&rt, rt.alloc(), &mut guesses);
+    rests_on_both(&rt, rt.alloc(), &mut guesses);
+    relieves(&rt, rt.alloc(), &mut guesses);
+    gives_up(&rt, &mut guesses);
+    decides_both(&rt, &mut guesses);
+}
+
+/// Ends an epoch in which no guess is undecided.
+fn settles(rt: &impl Abort, guesses: &mut Guesses) {
+    if guesses.undecided() > 0 {
+        panic!(rt; "a guess is undecided");
+    }
+    guesses.settle().expect(rt, "memory");
+}
+
+fn of_number(number: u64) -> Status {
+    match number % 3 {
+        0 => Status::Struck,
+        1 => Status::Committed,
+        _ => Status::Failed,
+    }
+}
+
+/// Draws and decides thirty guesses, in epochs of so many.
+fn decides_thirty(rt: &impl Abort, alloc: Global, guesses: &mut Guesses, count: u64) {
+    for number in 1..=30u64 {
+        let id = draws(rt, alloc, guesses);
+        decide(guesses, id, of_number(number));
+        if number.checked_rem(count) == Some(0) {
+            settles(rt, guesses);
+        }
+    }
+}
+
+/// The guess of a number has its status, and keeps it through a second decision.
+fn keeps_its(rt: &impl Abort, guesses: &mut Guesses, number: u64) {
+    let (id, status) = (guess(rt, number), Some(of_number(number)));
+    assert!(rt; guesses.status(id) == status);
+    stays(rt, guesses, id, status, Status::Committed);
+}
+
+/// Each guess keeps its status through epochs of so many guesses.
+fn epochs_of(rt: &impl Abort, alloc: Global, count: u64) {
+    let mut guesses = Guesses::new(alloc, KERNEL);
+    decides_thirty(rt, alloc, &mut guesses, count);
+    for number in 1..=30u64 {
+        keeps_its(rt, &mut guesses, number);
+    }
+    assert!(rt; guesses.next() == 31);
+}
+
+#[test]
+fn statuses_of_earlier_epochs(rt: HostRuntime) {
+    for count in [1, 2, 3, 4, 5, 7, 30, 31] {
+        epochs_of(&rt, rt.alloc(), count);
+    }
+}
+
+/// The token of a guess that was struck in an earlier epoch tells so.
+#[test]
+fn tokens_of_an_earlier_epoch(rt: HostRuntime) {
+    let mut guesses = Guesses::new(rt.alloc(), KERNEL);
+    let struck = drawn(&rt, rt.alloc(), &mut guesses, &[]);
+    let id = struck.id();
+    guesses.strike(id);
+    settles(&rt, &mut guesses);
+    assert!(rt; said(&rt, &guesses, struck) == Redeemed::Struck(id));
+}

@@ -7,14 +7,14 @@ use Rattle.sk_workers.specs.declared.entry.HistoryEntry.{HistoryEntry}
 use Rattle.sk_workers.specs.declared.entry.Receipt.{Receipt}
 use Rattle.sk_workers.specs.Views.{BookView, WorkerView, SharedView}
 use Rattle.sk_workers.specs.History.{AreOwn, AreFresh, IsLegal}
-use Rattle.sk_workers.specs.Closing.{Agrees, Stands, AllStand, AreDistinct, AreApart, IsFrom, IsClosed, receipts_of, numbers}
+use Rattle.sk_workers.specs.Closing.{Agrees, IsFirstBad, Stands, AllStand, AreDistinct, AreApart, IsFrom, IsClosed, receipts_of, numbers}
 
 -- what was found of a worker's receipts, or that all stand
 pub found : (h : List HistoryEntry) (w : WorkerView) (rs : List Receipt) (o : Option ℕ) → rs ≡ w.receipts → AreOwn w.number w.receipts
-    → MatchOption o ((k : ℕ) → k < length rs → Agrees h rs k) (λ k. (k < length rs) × ¬ Agrees h rs k)
-    → MatchOption o (Stands h w) (λ k. (k < length w.receipts) × ¬ Agrees h w.receipts k)
+    → MatchOption o ((k : ℕ) → k < length rs → Agrees h rs k) (IsFirstBad h rs)
+    → MatchOption o (Stands h w) (IsFirstBad h w.receipts)
 found h w rs None is own all = record { own = own; agree = subst (λ (l : List Receipt). (k : ℕ) → k < length l → Agrees h l k) is all }
-found h w rs (Some k) is own bad = subst (λ (l : List Receipt). (k < length l) × ¬ Agrees h l k) is bad
+found h w rs (Some k) is own bad = subst (λ (l : List Receipt). IsFirstBad h l k) is bad
 
 some_is : {A : Type 0} (x y : A) → Some x ≡ Some y → x ≡ y
 some_is x y e = cc

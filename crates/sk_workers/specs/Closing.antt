@@ -70,10 +70,15 @@ pub record IsClosed (s : SharedView) (ws : List WorkerView) (history : List Hist
   pub apart : AreApart ws
   pub count : length history ≡ receipts_of ws
 
--- this worker's receipt is the cause
+-- this receipt does not stand, and all before it do
+abbrev pub IsFirstBad : List HistoryEntry → List Receipt → ℕ → Type 0
+IsFirstBad history rs k = (k < length rs) × (¬ Agrees history rs k) × ((j : ℕ) → j < k → Agrees history rs j)
+
+-- this worker's receipt is the cause: the first that does not stand, of the first worker that has such a one
 abbrev pub Disagrees : List HistoryEntry → List WorkerView → ℕ → ℕ → Type 0
 Disagrees history ws number k =
-    (i : ℕ) × (w : WorkerView) × (slice_get ws i ≡ Some w) × (w.number ≡ number) × (k < length w.receipts) × ¬ Agrees history w.receipts k
+    (i : ℕ) × (w : WorkerView) × (slice_get ws i ≡ Some w) × (w.number ≡ number) × IsFirstBad history w.receipts k
+    × ((j : ℕ) (v : WorkerView) → j < i → slice_get ws j ≡ Some v → Stands history v)
 
 -- why a close is refused, in the order of the causes: requests are pending, a receipt doesn't stand, or the desk began elsewhere
 abbrev pub Refuses : SharedView → List WorkerView → BookView → CloseRefusal → Type 0

@@ -3,7 +3,7 @@ ghost use Rattle.std.specs.Prelude.{◌≡◌, ◌≢◌, ◌↔◌, ℕ, ◌+�
 ghost use Rattle.sk_client.specs.Desk.{pending};
 ghost use Rattle.sk_workers.specs.Views.{SharedView, WorkerView};
 ghost use Rattle.sk_workers.specs.History.{IsLegal};
-ghost use Rattle.sk_workers.specs.Closing.{IsFrom, Agrees, Stands, AllStand, receipts_of, AreDistinct, IsClosed, Disagrees, Refuses};
+ghost use Rattle.sk_workers.specs.Closing.{IsFrom, Agrees, Stands, AllStand, receipts_of, AreDistinct, IsClosed, IsFirstBad, Disagrees, Refuses};
 
 use crate::book::Book;
 use crate::entry::{CloseRefusal, HistoryEntry, Receipt};
@@ -71,7 +71,7 @@ impl<L: Ledger> Book<L> {
         Ok(())
     }
 
-    /// The first of its workers with a receipt that does not stand, by its number, and that receipt.
+    /// The first of its workers with a receipt that does not stand, by its number, and the first such receipt.
     fn disagreement(&self, workers: &Vec<Worker<L>>) -> Option<(u8, usize)>
         ensures { MatchOption result (AllStand self.now.history workers.now.items)
             (λ found. Disagrees self.now.history workers.now.items found.0 found.1) }
@@ -127,7 +127,7 @@ fn gather<L: Ledger>(workers: Vec<Worker<L>>) -> Share<L>
     all
 }
 
-/// The first worker with a receipt that does not stand, by its number, and that receipt.
+/// The first worker with a receipt that does not stand, by its number, and the first such receipt.
 fn disagreement<L: Ledger>(
     history: &[HistoryEntry],
     workers: &Vec<Worker<L>>,
@@ -148,7 +148,7 @@ impl<L: Ledger> Worker<L> {
     /// The first of its receipts that does not stand in the history, or not above the one before it.
     fn first_bad(&self, history: &[HistoryEntry]) -> Option<usize>
         ensures { MatchOption result (Stands history.now self.now)
-            (λ k. (k < length self.now.receipts) × ¬ Agrees history.now self.now.receipts k) }
+            (IsFirstBad history.now self.now.receipts) }
     {
         bad_in(history, self.receipts.as_slice())
     }
@@ -158,7 +158,7 @@ impl<L: Ledger> Worker<L> {
 fn bad_in(history: &[HistoryEntry], receipts: &[Receipt]) -> Option<usize>
     ensures { MatchOption result
         ((k : ℕ) → k < length receipts.now → Agrees history.now receipts.now k)
-        (λ k. (k < length receipts.now) × ¬ Agrees history.now receipts.now k) }
+        (IsFirstBad history.now receipts.now) }
 {
     for k in 0..receipts.len() {
         if !agrees(history, receipts, k) {

@@ -62,7 +62,8 @@ impl<'a> Carrier<'a> {
         } = self;
         let next = match request {
             Some(request) => Some(request),
-            None => shared.next_request(rt),
+            None if shared.may_wait() => shared.next_request(rt),
+            None => None,
         };
         let was_some = next.is_some();
         let (requests, request) = requests.send_if_any(rt, next);

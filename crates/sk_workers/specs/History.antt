@@ -5,7 +5,8 @@ use Rattle.sk_plain.specs.Leased.{Lends}
 use Rattle.sk_plain.specs.declared.refusal.Refusal.{Refusal}
 use Rattle.sk_plain.specs.declared.refusal.Refusal.TheVariants as refusals
 use Rattle.sk_server.specs.declared.reply.Reply.{Reply}
-use Rattle.sk_client.specs.Desk.{DeskView, opened_at, first_taken, requests_taken}
+use Rattle.sk_server.specs.declared.request.Request.{Request}
+use Rattle.sk_client.specs.Desk.{DeskView, opened_at, first_sent, first_taken, requests_taken}
 use Rattle.sk_kernel.specs.HandIn.{IsAsLent}
 use Rattle.sk_kernel.specs.declared.hand_in.HandIn.{HandIn}
 use Rattle.sk_kernel.specs.declared.hand_in.HandIn.TheVariants as hand_ins
@@ -153,6 +154,15 @@ AnyTold r w l w' = ⊥
 -- a process is lent, where one is asked for, as a desk with a legal history lends it
 abbrev pub IsLentAny : Option (Result (Unit {0}) Refusal) → Option LeaseView → Option ℕ → Type 0
 IsLentAny r place pid = (book : BookView) × IsLegal book.history book.desk × LendsAny r place book.desk pid
+
+-- a lease of the process that was asked for, or none
+abbrev pub IsLeaseOf : Option LeaseView → Option ℕ → Type 0
+IsLeaseOf None pid = Unit {0}
+IsLeaseOf (Some l) pid = pid ≡ Some l.lent.pid
+
+-- a desk with a legal history hands it out: its oldest request that waits, or none where none does
+abbrev pub IsHandedOut : Option Request → Type 0
+IsHandedOut r = (book : BookView) × IsLegal book.history book.desk × (r ≡ first_sent book.desk.waiting)
 
 -- ---- workers
 

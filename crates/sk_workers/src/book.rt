@@ -5,7 +5,7 @@ ghost use Rattle.sk_plain.specs.Leased.{Lends};
 ghost use Rattle.sk_client.specs.Desk.{opened_at, first_sent, first_taken};
 ghost use Rattle.sk_client.specs.Leasing.{desk_lease, DeskHandInPost};
 ghost use Rattle.sk_workers.specs.declared.worker.TheConstants.{WORKERS_LIMIT};
-ghost use Rattle.sk_workers.specs.History.{CallPost, Adds, TurnAdds, TakesInAdds, HandInAdds, TakesAny, LendsAny, AreFresh, IsLegal, receipt, without_reply};
+ghost use Rattle.sk_workers.specs.History.{CallPost, Adds, TurnAdds, TakesInAdds, HandInAdds, TakesAny, LendsAny, IsLeaseOf, AreFresh, IsLegal, receipt, without_reply};
 ghost use Rattle.sk_workers.specs.Views.{BookView, WorkerView};
 
 use crate::entry::{Answered, DeskCall, HistoryEntry, Receipt};
@@ -167,10 +167,11 @@ impl<L: Ledger> Book<L> {
     /// Lends a process, for a worker, as the desk does. It makes no entry.
     pub fn lease(&mut self, worker: Worker<L>, pid: Pid) -> (Worker<L>, Result<Lease, Refusal>)
         ensures lease { Lends result.1 (desk_lease self.old.desk pid) }
+        ensures own { IfOk result.1 (λ lease. lease.lent.pid ≡ pid) }
         ensures same { (self.new ≡ self.old) × (result.0 ≡ worker) }
         ensures legal { IsLegal self.old.history self.old.desk }
     {
-        (worker, self.desk.lease(pid))
+        (worker, lend(&self.desk, pid))
     }
 
     /// Takes a lease in, for a worker, as the desk does. Where memory runs out, first of all for
@@ -247,10 +248,11 @@ impl<L: Ledger> Book<L> {
     fn lend_any(&self, pid: Option<Pid>, lease: &mut Option<Lease>) -> Option<Result<(), Refusal>>
         requires none { lease.old ≡ None }
         ensures lent { LendsAny result lease.new self.now.desk pid }
+        ensures own { IsLeaseOf lease.new pid }
         ensures legal { IsLegal self.now.history self.now.desk }
     {
         let desk = &self.desk;
-        match desk.lease(pid?) {
+        match lend(desk, pid?) {
             Ok(lent) => {
                 put(lease, lent);
                 Some(Ok(()))
@@ -272,6 +274,7 @@ impl<L: Ledger> Book<L> {
             × TakesAny result.1.handed self.old worker lease.old b v
             × TurnAdds result.1.answer b v pid self.new result.0 }
         ensures lent { LendsAny result.1.lent lease.new self.new.desk next }
+        ensures own { IsLeaseOf lease.new next }
         ensures legal { IsLegal self.new.history self.new.desk }
     {
         let (worker, handed) = self.take_any(worker, lease);
@@ -290,6 +293,7 @@ impl<L: Ledger> Book<L> {
         ensures request { result ≡ first_sent self.old.desk.waiting }
         ensures taken { self.new ≡ record self.old
             { desk = first_taken self.old.desk self.old.desk.waiting } }
+        ensures legal { IsLegal self.old.history self.old.desk }
     {
         self.desk.take_request()
     }
@@ -439,6 +443,20 @@ fn is_short(answer: &Result<(), HandIn>) -> bool
     ensures { IsTrue result ↔ (answer.now ≡ Err HandIn.Memory) }
 {
     matches!(answer, Err(HandIn::Memory))
+}
+
+/// The desk's lease of a process. No clause of the kernel says that a process stands at its own number, so that it is looked at here: one
+/// that does not, of which no kernel has any, is not lent.
+fn lend(desk: &Desk, pid: Pid) -> Result<Lease, Refusal>
+    ensures lease { Lends result (desk_lease desk.now pid) }
+    ensures own { IfOk result (λ lease. lease.lent.pid ≡ pid) }
+{
+    let lease = desk.lease(pid)?;
+    if lease.lent().pid == pid {
+        return Ok(lease);
+    }
+    lease.give_up();
+    Err(Refusal::Memory)
 }
 
 /// Gives up the lease in its place, if there is one.

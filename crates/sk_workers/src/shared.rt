@@ -7,7 +7,7 @@ ghost use Rattle.sk_client.specs.Leasing.{desk_lease};
 ghost use Rattle.sk_workers.specs.declared.entry.HistoryEntry.{HistoryEntry};
 ghost use Rattle.sk_workers.specs.declared.worker.TheConstants.{WORKERS_LIMIT};
 ghost use Rattle.sk_workers.specs.Views.{BookView, WorkerView};
-ghost use Rattle.sk_workers.specs.History.{AreFresh, IsLegal, Told, TurnTold, HandInTold, AnyTold, IsLentAny, without_reply, without_lease};
+ghost use Rattle.sk_workers.specs.History.{AreFresh, IsLegal, Told, TurnTold, HandInTold, AnyTold, IsLentAny, IsLeaseOf, IsHandedOut, without_reply, without_lease};
 ghost use Rattle.sk_workers.specs.Closing.{AreDistinct, IsClosed, Refuses, begins_turn};
 
 use crate::book::{Book, Leased};
@@ -55,7 +55,7 @@ pub struct Shared<L: Ledger> {
     book: Mutex<Book<L>>,
     opening: Opening,
     first: u64,
-    /// Whether a request may wait. It is set after a turn that made one, and cleared before one is looked for.
+    /// Whether a request may wait: set by a turn that made one, and cleared where none is found, while the lock is held.
     may_wait: AtomicBool,
 }
 
@@ -114,7 +114,8 @@ impl<L: Ledger> Shared<L> {
     {
         let (number, turn, worker) = worker.begin_turn();
         gate.before(number, turn);
-        let (worker, answer) = self.hold(rt).turn(worker, pid);
+        let mut book = self.hold(rt);
+        let (worker, answer) = book.turn(worker, pid);
         self.note(&answer);
         (worker, answer)
     }
@@ -133,10 +134,12 @@ impl<L: Ledger> Shared<L> {
         ensures calls { (v : WorkerView) × AnyTold result.1.handed (begins_turn worker) lease.old v
             × TurnTold result.1.answer v pid result.0 }
         ensures lent { IsLentAny result.1.lent lease.new next }
+        ensures own { IsLeaseOf lease.new next }
     {
         let (number, turn, worker) = worker.begin_turn();
         gate.before(number, turn);
-        let (worker, leased) = self.hold(rt).turn_with_leases(worker, lease, pid, next);
+        let mut book = self.hold(rt);
+        let (worker, leased) = book.turn_with_leases(worker, lease, pid, next);
         self.note(&leased.answer);
         (worker, leased)
     }
@@ -152,7 +155,7 @@ impl<L: Ledger> Shared<L> {
         self.book.lock(rt)
     }
 
-    /// Notes that a request may wait, after a turn that made one.
+    /// Notes that a request may wait, after a turn that made one and before the lock is free.
     fn note(&self, answer: &Result<Turn, Refusal>) {
         if matches!(answer, Ok(Turn::Guessed(_) | Turn::Asked(_))) {
             self.may_wait.store(true, Ordering::SeqCst);
@@ -183,6 +186,7 @@ impl<L: Ledger> Shared<L> {
     ) -> (Worker<L>, Result<Lease, Refusal>)
         ensures lease { (book : BookView) × IsLegal book.history book.desk
             × Lends result.1 (desk_lease book.desk pid) }
+        ensures own { IfOk result.1 (λ lease. lease.lent.pid ≡ pid) }
         ensures same { result.0 ≡ worker }
     {
         self.hold(rt).lease(worker, pid)
@@ -202,21 +206,19 @@ impl<L: Ledger> Shared<L> {
         self.hold(rt).hand_in(worker, lease)
     }
 
-    /// Whether a request may wait. It does not say that one does.
+    /// Whether a request may wait, without the lock. It does not say that one does; where none may, none waited.
     pub fn may_wait(&self) -> bool {
         self.may_wait.load(Ordering::SeqCst)
     }
 
-    /// Takes the desk's oldest request that waits; `None` where none does. This takes no memory, and the lock only
-    /// where one may wait.
-    pub fn next_request<R: Wait>(&self, rt: &R) -> Option<Request> {
-        if !self.may_wait() {
-            return None;
-        }
-        self.may_wait.store(false, Ordering::SeqCst);
-        let request = self.hold(rt).next_request();
-        if request.is_some() {
-            self.may_wait.store(true, Ordering::SeqCst);
+    /// Takes the desk's oldest request that waits; `None` where none does. This takes no memory.
+    pub fn next_request<R: Wait>(&self, rt: &R) -> Option<Request>
+        ensures { IsHandedOut result }
+    {
+        let mut book = self.hold(rt);
+        let request = book.next_request();
+        if request.is_none() {
+            self.may_wait.store(false, Ordering::SeqCst);
         }
         request
     }

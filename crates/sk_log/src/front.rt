@@ -53,7 +53,8 @@ pub fn first_number(bytes: &[u8], segment: u64) -> Option<u64>
     ensures some { IfSome result (λ number. SaysNumber segment bytes.now number) }
     ensures none { result ≡ None → (number : ℕ) → Ends segment number bytes.now }
     ensures written { (number synced : ℕ) (payloads : List (List ℕ))
-        → Crashed segment number payloads synced bytes.now → IfSome result (λ first. first ≡ number) }
+        → Crashed segment number payloads synced bytes.now
+        → IfSome result (λ first. first ≡ number) }
     ensures synced { (number synced : ℕ) (payloads : List (List ℕ))
         → Crashed segment number payloads synced bytes.now → 0 < synced → result ≡ Some number }
 {

@@ -75,8 +75,15 @@ impl Model for Recovery {
 
     ghost Value = { Reading };
 
-    ghost view = { λ r. record
-        { segment = r.segment; number = r.number; place = r.place; fed = r.fed; used = r.used; unread = r.unread; front = r.front } };
+    ghost view = { λ r. record {
+      segment = r.segment;
+      number = r.number;
+      place = r.place;
+      fed = r.fed;
+      used = r.used;
+      unread = r.unread;
+      front = r.front;
+    } };
 
     ghost invariant = { λ r. IsReading r.segment r.number r.place r.fed r.unread r.front };
 }
@@ -175,6 +182,14 @@ impl Recovery {
         Ok(())
     }
 
+    /// The number of the next frame. Where it is that from which the next segment goes on, no frame
+    /// from here on counts.
+    pub fn number(&self) -> u64
+        ensures { result ≡ self.now.number }
+    {
+        self.number
+    }
+
     /// The payload of the next frame, where all of it came.
     pub fn payload(&self) -> Option<&[u8]>
         ensures some { IfSome result (λ payload. IsNext self.now payload.now) }
@@ -203,13 +218,15 @@ impl Recovery {
         }
     }
 
-    /// Where the frames end, and what follows, where so many bytes may have been in flight. All bytes came, and no frame waits.
+    /// Where the frames end, and what follows, where so many bytes may have been in flight. All bytes
+    /// came, and no frame waits.
     pub fn end(&self, in_flight: u64) -> End
         ensures log { (segment first : ℕ) (payloads : List (List ℕ)) (bytes : List ℕ)
             → HasRead segment first payloads bytes self.now
             → Ends self.now.segment self.now.number self.now.unread
             → EndsAt segment first payloads bytes in_flight result }
-        ensures crash { (segment first synced : ℕ) (payloads written : List (List ℕ)) (bytes : List ℕ)
+        ensures crash { (segment first synced : ℕ) (payloads written : List (List ℕ))
+            (bytes : List ℕ)
             → HasRead segment first payloads bytes self.now
             → Ends self.now.segment self.now.number self.now.unread
             → Crashed segment first written synced bytes → ReadsPrefix written synced payloads }

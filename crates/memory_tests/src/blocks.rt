@@ -1,5 +1,5 @@
 //! A file of 64 blocks that is cut and written, and put back.
-ghost use Rattle.std.specs.Prelude.{◌≡◌, ◌*◌, IfOk};
+ghost use Rattle.std.specs.Prelude.{◌≡◌, ◌*◌, IfOk, OnErr};
 ghost use Rattle.sk_changes.specs.Changes.{CanUndo, value_undone};
 
 use crate::sights::begins;
@@ -15,17 +15,18 @@ const BLOCKS: u8 = 64;
 /// The length of a block, in bytes.
 const BLOCK: u32 = 512;
 
-fn empty_file(alloc: Global) -> Result<Value, Finding> {
+fn empty_file(alloc: Global) -> Result<Value, AllocError> {
     match Value::empty(alloc, Kind::File) {
         Ok(value) => Ok(value),
-        Err(AllocError) => Ok(Value::empty(alloc, Kind::File)?),
+        Err(AllocError) => Value::empty(alloc, Kind::File),
     }
 }
 
 /// Makes a change that fits, and makes it again where memory was wanted and the size is as it was.
 fn changes(alloc: Global, value: &mut Value, change: &Change) -> Result<Undo, Finding>
-    ensures { IfOk result
+    ensures ok { IfOk result
         (λ undo. CanUndo value.new undo × (value_undone value.new undo ≡ value.old)) }
+    ensures err { OnErr result (value.new ≡ value.old) }
 {
     let size = value.size();
     match value.apply(alloc, *change) {
@@ -43,21 +44,21 @@ fn changes(alloc: Global, value: &mut Value, change: &Change) -> Result<Undo, Fi
 }
 
 fn written(alloc: Global, value: &mut Value, offset: u32, bytes: &[u8]) -> Result<Undo, Finding>
-    ensures { IfOk result
+    ensures ok { IfOk result
         (λ undo. CanUndo value.new undo × (value_undone value.new undo ≡ value.old)) }
+    ensures err { OnErr result (value.new ≡ value.old) }
 {
     let bytes = Text::new(bytes).ok_or(Finding::Changed)?;
     changes(alloc, value, &Change::WriteAt { offset, bytes })
 }
 
-/// A file whose block `k`, from 1 on, has 512 times the byte `k`.
-fn filled(alloc: Global) -> Result<Value, Finding> {
-    let mut value = empty_file(alloc)?;
+/// Fills the block `k` of a file, from 1 on, with 512 times the byte `k`.
+fn fill(alloc: Global, value: &mut Value) -> Result<(), Finding> {
     for place in 0..BLOCKS {
         let block = [place + 1; BLOCK as usize];
-        let _ = written(alloc, &mut value, u32::from(place) * BLOCK, &block)?;
+        let _ = written(alloc, value, u32::from(place) * BLOCK, &block)?;
     }
-    Ok(value)
+    Ok(())
 }
 
 /// Fine where the file is as it was filled.
@@ -75,6 +76,19 @@ fn is_filled(value: &Value) -> Result<(), Finding> {
     }
 }
 
+/// Tells the size of a file.
+fn tells<W: Write>(what: &str, value: &Value, out: &mut W) -> Result<(), Finding> {
+    let size = value.size().unwrap_or(1);
+    writeln!(out, "{what}, {size} bytes")?;
+    Ok(())
+}
+
+/// The same, and that a call begins.
+fn tells_before<W: Write>(what: &str, value: &Value, out: &mut W) -> Result<(), Finding> {
+    tells(what, value, out)?;
+    begins(out)
+}
+
 /// The file is cut to nothing, and that is taken back.
 fn cut_and_restored<W: Write>(
     alloc: Global,
@@ -82,11 +96,32 @@ fn cut_and_restored<W: Write>(
     out: &mut W,
 ) -> Result<(), Finding> {
     let undo = changes(alloc, value, &Change::CutTo(0))?;
-    writeln!(out, "1 cut, {} bytes", value.size().unwrap_or(1))?;
-    begins(out)?;
+    let told = tells_before("1 cut", value, out);
     value.undo(undo);
-    writeln!(out, "2 restored, {} bytes", value.size().unwrap_or(0))?;
+    told?;
+    tells("2 restored", value, out)?;
     is_filled(value)
+}
+
+/// Fine where a file has only zeros from the cut on to where it was written.
+fn is_cut(value: &Value) -> Result<(), Finding> {
+    if value.bytes_at(700, 300) == Text::new(&[0; 300]) {
+        Ok(())
+    } else {
+        Err(Finding::Changed)
+    }
+}
+
+/// A file that was cut is written behind the cut, and that is taken back.
+fn written_behind<W: Write>(alloc: Global, value: &mut Value, out: &mut W) -> Result<(), Finding>
+    ensures { value.new ≡ value.old }
+{
+    let write = written(alloc, value, 1_000, b"q")?;
+    let cut = is_cut(value);
+    let told = tells_before("3 written", value, out);
+    value.undo(write);
+    cut?;
+    told
 }
 
 /// The file is cut and written behind the cut, and both are taken back.
@@ -96,22 +131,23 @@ fn written_and_restored<W: Write>(
     out: &mut W,
 ) -> Result<(), Finding> {
     let cut = changes(alloc, value, &Change::CutTo(700))?;
-    let write = written(alloc, value, 1_000, b"q")?;
-    writeln!(out, "3 written, {} bytes", value.size().unwrap_or(0))?;
-    if value.bytes_at(700, 300) != Text::new(&[0; 300]) {
-        return Err(Finding::Changed);
-    }
-    begins(out)?;
-    value.undo(write);
+    let told = written_behind(alloc, value, out);
     value.undo(cut);
-    writeln!(out, "4 restored, {} bytes", value.size().unwrap_or(0))?;
+    told?;
+    tells("4 restored", value, out)?;
     is_filled(value)
+}
+
+/// Cuts and writes of a file, each taken back.
+fn plays_filled<W: Write>(alloc: Global, value: &mut Value, out: &mut W) -> Result<(), Finding> {
+    fill(alloc, value)?;
+    is_filled(value)?;
+    cut_and_restored(alloc, value, out)?;
+    written_and_restored(alloc, value, out)
 }
 
 /// Cuts and writes of a file of 64 blocks, each taken back.
 pub fn plays_blocks<W: Write>(alloc: Global, out: &mut W) -> Result<(), Finding> {
-    let mut value = filled(alloc)?;
-    is_filled(&value)?;
-    cut_and_restored(alloc, &mut value, out)?;
-    written_and_restored(alloc, &mut value, out)
+    let mut value = empty_file(alloc)?;
+    plays_filled(alloc, &mut value, out)
 }

@@ -1,5 +1,5 @@
 //! Steps on a kernel.
-use crate::sights::{Sight, begins, report};
+use crate::sights::{Sight, begins};
 use crate::texts::tells;
 use sk_play::{CallAnswer, Session, write_answer};
 use sk_scenario::{Call, Declarations};
@@ -7,14 +7,27 @@ use std::alloc::{AllocError, Global};
 use std::io::Write;
 use tests_support::finding::Finding;
 
-fn starts(alloc: Global, declarations: &Declarations) -> Result<Session, Finding> {
+fn starts(alloc: Global, declarations: &Declarations) -> Result<Session, AllocError> {
     match Session::new(alloc, declarations) {
         Ok(session) => Ok(session),
-        Err(AllocError) => Ok(Session::new(alloc, declarations)?),
+        Err(AllocError) => Session::new(alloc, declarations),
     }
 }
 
 /// Makes a call, and makes it again where memory was wanted and nothing has changed.
+fn tries(
+    alloc: Global,
+    session: &mut Session,
+    call: &Call,
+    before: &Sight,
+) -> Result<CallAnswer, Finding> {
+    if let Ok(answer) = session.execute(call) {
+        return Ok(answer);
+    }
+    before.stands(alloc, session.kernel())?;
+    Ok(session.execute(call)?)
+}
+
 fn calls<W: Write>(
     alloc: Global,
     session: &mut Session,
@@ -23,19 +36,11 @@ fn calls<W: Write>(
 ) -> Result<CallAnswer, Finding> {
     let before = Sight::of(alloc, session.kernel())?;
     begins(out)?;
-    match session.execute(call) {
-        Ok(answer) => Ok(answer),
-        Err(AllocError) => {
-            Sight::of(alloc, session.kernel())?.same(&before)?;
-            Ok(session.execute(call)?)
-        }
-    }
+    tries(alloc, session, call, &before)
 }
 
 fn calls_all<W: Write>(
     alloc: Global,
-    text: &[u8],
-    declarations: &Declarations,
     session: &mut Session,
     steps: &[Call],
     out: &mut W,
@@ -44,16 +49,22 @@ fn calls_all<W: Write>(
         let answer = calls(alloc, session, call, out)?;
         write_answer(place + 1, &answer, out)?;
     }
-    let kernel = session.kernel();
-    let report = report(alloc, kernel)?;
-    tells(
-        alloc,
-        text,
-        declarations.boot(),
-        kernel.trace(),
-        &report,
-        out,
-    )
+    let sight = Sight::of(alloc, session.kernel())?;
+    sight.shows(out)
+}
+
+/// Makes the calls, and prints what comes of them.
+fn plays_all<W: Write>(
+    alloc: Global,
+    text: &[u8],
+    declarations: &Declarations,
+    session: &mut Session,
+    steps: &[Call],
+    out: &mut W,
+) -> Result<(), Finding> {
+    calls_all(alloc, session, steps, out)?;
+    let trace = session.kernel().trace();
+    tells(alloc, text, declarations.boot(), trace, out)
 }
 
 /// Plays steps, and prints what comes of them.
@@ -65,7 +76,7 @@ pub fn plays_steps<W: Write>(
     out: &mut W,
 ) -> Result<(), Finding> {
     let mut session = starts(alloc, declarations)?;
-    let played = calls_all(alloc, text, declarations, &mut session, steps, out);
+    let played = plays_all(alloc, text, declarations, &mut session, steps, out);
     session.end();
     played
 }

@@ -2,7 +2,7 @@
 ghost use Rattle.std.specs.Prelude.{◌≡◌, IfOk};
 ghost use Rattle.sk_play.specs.Plays.{declared_kernel};
 
-use crate::sights::{Sight, printed, report, shows};
+use crate::sights::Sight;
 use sk_client::Desk;
 use sk_holder::Holder;
 use sk_ids::Pid;
@@ -89,13 +89,17 @@ fn put(out: &mut Option<Lease>, lease: Lease) {
     }
 }
 
-/// Leases a process, and runs its private instructions.
-fn lends<L: Lender>(lender: &L, pid: Pid, out: &mut Option<Lease>) -> Result<(), Finding> {
-    let lent = match lender.lease(pid) {
+/// Leases a process, once more where memory was wanted.
+fn lease<L: Lender>(lender: &L, pid: Pid) -> Result<Lease, Refusal> {
+    match lender.lease(pid) {
         Err(Refusal::Memory) => lender.lease(pid),
         told => told,
-    };
-    match lent {
+    }
+}
+
+/// Leases a process, and runs its private instructions.
+fn lends<L: Lender>(lender: &L, pid: Pid, out: &mut Option<Lease>) -> Result<(), Finding> {
+    match lease(lender, pid) {
         Ok(mut lease) => {
             lease.run(AHEAD);
             put(out, lease);
@@ -106,16 +110,27 @@ fn lends<L: Lender>(lender: &L, pid: Pid, out: &mut Option<Lease>) -> Result<(),
     }
 }
 
+/// Makes a call again, for which memory was wanted, where nothing has changed.
+fn calls_again<L: Lender>(
+    alloc: Global,
+    lender: &mut L,
+    call: &Call,
+    before: &Sight,
+) -> Result<(), Finding> {
+    before.stands(alloc, lender.kernel())?;
+    match lender.call(call) {
+        Err(Refusal::Memory) => Err(Finding::Memory(AllocError)),
+        _ => Ok(()),
+    }
+}
+
 /// Makes a call, once more where memory was wanted and nothing has changed.
 fn calls<L: Lender>(alloc: Global, lender: &mut L, call: &Call) -> Result<(), Finding> {
     let before = Sight::of(alloc, lender.kernel())?;
-    if let Err(Refusal::Memory) = lender.call(call) {
-        Sight::of(alloc, lender.kernel())?.same(&before)?;
-        if let Err(Refusal::Memory) = lender.call(call) {
-            return Err(Finding::Memory(AllocError));
-        }
+    match lender.call(call) {
+        Err(Refusal::Memory) => calls_again(alloc, lender, call, &before),
+        _ => Ok(()),
     }
-    Ok(())
 }
 
 /// Hands in the lease that is out. It stays out where memory was wanted, and is given up where it
@@ -137,6 +152,20 @@ fn tries<L: Lender>(lender: &mut L, out: &mut Option<Lease>) -> Result<(), HandI
     }
 }
 
+/// Hands in the lease that is out again, for which memory was wanted, where nothing has changed.
+fn hands_in_again<L: Lender>(
+    alloc: Global,
+    lender: &mut L,
+    out: &mut Option<Lease>,
+    before: &Sight,
+) -> Result<Result<(), HandIn>, Finding> {
+    before.stands(alloc, lender.kernel())?;
+    match tries(lender, out) {
+        Err(HandIn::Memory) => Err(Finding::Memory(AllocError)),
+        told => Ok(told),
+    }
+}
+
 /// Hands in the lease that is out, once more where memory was wanted and nothing has changed.
 fn hands_in<L: Lender>(
     alloc: Global,
@@ -144,15 +173,30 @@ fn hands_in<L: Lender>(
     out: &mut Option<Lease>,
 ) -> Result<Result<(), HandIn>, Finding> {
     let before = Sight::of(alloc, lender.kernel())?;
-    let told = tries(lender, out);
-    if told != Err(HandIn::Memory) {
-        return Ok(told);
-    }
-    Sight::of(alloc, lender.kernel())?.same(&before)?;
     match tries(lender, out) {
-        Err(HandIn::Memory) => Err(Finding::Memory(AllocError)),
+        Err(HandIn::Memory) => hands_in_again(alloc, lender, out, &before),
         told => Ok(told),
     }
+}
+
+/// Makes a call with a process leased before it, which is handed in after it.
+fn lends_once<L: Lender, W: Write>(
+    alloc: Global,
+    lender: &mut L,
+    pid: Pid,
+    call: &Call,
+    out: &mut Option<Lease>,
+    to: &mut W,
+) -> Result<(), Finding> {
+    lends(lender, pid, out)?;
+    let count = match out {
+        Some(lease) => lease.count(),
+        None => 0,
+    };
+    calls(alloc, lender, call)?;
+    let answer = hands_in(alloc, lender, out)?;
+    writeln!(to, "leased {count}, {answer:?}")?;
+    Ok(())
 }
 
 /// Makes the calls. Before each of them a process is leased, one after the other, and handed in
@@ -166,17 +210,10 @@ fn lends_all<L: Lender, W: Write>(
     to: &mut W,
 ) -> Result<(), Finding> {
     for (pid, call) in pids.iter().cycle().zip(steps.iter()) {
-        lends(lender, *pid, out)?;
-        let count = match out {
-            Some(lease) => lease.count(),
-            None => 0,
-        };
-        calls(alloc, lender, call)?;
-        let answer = hands_in(alloc, lender, out)?;
-        writeln!(to, "leased {count}, {answer:?}")?;
+        lends_once(alloc, lender, *pid, call, out, to)?;
     }
-    let trace = printed(alloc, lender.kernel().trace())?;
-    shows(&report(alloc, lender.kernel())?, &trace, to)
+    let sight = Sight::of(alloc, lender.kernel())?;
+    sight.shows(to)
 }
 
 /// The same, and gives up the lease that is out at the end.
@@ -202,12 +239,12 @@ fn try_kernel(alloc: Global, declarations: &Declarations) -> Result<Kernel, Allo
     Kernel::boot(alloc, declarations.number(), boot, declarations.limit())
 }
 
-fn kernel_of(alloc: Global, declarations: &Declarations) -> Result<Kernel, Finding>
+fn kernel_of(alloc: Global, declarations: &Declarations) -> Result<Kernel, AllocError>
     ensures { IfOk result (λ kernel. kernel ≡ declared_kernel declarations.now) }
 {
     match try_kernel(alloc, declarations) {
         Ok(kernel) => Ok(kernel),
-        Err(AllocError) => Ok(try_kernel(alloc, declarations)?),
+        Err(AllocError) => try_kernel(alloc, declarations),
     }
 }
 
@@ -221,11 +258,39 @@ fn try_pids(alloc: Global, declarations: &Declarations) -> Result<Vec<Pid>, Allo
     Ok(pids)
 }
 
-fn pids_of(alloc: Global, declarations: &Declarations) -> Result<Vec<Pid>, Finding> {
+fn pids_of(alloc: Global, declarations: &Declarations) -> Result<Vec<Pid>, AllocError> {
     match try_pids(alloc, declarations) {
         Ok(pids) => Ok(pids),
-        Err(AllocError) => Ok(try_pids(alloc, declarations)?),
+        Err(AllocError) => try_pids(alloc, declarations),
     }
+}
+
+/// Plays steps with leases between them on a kernel.
+fn plays_on_a_kernel<W: Write>(
+    alloc: Global,
+    declarations: &Declarations,
+    pids: &[Pid],
+    steps: &[Call],
+    out: &mut W,
+) -> Result<(), Finding> {
+    let mut holder = Holder::new(alloc, kernel_of(alloc, declarations)?);
+    let played = lends_between(alloc, &mut holder, pids, steps, out);
+    holder.abandon();
+    played
+}
+
+/// Plays the turns of their processes with leases between them on a desk.
+fn plays_on_a_desk<W: Write>(
+    alloc: Global,
+    declarations: &Declarations,
+    pids: &[Pid],
+    steps: &[Call],
+    out: &mut W,
+) -> Result<(), Finding> {
+    let mut desk = Desk::new(alloc, kernel_of(alloc, declarations)?);
+    let played = lends_between(alloc, &mut desk, pids, steps, out);
+    desk.abandon();
+    played
 }
 
 /// Plays steps with leases between them on a kernel, and the turns of their processes on a desk.
@@ -236,12 +301,6 @@ pub fn plays_leases<W: Write>(
     out: &mut W,
 ) -> Result<(), Finding> {
     let pids = pids_of(alloc, declarations)?;
-    let mut holder = Holder::new(alloc, kernel_of(alloc, declarations)?);
-    let played = lends_between(alloc, &mut holder, &pids, steps, out);
-    holder.abandon();
-    played?;
-    let mut desk = Desk::new(alloc, kernel_of(alloc, declarations)?);
-    let played = lends_between(alloc, &mut desk, &pids, steps, out);
-    desk.abandon();
-    played
+    plays_on_a_kernel(alloc, declarations, &pids, steps, out)?;
+    plays_on_a_desk(alloc, declarations, &pids, steps, out)
 }

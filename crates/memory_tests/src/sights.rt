@@ -10,81 +10,106 @@ use tests_support::finding::Finding;
 /// How much is reserved for what is seen, in bytes.
 const SIGHT: usize = 65_536;
 
-/// A trace's text.
-pub fn printed(alloc: Global, trace: &Trace) -> Result<Vec<u8>, Finding> {
-    match trace.print(alloc) {
-        Ok(text) => Ok(text),
-        Err(AllocError) => Ok(trace.print(alloc)?),
+/// What has a report and a trace.
+pub trait Seen {
+    /// Writes the report.
+    fn report(&self, alloc: Global, text: &mut Vec<u8>) -> Result<(), Stop>;
+
+    fn trace(&self) -> &Trace;
+
+    /// The number of the request whose reply is next, where there are requests.
+    fn expected(&self) -> u64;
+}
+
+impl Seen for Kernel {
+    fn report(&self, alloc: Global, text: &mut Vec<u8>) -> Result<(), Stop> {
+        write_report(alloc, self, text)
+    }
+
+    fn trace(&self) -> &Trace {
+        Kernel::trace(self)
+    }
+
+    fn expected(&self) -> u64 {
+        0
     }
 }
 
-fn try_report(alloc: Global, kernel: &Kernel) -> Result<Vec<u8>, Stop> {
-    let mut text = Vec::with_capacity(alloc, SIGHT)?;
-    write_report(alloc, kernel, &mut text)?;
-    Ok(text)
-}
+impl Seen for World {
+    fn report(&self, alloc: Global, text: &mut Vec<u8>) -> Result<(), Stop> {
+        write_world_report(alloc, self, text)
+    }
 
-/// The report of a kernel.
-pub fn report(alloc: Global, kernel: &Kernel) -> Result<Vec<u8>, Finding> {
-    match try_report(alloc, kernel) {
-        Ok(text) => Ok(text),
-        Err(_stop) => try_report(alloc, kernel).map_err(|_stop| Finding::Memory(AllocError)),
+    fn trace(&self) -> &Trace {
+        self.desk().kernel().trace()
+    }
+
+    fn expected(&self) -> u64 {
+        self.desk().expected()
     }
 }
 
-fn try_world_report(alloc: Global, world: &World) -> Result<Vec<u8>, Stop> {
-    let mut text = Vec::with_capacity(alloc, SIGHT)?;
-    write_world_report(alloc, world, &mut text)?;
-    Ok(text)
-}
-
-/// The report of a world.
-pub fn world_report(alloc: Global, world: &World) -> Result<Vec<u8>, Finding> {
-    match try_world_report(alloc, world) {
-        Ok(text) => Ok(text),
-        Err(_stop) => try_world_report(alloc, world).map_err(|_stop| Finding::Memory(AllocError)),
-    }
-}
-
-/// What is seen of a kernel: its report and its trace.
+/// What is seen: the report, the line `trace` and the trace, and the request whose reply is next.
 #[derive(Drop)]
 pub struct Sight {
-    report: Vec<u8>,
-    trace: Vec<u8>,
-    /// Of a world: the number of the request whose reply is next.
+    text: Vec<u8>,
     expected: u64,
 }
 
-impl Sight {
-    /// Of a kernel.
-    pub fn of(alloc: Global, kernel: &Kernel) -> Result<Sight, Finding> {
-        Ok(Sight {
-            report: report(alloc, kernel)?,
-            trace: printed(alloc, kernel.trace())?,
-            expected: 0,
-        })
-    }
+/// Writes the line `trace`, and a trace.
+fn write_trace(alloc: Global, trace: &Trace, text: &mut Vec<u8>) -> Result<(), Stop> {
+    let printed = trace.print(alloc)?;
+    text.extend_from_slice(b"trace\n")?;
+    text.extend_from_slice(&printed)?;
+    Ok(())
+}
 
-    /// Of a world.
-    pub fn of_world(alloc: Global, world: &World) -> Result<Sight, Finding> {
-        Ok(Sight {
-            report: world_report(alloc, world)?,
-            trace: printed(alloc, world.desk().kernel().trace())?,
-            expected: world.desk().expected(),
-        })
+fn write_seen<S: Seen>(alloc: Global, seen: &S, text: &mut Vec<u8>) -> Result<(), Stop> {
+    seen.report(alloc, text)?;
+    write_trace(alloc, seen.trace(), text)
+}
+
+fn try_text<S: Seen>(alloc: Global, seen: &S) -> Result<Vec<u8>, Stop> {
+    let mut text = Vec::with_capacity(alloc, SIGHT)?;
+    write_seen(alloc, seen, &mut text)?;
+    Ok(text)
+}
+
+fn text_of<S: Seen>(alloc: Global, seen: &S) -> Result<Vec<u8>, Stop> {
+    match try_text(alloc, seen) {
+        Ok(text) => Ok(text),
+        Err(_) => try_text(alloc, seen),
+    }
+}
+
+impl Sight {
+    /// What is seen now.
+    pub fn of<S: Seen>(alloc: Global, seen: &S) -> Result<Sight, Finding> {
+        let expected = seen.expected();
+        match text_of(alloc, seen) {
+            Ok(text) => Ok(Sight { text, expected }),
+            Err(_) => Err(Finding::Memory(AllocError)),
+        }
     }
 
     /// Fine where the same is seen.
-    pub fn same(&self, other: &Sight) -> Result<(), Finding> {
-        if self.report.as_slice() != other.report.as_slice() {
-            return Err(Finding::Changed);
+    fn same(&self, other: &Sight) -> Result<(), Finding> {
+        if self.text.as_slice() == other.text.as_slice() && self.expected == other.expected {
+            Ok(())
+        } else {
+            Err(Finding::Changed)
         }
-        if self.trace.as_slice() != other.trace.as_slice() {
-            return Err(Finding::Changed);
-        }
-        if self.expected != other.expected {
-            return Err(Finding::Changed);
-        }
+    }
+
+    /// Fine where the same is still seen.
+    pub fn stands<S: Seen>(&self, alloc: Global, seen: &S) -> Result<(), Finding> {
+        let now = Sight::of(alloc, seen)?;
+        self.same(&now)
+    }
+
+    /// Writes it.
+    pub fn shows<W: Write>(&self, out: &mut W) -> Result<(), Finding> {
+        out.write_all(&self.text)?;
         Ok(())
     }
 }
@@ -92,13 +117,5 @@ impl Sight {
 /// Tells by an empty write, which leaves the output as it is, that a call begins.
 pub fn begins<W: Write>(out: &mut W) -> Result<(), Finding> {
     let _ = out.write(b"")?;
-    Ok(())
-}
-
-/// Writes a report, and the trace.
-pub fn shows<W: Write>(report: &[u8], trace: &[u8], out: &mut W) -> Result<(), Finding> {
-    out.write_all(report)?;
-    out.write_all(b"trace\n")?;
-    out.write_all(trace)?;
     Ok(())
 }

@@ -1,19 +1,58 @@
 //! Texts that are read, and what is left of a trace.
-use crate::sights::{printed, shows};
 use sk_plain::{Entry, TraceFault, strike};
 use sk_scenario::Scenario;
 use sk_script::{Boot, Script};
 use sk_trace::Trace;
-use sk_words::FaultKind;
-use std::alloc::Global;
+use sk_words::{Fault, FaultKind};
+use std::alloc::{AllocError, Global};
 use std::io::Write;
 use tests_support::finding::Finding;
+
+/// Fine where a text was not read for want of memory.
+fn wanted(fault: Fault) -> Result<(), Finding> {
+    match fault.kind {
+        FaultKind::Memory => Ok(()),
+        _ => Err(Finding::Scenario(fault)),
+    }
+}
 
 /// The scenario of a text.
 pub fn scenario_of(alloc: Global, text: &[u8]) -> Result<Scenario, Finding> {
     match Scenario::parse(alloc, text) {
-        Err(fault) if fault.kind == FaultKind::Memory => Ok(Scenario::parse(alloc, text)?),
-        read => Ok(read?),
+        Ok(scenario) => return Ok(scenario),
+        Err(fault) => wanted(fault)?,
+    }
+    Ok(Scenario::parse(alloc, text)?)
+}
+
+fn script_of(alloc: Global, text: &[u8]) -> Result<Script, Finding> {
+    match Script::parse(alloc, text) {
+        Ok(script) => return Ok(script),
+        Err(fault) => wanted(fault)?,
+    }
+    Ok(Script::parse(alloc, text)?)
+}
+
+fn trace_of(alloc: Global, text: &[u8]) -> Result<Trace, Finding> {
+    match Trace::parse(alloc, text) {
+        Ok(trace) => return Ok(trace),
+        Err(fault) => wanted(fault)?,
+    }
+    Ok(Trace::parse(alloc, text)?)
+}
+
+fn left_of(alloc: Global, boot: &Boot, trace: &Trace) -> Result<Vec<Entry>, Finding> {
+    match strike(alloc, boot, trace) {
+        Err(TraceFault::Memory) => Ok(strike(alloc, boot, trace)?),
+        struck => Ok(struck?),
+    }
+}
+
+/// A trace's text.
+fn printed(alloc: Global, trace: &Trace) -> Result<Vec<u8>, AllocError> {
+    match trace.print(alloc) {
+        Ok(text) => Ok(text),
+        Err(AllocError) => trace.print(alloc),
     }
 }
 
@@ -26,52 +65,47 @@ fn found(text: &[u8], from: usize, part: &[u8]) -> Option<usize> {
 }
 
 /// The lines of the first script of a scenario.
-fn first_script(text: &[u8]) -> Result<&[u8], Finding> {
-    let heading = found(text, 0, b"script ").ok_or(Finding::Script)?;
-    let start = found(text, heading, b"\n").ok_or(Finding::Script)?;
-    let end = found(text, start, b"\nend\n").ok_or(Finding::Script)?;
-    text.get(start..end).ok_or(Finding::Script)
+fn first_script(text: &[u8]) -> Option<&[u8]> {
+    let heading = found(text, 0, b"script ")?;
+    let start = found(text, heading, b"\n")?;
+    let end = found(text, start, b"\nend\n")?;
+    text.get(start..end)
 }
 
-fn script_of(alloc: Global, text: &[u8]) -> Result<Script, Finding> {
-    match Script::parse(alloc, text) {
-        Err(fault) if fault.kind == FaultKind::Memory => Ok(Script::parse(alloc, text)?),
-        read => Ok(read?),
+/// Fine where a trace that was read has these events and this text.
+fn same_trace(alloc: Global, again: &Trace, trace: &Trace, text: &[u8]) -> Result<(), Finding> {
+    if again.events() == trace.events() && printed(alloc, again)?.as_slice() == text {
+        Ok(())
+    } else {
+        Err(Finding::Trace)
     }
 }
 
-fn trace_of(alloc: Global, text: &[u8]) -> Result<Trace, Finding> {
-    match Trace::parse(alloc, text) {
-        Err(fault) if fault.kind == FaultKind::Memory => Ok(Trace::parse(alloc, text)?),
-        read => Ok(read?),
-    }
+/// Reads the text of a trace: how many entries are left of it.
+fn count_left(alloc: Global, boot: &Boot, trace: &Trace, text: &[u8]) -> Result<usize, Finding> {
+    let again = trace_of(alloc, text)?;
+    same_trace(alloc, &again, trace, text)?;
+    Ok(left_of(alloc, boot, &again)?.len())
 }
 
-fn left_of(alloc: Global, boot: &Boot, trace: &Trace) -> Result<Vec<Entry>, Finding> {
-    match strike(alloc, boot, trace) {
-        Err(TraceFault::Memory) => Ok(strike(alloc, boot, trace)?),
-        struck => Ok(struck?),
-    }
+/// How many instructions the first script of a scenario has.
+fn count_instructions(alloc: Global, text: &[u8]) -> Result<u32, Finding> {
+    let lines = first_script(text).ok_or(Finding::Script)?;
+    Ok(script_of(alloc, lines)?.len())
 }
 
-/// Writes a report and the trace; then reads that trace and the first script of the scenario, and tells how many entries
-/// are left of the one and how many instructions the other has.
+/// Reads a trace's own text and the first script of a scenario, and tells how many entries are left of the one and how many
+/// instructions the other has.
 pub fn tells<W: Write>(
     alloc: Global,
     text: &[u8],
     boot: &Boot,
     trace: &Trace,
-    report: &[u8],
     out: &mut W,
 ) -> Result<(), Finding> {
     let shown = printed(alloc, trace)?;
-    shows(report, &shown, out)?;
-    let again = trace_of(alloc, &shown)?;
-    if again.events() != trace.events() || printed(alloc, &again)? != shown {
-        return Err(Finding::Trace);
-    }
-    let left = left_of(alloc, boot, &again)?.len();
-    let instructions = script_of(alloc, first_script(text)?)?.len();
+    let left = count_left(alloc, boot, trace, &shown)?;
+    let instructions = count_instructions(alloc, text)?;
     writeln!(out, "left {left} instructions {instructions}")?;
     Ok(())
 }

@@ -1,5 +1,5 @@
 //! Events of a world.
-use crate::sights::{Sight, begins, world_report};
+use crate::sights::{Sight, begins};
 use crate::texts::tells;
 use sk_client::{World, WorldEvent};
 use sk_play::{WorldTold, happen, world_of, write_told};
@@ -8,35 +8,40 @@ use std::alloc::{AllocError, Global};
 use std::io::Write;
 use tests_support::finding::Finding;
 
-fn starts(alloc: Global, declarations: &Declarations) -> Result<World, Finding> {
+fn starts(alloc: Global, declarations: &Declarations) -> Result<World, AllocError> {
     match world_of(alloc, declarations) {
         Ok(world) => Ok(world),
-        Err(AllocError) => Ok(world_of(alloc, declarations)?),
+        Err(AllocError) => world_of(alloc, declarations),
     }
 }
 
 /// Lets an event happen, once more where memory was wanted and nothing has changed.
+fn tries(
+    alloc: Global,
+    world: &mut World,
+    event: &WorldEvent,
+    before: &Sight,
+) -> Result<WorldTold, Finding> {
+    if let Ok(told) = happen(world, event) {
+        return Ok(told);
+    }
+    before.stands(alloc, &*world)?;
+    Ok(happen(world, event)?)
+}
+
 fn happens<W: Write>(
     alloc: Global,
     world: &mut World,
     event: &WorldEvent,
     out: &mut W,
 ) -> Result<WorldTold, Finding> {
-    let before = Sight::of_world(alloc, world)?;
+    let before = Sight::of(alloc, &*world)?;
     begins(out)?;
-    match happen(world, event) {
-        Ok(told) => Ok(told),
-        Err(AllocError) => {
-            Sight::of_world(alloc, world)?.same(&before)?;
-            Ok(happen(world, event)?)
-        }
-    }
+    tries(alloc, world, event, &before)
 }
 
 fn happens_all<W: Write>(
     alloc: Global,
-    text: &[u8],
-    declarations: &Declarations,
     world: &mut World,
     events: &[WorldEvent],
     out: &mut W,
@@ -45,9 +50,22 @@ fn happens_all<W: Write>(
         let told = happens(alloc, world, event, out)?;
         write_told(place + 1, &told, out)?;
     }
+    let sight = Sight::of(alloc, &*world)?;
+    sight.shows(out)
+}
+
+/// Lets the events happen, and prints what comes of them.
+fn plays_all<W: Write>(
+    alloc: Global,
+    text: &[u8],
+    declarations: &Declarations,
+    world: &mut World,
+    events: &[WorldEvent],
+    out: &mut W,
+) -> Result<(), Finding> {
+    happens_all(alloc, world, events, out)?;
     let trace = world.desk().kernel().trace();
-    let report = world_report(alloc, world)?;
-    tells(alloc, text, declarations.boot(), trace, &report, out)
+    tells(alloc, text, declarations.boot(), trace, out)
 }
 
 /// Plays the events of a world, and prints what comes of them.
@@ -59,7 +77,7 @@ pub fn plays_world<W: Write>(
     out: &mut W,
 ) -> Result<(), Finding> {
     let mut world = starts(alloc, declarations)?;
-    let played = happens_all(alloc, text, declarations, &mut world, events, out);
+    let played = plays_all(alloc, text, declarations, &mut world, events, out);
     world.abandon();
     played
 }

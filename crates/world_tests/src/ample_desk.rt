@@ -4,9 +4,9 @@ use crate::plays::{Came, Did, Far, Sent, gives, serves, takes, turns};
 use crate::start::{Start, kernel_of, server_of};
 use sk_client::{Desk, World, WorldEvent};
 use sk_plain::Refusal;
-use std::process::Abort;
-use std::test::Fail;
-use tests_support::values::pid;
+use std::alloc::Global;
+use tests_support::plain::pid;
+use tests_support::wrong::{Wrong, holds, passes};
 
 /// Processes with this script, and a copy `/x` like the server's file.
 fn fetching<'a>(scripts: &'a [&'a [u8]], limit: u32) -> Start<'a> {
@@ -30,111 +30,118 @@ fn check(number: u64) -> Sent<'static> {
 }
 
 /// A guess of each of 64 processes, and none of the next one.
-fn all_guess(rt: &impl Abort, desk: &mut Desk, far: &mut Far) -> Result<(), Fail> {
+fn all_guess(desk: &mut Desk, far: &mut Far) -> Result<(), Wrong> {
     for number in 1..=64u16 {
         let guess = u64::from(number);
         let place = usize::from(number);
-        turns(rt, desk, place, number, Did::Guessed(guess))?;
-        takes(rt, desk, far, place, check(guess))?;
+        holds(place, turns(desk, number, Did::Guessed(guess))?)?;
+        holds(place, takes(desk, far, check(guess))?)?;
     }
-    turns(rt, desk, 65, 65, Did::Refused(Refusal::TooMany))
+    holds(65, turns(desk, 65, Did::Refused(Refusal::TooMany))?)
 }
 
-#[test]
-fn sixty_four_guesses(rt: HostRuntime) -> Result<(), Fail> {
+/// The same with a new desk.
+fn all_guess_anew(alloc: Global, start: Start<'_>, far: &mut Far) -> Result<(), Wrong> {
+    let mut desk = Desk::new(alloc, kernel_of(alloc, start)?);
+    let done = all_guess(&mut desk, far);
+    desk.abandon();
+    done
+}
+
+fn guesses_of_all(alloc: Global) -> Result<(), Wrong> {
     let scripts: [&[u8]; 65] = [b"fetch /x\n"; 65];
     let start = fetching(&scripts, 200);
-    let mut far = Far::new(rt.alloc(), start)?;
-    let mut desk = Desk::new(rt.alloc(), kernel_of(rt.alloc(), start)?);
-    let done = all_guess(&rt, &mut desk, &mut far);
-    desk.abandon();
-    done
-}
-
-/// A guess, its commit and a step, so many times.
-fn rounds(rt: &impl Abort, desk: &mut Desk, far: &mut Far, count: usize) -> Result<(), Fail> {
-    for place in 1..=count {
-        let guess = place as u64;
-        turns(rt, desk, place, 1, Did::Guessed(guess))?;
-        serves(rt, desk, far, place, ToldAnswer::Yes)?;
-        gives(rt, desk, far, place, Came::Committed(guess))?;
-        turns(rt, desk, place, 1, Did::Stepped)?;
-    }
-    Ok(())
+    let mut far = Far::new(alloc, start)?;
+    all_guess_anew(alloc, start, &mut far)
 }
 
 #[test]
-fn many_rounds(rt: HostRuntime) -> Result<(), Fail> {
-    let start = fetching(&[b"top:\nfetch /x\njump top\n"], 6_000);
-    let mut far = Far::new(rt.alloc(), start)?;
-    let mut desk = Desk::new(rt.alloc(), kernel_of(rt.alloc(), start)?);
-    let done = rounds(&rt, &mut desk, &mut far, 2_000);
-    desk.abandon();
-    done
+fn sixty_four_guesses(rt: HostRuntime) {
+    passes(&rt, guesses_of_all(rt.alloc()));
 }
 
 /// A desk with a pending request comes back.
-fn stays(rt: &impl Abort, desk: Desk) -> Desk {
+fn stays(desk: Desk) -> Result<Desk, Wrong> {
     match desk.shut() {
-        Ok((_trace, _texts)) => panic!(rt; "shut"),
+        Ok((_trace, _texts)) => Err(Wrong::At(1)),
         Err((back, pending)) => {
-            assert_eq!(rt; pending.0, 1);
-            back
-        }
-    }
-}
-
-/// A desk without one shuts, with a trace of this length.
-fn shuts(rt: &impl Abort, desk: Desk, length: usize) {
-    match desk.shut() {
-        Ok((trace, _texts)) => assert_eq!(rt; trace.events().len(), length),
-        Err((back, pending)) => {
-            back.abandon();
-            panic!(rt; "{pending}");
+            if pending.0 == 1 {
+                Ok(back)
+            } else {
+                back.abandon();
+                Err(Wrong::At(2))
+            }
         }
     }
 }
 
 /// Its request is served and its reply given.
-fn settles(rt: &impl Abort, desk: &mut Desk, far: &mut Far) -> Result<(), Fail> {
-    serves(rt, desk, far, 1, ToldAnswer::Yes)?;
-    gives(rt, desk, far, 2, Came::Committed(1))
+fn settles(desk: &mut Desk, far: &mut Far) -> Result<(), Wrong> {
+    holds(3, serves(desk, far, ToldAnswer::Yes)?)?;
+    holds(4, gives(desk, far, Came::Committed(1)))
+}
+
+/// A desk without one shuts, with a trace of two events.
+fn shuts(desk: Desk) -> Result<(), Wrong> {
+    match desk.shut() {
+        Ok((trace, _texts)) => holds(5, trace.events().len() == 2),
+        Err((back, _pending)) => {
+            back.abandon();
+            Err(Wrong::At(6))
+        }
+    }
+}
+
+/// A desk guesses, stays with its request, and shuts once that is settled.
+fn stays_and_shuts(alloc: Global, start: Start<'_>, far: &mut Far) -> Result<(), Wrong> {
+    let mut desk = Desk::new(alloc, kernel_of(alloc, start)?);
+    let guessed = turns(&mut desk, 1, Did::Guessed(1));
+    let mut desk = stays(desk)?;
+    let settled = settles(&mut desk, far);
+    let shut = shuts(desk);
+    holds(0, guessed == Ok(true)).and(settled).and(shut)
+}
+
+fn shuts_with_pending(alloc: Global) -> Result<(), Wrong> {
+    let start = fetching(&[b"fetch /x\n"], 100);
+    let mut far = Far::new(alloc, start)?;
+    stays_and_shuts(alloc, start, &mut far)
 }
 
 #[test]
-fn shut_with_pending(rt: HostRuntime) -> Result<(), Fail> {
-    let start = fetching(&[b"fetch /x\n"], 100);
-    let mut far = Far::new(rt.alloc(), start)?;
-    let mut desk = Desk::new(rt.alloc(), kernel_of(rt.alloc(), start)?);
-    let guessed = turns(&rt, &mut desk, 0, 1, Did::Guessed(1));
-    let mut desk = stays(&rt, desk);
-    let done = match guessed {
-        Ok(()) => settles(&rt, &mut desk, &mut far),
-        Err(fail) => Err(fail),
-    };
-    shuts(&rt, desk, 2);
-    done
+fn shut_with_pending(rt: HostRuntime) {
+    passes(&rt, shuts_with_pending(rt.alloc()));
 }
 
 /// A guess, its check, its commit and a step, 2,000 times.
-fn runs(rt: &impl Abort, world: &mut World) -> Result<(), Fail> {
+fn runs(world: &mut World) -> Result<(), Wrong> {
     let turn = WorldEvent::Turn(pid(1)?);
     let round = [turn, WorldEvent::Serve, WorldEvent::Reply, turn];
-    for _ in 0..2_000 {
-        assert_eq!(rt; world.run(&round), Ok(()));
+    for place in 0..2_000 {
+        holds(place, world.run(&round) == Ok(()))?;
     }
-    assert_eq!(rt; world.desk().pending(), 0);
-    assert_eq!(rt; world.desk().kernel().trace().events().len(), 6_000);
     Ok(())
 }
 
-#[test]
-fn many_rounds_of_a_world(rt: HostRuntime) -> Result<(), Fail> {
+/// Nothing is left to be decided, and each guess, commit and step is in the trace.
+fn has_run(world: &World) -> Result<(), Wrong> {
+    holds(2_000, world.desk().pending() == 0)?;
+    let events = world.desk().kernel().trace().events();
+    holds(2_001, events.len() == 6_000)
+}
+
+fn runs_many(alloc: Global) -> Result<(), Wrong> {
     let start = fetching(&[b"top:\nfetch /x\njump top\n"], 6_000);
-    let server = server_of(rt.alloc(), start)?;
-    let desk = Desk::new(rt.alloc(), kernel_of(rt.alloc(), start)?);
-    let mut world = World::new(rt.alloc(), desk, server);
-    let done = runs(&rt, &mut world);
+    let server = server_of(alloc, start)?;
+    let desk = Desk::new(alloc, kernel_of(alloc, start)?);
+    let mut world = World::new(alloc, desk, server);
+    let done = runs(&mut world);
+    let has_run = has_run(&world);
     world.abandon();
-    done
+    done.and(has_run)
+}
+
+#[test]
+fn many_rounds_of_a_world(rt: HostRuntime) {
+    passes(&rt, runs_many(rt.alloc()));
 }

@@ -1,11 +1,10 @@
 //! With ample memory no call of a server is refused, however often and past round numbers.
-use crate::asking::{Ground, LOOSE, ServerWish, ToldAnswer, with_file};
+use crate::asking::{Ground, LOOSE, ServerWish, ToldAnswer};
+use crate::start::server_with;
 use crate::turns::{asks, edits};
 use sk_server::Server;
 use std::alloc::Global;
-use std::process::Abort;
-use std::test::Fail;
-use tests_support::values::content;
+use tests_support::wrong::{Wrong, holds, passes};
 
 /// The name of a number below a million.
 fn numbered(number: u64) -> [u8; 12] {
@@ -19,61 +18,72 @@ fn numbered(number: u64) -> [u8; 12] {
 }
 
 /// So many stores of new files by a client, and so many edits of others.
-fn stored(rt: &impl Abort, alloc: Global, count: u64) -> Result<Server, Fail> {
-    let mut server = Server::new(alloc);
+fn stores(alloc: Global, server: &mut Server, count: u64) -> Result<(), Wrong> {
     for number in 0..count {
         let (own, other) = (numbered(number), numbered(count.saturating_add(number)));
         let store = ServerWish::Store(&own, 0, b"s");
-        asks(rt, alloc, &mut server, store, LOOSE, ToldAnswer::Yes)?;
-        edits(rt, &mut server, &other, 0, b"e", Ok(1))?;
+        holds(0, asks(alloc, server, store, LOOSE, ToldAnswer::Yes)?)?;
+        holds(1, edits(server, &other, 0, b"e", Ok(1))?)?;
     }
-    Ok(server)
-}
-
-#[test]
-fn many_files(rt: HostRuntime) -> Result<(), Fail> {
-    let server = stored(&rt, rt.alloc(), 3_000)?;
-    assert_eq!(rt; server.names()?.len(), 6_000);
-    assert_eq!(rt; server.next(), 3_001);
     Ok(())
 }
 
-/// A stale check of `/x` with this guess.
-fn refuses(rt: &impl Abort, alloc: Global, server: &mut Server, guess: u64) -> Result<(), Fail> {
+/// How many files there are.
+fn files(server: &Server) -> Result<usize, Wrong> {
+    let names = server.names()?;
+    Ok(names.len())
+}
+
+fn stores_many(alloc: Global) -> Result<(), Wrong> {
+    let mut server = Server::new(alloc);
+    stores(alloc, &mut server, 3_000)?;
+    holds(2, files(&server) == Ok(6_000)).and(holds(3, server.next() == 3_001))
+}
+
+#[test]
+fn many_files(rt: HostRuntime) {
+    passes(&rt, stores_many(rt.alloc()));
+}
+
+/// Whether a stale check of `/x` with this guess is refused.
+fn refuses(alloc: Global, server: &mut Server, guess: u64) -> Result<bool, Wrong> {
     let ground = Ground {
         rests: &[],
         settled: 1,
         guess: Some(guess),
     };
     let check = ServerWish::Check(b"/x", 2);
-    asks(rt, alloc, server, check, ground, ToldAnswer::No(3, b"old"))
+    asks(alloc, server, check, ground, ToldAnswer::No(3, b"old"))
 }
 
-/// A request that rests on this guess is dropped.
-fn drops(rt: &impl Abort, alloc: Global, server: &mut Server, guess: u64) -> Result<(), Fail> {
+/// Whether a request that rests on this guess is dropped.
+fn drops(alloc: Global, server: &mut Server, guess: u64) -> Result<bool, Wrong> {
     let ground = Ground {
         rests: &[guess],
         settled: 1,
         guess: None,
     };
-    asks(
-        rt,
-        alloc,
-        server,
-        ServerWish::Get(b"/x"),
-        ground,
-        ToldAnswer::Dropped,
-    )
+    let get = ServerWish::Get(b"/x");
+    asks(alloc, server, get, ground, ToldAnswer::Dropped)
+}
+
+/// Refuses many guesses, and drops what rests on the first, on one between and on the last.
+fn refuses_and_drops(alloc: Global, server: &mut Server) -> Result<(), Wrong> {
+    for number in 1..3_000 {
+        holds(0, refuses(alloc, server, number)?)?;
+    }
+    for number in [1, 1_024, 2_999] {
+        holds(1, drops(alloc, server, number)?)?;
+    }
+    Ok(())
+}
+
+fn refuses_many(alloc: Global) -> Result<(), Wrong> {
+    let mut server = server_with(alloc, (b"/x", 3, b"old"))?;
+    refuses_and_drops(alloc, &mut server)
 }
 
 #[test]
-fn many_refused_guesses(rt: HostRuntime) -> Result<(), Fail> {
-    let mut server = with_file(rt.alloc(), b"/x", content(3, b"old")?)?;
-    for number in 1..3_000 {
-        refuses(&rt, rt.alloc(), &mut server, number)?;
-    }
-    for number in [1, 1_024, 2_999] {
-        drops(&rt, rt.alloc(), &mut server, number)?;
-    }
-    Ok(())
+fn many_refused_guesses(rt: HostRuntime) {
+    passes(&rt, refuses_many(rt.alloc()));
 }

@@ -1,12 +1,11 @@
 //! What a server is asked and answers, as plain data.
-use sk_objects::Content;
 use sk_server::{Answer, Ask, Request, Server};
 use std::alloc::Global;
-use std::test::Fail;
-use tests_support::values::{content, guess, name, tags, text};
+use tests_support::plain::{content, guess, name, tags, text};
+use tests_support::wrong::Wrong;
 
 /// What a server is asked: the file, the version that it is to have, and the bytes.
-#[derive(Clone, Copy, Debug)]
+#[derive(Clone, Copy, PartialEq, Eq)]
 pub enum ServerWish<'a> {
     Get(&'a [u8]),
     Check(&'a [u8], u64),
@@ -14,7 +13,7 @@ pub enum ServerWish<'a> {
 }
 
 /// What it answers, a content by its version and bytes.
-#[derive(Clone, Copy, Debug)]
+#[derive(Clone, Copy)]
 pub enum ToldAnswer<'a> {
     Copy(u64, &'a [u8]),
     Yes,
@@ -23,7 +22,7 @@ pub enum ToldAnswer<'a> {
 }
 
 /// What is asked.
-pub fn ask_of(wish: ServerWish<'_>) -> Result<Ask, Fail> {
+pub fn ask_of(wish: ServerWish<'_>) -> Result<Ask, Wrong> {
     match wish {
         ServerWish::Get(at) => Ok(Ask::Get(name(at)?)),
         ServerWish::Check(at, version) => Ok(Ask::Check(name(at)?, version)),
@@ -31,22 +30,19 @@ pub fn ask_of(wish: ServerWish<'_>) -> Result<Ask, Fail> {
     }
 }
 
-/// Whether this is what was asked.
-pub fn is_asked(ask: &Ask, wish: ServerWish<'_>) -> bool {
-    match (ask, wish) {
-        (Ask::Get(name), ServerWish::Get(at)) => name.as_slice() == at,
-        (Ask::Check(name, has), ServerWish::Check(at, version)) => {
-            name.as_slice() == at && *has == version
+/// What was asked, as plain data.
+pub fn wish_of(ask: &Ask) -> ServerWish<'_> {
+    match ask {
+        Ask::Get(name) => ServerWish::Get(name.as_slice()),
+        Ask::Check(name, version) => ServerWish::Check(name.as_slice(), *version),
+        Ask::Store(name, version, text) => {
+            ServerWish::Store(name.as_slice(), *version, text.as_slice())
         }
-        (Ask::Store(name, has, text), ServerWish::Store(at, version, bytes)) => {
-            name.as_slice() == at && *has == version && text.as_slice() == bytes
-        }
-        _ => false,
     }
 }
 
 /// The answer itself.
-pub fn answer_of(told: ToldAnswer<'_>) -> Result<Answer, Fail> {
+pub fn answer_of(told: ToldAnswer<'_>) -> Result<Answer, Wrong> {
     match told {
         ToldAnswer::Copy(version, bytes) => Ok(Answer::Copy(content(version, bytes)?)),
         ToldAnswer::Yes => Ok(Answer::Yes),
@@ -55,15 +51,8 @@ pub fn answer_of(told: ToldAnswer<'_>) -> Result<Answer, Fail> {
     }
 }
 
-/// A server with one file.
-pub fn with_file(alloc: Global, at: &[u8], has: Content) -> Result<Server, Fail> {
-    let mut server = Server::new(alloc);
-    server.seed(name(at)?, has)?;
-    Ok(server)
-}
-
 /// What a request rests on, and the guess that it is made with.
-#[derive(Clone, Copy, Debug)]
+#[derive(Clone, Copy)]
 pub struct Ground<'a> {
     pub rests: &'a [u64],
     pub settled: u64,
@@ -78,14 +67,15 @@ pub const LOOSE: Ground<'static> = Ground {
 };
 
 /// A request of a number.
-pub fn request(alloc: Global, number: u64, ask: Ask, ground: Ground<'_>) -> Result<Request, Fail> {
+pub fn request(alloc: Global, number: u64, ask: Ask, ground: Ground<'_>) -> Result<Request, Wrong> {
     let made_with = match ground.guess {
         Some(number) => Some(guess(number)?),
         None => None,
     };
+    let rests = tags(alloc, ground.rests)?;
     Ok(Request {
         number,
-        rests: tags(alloc, ground.rests)?,
+        rests,
         settled: ground.settled,
         guess: made_with,
         ask,
@@ -98,11 +88,11 @@ pub fn asked(
     server: &mut Server,
     ask: Ask,
     ground: Ground<'_>,
-) -> Result<Answer, Fail> {
+) -> Result<Answer, Wrong> {
     let number = server.next();
     match server.answer(request(alloc, number, ask, ground)?) {
         Ok(reply) if reply.number == number => Ok(reply.answer),
-        Ok(_) => Err("another number")?,
-        Err((_request, _refusal)) => Err("refused")?,
+        Ok(_) => Err(Wrong::Value),
+        Err((_request, _refusal)) => Err(Wrong::Refused),
     }
 }

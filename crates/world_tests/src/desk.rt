@@ -6,8 +6,7 @@ use sk_client::ReplyRefusal;
 use sk_objects::content::LAST_VERSION;
 use sk_plain::Refusal;
 use std::alloc::Global;
-use std::process::Abort;
-use std::test::Fail;
+use tests_support::wrong::{Wrong, passes};
 
 /// These scripts, with a copy or none, and room for many events.
 fn with<'a>(scripts: &'a [&'a [u8]], copy: Option<Version<'a>>) -> Start<'a> {
@@ -46,7 +45,7 @@ fn wrong_kind() -> Came {
 }
 
 #[test]
-fn stale_store_dropped(rt: HostRuntime) -> Result<(), Fail> {
+fn stale_store_dropped(rt: HostRuntime) {
     let check = sent(1, Some(1), &[], ServerWish::Check(b"/x", 3));
     let store = sent(2, Some(2), &[1], ServerWish::Store(b"/x", 3, b"new"));
     let table = [
@@ -73,45 +72,11 @@ fn stale_store_dropped(rt: HostRuntime) -> Result<(), Fail> {
         file: old(),
         ..with(&[b"fetch /x\ntext \"new\"\nstore /x\n"], old())
     };
-    plays(&rt, rt.alloc(), start, &table)
+    passes(&rt, plays(rt.alloc(), start, &table));
 }
 
 #[test]
-fn ask_without_copy(rt: HostRuntime) -> Result<(), Fail> {
-    let table = [
-        DeskPlay::Turn(1, Did::Asked(1)),
-        DeskPlay::Turn(1, Did::Refused(Refusal::Blocked)),
-        DeskPlay::Serve(ToldAnswer::Copy(0, b"")),
-        DeskPlay::Give(Came::Taken(1)),
-        DeskPlay::NoRequest,
-        DeskPlay::See(Sight::NoReply),
-        DeskPlay::See(Sight::Copy(b"/x", 0, b"")),
-        DeskPlay::See(Sight::Stands(1, 1, 0)),
-        DeskPlay::See(Sight::Trace(1, 0)),
-    ];
-    plays(&rt, rt.alloc(), with(&[b"fetch /x\n"], None), &table)
-}
-
-#[test]
-fn two_processes_one_name(rt: HostRuntime) -> Result<(), Fail> {
-    let table = [
-        DeskPlay::Turn(1, Did::Asked(1)),
-        DeskPlay::Turn(2, Did::Refused(Refusal::Blocked)),
-        DeskPlay::Serve(ToldAnswer::Copy(0, b"")),
-        DeskPlay::Give(Came::Taken(1)),
-        DeskPlay::Turn(2, Did::Guessed(1)),
-        DeskPlay::Serve(ToldAnswer::Yes),
-        DeskPlay::Give(Came::Committed(1)),
-        DeskPlay::See(Sight::Copy(b"/x", 1, b"")),
-        DeskPlay::See(Sight::Trace(3, 0)),
-        DeskPlay::See(Sight::File(b"/x", 1, b"")),
-    ];
-    let start = with(&[b"fetch /x\n", b"store /x\n"], None);
-    plays(&rt, rt.alloc(), start, &table)
-}
-
-#[test]
-fn late_and_wrong_replies(rt: HostRuntime) -> Result<(), Fail> {
+fn late_and_wrong_replies(rt: HostRuntime) {
     let check = sent(1, Some(1), &[], ServerWish::Check(b"/x", 3));
     let early = [
         DeskPlay::See(Sight::Expected(1)),
@@ -146,12 +111,12 @@ fn late_and_wrong_replies(rt: HostRuntime) -> Result<(), Fail> {
         file: Some((b"/x", 4, b"new")),
         ..with(&[b"fetch /x\n"], old())
     };
-    plays_both(&rt, rt.alloc(), start, &early, &dropped)?;
-    plays_both(&rt, rt.alloc(), start, &early, &believed)
+    passes(&rt, plays_both(rt.alloc(), start, &early, &dropped));
+    passes(&rt, plays_both(rt.alloc(), start, &early, &believed));
 }
 
 #[test]
-fn last_version(rt: HostRuntime) -> Result<(), Fail> {
+fn last_version(rt: HostRuntime) {
     let store = sent(1, None, &[], ServerWish::Store(b"/x", LAST_VERSION, b""));
     let table = [
         DeskPlay::Turn(1, Did::Asked(1)),
@@ -165,11 +130,11 @@ fn last_version(rt: HostRuntime) -> Result<(), Fail> {
         DeskPlay::See(Sight::Trace(1, 0)),
     ];
     let start = with(&[b"store /x\n"], Some((b"/x", LAST_VERSION, b"m")));
-    plays(&rt, rt.alloc(), start, &table)
+    passes(&rt, plays(rt.alloc(), start, &table));
 }
 
 /// A guess on another, which fails; then the reply to the inner one, which was struck with it.
-fn struck_and_told(rt: &impl Abort, alloc: Global, told: ToldAnswer<'_>) -> Result<(), Fail> {
+fn struck_and_told(alloc: Global, told: ToldAnswer<'_>) -> Result<(), Wrong> {
     let inner = sent(2, Some(2), &[1], ServerWish::Store(b"/x", 3, b"new"));
     let table = [
         DeskPlay::Turn(1, Did::Guessed(1)),
@@ -195,23 +160,22 @@ fn struck_and_told(rt: &impl Abort, alloc: Global, told: ToldAnswer<'_>) -> Resu
         file: Some((b"/x", 5, b"z")),
         ..with(&[b"fetch /x\ntext \"new\"\nstore /x\n"], old())
     };
-    plays(rt, alloc, start, &table)
+    plays(alloc, start, &table)
 }
 
 #[test]
-fn reply_to_struck_guess(rt: HostRuntime) -> Result<(), Fail> {
+fn reply_to_struck_guess(rt: HostRuntime) {
     for told in [
         ToldAnswer::Yes,
         ToldAnswer::No(9, b"false"),
         ToldAnswer::Dropped,
     ] {
-        struck_and_told(&rt, rt.alloc(), told)?;
+        passes(&rt, struck_and_told(rt.alloc(), told));
     }
-    Ok(())
 }
 
 #[test]
-fn each_kind_of_reply_to_a_get(rt: HostRuntime) -> Result<(), Fail> {
+fn each_kind_of_reply_to_a_get(rt: HostRuntime) {
     let table = [
         DeskPlay::Turn(1, Did::Asked(1)),
         DeskPlay::Take(sent(1, None, &[], ServerWish::Get(b"/x"))),
@@ -224,11 +188,11 @@ fn each_kind_of_reply_to_a_get(rt: HostRuntime) -> Result<(), Fail> {
         DeskPlay::Reply(2, ToldAnswer::Copy(5, b"z"), Came::Taken(2)),
         DeskPlay::See(Sight::Stands(1, 1, 5)),
     ];
-    plays(&rt, rt.alloc(), with(&[b"fetch /x\n"], None), &table)
+    passes(&rt, plays(rt.alloc(), with(&[b"fetch /x\n"], None), &table));
 }
 
 #[test]
-fn each_kind_of_reply_to_a_store(rt: HostRuntime) -> Result<(), Fail> {
+fn each_kind_of_reply_to_a_store(rt: HostRuntime) {
     let asked = [
         DeskPlay::Turn(1, Did::Asked(1)),
         DeskPlay::Take(sent(1, None, &[], ServerWish::Store(b"/x", 0, b""))),
@@ -237,7 +201,7 @@ fn each_kind_of_reply_to_a_store(rt: HostRuntime) -> Result<(), Fail> {
         DeskPlay::See(Sight::Stands(1, 1, -116)),
         DeskPlay::See(Sight::Copy(b"/x", 5, b"z")),
     ];
-    plays(&rt, rt.alloc(), with(&[b"store /x\n"], None), &asked)?;
+    passes(&rt, plays(rt.alloc(), with(&[b"store /x\n"], None), &asked));
     let guessed = [
         DeskPlay::Turn(1, Did::Guessed(1)),
         DeskPlay::Take(sent(1, Some(1), &[], ServerWish::Store(b"/x", 3, b""))),
@@ -248,11 +212,14 @@ fn each_kind_of_reply_to_a_store(rt: HostRuntime) -> Result<(), Fail> {
         DeskPlay::See(Sight::Trace(3, 0)),
         DeskPlay::See(Sight::LastStale(1, 5, b"z")),
     ];
-    plays(&rt, rt.alloc(), with(&[b"store /x\n"], old()), &guessed)
+    passes(
+        &rt,
+        plays(rt.alloc(), with(&[b"store /x\n"], old()), &guessed),
+    );
 }
 
 #[test]
-fn kept_answer_is_used_once(rt: HostRuntime) -> Result<(), Fail> {
+fn kept_answer_is_used_once(rt: HostRuntime) {
     let table = [
         DeskPlay::Turn(1, Did::Guessed(1)),
         DeskPlay::Take(sent(1, Some(1), &[], ServerWish::Check(b"/x", 3))),
@@ -264,11 +231,11 @@ fn kept_answer_is_used_once(rt: HostRuntime) -> Result<(), Fail> {
         DeskPlay::See(Sight::Stands(1, 2, 5)),
     ];
     let start = with(&[b"fetch /x\nfetch /x\n"], old());
-    plays(&rt, rt.alloc(), start, &table)
+    passes(&rt, plays(rt.alloc(), start, &table));
 }
 
 #[test]
-fn kept_answer_is_forgotten_for_a_signal(rt: HostRuntime) -> Result<(), Fail> {
+fn kept_answer_is_forgotten_for_a_signal(rt: HostRuntime) {
     let table = [
         DeskPlay::Turn(1, Did::Stepped),
         DeskPlay::Turn(1, Did::Guessed(1)),
@@ -286,11 +253,14 @@ fn kept_answer_is_forgotten_for_a_signal(rt: HostRuntime) -> Result<(), Fail> {
     ];
     let handles = b"handler h\nfetch /x\nh:\nreturn\n";
     let kills = b"boot r1 1\nset r2 5\nkill r1 r2\n";
-    plays(&rt, rt.alloc(), with(&[handles, kills], old()), &table)
+    passes(
+        &rt,
+        plays(rt.alloc(), with(&[handles, kills], old()), &table),
+    );
 }
 
 #[test]
-fn void_request_is_forgotten(rt: HostRuntime) -> Result<(), Fail> {
+fn void_request_is_forgotten(rt: HostRuntime) {
     let table = [
         DeskPlay::Turn(1, Did::Guessed(1)),
         DeskPlay::Turn(1, Did::Asked(2)),
@@ -304,11 +274,11 @@ fn void_request_is_forgotten(rt: HostRuntime) -> Result<(), Fail> {
         DeskPlay::See(Sight::Buffer(1, b"new")),
     ];
     let start = with(&[b"fetch /x\nfetch /y\n"], old());
-    plays(&rt, rt.alloc(), start, &table)
+    passes(&rt, plays(rt.alloc(), start, &table));
 }
 
 #[test]
-fn places_of_the_trace(rt: HostRuntime) -> Result<(), Fail> {
+fn places_of_the_trace(rt: HostRuntime) {
     let asks = [
         DeskPlay::Turn(1, Did::Asked(1)),
         DeskPlay::Turn(2, Did::Stepped),
@@ -321,7 +291,7 @@ fn places_of_the_trace(rt: HostRuntime) -> Result<(), Fail> {
         limit: 2,
         ..with(&[b"fetch /x\n", b"set r1 1\nset r1 2\n"], None)
     };
-    plays(&rt, rt.alloc(), start, &asks)?;
+    passes(&rt, plays(rt.alloc(), start, &asks));
     let guesses = [
         DeskPlay::Turn(1, Did::Refused(Refusal::TraceFull)),
         DeskPlay::NoRequest,
@@ -331,11 +301,11 @@ fn places_of_the_trace(rt: HostRuntime) -> Result<(), Fail> {
         limit: 1,
         ..with(&[b"fetch /x\n"], old())
     };
-    plays(&rt, rt.alloc(), start, &guesses)
+    passes(&rt, plays(rt.alloc(), start, &guesses));
 }
 
 #[test]
-fn two_askers(rt: HostRuntime) -> Result<(), Fail> {
+fn two_askers(rt: HostRuntime) {
     let table = [
         DeskPlay::Turn(1, Did::Asked(1)),
         DeskPlay::Turn(2, Did::Asked(2)),
@@ -344,5 +314,5 @@ fn two_askers(rt: HostRuntime) -> Result<(), Fail> {
         DeskPlay::See(Sight::Pending(2)),
     ];
     let start = with(&[b"fetch /x\n", b"fetch /y\n"], None);
-    plays(&rt, rt.alloc(), start, &table)
+    passes(&rt, plays(rt.alloc(), start, &table));
 }

@@ -3,7 +3,7 @@ use crate::asking::{ServerWish, ToldAnswer};
 use crate::plays::{Came, DeskPlay, Did, Sent, Sight, plays};
 use crate::start::Start;
 use sk_kernel::EpochRefusal;
-use std::test::Fail;
+use tests_support::wrong::passes;
 
 /// A process that fetches twice, and a copy like the server's file.
 const FETCHING: Start<'static> = Start {
@@ -15,7 +15,7 @@ const FETCHING: Start<'static> = Start {
 
 /// An epoch waits for the reply to each request, and requests and guesses go on with their numbers.
 #[test]
-fn epoch_waits_for_replies(rt: HostRuntime) -> Result<(), Fail> {
+fn epoch_waits_for_replies(rt: HostRuntime) {
     let check = Sent {
         number: 2,
         guess: Some(2),
@@ -44,12 +44,12 @@ fn epoch_waits_for_replies(rt: HostRuntime) -> Result<(), Fail> {
         DeskPlay::Epoch(Ok(0)),
         DeskPlay::See(Sight::Requests(3, 0)),
     ];
-    plays(&rt, rt.alloc(), FETCHING, &table)
+    passes(&rt, plays(rt.alloc(), FETCHING, &table));
 }
 
 /// An answer that is kept for a process is forgotten: the process guesses once more.
 #[test]
-fn epoch_forgets_kept_answers(rt: HostRuntime) -> Result<(), Fail> {
+fn epoch_forgets_kept_answers(rt: HostRuntime) {
     let table = [
         DeskPlay::Edit(b"/x", 3, b"foreign"),
         DeskPlay::Turn(1, Did::Guessed(1)),
@@ -63,5 +63,5 @@ fn epoch_forgets_kept_answers(rt: HostRuntime) -> Result<(), Fail> {
         DeskPlay::See(Sight::Copy(b"/x", 4, b"foreign")),
         DeskPlay::See(Sight::Trace(3, 0)),
     ];
-    plays(&rt, rt.alloc(), FETCHING, &table)
+    passes(&rt, plays(rt.alloc(), FETCHING, &table));
 }

@@ -3,9 +3,11 @@ use crate::start::{Start, kernel_of};
 use sk_client::{Desk, Turn};
 use sk_ids::Pid;
 use sk_kernel::HandIn;
-use std::process::Abort;
-use std::test::Fail;
-use tests_support::values::pid;
+use sk_plain::Refusal;
+use sk_script::Lease;
+use std::alloc::Global;
+use tests_support::plain::pid;
+use tests_support::wrong::{Wrong, holds, passes};
 
 /// A process with two private instructions and one that is not, and one that ends it by a signal.
 const START: Start<'static> = Start {
@@ -18,23 +20,8 @@ const START: Start<'static> = Start {
     limit: 1_000,
 };
 
-/// A process is leased and runs its private instructions; then so many turns of another are taken,
-/// and it is handed in.
-fn hands_in(
-    rt: &impl Abort,
-    desk: &mut Desk,
-    leased: Pid,
-    between: Pid,
-    turns: u32,
-) -> Result<(), HandIn> {
-    let Ok(mut lease) = desk.lease(leased) else {
-        panic!(rt; "not lent");
-    };
-    lease.run(10);
-    assert_eq!(rt; lease.count(), 2);
-    for _ in 0..turns {
-        assert_eq!(rt; desk.turn(between), Ok(Turn::Stepped));
-    }
+/// What the hand-in of a lease is answered.
+fn answered(desk: &mut Desk, lease: Lease) -> Result<(), HandIn> {
     match desk.hand_in(lease) {
         Ok(()) => Ok(()),
         Err((lease, why)) => {
@@ -44,19 +31,58 @@ fn hands_in(
     }
 }
 
-#[test]
-fn lease_and_hand_in(rt: HostRuntime) -> Result<(), Fail> {
+/// Takes so many turns of a process, of which each is a step.
+fn steps(desk: &mut Desk, pid: Pid, count: u32) -> Result<bool, Refusal> {
+    for _ in 0..count {
+        if desk.turn(pid)? != Turn::Stepped {
+            return Ok(false);
+        }
+    }
+    Ok(true)
+}
+
+/// Process 1 is leased and runs its private instructions; then so many turns of a process are taken, and it is
+/// handed in, which is answered so.
+fn hands_in(
+    desk: &mut Desk,
+    between: Pid,
+    turns: u32,
+    want: Result<(), HandIn>,
+) -> Result<(), Wrong> {
+    let mut lease = desk.lease(pid(1)?)?;
+    lease.run(10);
+    let done = lease.count();
+    let stepped = steps(desk, between, turns);
+    let answer = answered(desk, lease);
+    holds(0, done == 2)?;
+    holds(1, stepped == Ok(true))?;
+    holds(2, answer == want)
+}
+
+/// The same with a new desk, which has so many events then.
+fn leaves(
+    alloc: Global,
+    between: Pid,
+    turns: u32,
+    want: Result<(), HandIn>,
+    events: usize,
+) -> Result<(), Wrong> {
+    let mut desk = Desk::new(alloc, kernel_of(alloc, START)?);
+    let handed_in = hands_in(&mut desk, between, turns, want);
+    let steps = desk.kernel().trace().events().len();
+    desk.abandon();
+    handed_in.and(holds(3, steps == events))
+}
+
+fn all_are_handed_in(alloc: Global) -> Result<(), Wrong> {
     let stale = Err(HandIn::Stale);
-    let leased = pid(1)?;
-    for (number, turns, want, events) in [(2, 0, Ok(()), 2), (2, 3, stale, 3), (1, 1, stale, 1)] {
-        let between = pid(number)?;
-        let kernel = kernel_of(rt.alloc(), START)?;
-        let mut desk = Desk::new(rt.alloc(), kernel);
-        let answer = hands_in(&rt, &mut desk, leased, between, turns);
-        let steps = desk.kernel().trace().events().len();
-        desk.abandon();
-        assert_eq!(rt; answer, want);
-        assert_eq!(rt; steps, events);
+    for (between, turns, want, events) in [(2, 0, Ok(()), 2), (2, 3, stale, 3), (1, 1, stale, 1)] {
+        leaves(alloc, pid(between)?, turns, want, events)?;
     }
     Ok(())
+}
+
+#[test]
+fn lease_and_hand_in(rt: HostRuntime) {
+    passes(&rt, all_are_handed_in(rt.alloc()));
 }

@@ -1,22 +1,22 @@
 //! Tests as tables: what is done with a desk and its server, each with what has to come of it.
 //! A table has plain numbers and bytes, so that a test is short to prove.
-use crate::asking::{ServerWish, ToldAnswer, answer_of, is_asked};
+use crate::asking::{ServerWish, ToldAnswer, answer_of, wish_of};
 use crate::start::{Start, kernel_of, server_of};
+use crate::turns::{edits, has_file};
 use sk_client::{Desk, Given, ReplyRefusal, Turn};
-use sk_ids::{Entity, GuessId, Name, Pid};
+use sk_ids::{Entity, GuessId};
 use sk_kernel::{EpochRefusal, Kernel};
-use sk_objects::{Content, Value};
+use sk_objects::Value;
 use sk_plain::{Event, InputRef, Refusal, View};
-use sk_script::{Input, Process, Register, Val};
-use sk_server::{Reply, Request, Server};
+use sk_script::{Process, Register, Val};
+use sk_server::{Answer, Reply, Request, Server};
 use std::alloc::Global;
 use std::collections::VecDeque;
-use std::process::Abort;
-use std::test::Fail;
-use tests_support::values::{content, name, pid, text};
+use tests_support::plain::{content, name, pid, text};
+use tests_support::wrong::{Wrong, holds};
 
 /// What a turn comes to, a guess by its number.
-#[derive(Clone, Copy, Debug, PartialEq, Eq)]
+#[derive(Clone, Copy, PartialEq, Eq)]
 pub enum Did {
     Stepped,
     Guessed(u64),
@@ -25,7 +25,7 @@ pub enum Did {
 }
 
 /// What a reply comes to, a guess by its number.
-#[derive(Clone, Copy, Debug, PartialEq, Eq)]
+#[derive(Clone, Copy, PartialEq, Eq)]
 pub enum Came {
     Committed(u64),
     Failed(u64),
@@ -36,7 +36,7 @@ pub enum Came {
 }
 
 /// A request that is taken.
-#[derive(Clone, Copy, Debug)]
+#[derive(Clone, Copy)]
 pub struct Sent<'a> {
     pub number: u64,
     pub guess: Option<u64>,
@@ -103,7 +103,7 @@ pub struct Far {
 
 impl Far {
     /// A server at its start.
-    pub fn new(alloc: Global, start: Start<'_>) -> Result<Far, Fail> {
+    pub fn new(alloc: Global, start: Start<'_>) -> Result<Far, Wrong> {
         Ok(Far {
             server: server_of(alloc, start)?,
             requests: VecDeque::new(alloc),
@@ -120,20 +120,13 @@ fn turned(turn: Turn) -> Did {
     }
 }
 
-/// A turn of a process comes to this.
-pub fn turns(
-    rt: &impl Abort,
-    desk: &mut Desk,
-    place: usize,
-    number: u16,
-    want: Did,
-) -> Result<(), Fail> {
+/// Whether a turn of a process comes to this.
+pub fn turns(desk: &mut Desk, number: u16, want: Did) -> Result<bool, Wrong> {
     let answer = match desk.turn(pid(number)?) {
         Ok(turn) => turned(turn),
         Err(why) => Did::Refused(why),
     };
-    assert_eq!(rt; answer, want, "play {place}");
-    Ok(())
+    Ok(answer == want)
 }
 
 fn replied(given: Given) -> Came {
@@ -146,335 +139,260 @@ fn replied(given: Given) -> Came {
     }
 }
 
-/// A reply comes to this; it comes back as it was where it is refused.
-fn given(rt: &impl Abort, desk: &mut Desk, place: usize, reply: Reply, want: Came) {
-    let answer = match desk.give_reply(reply) {
-        Ok(given) => replied(given),
-        Err((back, why)) => {
-            assert!(rt; back == reply, "play {place}");
-            Came::Back(why)
-        }
-    };
-    assert_eq!(rt; answer, want, "play {place}");
+/// Whether a reply comes to this; it comes back as it was where it is refused.
+fn given(desk: &mut Desk, reply: Reply, want: Came) -> bool {
+    match desk.give_reply(reply) {
+        Ok(given) => replied(given) == want,
+        Err((back, why)) => back == reply && Came::Back(why) == want,
+    }
 }
 
-/// A reply that is made up comes to this.
-fn replies(
-    rt: &impl Abort,
-    desk: &mut Desk,
-    place: usize,
-    number: u64,
-    told: ToldAnswer<'_>,
-    want: Came,
-) -> Result<(), Fail> {
+/// Whether a reply that is made up comes to this.
+fn replies(desk: &mut Desk, number: u64, told: ToldAnswer<'_>, want: Came) -> Result<bool, Wrong> {
     let answer = answer_of(told)?;
-    given(rt, desk, place, Reply { number, answer }, want);
-    Ok(())
+    Ok(given(desk, Reply { number, answer }, want))
 }
 
-/// Whether a request has these numbers.
-fn has_numbers(request: &Request, sent: Sent<'_>) -> bool {
-    request.number == sent.number
-        && request.settled == sent.settled
-        && request.guess.map(|id| id.number()) == sent.guess
+/// The number of a request's guess.
+fn guess_of(request: &Request) -> Option<u64> {
+    match request.guess {
+        Some(id) => Some(id.number()),
+        None => None,
+    }
 }
 
 /// Whether the guesses have these numbers.
 fn are_numbered(ids: &[GuessId], numbers: &[u64]) -> bool {
+    for (id, number) in ids.iter().zip(numbers) {
+        if id.number() != *number {
+            return false;
+        }
+    }
     ids.len() == numbers.len()
-        && ids
-            .iter()
-            .zip(numbers)
-            .all(|(id, number)| id.number() == *number)
 }
 
-/// Takes the oldest request that waits.
-fn taken(rt: &impl Abort, desk: &mut Desk) -> Request {
+/// Whether this request was made.
+fn is_sent(request: &Request, sent: Sent<'_>) -> bool {
+    request.number == sent.number
+        && request.settled == sent.settled
+        && guess_of(request) == sent.guess
+        && are_numbered(request.rests.ids(), sent.rests)
+        && wish_of(&request.ask) == sent.wish
+}
+
+/// Sends a request to the server: whether it is this one.
+fn sends(far: &mut Far, request: Request, sent: Sent<'_>) -> Result<bool, Wrong> {
+    let is_sent = is_sent(&request, sent);
+    match far.requests.push_back(request) {
+        Ok(()) => Ok(is_sent),
+        Err(_) => Err(Wrong::Memory),
+    }
+}
+
+/// Takes the oldest request that waits: whether it is this one.
+pub fn takes(desk: &mut Desk, far: &mut Far, sent: Sent<'_>) -> Result<bool, Wrong> {
     match desk.take_request() {
-        Some(request) => request,
-        None => panic!(rt; "no request waits"),
+        Some(request) => sends(far, request, sent),
+        None => Ok(false),
     }
 }
 
-/// Takes a request, which has to be this one.
-pub fn takes(
-    rt: &impl Abort,
-    desk: &mut Desk,
-    far: &mut Far,
-    place: usize,
-    sent: Sent<'_>,
-) -> Result<(), Fail> {
-    let request = taken(rt, desk);
-    assert!(rt; has_numbers(&request, sent), "play {place}");
-    assert!(rt;
-        are_numbered(request.rests.ids(), sent.rests),
-        "play {place}"
-    );
-    assert!(rt; is_asked(&request.ask, sent.wish), "play {place}");
-    far.requests.push_back(request)?;
-    Ok(())
-}
-
-/// No request waits.
-fn rests(rt: &impl Abort, desk: &mut Desk, place: usize) -> Result<(), Fail> {
-    let request = desk.take_request();
-    assert!(rt; request.is_none(), "play {place}");
-    Ok(())
-}
-
-/// The server's reply to a request.
-fn served(rt: &impl Abort, far: &mut Far, request: Request) -> Reply {
+/// The server's reply to a request, unless it comes back.
+fn served(far: &mut Far, request: Request) -> Option<Reply> {
     match far.server.answer(request) {
-        Ok(reply) => reply,
-        Err((_request, _why)) => panic!(rt; "the server refused"),
+        Ok(reply) => Some(reply),
+        Err((_request, _why)) => None,
     }
 }
 
-/// Serves the oldest request that the server has not seen.
-pub fn serves(
-    rt: &impl Abort,
-    desk: &mut Desk,
-    far: &mut Far,
-    place: usize,
-    told: ToldAnswer<'_>,
-) -> Result<(), Fail> {
-    let answer = answer_of(told)?;
-    let request = match far.requests.pop_front() {
-        Some(request) => request,
-        None => taken(rt, desk),
-    };
+/// Serves a request: whether this is the answer.
+fn answers(far: &mut Far, request: Request, answer: Answer) -> Result<bool, Wrong> {
     let number = request.number;
-    let reply = served(rt, far, request);
-    assert_eq!(rt; reply, Reply { number, answer }, "play {place}");
-    far.replies.push_back(reply)?;
-    Ok(())
+    let Some(reply) = served(far, request) else {
+        return Ok(false);
+    };
+    if far.replies.push_back(reply).is_err() {
+        return Err(Wrong::Memory);
+    }
+    Ok(reply == Reply { number, answer })
 }
 
-/// Gives the server's oldest reply.
-pub fn gives(
-    rt: &impl Abort,
-    desk: &mut Desk,
-    far: &mut Far,
-    place: usize,
-    want: Came,
-) -> Result<(), Fail> {
+/// The oldest request that the server has not seen.
+fn next_request(desk: &mut Desk, far: &mut Far) -> Option<Request> {
+    match far.requests.pop_front() {
+        Some(request) => Some(request),
+        None => desk.take_request(),
+    }
+}
+
+/// Serves the oldest request that the server has not seen: whether this is the answer.
+pub fn serves(desk: &mut Desk, far: &mut Far, told: ToldAnswer<'_>) -> Result<bool, Wrong> {
+    let answer = answer_of(told)?;
+    match next_request(desk, far) {
+        Some(request) => answers(far, request, answer),
+        None => Ok(false),
+    }
+}
+
+/// Gives the server's oldest reply: whether it comes to this.
+pub fn gives(desk: &mut Desk, far: &mut Far, want: Came) -> bool {
     match far.replies.pop_front() {
-        Some(reply) => given(rt, desk, place, reply, want),
-        None => panic!(rt; "no reply is left"),
-    }
-    Ok(())
-}
-
-/// Another client's edit of a file of this version.
-fn edits(
-    rt: &impl Abort,
-    far: &mut Far,
-    at: &[u8],
-    version: u64,
-    bytes: &[u8],
-) -> Result<(), Fail> {
-    let edited = far.server.edit(name(at)?, version, text(bytes)?);
-    assert_eq!(rt; edited, Ok(version.saturating_add(1)));
-    Ok(())
-}
-
-/// The process of an identifier.
-fn process(rt: &impl Abort, kernel: &Kernel, pid: Pid) -> Process {
-    match kernel.value(&Entity::Proc(pid)) {
-        Some(View::Process(process)) => *process,
-        _ => panic!(rt; "no process"),
+        Some(reply) => given(desk, reply, want),
+        None => false,
     }
 }
 
-/// A process stands at this place with this r0.
-fn stands(
-    rt: &impl Abort,
-    kernel: &Kernel,
-    number: u16,
-    place: u32,
-    answer: i64,
-) -> Result<(), Fail> {
-    let process = process(rt, kernel, pid(number)?);
-    assert_eq!(rt; process.place, place);
+/// A process.
+fn process(kernel: &Kernel, number: u16) -> Result<Process, Wrong> {
+    match kernel.value(&Entity::Proc(pid(number)?)) {
+        Some(View::Process(process)) => Ok(*process),
+        _ => Err(Wrong::Value),
+    }
+}
+
+/// Whether a process stands at this place with this r0.
+fn stands(kernel: &Kernel, number: u16, place: u32, answer: i64) -> Result<bool, Wrong> {
+    let process = process(kernel, number)?;
     let held = process.registers.get(Register::ANSWER);
-    assert_eq!(rt; held, Val::Num(answer));
-    Ok(())
+    Ok(process.place == place && held == Val::Num(answer))
 }
 
-/// A process's buffer.
-fn buffers(rt: &impl Abort, kernel: &Kernel, number: u16, bytes: &[u8]) -> Result<(), Fail> {
-    let process = process(rt, kernel, pid(number)?);
-    assert_eq!(rt; process.buffer, text(bytes)?);
-    Ok(())
+/// Whether a process has this buffer.
+fn buffers(kernel: &Kernel, number: u16, bytes: &[u8]) -> Result<bool, Wrong> {
+    let process = process(kernel, number)?;
+    Ok(process.buffer == text(bytes)?)
 }
 
-/// The cached copy of a name.
-fn copy(rt: &impl Abort, kernel: &Kernel, name: Name) -> Content {
-    match kernel.value(&Entity::Copy(name)) {
-        Some(View::Value(Value::Copy(copy))) => *copy,
-        _ => panic!(rt; "no copy"),
+/// Whether a copy has this version and these bytes.
+fn caches(kernel: &Kernel, at: &[u8], version: u64, bytes: &[u8]) -> Result<bool, Wrong> {
+    let want = content(version, bytes)?;
+    match kernel.value(&Entity::Copy(name(at)?)) {
+        Some(View::Value(Value::Copy(copy))) => Ok(*copy == want),
+        _ => Ok(false),
     }
 }
 
-/// A copy has this version and these bytes.
-fn caches(
-    rt: &impl Abort,
-    kernel: &Kernel,
-    at: &[u8],
-    version: u64,
-    bytes: &[u8],
-) -> Result<(), Fail> {
-    let want = content(version, bytes)?;
-    assert_eq!(rt; copy(rt, kernel, name(at)?), want);
-    Ok(())
+/// Whether the trace is so long, and so many guesses are undecided.
+fn counts(kernel: &Kernel, length: usize, undecided: usize) -> bool {
+    kernel.trace().events().len() == length && kernel.undecided() == undecided
 }
 
-/// A file of the server has this version and these bytes.
-fn holds(rt: &impl Abort, far: &Far, at: &[u8], version: u64, bytes: &[u8]) -> Result<(), Fail> {
-    let want = content(version, bytes)?;
-    assert_eq!(rt; far.server.file(&name(at)?), Some(&want));
-    Ok(())
+/// Whether the first request of the epoch has this number, and so many were taken since.
+fn counts_from(desk: &Desk, first: u64, taken: u64) -> bool {
+    desk.first() == first && desk.requests_taken() == taken
 }
 
-/// The trace is so long, and so many guesses are undecided.
-fn counts(rt: &impl Abort, kernel: &Kernel, length: usize, undecided: usize) -> Result<(), Fail> {
-    assert_eq!(rt; kernel.trace().events().len(), length);
-    assert_eq!(rt; kernel.undecided(), undecided);
-    Ok(())
-}
-
-/// So many requests have no reply.
-fn waits(rt: &impl Abort, desk: &Desk, count: usize) -> Result<(), Fail> {
-    assert_eq!(rt; desk.pending(), count);
-    Ok(())
-}
-
-/// The reply to the request of this number is next.
-fn expects(rt: &impl Abort, desk: &Desk, number: u64) -> Result<(), Fail> {
-    assert_eq!(rt; desk.expected(), number);
-    Ok(())
-}
-
-/// The first request of the epoch has this number, and so many were taken since.
-fn counts_from(rt: &impl Abort, desk: &Desk, first: u64, taken: u64) -> Result<(), Fail> {
-    assert_eq!(rt; desk.first(), first);
-    assert_eq!(rt; desk.requests_taken(), taken);
-    Ok(())
-}
-
-/// A new epoch comes to this.
-fn begins(
-    rt: &impl Abort,
-    desk: &mut Desk,
-    place: usize,
-    want: Result<usize, EpochRefusal>,
-) -> Result<(), Fail> {
-    let answer = match desk.new_epoch() {
+/// What a new epoch comes to.
+fn begun(desk: &mut Desk) -> Result<usize, EpochRefusal> {
+    match desk.new_epoch() {
         Ok((trace, _texts)) => Ok(trace.events().len()),
         Err(why) => Err(why),
-    };
-    assert_eq!(rt; answer, want, "play {place}");
-    Ok(())
+    }
 }
 
-/// Each reply of the server was given.
-fn is_quiet(rt: &impl Abort, far: &Far) -> Result<(), Fail> {
-    assert!(rt; far.replies.is_empty());
-    Ok(())
-}
-
-/// The last event is a step with this stale content.
-fn ends_stale(
-    rt: &impl Abort,
-    kernel: &Kernel,
-    number: u16,
-    version: u64,
-    bytes: &[u8],
-) -> Result<(), Fail> {
+/// Whether the last event is a step with this stale content.
+fn ends_stale(kernel: &Kernel, number: u16, version: u64, bytes: &[u8]) -> Result<bool, Wrong> {
     let pid = pid(number)?;
     let content = content(version, bytes)?;
     let input = kernel.trace().keep(InputRef::Stale(&content))?;
     let step = Event::Step { pid, input };
-    assert_eq!(rt; kernel.trace().events().last(), Some(&step));
-    Ok(())
+    Ok(kernel.trace().events().last() == Some(&step))
 }
 
-/// Looks at what there is.
-fn sees(rt: &impl Abort, desk: &Desk, far: &Far, sight: Sight<'_>) -> Result<(), Fail> {
+/// Looks at what there is: whether it is so.
+fn sees(desk: &Desk, far: &Far, sight: Sight<'_>) -> Result<bool, Wrong> {
     match sight {
-        Sight::Pending(count) => waits(rt, desk, count),
-        Sight::Expected(number) => expects(rt, desk, number),
-        Sight::Requests(first, taken) => counts_from(rt, desk, first, taken),
-        Sight::NoReply => is_quiet(rt, far),
-        Sight::Stands(number, place, answer) => stands(rt, desk.kernel(), number, place, answer),
-        Sight::Buffer(number, bytes) => buffers(rt, desk.kernel(), number, bytes),
-        Sight::Copy(at, version, bytes) => caches(rt, desk.kernel(), at, version, bytes),
-        Sight::File(at, version, bytes) => holds(rt, far, at, version, bytes),
-        Sight::Trace(length, undecided) => counts(rt, desk.kernel(), length, undecided),
+        Sight::Pending(count) => Ok(desk.pending() == count),
+        Sight::Expected(number) => Ok(desk.expected() == number),
+        Sight::Requests(first, taken) => Ok(counts_from(desk, first, taken)),
+        Sight::NoReply => Ok(far.replies.is_empty()),
+        Sight::Stands(number, place, answer) => stands(desk.kernel(), number, place, answer),
+        Sight::Buffer(number, bytes) => buffers(desk.kernel(), number, bytes),
+        Sight::Copy(at, version, bytes) => caches(desk.kernel(), at, version, bytes),
+        Sight::File(at, version, bytes) => has_file(&far.server, at, version, bytes),
+        Sight::Trace(length, undecided) => Ok(counts(desk.kernel(), length, undecided)),
         Sight::LastStale(number, version, bytes) => {
-            ends_stale(rt, desk.kernel(), number, version, bytes)
+            ends_stale(desk.kernel(), number, version, bytes)
         }
     }
 }
 
-/// Does one thing.
-fn does(
-    rt: &impl Abort,
-    desk: &mut Desk,
-    far: &mut Far,
-    place: usize,
-    play: DeskPlay<'_>,
-) -> Result<(), Fail> {
+/// Whether another client's edit of a file of this version makes the next one.
+fn is_edited(far: &mut Far, at: &[u8], version: u64, bytes: &[u8]) -> Result<bool, Wrong> {
+    edits(
+        &mut far.server,
+        at,
+        version,
+        bytes,
+        Ok(version.saturating_add(1)),
+    )
+}
+
+/// Does one thing: whether it comes to what is wanted.
+fn does(desk: &mut Desk, far: &mut Far, play: DeskPlay<'_>) -> Result<bool, Wrong> {
     match play {
-        DeskPlay::Turn(number, did) => turns(rt, desk, place, number, did),
-        DeskPlay::Take(sent) => takes(rt, desk, far, place, sent),
-        DeskPlay::NoRequest => rests(rt, desk, place),
-        DeskPlay::Serve(told) => serves(rt, desk, far, place, told),
-        DeskPlay::Give(came) => gives(rt, desk, far, place, came),
-        DeskPlay::Reply(number, told, came) => replies(rt, desk, place, number, told, came),
-        DeskPlay::Edit(at, version, bytes) => edits(rt, far, at, version, bytes),
-        DeskPlay::Epoch(want) => begins(rt, desk, place, want),
-        DeskPlay::See(sight) => sees(rt, desk, far, sight),
+        DeskPlay::Turn(number, did) => turns(desk, number, did),
+        DeskPlay::Take(sent) => takes(desk, far, sent),
+        DeskPlay::NoRequest => Ok(desk.take_request().is_none()),
+        DeskPlay::Serve(told) => serves(desk, far, told),
+        DeskPlay::Give(came) => Ok(gives(desk, far, came)),
+        DeskPlay::Reply(number, told, came) => replies(desk, number, told, came),
+        DeskPlay::Edit(at, version, bytes) => is_edited(far, at, version, bytes),
+        DeskPlay::Epoch(want) => Ok(begun(desk) == want),
+        DeskPlay::See(sight) => sees(desk, far, sight),
     }
 }
 
-/// Does one thing after the other.
-pub fn does_all(
-    rt: &impl Abort,
+/// Does one thing after the other, of which the first has this place in the table.
+fn does_all(
     desk: &mut Desk,
     far: &mut Far,
+    from: usize,
     plays: &[DeskPlay<'_>],
-) -> Result<(), Fail> {
-    for (place, play) in plays.iter().enumerate() {
-        does(rt, desk, far, place, *play)?;
+) -> Result<(), Wrong> {
+    for (play, place) in plays.iter().zip(from..usize::MAX) {
+        holds(place, does(desk, far, *play)?)?;
     }
     Ok(())
 }
 
-/// Plays with a new desk, which is abandoned at the end.
-pub fn plays(
-    rt: &impl Abort,
+/// Plays one part after the other.
+fn does_both(
+    desk: &mut Desk,
+    far: &mut Far,
+    first: &[DeskPlay<'_>],
+    then: &[DeskPlay<'_>],
+) -> Result<(), Wrong> {
+    does_all(desk, far, 0, first)?;
+    does_all(desk, far, first.len(), then)
+}
+
+/// The same with a new desk, which is abandoned at the end.
+fn plays_with(
     alloc: Global,
     start: Start<'_>,
-    plays: &[DeskPlay<'_>],
-) -> Result<(), Fail> {
-    let mut far = Far::new(alloc, start)?;
+    far: &mut Far,
+    first: &[DeskPlay<'_>],
+    then: &[DeskPlay<'_>],
+) -> Result<(), Wrong> {
     let mut desk = Desk::new(alloc, kernel_of(alloc, start)?);
-    let done = does_all(rt, &mut desk, &mut far, plays);
+    let done = does_both(&mut desk, far, first, then);
     desk.abandon();
     done
 }
 
-/// Plays one part after the other with a new desk.
+/// Plays one part after the other with a new desk and a new server.
 pub fn plays_both(
-    rt: &impl Abort,
     alloc: Global,
     start: Start<'_>,
     first: &[DeskPlay<'_>],
     then: &[DeskPlay<'_>],
-) -> Result<(), Fail> {
-    let mut all = Vec::new(alloc);
-    all.extend_from_slice(first)?;
-    all.extend_from_slice(then)?;
-    plays(rt, alloc, start, &all)
+) -> Result<(), Wrong> {
+    let mut far = Far::new(alloc, start)?;
+    plays_with(alloc, start, &mut far, first, then)
+}
+
+/// Plays with a new desk and a new server.
+pub fn plays(alloc: Global, start: Start<'_>, plays: &[DeskPlay<'_>]) -> Result<(), Wrong> {
+    plays_both(alloc, start, plays, &[])
 }

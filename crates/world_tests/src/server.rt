@@ -1,14 +1,15 @@
 //! Each row of the server's table, requests out of turn, and edits.
-ghost use Rattle.std.specs.Prelude.{◌≡◌, OnOk};
+ghost use Rattle.std.specs.Prelude.{◌≡◌};
 
 use crate::asking::{Ground, LOOSE, ServerWish, ToldAnswer};
-use crate::turns::{ServerTurn, holds, starts};
+use crate::start::seed;
+use crate::turns::{ServerTurn, has_file, starts};
 use sk_ids::Name;
 use sk_objects::content::LAST_VERSION;
 use sk_server::{EditRefusal, LAST_REQUEST, Server};
 use std::alloc::Global;
-use std::test::Fail;
-use tests_support::values::{content, name};
+use tests_support::plain::name;
+use tests_support::wrong::{Wrong, holds, passes};
 
 /// A request that rests on these guesses, where all before the first guess are settled.
 fn resting(rests: &[u64], guess: Option<u64>) -> Ground<'_> {
@@ -20,18 +21,18 @@ fn resting(rests: &[u64], guess: Option<u64>) -> Ground<'_> {
 }
 
 #[test]
-fn get_copies(rt: HostRuntime) -> Result<(), Fail> {
+fn get_copies(rt: HostRuntime) {
     let turns = [
         ServerTurn::Asks(ServerWish::Get(b"/x"), LOOSE, ToldAnswer::Copy(3, b"old")),
         ServerTurn::Asks(ServerWish::Get(b"/y"), LOOSE, ToldAnswer::Copy(0, b"")),
         ServerTurn::Lacks(b"/y"),
         ServerTurn::Next(3),
     ];
-    starts(&rt, rt.alloc(), 3, b"old", &turns)
+    passes(&rt, starts(rt.alloc(), 3, b"old", &turns));
 }
 
 #[test]
-fn check_compares_versions(rt: HostRuntime) -> Result<(), Fail> {
+fn check_compares_versions(rt: HostRuntime) {
     let turns = [
         ServerTurn::Asks(ServerWish::Check(b"/x", 3), LOOSE, ToldAnswer::Yes),
         ServerTurn::Asks(
@@ -46,11 +47,11 @@ fn check_compares_versions(rt: HostRuntime) -> Result<(), Fail> {
         ),
         ServerTurn::Asks(ServerWish::Check(b"/y", 0), LOOSE, ToldAnswer::Yes),
     ];
-    starts(&rt, rt.alloc(), 3, b"old", &turns)
+    passes(&rt, starts(rt.alloc(), 3, b"old", &turns));
 }
 
 #[test]
-fn store_writes_where_the_version_fits(rt: HostRuntime) -> Result<(), Fail> {
+fn store_writes_where_the_version_fits(rt: HostRuntime) {
     let turns = [
         ServerTurn::Asks(
             ServerWish::Store(b"/x", 2, b"new"),
@@ -66,11 +67,11 @@ fn store_writes_where_the_version_fits(rt: HostRuntime) -> Result<(), Fail> {
             ToldAnswer::No(4, b"new"),
         ),
     ];
-    starts(&rt, rt.alloc(), 3, b"old", &turns)
+    passes(&rt, starts(rt.alloc(), 3, b"old", &turns));
 }
 
 #[test]
-fn last_version_is_kept(rt: HostRuntime) -> Result<(), Fail> {
+fn last_version_is_kept(rt: HostRuntime) {
     let store = ServerWish::Store(b"/x", LAST_VERSION, b"n");
     let refusal = EditRefusal::Version(LAST_VERSION);
     let turns = [
@@ -78,11 +79,11 @@ fn last_version_is_kept(rt: HostRuntime) -> Result<(), Fail> {
         ServerTurn::Edits(b"/x", LAST_VERSION, b"n", Err(refusal)),
         ServerTurn::Holds(b"/x", LAST_VERSION, b"m"),
     ];
-    starts(&rt, rt.alloc(), LAST_VERSION, b"m", &turns)
+    passes(&rt, starts(rt.alloc(), LAST_VERSION, b"m", &turns));
 }
 
 #[test]
-fn stale_store_dropped(rt: HostRuntime) -> Result<(), Fail> {
+fn stale_store_dropped(rt: HostRuntime) {
     let check = ServerWish::Check(b"/x", 3);
     let store = ServerWish::Store(b"/x", 3, b"new");
     let turns = [
@@ -91,11 +92,11 @@ fn stale_store_dropped(rt: HostRuntime) -> Result<(), Fail> {
         ServerTurn::Asks(store, resting(&[1], Some(2)), ToldAnswer::Dropped),
         ServerTurn::Holds(b"/x", 4, b"foreign"),
     ];
-    starts(&rt, rt.alloc(), 3, b"old", &turns)
+    passes(&rt, starts(rt.alloc(), 3, b"old", &turns));
 }
 
 #[test]
-fn dropped_guess_is_remembered(rt: HostRuntime) -> Result<(), Fail> {
+fn dropped_guess_is_remembered(rt: HostRuntime) {
     let stale = ServerWish::Check(b"/x", 2);
     let check = ServerWish::Check(b"/x", 3);
     let store = ServerWish::Store(b"/x", 3, b"n");
@@ -112,7 +113,7 @@ fn dropped_guess_is_remembered(rt: HostRuntime) -> Result<(), Fail> {
         ServerTurn::Asks(store, resting(&[4], None), ToldAnswer::Yes),
         ServerTurn::Holds(b"/x", 4, b"n"),
     ];
-    starts(&rt, rt.alloc(), 3, b"old", &turns)
+    passes(&rt, starts(rt.alloc(), 3, b"old", &turns));
 }
 
 /// The guess 5 is refused, and then a store rests on it.
@@ -138,9 +139,9 @@ fn refused(settled: u64, told: ToldAnswer<'_>) -> [ServerTurn<'_>; 2] {
 }
 
 #[test]
-fn settled_forgets(rt: HostRuntime) -> Result<(), Fail> {
+fn settled_forgets(rt: HostRuntime) {
     let [stale, dropped] = refused(5, ToldAnswer::Dropped);
-    starts(&rt, rt.alloc(), 3, b"old", &[stale, dropped])?;
+    passes(&rt, starts(rt.alloc(), 3, b"old", &[stale, dropped]));
     let [stale, stored] = refused(6, ToldAnswer::Yes);
     let check = ServerWish::Check(b"/x", 4);
     let turns = [
@@ -149,11 +150,11 @@ fn settled_forgets(rt: HostRuntime) -> Result<(), Fail> {
         ServerTurn::Holds(b"/x", 4, b"n"),
         ServerTurn::Asks(check, resting(&[5], None), ToldAnswer::Yes),
     ];
-    starts(&rt, rt.alloc(), 3, b"old", &turns)
+    passes(&rt, starts(rt.alloc(), 3, b"old", &turns));
 }
 
 #[test]
-fn out_of_turn(rt: HostRuntime) -> Result<(), Fail> {
+fn out_of_turn(rt: HostRuntime) {
     let turns = [
         ServerTurn::Early(5, 1),
         ServerTurn::Early(0, 1),
@@ -163,11 +164,11 @@ fn out_of_turn(rt: HostRuntime) -> Result<(), Fail> {
         ServerTurn::Next(1),
         ServerTurn::Asks(ServerWish::Get(b"/x"), LOOSE, ToldAnswer::Copy(3, b"old")),
     ];
-    starts(&rt, rt.alloc(), 3, b"old", &turns)
+    passes(&rt, starts(rt.alloc(), 3, b"old", &turns));
 }
 
 #[test]
-fn edits(rt: HostRuntime) -> Result<(), Fail> {
+fn edits(rt: HostRuntime) {
     let turns = [
         ServerTurn::Edits(b"/x", 2, b"n", Err(EditRefusal::Version(3))),
         ServerTurn::Edits(b"/x", 3, b"n", Ok(4)),
@@ -176,34 +177,39 @@ fn edits(rt: HostRuntime) -> Result<(), Fail> {
         ServerTurn::Holds(b"/x", 4, b"n"),
         ServerTurn::Holds(b"/y", 1, b"y"),
     ];
-    starts(&rt, rt.alloc(), 3, b"old", &turns)
+    passes(&rt, starts(rt.alloc(), 3, b"old", &turns));
 }
 
-/// Sets a file before the first request.
-fn seed(server: &mut Server, at: &[u8], version: u64, bytes: &[u8]) -> Result<(), Fail>
+/// Sets the files `/b`, `/a` and `/c`, and `/a` once more.
+fn seeds(server: &mut Server) -> Result<(), Wrong>
     requires { server.old.next ≡ 1 }
-    ensures { OnOk result (server.new.next ≡ 1) }
 {
-    Ok(server.seed(name(at)?, content(version, bytes)?)?)
+    seed(server, (b"/b", 1, b"b"))?;
+    seed(server, (b"/a", 1, b"a"))?;
+    seed(server, (b"/c", 1, b"c"))?;
+    seed(server, (b"/a", 2, b"again"))
 }
 
-/// A server with the files `/b`, `/a` and `/c`, and `/a` once more.
-fn with_three_files(alloc: Global) -> Result<Server, Fail> {
+/// Whether a server's files have these names.
+fn are_names(server: &Server, want: &[Name]) -> Result<bool, Wrong> {
+    let names = server.names()?;
+    Ok(names.as_slice() == want)
+}
+
+/// A server has these files by rising names, and what was set last.
+fn has_three_files(server: &Server) -> Result<(), Wrong> {
+    let rising = [name(b"/a")?, name(b"/b")?, name(b"/c")?];
+    holds(0, are_names(server, &rising)?)?;
+    holds(1, has_file(server, b"/a", 2, b"again")?)
+}
+
+fn seeds_three_files(alloc: Global) -> Result<(), Wrong> {
     let mut server = Server::new(alloc);
-    seed(&mut server, b"/b", 1, b"b")?;
-    seed(&mut server, b"/a", 1, b"a")?;
-    seed(&mut server, b"/c", 1, b"c")?;
-    seed(&mut server, b"/a", 2, b"again")?;
-    Ok(server)
-}
-
-fn three_names() -> Result<[Name; 3], Fail> {
-    Ok([name(b"/a")?, name(b"/b")?, name(b"/c")?])
+    seeds(&mut server)?;
+    has_three_files(&server)
 }
 
 #[test]
-fn names_rise(rt: HostRuntime) -> Result<(), Fail> {
-    let server = with_three_files(rt.alloc())?;
-    assert_eq!(rt; server.names()?.as_slice(), three_names()?.as_slice());
-    holds(&rt, &server, b"/a", 2, b"again")
+fn names_rise(rt: HostRuntime) {
+    passes(&rt, seeds_three_files(rt.alloc()));
 }

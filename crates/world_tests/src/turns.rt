@@ -1,13 +1,11 @@
 //! Tests as tables: the turns that are taken with a server, each with what has to come of it.
 //! A table has plain numbers and bytes, so that a test is short to prove.
-use crate::asking::{
-    Ground, LOOSE, ServerWish, ToldAnswer, answer_of, ask_of, asked, request, with_file,
-};
-use sk_server::{Ask, EditRefusal, Server, ServerRefusal};
+use crate::asking::{Ground, LOOSE, ServerWish, ToldAnswer, answer_of, ask_of, asked, request};
+use crate::start::server_with;
+use sk_server::{Ask, EditRefusal, Request, Server, ServerRefusal};
 use std::alloc::Global;
-use std::process::Abort;
-use std::test::Fail;
-use tests_support::values::{content, name, text};
+use tests_support::plain::{content, name, text};
+use tests_support::wrong::{Wrong, holds};
 
 /// A turn with a server, and what comes of it.
 #[derive(Clone, Copy)]
@@ -26,104 +24,84 @@ pub enum ServerTurn<'a> {
     Next(u64),
 }
 
-/// The next request has this answer.
+/// Whether the next request has this answer.
 pub fn asks(
-    rt: &impl Abort,
     alloc: Global,
     server: &mut Server,
     wish: ServerWish<'_>,
     ground: Ground<'_>,
     told: ToldAnswer<'_>,
-) -> Result<(), Fail> {
-    let number = server.next();
-    let want = answer_of(told)?;
+) -> Result<bool, Wrong> {
     let answer = asked(alloc, server, ask_of(wish)?, ground)?;
-    assert_eq!(rt; answer, want, "request {number}");
-    Ok(())
+    Ok(answer == answer_of(told)?)
 }
 
-/// A request of this number is handed back, since the other number is next.
-fn is_early(
-    rt: &impl Abort,
-    alloc: Global,
-    server: &mut Server,
-    number: u64,
-    expected: u64,
-) -> Result<(), Fail> {
-    let early = request(alloc, number, Ask::Get(name(b"/x")?), LOOSE)?;
+/// Whether a request is handed back, since the other number is next.
+fn is_back(server: &mut Server, early: Request, number: u64, expected: u64) -> bool {
     match server.answer(early) {
-        Ok(reply) => panic!(rt; "answered: {reply:?}"),
+        Ok(_) => false,
         Err((back, refusal)) => {
-            assert_eq!(rt; refusal, ServerRefusal::OutOfTurn { expected });
-            assert_eq!(rt; back.number, number);
+            back.number == number && refusal == ServerRefusal::OutOfTurn { expected }
         }
     }
-    Ok(())
 }
 
-/// An edit comes to this.
+/// Whether a request of this number is handed back so.
+fn is_early(alloc: Global, server: &mut Server, number: u64, expected: u64) -> Result<bool, Wrong> {
+    let early = request(alloc, number, Ask::Get(name(b"/x")?), LOOSE)?;
+    Ok(is_back(server, early, number, expected))
+}
+
+/// Whether an edit comes to this.
 pub fn edits(
-    rt: &impl Abort,
     server: &mut Server,
     at: &[u8],
     expected: u64,
     bytes: &[u8],
     want: Result<u64, EditRefusal>,
-) -> Result<(), Fail> {
+) -> Result<bool, Wrong> {
     let edited = server.edit(name(at)?, expected, text(bytes)?);
-    assert_eq!(rt; edited, want);
-    Ok(())
+    Ok(edited == want)
 }
 
-/// A file has this version and these bytes.
-pub fn holds(
-    rt: &impl Abort,
-    server: &Server,
-    at: &[u8],
-    version: u64,
-    bytes: &[u8],
-) -> Result<(), Fail> {
+/// Whether a file has this version and these bytes.
+pub fn has_file(server: &Server, at: &[u8], version: u64, bytes: &[u8]) -> Result<bool, Wrong> {
     let want = content(version, bytes)?;
-    assert_eq!(rt; server.file(&name(at)?), Some(&want));
-    Ok(())
+    Ok(server.file(&name(at)?) == Some(&want))
 }
 
-/// Takes a turn.
-fn takes(
-    rt: &impl Abort,
-    alloc: Global,
-    server: &mut Server,
-    turn: ServerTurn<'_>,
-) -> Result<(), Fail> {
+/// Whether a file was never stored.
+fn lacks(server: &Server, at: &[u8]) -> Result<bool, Wrong> {
+    Ok(server.file(&name(at)?).is_none())
+}
+
+/// Takes a turn: whether it comes to what is wanted.
+fn takes(alloc: Global, server: &mut Server, turn: ServerTurn<'_>) -> Result<bool, Wrong> {
     match turn {
-        ServerTurn::Asks(wish, ground, told) => asks(rt, alloc, server, wish, ground, told),
-        ServerTurn::Early(number, expected) => is_early(rt, alloc, server, number, expected),
-        ServerTurn::Edits(at, expected, bytes, want) => edits(
-            rt, server, at, expected, bytes, want,
-        ),
-        ServerTurn::Holds(at, version, bytes) => holds(rt, server, at, version, bytes),
-        ServerTurn::Lacks(at) => {
-            assert!(rt; server.file(&name(at)?).is_none());
-            Ok(())
-        }
-        ServerTurn::Next(number) => {
-            assert_eq!(rt; server.next(), number);
-            Ok(())
-        }
+        ServerTurn::Asks(wish, ground, told) => asks(alloc, server, wish, ground, told),
+        ServerTurn::Early(number, expected) => is_early(alloc, server, number, expected),
+        ServerTurn::Edits(at, expected, bytes, want) => edits(server, at, expected, bytes, want),
+        ServerTurn::Holds(at, version, bytes) => has_file(server, at, version, bytes),
+        ServerTurn::Lacks(at) => lacks(server, at),
+        ServerTurn::Next(number) => Ok(server.next() == number),
     }
+}
+
+/// Takes one turn after the other.
+fn takes_all(alloc: Global, server: &mut Server, turns: &[ServerTurn<'_>]) -> Result<(), Wrong> {
+    for (place, turn) in turns.iter().enumerate() {
+        holds(place, takes(alloc, server, *turn)?)?;
+    }
+    Ok(())
 }
 
 /// Takes turns with a server whose file `/x` starts with this version and these bytes.
 pub fn starts(
-    rt: &impl Abort,
     alloc: Global,
     version: u64,
     bytes: &[u8],
     turns: &[ServerTurn<'_>],
-) -> Result<(), Fail> {
-    let mut server = with_file(alloc, b"/x", content(version, bytes)?)?;
-    for turn in turns {
-        takes(rt, alloc, &mut server, *turn)?;
-    }
-    Ok(())
+) -> Result<(), Wrong> {
+    let mut server = server_with(alloc, (b"/x", version, bytes))?;
+    takes_all(alloc, &mut server, turns)
 }

@@ -50,22 +50,22 @@ fn four_levels_of_processes(rt: HostRuntime) {
 }
 
 /// The first entity stands before the other.
-fn stands_before(rt: &impl Abort, one: Entity, other: Entity) {
-    assert!(rt; one.cmp(&other) == Ordering::Less);
+fn stands_before(rt: &impl Abort, one: &Entity, other: &Entity) {
+    assert!(rt; one.cmp(other) == Ordering::Less);
 }
 
 #[test]
 fn entities_by_kind(rt: HostRuntime) {
     let (pid, name) = (pid(&rt, 7), name(&rt, b"/x"));
-    stands_before(&rt, Entity::Proc(pid), Entity::Sig(pid));
-    stands_before(&rt, Entity::Exit(pid), Entity::Copy(name));
+    stands_before(&rt, &Entity::Proc(pid), &Entity::Sig(pid));
+    stands_before(&rt, &Entity::Exit(pid), &Entity::Copy(name));
 }
 
 /// A name of a directory stands behind its directory, and before the copies.
 fn stands_between(rt: &impl Abort, directory: &ObjId, name: &Name) {
     let link = Entity::Link(*directory, *name);
-    stands_before(rt, Entity::Obj(*directory), link);
-    stands_before(rt, link, Entity::Copy(*name));
+    stands_before(rt, &Entity::Obj(*directory), &link);
+    stands_before(rt, &link, &Entity::Copy(*name));
 }
 
 #[test]

@@ -108,7 +108,9 @@ fn drop_resting<O: Drop>(said: &mut Vec<Output<O>>, id: GuessId)
 fn others_before<O>(said: &[Output<O>], to: u16) -> usize
     ensures { result ≡ prefix_len (λ o. not (o.0.0 == to)) said.now }
 {
-    said.iter().take_while(|output| is_other(*output, to)).count()
+    said.iter()
+        .take_while(|output| is_other(*output, to))
+        .count()
 }
 
 fn is_other<O>(output: &Output<O>, to: u16) -> bool

@@ -79,7 +79,6 @@ module _ {V : Type 0} where
       let rest = committing R g s h xs zs (subst (λ u. RetainsInTurn R u xs zs) says.1 later) in
       is ∙ (λ i. cond (says.0 i) (says.2 i ∷ rest i) (rest i)) ∙ one_left (without g x.tags) x.before (committed g xs)
 
-
 module _ {V : Type 0} where
   pub noted_again : (tags : List ℕ) (log : List (Note V)) (n : Note V) → n.tags ≡ tags → goes_unnoted tags (log ++ n ∷ []) ≡ true
   noted_again tags log n is = ap (same_tags tags) (last_more [] log n ∙ is) ∙ (exact_bytes tags tags).1 refl

@@ -27,7 +27,6 @@ same_by : {K : Type 0} {R : K → K → Ordering} → IsAntisymmetric R → (q k
 same_by {R = R} exact q k is = exact q k ((Equal-is (R q k)).0 is)
 
 module _ {K V : Type 0} {R : K → K → Ordering} (total : IsTotalOrder R) (exact : IsAntisymmetric R) where
-
   -- what is told of a slot, where one is changed
   pub one_changed : {A : Type 0} (f h : SlotView V → A) (m n : FinMap R (SlotView V)) (k : K) (s w : SlotView V) → get m k ≡ Some s → n ≡ insert m k w → f w ≡ h s
       → (q : K) → f (slot_in (get n q)) ≡ cond (eq_by_cmp R q k) (h (slot_in (get m q))) (f (slot_in (get m q)))

@@ -11,8 +11,7 @@ loop-place-preserved-then-goes_unnoted g c =
     let i = c.loop-place.place in
     let n = c.index.result.now in
     let near : i < length ns = omega (arith, c.loop-place-test.true, c.len.ensures, c.loop-place.log.ok.0) in
-    let told : goes_unnoted n.tags (take i ns) ≡ c.goes_unnoted.result = sym (c.goes_unnoted.ensures ∙ (λ j. goes_unnoted (c.tags.ensures j) (take i (c.deref.ensures.value j)))) in
-    (
+    let told : goes_unnoted n.tags (take i ns) ≡ c.goes_unnoted.result = sym (c.goes_unnoted.ensures ∙ (λ j. goes_unnoted (c.tags.ensures j) (take i (c.deref.ensures.value j)))) in (
       ap (merged []) c.remove.ensures.items ∙ left_out [] i ns n near c.index.ensures (told ∙ c.if-goes_unnoted.true) ∙ c.loop-place.invariant.0,
       subst (IsJoined []) (sym (ap (take i) c.remove.ensures.items ∙ front_left i ns)) c.loop-place.invariant.1,
       omega (arith, c.remove.ensures.len, c.loop-place.invariant.2),
@@ -25,8 +24,7 @@ loop-place-preserved-then-goes_unnoted-2 g c =
     let i = c.loop-place.place in
     let n = c.index.result.now in
     let near : i < length ns = omega (arith, c.loop-place-test.true, c.len.ensures, c.loop-place.log.ok.0) in
-    let told : goes_unnoted n.tags (take i ns) ≡ c.goes_unnoted.result = sym (c.goes_unnoted.ensures ∙ (λ j. goes_unnoted (c.tags.ensures j) (take i (c.deref.ensures.value j)))) in
-    (
+    let told : goes_unnoted n.tags (take i ns) ≡ c.goes_unnoted.result = sym (c.goes_unnoted.ensures ∙ (λ j. goes_unnoted (c.tags.ensures j) (take i (c.deref.ensures.value j)))) in (
       ap (merged []) c.remove.ensures.items ∙ left_out [] i ns n near c.index.ensures (told ∙ c.if-goes_unnoted.true) ∙ c.loop-place.invariant.0,
       subst (IsJoined []) (sym (ap (take i) c.remove.ensures.items ∙ front_left i ns)) c.loop-place.invariant.1,
       omega (arith, c.remove.ensures.len, c.loop-place.invariant.2),

@@ -1,12 +1,12 @@
 //! What rests on a guess, through files, until the guess is decided.
 use crate::plays::{Decision, KernelPlay, Thing, plays_on};
-use crate::start::{declares_file, two_processes};
+use crate::start::{declares_file, passes, two_processes};
 use sk_kernel::{Kernel, Outcome};
 use sk_script::Boot;
 use std::alloc::Global;
 use std::process::Abort;
 use tests_support::plain::name;
-use tests_support::wrong::{Wrong, passes};
+use tests_support::wrong::Wrong;
 
 /// Writes what it fetches to a file.
 const WRITER: &[u8] = b"look r1 r7 f\nfetch /x\nwrite r1 r2\n";

@@ -1,12 +1,12 @@
 //! Epochs: what is handed out, and what is known of the guesses of earlier ones.
 use crate::plays::{Count, Decision, KernelPlay, Player, does_all, plays};
-use crate::start::{Start, kernel_of};
+use crate::start::{Start, kernel_of, passes};
 use sk_guesses::Status;
 use sk_kernel::{EpochRefusal, Kernel, Outcome};
 use sk_plain::{Refusal, strike_from};
 use std::alloc::Global;
 use std::process::Abort;
-use tests_support::wrong::{Wrong, holds, passes};
+use tests_support::wrong::{Wrong, holds};
 
 /// The only process of a kernel of number 1.
 fn one_process<'a>(script: &'a [(&'a [u8], usize)], limit: u32) -> Start<'a> {

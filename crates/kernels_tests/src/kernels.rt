@@ -2,7 +2,7 @@
 ghost use Rattle.std.specs.Prelude.{◌≡◌};
 
 use crate::plays::{Decision, KernelPlay, Player, does, does_all};
-use crate::start::Start;
+use crate::start::{Start, passes};
 use sk_guesses::Guess;
 use sk_kernel::{FailRefusal, Kernel, Outcome, Stranger};
 use sk_plain::Trace;
@@ -10,7 +10,7 @@ use sk_terminal::Texts;
 use std::alloc::Global;
 use std::process::Abort;
 use tests_support::plain::text;
-use tests_support::wrong::{Wrong, holds, passes};
+use tests_support::wrong::{Wrong, holds};
 
 const SAY_FETCH_SAY: &[u8] = b"text \"a\"\nsay\nfetch /01\ntext \"b\"\nsay\n";
 

@@ -1,12 +1,12 @@
 //! A process is leased, and handed in.
-use crate::start::declares_script;
+use crate::start::{declares_script, passes};
 use sk_ids::{Entity, Pid};
 use sk_kernel::{HandIn, Kernel};
 use sk_plain::{Refusal, View};
 use sk_script::{Boot, Input, Lease};
 use std::alloc::Global;
 use tests_support::plain::{name, pid};
-use tests_support::wrong::{Wrong, holds, passes};
+use tests_support::wrong::{Wrong, holds};
 
 /// What a hand-in comes to.
 #[derive(Clone, Copy, PartialEq, Eq)]

@@ -4,6 +4,7 @@ ghost use Rattle.sk_record.specs.Notes.{last_tags};
 ghost use Rattle.sk_undo.specs.Kept.{object_undone, ObjectFits, runs_of};
 ghost use Rattle.sk_undo.specs.Log.{CanGoBack, Covers};
 
+use crate::start::passes;
 use sk_changes::{Change, Invertible};
 use sk_ids::{GuessId, TagSet, Text};
 use sk_objects::{Kind, Value};
@@ -11,7 +12,7 @@ use sk_script::Process;
 use sk_undo::{ObjectLog, ProcessLog};
 use std::alloc::Global;
 use tests_support::plain::{guess, name, pid, tag, text};
-use tests_support::wrong::{Wrong, holds, passes};
+use tests_support::wrong::{Wrong, holds};
 
 fn write(offset: u32, bytes: &[u8]) -> Result<Change, Wrong> {
     let bytes = text(bytes)?;

@@ -1,11 +1,11 @@
 //! How many notes are held, until the guesses are decided that they are for.
 use crate::plays::{Count, Decision, KernelPlay, plays, plays_on};
-use crate::start::{Start, declares_file, two_processes};
+use crate::start::{Start, declares_file, passes, two_processes};
 use sk_kernel::{Kernel, Outcome};
 use std::alloc::Global;
 use std::process::Abort;
 use tests_support::plain::name;
-use tests_support::wrong::{Wrong, passes};
+use tests_support::wrong::Wrong;
 
 /// Writes what it fetches to a file, three times.
 const WRITER: &[u8] = b"look r1 r7 f\nfetch /x\nwrite r1 r2\nwrite r1 r2\nwrite r1 r2\n";

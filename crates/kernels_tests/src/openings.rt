@@ -1,11 +1,11 @@
 //! Plain kernels and openings, compared.
-use crate::start::{Start, boot_of, kernel_of};
+use crate::start::{Start, boot_of, kernel_of, passes};
 use sk_kernel::{Kernel, Opening};
 use sk_plain::Plain;
 use sk_script::Input;
 use std::alloc::Global;
 use tests_support::plain::pid;
-use tests_support::wrong::{Wrong, holds, passes};
+use tests_support::wrong::{Wrong, holds};
 
 /// A kernel of number 1 with one process, which says nothing again and again.
 const START: Start<'static> = Start {

@@ -1,12 +1,12 @@
 //! Records, stores and steps, and what a failure leaves of a record.
-use crate::start::{declares_file, two_processes};
+use crate::start::{declares_file, passes, two_processes};
 use sk_ids::{Entity, Name, ObjId};
 use sk_plain::{Entry, Event, InputRef, KeptInput, Trace, strike_guess};
 use sk_script::{Boot, Input, ObjectKind, ROOT};
 use sk_store::{EntityState, Look, Store};
 use std::alloc::Global;
 use tests_support::plain::{content, guess, name, pid};
-use tests_support::wrong::{Wrong, holds, passes};
+use tests_support::wrong::{Wrong, holds};
 
 /// What a process does: a step without input, a fetch from the copy, one of the server's content where
 /// there is no copy, and one that is guessed.

@@ -5,6 +5,7 @@ use sk_ids::Name;
 use sk_kernel::Kernel;
 use sk_script::{Boot, ObjectKind, Script};
 use std::alloc::{AllocError, Global};
+use std::process::Abort;
 use tests_support::plain::{content, name};
 use tests_support::wrong::Wrong;
 
@@ -19,6 +20,11 @@ pub struct Start<'a> {
     pub processes: u8,
     /// The most events that there may be.
     pub limit: u32,
+}
+
+/// A test passes.
+pub fn passes(rt: &impl Abort, done: Result<(), Wrong>) {
+    assert_eq!(rt; done, Ok(()));
 }
 
 /// Adds a line, so many times.

@@ -4,7 +4,6 @@ use sk_plain::{Refusal, TraceFault};
 use sk_script::BootFault;
 use sk_words::Fault;
 use std::alloc::AllocError;
-use std::process::Abort;
 
 /// Why a test does not pass.
 #[derive(Clone, Copy, Debug, PartialEq, Eq)]
@@ -54,9 +53,4 @@ impl From<TraceFault> for Wrong {
 /// What stands at this place of a test holds.
 pub fn holds(place: usize, is: bool) -> Result<(), Wrong> {
     if is { Ok(()) } else { Err(Wrong::At(place)) }
-}
-
-/// A test passes.
-pub fn passes(rt: &impl Abort, done: Result<(), Wrong>) {
-    assert_eq!(rt; done, Ok(()));
 }

@@ -1,12 +1,12 @@
 //! Many guesses and many rounds, and how a desk ends. With ample memory no call is refused for want of it.
 use crate::asking::{ServerWish, ToldAnswer};
 use crate::plays::{Came, Did, Far, Sent, gives, serves, takes, turns};
-use crate::start::{Start, kernel_of, server_of};
+use crate::start::{Start, kernel_of, passes, server_of};
 use sk_client::{Desk, World, WorldEvent};
 use sk_plain::Refusal;
 use std::alloc::Global;
 use tests_support::plain::pid;
-use tests_support::wrong::{Wrong, holds, passes};
+use tests_support::wrong::{Wrong, holds};
 
 /// Processes with this script, and a copy `/x` like the server's file.
 fn fetching<'a>(scripts: &'a [&'a [u8]], limit: u32) -> Start<'a> {

@@ -1,10 +1,10 @@
 //! With ample memory no call of a server is refused, however often and past round numbers.
 use crate::asking::{Ground, LOOSE, ServerWish, ToldAnswer};
-use crate::start::server_with;
+use crate::start::{passes, server_with};
 use crate::turns::{asks, edits};
 use sk_server::Server;
 use std::alloc::Global;
-use tests_support::wrong::{Wrong, holds, passes};
+use tests_support::wrong::{Wrong, holds};
 
 /// The name of a number below a million.
 fn numbered(number: u64) -> [u8; 12] {

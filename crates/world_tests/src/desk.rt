@@ -1,12 +1,12 @@
 //! Runs with a desk and a server, and each kind of reply.
 use crate::asking::{ServerWish, ToldAnswer};
 use crate::plays::{Came, DeskPlay, Did, Sent, Sight, plays, plays_both};
-use crate::start::{Start, Version};
+use crate::start::{Start, Version, passes};
 use sk_client::ReplyRefusal;
 use sk_objects::content::LAST_VERSION;
 use sk_plain::Refusal;
 use std::alloc::Global;
-use tests_support::wrong::{Wrong, passes};
+use tests_support::wrong::Wrong;
 
 /// These scripts, with a copy or none, and room for many events.
 fn with<'a>(scripts: &'a [&'a [u8]], copy: Option<Version<'a>>) -> Start<'a> {

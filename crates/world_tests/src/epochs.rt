@@ -1,7 +1,7 @@
 //! Epochs of a desk.
 use crate::asking::{ServerWish, ToldAnswer};
 use crate::plays::{Came, DeskPlay, Did, Sent, Sight, plays};
-use crate::start::Start;
+use crate::start::{Start, passes};
 use sk_kernel::EpochRefusal;
 use tests_support::wrong::passes;
 

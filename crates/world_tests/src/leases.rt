@@ -1,5 +1,5 @@
 //! A process of a desk is leased, and handed in.
-use crate::start::{Start, kernel_of};
+use crate::start::{Start, kernel_of, passes};
 use sk_client::{Desk, Turn};
 use sk_ids::Pid;
 use sk_kernel::HandIn;
@@ -7,7 +7,7 @@ use sk_plain::Refusal;
 use sk_script::Lease;
 use std::alloc::Global;
 use tests_support::plain::pid;
-use tests_support::wrong::{Wrong, holds, passes};
+use tests_support::wrong::{Wrong, holds};
 
 /// A process with two private instructions and one that is not, and one that ends it by a signal.
 const START: Start<'static> = Start {

@@ -2,14 +2,14 @@
 ghost use Rattle.std.specs.Prelude.{◌≡◌};
 
 use crate::asking::{Ground, LOOSE, ServerWish, ToldAnswer};
-use crate::start::seed;
+use crate::start::{passes, seed};
 use crate::turns::{ServerTurn, has_file, starts};
 use sk_ids::Name;
 use sk_objects::content::LAST_VERSION;
 use sk_server::{EditRefusal, LAST_REQUEST, Server};
 use std::alloc::Global;
 use tests_support::plain::name;
-use tests_support::wrong::{Wrong, holds, passes};
+use tests_support::wrong::{Wrong, holds};
 
 /// A request that rests on these guesses, where all before the first guess are settled.
 fn resting(rests: &[u64], guess: Option<u64>) -> Ground<'_> {

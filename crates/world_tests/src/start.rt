@@ -7,6 +7,7 @@ use sk_kernel::Kernel;
 use sk_script::{Boot, Script};
 use sk_server::Server;
 use std::alloc::Global;
+use std::process::Abort;
 use tests_support::plain::{content, name};
 use tests_support::wrong::Wrong;
 
@@ -21,6 +22,11 @@ pub struct Start<'a> {
     pub copy: Option<Version<'a>>,
     pub file: Option<Version<'a>>,
     pub limit: u32,
+}
+
+/// A test passes.
+pub fn passes(rt: &impl Abort, done: Result<(), Wrong>) {
+    assert_eq!(rt; done, Ok(()));
 }
 
 /// The name of a process's script, another for each number below 100.

@@ -3,7 +3,6 @@ use crate::asking::{ServerWish, ToldAnswer};
 use crate::plays::{Came, DeskPlay, Did, Sent, Sight, plays};
 use crate::start::{Start, passes};
 use sk_kernel::EpochRefusal;
-use tests_support::wrong::passes;
 
 /// A process that fetches twice, and a copy like the server's file.
 const FETCHING: Start<'static> = Start {

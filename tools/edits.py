@@ -2,7 +2,7 @@
 """The must-fail edits: wrong bodies that a person could believe, which the contract of their function must refuse.
 
     tools/edits.py --check            each edit's text: it stands once, in its function, whose contract is the one that it was
-                                      tried on; seconds, and nothing is proved
+                                      written for; seconds, and nothing is proved
     tools/edits.py --gate             tries the edits that the whole test tries, those marked `gate`
     tools/edits.py [CRATE[/NAME]..]   tries all of these crates, or of all
     tools/edits.py --changed REV      tries all of the crates whose text changed since a commit: before a change is landed
@@ -162,7 +162,7 @@ def fault(edit):
     if place and edit.function != place.path and not edit.function.startswith("all"):
         return f"its text stands in {place.path}, and not in {edit.function or 'no function'}"
     if place and edit.contract != digest(contract_of(place, edit.crate)):
-        return f"the contract of {place.path} is not the one that it was tried on: try it, then tools/edits.py --write"
+        return f"the contract of {place.path} is not the one that it was written for: try it, then tools/edits.py --write"
     return None if place or edit.function else "its text stands in no function, and it names none"
 
 

@@ -1,5 +1,5 @@
 //! Sets of guesses.
-ghost use Rattle.std.specs.Prelude.{◌≡◌, ◌&&◌, ◌||◌, ◌<◌, ◌∷◌, ◌++◌, ℕ, IfOk, IfSome, OnOk, None, [], true, false, not, length, get_or};
+ghost use Rattle.std.specs.Prelude.{◌≡◌, ◌↔◌, ◌&&◌, ◌||◌, ◌<◌, ◌∷◌, ◌++◌, ℕ, IfOk, IfSome, OnOk, None, [], true, false, not, length, get_or};
 ghost use Rattle.std.specs.Ordering.{nat_cmp};
 ghost use Rattle.std.specs.List.Sorted.{IsStrictlySortedBy};
 ghost use Rattle.sk_record.specs.Notes.{has, without};
@@ -161,7 +161,7 @@ impl TagSet {
 
     /// Whether each guess of the other set is in this one. Most that are asked for have no guess, or are the same.
     pub fn covers(&self, other: &TagSet) -> bool
-        ensures { result ≡ true → (id : ℕ) → has id other.now ≡ true → has id self.now ≡ true }
+        ensures { (result ≡ true) ↔ ((id : ℕ) → has id other.now ≡ true → has id self.now ≡ true) }
     {
         let ids = self.ids.as_slice();
         let others = other.ids.as_slice();

@@ -12,4 +12,4 @@ returns-then-is_none c = λ _.
 pub returns : goal.returns
 returns c = λ is.
     covers_one c.args.logs.now.tags c.args.entity.now (tags_in c.args.logs.now.slots)
-    (λ g here. sym (ap (has g) c.next_tags.ensures) ∙ c.covers.ensures is g (ap (has g) c.tags_of-tags.ensures ∙ here))
+    (λ g here. sym (ap (has g) c.next_tags.ensures) ∙ c.covers.ensures.0 is g (ap (has g) c.tags_of-tags.ensures ∙ here))

@@ -20,7 +20,7 @@ split false there more is here = is ∙ ap (λ b. b && true) here
 pub returns-then-covers-clause-ok : goal.returns-then-covers-clause-ok
 returns-then-covers-clause-ok c = record {
   added = [];
-  all = λ g there. or_left (has g c.args.own.now) false (c.covers.ensures c.if-covers.true g there);
+  all = λ g there. or_left (has g c.args.own.now) false (c.covers.ensures.0 c.if-covers.true g there);
   none = λ g here. absurd (false≢true here);
   opens = to_none c.args.entity.now c.args.guesses.now.opens;
 }

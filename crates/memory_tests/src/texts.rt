@@ -43,7 +43,7 @@ fn trace_of(alloc: Global, text: &[u8]) -> Result<Trace, Finding> {
 
 fn left_of(alloc: Global, boot: &Boot, trace: &Trace) -> Result<Vec<Entry>, Finding> {
     match strike(alloc, boot, trace) {
-        Err(TraceFault::Memory) => Ok(strike(alloc, boot, trace)?),
+        Err(TraceFault::NoStart | TraceFault::Memory) => Ok(strike(alloc, boot, trace)?),
         struck => Ok(struck?),
     }
 }

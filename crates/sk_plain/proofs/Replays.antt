@@ -20,8 +20,8 @@ use Rattle.sk_plain.specs.declared.replay.Replay.{Replay}
 use Rattle.sk_plain.specs.declared.replay.EventFault.{EventFault}
 use Rattle.sk_plain.specs.declared.replay.EventFault.TheVariants as faults
 use Rattle.sk_plain.specs.declared.replay.TraceFault.{TraceFault}
-use Rattle.sk_plain.specs.declared.replay.TraceFault.TheVariants.{Refused, UnknownGuess, Memory}
-use Rattle.sk_plain.specs.Replay.{is_above, newest, IsGreatest, IsReplay, HasTaken, StepFault, HasCommitted, HasFailed, DecisionFault, Goes, image, IsFirstFault, FaultIn, StopsIn}
+use Rattle.sk_plain.specs.declared.replay.TraceFault.TheVariants.{Refused, UnknownGuess, NoStart, Memory}
+use Rattle.sk_plain.specs.Replay.{is_above, newest, IsGreatest, IsReplay, HasTaken, StepFault, HasCommitted, HasFailed, DecisionFault, Goes, image, IsFirstFault, IsRefused, IsTaken, FaultIn, StopsIn}
 
 abbrev Events : Type 0
 Events = List (Happens EntryView)
@@ -234,4 +234,22 @@ first_fault scripts start es i at x r HasFault within item place same replay fau
 pub stops_in : (scripts : Scripts) (start : State) (es : Events) (why : TraceFault) → StopsIn scripts start es why → FaultIn scripts start es why
 stops_in scripts start es (Refused at) h = h
 stops_in scripts start es (UnknownGuess at) h = h
-stops_in scripts start es Memory h = tt
+stops_in scripts start es NoStart h = absurd h
+stops_in scripts start es Memory h = h
+
+-- the first event of a sound trace has no fault
+pub first_is_taken : (scripts : Scripts) (start : State) (e : Happens EntryView) (es : Events) → IsSound (plain scripts) start (e ∷ es)
+    → IsFirstFault scripts start (e ∷ es) 1 (IsTaken scripts start)
+first_is_taken scripts start e es sound = record {
+  before = [];
+  event = e;
+  later = es;
+  parts = refl;
+  place = refl;
+  sound = sound_first (plain scripts) start;
+  fault = (not_refused e sound, sound.allowed [] es e refl);
+} where
+  not_refused : (e : Happens EntryView) → IsSound (plain scripts) start (e ∷ es) → ¬ (IsRefused scripts start [] e)
+  not_refused (Taken n) sound refused = not_both _ (sound.legal (Taken n ∷ []) es refl).0 refused
+  not_refused (Commit g) sound refused = refused
+  not_refused (Fail g) sound refused = refused

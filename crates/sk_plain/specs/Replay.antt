@@ -15,7 +15,7 @@ use Rattle.sk_plain.specs.declared.replay.Replay.{Replay}
 use Rattle.sk_plain.specs.declared.replay.EventFault.{EventFault}
 use Rattle.sk_plain.specs.declared.replay.EventFault.TheVariants as faults
 use Rattle.sk_plain.specs.declared.replay.TraceFault.{TraceFault}
-use Rattle.sk_plain.specs.declared.replay.TraceFault.TheVariants.{Refused, UnknownGuess, Memory}
+use Rattle.sk_plain.specs.declared.replay.TraceFault.TheVariants.{Refused, UnknownGuess, NoStart, Memory}
 
 -- an event as the laws of traces have it: steps and guesses take an entry
 abbrev pub image : Event → Happens EntryView
@@ -50,18 +50,19 @@ module _ (scripts : Scripts) (start : State) where
     pub sound : IsSound (plain scripts) start before
     pub fault : HasFault before event
 
-  -- What a fault tells of these events. Of want of memory the place is not told, and before the first event it can
-  -- always be.
-  abbrev pub FaultIn : List (Happens EntryView) → TraceFault → Type 0
-  FaultIn es (Refused at) = IsFirstFault es at IsRefused
-  FaultIn es (UnknownGuess at) = IsFirstFault es at IsUnknown
-  FaultIn es Memory = Unit {0}
-
-  -- what a fault among the events tells: want of memory is told at one that has no fault
+  -- what a fault among the events tells: want of memory is told at one that has no fault, nor one before it
   abbrev pub StopsIn : List (Happens EntryView) → TraceFault → Type 0
   StopsIn es (Refused at) = IsFirstFault es at IsRefused
   StopsIn es (UnknownGuess at) = IsFirstFault es at IsUnknown
+  StopsIn es NoStart = ⊥
   StopsIn es Memory = (at : ℕ) × IsFirstFault es at IsTaken
+
+  -- what a fault tells of a start and these events: there was no memory for the start, or one among them
+  abbrev pub FaultIn : List (Happens EntryView) → TraceFault → Type 0
+  FaultIn es (Refused at) = IsFirstFault es at IsRefused
+  FaultIn es (UnknownGuess at) = IsFirstFault es at IsUnknown
+  FaultIn es NoStart = Unit {0}
+  FaultIn es Memory = (at : ℕ) × IsFirstFault es at IsTaken
 
 -- ---- a replay, event by event
 

@@ -27,6 +27,10 @@ pub enum TraceFault {
     /// all before.
     #[error("event {0} names a guess that cannot stand there")]
     UnknownGuess(usize),
+    /// No memory for the start, before the first event.
+    #[error("out of memory before the first event")]
+    NoStart,
+    /// No memory at an event that has no fault itself, nor one before it.
     #[error("out of memory")]
     Memory,
 }
@@ -264,7 +268,9 @@ fn strike_at(
         ≡ record_of (plain scripts.now) start (map image trace.now.events)) }
     ensures fault { IfErr result (FaultIn scripts.now start (map image trace.now.events)) }
 {
-    let now = start.copy()?;
+    let Ok(now) = start.copy() else {
+        return Err(TraceFault::NoStart);
+    };
     let mut replay = Replay {
         start,
         now,
@@ -287,7 +293,9 @@ pub fn strike(alloc: Global, boot: &Boot, trace: &Trace) -> Result<Vec<Entry>, T
     ensures fault { IfErr result
         (FaultIn boot.now.scripts (start_of boot.now) (map image trace.now.events)) }
 {
-    let start = Store::start(alloc, boot)?;
+    let Ok(start) = Store::start(alloc, boot) else {
+        return Err(TraceFault::NoStart);
+    };
     strike_at(alloc, start, boot.scripts(), trace)
 }
 
@@ -301,6 +309,8 @@ pub fn strike_from(alloc: Global, from: &Plain, trace: &Trace) -> Result<Vec<Ent
     ensures fault { IfErr result
         (FaultIn from.now.scripts from.now.state (map image trace.now.events)) }
 {
-    let start = from.state().copy()?;
+    let Ok(start) = from.state().copy() else {
+        return Err(TraceFault::NoStart);
+    };
     strike_at(alloc, start, from.scripts(), trace)
 }

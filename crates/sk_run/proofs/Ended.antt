@@ -75,11 +75,13 @@ pub faulty_out : (boot : BootView) (es : List Event) (fault : TraceFault) (end :
     → EndsPlain boot es end old old
 faulty_out boot es (faults.Refused at) end old h is = subst (λ x. EndsPlain boot es x old old) (sym is) ((at, inl h), Keeps-refl old)
 faulty_out boot es (faults.UnknownGuess at) end old h is = subst (λ x. EndsPlain boot es x old old) (sym is) ((at, inr h), Keeps-refl old)
+faulty_out boot es faults.NoStart end old h is = subst (λ x. EndsPlain boot es x old old) (sym is) (inr (Keeps-refl old))
 faulty_out boot es faults.Memory end old h is = subst (λ x. EndsPlain boot es x old old) (sym is) (inr (Keeps-refl old))
 
 pub faulty_flushed : (fault : TraceFault) (end : End) (buffer : List ℕ) → end ≡ trace_fault_end fault → IsFlushed end buffer
 faulty_flushed (faults.Refused at) end buffer is = subst (λ x. IsFlushed x buffer) (sym is) tt
 faulty_flushed (faults.UnknownGuess at) end buffer is = subst (λ x. IsFlushed x buffer) (sym is) tt
+faulty_flushed faults.NoStart end buffer is = subst (λ x. IsFlushed x buffer) (sym is) tt
 faulty_flushed faults.Memory end buffer is = subst (λ x. IsFlushed x buffer) (sym is) tt
 
 -- a trace that happened again

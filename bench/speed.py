@@ -22,6 +22,7 @@ import tempfile
 TOP = os.path.dirname(os.path.dirname(os.path.abspath(__file__)))
 OPEN = 63
 LOOSE = 1.25
+TWICE = 2.2
 # A decision looks at each other open guess, of which there are 63 at most.
 BESIDE_OPEN = 1.5
 # A decision visits what rests on its guess, and nothing else.
@@ -309,6 +310,23 @@ def text_rows(meter):
             yield f"held texts, as many guesses that {told}, {decision}: 2,000 to 4,000 / twice 1,000 to 2,000", late, early, LOOSE
 
 
+def relisted(count):
+    """Under guess 1: guesses of the same process, each with a text, that fail. Then another process says as many texts at the
+    same terminal on a guess of its own, and guess 1 is committed."""
+    first = ['text "a line of output"', "fetch /x"] + looping(["fetch /x", "say"], 32)
+    other = ["fetch /x", 'text "another line"'] + looping(["say"], 64)
+    events = []
+    for number in range(2, count + 2):
+        events += ["guess 1 good", "step 1 none", f"fail {number}"]
+    events += ["guess 2 good"] + ["step 2 none"] * (1 + count + count // 64) + ["commit 1"]
+    return scenario(first, events, [("other", other, [(2, 1)])], before=["step 1 none", "guess 1 good"])
+
+
+def relisted_rows(meter):
+    """A terminal that comes under a guess again and again is visited once by its commit."""
+    yield "failures with a text under one guess, then its commit: 2,000 / 1,000", meter.played(relisted(2000)), meter.played(relisted(1000)), TWICE
+
+
 def long_rows(meter):
     """A million private steps under one guess, whose decision ends the run."""
     million = 1_000_000
@@ -429,7 +447,7 @@ def main():
     meter = Meter(words.program, words.seconds)
     unit = "microseconds" if words.seconds else "instructions"
     print(f"{'ratio':>7} {'limit':>6} {unit + ' left':>20} {'right':>14}  what")
-    kinds = (table_rows, step_rows, rest_rows, long_rows, decision_rows, held_rows, nested_rows, text_rows, block_rows)
+    kinds = (table_rows, step_rows, rest_rows, long_rows, decision_rows, held_rows, nested_rows, text_rows, relisted_rows, block_rows)
     tables = [(it.__name__, it(meter)) for it in kinds]
     if words.unproved:
         tables.append(("unproved_rows", unproved_rows(meter, Meter(words.unproved, words.seconds))))

@@ -1,27 +1,18 @@
--- What is listed as resting on each guess, after one terminal more was listed or a list taken out.
-use Rattle.std.proofs.Common.{◌≡◌, ℕ, zero, suc, ◌<◌, ◌≤◌, ◌+◌, length, take, drop, Bool, true, false, cond, not, ◌||◌, List, [], ◌∷◌, ◌++◌, inl, inr, refl, sym, ◌∙◌, ap, subst, arith}
-use Rattle.std.specs.List.{list_all, prefix_len, remove}
+-- What is listed for each guess, after one terminal more was listed, a list taken out, or terminals taken off.
+use Rattle.std.proofs.Common.{◌≡◌, ℕ, zero, suc, ◌<◌, ◌≤◌, ◌+◌, length, take, Bool, true, false, cond, not, ◌||◌, ◌&&◌, List, [], ◌∷◌, ◌++◌, Result, Ok, Err, refl, sym, ◌∙◌, ap, subst, arith}
+use Rattle.std.specs.List.{prefix_len, remove}
 use Rattle.std.specs.List.Retain.{RetainsInTurn}
-use Rattle.std.specs.Prelude.{◌==◌, slice_index_or, slice_set}
-use Rattle.std.proofs.lemmas.Bool.{false≢true, or_cases, or_left, or_right, eqb-true, eq-eqb}
-use Rattle.std.proofs.lemmas.List.{take-append-drop}
+use Rattle.std.specs.Prelude.{◌==◌, slice_index_or, slice_set, OnErr}
+use Rattle.std.proofs.lemmas.Bool.{false≢true, eqb-true, eq-eqb, or_left}
 use Rattle.std.proofs.lemmas.List.Folds.{list_any-append}
-use Rattle.sk_record.specs.Notes.{has}
-use Rattle.sk_record.proofs.UndoStates.{and_both}
+use Rattle.sk_record.specs.Notes.{has, without}
+use Rattle.sk_record.proofs.Machine.{has_filter}
 use Rattle.sk_terminal.specs.Terminals.{TerminalMap}
-use Rattle.sk_terminal.specs.declared.resting.Resting.{Resting}
-use Rattle.sk_terminal.specs.Resting.{listed_for, rests_at, AllListed, NoneRests, StayListed, StayResting}
+use Rattle.sk_terminal.specs.declared.listing.Listing.{Listing}
+use Rattle.sk_terminal.specs.Listing.{is_listed, rests_at, AreTidy, HasNone, ListsAtMost}
+use Rattle.sk_terminal.proofs.Numbers.{or_none}
 
 -- ---- lists of numbers
-in_front : (xs ys : List ℕ) (t : ℕ) → has t xs ≡ true → has t (xs ++ ys) ≡ true
-in_front xs ys t here = list_any-append (λ n. n == t) xs ys ∙ or_left _ _ here
-
-in_back : (xs ys : List ℕ) (t : ℕ) → has t ys ≡ true → has t (xs ++ ys) ≡ true
-in_back xs ys t here = list_any-append (λ n. n == t) xs ys ∙ or_right _ _ here
-
-alone : (t : ℕ) → has t (t ∷ []) ≡ true
-alone t = or_left _ _ (eq-eqb t t refl)
-
 take_next : (xs : List ℕ) (i d : ℕ) → i < length xs → take (suc i) xs ≡ take i xs ++ slice_index_or xs i d ∷ []
 take_next [] i d lt = absurd (omega arith)
 take_next (x ∷ xs) zero d lt = refl
@@ -33,172 +24,284 @@ has_more t xs i d lt is =
     let next : i + 1 ≡ suc i = omega arith in
     ap (λ k. has t (take k xs)) next ∙ ap (has t) (take_next xs i d lt) ∙ ap (λ y. has t (take i xs ++ y ∷ [])) (sym is) ∙ list_any-append (λ n. n == t) (take i xs) (d ∷ [])
 
-one_of : (a b : Bool) (P : Type 0) → (a || (b || false)) ≡ true → (a ≡ true → P) → (b ≡ true → P) → P
-one_of true b P here f g = f refl
-one_of false true P here f g = g refl
-one_of false false P here f g = absurd (false≢true here)
+pub some_there : (t : ℕ) (xs : List ℕ) → has t xs ≡ true → 0 < length xs
+some_there t [] here = absurd (false≢true here)
+some_there t (x ∷ xs) here = omega arith
 
-pub guess_more : (P : Type 0) (tags : List ℕ) (i x g : ℕ) → i < length tags → x ≡ slice_index_or tags i x → has g (take (i + 1) tags) ≡ true → (has g (take i tags) ≡ true → P) → (x ≡ g → P) → P
-guess_more P tags i x g lt is here f h = one_of (has g (take i tags)) (x == g) P (sym (has_more g tags i x lt is) ∙ here) f (λ same. h (eqb-true x g same))
+pub flipped : (g c : ℕ) → (g == c) ≡ false → (c == g) ≡ false
+flipped g c apart = elim (c == g) as (λ b. (c == g) ≡ b → b ≡ false) [
+  | true ↦ λ is. absurd (false≢true (sym apart ∙ eq-eqb g c (sym (eqb-true c g is))))
+  | false ↦ λ _. refl
+] refl
+
+-- a number equal to one that differs from a third differs from it
+differs : (x g h : ℕ) → (x == g) ≡ false → (x == h) ≡ true → (g == h) ≡ false
+differs x g h apart is = flipped h g (subst (λ n. (n == g) ≡ false) (eqb-true x h is) apart)
+
+own : (x : ℕ) → (x == x) ≡ true
+own x = eq-eqb x x refl
 
 -- ---- the list of a guess
-abbrev pub is_other : ℕ → Resting → Bool
-is_other g r = not (r.guess == g)
+abbrev pub is_other : ℕ → Listing → Bool
+is_other g l = not (l.guess == g)
 
-pub found : (g k : ℕ) (rs : List Resting) (r : Resting) → k ≡ prefix_len (is_other g) rs → k < length rs → r ≡ slice_index_or rs k r → r.terminals.items ≡ listed_for g rs
-found g k [] r is lt at = absurd (omega arith)
-found g k (x ∷ rs) r is lt at =
-    elim (x.guess == g) as (λ b. k ≡ cond (not b) (1 + prefix_len (is_other g) rs) 0 → r.terminals.items ≡ cond b x.terminals.items (listed_for g rs)) [
-      | true ↦ λ none. ap (λ (y : Resting). y.terminals.items) (at ∙ ap (λ j. slice_index_or (x ∷ rs) j r) none)
+pub found : (g k : ℕ) (ls : List Listing) (l : Listing) → k ≡ prefix_len (is_other g) ls → k < length ls → l ≡ slice_index_or ls k l → (t : ℕ) → has t l.terminals ≡ is_listed g t ls
+found g k [] l is lt at t = absurd (omega arith)
+found g k (x ∷ ls) l is lt at t =
+    elim (x.guess == g) as (λ b. k ≡ cond (not b) (1 + prefix_len (is_other g) ls) 0 → has t l.terminals ≡ cond b (has t x.terminals) (is_listed g t ls)) [
+      | true ↦ λ none. ap (λ (y : Listing). has t y.terminals) (at ∙ ap (λ j. slice_index_or (x ∷ ls) j l) none)
       | false ↦ λ more.
-          let next : k ≡ suc (prefix_len (is_other g) rs) = omega arith in
-          found g (prefix_len (is_other g) rs) rs r refl (omega arith) (at ∙ ap (λ j. slice_index_or (x ∷ rs) j r) next)
+          let next : k ≡ suc (prefix_len (is_other g) ls) = omega arith in
+          found g (prefix_len (is_other g) ls) ls l refl (omega arith) (at ∙ ap (λ j. slice_index_or (x ∷ ls) j l) next) t
     ] is
 
-pub missing : (g k : ℕ) (rs : List Resting) → k ≡ prefix_len (is_other g) rs → length rs ≤ k → [] ≡ listed_for g rs
-missing g k [] is le = refl
-missing g k (x ∷ rs) is le =
-    elim (x.guess == g) as (λ b. k ≡ cond (not b) (1 + prefix_len (is_other g) rs) 0 → [] ≡ cond b x.terminals.items (listed_for g rs)) [
+pub missing : (g k : ℕ) (ls : List Listing) → k ≡ prefix_len (is_other g) ls → length ls ≤ k → HasNone g ls
+missing g k [] is le = tt
+missing g k (x ∷ ls) is le =
+    elim (x.guess == g) as (λ b. k ≡ cond (not b) (1 + prefix_len (is_other g) ls) 0 → (b ≡ false) × HasNone g ls) [
       | true ↦ λ none. absurd (omega arith)
-      | false ↦ λ more. missing g (prefix_len (is_other g) rs) rs refl (omega arith)
+      | false ↦ λ more. (refl, missing g (prefix_len (is_other g) ls) ls refl (omega arith))
     ] is
+
+pub none_listed : (g : ℕ) (ls : List Listing) → HasNone g ls → (t : ℕ) → is_listed g t ls ≡ false
+none_listed g [] none t = refl
+none_listed g (x ∷ ls) none t = ap (λ b. cond b (has t x.terminals) (is_listed g t ls)) none.0 ∙ none_listed g ls none.1 t
 
 -- ---- the list of a guess taken out
-pub removed_other : (g h k : ℕ) (rs : List Resting) → k ≡ prefix_len (is_other g) rs → k < length rs → (g == h) ≡ false → listed_for h (remove rs k) ≡ listed_for h rs
-removed_other g h k [] is lt apart = absurd (omega arith)
-removed_other g h zero (x ∷ rs) is lt apart =
-    elim (x.guess == g) as (λ b. (x.guess == g) ≡ b → zero ≡ cond (not b) (1 + prefix_len (is_other g) rs) 0 → listed_for h rs ≡ cond (x.guess == h) x.terminals.items (listed_for h rs)) [
-      | true ↦ λ own _. sym (ap (λ n. cond (n == h) x.terminals.items (listed_for h rs)) (eqb-true x.guess g own) ∙ ap (λ b. cond b x.terminals.items (listed_for h rs)) apart)
+pub removed_other : (g h k t : ℕ) (ls : List Listing) → k ≡ prefix_len (is_other g) ls → k < length ls → (g == h) ≡ false → is_listed h t (remove ls k) ≡ is_listed h t ls
+removed_other g h k t [] is lt apart = absurd (omega arith)
+removed_other g h zero t (x ∷ ls) is lt apart =
+    elim (x.guess == g) as (λ b. (x.guess == g) ≡ b → zero ≡ cond (not b) (1 + prefix_len (is_other g) ls) 0 → is_listed h t ls ≡ cond (x.guess == h) (has t x.terminals) (is_listed h t ls)) [
+      | true ↦ λ same _. sym (ap (λ n. cond (n == h) (has t x.terminals) (is_listed h t ls)) (eqb-true x.guess g same) ∙ ap (λ b. cond b (has t x.terminals) (is_listed h t ls)) apart)
       | false ↦ λ _ more. absurd (omega arith)
     ] refl is
-removed_other g h (suc k) (x ∷ rs) is lt apart =
-    elim (x.guess == g) as (λ b. suc k ≡ cond (not b) (1 + prefix_len (is_other g) rs) 0 → cond (x.guess == h) x.terminals.items (listed_for h (remove rs k)) ≡ cond (x.guess == h) x.terminals.items (listed_for h rs)) [
+removed_other g h (suc k) t (x ∷ ls) is lt apart =
+    elim (x.guess == g) as (λ b. suc k ≡ cond (not b) (1 + prefix_len (is_other g) ls) 0 → cond (x.guess == h) (has t x.terminals) (is_listed h t (remove ls k)) ≡ cond (x.guess == h) (has t x.terminals) (is_listed h t ls)) [
       | true ↦ λ none. absurd (omega arith)
-      | false ↦ λ next. ap (λ ts. cond (x.guess == h) x.terminals.items ts) (removed_other g h k rs (omega arith) (omega arith) apart)
+      | false ↦ λ next. ap (λ b. cond (x.guess == h) (has t x.terminals) b) (removed_other g h k t ls (omega arith) (omega arith) apart)
+    ] is
+
+none_removed : (g k : ℕ) (ls : List Listing) → k < length ls → HasNone g ls → HasNone g (remove ls k)
+none_removed g k [] lt none = absurd (omega arith)
+none_removed g zero (x ∷ ls) lt none = none.1
+none_removed g (suc k) (x ∷ ls) lt none = (none.0, none_removed g k ls (omega arith) none.1)
+
+pub tidy_removed : (k : ℕ) (ls : List Listing) → k < length ls → AreTidy ls → AreTidy (remove ls k)
+tidy_removed k [] lt tidy = absurd (omega arith)
+tidy_removed zero (x ∷ ls) lt tidy = tidy.2
+tidy_removed (suc k) (x ∷ ls) lt tidy = (none_removed x.guess k ls (omega arith) tidy.0, tidy.1, tidy_removed k ls (omega arith) tidy.2)
+
+pub gone : (g k : ℕ) (ls : List Listing) → k ≡ prefix_len (is_other g) ls → k < length ls → AreTidy ls → HasNone g (remove ls k)
+gone g k [] is lt tidy = absurd (omega arith)
+gone g zero (x ∷ ls) is lt tidy =
+    elim (x.guess == g) as (λ b. (x.guess == g) ≡ b → zero ≡ cond (not b) (1 + prefix_len (is_other g) ls) 0 → HasNone g ls) [
+      | true ↦ λ same _. subst (λ n. HasNone n ls) (eqb-true x.guess g same) tidy.0
+      | false ↦ λ _ more. absurd (omega arith)
+    ] refl is
+gone g (suc k) (x ∷ ls) is lt tidy =
+    elim (x.guess == g) as (λ b. suc k ≡ cond (not b) (1 + prefix_len (is_other g) ls) 0 → (b ≡ false) × HasNone g (remove ls k)) [
+      | true ↦ λ none. absurd (omega arith)
+      | false ↦ λ next. (refl, gone g k ls (omega arith) (omega arith) tidy.2)
     ] is
 
 -- ---- one terminal more: in a list that is there
-grown : (g : ℕ) (rs : List Resting) (new x : Resting) (ts : List ℕ) (q : ℕ) → new.guess ≡ x.guess → new.terminals.items ≡ x.terminals.items ++ ts → has q (cond (x.guess == g) x.terminals.items (listed_for g rs)) ≡ true
-    → has q (cond (new.guess == g) new.terminals.items (listed_for g rs)) ≡ true
-grown g rs new x ts q same more here =
-    subst (λ n. has q (cond (n == g) new.terminals.items (listed_for g rs)) ≡ true) (sym same)
-    (elim (x.guess == g) as (λ b. has q (cond b x.terminals.items (listed_for g rs)) ≡ true → has q (cond b new.terminals.items (listed_for g rs)) ≡ true) [
-      | true ↦ λ h. subst (λ all. has q all ≡ true) (sym more) (in_front x.terminals.items ts q h)
-      | false ↦ λ h. h
-    ] here)
+pub set_listed : (g k t : ℕ) (ls : List Listing) (l new : Listing) → k ≡ prefix_len (is_other g) ls → k < length ls → l ≡ slice_index_or ls k l → new.guess ≡ l.guess
+    → ((q : ℕ) → has q new.terminals ≡ (has q l.terminals || (t == q))) → (h q : ℕ) → is_listed h q (slice_set ls k new) ≡ (is_listed h q ls || ((g == h) && (t == q)))
+set_listed g k t [] l new is lt at same more h q = absurd (omega arith)
+set_listed g zero t (x ∷ ls) l new is lt at same more h q =
+    elim (x.guess == g) as (λ b. (x.guess == g) ≡ b → zero ≡ cond (not b) (1 + prefix_len (is_other g) ls) 0
+    → cond (new.guess == h) (has q new.terminals) (is_listed h q ls) ≡ (cond (x.guess == h) (has q x.terminals) (is_listed h q ls) || ((g == h) && (t == q)))) [
+      | true ↦ λ here _.
+          let old : x.guess ≡ g = eqb-true x.guess g here in
+          let now : new.guess ≡ g = same ∙ ap (λ (y : Listing). y.guess) at ∙ old in
+          let has_it : has q new.terminals ≡ (has q x.terminals || (t == q)) = more q ∙ ap (λ (y : Listing). has q y.terminals || (t == q)) at in
+          ap (λ n. cond (n == h) (has q new.terminals) (is_listed h q ls)) now
+          ∙ (elim (g == h) as (λ b. cond b (has q new.terminals) (is_listed h q ls) ≡ (cond b (has q x.terminals) (is_listed h q ls) || (b && (t == q)))) [
+            | true ↦ has_it
+            | false ↦ sym (or_none (is_listed h q ls))
+          ])
+          ∙ ap (λ n. cond (n == h) (has q x.terminals) (is_listed h q ls) || ((g == h) && (t == q))) (sym old)
+      | false ↦ λ _ more. absurd (omega arith)
+    ] refl is
+set_listed g (suc k) t (x ∷ ls) l new is lt at same more h q =
+    elim (x.guess == g) as (λ b. (x.guess == g) ≡ b → suc k ≡ cond (not b) (1 + prefix_len (is_other g) ls) 0
+    → cond (x.guess == h) (has q x.terminals) (is_listed h q (slice_set ls k new)) ≡ (cond (x.guess == h) (has q x.terminals) (is_listed h q ls) || ((g == h) && (t == q)))) [
+      | true ↦ λ _ none. absurd (omega arith)
+      | false ↦ λ apart next.
+          elim (x.guess == h) as (λ b. (x.guess == h) ≡ b → cond b (has q x.terminals) (is_listed h q (slice_set ls k new)) ≡ (cond b (has q x.terminals) (is_listed h q ls) || ((g == h) && (t == q)))) [
+            | true ↦ λ here. sym (ap (λ b. has q x.terminals || (b && (t == q))) (differs x.guess g h apart here) ∙ or_none (has q x.terminals))
+            | false ↦ λ _. set_listed g k t ls l new (omega arith) (omega arith) at same more h q
+          ] refl
+    ] refl is
 
-pub kept_add : (k : ℕ) (rs : List Resting) (r new : Resting) (ts : List ℕ) → k < length rs → r ≡ slice_index_or rs k r → new.guess ≡ r.guess → new.terminals.items ≡ r.terminals.items ++ ts → StayListed rs (slice_set rs k new)
-kept_add k [] r new ts lt at same more g q here = absurd (omega arith)
-kept_add zero (x ∷ rs) r new ts lt at same more g q here =
-    grown g rs new x ts q (same ∙ ap (λ (y : Resting). y.guess) at) (more ∙ ap (λ (y : Resting). y.terminals.items ++ ts) at) here
-kept_add (suc k) (x ∷ rs) r new ts lt at same more g q here =
-    elim (x.guess == g) as (λ b. has q (cond b x.terminals.items (listed_for g rs)) ≡ true → has q (cond b x.terminals.items (listed_for g (slice_set rs k new))) ≡ true) [
-      | true ↦ λ h. h
-      | false ↦ λ h. kept_add k rs r new ts (omega arith) at same more g q h
-    ] here
+none_set : (h k : ℕ) (ls : List Listing) (l new : Listing) → k < length ls → l ≡ slice_index_or ls k l → new.guess ≡ l.guess → HasNone h ls → HasNone h (slice_set ls k new)
+none_set h k [] l new lt at same none = absurd (omega arith)
+none_set h zero (x ∷ ls) l new lt at same none = (subst (λ n. (n == h) ≡ false) (sym (same ∙ ap (λ (y : Listing). y.guess) at)) none.0, none.1)
+none_set h (suc k) (x ∷ ls) l new lt at same none = (none.0, none_set h k ls l new (omega arith) at same none.1)
 
-pub new_add : (g k : ℕ) (rs : List Resting) (r new : Resting) (t : ℕ) → k ≡ prefix_len (is_other g) rs → k < length rs → r ≡ slice_index_or rs k r → new.guess ≡ r.guess → new.terminals.items ≡ r.terminals.items ++ t ∷ []
-    → has t (listed_for g (slice_set rs k new)) ≡ true
-new_add g k [] r new t is lt at same more = absurd (omega arith)
-new_add g zero (x ∷ rs) r new t is lt at same more =
-    let here : new.guess ≡ x.guess = same ∙ ap (λ (y : Resting). y.guess) at in
-    subst (λ n. has t (cond (n == g) new.terminals.items (listed_for g rs)) ≡ true) (sym here)
-    (elim (x.guess == g) as (λ b. zero ≡ cond (not b) (1 + prefix_len (is_other g) rs) 0 → has t (cond b new.terminals.items (listed_for g rs)) ≡ true) [
-      | true ↦ λ _. subst (λ ts. has t ts ≡ true) (sym more) (in_back r.terminals.items (t ∷ []) t (alone t))
-      | false ↦ λ more. absurd (omega arith)
-    ] is)
-new_add g (suc k) (x ∷ rs) r new t is lt at same more =
-    elim (x.guess == g) as (λ b. suc k ≡ cond (not b) (1 + prefix_len (is_other g) rs) 0 → has t (cond b x.terminals.items (listed_for g (slice_set rs k new))) ≡ true) [
-      | true ↦ λ none. absurd (omega arith)
-      | false ↦ λ next. new_add g k rs r new t (omega arith) (omega arith) at same more
-    ] is
+pub tidy_set : (k : ℕ) (ls : List Listing) (l new : Listing) → k < length ls → l ≡ slice_index_or ls k l → new.guess ≡ l.guess → 0 < length new.terminals → AreTidy ls → AreTidy (slice_set ls k new)
+tidy_set k [] l new lt at same some tidy = absurd (omega arith)
+tidy_set zero (x ∷ ls) l new lt at same some tidy = (subst (λ n. HasNone n ls) (sym (same ∙ ap (λ (y : Listing). y.guess) at)) tidy.0, some, tidy.2)
+tidy_set (suc k) (x ∷ ls) l new lt at same some tidy = (none_set x.guess k ls l new (omega arith) at same tidy.0, tidy.1, tidy_set k ls l new (omega arith) at same some tidy.2)
 
-pub none_more : (ts : List ℕ) → ts ≡ ts ++ []
-none_more [] = refl
-none_more (t ∷ ts) = ap (λ xs. t ∷ xs) (none_more ts)
+pub some_at : (k : ℕ) (ls : List Listing) (l : Listing) → k < length ls → l ≡ slice_index_or ls k l → AreTidy ls → 0 < length l.terminals
+some_at k [] l lt at tidy = absurd (omega arith)
+some_at zero (x ∷ ls) l lt at tidy = subst (λ (y : Listing). 0 < length y.terminals) (sym at) tidy.1
+some_at (suc k) (x ∷ ls) l lt at tidy = some_at k ls l (omega arith) at tidy.2
+
+pub same_set : (k : ℕ) (ls : List Listing) (l new : Listing) → k < length ls → l ≡ slice_index_or ls k l → new.guess ≡ l.guess → new.terminals ≡ l.terminals
+    → (h q : ℕ) → is_listed h q (slice_set ls k new) ≡ is_listed h q ls
+same_set k [] l new lt at same more h q = absurd (omega arith)
+same_set zero (x ∷ ls) l new lt at same more h q =
+    ap (λ n. cond (n == h) (has q new.terminals) (is_listed h q ls)) (same ∙ ap (λ (y : Listing). y.guess) at)
+    ∙ ap (λ ts. cond (x.guess == h) (has q ts) (is_listed h q ls)) (more ∙ ap (λ (y : Listing). y.terminals) at)
+same_set (suc k) (x ∷ ls) l new lt at same more h q = ap (λ b. cond (x.guess == h) (has q x.terminals) b) (same_set k ls l new (omega arith) at same more h q)
 
 -- and in a new list
-pub kept_push : (rs : List Resting) (r : Resting) → StayListed rs (rs ++ r ∷ [])
-kept_push [] r g q here = absurd (false≢true here)
-kept_push (x ∷ rs) r g q here =
-    elim (x.guess == g) as (λ b. has q (cond b x.terminals.items (listed_for g rs)) ≡ true → has q (cond b x.terminals.items (listed_for g (rs ++ r ∷ []))) ≡ true) [
-      | true ↦ λ h. h
-      | false ↦ λ h. kept_push rs r g q h
-    ] here
+pub push_listed : (g t : ℕ) (ls : List Listing) (l : Listing) → HasNone g ls → l.guess ≡ g → l.terminals ≡ t ∷ [] → (h q : ℕ) → is_listed h q (ls ++ l ∷ []) ≡ (is_listed h q ls || ((g == h) && (t == q)))
+push_listed g t [] l none same one h q =
+    ap (λ n. cond (n == h) (has q l.terminals) false) same ∙ ap (λ ts. cond (g == h) (has q ts) false) one
+    ∙ (elim (g == h) as (λ b. cond b ((t == q) || false) false ≡ (b && (t == q))) [ true ↦ or_none (t == q) | false ↦ refl ])
+push_listed g t (x ∷ ls) l none same one h q =
+    elim (x.guess == h) as (λ b. (x.guess == h) ≡ b → cond b (has q x.terminals) (is_listed h q (ls ++ l ∷ [])) ≡ (cond b (has q x.terminals) (is_listed h q ls) || ((g == h) && (t == q)))) [
+      | true ↦ λ here. sym (ap (λ b. has q x.terminals || (b && (t == q))) (differs x.guess g h none.0 here) ∙ or_none (has q x.terminals))
+      | false ↦ λ _. push_listed g t ls l none.1 same one h q
+    ] refl
 
-pub new_push : (g k : ℕ) (rs : List Resting) (r : Resting) (t : ℕ) → k ≡ prefix_len (is_other g) rs → length rs ≤ k → r.guess ≡ g → r.terminals.items ≡ t ∷ [] → has t (listed_for g (rs ++ r ∷ [])) ≡ true
-new_push g k [] r t is le same more =
-    ap (λ b. has t (cond b r.terminals.items [])) (eq-eqb r.guess g same) ∙ ap (has t) more ∙ alone t
-new_push g k (x ∷ rs) r t is le same more =
-    elim (x.guess == g) as (λ b. k ≡ cond (not b) (1 + prefix_len (is_other g) rs) 0 → has t (cond b x.terminals.items (listed_for g (rs ++ r ∷ []))) ≡ true) [
-      | true ↦ λ none. absurd (omega arith)
-      | false ↦ λ next. new_push g (prefix_len (is_other g) rs) rs r t refl (omega arith) same more
-    ] is
+none_push : (g : ℕ) (ls : List Listing) (l : Listing) → HasNone g ls → (l.guess == g) ≡ false → HasNone g (ls ++ l ∷ [])
+none_push g [] l none apart = (apart, tt)
+none_push g (x ∷ ls) l none apart = (none.0, none_push g ls l none.1 apart)
 
-pub still_listed : (m : TerminalMap) (old rs : List Resting) → AllListed m old → StayListed old rs → AllListed m rs
-still_listed m old rs all kept g t here = kept g t (all g t here)
+pub tidy_push : (ls : List Listing) (l : Listing) → AreTidy ls → HasNone l.guess ls → 0 < length l.terminals → AreTidy (ls ++ l ∷ [])
+tidy_push [] l tidy none some = (tt, some, tt)
+tidy_push (x ∷ ls) l tidy none some = (none_push x.guess ls l tidy.0 (flipped x.guess l.guess none.0), tidy.1, tidy_push ls l tidy.2 none.1 some)
 
--- ---- terminals at the end of a list at which nothing rests on its guess
-abbrev pub is_stale : ℕ → TerminalMap → ℕ → Bool
-is_stale g m t = not (rests_at g m t)
+-- what holds where something was refused, held anyway
+pub on_err_given : {A F P : Type 0} (r : Result A F) → P → OnErr r P
+on_err_given (Ok x) p = tt
+on_err_given (Err why) p = p
 
-none_stale : (g : ℕ) (m : TerminalMap) (ts : List ℕ) (t : ℕ) → list_all (is_stale g m) ts ≡ true → has t ts ≡ true → rests_at g m t ≡ true → ⊥
-none_stale g m [] t all here rests = false≢true here
-none_stale g m (x ∷ ts) t all here rests =
-    let both = and_both _ _ all in
-    elim (or_cases (x == t) (has t ts) here) [
-      | inl is ↦ false≢true (sym (ap not rests) ∙ sym (ap (is_stale g m) (eqb-true x t is)) ∙ both.0)
-      | inr later ↦ none_stale g m ts t both.1 later rests
-    ]
+-- one terminal was listed, for some guesses
+or_out : (o a : Bool) → (o || (a && false)) ≡ o
+or_out true a = refl
+or_out false true = refl
+or_out false false = refl
 
-pub resting_stay : (g : ℕ) (m : TerminalMap) (ts : List ℕ) (k : ℕ) → list_all (is_stale g m) (drop k ts) ≡ true → StayResting m g ts (take k ts)
-resting_stay g m ts k stale t here rests =
-    elim (or_cases (has t (take k ts)) (has t (drop k ts)) (sym (list_any-append (λ n. n == t) (take k ts) (drop k ts)) ∙ ap (has t) (take-append-drop k ts) ∙ here)) [
-      | inl first ↦ first
-      | inr last ↦ absurd (none_stale g m (drop k ts) t stale last rests)
-    ]
+pub at_most : (old new : List Listing) (k : ℕ) (a : ℕ → Bool) → ((g t : ℕ) → is_listed g t new ≡ (is_listed g t old || (a g && (k == t)))) → ListsAtMost k old new
+at_most old new k a more = (
+  λ g t apart. more g t ∙ ap (λ b. is_listed g t old || (a g && b)) apart ∙ or_out (is_listed g t old) (a g),
+  λ g here. more g k ∙ or_left (is_listed g k old) (a g && (k == k)) here,
+)
+
+-- one guess more has the terminal listed
+pub one_more : (a b c d : Bool) → ((a || (b && d)) || (c && d)) ≡ (a || ((b || (c || false)) && d))
+one_more true b c d = refl
+one_more false true true true = refl
+one_more false true true false = refl
+one_more false true false true = refl
+one_more false true false false = refl
+one_more false false true true = refl
+one_more false false true false = refl
+one_more false false false true = refl
+one_more false false false false = refl
+
+-- ---- a terminal taken out of a list where nothing of it rests on the guess
+out_one : (a r : Bool) → (a && not r) ≡ false → a ≡ (a && r)
+out_one true true h = refl
+out_one true false h = absurd (false≢true (sym h))
+out_one false r h = refl
+
+and_none : (a : Bool) → (a && false) ≡ false
+and_none true = refl
+and_none false = refl
+
+and_all : (a : Bool) → (a && true) ≡ a
+and_all true = refl
+and_all false = refl
+
+second_of : (a r : Bool) → (a && not r) ≡ true → r ≡ false
+second_of true true h = absurd (false≢true h)
+second_of true false h = refl
+second_of false r h = absurd (false≢true h)
+
+pub refreshed : (k t : ℕ) (xs : List ℕ) (rests : ℕ → Bool) (free : Bool) → free ≡ (has k xs && not (rests k)) → has t (cond free (without k xs) xs) ≡ (has t xs && (not (k == t) || rests t))
+refreshed k t xs rests true is =
+    has_filter (λ y. not (y == k)) t xs
+    ∙ elim (k == t) as (λ b. (k == t) ≡ b → (not (t == k) && has t xs) ≡ (has t xs && (not b || rests t))) [
+      | true ↦ λ same.
+          let at : k ≡ t = eqb-true k t same in
+          let free : rests t ≡ false = subst (λ n. rests n ≡ false) at (second_of (has k xs) (rests k) (sym is)) in
+          ap (λ b. not b && has t xs) (eq-eqb t k (sym at)) ∙ sym (ap (λ b. has t xs && b) free ∙ and_none (has t xs))
+      | false ↦ λ apart. ap (λ b. not b && has t xs) (flipped k t apart) ∙ sym (and_all (has t xs))
+    ] refl
+refreshed k t xs rests false is =
+    elim (k == t) as (λ b. (k == t) ≡ b → has t xs ≡ (has t xs && (not b || rests t))) [
+      | true ↦ λ same. out_one (has t xs) (rests t) (subst (λ n. (has n xs && not (rests n)) ≡ false) (eqb-true k t same) (sym is))
+      | false ↦ λ _. sym (and_all (has t xs))
+    ] refl
+
+-- one terminal more is taken off
+off_more : (a b c r : Bool) → ((a && (not b || r)) && (not c || r)) ≡ (a && (not (b || (c || false)) || r))
+off_more false b c r = refl
+off_more true true true true = refl
+off_more true true true false = refl
+off_more true true false true = refl
+off_more true true false false = refl
+off_more true false true true = refl
+off_more true false true false = refl
+off_more true false false true = refl
+off_more true false false false = refl
+
+pub taken_more : (old cur new : List Listing) (m : TerminalMap) (numbers : List ℕ) (i x : ℕ) → i < length numbers → x ≡ slice_index_or numbers i x
+    → ((g t : ℕ) → is_listed g t cur ≡ (is_listed g t old && (not (has t (take i numbers)) || rests_at g m t)))
+    → ((g t : ℕ) → is_listed g t new ≡ (is_listed g t cur && (not (x == t) || rests_at g m t)))
+    → (g t : ℕ) → is_listed g t new ≡ (is_listed g t old && (not (has t (take (i + 1) numbers)) || rests_at g m t))
+taken_more old cur new m numbers i x lt is before now g t =
+    now g t
+    ∙ ap (λ b. b && (not (x == t) || rests_at g m t)) (before g t)
+    ∙ off_more (is_listed g t old) (has t (take i numbers)) (x == t) (rests_at g m t)
+    ∙ sym (ap (λ b. is_listed g t old && (not b || rests_at g m t)) (has_more t numbers i x lt is))
 
 -- ---- a pass over the lists
-module _ {S : Type 0} (R : S → Resting → Bool → S → Resting → Type 0) (m : TerminalMap) (s : S) (failed : ℕ)
-    (told : (x : Resting) (b : Bool) (t : S) (y : Resting) → R s x b t y → (y.guess ≡ x.guess) × StayResting m x.guess x.terminals.items y.terminals.items × ((n : ℕ) → has n y.terminals.items ≡ true → b ≡ true) × (failed < x.guess → NoneRests x.guess m → b ≡ false) × (t ≡ s)) where
-  left_in_turn : (xs ys : List Resting) → RetainsInTurn R s xs ys → (g n : ℕ) → has n (listed_for g xs) ≡ true → rests_at g m n ≡ true → has n (listed_for g ys) ≡ true
-  left_in_turn [] ys turn g n here rests = absurd (false≢true here)
-  left_in_turn (x ∷ xs) ys (b, t, y, step, zs, later, is) g n here rests =
+module _ {S : Type 0} (R : S → Listing → Bool → S → Listing → Type 0) (s : S) (p : ℕ → ℕ → Bool)
+    (told : (x : Listing) (b : Bool) (t : S) (y : Listing) → R s x b t y → (y.guess ≡ x.guess) × ((n : ℕ) → has n y.terminals ≡ (has n x.terminals && p x.guess n)) × (b ≡ true → 0 < length y.terminals) × (b ≡ false → y.terminals ≡ []) × (t ≡ s)) where
+  none_in_turn : (xs ys : List Listing) → RetainsInTurn R s xs ys → (g : ℕ) → HasNone g xs → HasNone g ys
+  none_in_turn [] ys turn g none = subst (HasNone g) (sym turn) tt
+  none_in_turn (x ∷ xs) ys (b, t, y, step, zs, later, is) g none =
       let says = told x b t y step in
-      let rest : has n (listed_for g xs) ≡ true → has n (listed_for g zs) ≡ true = λ there. left_in_turn xs zs (subst (λ u. RetainsInTurn R u xs zs) says.4 later) g n there rests in
-      subst (λ (rs : List Resting). has n (listed_for g rs) ≡ true) (sym is)
-      (elim (x.guess == g) as (λ k. (x.guess == g) ≡ k → has n (cond k x.terminals.items (listed_for g xs)) ≡ true → has n (listed_for g (cond b (y ∷ zs) zs)) ≡ true) [
-        | true ↦ λ own there.
-            let number : x.guess ≡ g = eqb-true x.guess g own in
-            let stays = says.1 n there (subst (λ k. rests_at k m n ≡ true) (sym number) rests) in
-            let first : (y.guess == g) ≡ true = eq-eqb y.guess g (says.0 ∙ number) in
-            ap (λ c. has n (listed_for g (cond c (y ∷ zs) zs))) (says.2 n stays) ∙ ap (λ c. has n (cond c y.terminals.items (listed_for g zs))) first ∙ stays
-        | false ↦ λ other there.
-            let first : (y.guess == g) ≡ false = ap (λ n. n == g) says.0 ∙ other in
-            elim b as (λ c. has n (listed_for g (cond c (y ∷ zs) zs)) ≡ true) [
-              | true ↦ ap (λ c. has n (cond c y.terminals.items (listed_for g zs))) first ∙ rest there
-              | false ↦ rest there
-            ]
-      ] refl here)
+      let rest : HasNone g zs = none_in_turn xs zs (subst (λ u. RetainsInTurn R u xs zs) says.4 later) g none.1 in
+      subst (HasNone g) (sym is) (elim b as (λ c. HasNone g (cond c (y ∷ zs) zs)) [ true ↦ (subst (λ n. (n == g) ≡ false) (sym says.0) none.0, rest) | false ↦ rest ])
 
-  pub left_listed : (xs ys : List Resting) → RetainsInTurn R s xs ys → AllListed m xs → AllListed m ys
-  left_listed xs ys turn all g n here = left_in_turn xs ys turn g n (all g n here) here
-
-  pub gone_in_turn : (xs ys : List Resting) → RetainsInTurn R s xs ys → (g : ℕ) → failed < g → NoneRests g m → listed_for g ys ≡ []
-  gone_in_turn [] ys turn g lt none = ap (listed_for g) turn
-  gone_in_turn (x ∷ xs) ys (b, t, y, step, zs, later, is) g lt none =
+  pub tidy_in_turn : (xs ys : List Listing) → RetainsInTurn R s xs ys → AreTidy xs → AreTidy ys
+  tidy_in_turn [] ys turn tidy = subst AreTidy (sym turn) tt
+  tidy_in_turn (x ∷ xs) ys (b, t, y, step, zs, later, is) tidy =
       let says = told x b t y step in
-      let rest : listed_for g zs ≡ [] = gone_in_turn xs zs (subst (λ u. RetainsInTurn R u xs zs) says.4 later) g lt none in
-      ap (listed_for g) is
-      ∙ elim (x.guess == g) as (λ k. (x.guess == g) ≡ k → listed_for g (cond b (y ∷ zs) zs) ≡ []) [
-        | true ↦ λ own.
-            let number : g ≡ x.guess = sym (eqb-true x.guess g own) in
-            let goes : b ≡ false = says.3 (subst (λ k. failed < k) number lt) (subst (λ k. NoneRests k m) number none) in
-            ap (λ c. listed_for g (cond c (y ∷ zs) zs)) goes ∙ rest
+      let turn = subst (λ u. RetainsInTurn R u xs zs) says.4 later in
+      let rest : AreTidy zs = tidy_in_turn xs zs turn tidy.2 in
+      let none : HasNone y.guess zs = subst (λ n. HasNone n zs) (sym says.0) (none_in_turn xs zs turn x.guess tidy.0) in
+      subst AreTidy (sym is) (elim b as (λ c. (c ≡ true → 0 < length y.terminals) → AreTidy (cond c (y ∷ zs) zs)) [ true ↦ λ some. (none, some refl, rest) | false ↦ λ _. rest ] says.2)
+
+  pub left_in_turn : (xs ys : List Listing) → RetainsInTurn R s xs ys → AreTidy xs → (g n : ℕ) → is_listed g n ys ≡ (is_listed g n xs && p g n)
+  left_in_turn [] ys turn tidy g n = ap (is_listed g n) turn
+  left_in_turn (x ∷ xs) ys (b, t, y, step, zs, later, is) tidy g n =
+      let says = told x b t y step in
+      let rest : is_listed g n zs ≡ (is_listed g n xs && p g n) = left_in_turn xs zs (subst (λ u. RetainsInTurn R u xs zs) says.4 later) tidy.2 g n in
+      ap (is_listed g n) is
+      ∙ elim (x.guess == g) as (λ k. (x.guess == g) ≡ k → is_listed g n (cond b (y ∷ zs) zs) ≡ (cond k (has n x.terminals) (is_listed g n xs) && p g n)) [
+        | true ↦ λ same.
+            let number : x.guess ≡ g = eqb-true x.guess g same in
+            let left : has n y.terminals ≡ (has n x.terminals && p g n) = says.1 n ∙ ap (λ k. has n x.terminals && p k n) number in
+            let first : (y.guess == g) ≡ true = ap (λ k. k == g) says.0 ∙ same in
+            elim b as (λ c. (c ≡ false → y.terminals ≡ []) → is_listed g n (cond c (y ∷ zs) zs) ≡ (has n x.terminals && p g n)) [
+              | true ↦ λ _. ap (λ c. cond c (has n y.terminals) (is_listed g n zs)) first ∙ left
+              | false ↦ λ none.
+                  rest ∙ ap (λ c. c && p g n) (none_listed g xs (subst (λ k. HasNone k xs) number tidy.0) n)
+                  ∙ sym (sym left ∙ ap (has n) (none refl))
+            ] says.3
         | false ↦ λ other.
-            let first : (y.guess == g) ≡ false = ap (λ n. n == g) says.0 ∙ other in
-            elim b as (λ c. listed_for g (cond c (y ∷ zs) zs) ≡ []) [
-              | true ↦ ap (λ c. cond c y.terminals.items (listed_for g zs)) first ∙ rest
+            let first : (y.guess == g) ≡ false = ap (λ k. k == g) says.0 ∙ other in
+            elim b as (λ c. is_listed g n (cond c (y ∷ zs) zs) ≡ (is_listed g n xs && p g n)) [
+              | true ↦ ap (λ c. cond c (has n y.terminals) (is_listed g n zs)) first ∙ rest
               | false ↦ rest
             ]
       ] refl

@@ -2,6 +2,6 @@ pub mod Terminal
 pub mod Terminals
 pub mod Held
 pub mod TerminalInvariant
-pub mod Resting
+pub mod Listing
 pub mod Same
 pub mod SameLemma

@@ -3,8 +3,9 @@
 
 mod buffered_text;
 pub mod laws;
+mod listing;
+mod number_set;
 mod numbered;
-mod resting;
 pub mod terminal;
 pub mod terminals;
 pub mod texts;

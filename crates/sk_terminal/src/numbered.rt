@@ -5,7 +5,7 @@ ghost use Rattle.std.specs.FinMap as map;
 ghost use Rattle.sk_record.specs.Machine.{lightened, not_dropped};
 ghost use Rattle.sk_record.specs.Notes.{has};
 ghost use Rattle.sk_terminal.specs.Terminals.{said_to};
-ghost use Rattle.sk_terminal.specs.Resting.{rests_at};
+ghost use Rattle.sk_terminal.specs.Listing.{rests_at};
 
 use crate::Terminal;
 use sk_ids::{GuessId, TagSet, Text};

@@ -1,14 +1,14 @@
 //! What was said to each terminal.
-ghost use Rattle.std.specs.Prelude.{◌≡◌, ◌↔◌, ◌<◌, [], ℕ, IsTrue, OnOk, OnErr};
+ghost use Rattle.std.specs.Prelude.{◌≡◌, ◌↔◌, ℕ, IsTrue, OnOk, OnErr};
 ghost use Rattle.std.specs.Option.{option_copied, option_map};
 ghost use Rattle.std.specs.FinMap as map;
 ghost use Rattle.sk_record.specs.Machine.{lightened, not_dropped};
-ghost use Rattle.sk_terminal.specs.Resting.{listed_for, AllListed, IsListed, NoneRests};
+ghost use Rattle.sk_terminal.specs.Listing.{AreListed, AreTidy, ListsAtMost};
 ghost use Rattle.sk_terminal.specs.Terminals.{texts_at, said_to};
 
 use crate::Terminal;
+use crate::listing::{Listing, list, take_list, take_off, take_off_all};
 use crate::numbered::Numbered;
-use crate::resting::{Resting, forget, list, take_list};
 use sk_ids::{GuessId, TagSet, Text};
 use std::alloc::{AllocError, Global};
 use std::marker::Model;
@@ -19,11 +19,11 @@ use std::marker::Model;
 pub struct Terminals {
     alloc: Global,
     numbered: Numbered,
-    lists: Vec<Resting>,
+    lists: Vec<Listing>,
 }
 
 impl Model for Terminals {
-    ghost use Rattle.sk_terminal.specs.Resting.{AllListed};
+    ghost use Rattle.sk_terminal.specs.Listing.{AreListed, AreTidy};
     ghost use Rattle.sk_terminal.specs.Terminals.{TerminalMap, terminals_code};
 
     ghost Value = { TerminalMap };
@@ -32,7 +32,7 @@ impl Model for Terminals {
 
     ghost view = { λ a. a.numbered };
 
-    ghost invariant = { λ a. AllListed a.numbered a.lists.items };
+    ghost invariant = { λ a. AreTidy a.lists.items × AreListed a.numbered a.lists.items };
 }
 
 impl PartialEq for Terminals {
@@ -66,10 +66,12 @@ impl Terminals {
     pub fn new(alloc: Global) -> Terminals
         ensures { result ≡ map.empty }
     {
+        let numbered = Numbered::new(alloc);
+        let lists = Vec::new(alloc);
         Terminals {
             alloc,
-            numbered: Numbered::new(alloc),
-            lists: Vec::new(alloc),
+            numbered,
+            lists,
         }
     }
 
@@ -85,8 +87,14 @@ impl Terminals {
         ensures ok { OnOk result (self.new ≡ said_to self.old number (text, tags)) }
         ensures err { OnErr result (self.new ≡ self.old) }
     {
-        list(self.alloc, &mut self.lists, &self.numbered, &tags, number)?;
-        self.numbered.say(number, text, tags)
+        say_or_not(
+            self.alloc,
+            &mut self.numbered,
+            &mut self.lists,
+            number,
+            text,
+            tags,
+        )
     }
 
     /// A guess is committed: no text rests on it any more. This takes no memory.
@@ -95,9 +103,7 @@ impl Terminals {
             ≡ option_map (lightened id) (map.get self.old t) }
         ensures texts { (t : ℕ) → texts_at self.new t ≡ lightened id (texts_at self.old t) }
     {
-        if let Some(numbers) = take_list(&mut self.lists, id) {
-            self.numbered.commit(numbers.as_slice(), id);
-        }
+        lighten(&mut self.numbered, &mut self.lists, id);
     }
 
     /// Throws away the texts that rest on a guess. This takes no memory.
@@ -110,18 +116,81 @@ impl Terminals {
     }
 }
 
-/// Throws away the texts that rest on a guess, its list, and those of the guesses that its failure
-/// struck.
-fn throw_away(numbered: &mut Numbered, lists: &mut Vec<Resting>, id: GuessId)
-    requires { AllListed numbered.old lists.old.items }
+/// Lists a terminal for the guesses that a text rests on, and says the text to it. Without memory the terminal may be listed
+/// for guesses on which no text of it rests.
+fn say_listed(
+    alloc: Global,
+    numbered: &mut Numbered,
+    lists: &mut Vec<Listing>,
+    number: u16,
+    text: Text,
+    tags: TagSet,
+) -> Result<(), AllocError>
+    requires tidy { AreTidy lists.old.items }
+    requires listed { AreListed numbered.old lists.old.items }
+    ensures ok { OnOk result (numbered.new ≡ said_to numbered.old number (text, tags)) }
+    ensures listed { OnOk result (AreListed numbered.new lists.new.items) }
+    ensures err { OnErr result (numbered.new ≡ numbered.old) }
+    ensures more { OnErr result (ListsAtMost number lists.old.items lists.new.items) }
+    ensures tidy { AreTidy lists.new.items }
+{
+    list(alloc, lists, &tags, number)?;
+    numbered.say(number, text, tags)?;
+    Ok(())
+}
+
+/// The same, and without memory the terminal is listed just for the guesses on which a text of it rests.
+fn say_or_not(
+    alloc: Global,
+    numbered: &mut Numbered,
+    lists: &mut Vec<Listing>,
+    number: u16,
+    text: Text,
+    tags: TagSet,
+) -> Result<(), AllocError>
+    requires tidy { AreTidy lists.old.items }
+    requires listed { AreListed numbered.old lists.old.items }
+    ensures ok { OnOk result (numbered.new ≡ said_to numbered.old number (text, tags)) }
+    ensures err { OnErr result (numbered.new ≡ numbered.old) }
+    ensures listed { AreListed numbered.new lists.new.items }
+    ensures tidy { AreTidy lists.new.items }
+{
+    match say_listed(alloc, numbered, lists, number, text, tags) {
+        Ok(()) => Ok(()),
+        Err(error) => {
+            take_off(lists, numbered, number);
+            Err(error)
+        }
+    }
+}
+
+/// Takes a guess from the texts that rest on it, and its list.
+fn lighten(numbered: &mut Numbered, lists: &mut Vec<Listing>, id: GuessId)
+    requires tidy { AreTidy lists.old.items }
+    requires listed { AreListed numbered.old lists.old.items }
     ensures terminals { (t : ℕ) → map.get numbered.new t
-        ≡ option_map (not_dropped id) (map.get numbered.old t) }
-    ensures listed { AllListed numbered.new lists.new.items }
-    ensures gone { IsListed id lists.old.items → (g : ℕ) → id < g → NoneRests g numbered.new
-        → listed_for g lists.new.items ≡ [] }
+        ≡ option_map (lightened id) (map.get numbered.old t) }
+    ensures listed { AreListed numbered.new lists.new.items }
+    ensures tidy { AreTidy lists.new.items }
 {
     if let Some(numbers) = take_list(lists, id) {
-        numbered.drop_of(numbers.as_slice(), id);
-        forget(lists, numbered, id);
+        numbered.commit(numbers.as_slice(), id);
+    }
+}
+
+/// Throws away the texts that rest on a guess, its list, and from the other lists the terminals at which nothing
+/// rests on their guess any more.
+fn throw_away(numbered: &mut Numbered, lists: &mut Vec<Listing>, id: GuessId)
+    requires tidy { AreTidy lists.old.items }
+    requires listed { AreListed numbered.old lists.old.items }
+    ensures terminals { (t : ℕ) → map.get numbered.new t
+        ≡ option_map (not_dropped id) (map.get numbered.old t) }
+    ensures listed { AreListed numbered.new lists.new.items }
+    ensures tidy { AreTidy lists.new.items }
+{
+    if let Some(numbers) = take_list(lists, id) {
+        let freed = numbers.as_slice();
+        numbered.drop_of(freed, id);
+        take_off_all(lists, numbered, freed);
     }
 }

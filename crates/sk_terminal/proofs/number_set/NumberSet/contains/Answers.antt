@@ -1,0 +1,13 @@
+-- The search tells.
+use Rattle.std.proofs.Common.{sym, ◌∙◌, ap, subst}
+use Rattle.std.specs.Ordering.{nat_cmp}
+use Rattle.std.specs.List.Sorted.{IsBinarySearchResult}
+use Rattle.sk_record.specs.Notes.{has}
+use Rattle.sk_ids.proofs.Searches.{tells}
+use Rattle.sk_terminal.proofs.number_set.NumberSet.contains.Goals as goal
+
+pub returns : goal.returns
+returns c =
+    let xs = c.self.inside.numbers.items in
+    let there = subst (λ ys. IsBinarySearchResult (λ y. nat_cmp y c.args.number) ys c.binary_search.result) c.as_slice.ensures.value c.binary_search.ensures.position in
+    c.is_ok.ensures.value ∙ tells c.args.number xs c.self.invariant c.binary_search.result there ∙ ap (has c.args.number) c.self.view_is

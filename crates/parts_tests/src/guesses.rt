@@ -9,7 +9,11 @@ use std::process::Abort;
 const KERNEL: u64 = 7;
 
 /// Draws a guess whose step rests on itself alone, and on which these entities rest.
-fn draw(alloc: Global, guesses: &mut Guesses, entities: &[Entity]) -> Result<Guess, DrawRefusal> {
+fn draw(
+    alloc: Global,
+    guesses: &mut Guesses<Entity>,
+    entities: &[Entity],
+) -> Result<Guess, DrawRefusal> {
     let tags = match guesses.free() {
         Some(id) => TagSet::of(alloc, id),
         None => TagSet::new(alloc),
@@ -18,7 +22,12 @@ fn draw(alloc: Global, guesses: &mut Guesses, entities: &[Entity]) -> Result<Gue
 }
 
 /// Draws a guess, whose number is the next.
-fn drawn(rt: &impl Abort, alloc: Global, guesses: &mut Guesses, entities: &[Entity]) -> Guess {
+fn drawn(
+    rt: &impl Abort,
+    alloc: Global,
+    guesses: &mut Guesses<Entity>,
+    entities: &[Entity],
+) -> Guess {
     assert!(rt; !guesses.is_full());
     let next = guesses.next();
     let token = draw(alloc, guesses, entities).expect(rt, "a guess");
@@ -27,7 +36,7 @@ fn drawn(rt: &impl Abort, alloc: Global, guesses: &mut Guesses, entities: &[Enti
 }
 
 /// What a token says that is taken in.
-fn said(rt: &impl Abort, guesses: &Guesses, token: Guess) -> Redeemed {
+fn said(rt: &impl Abort, guesses: &Guesses<Entity>, token: Guess) -> Redeemed {
     match guesses.redeem(token) {
         Ok(redeemed) => redeemed,
         Err(_token) => panic!(rt; "the token is taken in"),
@@ -35,20 +44,20 @@ fn said(rt: &impl Abort, guesses: &Guesses, token: Guess) -> Redeemed {
 }
 
 /// Spends the token of an undecided guess, which stays so.
-fn spend(rt: &impl Abort, guesses: &Guesses, token: Guess) -> GuessId {
+fn spend(rt: &impl Abort, guesses: &Guesses<Entity>, token: Guess) -> GuessId {
     let id = token.id();
     assert!(rt; said(rt, guesses, token) == Redeemed::Undecided(id));
     id
 }
 
 /// Draws a guess on which nothing rests, and spends its token.
-fn draws(rt: &impl Abort, alloc: Global, guesses: &mut Guesses) -> GuessId {
+fn draws(rt: &impl Abort, alloc: Global, guesses: &mut Guesses<Entity>) -> GuessId {
     let token = drawn(rt, alloc, guesses, &[]);
     spend(rt, guesses, token)
 }
 
 /// No guess can be drawn.
-fn refuses(rt: &impl Abort, alloc: Global, guesses: &mut Guesses) {
+fn refuses(rt: &impl Abort, alloc: Global, guesses: &mut Guesses<Entity>) {
     match draw(alloc, guesses, &[]) {
         Ok(_token) => panic!(rt; "a guess too many"),
         Err(why) => assert!(rt; why == DrawRefusal::TooMany),
@@ -66,7 +75,7 @@ fn sixty_four_guesses(rt: HostRuntime) {
 }
 
 /// Decides the guess so.
-fn decide(guesses: &mut Guesses, id: GuessId, to: Status) {
+fn decide(guesses: &mut Guesses<Entity>, id: GuessId, to: Status) {
     match to {
         Status::Undecided => {}
         Status::Committed => guesses.commit(id),
@@ -76,7 +85,7 @@ fn decide(guesses: &mut Guesses, id: GuessId, to: Status) {
 }
 
 /// The token of an undecided or a struck guess says what became of it.
-fn tells(rt: &impl Abort, alloc: Global, guesses: &mut Guesses, to: Status) {
+fn tells(rt: &impl Abort, alloc: Global, guesses: &mut Guesses<Entity>, to: Status) {
     let token = drawn(rt, alloc, guesses, &[]);
     let id = token.id();
     decide(guesses, id, to);
@@ -92,8 +101,8 @@ fn tells(rt: &impl Abort, alloc: Global, guesses: &mut Guesses, to: Status) {
 fn comes_back(
     rt: &impl Abort,
     alloc: Global,
-    guesses: &mut Guesses,
-    twin: &mut Guesses,
+    guesses: &mut Guesses<Entity>,
+    twin: &mut Guesses<Entity>,
     to: Status,
 ) {
     let id = draws(rt, alloc, twin);
@@ -121,7 +130,7 @@ fn tokens_after_a_decision(rt: HostRuntime) {
 /// A guess keeps what became of it through a second decision.
 fn stays(
     rt: &impl Abort,
-    guesses: &mut Guesses,
+    guesses: &mut Guesses<Entity>,
     id: GuessId,
     status: Option<Status>,
     again: Status,
@@ -131,7 +140,7 @@ fn stays(
 }
 
 /// The next guess is decided so, and then in each way once more.
-fn decides_again(rt: &impl Abort, alloc: Global, guesses: &mut Guesses, first: Status) {
+fn decides_again(rt: &impl Abort, alloc: Global, guesses: &mut Guesses<Entity>, first: Status) {
     let id = draws(rt, alloc, guesses);
     decide(guesses, id, first);
     for second in [Status::Committed, Status::Failed, Status::Struck] {
@@ -151,7 +160,7 @@ fn decided_once(rt: HostRuntime) {
 }
 
 /// Draws a guess on which these entities rest, and spends its token.
-fn draws_with(rt: &impl Abort, alloc: Global, guesses: &mut Guesses, entities: &[Entity]) {
+fn draws_with(rt: &impl Abort, alloc: Global, guesses: &mut Guesses<Entity>, entities: &[Entity]) {
     let token = drawn(rt, alloc, guesses, entities);
     spend(rt, guesses, token);
 }
@@ -170,12 +179,12 @@ fn are(rt: &impl Abort, entities: &[Entity], processes: &[u16]) {
 }
 
 /// Just these processes rest on the guess of a number.
-fn rest(rt: &impl Abort, guesses: &Guesses, number: u64, processes: &[u16]) {
+fn rest(rt: &impl Abort, guesses: &Guesses<Entity>, number: u64, processes: &[u16]) {
     are(rt, guesses.dependents(guess(rt, number)), processes);
 }
 
 /// Each entity stands once in the list of a guess.
-fn draws_two(rt: &impl Abort, alloc: Global, guesses: &mut Guesses) {
+fn draws_two(rt: &impl Abort, alloc: Global, guesses: &mut Guesses<Entity>) {
     let twice = [process(rt, 2), process(rt, 1), process(rt, 2)];
     draws_with(rt, alloc, guesses, &twice);
     rest(rt, guesses, 1, &[1, 2]);
@@ -183,7 +192,7 @@ fn draws_two(rt: &impl Abort, alloc: Global, guesses: &mut Guesses) {
 }
 
 /// The third process comes to rest on both guesses, which is told twice. Nothing rests on a guess that was not drawn.
-fn rests_on_both(rt: &impl Abort, alloc: Global, guesses: &mut Guesses) {
+fn rests_on_both(rt: &impl Abort, alloc: Global, guesses: &mut Guesses<Entity>) {
     let (both, third) = (tags(rt, alloc, &[1, 2]), process(rt, 3));
     guesses.depend(&both, &third).expect(rt, "memory");
     guesses.depend(&both, &third).expect(rt, "memory");
@@ -193,7 +202,7 @@ fn rests_on_both(rt: &impl Abort, alloc: Global, guesses: &mut Guesses) {
 }
 
 /// The second process rests on the second guess no more, and the third on that alone.
-fn relieves(rt: &impl Abort, alloc: Global, guesses: &mut Guesses) {
+fn relieves(rt: &impl Abort, alloc: Global, guesses: &mut Guesses<Entity>) {
     let second = TagSet::of(alloc, guess(rt, 2));
     guesses.relieve(&second, &process(rt, 2));
     guesses.leave_to(&second, &process(rt, 3));
@@ -202,14 +211,14 @@ fn relieves(rt: &impl Abort, alloc: Global, guesses: &mut Guesses) {
 }
 
 /// The list of the first guess is moved out: it is just this, and none is left.
-fn gives_up(rt: &impl Abort, guesses: &mut Guesses) {
+fn gives_up(rt: &impl Abort, guesses: &mut Guesses<Entity>) {
     let list = guesses.take_dependents(guess(rt, 1));
     are(rt, list.as_slice(), &[1, 2]);
     rest(rt, guesses, 1, &[]);
 }
 
 /// The first guess fails and the second is struck: no list is left.
-fn decides_both(rt: &impl Abort, guesses: &mut Guesses) {
+fn decides_both(rt: &impl Abort, guesses: &mut Guesses<Entity>) {
     let (first, second) = (guess(rt, 1), guess(rt, 2));
     guesses.fail(first);
     guesses.strike_resting(first);
@@ -230,7 +239,7 @@ fn lists_of_dependents(rt: HostRuntime) {
 }
 
 /// Ends an epoch in which no guess is undecided.
-fn settles(rt: &impl Abort, guesses: &mut Guesses) {
+fn settles(rt: &impl Abort, guesses: &mut Guesses<Entity>) {
     if guesses.undecided() > 0 {
         panic!(rt; "a guess is undecided");
     }
@@ -246,7 +255,7 @@ fn of_number(number: u64) -> Status {
 }
 
 /// Draws and decides thirty guesses, in epochs of so many.
-fn decides_thirty(rt: &impl Abort, alloc: Global, guesses: &mut Guesses, count: u64) {
+fn decides_thirty(rt: &impl Abort, alloc: Global, guesses: &mut Guesses<Entity>, count: u64) {
     for number in 1..=30u64 {
         let id = draws(rt, alloc, guesses);
         decide(guesses, id, of_number(number));
@@ -257,7 +266,7 @@ fn decides_thirty(rt: &impl Abort, alloc: Global, guesses: &mut Guesses, count: 
 }
 
 /// The guess of a number has its status, and keeps it through a second decision.
-fn keeps_its(rt: &impl Abort, guesses: &mut Guesses, number: u64) {
+fn keeps_its(rt: &impl Abort, guesses: &mut Guesses<Entity>, number: u64) {
     let (id, status) = (guess(rt, number), Some(of_number(number)));
     assert!(rt; guesses.status(id) == status);
     stays(rt, guesses, id, status, Status::Committed);

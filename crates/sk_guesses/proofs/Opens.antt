@@ -25,15 +25,15 @@ use Rattle.sk_record.specs.Epoch.{status_in}
 use Rattle.sk_guesses.specs.Guesses.{GuessesView, is_full, is_undecided, undecided_of, status_since, decided, drawn, next_of}
 use Rattle.sk_guesses.specs.Opens.{OpenGuess, AreOpen, opens_of, dependents_of, but, not_resting, after_commit, without_tag, struck_by, open_in, without_list, depending, relieved, left_to}
 use Rattle.sk_guesses.specs.EntitySet.{with_entity, without_entity}
-use Rattle.sk_ids.specs.declared.entity.Entity.{Entity}
+use Rattle.std.specs.declared.cmp.Ordering.{Ordering}
 use Rattle.sk_guesses.specs.Room.{Listing}
 use Rattle.sk_guesses.proofs.Count.{count_of}
 use Rattle.sk_guesses.proofs.Statuses.{at-place, some_number, nothing_in, drawn-since, status-drawn, status-decided}
 
-abbrev pub guess_of : Listing → OpenGuess
+abbrev pub guess_of : {E : Type 0} → (Listing E) → (OpenGuess E)
 guess_of l = l.guess
 
-abbrev pub named : List OpenGuess → List ℕ
+abbrev pub named : {E : Type 0} → List (OpenGuess E) → List ℕ
 named os = numbers (opens_of os)
 
 -- ---- passes over all
@@ -69,7 +69,7 @@ seen_filter view p (x ∷ xs) =
     ]
 
 -- ---- their numbers
-but_named : (g : ℕ) (os : List OpenGuess) → named (but g os) ≡ without g (named os)
+pub but_named : {E : Type 0} → (g : ℕ) (os : List (OpenGuess E)) → named (but g os) ≡ without g (named os)
 but_named g [] = refl
 but_named g (o ∷ os) =
     elim (not (o.id == g)) as (λ b. named (cond b (o ∷ but g os) (but g os)) ≡ cond b (o.id ∷ without g (named os)) (without g (named os))) [
@@ -77,15 +77,15 @@ but_named g (o ∷ os) =
       | false ↦ but_named g os
     ]
 
-same_named : (g : ℕ) (os : List OpenGuess) → named (map (without_tag g) os) ≡ named os
+pub same_named : {E : Type 0} → (g : ℕ) (os : List (OpenGuess E)) → named (map (without_tag g) os) ≡ named os
 same_named g [] = refl
 same_named g (o ∷ os) = ap (λ ns. o.id ∷ ns) (same_named g os)
 
-named_more : (os : List OpenGuess) (o : OpenGuess) → named (os ++ o ∷ []) ≡ named os ++ o.id ∷ []
+pub named_more : {E : Type 0} → (os : List (OpenGuess E)) (o : (OpenGuess E)) → named (os ++ o ∷ []) ≡ named os ++ o.id ∷ []
 named_more [] o = refl
 named_more (x ∷ os) o = ap (λ ns. x.id ∷ ns) (named_more os o)
 
-pub as_many : (os : List OpenGuess) → length (named os) ≡ length os
+pub as_many : {E : Type 0} → (os : List (OpenGuess E)) → length (named os) ≡ length os
 as_many [] = refl
 as_many (o ∷ os) = ap suc (as_many os)
 
@@ -97,7 +97,7 @@ open_is (Some Committed) is = absurd (true≢false (sym is))
 open_is (Some Failed) is = absurd (true≢false (sym is))
 open_is (Some Struck) is = absurd (true≢false (sym is))
 
-pub counted : (v : GuessesView) (os : List OpenGuess) → AreOpen v os → undecided_of v.statuses ≡ length os
+pub counted : {E : Type 0} → (v : GuessesView) (os : List (OpenGuess E)) → AreOpen v os → undecided_of v.statuses ≡ length os
 counted v os are =
     count_of v (named os) are.rising (λ g. ((λ here. open_is (status_since v g) (sym (are.tied g) ∙ here)), λ is. are.tied g ∙ ap open_in is)) ∙ as_many os
 
@@ -108,41 +108,41 @@ within v g s is =
     slice_get_within v.statuses (n - 1) s (sym (at-place v.statuses n (some_number v.statuses n s is)) ∙ is)
 
 -- ---- one goes
-turned : (a b : ℕ) → (a == b) ≡ (b == a)
+pub turned : (a b : ℕ) → (a == b) ≡ (b == a)
 turned a b =
     elim (a == b) as (λ t. (a == b) ≡ t → t ≡ (b == a)) [
       | true ↦ λ is. sym (eq-eqb b a (sym (eqb-true a b is)))
       | false ↦ λ apart. elim (b == a) as (λ t. (b == a) ≡ t → false ≡ t) [ true ↦ λ is. sym apart ∙ eq-eqb a b (sym (eqb-true b a is)) | false ↦ λ _. refl ] refl
     ] refl
 
-all_kept : {X : Type 0} (P : X → Type 0) (p : X → Bool) (xs : List X) → AllByRecursion P xs → AllByRecursion P (filter p xs)
+pub all_kept : {X : Type 0} (P : X → Type 0) (p : X → Bool) (xs : List X) → AllByRecursion P xs → AllByRecursion P (filter p xs)
 all_kept P p [] all = tt
 all_kept P p (x ∷ xs) all =
     elim (p x) as (λ b. AllByRecursion P (cond b (x ∷ filter p xs) (filter p xs))) [ true ↦ (all.0, all_kept P p xs all.1) | false ↦ all_kept P p xs all.1 ]
 
-tied_but : (v : GuessesView) (os : List OpenGuess) (id : ℕ) (s : Status) → AreOpen v os → status_since v id ≡ Some Undecided → is_undecided s ≡ false
+tied_but : {E : Type 0} → (v : GuessesView) (os : List (OpenGuess E)) (id : ℕ) (s : Status) → AreOpen v os → status_since v id ≡ Some Undecided → is_undecided s ≡ false
     → (g : ℕ) → has g (named (but id os)) ≡ open_in (status_since (decided v id s) g)
 tied_but v os id s are was becomes g =
     ap (has g) (but_named id os) ∙ has_filter (λ t. not (t == id)) g (named os) ∙ ap (λ b. not (g == id) && b) (are.tied g)
     ∙ elim (g == id) as (λ b. (not b && open_in (status_since v g)) ≡ open_in (cond b (Some s) (status_since v g))) [ true ↦ sym becomes | false ↦ refl ]
     ∙ ap open_in (sym (status-decided v id Undecided s was g))
 
-pub open_but : (v : GuessesView) (os : List OpenGuess) (id : ℕ) (s : Status) → AreOpen v os → status_since v id ≡ Some Undecided → is_undecided s ≡ false → AreOpen (decided v id s) (but id os)
+pub open_but : {E : Type 0} → (v : GuessesView) (os : List (OpenGuess E)) (id : ℕ) (s : Status) → AreOpen v os → status_since v id ≡ Some Undecided → is_undecided s ≡ false → AreOpen (decided v id s) (but id os)
 open_but v os id s are was becomes = record {
   rising = subst (IsStrictlySortedBy nat_cmp) (sym (but_named id os)) (IsStrictlySortedBy-filter nat_cmp (λ t. not (t == id)) (named os) are.rising);
   tied = tied_but v os id s are was becomes;
-  own = all_kept (λ (o : OpenGuess). has o.id o.tags ≡ true) (λ o. not (o.id == id)) os are.own;
+  own = all_kept (λ (o : (OpenGuess _)). has o.id o.tags ≡ true) (λ o. not (o.id == id)) os are.own;
 }
 
-own_left : (g : ℕ) (os : List OpenGuess) → AllByRecursion (λ (o : OpenGuess). has o.id o.tags ≡ true) os → AllByRecursion (λ (o : OpenGuess). has o.id o.tags ≡ true) (after_commit g os)
+pub own_left : {E : Type 0} → (g : ℕ) (os : List (OpenGuess E)) → AllByRecursion (λ (o : (OpenGuess E)). has o.id o.tags ≡ true) os → AllByRecursion (λ (o : (OpenGuess E)). has o.id o.tags ≡ true) (after_commit g os)
 own_left g [] all = tt
 own_left g (o ∷ os) all =
-    elim (not (o.id == g)) as (λ b. not (o.id == g) ≡ b → AllByRecursion (λ (o : OpenGuess). has o.id o.tags ≡ true) (map (without_tag g) (cond b (o ∷ but g os) (but g os)))) [
+    elim (not (o.id == g)) as (λ b. not (o.id == g) ≡ b → AllByRecursion (λ (o : (OpenGuess _)). has o.id o.tags ≡ true) (map (without_tag g) (cond b (o ∷ but g os) (but g os)))) [
       | true ↦ λ is. (has_filter (λ t. not (t == g)) o.id o.tags ∙ (λ i. is i && all.0 i), own_left g os all.1)
       | false ↦ λ _. own_left g os all.1
     ] refl
 
-pub open_committed : (v : GuessesView) (os : List OpenGuess) (id : ℕ) → AreOpen v os → status_since v id ≡ Some Undecided → AreOpen (decided v id Committed) (after_commit id os)
+pub open_committed : {E : Type 0} → (v : GuessesView) (os : List (OpenGuess E)) (id : ℕ) → AreOpen v os → status_since v id ≡ Some Undecided → AreOpen (decided v id Committed) (after_commit id os)
 open_committed v os id are was =
     let left = open_but v os id Committed are was refl in
     record {
@@ -152,7 +152,7 @@ open_committed v os id are was =
     }
 
 -- ---- all go whose own steps rest on one
-none_named : (g h : ℕ) (os : List OpenGuess) → has h (named os) ≡ false → rests_on g (opens_of os) h ≡ false
+pub none_named : {E : Type 0} → (g h : ℕ) (os : List (OpenGuess E)) → has h (named os) ≡ false → rests_on g (opens_of os) h ≡ false
 none_named g h [] none = refl
 none_named g h (o ∷ os) none =
     elim (o.id == h) as (λ b. (b || has h (named os)) ≡ false → ((b && has g o.tags) || rests_on g (opens_of os) h) ≡ false) [
@@ -167,7 +167,7 @@ not_above x g xs is all =
       | false ↦ λ _. refl
     ] refl
 
-pub resting_named : (g h : ℕ) (os : List OpenGuess) → IsStrictlySortedBy nat_cmp (named os) → has h (named (not_resting g os)) ≡ (has h (named os) && not (rests_on g (opens_of os) h))
+pub resting_named : {E : Type 0} → (g h : ℕ) (os : List (OpenGuess E)) → IsStrictlySortedBy nat_cmp (named os) → has h (named (not_resting g os)) ≡ (has h (named os) && not (rests_on g (opens_of os) h))
 unfolding IsStrictlySortedBy
 resting_named g h [] rises = refl
 resting_named g h (o ∷ os) rises =
@@ -188,18 +188,18 @@ resting_named g h (o ∷ os) rises =
           ]
     ] refl
 
-below_all : (x g : ℕ) (os : List OpenGuess) → AllByRecursion (λ y. nat_cmp x y ≡ Less) (named os) → AllByRecursion (λ y. nat_cmp x y ≡ Less) (named (not_resting g os))
+below_all : {E : Type 0} → (x g : ℕ) (os : List (OpenGuess E)) → AllByRecursion (λ y. nat_cmp x y ≡ Less) (named os) → AllByRecursion (λ y. nat_cmp x y ≡ Less) (named (not_resting g os))
 below_all x g [] all = tt
 below_all x g (o ∷ os) all =
     elim (not (has g o.tags)) as (λ b. AllByRecursion (λ y. nat_cmp x y ≡ Less) (named (cond b (o ∷ not_resting g os) (not_resting g os)))) [ true ↦ (all.0, below_all x g os all.1) | false ↦ below_all x g os all.1 ]
 
-still_rises : (g : ℕ) (os : List OpenGuess) → IsStrictlySortedBy nat_cmp (named os) → IsStrictlySortedBy nat_cmp (named (not_resting g os))
+pub still_rises : {E : Type 0} → (g : ℕ) (os : List (OpenGuess E)) → IsStrictlySortedBy nat_cmp (named os) → IsStrictlySortedBy nat_cmp (named (not_resting g os))
 unfolding IsStrictlySortedBy
 still_rises g [] rises = tt
 still_rises g (o ∷ os) rises =
     elim (not (has g o.tags)) as (λ b. IsStrictlySortedBy nat_cmp (named (cond b (o ∷ not_resting g os) (not_resting g os)))) [ true ↦ (below_all o.id g os rises.0, still_rises g os rises.1) | false ↦ still_rises g os rises.1 ]
 
-unless : (o : Option Status) (b : Bool) → (open_in o && not b) ≡ open_in (cond b (Some Struck) o)
+pub unless : (o : Option Status) (b : Bool) → (open_in o && not b) ≡ open_in (cond b (Some Struck) o)
 unless None true = refl
 unless None false = refl
 unless (Some Undecided) true = refl
@@ -211,18 +211,18 @@ unless (Some Failed) false = refl
 unless (Some Struck) true = refl
 unless (Some Struck) false = refl
 
-pub open_struck : (v w : GuessesView) (os : List OpenGuess) (id : ℕ) → AreOpen v os → ((g : ℕ) → status_since w g ≡ cond (rests_on id (opens_of os) g) (Some Struck) (status_since v g)) → AreOpen w (not_resting id os)
+pub open_struck : {E : Type 0} → (v w : GuessesView) (os : List (OpenGuess E)) (id : ℕ) → AreOpen v os → ((g : ℕ) → status_since w g ≡ cond (rests_on id (opens_of os) g) (Some Struck) (status_since v g)) → AreOpen w (not_resting id os)
 open_struck v w os id are struck = record {
   rising = still_rises id os are.rising;
   tied = λ g.
       resting_named id g os are.rising ∙ ap (λ b. b && not (rests_on id (opens_of os) g)) (are.tied g)
       ∙ unless (status_since v g) (rests_on id (opens_of os) g) ∙ ap open_in (sym (struck g));
-  own = all_kept (λ (o : OpenGuess). has o.id o.tags ≡ true) (λ o. not (has id o.tags)) os are.own;
+  own = all_kept (λ (o : (OpenGuess _)). has o.id o.tags ≡ true) (λ o. not (has id o.tags)) os are.own;
 }
 
 -- ---- the strikes
-abbrev pub AllDrawn : GuessesView → List OpenGuess → Type 0
-AllDrawn v os = AllByRecursion (λ (o : OpenGuess). is_some (status_since v o.id) ≡ true) os
+abbrev pub AllDrawn : {E : Type 0} → GuessesView → List (OpenGuess E) → Type 0
+AllDrawn v os = AllByRecursion (λ (o : (OpenGuess _)). is_some (status_since v o.id) ≡ true) os
 
 some_of : (o : Option Status) → is_some o ≡ true → (s : Status) × (o ≡ Some s)
 some_of None is = absurd (true≢false (sym is))
@@ -232,18 +232,18 @@ open_some : (o : Option Status) → open_in o ≡ true → is_some o ≡ true
 open_some None is = absurd (true≢false (sym is))
 open_some (Some s) is = refl
 
-drawn_all : (v : GuessesView) (os : List OpenGuess) → ((g : ℕ) → has g (named os) ≡ true → is_some (status_since v g) ≡ true) → AllDrawn v os
+drawn_all : {E : Type 0} → (v : GuessesView) (os : List (OpenGuess E)) → ((g : ℕ) → has g (named os) ≡ true → is_some (status_since v g) ≡ true) → AllDrawn v os
 drawn_all v [] h = tt
 drawn_all v (o ∷ os) h = (h o.id (or_left _ _ (eq-eqb o.id o.id refl)), drawn_all v os (λ g here. h g (or_right _ _ here)))
 
-pub open_drawn : (v : GuessesView) (os : List OpenGuess) → AreOpen v os → AllDrawn v os
+pub open_drawn : {E : Type 0} → (v : GuessesView) (os : List (OpenGuess E)) → AreOpen v os → AllDrawn v os
 open_drawn v os are = drawn_all v os (λ g here. open_some (status_since v g) (sym (are.tied g) ∙ here))
 
 still_some : (b : Bool) (o : Option Status) (s : Status) → is_some o ≡ true → is_some (cond b (Some s) o) ≡ true
 still_some true o s is = refl
 still_some false o s is = is
 
-still_drawn : (v : GuessesView) (id : ℕ) (was : Status) → status_since v id ≡ Some was → (os : List OpenGuess) → AllDrawn v os → AllDrawn (decided v id Struck) os
+still_drawn : {E : Type 0} → (v : GuessesView) (id : ℕ) (was : Status) → status_since v id ≡ Some was → (os : List (OpenGuess E)) → AllDrawn v os → AllDrawn (decided v id Struck) os
 still_drawn v id was is [] all = tt
 still_drawn v id was is (o ∷ os) all =
     (ap is_some (status-decided v id was Struck is o.id) ∙ still_some (o.id == id) (status_since v o.id) Struck all.0, still_drawn v id was is os all.1)
@@ -258,7 +258,7 @@ once : (a r : Bool) (x y : Option Status) → cond r x y ≡ cond ((a && false) 
 once true r x y = refl
 once false r x y = refl
 
-pub struck_are : (v : GuessesView) (id : ℕ) (os : List OpenGuess) → AllDrawn v os
+pub struck_are : {E : Type 0} → (v : GuessesView) (id : ℕ) (os : List (OpenGuess E)) → AllDrawn v os
     → (g : ℕ) → status_since (record v { statuses = struck_by (length v.earlier) id os v.statuses }) g ≡ cond (rests_on id (opens_of os) g) (Some Struck) (status_since v g)
 struck_are v id [] all g = refl
 struck_are v id (o ∷ os) all g =
@@ -271,7 +271,7 @@ struck_are v id (o ∷ os) all g =
       | false ↦ struck_are v id os all.1 g ∙ once (o.id == g) (rests_on id (opens_of os) g) (Some Struck) (status_since v g)
     ]
 
-pub in_range : (v : GuessesView) (ls : List Listing) → AllDrawn v (map guess_of ls) → (k : ℕ) (d : Listing) → k < length ls → (slice_index_or ls k d).guess.id - length v.earlier - 1 < length v.statuses
+pub in_range : {E : Type 0} → (v : GuessesView) (ls : List (Listing E)) → AllDrawn v (map guess_of ls) → (k : ℕ) (d : (Listing E)) → k < length ls → (slice_index_or ls k d).guess.id - length v.earlier - 1 < length v.statuses
 in_range v [] all k d lt = absurd (omega arith)
 in_range v (l ∷ ls) all zero d lt = let was = some_of (status_since v l.guess.id) all.0 in within v l.guess.id was.0 was.1
 in_range v (l ∷ ls) all (suc k) d lt = in_range v ls all.1 k d (omega arith)
@@ -291,7 +291,7 @@ more_rises (x ∷ xs) y rises below =
 pub status_below : (v : GuessesView) (g : ℕ) (s : Status) → status_since v g ≡ Some s → g < next_of v
 status_below v g s is = let less = within v g s is in let some = drawn-since v g s is in omega (arith, less, some)
 
-own_more : (os : List OpenGuess) (o : OpenGuess) → AllByRecursion (λ (o : OpenGuess). has o.id o.tags ≡ true) os → has o.id o.tags ≡ true → AllByRecursion (λ (o : OpenGuess). has o.id o.tags ≡ true) (os ++ o ∷ [])
+pub own_more : {E : Type 0} → (os : List (OpenGuess E)) (o : (OpenGuess E)) → AllByRecursion (λ (o : (OpenGuess E)). has o.id o.tags ≡ true) os → has o.id o.tags ≡ true → AllByRecursion (λ (o : (OpenGuess E)). has o.id o.tags ≡ true) (os ++ o ∷ [])
 own_more [] o all own = (own, tt)
 own_more (x ∷ os) o all own = (all.0, own_more os o all.1 own)
 
@@ -301,7 +301,7 @@ or_one true false o is = is
 or_one false true o is = refl
 or_one false false o is = is
 
-pub open_more : (v : GuessesView) (os : List OpenGuess) (o : OpenGuess) → AreOpen v os → o.id ≡ next_of v → has o.id o.tags ≡ true → AreOpen (drawn v) (os ++ o ∷ [])
+pub open_more : {E : Type 0} → (v : GuessesView) (os : List (OpenGuess E)) (o : (OpenGuess E)) → AreOpen v os → o.id ≡ next_of v → has o.id o.tags ≡ true → AreOpen (drawn v) (os ++ o ∷ [])
 open_more v os o are number own = record {
   rising = subst (IsStrictlySortedBy nat_cmp) (sym (named_more os o))
       (more_rises (named os) o.id are.rising (λ g here. subst (λ n. g < n) (sym number) (status_below v g Undecided (open_is (status_since v g) (sym (are.tied g) ∙ here)))));
@@ -314,7 +314,7 @@ open_more v os o are number own = record {
 }
 
 -- ---- lists of what is decided
-pub none_there : (g : ℕ) (os : List OpenGuess) → has g (named os) ≡ false → dependents_of g os ≡ []
+pub none_there : {E : Type 0} → (g : ℕ) (os : List (OpenGuess E)) → has g (named os) ≡ false → dependents_of g os ≡ []
 none_there g [] none = refl
 none_there g (o ∷ os) none =
     elim (o.id == g) as (λ b. (b || has g (named os)) ≡ false → cond b o.dependents (dependents_of g os) ≡ []) [
@@ -322,24 +322,24 @@ none_there g (o ∷ os) none =
       | false ↦ λ e. none_there g os e
     ] none
 
-pub emptied : (v : GuessesView) (os : List OpenGuess) (g : ℕ) → AreOpen v os → open_in (status_since v g) ≡ false → dependents_of g os ≡ []
+pub emptied : {E : Type 0} → (v : GuessesView) (os : List (OpenGuess E)) (g : ℕ) → AreOpen v os → open_in (status_since v g) ≡ false → dependents_of g os ≡ []
 emptied v os g are closed = none_there g os (are.tied g ∙ closed)
 
 -- ---- the list of a guess
-abbrev pub is_other : ℕ → Listing → Bool
+abbrev pub is_other : {E : Type 0} → ℕ → (Listing E) → Bool
 is_other g l = not (l.guess.id == g)
 
-pub found : (g k : ℕ) (ls : List Listing) (l : Listing) → k ≡ prefix_len (is_other g) ls → k < length ls → l ≡ slice_index_or ls k l → l.guess.dependents ≡ dependents_of g (map guess_of ls)
+pub found : {E : Type 0} → (g k : ℕ) (ls : List (Listing E)) (l : (Listing E)) → k ≡ prefix_len (is_other g) ls → k < length ls → l ≡ slice_index_or ls k l → l.guess.dependents ≡ dependents_of g (map guess_of ls)
 found g k [] l is lt at = absurd (omega arith)
 found g k (x ∷ ls) l is lt at =
     elim (x.guess.id == g) as (λ b. k ≡ cond (not b) (1 + prefix_len (is_other g) ls) 0 → l.guess.dependents ≡ cond b x.guess.dependents (dependents_of g (map guess_of ls))) [
-      | true ↦ λ none. ap (λ (y : Listing). y.guess.dependents) (at ∙ ap (λ j. slice_index_or (x ∷ ls) j l) none)
+      | true ↦ λ none. ap (λ (y : (Listing _)). y.guess.dependents) (at ∙ ap (λ j. slice_index_or (x ∷ ls) j l) none)
       | false ↦ λ more.
           let next : k ≡ suc (prefix_len (is_other g) ls) = omega arith in
           found g (prefix_len (is_other g) ls) ls l refl (omega arith) (at ∙ ap (λ j. slice_index_or (x ∷ ls) j l) next)
     ] is
 
-pub missing : (g k : ℕ) (ls : List Listing) → k ≡ prefix_len (is_other g) ls → length ls ≤ k → [] ≡ dependents_of g (map guess_of ls)
+pub missing : {E : Type 0} → (g k : ℕ) (ls : List (Listing E)) → k ≡ prefix_len (is_other g) ls → length ls ≤ k → [] ≡ dependents_of g (map guess_of ls)
 missing g k [] is le = refl
 missing g k (x ∷ ls) is le =
     elim (x.guess.id == g) as (λ b. k ≡ cond (not b) (1 + prefix_len (is_other g) ls) 0 → [] ≡ cond b x.guess.dependents (dependents_of g (map guess_of ls))) [
@@ -347,7 +347,7 @@ missing g k (x ∷ ls) is le =
       | false ↦ λ more. missing g (prefix_len (is_other g) ls) ls refl (omega arith)
     ] is
 
-pub none_taken : (g k : ℕ) (ls : List Listing) → k ≡ prefix_len (is_other g) ls → length ls ≤ k → map guess_of ls ≡ without_list g (map guess_of ls)
+pub none_taken : {E : Type 0} → (g k : ℕ) (ls : List (Listing E)) → k ≡ prefix_len (is_other g) ls → length ls ≤ k → map guess_of ls ≡ without_list g (map guess_of ls)
 none_taken g k [] is le = refl
 none_taken g k (x ∷ ls) is le =
     elim (x.guess.id == g) as (λ b. k ≡ cond (not b) (1 + prefix_len (is_other g) ls) 0 → x.guess ∷ map guess_of ls ≡ cond b (record x.guess { dependents = [] } ∷ map guess_of ls) (x.guess ∷ without_list g (map guess_of ls))) [
@@ -355,12 +355,12 @@ none_taken g k (x ∷ ls) is le =
       | false ↦ λ more. ap (λ os. x.guess ∷ os) (none_taken g (prefix_len (is_other g) ls) ls refl (omega arith))
     ] is
 
-pub taken : (g k : ℕ) (ls : List Listing) (l new : Listing) → k ≡ prefix_len (is_other g) ls → k < length ls → l ≡ slice_index_or ls k l → new.guess ≡ record l.guess { dependents = [] }
+pub taken : {E : Type 0} → (g k : ℕ) (ls : List (Listing E)) (l new : (Listing E)) → k ≡ prefix_len (is_other g) ls → k < length ls → l ≡ slice_index_or ls k l → new.guess ≡ record l.guess { dependents = [] }
     → map guess_of (slice_set ls k new) ≡ without_list g (map guess_of ls)
 taken g k [] l new is lt at left = absurd (omega arith)
 taken g zero (x ∷ ls) l new is lt at left =
     elim (x.guess.id == g) as (λ b. zero ≡ cond (not b) (1 + prefix_len (is_other g) ls) 0 → new.guess ∷ map guess_of ls ≡ cond b (record x.guess { dependents = [] } ∷ map guess_of ls) (x.guess ∷ without_list g (map guess_of ls))) [
-      | true ↦ λ _. ap (λ o. o ∷ map guess_of ls) (left ∙ ap (λ (y : Listing). record y.guess { dependents = [] }) at)
+      | true ↦ λ _. ap (λ o. o ∷ map guess_of ls) (left ∙ ap (λ (y : (Listing _)). record y.guess { dependents = [] }) at)
       | false ↦ λ more. absurd (omega arith)
     ] is
 taken g (suc k) (x ∷ ls) l new is lt at left =
@@ -370,11 +370,11 @@ taken g (suc k) (x ∷ ls) l new is lt at left =
     ] is
 
 -- what is changed of each but its number and the tags of its own step
-pub same_opens : (f : OpenGuess → OpenGuess) → ((o : OpenGuess) → (f o).id ≡ o.id × (f o).tags ≡ o.tags) → (os : List OpenGuess) → opens_of (map f os) ≡ opens_of os
+pub same_opens : {E : Type 0} → (f : (OpenGuess E) → (OpenGuess E)) → ((o : (OpenGuess E)) → (f o).id ≡ o.id × (f o).tags ≡ o.tags) → (os : List (OpenGuess E)) → opens_of (map f os) ≡ opens_of os
 same_opens f h [] = refl
 same_opens f h (o ∷ os) = λ i. ((h o).0 i, (h o).1 i) ∷ same_opens f h os i
 
-pub taken_opens : (g : ℕ) (os : List OpenGuess) → opens_of (without_list g os) ≡ opens_of os
+pub taken_opens : {E : Type 0} → (g : ℕ) (os : List (OpenGuess E)) → opens_of (without_list g os) ≡ opens_of os
 taken_opens g [] = refl
 taken_opens g (o ∷ os) =
     elim (o.id == g) as (λ b. opens_of (cond b (record o { dependents = [] } ∷ os) (o ∷ without_list g os)) ≡ (o.id, o.tags) ∷ opens_of os) [
@@ -382,7 +382,7 @@ taken_opens g (o ∷ os) =
       | false ↦ ap (λ xs. (o.id, o.tags) ∷ xs) (taken_opens g os)
     ]
 
-own_same : (xs os : List OpenGuess) → opens_of xs ≡ opens_of os → AllByRecursion (λ (o : OpenGuess). has o.id o.tags ≡ true) os → AllByRecursion (λ (o : OpenGuess). has o.id o.tags ≡ true) xs
+pub own_same : {E : Type 0} → (xs os : List (OpenGuess E)) → opens_of xs ≡ opens_of os → AllByRecursion (λ (o : (OpenGuess E)). has o.id o.tags ≡ true) os → AllByRecursion (λ (o : (OpenGuess E)). has o.id o.tags ≡ true) xs
 own_same [] os is all = tt
 own_same (x ∷ xs) [] is all = cc
 own_same (x ∷ xs) (o ∷ os) is all =
@@ -396,18 +396,18 @@ own_same (x ∷ xs) (o ∷ os) is all =
       rest_of (q ∷ qs) = qs
 
 -- what keeps numbers and tags keeps how they stand
-pub open_same : (v : GuessesView) (xs os : List OpenGuess) → opens_of xs ≡ opens_of os → AreOpen v os → AreOpen v xs
+pub open_same : {E : Type 0} → (v : GuessesView) (xs os : List (OpenGuess E)) → opens_of xs ≡ opens_of os → AreOpen v os → AreOpen v xs
 open_same v xs os is are = record {
   rising = subst (λ ps. IsStrictlySortedBy nat_cmp (numbers ps)) (sym is) are.rising;
   tied = λ g. ap (λ ps. has g (numbers ps)) is ∙ are.tied g;
   own = own_same xs os is are.own;
 }
 
-pub open_taken : (v : GuessesView) (os : List OpenGuess) (g : ℕ) → AreOpen v os → AreOpen v (without_list g os)
+pub open_taken : {E : Type 0} → (v : GuessesView) (os : List (OpenGuess E)) (g : ℕ) → AreOpen v os → AreOpen v (without_list g os)
 open_taken v os g are = open_same v (without_list g os) os (taken_opens g os) are
 
 -- ---- a failure, and the strikes after it
-pub struck_opens : (g : ℕ) (os : List OpenGuess) → AllByRecursion (λ (o : OpenGuess). has o.id o.tags ≡ true) os → opens_of (not_resting g (but g os)) ≡ not_struck g (opens_of os)
+pub struck_opens : {E : Type 0} → (g : ℕ) (os : List (OpenGuess E)) → AllByRecursion (λ (o : (OpenGuess E)). has o.id o.tags ≡ true) os → opens_of (not_resting g (but g os)) ≡ not_struck g (opens_of os)
 struck_opens g [] all = refl
 struck_opens g (o ∷ os) all =
     let rest = struck_opens g os all.1 in
@@ -421,7 +421,7 @@ struck_opens g (o ∷ os) all =
           ]
     ] refl
 
-pub but_taken : (g : ℕ) (os : List OpenGuess) → but g (without_list g os) ≡ but g os
+pub but_taken : {E : Type 0} → (g : ℕ) (os : List (OpenGuess E)) → but g (without_list g os) ≡ but g os
 but_taken g [] = refl
 but_taken g (o ∷ os) =
     elim (o.id == g) as (λ b. (o.id == g) ≡ b → but g (cond b (record o { dependents = [] } ∷ os) (o ∷ without_list g os)) ≡ cond (not b) (o ∷ but g os) (but g os)) [
@@ -429,7 +429,7 @@ but_taken g (o ∷ os) =
       | false ↦ λ apart. ap (λ b. cond (not b) (o ∷ but g (without_list g os)) (but g (without_list g os))) apart ∙ ap (λ xs. o ∷ xs) (but_taken g os)
     ] refl
 
-rests_but : (g h : ℕ) → (h == g) ≡ false → (os : List OpenGuess) → rests_on g (opens_of (but g os)) h ≡ rests_on g (opens_of os) h
+rests_but : {E : Type 0} → (g h : ℕ) → (h == g) ≡ false → (os : List (OpenGuess E)) → rests_on g (opens_of (but g os)) h ≡ rests_on g (opens_of os) h
 rests_but g h apart [] = refl
 rests_but g h apart (o ∷ os) =
     let rest = rests_but g h apart os in
@@ -440,11 +440,11 @@ rests_but g h apart (o ∷ os) =
       | false ↦ λ _. ap (λ b. ((o.id == h) && has g o.tags) || b) rest
     ] refl
 
-rests_itself : (g : ℕ) (os : List OpenGuess) → rests_on g (opens_of (but g os)) g ≡ false
+rests_itself : {E : Type 0} → (g : ℕ) (os : List (OpenGuess E)) → rests_on g (opens_of (but g os)) g ≡ false
 rests_itself g os =
     none_named g g (but g os) (ap (has g) (but_named g os) ∙ has_filter (λ t. not (t == g)) g (named os) ∙ ap (λ b. not b && has g (named os)) (eq-eqb g g refl))
 
-pub failed_status : (v : GuessesView) (g : ℕ) (os : List OpenGuess) → status_since v g ≡ Some Undecided
+pub failed_status : {E : Type 0} → (v : GuessesView) (g : ℕ) (os : List (OpenGuess E)) → status_since v g ≡ Some Undecided
     → (h : ℕ) → cond (rests_on g (opens_of (but g os)) h) (Some Struck) (status_since (decided v g Failed) h) ≡ with_failure g (opens_of os) (status_since v) h
 failed_status v g os was h =
     ap (cond (rests_on g (opens_of (but g os)) h) (Some Struck)) (status-decided v g Undecided Failed was h)
@@ -454,14 +454,14 @@ failed_status v g os was h =
     ] refl
 
 -- ---- what changes only the list
-pub depending_keeps : (tags : List ℕ) (e : Entity) (o : OpenGuess) → (depending tags e o).id ≡ o.id × (depending tags e o).tags ≡ o.tags
-depending_keeps tags e o = elim (has o.id tags) as (λ b. (cond b (record o { dependents = with_entity o.dependents e }) o).id ≡ o.id × (cond b (record o { dependents = with_entity o.dependents e }) o).tags ≡ o.tags) [ true ↦ (refl, refl) | false ↦ (refl, refl) ]
+pub depending_keeps : {E : Type 0} → (R : E → E → Ordering) → (tags : List ℕ) (e : E) (o : (OpenGuess E)) → (depending R tags e o).id ≡ o.id × (depending R tags e o).tags ≡ o.tags
+depending_keeps R tags e o = elim (has o.id tags) as (λ b. (cond b (record o { dependents = with_entity R o.dependents e }) o).id ≡ o.id × (cond b (record o { dependents = with_entity R o.dependents e }) o).tags ≡ o.tags) [ true ↦ (refl, refl) | false ↦ (refl, refl) ]
 
-pub relieved_keeps : (tags : List ℕ) (e : Entity) (o : OpenGuess) → (relieved tags e o).id ≡ o.id × (relieved tags e o).tags ≡ o.tags
-relieved_keeps tags e o = elim (has o.id tags) as (λ b. (cond b (record o { dependents = without_entity o.dependents e }) o).id ≡ o.id × (cond b (record o { dependents = without_entity o.dependents e }) o).tags ≡ o.tags) [ true ↦ (refl, refl) | false ↦ (refl, refl) ]
+pub relieved_keeps : {E : Type 0} → (R : E → E → Ordering) → (tags : List ℕ) (e : E) (o : (OpenGuess E)) → (relieved R tags e o).id ≡ o.id × (relieved R tags e o).tags ≡ o.tags
+relieved_keeps R tags e o = elim (has o.id tags) as (λ b. (cond b (record o { dependents = without_entity R o.dependents e }) o).id ≡ o.id × (cond b (record o { dependents = without_entity R o.dependents e }) o).tags ≡ o.tags) [ true ↦ (refl, refl) | false ↦ (refl, refl) ]
 
-pub left_to_keeps : (tags : List ℕ) (e : Entity) (o : OpenGuess) → (left_to tags e o).id ≡ o.id × (left_to tags e o).tags ≡ o.tags
-left_to_keeps tags e o = elim (has o.id tags) as (λ b. (cond b o (record o { dependents = without_entity o.dependents e })).id ≡ o.id × (cond b o (record o { dependents = without_entity o.dependents e })).tags ≡ o.tags) [ true ↦ (refl, refl) | false ↦ (refl, refl) ]
+pub left_to_keeps : {E : Type 0} → (R : E → E → Ordering) → (tags : List ℕ) (e : E) (o : (OpenGuess E)) → (left_to R tags e o).id ≡ o.id × (left_to R tags e o).tags ≡ o.tags
+left_to_keeps R tags e o = elim (has o.id tags) as (λ b. (cond b o (record o { dependents = without_entity R o.dependents e })).id ≡ o.id × (cond b o (record o { dependents = without_entity R o.dependents e })).tags ≡ o.tags) [ true ↦ (refl, refl) | false ↦ (refl, refl) ]
 
 -- where none is drawn
 no_numbers : IsStrictlySortedBy nat_cmp []
@@ -471,48 +471,48 @@ no_numbers = tt
 none_yet : (v : GuessesView) → v.statuses ≡ [] → (g : ℕ) → false ≡ open_in (status_since v g)
 none_yet v none g = ap open_in (sym (ap (λ ss. status_in ss (g - length v.earlier)) none ∙ nothing_in (g - length v.earlier)))
 
-pub none_open : (v : GuessesView) (os : List OpenGuess) → v.statuses ≡ [] → os ≡ [] → AreOpen v os
+pub none_open : {E : Type 0} → (v : GuessesView) (os : List (OpenGuess E)) → v.statuses ≡ [] → os ≡ [] → AreOpen v os
 none_open v os none empty = subst (AreOpen v) (sym empty) (record { rising = no_numbers; tied = none_yet v none; own = tt })
 
-no_places : (os : List OpenGuess) → 0 ≡ length os → os ≡ []
+no_places : {E : Type 0} → (os : List (OpenGuess E)) → 0 ≡ length os → os ≡ []
 no_places [] none = refl
 no_places (o ∷ os) none = absurd (omega (arith, none))
 
 -- where an epoch ends none is open
-pub settled_open : (v w : GuessesView) (os : List OpenGuess) → AreOpen v os → undecided_of v.statuses ≡ 0 → w.statuses ≡ [] → AreOpen w os
+pub settled_open : {E : Type 0} → (v w : GuessesView) (os : List (OpenGuess E)) → AreOpen v os → undecided_of v.statuses ≡ 0 → w.statuses ≡ [] → AreOpen w os
 settled_open v w os are none empty = none_open w os empty (no_places os (sym none ∙ counted v os are))
 
 -- ---- one place of all is changed
-pub set_same : (ls : List Listing) (i : ℕ) (l new : Listing) → i < length ls → l ≡ slice_index_or ls i l → new.guess ≡ l.guess → map guess_of (slice_set ls i new) ≡ map guess_of ls
+pub set_same : {E : Type 0} → (ls : List (Listing E)) (i : ℕ) (l new : (Listing E)) → i < length ls → l ≡ slice_index_or ls i l → new.guess ≡ l.guess → map guess_of (slice_set ls i new) ≡ map guess_of ls
 set_same [] i l new lt at same = absurd (omega arith)
 set_same (x ∷ ls) zero l new lt at same = ap (λ o. o ∷ map guess_of ls) (same ∙ ap guess_of at)
 set_same (x ∷ ls) (suc i) l new lt at same = ap (λ os. x.guess ∷ os) (set_same ls i l new (omega arith) at same)
 
-pub ready_more : (tags : List ℕ) (ls : List Listing) (i j : ℕ) (l new : Listing) → j ≡ suc i → i < length ls → l ≡ slice_index_or ls i l → new.guess ≡ l.guess → (has l.guess.id tags ≡ true → 0 < new.room)
-    → ((k : ℕ) (d : Listing) → k < i → has (slice_index_or ls k d).guess.id tags ≡ true → 0 < (slice_index_or ls k d).room)
-    → (k : ℕ) (d : Listing) → k < j → has (slice_index_or (slice_set ls i new) k d).guess.id tags ≡ true → 0 < (slice_index_or (slice_set ls i new) k d).room
+pub ready_more : {E : Type 0} → (tags : List ℕ) (ls : List (Listing E)) (i j : ℕ) (l new : (Listing E)) → j ≡ suc i → i < length ls → l ≡ slice_index_or ls i l → new.guess ≡ l.guess → (has l.guess.id tags ≡ true → 0 < new.room)
+    → ((k : ℕ) (d : (Listing E)) → k < i → has (slice_index_or ls k d).guess.id tags ≡ true → 0 < (slice_index_or ls k d).room)
+    → (k : ℕ) (d : (Listing E)) → k < j → has (slice_index_or (slice_set ls i new) k d).guess.id tags ≡ true → 0 < (slice_index_or (slice_set ls i new) k d).room
 ready_more tags [] i j l new next lt at same room h k d below here = absurd (omega arith)
-ready_more tags (x ∷ ls) zero j l new next lt at same room h zero d below here = room (ap (λ (o : OpenGuess). has o.id tags) (sym same) ∙ here)
+ready_more tags (x ∷ ls) zero j l new next lt at same room h zero d below here = room (ap (λ (o : (OpenGuess _)). has o.id tags) (sym same) ∙ here)
 ready_more tags (x ∷ ls) zero j l new next lt at same room h (suc k) d below here = absurd (omega (arith, next, below))
 ready_more tags (x ∷ ls) (suc i) j l new next lt at same room h zero d below here = h zero d (omega arith) here
 ready_more tags (x ∷ ls) (suc i) j l new next lt at same room h (suc k) d below here =
     ready_more tags ls i (suc i) l new refl (omega arith) at same room (λ k d lt. h (suc k) d (omega arith)) k d (omega (arith, next, below)) here
 
-pub set_after : (ls : List Listing) (i k : ℕ) (d new : Listing) → suc i ≤ k → slice_index_or (slice_set ls i new) k d ≡ slice_index_or ls k d
+pub set_after : {E : Type 0} → (ls : List (Listing E)) (i k : ℕ) (d new : (Listing E)) → suc i ≤ k → slice_index_or (slice_set ls i new) k d ≡ slice_index_or ls k d
 set_after [] i k d new le = refl
 set_after (x ∷ ls) i zero d new le = absurd (omega arith)
 set_after (x ∷ ls) zero (suc k) d new le = refl
 set_after (x ∷ ls) (suc i) (suc k) d new le = set_after ls i k d new (omega arith)
 
-pub done_more : (f : OpenGuess → OpenGuess) (os ls : List Listing) (i : ℕ) (l new : Listing) → i < length ls → length ls ≡ length os → l ≡ slice_index_or ls i l → new.guess ≡ f l.guess
-    → ((d : Listing) → slice_index_or ls i d ≡ slice_index_or os i d)
+pub done_more : {E : Type 0} → (f : (OpenGuess E) → (OpenGuess E)) (os ls : List (Listing E)) (i : ℕ) (l new : (Listing E)) → i < length ls → length ls ≡ length os → l ≡ slice_index_or ls i l → new.guess ≡ f l.guess
+    → ((d : (Listing E)) → slice_index_or ls i d ≡ slice_index_or os i d)
     → map guess_of ls ≡ map f (map guess_of (take i os)) ++ map guess_of (drop i os)
     → map guess_of (slice_set ls i new) ≡ map f (map guess_of (take (suc i) os)) ++ map guess_of (drop (suc i) os)
 done_more f os [] i l new lt as_long at is untouched so_far = absurd (omega arith)
 done_more f [] (x ∷ ls) i l new lt as_long at is untouched so_far = absurd (omega (arith, as_long))
 done_more f (o ∷ os) (x ∷ ls) zero l new lt as_long at is untouched so_far =
     let tails : map guess_of ls ≡ map guess_of os = cc in
-    λ j. (is ∙ ap (λ (y : Listing). f y.guess) (at ∙ untouched l)) j ∷ tails j
+    λ j. (is ∙ ap (λ (y : (Listing _)). f y.guess) (at ∙ untouched l)) j ∷ tails j
 done_more f (o ∷ os) (x ∷ ls) (suc i) l new lt as_long at is untouched so_far =
     let heads : x.guess ≡ f o.guess = cc in
     let tails : map guess_of ls ≡ map f (map guess_of (take i os)) ++ map guess_of (drop i os) = cc in
@@ -520,25 +520,25 @@ done_more f (o ∷ os) (x ∷ ls) (suc i) l new lt as_long at is untouched so_fa
     λ j. heads j ∷ done_more f os ls i l new (omega arith) shorter at is untouched tails j
 
 -- ---- lists of what is decided, once more
-pub closed_list : (g : ℕ) (os : List OpenGuess) → dependents_of g (but g os) ≡ []
+pub closed_list : {E : Type 0} → (g : ℕ) (os : List (OpenGuess E)) → dependents_of g (but g os) ≡ []
 closed_list g os = none_there g (but g os) (ap (has g) (but_named g os) ∙ has_filter (λ t. not (t == g)) g (named os) ∙ ap (λ b. not b && has g (named os)) (eq-eqb g g refl))
 
-pub committed_list : (g : ℕ) (os : List OpenGuess) → dependents_of g (after_commit g os) ≡ []
+pub committed_list : {E : Type 0} → (g : ℕ) (os : List (OpenGuess E)) → dependents_of g (after_commit g os) ≡ []
 committed_list g os =
     none_there g (after_commit g os)
     (ap (has g) (same_named g (but g os) ∙ but_named g os) ∙ has_filter (λ t. not (t == g)) g (named os) ∙ ap (λ b. not b && has g (named os)) (eq-eqb g g refl))
 
-pub struck_length : (before g : ℕ) (os : List OpenGuess) (ss : List Status) → length (struck_by before g os ss) ≡ length ss
+pub struck_length : {E : Type 0} → (before g : ℕ) (os : List (OpenGuess E)) (ss : List Status) → length (struck_by before g os ss) ≡ length ss
 struck_length before g [] ss = refl
 struck_length before g (o ∷ os) ss =
     struck_length before g os (cond (has g o.tags) (slice_set ss (o.id - before - 1) Struck) ss)
     ∙ elim (has g o.tags) as (λ b. length (cond b (slice_set ss (o.id - before - 1) Struck) ss) ≡ length ss) [ true ↦ rw length-set refl | false ↦ refl ]
 
 -- one that is not undecided is not among them
-not_named : (v : GuessesView) (os : List OpenGuess) (g : ℕ) → AreOpen v os → open_in (status_since v g) ≡ false → has g (named os) ≡ false
+not_named : {E : Type 0} → (v : GuessesView) (os : List (OpenGuess E)) (g : ℕ) → AreOpen v os → open_in (status_since v g) ≡ false → has g (named os) ≡ false
 not_named v os g are closed = are.tied g ∙ closed
 
-pub none_closed : (g : ℕ) (os : List OpenGuess) → has g (named os) ≡ false → but g os ≡ os
+pub none_closed : {E : Type 0} → (g : ℕ) (os : List (OpenGuess E)) → has g (named os) ≡ false → but g os ≡ os
 none_closed g [] none = refl
 none_closed g (o ∷ os) none =
     elim (o.id == g) as (λ b. (b || has g (named os)) ≡ false → cond (not b) (o ∷ but g os) (but g os) ≡ o ∷ os) [
@@ -546,7 +546,7 @@ none_closed g (o ∷ os) none =
       | false ↦ λ e. ap (λ xs. o ∷ xs) (none_closed g os e)
     ] none
 
-pub closed_resting : (v : GuessesView) (os : List OpenGuess) (g : ℕ) → AreOpen v os → open_in (status_since v g) ≡ false → opens_of (not_resting g os) ≡ not_struck g (opens_of os)
+pub closed_resting : {E : Type 0} → (v : GuessesView) (os : List (OpenGuess E)) (g : ℕ) → AreOpen v os → open_in (status_since v g) ≡ false → opens_of (not_resting g os) ≡ not_struck g (opens_of os)
 closed_resting v os g are closed = ap (λ xs. opens_of (not_resting g xs)) (sym (none_closed g os (not_named v os g are closed))) ∙ struck_opens g os are.own
 
 -- ---- where they aren't full, there is a place and a number

@@ -1,51 +1,48 @@
-//! Sets of entities.
+//! Sets of keys.
 ghost use Rattle.std.specs.Prelude.{◌≡◌, ◌<◌, ◌≤◌, ◌+◌, [], length, OnOk, OnErr, IsOk};
 ghost use Rattle.std.specs.List.Sorted.{IsStrictlySortedBy, IsSearchInRange, IsBinarySearchResult};
-ghost use Rattle.sk_ids.specs.Entity.{entity_cmp};
 ghost use Rattle.sk_guesses.specs.EntitySet.{with_entity, with_entities, without_entity};
 
-use sk_ids::Entity;
-use sk_ids::entity::compared;
+use sk_map::Key;
 use std::alloc::{AllocError, Global};
 use std::cmp::Ordering;
 use std::marker::Model;
 
 /// Entities by rising order, each once.
 #[derive(Drop)]
-pub struct EntitySet {
-    entities: Vec<Entity>,
+pub struct EntitySet<E: Key> {
+    entities: Vec<E>,
 }
 
-impl Model for EntitySet {
+impl<E: Key> Model for EntitySet<E> {
     ghost use Rattle.std.specs.Prelude.{◌-◌, vec_len, vec_capacity};
     ghost use Rattle.std.specs.List.Sorted.{IsStrictlySortedBy};
-    ghost use Rattle.sk_ids.specs.Entity.{entity_cmp};
     ghost use Rattle.sk_guesses.specs.EntitySet.{SetView};
 
-    ghost Value = { SetView };
+    ghost Value = { SetView E };
 
     ghost view = { λ s. record
         { entities = s.entities.items; room = vec_capacity s.entities - vec_len s.entities } };
 
-    ghost invariant = { λ s. IsStrictlySortedBy entity_cmp s.entities.items };
+    ghost invariant = { λ s. IsStrictlySortedBy E.order s.entities.items };
 }
 
 /// Where an entity is, or where it would stand. Behind all others it is found at once, as most new ones are.
-fn find(entities: &[Entity], entity: &Entity) -> Result<usize, usize>
+fn find<E: Key>(entities: &[E], entity: &E) -> Result<usize, usize>
     ensures bound { IsSearchInRange result (length entities.now) }
-    ensures position { IsBinarySearchResult (λ y. entity_cmp y entity.now) entities.now result }
+    ensures position { IsBinarySearchResult (λ y. E.order y entity.now) entities.now result }
 {
     if let Some(last) = entities.last() {
-        if let Ordering::Less = compared(last, entity) {
+        if let Ordering::Less = last.cmp(entity) {
             return Err(entities.len());
         }
     }
     entities.binary_search(entity)
 }
 
-impl EntitySet {
+impl<E: Key> EntitySet<E> {
     /// No entity.
-    pub fn new(alloc: Global) -> EntitySet
+    pub fn new(alloc: Global) -> EntitySet<E>
         ensures { result.entities ≡ [] }
     {
         EntitySet {
@@ -54,9 +51,9 @@ impl EntitySet {
     }
 
     /// The entities by rising order, each once.
-    pub fn as_slice(&self) -> &[Entity]
+    pub fn as_slice(&self) -> &[E]
         ensures entities { result.now ≡ self.now.entities }
-        ensures rising { IsStrictlySortedBy entity_cmp result.now }
+        ensures rising { IsStrictlySortedBy E.order result.now }
     {
         self.entities.as_slice()
     }
@@ -71,9 +68,9 @@ impl EntitySet {
     }
 
     /// Adds an entity, which may be there, into room that is there.
-    pub fn add(&mut self, entity: &Entity)
+    pub fn add(&mut self, entity: &E)
         requires { 0 < self.old.room }
-        ensures entities { self.new.entities ≡ with_entity self.old.entities entity.now }
+        ensures entities { self.new.entities ≡ with_entity E.order self.old.entities entity.now }
         ensures room { self.old.room ≤ self.new.room + 1 }
     {
         if let Err(place) = find(self.entities.as_slice(), entity) {
@@ -84,9 +81,9 @@ impl EntitySet {
     }
 
     /// Adds entities, each of which may be there, into room that is there.
-    pub fn add_all(&mut self, entities: &[Entity])
+    pub fn add_all(&mut self, entities: &[E])
         requires { length entities.now ≤ self.old.room }
-        ensures { self.new.entities ≡ with_entities self.old.entities entities.now }
+        ensures { self.new.entities ≡ with_entities E.order self.old.entities entities.now }
     {
         for entity in entities {
             self.add(entity);
@@ -94,11 +91,19 @@ impl EntitySet {
     }
 
     /// Takes an entity out, which need not be there.
-    pub fn remove(&mut self, entity: &Entity)
-        ensures { self.new.entities ≡ without_entity self.old.entities entity.now }
+    pub fn remove(&mut self, entity: &E)
+        ensures { self.new.entities ≡ without_entity E.order self.old.entities entity.now }
     {
         if let Ok(place) = find(self.entities.as_slice(), entity) {
             self.entities.remove(place);
         }
+    }
+
+    /// The entities as a list.
+    pub fn into_vec(self) -> Vec<E>
+        ensures items { result.items ≡ self.entities }
+        ensures rising { IsStrictlySortedBy E.order result.items }
+    {
+        self.entities
     }
 }

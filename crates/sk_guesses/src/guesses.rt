@@ -2,8 +2,6 @@
 ghost use Rattle.std.specs.Prelude.{◌≡◌, ◌≢◌, ◌<◌, ◌≤◌, ◌+◌, ◌-◌, ◌==◌, ◌∷◌, ◌++◌, ℕ, [], true, length, map, get_or, slice_index_or, slice_set, if◌then◌else◌, Some, IfSome, IfOk, IsOk, OnOk, OnErr, false, not, is_some};
 ghost use Rattle.std.specs.List.{list_any, prefix_len};
 ghost use Rattle.std.specs.List.Sorted.{IsStrictlySortedBy};
-ghost use Rattle.sk_ids.specs.Entity.{entity_cmp};
-ghost use Rattle.sk_ids.specs.declared.entity.Entity.{Entity};
 ghost use Rattle.std.specs.Option.{unwrap_or};
 ghost use Rattle.std.specs.Ordering.{nat_cmp};
 ghost use Rattle.sk_record.specs.Notes.{has};
@@ -20,9 +18,14 @@ ghost use Rattle.sk_guesses.specs.Room.{HasRoom, Listing, DecidedSo};
 ghost use Rattle.sk_guesses.specs.Calls.{Draws, redeemed};
 
 use crate::open_guess::OpenGuess;
+use crate::open_list::{
+    are_earlier, close, close_committed, close_resting, depend_on, is_rested_on, make_room,
+    place_of, take_list,
+};
 use crate::settled::{Settled, status_at};
 use crate::{EntitySet, Guess, Redeemed, Status};
-use sk_ids::{Entity, GuessId, TagSet};
+use sk_ids::{GuessId, TagSet};
+use sk_map::Key;
 use std::alloc::{AllocError, Global};
 use std::marker::Model;
 use thiserror::Error;
@@ -43,23 +46,23 @@ pub enum DrawRefusal {
 /// earlier epochs, and of the others, and what is known of each undecided one. All calls but `reserve`, `draw`,
 /// `depend` and `settle` take no memory.
 #[derive(Drop)]
-pub struct Guesses {
+pub struct Guesses<E: Key> {
     alloc: Global,
     kernel: u64,
     earlier: Settled,
     statuses: Vec<Status>,
     /// The undecided guesses, by rising number.
-    opens: Vec<OpenGuess>,
+    opens: Vec<OpenGuess<E>>,
     /// The list with which the next guess begins: room, and no entity yet.
-    next: EntitySet,
+    next: EntitySet<E>,
 }
 
-impl Model for Guesses {
+impl<E: Key> Model for Guesses<E> {
     ghost use Rattle.std.specs.Prelude.{map, vec_capacity};
     ghost use Rattle.sk_guesses.specs.GuessesInvariant.{AreTidy};
     ghost use Rattle.sk_guesses.specs.Room.{Roomy};
 
-    ghost Value = { Roomy };
+    ghost Value = { Roomy E };
 
     ghost view = { λ a. record {
       view = record {
@@ -78,109 +81,6 @@ impl Model for Guesses {
         a.opens.items a.next.entities };
 }
 
-/// Makes room for one entity more in the lists of these guesses.
-fn make_room(opens: &mut Vec<OpenGuess>, tags: &TagSet) -> Result<(), AllocError>
-    ensures same { map (λ l. l.guess) opens.new.items ≡ map (λ l. l.guess) opens.old.items }
-    ensures room { OnOk result
-        ((k : ℕ) (d : Listing) → k < length opens.new.items
-        → has (slice_index_or opens.new.items k d).guess.id tags.now ≡ true
-        → 0 < (slice_index_or opens.new.items k d).room) }
-{
-    for place in 0..opens.len() {
-        opens[place].reserve(tags)?;
-    }
-    Ok(())
-}
-
-/// Adds an entity to the lists of these guesses, where there is room for it.
-fn depend_on(opens: &mut Vec<OpenGuess>, tags: &TagSet, entity: &Entity)
-    requires { (k : ℕ) (d : Listing) → k < length opens.old.items
-        → has (slice_index_or opens.old.items k d).guess.id tags.now ≡ true
-        → 0 < (slice_index_or opens.old.items k d).room }
-    ensures { map (λ l. l.guess) opens.new.items
-        ≡ map (depending tags.now entity.now) (map (λ l. l.guess) opens.old.items) }
-{
-    for place in 0..opens.len() {
-        opens[place].depend(tags, entity);
-    }
-}
-
-/// Whether none of these guesses is in a set, as where each in it was drawn later.
-fn are_earlier(opens: &[OpenGuess], tags: &TagSet) -> bool
-    requires { IsStrictlySortedBy nat_cmp (numbers (opens_of (map (λ l. l.guess) opens.now))) }
-    ensures { result ≡ true → (e : Entity)
-        → map (depending tags.now e) (map (λ l. l.guess) opens.now) ≡ map (λ l. l.guess) opens.now }
-{
-    let [.., newest] = opens else {
-        return true;
-    };
-    let ids = tags.ids();
-    let [oldest, ..] = ids else {
-        return true;
-    };
-    newest.id().number() < oldest.number()
-}
-
-/// How many undecided guesses stand before one.
-fn place_of(opens: &[OpenGuess], id: GuessId) -> usize
-    ensures { result ≡ prefix_len (λ l. not (l.guess.id == id)) opens.now }
-{
-    opens
-        .iter()
-        .take_while(|open| is_another(*open, id))
-        .count()
-}
-
-fn is_another(open: &OpenGuess, id: GuessId) -> bool
-    ensures { result ≡ not (open.now.guess.id == id) }
-{
-    open.id() != id
-}
-
-/// Moves out the list of a guess.
-fn take_list(opens: &mut Vec<OpenGuess>, alloc: Global, id: GuessId) -> EntitySet
-    ensures list { result.entities ≡ dependents_of id (map (λ l. l.guess) opens.old.items) }
-    ensures opens { map (λ l. l.guess) opens.new.items
-        ≡ without_list id (map (λ l. l.guess) opens.old.items) }
-    ensures as_many { length opens.new.items ≡ length opens.old.items }
-{
-    let place = place_of(opens.as_slice(), id);
-    if place >= opens.len() {
-        return EntitySet::new(alloc);
-    }
-    opens[place].take_dependents(alloc)
-}
-
-/// Takes a guess out of the undecided ones.
-fn close(opens: &mut Vec<OpenGuess>, id: GuessId)
-    ensures opens { map (λ l. l.guess) opens.new.items
-        ≡ but id (map (λ l. l.guess) opens.old.items) }
-    ensures fewer { length opens.new.items ≤ length opens.old.items }
-{
-    opens.retain(|open: &OpenGuess| open.id() != id);
-}
-
-/// The same, and out of what the steps of the others rest on.
-fn close_committed(opens: &mut Vec<OpenGuess>, id: GuessId)
-    ensures opens { map (λ l. l.guess) opens.new.items
-        ≡ after_commit id (map (λ l. l.guess) opens.old.items) }
-    ensures fewer { length opens.new.items ≤ length opens.old.items }
-{
-    opens.retain_mut(|open: &mut OpenGuess| {
-        open.without(id);
-        open.id() != id
-    });
-}
-
-/// Takes the guesses out of the undecided ones whose own steps rest on a guess.
-fn close_resting(opens: &mut Vec<OpenGuess>, id: GuessId)
-    ensures opens { map (λ l. l.guess) opens.new.items
-        ≡ not_resting id (map (λ l. l.guess) opens.old.items) }
-    ensures fewer { length opens.new.items ≤ length opens.old.items }
-{
-    opens.retain(|open: &OpenGuess| !open.rests_on(id));
-}
-
 /// Where a guess stands among those that were drawn after so many.
 fn place_after(before: usize, id: GuessId) -> usize
     ensures { result ≡ id - before - 1 }
@@ -190,7 +90,7 @@ fn place_after(before: usize, id: GuessId) -> usize
 }
 
 /// Strikes an undecided guess, if its own step rests on a guess. So many were drawn before these.
-fn strike_one(statuses: &mut Vec<Status>, before: usize, open: &OpenGuess, id: GuessId)
+fn strike_one<E: Key>(statuses: &mut Vec<Status>, before: usize, open: &OpenGuess<E>, id: GuessId)
     requires { open.now.guess.id - before - 1 < length statuses.old.items }
     ensures statuses { statuses.new.items
         ≡ (if has id open.now.guess.tags then slice_set statuses.old.items
@@ -202,16 +102,14 @@ fn strike_one(statuses: &mut Vec<Status>, before: usize, open: &OpenGuess, id: G
     }
 }
 
-/// Whether the own step of one of these guesses rests on a guess.
-fn is_rested_on(opens: &[OpenGuess], id: GuessId) -> bool
-    ensures { result ≡ list_any (λ l. has id l.guess.tags) opens.now }
-{
-    opens.iter().any(|open: &OpenGuess| open.rests_on(id))
-}
-
 /// The undecided guesses whose own steps rest on a guess are struck.
-fn strike_all(statuses: &mut Vec<Status>, before: usize, opens: &[OpenGuess], id: GuessId)
-    requires { (k : ℕ) (d : Listing) → k < length opens.now
+fn strike_all<E: Key>(
+    statuses: &mut Vec<Status>,
+    before: usize,
+    opens: &[OpenGuess<E>],
+    id: GuessId,
+)
+    requires { (k : ℕ) (d : Listing E) → k < length opens.now
         → (slice_index_or opens.now k d).guess.id - before - 1 < length statuses.old.items }
     ensures { statuses.new.items
         ≡ struck_by before id (map (λ l. l.guess) opens.now) statuses.old.items }
@@ -221,9 +119,9 @@ fn strike_all(statuses: &mut Vec<Status>, before: usize, opens: &[OpenGuess], id
     }
 }
 
-impl Guesses {
+impl<E: Key> Guesses<E> {
     /// No guess drawn yet, for the kernel of this number.
-    pub fn new(alloc: Global, kernel: u64) -> Guesses
+    pub fn new(alloc: Global, kernel: u64) -> Guesses<E>
         ensures view { result.view ≡ opened kernel }
         ensures opens { result.opens ≡ [] }
     {
@@ -272,9 +170,9 @@ impl Guesses {
     }
 
     /// The entities that rest on a guess, by rising order; none where it is not undecided.
-    pub fn dependents(&self, id: GuessId) -> &[Entity]
+    pub fn dependents(&self, id: GuessId) -> &[E]
         ensures value { result.now ≡ dependents_of id self.now.opens }
-        ensures rising { IsStrictlySortedBy entity_cmp result.now }
+        ensures rising { IsStrictlySortedBy E.order result.now }
         ensures known { status_since self.now.view id ≡ Some Undecided
             → has id (numbers (opens_of self.now.opens)) ≡ true }
     {
@@ -286,7 +184,7 @@ impl Guesses {
     }
 
     /// Moves out the list of the entities that rest on a guess, for its decision.
-    pub fn take_dependents(&mut self, id: GuessId) -> EntitySet
+    pub fn take_dependents(&mut self, id: GuessId) -> EntitySet<E>
         ensures list { result.entities ≡ dependents_of id self.old.opens }
         ensures view { self.new.view ≡ self.old.view }
         ensures opens { self.new.opens ≡ without_list id self.old.opens }
@@ -358,7 +256,7 @@ impl Guesses {
 
     /// Draws the next number, whose guess is undecided. Its own step rests on these guesses, itself among
     /// them, and the entities rest on it. After a refusal everything is as it was.
-    pub fn draw(&mut self, tags: TagSet, entities: &[Entity]) -> Result<Guess, DrawRefusal>
+    pub fn draw(&mut self, tags: TagSet, entities: &[E]) -> Result<Guess, DrawRefusal>
         requires { is_full self.old.view ≡ false → has (next_of self.old.view) tags ≡ true }
         ensures draws { Draws self.old.view self.new.view result }
         ensures opens { OnOk result
@@ -367,7 +265,7 @@ impl Guesses {
             ++ record {
               id = next_of self.old.view;
               tags = tags;
-              dependents = with_entities [] entities.now;
+              dependents = with_entities E.order [] entities.now;
             } ∷ []) }
         ensures same { OnErr result (self.new.opens ≡ self.old.opens) }
         ensures room { is_full self.old.view ≡ false → HasRoom self.old (length entities.now)
@@ -389,10 +287,10 @@ impl Guesses {
 
     /// Adds an entity to the lists of these guesses; those that are not undecided have none. Without
     /// memory everything is as it was.
-    pub fn depend(&mut self, tags: &TagSet, entity: &Entity) -> Result<(), AllocError>
+    pub fn depend(&mut self, tags: &TagSet, entity: &E) -> Result<(), AllocError>
         ensures view { self.new.view ≡ self.old.view }
         ensures ok { OnOk result
-            (self.new.opens ≡ map (depending tags.now entity.now) self.old.opens) }
+            (self.new.opens ≡ map (depending E.order tags.now entity.now) self.old.opens) }
         ensures err { OnErr result (self.new.opens ≡ self.old.opens) }
     {
         if are_earlier(self.opens.as_slice(), tags) {
@@ -404,22 +302,22 @@ impl Guesses {
     }
 
     /// Takes an entity out of the lists of these guesses.
-    pub fn relieve(&mut self, tags: &TagSet, entity: &Entity)
+    pub fn relieve(&mut self, tags: &TagSet, entity: &E)
         ensures view { self.new.view ≡ self.old.view }
-        ensures opens { self.new.opens ≡ map (relieved tags.now entity.now) self.old.opens }
+        ensures opens { self.new.opens ≡ map (relieved E.order tags.now entity.now) self.old.opens }
     {
-        self.opens.retain_mut(|open: &mut OpenGuess| {
+        self.opens.retain_mut(|open: &mut OpenGuess<E>| {
             open.relieve(tags, entity);
             true
         });
     }
 
     /// Leaves an entity to the lists of these guesses alone.
-    pub fn leave_to(&mut self, tags: &TagSet, entity: &Entity)
+    pub fn leave_to(&mut self, tags: &TagSet, entity: &E)
         ensures view { self.new.view ≡ self.old.view }
-        ensures opens { self.new.opens ≡ map (left_to tags.now entity.now) self.old.opens }
+        ensures opens { self.new.opens ≡ map (left_to E.order tags.now entity.now) self.old.opens }
     {
-        self.opens.retain_mut(|open: &mut OpenGuess| {
+        self.opens.retain_mut(|open: &mut OpenGuess<E>| {
             open.leave_to(tags, entity);
             true
         });

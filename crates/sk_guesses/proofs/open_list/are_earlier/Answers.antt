@@ -5,15 +5,15 @@ use Rattle.std.specs.Ordering.{nat_cmp}
 use Rattle.std.specs.List.Sorted.{IsStrictlySortedBy}
 use Rattle.std.proofs.lemmas.Bool.{ltb-true}
 use Rattle.sk_guesses.proofs.Earlier.{all_earlier, of_no_tags}
-use Rattle.sk_guesses.proofs.guesses.are_earlier.Goals as goal
+use Rattle.sk_guesses.proofs.open_list.are_earlier.Goals as goal
 
 pub returns-in_default-ids : goal.returns-in_default-ids
-returns-in_default-ids c = λ is e. of_no_tags c.args.tags.now e _ (let same = ap length c.ids-ids.ensures.members in omega (same, c.in_default-ids.len_below, arith))
+returns-in_default-ids g c = λ is e. of_no_tags g.E.Key.order c.args.tags.now e _ (let same = ap length c.ids-ids.ensures.members in omega (same, c.in_default-ids.len_below, arith))
 
 pub returns : goal.returns
-returns c = λ is e.
+returns g c = λ is e.
     let same = c.ids-ids.ensures.members in
-    all_earlier c.args.opens.now c.args.tags.now c.newest-item.result c.oldest-item.result e c.requires
+    all_earlier g.E.Key.order c.args.opens.now c.args.tags.now c.newest-item.result c.oldest-item.result e c.requires
     (subst (IsStrictlySortedBy nat_cmp) same c.ids-ids.ensures.rising)
     c.in-len1-up.len_at_least c.newest-item.is
     (subst (λ xs. 1 ≤ length xs) same c.in-len1-up-ids.len_at_least)

@@ -3,14 +3,14 @@ use Rattle.std.proofs.Common.{◌≡◌, ◌+◌, ◌<◌, ◌++◌, ◌∙◌, 
 use Rattle.std.specs.Prelude.{slice_set}
 use Rattle.sk_guesses.specs.Opens.{depending}
 use Rattle.sk_guesses.proofs.Opens.{guess_of, set_after, done_more}
-use Rattle.sk_guesses.proofs.guesses.depend_on.Goals as goal
+use Rattle.sk_guesses.proofs.open_list.depend_on.Goals as goal
 
 pub loop-place-preserved : goal.loop-place-preserved
-loop-place-preserved c =
+loop-place-preserved g c =
     let ls = c.loop-place.opens.items in
     let os = c.args.opens.now.items in
     let i = c.loop-place.place in
-    let f = depending c.args.tags.now c.args.entity.now in
+    let f = depending g.E.Key.order c.args.tags.now c.args.entity.now in
     let next : suc i ≡ i + 1 = omega arith in
     let near : i < length ls = omega (arith, c.loop-place-test.true, c.len-place-end.ensures, c.loop-place.invariant.1) in (
       subst (λ k. map guess_of (slice_set ls i c.depend.new.self) ≡ map f (map guess_of (take k os)) ++ map guess_of (drop k os)) next

@@ -1,0 +1,321 @@
+-- What is kept of guesses after a draw and a decision, and the statuses that agree with it.
+use Rattle.std.proofs.Common.{◌≡◌, ℕ, suc, ◌<◌, ◌≤◌, ◌+◌, length, length-append, Bool, true, false, cond, not, ◌||◌, ◌&&◌, List, [], ◌∷◌, ◌++◌, map, Option, Some, None, inl, inr, refl, sym, ◌∙◌, ap, subst, append_assoc, arith}
+use Rattle.std.specs.Prelude.{◌==◌, nat_lt, Result, Ok, Err}
+use Rattle.std.specs.List.{AllByRecursion, filter, prefix_len}
+use Rattle.std.specs.List.Sorted.{IsStrictlySortedBy}
+use Rattle.std.specs.Ordering.{nat_cmp}
+use Rattle.std.proofs.lemmas.Bool.{true≢false, eqb-true, eq-eqb, or_left, or_right, or_cases}
+use Rattle.std.proofs.lemmas.List.{length-map, map-append}
+use Rattle.std.proofs.lemmas.List.Folds.{list_any-append}
+use Rattle.std.proofs.lemmas.List.Kept.{IsStrictlySortedBy-filter}
+use Rattle.sk_ids.specs.declared.guess.TheConstants.{LAST_GUESS}
+use Rattle.sk_record.specs.Notes.{has, without}
+use Rattle.sk_record.specs.Machine.{rests_on, with_drawn, with_failure, with_status}
+use Rattle.sk_record.specs.UndoState.{Open, numbers, not_struck, still_open}
+use Rattle.sk_record.specs.declared.status.Status.{Status}
+use Rattle.sk_record.specs.declared.status.Status.TheVariants.{Undecided, Committed, Failed, Struck}
+use Rattle.sk_record.proofs.Machine.{has_filter}
+use Rattle.sk_record.proofs.UndoStates.{and_both}
+use Rattle.sk_guesses.specs.Kept.{KeptView, AreKept, AreStatuses, forgotten, one_drawn, struck_with, with_struck}
+use Rattle.sk_guesses.specs.Opens.{OpenGuess, after_commit, but, not_resting, open_in, opens_of, without_tag}
+use Rattle.sk_guesses.specs.Room.{Listing}
+use Rattle.sk_guesses.specs.Token.{Token}
+use Rattle.sk_guesses.specs.declared.guess.Redeemed.{Redeemed}
+use Rattle.sk_guesses.specs.declared.guess.Redeemed.TheVariants as redeemed_as
+use Rattle.sk_guesses.proofs.Opens.{guess_of, named, but_named, same_named, named_more, turned, all_kept, own_left, own_more, own_same, still_rises, none_named, unless, more_rises, or_one, open_is, resting_named, is_other}
+
+-- ---- as the machine has them
+pub commit_opens : {E : Type 0} (g : ℕ) (os : List (OpenGuess E)) → opens_of (after_commit g os) ≡ still_open g (opens_of os)
+commit_opens g [] = refl
+commit_opens g (o ∷ os) =
+    elim (o.id == g) as (λ b. opens_of (map (without_tag g) (cond (not b) (o ∷ but g os) (but g os))) ≡ map (λ (p : Open). (p.0, without g p.1)) (cond (not b) ((o.id, o.tags) ∷ filter (λ (p : Open). not (p.0 == g)) (opens_of os)) (filter (λ (p : Open). not (p.0 == g)) (opens_of os)))) [
+      | true ↦ commit_opens g os
+      | false ↦ ap (λ xs. (o.id, without g o.tags) ∷ xs) (commit_opens g os)
+    ]
+
+pub fail_opens : {E : Type 0} (g : ℕ) (os : List (OpenGuess E)) → opens_of (not_resting g os) ≡ not_struck g (opens_of os)
+fail_opens g [] = refl
+fail_opens g (o ∷ os) =
+    elim (has g o.tags) as (λ b. opens_of (cond (not b) (o ∷ not_resting g os) (not_resting g os)) ≡ cond (not b) ((o.id, o.tags) ∷ not_struck g (opens_of os)) (not_struck g (opens_of os))) [
+      | true ↦ fail_opens g os
+      | false ↦ ap (λ xs. (o.id, o.tags) ∷ xs) (fail_opens g os)
+    ]
+
+-- ---- one more
+module _ {E : Type 0} (v : KeptView) (os : List (OpenGuess E)) (o : OpenGuess E) (number : o.id ≡ v.drawn + 1) where
+  pub rising_drawn : IsStrictlySortedBy nat_cmp (named os) → ((g : ℕ) → has g (named os) ≡ true → g ≤ v.drawn) → IsStrictlySortedBy nat_cmp (named (os ++ o ∷ []))
+  rising_drawn rising below =
+      subst (IsStrictlySortedBy nat_cmp) (sym (named_more os o)) (more_rises (named os) o.id rising (λ g here. let le = below g here in omega (arith, number, le)))
+
+  pub below_drawn : ((g : ℕ) → has g (named os) ≡ true → g ≤ v.drawn) → (g : ℕ) → has g (named (os ++ o ∷ [])) ≡ true → g ≤ v.drawn + 1
+  below_drawn below g here =
+      elim (or_cases _ _ (sym (list_any-append (λ t. t == g) (named os) (o.id ∷ [])) ∙ ap (has g) (sym (named_more os o)) ∙ here)) [
+        | inl old ↦ (let le = below g old in omega (arith, le))
+        | inr new ↦ elim (or_cases _ _ new) [
+          | inl is ↦ (let same = eqb-true o.id g is in omega (arith, number, same))
+          | inr none ↦ absurd (true≢false (sym none))
+        ]
+      ]
+
+  pub statuses_drawn : (status : ℕ → Option Status) → AreStatuses v (opens_of os) status → AreStatuses (one_drawn v) (opens_of (os ++ o ∷ [])) (with_drawn (Some o.id) status)
+  statuses_drawn status are = record {
+    undecided = λ g.
+        ap (has g) (named_more os o) ∙ list_any-append (λ t. t == g) (named os) (o.id ∷ [])
+        ∙ or_one (has g (named os)) (o.id == g) (status g) (are.undecided g)
+        ∙ ap (λ b. open_in (cond b (Some Undecided) (status g))) (turned o.id g);
+    struck = λ g here.
+        elim (g == o.id) as (λ b. (g == o.id) ≡ b → cond b (Some Undecided) (status g) ≡ Some Struck) [
+          | true ↦ λ is.
+              let same = eqb-true g o.id is in
+              let fresh : v.drawn < g = omega (arith, number, same) in
+              let no : None ≡ Some Struck = sym (are.fresh g fresh) ∙ are.struck g here in cc
+          | false ↦ λ _. are.struck g here
+        ] refl;
+    fresh = λ g above.
+        elim (g == o.id) as (λ b. (g == o.id) ≡ b → cond b (Some Undecided) (status g) ≡ None) [
+          | true ↦ λ is. let same = eqb-true g o.id is in absurd (omega (arith, number, same, above))
+          | false ↦ λ _. are.fresh g (omega (arith, above))
+        ] refl;
+  }
+
+-- ---- one less
+pub rising_committed : {E : Type 0} (g : ℕ) (os : List (OpenGuess E)) → IsStrictlySortedBy nat_cmp (named os) → IsStrictlySortedBy nat_cmp (named (after_commit g os))
+rising_committed g os rising = subst (IsStrictlySortedBy nat_cmp) (sym (same_named g (but g os) ∙ but_named g os)) (IsStrictlySortedBy-filter nat_cmp (λ t. not (t == g)) (named os) rising)
+
+committed_named : {E : Type 0} (g h : ℕ) (os : List (OpenGuess E)) → has h (named (after_commit g os)) ≡ (not (h == g) && has h (named os))
+committed_named g h os = ap (has h) (same_named g (but g os) ∙ but_named g os) ∙ has_filter (λ t. not (t == g)) h (named os)
+
+pub below_committed : {E : Type 0} (g n : ℕ) (os : List (OpenGuess E)) → ((h : ℕ) → has h (named os) ≡ true → h ≤ n) → (h : ℕ) → has h (named (after_commit g os)) ≡ true → h ≤ n
+below_committed g n os below h here = below h (and_both _ _ (sym (committed_named g h os) ∙ here)).1
+
+pub below_failed : {E : Type 0} (g n : ℕ) (os : List (OpenGuess E)) → IsStrictlySortedBy nat_cmp (named os) → ((h : ℕ) → has h (named os) ≡ true → h ≤ n) → (h : ℕ) → has h (named (not_resting g os)) ≡ true → h ≤ n
+below_failed g n os rising below h here = below h (and_both _ _ (sym (resting_named g h os rising) ∙ here)).0
+
+-- a guess that is open is not struck, and was drawn
+module _ (v : KeptView) (os : List Open) (status : ℕ → Option Status) (are : AreStatuses v os status) (g : ℕ) (here : has g (numbers os) ≡ true) where
+  is_undecided : status g ≡ Some Undecided
+  is_undecided = open_is (status g) (sym (are.undecided g) ∙ here)
+
+  not_kept : {A : Type 0} (h : ℕ) → (h == g) ≡ true → status h ≡ Some Struck → A
+  not_kept h is struck = let no : Some Undecided ≡ Some Struck = sym is_undecided ∙ ap status (sym (eqb-true h g is)) ∙ struck in cc
+
+  not_fresh : {A : Type 0} (h : ℕ) → (h == g) ≡ true → status h ≡ None → A
+  not_fresh h is none = let no : Some Undecided ≡ None = sym is_undecided ∙ ap status (sym (eqb-true h g is)) ∙ none in cc
+
+pub statuses_committed : {E : Type 0} (v : KeptView) (os : List (OpenGuess E)) (status : ℕ → Option Status) (g : ℕ) → AreStatuses v (opens_of os) status → has g (named os) ≡ true
+    → AreStatuses v (opens_of (after_commit g os)) (with_status g Committed status)
+statuses_committed v os status g are here = record {
+  undecided = λ h.
+      committed_named g h os
+      ∙ elim (h == g) as (λ b. (not b && has h (named os)) ≡ open_in (cond b (Some Committed) (status h))) [ true ↦ refl | false ↦ are.undecided h ];
+  struck = λ h kept.
+      elim (h == g) as (λ b. (h == g) ≡ b → cond b (Some Committed) (status h) ≡ Some Struck) [
+        | true ↦ λ is. not_kept v (opens_of os) status are g here h is (are.struck h kept)
+        | false ↦ λ _. are.struck h kept
+      ] refl;
+  fresh = λ h above.
+      elim (h == g) as (λ b. (h == g) ≡ b → cond b (Some Committed) (status h) ≡ None) [
+        | true ↦ λ is. not_fresh v (opens_of os) status are g here h is (are.fresh h above)
+        | false ↦ λ _. are.fresh h above
+      ] refl;
+}
+
+rests_itself : {E : Type 0} (g : ℕ) (os : List (OpenGuess E)) → AllByRecursion (λ (o : OpenGuess E). has o.id o.tags ≡ true) os → has g (named os) ≡ true → rests_on g (opens_of os) g ≡ true
+rests_itself g [] own here = absurd (true≢false (sym here))
+rests_itself g (o ∷ os) own here =
+    elim (o.id == g) as (λ b. (o.id == g) ≡ b → (b || has g (named os)) ≡ true → ((b && has g o.tags) || rests_on g (opens_of os) g) ≡ true) [
+      | true ↦ λ is _. or_left _ _ (ap (λ n. has n o.tags) (sym (eqb-true o.id g is)) ∙ own.0)
+      | false ↦ λ _ later. rests_itself g os own.1 later
+    ] refl here
+
+-- a struck one rests on the failed one, and is another
+struck_rests : (g h : ℕ) (os : List Open) → has h (struck_with g os) ≡ true → (rests_on g os h ≡ true) × ((h == g) ≡ false)
+struck_rests g h [] here = absurd (true≢false (sym here))
+struck_rests g h (o ∷ os) here =
+    elim (has g o.1 && not (o.0 == g)) as (λ b. (has g o.1 && not (o.0 == g)) ≡ b → has h (numbers (cond b (o ∷ filter (λ (p : Open). has g p.1 && not (p.0 == g)) os) (filter (λ (p : Open). has g p.1 && not (p.0 == g)) os))) ≡ true → (rests_on g (o ∷ os) h ≡ true) × ((h == g) ≡ false)) [
+      | true ↦ λ is there. elim (or_cases _ _ there) [
+        | inl same ↦
+            (let both = and_both _ _ is in
+            let number = eqb-true o.0 h same in
+            (or_left _ _ (λ i. same i && both.0 i), ap (λ n. n == g) (sym number) ∙ off (o.0 == g) both.1))
+        | inr later ↦ (let rest = struck_rests g h os later in (or_right _ _ rest.0, rest.1))
+      ]
+      | false ↦ λ _ later. let rest = struck_rests g h os later in (or_right _ _ rest.0, rest.1)
+    ] refl here where
+      off : (b : Bool) → not b ≡ true → b ≡ false
+      off true is = sym is
+      off false is = refl
+
+pub statuses_failed : {E : Type 0} (v : KeptView) (os : List (OpenGuess E)) (status : ℕ → Option Status) (g : ℕ) → IsStrictlySortedBy nat_cmp (named os) → AllByRecursion (λ (o : OpenGuess E). has o.id o.tags ≡ true) os
+    → AreStatuses v (opens_of os) status → has g (named os) ≡ true → AreStatuses (with_struck g (opens_of os) v) (opens_of (not_resting g os)) (with_failure g (opens_of os) status)
+statuses_failed v os status g rising own are here = record {
+  undecided = λ h.
+      resting_named g h os rising
+      ∙ elim (h == g) as (λ b. (h == g) ≡ b → (has h (named os) && not (rests_on g (opens_of os) h)) ≡ open_in (cond b (Some Failed) (cond (rests_on g (opens_of os) h) (Some Struck) (status h)))) [
+        | true ↦ λ is.
+            let rests : rests_on g (opens_of os) h ≡ true = ap (rests_on g (opens_of os)) (eqb-true h g is) ∙ rests_itself g os own here in
+            ap (λ b. has h (named os) && not b) rests ∙ none_of (has h (named os))
+        | false ↦ λ _. ap (λ b. b && not (rests_on g (opens_of os) h)) (are.undecided h) ∙ unless (status h) (rests_on g (opens_of os) h)
+      ] refl;
+  struck = λ h kept.
+      elim (or_cases _ _ (sym (list_any-append (λ t. t == h) v.struck (struck_with g (opens_of os))) ∙ kept)) [
+        | inl old ↦ elim (h == g) as (λ b. (h == g) ≡ b → cond b (Some Failed) (cond (rests_on g (opens_of os) h) (Some Struck) (status h)) ≡ Some Struck) [
+          | true ↦ λ is. not_kept v (opens_of os) status are g here h is (are.struck h old)
+          | false ↦ λ _. elim (rests_on g (opens_of os) h) as (λ b. cond b (Some Struck) (status h) ≡ Some Struck) [ true ↦ refl | false ↦ are.struck h old ]
+        ] refl
+        | inr new ↦
+            (let is = struck_rests g h (opens_of os) new in
+            (λ i. cond (is.1 i) (Some Failed) (cond (is.0 i) (Some Struck) (status h))))
+      ];
+  fresh = λ h above.
+      elim (h == g) as (λ b. (h == g) ≡ b → cond b (Some Failed) (cond (rests_on g (opens_of os) h) (Some Struck) (status h)) ≡ None) [
+        | true ↦ λ is. not_fresh v (opens_of os) status are g here h is (are.fresh h above)
+        | false ↦ λ _.
+            let none : status h ≡ None = are.fresh h above in
+            ap (λ b. cond b (Some Struck) (status h)) (none_named g h os (are.undecided h ∙ ap open_in none)) ∙ none
+      ] refl;
+} where
+  none_of : (b : Bool) → (b && false) ≡ false
+  none_of true = refl
+  none_of false = refl
+
+-- ---- a token
+pub statuses_redeemed : (v : KeptView) (os : List Open) (r : Result Redeemed Token) (status : ℕ → Option Status) → AreStatuses v os status → AreStatuses (forgotten v r) os status
+statuses_redeemed v os (Ok (redeemed_as.Undecided g)) status are = are
+statuses_redeemed v os (Ok (redeemed_as.Struck g)) status are = record {
+  undecided = are.undecided;
+  struck = λ h kept. are.struck h (and_both _ _ (sym (has_filter (λ t. not (t == g)) h v.struck) ∙ kept)).1;
+  fresh = are.fresh;
+}
+statuses_redeemed v os (Err token) status are = are
+
+-- ---- how many
+pub as_few : {E : Type 0} (g : ℕ) (os : List (OpenGuess E)) → length (struck_with g (opens_of os)) + length (not_resting g os) ≤ length os
+as_few g [] = omega arith
+as_few g (o ∷ os) =
+    let rest = as_few g os in
+    elim (has g o.tags) as (λ t. length (numbers (cond (t && not (o.id == g)) ((o.id, o.tags) ∷ filter (λ (p : Open). has g p.1 && not (p.0 == g)) (opens_of os)) (filter (λ (p : Open). has g p.1 && not (p.0 == g)) (opens_of os)))) + length (cond (not t) (o ∷ not_resting g os) (not_resting g os)) ≤ suc (length os)) [
+      | true ↦ elim (o.id == g) as (λ b. length (numbers (cond (not b) ((o.id, o.tags) ∷ filter (λ (p : Open). has g p.1 && not (p.0 == g)) (opens_of os)) (filter (λ (p : Open). has g p.1 && not (p.0 == g)) (opens_of os)))) + length (not_resting g os) ≤ suc (length os)) [
+        | true ↦ omega (arith, rest)
+        | false ↦ omega (arith, rest)
+      ]
+      | false ↦ omega (arith, rest)
+    ]
+
+-- ---- between calls
+module _ {E : Type 0} (v : KeptView) (ls ms : List (Listing E)) (next : List E) (strikes : ℕ) where
+  -- numbers and tags stay
+  pub kept_same : opens_of (map guess_of ms) ≡ opens_of (map guess_of ls) → length ms ≤ length ls → AreKept v ls next strikes → AreKept v ms next strikes
+  kept_same is fewer kept = record {
+    rising = subst (λ ps. IsStrictlySortedBy nat_cmp (numbers ps)) (sym is) kept.rising;
+    own = own_same (map guess_of ms) (map guess_of ls) is kept.own;
+    below = λ g here. kept.below g (ap (λ ps. has g (numbers ps)) (sym is) ∙ here);
+    few = let few = kept.few in omega (arith, few, fewer);
+    numbered = kept.numbered;
+    places = let places = kept.places in omega (arith, places, fewer);
+    empty = kept.empty;
+  }
+
+  -- a struck one is forgotten
+  pub kept_forgotten : (struck : List ℕ) (room : ℕ) → length struck ≤ length v.struck → room ≡ strikes → AreKept v ls next strikes → AreKept (record v { struck = struck }) ls next room
+  kept_forgotten struck room fewer same kept = record {
+    rising = kept.rising;
+    own = kept.own;
+    below = kept.below;
+    few = kept.few;
+    numbered = kept.numbered;
+    places = let places = kept.places in omega (arith, places, fewer, same);
+    empty = kept.empty;
+  }
+
+  -- one is committed
+  pub kept_committed : (g : ℕ) → map guess_of ms ≡ after_commit g (map guess_of ls) → length ms ≤ length ls → AreKept v ls next strikes → AreKept v ms next strikes
+  kept_committed g is fewer kept =
+      let os = map guess_of ls in
+      record {
+        rising = subst (λ xs. IsStrictlySortedBy nat_cmp (named xs)) (sym is) (rising_committed g os kept.rising);
+        own = subst (AllByRecursion (λ (o : OpenGuess E). has o.id o.tags ≡ true)) (sym is) (own_left g os kept.own);
+        below = subst (λ xs. (h : ℕ) → has h (named xs) ≡ true → h ≤ v.drawn) (sym is) (below_committed g v.drawn os kept.below);
+        few = let few = kept.few in omega (arith, few, fewer);
+        numbered = kept.numbered;
+        places = let places = kept.places in omega (arith, places, fewer);
+        empty = kept.empty;
+      }
+
+  -- one fails
+  pub kept_failed : (g : ℕ) (struck : List ℕ) → struck ≡ v.struck ++ struck_with g (opens_of (map guess_of ls)) → map guess_of ms ≡ not_resting g (map guess_of ls) → length ms ≤ length ls → AreKept v ls next strikes
+      → AreKept (record v { struck = struck }) ms next strikes
+  kept_failed g struck so is fewer kept =
+      let os = map guess_of ls in
+      let both : length struck ≡ length v.struck + length (struck_with g (opens_of os)) = ap length so ∙ rw length-append refl in
+      let left : length ms ≡ length (not_resting g os) = sym (length-map ms guess_of) ∙ ap length is in
+      let some = as_few g os in
+      let all = length-map ls guess_of in
+      record {
+        rising = subst (λ xs. IsStrictlySortedBy nat_cmp (named xs)) (sym is) (still_rises g os kept.rising);
+        own = subst (AllByRecursion (λ (o : OpenGuess E). has o.id o.tags ≡ true)) (sym is) (all_kept (λ (o : OpenGuess E). has o.id o.tags ≡ true) (λ o. not (has g o.tags)) os kept.own);
+        below = subst (λ xs. (h : ℕ) → has h (named xs) ≡ true → h ≤ v.drawn) (sym is) (below_failed g v.drawn os kept.rising kept.below);
+        few = let few = kept.few in omega (arith, few, fewer);
+        numbered = kept.numbered;
+        places = let places = kept.places in omega (arith, both, left, some, all, places);
+        empty = kept.empty;
+      }
+
+  -- one is drawn
+  pub kept_drawn : (l : Listing E) (n : ℕ) (after : List E) → ms ≡ ls ++ l ∷ [] → l.guess.id ≡ v.drawn + 1 → n ≡ v.drawn + 1 → after ≡ [] → has l.guess.id l.guess.tags ≡ true → length ls < v.limit → v.drawn < LAST_GUESS
+      → length v.struck + length ls < strikes → AreKept v ls next strikes → AreKept (record v { drawn = n }) ms after strikes
+  kept_drawn l n after so number drawn none own few last places kept =
+      let os = map guess_of ls in
+      let is : map guess_of ms ≡ os ++ l.guess ∷ [] = ap (map guess_of) so ∙ rw map-append refl in
+      let more : length ms ≡ length ls + 1 = ap length so ∙ rw length-append refl in
+      record {
+        rising = subst (λ xs. IsStrictlySortedBy nat_cmp (named xs)) (sym is) (rising_drawn v os l.guess number kept.rising kept.below);
+        own = subst (AllByRecursion (λ (o : OpenGuess E). has o.id o.tags ≡ true)) (sym is) (own_more os l.guess kept.own own);
+        below = λ g here. let le = below_drawn v os l.guess number kept.below g (ap (λ xs. has g (named xs)) (sym is) ∙ here) in omega (arith, le, drawn);
+        few = omega (arith, few, more);
+        numbered = omega (arith, last, drawn);
+        places = omega (arith, places, more);
+        empty = none;
+      }
+
+-- ---- whether a guess is among them
+pub is_there : {E : Type 0} (g k : ℕ) (ls : List (Listing E)) → k ≡ prefix_len (is_other g) ls → nat_lt k (length ls) ≡ has g (named (map guess_of ls))
+is_there g k [] is = ltb_none k where
+  ltb_none : (k : ℕ) → nat_lt k 0 ≡ false
+  ltb_none k = grind arith
+is_there g k (x ∷ ls) is =
+    elim (x.guess.id == g) as (λ b. k ≡ cond (not b) (1 + prefix_len (is_other g) ls) 0 → nat_lt k (suc (length ls)) ≡ (b || has g (named (map guess_of ls)))) [
+      | true ↦ λ first. ap (λ j. nat_lt j (suc (length ls))) first ∙ some (length ls)
+      | false ↦ λ later. ap (λ j. nat_lt j (suc (length ls))) later ∙ next (prefix_len (is_other g) ls) (length ls) ∙ is_there g (prefix_len (is_other g) ls) ls refl
+    ] is where
+      some : (n : ℕ) → nat_lt 0 (suc n) ≡ true
+      some n = grind arith
+
+      next : (a b : ℕ) → nat_lt (1 + a) (suc b) ≡ nat_lt a b
+      next a b = grind arith
+
+no_numbers : IsStrictlySortedBy nat_cmp []
+unfolding IsStrictlySortedBy
+no_numbers = tt
+
+-- where none is drawn
+pub kept_none : {E : Type 0} (v : KeptView) (ls : List (Listing E)) (next : List E) (strikes : ℕ) → v.drawn ≡ 0 → v.struck ≡ [] → ls ≡ [] → next ≡ [] → AreKept v ls next strikes
+kept_none v ls next strikes drawn struck none empty =
+    subst (λ ls. AreKept v ls next strikes) (sym none) (record {
+      rising = no_numbers;
+      own = tt;
+      below = λ g here. absurd (true≢false (sym here));
+      few = omega arith;
+      numbered = omega (arith, drawn);
+      places = let few : length v.struck ≡ 0 = ap length struck in omega (arith, few);
+      empty = empty;
+    })
+
+-- one more is noted, or is not struck
+pub strike_next : {E : Type 0} (g : ℕ) (xs : List ℕ) (o : OpenGuess E) (os : List (OpenGuess E))
+    → cond (has g o.tags && not (o.id == g)) (xs ++ o.id ∷ []) xs ++ struck_with g (opens_of os) ≡ xs ++ struck_with g (opens_of (o ∷ os))
+strike_next g xs o os =
+    elim (has g o.tags && not (o.id == g)) as (λ b. cond b (xs ++ o.id ∷ []) xs ++ struck_with g (opens_of os) ≡ xs ++ numbers (cond b ((o.id, o.tags) ∷ filter (λ (p : Open). has g p.1 && not (p.0 == g)) (opens_of os)) (filter (λ (p : Open). has g p.1 && not (p.0 == g)) (opens_of os)))) [
+      | true ↦ append_assoc xs (o.id ∷ []) (struck_with g (opens_of os))
+      | false ↦ refl
+    ]

@@ -1,0 +1,357 @@
+-- What the lists of dependents have, after writes and decisions.
+use Rattle.std.proofs.Common.{◌≡◌, ℕ, zero, suc, ◌<◌, ◌≤◌, ◌+◌, length, take, Bool, true, false, cond, not, ◌||◌, ◌&&◌, List, [], ◌∷◌, ◌++◌, map, Option, inl, inr, refl, sym, ◌∙◌, ap, subst, arith}
+use Rattle.std.specs.Prelude.{◌==◌, get_or}
+use Rattle.std.specs.List.{AllByRecursion, list_all, list_any, filter}
+use Rattle.std.specs.Ordering.{eq_by_cmp}
+use Rattle.std.specs.declared.cmp.Ordering.{Ordering}
+use Rattle.std.specs.Cmp.{IsTotalOrder, eq_by_cmp_equiv}
+use Rattle.std.specs.FinMap.{IsAntisymmetric}
+use Rattle.std.proofs.lemmas.Bool.{true≢false, false≢true, or_left, or_right, eqb-true}
+use Rattle.std.proofs.lemmas.List.{append-nil}
+use Rattle.std.proofs.lemmas.List.Folds.{list_any-append}
+use Rattle.sk_record.specs.Effects.{is_in}
+use Rattle.sk_record.specs.Merged.{Merges}
+use Rattle.sk_record.specs.Notes.{Note, has, without, cut, carried, committed, noted, last_tags}
+use Rattle.sk_record.specs.UndoState.{IsGrowing, numbers}
+use Rattle.sk_record.proofs.Machine.{has_filter}
+use Rattle.sk_record.proofs.Merged.{same_last}
+use Rattle.sk_record.proofs.UndoStates.{and_both}
+use Rattle.sk_guesses.specs.Dependents.{tags_by, with_tags, AllExact, IsAlmostExact, AllAlmostExact, Covers, Depends}
+use Rattle.sk_guesses.specs.EntitySet.{with_entity, with_entities, without_entity}
+use Rattle.sk_guesses.specs.Opens.{OpenGuess, opens_of, dependents_of, depending, left_to, but, not_resting, after_commit, without_tag, without_list}
+use Rattle.sk_guesses.proofs.Opens.{all_kept, depending_keeps, same_opens}
+use Rattle.sk_guesses.proofs.Places.{with_in, with_all_in, without_in, tied_is}
+
+both_ways : (a b : Bool) → (a ≡ true → b ≡ true) → (b ≡ true → a ≡ true) → a ≡ b
+both_ways true b f g = sym (f refl)
+both_ways false true f g = g refl
+both_ways false false f g = refl
+
+picked : (h : ℕ) (c : Bool) (xs ys : List ℕ) → has h (cond c xs ys) ≡ cond c (has h xs) (has h ys)
+picked h true xs ys = refl
+picked h false xs ys = refl
+
+with_all : (i q b : Bool) → (cond i true b || q) ≡ cond (i || (q || false)) true b
+with_all true q b = refl
+with_all false true true = refl
+with_all false true false = refl
+with_all false false true = refl
+with_all false false false = refl
+
+with_same : (i q t b : Bool) → (q ≡ true → b ≡ t) → cond i t b ≡ cond (i || (q || false)) t b
+with_same true q t b h = refl
+with_same false true t b h = h refl
+with_same false false t b h = refl
+
+and_true : (b : Bool) → (b && true) ≡ b
+and_true true = refl
+and_true false = refl
+
+and_none : (b : Bool) → (b && false) ≡ false
+and_none true = refl
+and_none false = refl
+
+not_in : (a b : Bool) → (a ≡ true → b ≡ true) → b ≡ false → a ≡ false
+not_in true b f none = sym (f refl) ∙ none
+not_in false b f none = refl
+
+module _ {K : Type 0} {R : K → K → Ordering} (total : IsTotalOrder R) (exact : IsAntisymmetric R) where
+  -- ---- lists that are exact
+  pub exact_as : (tags later : K → List ℕ) → ((k : K) → tags k ≡ later k) → (os : List (OpenGuess K)) → AllExact R tags os → AllExact R later os
+  exact_as tags later same [] all = tt
+  exact_as tags later same (o ∷ os) all = ((λ k. all.0 k ∙ ap (has o.id) (same k)), exact_as tags later same os all.1)
+
+  pub exact_at : (tags : K → List ℕ) (g : ℕ) (os : List (OpenGuess K)) → AllExact R tags os → has g (numbers (opens_of os)) ≡ true → (k : K) → is_in R (dependents_of g os) k ≡ has g (tags k)
+  exact_at tags g [] all here k = absurd (true≢false (sym here))
+  exact_at tags g (o ∷ os) all here k =
+      elim (o.id == g) as (λ b. (o.id == g) ≡ b → (b || has g (numbers (opens_of os))) ≡ true → is_in R (cond b o.dependents (dependents_of g os)) k ≡ has g (tags k)) [
+        | true ↦ λ is _. all.0 k ∙ ap (λ h. has h (tags k)) (eqb-true o.id g is)
+        | false ↦ λ _ later. exact_at tags g os all.1 later k
+      ] refl here
+
+  -- ---- one key more rests on the tags of a step
+  module _ (tags : List ℕ) (ks : List K) (x : K) (base : K → List ℕ) where
+    after : (h : ℕ) (k : K) → has h (with_tags R tags (ks ++ x ∷ []) base k) ≡ cond (is_in R ks k || (eq_by_cmp R k x || false)) (has h tags) (has h (base k))
+    after h k =
+        ap (λ b. has h (cond b tags (base k))) (list_any-append (eq_by_cmp R k) ks (x ∷ []))
+        ∙ picked h (is_in R ks k || (eq_by_cmp R k x || false)) tags (base k)
+
+    before : (h : ℕ) (k : K) → has h (with_tags R tags ks base k) ≡ cond (is_in R ks k) (has h tags) (has h (base k))
+    before h k = picked h (is_in R ks k) tags (base k)
+
+    -- it is added to the lists of some of these, among them those in which it is not
+    pub depend_part : (added : List ℕ) → ((g : ℕ) → has g (base x) ≡ true → has g tags ≡ true) → ((g : ℕ) → has g tags ≡ true → (has g (base x) || has g added) ≡ true) → ((g : ℕ) → has g added ≡ true → has g tags ≡ true)
+        → (os : List (OpenGuess K)) → AllExact R (with_tags R tags ks base) os → AllExact R (with_tags R tags (ks ++ x ∷ []) base) (map (depending R added x) os)
+    depend_part added covers covered within [] all = tt
+    depend_part added covers covered within (o ∷ os) all =
+        let rest = depend_part added covers covered within os all.1 in
+        elim (has o.id added) as (λ b. has o.id added ≡ b → AllExact R (with_tags R tags (ks ++ x ∷ []) base) (cond b (record o { dependents = with_entity R o.dependents x }) o ∷ map (depending R added x) os)) [
+          | true ↦ λ here. (
+            (λ k.
+                let is = within o.id here in
+                with_in total exact o.dependents x k ∙ ap (λ b. b || eq_by_cmp R k x) (all.0 k ∙ before o.id k ∙ ap (λ t. cond (is_in R ks k) t (has o.id (base k))) is)
+                ∙ with_all (is_in R ks k) (eq_by_cmp R k x) (has o.id (base k))
+                ∙ ap (λ t. cond (is_in R ks k || (eq_by_cmp R k x || false)) t (has o.id (base k))) (sym is) ∙ sym (after o.id k)),
+            rest,
+          )
+          | false ↦ λ out. (
+            (λ k.
+                all.0 k ∙ before o.id k
+                ∙ with_same (is_in R ks k) (eq_by_cmp R k x) (has o.id tags) (has o.id (base k)) (λ same.
+                ap (λ y. has o.id (base y)) (tied_is total exact k x same) ∙ both_ways (has o.id (base x)) (has o.id tags) (covers o.id) (in_own o.id out))
+                ∙ sym (after o.id k)),
+            rest,
+          )
+        ] refl where
+          in_own : (g : ℕ) → has g added ≡ false → has g tags ≡ true → has g (base x) ≡ true
+          in_own g out there = or_else (has g (base x)) (has g added) out (covered g there) where
+            or_else : (a b : Bool) → b ≡ false → (a || b) ≡ true → a ≡ true
+            or_else true b none is = refl
+            or_else false b none is = absurd (true≢false (sym is ∙ none))
+
+  -- where it is in all of them already
+  pub depends_none : (own tags : List ℕ) (x : K) (os : List (OpenGuess K)) → ((g : ℕ) → has g tags ≡ true → has g own ≡ true) → Depends R own tags x os os
+  depends_none own tags x os covers = record {
+    added = [];
+    all = λ g there. or_left _ _ (covers g there);
+    none = λ g here. absurd (false≢true here);
+    opens = none_added os;
+  } where
+    none_added : (os : List (OpenGuess K)) → os ≡ map (depending R [] x) os
+    none_added [] = refl
+    none_added (o ∷ os) = ap (λ ys. o ∷ ys) (none_added os)
+
+  pub depends_all : (own tags : List ℕ) (x : K) (os new : List (OpenGuess K)) → new ≡ map (depending R tags x) os → Depends R own tags x os new
+  depends_all own tags x os new is = record { added = tags; all = λ g there. or_right _ _ there; none = λ g here. here; opens = is }
+
+  pub depends_opens : (own tags : List ℕ) (x : K) (os new : List (OpenGuess K)) → Depends R own tags x os new → opens_of new ≡ opens_of os
+  depends_opens own tags x os new d = ap opens_of d.opens ∙ same_opens (depending R d.added x) (depending_keeps R d.added x) os
+
+  pub depends_exact : (tags : List ℕ) (ks : List K) (x : K) (base : K → List ℕ) (own : List ℕ) → own ≡ base x → ((g : ℕ) → has g (base x) ≡ true → has g tags ≡ true)
+      → (os new : List (OpenGuess K)) → Depends R own tags x os new → AllExact R (with_tags R tags ks base) os → AllExact R (with_tags R tags (ks ++ x ∷ []) base) new
+  depends_exact tags ks x base own is covers os new d all =
+      subst (AllExact R (with_tags R tags (ks ++ x ∷ []) base)) (sym d.opens)
+      (depend_part tags ks x base d.added covers (λ g there. ap (λ ys. has g ys || has g d.added) (sym is) ∙ d.all g there) d.none os all)
+
+  -- ---- what is taken out again
+  -- where some of these were added
+  pub almost_of : (tags : List ℕ) (ks all : List K) (base : K → List ℕ) → Covers R tags all base → ((k : K) → is_in R ks k ≡ true → is_in R all k ≡ true)
+      → (os : List (OpenGuess K)) → AllExact R (with_tags R tags ks base) os → AllAlmostExact R base all os
+  almost_of tags ks all base covers within [] exactly = tt
+  almost_of tags ks all base covers within (o ∷ os) exactly = (
+    record {
+      kept = λ k here.
+          exactly.0 k
+          ∙ elim (is_in R ks k) as (λ b. is_in R ks k ≡ b → has o.id (cond b tags (base k)) ≡ true) [
+            | true ↦ λ is. covers k o.id (within k is) here
+            | false ↦ λ _. here
+          ] refl;
+      others = λ k none. exactly.0 k ∙ ap (λ b. has o.id (cond b tags (base k))) (not_in (is_in R ks k) (is_in R all k) (within k) none);
+    },
+    almost_of tags ks all base covers within os exactly.1,
+  )
+
+  module _ (base : K → List ℕ) (x : K) (ks : List K) where
+    stays_one : (o : OpenGuess K) → has o.id (base x) ≡ true → IsAlmostExact R base (x ∷ ks) o → IsAlmostExact R base ks o
+    stays_one o is almost = record {
+      kept = almost.kept;
+      others = λ k none.
+          elim (eq_by_cmp R k x) as (λ b. eq_by_cmp R k x ≡ b → is_in R o.dependents k ≡ has o.id (base k)) [
+            | true ↦ λ same. let here = ap (λ y. has o.id (base y)) (tied_is total exact k x same) ∙ is in almost.kept k here ∙ sym here
+            | false ↦ λ apart. almost.others k (λ i. apart i || none i)
+          ] refl;
+    }
+
+    goes_one : (o : OpenGuess K) → has o.id (base x) ≡ false → IsAlmostExact R base (x ∷ ks) o → IsAlmostExact R base ks (record o { dependents = without_entity R o.dependents x })
+    goes_one o is almost = record {
+      kept = λ k here.
+          without_in total exact o.dependents x k
+          ∙ elim (eq_by_cmp R k x) as (λ b. eq_by_cmp R k x ≡ b → (is_in R o.dependents k && not b) ≡ true) [
+            | true ↦ λ same. absurd (true≢false (sym here ∙ ap (λ y. has o.id (base y)) (tied_is total exact k x same) ∙ is))
+            | false ↦ λ _. and_true (is_in R o.dependents k) ∙ almost.kept k here
+          ] refl;
+      others = λ k none.
+          without_in total exact o.dependents x k
+          ∙ elim (eq_by_cmp R k x) as (λ b. eq_by_cmp R k x ≡ b → (is_in R o.dependents k && not b) ≡ has o.id (base k)) [
+            | true ↦ λ same. and_none (is_in R o.dependents k) ∙ sym (ap (λ y. has o.id (base y)) (tied_is total exact k x same) ∙ is)
+            | false ↦ λ apart. and_true (is_in R o.dependents k) ∙ almost.others k (λ i. apart i || none i)
+          ] refl;
+    }
+
+    pub left_more : (tags : List ℕ) → tags ≡ base x → (os : List (OpenGuess K)) → AllAlmostExact R base (x ∷ ks) os → AllAlmostExact R base ks (map (left_to R tags x) os)
+    left_more tags same [] all = tt
+    left_more tags same (o ∷ os) all =
+        elim (has o.id tags) as (λ b. has o.id tags ≡ b → AllAlmostExact R base ks (cond b o (record o { dependents = without_entity R o.dependents x }) ∷ map (left_to R tags x) os)) [
+          | true ↦ λ is. (stays_one o (ap (has o.id) (sym same) ∙ is) all.0, left_more tags same os all.1)
+          | false ↦ λ is. (goes_one o (ap (has o.id) (sym same) ∙ is) all.0, left_more tags same os all.1)
+        ] refl
+
+  pub none_left : (base : K → List ℕ) (os : List (OpenGuess K)) → AllAlmostExact R base [] os → AllExact R base os
+  none_left base [] all = tt
+  none_left base (o ∷ os) all = ((λ k. all.0.others k refl), none_left base os all.1)
+
+  -- ---- a guess
+  pub exact_more : (tags : K → List ℕ) (os : List (OpenGuess K)) (o : OpenGuess K) → AllExact R tags os → ((k : K) → is_in R o.dependents k ≡ has o.id (tags k)) → AllExact R tags (os ++ o ∷ [])
+  exact_more tags [] o all own = (own, tt)
+  exact_more tags (x ∷ os) o all own = (all.0, exact_more tags os o all.1 own)
+
+  -- the list of a guess that was not there has what its step wrote
+  pub begun : (g : ℕ) (tags : List ℕ) (ks : List K) (base : K → List ℕ) → has g tags ≡ true → ((k : K) → has g (base k) ≡ false)
+      → (k : K) → is_in R (with_entities R [] ks) k ≡ has g (with_tags R tags ks base k)
+  begun g tags ks base own fresh k =
+      with_all_in total exact ks [] k
+      ∙ elim (is_in R ks k) as (λ b. b ≡ has g (cond b tags (base k))) [ true ↦ sym own | false ↦ sym (fresh k) ]
+
+  -- the list of a guess is moved out
+  pub other_lists : (P : OpenGuess K → Type 0) (g : ℕ) (os : List (OpenGuess K)) → AllByRecursion P os → AllByRecursion P (but g os)
+  other_lists P g os all = all_kept P (λ o. not (o.id == g)) os all
+
+  -- ---- what is written
+  last_more : {V : Type 0} (t : List ℕ) (ns : List (Note V)) (n : Note V) → last_tags t (ns ++ n ∷ []) ≡ n.tags
+  last_more t [] n = refl
+  last_more t (x ∷ ns) n = last_more x.tags ns n
+
+  noted_last : {V : Type 0} (b : Bool) (tags : List ℕ) (v : Option V) (log : List (Note V)) → (b ≡ true → tags ≡ [] → log ≡ []) → last_tags [] (log ++ noted b tags v []) ≡ cond b tags (last_tags [] log)
+  noted_last false tags v log clean = ap (last_tags []) (append-nil log)
+  noted_last true [] v log clean = ap (last_tags []) (append-nil log ∙ clean refl refl)
+  noted_last true (t ∷ tags) v log clean = last_more [] log (record { tags = t ∷ tags; before = v })
+
+  -- what is written rests on what the step rests on
+  pub tags_written : {V : Type 0} (old new : K → List (Note V)) (look : K → Option V) (tags : List ℕ) (ks : List K) → ((k : K) → is_in R ks k ≡ true → tags ≡ [] → old k ≡ [])
+      → ((k : K) → Merges [] (old k ++ noted (is_in R ks k) tags (look k) []) (new k)) → (k : K) → with_tags R tags ks (tags_by old) k ≡ tags_by new k
+  tags_written old new look tags ks clean did k =
+      sym (noted_last (is_in R ks k) tags (look k) (old k) (clean k)) ∙ same_last [] (old k ++ noted (is_in R ks k) tags (look k) []) (new k) (did k)
+
+-- ---- logs that grow
+abbrev pub AllSeen : {V : Type 0} → ℕ → List (Note V) → Type 0
+AllSeen g ns = list_all (λ n. has g n.tags) ns ≡ true
+
+abbrev pub carries : {V : Type 0} → ℕ → List (Note V) → Bool
+carries g ns = list_any (λ n. has g n.tags) ns
+
+without_other : (h g : ℕ) (tags : List ℕ) → (h == g) ≡ false → has h (without g tags) ≡ has h tags
+without_other h g tags apart = has_filter (λ t. not (t == g)) h tags ∙ ap (λ b. not b && has h tags) apart
+
+module _ {V : Type 0} where
+  carry_tail : (g : ℕ) (ns : List (Note V)) → AllSeen g ns → AllSeen g (carried g ns)
+  carry_tail g [] all = refl
+  carry_tail g (n ∷ ns) all =
+      let here = (and_both _ _ all).0 in
+      subst (λ b. AllSeen g (cond b (n ∷ ns) (carried g ns))) (sym here) all
+
+  grow_tail : (n : Note V) (ns : List (Note V)) → IsGrowing (n ∷ ns) → IsGrowing ns
+  grow_tail n ns grows g =
+      elim (has g n.tags) as (λ b. AllSeen g (cond b (n ∷ ns) (carried g ns)) → AllSeen g (carried g ns)) [
+        | true ↦ λ all. carry_tail g ns (and_both _ _ all).1
+        | false ↦ λ all. all
+      ] (grows g)
+
+  grow_head : (n : Note V) (ns : List (Note V)) → IsGrowing (n ∷ ns) → (g : ℕ) → has g n.tags ≡ true → AllSeen g ns
+  grow_head n ns grows g here = (and_both _ _ (subst (λ b. AllSeen g (cond b (n ∷ ns) (carried g ns))) here (grows g))).1
+
+  all_last : (g : ℕ) (tags : List ℕ) (ns : List (Note V)) → AllSeen g ns → has g tags ≡ true → has g (last_tags tags ns) ≡ true
+  all_last g tags [] all here = here
+  all_last g tags (n ∷ ns) all here = let both = and_both _ _ all in all_last g n.tags ns both.1 both.0
+
+  -- where some note rests on a guess, the last does
+  pub rests_last : (g : ℕ) (tags : List ℕ) (ns : List (Note V)) → AllSeen g (carried g ns) → carries g ns ≡ true → has g (last_tags tags ns) ≡ true
+  rests_last g tags [] all here = absurd (false≢true here)
+  rests_last g tags (n ∷ ns) all here =
+      elim (has g n.tags) as (λ b. has g n.tags ≡ b → AllSeen g (cond b (n ∷ ns) (carried g ns)) → (b || carries g ns) ≡ true → has g (last_tags n.tags ns) ≡ true) [
+        | true ↦ λ is all _. all_last g n.tags ns (and_both _ _ all).1 is
+        | false ↦ λ _ all later. rests_last g n.tags ns all later
+      ] refl all here
+
+  -- ---- a commit
+  committed_more : (h g : ℕ) (t u w : List ℕ) (n : Note V) (rest ns : List (Note V)) → has h w ≡ has h n.tags → (has h t ≡ true → has h n.tags ≡ true) → has h u ≡ has h t
+      → ((v : List ℕ) → has h v ≡ has h n.tags → has h (last_tags v rest) ≡ has h (last_tags n.tags ns))
+      → has h (last_tags u (noted true w n.before rest)) ≡ has h (last_tags n.tags ns)
+  committed_more h g t u [] n rest ns is grow same next =
+      next u (elim (has h t) as (λ b. has h t ≡ b → has h u ≡ has h n.tags) [
+        | true ↦ λ here. absurd (false≢true (is ∙ grow here))
+        | false ↦ λ none. same ∙ none ∙ is
+      ] refl)
+  committed_more h g t u (x ∷ w) n rest ns is grow same next = next (x ∷ w) is
+
+  committed_last : (h g : ℕ) → (h == g) ≡ false → (t u : List ℕ) (ns : List (Note V)) → (has h t ≡ true → AllSeen h ns) → IsGrowing ns → has h u ≡ has h t → has h (last_tags u (committed g ns)) ≡ has h (last_tags t ns)
+  committed_last h g apart t u [] all grows same = same
+  committed_last h g apart t u (n ∷ ns) all grows same =
+      committed_more h g t u (without g n.tags) n (committed g ns) ns (without_other h g n.tags apart) (λ here. (and_both _ _ (all here)).0) same
+      (λ v is. committed_last h g apart n.tags v ns (λ here. grow_head n ns grows h here) (grow_tail n ns grows) is)
+
+  -- ---- a failure
+  last_seen : (h : ℕ) (t : List ℕ) (ns : List (Note V)) → has h t ≡ true → AllSeen h ns → has h (last_tags t ns) ≡ true
+  last_seen h t [] here all = here
+  last_seen h t (n ∷ ns) here all = let both = and_both _ _ all in last_seen h n.tags ns both.0 both.1
+
+  left_from : (g h : ℕ) (t : List ℕ) (ns : List (Note V)) → (has h t ≡ true → AllSeen h ns) → IsGrowing ns → has h (last_tags t (cut g ns)) ≡ true → has h (last_tags t ns) ≡ true
+  left_from g h t [] all grows here = here
+  left_from g h t (n ∷ ns) all grows here =
+      elim (has g n.tags) as (λ b. has h (last_tags t (cond b [] (n ∷ cut g ns))) ≡ true → has h (last_tags t (n ∷ ns)) ≡ true) [
+        | true ↦ λ here. last_seen h t (n ∷ ns) here (all here)
+        | false ↦ λ here. left_from g h n.tags ns (grow_head n ns grows h) (grow_tail n ns grows) here
+      ] here
+
+  pub uncut : (g : ℕ) (log : List (Note V)) → carries g log ≡ false → cut g log ≡ log
+  uncut g [] none = refl
+  uncut g (n ∷ ns) none =
+      elim (has g n.tags) as (λ b. (b || carries g ns) ≡ false → cond b [] (n ∷ cut g ns) ≡ n ∷ ns) [
+        | true ↦ λ some. absurd (true≢false some)
+        | false ↦ λ none. ap (λ xs. n ∷ xs) (uncut g ns none)
+      ] none
+
+  -- where the last note does not rest on a guess, none does
+  pub none_carried : (g : ℕ) (log : List (Note V)) → IsGrowing log → has g (last_tags [] log) ≡ false → carries g log ≡ false
+  none_carried g log grows none =
+      elim (carries g log) as (λ b. carries g log ≡ b → b ≡ false) [
+        | true ↦ λ here. sym (rests_last g [] log (grows g) here) ∙ none
+        | false ↦ λ _. refl
+      ] refl
+
+module _ {K V : Type 0} {R : K → K → Ordering} (total : IsTotalOrder R) (exact : IsAntisymmetric R) (g : ℕ) (old new : K → List (Note V)) (grows : (k : K) → IsGrowing (old k)) where
+  pub committed_exact : ((k : K) → Merges [] (committed g (old k)) (new k)) → (os : List (OpenGuess K)) → AllExact R (tags_by old) os → AllExact R (tags_by new) (after_commit g os)
+  committed_exact did [] all = tt
+  committed_exact did (o ∷ os) all =
+      let rest = committed_exact did os all.1 in
+      elim (o.id == g) as (λ b. (o.id == g) ≡ b → AllExact R (tags_by new) (map (without_tag g) (cond (not b) (o ∷ but g os) (but g os)))) [
+        | true ↦ λ _. rest
+        | false ↦ λ apart. (
+          (λ k.
+              all.0 k
+              ∙ sym (committed_last o.id g apart [] [] (old k) (λ none. absurd (false≢true none)) (grows k) refl)
+              ∙ ap (has o.id) (same_last [] (committed g (old k)) (new k) (did k))),
+          rest,
+        )
+      ] refl
+
+  module _ (did : (k : K) → new k ≡ cut g (old k)) where
+    still_among : (h : ℕ) (k : K) → has h (tags_by new k) ≡ true → has h (tags_by old k) ≡ true
+    still_among h k here = left_from g h [] (old k) (λ none. absurd (false≢true none)) (grows k) (ap (λ log. has h (last_tags [] log)) (sym (did k)) ∙ here)
+
+    untouched : (k : K) → has g (tags_by old k) ≡ false → tags_by old k ≡ tags_by new k
+    untouched k none = ap (last_tags []) (sym (did k ∙ uncut g (old k) (none_carried g (old k) (grows k) none)))
+
+    almost_all : (ks : List K) → ((k : K) → is_in R ks k ≡ has g (tags_by old k)) → (os : List (OpenGuess K)) → AllExact R (tags_by old) os → AllAlmostExact R (tags_by new) ks os
+    almost_all ks just [] all = tt
+    almost_all ks just (o ∷ os) all = (
+      record {
+        kept = λ k here. all.0 k ∙ still_among o.id k here;
+        others = λ k none. all.0 k ∙ ap (has o.id) (untouched k (sym (just k) ∙ none));
+      },
+      almost_all ks just os all.1,
+    )
+
+    -- what the failed guess's list has is taken out of the lists of those that stay undecided
+    pub failed_almost : (ks : List K) → ((k : K) → is_in R ks k ≡ has g (tags_by old k)) → (os : List (OpenGuess K)) → AllExact R (tags_by old) os → AllAlmostExact R (tags_by new) ks (not_resting g os)
+    failed_almost ks just os all = all_kept (IsAlmostExact R (tags_by new) ks) (λ o. not (has g o.tags)) os (almost_all ks just os all)
+
+-- the list of a failed guess may be moved out before
+pub taken_first : {K : Type 0} (g : ℕ) (os : List (OpenGuess K)) → AllByRecursion (λ (o : OpenGuess K). has o.id o.tags ≡ true) os → not_resting g (without_list g os) ≡ not_resting g os
+taken_first g [] own = refl
+taken_first g (o ∷ os) own =
+    elim (o.id == g) as (λ b. (o.id == g) ≡ b → not_resting g (cond b (record o { dependents = [] } ∷ os) (o ∷ without_list g os)) ≡ cond (not (has g o.tags)) (o ∷ not_resting g os) (not_resting g os)) [
+      | true ↦ λ is.
+          let rests : has g o.tags ≡ true = ap (λ n. has n o.tags) (sym (eqb-true o.id g is)) ∙ own.0 in
+          ap (λ b. cond (not b) (record o { dependents = [] } ∷ not_resting g os) (not_resting g os)) rests ∙ sym (ap (λ b. cond (not b) (o ∷ not_resting g os) (not_resting g os)) rests)
+      | false ↦ λ _. ap (λ xs. cond (not (has g o.tags)) (o ∷ xs) xs) (taken_first g os own.1)
+    ] refl

@@ -1,0 +1,28 @@
+-- It is undecided no more.
+use Rattle.std.proofs.Common.{◌≡◌, ℕ, true, map, sym, ◌∙◌, ap, subst}
+use Rattle.std.specs.Vec.{vec_capacity}
+use Rattle.sk_record.specs.Machine.{with_status}
+use Rattle.sk_record.specs.Notes.{has}
+use Rattle.sk_record.specs.UndoState.{numbers, still_open}
+use Rattle.sk_record.specs.declared.status.Status.TheVariants.{Committed}
+use Rattle.sk_guesses.specs.Kept.{Kept, KeptView, AreStatuses}
+use Rattle.sk_guesses.specs.Opens.{after_commit, opens_of}
+use Rattle.sk_guesses.proofs.Kept.{commit_opens, kept_committed, statuses_committed}
+use Rattle.sk_guesses.proofs.Opens.{guess_of}
+use Rattle.sk_guesses.proofs.open_guesses.OpenGuesses.commit.Goals as goal
+
+pub invariant_of-self : goal.invariant_of-self
+invariant_of-self g c =
+    let v : KeptView = record { kernel = c.self.inside.kernel; limit = c.self.inside.limit; drawn = c.self.inside.drawn; struck = c.self.inside.struck.items } in
+    kept_committed v c.self.inside.opens.items c.close_committed.new.opens.items c.self.inside.next.entities (vec_capacity c.self.inside.struck) c.args.id c.close_committed.ensures.opens c.close_committed.ensures.fewer c.self.invariant
+
+pub returns-clause-machine : goal.returns-clause-machine
+returns-clause-machine g c =
+    ap opens_of c.close_committed.ensures.opens ∙ commit_opens c.args.id (map guess_of c.self.inside.opens.items) ∙ ap (λ (r : Kept _). still_open c.args.id (opens_of r.opens)) c.self.view_is
+
+pub returns-clause-statuses : goal.returns-clause-statuses
+returns-clause-statuses g c = λ status are here.
+    let v : KeptView = record { kernel = c.self.inside.kernel; limit = c.self.inside.limit; drawn = c.self.inside.drawn; struck = c.self.inside.struck.items } in
+    let os = map guess_of c.self.inside.opens.items in
+    subst (λ xs. AreStatuses v (opens_of xs) (with_status c.args.id Committed status)) (sym c.close_committed.ensures.opens)
+    (statuses_committed v os status c.args.id (subst (λ (r : Kept _). AreStatuses r.view (opens_of r.opens) status) (sym c.self.view_is) are) (ap (λ (r : Kept _). has c.args.id (numbers (opens_of r.opens))) c.self.view_is ∙ here))

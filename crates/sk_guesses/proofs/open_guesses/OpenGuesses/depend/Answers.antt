@@ -1,0 +1,39 @@
+-- Numbers and tags stay.
+use Rattle.std.proofs.Common.{◌≡◌, ◌≤◌, ◌∙◌, ap, length, map, sym, subst, arith}
+use Rattle.std.specs.Ordering.{nat_cmp}
+use Rattle.std.specs.List.Sorted.{IsStrictlySortedBy}
+use Rattle.std.specs.Vec.{vec_capacity}
+use Rattle.std.proofs.lemmas.List.{length-map}
+use Rattle.sk_record.specs.UndoState.{numbers}
+use Rattle.sk_guesses.specs.Kept.{Kept, KeptView}
+use Rattle.sk_guesses.specs.Opens.{opens_of, depending}
+use Rattle.sk_guesses.proofs.Kept.{kept_same}
+use Rattle.sk_guesses.proofs.Opens.{guess_of, same_opens, depending_keeps}
+use Rattle.sk_guesses.proofs.open_guesses.OpenGuesses.depend.Goals as goal
+
+pub are_earlier-requires : goal.are_earlier-requires
+are_earlier-requires g c = subst (λ ls. IsStrictlySortedBy nat_cmp (numbers (opens_of (map guess_of ls)))) (sym c.as_slice.ensures.value) c.self.invariant.rising
+
+pub returns-then-are_earlier-clause-ok : goal.returns-then-are_earlier-clause-ok
+returns-then-are_earlier-clause-ok g c =
+    let f = depending g.E.Key.order c.args.tags.now c.args.entity.now in
+    let same = subst (λ ls. map f (map guess_of ls) ≡ map guess_of ls) c.as_slice.ensures.value (c.are_earlier.ensures c.if-are_earlier.true c.args.entity.now) in
+    ap (λ (r : Kept _). r.opens) (sym c.self.view_is) ∙ sym same ∙ ap (λ (r : Kept _). map f r.opens) c.self.view_is
+
+pub invariant_of-self : goal.invariant_of-self
+invariant_of-self g c =
+    let v : KeptView = record { kernel = c.self.inside.kernel; limit = c.self.inside.limit; drawn = c.self.inside.drawn; struck = c.self.inside.struck.items } in
+    let as_many : length c.make_room.new.opens.items ≤ length c.self.inside.opens.items =
+    omega (arith, sym (length-map c.make_room.new.opens.items guess_of) ∙ ap length c.make_room.ensures.same ∙ length-map c.self.inside.opens.items guess_of) in
+    kept_same v c.self.inside.opens.items c.make_room.new.opens.items c.self.inside.next.entities (vec_capacity c.self.inside.struck) (ap opens_of c.make_room.ensures.same) as_many c.self.invariant
+
+pub invariant_of-self-2 : goal.invariant_of-self-2
+invariant_of-self-2 g c =
+    let v : KeptView = record { kernel = c.self.inside.kernel; limit = c.self.inside.limit; drawn = c.self.inside.drawn; struck = c.self.inside.struck.items } in
+    let os = map guess_of c.self.inside.opens.items in
+    let f = depending g.E.Key.order c.args.tags.now c.args.entity.now in
+    let is : map guess_of c.depend_on.new.opens.items ≡ map f os = c.depend_on.ensures ∙ ap (map f) c.make_room.ensures.same in
+    let as_many : length c.depend_on.new.opens.items ≡ length c.self.inside.opens.items =
+    sym (length-map c.depend_on.new.opens.items guess_of) ∙ ap length is ∙ length-map os f ∙ length-map c.self.inside.opens.items guess_of in
+    kept_same v c.self.inside.opens.items c.depend_on.new.opens.items c.self.inside.next.entities (vec_capacity c.self.inside.struck)
+    (ap opens_of is ∙ same_opens f (depending_keeps g.E.Key.order c.args.tags.now c.args.entity.now) os) (omega (arith, as_many)) c.self.invariant

@@ -1,0 +1,25 @@
+-- The list at the place is the guess's, or there is none.
+use Rattle.std.proofs.Common.{◌≡◌, ◌<◌, ◌≤◌, length, ◌∙◌, ap, arith}
+use Rattle.std.specs.List.{prefix_len}
+use Rattle.std.specs.List.Sorted.{IsStrictlySortedBy}
+use Rattle.sk_guesses.specs.Opens.{dependents_of}
+use Rattle.sk_guesses.specs.Kept.{Kept}
+use Rattle.sk_guesses.proofs.Opens.{is_other, found, missing}
+use Rattle.sk_guesses.proofs.open_guesses.OpenGuesses.dependents.Goals as goal
+
+pub returns-then-place-len-clause-value : goal.returns-then-place-len-clause-value
+returns-then-place-len-clause-value g c =
+    let far : length c.self.inside.opens.items ≤ c.place_of-place.result = omega (arith, c.if-place-len.true, c.len.ensures) in
+    missing c.args.id c.place_of-place.result c.self.inside.opens.items (c.place_of-place.ensures ∙ ap (prefix_len (is_other c.args.id)) c.as_slice.ensures.value) far
+    ∙ ap (λ (g : Kept _). dependents_of c.args.id g.opens) c.self.view_is
+
+pub returns-then-place-len-clause-rising : goal.returns-then-place-len-clause-rising
+unfolding IsStrictlySortedBy
+returns-then-place-len-clause-rising g c = tt
+
+pub returns-clause-value : goal.returns-clause-value
+returns-clause-value g c =
+    let near : c.place_of-place.result < length c.self.inside.opens.items = omega (arith, c.if-place-len.false, c.len.ensures) in
+    c.dependents.ensures.value
+    ∙ found c.args.id c.place_of-place.result c.self.inside.opens.items c.index.result.now (c.place_of-place.ensures ∙ ap (prefix_len (is_other c.args.id)) c.as_slice.ensures.value) near c.index.ensures
+    ∙ ap (λ (g : Kept _). dependents_of c.args.id g.opens) c.self.view_is

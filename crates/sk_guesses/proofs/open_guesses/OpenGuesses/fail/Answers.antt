@@ -1,0 +1,39 @@
+-- It is undecided no more, and so are those whose own steps rest on it.
+use Rattle.std.proofs.Common.{◌≡◌, ℕ, ◌≤◌, ◌+◌, ◌++◌, true, List, length, length-append, map, sym, ◌∙◌, ap, subst, arith}
+use Rattle.std.specs.Vec.{vec_capacity}
+use Rattle.sk_record.specs.Machine.{with_failure}
+use Rattle.sk_record.specs.Notes.{has}
+use Rattle.sk_record.specs.UndoState.{not_struck, numbers}
+use Rattle.sk_guesses.specs.Kept.{Kept, KeptView, AreKept, AreStatuses, struck_with, with_struck}
+use Rattle.sk_guesses.specs.Opens.{not_resting, opens_of}
+use Rattle.sk_guesses.proofs.Kept.{fail_opens, kept_failed, statuses_failed}
+use Rattle.sk_guesses.proofs.Opens.{guess_of}
+use Rattle.sk_guesses.proofs.open_guesses.OpenGuesses.fail.Goals as goal
+
+pub strike_all-requires : goal.strike_all-requires
+strike_all-requires g c = omega (arith, c.self.invariant.places, ap length c.as_slice.ensures.value)
+
+pub returns-clause-machine : goal.returns-clause-machine
+returns-clause-machine g c =
+    ap opens_of c.close_resting.ensures.opens ∙ fail_opens c.args.id (map guess_of c.self.inside.opens.items) ∙ ap (λ (r : Kept _). not_struck c.args.id (opens_of r.opens)) c.self.view_is
+
+pub invariant_of-self : goal.invariant_of-self
+invariant_of-self g c =
+    let v : KeptView = record { kernel = c.self.inside.kernel; limit = c.self.inside.limit; drawn = c.self.inside.drawn; struck = c.self.inside.struck.items } in
+    let so : c.strike_all.new.struck.items ≡ v.struck ++ struck_with c.args.id (opens_of (map guess_of c.self.inside.opens.items)) =
+    c.strike_all.ensures.struck ∙ ap (λ ls. v.struck ++ struck_with c.args.id (opens_of (map guess_of ls))) c.as_slice.ensures.value in
+    kept_failed v c.self.inside.opens.items c.close_resting.new.opens.items c.self.inside.next.entities (vec_capacity c.strike_all.new.struck) c.args.id c.strike_all.new.struck.items so
+    c.close_resting.ensures.opens c.close_resting.ensures.fewer (subst (AreKept v c.self.inside.opens.items c.self.inside.next.entities) (sym c.strike_all.ensures.room) c.self.invariant)
+
+pub returns-clause-statuses : goal.returns-clause-statuses
+returns-clause-statuses g c = λ status are here.
+    let v : KeptView = record { kernel = c.self.inside.kernel; limit = c.self.inside.limit; drawn = c.self.inside.drawn; struck = c.self.inside.struck.items } in
+    let os = map guess_of c.self.inside.opens.items in
+    let so : c.strike_all.new.struck.items ≡ v.struck ++ struck_with c.args.id (opens_of os) =
+    c.strike_all.ensures.struck ∙ ap (λ ls. v.struck ++ struck_with c.args.id (opens_of (map guess_of ls))) c.as_slice.ensures.value in
+    let before = subst (λ (r : Kept _). AreStatuses r.view (opens_of r.opens) status) (sym c.self.view_is) are in
+    let among = ap (λ (r : Kept _). has c.args.id (numbers (opens_of r.opens))) c.self.view_is ∙ here in
+    let after = statuses_failed v os status c.args.id c.self.invariant.rising c.self.invariant.own before among in
+    subst (λ (r : Kept _). AreStatuses (record v { struck = c.strike_all.new.struck.items }) (opens_of (map guess_of c.close_resting.new.opens.items)) (with_failure c.args.id (opens_of r.opens) status)) c.self.view_is
+    (subst (λ xs. AreStatuses (record v { struck = xs }) (opens_of (map guess_of c.close_resting.new.opens.items)) (with_failure c.args.id (opens_of os) status)) (sym so)
+    (subst (λ xs. AreStatuses (with_struck c.args.id (opens_of os) v) (opens_of xs) (with_failure c.args.id (opens_of os) status)) (sym c.close_resting.ensures.opens) after))

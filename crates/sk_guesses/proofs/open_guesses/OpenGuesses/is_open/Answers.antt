@@ -1,0 +1,19 @@
+-- It stands among the undecided ones where a search finds it.
+use Rattle.std.proofs.Common.{◌≡◌, length, sym, ◌∙◌, ap, arith}
+use Rattle.std.specs.Prelude.{nat_lt}
+use Rattle.std.specs.List.{prefix_len}
+use Rattle.sk_record.specs.Notes.{has}
+use Rattle.sk_record.specs.UndoState.{numbers}
+use Rattle.sk_guesses.specs.Kept.{Kept}
+use Rattle.sk_guesses.specs.Opens.{opens_of}
+use Rattle.sk_guesses.proofs.Kept.{is_there}
+use Rattle.sk_guesses.proofs.Opens.{is_other}
+use Rattle.sk_guesses.proofs.open_guesses.OpenGuesses.is_open.Goals as goal
+
+pub returns : goal.returns
+returns g c =
+    let ls = c.self.inside.opens.items in
+    let as_many : c.len.result ≡ length ls = omega (arith, c.len.ensures) in
+    ap (nat_lt c.place_of.result) as_many
+    ∙ is_there c.args.id c.place_of.result ls (c.place_of.ensures ∙ ap (prefix_len (is_other c.args.id)) c.as_slice.ensures.value)
+    ∙ ap (λ (r : Kept _). has c.args.id (numbers (opens_of r.opens))) c.self.view_is

@@ -1,0 +1,22 @@
+-- Numbers and tags stay.
+use Rattle.std.proofs.Common.{◌≡◌, ◌∙◌, ap, map, rules, arith}
+use Rattle.std.specs.Vec.{vec_capacity}
+use Rattle.sk_guesses.specs.Kept.{Kept, KeptView}
+use Rattle.sk_guesses.specs.Opens.{opens_of, left_to}
+use Rattle.sk_guesses.proofs.Kept.{kept_same}
+use Rattle.sk_guesses.proofs.Opens.{guess_of, all_in_turn, same_opens, left_to_keeps}
+use Rattle.sk_guesses.proofs.open_guesses.OpenGuesses.leave_to.Goals as goal
+
+pub invariant_of-self : goal.invariant_of-self
+invariant_of-self g c =
+    let v : KeptView = record { kernel = c.self.inside.kernel; limit = c.self.inside.limit; drawn = c.self.inside.drawn; struck = c.self.inside.struck.items } in
+    let os = map guess_of c.self.inside.opens.items in
+    let f = left_to g.E.Key.order c.args.tags.now c.args.entity.now in
+    let is : map guess_of c.retain_mut.new.self.items ≡ map f os = all_in_turn _ guess_of f _ (λ x b t y step. search rules) _ _ c.retain_mut.ensures.filtered in
+    kept_same v c.self.inside.opens.items c.retain_mut.new.self.items c.self.inside.next.entities (vec_capacity c.self.inside.struck)
+    (ap (λ xs. opens_of xs) is ∙ same_opens f (left_to_keeps g.E.Key.order c.args.tags.now c.args.entity.now) os) (omega (arith, c.retain_mut.ensures.bound)) c.self.invariant
+
+pub returns-clause-opens : goal.returns-clause-opens
+returns-clause-opens g c =
+    all_in_turn _ guess_of (left_to g.E.Key.order c.args.tags.now c.args.entity.now) _ (λ x b t y step. search rules) _ _ c.retain_mut.ensures.filtered
+    ∙ ap (λ (r : Kept _). map (left_to g.E.Key.order c.args.tags.now c.args.entity.now) r.opens) c.self.view_is

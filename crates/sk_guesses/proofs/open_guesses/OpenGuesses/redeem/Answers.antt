@@ -1,0 +1,21 @@
+-- What agrees with what was kept agrees with what is left.
+use Rattle.std.proofs.Common.{◌≡◌, ℕ, Ok, map, sym, ◌∙◌, ap, subst}
+use Rattle.std.specs.Vec.{vec_capacity}
+use Rattle.sk_guesses.specs.Kept.{Kept, KeptView, AreStatuses}
+use Rattle.sk_guesses.specs.Opens.{opens_of}
+use Rattle.sk_guesses.specs.declared.guess.Redeemed.TheVariants as redeemed_as
+use Rattle.sk_guesses.proofs.Opens.{guess_of}
+use Rattle.sk_guesses.proofs.Kept.{kept_forgotten, statuses_redeemed}
+use Rattle.sk_guesses.proofs.open_guesses.OpenGuesses.redeem.Goals as goal
+
+pub invariant_of-self : goal.invariant_of-self
+invariant_of-self g c =
+    let v : KeptView = record { kernel = c.self.inside.kernel; limit = c.self.inside.limit; drawn = c.self.inside.drawn; struck = c.self.inside.struck.items } in
+    kept_forgotten v c.self.inside.opens.items c.self.inside.opens.items c.self.inside.next.entities (vec_capacity c.self.inside.struck) c.forget.new.struck.items (vec_capacity c.forget.new.struck) c.forget.ensures.fewer c.forget.ensures.room c.self.invariant
+
+pub returns-in-Some-Struck-clause-statuses : goal.returns-in-Some-Struck-clause-statuses
+returns-in-Some-Struck-clause-statuses g c = λ status are.
+    let v : KeptView = record { kernel = c.self.inside.kernel; limit = c.self.inside.limit; drawn = c.self.inside.drawn; struck = c.self.inside.struck.items } in
+    let os = opens_of (map guess_of c.self.inside.opens.items) in
+    let before = subst (λ (r : Kept _). AreStatuses r.view (opens_of r.opens) status) (sym c.self.view_is) are in
+    subst (λ xs. AreStatuses (record v { struck = xs }) os status) (sym c.forget.ensures.struck) (statuses_redeemed v os (Ok (redeemed_as.Struck c.spent-id.result)) status before)

@@ -1,0 +1,14 @@
+-- What is noted, with what is left to note, and the room for it.
+use Rattle.std.proofs.Common.{◌≡◌, ◌≤◌, ◌+◌, ◌++◌, length, map, drop}
+use Rattle.std.specs.Prelude.{◌-◌}
+use Rattle.std.specs.Vec.{vec_capacity}
+use Rattle.sk_guesses.specs.Kept.{struck_with}
+use Rattle.sk_guesses.specs.Opens.{opens_of}
+use Rattle.sk_guesses.proofs.Opens.{guess_of}
+use Rattle.sk_guesses.proofs.open_guesses.strike_all.Given as goal
+
+abbrev pub invariant-loop-open : goal.invariant-loop-open
+invariant-loop-open g l =
+    (l.struck.items ++ struck_with l.id (opens_of (map guess_of (drop l.open-index l.opens))) ≡ l.fn.struck.items ++ struck_with l.id (opens_of (map guess_of l.opens)))
+    × (length l.struck.items + (length l.opens - l.open-index) ≤ vec_capacity l.struck)
+    × (vec_capacity l.struck ≡ vec_capacity l.fn.struck)

@@ -15,7 +15,7 @@ use Rattle.sk_record.specs.UndoState.{IsTidy, Open, numbers, step_tags}
 use Rattle.sk_ids.specs.Entity.{entity_cmp}
 use Rattle.sk_ids.specs.declared.entity.Entity.{Entity}
 use Rattle.sk_ids.specs.declared.entity.Entity.TheVariants.{Proc, Sig}
-use Rattle.sk_ids.proofs.Entities.{entity_total}
+use Rattle.sk_ids.proofs.Entities.{entity_total, entity_exact}
 use Rattle.sk_guesses.specs.Opens.{OpenGuess, opens_of}
 use Rattle.sk_guesses.proofs.Places.{tied_is}
 use Rattle.sk_script.specs.declared.instruction.Input.{Input}
@@ -95,7 +95,7 @@ as_long (x ∷ xs) (y ∷ ys) s t h len =
           absurd (omega arith)
     ]
 
-pub count_is : (os : List OpenGuess) → length (numbers (opens_of os)) ≡ length os
+pub count_is : (os : List (OpenGuess Entity)) → length (numbers (opens_of os)) ≡ length os
 count_is [] = refl
 count_is (o ∷ os) = ap suc (count_is os)
 
@@ -103,7 +103,7 @@ count_is (o ∷ os) = ap suc (count_is os)
 pub covers_one : (tags : List ℕ) (x : Entity) (base : Entity → List ℕ) → ((g : ℕ) → has g (base x) ≡ true → has g tags ≡ true) → Covers tags (x ∷ []) base
 covers_one tags x base h e g there rests =
     elim (or_cases _ _ there) [
-      | inl same ↦ h g (ap (λ y. has g (base y)) (sym (tied_is e x same)) ∙ rests)
+      | inl same ↦ h g (ap (λ y. has g (base y)) (sym (tied_is entity_total entity_exact e x same)) ∙ rests)
       | inr none ↦ absurd (false≢true none)
     ]
 
@@ -131,7 +131,7 @@ covers_reads tags pid input looks base own signals looked =
 pub alike_one : (tags : List ℕ) (x : Entity) (base : Entity → List ℕ) → base x ≡ tags → RestAlike tags (x ∷ []) base
 alike_one tags x base own e there =
     elim (or_cases _ _ there) [
-      | inl same ↦ ap base (tied_is e x same) ∙ own
+      | inl same ↦ ap base (tied_is entity_total entity_exact e x same) ∙ own
       | inr none ↦ absurd (false≢true none)
     ]
 
@@ -229,13 +229,13 @@ module _ (p : Parts) (scripts : Scripts) (pid : ℕ) (input : Input) (plan : Pla
       (sym (written_is (look_at p.slots) scripts pid input plan) ∙ sym (changed_are (look_at p.slots) pid (seen_with (look_at p.slots) scripts pid input plan))) writes
 
 -- ---- the lists stay as they are
-pub alike_exact : (tags : List ℕ) (es : List Entity) (base : Entity → List ℕ) → RestAlike tags es base → (os : List OpenGuess) → AllExact base os → AllExact (with_tags tags es base) os
+pub alike_exact : (tags : List ℕ) (es : List Entity) (base : Entity → List ℕ) → RestAlike tags es base → (os : List (OpenGuess Entity)) → AllExact base os → AllExact (with_tags tags es base) os
 alike_exact tags es base alike os all = exact_as base (with_tags tags es base) same os all where
   same : (e : Entity) → base e ≡ with_tags tags es base e
   same e = elim (is_in entity_cmp es e) as (λ b. is_in entity_cmp es e ≡ b → base e ≡ cond b tags (base e)) [ true ↦ λ here. alike e here | false ↦ λ _. refl ] refl
 
 pub alike_performed : {A F : Type 0} (m n : SlotMap) (tags : List ℕ) (ws : List (Entity × Option EntityState)) (r : Result A F) → IsClean m tags (entities_of ws) → RestAlike tags (entities_of ws) (tags_in m)
-    → OnOk r (Performed m tags ws n) → OnErr r (n ≡ m) → (os : List OpenGuess) → AllExact (tags_in m) os → AllExact (tags_in n) os
+    → OnOk r (Performed m tags ws n) → OnErr r (n ≡ m) → (os : List (OpenGuess Entity)) → AllExact (tags_in m) os → AllExact (tags_in n) os
 alike_performed m n tags ws (Ok done) clean alike did same os all =
     performed_exact m n tags (entities_of ws) ws refl clean did os (alike_exact tags (entities_of ws) (tags_in m) alike os all)
 alike_performed m n tags ws (Err why) clean alike did same os all = subst (λ x. AllExact (tags_in x) os) (sym same) all

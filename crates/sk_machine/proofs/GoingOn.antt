@@ -6,6 +6,7 @@ use Rattle.std.proofs.lemmas.List.{append-nil}
 use Rattle.sk_record.specs.Step.{perform}
 use Rattle.sk_record.specs.UndoState.{IsTidy, numbers}
 use Rattle.sk_record.specs.Merged.{MergedTakes}
+use Rattle.sk_ids.specs.declared.entity.Entity.{Entity}
 use Rattle.sk_ids.specs.declared.entity.Entity.TheVariants.{Proc, Sig}
 use Rattle.sk_guesses.specs.Guesses.{status_since}
 use Rattle.sk_guesses.specs.Opens.{OpenGuess}
@@ -47,7 +48,7 @@ module _ (p : Parts) (scripts : Scripts) (pid : ℕ) (input : Input) (tidy : IsT
   did = performed (writes_of (look_at p.slots) pid plan) (record { slots = p.slots; tags = tags_in p.slots (Proc pid) }) new (refl, tt) clean is
 
   -- the lists stay exact
-  pub went_exact : (os : List OpenGuess) → AllExact (tags_in p.slots) os → AllExact (tags_in new) os
+  pub went_exact : (os : List (OpenGuess Entity)) → AllExact (tags_in p.slots) os → AllExact (tags_in new) os
   went_exact os all =
       let ws = writes_of (look_at p.slots) pid plan in
       performed_exact p.slots new own (entities_of ws) ws refl clean did os

@@ -23,7 +23,7 @@ use sk_undo::Logs;
 use std::alloc::AllocError;
 
 /// Whether these guesses are all that are undecided.
-fn are_all(guesses: &Guesses, tags: &TagSet) -> bool
+fn are_all(guesses: &Guesses<Entity>, tags: &TagSet) -> bool
     requires known { (g : ℕ) → has g tags.now ≡ true
         → has g (numbers (opens_of guesses.now.opens)) ≡ true }
     requires rising { IsStrictlySortedBy nat_cmp (numbers (opens_of guesses.now.opens)) }
@@ -175,7 +175,7 @@ fn set_untagged(logs: &mut Logs)
 /// others, and all that it writes rests on just these. Without memory nothing has changed.
 pub(crate) fn set_alike(
     logs: &mut Logs,
-    guesses: &Guesses,
+    guesses: &Guesses<Entity>,
     untagged: &TagSet,
     pid: Pid,
     input: InputRef<'_>,

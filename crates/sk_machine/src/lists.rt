@@ -22,7 +22,7 @@ pub(crate) fn tags_of<'a>(logs: &'a Logs, untagged: &'a TagSet, entity: &Entity)
 
 /// Adds an entity to the lists of these guesses. Most entities rest on just these already, and are there.
 fn depend(
-    guesses: &mut Guesses,
+    guesses: &mut Guesses<Entity>,
     own: &TagSet,
     tags: &TagSet,
     entity: &Entity,
@@ -45,7 +45,7 @@ fn depend(
 /// Adds what a step writes to the lists of the guesses that the step rests on. Without memory the lists
 /// have what they had.
 pub(crate) fn depend_all(
-    guesses: &mut Guesses,
+    guesses: &mut Guesses<Entity>,
     logs: &Logs,
     untagged: &TagSet,
     tags: &TagSet,
@@ -72,7 +72,7 @@ pub(crate) fn depend_all(
 
 /// Takes entities out of the lists of the guesses that they do not rest on.
 pub(crate) fn relieve_all(
-    guesses: &mut Guesses,
+    guesses: &mut Guesses<Entity>,
     logs: &Logs,
     untagged: &TagSet,
     entities: &[Entity],

@@ -48,7 +48,7 @@ use std::mem;
 pub struct Machine {
     pub(crate) alloc: Global,
     pub(crate) logs: Logs,
-    pub(crate) guesses: Guesses,
+    pub(crate) guesses: Guesses<Entity>,
     terminals: Terminals,
     pub(crate) untagged: TagSet,
 }
@@ -156,7 +156,7 @@ fn perform_next(
 /// Makes room for the next guess and so many dependents of it, and performs its plan. Without memory
 /// nothing has changed.
 fn perform_guess(
-    guesses: &mut Guesses,
+    guesses: &mut Guesses<Entity>,
     logs: &mut Logs,
     terminals: &mut Terminals,
     scripts: &Scripts,

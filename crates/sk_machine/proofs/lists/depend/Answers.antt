@@ -2,6 +2,7 @@
 use Rattle.std.proofs.Common.{◌≡◌, Bool, true, false, not, ◌&&◌, ◌||◌, List, [], ◌∷◌, refl, sym, ◌∙◌, ap}
 use Rattle.std.specs.Prelude.{map}
 use Rattle.std.proofs.lemmas.Bool.{false≢true, or_left, or_right}
+use Rattle.sk_ids.specs.Entity.{entity_cmp}
 use Rattle.sk_ids.specs.declared.entity.Entity.{Entity}
 use Rattle.sk_record.specs.Notes.{has}
 use Rattle.sk_record.proofs.UndoStates.{and_both}
@@ -9,7 +10,7 @@ use Rattle.sk_guesses.specs.Opens.{OpenGuess, depending}
 use Rattle.sk_machine.proofs.Given.{then_ok}
 use Rattle.sk_machine.proofs.lists.depend.Goals as goal
 
-to_none : (e : Entity) (os : List OpenGuess) → os ≡ map (depending [] e) os
+to_none : (e : Entity) (os : List (OpenGuess Entity)) → os ≡ map (depending entity_cmp [] e) os
 to_none e [] = refl
 to_none e (o ∷ os) = ap (λ ys. o ∷ ys) (to_none e os)
 

@@ -1,6 +1,7 @@
 -- One entity more is in the lists of its guesses alone.
 use Rattle.std.proofs.Common.{◌≡◌, ◌+◌, suc, ◌∷◌, drop, sym, ◌∙◌, ap, subst, arith}
 use Rattle.std.proofs.Math.Seq.{drop-cons}
+use Rattle.sk_ids.specs.Entity.{entity_cmp}
 use Rattle.sk_guesses.specs.Opens.{opens_of, left_to}
 use Rattle.sk_guesses.proofs.Opens.{same_opens, left_to_keeps}
 use Rattle.sk_machine.specs.Dependents.{AllAlmostExact, tags_in}
@@ -19,7 +20,7 @@ loop-entity-preserved c =
     let almost = subst (λ ys. AllAlmostExact base ys os) rest c.loop-entity.invariant.almost in
     record {
       view = c.leave_to.ensures.view ∙ c.loop-entity.invariant.view;
-      opens = ap opens_of c.leave_to.ensures.opens ∙ same_opens (left_to c.tags_of.result.now x) (left_to_keeps c.tags_of.result.now x) os ∙ c.loop-entity.invariant.opens;
+      opens = ap opens_of c.leave_to.ensures.opens ∙ same_opens (left_to entity_cmp c.tags_of.result.now x) (left_to_keeps entity_cmp c.tags_of.result.now x) os ∙ c.loop-entity.invariant.opens;
       almost = subst (AllAlmostExact base (drop (i + 1) es)) (sym c.leave_to.ensures.opens) (left_more base x (drop (i + 1) es) c.tags_of.result.now c.tags_of.ensures os almost);
     }
 

@@ -8,6 +8,7 @@ use Rattle.sk_record.specs.Merged.{MergedTakes}
 use Rattle.sk_guesses.specs.EntitySet.{with_entities}
 use Rattle.sk_guesses.specs.Guesses.{drawn, next_of}
 use Rattle.sk_guesses.specs.Opens.{OpenGuess, opens_of}
+use Rattle.sk_ids.specs.Entity.{entity_cmp}
 use Rattle.sk_ids.specs.declared.entity.Entity.{Entity}
 use Rattle.sk_trace.specs.Kept.{input_in}
 use Rattle.sk_trace.specs.Entry.{EntryView}
@@ -60,7 +61,7 @@ invariant_of-self-2 c =
     let did = from_ok c.perform_guess-performed.result c.if-is_err.ensures.value c.perform_guess-performed.ensures.writes in
     let view = c.perform_guess-performed.ensures.view ∙ c.depend_all.ensures.view in
     let next : next_of c.perform_guess-performed.new.guesses.view ≡ id = ap next_of view ∙ sym c.in-Some.ensures.value in
-    let o : OpenGuess = record { id = next_of c.perform_guess-performed.new.guesses.view; tags = c.in_ok-own_tags.own_tags; dependents = with_entities [] es } in
+    let o : OpenGuess Entity = record { id = next_of c.perform_guess-performed.new.guesses.view; tags = c.in_ok-own_tags.own_tags; dependents = with_entities entity_cmp [] es } in
     let own : has o.id c.in_ok-tags.tags ≡ true = ap (λ k. has k c.in_ok-tags.tags) next ∙ c.in_ok-tags.ensures.own id (eq-eqb id id refl) in
     let none : (e : Entity) → has o.id (tags_in m e) ≡ false = λ e.
     ap (λ k. has k (tags_in m e)) (next ∙ c.in-Some.ensures.value)

@@ -1,10 +1,10 @@
 -- What is kept of guesses after a draw and a decision, and the statuses that agree with it.
-use Rattle.std.proofs.Common.{◌≡◌, ℕ, suc, ◌<◌, ◌≤◌, ◌+◌, length, length-append, Bool, true, false, cond, not, ◌||◌, ◌&&◌, List, [], ◌∷◌, ◌++◌, map, Option, Some, None, inl, inr, refl, sym, ◌∙◌, ap, subst, append_assoc, arith}
+use Rattle.std.proofs.Common.{◌≡◌, ◌≢◌, ℕ, suc, ◌<◌, ◌≤◌, ◌+◌, length, length-append, Bool, true, false, cond, not, ◌||◌, ◌&&◌, List, [], ◌∷◌, ◌++◌, map, Option, Some, None, inl, inr, refl, sym, ◌∙◌, ap, subst, append_assoc, arith}
 use Rattle.std.specs.Prelude.{◌==◌, nat_lt, Result, Ok, Err}
 use Rattle.std.specs.List.{AllByRecursion, filter, prefix_len}
 use Rattle.std.specs.List.Sorted.{IsStrictlySortedBy}
 use Rattle.std.specs.Ordering.{nat_cmp}
-use Rattle.std.proofs.lemmas.Bool.{true≢false, eqb-true, eq-eqb, or_left, or_right, or_cases}
+use Rattle.std.proofs.lemmas.Bool.{true≢false, eqb-true, or_left, or_right, or_cases}
 use Rattle.std.proofs.lemmas.List.{length-map, map-append}
 use Rattle.std.proofs.lemmas.List.Folds.{list_any-append}
 use Rattle.std.proofs.lemmas.List.Kept.{IsStrictlySortedBy-filter}
@@ -16,13 +16,21 @@ use Rattle.sk_record.specs.declared.status.Status.{Status}
 use Rattle.sk_record.specs.declared.status.Status.TheVariants.{Undecided, Committed, Failed, Struck}
 use Rattle.sk_record.proofs.Machine.{has_filter}
 use Rattle.sk_record.proofs.UndoStates.{and_both}
-use Rattle.sk_guesses.specs.Kept.{KeptView, AreKept, AreStatuses, forgotten, one_drawn, struck_with, with_struck}
+use Rattle.sk_guesses.specs.Kept.{KeptView, AreKept, AreStatuses, forgotten, known, one_drawn, struck_with, with_struck}
 use Rattle.sk_guesses.specs.Opens.{OpenGuess, after_commit, but, not_resting, open_in, opens_of, without_tag}
 use Rattle.sk_guesses.specs.Room.{Listing}
 use Rattle.sk_guesses.specs.Token.{Token}
 use Rattle.sk_guesses.specs.declared.guess.Redeemed.{Redeemed}
 use Rattle.sk_guesses.specs.declared.guess.Redeemed.TheVariants as redeemed_as
 use Rattle.sk_guesses.proofs.Opens.{guess_of, named, but_named, same_named, named_more, turned, all_kept, own_left, own_more, own_same, still_rises, none_named, unless, more_rises, or_one, open_is, resting_named, is_other}
+
+-- nothing is known to be open that is not
+pub not_known : (v : KeptView) (os : List Open) (g : ℕ) → known v os g ≢ Some Undecided → has g (numbers os) ≡ false
+not_known v os g other =
+    elim (has g (numbers os)) as (λ b. cond b (Some Undecided) (cond (has g v.struck) (Some Struck) None) ≢ Some Undecided → b ≡ false) [
+      | true ↦ λ no. absurd (no refl)
+      | false ↦ λ _. refl
+    ] other
 
 -- ---- as the machine has them
 pub commit_opens : {E : Type 0} (g : ℕ) (os : List (OpenGuess E)) → opens_of (after_commit g os) ≡ still_open g (opens_of os)

@@ -325,6 +325,16 @@ none_there g (o ∷ os) none =
 pub emptied : {E : Type 0} → (v : GuessesView) (os : List (OpenGuess E)) (g : ℕ) → AreOpen v os → open_in (status_since v g) ≡ false → dependents_of g os ≡ []
 emptied v os g are closed = none_there g os (are.tied g ∙ closed)
 
+not_open : (o : Option Status) → o ≢ Some Undecided → open_in o ≡ false
+not_open None other = refl
+not_open (Some Undecided) other = absurd (other refl)
+not_open (Some Committed) other = refl
+not_open (Some Failed) other = refl
+not_open (Some Struck) other = refl
+
+pub none_decided : {E : Type 0} → (v : GuessesView) (os : List (OpenGuess E)) (g : ℕ) → AreOpen v os → status_since v g ≢ Some Undecided → dependents_of g os ≡ []
+none_decided v os g are other = emptied v os g are (not_open (status_since v g) other)
+
 -- ---- the list of a guess
 abbrev pub is_other : {E : Type 0} → ℕ → (Listing E) → Bool
 is_other g l = not (l.guess.id == g)

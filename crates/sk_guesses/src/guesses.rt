@@ -175,6 +175,7 @@ impl<E: Key> Guesses<E> {
         ensures rising { IsStrictlySortedBy E.order result.now }
         ensures known { status_since self.now.view id ≡ Some Undecided
             → has id (numbers (opens_of self.now.opens)) ≡ true }
+        ensures none { status_since self.now.view id ≢ Some Undecided → result.now ≡ [] }
     {
         let place = place_of(self.opens.as_slice(), id);
         if place >= self.opens.len() {

@@ -1,5 +1,5 @@
 //! The guesses of a kernel that keeps nothing of decided ones.
-ghost use Rattle.std.specs.Prelude.{◌≡◌, ◌<◌, ◌≤◌, ◌+◌, ◌==◌, ◌&&◌, ◌∷◌, ◌++◌, ℕ, [], true, not, if◌then◌else◌, length, map, nat_le, get_or, Option, Some, OnOk, OnErr, MatchOption};
+ghost use Rattle.std.specs.Prelude.{◌≡◌, ◌≢◌, ◌<◌, ◌≤◌, ◌+◌, ◌==◌, ◌&&◌, ◌∷◌, ◌++◌, ℕ, [], true, not, if◌then◌else◌, length, map, nat_le, get_or, Option, Some, OnOk, OnErr, MatchOption};
 ghost use Rattle.std.specs.List.Sorted.{IsStrictlySortedBy};
 ghost use Rattle.std.specs.Option.{unwrap_or};
 ghost use Rattle.std.specs.Vec.{vec_capacity};
@@ -8,7 +8,7 @@ ghost use Rattle.sk_record.specs.Machine.{with_drawn, with_failure, with_status}
 ghost use Rattle.sk_record.specs.Notes.{has, without};
 ghost use Rattle.sk_record.specs.UndoState.{not_struck, numbers, still_open};
 ghost use Rattle.sk_record.specs.declared.status.Status.{Status};
-ghost use Rattle.sk_record.specs.declared.status.Status.TheVariants.{Committed};
+ghost use Rattle.sk_record.specs.declared.status.Status.TheVariants.{Committed, Undecided};
 ghost use Rattle.sk_guesses.specs.EntitySet.{with_entities};
 ghost use Rattle.sk_guesses.specs.Kept.{known, none_drawn, one_drawn, keys_of, forgotten, redeemed_kept, struck_with, with_struck, AreStatuses, HasKeptRoom};
 ghost use Rattle.sk_guesses.specs.Opens.{after_commit, depending, dependents_of, left_to, not_resting, opens_of, without_list};
@@ -222,6 +222,8 @@ impl<E: Key> OpenGuesses<E> {
     pub fn dependents(&self, id: GuessId) -> &[E]
         ensures value { result.now ≡ dependents_of id self.now.opens }
         ensures rising { IsStrictlySortedBy E.order result.now }
+        ensures none { known self.now.view (opens_of self.now.opens) id ≢ Some Undecided
+            → result.now ≡ [] }
     {
         let place = place_of(self.opens.as_slice(), id);
         if place >= self.opens.len() {

@@ -1,10 +1,11 @@
 -- The list at the place is the guess's, or there is none.
-use Rattle.std.proofs.Common.{◌≡◌, ◌<◌, ◌≤◌, length, ◌∙◌, ap, arith}
+use Rattle.std.proofs.Common.{◌<◌, ◌≤◌, length, map, sym, ◌∙◌, ap, arith}
 use Rattle.std.specs.List.{prefix_len}
 use Rattle.std.specs.List.Sorted.{IsStrictlySortedBy}
-use Rattle.sk_guesses.specs.Opens.{dependents_of}
-use Rattle.sk_guesses.specs.Kept.{Kept}
-use Rattle.sk_guesses.proofs.Opens.{is_other, found, missing}
+use Rattle.sk_guesses.specs.Opens.{dependents_of, opens_of}
+use Rattle.sk_guesses.specs.Kept.{Kept, KeptView, known}
+use Rattle.sk_guesses.proofs.Kept.{not_known}
+use Rattle.sk_guesses.proofs.Opens.{guess_of, is_other, found, missing, none_there}
 use Rattle.sk_guesses.proofs.open_guesses.OpenGuesses.dependents.Goals as goal
 
 pub returns-then-place-len-clause-value : goal.returns-then-place-len-clause-value
@@ -23,3 +24,13 @@ returns-clause-value g c =
     c.dependents.ensures.value
     ∙ found c.args.id c.place_of-place.result c.self.inside.opens.items c.index.result.now (c.place_of-place.ensures ∙ ap (prefix_len (is_other c.args.id)) c.as_slice.ensures.value) near c.index.ensures
     ∙ ap (λ (g : Kept _). dependents_of c.args.id g.opens) c.self.view_is
+
+pub returns-clause-none : goal.returns-clause-none
+returns-clause-none g c = λ other.
+    let v : KeptView = record { kernel = c.self.inside.kernel; limit = c.self.inside.limit; drawn = c.self.inside.drawn; struck = c.self.inside.struck.items } in
+    let os = map guess_of c.self.inside.opens.items in
+    let near : c.place_of-place.result < length c.self.inside.opens.items = omega (arith, c.if-place-len.false, c.len.ensures) in
+    c.dependents.ensures.value
+    ∙ found c.args.id c.place_of-place.result c.self.inside.opens.items c.index.result.now (c.place_of-place.ensures ∙ ap (prefix_len (is_other c.args.id)) c.as_slice.ensures.value) near c.index.ensures
+    ∙ none_there c.args.id os
+    (not_known v (opens_of os) c.args.id (λ is. other (ap (λ (g : Kept _). known g.view (opens_of g.opens) c.args.id) (sym c.self.view_is) ∙ is)))

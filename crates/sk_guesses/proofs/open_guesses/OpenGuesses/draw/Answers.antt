@@ -1,5 +1,5 @@
 -- One undecided guess more.
-use Rattle.std.proofs.Common.{◌≡◌, ℕ, ◌+◌, ◌<◌, ◌∷◌, ◌++◌, [], true, length, map, Option, Some, refl, sym, ◌∙◌, ap, subst, arith}
+use Rattle.std.proofs.Common.{◌≡◌, ◌+◌, ◌<◌, ◌∷◌, ◌++◌, [], true, length, map, Some, refl, sym, ◌∙◌, ap, subst, arith}
 use Rattle.std.proofs.lemmas.List.{length-map, map-append}
 use Rattle.std.specs.Vec.{vec_capacity}
 use Rattle.sk_ids.specs.declared.guess.TheConstants.{LAST_GUESS}
@@ -7,7 +7,7 @@ use Rattle.sk_record.specs.Machine.{with_drawn}
 use Rattle.sk_record.specs.Notes.{has}
 use Rattle.sk_guesses.specs.EntitySet.{SetView}
 use Rattle.sk_guesses.specs.Kept.{Kept, KeptView, AreStatuses}
-use Rattle.sk_guesses.specs.Opens.{OpenGuess, opens_of}
+use Rattle.sk_guesses.specs.Opens.{opens_of}
 use Rattle.sk_guesses.specs.Room.{Listing}
 use Rattle.sk_guesses.proofs.Kept.{kept_drawn, statuses_drawn}
 use Rattle.sk_guesses.proofs.Opens.{guess_of}

@@ -1,11 +1,11 @@
 -- It is undecided no more, and so are those whose own steps rest on it.
-use Rattle.std.proofs.Common.{◌≡◌, ℕ, ◌≤◌, ◌+◌, ◌++◌, true, List, length, length-append, map, sym, ◌∙◌, ap, subst, arith}
+use Rattle.std.proofs.Common.{◌≡◌, ◌+◌, ◌++◌, length, map, sym, ◌∙◌, ap, subst, arith}
 use Rattle.std.specs.Vec.{vec_capacity}
 use Rattle.sk_record.specs.Machine.{with_failure}
 use Rattle.sk_record.specs.Notes.{has}
 use Rattle.sk_record.specs.UndoState.{not_struck, numbers}
 use Rattle.sk_guesses.specs.Kept.{Kept, KeptView, AreKept, AreStatuses, struck_with, with_struck}
-use Rattle.sk_guesses.specs.Opens.{not_resting, opens_of}
+use Rattle.sk_guesses.specs.Opens.{opens_of}
 use Rattle.sk_guesses.proofs.Kept.{fail_opens, kept_failed, statuses_failed}
 use Rattle.sk_guesses.proofs.Opens.{guess_of}
 use Rattle.sk_guesses.proofs.open_guesses.OpenGuesses.fail.Goals as goal

@@ -1,5 +1,5 @@
 -- None is drawn.
-use Rattle.std.proofs.Common.{refl, arith}
+use Rattle.std.proofs.Common.{refl}
 use Rattle.std.specs.Vec.{vec_capacity}
 use Rattle.sk_guesses.specs.Kept.{KeptView}
 use Rattle.sk_guesses.proofs.Kept.{kept_none}

@@ -1,5 +1,5 @@
 -- What agrees with what was kept agrees with what is left.
-use Rattle.std.proofs.Common.{◌≡◌, ℕ, Ok, map, sym, ◌∙◌, ap, subst}
+use Rattle.std.proofs.Common.{Ok, map, sym, subst}
 use Rattle.std.specs.Vec.{vec_capacity}
 use Rattle.sk_guesses.specs.Kept.{Kept, KeptView, AreStatuses}
 use Rattle.sk_guesses.specs.Opens.{opens_of}

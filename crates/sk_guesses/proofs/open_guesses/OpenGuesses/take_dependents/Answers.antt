@@ -1,5 +1,5 @@
 -- Numbers and tags stay.
-use Rattle.std.proofs.Common.{◌≡◌, ◌∙◌, ap, map, arith}
+use Rattle.std.proofs.Common.{◌∙◌, ap, map, arith}
 use Rattle.sk_guesses.specs.Kept.{Kept, KeptView}
 use Rattle.sk_guesses.specs.Opens.{not_resting, opens_of}
 use Rattle.std.specs.Vec.{vec_capacity}

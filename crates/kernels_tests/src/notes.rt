@@ -98,3 +98,26 @@ fn notes_of_two_guesses(rt: HostRuntime) {
     ];
     passes(&rt, plays(&rt, rt.alloc(), start, &table));
 }
+
+/// Where the newer of two guesses is committed, the notes of a process rest on the same, and one of them is left.
+#[test]
+fn two_notes_become_one(rt: HostRuntime) {
+    let start = Start {
+        number: 1,
+        script: &[(b"fetch /01\n", 2), (b"set r1 1\n", 5)],
+        processes: 1,
+        limit: 100,
+    };
+    let table = [
+        KernelPlay::Guesses(1, 1, 2),
+        KernelPlay::Steps(1, 5, Ok(())),
+        KernelPlay::Has(Count::Notes, 2),
+        KernelPlay::DecidesNewest(Decision::Commit, Outcome::Done),
+        KernelPlay::Has(Count::Notes, 1),
+        KernelPlay::Has(Count::Place(1), 7),
+        decides(Decision::Fail),
+        NONE,
+        KernelPlay::Has(Count::Place(1), 0),
+    ];
+    passes(&rt, plays(&rt, rt.alloc(), start, &table));
+}

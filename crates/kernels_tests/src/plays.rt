@@ -53,6 +53,8 @@ pub enum KernelPlay {
     Guesses(u16, u64, u64),
     /// The decision of the oldest guess whose token is kept.
     Decides(Decision, Outcome),
+    /// The decision of the newest.
+    DecidesNewest(Decision, Outcome),
     /// How much there is.
     Has(Count, usize),
     /// Just these rest on the guess of this number, by rising order.
@@ -128,16 +130,29 @@ fn failed(rt: &impl Abort, kernel: &mut Kernel, token: Guess) -> Outcome {
     }
 }
 
+/// What the decision of the guess of a token comes to.
+fn decided(rt: &impl Abort, kernel: &mut Kernel, token: Guess, decision: Decision) -> Outcome {
+    match decision {
+        Decision::Commit => committed(rt, kernel, token),
+        Decision::Fail => failed(rt, kernel, token),
+    }
+}
+
 /// What the decision of the oldest guess comes to whose token is kept.
-fn decided(rt: &impl Abort, player: &mut Player, decision: Decision) -> Option<Outcome> {
+fn decided_oldest(rt: &impl Abort, player: &mut Player, decision: Decision) -> Option<Outcome> {
     if player.tokens.is_empty() {
         return None;
     }
     let token = player.tokens.remove(0);
-    Some(match decision {
-        Decision::Commit => committed(rt, &mut player.kernel, token),
-        Decision::Fail => failed(rt, &mut player.kernel, token),
-    })
+    Some(decided(rt, &mut player.kernel, token, decision))
+}
+
+/// What that of the newest comes to.
+fn decided_newest(rt: &impl Abort, player: &mut Player, decision: Decision) -> Option<Outcome> {
+    match player.tokens.pop() {
+        Some(token) => Some(decided(rt, &mut player.kernel, token, decision)),
+        None => None,
+    }
 }
 
 /// The place of a process, where it is present.
@@ -212,7 +227,12 @@ pub fn does(rt: &impl Abort, player: &mut Player, play: KernelPlay) -> Result<bo
         KernelPlay::Steps(number, count, want) => steps(&mut player.kernel, number, count, want),
         KernelPlay::Good(number) => is_good(&mut player.kernel, number),
         KernelPlay::Guesses(number, first, last) => guesses(player, number, first, last),
-        KernelPlay::Decides(decision, want) => Ok(decided(rt, player, decision) == Some(want)),
+        KernelPlay::Decides(decision, want) => {
+            Ok(decided_oldest(rt, player, decision) == Some(want))
+        }
+        KernelPlay::DecidesNewest(decision, want) => {
+            Ok(decided_newest(rt, player, decision) == Some(want))
+        }
         KernelPlay::Has(count, want) => has(&player.kernel, count, want),
         KernelPlay::Rests(number, want) => rests(&player.kernel, number, want),
         KernelPlay::Epoch(want) => Ok(epoch(&mut player.kernel) == want),

@@ -27,17 +27,17 @@ without_free g (t ∷ tags) none =
 has_left : (g h : ℕ) (tags left : List ℕ) → without g tags ≡ left → has h left ≡ (not (h == g) && has h tags)
 has_left g h tags left is = ap (has h) (sym is) ∙ has_filter (λ t. not (t == g)) h tags
 
-not_true : (b : Bool) → not b ≡ true → b ≡ false
+pub not_true : (b : Bool) → not b ≡ true → b ≡ false
 not_true true h = absurd (true≢false (sym h))
 not_true false h = refl
 
 -- ---- logs as they are seen: where nothing rests on the guess, and a second commit of it
 module _ {V : Type 0} where
-  kept_one : (left : List ℕ) (t : ℕ) → has t left ≡ true → (v : Option V) (rest : List (Note V)) → record { tags = left; before = v } ∷ rest ≡ noted true left v rest
+  pub kept_one : (left : List ℕ) (t : ℕ) → has t left ≡ true → (v : Option V) (rest : List (Note V)) → record { tags = left; before = v } ∷ rest ≡ noted true left v rest
   kept_one [] t here v rest = absurd (true≢false (sym here))
   kept_one (x ∷ left) t here v rest = refl
 
-  noted_some : (tags : List ℕ) (v : Option V) (rest : List (Note V)) → not (is_empty tags) ≡ true → noted true tags v rest ≡ record { tags = tags; before = v } ∷ rest
+  pub noted_some : (tags : List ℕ) (v : Option V) (rest : List (Note V)) → not (is_empty tags) ≡ true → noted true tags v rest ≡ record { tags = tags; before = v } ∷ rest
   noted_some [] v rest some = absurd (true≢false (sym some))
   noted_some (t ∷ tags) v rest some = refl
 
@@ -173,12 +173,12 @@ module _ {U V : Type 0} (undone : U → Option V → Option V) where
   pub order_is : (now : Option V) (xs : List (RawNote U)) → reverse (seen undone now (reverse xs)) ≡ in_order now xs
   order_is now xs = order_reverse now (reverse xs) ∙ ap (in_order now) (reverse-reverse xs)
 
-  light_before : (g : ℕ) (now : Option V) (ns : List (RawNote U)) → value_before now (lightened g ns) ≡ value_before now ns
+  pub light_before : (g : ℕ) (now : Option V) (ns : List (RawNote U)) → value_before now (lightened g ns) ≡ value_before now ns
   light_before g now [] = refl
   light_before g now (n ∷ ns) = ap (undone n.undo) (light_before g now ns)
 
   -- where each note rests on something else too, none is dropped
-  none_gone : (g t : ℕ) (ns : List (RawNote U)) (now : Option V) → not (t == g) ≡ true → AllSeen t (in_order now ns) → in_order now (lightened g ns) ≡ committed g (in_order now ns)
+  pub none_gone : (g t : ℕ) (ns : List (RawNote U)) (now : Option V) → not (t == g) ≡ true → AllSeen t (in_order now ns) → in_order now (lightened g ns) ≡ committed g (in_order now ns)
   none_gone g t [] now other all = refl
   none_gone g t (n ∷ ns) now other all =
       let both = and_both _ _ all in
@@ -199,7 +199,7 @@ module _ {U V : Type 0} (undone : U → Option V → Option V) where
         let same = none_gone g t ns now both.0 (grow_head first (in_order now ns) grows t both.1) in
         λ i. record { tags = t ∷ left; before = undone n.undo (light_before g now ns i) } ∷ same i
 
-  commit_order : (g : ℕ) (ns : List (RawNote U)) (now : Option V) → IsGrowing (in_order now ns) → in_order now (dropped (lightened g ns)) ≡ committed g (in_order now ns)
+  pub commit_order : (g : ℕ) (ns : List (RawNote U)) (now : Option V) → IsGrowing (in_order now ns) → in_order now (dropped (lightened g ns)) ≡ committed g (in_order now ns)
   commit_order g [] now grows = refl
   commit_order g (n ∷ ns) now grows = one g n ns now grows (commit_order g ns now (grow_tail (first g n ns now) (in_order now ns) grows)) (without g n.tags) refl
 

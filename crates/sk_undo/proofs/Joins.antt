@@ -74,7 +74,7 @@ module _ {V : Type 0} (whole : V → Bool) (undone : V → Undo → V) (fits : V
 
   module _ (now : Option V) where
     -- what is undone to is the same
-    same_before : (n : RawNote (PutBack V)) (i : ℕ) (ns : List (RawNote (PutBack V)))
+    pub same_before : (n : RawNote (PutBack V)) (i : ℕ) (ns : List (RawNote (PutBack V)))
         → undone_by undone n.undo (value_before (undone_by undone) now (joined_from whole (Some n) i ns)) ≡ undone_by undone n.undo (value_before (undone_by undone) now ns)
     same_before n i [] = refl
     same_before n zero (x ∷ ns) =
@@ -104,7 +104,7 @@ module _ {V : Type 0} (whole : V → Bool) (undone : V → Undo → V) (fits : V
     covered_tags None tags h = absurd (true≢false (sym h))
     covered_tags (Some n) tags h = (exact_bytes tags n.tags).0 (and_both _ _ h).1
 
-    note_same : (n : RawNote (PutBack V)) (i : ℕ) (ns : List (RawNote (PutBack V)))
+    pub note_same : (n : RawNote (PutBack V)) (i : ℕ) (ns : List (RawNote (PutBack V)))
         → ◌≡◌ {A = Note V} (record { tags = n.tags; before = undone_by undone n.undo (value_before (undone_by undone) now (joined_from whole (Some n) i ns)) }) (record { tags = n.tags; before = undone_by undone n.undo (value_before (undone_by undone) now ns) })
     note_same n i ns = λ j. record { tags = n.tags; before = same_before n i ns j }
 
@@ -124,7 +124,7 @@ module _ {V : Type 0} (whole : V → Bool) (undone : V → Undo → V) (fits : V
         (subst (Merges [] (in_order (undone_by undone) now ns)) (sym (order_is (undone_by undone) now (joined_from whole None i ns))) (joins_order None i ns))
 
   -- ---- and can be undone
-  abbrev CanInOrder : Option V → List (RawNote (PutBack V)) → Type 0
+  abbrev pub CanInOrder : Option V → List (RawNote (PutBack V)) → Type 0
   CanInOrder now [] = Unit {0}
   CanInOrder now (n ∷ ns) = FitsBy fits n.undo (value_before (undone_by undone) now ns) × CanInOrder now ns
 
@@ -138,7 +138,7 @@ module _ {V : Type 0} (whole : V → Bool) (undone : V → Undo → V) (fits : V
       let rest = can_less now ns n can.1 in
       (rest.0, (subst (FitsBy fits x.undo) (before_more (undone_by undone) ns n now) can.0, rest.1))
 
-  in_turn : (now : Option V) (rs : List (RawNote (PutBack V))) → CanGoBack (FitsBy fits) (undone_by undone) now rs → CanInOrder now (reverse rs)
+  pub in_turn : (now : Option V) (rs : List (RawNote (PutBack V))) → CanGoBack (FitsBy fits) (undone_by undone) now rs → CanInOrder now (reverse rs)
   in_turn now [] can = tt
   in_turn now (r ∷ rs) can = subst (CanInOrder now) (sym (reverse_onto rs r [])) (can_more now (reverse rs) r can.0 (in_turn (undone_by undone r.undo now) rs can.1))
 

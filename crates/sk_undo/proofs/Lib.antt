@@ -7,6 +7,7 @@ pub mod Opening
 pub mod Growing
 pub mod Present
 mod NewestNotes
+pub mod Joined
 pub mod Joins
 pub mod Stable
 pub mod Runs

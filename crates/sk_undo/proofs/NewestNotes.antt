@@ -1,5 +1,5 @@
 -- What a commit's pass from the newest note back leaves.
-use Rattle.std.proofs.Common.{◌≡◌, ℕ, zero, suc, ◌<◌, ◌≤◌, ◌+◌, length, take, drop, true, false, cond, ◌&&◌, List, [], ◌∷◌, ◌++◌, Option, refl, sym, ◌∙◌, ap, subst, arith}
+use Rattle.std.proofs.Common.{◌≡◌, ℕ, zero, suc, ◌<◌, ◌≤◌, ◌+◌, length, take, drop, true, false, cond, not, ◌&&◌, List, [], ◌∷◌, ◌++◌, Option, refl, sym, ◌∙◌, ap, subst, arith}
 use Rattle.std.specs.Prelude.{reverse, slice_index_or, slice_set}
 use Rattle.std.specs.List.{list_all, prefix_len}
 use Rattle.std.proofs.lemmas.Bool.{true≢false}
@@ -55,6 +55,22 @@ module _ {U : Type 0} where
       let all = whole ∙ ap (λ k. lightened_from g k ns) next in
       ap (λ k. rests_last g (reverse (take k ns))) next ∙ rests_on_last g (take (suc j) ns) ∙ at_place i j g ns n lt (is ∙ ap (λ ys. slice_index_or ys j n) all) ∙ none
 
+  -- the notes gone over rest on the guess
+  pub none_gone_over : (g : ℕ) (ns : List (RawNote U)) → AllRest g (drop (length ns) ns)
+  none_gone_over g [] = refl
+  none_gone_over g (n ∷ ns) = none_gone_over g ns
+
+  rests_before : (g j : ℕ) (ns : List (RawNote U)) (n : RawNote U) → j < length ns → n ≡ slice_index_or (lightened_from g (suc j) ns) j n → has g n.tags ≡ true → AllRest g (drop (suc j) ns) → AllRest g (drop j ns)
+  rests_before g j [] n lt is here all = absurd (omega arith)
+  rests_before g zero (x ∷ ns) n lt is here all = λ i. (ap (λ (y : RawNote U). has g y.tags) (sym is) ∙ here) i && all i
+  rests_before g (suc j) (x ∷ ns) n lt is here all = rests_before g j ns n (omega arith) is here all
+
+  pub rests_there : (g i j : ℕ) (ns items : List (RawNote U)) (n : RawNote U) → i ≡ suc j → j < length ns → items ≡ lightened_from g i ns → n ≡ slice_index_or items j n → has g n.tags ≡ true
+      → AllRest g (drop i ns) → AllRest g (drop j ns)
+  rests_there g i j ns items n next lt whole is here all =
+      let same = whole ∙ ap (λ k. lightened_from g k ns) next in
+      rests_before g j ns n lt (is ∙ ap (λ ys. slice_index_or ys j n) same) here (subst (λ k. AllRest g (drop k ns)) next all)
+
   -- ---- where each note rests on what those before it rest on, the others don't rest on the guess
   all_front : (g : ℕ) (xs ys : List (RawNote U)) → AllRest g (xs ++ ys) → AllRest g xs
   all_front g [] ys all = refl
@@ -72,6 +88,32 @@ module _ {U : Type 0} where
             let rest = free_front g x.tags xs ys all none in
             λ i. record { tags = same i; undo = x.undo } ∷ rest i
       ] refl all
+
+  none_front : (g : ℕ) (tags : List ℕ) (xs ys : List (RawNote U)) → AllRest g (from_first g (xs ++ ys)) → has g (last_on tags xs) ≡ false → list_all (λ n. not (has g n.tags)) xs ≡ true
+  none_front g tags [] ys all none = refl
+  none_front g tags (x ∷ xs) ys all none =
+      elim (has g x.tags) as (λ b. has g x.tags ≡ b → AllRest g (cond b (x ∷ xs ++ ys) (from_first g (xs ++ ys))) → list_all (λ n. not (has g n.tags)) (x ∷ xs) ≡ true) [
+        | true ↦ λ here all. absurd (true≢false (sym (last_rests g x.tags xs (all_front g xs ys (and_both _ _ all).1) here) ∙ none))
+        | false ↦ λ free all.
+            let rest = none_front g x.tags xs ys all none in
+            λ i. not (free i) && rest i
+      ] refl all
+
+  place_is : (g i : ℕ) (ns : List (RawNote U)) → list_all (λ n. not (has g n.tags)) (take i ns) ≡ true → AllRest g (drop i ns) → i ≤ length ns → i ≡ prefix_len (λ n. not (has g n.tags)) ns
+  place_is g zero [] none all within = refl
+  place_is g zero (n ∷ ns) none all within = sym (ap (λ b. cond (not b) (1 + prefix_len (λ n. not (has g n.tags)) ns) 0) (and_both _ _ all).0)
+  place_is g (suc i) [] none all within = absurd (omega arith)
+  place_is g (suc i) (n ∷ ns) none all within =
+      let both = and_both (not (has g n.tags)) (list_all (λ n. not (has g n.tags)) (take i ns)) none in
+      let next : i ≡ prefix_len (λ n. not (has g n.tags)) ns = place_is g i ns both.1 all (omega (arith, within)) in
+      let one : suc i ≡ 1 + prefix_len (λ n. not (has g n.tags)) ns = omega (arith, next) in
+      one ∙ sym (ap (λ b. cond b (1 + prefix_len (λ n. not (has g n.tags)) ns) 0) both.0)
+
+  -- and the place where a pass ends is that of the first that does
+  pub first_place : (g i : ℕ) (ns : List (RawNote U)) → rests_last g (reverse (take i ns)) ≡ false → AllRest g (drop i ns) → i ≤ length ns → Grows ns → i ≡ prefix_len (λ n. not (has g n.tags)) ns
+  first_place g i ns none all within grows =
+      let parts = take-append-drop i ns in
+      place_is g i ns (none_front g [] (take i ns) (drop i ns) (subst (λ ms. AllRest g (from_first g ms)) (sym parts) (grows g)) (sym (rests_on_last g (take i ns)) ∙ none)) all within
 
   light_append : (g : ℕ) (xs ys : List (RawNote U)) → lightened g (xs ++ ys) ≡ lightened g xs ++ lightened g ys
   light_append g [] ys = refl

@@ -1,6 +1,7 @@
 -- What a pass over the listed entities leaves of the slots.
 use Rattle.std.proofs.Common.{◌≡◌, ℕ, ◌+◌, ◌<◌, length, drop, get_or, Bool, true, false, cond, ◌||◌, ◌&&◌, List, [], ◌∷◌, Option, Some, None, refl, sym, ◌∙◌, ap, subst}
 use Rattle.std.specs.Prelude.{reverse, is_none, is_some}
+use Rattle.std.specs.List.{list_all}
 use Rattle.std.specs.Ordering.{eq_by_cmp}
 use Rattle.std.specs.Cmp.{Equal-is}
 use Rattle.std.specs.FinMap as map
@@ -16,10 +17,11 @@ use Rattle.sk_record.specs.Merged.{Merges}
 use Rattle.sk_record.specs.UndoState.{IsGrowing}
 use Rattle.sk_record.proofs.Merged.{all_kept, in_turn, both_committed, grow_in}
 use Rattle.sk_store.specs.declared.entity_state.EntityState.{EntityState}
-use Rattle.sk_undo.specs.Log.{is_empty, carries}
-use Rattle.sk_undo.specs.Slot.{SlotView, slot_of, slot_wrote, is_bare}
+use Rattle.sk_undo.specs.Log.{is_empty, carries, EachRests}
+use Rattle.sk_undo.specs.Slot.{SlotView, slot_of, slot_wrote, is_bare, committed_joined}
 use Rattle.sk_undo.specs.Logs.{SlotMap, slot_in, slots_wrote, placed, look_at, log_at}
 use Rattle.sk_undo.specs.Decisions.{SlotUnwound, SlotCommitted, ChangedAt, IsWithin, Unwound, Lightened, AreListed, AllRest, AllGrow, NoneBare}
+use Rattle.sk_undo.proofs.Joined.{joined_free, settled_rests, settled_none}
 use Rattle.sk_undo.proofs.SeenNotes.{none_is, none_off, grow_cut}
 use Rattle.sk_undo.proofs.Commits.{committed_free, committed_twice, grow_commit, is_settled, settled_free, all_settled, all_merged}
 
@@ -164,6 +166,9 @@ pub record Committing (g : ℕ) (old now : SlotMap) (rest : List Entity) : Type 
   pub look : (q : Entity) → look_at now q ≡ look_at old q
   pub logs : (q : Entity) → Merges [] (committed g (log_at old q)) (committed g (log_at now q))
   pub grow : AllGrow now
+  pub rests : AllRest now
+  pub joined : (q : Entity) → committed_joined g None (log_at now q) ≡ committed_joined g None (log_at old q)
+  pub free : (q : Entity) → is_in entity_cmp rest q ≡ false → carries g (log_at now q) ≡ false
   pub done : (q : Entity) → is_in entity_cmp rest q ≡ false → committed g (log_at now q) ≡ log_at now q
   pub bare : NoneBare old → NoneBare now
   pub kept : IsWithin now old
@@ -177,12 +182,18 @@ committing_from g old es listed rests grows = record {
   look = λ q. refl;
   logs = λ q. all_kept [] (committed g (log_at old q));
   grow = grows;
+  rests = rests;
+  joined = λ q. refl;
+  free = λ q is. unlisted _ _ (listed q) is;
   done = λ q is. committed_free g (log_at old q) (unlisted _ _ (listed q) is) (rests q);
   bare = λ h. h;
   kept = λ q there. there;
 }
 
 module _ (g : ℕ) (old now new : SlotMap) (e : Entity) (rest : List Entity) (so : Committing g old now (e ∷ rest)) (h : ChangedAt (SlotCommitted g) now e new) where
+  settled_there : (q : Entity) → eq_by_cmp entity_cmp q e ≡ true → list_all (is_settled g) (log_at new q) ≡ true
+  settled_there q is = all_merged (is_settled g) [] (committed g (log_at now q)) (log_at new q) ((there h q is).log (so.grow q)) (all_settled g (log_at now q))
+
   pub committing_more : Committing g old new rest
   committing_more = record {
     look = λ q. by_place q e (look_at new q ≡ look_at old q)
@@ -194,12 +205,21 @@ module _ (g : ℕ) (old now new : SlotMap) (e : Entity) (rest : List Entity) (so
     grow = λ q. by_place q e (IsGrowing (log_at new q))
         (λ is. λ x. grow_in x [] (committed g (log_at now q)) (log_at new q) refl ((there h q is).log (so.grow q)) (grow_commit g (log_at now q) (so.grow q) x))
         (λ is. subst (λ (s : SlotView). IsGrowing (reverse s.log)) (elsewhere h q is) (so.grow q));
+    rests = λ q. by_place q e (EachRests (log_at new q))
+        (λ is. settled_rests g (log_at new q) (settled_there q is))
+        (λ is. subst (λ (s : SlotView). EachRests (reverse s.log)) (elsewhere h q is) (so.rests q));
+    joined = λ q. by_place q e (committed_joined g None (log_at new q) ≡ committed_joined g None (log_at old q))
+        (λ is. joined_free g None (log_at new q) (settled_none g (log_at new q) (settled_there q is)) ∙ (there h q is).joined (so.grow q) (so.rests q) ∙ so.joined q)
+        (λ is. ap (λ (s : SlotView). committed_joined g None (reverse s.log)) (sym (elsewhere h q is)) ∙ so.joined q);
+    free = λ q out. by_place q e (carries g (log_at new q) ≡ false)
+        (λ is. settled_none g (log_at new q) (settled_there q is))
+        (λ is. ap (λ (s : SlotView). carries g (reverse s.log)) (sym (elsewhere h q is)) ∙ so.free q (ap (λ b. b || is_in entity_cmp rest q) is ∙ out));
     done = λ q out. by_place q e (committed g (log_at new q) ≡ log_at new q)
-        (λ is. settled_free g (log_at new q) (all_merged (is_settled g) [] (committed g (log_at now q)) (log_at new q) ((there h q is).log (so.grow q)) (all_settled g (log_at now q))))
+        (λ is. settled_free g (log_at new q) (settled_there q is))
         (λ is. subst (λ (s : SlotView). committed g (reverse s.log) ≡ reverse s.log) (elsewhere h q is) (so.done q (ap (λ b. b || is_in entity_cmp rest q) is ∙ out)));
     bare = λ none. subst NoneBare (sym h.all) (placed_bare now e h.slot (so.bare none));
     kept = λ q there. so.kept q (kept_at h q there);
   }
 
 pub all_committed : (g : ℕ) (old now : SlotMap) → Committing g old now [] → Lightened old g now
-all_committed g old now so = record { look = so.look; logs = λ q. subst (Merges [] (committed g (log_at old q))) (so.done q refl) (so.logs q) }
+all_committed g old now so = record { look = so.look; logs = λ q. subst (Merges [] (committed g (log_at old q))) (so.done q refl) (so.logs q); joined = λ q. sym (joined_free g None (log_at now q) (so.free q refl)) ∙ so.joined q }

@@ -18,7 +18,7 @@ use Rattle.sk_undo.specs.Slot.{undone, Fits, is_process, is_whole, goes_on, goes
 use Rattle.sk_undo.proofs.Joins.{same_undone, fits_any}
 use Rattle.sk_undo.proofs.SeenNotes.{newest_of}
 
-whole_is : (undo : PutBack EntityState) (now : Option EntityState) → Fits undo now → restores is_process undo ≡ is_whole (undone undo now)
+pub whole_is : (undo : PutBack EntityState) (now : Option EntityState) → Fits undo now → restores is_process undo ≡ is_whole (undone undo now)
 whole_is (Was v) now fits = refl
 whole_is (Changed undo) None fits = absurd fits
 whole_is (Changed undo) (Some (stored.Process p)) fits = absurd fits

@@ -1,6 +1,5 @@
 -- What a decision leaves, entity by entity.
-use Rattle.std.specs.Prelude.{◌≡◌, ℕ, true, false, not, List, [], Some, reverse}
-use Rattle.std.specs.List.{list_all}
+use Rattle.std.specs.Prelude.{◌≡◌, ℕ, true, false, List, [], Some, None, reverse}
 use Rattle.std.specs.FinMap as map
 use Rattle.sk_ids.specs.Entity.{entity_cmp}
 use Rattle.sk_ids.specs.declared.entity.Entity.{Entity}
@@ -9,8 +8,8 @@ use Rattle.sk_record.specs.Notes.{cut, unwound, committed}
 use Rattle.sk_record.specs.Merged.{Merges}
 use Rattle.sk_record.specs.UndoState.{Open, UndoState, IsGrowing}
 use Rattle.sk_store.specs.declared.entity_state.EntityState.{EntityState}
-use Rattle.sk_undo.specs.Log.{is_empty, carries}
-use Rattle.sk_undo.specs.Slot.{SlotView, is_bare}
+use Rattle.sk_undo.specs.Log.{EachRests, carries}
+use Rattle.sk_undo.specs.Slot.{SlotView, is_bare, committed_joined}
 use Rattle.sk_undo.specs.Logs.{SlotMap, slot_in, placed, look_at, log_at}
 
 -- a slot of which the notes that rest on a guess are taken back, with those after them
@@ -18,10 +17,11 @@ pub record SlotUnwound (g : ℕ) (old new : SlotView) : Type 0 where
   pub now : IsGrowing (reverse old.log) → new.now ≡ unwound g (reverse old.log) old.now
   pub log : IsGrowing (reverse old.log) → reverse new.log ≡ cut g (reverse old.log)
 
--- a slot with a guess out of all notes, and without each note that then has no tags; others may be left out then
+-- a slot with a guess out of all notes, and without each note that then has no tags, or for which the one before it then stands
 pub record SlotCommitted (g : ℕ) (old new : SlotView) : Type 0 where
   pub now : new.now ≡ old.now
   pub log : IsGrowing (reverse old.log) → Merges [] (committed g (reverse old.log)) (reverse new.log)
+  pub joined : IsGrowing (reverse old.log) → EachRests (reverse old.log) → reverse new.log ≡ committed_joined g None (reverse old.log)
 
 -- each entity that has a slot there has one here
 abbrev pub IsWithin : SlotMap → SlotMap → Type 0
@@ -39,18 +39,19 @@ pub record Unwound (old : SlotMap) (g : ℕ) (new : SlotMap) : Type 0 where
   pub look : (e : Entity) → look_at new e ≡ unwound g (log_at old e) (look_at old e)
   pub logs : (e : Entity) → log_at new e ≡ cut g (log_at old e)
 
--- a guess out of all notes, and each note that then has no tags; others may be left out then
+-- a guess out of all notes, and each note that then has no tags, or for which the one before it then stands
 pub record Lightened (old : SlotMap) (g : ℕ) (new : SlotMap) : Type 0 where
   pub look : (e : Entity) → look_at new e ≡ look_at old e
   pub logs : (e : Entity) → Merges [] (committed g (log_at old e)) (log_at new e)
+  pub joined : (e : Entity) → log_at new e ≡ committed_joined g None (log_at old e)
 
 -- each entity is listed of which a note rests on the guess
 abbrev pub AreListed : ℕ → SlotMap → List Entity → Type 0
 AreListed g m es = (e : Entity) → carries g (log_at m e) ≡ true → is_in entity_cmp es e ≡ true
 
--- each note rests on some guess
+-- each note of each entity rests on some guess
 abbrev pub AllRest : SlotMap → Type 0
-AllRest m = (e : Entity) → list_all (λ n. not (is_empty n.tags)) (log_at m e) ≡ true
+AllRest m = (e : Entity) → EachRests (log_at m e)
 
 -- what a note rests on the later notes of its log rest on too
 abbrev pub AllGrow : SlotMap → Type 0

@@ -1,5 +1,5 @@
 -- The writes of one value, seen as the value before each.
-use Rattle.std.specs.Prelude.{◌≡◌, ◌<◌, ◌==◌, ◌&&◌, ℕ, zero, suc, Bool, true, false, nat_le, List, [], ◌∷◌, length, reverse, Option, Some, None, if◌then◌else◌}
+use Rattle.std.specs.Prelude.{◌≡◌, ◌<◌, ◌==◌, ◌&&◌, ℕ, zero, suc, Bool, true, false, not, nat_le, List, [], ◌∷◌, length, reverse, Option, Some, None, if◌then◌else◌}
 use Rattle.std.specs.List.{list_any, list_all}
 use Rattle.std.specs.declared.vec.Vec.{Vec}
 use Rattle.std.specs.Vec.{vec_len, vec_capacity}
@@ -76,6 +76,10 @@ module _ {V : Type 0} where
   -- whether a note rests on the guess
   abbrev pub carries : ℕ → List (Note V) → Bool
   carries g log = list_any (λ n. has g n.tags) log
+
+  -- each note rests on some guess
+  abbrev pub EachRests : List (Note V) → Type 0
+  EachRests log = list_all (λ n. not (is_empty n.tags)) log ≡ true
 
   -- what was there before the newest note
   abbrev pub before_last : Option V → List (Note V) → Option V

@@ -1,7 +1,7 @@
 -- What an entity has with its undo log, seen as the value now and the value before each note, the newest first.
 use Rattle.std.specs.Prelude.{◌≡◌, ◌==◌, ℕ, Bool, true, false, ◌&&◌, nat_le, List, [], ◌∷◌, length, reverse, Option, Some, None, is_none, refl, if◌then◌else◌}
 use Rattle.std.specs.Coded.{Coded, code_by, coded×, coded_ℕ, coded_list, coded_option}
-use Rattle.sk_record.specs.Notes.{Note, last_tags}
+use Rattle.sk_record.specs.Notes.{Note, has, last_tags, committed}
 use Rattle.sk_record.specs.Merged.{same_tags}
 use Rattle.sk_store.specs.declared.entity_state.EntityState.{EntityState}
 use Rattle.sk_store.specs.declared.entity_state.EntityState.TheVariants as stored
@@ -54,6 +54,22 @@ goes_unnoted tags (n ∷ ns) = is_whole n.before && same_tags tags n.tags
 abbrev pub goes_on : ℕ → List (Note EntityState) → Bool
 goes_on least [] = least == 0
 goes_on least (n ∷ ns) = nat_le least (length n.tags) && is_whole n.before
+
+-- ---- what a commit leaves
+-- whether the note before stands for one with these tags: it has the same, and puts back what was there whatever stands there now
+abbrev pub is_needless : Option (Note EntityState) → List ℕ → Bool
+is_needless None tags = false
+is_needless (Some n) tags = is_whole n.before && same_tags tags n.tags
+
+-- without each note for which the one before it stands; before the first stands this one
+abbrev pub joined : Option (Note EntityState) → List (Note EntityState) → List (Note EntityState)
+joined p [] = []
+joined p (n ∷ ns) = if is_needless p n.tags then joined p ns else n ∷ joined (Some n) ns
+
+-- from the first note on that rests on the guess: without it in all tags, and then without each note for which the one before it stands
+abbrev pub committed_joined : ℕ → Option (Note EntityState) → List (Note EntityState) → List (Note EntityState)
+committed_joined g p [] = []
+committed_joined g p (n ∷ ns) = if has g n.tags then joined p (committed g (n ∷ ns)) else n ∷ committed_joined g (Some n) ns
 
 -- the tags of the newest note
 abbrev pub own_tags : SlotView → List ℕ

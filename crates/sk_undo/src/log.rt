@@ -1,10 +1,10 @@
 //! The writes of one value, each with the guesses that it rests on and with what puts it back.
-ghost use Rattle.std.specs.Prelude.{◌≡◌, ◌≤◌, ◌<◌, ◌+◌, ◌++◌, ◌∷◌, [], Bool, true, false, length, take, drop, None, OnOk, OnErr, Option, IsOk, reverse};
+ghost use Rattle.std.specs.Prelude.{◌≡◌, ◌≤◌, ◌<◌, ◌+◌, ◌++◌, ◌∷◌, [], Bool, true, false, not, length, take, drop, None, OnOk, OnErr, Option, IsOk, reverse};
 ghost use Rattle.std.specs.Vec.{vec_len, vec_capacity};
 ghost use Rattle.std.specs.List.{prefix_len, list_all};
 ghost use Rattle.std.specs.List.Sorted.{IsStrictlySortedBy};
 ghost use Rattle.std.specs.Ordering.{nat_cmp};
-ghost use Rattle.sk_record.specs.Notes.{unwound, cut};
+ghost use Rattle.sk_record.specs.Notes.{has, unwound, cut};
 ghost use Rattle.sk_record.specs.UndoState.{IsGrowing};
 ghost use Rattle.sk_store.specs.declared.back.PutBack.{PutBack};
 ghost use Rattle.sk_undo.specs.declared.log.Note.{Note};
@@ -87,6 +87,8 @@ fn lighten<V: Logged>(notes: &mut Vec<Note<PutBack<V>>>, guess: GuessId) -> usiz
     ensures notes { notes.new.items
         ≡ take result notes.old.items ++ lightened guess (drop result notes.old.items) }
     ensures before { rests_last guess (reverse (take result notes.old.items)) ≡ false }
+    ensures within { result ≤ length notes.old.items }
+    ensures resting { list_all (λ n. has guess n.tags) (drop result notes.old.items) ≡ true }
     ensures len { vec_len notes.new ≡ vec_len notes.old }
     ensures capacity { vec_capacity notes.new ≡ vec_capacity notes.old }
 {
@@ -303,6 +305,8 @@ impl<V: Logged> Log<V> {
     pub fn commit(&mut self, guess: GuessId) -> usize
         ensures notes { Grows self.old.notes.items
             → self.new.notes.items ≡ dropped (lightened guess self.old.notes.items) }
+        ensures first { Grows self.old.notes.items
+            → result ≡ prefix_len (λ n. not (has guess n.tags)) self.old.notes.items }
         ensures can { (now : Option V)
             → CanGoBack (FitsBy V.fits) (undone_by V.undone) now (reverse self.old.notes.items)
             → CanGoBack (FitsBy V.fits) (undone_by V.undone) now (reverse self.new.notes.items) }

@@ -10,8 +10,8 @@ ghost use Rattle.sk_store.specs.Changed.{FitsAt, changed};
 ghost use Rattle.sk_store.specs.Processes.{CanBecome, IsProcess, became};
 ghost use Rattle.sk_store.specs.declared.back.PutBack.TheVariants as PutBack;
 ghost use Rattle.sk_undo.specs.Count.{note_count};
-ghost use Rattle.sk_undo.specs.Log.{is_empty, seen, CanGoBack};
-ghost use Rattle.sk_undo.specs.Slot.{undone, Fits, is_bare, slot_of, slot_wrote, slot_back, CanGoBackOnce, goes_on, goes_unnoted, own_tags, is_stable_raw};
+ghost use Rattle.sk_undo.specs.Log.{is_empty, seen, CanGoBack, EachRests};
+ghost use Rattle.sk_undo.specs.Slot.{committed_joined, undone, Fits, is_bare, slot_of, slot_wrote, slot_back, CanGoBackOnce, goes_on, goes_unnoted, own_tags, is_stable_raw};
 
 use crate::{BoxedState, Log, put_back};
 use sk_changes::{Change, Undo};
@@ -354,6 +354,8 @@ impl Slot {
         ensures now { self.new.now ≡ self.old.now }
         ensures log { IsGrowing (reverse self.old.log)
             → Merges [] (committed guess (reverse self.old.log)) (reverse self.new.log) }
+        ensures joined { IsGrowing (reverse self.old.log) → EachRests (reverse self.old.log)
+            → reverse self.new.log ≡ committed_joined guess None (reverse self.old.log) }
     {
         let first = self.log.commit(guess);
         self.log.join(first);

@@ -1,7 +1,8 @@
 -- One note more is without the guess.
-use Rattle.std.proofs.Common.{◌≡◌, ◌-◌, ◌<◌, suc, length, refl, sym, ◌∙◌, ap, arith, slice_set}
+use Rattle.std.proofs.Common.{◌≡◌, ◌-◌, ◌<◌, suc, length, drop, refl, sym, ◌∙◌, ap, subst, arith, slice_set}
 use Rattle.std.proofs.lemmas.List.{length-set}
-use Rattle.sk_undo.proofs.NewestNotes.{from_end, from_before, stops_there, lightened_from}
+use Rattle.sk_undo.proofs.Growing.{AllRest}
+use Rattle.sk_undo.proofs.NewestNotes.{from_end, from_before, stops_there, lightened_from, none_gone_over, rests_there}
 use Rattle.sk_undo.proofs.log.lighten.Goals as goal
 
 pub loop-before-init : goal.loop-before-init
@@ -13,6 +14,7 @@ loop-before-init g c =
       refl,
       refl,
       refl,
+      subst (λ k. AllRest c.args.guess (drop k ns)) (sym long) (none_gone_over c.args.guess ns),
     )
 
 pub loop-before-preserved : goal.loop-before-preserved
@@ -30,6 +32,7 @@ loop-before-preserved g c =
       length-set c.loop-before.notes.items j _ ∙ c.loop-before.invariant.2,
       c.loop-before.invariant.3,
       c.loop-before.invariant.4,
+      rests_there c.args.guess c.loop-before.before j ns c.loop-before.notes.items c.index.result.now next lt c.loop-before.invariant.0 c.index.ensures (sym c.if-contains.ensures) c.loop-before.invariant.5,
     )
 
 pub returns-else-contains-clause-before : goal.returns-else-contains-clause-before

@@ -2,12 +2,16 @@
 use Rattle.std.proofs.Common.{sym, ◌∙◌, ap, subst}
 use Rattle.std.specs.Prelude.{reverse}
 use Rattle.sk_undo.specs.Log.{FitsBy, undone_by, dropped, CanGoBack}
-use Rattle.sk_undo.proofs.NewestNotes.{whole_pass, commit_can}
+use Rattle.sk_undo.proofs.NewestNotes.{whole_pass, commit_can, first_place}
 use Rattle.sk_undo.proofs.log.Log.commit.Goals as goal
 
 pub returns-clause-notes : goal.returns-clause-notes
 returns-clause-notes g c grows =
     c.drop_bare.ensures.notes ∙ ap dropped (c.lighten-first.ensures.notes ∙ whole_pass c.args.guess c.lighten-first.result c.args.self.now.notes.items c.lighten-first.ensures.before grows)
+
+pub returns-clause-first : goal.returns-clause-first
+returns-clause-first g c grows =
+    first_place c.args.guess c.lighten-first.result c.args.self.now.notes.items c.lighten-first.ensures.before c.lighten-first.ensures.resting c.lighten-first.ensures.within grows
 
 pub returns-clause-can : goal.returns-clause-can
 returns-clause-can g c now can =

@@ -1,13 +1,14 @@
 use Rattle.std.proofs.Common.{◌≡◌, [], None, ◌∙◌, ap, sym, subst}
 use Rattle.std.specs.Prelude.{reverse}
-use Rattle.sk_undo.specs.Log.{seen, CanGoBack, joined_from}
+use Rattle.sk_undo.specs.Log.{seen, CanGoBack, EachRests, joined_from}
 use Rattle.sk_store.specs.Changed.{StateFits, state_undone}
-use Rattle.sk_undo.specs.Slot.{SlotView, undone, Fits, is_process}
+use Rattle.sk_undo.specs.Slot.{SlotView, undone, Fits, is_process, committed_joined}
 use Rattle.sk_record.specs.Notes.{committed}
 use Rattle.sk_record.specs.Merged.{Merges}
 use Rattle.sk_record.specs.UndoState.{IsGrowing}
 use Rattle.sk_undo.proofs.Commits.{commit_seen}
 use Rattle.sk_undo.proofs.Growing.{grows_there}
+use Rattle.sk_undo.proofs.Joined.{commit_joined}
 use Rattle.sk_undo.proofs.Joins.{joins, joined_can}
 use Rattle.sk_undo.proofs.slot.Slot.commit.Goals as goal
 
@@ -23,6 +24,18 @@ returns-clause-log c grows =
     subst (λ ms. Merges [] (committed c.args.guess (reverse (seen undone v (reverse ns)))) (reverse (seen undone v (reverse ms)))) (sym c.join.ensures.notes)
     (subst (λ xs. Merges [] xs (reverse (seen undone v (reverse (joined_from is_process None c.commit-first.result mid))))) h (joins is_process state_undone StateFits v c.commit-first.result mid)) in
     subst (λ (s : SlotView). Merges [] (committed c.args.guess (reverse s.log)) (reverse (seen undone v (reverse c.join.new.self.notes.items)))) c.self.view_is m
+
+pub returns-clause-joined : goal.returns-clause-joined
+returns-clause-joined c grows rests =
+    let ns = c.self.inside.log.notes.items in
+    let v = c.self.inside.value in
+    let g = c.args.guess in
+    let grown : IsGrowing (reverse (seen undone v (reverse ns))) = subst (λ (s : SlotView). IsGrowing (reverse s.log)) (sym c.self.view_is) grows in
+    let rested : EachRests (reverse (seen undone v (reverse ns))) = subst (λ (s : SlotView). EachRests (reverse s.log)) (sym c.self.view_is) rests in
+    let there = grows_there undone v ns grown in
+    ap (λ ms. reverse (seen undone v (reverse ms))) (c.join.ensures.notes ∙ (λ i. joined_from is_process None (c.commit-first.ensures.first there i) (c.commit-first.ensures.notes there i)))
+    ∙ commit_joined g v ns c.self.invariant grown rested
+    ∙ ap (λ (s : SlotView). committed_joined g None (reverse s.log)) c.self.view_is
 
 pub invariant_of-self : goal.invariant_of-self
 invariant_of-self c =

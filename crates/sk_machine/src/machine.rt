@@ -14,7 +14,7 @@ ghost use Rattle.std.specs.FinMap as map;
 ghost use Rattle.sk_guesses.specs.Calls.{redeemed};
 ghost use Rattle.sk_guesses.specs.Guesses.{decided, drawn, is_full, next_of, settled, status_of, status_since, undecided_of};
 ghost use Rattle.sk_undo.specs.Log.{is_empty};
-ghost use Rattle.sk_undo.specs.Decisions.{AllGrow, AllRest};
+ghost use Rattle.sk_undo.specs.Decisions.{AllGrow, AllRest, Lightened};
 ghost use Rattle.sk_machine.specs.Noted.{IsAtStart};
 ghost use Rattle.sk_ids.specs.Entity.{entity_cmp};
 ghost use Rattle.sk_ids.specs.declared.entity.Entity.{Entity};
@@ -466,6 +466,7 @@ impl Machine {
         requires rest { AllRest self.old.slots }
         requires undecided { status_since self.old.guesses id ≡ Some Undecided }
         ensures commits { MergedCommits (machine_of self.old) id (machine_of self.new) }
+        ensures logs { Lightened self.old.slots id self.new.slots }
         ensures guesses { self.new.guesses ≡ decided self.old.guesses id Committed }
     {
         self.logs.commit(id, self.guesses.dependents(id));

@@ -9,7 +9,7 @@ use Rattle.sk_guesses.proofs.Statuses.{status-decided}
 use Rattle.sk_machine.specs.Dependents.{AllExact, tags_in}
 use Rattle.sk_machine.specs.Parts.{Parts, machine_of}
 use Rattle.sk_machine.proofs.Listed.{commit_opens, committed_exact, listed}
-use Rattle.sk_undo.specs.Decisions.{AllGrow, AreListed}
+use Rattle.sk_undo.specs.Decisions.{AllGrow, AreListed, Lightened}
 use Rattle.sk_machine.proofs.Becomes.{commits_of}
 use Rattle.sk_machine.proofs.machine.Machine.commit.Goals as goal
 
@@ -41,3 +41,6 @@ returns-clause-commits c =
     (commits_of a b c.args.id c.commit.ensures.slots (ap opens_of decided.opens ∙ commit_opens c.args.id os)
     (λ h. ap (λ g. status_since g h) decided.view ∙ status-decided a.guesses c.args.id Undecided Committed undecided h)
     c.commit-3.ensures.texts)
+
+pub returns-clause-logs : goal.returns-clause-logs
+returns-clause-logs c = subst (λ (p : Parts). Lightened p.slots c.args.id c.commit.new.self.slots) c.self.view_is c.commit.ensures.slots

@@ -4,15 +4,14 @@ use Rattle.sk_record.specs.Notes.{has}
 use Rattle.sk_script.specs.declared.instruction.Input.{Input}
 use Rattle.sk_trace.specs.declared.event.Event.TheVariants.{Step}
 use Rattle.sk_kernel.specs.Kernel.{KernelView, record_at, last_guess, undecided_at, step_refused, with_event}
-use Rattle.sk_server.specs.Server.{ServerView}
 use Rattle.sk_server.specs.declared.reply.Answer.{Answer}
 use Rattle.sk_server.specs.declared.reply.Answer.TheVariants as answers
 use Rattle.sk_server.specs.declared.reply.Reply.{Reply}
 use Rattle.sk_client.specs.AskedSteps.{TakesStep, StepsAreTaken, ForgottenAreDropped}
-use Rattle.sk_client.specs.Desk.{DeskView, opened, entry, is_void, input_of, stepped, answered, given_to, given, decision_answer, step_answer, answer_to, given_answer}
+use Rattle.sk_client.specs.Desk.{DeskView, entry, is_void, input_of, stepped, answered, given_to, given, decision_answer, step_answer, answer_to, given_answer}
 use Rattle.sk_client.specs.Exchanges.{Exchanges, Leads}
-use Rattle.sk_client.specs.Ready.{IsReady}
-use Rattle.sk_client.specs.WorldView.{WorldView, joined, IsJoined, Replies}
+use Rattle.sk_client.specs.Ready.{Begins}
+use Rattle.sk_client.specs.WorldView.{WorldView, IsJoined, Replies}
 use Rattle.sk_client.specs.declared.pending.PendingRequest.{PendingRequest}
 use Rattle.sk_client.specs.declared.desk.Given.{Given}
 use Rattle.sk_client.specs.declared.desk.Given.TheVariants as gives
@@ -126,9 +125,12 @@ module _ (drawn begun : ℕ) (old : World) (xs : Exchanges) (v : WorldView) (r :
       let o = oldest_here p rs is in
       (p, is ∙ ap (λ (x : WorldView). p ∷ x.replies) (sym h.1), forgotten p rs is o n p.answer refl (h.0.1 ∙ ap (given_answer v.desk p) o.taken))
 
-module _ (k : KernelView) (ready : IsReady k) (server : ServerView) (next : server.next ≡ 1) (refused : server.refused ≡ []) (es : List WorldEvent) (xs : Exchanges) (v : WorldView) (h : Leads (joined (opened k) server) es xs v) where
+module _ (first : WorldView) (begins : Begins first) (es : List WorldEvent) (xs : Exchanges) (v : WorldView) (leads : Leads first es xs v) where
+  abbrev now : Comes (last_guess first.desk.kernel) (length (record_at first.desk.kernel)) (first_world first.desk.kernel first.server) xs v
+  now = reached first.desk.kernel begins.ready first.server begins.last es xs v (subst (λ (w : WorldView). Leads w es xs v) begins.world leads)
+
   pub steps_are_taken : StepsAreTaken v
-  steps_are_taken n new e = takes (last_guess k) (length (record_at k)) (first_world k server) xs v (reached k ready server next refused es xs v h) n new v.replies refl e
+  steps_are_taken n new e = takes (last_guess first.desk.kernel) (length (record_at first.desk.kernel)) (first_world first.desk.kernel first.server) xs v now n new v.replies refl e
 
   pub forgotten_are_dropped : ForgottenAreDropped v
-  forgotten_are_dropped n new e = forgets (last_guess k) (length (record_at k)) (first_world k server) xs v (reached k ready server next refused es xs v h) n new v.replies refl e
+  forgotten_are_dropped n new e = forgets (last_guess first.desk.kernel) (length (record_at first.desk.kernel)) (first_world first.desk.kernel first.server) xs v now n new v.replies refl e

@@ -1,8 +1,22 @@
--- A kernel that was booted is such after each of its calls.
-use Rattle.std.proofs.Common.{◌≡◌, ℕ, ◌≤◌, true, Some, None, Result, Ok, Err, refl, sym, ◌∙◌, subst, arith}
-use Rattle.std.specs.Prelude.{nat_lt}
-use Rattle.std.proofs.lemmas.Bool.{ltb-false}
-use Rattle.sk_record.specs.Notes.{has}
+-- A kernel that was booted is such after each of its calls, in whatever epoch.
+use Rattle.std.proofs.Common.{◌≡◌, ℕ, zero, suc, ◌+◌, ◌≤◌, ◌<◌, length, true, List, [], ◌∷◌, ◌++◌, Some, None, Result, Ok, Err, inl, inr, refl, sym, ◌∙◌, ap, subst, arith, append_assoc}
+use Rattle.std.specs.Prelude.{nat_lt, replicate}
+use Rattle.std.specs.List.{Contains}
+use Rattle.std.specs.Ordering.{eq_by_cmp}
+use Rattle.std.proofs.lemmas.Bool.{true≢false, ltb-false}
+use Rattle.std.proofs.lemmas.List.{append-nil, length-append, length-replicate}
+use Rattle.std.proofs.lemmas.List.Elements.{Contains-append_cases}
+use Rattle.sk_record.specs.Notes.{has, noted}
+use Rattle.sk_record.specs.Epoch.{status_in, StatusOr}
+use Rattle.sk_record.specs.Machine.{Machine, machine_after}
+use Rattle.sk_record.specs.Merged.{MergedStands, HandsIn, alone_tags, with_value}
+use Rattle.sk_record.specs.Trace.{Event as Happens, Taken, IsDrawn, undecided_of}
+use Rattle.sk_record.proofs.MachineRuns.{machine_stands}
+use Rattle.sk_record.proofs.Merged.{all_kept}
+use Rattle.sk_ids.specs.Entity.{entity_cmp}
+use Rattle.sk_ids.specs.declared.entity.Entity.{Entity}
+use Rattle.sk_ids.specs.declared.entity.Entity.TheVariants.{Proc}
+use Rattle.sk_ids.proofs.Entities.{entity_total, entity_exact}
 use Rattle.sk_record.specs.declared.status.Status.TheVariants.{Undecided}
 use Rattle.sk_record.proofs.Sound.{sound_first}
 use Rattle.sk_guesses.proofs.Statuses.{nothing_in}
@@ -10,34 +24,47 @@ use Rattle.sk_guesses.specs.Token.{Token}
 use Rattle.sk_script.specs.Boot.{BootView}
 use Rattle.sk_script.specs.declared.instruction.Input.{Input}
 use Rattle.sk_script.specs.declared.instruction.Input.TheVariants as inputs
+use Rattle.sk_script.specs.Lease.{LeaseView, after_private}
 use Rattle.sk_store.specs.Start.{start_of}
+use Rattle.sk_store.specs.declared.entity_state.EntityState.{EntityState}
+use Rattle.sk_store.specs.declared.entity_state.EntityState.TheVariants as stored
+use Rattle.sk_terminal.specs.Terminals.{TerminalMap}
+use Rattle.sk_trace.specs.Entry.{EntryView}
+use Rattle.sk_trace.specs.Trace.{TraceView}
 use Rattle.sk_trace.specs.declared.event.Event.{Event}
 use Rattle.sk_trace.specs.declared.event.Event.TheVariants as events
-use Rattle.sk_plain.specs.Act.{plain}
+use Rattle.sk_plain.specs.Act.{plain, Saying}
+use Rattle.sk_plain.specs.Leased.{alone_reads}
 use Rattle.sk_plain.specs.Planned.{refusal_of}
 use Rattle.sk_plain.specs.declared.refusal.Refusal.{Refusal}
 use Rattle.sk_plain.specs.declared.refusal.Refusal.TheVariants.{TraceFull}
-use Rattle.sk_kernel.specs.Kernel.{KernelView, booted, undecided_at, HasStatus, next_guess, room, effect_at, or_else, state_at, no_room, step_misfit, trace_full, step_refused, guess_misfits, too_many, guess_refused, with_event}
-use Rattle.sk_kernel.specs.Calls.{StepPost, GuessPost, CommitPost, FailPost}
+use Rattle.sk_kernel.specs.Kernel.{KernelView, booted, events_of, record_at, undecided_at, HasStatus, next_guess, room, effect_at, or_else, state_at, no_room, step_misfit, trace_full, step_refused, guess_misfits, too_many, guess_refused, with_event}
+use Rattle.sk_kernel.specs.Calls.{StepPost, GuessPost, CommitPost, FailPost, IsNextEpoch, EpochPost}
+use Rattle.sk_kernel.specs.HandIn.{IsAsLent, HandInPost, TakesIn, alone_step, alone_entry, with_steps}
+use Rattle.sk_kernel.specs.declared.hand_in.HandIn.{HandIn}
+use Rattle.sk_kernel.specs.declared.hand_in.HandIn.TheVariants.{Stale, TraceFull as NoPlaces, Memory}
+use Rattle.sk_kernel.specs.declared.kernel.EpochRefusal.{EpochRefusal}
+use Rattle.sk_kernel.specs.declared.kernel.EpochRefusal.TheVariants as epoch_refusals
 use Rattle.sk_kernel.specs.declared.kernel.Outcome.{Outcome}
 use Rattle.sk_kernel.specs.declared.kernel.Outcome.TheVariants as outcomes
 use Rattle.sk_kernel.specs.declared.kernel.Stranger.{Stranger}
 use Rattle.sk_kernel.specs.declared.kernel.FailRefusal.{FailRefusal}
 use Rattle.sk_kernel.specs.declared.kernel.FailRefusal.TheVariants as refusals
 use Rattle.sk_kernel.specs.Laws.{HasSoundTrace}
+use Rattle.sk_kernel.proofs.HandedIn.{images_more, no_step, stands_handed}
 use Rattle.sk_kernel.proofs.Undecided.{undecided_is}
-use Rattle.sk_client.proofs.PlaceFacts.{used, used_step, used_guess, used_commit, step_sound, guess_sound, commit_sound, fail_sound, used_fail}
+use Rattle.sk_client.proofs.Each.{cons_cases, no_member}
+use Rattle.sk_client.proofs.PlaceFacts.{used, opens_taken, used_step, used_guess, used_commit, step_sound, guess_sound, commit_sound, fail_sound, used_fail}
 use Rattle.sk_client.specs.Table.{IsNumbered}
 use Rattle.sk_client.specs.Desk.{entry}
 use Rattle.sk_client.specs.Ready.{WasBooted}
+use Rattle.sk_client.proofs.Runs.{plain_tidy}
+use Rattle.sk_client.proofs.Tidy.{tidy_start}
 use Rattle.sk_client.proofs.DeskFacts.{Did, none_first, none_later, none_test, ok_of}
 
 pub was_booted : (number : ℕ) (boot : BootView) (limit : ℕ) → IsNumbered boot → WasBooted (booted number boot limit)
 was_booted number boot limit numbered = record {
-  boot = boot;
-  numbered = numbered;
-  scripts = refl;
-  start = refl;
+  start = tidy_start boot numbered;
   sound = record {
     sound = sound_first (plain boot.scripts) (start_of boot);
     decided = λ g is. (let none : None ≡ Some Undecided = sym (nothing_in g) ∙ is in cc);
@@ -53,7 +80,7 @@ fits input does h = h
 module _ (k : KernelView) (b : WasBooted k) where
   -- one event more
   longer : (e : Event) → HasSoundTrace (with_event k e) → used (with_event k e) ≤ k.limit → WasBooted (with_event k e)
-  longer e sound place = record { boot = b.boot; numbered = b.numbered; scripts = b.scripts; start = b.start; sound = sound; place = place }
+  longer e sound place = record { start = b.start; sound = sound; place = place }
 
   places_left : (n : ℕ) → trace_full k n ≡ None → n ≤ room k
   places_left n free = ltb-false (room k) n (none_test (nat_lt (room k) n) TraceFull free)
@@ -85,6 +112,114 @@ module _ (k : KernelView) (b : WasBooted k) where
     fail_stays : WasBooted (with_event k (events.Fail g))
     fail_stays = longer (events.Fail g) (fail_sound k b.sound g here) (let was = b.place in let less = used_fail k b.sound g here in omega (arith, was, less))
 
+-- ---- a hand-in
+
+none_else : {A : Type 0} (n : ℕ) (x y : A) → Contains (replicate n x) y → x ≡ y
+none_else zero x y there = absurd (no_member y there)
+none_else (suc n) x y there = elim (cons_cases x (replicate n x) y there) [ inl is ↦ is | inr more ↦ none_else n x y more ]
+
+module _ (k : KernelView) (pid : ℕ) where
+  abbrev alone : Happens EntryView
+  alone = Taken (alone_entry pid)
+
+  -- its steps draw no guess
+  drawn_before : (n g : ℕ) → IsDrawn (plain k.scripts) (events_of (with_steps k pid n)) g → IsDrawn (plain k.scripts) (events_of k) g
+  drawn_before n g d =
+      elim (Contains-append_cases (events_of k) (replicate n alone) (Taken d.0) (subst (λ es. Contains es (Taken d.0)) (images_more k.trace n (alone_step pid)) d.1)) [
+        | inl before ↦ (d.0, before, d.2)
+        | inr new ↦ absurd (
+            let same : alone ≡ Taken d.0 = none_else n alone (Taken d.0) new in
+            let entry : alone_entry pid ≡ d.0 = cc in
+            let none : None ≡ Some g = ap (λ (n : EntryView). n.guess) entry ∙ d.2 in
+            cc)
+      ]
+
+  opens_alone : (n : ℕ) (es : List (Happens EntryView)) → length (undecided_of (plain k.scripts) k.start (es ++ replicate n alone)) ≡ length (undecided_of (plain k.scripts) k.start es)
+  opens_alone zero es = ap (λ es. length (undecided_of (plain k.scripts) k.start es)) (append-nil es)
+  opens_alone (suc n) es =
+      ap (λ es. length (undecided_of (plain k.scripts) k.start es)) (sym (append_assoc es (alone ∷ []) (replicate n alone)))
+      ∙ opens_alone n (es ++ alone ∷ [])
+      ∙ (let one = opens_taken (plain k.scripts) k.start es (alone_entry pid) in
+      let same : length (undecided_of (plain k.scripts) k.start (es ++ alone ∷ [])) ≡ length (undecided_of (plain k.scripts) k.start es) = omega (arith, one) in
+      same)
+
+  used_alone : (n : ℕ) → used (with_steps k pid n) ≡ used k + n
+  used_alone n =
+      let long = length-append k.trace (replicate n (alone_step pid)) in
+      let many = length-replicate n (alone_step pid) in
+      let opens : length (undecided_at (with_steps k pid n)) ≡ length (undecided_at k) =
+      ap (λ es. length (undecided_of (plain k.scripts) k.start es)) (images_more k.trace n (alone_step pid)) ∙ opens_alone n (events_of k) in
+      omega (arith, long, many, opens)
+
+module _ (k : KernelView) (sound : HasSoundTrace k) (l : LeaseView) where
+  abbrev before : Machine Entity EntityState Saying
+  before = machine_after (plain k.scripts) k.start (events_of k)
+
+  before_stands : MergedStands (plain k.scripts) k.start (events_of k) before
+  before_stands = record {
+    full = before;
+    stands = machine_stands (plain k.scripts) entity_total entity_exact k.start (events_of k) sound.sound;
+    merged = record { look = λ e. refl; logs = λ e. all_kept [] (before.state.logs e); opens = refl; status = λ g. refl; texts = λ t. refl };
+  }
+
+  -- with the process as it became
+  abbrev after : Machine Entity EntityState Saying
+  after = record {
+    state = record {
+      look = with_value (plain k.scripts) before.state.look (Proc l.lent.pid) (stored.Process l.now);
+      logs = λ e. before.state.logs e ++ noted (eq_by_cmp entity_cmp e (Proc l.lent.pid)) (alone_tags (plain k.scripts) before (Proc l.lent.pid) (alone_reads l.lent.pid)) (before.state.look e) [];
+      opens = before.state.opens;
+    };
+    status = before.status;
+    texts = before.texts;
+  }
+
+  hands : HandsIn (plain k.scripts) before (Proc l.lent.pid) (alone_reads l.lent.pid) (stored.Process l.now) after
+  hands = record { look = λ e. refl; logs = λ e. all_kept [] (after.state.logs e); opens = refl; status = λ g. refl; texts = λ t. refl }
+
+  handed_sound : IsAsLent k l → after_private l.script l.count l.lent ≡ Some l.now → 0 < l.count → HasSoundTrace (with_steps k l.lent.pid l.count)
+  handed_sound as_lent done some = record {
+    sound = (stands_handed k before before_stands l l.now after as_lent done some hands).stands.sound;
+    decided = sound.decided;
+    above = λ g drawn. sound.above g (drawn_before k l.lent.pid l.count g drawn);
+  }
+
+handed : (k : KernelView) → WasBooted k → (l : LeaseView) → IsAsLent k l → l.count ≤ room k → after_private l.script l.count l.lent ≡ Some l.now → WasBooted (with_steps k l.lent.pid l.count)
+handed k b l as_lent few done =
+    elim l.count as (λ n. l.count ≡ n → WasBooted (with_steps k l.lent.pid n)) [
+      | zero ↦ λ _. subst WasBooted (sym (no_step k l.lent.pid)) b
+      | suc n ↦ λ is.
+          subst (λ m. WasBooted (with_steps k l.lent.pid m)) is (record {
+            start = b.start;
+            sound = handed_sound k b.sound l as_lent done (omega (arith, is));
+            place = (let was = b.place in let more = used_alone k l.lent.pid l.count in omega (arith, was, more, few, is));
+          })
+    ] refl
+
+none_handed : (why : HandIn) (l : LeaseView) (old new : KernelView) → TakesIn (Err why) l old new → new ≡ old
+none_handed Stale l old new h = h.1
+none_handed NoPlaces l old new h = h.2
+none_handed Memory l old new h = h.3
+
+-- ---- an epoch
+
+module _ (old new : KernelView) (b : WasBooted old) (done : undecided_at old ≡ []) (next : IsNextEpoch old new) where
+  none_undecided : (g : ℕ) → status_in new.earlier g ≡ Some Undecided → ⊥
+  none_undecided g is =
+      let now : HasStatus new g Undecided = subst (λ o. StatusOr (plain new.scripts) new.start o (events_of new) g Undecided) (sym is) refl in
+      true≢false (sym ((undecided_is old b.sound g).1 ((next.statuses g Undecided).0 now)) ∙ ap (has g) done)
+
+  pub begins_anew : WasBooted new
+  begins_anew = subst WasBooted (sym next.view) (record {
+    start = plain_tidy old.scripts old.start (record_at old) b.start;
+    sound = record {
+      sound = sound_first (plain old.scripts) (state_at old);
+      decided = none_undecided;
+      above = λ g drawn. (let below = drawn.1.1 in absurd (omega arith));
+    };
+    place = omega arith;
+  })
+
 -- ---- each call
 
 pub after_step : (result : Result (Unit {0}) Refusal) (pid : ℕ) (input : Input) (old new : KernelView) → StepPost result (step_refused old (entry pid input None)) (events.Step pid input) old new
@@ -105,3 +240,13 @@ pub after_fail : (result : Result Outcome FailRefusal) (token : Token) (old new 
 after_fail (Ok outcomes.Done) token old new h b = subst WasBooted (sym h.2) (fail_stays old b token.id h.1)
 after_fail (Ok outcomes.Gone) token old new h b = subst WasBooted (sym h.2) b
 after_fail (Err (refusals.Stranger guess)) token old new h b = subst WasBooted (sym h.2) b
+
+pub after_hand_in : (result : Result (Unit {0}) (LeaseView × HandIn)) (l : LeaseView) (old new : KernelView) → HandInPost result l old new → after_private l.script l.count l.lent ≡ Some l.now
+    → WasBooted old → WasBooted new
+after_hand_in (Ok u) l old new h done b = subst WasBooted (sym h.2) (handed old b l h.0 h.1 done)
+after_hand_in (Err back) l old new h done b = subst WasBooted (sym (none_handed back.1 l old new h.1)) b
+
+pub after_epoch : (result : Result (TraceView × TerminalMap) EpochRefusal) (old new : KernelView) → EpochPost result old new → WasBooted old → WasBooted new
+after_epoch (Ok left) old new h b = begins_anew old new b h.0 h.3
+after_epoch (Err (epoch_refusals.Undecided n)) old new h b = subst WasBooted (sym h.2) b
+after_epoch (Err epoch_refusals.Memory) old new h b = subst WasBooted (sym h.1) b

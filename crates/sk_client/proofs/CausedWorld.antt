@@ -125,11 +125,11 @@ bare n = record { pid = n.process; input = n.input; guess = n.guess }
 -- ---- what the table has to say
 
 module _ {E V W F : Type 0} (S : Table E V W F) where
-  -- what a fetch or store with Good writes: a store sets the copy, a fetch of a copy that is there leaves it, and one of a copy that is not
-  -- never gets Good
+  -- what a fetch or store with Good writes: a store sets the copy, a fetch of a copy that is there writes no copy, and one of a copy that is
+  -- not never gets Good
   abbrev pub Sets : Ask → Input → List (E × Option V) → Type 0
   Sets (Store m v b) Good ws = Contains ws (S.copy m, Some (S.content (record { version = suc v; bytes = b })))
-  Sets (Check m v) Good ws = Contains (map (λ w. w.0) ws) (S.copy m) → ⊥
+  Sets (Check m v) Good ws = (n : Bytes) → Contains (map (λ w. w.0) ws) (S.copy n) → ⊥
   Sets (Get m) Good ws = ⊥
   Sets ask x ws = Unit {0}
 

@@ -15,15 +15,16 @@ use Rattle.sk_record.specs.Trace.{Event, Taken, Commit, Fail, HasEntry, IsSound,
 use Rattle.sk_record.proofs.Machine.{own_dirt, has_filter}
 use Rattle.sk_record.proofs.UndoStates.{and_both}
 use Rattle.sk_record.proofs.Sound.{record_more, sound_taken, sound_commit, sound_fail, drawn_more, undecided_is, fresh_from, entries_are, has_commit, is_commit, has_entry}
+use Rattle.sk_script.specs.declared.instruction.Input.{Input}
 use Rattle.sk_script.specs.declared.instruction.Input.TheVariants.{Good}
 use Rattle.sk_server.specs.declared.reply.Answer.TheVariants.{Yes, Dropped}
 use Rattle.sk_client.specs.declared.pending.PendingRequest.{PendingRequest}
 use Rattle.sk_client.proofs.CausedWorld.{For, Caused, Served, Table, kernel, is_lost, least, rests_of, Sets, IsTable, Takes}
-use Rattle.sk_client.specs.Desk.{name_of, sent}
+use Rattle.sk_client.specs.Desk.{name_of, sent, input_of}
 use Rattle.sk_client.proofs.Each.{survives, at_number, at_same, at_other, cons_first, cons_later, pairs_push}
 use Rattle.sk_client.proofs.TraceFacts.{has_mark, open_taken, open_commit, open_fail, failed_shut, legal_of, entry_drawn, open_entry}
 use Rattle.sk_client.proofs.Records.{Quiet, entries_taken, entries_failed, ready_taken, ready_failed, lost_more, ready_kept, not_true, tags_of_step}
-use Rattle.sk_client.proofs.Invariant.{Allowed, RestsOnRefused, Entries, Void, tag_at, Ready, HasStep, Invariant, counted, Queue, IsServed, Guesses, ReadyFor, is_accepted, queue_fewer, queue_le, queue_push, remembers_push, still_remembered}
+use Rattle.sk_client.proofs.Invariant.{never_dropped, Allowed, RestsOnRefused, Entries, Void, tag_at, Ready, HasStep, Invariant, counted, Queue, IsServed, Guesses, ReadyFor, is_accepted, queue_fewer, queue_le, queue_push, remembers_push, still_remembered}
 use Rattle.sk_server.specs.declared.request.Ask.TheVariants.{Store}
 use Rattle.sk_server.specs.declared.reply.Answer.{Answer}
 use Rattle.sk_server.specs.Server.{remembered}
@@ -58,8 +59,8 @@ module _ {E V W F : Type 0} (S : Table E V W F) (start : FinMap S.order V) (tabl
   entry_more : (ns : List Caused) (n : Caused) (x : ℕ) → HasEntry (kernel S) ns x → HasEntry (kernel S) (ns ++ n ∷ []) x
   entry_more ns n x h = (h.0, Contains-append_left ns (n ∷ []) h.0 h.1, h.2)
 
-  step_more : (ns : List Caused) (n : Caused) (q : PendingRequest) → HasStep S start ns q → HasStep S start (ns ++ n ∷ []) q
-  step_more ns n q h = (h.0, Contains-append_left ns (n ∷ []) h.0 h.1, h.2, h.3)
+  step_more : (ns : List Caused) (n : Caused) (q : PendingRequest) (x : Input) → HasStep S start ns q x → HasStep S start (ns ++ n ∷ []) q x
+  step_more ns n q x h = (h.0, Contains-append_left ns (n ∷ []) h.0 h.1, h.2, h.3)
 
   -- a guess without an entry in the record has dirtied nothing
   new_clean : (es : List (Event Caused)) (n : Caused) → IsSound (kernel S) start (es ++ Taken n ∷ []) → (y : ℕ) → n.guess ≡ Some y
@@ -87,7 +88,7 @@ module _ {E V W F : Type 0} (S : Table E V W F) (start : FinMap S.order V) (tabl
         → ((n : Caused) → e ≡ Taken n → n.guess ≡ None) → ((x : ℕ) → e ≡ Fail x → i.bad x ≡ true) → ((y : ℕ) → has y (us_after e) ≡ true → has y us ≡ true)
         → Entries S start i.made i.base (ns_after e) (us_after e)
         → ((x : ℕ) → i.base < x → x ≤ d → HasEntry (kernel S) ns x → HasEntry (kernel S) (ns_after e) x ⊎ RestsOnRefused i.made i.bad x)
-        → ((q : PendingRequest) → Contains given (q, Yes) → q.guess ≡ None → HasStep S start ns q → HasStep S start (ns_after e) q)
+        → ((q : PendingRequest) (a : Answer) (x : Input) → Contains given (q, a) → input_of a ≡ Some x → q.guess ≡ None → HasStep S start ns q x → HasStep S start (ns_after e) q x)
         → ((y : ℕ) → is_lost S start es y ≡ true → is_commit y e ≡ false)
         → ((q : PendingRequest) → Contains pending q → q.guess ≡ None → Ready S start ns us q → Void S start (es ++ e ∷ []) d q ⊎ Ready S start (ns_after e) (us_after e) q)
         → Invariant S start (es ++ e ∷ []) d served given pending waiting memory
@@ -114,7 +115,7 @@ module _ {E V W F : Type 0} (S : Table E V W F) (start : FinMap S.order V) (tabl
         answers = i.answers;
       };
       within = i.within;
-      stands = λ q m v b there ask asked. stands q there asked (i.stands q m v b there ask asked);
+      stands = λ q a x there gives asked. stands q a x there gives asked (i.stands q a x there gives asked);
       asked = λ q there asked. elim (i.asked q there asked) [
         | inl void ↦ inl (void.0, void.1, void.2, lost_more S start table es e void.0 (fewer void.0) (lost void.0 void.3) void.3)
         | inr is ↦ ready q there asked is
@@ -142,7 +143,7 @@ module _ {E V W F : Type 0} (S : Table E V W F) (start : FinMap S.order V) (tabl
         (entries_taken S start table i.made i.made i.base ns us vs n f i.entries is (λ x g there mark above. refl) (λ y there. inl (fewer y there))
         (λ y mark. absurd (no_guess n.guess y none mark)) (λ g mark above. absurd (no_guess n.guess g none mark)) (λ y there. tags y (fewer y there)) its sets))
         (λ x _ _ there. inl (subst (λ ns. HasEntry K ns x) (sym same) (entry_more ns n x there)))
-        (λ q _ _ step. subst (λ ns. HasStep S start ns q) (sym same) (step_more ns n q step))
+        (λ q _ x _ _ _ step. subst (λ ns. HasStep S start ns q x) (sym same) (step_more ns n q x step))
         (λ y _. refl)
         (λ q there asked ready. inr (subst (λ ns. Ready S start ns vs q) (sym same) (ready_taken S start table ns us vs n f q is (quiet q there asked ready) (λ y there. inl (fewer y there)) ready)))
 
@@ -162,7 +163,7 @@ module _ {E V W F : Type 0} (S : Table E V W F) (start : FinMap S.order V) (tabl
           sets = i.entries.sets;
         }))
         (λ x _ _ there. inl (subst (λ ns. HasEntry K ns x) (sym same) there))
-        (λ q _ _ step. subst (λ ns. HasStep S start ns q) (sym same) step)
+        (λ q _ x _ _ _ step. subst (λ ns. HasStep S start ns q x) (sym same) step)
         (λ y lost. false_from_ne_true _ (λ same_h. true≢false (sym is_open ∙ ap (λ y. has y us) (eqb-true h y same_h) ∙ not_true _ (and_both _ _ lost).0)))
         (λ q _ _ ready. inr (subst (λ ns. Ready S start ns vs q) (sym same) (ready_kept S start table ns ns us vs q refl refl (λ y there tag. (fewer y there, tag)) ready)))
 
@@ -196,11 +197,11 @@ module _ {E V W F : Type 0} (S : Table E V W F) (start : FinMap S.order V) (tabl
             ],
           )
         ])
-        (λ q there asked s. subst (λ ns. HasStep S start ns q) (sym same)
+        (λ q a x there gives asked s. subst (λ ns. HasStep S start ns q x) (sym same)
         (elim (survives (λ n. Allowed n h) (struck K start ns h) ns (i.entries.tags h is_open) s.0 s.1) [
           | inl kept ↦ (s.0, kept, s.2, s.3)
           | inr allowed ↦ absurd (elim (allowed q s.2) [
-            | inl rests ↦ true≢false (sym is_bad ∙ (i.answers (q, Yes) (i.within (q, Yes) there)).kept (λ is. cc) h rests)
+            | inl rests ↦ true≢false (sym is_bad ∙ (i.answers (q, a) (i.within (q, a) there)).kept (never_dropped a x gives) h rests)
             | inr mine ↦ no_guess q.guess h asked mine
           ])
         ]))
@@ -367,7 +368,7 @@ module _ {E V W F : Type 0} (S : Table E V W F) (start : FinMap S.order V) (tabl
               };
         };
         within = i.within;
-        stands = λ r m v b there ask asked. subst (λ ns. HasStep S start ns r) (sym same) (step_more ns n r (i.stands r m v b there ask asked));
+        stands = λ r a x there gives asked. subst (λ ns. HasStep S start ns r x) (sym same) (step_more ns n r x (i.stands r a x there gives asked));
         asked = λ r h asked. elim (Contains-push_cases pending q r h) [
           | inl before ↦ elim (i.asked r before asked) [
             | inl void ↦
@@ -393,19 +394,19 @@ module _ {E V W F : Type 0} (S : Table E V W F) (start : FinMap S.order V) (tabl
   inv_drop es d served given q pending waiting memory i =
       record { core = i.core; within = i.within; stands = i.stands; asked = λ r there. i.asked r (cons_later q pending r there); apart = i.apart.1 }
 
-  -- and it is written down, where its step stands if it was a store that was asked and accepted
+  -- and it is written down, where its step stands if it was asked and not dropped
   pub inv_done : (es : List (Event Caused)) (d : ℕ) (served given : List Served) (pending waiting : List PendingRequest) (memory : List ℕ) (x : Served)
-      → Contains served x → (x.1 ≡ Yes → (m : Bytes) (v : ℕ) (b : Bytes) → x.0.ask ≡ Store m v b → x.0.guess ≡ None → HasStep S start (record_of (kernel S) start es) x.0)
+      → Contains served x → ((y : Input) → input_of x.1 ≡ Some y → x.0.guess ≡ None → HasStep S start (record_of (kernel S) start es) x.0 y)
       → Invariant S start es d served given pending waiting memory → Invariant S start es d served (given ++ x ∷ []) pending waiting memory
   inv_done es d served given pending waiting memory x there stands i = record {
     core = i.core;
     within = λ y h. elim (Contains-push_cases given x y h) [ inl before ↦ i.within y before | inr is ↦ subst (Contains served) is there ];
-    stands = λ q m v b h ask asked. elim (Contains-push_cases given x (q, Yes) h) [
-      | inl before ↦ i.stands q m v b before ask asked
+    stands = λ q a y h gives asked. elim (Contains-push_cases given x (q, a) h) [
+      | inl before ↦ i.stands q a y before gives asked
       | inr is ↦
           let is_q : x.0 ≡ q = ap (λ (x : Served). x.0) is in
-          subst (HasStep S start (record_of (kernel S) start es)) is_q
-          (stands (ap (λ (x : Served). x.1) is) m v b (ap (λ (r : PendingRequest). r.ask) is_q ∙ ask) (ap (λ (r : PendingRequest). r.guess) is_q ∙ asked))
+          subst (λ (r : PendingRequest). HasStep S start (record_of (kernel S) start es) r y) is_q
+          (stands y (ap (λ (x : Served). input_of x.1) is ∙ gives) (ap (λ (r : PendingRequest). r.guess) is_q ∙ asked))
     ];
     asked = i.asked;
     apart = i.apart;

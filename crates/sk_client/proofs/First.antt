@@ -1,5 +1,5 @@
 -- Where a world begins, and what its requests' steps are.
-use Rattle.std.proofs.Common.{◌≡◌, ℕ, zero, suc, ◌≤◌, length, true, false, List, [], ◌∷◌, ◌++◌, map, Some, None, inl, inr, refl, sym, ◌∙◌, ap, subst, arith}
+use Rattle.std.proofs.Common.{◌≡◌, ℕ, zero, suc, ◌+◌, ◌≤◌, length, true, false, List, [], ◌∷◌, ◌++◌, map, Some, None, inl, inr, refl, sym, ◌∙◌, ap, subst, arith}
 use Rattle.std.specs.Prelude.{◌⊎◌, slice_get}
 use Rattle.std.specs.List.{Contains, fold}
 use Rattle.std.specs.FinMap.{FinMap}
@@ -19,13 +19,13 @@ use Rattle.sk_plain.specs.Act.{plain}
 use Rattle.sk_kernel.specs.Kernel.{KernelView, events_of, record_at, last_guess}
 use Rattle.sk_kernel.proofs.Lawful.{below_next}
 use Rattle.sk_server.specs.Server.{ServerView}
-use Rattle.sk_server.specs.declared.request.Ask.TheVariants.{Get, Store}
+use Rattle.sk_server.specs.declared.server.TheConstants.{LAST_REQUEST}
+use Rattle.sk_server.specs.declared.request.Ask.TheVariants.{Get}
 use Rattle.sk_server.specs.declared.reply.Answer.TheVariants.{Yes}
 use Rattle.sk_client.specs.AcceptedStores.{paired}
-use Rattle.sk_client.specs.Desk.{opened}
+use Rattle.sk_client.specs.Desk.{opened_at}
 use Rattle.sk_client.specs.Exchanges.{Exchanges, Leads}
 use Rattle.sk_client.specs.Ready.{IsReady}
-use Rattle.sk_client.specs.Table.{Bytes}
 use Rattle.sk_client.specs.WorldView.{WorldView, joined}
 use Rattle.sk_client.specs.declared.pending.PendingRequest.{PendingRequest}
 use Rattle.sk_client.specs.declared.world.WorldEvent.{WorldEvent}
@@ -38,7 +38,6 @@ use Rattle.sk_client.proofs.RequestFacts.{Once, Rising, in_map}
 use Rattle.sk_client.proofs.Seen.{Comes, all_events}
 use Rattle.sk_client.proofs.SeenWorld.{World, all_served, all_waiting, entries_of, from_before, event_before}
 use Rattle.sk_client.proofs.Table.{is_table}
-use Rattle.sk_client.proofs.Tidy.{IsTidy, tidy_start}
 use Rattle.sk_client.proofs.TraceFacts.{entry_drawn}
 use Rattle.sk_client.proofs.WorldFacts.{begun_joined}
 use Rattle.sk_client.proofs.Worlds.{All, Reached}
@@ -141,12 +140,9 @@ module _ {E V W F : Type 0} (K : System E V W F Caused) (start : FinMap K.order 
 
 -- ---- a kernel that is ready
 
-ready_tidy : (k : KernelView) → IsReady k → IsTidy k.start
-ready_tidy k r = subst IsTidy (sym r.0.start) (tidy_start r.0.boot r.0.numbered)
-
--- a kernel that is ready, and a server that has answered nothing, with all that the kernel did before
+-- a kernel that is ready, and a server, with all that the kernel did before
 abbrev pub first_world : KernelView → ServerView → World
-first_world k server = record { view = joined (opened k) server; trace = map event_before (events_of k); given = [] }
+first_world k server = record { view = joined (opened_at k server.next) server; trace = map event_before (events_of k); given = [] }
 
 module _ (k : KernelView) (ready : IsReady k) (server : ServerView) where
   abbrev es : List (Happens Caused)
@@ -180,8 +176,8 @@ module _ (k : KernelView) (ready : IsReady k) (server : ServerView) where
   some : PendingRequest
   some = record { number = 0; process = 0; ask = Get []; guess = None; rests = []; settled = 0 }
 
-  at_first : server.next ≡ 1 → server.refused ≡ [] → Reached (last_guess k) (length (record_at k)) (first_world k server) [] (joined (opened k) server)
-  at_first next refused =
+  at_first : Reached (last_guess k) (length (record_at k)) (first_world k server) [] (joined (opened_at k server.next) server)
+  at_first =
       let ns = record_of (kernel (table k.scripts)) k.start es in
       let T = is_table k.scripts in
       record {
@@ -189,7 +185,7 @@ module _ (k : KernelView) (ready : IsReady k) (server : ServerView) where
         given = [];
         answered = refl;
         all = record {
-          tidy = ready_tidy k ready;
+          tidy = ready.0.start;
           traced = record { trace = back (events_of k); sound = ready.0.sound };
           kinds = tt;
           holds = record {
@@ -219,7 +215,7 @@ module _ (k : KernelView) (ready : IsReady k) (server : ServerView) where
               answers = λ x h. absurd (no_member x h);
             };
             within = λ x h. absurd (no_member x h);
-            stands = λ q m v b h. absurd (no_member (q, Yes) h);
+            stands = λ q a x h. absurd (no_member (q, a) h);
             asked = λ q h. absurd (no_member q h);
             apart = tt;
           };
@@ -249,20 +245,16 @@ module _ (k : KernelView) (ready : IsReady k) (server : ServerView) where
       }
 
   -- the world that some events lead to
-  pub reached : server.next ≡ 1 → server.refused ≡ [] → (es : List WorldEvent) (xs : Exchanges) (v : WorldView) → Leads (joined (opened k) server) es xs v
+  pub reached : server.next ≤ LAST_REQUEST + 1 → (es : List WorldEvent) (xs : Exchanges) (v : WorldView) → Leads (joined (opened_at k server.next) server) es xs v
       → Comes (last_guess k) (length (record_at k)) (first_world k server) xs v
-  reached next refused es xs v h =
-      all_events (last_guess k) (length (record_at k)) (first_world k server) [] (joined (opened k) server) es xs v (at_first next refused, begun_joined (opened k) server refl refl refl next) h
+  reached last es xs v h =
+      all_events (last_guess k) (length (record_at k)) (first_world k server) [] (joined (opened_at k server.next) server) es xs v (at_first, begun_joined (opened_at k server.next) server refl refl refl last) h
 
 -- ---- the steps of requests
 
 -- a step of the record that was taken for this request, with Good
 abbrev pub Stands : World → PendingRequest → Type 0
-Stands w q = HasStep (table w.view.desk.kernel.scripts) w.view.desk.kernel.start (entries_of w) q
-
--- a request was made with a guess, or is a store
-abbrev pub IsStepped : PendingRequest → Type 0
-IsStepped q = ((g : ℕ) × (q.guess ≡ Some g)) ⊎ ((m : Bytes) × (v : ℕ) × (b : Bytes) × (q.ask ≡ Store m v b))
+Stands w q = HasStep (table w.view.desk.kernel.scripts) w.view.desk.kernel.start (entries_of w) q Good
 
 -- its step is due: from its guess on, or from its reply on where it was asked
 abbrev pub IsDueStep : World → PendingRequest → Type 0
@@ -274,8 +266,8 @@ Counts w n = (n.guess ≡ None) ⊎ ((g : ℕ) × (n.guess ≡ Some g) × Contai
 
 module _ (drawn begun : ℕ) (old w : World) (all : All drawn begun old w) where
   -- the step of an accepted request is there
-  pub request_stands : (q : PendingRequest) → Contains (all_served w) (q, Yes) → IsStepped q → IsDueStep w q → Stands w q
-  request_stands q there steps due =
+  pub request_stands : (q : PendingRequest) → Contains (all_served w) (q, Yes) → IsDueStep w q → Stands w q
+  request_stands q there due =
       let i = all.holds in
       let K = w.view.desk.kernel in
       let s = i.answers (q, Yes) there in
@@ -292,7 +284,7 @@ module _ (drawn begun : ℕ) (old w : World) (all : All drawn begun old w) where
             ]
         | None ↦ λ none. elim due [
           | inl guess ↦ absurd (no_guess q.guess guess.0 none guess.1)
-          | inr given ↦ elim steps [ inl guess ↦ absurd (no_guess q.guess guess.0 none guess.1) | inr store ↦ i.stands q store.0 store.1 store.2 given store.3 none ]
+          | inr given ↦ i.stands q Yes Good given refl none
         ]
       ] refl
 
@@ -345,9 +337,9 @@ module _ (drawn begun : ℕ) (old w : World) (all : All drawn begun old w) where
       ]
 
   -- a request's step counts that was accepted and has its reply
-  pub its_step : (q : PendingRequest) → Contains w.given (q, Yes) → IsStepped q → (s : Stands w q) × Counts w s.0
-  its_step q there steps =
-      let h = request_stands q (all.holds.within (q, Yes) there) steps (inr there) in
+  pub its_step : (q : PendingRequest) → Contains w.given (q, Yes) → (s : Stands w q) × Counts w s.0
+  its_step q there =
+      let h = request_stands q (all.holds.within (q, Yes) there) (inr there) in
       let o = all.facts.owners.owner h.0 q h.1 h.2 in (
         h,
         elim q.guess as (λ g. q.guess ≡ g → Counts w h.0) [

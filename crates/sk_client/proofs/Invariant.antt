@@ -9,6 +9,7 @@ use Rattle.sk_record.specs.Run.{run, effects}
 use Rattle.sk_record.specs.Strike.{struck}
 use Rattle.sk_record.specs.Notes.{has}
 use Rattle.sk_record.specs.Trace.{Event, Fail, HasEntry, IsDrawn, IsSound, record_of, undecided_of}
+use Rattle.sk_script.specs.declared.instruction.Input.{Input}
 use Rattle.sk_script.specs.declared.instruction.Input.TheVariants.{Good, Fresh, Stale}
 use Rattle.sk_objects.specs.Content.{ContentView}
 use Rattle.sk_server.specs.declared.request.Ask.{Ask}
@@ -16,7 +17,7 @@ use Rattle.sk_server.specs.declared.request.Ask.TheVariants.{Get, Check, Store}
 use Rattle.sk_server.specs.declared.reply.Answer.TheVariants.{Yes, Dropped, No, Copy}
 use Rattle.sk_client.specs.declared.pending.PendingRequest.{PendingRequest}
 use Rattle.sk_client.proofs.CausedWorld.{For, Caused, Served, Table, kernel, is_lost, Takes, Sets}
-use Rattle.sk_client.specs.Desk.{name_of, sent}
+use Rattle.sk_client.specs.Desk.{name_of, sent, input_of}
 use Rattle.sk_client.proofs.Each.{Each, Pairs, no_member}
 use Rattle.sk_client.specs.Table.{Bytes}
 use Rattle.sk_server.specs.declared.reply.Answer.{Answer}
@@ -32,6 +33,10 @@ is_accepted Yes = true
 is_accepted (No c) = false
 is_accepted (Copy c) = true
 is_accepted Dropped = false
+
+-- an answer that gives a step an input is not that of a dropped request
+pub never_dropped : (a : Answer) (x : Input) → input_of a ≡ Some x → a ≡ Dropped → ⊥
+never_dropped a x gives is = (let both : None ≡ Some x = ap input_of (sym is) ∙ gives in cc)
 
 abbrev pub counted : Option ℕ → ℕ → ℕ
 counted None a = a
@@ -124,9 +129,9 @@ module _ {E V W F : Type 0} (S : Table E V W F) (start : FinMap S.order V) where
   abbrev pub IsPending : List (Event Caused) → ℕ → List Caused → List ℕ → PendingRequest → Type 0
   IsPending es d ns us q = q.guess ≡ None → Void es d q ⊎ Ready ns us q
 
-  -- a step for the request, with Good
-  abbrev pub HasStep : List Caused → PendingRequest → Type 0
-  HasStep ns q = (n : Caused) × Contains ns n × (n.cause ≡ For q) × (n.input ≡ Good)
+  -- a step for the request, with this input
+  abbrev pub HasStep : List Caused → PendingRequest → Input → Type 0
+  HasStep ns q x = (n : Caused) × Contains ns n × (n.cause ≡ For q) × (n.input ≡ x)
 
   -- ---- all of it: served requests, those whose reply was given, those without a reply, those that wait, the server's memory
   -- but for what a reply that is given changes
@@ -146,7 +151,8 @@ module _ {E V W F : Type 0} (S : Table E V W F) (start : FinMap S.order V) where
     pub core : Core es d served waiting memory
     pub open core use *
     pub within : (x : Served) → Contains given x → Contains served x
-    pub stands : (q : PendingRequest) (m : Bytes) (v : ℕ) (b : Bytes) → Contains given (q, Yes) → q.ask ≡ Store m v b → q.guess ≡ None → HasStep (record_of (kernel S) start es) q
+    -- an asked request that was not dropped has its step
+    pub stands : (q : PendingRequest) (a : Answer) (x : Input) → Contains given (q, a) → input_of a ≡ Some x → q.guess ≡ None → HasStep (record_of (kernel S) start es) q x
     pub asked : (q : PendingRequest) → Contains pending q → IsPending es d (record_of (kernel S) start es) (undecided_of (kernel S) start es) q
     pub apart : Apart pending
 

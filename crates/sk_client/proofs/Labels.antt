@@ -37,7 +37,7 @@ keep_map f (true ∷ bs) (x ∷ xs) = keep_map f bs xs
 keep_map f (false ∷ bs) (x ∷ xs) = ap (λ ys. f x ∷ ys) (keep_map f bs xs)
 
 module _ {A N E V W F : Type 0} (bare : A → N) (K : System E V W F N) where
-  run_bare : (s : FinMap K.order V) (xs : List A) → run (labelled bare K) s xs ≡ run K s (map bare xs)
+  pub run_bare : (s : FinMap K.order V) (xs : List A) → run (labelled bare K) s xs ≡ run K s (map bare xs)
   run_bare s [] = refl
   run_bare s (x ∷ xs) = run_bare (after K (outcome K s (bare x)) s) xs
 

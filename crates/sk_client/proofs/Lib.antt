@@ -14,6 +14,7 @@ pub mod Seen
 pub mod RequestSteps
 pub mod AskedReplies
 pub mod Writes
+pub mod Replies
 pub mod Upcoming
 pub mod CausedWorld
 pub mod Each

@@ -1,6 +1,6 @@
 -- The steps of requests in a record: those of accepted stores stand, each at a place of its own; and the steps that count and the
--- accepted requests whose reply was given are one for one. Told of a world's calls.
-use Rattle.std.proofs.Common.{◌≡◌, ℕ, suc, ◌+◌, ◌<◌, List, [], ◌∷◌, ◌++◌, map, length, Option, Some, inl, inr, refl, sym, ◌∙◌, ap, subst, arith, zero, Bool, true, false, cond, None, ◌≤◌}
+-- accepted requests whose reply was given are one for one. No request has two replies. Told of a world's calls.
+use Rattle.std.proofs.Common.{◌≡◌, ℕ, suc, ◌+◌, ◌<◌, List, [], ◌∷◌, ◌++◌, map, length, Option, Some, inl, inr, refl, sym, ◌∙◌, ap, subst, arith, zero, Bool, true, false, cond, None, Ok, IsSome, ◌≤◌}
 use Rattle.std.specs.List.{Contains}
 use Rattle.std.proofs.lemmas.List.Elements.{Contains-append_left, Contains-append_cases, Contains-append_right}
 use Rattle.sk_record.specs.Effects.{MarkedEffect}
@@ -10,16 +10,16 @@ use Rattle.sk_ids.specs.declared.entity.Entity.TheVariants.{Copy as CopyOf}
 use Rattle.sk_script.specs.declared.instruction.Input.TheVariants.{Good}
 use Rattle.sk_store.specs.declared.entity_state.EntityState.{EntityState}
 use Rattle.sk_plain.specs.Act.{Saying}
-use Rattle.sk_kernel.specs.Kernel.{KernelView, record_at, last_guess}
+use Rattle.sk_kernel.specs.Kernel.{KernelView, record_at, undecided_at, last_guess}
 use Rattle.sk_server.specs.Server.{ServerView}
 use Rattle.sk_server.specs.declared.request.Request.{Request as Sent}
 use Rattle.sk_server.specs.declared.request.Ask.TheVariants.{Store}
 use Rattle.sk_server.specs.declared.reply.Answer.TheVariants.{Yes}
 use Rattle.sk_server.specs.declared.reply.Reply.{Reply}
 use Rattle.sk_client.specs.AcceptedStores.{paired, StandsIn, IsDue, StoresStand, StoresStood, StandsAt, DueStore, StandApart, steps_at}
-use Rattle.sk_client.specs.Desk.{opened, pending}
+use Rattle.sk_client.specs.Desk.{DeskView, opened, opened_at, pending, input_of}
 use Rattle.sk_client.specs.Exchanges.{Exchanges, Leads}
-use Rattle.sk_client.specs.Ready.{IsReady}
+use Rattle.sk_client.specs.Ready.{WasBooted, IsReady, Begins}
 use Rattle.sk_client.specs.Table.{Bytes, copy_of}
 use Rattle.sk_client.specs.WorldView.{WorldView, joined}
 use Rattle.sk_client.specs.declared.pending.PendingRequest.{PendingRequest}
@@ -27,7 +27,7 @@ use Rattle.sk_client.specs.declared.world.WorldEvent.{WorldEvent}
 use Rattle.sk_client.proofs.CausedWorld.{Caused, Served, kernel, bare, table, Cause, Before, Own, For, Sets}
 use Rattle.sk_client.proofs.Events.{same_request}
 use Rattle.sk_client.proofs.Each.{cons_cases, cons_first, cons_later, no_member, contains_at, each_at, place_at}
-use Rattle.sk_client.proofs.First.{out_of_map, first_world, reached, world_of, later_on, Stands, IsDueStep, request_stands, step_at, rising_places, IsStepped, Counts, its_reply, its_step}
+use Rattle.sk_client.proofs.First.{out_of_map, first_world, reached, world_of, later_on, Stands, IsDueStep, request_stands, step_at, rising_places, Counts, its_reply, its_step}
 use Rattle.sk_client.proofs.RequestFacts.{in_map, map_front, Once, Rising, rising_apart, rising_same}
 use Rattle.sk_client.proofs.SeenWorld.{entries_seen, steps_seen, Traced, World, all_served, entries_of, law_served, answered_there, answered_here, all_waiting, unanswered}
 use Rattle.sk_client.proofs.Worlds.{All, Reached}
@@ -40,7 +40,14 @@ use Rattle.sk_script.specs.Scripts.{ScriptMap}
 use Rattle.sk_trace.specs.Entry.{EntryView}
 use Rattle.sk_server.specs.declared.request.Ask.{Ask}
 use Rattle.sk_server.specs.declared.request.Ask.TheVariants as asks
-use Rattle.sk_client.specs.Replied.{PlacesAreKept, Counts as CountsAt, DoesAsked, Replied, IsStepOf, IsStepped as IsSteppedSo, StepsAreReplied}
+use Rattle.sk_client.specs.Replied.{PlacesAreKept, Counts as CountsAt, DoesAsked, IsGiven, Replied, IsStepOf, StepsAreReplied, AreRepliedOnce}
+use Rattle.sk_script.specs.declared.instruction.Input.{Input}
+use Rattle.sk_terminal.specs.Terminals.{TerminalMap}
+use Rattle.sk_trace.specs.Trace.{TraceView}
+use Rattle.sk_client.specs.DeskCalls.{DeskEpochPost}
+use Rattle.sk_client.proofs.Booted.{begins_anew}
+use Rattle.sk_client.proofs.Replies.{hands_on}
+use Rattle.sk_client.proofs.WorldFacts.{no_requests}
 use Rattle.sk_client.proofs.Labels.{bare_event}
 use Rattle.sk_client.proofs.Seen.{Comes}
 
@@ -193,14 +200,38 @@ module _ (w : World) (t : Traced w.trace w.view.desk.kernel) where
       let e = out_of_map (bare_event bare) w.trace (Commit g.0) (subst (λ es. Contains es (Commit g.0)) (sym t.trace) g.2) in
       inr (g.0, g.1, subst (Contains w.trace) (commit_back g.0 e.0 e.2) e.1)
 
--- a request's place, where it has one
-place_for : (ns : List Caused) (n : ℕ) (m : Caused) → slice_get ns (place_in ns n) ≡ Some m → is_for n m.cause ≡ true
-place_for [] n m at = cc
-place_for (x ∷ xs) n m at =
-    elim (is_for n x.cause) as (λ b. is_for n x.cause ≡ b → slice_get (x ∷ xs) (cond b zero (suc (place_in xs n))) ≡ Some m → is_for n m.cause ≡ true) [
-      | true ↦ λ is at. (let same : x ≡ m = cc in ap (λ (y : Caused). is_for n y.cause) (sym same) ∙ is)
-      | false ↦ λ _ at. place_for xs n m at
-    ] refl at
+-- the number of the request that an entry is for, where it is for one
+abbrev number_for : Cause → Option ℕ
+number_for (For q) = Some q.number
+number_for Before = None
+number_for Own = None
+
+abbrev number_at : Option Caused → Option ℕ
+number_at None = None
+number_at (Some x) = number_for x.cause
+
+-- that of the entry at a place
+abbrev number_in : List Caused → ℕ → Option ℕ
+number_in ns place = number_at (slice_get ns place)
+
+is_number : (n : ℕ) (c : Cause) → number_for c ≡ Some n → (q : PendingRequest) × (c ≡ For q) × (q.number ≡ n)
+is_number n (For q) h = (q, refl, (let same : q.number ≡ n = cc in same))
+is_number n Before h = absurd cc
+is_number n Own h = absurd cc
+
+numbered : (n : ℕ) (o : Option Caused) → number_at o ≡ Some n → (x : Caused) × (o ≡ Some x) × (q : PendingRequest) × (x.cause ≡ For q) × (q.number ≡ n)
+numbered n None h = absurd cc
+numbered n (Some x) h = (let q = is_number n x.cause h in (x, refl, q.0, q.1, q.2))
+
+number_is : (ns : List Caused) (place : ℕ) (x : Caused) (q : PendingRequest) (n : ℕ) → slice_get ns place ≡ Some x → x.cause ≡ For q → q.number ≡ n → number_in ns place ≡ Some n
+number_is ns place x q n at cause number = ap number_at at ∙ ap number_for cause ∙ ap Some number
+
+-- no two entries are one request's
+one_entry : (ns : List Caused) → Once ns → (place other n : ℕ) → number_in ns place ≡ Some n → number_in ns other ≡ Some n → place ≡ other
+one_entry ns once place other n here there =
+    let a = numbered n (slice_get ns place) here in
+    let b = numbered n (slice_get ns other) there in
+    sym (first_is ns once place a.0 a.2 n a.1 a.3 a.4) ∙ first_is ns once other b.0 b.2 n b.1 b.3 b.4
 
 -- ---- the steps of a world's record
 
@@ -234,6 +265,13 @@ module _ (drawn begun : ℕ) (old w : World) (all : All drawn begun old w) where
 
   at_entry : (place : ℕ) (p : Caused × MarkedEffect Entity EntityState Saying) → slice_get steps_now place ≡ Some p → slice_get entries place ≡ Some p.0
   at_entry place p at = paired_first entries does place p at
+
+  -- an entry of the kernel's record
+  at_record : (place : ℕ) (n : EntryView) → slice_get (record_at K) place ≡ Some n → (m : Caused) × (slice_get entries place ≡ Some m) × (bare m ≡ n)
+  at_record place n at = under_map bare (slice_get entries place) n (sym (slice_get-map bare entries place) ∙ ap (λ ns. slice_get ns place) (entries_seen w.trace K all.traced) ∙ at)
+
+  in_record : (place : ℕ) (m : Caused) → slice_get entries place ≡ Some m → slice_get (record_at K) place ≡ Some (bare m)
+  in_record place m at = ap (λ ns. slice_get ns place) (sym (entries_seen w.trace K all.traced)) ∙ slice_get-map bare entries place ∙ ap (option_map bare) at
 
   -- a request's step is at the place of its number
   at_place : (q : PendingRequest) (s : Stands w q) (n : ℕ) → q.number ≡ n → slice_get entries (place_in entries n) ≡ Some s.0
@@ -317,7 +355,7 @@ module _ (drawn begun : ℕ) (old : World) (xs : Exchanges) (v : WorldView) (a :
       → Stands z (found xs w a.answered q r there accepted).request
   its_store q r name version bytes there accepted asks is_due =
       let f = found xs w a.answered q r there accepted in
-      request_stands drawn begun w z b.all f.request (b.all.facts.still_served (f.request, Yes) f.there) (inr (name, version, bytes, f.ask ∙ asks))
+      request_stands drawn begun w z b.all f.request (b.all.facts.still_served (f.request, Yes) f.there)
       (elim (due xs w a.answered q f is_due) as (λ _. IsDueStep z f.request) [
         | inl guess ↦ inl guess
         | inr given ↦ inr (b.all.facts.still_given (f.request, Yes) given)
@@ -332,7 +370,7 @@ module _ (drawn begun : ℕ) (old : World) (xs : Exchanges) (v : WorldView) (a :
   stood q r name version bytes g there accepted asks its low =
       let f = found (xs ++ ys) z b.answered q r there accepted in
       let guess : f.request.guess ≡ Some g = f.guess ∙ its in
-      let h = request_stands drawn begun w z b.all f.request f.there (inl (g, guess)) (inl (g, guess)) in
+      let h = request_stands drawn begun w z b.all f.request f.there (inl (g, guess)) in
       let made : f.request.number < v.desk.next = subst (λ n. n < v.desk.next) (sym f.number) low in
       stands_in drawn begun old w a.all f.request (h.0, b.all.facts.came h.0 f.request g h.1 h.2 guess made, h.2, h.3) (Some g) name version bytes guess (f.ask ∙ asks)
 
@@ -370,26 +408,20 @@ module _ (drawn begun : ℕ) (old : World) (xs : Exchanges) (v : WorldView) (a :
   abbrev its_found : (r : Replied (xs ++ ys) last) → Found z r.request
   its_found r = found (xs ++ ys) z b.answered r.request r.reply (contains_at (xs ++ ys) r.at (r.request, r.reply) r.there) r.accepted
 
-  stepped : (r : Replied (xs ++ ys) last) → IsSteppedSo r.request → IsStepped (its_found r).request
-  stepped r (inl guess) = inl (guess.0, (its_found r).guess ∙ guess.1)
-  stepped r (inr store) = inr (store.0, store.1, store.2, (its_found r).ask ∙ store.3)
+  -- the number of the request at a place
+  abbrev request_at : ℕ → Option ℕ
+  request_at place = number_in (entries_of z) place
 
-  taken : (r : Replied (xs ++ ys) last) → IsSteppedSo r.request
-      → (s : Stands z (its_found r).request) × Counts z s.0
-  taken r is = its_step drawn begun w z b.all (its_found r).request (its_given (xs ++ ys) z b.answered r.request (its_found r) r.given) (stepped r is)
-
-  replies : (r : Replied (xs ++ ys) last) → IsSteppedSo r.request → IsStepOf last.desk.kernel (place_of r.request.number) r.request
-  replies r is =
+  replies : (r : Replied (xs ++ ys) last) → (place : ℕ) × (request_at place ≡ Some r.request.number) × IsStepOf last.desk.kernel place r.request
+  replies r =
       let f = its_found r in
-      let s = taken r is in
-      let does = does_there drawn begun w z b.all f.request s.0 r.request.number f.number in
-      step_of drawn begun w z b.all (place_of r.request.number) s.0.0 does.0 f.request r.request does.1 s.0.2 s.0.3 s.1 f.guess f.ask
-
-  apart : (r s : Replied (xs ++ ys) last) → IsSteppedSo r.request → IsSteppedSo s.request → place_of r.request.number ≡ place_of s.request.number → r.at ≡ s.at
-  apart r s r_is s_is same =
-      one_number (xs ++ ys) z b.answered b.all.facts.numbers.rising r.at s.at (r.request, r.reply) (s.request, s.reply) r.there s.there
-      (one_request drawn begun w z b.all (its_found r).request (its_found s).request (taken r r_is).0 (taken s s_is).0 r.request.number s.request.number
-      (its_found r).number (its_found s).number same)
+      let s = its_step drawn begun w z b.all f.request (its_given (xs ++ ys) z b.answered r.request f r.given) in
+      let place = place_of r.request.number in
+      let does = does_there drawn begun w z b.all f.request s.0 r.request.number f.number in (
+        place,
+        number_is (entries_of z) place s.0.0 f.request r.request.number (at_place drawn begun w z b.all f.request s.0 r.request.number f.number) s.0.2 f.number,
+        step_of drawn begun w z b.all place s.0.0 does.0 f.request r.request does.1 s.0.2 s.0.3 s.1 f.guess f.ask,
+      )
 
   -- ---- a step that counts
 
@@ -407,7 +439,7 @@ module _ (drawn begun : ℕ) (old : World) (xs : Exchanges) (v : WorldView) (a :
 
   steps : (place : ℕ) (n : EntryView) (f : MarkedEffect Entity EntityState Saying) → begun ≤ place → slice_get (steps_at last.desk.kernel) place ≡ Some (n, f)
       → n.input ≡ Good → CountsAt last.desk.kernel n → (r : Replied (xs ++ ys) last) ×
-      (place_of r.request.number ≡ place) × IsStepOf last.desk.kernel place r.request
+      (request_at place ≡ Some r.request.number) × IsStepOf last.desk.kernel place r.request
   steps place n f le at good counts =
       let u = at_law drawn begun w z b.all place n f at in
       let m = u.0.0 in
@@ -422,7 +454,7 @@ module _ (drawn begun : ℕ) (old : World) (xs : Exchanges) (v : WorldView) (a :
       ] in
       let r = is_replied q.0 q.2 in (
         r.0,
-        first_is (entries_of z) b.all.facts.owners.once place m q.0 r.0.request.number here q.1 r.1,
+        number_is (entries_of z) place m q.0 r.0.request.number here q.1 r.1,
         step_of drawn begun w z b.all place m u.0.1 q.0 r.0.request u.1 q.1 good_there counts_so r.2 r.3,
       )
 
@@ -431,40 +463,129 @@ module _ (drawn begun : ℕ) (old : World) (xs : Exchanges) (v : WorldView) (a :
   still : (p : PendingRequest) → Contains (pending v.desk) p → Contains (map (λ x. x.0) (all_served z) ++ all_waiting z) p
   still p there = b.all.facts.still_made p (subst (λ ps. Contains ps p) (sym (all_requests w)) (Contains-append_right (map (λ x. x.0) a.given) (pending v.desk) p there))
 
-  its : (p : PendingRequest) (n : EntryView) (f : MarkedEffect Entity EntityState Saying) → Contains (pending v.desk) p
-      → slice_get (steps_at last.desk.kernel) (place_of p.number) ≡ Some (n, f)
-      → n.pid ≡ p.process
-  its p n f there at =
-      let u = at_law drawn begun w z b.all (place_of p.number) n f at in
-      let m = u.0.0 in
-      let here = at_entry drawn begun w z b.all (place_of p.number) u.0 u.1 in
-      let q = for_of p.number m.cause (place_for (entries_of z) p.number m here) in
-      let in_record = contains_at (entries_of z) (place_of p.number) m here in
-      let one : q.0 ≡ p = rising_same (map (λ x. x.0) (all_served z) ++ all_waiting z) b.all.facts.numbers.rising q.0 p (b.all.facts.owners.owner m q.0 in_record q.1).0 (still p there) q.2 in
-      sym (ap (λ s. s.0.pid) u.2) ∙ b.all.holds.entries.its m q.0 in_record q.1 ∙ ap (λ (q : PendingRequest). q.process) one
+  its : (p : PendingRequest) (place : ℕ) (n : EntryView) → Contains (pending v.desk) p → request_at place ≡ Some p.number → slice_get (record_at last.desk.kernel) place ≡ Some n
+      → (n.pid ≡ p.process) × (n.guess ≡ p.guess)
+  its p place n there number at =
+      let u = at_record drawn begun w z b.all place n at in
+      let m = u.0 in
+      let q = is_number p.number m.cause (ap number_at (sym u.1) ∙ number) in
+      let here = contains_at (entries_of z) place m u.1 in
+      let owner = b.all.facts.owners.owner m q.0 here q.1 in
+      let one : q.0 ≡ p = rising_same (map (λ x. x.0) (all_served z) ++ all_waiting z) b.all.facts.numbers.rising q.0 p owner.0 (still p there) q.2 in (
+        sym (ap (λ (n : EntryView). n.pid) u.2) ∙ b.all.holds.entries.its m q.0 here q.1 ∙ ap (λ (q : PendingRequest). q.process) one,
+        sym (ap (λ (n : EntryView). n.guess) u.2) ∙ owner.1 ∙ ap (λ (q : PendingRequest). q.guess) one,
+      )
+
+  -- ---- each step with Good, and each asked request
+
+  good : (place : ℕ) (n : EntryView) → begun ≤ place → slice_get (record_at last.desk.kernel) place ≡ Some n → n.input ≡ Good → IsSome (request_at place)
+  good place n le at is =
+      let u = at_record drawn begun w z b.all place n at in
+      elim (b.all.facts.owners.good u.0 (contains_at (entries_of z) place u.0 u.1) (ap (λ (n : EntryView). n.input) u.2 ∙ is)) [
+        | inl before ↦ absurd (b.all.facts.new place u.0 le u.1 before)
+        | inr q ↦ subst IsSome (sym (number_is (entries_of z) place u.0 q.0 q.0.number u.1 q.1 refl)) refl
+      ]
+
+  -- an exchanged request whose reply was given, as the laws have it
+  exchanged_given : (q : Sent) (r : Reply) → Contains (xs ++ ys) (q, r) → IsGiven last q → (x : Served) × Contains b.given x × (answered_there x ≡ answered_here (q, r))
+  exchanged_given q r there given =
+      let x = out_of_map answered_there (all_served z) (answered_here (q, r)) (subst (λ ts. Contains ts (answered_here (q, r))) (sym b.answered) (in_map answered_here (xs ++ ys) (q, r) there)) in (
+        x.0,
+        elim (Contains-append_cases b.given (law_served last.desk.taken last.replies) x.0 x.1) [
+          | inl here ↦ here
+          | inr waits ↦
+              let p = served_pending last.desk.taken last.replies x.0 waits in
+              absurd (given p.0 (Contains-append_left last.desk.taken last.desk.waiting p.0 p.1) (sym (ap (λ (x : PendingRequest). x.number) p.2) ∙ ap (λ t. t.0) x.2))
+        ],
+        x.2,
+      )
+
+  asked : (q : Sent) (r : Reply) (input : Input) → Contains (xs ++ ys) (q, r) → IsGiven last q → q.guess ≡ None → input_of r.answer ≡ Some input
+      → (place : ℕ) × (request_at place ≡ Some q.number) × (n : EntryView) × (slice_get (record_at last.desk.kernel) place ≡ Some n) × (n.guess ≡ None) × (n.input ≡ input)
+  asked q r input there given none gives =
+      let x = exchanged_given q r there given in
+      let asks : x.0.0.guess ≡ None = ap (λ t. t.1.1.0) x.2 ∙ none in
+      let s = b.all.holds.stands x.0.0 x.0.1 input x.1 (ap (λ t. input_of t.1.1.1) x.2 ∙ gives) asks in
+      let place = place_at (entries_of z) s.0 s.1 in (
+        place.0,
+        number_is (entries_of z) place.0 s.0 x.0.0 q.number place.1 s.2 (ap (λ t. t.0) x.2),
+        bare s.0,
+        in_record drawn begun w z b.all place.0 s.0 place.1,
+        (b.all.facts.owners.owner s.0 x.0.0 s.1 s.2).1 ∙ asks,
+        s.3,
+      )
 
   replied : StepsAreReplied begun (xs ++ ys) v last
-  replied = record { place_of = place_of; replies = replies; apart = apart; steps = steps; its = its }
+  replied = record {
+    request_at = request_at;
+    once = one_entry (entries_of z) b.all.facts.owners.once;
+    good = good;
+    steps = steps;
+    replies = replies;
+    asked = asked;
+    its = its;
+  }
 
-module _ (k : KernelView) (ready : IsReady k) (server : ServerView) (next : server.next ≡ 1) (refused : server.refused ≡ []) (es : List WorldEvent) (xs : Exchanges) (v : WorldView) (h : Leads (joined (opened k) server) es xs v) where
-  abbrev now : Comes (last_guess k) (length (record_at k)) (first_world k server) xs v
-  now = reached k ready server next refused es xs v h
+pub first_begins : (k : KernelView) (server : ServerView) → IsReady k → server.next ≡ 1 → Begins (joined (opened k) server)
+first_begins k server ready next = record {
+  ready = ready;
+  world = ap (λ n. joined (opened_at k n) server) (sym next);
+  last = omega (arith, next);
+}
+
+module _ (first : WorldView) (begins : Begins first) (es : List WorldEvent) (xs : Exchanges) (v : WorldView) (leads : Leads first es xs v) where
+  -- how many guesses were drawn, and how long the record was
+  abbrev drawn : ℕ
+  drawn = last_guess first.desk.kernel
+
+  abbrev begun : ℕ
+  begun = length (record_at first.desk.kernel)
+
+  abbrev start : World
+  start = first_world first.desk.kernel first.server
+
+  abbrev now : Comes drawn begun start xs v
+  now = reached first.desk.kernel begins.ready first.server begins.last es xs v (subst (λ (w : WorldView). Leads w es xs v) begins.world leads)
 
   pub places_kept : PlacesAreKept v
   places_kept = now.0.all.room
 
+  pub replied_once : AreRepliedOnce xs v
+  replied_once =
+      let on = hands_on first es xs v leads in
+      record {
+        once = one_number xs (world_of drawn begun start xs v now.0) now.0.answered now.0.all.facts.numbers.rising;
+        numbers = on.numbers;
+        given = on.given;
+        order = ap (λ (w : WorldView). w.replies ++ map (λ x. x.1) xs) (sym begins.world) ∙ on.order;
+      }
+
+  -- a world begins over a new epoch of its desk
+  pub begins_again : (left : TraceView × TerminalMap) (new : DeskView) → DeskEpochPost (Ok left) v.desk new → Begins (joined new v.server)
+  begins_again left new e =
+      let all = now.0.all in
+      let room = all.room in
+      let was : WasBooted v.desk.kernel = record { start = all.tidy; sound = all.traced.sound; place = omega (arith, room) } in
+      let next : v.desk.next ≡ v.server.next = no_requests v.desk v.server v.replies v.back e.0 now.1 in
+      let last = now.1.last in
+      record {
+        ready = (begins_anew v.desk.kernel new.kernel was e.1.0 e.1.3, ap undecided_at e.1.3.view);
+        world = ap (λ (d : DeskView). joined d v.server) e.2 ∙ ap (λ n. joined (opened_at new.kernel n) v.server) next;
+        last = omega (arith, last, next);
+      }
+
   module _ (later : List WorldEvent) (ys : Exchanges) (last : WorldView) (more : Leads v later ys last) where
-    abbrev hence : Reached (last_guess k) (length (record_at k)) (world_of (last_guess k) (length (record_at k)) (first_world k server) xs v now.0) (xs ++ ys) last
-    hence = later_on (last_guess k) (length (record_at k)) (first_world k server) xs v now later ys last more
+    abbrev hence : Reached drawn begun (world_of drawn begun start xs v now.0) (xs ++ ys) last
+    hence = later_on drawn begun start xs v now later ys last more
 
     pub stores_stand : StoresStand xs v last
-    stores_stand = stand (last_guess k) (length (record_at k)) (first_world k server) xs v now.0 ys last hence
+    stores_stand = stand drawn begun start xs v now.0 ys last hence
 
     pub stores_stood : StoresStood (xs ++ ys) v
-    stores_stood = stood (last_guess k) (length (record_at k)) (first_world k server) xs v now.0 ys last hence
+    stores_stood = stood drawn begun start xs v now.0 ys last hence
 
     pub stand_apart : StandApart xs v last
-    stand_apart = standing (last_guess k) (length (record_at k)) (first_world k server) xs v now.0 ys last hence
+    stand_apart = standing drawn begun start xs v now.0 ys last hence
 
-    pub steps_are_replied : StepsAreReplied (length (record_at k)) (xs ++ ys) v last
-    steps_are_replied = replied (last_guess k) (length (record_at k)) (first_world k server) xs v now.0 ys last hence
+    pub steps_are_replied : StepsAreReplied begun (xs ++ ys) v last
+    steps_are_replied = replied drawn begun start xs v now.0 ys last hence

@@ -41,7 +41,8 @@ use Rattle.sk_plain.specs.Replies.{from_copy, over_copy, good, fresh, stale}
 use Rattle.sk_plain.specs.Act.{row, private_or, does, handled, with_signals, with_input}
 use Rattle.sk_plain.proofs.Alone.{keeps_step}
 use Rattle.sk_client.proofs.Each.{cons_cases, no_member}
-use Rattle.sk_client.proofs.Tidy.{elsewhere, IsTidy, IsPlace, IsNextChild, tidy_own, tidy_place, tidy_copy, tidy_birth}
+use Rattle.sk_client.specs.Ready.{IsTidyState}
+use Rattle.sk_client.proofs.Tidy.{elsewhere, IsPlace, IsNextChild, tidy_own, tidy_place, tidy_copy, tidy_birth}
 
 module _ {E V W F : Type 0} (P : List (E × Option V) → Type 0) where
   -- whatever it is answered, it writes such a list where it is done
@@ -74,7 +75,7 @@ module _ {E V W F : Type 0} (P : List (E × Option V) → Type 0) where
 pub record Keeps (can : List ℕ → Type 0) (pid : ℕ) (p : Process) (ws : List (Entity × Option EntityState)) : Type 0 where
   pub processes : (c : ℕ) → Contains (map (λ w. w.0) ws) (Proc c) → (c ≡ pid) ⊎ IsNextChild pid p c
   pub copies : (name : List ℕ) → Contains (map (λ w. w.0) ws) (Copy name) → can name
-  pub tidy : (s : State) → get s (Proc pid) ≡ Some (stored.Process p) → IsTidy s → IsTidy (put_all ws s)
+  pub tidy : (s : State) → get s (Proc pid) ≡ Some (stored.Process p) → IsTidyState s → IsTidyState (put_all ws s)
 
 pub one_of_two : (a b x : Entity) → Contains (a ∷ b ∷ []) x → (a ≡ x) ⊎ (b ≡ x)
 one_of_two a b x h =

@@ -1,6 +1,6 @@
 -- A step that is taken keeps a tidy state, and so does a run; and what a process does next, and
 -- what that says of the process.
-use Rattle.std.proofs.Common.{◌≡◌, ℕ, Bool, true, false, cond, List, [], ◌∷◌, Option, Some, None, Result, Ok, Err, refl, subst, sym, ◌∙◌, ap}
+use Rattle.std.proofs.Common.{◌≡◌, ℕ, Bool, true, false, cond, List, [], ◌∷◌, map, Option, Some, None, Result, Ok, Err, refl, subst, sym, ◌∙◌, ap}
 use Rattle.std.specs.FinMap.{get}
 use Rattle.sk_record.specs.Step.{Effect, Refuse, perform, with_read}
 use Rattle.sk_record.specs.Run.{outcome, after, run}
@@ -15,9 +15,11 @@ use Rattle.sk_store.specs.declared.entity_state.EntityState.{EntityState}
 use Rattle.sk_store.specs.declared.entity_state.EntityState.TheVariants as stored
 use Rattle.sk_plain.specs.declared.refusal.Refusal.{Refusal}
 use Rattle.sk_plain.specs.declared.refusal.Refusal.TheVariants.{NoProcess, Ended}
-use Rattle.sk_plain.specs.Act.{Scripts, Saying, StepTree, act, goes_on, with_input, instruction_of}
-use Rattle.sk_client.proofs.CausedWorld.{Caused, kernel, table}
-use Rattle.sk_client.proofs.Tidy.{IsTidy}
+use Rattle.sk_plain.specs.Act.{Scripts, Saying, StepTree, act, plain, goes_on, with_input, instruction_of}
+use Rattle.sk_client.proofs.CausedWorld.{Caused, kernel, table, bare}
+use Rattle.sk_client.proofs.Labels.{run_bare}
+use Rattle.sk_trace.specs.Entry.{EntryView}
+use Rattle.sk_client.specs.Ready.{IsTidyState}
 use Rattle.sk_client.proofs.Rows.{Keeps, CanWrite, ends_of, input_fine, written_so}
 use Rattle.sk_script.specs.declared.instruction.Instruction.TheVariants as does_
 use Rattle.sk_plain.specs.declared.next.Next.{Next}
@@ -89,13 +91,16 @@ module _ (scripts : Scripts) (s : State) (pid : ℕ) (x : Input) (f : Effect Ent
   found is = found_alive (alive (step_at scripts s pid x) (step_of scripts s pid x) refl (λ v. refl) (step_goes scripts s pid x) f (get s (Proc pid)) is)
 
 module _ (scripts : Scripts) where
-  after_tidy : (s : State) (n : Caused) (o : Result (Effect Entity EntityState Saying) Refusal) → outcome (kernel (table scripts)) s n ≡ o → IsTidy s → IsTidy (after (kernel (table scripts)) o s)
-  after_tidy s n (Ok f) is h = let step = found scripts s n.process n.input f is in step.keeps.tidy s step.there h
+  after_tidy : (s : State) (n : EntryView) (o : Result (Effect Entity EntityState Saying) Refusal) → outcome (plain scripts) s n ≡ o → IsTidyState s → IsTidyState (after (plain scripts) o s)
+  after_tidy s n (Ok f) is h = let step = found scripts s n.pid n.input f is in step.keeps.tidy s step.there h
   after_tidy s n (Err why) is h = h
 
-  pub run_tidy : (s : State) (ns : List Caused) → IsTidy s → IsTidy (run (kernel (table scripts)) s ns)
-  run_tidy s [] h = h
-  run_tidy s (n ∷ ns) h = let K = kernel (table scripts) in run_tidy (after K (outcome K s n) s) ns (after_tidy s n (outcome K s n) refl h)
+  pub plain_tidy : (s : State) (ns : List EntryView) → IsTidyState s → IsTidyState (run (plain scripts) s ns)
+  plain_tidy s [] h = h
+  plain_tidy s (n ∷ ns) h = let K = plain scripts in plain_tidy (after K (outcome K s n) s) ns (after_tidy s n (outcome K s n) refl h)
+
+  pub run_tidy : (s : State) (ns : List Caused) → IsTidyState s → IsTidyState (run (kernel (table scripts)) s ns)
+  run_tidy s ns h = subst IsTidyState (sym (run_bare bare (plain scripts) s ns)) (plain_tidy s (map bare ns) h)
 
 -- ---- what a process does next, by its instruction
 

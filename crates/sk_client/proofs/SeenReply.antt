@@ -15,27 +15,25 @@ use Rattle.sk_plain.specs.Planned.{refusal_of}
 use Rattle.sk_plain.specs.declared.refusal.Refusal.{Refusal}
 use Rattle.sk_plain.specs.declared.refusal.Refusal.TheVariants.{TraceFull}
 use Rattle.sk_kernel.specs.Kernel.{KernelView, undecided_at, last_guess, room, effect_at, or_else, trace_full, step_refused, with_event}
-use Rattle.sk_server.specs.declared.request.Ask.TheVariants.{Store}
 use Rattle.sk_server.specs.declared.reply.Answer.{Answer}
 use Rattle.sk_server.specs.declared.reply.Answer.TheVariants.{Yes, No, Copy, Dropped}
 use Rattle.sk_server.specs.declared.reply.Reply.{Reply}
 use Rattle.sk_client.specs.Desk.{name_of, DeskView, is_asked, asked_count, kept_after, answer_kept, entry, fits_ask, decided, input_of, stepped, answered, given_to, given, is_void}
 use Rattle.sk_client.specs.Exchanges.{Exchanges}
-use Rattle.sk_client.specs.Table.{Bytes}
 use Rattle.sk_client.specs.WorldView.{WorldView}
 use Rattle.sk_client.specs.declared.pending.KeptAnswer.{KeptAnswer}
 use Rattle.sk_client.specs.declared.pending.PendingRequest.{PendingRequest}
 use Rattle.sk_client.proofs.CausedWorld.{Caused, For, Served, kernel, state, undecided, asked_entry, is_lost, is_void as law_void, table, Takes, Sets}
 use Rattle.sk_client.proofs.DeskFacts.{reply_free, given_reply}
 use Rattle.sk_client.proofs.Each.{cons_first}
-use Rattle.sk_client.proofs.Invariant.{Invariant, Ready, HasStep, is_accepted, any_of}
+use Rattle.sk_client.proofs.Invariant.{Invariant, Ready, HasStep, is_accepted, any_of, never_dropped}
 use Rattle.sk_client.proofs.Events.{no_guess, inv_plain, inv_commit, inv_fail, inv_drop, inv_done}
 use Rattle.sk_client.proofs.PlaceFacts.{used, used_step, used_commit, used_fail}
 use Rattle.sk_client.proofs.Records.{tags_of_step}
 use Rattle.sk_client.proofs.RequestFacts.{RequestFacts, NoGood, facts_none, facts_commit, facts_fail, facts_step}
 use Rattle.sk_client.proofs.SeenWorld.{Traced, does_seen, undecided_seen, void_seen, last_more, traced_step, traced_commit, traced_fail, World, law_served, unanswered, answered_there, answered_here}
 use Rattle.sk_client.proofs.Table.{is_table}
-use Rattle.sk_client.proofs.Tidy.{IsTidy}
+use Rattle.sk_client.specs.Ready.{IsTidyState}
 use Rattle.sk_client.proofs.WorldFacts.{Oldest}
 use Rattle.sk_client.proofs.Worlds.{IsFor, AreFor, not_copied, takes_by, good_yes, keeps_input, never_good, good_open, not_void, Reached, reached_by}
 
@@ -45,9 +43,6 @@ asked_one q qs none = ap (λ b. length (cond b (q ∷ filter is_asked qs) (filte
 
 asked_less : (q : PendingRequest) (qs : List PendingRequest) → asked_count qs ≤ asked_count (q ∷ qs)
 asked_less q qs = elim (is_asked q) as (λ b. length (filter is_asked qs) ≤ length (cond b (q ∷ filter is_asked qs) (filter is_asked qs))) [ true ↦ omega arith | false ↦ omega arith ]
-
-not_dropped : (a : Answer) (x : Input) → input_of a ≡ Some x → a ≡ Dropped → ⊥
-not_dropped a x gives is = (let both : None ≡ Some x = ap input_of (sym is) ∙ gives in cc)
 
 module _ (drawn begun : ℕ) (old : World) (xs : Exchanges) (v : WorldView) (r : Reached drawn begun old xs v) (q : PendingRequest) (later : List PendingRequest) (rs : List Reply) where
   abbrev K : KernelView
@@ -89,7 +84,7 @@ module _ (drawn begun : ℕ) (old : World) (xs : Exchanges) (v : WorldView) (r :
 
     module _ (none : q.guess ≡ None) (x : Input) (gives : input_of a ≡ Some x) where
       sound : law_void (table v.desk.kernel.scripts) v.desk.kernel.start r.trace q ≡ false
-      sound = void_seen r.trace K r.all.traced q ∙ false_from_ne_true _ (whole (not_dropped a x gives))
+      sound = void_seen r.trace K r.all.traced q ∙ false_from_ne_true _ (whole (never_dropped a x gives))
 
       takes : Takes (table v.desk.kernel.scripts) (state (table v.desk.kernel.scripts) v.desk.kernel.start r.trace) q.process q.ask x
       takes =
@@ -111,8 +106,8 @@ module _ (drawn begun : ℕ) (old : World) (xs : Exchanges) (v : WorldView) (r :
 
   -- the trace is es then, of this kernel, with these kept answers
   module _ (a : Answer) (c : Comes a) (k : KernelView) (es : List (Event Caused)) (kept : List KeptAnswer) where
-    finish : IsTidy k.start → Traced es k
-        → (a ≡ Yes → (m : Bytes) (v : ℕ) (b : Bytes) → q.ask ≡ Store m v b → q.guess ≡ None → HasStep (table k.scripts) k.start (record_of (kernel (table k.scripts)) k.start es) q)
+    finish : IsTidyState k.start → Traced es k
+        → ((x : Input) → input_of a ≡ Some x → q.guess ≡ None → HasStep (table k.scripts) k.start (record_of (kernel (table k.scripts)) k.start es) q x)
         → Invariant (table k.scripts) k.start es (last_guess k) (r.given ++ (q, a) ∷ law_served later rs) r.given rest unserved v.server.refused
         → RequestFacts (table k.scripts) k.start drawn begun old es (last_guess k) v.desk.next (r.given ++ (q, a) ∷ law_served later rs) (r.given ++ (q, a) ∷ []) unserved
         → NoGood kept → used k + asked_count rest ≤ k.limit
@@ -138,10 +133,10 @@ module _ (drawn begun : ℕ) (old : World) (xs : Exchanges) (v : WorldView) (r :
     fewer = (let was = c.room in let le = asked_less q rest in omega (arith, was, le))
 
     -- a reply that leaves the kernel as it is
-    unchanged : (a ≡ Yes → (m : Bytes) (v : ℕ) (b : Bytes) → q.ask ≡ Store m v b → q.guess ≡ None → ⊥) → ((g : ℕ) → a ≡ Yes → q.guess ≡ Some g → Contains r.trace (Commit g))
+    unchanged : ((x : Input) → input_of a ≡ Some x → q.guess ≡ None → ⊥) → ((g : ℕ) → a ≡ Yes → q.guess ≡ Some g → Contains r.trace (Commit g))
         → Reached drawn begun old xs (record v { desk = record v.desk { taken = later }; replies = rs })
     unchanged never committed =
-        finish a c K r.trace v.desk.kept r.all.tidy r.all.traced (λ says m n b ask asks. absurd (never says m n b ask asks)) left
+        finish a c K r.trace v.desk.kept r.all.tidy r.all.traced (λ x gives asks. absurd (never x gives asks)) left
         (facts_none (table K.scripts) K.start drawn begun old r.trace (last_guess K) v.desk.next served r.given unserved c.facts (q, a) committed) r.all.answers fewer
 
     -- ---- of a guess
@@ -162,7 +157,7 @@ module _ (drawn begun : ℕ) (old : World) (xs : Exchanges) (v : WorldView) (r :
           let k = with_event K (events.Commit g) in
           let es = r.trace ++ Commit g ∷ [] in
           let more = sym (last_more K (events.Commit g)) in
-          finish a c k es kept_then r.all.tidy (traced_commit r.trace K r.all.traced g here) (λ _ m n b _ asks. absurd (no_guess q.guess g asks its))
+          finish a c k es kept_then r.all.tidy (traced_commit r.trace K r.all.traced g here) (λ x _ asks. absurd (no_guess q.guess g asks its))
           (subst (λ d. Invariant S K.start es d served r.given rest unserved v.server.refused) more
           (inv_commit S K.start (is_table K.scripts) r.trace (last_guess K) served r.given rest unserved v.server.refused g left opens))
           (subst (λ d. RequestFacts S K.start drawn begun old es d v.desk.next served (r.given ++ (q, a) ∷ []) unserved) more
@@ -178,7 +173,7 @@ module _ (drawn begun : ℕ) (old : World) (xs : Exchanges) (v : WorldView) (r :
           let es = r.trace ++ Fail g ∷ [] in
           let more = sym (last_more K (events.Fail g)) in
           let refused : left.bad g ≡ true = ((left.answers (q, a) (there a c)).own g its).3 ∙ ap not bad in
-          finish a c k es kept_then r.all.tidy (traced_fail r.trace K r.all.traced g here) (λ says. absurd (no_yes says))
+          finish a c k es kept_then r.all.tidy (traced_fail r.trace K r.all.traced g here) (λ x _ asks. absurd (no_guess q.guess g asks its))
           (subst (λ d. Invariant S K.start es d served r.given rest unserved v.server.refused) more
           (inv_fail S K.start (is_table K.scripts) r.trace (last_guess K) served r.given rest unserved v.server.refused g left refused opens))
           (subst (λ d. RequestFacts S K.start drawn begun old es d v.desk.next served (r.given ++ (q, a) ∷ []) unserved) more
@@ -202,10 +197,14 @@ module _ (drawn begun : ℕ) (old : World) (xs : Exchanges) (v : WorldView) (r :
           let ready = asked_ready a c none (sound a c none x gives) in
           let more = sym (last_more K (events.Step q.process x)) in
           let same : (o : PendingRequest) → n.cause ≡ For o → q ≡ o = λ o cause. (let both : For q ≡ For o = cause in cc) in
-          let good : a ≡ Yes → x ≡ Good = λ says. (let both : Some Good ≡ Some x = ap input_of (sym says) ∙ gives in cc) in
           finish a c k es v.desk.kept r.all.tidy
           (traced_step r.trace K r.all.traced q.process x n t.effect refl (sym (does_seen r.trace K r.all.traced q.process x) ∙ t.accepted))
-          (λ says m w b ask _. (n, subst (λ ns. Contains ns n) (sym (record_more G K.start r.trace (Taken n))) (Contains-push ns n), refl, good says))
+          (λ y gives_y _. (
+            n,
+            subst (λ ns. Contains ns n) (sym (record_more G K.start r.trace (Taken n))) (Contains-push ns n),
+            refl,
+            (let both : Some x ≡ Some y = sym gives ∙ gives_y in cc),
+          ))
           (subst (λ d. Invariant S K.start es d served r.given rest unserved v.server.refused) more
           (inv_plain S K.start (is_table K.scripts) r.trace (last_guess K) served r.given rest unserved v.server.refused n t.effect left t.accepted refl
           (λ y there hits o cause.
@@ -247,7 +246,7 @@ module _ (drawn begun : ℕ) (old : World) (xs : Exchanges) (v : WorldView) (r :
 
   by_input : (a : Answer) (c : Comes a) → q.guess ≡ None → is_void v.desk.kernel q ≡ false → (o : Option Input) → input_of a ≡ o
       → Reached drawn begun old xs (record v { desk = answered (record v.desk { taken = later }) q o; replies = rs })
-  by_input a c asks _ None gives = unchanged a c (λ says m n b _ _. (let both : Some Good ≡ None = ap input_of (sym says) ∙ gives in cc)) (λ g _ its. absurd (no_guess q.guess g asks its))
+  by_input a c asks _ None gives = unchanged a c (λ x gives_x _. (let both : None ≡ Some x = sym gives ∙ gives_x in cc)) (λ g _ its. absurd (no_guess q.guess g asks its))
   by_input a c asks _ (Some x) gives =
       subst (λ (o : Option Refusal). Reached drawn begun old xs (record v { desk = record v.desk { kernel = stepped K q.process x o; taken = later }; replies = rs })) (sym (accepted a c asks x gives)) (steps a c asks x gives)
 
@@ -255,12 +254,12 @@ module _ (drawn begun : ℕ) (old : World) (xs : Exchanges) (v : WorldView) (r :
   given_keeps a c (Some g) its =
       elim (has g (undecided_at K)) as (λ b. has g (undecided_at K) ≡ b → Reached drawn begun old xs (record v { desk = cond b (decided (record v.desk { taken = later }) q g a) (record v.desk { taken = later }); replies = rs })) [
         | true ↦ λ here. by_guess a c g its here
-        | false ↦ λ shut. unchanged a c (λ _ m n b _ asks. no_guess q.guess g asks its)
+        | false ↦ λ shut. unchanged a c (λ x _ asks. no_guess q.guess g asks its)
             (λ h says is. (let both : Some g ≡ Some h = sym its ∙ is in let one : g ≡ h = cc in subst (λ h. Contains r.trace (Commit h)) one (committed a c g its shut says)))
       ] refl
   given_keeps a c None asks =
       elim (is_void K q) as (λ b. is_void K q ≡ b → Reached drawn begun old xs (record v { desk = cond b (record v.desk { taken = later }) (answered (record v.desk { taken = later }) q (input_of a)); replies = rs })) [
-        | true ↦ λ void. unchanged a c (λ says m n b _ _. whole a c (λ is. (let both : Dropped ≡ Yes = sym is ∙ says in cc)) void) (λ g _ its. absurd (no_guess q.guess g asks its))
+        | true ↦ λ void. unchanged a c (λ x gives _. whole a c (never_dropped a x gives) void) (λ g _ its. absurd (no_guess q.guess g asks its))
         | false ↦ λ sound. by_input a c asks sound (input_of a) refl
       ] refl
 

@@ -19,7 +19,8 @@ use Rattle.sk_client.proofs.CausedWorld.{Caused, kernel, own, table, IsTable, or
 use Rattle.sk_script.specs.declared.instruction.Input.TheVariants as inputs
 use Rattle.sk_client.proofs.DeskFacts.{Did}
 use Rattle.sk_client.specs.Table.{Bytes, buffer_of, copy_of, version_of}
-use Rattle.sk_client.proofs.Tidy.{IsTidy, IsNextChild, unborn, IsCopy}
+use Rattle.sk_client.specs.Ready.{IsTidyState, IsCopy}
+use Rattle.sk_client.proofs.Tidy.{IsNextChild, unborn}
 use Rattle.sk_client.proofs.Rows.{IsOf, CanWrite, one_of_two, only_one}
 use Rattle.sk_client.proofs.Runs.{next_in, found, run_tidy, IsAt, IsFree, next_turn, store_at, turn_at, steps_on}
 use Rattle.std.proofs.lemmas.Bool.{lt-ltb}
@@ -103,7 +104,7 @@ module _ (scripts : Scripts) (s : State) (pid : ℕ) (name : Bytes) where
             ∙ ap (λ o. with_read (Proc pid) (Some (stored.Process p)) (with_read (Copy name) o (perform (get s) (from_copy pid p o)))) c.1;
         reads = both;
         writes = alone;
-        sets = λ there. (let no : Proc pid ≡ Copy name = only_one (Proc pid) (Copy name) there in cc);
+        sets = λ other there. (let no : Proc pid ≡ Copy other = only_one (Proc pid) (Copy other) there in cc);
       }
 
   -- what a store over this copy writes
@@ -148,7 +149,7 @@ module _ (scripts : Scripts) (s : State) (pid : ℕ) (name : Bytes) where
 
 -- ---- the table
 
-module _ (scripts : Scripts) (start : State) (tidy : IsTidy start) where
+module _ (scripts : Scripts) (start : State) (tidy : IsTidyState start) where
   abbrev reached : List Caused → State
   reached ns = run (kernel (table scripts)) start ns
 
@@ -190,7 +191,7 @@ pub not_there : (scripts : Scripts) (s : State) (pid : ℕ) (i : Instruction) �
 not_there scripts s pid i is none = (let both : None ≡ Some (stored.Process is.process) = sym none ∙ is.there in cc)
 
 -- a store sets the copy, in the states that a tidy one leads to
-pub takes_store : (scripts : Scripts) (start : State) → IsTidy start → (ns : List Caused) (p : ℕ) (m : Bytes) (v : ℕ)
+pub takes_store : (scripts : Scripts) (start : State) → IsTidyState start → (ns : List Caused) (p : ℕ) (m : Bytes) (v : ℕ)
     → let s = run (kernel (table scripts)) start ns in
     next_turn scripts s p ≡ Ok (nexts.Store m) → or_zero (version_of (get s (Copy m))) ≡ v → v < LAST_VERSION → Takes (table scripts) s p (Store m v (buffer_of (get s (Proc p)))) Good
 takes_store scripts start tidy ns p m v next cached lt =

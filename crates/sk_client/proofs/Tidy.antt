@@ -27,6 +27,7 @@ use Rattle.sk_script.specs.declared.boot.BootObject.{BootObject}
 use Rattle.sk_script.specs.declared.boot.BootProcess.{BootProcess}
 use Rattle.sk_store.specs.Start.{boot_object, first_value, with_objects, with_links, with_process, with_processes, with_copies, with_root, start_of}
 use Rattle.sk_client.specs.Table.{HasNumber, IsNumbered}
+use Rattle.sk_client.specs.Ready.{IsPlaced, IsCopy, IsTidyState}
 
 -- ---- reads after a write
 
@@ -50,24 +51,6 @@ still X s e q o new old = subst X (sym (get-put entity_total s e o q)) (either X
 
 -- ---- states
 
--- its parent is there, and has made so many children
-abbrev pub IsCounted : State → ℕ → Type 0
-IsCounted s c = (p : Process) × (get s (Proc (c / 65536)) ≡ Some (stored.Process p)) × (c % 65536 ≤ p.children)
-
-pub record IsPlaced (s : State) (c : ℕ) : Type 0 where
-  pub some : 0 < c
-  pub counted : 65536 ≤ c → IsCounted s c
-
-abbrev pub IsCopy : Option EntityState → Type 0
-IsCopy None = Unit {0}
-IsCopy (Some (stored.Value (values.Copy c))) = Unit {0}
-IsCopy (Some (stored.Value v)) = ⊥
-IsCopy (Some (stored.Process p)) = ⊥
-
-pub record IsTidy (s : State) : Type 0 where
-  pub placed : (c : ℕ) → IsSome (get s (Proc c)) → IsPlaced s c
-  pub copies : (name : List ℕ) → IsCopy (get s (Copy name))
-
 -- processes stay, and count no fewer children
 abbrev pub Grows : State → State → Type 0
 Grows s t = (k : ℕ) (r : Process) → get s (Proc k) ≡ Some (stored.Process r) → (q : Process) × (get t (Proc k) ≡ Some (stored.Process q)) × (r.children ≤ q.children)
@@ -78,7 +61,7 @@ placed_still s t c grows h = record {
   counted = λ child. (let was = h.counted child in let now = grows (c / 65536) was.0 was.1 in let le = was.2 in let more = now.2 in (now.0, now.1, omega arith));
 }
 
-tidy_still : (s t : State) → Grows s t → ((c : ℕ) → IsSome (get t (Proc c)) → IsSome (get s (Proc c)) ⊎ IsPlaced t c) → ((name : List ℕ) → IsCopy (get t (Copy name))) → IsTidy s → IsTidy t
+tidy_still : (s t : State) → Grows s t → ((c : ℕ) → IsSome (get t (Proc c)) → IsSome (get s (Proc c)) ⊎ IsPlaced t c) → ((name : List ℕ) → IsCopy (get t (Copy name))) → IsTidyState s → IsTidyState t
 tidy_still s t grows there copies h = record {
   placed = λ c is. elim (there c is) [ inl was ↦ placed_still s t c grows (h.placed c was) | inr new ↦ new ];
   copies = copies;
@@ -98,7 +81,7 @@ own_grows s t pid k p q r there now le same is =
     let fewer = ap (λ (p : Process). p.children) one in
     (q, (λ i. get t (Proc (same i))) ∙ now, omega arith)
 
-pub tidy_own : (s : State) (pid : ℕ) (p q : Process) → get s (Proc pid) ≡ Some (stored.Process p) → p.children ≤ q.children → IsTidy s → IsTidy (put s (Proc pid) (Some (stored.Process q)))
+pub tidy_own : (s : State) (pid : ℕ) (p q : Process) → get s (Proc pid) ≡ Some (stored.Process p) → p.children ≤ q.children → IsTidyState s → IsTidyState (put s (Proc pid) (Some (stored.Process q)))
 tidy_own s pid p q there le h =
     let t = put s (Proc pid) (Some (stored.Process q)) in
     tidy_still s t
@@ -122,14 +105,14 @@ IsPlace (Obj o) = Unit {0}
 IsPlace (Link o n) = Unit {0}
 IsPlace (Copy n) = ⊥
 
-pub tidy_place : (s : State) (e : Entity) (o : Option EntityState) → IsPlace e → IsTidy s → IsTidy (put s e o)
+pub tidy_place : (s : State) (e : Entity) (o : Option EntityState) → IsPlace e → IsTidyState s → IsTidyState (put s e o)
 tidy_place s e o place h =
     let procs : (c : ℕ) → get (put s e o) (Proc c) ≡ get s (Proc c) = λ c. elsewhere s e (Proc c) o (λ same. subst IsPlace (sym same) place) in
     tidy_still s (put s e o) (λ k r is. (r, procs k ∙ is, omega arith)) (λ c is. inl (subst IsSome (procs c) is))
     (λ name. subst IsCopy (sym (elsewhere s e (Copy name) o (λ same. subst IsPlace (sym same) place))) (h.copies name))
     h
 
-pub tidy_copy : (s : State) (name : List ℕ) (c : ContentView) → IsTidy s → IsTidy (put s (Copy name) (Some (stored.Value (values.Copy c))))
+pub tidy_copy : (s : State) (name : List ℕ) (c : ContentView) → IsTidyState s → IsTidyState (put s (Copy name) (Some (stored.Value (values.Copy c))))
 tidy_copy s name c h =
     let o : Option EntityState = Some (stored.Value (values.Copy c)) in
     let procs : (c : ℕ) → get (put s (Copy name) o) (Proc c) ≡ get s (Proc c) = λ c. elsewhere s (Copy name) (Proc c) o (λ same. cc) in
@@ -150,7 +133,7 @@ child_under : (pid n : ℕ) → n < 65535 → (pid * 65536 + (n + 1)) % 65536 �
 child_under pid n lt = mod-mul-add pid 65536 (n + 1) (omega arith)
 
 -- a child that is to be born is not there yet
-pub unborn : (s : State) (pid : ℕ) (p : Process) (c : ℕ) → IsTidy s → get s (Proc pid) ≡ Some (stored.Process p) → IsNextChild pid p c → IsSome (get s (Proc c)) → ⊥
+pub unborn : (s : State) (pid : ℕ) (p : Process) (c : ℕ) → IsTidyState s → get s (Proc pid) ≡ Some (stored.Process p) → IsNextChild pid p c → IsSome (get s (Proc c)) → ⊥
 unborn s pid p c h there next is =
     let own = (h.placed pid (subst IsSome (sym there) refl)).some in
     let number = next.0 in
@@ -189,7 +172,7 @@ birth_proc s pid k child parent apart old =
     birth_else s pid child parent (Proc k) (λ same. apart (let is : k ≡ pid = cc in is)) (λ is. cc) (λ is. cc) ∙ proc_is s child.pid k (Some (stored.Process child)) old
 
 pub tidy_birth : (s : State) (pid : ℕ) (p child parent : Process) → get s (Proc pid) ≡ Some (stored.Process p) → IsNextChild pid p child.pid → parent.children ≡ p.children + 1
-    → IsTidy s → IsTidy (after_birth s pid child parent)
+    → IsTidyState s → IsTidyState (after_birth s pid child parent)
 tidy_birth s pid p child parent there next count h =
     let t = after_birth s pid child parent in
     let number = next.0 in
@@ -278,7 +261,7 @@ new_copies : (s : State) (cs : List (List ℕ × ContentView)) → IsNew s → I
 new_copies s [] h = h
 new_copies s (c ∷ cs) h = new_copies (put s (Copy c.0) (Some (stored.Value (values.Copy c.1)))) cs (new_copy s c.0 c.1 h)
 
-pub tidy_start : (boot : BootView) → IsNumbered boot → IsTidy (start_of boot)
+pub tidy_start : (boot : BootView) → IsNumbered boot → IsTidyState (start_of boot)
 tidy_start boot numbered =
     let bare = stored.Value values.Dir in
     let new = new_copies (with_processes (with_root boot.objects) boot.processes) boot.copies

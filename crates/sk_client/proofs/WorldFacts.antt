@@ -262,9 +262,22 @@ given_joined d e s r rs b is j =
 
 -- ---- the beginning
 
-pub begun_joined : (d : DeskView) (s : ServerView) → d.taken ≡ [] → d.waiting ≡ [] → d.next ≡ 1 → s.next ≡ 1 → IsJoined d s [] None
-begun_joined d s t w n is = record {
+pub begun_joined : (d : DeskView) (s : ServerView) → d.taken ≡ [] → d.waiting ≡ [] → d.next ≡ s.next → s.next ≤ LAST_REQUEST + 1 → IsJoined d s [] None
+begun_joined d s t w n last = record {
   replies = subst (AreReplies [] None) (sym t) tt;
-  next = (subst (Numbered s.next) (sym w) tt, let count : length d.waiting ≡ 0 = ap length w in omega (arith, n, is, count));
-  last = omega (arith, n);
+  next = (subst (Numbered s.next) (sym w) tt, let count : length d.waiting ≡ 0 = ap length w in omega (arith, n, count));
+  last = omega (arith, n, last);
 }
+
+none_back : (d : DeskView) (s : ServerView) (rs : List Reply) (b : Option Request) → AreReplies rs b [] → IsNext s b d → d.waiting ≡ [] → d.next ≡ s.next
+none_back d s [] None replies next none = (let count : length d.waiting ≡ 0 = ap length none in let more = next.1 in omega (arith, count, more))
+none_back d s rs b replies next none = absurd replies
+
+none_left : (d : DeskView) (s : ServerView) (rs : List Reply) (b : Option Request) (ts ws : List PendingRequest) → d.taken ≡ ts → d.waiting ≡ ws → ts ++ ws ≡ [] → IsJoined d s rs b → d.next ≡ s.next
+none_left d s rs b [] [] taken waiting none j = none_back d s rs b (subst (AreReplies rs b) taken j.replies) j.next waiting
+none_left d s rs b [] (q ∷ ws) taken waiting none j = absurd cc
+none_left d s rs b (q ∷ ts) ws taken waiting none j = absurd cc
+
+-- where no request is pending, the desk's next one is the server's next
+pub no_requests : (d : DeskView) (s : ServerView) (rs : List Reply) (b : Option Request) → d.taken ++ d.waiting ≡ [] → IsJoined d s rs b → d.next ≡ s.next
+no_requests d s rs b none j = none_left d s rs b d.taken d.waiting refl refl none j

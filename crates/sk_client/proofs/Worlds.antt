@@ -43,7 +43,7 @@ use Rattle.sk_client.proofs.RequestFacts.{RequestFacts, NoGood}
 use Rattle.sk_client.proofs.SeenWorld.{Traced, World, all_served, all_waiting, law_served, unanswered, answered_there, answered_here}
 use Rattle.sk_client.proofs.Table.{is_table, owns, copies}
 use Rattle.sk_client.proofs.Runs.{next_turn}
-use Rattle.sk_client.proofs.Tidy.{IsTidy}
+use Rattle.sk_client.specs.Ready.{IsTidyState}
 use Rattle.sk_client.proofs.DeskFacts.{Did}
 use Rattle.sk_client.proofs.WorldFacts.{Fitting, answer_suits}
 
@@ -136,7 +136,7 @@ IsClear qs (Ok (nexts.Store m)) = asks_on m qs ≡ false
 IsClear qs t = Unit {0}
 
 -- a step of a turn does not touch what asked requests wait for
-pub quiet_turn : (scripts : Scripts) (start : State) → IsTidy start → (es : List (Event Caused)) (qs : List PendingRequest) (p : ℕ) (x : Input) (f : Did) (t : Result Next Refusal)
+pub quiet_turn : (scripts : Scripts) (start : State) → IsTidyState start → (es : List (Event Caused)) (qs : List PendingRequest) (p : ℕ) (x : Input) (f : Did) (t : Result Next Refusal)
     → outcome (kernel (table scripts)) (state (table scripts) start es) (own p x) ≡ Ok f → next_turn scripts (state (table scripts) start es) p ≡ t → IsClear qs t
     → (t ≡ Ok nexts.Signal → x ≡ inputs.None) → asks_for p qs ≡ false → (q : PendingRequest) → Contains qs q → q.guess ≡ None
     → Ready (table scripts) start (record_of (kernel (table scripts)) start es) (undecided (table scripts) start es) q → Quiet (table scripts) start (is_table scripts) f q.process (name_of q.ask)
@@ -206,7 +206,7 @@ module _ {E V W F : Type 0} (S : Table E V W F) (start : FinMap S.order V) where
 module _ (drawn begun : ℕ) (old : World) where
   -- all that is shown to hold after every event
   pub record All (w : World) : Type 0 where
-    pub tidy : IsTidy w.view.desk.kernel.start
+    pub tidy : IsTidyState w.view.desk.kernel.start
     pub traced : Traced w.trace w.view.desk.kernel
     pub kinds : AreFor (pending w.view.desk)
     pub holds :
@@ -224,7 +224,7 @@ module _ (drawn begun : ℕ) (old : World) where
     pub all : All (record { view = v; trace = trace; given = given })
 
   pub reached_by : (xs : Exchanges) (v : WorldView) (es : List (Event Caused)) (given : List Served) → map answered_there (given ++ law_served v.desk.taken v.replies) ≡ map answered_here xs
-      → IsTidy v.desk.kernel.start → Traced es v.desk.kernel → AreFor (pending v.desk)
+      → IsTidyState v.desk.kernel.start → Traced es v.desk.kernel → AreFor (pending v.desk)
       → Invariant (table v.desk.kernel.scripts) v.desk.kernel.start es (last_guess v.desk.kernel) (given ++ law_served v.desk.taken v.replies) given (pending v.desk)
       (unanswered v.desk.taken v.replies ++ v.desk.waiting) v.server.refused
       → RequestFacts (table v.desk.kernel.scripts) v.desk.kernel.start drawn begun old es (last_guess v.desk.kernel) v.desk.next (given ++ law_served v.desk.taken v.replies) given

@@ -4,7 +4,7 @@ use Rattle.sk_plain.specs.Refusal.{cause}
 use Rattle.sk_plain.specs.declared.refusal.Refusal.{Refusal}
 use Rattle.sk_trace.specs.Trace.{TraceView}
 use Rattle.sk_terminal.specs.Terminals.{TerminalMap, released_at}
-use Rattle.sk_kernel.specs.Calls.{LeavesTexts, IsNextEpoch}
+use Rattle.sk_kernel.specs.Calls.{LeavesTexts, EpochPost}
 use Rattle.sk_kernel.specs.declared.kernel.EpochRefusal.{EpochRefusal}
 use Rattle.sk_kernel.specs.declared.kernel.EpochRefusal.TheVariants as epoch_refusals
 use Rattle.sk_server.specs.declared.reply.Reply.{Reply}
@@ -52,10 +52,8 @@ ShutPost (Ok left) d = (pending d ≡ []) × (left.0.events ≡ d.kernel.trace) 
 ShutPost (Err back) d = (0 < length (pending d)) × (back.0 ≡ d) × (back.1.0 ≡ length (pending d))
 
 -- where no request is pending a new epoch begins: that of the kernel, with kept answers forgotten, whose first request is the
--- next one; what was done and released is handed out; else nothing changes
+-- next one; else nothing changes
 abbrev pub DeskEpochPost : Result (TraceView × TerminalMap) EpochRefusal → DeskView → DeskView → Type 0
-DeskEpochPost (Ok left) old new =
-    (pending old ≡ []) × (left.0.events ≡ old.kernel.trace) × ((t : ℕ) → LeavesTexts old.kernel t (released_at left.1 t))
-    × IsNextEpoch old.kernel new.kernel × (new ≡ opened_at new.kernel old.next)
+DeskEpochPost (Ok left) old new = (pending old ≡ []) × EpochPost (Ok left) old.kernel new.kernel × (new ≡ opened_at new.kernel old.next)
 DeskEpochPost (Err (epoch_refusals.Undecided n)) old new = (n ≡ length (pending old)) × (0 < n) × (new ≡ old)
 DeskEpochPost (Err epoch_refusals.Memory) old new = (pending old ≡ []) × (new ≡ old)

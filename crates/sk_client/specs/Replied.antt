@@ -1,22 +1,24 @@
--- The steps of a record and the accepted requests whose reply was given, one for one; and the places of the trace.
-use Rattle.std.specs.Prelude.{◌≡◌, ℕ, ◌+◌, ◌≤◌, ◌⊎◌, length, List, map, Option, Some, None, slice_get}
+-- The steps of a record and the requests whose reply was given, one for one; that no request has two replies; and the places of
+-- the trace.
+use Rattle.std.specs.Prelude.{◌≡◌, ℕ, ◌+◌, ◌≤◌, ◌⊎◌, length, List, ◌++◌, map, Option, Some, None, IsSome, slice_get}
 use Rattle.std.specs.List.{Contains}
 use Rattle.sk_record.specs.Effects.{MarkedEffect}
 use Rattle.sk_record.specs.Trace.{Commit}
 use Rattle.sk_ids.specs.declared.entity.Entity.{Entity}
 use Rattle.sk_ids.specs.declared.entity.Entity.TheVariants.{Copy as CopyOf}
+use Rattle.sk_script.specs.declared.instruction.Input.{Input}
 use Rattle.sk_script.specs.declared.instruction.Input.TheVariants as inputs
 use Rattle.sk_store.specs.declared.entity_state.EntityState.{EntityState}
 use Rattle.sk_trace.specs.Entry.{EntryView}
 use Rattle.sk_plain.specs.Act.{Saying}
-use Rattle.sk_kernel.specs.Kernel.{KernelView, events_of, undecided_at}
+use Rattle.sk_kernel.specs.Kernel.{KernelView, events_of, record_at, undecided_at}
 use Rattle.sk_server.specs.declared.request.Request.{Request as Sent}
 use Rattle.sk_server.specs.declared.request.Ask.{Ask}
 use Rattle.sk_server.specs.declared.request.Ask.TheVariants as asks
 use Rattle.sk_server.specs.declared.reply.Answer.TheVariants as answers
 use Rattle.sk_server.specs.declared.reply.Reply.{Reply}
 use Rattle.sk_client.specs.Table.{Bytes, copy_of}
-use Rattle.sk_client.specs.Desk.{pending, asked_count}
+use Rattle.sk_client.specs.Desk.{pending, asked_count, input_of}
 use Rattle.sk_client.specs.Exchanges.{Exchanges}
 use Rattle.sk_client.specs.AcceptedStores.{steps_at}
 use Rattle.sk_client.specs.WorldView.{WorldView}
@@ -30,11 +32,15 @@ PlacesAreKept v = length v.desk.kernel.trace + length (undecided_at v.desk.kerne
 abbrev pub Counts : KernelView → EntryView → Type 0
 Counts k n = (n.guess ≡ None) ⊎ ((g : ℕ) × (n.guess ≡ Some g) × Contains (events_of k) (Commit g))
 
--- what a step with Good does by its request: a store sets the copy, a check leaves it, and no fetch gets Good
+-- what a step with Good does by its request: a store sets the copy, a check writes no copy at all, and no fetch gets Good
 abbrev pub DoesAsked : Ask → List (Entity × Option EntityState) → Type 0
 DoesAsked (asks.Store name version bytes) ws = Contains ws (CopyOf name, Some (copy_of (record { version = version + 1; bytes = bytes })))
-DoesAsked (asks.Check name version) ws = Contains (map (λ w. w.0) ws) (CopyOf name) → ⊥
+DoesAsked (asks.Check name version) ws = (any : Bytes) → Contains (map (λ w. w.0) ws) (CopyOf any) → ⊥
 DoesAsked (asks.Get name) ws = ⊥
+
+-- no request of this number is pending
+abbrev pub IsGiven : WorldView → Sent → Type 0
+IsGiven v q = (p : PendingRequest) → Contains (pending v.desk) p → p.number ≡ q.number → ⊥
 
 -- one of the exchanges is a request that was accepted, and its reply was given
 pub record Replied (served : Exchanges) (v : WorldView) : Type 0 where
@@ -43,7 +49,7 @@ pub record Replied (served : Exchanges) (v : WorldView) : Type 0 where
   pub reply : Reply
   pub there : slice_get served at ≡ Some (request, reply)
   pub accepted : reply.answer ≡ answers.Yes
-  pub given : (p : PendingRequest) → Contains (pending v.desk) p → p.number ≡ request.number → ⊥
+  pub given : IsGiven v request
 
 -- a step at this place of the record counts, and is this request's: of its guess, or of none, with Good, and it does what
 -- was asked
@@ -56,21 +62,31 @@ pub record IsStepOf (k : KernelView) (place : ℕ) (q : Sent) : Type 0 where
   pub counts : Counts k entry
   pub does : DoesAsked q.ask effect.written
 
--- a request was made with a guess, or is a store
-abbrev pub IsStepped : Sent → Type 0
-IsStepped q = ((g : ℕ) × (q.guess ≡ Some g)) ⊎ ((name : Bytes) × (version : ℕ) × (bytes : Bytes) × (q.ask ≡ asks.Store name version bytes))
-
--- by its request's number each accepted request whose reply was given has a place of the record where its step stands, and
--- no two have one place; each step with Good that counts is one of these, but for so many steps that were there before; and
--- a request that was pending in an earlier world has its step by its process
+-- the steps of a record that were taken for requests, each with its request's number, and no two for one: each step with Good
+-- is one, but for so many steps that were there before; where it counts its request was accepted and its reply given, and each
+-- such request has its step; so has each asked request whose reply was given and that was not dropped, with what the reply
+-- gave; and a request that was pending in an earlier world has its step by its process
 pub record StepsAreReplied (before : ℕ) (served : Exchanges) (earlier v : WorldView) : Type 0 where
-  pub place_of : ℕ → ℕ
-  pub replies : (r : Replied served v) → IsStepped r.request → IsStepOf v.desk.kernel (place_of r.request.number) r.request
-  pub apart : (r s : Replied served v) → IsStepped r.request → IsStepped s.request → place_of r.request.number ≡ place_of s.request.number → r.at ≡ s.at
+  pub request_at : ℕ → Option ℕ
+  pub once : (place other number : ℕ) → request_at place ≡ Some number → request_at other ≡ Some number → place ≡ other
+  pub good : (place : ℕ) (n : EntryView) → before ≤ place → slice_get (record_at v.desk.kernel) place ≡ Some n → n.input ≡ inputs.Good → IsSome (request_at place)
   pub steps :
       (place : ℕ) (n : EntryView) (f : MarkedEffect Entity EntityState Saying) → before ≤ place → slice_get (steps_at v.desk.kernel) place ≡ Some (n, f)
       → n.input ≡ inputs.Good → Counts v.desk.kernel n
-      → (r : Replied served v) × (place_of r.request.number ≡ place) × IsStepOf v.desk.kernel place r.request
+      → (r : Replied served v) × (request_at place ≡ Some r.request.number) × IsStepOf v.desk.kernel place r.request
+  pub replies : (r : Replied served v) → (place : ℕ) × (request_at place ≡ Some r.request.number) × IsStepOf v.desk.kernel place r.request
+  pub asked :
+      (q : Sent) (r : Reply) (input : Input) → Contains served (q, r) → IsGiven v q → q.guess ≡ None → input_of r.answer ≡ Some input
+      → (place : ℕ) × (request_at place ≡ Some q.number)
+      × (n : EntryView) × (slice_get (record_at v.desk.kernel) place ≡ Some n) × (n.guess ≡ None) × (n.input ≡ input)
   pub its :
-      (p : PendingRequest) (n : EntryView) (f : MarkedEffect Entity EntityState Saying) → Contains (pending earlier.desk) p
-      → slice_get (steps_at v.desk.kernel) (place_of p.number) ≡ Some (n, f) → n.pid ≡ p.process
+      (p : PendingRequest) (place : ℕ) (n : EntryView) → Contains (pending earlier.desk) p → request_at place ≡ Some p.number
+      → slice_get (record_at v.desk.kernel) place ≡ Some n → (n.pid ≡ p.process) × (n.guess ≡ p.guess)
+
+-- no request has two replies: no two exchanges are of one number, each reply has the number of its request, and the replies
+-- were given in order, but for those that are on their way
+pub record AreRepliedOnce (served : Exchanges) (v : WorldView) : Type 0 where
+  pub once : (at other : ℕ) (x y : Sent × Reply) → slice_get served at ≡ Some x → slice_get served other ≡ Some y → x.0.number ≡ y.0.number → at ≡ other
+  pub numbers : (q : Sent) (r : Reply) → Contains served (q, r) → r.number ≡ q.number
+  pub given : List Reply
+  pub order : map (λ x. x.1) served ≡ given ++ v.replies

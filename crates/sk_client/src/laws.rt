@@ -1,34 +1,40 @@
 //! What holds of a kernel with its desk and a server, after every list of turns, replies and foreign edits. Each law is
 //! the contract of a function that does nothing.
-ghost use Rattle.std.specs.Prelude.{◌≡◌, ℕ, length, List, [], ◌++◌, Some, None, Result};
+ghost use Rattle.std.specs.Prelude.{◌≡◌, ℕ, length, List, ◌++◌, Some, None, Result, Ok};
 ghost use Rattle.sk_script.specs.Boot.{BootView};
+ghost use Rattle.sk_script.specs.Lease.{LeaseView, after_private};
 ghost use Rattle.sk_guesses.specs.Token.{Token};
 ghost use Rattle.sk_script.specs.declared.instruction.Input.{Input};
+ghost use Rattle.sk_terminal.specs.Terminals.{TerminalMap};
+ghost use Rattle.sk_trace.specs.Trace.{TraceView};
 ghost use Rattle.sk_trace.specs.declared.event.Event.TheVariants as events;
 ghost use Rattle.sk_plain.specs.declared.refusal.Refusal.{Refusal};
 ghost use Rattle.sk_kernel.specs.Kernel.{KernelView, booted, record_at, next_guess, step_refused, guess_refused};
-ghost use Rattle.sk_kernel.specs.Calls.{StepPost, GuessPost, CommitPost, FailPost};
+ghost use Rattle.sk_kernel.specs.Calls.{StepPost, GuessPost, CommitPost, FailPost, EpochPost};
+ghost use Rattle.sk_kernel.specs.HandIn.{HandInPost};
 ghost use Rattle.sk_kernel.specs.declared.kernel.Outcome.{Outcome};
 ghost use Rattle.sk_kernel.specs.declared.kernel.Stranger.{Stranger};
 ghost use Rattle.sk_kernel.specs.declared.kernel.FailRefusal.{FailRefusal};
+ghost use Rattle.sk_kernel.specs.declared.kernel.EpochRefusal.{EpochRefusal};
+ghost use Rattle.sk_kernel.specs.declared.hand_in.HandIn.{HandIn};
 ghost use Rattle.sk_server.specs.Server.{ServerView};
 ghost use Rattle.sk_client.specs.Table.{Bytes, IsNumbered};
-ghost use Rattle.sk_client.specs.Desk.{opened, entry};
+ghost use Rattle.sk_client.specs.Desk.{DeskView, opened, entry};
+ghost use Rattle.sk_client.specs.DeskCalls.{DeskEpochPost};
 ghost use Rattle.sk_client.specs.Exchanges.{Exchanges, Leads};
-ghost use Rattle.sk_client.specs.Ready.{WasBooted, IsReady};
+ghost use Rattle.sk_client.specs.Ready.{WasBooted, IsReady, Begins};
 ghost use Rattle.sk_client.specs.AcceptedStores.{StoresStand, StoresStood, StandApart};
 ghost use Rattle.sk_client.specs.AskedSteps.{StepsAreTaken, ForgottenAreDropped};
-ghost use Rattle.sk_client.specs.Replied.{StepsAreReplied, PlacesAreKept};
+ghost use Rattle.sk_client.specs.Replied.{StepsAreReplied, AreRepliedOnce, PlacesAreKept};
 ghost use Rattle.sk_client.specs.Writes.{writes_of, AreWritten};
 ghost use Rattle.sk_client.specs.WorldView.{WorldView, joined};
 ghost use Rattle.sk_client.specs.declared.world.WorldEvent.{WorldEvent};
 
 use sk_script::{Boot, BootProcess};
 
-/// A kernel that was booted is such after each step, guess, commit and failure, whatever they are answered, by what these
-/// calls ensure; of a hand-in nothing is said here, and a kernel behind a new epoch begins at the state there. With the numbers
-/// of its boot (`numbered`) it is so from `Kernel::boot` on. It is ready where nothing is undecided, which is what `Desk::new`
-/// requires of it.
+/// A kernel that was booted is such after each step, guess, commit, failure, hand-in and new epoch, whatever they are
+/// answered, by what these calls ensure. With the numbers of its boot (`numbered`) it is so from `Kernel::boot` on. It is ready
+/// where nothing is undecided, which is what `Desk::new` requires of it.
 pub fn ready()
     ensures boot { (number : ℕ) (boot : BootView) (limit : ℕ) → IsNumbered boot
         → WasBooted (booted number boot limit) }
@@ -43,6 +49,24 @@ pub fn ready()
         → CommitPost result token old new → WasBooted old → WasBooted new }
     ensures fail { (result : Result Outcome FailRefusal) (token : Token) (old new : KernelView)
         → FailPost result token old new → WasBooted old → WasBooted new }
+    ensures hand_in { (result : Result (Unit {0}) (LeaseView × HandIn)) (l : LeaseView)
+        (old new : KernelView)
+        → HandInPost result l old new → after_private l.script l.count l.lent ≡ Some l.now
+        → WasBooted old → WasBooted new }
+    ensures new_epoch { (result : Result (TraceView × TerminalMap) EpochRefusal)
+        (old new : KernelView)
+        → EpochPost result old new → WasBooted old → WasBooted new }
+{}
+
+/// A world begins where a desk is opened over a kernel that is ready, in whatever epoch, and a server has answered nothing; and
+/// after any list of its events, where its desk begins a new epoch, a world begins over that desk, with the server as it is.
+pub fn begins()
+    ensures first { (k : KernelView) (server : ServerView) → IsReady k → server.next ≡ 1
+        → Begins (joined (opened k) server) }
+    ensures epoch { (w : WorldView) → Begins w
+        → (es : List WorldEvent) (served : Exchanges) (v : WorldView) → Leads w es served v
+        → (left : TraceView × TerminalMap) (new : DeskView) → DeskEpochPost (Ok left) v.desk new
+        → Begins (joined new v.server) }
 {}
 
 /// Accepted stores stand: after any list of a world's events, and any list behind it, the step of each store that the
@@ -51,50 +75,45 @@ pub fn ready()
 /// that was made with a guess by then, if the server accepts it in that list or in the one behind (`stood`). What is made by
 /// then has a number below that of the desk's next request.
 pub fn accepted()
-    ensures stand { (k : KernelView) (server : ServerView) → IsReady k → server.next ≡ 1
-        → server.refused ≡ []
-        → (es : List WorldEvent) (served : Exchanges) (v : WorldView)
-        → Leads (joined (opened k) server) es served v
+    ensures stand { (w : WorldView) → Begins w
+        → (es : List WorldEvent) (served : Exchanges) (v : WorldView) → Leads w es served v
         → (later : List WorldEvent) (more : Exchanges) (last : WorldView)
         → Leads v later more last → StoresStand served v last }
-    ensures stood { (k : KernelView) (server : ServerView) → IsReady k → server.next ≡ 1
-        → server.refused ≡ []
-        → (es : List WorldEvent) (served : Exchanges) (v : WorldView)
-        → Leads (joined (opened k) server) es served v
+    ensures stood { (w : WorldView) → Begins w
+        → (es : List WorldEvent) (served : Exchanges) (v : WorldView) → Leads w es served v
         → (later : List WorldEvent) (more : Exchanges) (last : WorldView)
         → Leads v later more last → StoresStood (served ++ more) v }
 {}
 
 /// No two accepted stores have one step: each has a place of the record where its step stands, and no two have one place.
 pub fn apart()
-    ensures { (k : KernelView) (server : ServerView) → IsReady k → server.next ≡ 1
-        → server.refused ≡ []
-        → (es : List WorldEvent) (served : Exchanges) (v : WorldView)
-        → Leads (joined (opened k) server) es served v
+    ensures { (w : WorldView) → Begins w
+        → (es : List WorldEvent) (served : Exchanges) (v : WorldView) → Leads w es served v
         → (later : List WorldEvent) (more : Exchanges) (last : WorldView)
         → Leads v later more last → StandApart served v last }
 {}
 
 /// The steps that a record has since the world began, that were given Good and that were asked or whose guess committed, and
 /// the accepted requests whose reply was given, are one for one: each of the steps is that of such a request, each such
-/// request that was made with a guess or is a store has its step, and no two have one. A store's step sets the copy, a
-/// check's leaves it, and no fetch of a copy that is not there has one. And it is by its request's process: said of the
-/// requests that were pending after the first list.
+/// request has its step, and no two have one. A store's step sets the copy, a check's writes no copy at all, and no fetch of a
+/// copy that is not there has one. No two steps are one request's, also of those that were given something else than Good or
+/// whose guess is undecided; and each asked request whose reply was given has its step, but those that the server dropped. A
+/// step is by its request's process: said of the requests that were pending after the first list. No request has two replies
+/// (`replies`), whatever they answer.
 pub fn replied()
-    ensures { (k : KernelView) (server : ServerView) → IsReady k → server.next ≡ 1
-        → server.refused ≡ []
-        → (es : List WorldEvent) (served : Exchanges) (v : WorldView)
-        → Leads (joined (opened k) server) es served v
+    ensures steps { (w : WorldView) → Begins w
+        → (es : List WorldEvent) (served : Exchanges) (v : WorldView) → Leads w es served v
         → (later : List WorldEvent) (more : Exchanges) (last : WorldView) → Leads v later more last
-        → StepsAreReplied (length (record_at k)) (served ++ more) v last }
+        → StepsAreReplied (length (record_at w.desk.kernel)) (served ++ more) v last }
+    ensures replies { (w : WorldView) → Begins w
+        → (es : List WorldEvent) (served : Exchanges) (v : WorldView) → Leads w es served v
+        → AreRepliedOnce served v }
 {}
 
 /// The trace keeps its limit, with a place for the decision of each undecided guess and for the step of each asked request.
 pub fn places()
-    ensures { (k : KernelView) (server : ServerView) → IsReady k → server.next ≡ 1
-        → server.refused ≡ []
-        → (es : List WorldEvent) (served : Exchanges) (v : WorldView)
-        → Leads (joined (opened k) server) es served v
+    ensures { (w : WorldView) → Begins w
+        → (es : List WorldEvent) (served : Exchanges) (v : WorldView) → Leads w es served v
         → PlacesAreKept v }
 {}
 
@@ -102,15 +121,11 @@ pub fn places()
 /// accepted by the kernel and in the trace, and one that is answered by `Forgotten` says that the server dropped the
 /// request.
 pub fn taken()
-    ensures steps { (k : KernelView) (server : ServerView) → IsReady k → server.next ≡ 1
-        → server.refused ≡ []
-        → (es : List WorldEvent) (served : Exchanges) (v : WorldView)
-        → Leads (joined (opened k) server) es served v
+    ensures steps { (w : WorldView) → Begins w
+        → (es : List WorldEvent) (served : Exchanges) (v : WorldView) → Leads w es served v
         → StepsAreTaken v }
-    ensures forgotten { (k : KernelView) (server : ServerView) → IsReady k → server.next ≡ 1
-        → server.refused ≡ []
-        → (es : List WorldEvent) (served : Exchanges) (v : WorldView)
-        → Leads (joined (opened k) server) es served v
+    ensures forgotten { (w : WorldView) → Begins w
+        → (es : List WorldEvent) (served : Exchanges) (v : WorldView) → Leads w es served v
         → ForgottenAreDropped v }
 {}
 

@@ -3,4 +3,4 @@ use Rattle.sk_client.proofs.RequestSteps.{stand_apart}
 use Rattle.sk_client.proofs.laws.apart.Goals as goal
 
 pub returns : goal.returns
-returns c = λ k server ready next refused. stand_apart k ready server next refused
+returns c = stand_apart

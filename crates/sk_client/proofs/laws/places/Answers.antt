@@ -3,4 +3,4 @@ use Rattle.sk_client.proofs.RequestSteps.{places_kept}
 use Rattle.sk_client.proofs.laws.places.Goals as goal
 
 pub returns : goal.returns
-returns c = λ k server ready next refused. places_kept k ready server next refused
+returns c = places_kept

@@ -1,6 +1,6 @@
 -- From the laws of worlds, told of a world's calls.
-use Rattle.sk_client.proofs.RequestSteps.{steps_are_replied}
+use Rattle.sk_client.proofs.RequestSteps.{steps_are_replied, replied_once}
 use Rattle.sk_client.proofs.laws.replied.Goals as goal
 
 pub returns : goal.returns
-returns c = λ k server ready next refused. steps_are_replied k ready server next refused
+returns c = record { steps = steps_are_replied; replies = replied_once }

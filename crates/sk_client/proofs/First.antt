@@ -40,7 +40,7 @@ use Rattle.sk_client.proofs.SeenWorld.{World, all_served, all_waiting, entries_o
 use Rattle.sk_client.proofs.Table.{is_table}
 use Rattle.sk_client.proofs.TraceFacts.{entry_drawn}
 use Rattle.sk_client.proofs.WorldFacts.{begun_joined}
-use Rattle.sk_client.proofs.Worlds.{All, Reached}
+use Rattle.sk_client.proofs.Worlds.{good_yes, All, Reached}
 
 each_all : {A B : Type 0} (X : A → B → Type 0) (xs : List A) (ys : List B) → ((x : A) (y : B) → Contains xs x → X x y) → Each X xs ys
 each_all X [] ys h = tt
@@ -323,7 +323,7 @@ module _ (drawn begun : ℕ) (old w : World) (all : All drawn begun old w) where
             inr (elim counts [
               | inl none ↦
                   let a = t.owners.asked n for.0 there for.1 (sym o.1 ∙ none) in
-                  (for.0, for.1, subst (λ a. Contains w.given (for.0, a)) (a.2 good) a.1)
+                  (for.0, for.1, subst (λ a. Contains w.given (for.0, a)) (good_yes a.0 (a.2 ∙ ap Some good)) a.1)
               | inr done ↦
                   let g = done.0 in
                   let low = o.2 g (sym o.1 ∙ done.1) in

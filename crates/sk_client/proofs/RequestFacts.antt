@@ -16,6 +16,7 @@ use Rattle.sk_client.proofs.CausedWorld.{Before, Own, For, Caused, Served, Table
 use Rattle.sk_client.proofs.SeenWorld.{World, all_served, all_waiting, entries_of}
 use Rattle.sk_client.proofs.Each.{Pairs, pairs_push, cons_first, cons_later, cons_cases, no_member, kept_was, at_push, at_kept}
 use Rattle.sk_client.proofs.Events.{no_guess}
+use Rattle.sk_client.specs.Desk.{input_of}
 use Rattle.sk_client.specs.declared.pending.KeptAnswer.{KeptAnswer}
 
 -- ---- request numbers
@@ -71,7 +72,7 @@ numbers_push next qs q is h = record {
 pub record Owners (drawn : ℕ) (ns : List Caused) (given : List Served) (qs : List PendingRequest) : Type 0 where
   pub good : (n : Caused) → Contains ns n → n.input ≡ Good → (n.cause ≡ Before) ⊎ ((q : PendingRequest) × (n.cause ≡ For q))
   pub owner : (n : Caused) (q : PendingRequest) → Contains ns n → n.cause ≡ For q → Contains qs q × (n.guess ≡ q.guess) × ((g : ℕ) → q.guess ≡ Some g → drawn < g)
-  pub asked : (n : Caused) (q : PendingRequest) → Contains ns n → n.cause ≡ For q → q.guess ≡ None → (a : Answer) × Contains given (q, a) × (n.input ≡ Good → a ≡ Yes)
+  pub asked : (n : Caused) (q : PendingRequest) → Contains ns n → n.cause ≡ For q → q.guess ≡ None → (a : Answer) × Contains given (q, a) × (input_of a ≡ Some n.input)
   pub once : Once ns
 
 pub owners_more : (drawn : ℕ) (ns : List Caused) (given later : List Served) (qs rs : List PendingRequest) → ((x : Served) → Contains given x → Contains later x)
@@ -107,7 +108,7 @@ owners_own drawn ns n given qs own bad h =
 -- the entry of a request
 pub owners_for : (drawn : ℕ) (ns : List Caused) (n : Caused) (q : PendingRequest) (given : List Served) (qs : List PendingRequest) → n.cause ≡ For q
     → Contains qs q → n.guess ≡ q.guess → ((g : ℕ) → q.guess ≡ Some g → drawn < g)
-    → (q.guess ≡ None → (a : Answer) × Contains given (q, a) × (n.input ≡ Good → a ≡ Yes))
+    → (q.guess ≡ None → (a : Answer) × Contains given (q, a) × (input_of a ≡ Some n.input))
     → ((o : Caused) (r : PendingRequest) → Contains ns o → o.cause ≡ For r → r.number ≡ q.number → ⊥)
     → Owners drawn ns given qs → Owners drawn (ns ++ n ∷ []) given qs
 owners_for drawn ns n q given qs own there mark above asks new h =
@@ -129,7 +130,7 @@ owners_for drawn ns n q given qs own there mark above asks new h =
         | inr is ↦
             let one = same o is r for in
             let a = asks (ap (λ (r : PendingRequest). r.guess) one ∙ none) in
-            (a.0, subst (λ r. Contains given (r, a.0)) one a.1, λ good. a.2 (ap (λ (n : Caused). n.input) is ∙ good))
+            (a.0, subst (λ r. Contains given (r, a.0)) one a.1, subst (λ (n : Caused). input_of a.0 ≡ Some n.input) is a.2)
       ];
       once = pairs_push _ ns n h.once (λ o o_in r s o_is n_is numbers. new o r o_in o_is (numbers ∙ ap (λ (r : PendingRequest). r.number) (sym (same n refl s n_is))));
     }
@@ -354,8 +355,8 @@ module _ {E V W F : Type 0} (S : Table E V W F) (start : FinMap S.order V) (draw
 
     -- the step of an asked request, which is the first that has no reply
     pub facts_step : (q : PendingRequest) (a : Answer) (rest : List Served) (n : Caused) → served ≡ given ++ (q, a) ∷ rest → n.cause ≡ For q → n.guess ≡ None → q.guess ≡ None
-        → (n.input ≡ Good → a ≡ Yes) → RequestFacts (es ++ Taken n ∷ []) d next served (given ++ (q, a) ∷ []) waiting
-    facts_step q a rest n split own mark asks good =
+        → input_of a ≡ Some n.input → RequestFacts (es ++ Taken n ∷ []) d next served (given ++ (q, a) ∷ []) waiting
+    facts_step q a rest n split own mark asks gives =
         let ns = record_of (kernel S) start es in
         let rs = requests served waiting in
         let order : rs ≡ map (λ x. x.0) given ++ q ∷ (map (λ x. x.0) rest ++ waiting) =
@@ -369,7 +370,7 @@ module _ {E V W F : Type 0} (S : Table E V W F) (start : FinMap S.order V) (draw
         no_guess q.guess g asks (ap (λ (r : PendingRequest). r.guess) one ∙ its)))
         (subst (λ ns. Owners drawn ns (given ++ (q, a) ∷ []) rs) (sym (record_more (kernel S) start es (Taken n)))
         (owners_for drawn ns n q (given ++ (q, a) ∷ []) rs own there (mark ∙ sym asks) (λ g some. absurd (no_guess q.guess g asks some))
-        (λ none. (a, Contains-push given (q, a), good))
+        (λ none. (a, Contains-push given (q, a), gives))
         (λ o r o_in o_is same.
         let r_in = (t.owners.owner o r o_in o_is).0 in
         let one : r ≡ q = rising_same rs t.numbers.rising r q r_in there same in

@@ -14,6 +14,7 @@ use Rattle.sk_kernel.specs.Kernel.{KernelView, record_at, undecided_at, last_gue
 use Rattle.sk_server.specs.Server.{ServerView}
 use Rattle.sk_server.specs.declared.request.Request.{Request as Sent}
 use Rattle.sk_server.specs.declared.request.Ask.TheVariants.{Store}
+use Rattle.sk_server.specs.declared.reply.Answer.{Answer}
 use Rattle.sk_server.specs.declared.reply.Answer.TheVariants.{Yes}
 use Rattle.sk_server.specs.declared.reply.Reply.{Reply}
 use Rattle.sk_client.specs.AcceptedStores.{paired, StandsIn, IsDue, StoresStand, StoresStood, StandsAt, DueStore, StandApart, steps_at}
@@ -182,6 +183,9 @@ does_asked scripts (asks.Store name version bytes) ws h =
     (let one : suc version ≡ version + 1 = omega arith in subst (λ n. Contains ws (CopyOf name, Some (copy_of (record { version = n; bytes = bytes })))) one h)
 does_asked scripts (asks.Check name version) ws h = h
 does_asked scripts (asks.Get name) ws h = h
+
+same_input : (a b c : Answer) (x y : Input) → a ≡ b → b ≡ c → x ≡ y → input_of a ≡ Some x → input_of c ≡ Some y
+same_input a b c x y first then same gives = sym (ap input_of (first ∙ then)) ∙ gives ∙ ap Some same
 
 -- a commit is one without causes too
 commit_back : (g : ℕ) (e : Happens Caused) → bare_event bare e ≡ Commit g → e ≡ Commit g
@@ -500,29 +504,62 @@ module _ (drawn begun : ℕ) (old : World) (xs : Exchanges) (v : WorldView) (a :
         x.2,
       )
 
-  asked : (q : Sent) (r : Reply) (input : Input) → Contains (xs ++ ys) (q, r) → IsGiven last q → q.guess ≡ None → input_of r.answer ≡ Some input
-      → (place : ℕ) × (request_at place ≡ Some q.number) × (n : EntryView) × (slice_get (record_at last.desk.kernel) place ≡ Some n) × (n.guess ≡ None) × (n.input ≡ input)
-  asked q r input there given none gives =
+  -- where an answer gives an input
+  given_input : (o : Option Input) → IsSome o → (x : Input) × (o ≡ Some x)
+  given_input None some = cc
+  given_input (Some x) some = (x, refl)
+
+  asked : (q : Sent) (r : Reply) → Contains (xs ++ ys) (q, r) → IsGiven last q → q.guess ≡ None → IsSome (input_of r.answer) → (place : ℕ) × (request_at place ≡ Some q.number)
+  asked q r there given none some =
       let x = exchanged_given q r there given in
-      let asks : x.0.0.guess ≡ None = ap (λ t. t.1.1.0) x.2 ∙ none in
-      let s = b.all.holds.stands x.0.0 x.0.1 input x.1 (ap (λ t. input_of t.1.1.1) x.2 ∙ gives) asks in
-      let place = place_at (entries_of z) s.0 s.1 in (
-        place.0,
-        number_is (entries_of z) place.0 s.0 x.0.0 q.number place.1 s.2 (ap (λ t. t.0) x.2),
-        bare s.0,
-        in_record drawn begun w z b.all place.0 s.0 place.1,
-        (b.all.facts.owners.owner s.0 x.0.0 s.1 s.2).1 ∙ asks,
-        s.3,
+      let gives = given_input (input_of r.answer) some in
+      let s = b.all.holds.stands x.0.0 x.0.1 gives.0 x.1 (ap (λ t. input_of t.1.1.1) x.2 ∙ gives.1) (ap (λ t. t.1.1.0) x.2 ∙ none) in
+      let place = place_at (entries_of z) s.0 s.1 in
+      (place.0, number_is (entries_of z) place.0 s.0 x.0.0 q.number place.1 s.2 (ap (λ t. t.0) x.2))
+
+  -- a request has one answer
+  one_answer : (x y : Served) → Contains (all_served z) x → Contains (all_served z) y → x.0.number ≡ y.0.number → x ≡ y
+  one_answer x y x_in y_in number =
+      let i = place_at (all_served z) x x_in in
+      let j = place_at (all_served z) y y_in in
+      let same = rising_places (all_served z) (all_waiting z) b.all.facts.numbers.rising i.0 j.0 x y i.1 j.1 number in
+      let both : Some x ≡ Some y = sym i.1 ∙ ap (slice_get (all_served z)) same ∙ j.1 in
+      cc
+
+  made : (q : Sent) (r : Reply) (place : ℕ) (n : EntryView) → Contains (xs ++ ys) (q, r) → request_at place ≡ Some q.number → slice_get (record_at last.desk.kernel) place ≡ Some n
+      → (n.guess ≡ q.guess) × (q.guess ≡ None → input_of r.answer ≡ Some n.input)
+  made q r place n there number at =
+      let u = at_record drawn begun w z b.all place n at in
+      let p = is_number q.number u.0.cause (ap number_at (sym u.1) ∙ number) in
+      let here = contains_at (entries_of z) place u.0 u.1 in
+      let owner = b.all.facts.owners.owner u.0 p.0 here p.1 in
+      let x = out_of_map answered_there (all_served z) (answered_here (q, r)) (subst (λ ts. Contains ts (answered_here (q, r))) (sym b.answered) (in_map answered_here (xs ++ ys) (q, r) there)) in
+      let its : p.0 ≡ x.0.0 =
+      rising_same (map (λ x. x.0) (all_served z) ++ all_waiting z) b.all.facts.numbers.rising p.0 x.0.0 owner.0
+      (Contains-append_left (map (λ x. x.0) (all_served z)) (all_waiting z) x.0.0 (in_map (λ (x : Served). x.0) (all_served z) x.0 x.1)) (p.2 ∙ ap (λ t. t.0) (sym x.2)) in
+      let guess : p.0.guess ≡ q.guess = ap (λ (q : PendingRequest). q.guess) its ∙ ap (λ t. t.1.1.0) x.2 in (
+        sym (ap (λ (n : EntryView). n.guess) u.2) ∙ owner.1 ∙ guess,
+        λ none.
+            let a = b.all.facts.owners.asked u.0 p.0 here p.1 (guess ∙ none) in
+            let same = one_answer (p.0, a.0) x.0 (b.all.holds.within (p.0, a.0) a.1) x.1 (ap (λ (q : PendingRequest). q.number) its) in
+            same_input a.0 x.0.1 r.answer u.0.input n.input (ap (λ (y : Served). y.1) same) (ap (λ t. t.1.1.1) x.2) (ap (λ (n : EntryView). n.input) u.2) a.2,
       )
+
+  within : (place number : ℕ) → request_at place ≡ Some number → IsSome (slice_get (record_at last.desk.kernel) place)
+  within place number is =
+      let x = numbered number (slice_get (entries_of z) place) is in
+      subst IsSome (sym (in_record drawn begun w z b.all place x.0 x.1)) refl
 
   replied : StepsAreReplied begun (xs ++ ys) v last
   replied = record {
     request_at = request_at;
+    within = within;
     once = one_entry (entries_of z) b.all.facts.owners.once;
     good = good;
     steps = steps;
     replies = replies;
     asked = asked;
+    made = made;
     its = its;
   }
 

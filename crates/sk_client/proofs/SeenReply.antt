@@ -35,7 +35,7 @@ use Rattle.sk_client.proofs.SeenWorld.{Traced, does_seen, undecided_seen, void_s
 use Rattle.sk_client.proofs.Table.{is_table}
 use Rattle.sk_client.specs.Ready.{IsTidyState}
 use Rattle.sk_client.proofs.WorldFacts.{Oldest}
-use Rattle.sk_client.proofs.Worlds.{IsFor, AreFor, not_copied, takes_by, good_yes, keeps_input, never_good, good_open, not_void, Reached, reached_by}
+use Rattle.sk_client.proofs.Worlds.{IsFor, AreFor, not_copied, takes_by, keeps_input, never_good, good_open, not_void, Reached, reached_by}
 
 -- an asked request has a place of the trace
 asked_one : (q : PendingRequest) (qs : List PendingRequest) → q.guess ≡ None → asked_count (q ∷ qs) ≡ asked_count qs + 1
@@ -218,8 +218,7 @@ module _ (drawn begun : ℕ) (old : World) (xs : Exchanges) (v : WorldView) (r :
             λ writes. elim (t.writes (S.copy (name_of o.ask)) writes) [ inl process ↦ (is_table K.scripts).apart q.process (name_of o.ask) (sym process) | inr same ↦ own.1 (sym ((is_table K.scripts).copies (name_of o.ask) (name_of q.ask) same)) ],
           ))))
           (subst (λ d. RequestFacts S K.start drawn begun old es d v.desk.next served (r.given ++ (q, a) ∷ []) unserved) more
-          (facts_step S K.start drawn begun old r.trace (last_guess K) v.desk.next served r.given unserved c.facts q a (law_served later rs) n refl refl refl none
-          (λ good. good_yes a (gives ∙ ap Some good))))
+          (facts_step S K.start drawn begun old r.trace (last_guess K) v.desk.next served r.given unserved c.facts q a (law_served later rs) n refl refl refl none gives))
           r.all.answers
           (let taken = used_step K q.process x in let was = c.room in let one = asked_one q rest none in omega (arith, taken, was, one))
 

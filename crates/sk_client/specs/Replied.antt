@@ -6,7 +6,6 @@ use Rattle.sk_record.specs.Effects.{MarkedEffect}
 use Rattle.sk_record.specs.Trace.{Commit}
 use Rattle.sk_ids.specs.declared.entity.Entity.{Entity}
 use Rattle.sk_ids.specs.declared.entity.Entity.TheVariants.{Copy as CopyOf}
-use Rattle.sk_script.specs.declared.instruction.Input.{Input}
 use Rattle.sk_script.specs.declared.instruction.Input.TheVariants as inputs
 use Rattle.sk_store.specs.declared.entity_state.EntityState.{EntityState}
 use Rattle.sk_trace.specs.Entry.{EntryView}
@@ -62,23 +61,29 @@ pub record IsStepOf (k : KernelView) (place : ℕ) (q : Sent) : Type 0 where
   pub counts : Counts k entry
   pub does : DoesAsked q.ask effect.written
 
--- the steps of a record that were taken for requests, each with its request's number, and no two for one: each step with Good
--- is one, but for so many steps that were there before; where it counts its request was accepted and its reply given, and each
--- such request has its step; so has each asked request whose reply was given and that was not dropped, with what the reply
--- gave; and a request that was pending in an earlier world has its step by its process
+-- the steps of a record and the requests that they were taken for
 pub record StepsAreReplied (before : ℕ) (served : Exchanges) (earlier v : WorldView) : Type 0 where
+  -- the number of the request that the step at a place was taken for, where it was for one
   pub request_at : ℕ → Option ℕ
+  pub within : (place number : ℕ) → request_at place ≡ Some number → IsSome (slice_get (record_at v.desk.kernel) place)
+  -- no two steps are one request's
   pub once : (place other number : ℕ) → request_at place ≡ Some number → request_at other ≡ Some number → place ≡ other
+  -- each step with Good is some request's, but for so many steps that were there before
   pub good : (place : ℕ) (n : EntryView) → before ≤ place → slice_get (record_at v.desk.kernel) place ≡ Some n → n.input ≡ inputs.Good → IsSome (request_at place)
+  -- where it counts, its request was accepted and its reply given
   pub steps :
       (place : ℕ) (n : EntryView) (f : MarkedEffect Entity EntityState Saying) → before ≤ place → slice_get (steps_at v.desk.kernel) place ≡ Some (n, f)
       → n.input ≡ inputs.Good → Counts v.desk.kernel n
       → (r : Replied served v) × (request_at place ≡ Some r.request.number) × IsStepOf v.desk.kernel place r.request
+  -- and each such request has its step
   pub replies : (r : Replied served v) → (place : ℕ) × (request_at place ≡ Some r.request.number) × IsStepOf v.desk.kernel place r.request
-  pub asked :
-      (q : Sent) (r : Reply) (input : Input) → Contains served (q, r) → IsGiven v q → q.guess ≡ None → input_of r.answer ≡ Some input
-      → (place : ℕ) × (request_at place ≡ Some q.number)
-      × (n : EntryView) × (slice_get (record_at v.desk.kernel) place ≡ Some n) × (n.guess ≡ None) × (n.input ≡ input)
+  -- so has each asked request whose reply was given and that was not dropped
+  pub asked : (q : Sent) (r : Reply) → Contains served (q, r) → IsGiven v q → q.guess ≡ None → IsSome (input_of r.answer) → (place : ℕ) × (request_at place ≡ Some q.number)
+  -- a request's step is that of its guess, or is given what its reply gives
+  pub made :
+      (q : Sent) (r : Reply) (place : ℕ) (n : EntryView) → Contains served (q, r) → request_at place ≡ Some q.number
+      → slice_get (record_at v.desk.kernel) place ≡ Some n → (n.guess ≡ q.guess) × (q.guess ≡ None → input_of r.answer ≡ Some n.input)
+  -- and one that was pending in an earlier world has its step by its process
   pub its :
       (p : PendingRequest) (place : ℕ) (n : EntryView) → Contains (pending earlier.desk) p → request_at place ≡ Some p.number
       → slice_get (record_at v.desk.kernel) place ≡ Some n → (n.pid ≡ p.process) × (n.guess ≡ p.guess)

@@ -97,9 +97,9 @@ pub fn apart()
 /// the accepted requests whose reply was given, are one for one: each of the steps is that of such a request, each such
 /// request has its step, and no two have one. A store's step sets the copy, a check's writes no copy at all, and no fetch of a
 /// copy that is not there has one. No two steps are one request's, also of those that were given something else than Good or
-/// whose guess is undecided; and each asked request whose reply was given has its step, but those that the server dropped. A
-/// step is by its request's process: said of the requests that were pending after the first list. No request has two replies
-/// (`replies`), whatever they answer.
+/// whose guess is undecided; and each asked request whose reply was given has its step, with what the reply gives, but those
+/// that the server dropped. A step is by its request's process: said of the requests that were pending after the first list. No
+/// request has two replies (`replies`), whatever they answer.
 pub fn replied()
     ensures steps { (w : WorldView) → Begins w
         → (es : List WorldEvent) (served : Exchanges) (v : WorldView) → Leads w es served v

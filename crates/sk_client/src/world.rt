@@ -1,8 +1,9 @@
 //! A desk and a server, joined.
-ghost use Rattle.std.specs.Prelude.{◌≡◌, ◌↔◌, ◌<◌, ◌-◌, [], true, length, IsSome, IfSome, slice_index_or};
+ghost use Rattle.std.specs.Prelude.{◌≡◌, ◌↔◌, ◌<◌, ◌≤◌, ◌+◌, ◌-◌, [], true, length, IsSome, IfSome, slice_index_or};
 ghost use Rattle.sk_client.specs.WorldView.{joined, taken_by, told_as, EventPost, NewsPost, RunsTo, Turns, AnswersWith, ServesNext, Replies, EditsFile};
 ghost use Rattle.sk_client.specs.declared.world.WorldAnswer.TheVariants as answers;
 ghost use Rattle.sk_server.specs.Lent.{request_in};
+ghost use Rattle.sk_server.specs.declared.server.TheConstants.{LAST_REQUEST};
 ghost use Rattle.sk_client.specs.Upcoming.{upcoming};
 ghost use Rattle.sk_server.specs.Server.{is_in_turn};
 
@@ -114,12 +115,13 @@ fn answer_with(
 }
 
 impl World {
-    /// Joins a desk that has made no request and a server that has answered none. This takes no memory.
+    /// Joins a desk that has made no request of its epoch and a server whose next request is the desk's first. This takes no
+    /// memory.
     pub fn new(alloc: Global, desk: Desk, server: Server) -> World
         requires taken { desk.taken ≡ [] }
         requires waiting { desk.waiting ≡ [] }
-        requires next { desk.next ≡ 1 }
-        requires server { server.next ≡ 1 }
+        requires next { desk.next ≡ server.next }
+        requires last { server.next ≤ LAST_REQUEST + 1 }
         ensures { result ≡ joined desk server }
     {
         World {

@@ -1,9 +1,10 @@
 #!/usr/bin/env python3
 """How much waiting a guessing desk hides: virtual time over the real desk and server.
 
-    tools/latency.py [--program PATH] [--round-trips 0,10,100] [--load NAME] [--write | --check]
+    tools/latency.py [--program PATH] [--round-trips 0,10,100] [--load NAME | FILE] [--write | --check]
 
-PATH is the program `speculate`: `crates/speculate/out/speculate` where none is given. A load is a scenario of a world. A
+PATH is the program `speculate`: `build/speculate` where none is given, which `tools/build.py` builds in some two minutes where
+it does not stand. A load is one of those below, or a scenario of a world, whose scripts run from top to bottom. A
 scheduler with a clock decides when each process gets a turn, when the server answers a request and when its reply is
 given; what each of these does is what `speculate play` answers, so which request is made, which guess fails and what
 is done again comes from the desk and the server themselves. Time is counted in turns: a turn takes 1, and the reply to a
@@ -11,8 +12,10 @@ request is given one round trip after it was made.
 
 `wait` gives a process no turn while a request of it has no reply, as a client that waits for its server does.
 `guess` gives it turns at once. Both must end with the same files of the server and the same released texts; the status
-is 1 where they do not. --write puts the tables into docs/LATENCY.md and the plot into docs/pictures/latency.svg; --check
-compares both with those measured now, and ends with 'N passed, M failed'.
+is 1 where they do not. Two clients that do not guess stand beside them, by the scripts alone: `lease` fetches what it has a
+good copy of without a round trip, `ahead` asks for each file before its fetch comes. --write puts the tables into
+docs/LATENCY.md and the plot into docs/pictures/latency.svg; --check compares both with those measured now, and ends with
+'N passed, M failed'.
 """
 import argparse
 import math
@@ -24,12 +27,14 @@ sys.dont_write_bytecode = True
 import told  # noqa: E402
 
 TOP = os.path.dirname(os.path.dirname(os.path.abspath(__file__)))
-PROGRAM = os.path.join(TOP, "crates/speculate/out/speculate")
 PAGE = os.path.join(TOP, "docs/LATENCY.md")
 PLOT = os.path.join(TOP, "docs/pictures/latency.svg")
 TRIPS = [0, 1, 3, 10, 30, 100, 300, 1000]
+LONGEST_TRIP = 1_000_000
 MOST_OPEN = 64
 REQUESTS = ("fetch", "store")
+# With these a script does not run from top to bottom.
+TURNS_ASIDE = ("jump", "zero", "neg", "handler", "return", "fork", "wait", "kill", "exit", "put", "take")
 
 
 class Load:
@@ -38,11 +43,29 @@ class Load:
     def __init__(self, about, scripts, copies, remotes):
         self.about, self.scripts = about, scripts
         self.copies = {name for name, _, _ in copies}
+        self.good = {copy[0] for copy in copies if copy in remotes}
         self.head = []
         for process, lines in scripts.items():
             self.head += [f"script s{process}", *lines, "end", f"process {process} s{process} {process}"]
         self.head += [f'copy {name} {version} "{words}"' for name, version, words in copies]
         self.head += [f'remote {name} {version} "{words}"' for name, version, words in remotes]
+
+
+def load_of(path):
+    """A load from a scenario's declarations; the events of its section are not played."""
+    with open(path, encoding="utf-8") as file:
+        scenario = told.Scenario(file.read())
+    if not scenario.is_world:
+        raise told.Fault(f"{path}: a load is a scenario with a section world")
+    lines = {process: scenario.scripts.get(script, []) for process, script in scenario.runs.items()}
+    aside = next((line for it in lines.values() for line in it if line.split(" ")[0] in TURNS_ASIDE), None)
+    if aside:
+        raise told.Fault(f"{path}: a script with {aside!r} does not run from top to bottom")
+    words = [told.words_of(line) for line in scenario.head]
+    files = {kind: [(it[1], int(it[2]), it[3]) for it in words if it[:1] == [kind]] for kind in ("copy", "remote")}
+    load = Load(scenario.about or os.path.basename(path), lines, files["copy"], files["remote"])
+    load.head = scenario.head[:-1]
+    return load
 
 
 def mailbox(about, count, files, stale=0, is_cold=False):
@@ -215,16 +238,57 @@ class Clock:
             known = said[: wrong + 1]
 
 
-class Row:
-    """What waiting and guessing took of one load, at one round trip."""
+class Rival:
+    """A client that does not guess, by its scripts alone: it has a turn for each line, and waits for the replies that it needs.
 
-    def __init__(self, program, name, trip):
-        load = LOADS[name]
-        self.name, self.trip = name, trip
+    With leases, a fetch of a file whose copy is good needs none, and each reply brings a lease. Asking ahead, the request of a
+    fetch is made at the start, or as soon as the reply to the store before it is there. Both wait for the reply to a store.
+    """
+
+    def __init__(self, load, round_trip, leases=False, ahead=False):
+        self.load, self.round_trip, self.leases, self.ahead = load, round_trip, leases, ahead
+        self.now, self.place, self.back = 0.0, dict.fromkeys(load.scripts, 0), dict.fromkeys(load.scripts, 0.0)
+        self.held = set(load.good)
+        self.there = {}  # of a file that is asked for ahead: when its reply is there
+
+    def needs(self, kind, name):
+        """When the reply that a request needs is there, if the request comes up now."""
+        reply = self.now + self.round_trip
+        if kind == "store":
+            self.there[name] = reply + self.round_trip
+            self.held.add(name)
+            return reply
+        if self.leases and name in self.held:
+            return self.now
+        self.held.add(name)
+        return self.there.get(name, self.round_trip) if self.ahead else reply
+
+    def run(self):
+        while True:
+            live = [it for it, lines in self.load.scripts.items() if self.place[it] <= len(lines)]
+            if not live:
+                return self.now
+            self.now = max(self.now, min(self.back[it] for it in live))
+            for process in [it for it in live if self.back[it] <= self.now]:
+                self.now += 1
+                words = [*self.load.scripts[process], "exit"][self.place[process]].split(" ")
+                self.place[process] += 1
+                if words[0] in REQUESTS:
+                    self.back[process] = self.needs(*words[:2])
+
+
+class Row:
+    """What waiting and guessing took of one load, at one round trip, and what clients take that wait less without guessing."""
+
+    def __init__(self, program, name, load, trip):
+        self.name, self.about, self.trip = name, load.about, trip
         (wait, one), (guess, two) = (Clock.told(program, load, trip, it) for it in (False, True))
         self.is_same = outcome(one) == outcome(two)
         self.wait, self.guess = wait.now, guess.now
+        self.lease, self.ahead = Rival(load, trip, leases=True).run(), Rival(load, trip, ahead=True).run()
         count = lambda clock, *kinds: sum(it in kinds for it in clock.answers)
+        # Where nothing had to be done again, the model of a client that waits is the program.
+        self.is_same = self.is_same and (count(wait, "failed") > 0 or Rival(load, trip).run() == wait.now)
         self.turns = [count(it, "guessed", "asked", "stepped") for it in (wait, guess)]
         self.requests = [len(it.sent) for it in (wait, guess)]
         self.asked, self.failed, self.struck = (count(guess, it) for it in ("asked", "failed", "gone"))
@@ -233,8 +297,13 @@ class Row:
     def ratio(self):
         return self.wait / self.guess
 
+    @property
+    def ratios(self):
+        """How many times as long waiting takes as guessing, as leases, as asking ahead."""
+        return [self.wait / it for it in (self.guess, self.lease, self.ahead)]
+
     def cells(self):
-        return [f"{self.trip:,}", f"{self.wait:,.0f}", f"{self.guess:,.0f}", f"{self.ratio:.1f}",
+        return [f"{self.trip:,}", f"{self.wait:,.0f}", f"{self.lease:,.0f}", f"{self.ahead:,.0f}", f"{self.guess:,.0f}", f"{self.ratio:.1f}",
                 *(f"{it:,}" for it in (*self.requests, self.asked, self.failed, self.struck, *self.turns))]
 
 
@@ -244,19 +313,20 @@ def outcome(state):
     return files, state.terminals
 
 
-COLUMNS = ["round trip", "wait", "guess", "ratio", "requests: wait", "guess", "of these waited for", "failed", "struck",
+COLUMNS = ["round trip", "wait", "lease", "ahead", "guess", "ratio", "requests: wait", "guess", "of these waited for", "failed", "struck",
            "turns: wait", "guess"]
 
 
 def tables(rows, trips):
     """The page's part that is measured: the ratios, and below them a table for each load."""
-    names = list(dict.fromkeys(row.name for row in rows))
-    ratio = {(row.name, row.trip): f"{row.ratio:.1f}" for row in rows}
+    abouts = {row.name: row.about for row in rows}
+    ratio = {(row.name, row.trip): [f"{it:.1f}" for it in row.ratios] for row in rows}
     lines = ["| load, at a round trip of | " + " | ".join(f"{trip:,}" for trip in trips) + " |", "|---|" + "---|" * len(trips)]
-    for name in names:
-        lines.append(f"| {name}: {LOADS[name].about} | " + " | ".join(ratio[name, trip] for trip in trips) + " |")
-    for name in names:
-        lines += ["", f"### {name}: {LOADS[name].about}", "", "| " + " | ".join(COLUMNS) + " |", "|---" * len(COLUMNS) + "|"]
+    for name, about in abouts.items():
+        for at, how in enumerate((f"{name}: {about}; guess", "lease", "ahead")):
+            lines.append(f"| {how} | " + " | ".join(ratio[name, trip][at] for trip in trips) + " |")
+    for name, about in abouts.items():
+        lines += ["", f"### {name}: {about}", "", "| " + " | ".join(COLUMNS) + " |", "|---" * len(COLUMNS) + "|"]
         lines += ["| " + " | ".join(row.cells()) + " |" for row in rows if row.name == name]
     return "\n".join(lines)
 
@@ -271,7 +341,8 @@ def plot(rows, trips):
     y = lambda ratio: LOW - (LOW - HIGH) * math.log10(ratio) / 2
     words = lambda x, y, told, more="": f'<text x="{x:.1f}" y="{y:.1f}" font-size="12" fill="#1f2328" {more}>{told}</text>'
     rule = lambda x1, y1, x2, y2: f'<path d="M{x1:.1f} {y1:.1f}L{x2:.1f} {y2:.1f}" stroke="#d8dee4"/>'
-    drawn = [words(LEFT, 22, "how many times as long waiting takes as guessing", 'font-weight="600"'),
+    drawn = [words(LEFT, 22, "how many times as long waiting takes as guessing (line), leases (dashes), asking ahead (dots)",
+                   'font-weight="600"'),
              words((LEFT + RIGHT) / 2, LOW + 44, "round trip, in turns of a process", 'text-anchor="middle"')]
     for ratio in (1, 2, 5, 10, 20, 50, 100):
         drawn += [rule(LEFT, y(ratio), RIGHT, y(ratio)), words(LEFT - 10, y(ratio) + 4, f"{ratio}", 'text-anchor="end"')]
@@ -282,6 +353,9 @@ def plot(rows, trips):
         shape = "L".join(f"{at:.1f} {up:.1f}" for at, up in points)
         drawn.append(f'<path d="M{shape}" fill="none" stroke="{hue}" stroke-width="2.2"/>')
         drawn += [f'<circle cx="{at:.1f}" cy="{up:.1f}" r="4" fill="{hue}"/>' for at, up in points]
+        for at, dash in ((1, "6 4"), (2, "1.5 4")):
+            shape = "L".join(f"{x(row.trip):.1f} {y(row.ratios[at]):.1f}" for row in rows if row.name == name and row.trip in trips)
+            drawn.append(f'<path d="M{shape}" fill="none" stroke="{hue}" stroke-width="1.6" stroke-dasharray="{dash}"/>')
         last = [row.ratio for row in rows if row.name == name][-1]
         drawn.append(words(RIGHT + 12, points[-1][1] + 4, f"{name}: {last:.1f}", f'style="fill:{hue}" font-weight="600"'))
     face = 'font-family="Inter, Helvetica, Arial, DejaVu Sans, sans-serif"'
@@ -313,19 +387,44 @@ def check(rows, drawn):
     return failed + wrong
 
 
-def main():
-    words = argparse.ArgumentParser(description=__doc__, formatter_class=argparse.RawDescriptionHelpFormatter)
-    words.add_argument("--program", default=PROGRAM)
-    words.add_argument("--round-trips", default=",".join(map(str, TRIPS)))
-    words.add_argument("--load", choices=LOADS)
+class Words(argparse.ArgumentParser):
+    """The words of the command line; what is wrong with them is told in one line."""
+
+    def error(self, message):
+        self.exit(2, f"{self.prog}: {message}\n")
+
+
+def asked():
+    """What was asked for, its round trips and its loads."""
+    words = Words(description=__doc__, formatter_class=argparse.RawDescriptionHelpFormatter)
+    words.add_argument("--program", metavar="PATH")
+    words.add_argument("--round-trips", metavar="TURNS,..", default=",".join(map(str, TRIPS)))
+    words.add_argument("--load", metavar="NAME | FILE", help=f"one of {', '.join(LOADS)}, or a scenario of a world")
     words.add_argument("--write", action="store_true")
     words.add_argument("--check", action="store_true")
     given = words.parse_args()
-    trips = [int(it) for it in given.round_trips.split(",")]
+    trips = []
+    for word in given.round_trips.split(","):
+        if not word.isascii() or not word.isdecimal() or int(word) > LONGEST_TRIP:
+            words.error(f"a round trip is a number from 0 to {LONGEST_TRIP:,}, not {word!r}")
+        trips.append(int(word))
     if (given.write or given.check) and (trips != TRIPS or given.load):
         words.error("the page has all loads and round trips")
+    if not given.load:
+        return given, trips, LOADS
+    if given.load in LOADS:
+        return given, trips, {given.load: LOADS[given.load]}
     try:
-        rows = [Row(given.program, name, trip) for name in ([given.load] if given.load else LOADS) for trip in trips]
+        return given, trips, {os.path.basename(given.load): load_of(given.load)}
+    except (told.Fault, OSError, UnicodeDecodeError, ValueError, IndexError) as fault:
+        words.error(f"no load, and no scenario that can be one: {fault}")
+
+
+def main():
+    given, trips, loads = asked()
+    try:
+        path = given.program or told.program()
+        rows = [Row(path, name, load, trip) for name, load in loads.items() for trip in trips]
     except told.Fault as fault:
         sys.exit(str(fault))
     for row in rows:

@@ -4,8 +4,8 @@
     tools/picture.py SCENARIO [--program PATH] [--html PAGE] [--svg FILE]
 
 PATH is the program `speculate`: `build/speculate` where none is given, which `tools/build.py` builds in some two minutes where
-it does not stand. The page stands alone and replays the run by a slider; `PAGE#at=8` opens it after event 8. The SVG
-is its last state, for documents. Where neither is asked for, the page is written to NAME.html in the current folder. The
+it does not stand. The page stands alone and replays the run by a slider; `PAGE#at=8` opens it after event 8, the keys g and f
+go to the next guess and the next failure (G and F back), + and - draw it larger and smaller. The SVG is its last state, for documents. Where neither is asked for, the page is written to NAME.html in the current folder. The
 status is 1 where the program refuses the scenario, which is one of `steps` or of a `world`.
 """
 import argparse
@@ -13,14 +13,12 @@ import html
 import json
 import os
 import re
-import subprocess
 import sys
 
 sys.dont_write_bytecode = True
 import told  # noqa: E402
 
 HERE = os.path.dirname(os.path.abspath(__file__))
-PROGRAM = os.path.join(os.path.dirname(HERE), "build/speculate")
 INK, SOFT, RULE, GREY, RED, GREEN = "#1f2328", "#6e7781", "#d8dee4", "#8c959f", "#cf222e", "#1a7f37"
 HUES = ["#2f6fde", "#8250df", "#0b8a94", "#c76a00", "#bf3989", "#57713a", "#4b5fa8", "#9a5b34"]
 FACE = "Inter, Helvetica, Arial, DejaVu Sans, sans-serif"
@@ -53,6 +51,11 @@ def value_in(state, key):
 def text(x, y, words, size=11, fill=INK, anchor="middle", more=""):
     at = f'x="{x:.1f}" y="{y:.1f}" font-size="{size}" fill="{fill}" text-anchor="{anchor}"'
     return f"<text {at} {more}>{html.escape(words)}</text>"
+
+
+def whole(drawn, words, most):
+    """What is drawn, with the whole words to be shown where the pointer rests, if they are cut."""
+    return drawn if len(words) <= most else f"<g><title>{html.escape(words)}</title>{drawn}</g>"
 
 
 MONO = 'class="m"'
@@ -243,8 +246,10 @@ class Picture(Layout):
         self.outputs()
         self.decisions()
         self.names()
-        size = f'width="{self.width:.0f}" height="{self.bottom + 50:.0f}"'
-        shape = f'viewBox="0 0 {self.width:.0f} {self.bottom + 50:.0f}" {size} font-family="{FACE}"'
+        self.headings()
+        self.height = self.bottom + 50
+        size = f'width="{self.width:.0f}" height="{self.height:.0f}"'
+        shape = f'viewBox="0 0 {self.width:.0f} {self.height:.0f}" {size} font-family="{FACE}"'
         inside = "\n".join(self.parts)
         return f'<svg xmlns="http://www.w3.org/2000/svg" {shape}>{DEFS}<rect width="100%" height="100%" fill="#fff"/>{inside}</svg>\n'
 
@@ -260,27 +265,36 @@ class Picture(Layout):
             if key.startswith("proc "):
                 self.add(box(0, y - self.heights[key] / 2, self.width, self.heights[key], 0, 'fill="#f6f8fa"'))
         self.add('<g id="under"/>')
-        for event, (verb, does) in zip(self.run.events, self.labels):
-            self.head(event, verb, short(does, 20))
+        for event in self.run.events:
+            x = self.x(event.number)
+            self.add(line(x, self.top - 14, x, self.bottom, RULE, 1, 'stroke-dasharray="1 4"'))
         for key, y in self.ys.items():
             for begin, end, tone in self.lives(key):
                 left = LEFT - 12 if begin == 0 else self.x(begin)
                 right = self.x(end) if end else self.width - 24
                 self.add(line(left, y, right, y, tone, 1.6 if key.startswith("proc ") else 1.2))
 
+    def headings(self):
+        """The words above the columns, in front of all else, so that a page can keep them in sight; the corner hides those that
+        pass behind the names."""
+        high = self.top - 16
+        parts = [box(0, 0, self.width, high, 0, 'fill="#fff" fill-opacity=".93"')]
+        for event, (verb, does) in zip(self.run.events, self.labels):
+            parts += self.head(event, verb, short(does, 20))
+        self.add(f'<g id="heads">{"".join(parts)}</g>')
+        self.add(box(0, 0, LEFT - 14, high, 0, 'id="corner" fill="#fff"'))
+
     def head(self, event, verb, does):
-        """The words above a column, and the line down from them."""
+        """The words above a column."""
         x, decided = self.x(event.number), event.decided and event.decided[0]
         tone = RED if decided == "fail" else GREEN if decided else hue(event.guess) if event.guess else INK
         tone = SOFT if event.is_refused else tone
-        self.add(line(x, self.top - 14, x, self.bottom, RULE, 1, 'stroke-dasharray="1 4"'))
         if self.is_tight:
             turn = f'transform="rotate(-55 {x:.1f} {self.top - 20:.1f})"'
-            self.add(text(x, self.top - 20, self.slanted(event.number), 10.5, tone, "start", turn))
-            return
-        self.add(text(x, self.top - 60, str(event.number), 10, SOFT))
-        self.add(text(x, self.top - 43, verb, 12, tone, more=BOLD if event.guess or decided else ""))
-        self.add(text(x, self.top - 26, does, 10.5, SOFT, more=MONO))
+            return [text(x, self.top - 20, self.slanted(event.number), 10.5, tone, "start", turn)]
+        return [text(x, self.top - 60, str(event.number), 10, SOFT),
+                text(x, self.top - 43, verb, 12, tone, more=BOLD if event.guess or decided else ""),
+                text(x, self.top - 26, does, 10.5, SOFT, more=MONO)]
 
     def lives(self, key):
         """The stretches in which a lane is there, each with its tone: a process that has ended is fainter."""
@@ -360,7 +374,8 @@ class Picture(Layout):
         room = self.room(event.number, key)
         if room > 3:
             value = value_in(after, key)
-            self.add(text(x + 9, there - 10, short(value, room), 10, INK, "start", f'{self.kind("m value", event)} {HALO}'))
+            drawn = text(x + 9, there - 10, short(value, room), 10, INK, "start", f'{self.kind("m value", event)} {HALO}')
+            self.add(whole(drawn, value, room))
 
     def marks(self):
         for event in self.run.events:
@@ -398,8 +413,8 @@ class Picture(Layout):
             self.add(line(x, above + sign * 10, x, y - sign * 13, GREY, 1.2, head))
             end = said.released or said.gone
             last = self.x(end) if end else self.width - 40
-            room = 4 if self.is_tight else 14
-            chip = lambda x, tone, more: self.chip(x, y, short(said.words, room), tone, more)
+            room = self.chip_room(said)
+            chip = lambda x, tone, more: whole(self.chip(x, y, short(said.words, room), tone, more), said.words, room)
             if said.released == event.number:
                 chips.append((chip(x, INK, f'fill="#dafbe1" stroke="{GREEN}"'), None))
                 continue
@@ -408,7 +423,8 @@ class Picture(Layout):
             if said.released:
                 count = sum(it.terminal == said.terminal and it.released == end > it.event.number for it in self.run.texts)
                 words = short(said.words, room) if count == 1 else f"{count} texts"
-                chips.append((self.chip(last, y, words, INK, f'fill="#dafbe1" stroke="{GREEN}"'), None))
+                drawn = self.chip(last, y, words, INK, f'fill="#dafbe1" stroke="{GREEN}"')
+                chips.append((whole(drawn, said.words, room), None))
             elif said.gone:
                 wide = self.chip_width(short(said.words, room)) / 2 + 3
                 slash = f"M{x - wide:.1f} {y + 7:.1f}L{x + wide:.1f} {y - 7:.1f}"
@@ -417,6 +433,16 @@ class Picture(Layout):
                 chips.append((path(cross, f'stroke="{RED}" stroke-width="2"'), None))
         for drawn, when in chips:
             self.add(drawn, when)
+
+    def chip_room(self, said):
+        """How many letters of a text are written: in narrow columns, as many as stand clear of the next text on its terminal."""
+        if not self.is_tight:
+            return 14
+        places = {self.x(number) for it in self.run.texts if it.terminal == said.terminal
+                  for number in (it.event.number, it.released) if number}
+        x = self.x(said.event.number)
+        gap = min((abs(x - it) for it in places if it != x), default=self.width)
+        return max(4, min(14, int(gap / 7) - 2))
 
     def chip_width(self, words):
         return 7 * len(words) + 10
@@ -475,7 +501,7 @@ class Picture(Layout):
                 self.add(box(x - 5.5, y - 5.5, 11, 11, 2, f'fill="#fff" stroke="{RED}" stroke-width="1.8"'))
                 value = value_in(after, key)
                 room = max(3, min(16, self.room(number, key)))
-                self.add(text(x + 11, y - 9, short(value, room), 10, RED, "start", f"{MONO} {HALO}"))
+                self.add(whole(text(x + 11, y - 9, short(value, room), 10, RED, "start", f"{MONO} {HALO}"), value, room))
 
     def taken_back(self, x, y, number, struck):
         back, deep = self.x(struck[0].number), y + 27
@@ -545,8 +571,10 @@ def page(picture, drawn, title):
         "states": [{"entities": state.entities, "terminals": state.terminals} for state in run.states],
         "events": [event.told for event in run.events], "answers": [event.answer for event in run.events],
         "fails": [bool(event.decided and event.decided[0] == "fail") for event in run.events],
+        "guesses": [bool(event.guess) for event in run.events],
         "columns": [[0, 0]] + [[x, width] for x, width in zip(picture.xs, picture.widths)],
-        "hues": HUES, "left": LEFT, "width": picture.width, "bottom": picture.bottom, "top": picture.top,
+        "hues": HUES, "left": LEFT, "width": picture.width, "height": picture.height,
+        "bottom": picture.bottom, "top": picture.top,
         "slant": 0.7 * (picture.top - 16) if picture.is_tight else 0,
         "names": [[key, name(key)] for key in keys],
     }
@@ -569,15 +597,6 @@ def write(program, scenario, to_page, to_svg):
                 file.write(words)
 
 
-def program():
-    """The program in build/, which is built where it does not stand."""
-    if not os.path.exists(PROGRAM):
-        print("no program is built: tools/build.py builds it, in some two minutes", file=sys.stderr)
-        if subprocess.run([f"{HERE}/build.py", "program"], check=False).returncode:
-            sys.exit(1)
-    return PROGRAM
-
-
 def main():
     words = argparse.ArgumentParser(description=__doc__, formatter_class=argparse.RawDescriptionHelpFormatter)
     words.add_argument("scenario")
@@ -588,7 +607,7 @@ def main():
     if not given.html and not given.svg:
         given.html = re.sub(r"\.scenario$", "", os.path.basename(given.scenario)) + ".html"
     try:
-        write(given.program or program(), given.scenario, given.html, given.svg)
+        write(given.program or told.program(), given.scenario, given.html, given.svg)
     except (told.Fault, OSError) as fault:
         sys.exit(f"{given.scenario}: {fault}")
 

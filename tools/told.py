@@ -4,9 +4,13 @@ The program is run once with `--steps` on the whole scenario, and once on each b
 tags, reads, writes and outputs are its own. What is looked up here in the scenario is what no report repeats: the
 instruction at a place, the script of a process and its terminal.
 """
+import os
 import re
 import subprocess
+import sys
 
+HERE = os.path.dirname(os.path.abspath(__file__))
+PROGRAM = os.path.join(os.path.dirname(HERE), "build/speculate")
 SECTIONS = ("steps", "world")
 WORD = re.compile(r'"(?:\\.|[^"\\])*"[^ \t]*|[^ \t]+')
 PROCESS = re.compile(r'at (\d+) regs \S+(?: \S+){7} buf (".*") kids .* ended (yes|no)')
@@ -25,6 +29,15 @@ def words_of(line):
 def plain(name):
     """A process, a guess or a terminal without leading zeros."""
     return ".".join(str(int(part)) for part in name.split("."))
+
+
+def program():
+    """The program in build/, which is built where it does not stand."""
+    if not os.path.exists(PROGRAM):
+        print("no program is built: tools/build.py builds it, in some two minutes", file=sys.stderr)
+        if subprocess.run([f"{HERE}/build.py", "program"], check=False).returncode:
+            sys.exit(1)
+    return PROGRAM
 
 
 def played(program, text, *flags):

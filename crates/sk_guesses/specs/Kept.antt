@@ -67,6 +67,7 @@ one_drawn v = record v { drawn = v.drawn + 1 }
 abbrev pub struck_with : ℕ → List Open → List ℕ
 struck_with g os = numbers (filter (λ o. has g o.1 && not (o.0 == g)) os)
 
+-- what is kept once these are struck too
 abbrev pub with_struck : ℕ → List Open → KeptView → KeptView
 with_struck g os v = record v { struck = v.struck ++ struck_with g os }
 

@@ -4,6 +4,7 @@ use Rattle.std.specs.Coded.{Coded, code_by, coded×, coded_ℕ, coded_list}
 use Rattle.sk_trace.specs.declared.event.Event.{Event}
 use Rattle.sk_trace.specs.contracts.event.Event as event
 
+-- a trace, as it is seen: its events, and how many more it has room for
 pub record TraceView : Type 0 where
   pub events : List Event
   pub room : ℕ

@@ -24,25 +24,32 @@ pub record HandsOn (w : WorldView) (xs : Exchanges) (new : WorldView) : Type 0 w
   pub order : w.replies ++ map (λ x. x.1) xs ≡ given ++ new.replies
 
 nothing : (w new : WorldView) → new.replies ≡ w.replies → HandsOn w [] new
-nothing w new same = record { numbers = λ q r there. absurd (no_member (q, r) there); given = []; order = append-nil w.replies ∙ sym same }
+nothing w new same = record {
+  numbers = λ q r there. absurd (no_member (q, r) there);
+  given = [];
+  order = append-nil w.replies ∙ sym same;
+}
 
 unchanged : (w new : WorldView) → new ≡ w → HandsOn w [] new
 unchanged w new is = nothing w new (ap (λ (x : WorldView). x.replies) is)
 
-turns : (told : Result WorldAnswer Cause) (w : WorldView) (p : ℕ) (new : WorldView) → Turns told w p new → HandsOn w [] new
+turns : (told : Result WorldAnswer Cause) (w : WorldView) (p : ℕ) (new : WorldView) → Turns told w p new
+    → HandsOn w [] new
 turns (Ok (answers.Turn turn)) w p new h = nothing w new (ap (λ (x : WorldView). x.replies) h.1)
 turns (Ok told) w p new h = absurd h
 turns (Err (causes.Turn why)) w p new h = unchanged w new h.1
 turns (Err why) w p new h = absurd h
 
-edits : (told : Result WorldAnswer Cause) (w : WorldView) (name : Bytes) (expected : ℕ) (bytes : Bytes) (new : WorldView) → EditsFile told w name expected bytes new → HandsOn w [] new
+edits : (told : Result WorldAnswer Cause) (w : WorldView) (name : Bytes) (expected : ℕ) (bytes : Bytes) (new : WorldView)
+    → EditsFile told w name expected bytes new → HandsOn w [] new
 edits (Ok (answers.Edited version)) w name expected bytes new h = nothing w new (ap (λ (x : WorldView). x.replies) h.1)
 edits (Ok told) w name expected bytes new h = absurd h
 edits (Err (causes.Edit why)) w name expected bytes new h = unchanged w new h.1
 edits (Err why) w name expected bytes new h = absurd h
 
 -- the oldest one is given
-gives : (told : Result WorldAnswer Cause) (w new : WorldView) (rs : List Reply) → w.replies ≡ rs → Replies told w new rs → HandsOn w [] new
+gives : (told : Result WorldAnswer Cause) (w new : WorldView) (rs : List Reply) → w.replies ≡ rs
+    → Replies told w new rs → HandsOn w [] new
 gives told w new [] is h = unchanged w new h.1
 gives (Ok (answers.Given told)) w new (r ∷ rs) is h = record {
   numbers = λ q x there. absurd (no_member (q, x) there);
@@ -63,18 +70,22 @@ served_one t b = record {
   order = refl;
 }
 
-serves : (told : Result WorldAnswer Cause) (t new : WorldView) (b : Option Sent) → Serves told t new b → HandsOn t (exchange b told) new
+serves : (told : Result WorldAnswer Cause) (t new : WorldView) (b : Option Sent) → Serves told t new b
+    → HandsOn t (exchange b told) new
 serves told t new None h = unchanged t new h.1
 serves (Ok x) t new (Some b) h =
-    subst (λ (y : WorldAnswer). HandsOn t (with_reply b (Ok y)) new) (sym h.0) (subst (λ (y : WorldView). HandsOn t ((b, reply_to t.server b) ∷ []) y) (sym h.1) (served_one t b))
+    subst (λ (y : WorldAnswer). HandsOn t (with_reply b (Ok y)) new) (sym h.0)
+    (subst (λ (y : WorldView). HandsOn t ((b, reply_to t.server b) ∷ []) y) (sym h.1) (served_one t b))
 serves (Err why) t new (Some b) h = unchanged t new h.1
 
-taken_same : (w : WorldView) (b : Option Sent) (ws : List PendingRequest) → w.desk.waiting ≡ ws → (taken_by w b).replies ≡ w.replies
+taken_same : (w : WorldView) (b : Option Sent) (ws : List PendingRequest) → w.desk.waiting ≡ ws
+    → (taken_by w b).replies ≡ w.replies
 taken_same w (Some q) ws is = refl
 taken_same w None [] is = ap (λ ws. (taken_by (record w { desk = record w.desk { waiting = ws } }) None).replies) is
 taken_same w None (q ∷ qs) is = ap (λ ws. (taken_by (record w { desk = record w.desk { waiting = ws } }) None).replies) is
 
-one_event : (told : Result WorldAnswer Cause) (w : WorldView) (e : WorldEvent) (new : WorldView) → EventPost told w e new → HandsOn w (exchanged told w e) new
+one_event : (told : Result WorldAnswer Cause) (w : WorldView) (e : WorldEvent) (new : WorldView) → EventPost told w e new
+    → HandsOn w (exchanged told w e) new
 one_event told w (events.Turn p) new h = turns told w p new h
 one_event told w events.Serve new h =
     let t = taken_by w w.back in
@@ -82,14 +93,20 @@ one_event told w events.Serve new h =
     record {
       numbers = s.numbers;
       given = s.given;
-      order = ap (λ rs. rs ++ map (λ x. x.1) (exchange t.back told)) (sym (taken_same w w.back w.desk.waiting refl)) ∙ s.order;
+      order =
+          ap (λ rs. rs ++ map (λ x. x.1) (exchange t.back told)) (sym (taken_same w w.back w.desk.waiting refl))
+          ∙ s.order;
     }
 one_event told w events.Reply new h = gives told w new w.replies refl h
 one_event told w (events.Edit name expected bytes) new h = edits told w name expected bytes new h
 
-chain : (w mid last : WorldView) (xs ys : Exchanges) → HandsOn w xs mid → HandsOn mid ys last → HandsOn w (xs ++ ys) last
+chain : (w mid last : WorldView) (xs ys : Exchanges) → HandsOn w xs mid → HandsOn mid ys last
+    → HandsOn w (xs ++ ys) last
 chain w mid last xs ys a b = record {
-  numbers = λ q r there. elim (Contains-append_cases xs ys (q, r) there) [ inl first ↦ a.numbers q r first | inr later ↦ b.numbers q r later ];
+  numbers = λ q r there. elim (Contains-append_cases xs ys (q, r) there) [
+    | inl first ↦ a.numbers q r first
+    | inr later ↦ b.numbers q r later
+  ];
   given = a.given ++ b.given;
   order =
       ap (λ rs. w.replies ++ rs) (map-append (λ x. x.1) xs ys)
@@ -100,7 +117,8 @@ chain w mid last xs ys a b = record {
       ∙ sym (append_assoc a.given b.given last.replies);
 }
 
-pub hands_on : (w : WorldView) (es : List WorldEvent) (xs : Exchanges) (last : WorldView) → Leads w es xs last → HandsOn w xs last
+pub hands_on : (w : WorldView) (es : List WorldEvent) (xs : Exchanges) (last : WorldView) → Leads w es xs last
+    → HandsOn w xs last
 hands_on w [] xs last h = subst (λ (ys : Exchanges). HandsOn w ys last) (sym h.0) (unchanged w last h.1)
 hands_on w (e ∷ es) xs last h =
     subst (λ (ys : Exchanges). HandsOn w ys last) (sym h.5)

@@ -14,7 +14,6 @@ use Rattle.sk_kernel.specs.Kernel.{KernelView, record_at, undecided_at, last_gue
 use Rattle.sk_server.specs.Server.{ServerView}
 use Rattle.sk_server.specs.declared.request.Request.{Request as Sent}
 use Rattle.sk_server.specs.declared.request.Ask.TheVariants.{Store}
-use Rattle.sk_server.specs.declared.reply.Answer.{Answer}
 use Rattle.sk_server.specs.declared.reply.Answer.TheVariants.{Yes}
 use Rattle.sk_server.specs.declared.reply.Reply.{Reply}
 use Rattle.sk_client.specs.AcceptedStores.{paired, StandsIn, IsDue, StoresStand, StoresStood, StandsAt, DueStore, StandApart, steps_at}
@@ -183,9 +182,6 @@ does_asked scripts (asks.Store name version bytes) ws h =
     (let one : suc version ≡ version + 1 = omega arith in subst (λ n. Contains ws (CopyOf name, Some (copy_of (record { version = n; bytes = bytes })))) one h)
 does_asked scripts (asks.Check name version) ws h = h
 does_asked scripts (asks.Get name) ws h = h
-
-same_input : (a b c : Answer) (x y : Input) → a ≡ b → b ≡ c → x ≡ y → input_of a ≡ Some x → input_of c ≡ Some y
-same_input a b c x y first then same gives = sym (ap input_of (first ∙ then)) ∙ gives ∙ ap Some same
 
 -- a commit is one without causes too
 commit_back : (g : ℕ) (e : Happens Caused) → bare_event bare e ≡ Commit g → e ≡ Commit g
@@ -490,32 +486,38 @@ module _ (drawn begun : ℕ) (old : World) (xs : Exchanges) (v : WorldView) (a :
         | inr q ↦ subst IsSome (sym (number_is (entries_of z) place u.0 q.0 q.0.number u.1 q.1 refl)) refl
       ]
 
-  -- an exchanged request whose reply was given, as the laws have it
-  exchanged_given : (q : Sent) (r : Reply) → Contains (xs ++ ys) (q, r) → IsGiven last q → (x : Served) × Contains b.given x × (answered_there x ≡ answered_here (q, r))
-  exchanged_given q r there given =
-      let x = out_of_map answered_there (all_served z) (answered_here (q, r)) (subst (λ ts. Contains ts (answered_here (q, r))) (sym b.answered) (in_map answered_here (xs ++ ys) (q, r) there)) in (
-        x.0,
-        elim (Contains-append_cases b.given (law_served last.desk.taken last.replies) x.0 x.1) [
-          | inl here ↦ here
-          | inr waits ↦
-              let p = served_pending last.desk.taken last.replies x.0 waits in
-              absurd (given p.0 (Contains-append_left last.desk.taken last.desk.waiting p.0 p.1) (sym (ap (λ (x : PendingRequest). x.number) p.2) ∙ ap (λ t. t.0) x.2))
-        ],
-        x.2,
-      )
+  -- an exchanged request, as the laws have it
+  exchanged : (q : Sent) (r : Reply) → Contains (xs ++ ys) (q, r) → (x : Served) × Contains (all_served z) x × (answered_there x ≡ answered_here (q, r))
+  exchanged q r there =
+      out_of_map answered_there (all_served z) (answered_here (q, r)) (subst (λ ts. Contains ts (answered_here (q, r))) (sym b.answered) (in_map answered_here (xs ++ ys) (q, r) there))
+
+  -- where its reply was given
+  exchanged_given : (q : Sent) (x : Served) → Contains (all_served z) x → x.0.number ≡ q.number → IsGiven last q → Contains b.given x
+  exchanged_given q x there number given =
+      elim (Contains-append_cases b.given (law_served last.desk.taken last.replies) x there) [
+        | inl here ↦ here
+        | inr waits ↦
+            let p = served_pending last.desk.taken last.replies x waits in
+            absurd (given p.0 (Contains-append_left last.desk.taken last.desk.waiting p.0 p.1) (sym (ap (λ (x : PendingRequest). x.number) p.2) ∙ number))
+      ]
 
   -- where an answer gives an input
   given_input : (o : Option Input) → IsSome o → (x : Input) × (o ≡ Some x)
   given_input None some = cc
   given_input (Some x) some = (x, refl)
 
+  asked_of : (q : Sent) (r : Reply) (x : Served) (input : Input) → Contains b.given x → answered_there x ≡ answered_here (q, r) → q.guess ≡ None → input_of r.answer ≡ Some input
+      → (place : ℕ) × (request_at place ≡ Some q.number)
+  asked_of q r x input there same none gives =
+      let s = b.all.holds.stands x.0 x.1 input there (ap (λ t. input_of t.1.1.1) same ∙ gives) (ap (λ t. t.1.1.0) same ∙ none) in
+      let place = place_at (entries_of z) s.0 s.1 in
+      (place.0, number_is (entries_of z) place.0 s.0 x.0 q.number place.1 s.2 (ap (λ t. t.0) same))
+
   asked : (q : Sent) (r : Reply) → Contains (xs ++ ys) (q, r) → IsGiven last q → q.guess ≡ None → IsSome (input_of r.answer) → (place : ℕ) × (request_at place ≡ Some q.number)
   asked q r there given none some =
-      let x = exchanged_given q r there given in
+      let x = exchanged q r there in
       let gives = given_input (input_of r.answer) some in
-      let s = b.all.holds.stands x.0.0 x.0.1 gives.0 x.1 (ap (λ t. input_of t.1.1.1) x.2 ∙ gives.1) (ap (λ t. t.1.1.0) x.2 ∙ none) in
-      let place = place_at (entries_of z) s.0 s.1 in
-      (place.0, number_is (entries_of z) place.0 s.0 x.0.0 q.number place.1 s.2 (ap (λ t. t.0) x.2))
+      asked_of q r x.0 gives.0 (exchanged_given q x.0 x.1 (ap (λ t. t.0) x.2) given) x.2 none gives.1
 
   -- a request has one answer
   one_answer : (x y : Served) → Contains (all_served z) x → Contains (all_served z) y → x.0.number ≡ y.0.number → x ≡ y
@@ -526,24 +528,29 @@ module _ (drawn begun : ℕ) (old : World) (xs : Exchanges) (v : WorldView) (a :
       let both : Some x ≡ Some y = sym i.1 ∙ ap (slice_get (all_served z)) same ∙ j.1 in
       cc
 
+  made_of : (q : Sent) (r : Reply) (x : Served) (p : PendingRequest) (m : Caused) → Contains (all_served z) x → answered_there x ≡ answered_here (q, r)
+      → Contains (entries_of z) m → m.cause ≡ For p → p.number ≡ q.number → (m.guess ≡ q.guess) × (q.guess ≡ None → input_of r.answer ≡ Some m.input)
+  made_of q r x p m x_in same here cause number =
+      let owner = b.all.facts.owners.owner m p here cause in
+      let its : p ≡ x.0 =
+      rising_same (map (λ x. x.0) (all_served z) ++ all_waiting z) b.all.facts.numbers.rising p x.0 owner.0
+      (Contains-append_left (map (λ x. x.0) (all_served z)) (all_waiting z) x.0 (in_map (λ (x : Served). x.0) (all_served z) x x_in)) (number ∙ ap (λ t. t.0) (sym same)) in
+      let guess : p.guess ≡ q.guess = ap (λ (q : PendingRequest). q.guess) its ∙ ap (λ t. t.1.1.0) same in (
+        owner.1 ∙ guess,
+        λ none.
+            let a = b.all.facts.owners.asked m p here cause (guess ∙ none) in
+            let one = one_answer (p, a.0) x (b.all.holds.within (p, a.0) a.1) x_in (ap (λ (q : PendingRequest). q.number) its) in
+            subst (λ c. input_of c ≡ Some m.input) (ap (λ (y : Served). y.1) one ∙ ap (λ t. t.1.1.1) same) a.2,
+      )
+
   made : (q : Sent) (r : Reply) (place : ℕ) (n : EntryView) → Contains (xs ++ ys) (q, r) → request_at place ≡ Some q.number → slice_get (record_at last.desk.kernel) place ≡ Some n
       → (n.guess ≡ q.guess) × (q.guess ≡ None → input_of r.answer ≡ Some n.input)
   made q r place n there number at =
       let u = at_record drawn begun w z b.all place n at in
       let p = is_number q.number u.0.cause (ap number_at (sym u.1) ∙ number) in
-      let here = contains_at (entries_of z) place u.0 u.1 in
-      let owner = b.all.facts.owners.owner u.0 p.0 here p.1 in
-      let x = out_of_map answered_there (all_served z) (answered_here (q, r)) (subst (λ ts. Contains ts (answered_here (q, r))) (sym b.answered) (in_map answered_here (xs ++ ys) (q, r) there)) in
-      let its : p.0 ≡ x.0.0 =
-      rising_same (map (λ x. x.0) (all_served z) ++ all_waiting z) b.all.facts.numbers.rising p.0 x.0.0 owner.0
-      (Contains-append_left (map (λ x. x.0) (all_served z)) (all_waiting z) x.0.0 (in_map (λ (x : Served). x.0) (all_served z) x.0 x.1)) (p.2 ∙ ap (λ t. t.0) (sym x.2)) in
-      let guess : p.0.guess ≡ q.guess = ap (λ (q : PendingRequest). q.guess) its ∙ ap (λ t. t.1.1.0) x.2 in (
-        sym (ap (λ (n : EntryView). n.guess) u.2) ∙ owner.1 ∙ guess,
-        λ none.
-            let a = b.all.facts.owners.asked u.0 p.0 here p.1 (guess ∙ none) in
-            let same = one_answer (p.0, a.0) x.0 (b.all.holds.within (p.0, a.0) a.1) x.1 (ap (λ (q : PendingRequest). q.number) its) in
-            same_input a.0 x.0.1 r.answer u.0.input n.input (ap (λ (y : Served). y.1) same) (ap (λ t. t.1.1.1) x.2) (ap (λ (n : EntryView). n.input) u.2) a.2,
-      )
+      let x = exchanged q r there in
+      subst (λ (n : EntryView). (n.guess ≡ q.guess) × (q.guess ≡ None → input_of r.answer ≡ Some n.input)) u.2
+      (made_of q r x.0 p.0 u.0 x.1 x.2 (contains_at (entries_of z) place u.0 u.1) p.1 p.2)
 
   within : (place number : ℕ) → request_at place ≡ Some number → IsSome (slice_get (record_at last.desk.kernel) place)
   within place number is =

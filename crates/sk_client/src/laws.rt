@@ -33,8 +33,9 @@ ghost use Rattle.sk_client.specs.declared.world.WorldEvent.{WorldEvent};
 use sk_script::{Boot, BootProcess};
 
 /// A kernel that was booted is such after each step, guess, commit, failure, hand-in and new epoch, whatever they are
-/// answered, by what these calls ensure. With the numbers of its boot (`numbered`) it is so from `Kernel::boot` on. It is ready
-/// where nothing is undecided, which is what `Desk::new` requires of it.
+/// answered, by what these calls ensure; the process of a lease is what its instructions made of it, as of each lease. With the
+/// numbers of its boot (`numbered`) it is so from `Kernel::boot` on. It is ready where nothing is undecided, which is what
+/// `Desk::new` requires of it.
 pub fn ready()
     ensures boot { (number : ℕ) (boot : BootView) (limit : ℕ) → IsNumbered boot
         → WasBooted (booted number boot limit) }

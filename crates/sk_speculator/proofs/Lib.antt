@@ -1,0 +1,6 @@
+pub mod Writing
+pub mod Saying
+pub mod Afterwards
+mod Taking
+pub mod Law
+pub mod Found

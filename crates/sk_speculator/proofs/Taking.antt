@@ -1,0 +1,148 @@
+-- A step that is taken, with a guess of its own or none, and one that is refused.
+use Rattle.std.proofs.Common.{◌≡◌, ℕ, suc, length, ◌<◌, ◌≤◌, ◌+◌, Bool, true, false, nat_lt, ◌||◌, List, [], ◌∷◌, ◌++◌, Option, Some, None, refl, sym, ◌∙◌, ap, subst, arith}
+use Rattle.std.specs.List.Sorted.{IsStrictlySortedBy}
+use Rattle.std.specs.Ordering.{nat_cmp}
+use Rattle.std.specs.declared.cmp.Ordering.{Ordering}
+use Rattle.std.specs.Cmp.{IsTotalOrder}
+use Rattle.std.specs.FinMap.{IsAntisymmetric}
+use Rattle.std.proofs.lemmas.Bool.{false≢true, eq-eqb, ltb-true, ltb-false, or_left, or_right}
+use Rattle.std.proofs.lemmas.List.{append-nil}
+use Rattle.sk_record.specs.Effects.{is_in, is_marked}
+use Rattle.sk_record.specs.Notes.{has, last_tags}
+use Rattle.sk_record.specs.Machine.{with_drawn}
+use Rattle.sk_record.specs.Trace.{marks}
+use Rattle.sk_record.specs.UndoState.{Open, numbers}
+use Rattle.sk_record.specs.declared.status.Status.{Status}
+use Rattle.sk_record.specs.declared.status.Status.TheVariants.{Undecided}
+use Rattle.sk_guesses.specs.Dependents.{tags_by, with_tags, AllExact}
+use Rattle.sk_guesses.specs.EntitySet.{with_entities}
+use Rattle.sk_guesses.specs.Kept.{KeptView, AreStatuses, one_drawn, keys_of}
+use Rattle.sk_guesses.specs.Opens.{OpenGuess, open_in, opens_of}
+use Rattle.sk_guesses.proofs.Listed.{exact_as}
+use Rattle.sk_guesses.proofs.Opens.{more_rises, open_is}
+use Rattle.sk_deeds.specs.Deed.{Deed}
+use Rattle.sk_slots.specs.Slot.{SlotView}
+use Rattle.sk_slots.specs.Slots.{look_at, log_at, AllSettled}
+use Rattle.sk_outputs.specs.Said.{Said}
+use Rattle.sk_speculator.specs.Parts.{Parts, any_rests, Performed, IsSame, IsSound, says}
+use Rattle.sk_speculator.specs.Calls.{next_of, Takes}
+use Rattle.sk_speculator.proofs.Afterwards.{clean_at, exact_guessed, exact_taken, next_above, next_closed, no_next, opens_rise, performed_same, tags_are, takes_so, tidy, whole_same, whole_taken}
+
+-- an undecided guess was drawn
+drawn_by_now : (drawn g : ℕ) (o : Option Status) → (drawn < g → o ≡ None) → open_in o ≡ true → g ≤ drawn
+drawn_by_now drawn g o fresh undecided =
+    elim (nat_lt drawn g) as (λ b. nat_lt drawn g ≡ b → g ≤ drawn) [
+      | true ↦ λ above. absurd (false≢true (sym (ap open_in (fresh (ltb-true drawn g above))) ∙ undecided))
+      | false ↦ λ below. ltb-false drawn g below
+    ] refl
+
+pub opens_length : {E : Type 0} (os : List (OpenGuess E)) → length (opens_of os) ≡ length os
+opens_length [] = refl
+opens_length (o ∷ os) = ap suc (opens_length os)
+
+numbers_more : (os : List Open) (o : Open) → numbers (os ++ o ∷ []) ≡ numbers os ++ o.0 ∷ []
+numbers_more [] o = refl
+numbers_more (x ∷ os) o = ap (λ ns. x.0 ∷ ns) (numbers_more os o)
+
+opens_more : {E : Type 0} (os : List (OpenGuess E)) (o : OpenGuess E) → opens_of (os ++ o ∷ []) ≡ opens_of os ++ (o.id, o.tags) ∷ []
+opens_more [] o = refl
+opens_more (x ∷ os) o = ap (λ ps. (x.id, x.tags) ∷ ps) (opens_more os o)
+
+module _ {K V O : Type 0} {R : K → K → Ordering} (total : IsTotalOrder R) (exact : IsAntisymmetric R) (a : Parts K V O) (lists : List (OpenGuess K)) (sound : IsSound R a lists) where
+  -- nothing that is seen has changed
+  pub sound_refused : (b : Parts K V O) (new : List (OpenGuess K)) → IsSame R a b → AllSettled R b.slots → AllExact R (tags_by (log_at R a.slots)) new → IsSound R b new
+  sound_refused b new same settled exactly = record {
+    settled = settled;
+    exact = exact_as total exact (tags_by (log_at R a.slots)) (tags_by (log_at R b.slots)) (λ k. ap (last_tags []) (sym (same.logs k))) new exactly;
+    whole = whole_same total exact a sound.whole b same;
+  }
+
+  abbrev pub AreMembers : Deed K V O → Option ℕ → List ℕ → Type 0
+  AreMembers d mark tags = (g : ℕ) → has g tags ≡ ((is_marked mark g || any_rests R a.slots g d.looked) || any_rests R a.slots g (keys_of d.written))
+
+  -- what is written without tags has no notes
+  pub clean : (d : Deed K V O) (mark : Option ℕ) (tags : List ℕ) → AreMembers d mark tags → (q : K) → is_in R (keys_of d.written) q ≡ true → tags ≡ [] → log_at R a.slots q ≡ []
+  clean d mark tags members = clean_at total exact a (keys_of d.written) tags (tidy total exact a sound.whole) (λ n rests. members n ∙ or_right _ _ rests)
+
+  -- with the next number the open guesses rise still
+  pub none_rises : IsStrictlySortedBy nat_cmp (numbers a.opens ++ marks None)
+  none_rises = subst (IsStrictlySortedBy nat_cmp) (sym (append-nil (numbers a.opens))) (opens_rise total exact a sound.whole)
+
+  pub next_rises : IsStrictlySortedBy nat_cmp (numbers a.opens ++ marks (Some (next_of a.guesses)))
+  next_rises =
+      more_rises (numbers a.opens) (next_of a.guesses) (opens_rise total exact a sound.whole) (λ g here.
+      let le = drawn_by_now a.guesses.drawn g (sound.whole.status g) (sound.whole.agrees.fresh g) (sym (sound.whole.agrees.undecided g) ∙ here) in omega (arith, le))
+
+  module _ (b : Parts K V O) (mid : List (K × SlotView V)) (d : Deed K V O) (tags : List ℕ) (look : (q : K) → look_at R mid q ≡ look_at R a.slots q) (log : (q : K) → log_at R mid q ≡ log_at R a.slots q) (rises : IsStrictlySortedBy nat_cmp tags)
+      (did : Performed R mid tags d.written b.slots) (said : b.said ≡ says d.said tags a.said) (settled : AllSettled R b.slots) where
+    done : Performed R a.slots tags d.written b.slots
+    done = performed_same total exact a mid b.slots tags d.written look log did
+
+    pub taken : AreMembers d None tags → b.guesses ≡ a.guesses → b.opens ≡ a.opens → Takes R a d None b
+    taken members guesses opens =
+        let is = tags_are total exact a d None tags (tidy total exact a sound.whole) none_rises rises members in
+        record {
+          takes = λ status _. takes_so total exact a b d None tags is done (opens ∙ sym (append-nil a.opens)) said status;
+          agrees = λ status are. subst (λ v. AreStatuses v b.opens status) (sym guesses) (subst (λ os. AreStatuses a.guesses os status) (sym opens) are);
+          guesses = guesses;
+          numbered = ap numbers opens ∙ sym (append-nil (numbers a.opens));
+        }
+
+    pub sound_taken : (new : List (OpenGuess K)) → AreMembers d None tags → Takes R a d None b → AllExact R (with_tags R tags (keys_of d.written) (tags_by (log_at R a.slots))) new → IsSound R b new
+    sound_taken new members t exactly = record {
+      settled = settled;
+      exact = exact_taken total exact a sound.whole b.slots tags d.written new (clean d None tags members) done exactly;
+      whole = whole_taken total exact a sound.whole b d None (no_next a.guesses.drawn) t;
+    }
+
+    pub guessed : AreMembers d (Some (next_of a.guesses)) tags → b.guesses ≡ one_drawn a.guesses → b.opens ≡ a.opens ++ (next_of a.guesses, tags) ∷ []
+        → ((status : ℕ → Option Status) → AreStatuses a.guesses a.opens status → AreStatuses b.guesses b.opens (with_drawn (Some (next_of a.guesses)) status)) → Takes R a d (Some (next_of a.guesses)) b
+    guessed members guesses opens agrees =
+        let is = tags_are total exact a d (Some (next_of a.guesses)) tags (tidy total exact a sound.whole) next_rises rises members in
+        record { takes = λ status _. takes_so total exact a b d (Some (next_of a.guesses)) tags is done opens said status; agrees = agrees; guesses = guesses; numbered = ap numbers opens ∙ numbers_more a.opens (next_of a.guesses, tags) }
+
+    pub sound_guessed : (new : List (OpenGuess K)) (o : OpenGuess K) → AreMembers d (Some (next_of a.guesses)) tags → Takes R a d (Some (next_of a.guesses)) b
+        → o.dependents ≡ with_entities R [] (keys_of d.written) → o.id ≡ next_of a.guesses → has o.id tags ≡ true → AllExact R (with_tags R tags (keys_of d.written) (tags_by (log_at R a.slots))) new → IsSound R b (new ++ o ∷ [])
+    sound_guessed new o members t begins number own exactly = record {
+      settled = settled;
+      exact =
+          exact_guessed total exact a sound.whole b.slots tags d.written new o (clean d (Some (next_of a.guesses)) tags members) done begins own
+          (ap (λ n. has n (numbers a.opens)) number ∙ next_closed total exact a sound.whole) exactly;
+      whole = whole_taken total exact a sound.whole b d (Some (next_of a.guesses)) (next_above a.guesses.drawn) t;
+    }
+
+  module _ (mid slots : List (K × SlotView V)) (d : Deed K V O) (tags : List ℕ) (asked : KeptView) (new : List (OpenGuess K)) (before said : Said O) (look : (q : K) → look_at R mid q ≡ look_at R a.slots q) (log : (q : K) → log_at R mid q ≡ log_at R a.slots q)
+      (view : asked ≡ a.guesses) (opens : opens_of new ≡ a.opens) (same : before ≡ a.said) (rises : IsStrictlySortedBy nat_cmp tags) (did : Performed R mid tags d.written slots) (says_so : said ≡ says d.said tags before)
+      (settled : AllSettled R slots) (exactly : AllExact R (with_tags R tags (keys_of d.written) (tags_by (log_at R a.slots))) new) where
+    said_is : said ≡ says d.said tags a.said
+    said_is = says_so ∙ ap (says d.said tags) same
+
+    -- after a step
+    pub after_take : AreMembers d None tags
+        → Takes R a d None (record { slots = slots; guesses = asked; opens = opens_of new; said = said }) × IsSound R (record { slots = slots; guesses = asked; opens = opens_of new; said = said }) new
+    after_take members =
+        let b : Parts K V O = record { slots = slots; guesses = asked; opens = opens_of new; said = said } in
+        let t = taken b mid d tags look log rises did said_is settled members view opens in
+        (t, sound_taken b mid d tags look log rises did said_is settled new members t exactly)
+
+    -- after a guess
+    pub after_guess : (own : List ℕ) (id : ℕ) (drawn : KeptView) (all : List (OpenGuess K)) (ds : List K) → id ≡ next_of a.guesses → AreMembers d (Some id) tags → own ≡ tags → drawn ≡ one_drawn asked
+        → all ≡ new ++ record { id = id; tags = own; dependents = with_entities R [] ds } ∷ [] → ds ≡ keys_of d.written
+        → ((status : ℕ → Option Status) → AreStatuses asked (opens_of new) status → AreStatuses drawn (opens_of all) (with_drawn (Some id) status))
+        → Takes R a d (Some (next_of a.guesses)) (record { slots = slots; guesses = drawn; opens = opens_of all; said = said }) × IsSound R (record { slots = slots; guesses = drawn; opens = opens_of all; said = said }) all
+    after_guess own id drawn all ds number members copied view_after opens_after written statuses =
+        let o : OpenGuess K = record { id = id; tags = own; dependents = with_entities R [] ds } in
+        let b : Parts K V O = record { slots = slots; guesses = drawn; opens = opens_of (new ++ o ∷ []); said = said } in
+        let next = next_of a.guesses in
+        let members_next = subst (λ k. AreMembers d (Some k) tags) number members in
+        let guesses : drawn ≡ one_drawn a.guesses = view_after ∙ ap one_drawn view in
+        let opens_now : b.opens ≡ a.opens ++ (next, tags) ∷ [] = opens_more new o ∙ (λ i. opens i ++ (number i, copied i) ∷ []) in
+        let agrees : (status : ℕ → Option Status) → AreStatuses a.guesses a.opens status → AreStatuses b.guesses b.opens (with_drawn (Some next) status) = λ status are.
+        let before_it = subst (λ v. AreStatuses v (opens_of new) status) (sym view) (subst (λ os. AreStatuses a.guesses os status) (sym opens) are) in
+        subst (λ k. AreStatuses drawn b.opens (with_drawn (Some k) status)) number (subst (λ os. AreStatuses drawn (opens_of os) (with_drawn (Some id) status)) opens_after (statuses status before_it)) in
+        let t = guessed b mid d tags look log rises did said_is settled members_next guesses opens_now agrees in
+        let own_tag : has id tags ≡ true = members id ∙ or_left _ _ (or_left _ _ (eq-eqb id id refl)) in
+        let sound_b = sound_guessed b mid d tags look log rises did said_is settled new o members_next t (ap (with_entities R []) written) number own_tag exactly in (
+          subst (λ os. Takes R a d (Some next) (record { slots = slots; guesses = drawn; opens = opens_of os; said = said })) (sym opens_after) t,
+          subst (λ os. IsSound R (record { slots = slots; guesses = drawn; opens = opens_of os; said = said }) os) (sym opens_after) sound_b,
+        )

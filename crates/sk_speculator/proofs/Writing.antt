@@ -1,0 +1,208 @@
+-- Writes, one after another, and the tags of keys.
+use Rattle.std.proofs.Common.{◌≡◌, ℕ, zero, suc, ◌+◌, ◌<◌, ◌≤◌, length, take, drop, arith, Bool, true, false, cond, ◌||◌, ◌&&◌, List, [], ◌∷◌, ◌++◌, map, Option, Some, None, inl, inr, refl, sym, ◌∙◌, ap, subst}
+use Rattle.std.specs.Prelude.{◌==◌, get_or, slice_set, Result, Ok, Err, IfOk, OnOk, OnErr}
+use Rattle.std.specs.Result.{is_err}
+use Rattle.std.proofs.Math.Seq.{drop-cons}
+use Rattle.std.proofs.Math.Numerals.{suc-eq-add-one}
+use Rattle.std.specs.List.{list_any}
+use Rattle.std.specs.Ordering.{eq_by_cmp}
+use Rattle.std.specs.declared.cmp.Ordering.{Ordering}
+use Rattle.std.specs.Cmp.{IsTotalOrder, eq_by_cmp_equiv, Equal-is}
+use Rattle.std.specs.FinMap.{IsAntisymmetric}
+use Rattle.std.proofs.Math.Bool.{or_assoc}
+use Rattle.std.proofs.lemmas.Bool.{true≢false, eqb-true, or_left, or_right}
+use Rattle.std.proofs.lemmas.List.{append-nil}
+use Rattle.sk_ids.proofs.Same.{exact_bytes}
+use Rattle.sk_record.specs.Effects.{is_in, written_value}
+use Rattle.sk_record.specs.Notes.{Note, has, noted, last_tags}
+use Rattle.sk_record.specs.Merged.{same_tags, Merges}
+use Rattle.sk_record.proofs.Merged.{all_kept, left_out}
+use Rattle.sk_slots.specs.Slot.{SlotView, goes_unnoted, noted_on}
+use Rattle.sk_slots.specs.Slots.{look_at, log_at, IsReady}
+use Rattle.sk_slots.proofs.Logs.{noted_again}
+use Rattle.sk_guesses.specs.Kept.{keys_of}
+use Rattle.sk_speculator.specs.Parts.{Performed}
+
+module _ {V : Type 0} where
+  -- a note for a write, or what stands for it
+  pub noted_merges : (b : Bool) (tags : List ℕ) (v : Option V) (log : List (Note V)) → (b ≡ true → tags ≡ [] → log ≡ [])
+      → Merges [] (log ++ noted b tags v []) (cond b (noted_on tags v log) log)
+  noted_merges false tags v log clean = subst (λ ns. Merges [] ns log) (sym (append-nil log)) (all_kept [] log)
+  noted_merges true [] v log clean =
+      subst (λ ns. Merges [] (ns ++ []) (noted_on [] v ns)) (sym (clean refl refl)) tt
+  noted_merges true (t ∷ tags) v log clean =
+      elim (goes_unnoted (t ∷ tags) log) as (λ b. goes_unnoted (t ∷ tags) log ≡ b → Merges [] (log ++ record { tags = t ∷ tags; before = v } ∷ []) (cond b log (log ++ record { tags = t ∷ tags; before = v } ∷ []))) [
+        | true ↦ λ same. left_out [] log (record { tags = t ∷ tags; before = v }) (sym ((exact_bytes (t ∷ tags) (last_tags [] log)).0 same))
+        | false ↦ λ _. all_kept [] (log ++ record { tags = t ∷ tags; before = v } ∷ [])
+      ] refl
+
+  -- a second write with these tags is not noted
+  pub noted_twice : (tags : List ℕ) (v w : Option V) (log : List (Note V)) → noted_on tags w (noted_on tags v log) ≡ noted_on tags v log
+  noted_twice tags v w log =
+      elim (goes_unnoted tags log) as (λ b. goes_unnoted tags log ≡ b → noted_on tags w (cond b log (log ++ record { tags = tags; before = v } ∷ [])) ≡ cond b log (log ++ record { tags = tags; before = v } ∷ [])) [
+        | true ↦ λ on. ap (λ b. cond b log (log ++ record { tags = tags; before = w } ∷ [])) on
+        | false ↦ λ _.
+            let more = log ++ record { tags = tags; before = v } ∷ [] in
+            ap (λ b. cond b more (more ++ record { tags = tags; before = w } ∷ [])) (noted_again tags log (record { tags = tags; before = v }) refl)
+      ] refl
+
+  -- one write more: what is left gives the same from here
+  pub write_more : (tags : List ℕ) (e rest : Bool) (v w value : Option V) (x y : List (Note V)) → w ≡ cond e value v → y ≡ cond e (noted_on tags v x) x
+      → cond rest (noted_on tags w y) y ≡ cond (e || rest) (noted_on tags v x) x
+  write_more tags true true v w value x y is log = (λ i. noted_on tags w (log i)) ∙ noted_twice tags v w x
+  write_more tags true false v w value x y is log = log
+  write_more tags false true v w value x y is log = λ i. noted_on tags (is i) (log i)
+  write_more tags false false v w value x y is log = log
+
+-- what is left to write
+pub record Writing {K V : Type 0} (R : K → K → Ordering) (tags : List ℕ) (old : List (K × SlotView V)) (all : List (K × Option V)) (now : List (K × SlotView V)) (rest : List (K × Option V)) : Type 0 where
+  pub look : (q : K) → written_value R rest q (look_at R now q) ≡ written_value R all q (look_at R old q)
+  pub logs : (q : K) → cond (is_in R (keys_of rest) q) (noted_on tags (look_at R now q) (log_at R now q)) (log_at R now q) ≡ cond (is_in R (keys_of all) q) (noted_on tags (look_at R old q) (log_at R old q)) (log_at R old q)
+  pub ready : (q : K) → is_in R (keys_of rest) q ≡ true → IsReady R tags now q
+
+module _ {K V : Type 0} (R : K → K → Ordering) (tags : List ℕ) (old : List (K × SlotView V)) (all : List (K × Option V)) where
+  pub writing_from : ((q : K) → is_in R (keys_of all) q ≡ true → IsReady R tags old q) → Writing R tags old all old all
+  writing_from ready = record { look = λ q. refl; logs = λ q. refl; ready = ready }
+
+  pub writing_done : (new : List (K × SlotView V)) → ((q : K) → is_in R (keys_of all) q ≡ true → tags ≡ [] → log_at R old q ≡ []) → Writing R tags old all new [] → Performed R old tags all new
+  writing_done new clean w = record {
+    look = w.look;
+    logs = λ q. subst (Merges [] (log_at R old q ++ noted (is_in R (keys_of all) q) tags (look_at R old q) [])) (sym (w.logs q)) (noted_merges (is_in R (keys_of all) q) tags (look_at R old q) (log_at R old q) (clean q));
+  }
+
+  pub writing_more : (now new : List (K × SlotView V)) (k : K) (value : Option V) (rest : List (K × Option V)) → Writing R tags old all now ((k, value) ∷ rest)
+      → ((q : K) → look_at R new q ≡ cond (eq_by_cmp R q k) value (look_at R now q)) → ((q : K) → log_at R new q ≡ cond (eq_by_cmp R q k) (noted_on tags (look_at R now q) (log_at R now q)) (log_at R now q))
+      → ((q : K) → IsReady R tags now q → IsReady R tags new q) → Writing R tags old all new rest
+  writing_more now new k value rest w look log ready = record {
+    look = λ q. ap (written_value R rest q) (look q) ∙ w.look q;
+    logs = λ q. write_more tags (eq_by_cmp R q k) (is_in R (keys_of rest) q) (look_at R now q) (look_at R new q) value (log_at R now q) (log_at R new q) (look q) (log q) ∙ w.logs q;
+    ready = λ q here. ready q (w.ready q (or_right _ _ here));
+  }
+
+-- what was written stays where what is seen does
+pub performed_settled : {K V : Type 0} (R : K → K → Ordering) (old mid new : List (K × SlotView V)) (tags : List ℕ) (ws : List (K × Option V)) → ((q : K) → look_at R new q ≡ look_at R mid q) → ((q : K) → log_at R new q ≡ log_at R mid q)
+    → Performed R old tags ws mid → Performed R old tags ws new
+performed_settled R old mid new tags ws look log did = record {
+  look = λ q. look q ∙ did.look q;
+  logs = λ q. subst (Merges [] (log_at R old q ++ noted (is_in R (keys_of ws) q) tags (look_at R old q) [])) (sym (log q)) (did.logs q);
+}
+
+or_none : (b : Bool) → (b || false) ≡ b
+or_none true = refl
+or_none false = refl
+
+pub none_more : (b : Bool) → b ≡ (b || false)
+none_more b = sym (or_none b)
+
+-- one key more
+pub more_rests : (a b c all : Bool) → a ≡ (b || (c || false)) → (d rest : Bool) → (a || rest) ≡ (b || (c || rest))
+more_rests a b c all is d rest = ap (λ x. x || rest) (is ∙ ap (λ x. b || x) (or_none c)) ∙ or_assoc b c rest
+
+-- one key more among the first of them
+in_take_at : {K : Type 0} (R : K → K → Ordering) (es : List K) (i : ℕ) (e q : K) → i < length es → e ≡ get_or es i e → is_in R (take (suc i) es) q ≡ (is_in R (take i es) q || eq_by_cmp R q e)
+in_take_at R [] i e q lt is = absurd (omega arith)
+in_take_at R (x ∷ es) zero e q lt is = or_none (eq_by_cmp R q x) ∙ ap (eq_by_cmp R q) (sym is)
+in_take_at R (x ∷ es) (suc i) e q lt is = ap (λ b. eq_by_cmp R q x || b) (in_take_at R es i e q (omega arith) is) ∙ sym (or_assoc (eq_by_cmp R q x) (is_in R (take i es) q) (eq_by_cmp R q e))
+
+pub in_take : {K : Type 0} (R : K → K → Ordering) (es : List K) (i : ℕ) (e q : K) → i < length es → e ≡ get_or es i e → is_in R (take (i + 1) es) q ≡ (is_in R (take i es) q || eq_by_cmp R q e)
+in_take R es i e q lt is = let next : i + 1 ≡ suc i = omega arith in ap (λ n. is_in R (take n es) q) next ∙ in_take_at R es i e q lt is
+
+-- what holds of the first and of one more holds of those
+pub either_key : {K : Type 0} {R : K → K → Ordering} → IsAntisymmetric R → (P : K → Type 0) (b : Bool) (q e : K) → (b || eq_by_cmp R q e) ≡ true → (b ≡ true → P q) → P e → P q
+either_key {R = R} exact P true q e is first last = first refl
+either_key {R = R} exact P false q e is first last = subst P (sym (exact q e ((Equal-is (R q e)).0 is))) last
+
+-- ---- one place of a list after another
+pub take_next : {X : Type 0} (xs : List X) (i : ℕ) (x : X) → i < length xs → x ≡ get_or xs i x → take (i + 1) xs ≡ take i xs ++ x ∷ []
+take_next {X} xs i x lt is = let next : i + 1 ≡ suc i = omega arith in ap (λ k. take k xs) next ∙ by_place xs i lt is where
+  by_place : (xs : List X) (i : ℕ) → i < length xs → x ≡ get_or xs i x → take (suc i) xs ≡ take i xs ++ x ∷ []
+  by_place [] i lt is = absurd (omega arith)
+  by_place (y ∷ xs) zero lt is = ap (λ z. z ∷ []) (sym is)
+  by_place (y ∷ xs) (suc i) lt is = ap (λ ys. y ∷ ys) (by_place xs i (omega arith) is)
+
+pub take_all : {X : Type 0} (xs : List X) (i : ℕ) → length xs ≤ i → take i xs ≡ xs
+take_all [] zero le = refl
+take_all [] (suc i) le = refl
+take_all (x ∷ xs) zero le = absurd (omega arith)
+take_all (x ∷ xs) (suc i) le = ap (λ ys. x ∷ ys) (take_all xs i (omega arith))
+
+pub drop_all : {X : Type 0} (xs : List X) (i : ℕ) → length xs ≤ i → drop i xs ≡ []
+drop_all [] zero le = refl
+drop_all [] (suc i) le = refl
+drop_all (x ∷ xs) zero le = absurd (omega arith)
+drop_all (x ∷ xs) (suc i) le = drop_all xs i (omega arith)
+
+pub drop_next : {X : Type 0} (xs : List X) (i : ℕ) (x : X) → i < length xs → x ≡ get_or xs i x → drop i xs ≡ x ∷ drop (i + 1) xs
+drop_next xs i x lt is = drop-cons xs i x lt ∙ (λ k. sym is k ∷ drop (suc-eq-add-one i k) xs)
+
+-- what stands behind a place that is set
+pub drop_set : {X : Type 0} (xs : List X) (i : ℕ) (x : X) → drop (i + 1) (slice_set xs i x) ≡ drop (i + 1) xs
+drop_set {X} xs i x = let next : i + 1 ≡ suc i = omega arith in ap (λ k. drop k (slice_set xs i x)) next ∙ by_place xs i ∙ ap (λ k. drop k xs) (sym next) where
+  by_place : (xs : List X) (i : ℕ) → drop (suc i) (slice_set xs i x) ≡ drop (suc i) xs
+  by_place [] i = refl
+  by_place (y ∷ xs) zero = refl
+  by_place (y ∷ xs) (suc i) = by_place xs i
+
+-- what stands behind the next place is the same where what stands from here is
+pub drop_more : {X : Type 0} (xs ys : List X) (i : ℕ) → drop i xs ≡ drop i ys → drop (i + 1) xs ≡ drop (i + 1) ys
+drop_more {X} xs ys i same = let next : i + 1 ≡ suc i = omega arith in ap (λ k. drop k xs) next ∙ by_place xs i ∙ ap (drop 1) same ∙ sym (ap (λ k. drop k ys) next ∙ by_place ys i) where
+  by_place : (zs : List X) (i : ℕ) → drop (suc i) zs ≡ drop 1 (drop i zs)
+  by_place [] zero = refl
+  by_place [] (suc i) = refl
+  by_place (z ∷ zs) zero = refl
+  by_place (z ∷ zs) (suc i) = by_place zs i
+
+pub set_length : {X : Type 0} (xs : List X) (i : ℕ) (x : X) → length (slice_set xs i x) ≡ length xs
+set_length [] i x = refl
+set_length (y ∷ xs) zero x = refl
+set_length (y ∷ xs) (suc i) x = ap suc (set_length xs i x)
+
+-- the keys of writes stay where one value is moved out
+pub keys_set : {K A : Type 0} (ws : List (K × A)) (i : ℕ) (w v : K × A) → i < length ws → w ≡ get_or ws i w → v.0 ≡ w.0 → keys_of (slice_set ws i v) ≡ keys_of ws
+keys_set [] i w v lt is same = refl
+keys_set {K} {A} (x ∷ ws) zero w v lt is same = ap (λ k. k ∷ keys_of ws) (same ∙ ap (λ (p : K × A). p.0) is)
+keys_set (x ∷ ws) (suc i) w v lt is same = ap (λ ks. x.0 ∷ ks) (keys_set ws i w v (omega arith) is same)
+
+-- the keys of the first writes, and of those behind them
+pub keys_take : {K A : Type 0} (ws : List (K × A)) (i : ℕ) → keys_of (take i ws) ≡ take i (keys_of ws)
+keys_take [] zero = refl
+keys_take [] (suc i) = refl
+keys_take (w ∷ ws) zero = refl
+keys_take (w ∷ ws) (suc i) = ap (λ ks. w.0 ∷ ks) (keys_take ws i)
+
+pub keys_more : {K A : Type 0} (ws vs : List (K × A)) → keys_of (ws ++ vs) ≡ keys_of ws ++ keys_of vs
+keys_more [] vs = refl
+keys_more (w ∷ ws) vs = ap (λ ks. w.0 ∷ ks) (keys_more ws vs)
+
+pub in_front : {K A : Type 0} (R : K → K → Ordering) (ws : List (K × A)) (i : ℕ) (k : K) → is_in R (keys_of (take i ws)) k ≡ true → is_in R (keys_of ws) k ≡ true
+in_front R [] zero k here = here
+in_front R [] (suc i) k here = here
+in_front R (w ∷ ws) zero k here = absurd (true≢false (sym here))
+in_front R (w ∷ ws) (suc i) k here =
+    elim (eq_by_cmp R k w.0) as (λ b. (b || is_in R (keys_of (take i ws)) k) ≡ true → (b || is_in R (keys_of ws) k) ≡ true) [ true ↦ λ _. refl | false ↦ λ later. in_front R ws i k later ] here
+
+pub in_place : {K A : Type 0} {R : K → K → Ordering} → IsTotalOrder R → (ws : List (K × A)) (i : ℕ) (w : K × A) → i < length ws → w ≡ get_or ws i w → is_in R (keys_of ws) w.0 ≡ true
+in_place total [] i w lt is = absurd (omega arith)
+in_place {K} {A} {R} total (x ∷ ws) zero w lt is = or_left _ _ (ap (λ (y : K × A). eq_by_cmp R w.0 y.0) (sym is) ∙ (eq_by_cmp_equiv total).refl w.0)
+in_place {K} {A} {R} total (x ∷ ws) (suc i) w lt is = or_right _ _ (in_place {R = R} total ws i w (omega arith) is)
+
+-- ---- answers
+pub when_ok : {A E P Q : Type 0} (r : Result A E) → OnOk r P → (P → Q) → OnOk r Q
+when_ok (Ok x) p f = f p
+when_ok (Err why) p f = tt
+
+pub when_err : {A E P Q : Type 0} (r : Result A E) → OnErr r P → (P → Q) → OnErr r Q
+when_err (Ok x) p f = tt
+when_err (Err why) p f = f p
+
+pub from_ok : {A E P : Type 0} (r : Result A E) → false ≡ is_err r → OnOk r P → P
+from_ok (Ok x) is p = p
+from_ok (Err why) is p = absurd (true≢false (sym is))
+
+pub from_err : {A E P : Type 0} (r : Result A E) → true ≡ is_err r → OnErr r P → P
+from_err (Ok x) is p = absurd (true≢false is)
+from_err (Err why) is p = p
+
+pub when_keys : {A E : Type 0} {P Q : A → Type 0} (r : Result A E) → IfOk r P → ((x : A) → P x → Q x) → IfOk r Q
+when_keys (Ok x) p f = f x p
+when_keys (Err why) p f = tt

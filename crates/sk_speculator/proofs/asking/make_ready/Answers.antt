@@ -1,0 +1,23 @@
+-- What is seen of the slots is as before, and so are the lists where there is no memory.
+use Rattle.std.proofs.Common.{◌≡◌, ℕ, [], cond, true, List, sym, ◌∙◌, ap, subst}
+use Rattle.std.specs.Cmp.{IsTotalOrder}
+use Rattle.std.specs.FinMap.{IsAntisymmetric}
+use Rattle.sk_guesses.specs.Dependents.{AllAlmostExact, AllExact, Covers, tags_by, with_tags}
+use Rattle.sk_guesses.specs.Kept.{keys_of}
+use Rattle.sk_guesses.proofs.Listed.{almost_of, exact_as}
+use Rattle.sk_record.specs.Effects.{is_in}
+use Rattle.sk_record.specs.Notes.{has, last_tags}
+use Rattle.sk_slots.specs.Slots.{log_at}
+use Rattle.sk_speculator.proofs.Writing.{from_err, from_ok, when_ok}
+use Rattle.sk_speculator.proofs.asking.make_ready.Goals as goal
+
+pub depend_all-requires-clause-exact : goal.depend_all-requires-clause-exact
+depend_all-requires-clause-exact g c =
+    let R = g.K.Key.order in
+    let total = subst IsTotalOrder g.met.K.Key.same g.met.K.Ord.total in
+    let exact = subst IsAntisymmetric g.met.K.Key.same g.met.K.Key.exact in
+    exact_as total exact (tags_by (log_at R c.args.slots.now)) (tags_by (log_at R c.prepare_all.new.slots)) (λ k. ap (last_tags []) (sym (c.prepare_all.ensures.log k))) c.args.guesses.now.opens c.requires.exact
+
+pub depend_all-requires-clause-covers : goal.depend_all-requires-clause-covers
+depend_all-requires-clause-covers g c = λ k n here rests.
+    c.requires.covers k n here (ap (λ log. has n (last_tags [] log)) (sym (c.prepare_all.ensures.log k)) ∙ rests)

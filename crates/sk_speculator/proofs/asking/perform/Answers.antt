@@ -1,0 +1,31 @@
+-- The slots of what was written are settled at the end.
+use Rattle.std.proofs.Common.{sym, subst}
+use Rattle.sk_guesses.specs.Kept.{keys_of}
+use Rattle.sk_slots.specs.Slots.{SettledBut}
+use Rattle.sk_speculator.specs.Parts.{Performed}
+use Rattle.sk_speculator.proofs.Writing.{performed_settled}
+use Rattle.sk_speculator.proofs.asking.perform.Goals as goal
+
+pub returns-in-Some-clause-writes : goal.returns-in-Some-clause-writes
+returns-in-Some-clause-writes g c =
+    let R = g.K.Key.order in
+    performed_settled R c.args.slots.now c.write_all.new.slots c.settle_all.new.slots c.args.tags c.args.step.now.written.items c.settle_all.ensures.look c.settle_all.ensures.log
+    (subst (λ xs. Performed R c.args.slots.now c.args.tags xs c.write_all.new.slots) c.as_mut_slice-written.ensures.value c.write_all.ensures.performed)
+
+pub returns-in_default-clause-writes : goal.returns-in_default-clause-writes
+returns-in_default-clause-writes g c =
+    let R = g.K.Key.order in
+    performed_settled R c.args.slots.now c.write_all.new.slots c.settle_all.new.slots c.args.tags c.args.step.now.written.items c.settle_all.ensures.look c.settle_all.ensures.log
+    (subst (λ xs. Performed R c.args.slots.now c.args.tags xs c.write_all.new.slots) c.as_mut_slice-written.ensures.value c.write_all.ensures.performed)
+
+pub returns-in-Some-clause-settled : goal.returns-in-Some-clause-settled
+returns-in-Some-clause-settled g c =
+    let R = g.K.Key.order in
+    c.settle_all.ensures.settled (subst (λ ks. SettledBut R ks c.write_all.new.slots) (sym c.write_all.ensures.keys)
+    (c.write_all.ensures.settled (subst (λ xs. SettledBut R (keys_of xs) c.args.slots.now) (sym c.as_mut_slice-written.ensures.value) c.requires.unsettled)))
+
+pub returns-in_default-clause-settled : goal.returns-in_default-clause-settled
+returns-in_default-clause-settled g c =
+    let R = g.K.Key.order in
+    c.settle_all.ensures.settled (subst (λ ks. SettledBut R ks c.write_all.new.slots) (sym c.write_all.ensures.keys)
+    (c.write_all.ensures.settled (subst (λ xs. SettledBut R (keys_of xs) c.args.slots.now) (sym c.as_mut_slice-written.ensures.value) c.requires.unsettled)))

@@ -1,0 +1,14 @@
+-- The keys so far are in the lists of all the guesses.
+use Rattle.std.proofs.Common.{◌≡◌, take}
+use Rattle.sk_guesses.specs.Dependents.{AllExact, tags_by, with_tags}
+use Rattle.sk_guesses.specs.Kept.{keys_of}
+use Rattle.sk_guesses.specs.Opens.{opens_of}
+use Rattle.sk_slots.specs.Slots.{log_at}
+use Rattle.sk_speculator.proofs.lists.depend_all.Given as goal
+
+abbrev pub invariant-loop-write : goal.invariant-loop-write
+invariant-loop-write g l =
+    let R = g.K.Key.order in
+    (l.guesses.view ≡ l.fn.guesses.view)
+    × (opens_of l.guesses.opens ≡ opens_of l.fn.guesses.opens)
+    × AllExact R (with_tags R l.tags (keys_of (take l.write-index l.written)) (tags_by (log_at R l.slots))) l.guesses.opens

@@ -1,0 +1,13 @@
+-- All but the keys that are left are in the lists of their guesses alone.
+use Rattle.std.proofs.Common.{◌≡◌, drop}
+use Rattle.sk_guesses.specs.Dependents.{AllAlmostExact, tags_by}
+use Rattle.sk_guesses.specs.Opens.{opens_of}
+use Rattle.sk_slots.specs.Slots.{log_at}
+use Rattle.sk_speculator.proofs.lists.relieve_all.Given as goal
+
+abbrev pub invariant-loop-key : goal.invariant-loop-key
+invariant-loop-key g l =
+    let R = g.K.Key.order in
+    (l.guesses.view ≡ l.fn.guesses.view)
+    × (opens_of l.guesses.opens ≡ opens_of l.fn.guesses.opens)
+    × AllAlmostExact R (tags_by (log_at R l.slots)) (drop l.key-index l.keys) l.guesses.opens

@@ -1,0 +1,74 @@
+-- A commit of each part is the machine's.
+use Rattle.std.proofs.Common.{◌≡◌, ℕ, [], true, cond, sym, ◌∙◌, ap, subst}
+use Rattle.std.specs.Cmp.{IsTotalOrder}
+use Rattle.std.specs.FinMap.{IsAntisymmetric}
+use Rattle.sk_guesses.specs.Dependents.{AllExact, tags_by}
+use Rattle.sk_guesses.specs.Opens.{dependents_of, opens_of}
+use Rattle.sk_guesses.proofs.Listed.{committed_exact, exact_at}
+use Rattle.sk_record.specs.Effects.{is_in}
+use Rattle.sk_record.specs.Merged.{merged as joined}
+use Rattle.sk_record.specs.Notes.{has, committed}
+use Rattle.sk_record.specs.UndoState.{numbers}
+use Rattle.sk_slots.specs.Slots.{look_at, log_at}
+use Rattle.sk_speculator.specs.Calls.{Commits}
+use Rattle.sk_speculator.specs.Parts.{Parts}
+use Rattle.sk_speculator.proofs.Afterwards.{commits_so, grows, merges_so, whole_committed}
+use Rattle.sk_speculator.proofs.speculator.Speculator.commit_open.Goals as goal
+
+pub invariant_of-self : goal.invariant_of-self
+invariant_of-self g c =
+    let R = g.K.Key.order in
+    let total = subst IsTotalOrder g.met.K.Key.same g.met.K.Ord.total in
+    let exact = subst IsAntisymmetric g.met.K.Key.same g.met.K.Key.exact in
+    let a : Parts _ _ _ = record { slots = c.self.inside.slots; guesses = c.self.inside.guesses.view; opens = opens_of c.self.inside.guesses.opens; said = c.self.inside.said.said } in
+    let sound = c.self.invariant.1 in
+    let os = c.self.inside.guesses.opens in
+    let id = c.args.id in
+    let whole = sound.whole in
+    let here : has id (numbers a.opens) ≡ true = ap (λ (p : Parts _ _ _). has id (numbers p.opens)) c.self.view_is ∙ c.requires in
+    let l = dependents_of id os in
+    let just = exact_at total exact (tags_by (log_at R a.slots)) id os sound.exact here in
+    let b : Parts _ _ _ = record { slots = c.commit.new.self; guesses = c.commit-2.new.self.view; opens = opens_of c.commit-2.new.self.opens; said = c.commit-3.new.self.said } in
+    let log : (q : _) → log_at R b.slots q ≡ cond (is_in R l q) (joined [] (committed id (log_at R a.slots q))) (log_at R a.slots q) = λ q.
+    c.commit.ensures.log q ∙ ap (λ es. cond (is_in R es q) (joined [] (committed id (log_at R a.slots q))) (log_at R a.slots q)) c.dependents.ensures.value in
+    let merges = merges_so total exact a whole id l just b.slots log in
+    let commits : Commits R a id b = record {
+      undecided = here;
+      commits = λ status _. commits_so total exact a whole id l just b c.commit.ensures.look merges c.commit-2.ensures.machine c.commit-3.ensures status;
+      agrees = λ status are. c.commit-2.ensures.statuses status are here;
+      guesses = c.commit-2.ensures.view;
+      opens = c.commit-2.ensures.machine;
+    } in (
+      c.self.invariant.0,
+      record {
+        settled = c.commit.ensures.settled sound.settled;
+        exact = subst (AllExact R (tags_by (log_at R b.slots))) (sym c.commit-2.ensures.opens) (committed_exact total exact id (log_at R a.slots) (log_at R b.slots) (grows total exact a whole) merges os sound.exact);
+        whole = whole_committed total exact a whole b id commits;
+      },
+    )
+
+pub returns : goal.returns
+returns g c =
+    let R = g.K.Key.order in
+    let total = subst IsTotalOrder g.met.K.Key.same g.met.K.Ord.total in
+    let exact = subst IsAntisymmetric g.met.K.Key.same g.met.K.Key.exact in
+    let a : Parts _ _ _ = record { slots = c.self.inside.slots; guesses = c.self.inside.guesses.view; opens = opens_of c.self.inside.guesses.opens; said = c.self.inside.said.said } in
+    let sound = c.self.invariant.1 in
+    let os = c.self.inside.guesses.opens in
+    let id = c.args.id in
+    let whole = sound.whole in
+    let here : has id (numbers a.opens) ≡ true = ap (λ (p : Parts _ _ _). has id (numbers p.opens)) c.self.view_is ∙ c.requires in
+    let l = dependents_of id os in
+    let just = exact_at total exact (tags_by (log_at R a.slots)) id os sound.exact here in
+    let b : Parts _ _ _ = record { slots = c.commit.new.self; guesses = c.commit-2.new.self.view; opens = opens_of c.commit-2.new.self.opens; said = c.commit-3.new.self.said } in
+    let log : (q : _) → log_at R b.slots q ≡ cond (is_in R l q) (joined [] (committed id (log_at R a.slots q))) (log_at R a.slots q) = λ q.
+    c.commit.ensures.log q ∙ ap (λ es. cond (is_in R es q) (joined [] (committed id (log_at R a.slots q))) (log_at R a.slots q)) c.dependents.ensures.value in
+    let merges = merges_so total exact a whole id l just b.slots log in
+    let commits : Commits R a id b = record {
+      undecided = here;
+      commits = λ status _. commits_so total exact a whole id l just b c.commit.ensures.look merges c.commit-2.ensures.machine c.commit-3.ensures status;
+      agrees = λ status are. c.commit-2.ensures.statuses status are here;
+      guesses = c.commit-2.ensures.view;
+      opens = c.commit-2.ensures.machine;
+    } in
+    subst (λ (p : Parts _ _ _). Commits R p id b) c.self.view_is commits

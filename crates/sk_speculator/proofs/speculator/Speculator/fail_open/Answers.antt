@@ -1,0 +1,136 @@
+-- A failure of each part is the machine's.
+use Rattle.std.proofs.Common.{◌≡◌, ℕ, true, cond, length, sym, ◌∙◌, ap, subst}
+use Rattle.std.specs.Cmp.{IsTotalOrder}
+use Rattle.std.specs.FinMap.{IsAntisymmetric}
+use Rattle.sk_guesses.specs.Dependents.{AllAlmostExact, tags_by}
+use Rattle.sk_guesses.specs.Kept.{struck_with, with_struck}
+use Rattle.sk_guesses.specs.Opens.{dependents_of, not_resting, opens_of}
+use Rattle.sk_guesses.proofs.Listed.{exact_at, failed_almost}
+use Rattle.sk_guesses.proofs.Opens.{taken_opens}
+use Rattle.sk_record.specs.Effects.{is_in}
+use Rattle.sk_record.specs.Notes.{has, cut, unwound}
+use Rattle.sk_record.specs.UndoState.{not_struck, numbers}
+use Rattle.sk_slots.specs.Slots.{look_at, log_at}
+use Rattle.sk_speculator.specs.Calls.{FailsIn, TookBack}
+use Rattle.sk_speculator.specs.Parts.{Parts}
+use Rattle.sk_speculator.specs.declared.decided.Undone.{Undone}
+use Rattle.sk_speculator.proofs.Afterwards.{cuts_so, fail_agrees, fails_so, grows, whole_failed}
+use Rattle.sk_speculator.proofs.speculator.Speculator.fail_open.Goals as goal
+
+pub relieve_all-requires-clause-almost : goal.relieve_all-requires-clause-almost
+relieve_all-requires-clause-almost g c =
+    let R = g.K.Key.order in
+    let total = subst IsTotalOrder g.met.K.Key.same g.met.K.Ord.total in
+    let exact = subst IsAntisymmetric g.met.K.Key.same g.met.K.Key.exact in
+    let a : Parts _ _ _ = record { slots = c.self.inside.slots; guesses = c.self.inside.guesses.view; opens = opens_of c.self.inside.guesses.opens; said = c.self.inside.said.said } in
+    let sound = c.self.invariant.1 in
+    let os = c.self.inside.guesses.opens in
+    let id = c.args.id in
+    let whole = sound.whole in
+    let here : has id (numbers a.opens) ≡ true = ap (λ (p : Parts _ _ _). has id (numbers p.opens)) c.self.view_is ∙ c.requires in
+    let l = dependents_of id os in
+    let just = exact_at total exact (tags_by (log_at R a.slots)) id os sound.exact here in
+    let given : c.as_slice.result.now ≡ l = c.as_slice.ensures.entities ∙ c.take_dependents-keys.ensures.list in
+    let new = c.unwind.new.self in
+    let log : (q : _) → log_at R new q ≡ cond (is_in R l q) (cut id (log_at R a.slots q)) (log_at R a.slots q) = λ q.
+    c.unwind.ensures.log q ∙ ap (λ es. cond (is_in R es q) (cut id (log_at R a.slots q)) (log_at R a.slots q)) given in
+    let left : c.fail-struck.new.self.opens ≡ not_resting id os = c.fail-struck.ensures.opens ∙ c.take_dependents-keys.ensures.resting in
+    subst (λ ks. AllAlmostExact R (tags_by (log_at R new)) ks c.fail-struck.new.self.opens) (sym (c.as_slice-2.ensures.entities ∙ c.take_dependents-keys.ensures.list))
+    (subst (AllAlmostExact R (tags_by (log_at R new)) l) (sym left)
+    (failed_almost total exact id (log_at R a.slots) (log_at R new) (grows total exact a whole) (cuts_so total exact a whole id l just new log) l just os sound.exact))
+
+pub invariant_of-self : goal.invariant_of-self
+invariant_of-self g c =
+    let R = g.K.Key.order in
+    let total = subst IsTotalOrder g.met.K.Key.same g.met.K.Ord.total in
+    let exact = subst IsAntisymmetric g.met.K.Key.same g.met.K.Key.exact in
+    let a : Parts _ _ _ = record { slots = c.self.inside.slots; guesses = c.self.inside.guesses.view; opens = opens_of c.self.inside.guesses.opens; said = c.self.inside.said.said } in
+    let sound = c.self.invariant.1 in
+    let os = c.self.inside.guesses.opens in
+    let id = c.args.id in
+    let whole = sound.whole in
+    let here : has id (numbers a.opens) ≡ true = ap (λ (p : Parts _ _ _). has id (numbers p.opens)) c.self.view_is ∙ c.requires in
+    let l = dependents_of id os in
+    let just = exact_at total exact (tags_by (log_at R a.slots)) id os sound.exact here in
+    let given : c.as_slice.result.now ≡ l = c.as_slice.ensures.entities ∙ c.take_dependents-keys.ensures.list in
+    let b : Parts _ _ _ = record { slots = c.unwind.new.self; guesses = c.relieve_all.new.guesses.view; opens = opens_of c.relieve_all.new.guesses.opens; said = c.drop_of.new.self.said } in
+    let look : (q : _) → look_at R b.slots q ≡ cond (is_in R l q) (unwound id (log_at R a.slots q) (look_at R a.slots q)) (look_at R a.slots q) = λ q.
+    c.unwind.ensures.look q ∙ ap (λ es. cond (is_in R es q) (unwound id (log_at R a.slots q) (look_at R a.slots q)) (look_at R a.slots q)) given in
+    let log : (q : _) → log_at R b.slots q ≡ cond (is_in R l q) (cut id (log_at R a.slots q)) (log_at R a.slots q) = λ q.
+    c.unwind.ensures.log q ∙ ap (λ es. cond (is_in R es q) (cut id (log_at R a.slots q)) (log_at R a.slots q)) given in
+    let cuts = cuts_so total exact a whole id l just b.slots log in
+    let same : opens_of c.take_dependents-keys.new.self.opens ≡ a.opens = ap opens_of c.take_dependents-keys.ensures.opens ∙ taken_opens id os in
+    let opens : b.opens ≡ not_struck id a.opens = c.relieve_all.ensures.opens ∙ c.fail-struck.ensures.machine ∙ ap (not_struck id) same in
+    let guesses : b.guesses ≡ with_struck id a.opens a.guesses = c.relieve_all.ensures.view ∙ c.fail-struck.ensures.view ∙ (λ i. with_struck id (same i) (c.take_dependents-keys.ensures.view i)) in
+    let fails : FailsIn R a id b = record {
+      undecided = here;
+      fails = λ status _. fails_so total exact a whole id l just b look cuts opens c.drop_of.ensures status;
+      agrees = λ status are.
+          fail_agrees a.guesses b.guesses c.fail-struck.new.self.view c.take_dependents-keys.new.self.view a.opens b.opens (opens_of c.fail-struck.new.self.opens) (opens_of c.take_dependents-keys.new.self.opens) id status
+          c.take_dependents-keys.ensures.view same c.relieve_all.ensures.view c.relieve_all.ensures.opens here (c.fail-struck.ensures.statuses status) are;
+      guesses = guesses;
+      opens = opens;
+    } in (
+      c.self.invariant.0,
+      record {
+        settled = c.unwind.ensures.settled sound.settled;
+        exact = c.relieve_all.ensures.exact;
+        whole = whole_failed total exact a whole b id fails;
+      },
+    )
+
+pub returns-clause-fails : goal.returns-clause-fails
+returns-clause-fails g c =
+    let R = g.K.Key.order in
+    let total = subst IsTotalOrder g.met.K.Key.same g.met.K.Ord.total in
+    let exact = subst IsAntisymmetric g.met.K.Key.same g.met.K.Key.exact in
+    let a : Parts _ _ _ = record { slots = c.self.inside.slots; guesses = c.self.inside.guesses.view; opens = opens_of c.self.inside.guesses.opens; said = c.self.inside.said.said } in
+    let sound = c.self.invariant.1 in
+    let os = c.self.inside.guesses.opens in
+    let id = c.args.id in
+    let whole = sound.whole in
+    let here : has id (numbers a.opens) ≡ true = ap (λ (p : Parts _ _ _). has id (numbers p.opens)) c.self.view_is ∙ c.requires in
+    let l = dependents_of id os in
+    let just = exact_at total exact (tags_by (log_at R a.slots)) id os sound.exact here in
+    let given : c.as_slice.result.now ≡ l = c.as_slice.ensures.entities ∙ c.take_dependents-keys.ensures.list in
+    let b : Parts _ _ _ = record { slots = c.unwind.new.self; guesses = c.relieve_all.new.guesses.view; opens = opens_of c.relieve_all.new.guesses.opens; said = c.drop_of.new.self.said } in
+    let look : (q : _) → look_at R b.slots q ≡ cond (is_in R l q) (unwound id (log_at R a.slots q) (look_at R a.slots q)) (look_at R a.slots q) = λ q.
+    c.unwind.ensures.look q ∙ ap (λ es. cond (is_in R es q) (unwound id (log_at R a.slots q) (look_at R a.slots q)) (look_at R a.slots q)) given in
+    let log : (q : _) → log_at R b.slots q ≡ cond (is_in R l q) (cut id (log_at R a.slots q)) (log_at R a.slots q) = λ q.
+    c.unwind.ensures.log q ∙ ap (λ es. cond (is_in R es q) (cut id (log_at R a.slots q)) (log_at R a.slots q)) given in
+    let cuts = cuts_so total exact a whole id l just b.slots log in
+    let same : opens_of c.take_dependents-keys.new.self.opens ≡ a.opens = ap opens_of c.take_dependents-keys.ensures.opens ∙ taken_opens id os in
+    let opens : b.opens ≡ not_struck id a.opens = c.relieve_all.ensures.opens ∙ c.fail-struck.ensures.machine ∙ ap (not_struck id) same in
+    let guesses : b.guesses ≡ with_struck id a.opens a.guesses = c.relieve_all.ensures.view ∙ c.fail-struck.ensures.view ∙ (λ i. with_struck id (same i) (c.take_dependents-keys.ensures.view i)) in
+    let fails : FailsIn R a id b = record {
+      undecided = here;
+      fails = λ status _. fails_so total exact a whole id l just b look cuts opens c.drop_of.ensures status;
+      agrees = λ status are.
+          fail_agrees a.guesses b.guesses c.fail-struck.new.self.view c.take_dependents-keys.new.self.view a.opens b.opens (opens_of c.fail-struck.new.self.opens) (opens_of c.take_dependents-keys.new.self.opens) id status
+          c.take_dependents-keys.ensures.view same c.relieve_all.ensures.view c.relieve_all.ensures.opens here (c.fail-struck.ensures.statuses status) are;
+      guesses = guesses;
+      opens = opens;
+    } in
+    subst (λ (p : Parts _ _ _). FailsIn R p id b) c.self.view_is fails
+
+pub returns-clause-back : goal.returns-clause-back
+returns-clause-back g c =
+    let R = g.K.Key.order in
+    let total = subst IsTotalOrder g.met.K.Key.same g.met.K.Ord.total in
+    let exact = subst IsAntisymmetric g.met.K.Key.same g.met.K.Key.exact in
+    let a : Parts _ _ _ = record { slots = c.self.inside.slots; guesses = c.self.inside.guesses.view; opens = opens_of c.self.inside.guesses.opens; said = c.self.inside.said.said } in
+    let sound = c.self.invariant.1 in
+    let os = c.self.inside.guesses.opens in
+    let id = c.args.id in
+    let whole = sound.whole in
+    let here : has id (numbers a.opens) ≡ true = ap (λ (p : Parts _ _ _). has id (numbers p.opens)) c.self.view_is ∙ c.requires in
+    let l = dependents_of id os in
+    let just = exact_at total exact (tags_by (log_at R a.slots)) id os sound.exact here in
+    let given : c.as_slice.result.now ≡ l = c.as_slice.ensures.entities ∙ c.take_dependents-keys.ensures.list in
+    let same : opens_of c.take_dependents-keys.new.self.opens ≡ a.opens = ap opens_of c.take_dependents-keys.ensures.opens ∙ taken_opens id os in
+    let undone : Undone _ = record { keys = c.into_vec.result; struck = c.fail-struck.result } in
+    subst (λ (p : Parts _ _ _). TookBack R p id undone) c.self.view_is (record {
+      keys = λ k. ap (λ ks. is_in R ks k) (c.into_vec.ensures.items ∙ c.take_dependents-keys.ensures.list) ∙ just k;
+      rising = c.into_vec.ensures.rising;
+      struck = c.fail-struck.ensures.count ∙ ap (λ xs. length (struck_with id xs)) same;
+    })

@@ -1,0 +1,76 @@
+-- A guess is taken as the machine takes it, and nothing is seen of one that is refused.
+use Rattle.std.proofs.Common.{◌≡◌, ◌<◌, length, false, arith, Some, refl, sym, ◌∙◌, ap, subst}
+use Rattle.std.specs.Cmp.{IsTotalOrder}
+use Rattle.std.specs.FinMap.{IsAntisymmetric}
+use Rattle.std.proofs.lemmas.Bool.{eq-eqb, leb-false, or_left}
+use Rattle.sk_record.specs.Notes.{has}
+use Rattle.sk_guesses.specs.Kept.{keys_of}
+use Rattle.sk_guesses.specs.Opens.{opens_of}
+use Rattle.sk_deeds.specs.Deed.{Deed}
+use Rattle.sk_speculator.specs.Calls.{next_of, Takes}
+use Rattle.sk_speculator.specs.Parts.{IsSame, Parts}
+use Rattle.sk_speculator.proofs.Taking.{after_guess, clean, opens_length, sound_refused}
+use Rattle.sk_speculator.proofs.speculator.Speculator.guess.Goals as goal
+
+pub invariant_of-self : goal.invariant_of-self
+invariant_of-self g c =
+    let R = g.K.Key.order in
+    let total = subst IsTotalOrder g.met.K.Key.same g.met.K.Ord.total in
+    let exact = subst IsAntisymmetric g.met.K.Key.same g.met.K.Key.exact in
+    let a : Parts _ _ _ = record { slots = c.self.inside.slots; guesses = c.self.inside.guesses.view; opens = opens_of c.self.inside.guesses.opens; said = c.self.inside.said.said } in
+    let os = c.self.inside.guesses.opens in
+    let b : Parts _ _ _ = record { slots = c.ask-asked.new.slots; guesses = c.ask-asked.new.guesses.view; opens = opens_of c.ask-asked.new.guesses.opens; said = c.ask-asked.new.said.said } in
+    let same : IsSame R a b = record { look = c.ask-asked.ensures.look; logs = c.ask-asked.ensures.log; guesses = c.ask-asked.ensures.view; opens = c.ask-asked.ensures.opens; said = c.ask-asked.ensures.said } in
+    (c.self.invariant.0, sound_refused total exact a os c.self.invariant.1 b c.ask-asked.new.guesses.opens same c.in_default-asked.ensures.settled c.in_default-asked.ensures.lists)
+
+pub draw-guess-requires-clause-few : goal.draw-guess-requires-clause-few
+draw-guess-requires-clause-few g c =
+    let v = c.self.inside.guesses.view in
+    let lt : length c.self.inside.guesses.opens < v.limit = leb-false v.limit (length c.self.inside.guesses.opens) (sym c.if-is_full.ensures) in
+    let same : length c.ask-asked.new.guesses.opens ≡ length c.self.inside.guesses.opens = sym (opens_length c.ask-asked.new.guesses.opens) ∙ ap length c.ask-asked.ensures.opens ∙ opens_length c.self.inside.guesses.opens in
+    let limit : c.ask-asked.new.guesses.view.limit ≡ v.limit = ap (λ w. w.limit) c.ask-asked.ensures.view in
+    omega (arith, lt, same, limit)
+
+pub draw-guess-requires-clause-own : goal.draw-guess-requires-clause-own
+draw-guess-requires-clause-own g c =
+    let id = c.in-Some.id in
+    ap (has id) (c.in-Ok.ensures.own refl) ∙ c.in-Ok.ensures.members id ∙ or_left _ _ (or_left _ _ (eq-eqb id id refl))
+
+pub perform-requires-clause-clean : goal.perform-requires-clause-clean
+perform-requires-clause-clean g c = λ q here none.
+    let R = g.K.Key.order in
+    let total = subst IsTotalOrder g.met.K.Key.same g.met.K.Ord.total in
+    let exact = subst IsAntisymmetric g.met.K.Key.same g.met.K.Key.exact in
+    let a : Parts _ _ _ = record { slots = c.self.inside.slots; guesses = c.self.inside.guesses.view; opens = opens_of c.self.inside.guesses.opens; said = c.self.inside.said.said } in
+    let os = c.self.inside.guesses.opens in
+    let d : Deed _ _ _ = record { looked = c.args.step.now.looked.items; written = c.args.step.now.written.items; said = c.args.step.now.said } in
+    c.ask-asked.ensures.log q ∙ clean total exact a os c.self.invariant.1 d (Some c.in-Some.id) c.in-Ok.both.tags c.in-Ok.ensures.members q here none
+
+pub invariant_of-self-2 : goal.invariant_of-self-2
+invariant_of-self-2 g c =
+    let R = g.K.Key.order in
+    let total = subst IsTotalOrder g.met.K.Key.same g.met.K.Ord.total in
+    let exact = subst IsAntisymmetric g.met.K.Key.same g.met.K.Key.exact in
+    let a : Parts _ _ _ = record { slots = c.self.inside.slots; guesses = c.self.inside.guesses.view; opens = opens_of c.self.inside.guesses.opens; said = c.self.inside.said.said } in
+    let os = c.self.inside.guesses.opens in
+    let d : Deed _ _ _ = record { looked = c.args.step.now.looked.items; written = c.args.step.now.written.items; said = c.args.step.now.said } in
+    let after = after_guess total exact a os c.self.invariant.1 c.ask-asked.new.slots c.perform.new.slots d c.in-Ok.both.tags c.ask-asked.new.guesses.view c.ask-asked.new.guesses.opens c.ask-asked.new.said.said c.perform.new.said.said
+    c.ask-asked.ensures.look c.ask-asked.ensures.log c.ask-asked.ensures.view c.ask-asked.ensures.opens c.ask-asked.ensures.said c.in-Ok.ensures.rising c.perform.ensures.writes c.perform.ensures.says c.perform.ensures.settled c.in-Ok.ensures.exact
+    c.in-Ok.both.own c.in-Some.id c.draw-guess.new.self.view c.draw-guess.new.self.opens (keys_of c.as_slice.result.now) c.in-Some.ensures.0 c.in-Ok.ensures.members (c.in-Ok.ensures.own refl) c.draw-guess.ensures.view
+    c.draw-guess.ensures.opens (ap keys_of c.as_slice.ensures.value) c.draw-guess.ensures.statuses in
+    (c.self.invariant.0, after.1)
+
+pub returns-clause-ok : goal.returns-clause-ok
+returns-clause-ok g c =
+    let R = g.K.Key.order in
+    let total = subst IsTotalOrder g.met.K.Key.same g.met.K.Ord.total in
+    let exact = subst IsAntisymmetric g.met.K.Key.same g.met.K.Key.exact in
+    let a : Parts _ _ _ = record { slots = c.self.inside.slots; guesses = c.self.inside.guesses.view; opens = opens_of c.self.inside.guesses.opens; said = c.self.inside.said.said } in
+    let os = c.self.inside.guesses.opens in
+    let d : Deed _ _ _ = record { looked = c.args.step.now.looked.items; written = c.args.step.now.written.items; said = c.args.step.now.said } in
+    let b : Parts _ _ _ = record { slots = c.perform.new.slots; guesses = c.draw-guess.new.self.view; opens = opens_of c.draw-guess.new.self.opens; said = c.perform.new.said.said } in
+    let after = after_guess total exact a os c.self.invariant.1 c.ask-asked.new.slots c.perform.new.slots d c.in-Ok.both.tags c.ask-asked.new.guesses.view c.ask-asked.new.guesses.opens c.ask-asked.new.said.said c.perform.new.said.said
+    c.ask-asked.ensures.look c.ask-asked.ensures.log c.ask-asked.ensures.view c.ask-asked.ensures.opens c.ask-asked.ensures.said c.in-Ok.ensures.rising c.perform.ensures.writes c.perform.ensures.says c.perform.ensures.settled c.in-Ok.ensures.exact
+    c.in-Ok.both.own c.in-Some.id c.draw-guess.new.self.view c.draw-guess.new.self.opens (keys_of c.as_slice.result.now) c.in-Some.ensures.0 c.in-Ok.ensures.members (c.in-Ok.ensures.own refl) c.draw-guess.ensures.view
+    c.draw-guess.ensures.opens (ap keys_of c.as_slice.ensures.value) c.draw-guess.ensures.statuses in
+    subst (λ (p : Parts _ _ _). Takes R p d (Some (next_of p.guesses)) b) c.self.view_is after.0

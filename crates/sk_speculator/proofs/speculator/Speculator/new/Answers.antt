@@ -1,0 +1,24 @@
+-- Nothing has happened.
+use Rattle.std.proofs.Common.{◌≡◌, ℕ, [], None, sym, ◌∙◌, ap, subst}
+use Rattle.std.specs.Cmp.{IsTotalOrder}
+use Rattle.std.specs.FinMap.{IsAntisymmetric}
+use Rattle.sk_guesses.specs.Dependents.{AllExact, tags_by}
+use Rattle.sk_guesses.specs.Opens.{opens_of}
+use Rattle.sk_slots.specs.Slots.{log_at}
+use Rattle.sk_speculator.specs.Parts.{Parts}
+use Rattle.sk_speculator.proofs.Afterwards.{whole_first}
+use Rattle.sk_speculator.proofs.speculator.Speculator.new.Goals as goal
+
+pub invariant_of-result : goal.invariant_of-result
+invariant_of-result g c =
+    let R = g.K.Key.order in
+    let total = subst IsTotalOrder g.met.K.Key.same g.met.K.Ord.total in
+    let exact = subst IsAntisymmetric g.met.K.Key.same g.met.K.Key.exact in
+    let a : Parts _ _ _ = record { slots = c.new.result; guesses = c.new-2.result.view; opens = opens_of c.new-2.result.opens; said = c.new-3.result.said } in (
+      c.new-4.ensures,
+      record {
+        settled = c.new.ensures.settled;
+        exact = subst (AllExact R (tags_by (log_at R a.slots))) (sym c.new-2.ensures.opens) tt;
+        whole = whole_first total exact a c.args.number c.args.limit c.new.ensures.look c.new.ensures.log (ap opens_of c.new-2.ensures.opens) c.new-2.ensures.view c.new-3.ensures;
+      },
+    )

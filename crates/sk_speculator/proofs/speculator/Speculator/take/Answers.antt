@@ -1,0 +1,58 @@
+-- A step is taken as the machine takes it, and nothing is seen of one that is refused.
+use Rattle.std.proofs.Common.{None, ◌∙◌, subst}
+use Rattle.std.specs.Cmp.{IsTotalOrder}
+use Rattle.std.specs.FinMap.{IsAntisymmetric}
+use Rattle.sk_guesses.specs.Opens.{opens_of}
+use Rattle.sk_deeds.specs.Deed.{Deed}
+use Rattle.sk_speculator.specs.Calls.{Takes}
+use Rattle.sk_speculator.specs.Parts.{IsSame, Parts}
+use Rattle.sk_speculator.proofs.Taking.{after_take, clean, sound_refused}
+use Rattle.sk_speculator.proofs.speculator.Speculator.take.Goals as goal
+
+pub invariant_of-self : goal.invariant_of-self
+invariant_of-self g c =
+    let R = g.K.Key.order in
+    let total = subst IsTotalOrder g.met.K.Key.same g.met.K.Ord.total in
+    let exact = subst IsAntisymmetric g.met.K.Key.same g.met.K.Key.exact in
+    let a : Parts _ _ _ = record { slots = c.self.inside.slots; guesses = c.self.inside.guesses.view; opens = opens_of c.self.inside.guesses.opens; said = c.self.inside.said.said } in
+    let os = c.self.inside.guesses.opens in
+    let b : Parts _ _ _ = record { slots = c.ask-asked.new.slots; guesses = c.ask-asked.new.guesses.view; opens = opens_of c.ask-asked.new.guesses.opens; said = c.ask-asked.new.said.said } in
+    let same : IsSame R a b = record { look = c.ask-asked.ensures.look; logs = c.ask-asked.ensures.log; guesses = c.ask-asked.ensures.view; opens = c.ask-asked.ensures.opens; said = c.ask-asked.ensures.said } in
+    (c.self.invariant.0, sound_refused total exact a os c.self.invariant.1 b c.ask-asked.new.guesses.opens same c.in_default.ensures.settled c.in_default.ensures.lists)
+
+pub perform-requires-clause-clean : goal.perform-requires-clause-clean
+perform-requires-clause-clean g c = λ q here none.
+    let R = g.K.Key.order in
+    let total = subst IsTotalOrder g.met.K.Key.same g.met.K.Ord.total in
+    let exact = subst IsAntisymmetric g.met.K.Key.same g.met.K.Key.exact in
+    let a : Parts _ _ _ = record { slots = c.self.inside.slots; guesses = c.self.inside.guesses.view; opens = opens_of c.self.inside.guesses.opens; said = c.self.inside.said.said } in
+    let os = c.self.inside.guesses.opens in
+    let d : Deed _ _ _ = record { looked = c.args.step.now.looked.items; written = c.args.step.now.written.items; said = c.args.step.now.said } in
+    c.ask-asked.ensures.log q ∙ clean total exact a os c.self.invariant.1 d (None) c.in-Ok.both.tags c.in-Ok.ensures.members q here none
+
+pub invariant_of-self-2 : goal.invariant_of-self-2
+invariant_of-self-2 g c =
+    let R = g.K.Key.order in
+    let total = subst IsTotalOrder g.met.K.Key.same g.met.K.Ord.total in
+    let exact = subst IsAntisymmetric g.met.K.Key.same g.met.K.Key.exact in
+    let a : Parts _ _ _ = record { slots = c.self.inside.slots; guesses = c.self.inside.guesses.view; opens = opens_of c.self.inside.guesses.opens; said = c.self.inside.said.said } in
+    let os = c.self.inside.guesses.opens in
+    let d : Deed _ _ _ = record { looked = c.args.step.now.looked.items; written = c.args.step.now.written.items; said = c.args.step.now.said } in
+    let after = after_take total exact a os c.self.invariant.1 c.ask-asked.new.slots c.perform.new.slots d c.in-Ok.both.tags c.ask-asked.new.guesses.view c.ask-asked.new.guesses.opens c.ask-asked.new.said.said c.perform.new.said.said
+    c.ask-asked.ensures.look c.ask-asked.ensures.log c.ask-asked.ensures.view c.ask-asked.ensures.opens c.ask-asked.ensures.said c.in-Ok.ensures.rising c.perform.ensures.writes c.perform.ensures.says c.perform.ensures.settled c.in-Ok.ensures.exact
+    c.in-Ok.ensures.members in
+    (c.self.invariant.0, after.1)
+
+pub returns-clause-ok : goal.returns-clause-ok
+returns-clause-ok g c =
+    let R = g.K.Key.order in
+    let total = subst IsTotalOrder g.met.K.Key.same g.met.K.Ord.total in
+    let exact = subst IsAntisymmetric g.met.K.Key.same g.met.K.Key.exact in
+    let a : Parts _ _ _ = record { slots = c.self.inside.slots; guesses = c.self.inside.guesses.view; opens = opens_of c.self.inside.guesses.opens; said = c.self.inside.said.said } in
+    let os = c.self.inside.guesses.opens in
+    let d : Deed _ _ _ = record { looked = c.args.step.now.looked.items; written = c.args.step.now.written.items; said = c.args.step.now.said } in
+    let b : Parts _ _ _ = record { slots = c.perform.new.slots; guesses = c.ask-asked.new.guesses.view; opens = opens_of c.ask-asked.new.guesses.opens; said = c.perform.new.said.said } in
+    let after = after_take total exact a os c.self.invariant.1 c.ask-asked.new.slots c.perform.new.slots d c.in-Ok.both.tags c.ask-asked.new.guesses.view c.ask-asked.new.guesses.opens c.ask-asked.new.said.said c.perform.new.said.said
+    c.ask-asked.ensures.look c.ask-asked.ensures.log c.ask-asked.ensures.view c.ask-asked.ensures.opens c.ask-asked.ensures.said c.in-Ok.ensures.rising c.perform.ensures.writes c.perform.ensures.says c.perform.ensures.settled c.in-Ok.ensures.exact
+    c.in-Ok.ensures.members in
+    subst (λ (p : Parts _ _ _). Takes R p d None b) c.self.view_is after.0

@@ -1,0 +1,53 @@
+-- One write more.
+use Rattle.std.proofs.Common.{◌≡◌, ℕ, ◌<◌, ◌+◌, ◌∷◌, ◌||◌, true, length, drop, arith, sym, ◌∙◌, ap, subst, slice_set}
+use Rattle.std.specs.Cmp.{IsTotalOrder, eq_by_cmp_equiv}
+use Rattle.std.proofs.lemmas.Bool.{or_left}
+use Rattle.sk_guesses.specs.Kept.{keys_of}
+use Rattle.sk_record.specs.Effects.{is_in}
+use Rattle.sk_slots.specs.Slots.{IsReady}
+use Rattle.sk_speculator.proofs.Writing.{Writing, drop_all, drop_more, drop_next, drop_set, in_place, keys_set, set_length, writing_done, writing_more}
+use Rattle.sk_speculator.proofs.writes.write_all.Goals as goal
+
+pub write-requires : goal.write-requires
+write-requires g c =
+    let R = g.K.Key.order in
+    let total = subst IsTotalOrder g.met.K.Key.same g.met.K.Ord.total in
+    let l = c.loop-place in
+    let w = c.index-written-place.result in
+    let lt : l.place < length l.written = omega (arith, c.loop-place-test.true, l.invariant.3) in
+    let from : drop l.place c.args.written.now ≡ w ∷ drop (l.place + 1) l.written = sym l.invariant.1 ∙ drop_next l.written l.place w lt c.index-written-place.is in
+    subst (IsReady R c.args.tags.now l.slots) (ap (λ (p : _ × _). p.0) c.index-written-place.is ∙ sym c.take_write-key.ensures.key)
+    (l.invariant.0.ready w.0 (ap (λ xs. is_in R (keys_of xs) w.0) from ∙ or_left _ _ ((eq_by_cmp_equiv total).refl w.0)))
+
+pub loop-place-preserved : goal.loop-place-preserved
+loop-place-preserved g c =
+    let R = g.K.Key.order in
+    let total = subst IsTotalOrder g.met.K.Key.same g.met.K.Ord.total in
+    let l = c.loop-place in
+    let w = c.index-written-place.result in
+    let all = c.args.written.now in
+    let lt : l.place < length l.written = omega (arith, c.loop-place-test.true, l.invariant.3) in
+    let behind : drop (l.place + 1) l.written ≡ drop (l.place + 1) all = drop_more l.written all l.place l.invariant.1 in
+    let own : w.0 ≡ c.take_write-key.result.0 = ap (λ (p : _ × _). p.0) c.index-written-place.is ∙ sym c.take_write-key.ensures.key in
+    let value : w.1 ≡ c.take_write-key.result.1 = ap (λ (p : _ × _). p.1) c.index-written-place.is ∙ sym c.take_write-key.ensures.value in
+    let one : w ≡ c.take_write-key.result = λ i. (own i, value i) in
+    let from : drop l.place all ≡ c.take_write-key.result ∷ drop (l.place + 1) all = sym l.invariant.1 ∙ drop_next l.written l.place w lt c.index-written-place.is ∙ (λ i. one i ∷ behind i) in
+    let left = c.take_write-key.new.write in (
+      writing_more R c.args.tags.now c.args.slots.now all l.slots c.write.new.self c.take_write-key.result.0 c.take_write-key.result.1 (drop (l.place + 1) all)
+          (subst (Writing R c.args.tags.now c.args.slots.now all l.slots) from l.invariant.0) c.write.ensures.look c.write.ensures.log c.write.ensures.ready,
+      drop_set l.written l.place left ∙ behind,
+      keys_set l.written l.place w left lt c.index-written-place.is (ap (λ (p : _ × _). p.0) c.take_write-key.ensures.left ∙ sym (ap (λ (p : _ × _). p.0) c.index-written-place.is)) ∙ l.invariant.2,
+      set_length l.written l.place left ∙ l.invariant.3,
+      λ before.
+          c.write.ensures.settled (keys_of all)
+          (subst (λ k. is_in R (keys_of all) k ≡ true) own (ap (λ ks. is_in R ks w.0) (sym l.invariant.2) ∙ in_place {R = R} total l.written l.place w lt c.index-written-place.is))
+          (l.invariant.4 before),
+    )
+
+pub returns-clause-performed : goal.returns-clause-performed
+returns-clause-performed g c =
+    let R = g.K.Key.order in
+    let l = c.loop-place in
+    let all = c.args.written.now in
+    writing_done R c.args.tags.now c.args.slots.now all l.slots c.requires.clean
+    (subst (Writing R c.args.tags.now c.args.slots.now all l.slots) (drop_all all l.place c.loop-place-test.false) l.invariant.0)

@@ -1,0 +1,15 @@
+-- What is left to write.
+use Rattle.std.proofs.Common.{◌≡◌, length, drop}
+use Rattle.sk_guesses.specs.Kept.{keys_of}
+use Rattle.sk_slots.specs.Slots.{SettledBut}
+use Rattle.sk_speculator.proofs.Writing.{Writing}
+use Rattle.sk_speculator.proofs.writes.write_all.Given as goal
+
+abbrev pub invariant-loop-place : goal.invariant-loop-place
+invariant-loop-place g l =
+    let R = g.K.Key.order in
+    Writing R l.tags l.fn.slots l.fn.written l.slots (drop l.place l.fn.written)
+    × (drop l.place l.written ≡ drop l.place l.fn.written)
+    × (keys_of l.written ≡ keys_of l.fn.written)
+    × (length l.written ≡ length l.fn.written)
+    × (SettledBut R (keys_of l.fn.written) l.fn.slots → SettledBut R (keys_of l.fn.written) l.slots)

@@ -1,0 +1,222 @@
+//! What a step asks for before it is taken, so that nothing can be refused then, and its taking.
+ghost use Rattle.std.specs.Prelude.{◌≡◌, ◌||◌, ◌<◌, ℕ, true, [], None, Some, is_some, length, IfOk, OnErr, OnOk};
+ghost use Rattle.std.specs.List.Sorted.{IsStrictlySortedBy};
+ghost use Rattle.std.specs.Ordering.{nat_cmp};
+ghost use Rattle.sk_guesses.specs.Dependents.{tags_by, with_tags, AllExact, Covers};
+ghost use Rattle.sk_guesses.specs.Kept.{keys_of, HasKeptRoom};
+ghost use Rattle.sk_guesses.specs.Opens.{opens_of};
+ghost use Rattle.sk_record.specs.Effects.{is_in, is_marked};
+ghost use Rattle.sk_record.specs.Notes.{has};
+ghost use Rattle.sk_slots.specs.Slots.{look_at, log_at, AllSettled, IsReady, SettledBut};
+ghost use Rattle.sk_speculator.specs.Parts.{any_rests, says, Performed};
+ghost use Rattle.sk_speculator.specs.Emptied.{IsEmptied};
+
+use crate::Step;
+use crate::lists::{depend_all, relieve_written};
+use crate::writes::{add_tags, add_written_tags, prepare_all, settle_all, write_all};
+use sk_guesses::OpenGuesses;
+use sk_ids::{GuessId, TagSet};
+use sk_map::Key;
+use sk_outputs::Outputs;
+use sk_slots::Slots;
+use std::alloc::{AllocError, Global};
+use std::mem;
+
+/// The guesses that a step rests on, and the same again for the guess that it draws; none where it draws none.
+#[derive(Drop)]
+pub(crate) struct StepTags {
+    pub tags: TagSet,
+    pub own: TagSet,
+}
+
+/// The set of a step's own guess.
+fn own_tags(alloc: Global, own: &Option<GuessId>) -> TagSet
+    ensures { (g : ℕ) → has g result ≡ is_marked own.now g }
+{
+    match own {
+        Some(id) => TagSet::of(alloc, *id),
+        None => TagSet::new(alloc),
+    }
+}
+
+/// A set once more, for the guess that is drawn.
+fn copy_for(alloc: Global, own: &Option<GuessId>, tags: &TagSet) -> Result<TagSet, AllocError>
+    ensures { is_some own.now ≡ true → IfOk result (λ copy. copy ≡ tags.now) }
+{
+    match own {
+        Some(_) => tags.copy(),
+        None => Ok(TagSet::new(alloc)),
+    }
+}
+
+/// The guesses that a step rests on: those of all keys that it touches, and its own.
+fn tags_of_step<K: Key, V, O>(
+    alloc: Global,
+    slots: &Slots<K, V>,
+    own: &Option<GuessId>,
+    step: &Step<K, V, O>,
+) -> Result<StepTags, AllocError>
+    ensures members { IfOk result
+        (λ both. (g : ℕ) → has g both.tags
+        ≡ ((is_marked own.now g || any_rests K.order slots.now g step.now.looked.items)
+        || any_rests K.order slots.now g (keys_of step.now.written.items))) }
+    ensures rising { IfOk result (λ both. IsStrictlySortedBy nat_cmp both.tags) }
+    ensures own { IfOk result (λ both. is_some own.now ≡ true → both.own ≡ both.tags) }
+{
+    let marked = own_tags(alloc, own);
+    let read = add_tags(slots, marked, step.looked.as_slice())?;
+    let tags = add_written_tags(slots, read, step.written.as_slice())?;
+    let _rising = tags.ids();
+    let own = copy_for(alloc, own, &tags)?;
+    Ok(StepTags { tags, own })
+}
+
+/// Makes room for the output of a step.
+fn reserve_output<O: Drop>(
+    said: &mut Outputs<O>,
+    output: &Option<(u16, O)>,
+) -> Result<(), AllocError>
+    ensures same { said.new.said ≡ said.old.said }
+    ensures ok { OnOk result (is_some output.now ≡ true → 0 < said.new.room) }
+{
+    if output.is_some() {
+        said.reserve()?;
+    }
+    Ok(())
+}
+
+/// Makes room for the guess of a step.
+fn reserve_guess<K: Key>(
+    guesses: &mut OpenGuesses<K>,
+    own: &Option<GuessId>,
+    count: usize,
+) -> Result<(), AllocError>
+    ensures view { guesses.new.view ≡ guesses.old.view }
+    ensures opens { guesses.new.opens ≡ guesses.old.opens }
+    ensures ok { OnOk result (is_some own.now ≡ true → HasKeptRoom guesses.new count) }
+{
+    if own.is_some() {
+        guesses.reserve(count)?;
+    }
+    Ok(())
+}
+
+/// Makes room for the notes of writes, adds their keys to the lists of the guesses that they come to rest on, and makes
+/// room for the guess of the step. Without memory the lists have what they had.
+fn make_ready<K: Key, V: Drop>(
+    slots: &mut Slots<K, V>,
+    guesses: &mut OpenGuesses<K>,
+    no_tags: &TagSet,
+    own: &Option<GuessId>,
+    tags: &TagSet,
+    written: &[(K, Option<V>)],
+) -> Result<(), AllocError>
+    requires exact { AllExact K.order (tags_by (log_at K.order slots.old)) guesses.old.opens }
+    requires covers { Covers K.order tags.now (keys_of written.now)
+        (tags_by (log_at K.order slots.old)) }
+    requires no_tags { no_tags.now ≡ [] }
+    ensures look { (q : K) → look_at K.order slots.new q ≡ look_at K.order slots.old q }
+    ensures log { (q : K) → log_at K.order slots.new q ≡ log_at K.order slots.old q }
+    ensures settled { SettledBut K.order (keys_of written.now) slots.old
+        → SettledBut K.order (keys_of written.now) slots.new }
+    ensures view { guesses.new.view ≡ guesses.old.view }
+    ensures opens { opens_of guesses.new.opens ≡ opens_of guesses.old.opens }
+    ensures ready { OnOk result ((q : K) → is_in K.order (keys_of written.now) q ≡ true
+        → IsReady K.order tags.now slots.new q) }
+    ensures places { OnOk result (is_some own.now ≡ true
+        → HasKeptRoom guesses.new (length written.now)) }
+    ensures ok { OnOk result
+        (AllExact K.order
+        (with_tags K.order tags.now (keys_of written.now) (tags_by (log_at K.order slots.old)))
+        guesses.new.opens) }
+    ensures err { OnErr result
+        (AllExact K.order (tags_by (log_at K.order slots.old)) guesses.new.opens) }
+{
+    prepare_all(slots, tags, written)?;
+    depend_all(guesses, slots, no_tags, tags, written)?;
+    if reserve_guess(guesses, own, written.len()).is_err() {
+        relieve_written(guesses, slots, no_tags, written);
+        return Err(AllocError);
+    }
+    Ok(())
+}
+
+/// Answers the guesses that a step rests on, and makes all room that it wants. Nothing that is seen changes. Without memory
+/// no room stays but what is free for all.
+pub(crate) fn ask<K: Key, V: Drop, O: Drop>(
+    alloc: Global,
+    slots: &mut Slots<K, V>,
+    guesses: &mut OpenGuesses<K>,
+    said: &mut Outputs<O>,
+    no_tags: &TagSet,
+    own: &Option<GuessId>,
+    step: &Step<K, V, O>,
+) -> Result<StepTags, AllocError>
+    requires settled { AllSettled K.order slots.old }
+    requires exact { AllExact K.order (tags_by (log_at K.order slots.old)) guesses.old.opens }
+    requires no_tags { no_tags.now ≡ [] }
+    ensures look { (q : K) → look_at K.order slots.new q ≡ look_at K.order slots.old q }
+    ensures log { (q : K) → log_at K.order slots.new q ≡ log_at K.order slots.old q }
+    ensures view { guesses.new.view ≡ guesses.old.view }
+    ensures opens { opens_of guesses.new.opens ≡ opens_of guesses.old.opens }
+    ensures said { said.new.said ≡ said.old.said }
+    ensures settled { OnErr result (AllSettled K.order slots.new) }
+    ensures lists { OnErr result
+        (AllExact K.order (tags_by (log_at K.order slots.old)) guesses.new.opens) }
+    ensures members { IfOk result
+        (λ both. (g : ℕ) → has g both.tags
+        ≡ ((is_marked own.now g || any_rests K.order slots.old g step.now.looked.items)
+        || any_rests K.order slots.old g (keys_of step.now.written.items))) }
+    ensures rising { IfOk result (λ both. IsStrictlySortedBy nat_cmp both.tags) }
+    ensures own { IfOk result (λ both. is_some own.now ≡ true → both.own ≡ both.tags) }
+    ensures unsettled { OnOk result
+        (SettledBut K.order (keys_of step.now.written.items) slots.new) }
+    ensures ready { IfOk result
+        (λ both. (q : K) → is_in K.order (keys_of step.now.written.items) q ≡ true
+        → IsReady K.order both.tags slots.new q) }
+    ensures exact { IfOk result
+        (λ both. AllExact K.order
+        (with_tags K.order both.tags (keys_of step.now.written.items)
+        (tags_by (log_at K.order slots.old))) guesses.new.opens) }
+    ensures places { OnOk result (is_some own.now ≡ true
+        → HasKeptRoom guesses.new (length step.now.written.items)) }
+    ensures room { OnOk result (is_some step.now.said ≡ true → 0 < said.new.room) }
+{
+    let both = tags_of_step(alloc, slots, own, step)?;
+    reserve_output(said, &step.said)?;
+    let written = step.written.as_slice();
+    if make_ready(slots, guesses, no_tags, own, &both.tags, written).is_err() {
+        settle_all(slots, written);
+        return Err(AllocError);
+    }
+    Ok(both)
+}
+
+/// Makes the writes of a step, for which all is ready, and says its output. The step's buffers are empty then, with their
+/// room. It takes no memory.
+pub(crate) fn perform<K: Key, V: Drop, O: Drop>(
+    slots: &mut Slots<K, V>,
+    said: &mut Outputs<O>,
+    tags: TagSet,
+    step: &mut Step<K, V, O>,
+)
+    requires ready { (q : K) → is_in K.order (keys_of step.old.written.items) q ≡ true
+        → IsReady K.order tags slots.old q }
+    requires clean { (q : K) → is_in K.order (keys_of step.old.written.items) q ≡ true → tags ≡ []
+        → log_at K.order slots.old q ≡ [] }
+    requires unsettled { SettledBut K.order (keys_of step.old.written.items) slots.old }
+    requires room { is_some step.old.said ≡ true → 0 < said.old.room }
+    ensures writes { Performed K.order slots.old tags step.old.written.items slots.new }
+    ensures settled { AllSettled K.order slots.new }
+    ensures says { said.new.said ≡ says step.old.said tags said.old.said }
+    ensures emptied { IsEmptied step.old step.new }
+{
+    let written = step.written.as_mut_slice();
+    write_all(slots, &tags, written);
+    settle_all(slots, written);
+    step.looked.clear();
+    step.written.clear();
+    if let Some((to, output)) = mem::replace(&mut step.said, None) {
+        said.say(to, output, tags);
+    }
+}

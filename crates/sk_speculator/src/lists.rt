@@ -1,0 +1,116 @@
+//! The lists of what rests on each undecided guess, as steps and failures change them.
+ghost use Rattle.std.specs.Prelude.{◌≡◌, [], OnErr, OnOk};
+ghost use Rattle.sk_guesses.specs.Dependents.{tags_by, with_tags, AllAlmostExact, AllExact, Covers, Depends};
+ghost use Rattle.sk_guesses.specs.Kept.{keys_of};
+ghost use Rattle.sk_guesses.specs.Opens.{opens_of};
+ghost use Rattle.sk_record.specs.Notes.{last_tags};
+ghost use Rattle.sk_slots.specs.Slots.{log_at};
+
+use sk_guesses::OpenGuesses;
+use sk_ids::TagSet;
+use sk_map::Key;
+use sk_slots::Slots;
+use std::alloc::AllocError;
+
+/// The guesses that a key rests on, where this is the set of none.
+pub(crate) fn tags_of<'a, K: Key, V>(
+    slots: &'a Slots<K, V>,
+    no_tags: &'a TagSet,
+    key: &K,
+) -> &'a TagSet
+    requires { no_tags.now ≡ [] }
+    ensures { result.now ≡ last_tags [] (log_at K.order slots.now key.now) }
+{
+    match slots.tags(key) {
+        Some(tags) => tags,
+        None => no_tags,
+    }
+}
+
+/// Adds a key to the lists of these guesses. Most keys rest on just these already, and are there.
+fn depend<K: Key>(
+    guesses: &mut OpenGuesses<K>,
+    own: &TagSet,
+    tags: &TagSet,
+    key: &K,
+) -> Result<(), AllocError>
+    ensures view { guesses.new.view ≡ guesses.old.view }
+    ensures ok { OnOk result
+        (Depends K.order own.now tags.now key.now guesses.old.opens guesses.new.opens) }
+    ensures err { OnErr result (guesses.new.opens ≡ guesses.old.opens) }
+{
+    if own.covers(tags) {
+        return Ok(());
+    }
+    guesses.depend(tags, key)
+}
+
+/// Adds what a step writes to the lists of the guesses that the step rests on. Without memory the lists have what they
+/// had.
+pub(crate) fn depend_all<K: Key, V>(
+    guesses: &mut OpenGuesses<K>,
+    slots: &Slots<K, V>,
+    no_tags: &TagSet,
+    tags: &TagSet,
+    written: &[(K, Option<V>)],
+) -> Result<(), AllocError>
+    requires exact { AllExact K.order (tags_by (log_at K.order slots.now)) guesses.old.opens }
+    requires covers { Covers K.order tags.now (keys_of written.now)
+        (tags_by (log_at K.order slots.now)) }
+    requires no_tags { no_tags.now ≡ [] }
+    ensures view { guesses.new.view ≡ guesses.old.view }
+    ensures opens { opens_of guesses.new.opens ≡ opens_of guesses.old.opens }
+    ensures ok { OnOk result
+        (AllExact K.order
+        (with_tags K.order tags.now (keys_of written.now) (tags_by (log_at K.order slots.now)))
+        guesses.new.opens) }
+    ensures err { OnErr result
+        (AllExact K.order (tags_by (log_at K.order slots.now)) guesses.new.opens) }
+{
+    for write in written {
+        let own = tags_of(slots, no_tags, &write.0);
+        if depend(guesses, own, tags, &write.0).is_err() {
+            relieve_written(guesses, slots, no_tags, written);
+            return Err(AllocError);
+        }
+    }
+    Ok(())
+}
+
+/// Takes the keys of writes out of the lists of the guesses that they do not rest on.
+pub(crate) fn relieve_written<K: Key, V>(
+    guesses: &mut OpenGuesses<K>,
+    slots: &Slots<K, V>,
+    no_tags: &TagSet,
+    written: &[(K, Option<V>)],
+)
+    requires almost { AllAlmostExact K.order (tags_by (log_at K.order slots.now))
+        (keys_of written.now) guesses.old.opens }
+    requires no_tags { no_tags.now ≡ [] }
+    ensures view { guesses.new.view ≡ guesses.old.view }
+    ensures opens { opens_of guesses.new.opens ≡ opens_of guesses.old.opens }
+    ensures exact { AllExact K.order (tags_by (log_at K.order slots.now)) guesses.new.opens }
+{
+    for write in written {
+        guesses.leave_to(tags_of(slots, no_tags, &write.0), &write.0);
+    }
+}
+
+/// Takes keys out of the lists of the guesses that they do not rest on.
+pub(crate) fn relieve_all<K: Key, V>(
+    guesses: &mut OpenGuesses<K>,
+    slots: &Slots<K, V>,
+    no_tags: &TagSet,
+    keys: &[K],
+)
+    requires almost { AllAlmostExact K.order (tags_by (log_at K.order slots.now)) keys.now
+        guesses.old.opens }
+    requires no_tags { no_tags.now ≡ [] }
+    ensures view { guesses.new.view ≡ guesses.old.view }
+    ensures opens { opens_of guesses.new.opens ≡ opens_of guesses.old.opens }
+    ensures exact { AllExact K.order (tags_by (log_at K.order slots.now)) guesses.new.opens }
+{
+    for key in keys {
+        guesses.leave_to(tags_of(slots, no_tags, key), key);
+    }
+}

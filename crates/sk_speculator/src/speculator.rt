@@ -1,0 +1,339 @@
+//! The kernel.
+ghost use Rattle.std.specs.Prelude.{◌≡◌, ◌==◌, ◌∷◌, ◌&&◌, ℕ, [], true, false, None, Some, Option, is_some, is_none, length, get_or, IfErr, IfOk, IfSome, OnErr, OnOk};
+ghost use Rattle.std.specs.List.Sorted.{IsStrictlySortedBy};
+ghost use Rattle.std.specs.Map.Iter.{ShowsInOrder, deref};
+ghost use Rattle.std.specs.Option.{option_copied};
+ghost use Rattle.sk_guesses.specs.Kept.{known, none_drawn, AreStatuses};
+ghost use Rattle.sk_record.specs.Effects.{is_in};
+ghost use Rattle.sk_record.specs.Machine.{released};
+ghost use Rattle.sk_record.specs.Notes.{has};
+ghost use Rattle.sk_record.specs.UndoState.{numbers, tags_at};
+ghost use Rattle.sk_record.specs.declared.status.Status.{Status};
+ghost use Rattle.sk_outputs.specs.Said.{said_at, waiting_of};
+ghost use Rattle.sk_slots.specs.Slots.{look_at, log_at};
+ghost use Rattle.sk_speculator.specs.Calls.{next_of, Commits, CommitPost, FailsIn, FailPost, Refuses, Takes, TookBack};
+ghost use Rattle.sk_speculator.specs.Emptied.{IsEmptied};
+ghost use Rattle.sk_speculator.specs.Parts.{deed, machine_of, undo_state_of, IsSame};
+
+use crate::asking::{StepTags, ask, perform};
+use crate::lists::{relieve_all, tags_of};
+use crate::{Committed, Failed, Refusal, Step, Undone};
+use sk_guesses::{Guess, OpenGuesses, Redeemed, Status};
+use sk_ids::{GuessId, TagSet};
+use sk_map::Key;
+use sk_outputs::Outputs;
+use sk_slots::{Slot, Slots};
+use std::alloc::{AllocError, Global};
+use std::collections::btree_map::Keys;
+use std::marker::Model;
+
+/// A speculative kernel over its user's own keys, values and outputs, whose steps are taken outside. It keeps no record of
+/// steps.
+#[derive(Drop)]
+pub struct Speculator<K: Key, V, O> {
+    alloc: Global,
+    slots: Slots<K, V>,
+    guesses: OpenGuesses<K>,
+    said: Outputs<O>,
+    /// What `tags_of` lends where a key rests on nothing.
+    no_tags: TagSet,
+}
+
+impl<K: Key, V, O> Model for Speculator<K, V, O> {
+    ghost use Rattle.std.specs.Prelude.{◌≡◌, []};
+    ghost use Rattle.sk_guesses.specs.Opens.{opens_of};
+    ghost use Rattle.sk_speculator.specs.Parts.{Parts, parts_code, IsSound};
+
+    ghost Value = { Parts K V O };
+
+    ghost coded = { parts_code K.code V.code O.code };
+
+    ghost view = { λ m. record {
+      slots = m.slots;
+      guesses = m.guesses.view;
+      opens = opens_of m.guesses.opens;
+      said = m.said.said;
+    } };
+
+    ghost invariant = { λ m. (m.no_tags ≡ [])
+        × IsSound K.order
+        (record {
+          slots = m.slots;
+          guesses = m.guesses.view;
+          opens = opens_of m.guesses.opens;
+          said = m.said.said;
+        })
+        m.guesses.opens };
+}
+
+impl<K: Key, V, O> Speculator<K, V, O> {
+    /// No key is there, and nothing has happened, in the kernel of this number, of whose guesses so many may be undecided at
+    /// once.
+    pub fn new(alloc: Global, number: u64, limit: u16) -> Speculator<K, V, O>
+        ensures look { (k : K) → look_at K.order result.slots k ≡ None }
+        ensures log { (k : K) → log_at K.order result.slots k ≡ [] }
+        ensures guesses { result.guesses ≡ none_drawn number limit }
+        ensures opens { result.opens ≡ [] }
+        ensures said { result.said ≡ [] }
+    {
+        Speculator {
+            alloc,
+            slots: Slots::new(alloc),
+            guesses: OpenGuesses::new(alloc, number, limit),
+            said: Outputs::new(alloc),
+            no_tags: TagSet::new(alloc),
+        }
+    }
+
+    /// What a key has; `None` where it is absent.
+    pub fn value(&self, key: &K) -> Option<&V>
+        ensures { option_copied result ≡ look_at K.order self.now.slots key.now }
+    {
+        self.slots.value(key)
+    }
+
+    /// The undecided guesses that a key rests on.
+    pub fn tags_of(&self, key: &K) -> &TagSet
+        ensures { result.now ≡ tags_at (undo_state_of K.order self.now) key.now }
+    {
+        tags_of(&self.slots, &self.no_tags, key)
+    }
+
+    /// The keys that are there or rest on a guess, by their order, each once.
+    pub fn keys(&self) -> Keys<'_, K, Slot<V>>
+        ensures present { (k : K) → is_in K.order result k ≡ false
+            → look_at K.order self.now.slots k ≡ None }
+        ensures noted { (k : K) → is_in K.order result k ≡ false
+            → log_at K.order self.now.slots k ≡ [] }
+        ensures some { (k : K) → is_in K.order result k ≡ true
+            → look_at K.order self.now.slots k ≡ None
+            → log_at K.order self.now.slots k ≡ [] → ⊥ }
+        ensures rising { IsStrictlySortedBy K.order result }
+        ensures runs { ShowsInOrder (deref {X = K}) }
+    {
+        self.slots.keys()
+    }
+
+    /// The keys that rest on a guess, by their order, each once: just those that its failure takes back.
+    pub fn dependents(&self, id: GuessId) -> &[K]
+        ensures exact { (k : K) → is_in K.order result.now k
+            ≡ has id (tags_at (undo_state_of K.order self.now) k) }
+        ensures rising { IsStrictlySortedBy K.order result.now }
+    {
+        self.guesses.dependents(id)
+    }
+
+    /// What is known of a guess: that it is undecided, or that it is struck and its token is out. It is not drawn, or decided,
+    /// where nothing is.
+    pub fn status(&self, id: GuessId) -> Option<Status>
+        ensures kept { result ≡ known self.now.guesses self.now.opens id }
+        ensures agrees { (status : ℕ → Option Status)
+            → AreStatuses self.now.guesses self.now.opens status
+            → IfSome result (λ is. status id ≡ Some is) }
+    {
+        self.guesses.status(id)
+    }
+
+    /// How many guesses are undecided.
+    pub fn undecided(&self) -> usize
+        ensures { result ≡ length self.now.opens }
+    {
+        self.guesses.undecided()
+    }
+
+    /// How many guesses may be undecided at once.
+    pub fn limit(&self) -> u16
+        ensures { result ≡ self.now.guesses.limit }
+    {
+        self.guesses.limit()
+    }
+
+    /// The number of the oldest undecided guess, or of the next one where none is undecided: each guess below it is decided.
+    pub fn settled(&self) -> u64
+        ensures { result ≡ get_or (numbers self.now.opens) 0 (next_of self.now.guesses) }
+    {
+        match self.guesses.oldest() {
+            Some(id) => id.number(),
+            None => self.guesses.drawn() + 1,
+        }
+    }
+
+    /// The struck guesses whose tokens have not come back, in the order in which they were struck.
+    pub fn struck(&self) -> &[GuessId]
+        ensures { result.now ≡ self.now.guesses.struck }
+    {
+        self.guesses.struck()
+    }
+
+    /// How many outputs of a channel wait: the first that rests on a guess, and all behind it.
+    pub fn waiting(&self, channel: u16) -> usize
+        ensures { result ≡ waiting_of (said_at self.now.said channel) }
+    {
+        self.said.waiting(channel)
+    }
+}
+
+impl<K: Key, V: Drop, O: Drop> Speculator<K, V, O> {
+    /// Takes a step. Its buffers are empty then, with their room. Without memory the step is as it was, and nothing has changed.
+    pub fn take(&mut self, step: &mut Step<K, V, O>) -> Result<(), AllocError>
+        ensures ok { OnOk result
+            (Takes K.order self.old
+            (deed step.old.looked.items step.old.written.items step.old.said) None self.new) }
+        ensures emptied { OnOk result (IsEmptied step.old step.new) }
+        ensures err { OnErr result (IsSame K.order self.old self.new) }
+        ensures kept { OnErr result (step.new ≡ step.old) }
+    {
+        let asked = ask(
+            self.alloc,
+            &mut self.slots,
+            &mut self.guesses,
+            &mut self.said,
+            &self.no_tags,
+            &None,
+            step,
+        );
+        let Ok(both) = asked else {
+            return Err(AllocError);
+        };
+        let StepTags { tags, own: _ } = both;
+        perform(&mut self.slots, &mut self.said, tags, step);
+        Ok(())
+    }
+
+    /// Draws the next guess and takes its step, which rests on it. The step's buffers are empty then, with their room. After a
+    /// refusal the step is as it was, and nothing has changed.
+    pub fn guess(&mut self, step: &mut Step<K, V, O>) -> Result<Guess, Refusal>
+        ensures token { IfOk result
+            (λ guess. guess
+            ≡ record { kernel = self.old.guesses.kernel; id = next_of self.old.guesses }) }
+        ensures ok { OnOk result
+            (Takes K.order self.old
+            (deed step.old.looked.items step.old.written.items step.old.said)
+            (Some (next_of self.old.guesses)) self.new) }
+        ensures emptied { OnOk result (IsEmptied step.old step.new) }
+        ensures why { IfErr result (Refuses self.old) }
+        ensures err { OnErr result (IsSame K.order self.old self.new) }
+        ensures kept { OnErr result (step.new ≡ step.old) }
+    {
+        if self.guesses.is_full() {
+            return Err(Refusal::TooMany);
+        }
+        let Some(id) = self.guesses.free() else {
+            return Err(Refusal::NoNumber);
+        };
+        let asked = ask(
+            self.alloc,
+            &mut self.slots,
+            &mut self.guesses,
+            &mut self.said,
+            &self.no_tags,
+            &Some(id),
+            step,
+        );
+        let Ok(both) = asked else {
+            return Err(Refusal::Memory);
+        };
+        let StepTags { tags, own } = both;
+        let guess = self.guesses.draw(id, own, step.written.as_slice());
+        perform(&mut self.slots, &mut self.said, tags, step);
+        Ok(guess)
+    }
+
+    /// The next output of a channel that rests on nothing, taken out; `None` where there is none. This takes no memory.
+    pub fn released(&mut self, channel: u16) -> Option<O>
+        ensures first { IfSome result
+            (λ output. said_at self.old.said channel
+            ≡ ((channel, output), []) ∷ said_at self.new.said channel) }
+        ensures others { (t : ℕ) → (channel == t) ≡ false
+            → said_at self.new.said t ≡ said_at self.old.said t }
+        ensures none { result ≡ None → self.new ≡ self.old }
+        ensures held { result ≡ None → released (said_at self.old.said channel) ≡ [] }
+        ensures same { self.new ≡ record self.old { said = self.new.said } }
+    {
+        self.said.take_out(channel)
+    }
+
+    /// Commits a guess: nothing rests on it any more. This takes no memory.
+    pub fn commit(&mut self, guess: Guess) -> Result<Committed, Guess>
+        ensures { CommitPost K.order self.old guess result self.new }
+    {
+        let redeemed = match self.guesses.redeem(guess) {
+            Ok(redeemed) => redeemed,
+            Err(guess) => return Err(guess),
+        };
+        match redeemed {
+            Redeemed::Struck(_struck) => Ok(Committed::Gone),
+            Redeemed::Undecided(id) => {
+                self.commit_open(id);
+                Ok(Committed::Done)
+            }
+        }
+    }
+
+    /// Fails a guess: what rests on it is taken back, in place and without memory, and the guesses whose own steps rest on it are
+    /// struck.
+    pub fn fail(&mut self, guess: Guess) -> Result<Failed<K>, Guess>
+        ensures { FailPost K.order self.old guess result self.new }
+    {
+        let redeemed = match self.guesses.redeem(guess) {
+            Ok(redeemed) => redeemed,
+            Err(guess) => return Err(guess),
+        };
+        match redeemed {
+            Redeemed::Struck(_struck) => Ok(Failed::Gone),
+            Redeemed::Undecided(id) => Ok(Failed::Done(self.fail_open(id))),
+        }
+    }
+
+    /// Commits an undecided guess. This takes no memory.
+    fn commit_open(&mut self, id: GuessId)
+        requires { has id (numbers self.old.opens) ≡ true }
+        ensures { Commits K.order self.old id self.new }
+    {
+        self.slots.commit(id, self.guesses.dependents(id));
+        self.guesses.commit(id);
+        self.said.commit(id);
+    }
+
+    /// Fails an undecided guess. This takes no memory.
+    fn fail_open(&mut self, id: GuessId) -> Undone<K>
+        requires { has id (numbers self.old.opens) ≡ true }
+        ensures fails { FailsIn K.order self.old id self.new }
+        ensures back { TookBack K.order self.old id result }
+    {
+        let keys = self.guesses.take_dependents(id);
+        self.slots.unwind(id, keys.as_slice());
+        let struck = self.guesses.fail(id);
+        relieve_all(
+            &mut self.guesses,
+            &self.slots,
+            &self.no_tags,
+            keys.as_slice(),
+        );
+        self.said.drop_of(id);
+        Undone {
+            keys: keys.into_vec(),
+            struck,
+        }
+    }
+
+    /// Ends the kernel, if no guess is undecided: hands out what keys have, and the outputs that were not taken out.
+    pub fn shut(self) -> Result<(Slots<K, V>, Outputs<O>), Speculator<K, V, O>>
+        ensures slots { IfOk result (λ left. left.0 ≡ self.slots) }
+        ensures said { IfOk result (λ left. left.1.said ≡ self.said) }
+        ensures opens { OnOk result (self.opens ≡ []) }
+        ensures err { IfErr result (λ back. (back ≡ self) × (self.opens ≡ [] → ⊥)) }
+    {
+        if self.guesses.undecided() > 0 {
+            return Err(self);
+        }
+        let Speculator {
+            alloc: _,
+            slots,
+            guesses: _,
+            said,
+            no_tags: _,
+        } = self;
+        Ok((slots, said))
+    }
+}

@@ -1,0 +1,128 @@
+//! The writes of a step: the guesses that their keys rest on, the room for their notes, and the writes themselves.
+ghost use Rattle.std.specs.Prelude.{◌≡◌, ◌||◌, ◌∷◌, ℕ, Option, true, [], None, IfOk, OnOk};
+ghost use Rattle.sk_guesses.specs.Kept.{keys_of};
+ghost use Rattle.sk_record.specs.Effects.{is_in};
+ghost use Rattle.sk_record.specs.Notes.{has};
+ghost use Rattle.sk_slots.specs.Slots.{look_at, log_at, AllSettled, IsReady, SettledBut};
+ghost use Rattle.sk_speculator.specs.Parts.{any_rests, Performed};
+
+use sk_ids::TagSet;
+use sk_map::Key;
+use sk_slots::Slots;
+use std::alloc::AllocError;
+use std::mem;
+
+/// Adds guesses to a set. Most sets have them.
+fn with_tags(all: TagSet, more: &TagSet) -> Result<TagSet, AllocError>
+    ensures { IfOk result (λ both. (g : ℕ) → has g both ≡ (has g all || has g more.now)) }
+{
+    if all.covers(more) {
+        return Ok(all);
+    }
+    all.union(more)
+}
+
+/// Adds to a set the guesses that a key rests on.
+fn add_tags_at<K: Key, V>(slots: &Slots<K, V>, tags: TagSet, key: &K) -> Result<TagSet, AllocError>
+    ensures { IfOk result
+        (λ all. (g : ℕ) → has g all ≡ (has g tags || any_rests K.order slots.now g (key.now ∷ []))) }
+{
+    match slots.tags(key) {
+        Some(more) => with_tags(tags, more),
+        None => Ok(tags),
+    }
+}
+
+/// Adds to a set the guesses that these keys rest on.
+pub(crate) fn add_tags<K: Key, V>(
+    slots: &Slots<K, V>,
+    tags: TagSet,
+    keys: &[K],
+) -> Result<TagSet, AllocError>
+    ensures { IfOk result
+        (λ all. (g : ℕ) → has g all ≡ (has g tags || any_rests K.order slots.now g keys.now)) }
+{
+    let mut all = tags;
+    for key in keys {
+        all = add_tags_at(slots, all, key)?;
+    }
+    Ok(all)
+}
+
+/// Adds to a set the guesses that the keys of writes rest on.
+pub(crate) fn add_written_tags<K: Key, V>(
+    slots: &Slots<K, V>,
+    tags: TagSet,
+    written: &[(K, Option<V>)],
+) -> Result<TagSet, AllocError>
+    ensures { IfOk result
+        (λ all. (g : ℕ) → has g all
+        ≡ (has g tags || any_rests K.order slots.now g (keys_of written.now))) }
+{
+    let mut all = tags;
+    for write in written {
+        all = add_tags_at(slots, all, &write.0)?;
+    }
+    Ok(all)
+}
+
+/// Makes room for what writes with these tags note.
+pub(crate) fn prepare_all<K: Key, V: Drop>(
+    slots: &mut Slots<K, V>,
+    tags: &TagSet,
+    written: &[(K, Option<V>)],
+) -> Result<(), AllocError>
+    ensures look { (q : K) → look_at K.order slots.new q ≡ look_at K.order slots.old q }
+    ensures log { (q : K) → log_at K.order slots.new q ≡ log_at K.order slots.old q }
+    ensures settled { SettledBut K.order (keys_of written.now) slots.old
+        → SettledBut K.order (keys_of written.now) slots.new }
+    ensures ready { OnOk result ((q : K) → is_in K.order (keys_of written.now) q ≡ true
+        → IsReady K.order tags.now slots.new q) }
+{
+    for write in written {
+        slots.prepare(&write.0, tags)?;
+    }
+    Ok(())
+}
+
+/// The key of a write, and its value, which is moved out.
+fn take_write<K: Key, V>(write: &mut (K, Option<V>)) -> (K, Option<V>)
+    ensures key { result.0 ≡ write.old.0 }
+    ensures value { result.1 ≡ write.old.1 }
+    ensures left { write.new ≡ (write.old.0, None) }
+{
+    (write.0, mem::replace(&mut write.1, None))
+}
+
+/// Makes writes that are ready, all with these tags. Their values are moved out.
+pub(crate) fn write_all<K: Key, V: Drop>(
+    slots: &mut Slots<K, V>,
+    tags: &TagSet,
+    written: &mut [(K, Option<V>)],
+)
+    requires ready { (q : K) → is_in K.order (keys_of written.old) q ≡ true
+        → IsReady K.order tags.now slots.old q }
+    requires clean { (q : K) → is_in K.order (keys_of written.old) q ≡ true → tags.now ≡ []
+        → log_at K.order slots.old q ≡ [] }
+    ensures performed { Performed K.order slots.old tags.now written.old slots.new }
+    ensures keys { keys_of written.new ≡ keys_of written.old }
+    ensures settled { SettledBut K.order (keys_of written.old) slots.old
+        → SettledBut K.order (keys_of written.old) slots.new }
+{
+    for place in 0..written.len() {
+        let (key, value) = take_write(&mut written[place]);
+        slots.write(&key, tags, value);
+    }
+}
+
+/// Lets go of the room that was made for notes of these keys, and of slots of which there is nothing. It takes no memory.
+pub(crate) fn settle_all<K: Key, V: Drop>(slots: &mut Slots<K, V>, written: &[(K, Option<V>)])
+    ensures look { (q : K) → look_at K.order slots.new q ≡ look_at K.order slots.old q }
+    ensures log { (q : K) → log_at K.order slots.new q ≡ log_at K.order slots.old q }
+    ensures settled { SettledBut K.order (keys_of written.now) slots.old
+        → AllSettled K.order slots.new }
+{
+    for write in written {
+        slots.settle(&write.0);
+    }
+}

@@ -1,0 +1,4 @@
+//! The machine of records under other names of its keys.
+#![tactic(auto)]
+
+pub mod laws;

@@ -1,0 +1,13 @@
+-- A place with this string is among those that are left.
+use Rattle.std.proofs.Common.{◌≡◌, true, Some}
+use Rattle.std.specs.List.{list_any}
+use Rattle.std.specs.BTreeMap.{is_at}
+use Rattle.sk_index.specs.Index.{string_of}
+use Rattle.sk_index.specs.Inside.{place_cmp}
+use Rattle.sk_index.proofs.index.Index.find.Given as goal
+
+abbrev pub invariant-loop-place : goal.invariant-loop-place
+invariant-loop-place l =
+    (goal.iterator-loop-place).can_next l.place-iterator ×
+    (goal.iterator-loop-place).is_finite l.place-iterator ×
+    ((n : _) → string_of l.self n ≡ Some l.bytes → list_any (is_at (place_cmp (l.hash, n))) l.place-iterator ≡ true)

@@ -1,0 +1,142 @@
+//! Byte strings by their numbers, and back.
+ghost use Rattle.std.specs.Prelude.{◌≡◌, ◌≤◌, ℕ, true, false, [], None, Some, IfOk, IfSome, OnErr, OnSome};
+ghost use Rattle.std.specs.Option.{option_map};
+ghost use Rattle.std.specs.Hash.DefaultHasher.{finish, write};
+ghost use Rattle.sk_index.specs.Index.{number_of, string_of, Adds, Removes};
+
+use crate::Number;
+use slab::Slab;
+use std::alloc::{AllocError, Global};
+use std::collections::BTreeSet;
+use std::hash::{DefaultHasher, Hasher};
+use std::marker::Model;
+
+/// Byte strings, each kept once, with a number for each. Contracts see them with their numbers.
+#[derive(Drop)]
+pub struct Index {
+    alloc: Global,
+    /// What each string is hashed from.
+    seed: DefaultHasher,
+    strings: Slab<Vec<u8>>,
+    /// The hash of each string, with its place.
+    places: BTreeSet<(u64, usize)>,
+}
+
+impl Model for Index {
+    ghost use Rattle.std.specs.Prelude.{ℕ, List};
+    ghost use Rattle.std.specs.Coded.{coded_list, coded×, coded_ℕ};
+    ghost use Rattle.std.specs.Hash.DefaultHasher.{finish, write};
+    ghost use Rattle.sk_index.specs.Inside.{numbered, IsIndex};
+
+    ghost Value = { List (List ℕ × ℕ) };
+
+    ghost coded = { coded_list (coded× (coded_list coded_ℕ) coded_ℕ) };
+
+    ghost view = { λ a. numbered 0 a.strings.slots };
+
+    ghost invariant = { λ a. IsIndex (λ s. finish (write a.seed s)) a.strings a.places };
+}
+
+/// What a string comes to under a hash.
+fn hash_of(seed: DefaultHasher, bytes: &[u8]) -> u64
+    ensures { result ≡ finish (write seed bytes.now) }
+{
+    let mut hasher = seed;
+    hasher.write(bytes);
+    hasher.finish()
+}
+
+impl Index {
+    /// No string. A seed that users of the strings don't know keeps them from choosing strings that are found slowly.
+    pub fn new(alloc: Global, seed: u64) -> Index
+        ensures { result ≡ [] }
+    {
+        let mut hasher = DefaultHasher::new();
+        hasher.write_u64(seed);
+        Index {
+            alloc,
+            seed: hasher,
+            strings: Slab::new(alloc),
+            places: BTreeSet::new(alloc),
+        }
+    }
+
+    /// The number of a string, if it has one.
+    pub fn find(&self, bytes: &[u8]) -> Option<Number>
+        ensures { result ≡ number_of self.now bytes.now }
+    {
+        let hash = hash_of(self.seed, bytes);
+        for place in self.places.range((hash, 0)..=(hash, usize::MAX)) {
+            if self.is_at(place.1, bytes) {
+                return Some(Number::new(place.1));
+            }
+        }
+        None
+    }
+
+    /// The string that has a number.
+    pub fn string(&self, number: Number) -> Option<&[u8]>
+        ensures { option_map (λ s. s.now) result ≡ string_of self.now number }
+    {
+        match self.strings.get(number.place()) {
+            Some(string) => Some(string.as_slice()),
+            None => None,
+        }
+    }
+
+    /// Keeps a copy of a string that has no number, and gives it one. Without memory nothing has changed.
+    pub fn add(&mut self, bytes: &[u8]) -> Result<Number, AllocError>
+        requires { number_of self.old bytes.now ≡ None }
+        ensures ok { IfOk result (λ n. Adds self.old bytes.now n self.new) }
+        ensures err { OnErr result (self.new ≡ self.old) }
+    {
+        let string = Vec::from_slice(self.alloc, bytes)?;
+        let hash = hash_of(self.seed, bytes);
+        self.strings.reserve(1)?;
+        let place = self.strings.vacant_key();
+        if self.places.insert((hash, place)).is_err() {
+            return Err(AllocError);
+        }
+        Ok(Number::new(self.strings.insert_reserved(string)))
+    }
+
+    /// Lets go of the string that has a number, and hands it out. This takes no memory.
+    pub fn remove(&mut self, number: Number) -> Option<Vec<u8>>
+        ensures some { IfSome result (λ s. Removes self.old s.items number self.new) }
+        ensures none { result ≡ None → (string_of self.old number ≡ None) }
+        ensures same { result ≡ None → self.new ≡ self.old }
+    {
+        let string = self.strings.try_remove(number.place())?;
+        let hash = hash_of(self.seed, string.as_slice());
+        self.places.remove(&(hash, number.place()));
+        Some(string)
+    }
+
+    /// What it takes its memory from.
+    pub fn alloc(&self) -> Global {
+        self.alloc
+    }
+
+    /// How many strings there are.
+    pub fn len(&self) -> usize {
+        self.strings.len()
+    }
+
+    /// A place behind all that strings have: each number is below it.
+    pub fn places(&self) -> usize
+        ensures { (n : ℕ) → result ≤ n → string_of self.now n ≡ None }
+    {
+        self.strings.capacity()
+    }
+
+    /// Whether this string stands in a place.
+    fn is_at(&self, place: usize, bytes: &[u8]) -> bool
+        ensures yes { result ≡ true → string_of self.now place ≡ Some bytes.now }
+        ensures no { result ≡ false → string_of self.now place ≡ Some bytes.now → ⊥ }
+    {
+        match self.strings.get(place) {
+            Some(string) => string.as_slice() == bytes,
+            None => false,
+        }
+    }
+}

@@ -1,0 +1,8 @@
+//! Byte strings, each kept once, with a number for each.
+#![tactic(auto)]
+
+mod index;
+mod number;
+
+pub use index::Index;
+pub use number::Number;

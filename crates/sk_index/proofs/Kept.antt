@@ -45,8 +45,10 @@ elsewhere {P} m k here there =
     ] refl
 
 module _ (hash : List ℕ → ℕ) (old : Slab (Vec ℕ)) (places : BTreeSet (ℕ × ℕ)) (is : IsIndex hash old places) where
-  module _ (mid new : Slab (Vec ℕ)) (more : BTreeSet (ℕ × ℕ)) (k : ℕ) (v : Vec ℕ) (kept : mid.slots ≡ old.slots) (was : get mid k ≡ None) (updates : Updates mid new k (Some v))
-      (key : ℕ × ℕ) (is_key : key ≡ (hash v.items, k)) (put : set.Updates place_cmp places more key true) (fits : k < 2 ^ 64) (none : number_of (numbered 0 old.slots) v.items ≡ None) where
+  module _ (mid new : Slab (Vec ℕ)) (more : BTreeSet (ℕ × ℕ)) (k : ℕ) (v : Vec ℕ) (kept : mid.slots ≡ old.slots)
+      (was : get mid k ≡ None) (updates : Updates mid new k (Some v))
+      (key : ℕ × ℕ) (is_key : key ≡ (hash v.items, k)) (put : set.Updates place_cmp places more key true)
+      (fits : k < 2 ^ 64) (none : number_of (numbered 0 old.slots) v.items ≡ None) where
     was_none : strings.at old.slots k ≡ None
     was_none = ap (λ vs. strings.at vs k) (sym kept) ∙ was
 
@@ -66,14 +68,19 @@ module _ (hash : List ℕ → ℕ) (old : Slab (Vec ℕ)) (places : BTreeSet (�
           elsewhere n k
           (λ here.
           let same : w ≡ v = there w (ap (get new) (sym here) ∙ gets) in
-          let at : key ≡ (hash w.items, n) = is_key ∙ (λ i. (ap (λ (x : Vec ℕ). hash x.items) (sym same) i, sym here i)) in
+          let at : key ≡ (hash w.items, n) =
+          is_key ∙ (λ i. (ap (λ (x : Vec ℕ). hash x.items) (sym same) i, sym here i)) in
           subst (λ q. contains place_cmp more q ≡ true) at put.1)
-          (λ other. put.0 (hash w.items, n) ∙ still_true (is_at (place_cmp key) (hash w.items, n)) (contains place_cmp places (hash w.items, n)) (is.found n w (sym (others n other) ∙ gets)));
+          (λ other. put.0 (hash w.items, n)
+          ∙ still_true (is_at (place_cmp key) (hash w.items, n)) (contains place_cmp places (hash w.items, n))
+          (is.found n w (sym (others n other) ∙ gets)));
       small = λ n w gets.
-          elsewhere n k (λ here. subst (λ m. m < 2 ^ 64) (sym here) fits) (λ other. is.small n w (sym (others n other) ∙ gets));
+          elsewhere n k (λ here. subst (λ m. m < 2 ^ 64) (sym here) fits)
+          (λ other. is.small n w (sym (others n other) ∙ gets));
     }
 
-  module _ (new : Slab (Vec ℕ)) (less : BTreeSet (ℕ × ℕ)) (k : ℕ) (v : Vec ℕ) (was : get old k ≡ Some v) (updates : Updates old new k None)
+  module _ (new : Slab (Vec ℕ)) (less : BTreeSet (ℕ × ℕ)) (k : ℕ) (v : Vec ℕ) (was : get old k ≡ Some v)
+      (updates : Updates old new k None)
       (key : ℕ × ℕ) (is_key : key ≡ (hash v.items, k)) (gone : set.Updates place_cmp places less key false) where
     pub removes : Removes (numbered 0 old.slots) v.items k (numbered 0 new.slots)
     removes = strings.removes old.slots new.slots k updates.others is.apart v was updates.changed
@@ -85,14 +92,16 @@ module _ (hash : List ℕ → ℕ) (old : Slab (Vec ℕ)) (places : BTreeSet (�
 
     not_key : (n : ℕ) (w : Vec ℕ) → n ≢ k → (b : Bool) → is_at (place_cmp key) (hash w.items, n) ≡ b → b ≡ false
     not_key n w other false at = refl
-    not_key n w other true at = absurd (other (sym (ap (λ (q : ℕ × ℕ). q.1) (sym is_key ∙ exact_place key (hash w.items, n) at))))
+    not_key n w other true at =
+        absurd (other (sym (ap (λ (q : ℕ × ℕ). q.1) (sym is_key ∙ exact_place key (hash w.items, n) at))))
 
     pub removed : IsIndex hash new less
     removed = record {
       apart = strings.removed_apart old.slots new.slots k updates.others is.apart v was updates.changed;
       found = λ n w gets.
           let had = before n w gets in
-          let apart_key : is_at (place_cmp key) (hash w.items, n) ≡ false = not_key n w had.0 (is_at (place_cmp key) (hash w.items, n)) refl in
+          let apart_key : is_at (place_cmp key) (hash w.items, n) ≡ false =
+          not_key n w had.0 (is_at (place_cmp key) (hash w.items, n)) refl in
           gone.2 (hash w.items, n) apart_key ∙ is.found n w had.1;
       small = λ n w gets. is.small n w (before n w gets).1;
     }
@@ -100,12 +109,14 @@ module _ (hash : List ℕ → ℕ) (old : Slab (Vec ℕ)) (places : BTreeSet (�
 -- ---- what a look-up goes through
 
 -- what passes both tests is among those that pass the second
-pub in_filter : {A : Type 0} (p q : A → Bool) → ((x : A) → p x ≡ true → q x ≡ true) → (xs : List A) → list_any p xs ≡ true → list_any p (filter q xs) ≡ true
+pub in_filter : {A : Type 0} (p q : A → Bool) → ((x : A) → p x ≡ true → q x ≡ true) → (xs : List A) → list_any p xs
+    ≡ true → list_any p (filter q xs) ≡ true
 in_filter p q both [] any = any
 in_filter {A} p q both (x ∷ xs) any =
     elim (q x) as (λ c. q x ≡ c → list_any p (cond c (x ∷ filter q xs) (filter q xs)) ≡ true) [
       | true ↦ λ passes. first (p x) (list_any p xs) any (in_filter p q both xs)
-      | false ↦ λ fails. in_filter p q both xs (second (p x) (list_any p xs) (λ here. strings.true_false (sym (both x here) ∙ fails)) any)
+      | false ↦ λ fails. in_filter p q both xs
+          (second (p x) (list_any p xs) (λ here. strings.true_false (sym (both x here) ∙ fails)) any)
     ] refl
   where
     first : {b : Bool} (here later : Bool) → here || later ≡ true → (later ≡ true → b ≡ true) → here || b ≡ true
@@ -132,12 +143,16 @@ up_to m n le =
 
 between : (h n m : ℕ) → n ≤ m → range_contains place_cmp (Included (h, 0)) (Included (h, m)) (h, n) ≡ true
 between h n m le =
-    ap (λ o. is_le (ordering_then o (nat_cmp 0 n)) && not (is_lt (ordering_then o (nat_cmp m n)))) (sym (nat_cmp_is h h Equal refl))
+    ap (λ o. is_le (ordering_then o (nat_cmp 0 n)) && not (is_lt (ordering_then o (nat_cmp m n))))
+    (sym (nat_cmp_is h h Equal refl))
     ∙ ap (λ b. b && not (is_lt (nat_cmp m n))) (from_zero n)
     ∙ ap not (up_to m n le)
 
 -- a place with this hash is among those that are gone through
-pub looked : (h n m : ℕ) (keys : List (ℕ × ℕ)) → n ≤ m → list_any (is_at (place_cmp (h, n))) keys ≡ true → list_any (is_at (place_cmp (h, n))) (filter (range_contains place_cmp (Included (h, 0)) (Included (h, m))) keys) ≡ true
+pub looked : (h n m : ℕ) (keys : List (ℕ × ℕ)) → n ≤ m → list_any (is_at (place_cmp (h, n))) keys ≡ true
+    → list_any (is_at (place_cmp (h, n))) (filter (range_contains place_cmp (Included (h, 0)) (Included (h, m))) keys)
+    ≡ true
 looked h n m keys le any =
     in_filter (is_at (place_cmp (h, n))) (range_contains place_cmp (Included (h, 0)) (Included (h, m)))
-    (λ x here. subst (λ q. range_contains place_cmp (Included (h, 0)) (Included (h, m)) q ≡ true) (exact_place (h, n) x here) (between h n m le)) keys any
+    (λ x here. subst (λ q. range_contains place_cmp (Included (h, 0)) (Included (h, m)) q ≡ true)
+    (exact_place (h, n) x here) (between h n m le)) keys any

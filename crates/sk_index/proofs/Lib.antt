@@ -1,2 +1,3 @@
 pub mod Strings
 pub mod Kept
+pub mod Counts

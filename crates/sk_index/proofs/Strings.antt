@@ -73,10 +73,12 @@ string_slot b (None ∷ vs) zero = below (b + 1) vs (b + 0) (omega arith)
 string_slot b (None ∷ vs) (suc i) =
     let shift : b + suc i ≡ (b + 1) + i = omega arith in
     ap (string_of (numbered (b + 1) vs)) shift ∙ string_slot (b + 1) vs i
-string_slot b (Some v ∷ vs) zero = ap (λ c. if c then Some v.items else string_of (numbered (b + 1) vs) (b + 0)) (eq-eqb b (b + 0) (omega arith))
+string_slot b (Some v ∷ vs) zero =
+    ap (λ c. if c then Some v.items else string_of (numbered (b + 1) vs) (b + 0)) (eq-eqb b (b + 0) (omega arith))
 string_slot b (Some v ∷ vs) (suc i) =
     let shift : b + suc i ≡ (b + 1) + i = omega arith in
-    ap (λ c. if c then Some v.items else string_of (numbered (b + 1) vs) (b + suc i)) (ne_eqb b (b + suc i) (λ e. omega (arith, e)))
+    ap (λ c. if c then Some v.items else string_of (numbered (b + 1) vs) (b + suc i))
+    (ne_eqb b (b + suc i) (λ e. omega (arith, e)))
     ∙ ap (string_of (numbered (b + 1) vs)) shift
     ∙ string_slot (b + 1) vs i
 
@@ -85,17 +87,21 @@ string_at vs n = ap (string_of (numbered 0 vs)) (sym (zero-add n)) ∙ string_sl
 
 -- ---- numbers of strings
 
-slot_found : (b : ℕ) (vs : Slots) → Apart vs → (i : ℕ) (v : Vec ℕ) (q : List ℕ) → at vs i ≡ Some v → q ≡ v.items → find bytes_cmp q (numbered b vs) ≡ Some (b + i)
+slot_found : (b : ℕ) (vs : Slots) → Apart vs → (i : ℕ) (v : Vec ℕ) (q : List ℕ) → at vs i ≡ Some v → q ≡ v.items
+    → find bytes_cmp q (numbered b vs) ≡ Some (b + i)
 slot_found b [] apart i v q is same = absurd (cc)
 slot_found b (None ∷ vs) apart zero v q is same = absurd (cc)
 slot_found b (None ∷ vs) apart (suc i) v q is same =
     let shift : (b + 1) + i ≡ b + suc i = omega arith in
     slot_found (b + 1) vs (apart_later None vs apart) i v q is same ∙ ap Some shift
 slot_found b (Some w ∷ vs) apart zero v q is same =
-    ap (λ c. cond c (Some b) (find bytes_cmp q (numbered (b + 1) vs))) ((same_bytes q w.items).1 (same ∙ sym (items_same w v is)))
+    ap (λ c. cond c (Some b) (find bytes_cmp q (numbered (b + 1) vs)))
+    ((same_bytes q w.items).1 (same ∙ sym (items_same w v is)))
     ∙ ap Some (omega arith)
 slot_found b (Some w ∷ vs) apart (suc i) v q is same =
-    elim (eq_by_cmp bytes_cmp q w.items) as (λ c. eq_by_cmp bytes_cmp q w.items ≡ c → cond c (Some b) (find bytes_cmp q (numbered (b + 1) vs)) ≡ Some (b + suc i)) [
+    elim (eq_by_cmp bytes_cmp q w.items)
+    as (λ c. eq_by_cmp bytes_cmp q w.items ≡ c → cond c (Some b) (find bytes_cmp q (numbered (b + 1) vs))
+    ≡ Some (b + suc i)) [
       | true ↦ λ e.
           let first : 0 ≡ suc i = apart 0 (suc i) w v refl is (sym ((same_bytes q w.items).0 e) ∙ same) in
           absurd (omega (arith, first))
@@ -104,13 +110,15 @@ slot_found b (Some w ∷ vs) apart (suc i) v q is same =
           slot_found (b + 1) vs (apart_later (Some w) vs apart) i v q is same ∙ ap Some shift
     ] refl
 
-found_slot : (b : ℕ) (vs : Slots) (q : List ℕ) (n : ℕ) → find bytes_cmp q (numbered b vs) ≡ Some n → (i : ℕ) × (v : Vec ℕ) × (n ≡ b + i) × (at vs i ≡ Some v) × (q ≡ v.items)
+found_slot : (b : ℕ) (vs : Slots) (q : List ℕ) (n : ℕ) → find bytes_cmp q (numbered b vs) ≡ Some n → (i : ℕ)
+    × (v : Vec ℕ) × (n ≡ b + i) × (at vs i ≡ Some v) × (q ≡ v.items)
 found_slot b [] q n is = absurd (cc)
 found_slot b (None ∷ vs) q n is =
     let later = found_slot (b + 1) vs q n is in
     (suc later.0, later.1, omega (arith, later.2), later.3, later.4)
 found_slot b (Some w ∷ vs) q n is =
-    elim (eq_by_cmp bytes_cmp q w.items) as (λ c. eq_by_cmp bytes_cmp q w.items ≡ c → cond c (Some b) (find bytes_cmp q (numbered (b + 1) vs)) ≡ Some n
+    elim (eq_by_cmp bytes_cmp q w.items)
+    as (λ c. eq_by_cmp bytes_cmp q w.items ≡ c → cond c (Some b) (find bytes_cmp q (numbered (b + 1) vs)) ≡ Some n
     → (i : ℕ) × (v : Vec ℕ) × (n ≡ b + i) × (at (Some w ∷ vs) i ≡ Some v) × (q ≡ v.items)) [
       | true ↦ λ e here. let same : b ≡ n = cc in (0, w, omega (arith, same), refl, (same_bytes q w.items).0 e)
       | false ↦ λ e there.
@@ -118,24 +126,29 @@ found_slot b (Some w ∷ vs) q n is =
           (suc later.0, later.1, omega (arith, later.2), later.3, later.4)
     ] refl is
 
-pub number_at : (vs : Slots) → Apart vs → (n : ℕ) (v : Vec ℕ) (q : List ℕ) → at vs n ≡ Some v → q ≡ v.items → number_of (numbered 0 vs) q ≡ Some n
+pub number_at : (vs : Slots) → Apart vs → (n : ℕ) (v : Vec ℕ) (q : List ℕ) → at vs n ≡ Some v → q ≡ v.items
+    → number_of (numbered 0 vs) q ≡ Some n
 number_at vs apart n v q is same = slot_found 0 vs apart n v q is same ∙ ap Some (zero-add n)
 
-pub at_number : (vs : Slots) (q : List ℕ) (n : ℕ) → number_of (numbered 0 vs) q ≡ Some n → (v : Vec ℕ) × (at vs n ≡ Some v) × (q ≡ v.items)
+pub at_number : (vs : Slots) (q : List ℕ) (n : ℕ) → number_of (numbered 0 vs) q ≡ Some n → (v : Vec ℕ)
+    × (at vs n ≡ Some v) × (q ≡ v.items)
 at_number vs q n is =
     let slot = found_slot 0 vs q n is in
     let same : slot.0 ≡ n = omega (arith, slot.2) in
     (slot.1, subst (λ k. at vs k ≡ Some slot.1) same slot.3, slot.4)
 
-pub slot_of : (vs : Slots) (n : ℕ) (q : List ℕ) → string_of (numbered 0 vs) n ≡ Some q → (v : Vec ℕ) × (at vs n ≡ Some v) × (v.items ≡ q)
+pub slot_of : (vs : Slots) (n : ℕ) (q : List ℕ) → string_of (numbered 0 vs) n ≡ Some q → (v : Vec ℕ)
+    × (at vs n ≡ Some v) × (v.items ≡ q)
 slot_of vs n q is = by_slot (at vs n) refl
   where
     by_slot : (slot : Option (Vec ℕ)) → at vs n ≡ slot → (v : Vec ℕ) × (at vs n ≡ Some v) × (v.items ≡ q)
     by_slot None gets = some_none q (sym is ∙ string_at vs n ∙ ap (option_map (λ (v : Vec ℕ). v.items)) gets)
-    by_slot (Some v) gets = (v, gets, same_list v.items q (sym (ap (option_map (λ (v : Vec ℕ). v.items)) gets) ∙ sym (string_at vs n) ∙ is))
+    by_slot (Some v) gets =
+        (v, gets, same_list v.items q (sym (ap (option_map (λ (v : Vec ℕ). v.items)) gets) ∙ sym (string_at vs n) ∙ is))
 
 -- a string that is nowhere has no number
-pub unnumbered : (vs : Slots) (q : List ℕ) → ((n : ℕ) → string_of (numbered 0 vs) n ≡ Some q → ⊥) → None ≡ number_of (numbered 0 vs) q
+pub unnumbered : (vs : Slots) (q : List ℕ) → ((n : ℕ) → string_of (numbered 0 vs) n ≡ Some q → ⊥) → None
+    ≡ number_of (numbered 0 vs) q
 unnumbered vs q nowhere = by_number (number_of (numbered 0 vs) q) refl
   where
     by_number : (o : Option ℕ) → number_of (numbered 0 vs) q ≡ o → None ≡ o
@@ -145,7 +158,8 @@ unnumbered vs q nowhere = by_number (number_of (numbered 0 vs) q) refl
         absurd (nowhere n (string_at vs n ∙ ap (option_map (λ (v : Vec ℕ). v.items)) slot.1 ∙ ap Some (sym slot.2)))
 
 -- a string without a number is nowhere
-pub nowhere : {P : Type 0} (vs : Slots) → Apart vs → (q : List ℕ) → number_of (numbered 0 vs) q ≡ None → (n : ℕ) (v : Vec ℕ) → at vs n ≡ Some v → q ≡ v.items → P
+pub nowhere : {P : Type 0} (vs : Slots) → Apart vs → (q : List ℕ) → number_of (numbered 0 vs) q ≡ None
+    → (n : ℕ) (v : Vec ℕ) → at vs n ≡ Some v → q ≡ v.items → P
 nowhere vs apart q none n v is same = some_none n (sym (number_at vs apart n v q is same) ∙ none)
 
 -- ---- one place has something else
@@ -159,14 +173,18 @@ module _ (old new : Slots) (k : ℕ) (others : (m : ℕ) → m ≢ k → at new 
         | false ↦ λ e. there (eqb-false m k e)
       ] refl
 
-  kept_string : (s : Option (List ℕ)) → option_map (λ v. v.items) (at new k) ≡ s → (m : ℕ) → string_of (numbered 0 new) m ≡ (if k == m then s else string_of (numbered 0 old) m)
+  kept_string : (s : Option (List ℕ)) → option_map (λ v. v.items) (at new k) ≡ s → (m : ℕ)
+      → string_of (numbered 0 new) m ≡ (if k == m then s else string_of (numbered 0 old) m)
   kept_string s is m =
-      elim (k == m) as (λ c. (k == m) ≡ c → string_of (numbered 0 new) m ≡ (if c then s else string_of (numbered 0 old) m)) [
+      elim (k == m) as (λ c. (k == m) ≡ c → string_of (numbered 0 new) m
+      ≡ (if c then s else string_of (numbered 0 old) m)) [
         | true ↦ λ e. string_at new m ∙ ap (λ n. option_map (λ v. v.items) (at new n)) (sym (eqb-true k m e)) ∙ is
-        | false ↦ λ e. string_at new m ∙ ap (option_map (λ v. v.items)) (others m (λ same. eqb-false k m e (sym same))) ∙ sym (string_at old m)
+        | false ↦ λ e. string_at new m
+            ∙ ap (option_map (λ v. v.items)) (others m (λ same. eqb-false k m e (sym same))) ∙ sym (string_at old m)
       ] refl
 
-  module _ (apart : Apart old) (v : Vec ℕ) (was : at old k ≡ None) (is : at new k ≡ Some v) (none : number_of (numbered 0 old) v.items ≡ None) where
+  module _ (apart : Apart old) (v : Vec ℕ) (was : at old k ≡ None) (is : at new k ≡ Some v)
+      (none : number_of (numbered 0 old) v.items ≡ None) where
     items_at : (w : Vec ℕ) → at new k ≡ Some w → w.items ≡ v.items
     items_at w there = items_same w v (sym there ∙ is)
 
@@ -185,14 +203,18 @@ module _ (old new : Slots) (k : ℕ) (others : (m : ℕ) → m ≢ k → at new 
         (sym (items_at x (ap (at new) (sym jk) ∙ xj)) ∙ sym same))
         (λ nj. apart i j w x (sym (others i ni) ∙ wi) (sym (others j nj) ∙ xj) same))
 
-    added_number : (q : List ℕ) → number_of (numbered 0 new) q ≡ (if eq_by_cmp bytes_cmp q v.items then Some k else number_of (numbered 0 old) q)
+    added_number : (q : List ℕ) → number_of (numbered 0 new) q
+        ≡ (if eq_by_cmp bytes_cmp q v.items then Some k else number_of (numbered 0 old) q)
     added_number q =
-        elim (eq_by_cmp bytes_cmp q v.items) as (λ c. eq_by_cmp bytes_cmp q v.items ≡ c → number_of (numbered 0 new) q ≡ (if c then Some k else number_of (numbered 0 old) q)) [
+        elim (eq_by_cmp bytes_cmp q v.items)
+        as (λ c. eq_by_cmp bytes_cmp q v.items ≡ c → number_of (numbered 0 new) q
+        ≡ (if c then Some k else number_of (numbered 0 old) q)) [
           | true ↦ λ e. number_at new added_apart k v q is ((same_bytes q v.items).0 e)
           | false ↦ λ e. other e (number_of (numbered 0 old) q) refl
         ] refl
       where
-        other : eq_by_cmp bytes_cmp q v.items ≡ false → (o : Option ℕ) → number_of (numbered 0 old) q ≡ o → number_of (numbered 0 new) q ≡ number_of (numbered 0 old) q
+        other : eq_by_cmp bytes_cmp q v.items ≡ false → (o : Option ℕ) → number_of (numbered 0 old) q ≡ o
+            → number_of (numbered 0 new) q ≡ number_of (numbered 0 old) q
         other e (Some n) had =
             let slot = at_number old q n had in
             let there : n ≢ k = λ same. some_none slot.0 (sym slot.1 ∙ ap (at old) same ∙ was) in
@@ -204,7 +226,8 @@ module _ (old new : Slots) (k : ℕ) (others : (m : ℕ) → m ≢ k → at new 
             unseen (Some m) gets =
                 let slot = at_number new q m gets in
                 elsewhere m
-                (λ mk. true_false (sym ((same_bytes q v.items).1 (slot.2 ∙ items_at slot.0 (ap (at new) (sym mk) ∙ slot.1))) ∙ e))
+                (λ mk. true_false (sym
+                ((same_bytes q v.items).1 (slot.2 ∙ items_at slot.0 (ap (at new) (sym mk) ∙ slot.1))) ∙ e))
                 (λ nm. nowhere old apart q had m slot.0 (sym (others m nm) ∙ slot.1) slot.2)
 
     pub adds : Adds (numbered 0 old) v.items k (numbered 0 new)
@@ -225,9 +248,12 @@ module _ (old new : Slots) (k : ℕ) (others : (m : ℕ) → m ≢ k → at new 
     pub removed_apart : Apart new
     removed_apart i j w x wi xj same = apart i j w x (before i w wi).1 (before j x xj).1 same
 
-    removed_number : (q : List ℕ) → number_of (numbered 0 new) q ≡ (if eq_by_cmp bytes_cmp q v.items then None else number_of (numbered 0 old) q)
+    removed_number : (q : List ℕ) → number_of (numbered 0 new) q
+        ≡ (if eq_by_cmp bytes_cmp q v.items then None else number_of (numbered 0 old) q)
     removed_number q =
-        elim (eq_by_cmp bytes_cmp q v.items) as (λ c. eq_by_cmp bytes_cmp q v.items ≡ c → number_of (numbered 0 new) q ≡ (if c then None else number_of (numbered 0 old) q)) [
+        elim (eq_by_cmp bytes_cmp q v.items)
+        as (λ c. eq_by_cmp bytes_cmp q v.items ≡ c → number_of (numbered 0 new) q
+        ≡ (if c then None else number_of (numbered 0 old) q)) [
           | true ↦ λ e. gone ((same_bytes q v.items).0 e) (number_of (numbered 0 new) q) refl
           | false ↦ λ e. other e (number_of (numbered 0 old) q) refl
         ] refl
@@ -238,12 +264,14 @@ module _ (old new : Slots) (k : ℕ) (others : (m : ℕ) → m ≢ k → at new 
             let slot = at_number new q m gets in
             absurd ((before m slot.0 slot.1).0 (apart m k slot.0 v (before m slot.0 slot.1).1 was (sym slot.2 ∙ same)))
 
-        other : eq_by_cmp bytes_cmp q v.items ≡ false → (o : Option ℕ) → number_of (numbered 0 old) q ≡ o → number_of (numbered 0 new) q ≡ number_of (numbered 0 old) q
+        other : eq_by_cmp bytes_cmp q v.items ≡ false → (o : Option ℕ) → number_of (numbered 0 old) q ≡ o
+            → number_of (numbered 0 new) q ≡ number_of (numbered 0 old) q
         other e (Some n) had =
             let slot = at_number old q n had in
             let there : n ≢ k =
             λ same.
-            true_false (sym ((same_bytes q v.items).1 (slot.2 ∙ items_same slot.0 v (sym slot.1 ∙ ap (at old) same ∙ was))) ∙ e) in
+            true_false (sym ((same_bytes q v.items).1
+            (slot.2 ∙ items_same slot.0 v (sym slot.1 ∙ ap (at old) same ∙ was))) ∙ e) in
             number_at new removed_apart n slot.0 q (others n there ∙ slot.1) slot.2 ∙ sym had
         other e None had = unseen (number_of (numbered 0 new) q) refl ∙ sym had
           where

@@ -1,5 +1,5 @@
 //! Byte strings by their numbers, and back.
-ghost use Rattle.std.specs.Prelude.{◌≡◌, ◌≤◌, ℕ, true, false, [], None, Some, IfOk, IfSome, OnErr, OnSome};
+ghost use Rattle.std.specs.Prelude.{◌≡◌, ◌≤◌, ℕ, true, false, [], None, Some, IfOk, IfSome, OnErr, OnSome, length};
 ghost use Rattle.std.specs.Option.{option_map};
 ghost use Rattle.std.specs.Hash.DefaultHasher.{finish, write};
 ghost use Rattle.sk_index.specs.Index.{number_of, string_of, Adds, Removes};
@@ -118,7 +118,9 @@ impl Index {
     }
 
     /// How many strings there are.
-    pub fn len(&self) -> usize {
+    pub fn len(&self) -> usize
+        ensures { result ≡ length self.now }
+    {
         self.strings.len()
     }
 

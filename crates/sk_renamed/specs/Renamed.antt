@@ -14,7 +14,8 @@ at_key other f (Some k) = f k
 module _ {B K : Type 0} (key : B → Option K) where
   -- a name has what its key has; one that stands for no key is absent and rests on nothing
   abbrev pub renamed_state : {V : Type 0} → UndoState K V → UndoState B V
-  renamed_state a = record { look = λ b. at_key None a.look (key b); logs = λ b. at_key [] a.logs (key b); opens = a.opens }
+  renamed_state a = record
+      { look = λ b. at_key None a.look (key b); logs = λ b. at_key [] a.logs (key b); opens = a.opens }
 
   abbrev pub renamed : {V W : Type 0} → Machine K V W → Machine B V W
   renamed m = record { state = renamed_state m.state; status = m.status; texts = m.texts }

@@ -21,13 +21,15 @@ loop-place-init c = (
       let small = c.self.invariant.small n slot.0 slot.1 in
       let below : n ≤ 18446744073709551615 = omega (arith, small) in
       let any =
-      subst (λ k. list_any (is_at (place_cmp (k, n))) inside.places.keys ≡ true) (ap (λ s. finish (write inside.seed s)) slot.2 ∙ sym c.hash_of-hash.ensures)
+      subst (λ k. list_any (is_at (place_cmp (k, n))) inside.places.keys ≡ true)
+      (ap (λ s. finish (write inside.seed s)) slot.2 ∙ sym c.hash_of-hash.ensures)
       (c.self.invariant.found n slot.0 slot.1) in
       subst (λ xs. list_any (is_at (place_cmp (c.hash_of-hash.result, n))) xs ≡ true)
       (sym
       (c.into_iter-place-iterator.ensures.into_iter_gives ∙ c.range-place-items.ensures.between c.new.ensures.exhausted
       ∙ ap (λ s. keys_between place_cmp (Included s) (Included c.new.result.end) inside.places) c.new.ensures.start
-      ∙ ap (λ s. keys_between place_cmp (Included (c.hash_of-hash.result, 0)) (Included s) inside.places) c.new.ensures.end))
+      ∙ ap (λ s. keys_between place_cmp (Included (c.hash_of-hash.result, 0)) (Included s) inside.places)
+      c.new.ensures.end))
       (looked c.hash_of-hash.result n 18446744073709551615 inside.places.keys below any),
 )
 
@@ -36,7 +38,9 @@ returns-then-is_at c =
     let vs = c.self.inside.strings.slots in
     let n = c.in-Some.place.now.1 in
     let slot = slot_of vs n c.args.bytes.now (ap (λ es. string_of es n) c.self.view_is ∙ c.if-is_at.ensures.yes refl) in
-    ap Some c.new-then-is_at.ensures ∙ sym (number_at vs c.self.invariant.apart n slot.0 c.args.bytes.now slot.1 (sym slot.2)) ∙ ap (λ es. number_of es c.args.bytes.now) c.self.view_is
+    ap Some c.new-then-is_at.ensures
+    ∙ sym (number_at vs c.self.invariant.apart n slot.0 c.args.bytes.now slot.1 (sym slot.2))
+    ∙ ap (λ es. number_of es c.args.bytes.now) c.self.view_is
 
 pub returns : goal.returns
 returns c =

@@ -12,7 +12,8 @@ returns-in-Some-clause-yes c = λ e.
     ap (λ es. string_of es c.args.place) (sym c.self.view_is)
     ∙ string_at c.self.inside.strings.slots c.args.place
     ∙ ap (option_map (λ (v : Vec _). v.items)) (sym c.in-Some.ensures)
-    ∙ ap Some (sym c.as_slice.ensures.value ∙ (bytes_eq-Decides c.as_slice.result.now c.args.bytes.now).0 (sym c.eq.ensures ∙ e))
+    ∙ ap Some (sym c.as_slice.ensures.value
+    ∙ (bytes_eq-Decides c.as_slice.result.now c.args.bytes.now).0 (sym c.eq.ensures ∙ e))
 
 pub returns-in-Some-clause-no : goal.returns-in-Some-clause-no
 returns-in-Some-clause-no c = λ e is.
@@ -21,9 +22,12 @@ returns-in-Some-clause-no c = λ e is.
     ∙ ap (option_map (λ (v : Vec _). v.items)) c.in-Some.ensures
     ∙ sym (string_at c.self.inside.strings.slots c.args.place)
     ∙ ap (λ es. string_of es c.args.place) c.self.view_is ∙ is in
-    true_false (sym ((bytes_eq-Decides c.as_slice.result.now c.args.bytes.now).1 (same_list c.as_slice.result.now c.args.bytes.now there)) ∙ sym c.eq.ensures ∙ e)
+    true_false (sym ((bytes_eq-Decides c.as_slice.result.now c.args.bytes.now).1
+    (same_list c.as_slice.result.now c.args.bytes.now there)) ∙ sym c.eq.ensures ∙ e)
 
 pub returns-in-None-clause-no : goal.returns-in-None-clause-no
 returns-in-None-clause-no c = λ e is.
     some_none c.args.bytes.now
-    (sym is ∙ ap (λ es. string_of es c.args.place) (sym c.self.view_is) ∙ string_at c.self.inside.strings.slots c.args.place ∙ ap (option_map (λ (v : Vec _). v.items)) (sym c.in-None.ensures))
+    (sym is ∙ ap (λ es. string_of es c.args.place) (sym c.self.view_is)
+    ∙ string_at c.self.inside.strings.slots c.args.place
+    ∙ ap (option_map (λ (v : Vec _). v.items)) (sym c.in-None.ensures))

@@ -18,16 +18,26 @@ returns-in_err-string-clause-none c = λ none.
 
 pub invariant_of-self-2 : goal.invariant_of-self-2
 invariant_of-self-2 c =
-    kept.removed (λ s. finish (write c.self.inside.seed s)) c.self.inside.strings c.self.inside.places c.self.invariant c.try_remove.new.self c.remove.new.self c.place.result c.in_ok-string.string
+    kept.removed (λ s. finish (write c.self.inside.seed s)) c.self.inside.strings c.self.inside.places
+    c.self.invariant c.try_remove.new.self c.remove.new.self c.place.result c.in_ok-string.string
     (sym c.in_ok-string.ensures.value) c.in_ok-string.ensures.updates (c.hash_of-hash.result, c.place-2.result)
-    (λ i. ((c.hash_of-hash.ensures ∙ ap (λ s. finish (write c.self.inside.seed s)) c.as_slice.ensures.value) i, (c.place-2.ensures ∙ sym c.place.ensures) i))
+    (λ i. (
+      (c.hash_of-hash.ensures ∙ ap (λ s. finish (write c.self.inside.seed s)) c.as_slice.ensures.value) i,
+      (c.place-2.ensures ∙ sym c.place.ensures) i,
+    ))
     c.remove.ensures.updates
 
 pub returns-clause-some : goal.returns-clause-some
 returns-clause-some c =
-    subst (λ es. Removes es c.in_ok-string.string.items c.args.number (numbered 0 c.try_remove.new.self.slots)) c.self.view_is
-    (subst (λ n. Removes (numbered 0 c.self.inside.strings.slots) c.in_ok-string.string.items n (numbered 0 c.try_remove.new.self.slots)) c.place.ensures
-    (kept.removes (λ s. finish (write c.self.inside.seed s)) c.self.inside.strings c.self.inside.places c.self.invariant c.try_remove.new.self c.remove.new.self c.place.result c.in_ok-string.string
+    subst (λ es. Removes es c.in_ok-string.string.items c.args.number (numbered 0 c.try_remove.new.self.slots))
+    c.self.view_is
+    (subst (λ n. Removes (numbered 0 c.self.inside.strings.slots) c.in_ok-string.string.items n
+    (numbered 0 c.try_remove.new.self.slots)) c.place.ensures
+    (kept.removes (λ s. finish (write c.self.inside.seed s)) c.self.inside.strings c.self.inside.places
+    c.self.invariant c.try_remove.new.self c.remove.new.self c.place.result c.in_ok-string.string
     (sym c.in_ok-string.ensures.value) c.in_ok-string.ensures.updates (c.hash_of-hash.result, c.place-2.result)
-    (λ i. ((c.hash_of-hash.ensures ∙ ap (λ s. finish (write c.self.inside.seed s)) c.as_slice.ensures.value) i, (c.place-2.ensures ∙ sym c.place.ensures) i))
+    (λ i. (
+      (c.hash_of-hash.ensures ∙ ap (λ s. finish (write c.self.inside.seed s)) c.as_slice.ensures.value) i,
+      (c.place-2.ensures ∙ sym c.place.ensures) i,
+    ))
     c.remove.ensures.updates))

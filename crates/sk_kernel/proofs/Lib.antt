@@ -13,6 +13,7 @@ mod Opened
 pub mod HandedIn
 pub mod Entries
 pub mod Appended
+mod Bounds
 pub mod Noted
 mod Epochs
 pub mod Further

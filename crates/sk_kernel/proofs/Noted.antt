@@ -1,13 +1,25 @@
 -- No note is held exactly where nothing rests on an undecided guess.
-use Rattle.std.proofs.Common.{◌≡◌, ℕ, Bool, true, false, List, [], ◌∷◌, refl, sym, ◌∙◌, ap}
-use Rattle.std.specs.Prelude.{◌↔◌}
+use Rattle.std.proofs.Common.{◌≡◌, ℕ, ◌≤◌, length, Bool, true, false, not, List, [], ◌∷◌, inl, inr, refl, sym, ◌∙◌, ap, subst, arith}
+use Rattle.std.specs.Prelude.{◌↔◌, min, ◌-◌, ◌^◌}
+use Rattle.std.specs.List.{list_all, sum_by}
 use Rattle.std.proofs.lemmas.Bool.{true≢false, or_left, eq-eqb}
-use Rattle.sk_record.specs.Notes.{has, last_tags}
-use Rattle.sk_undo.specs.Count.{AreUnnoted}
+use Rattle.sk_ids.specs.Entity.{entity_cmp}
+use Rattle.sk_ids.specs.declared.entity.Entity.{Entity}
+use Rattle.sk_record.specs.Effects.{is_in}
+use Rattle.sk_record.specs.Merged.{Merges}
+use Rattle.sk_record.specs.UndoState.{log_of}
+use Rattle.sk_record.proofs.Sound.{entries_are}
+use Rattle.sk_plain.specs.Act.{plain}
+use Rattle.sk_record.specs.Notes.{Note, has, last_tags}
+use Rattle.sk_store.specs.declared.entity_state.EntityState.{EntityState}
+use Rattle.sk_undo.specs.Log.{is_empty}
+use Rattle.sk_undo.specs.Logs.{log_at}
+use Rattle.sk_undo.specs.Count.{AreUnnoted, notes_in}
 use Rattle.sk_machine.specs.Parts.{Parts}
-use Rattle.sk_kernel.specs.Kernel.{KernelView, undecided_at, tags_at}
+use Rattle.sk_kernel.specs.Kernel.{KernelView, events_of, undecided_at, tags_at}
 use Rattle.sk_kernel.specs.Invariant.{Stands}
-use Rattle.sk_kernel.specs.Notes.{NothingRests, CanHold}
+use Rattle.sk_kernel.specs.Notes.{NothingRests, CanHold, AreApart, rests_at, noted_at}
+use Rattle.sk_kernel.proofs.Bounds.{ones, slots_least, slots_most}
 use Rattle.sk_kernel.proofs.Whole.{tags_computed, tidy, opens_are}
 
 no_tags : (tags : List ℕ) → ((g : ℕ) → has g tags ≡ false) → tags ≡ []
@@ -18,6 +30,22 @@ not_true : (b : Bool) → (b ≡ true → ⊥) → b ≡ false
 not_true true h = absurd (h refl)
 not_true false h = refl
 
+not_empty : {A : Type 0} (xs : List A) → (xs ≡ [] → ⊥) → not (is_empty xs) ≡ true
+not_empty [] some = absurd (some refl)
+not_empty (x ∷ xs) some = refl
+
+long_some : {A : Type 0} (xs : List A) → (xs ≡ [] → ⊥) → 1 ≤ length xs
+long_some [] some = absurd (some refl)
+long_some (x ∷ xs) some = omega arith
+
+-- notes left out make no log longer
+merged_within : (t : List ℕ) (ns ms : List (Note EntityState)) → Merges t ns ms → length ms ≤ length ns
+merged_within t [] [] h = omega arith
+merged_within t [] (m ∷ ms) h = absurd h
+merged_within t (n ∷ ns) [] h = omega arith
+merged_within t (n ∷ ns) (m ∷ ms) (inl h) = let rest = merged_within t ns (m ∷ ms) h.1 in omega (arith, rest)
+merged_within t (n ∷ ns) (m ∷ ms) (inr h) = let rest = merged_within n.tags ns ms h.1 in omega (arith, rest)
+
 module _ (k : KernelView) (m : Parts) (stands : Stands k m) where
   unnoted_rest : AreUnnoted m.slots → NothingRests k
   unnoted_rest none e = sym (tags_computed k m stands e) ∙ ap (last_tags []) (none e)
@@ -25,8 +53,37 @@ module _ (k : KernelView) (m : Parts) (stands : Stands k m) where
   resting_none : NothingRests k → AreUnnoted m.slots
   resting_none none e = (tidy k m stands).clean e (tags_computed k m stands e ∙ none e)
 
-  pub notes_are : (n : ℕ) → (n ≡ 0) ↔ AreUnnoted m.slots → CanHold k n
-  notes_are n is = ((λ zero. unnoted_rest (is.0 zero)), λ none. is.1 (resting_none none))
+  -- an entity has notes exactly where it rests on a guess
+  some_noted : (e : Entity) → rests_at k e ≡ true → 1 ≤ length (log_at m.slots e)
+  some_noted e rests = long_some (log_at m.slots e) (λ none. true≢false (sym rests ∙ ap (λ ts. not (is_empty ts)) (sym (tags_computed k m stands e) ∙ ap (last_tags []) none)))
+
+  noted_rests : (e : Entity) → is_empty (log_at m.slots e) ≡ false → rests_at k e ≡ true
+  noted_rests e some = not_empty (tags_at k e) (λ none. true≢false (sym (ap is_empty ((tidy k m stands).clean e (tags_computed k m stands e ∙ none))) ∙ some))
+
+  -- and no more than by the record
+  noted_within : (e : Entity) → length (log_at m.slots e) ≤ length (noted_at k e)
+  noted_within e =
+      subst (λ (ns : List (Note EntityState)). length (log_at m.slots e) ≤ length ns)
+      (stands.trace.stands.state.logs e ∙ ap (λ ns. log_of (plain k.scripts) k.start ns (undecided_at k) e) (entries_are (plain k.scripts) k.start (events_of k)))
+      (merged_within [] (stands.trace.full.state.logs e) (log_at m.slots e) (stands.trace.merged.logs e))
+
+  notes_least : (n : ℕ) → n ≡ min (notes_in m.slots) (2 ^ 64 - 1) → (es : List Entity) → AreApart es → list_all (rests_at k) es ≡ true → min (length es) (2 ^ 64 - 1) ≤ n
+  notes_least n count es apart rest =
+      let many = ones (λ e. length (log_at m.slots e)) (rests_at k) some_noted es rest in
+      let sum = slots_least m.slots es apart in
+      omega (arith, count, many, sum)
+
+  notes_most : (n : ℕ) → n ≡ min (notes_in m.slots) (2 ^ 64 - 1) → (es : List Entity) → ((e : Entity) → rests_at k e ≡ true → is_in entity_cmp es e ≡ true) → n ≤ sum_by (λ e. length (noted_at k e)) es
+  notes_most n count es covered =
+      let sum = slots_most m.slots (λ e. length (noted_at k e)) es noted_within (λ e some. covered e (noted_rests e some)) in
+      omega (arith, count, sum)
+
+  pub notes_are : (n : ℕ) → n ≡ min (notes_in m.slots) (2 ^ 64 - 1) → (n ≡ 0) ↔ AreUnnoted m.slots → CanHold k n
+  notes_are n count is = record {
+    none = ((λ zero. unnoted_rest (is.0 zero)), λ none. is.1 (resting_none none));
+    least = notes_least n count;
+    most = notes_most n count;
+  }
 
   pub none_undecided : undecided_at k ≡ [] → NothingRests k
   none_undecided none e =

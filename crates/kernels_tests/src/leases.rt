@@ -127,3 +127,36 @@ fn all_are_handed_in(alloc: Global) -> Result<(), Wrong> {
 fn lease_and_hand_in(rt: HostRuntime) {
     passes(&rt, all_are_handed_in(rt.alloc()));
 }
+
+/// What a hand-in comes to of a lease that did so many instructions.
+fn of_these(done: u32, events: usize, place: u32) -> HandedIn {
+    HandedIn {
+        done,
+        is_as_lent: true,
+        answer: Ok(()),
+        events,
+        place: Some(place),
+    }
+}
+
+/// A lease is spent by its hand-in, so that the next one of the process has just what is done from there on.
+fn none_counts_twice(alloc: Global) -> Result<(), Wrong> {
+    let mut kernel = kernel(alloc)?;
+    let leased = pid(1)?;
+    let rows = [
+        (1, of_these(1, 1, 1)),
+        (10, of_these(1, 2, 2)),
+        (10, of_these(0, 2, 2)),
+    ];
+    for (place, (count, want)) in rows.iter().enumerate() {
+        let mut lease = kernel.lease(leased)?;
+        lease.run(*count);
+        holds(place, outcome(&mut kernel, leased, lease) == *want)?;
+    }
+    Ok(())
+}
+
+#[test]
+fn leases_in_turn(rt: HostRuntime) {
+    passes(&rt, none_counts_twice(rt.alloc()));
+}

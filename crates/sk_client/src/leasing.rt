@@ -3,7 +3,7 @@ ghost use Rattle.std.specs.Prelude.{◌≡◌};
 ghost use Rattle.std.specs.FinMap as map;
 ghost use Rattle.sk_kernel.specs.Kernel.{state_at};
 ghost use Rattle.sk_plain.specs.Leased.{Lends, lease_of};
-ghost use Rattle.sk_client.specs.Leasing.{blocked_why, desk_lease, WhyShort, DeskTakesIn, DeskHandInPost};
+ghost use Rattle.sk_client.specs.Leasing.{blocked_why, desk_lease, WhyShort, DeskHandInPost};
 
 use crate::Desk;
 use sk_ids::{Entity, Pid};
@@ -40,23 +40,11 @@ impl Desk {
     pub fn hand_in(&mut self, lease: Lease) -> Result<(), (Lease, HandIn)>
         ensures { DeskHandInPost result lease self.old self.new }
     {
-        match self.take_in(&lease) {
-            Ok(()) => {
-                lease.give_up();
-                Ok(())
-            }
-            Err(why) => Err((lease, why)),
-        }
-    }
-
-    /// The same of a lease that stays where it is.
-    pub fn take_in(&mut self, lease: &Lease) -> Result<(), HandIn>
-        ensures { DeskTakesIn result lease.now self.old self.new }
-    {
         if self.free_places() < lease.count() as usize {
-            return Err(self.why_short(lease));
+            let why = self.why_short(&lease);
+            return Err((lease, why));
         }
-        self.holder.take_in(lease)
+        self.holder.hand_in(lease)
     }
 
     /// Why a lease comes back for whose steps there are no places.

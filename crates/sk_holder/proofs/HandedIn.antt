@@ -6,7 +6,7 @@ use Rattle.sk_script.specs.declared.instruction.Input.TheVariants as inputs
 use Rattle.sk_script.specs.Lease.{LeaseView}
 use Rattle.sk_kernel.specs.Kernel.{KernelView, with_event}
 use Rattle.sk_kernel.proofs.HandedIn.{no_step}
-use Rattle.sk_kernel.specs.HandIn.{TakesIn, alone_step, with_steps}
+use Rattle.sk_kernel.specs.HandIn.{TakesIn, HandInPost, alone_step, with_steps}
 use Rattle.sk_kernel.specs.declared.hand_in.HandIn.{HandIn}
 use Rattle.sk_kernel.specs.declared.hand_in.HandIn.TheVariants.{Stale, TraceFull, Memory}
 use Rattle.sk_holder.specs.Tokens.{all_unspent}
@@ -28,6 +28,15 @@ taken_in P l keeps (Ok u) old new h p = subst P (sym h.2) (steps_keep P l.lent.p
 taken_in P l keeps (Err Stale) old new h p = subst P (sym h.1) p
 taken_in P l keeps (Err TraceFull) old new h p = subst P (sym h.2) p
 taken_in P l keeps (Err Memory) old new h p = subst P (sym h.3) p
+
+-- what is answered, without the lease that comes back
+abbrev pub told : Result (Unit {0}) (LeaseView × HandIn) → Result (Unit {0}) HandIn
+told (Ok u) = Ok u
+told (Err back) = Err back.1
+
+pub takes_in : (result : Result (Unit {0}) (LeaseView × HandIn)) (l : LeaseView) (old new : KernelView) → HandInPost result l old new → TakesIn (told result) l old new
+takes_in (Ok u) l old new h = h
+takes_in (Err back) l old new h = h.1
 
 -- the tokens that are held
 pub unspent : (l : LeaseView) (ts : List Token) (result : Result (Unit {0}) HandIn) (old new : KernelView) → TakesIn result l old new → all_unspent old ts ≡ true → all_unspent new ts ≡ true

@@ -4,7 +4,7 @@ ghost use Rattle.sk_record.specs.Notes.{has};
 ghost use Rattle.sk_plain.specs.Refusal.{cause};
 ghost use Rattle.sk_kernel.specs.Kernel.{undecided_at, next_guess, step_refused, guess_refused};
 ghost use Rattle.sk_kernel.specs.Calls.{StepPost, EpochPost, LeavesTexts};
-ghost use Rattle.sk_kernel.specs.HandIn.{HandInPost, TakesIn};
+ghost use Rattle.sk_kernel.specs.HandIn.{HandInPost};
 ghost use Rattle.sk_terminal.specs.Terminals.{released_at};
 ghost use Rattle.sk_trace.specs.Kept.{input_in};
 ghost use Rattle.sk_trace.specs.declared.event.Event.TheVariants as events;
@@ -105,21 +105,7 @@ impl Holder {
         ensures kernel { HandInPost result lease self.old.kernel self.new.kernel }
         ensures held { self.new.held ≡ self.old.held }
     {
-        match self.take_in(&lease) {
-            Ok(()) => {
-                lease.give_up();
-                Ok(())
-            }
-            Err(why) => Err((lease, why)),
-        }
-    }
-
-    /// The same of a lease that stays where it is.
-    pub fn take_in(&mut self, lease: &Lease) -> Result<(), HandIn>
-        ensures kernel { TakesIn result lease.now self.old.kernel self.new.kernel }
-        ensures held { self.new.held ≡ self.old.held }
-    {
-        self.kernel.take_in(lease)
+        self.kernel.hand_in(lease)
     }
 
     /// Draws the next guess and takes its step, as the kernel does, and keeps its token.

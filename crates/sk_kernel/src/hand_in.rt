@@ -64,8 +64,8 @@ impl Kernel {
         }
     }
 
-    /// The same of a lease that stays where it is: its instructions are steps of its process, or the kernel is as it was.
-    pub fn take_in(&mut self, lease: &Lease) -> Result<(), HandIn>
+    /// The instructions of a lease become steps of its process, or the kernel is as it was.
+    fn take_in(&mut self, lease: &Lease) -> Result<(), HandIn>
         ensures { TakesIn result lease.now self.old self.new }
     {
         if !self.as_lent(lease) {

@@ -1,5 +1,6 @@
 -- What no call of a desk changes.
 use Rattle.std.proofs.Common.{ℕ, ◌≡◌, inl, inr, length, Bool, true, false, cond, List, [], ◌∷◌, Option, Some, None, Result, Ok, Err, refl, sym, ap, ◌∙◌, subst}
+use Rattle.std.specs.Prelude.{IfErr}
 use Rattle.sk_plain.specs.declared.refusal.Refusal.{Refusal}
 use Rattle.sk_script.specs.declared.instruction.Input.{Input}
 use Rattle.sk_server.specs.declared.reply.Reply.{Reply}
@@ -17,13 +18,13 @@ use Rattle.sk_client.specs.declared.desk.Given.{Given}
 use Rattle.sk_client.specs.declared.desk.ReplyRefusal.{ReplyRefusal}
 use Rattle.sk_client.specs.Desk.{DeskView, rule, turned, given, given_to, decided, answered, stepped, is_void, input_of, entry, first_taken, requests_taken}
 use Rattle.sk_client.specs.DeskCalls.{TurnPost, ByRule, ReplyPost}
-use Rattle.sk_client.specs.Leasing.{DeskTakesIn}
+use Rattle.sk_client.specs.Leasing.{DeskTakesIn, DeskHandInPost}
 use Rattle.sk_workers.specs.declared.entry.DeskCall.{DeskCall}
 use Rattle.sk_workers.specs.declared.entry.DeskCall.TheVariants as calls
 use Rattle.sk_workers.specs.declared.entry.Answered.{Answered}
 use Rattle.sk_workers.specs.declared.entry.Answered.TheVariants.{Turned, Replied, HandedIn}
 use Rattle.sk_workers.specs.Views.{BookView, WorkerView}
-use Rattle.sk_workers.specs.History.{as_opened, HandsIn, CallPost, TakesInAdds, HandInAdds, TurnAdds, TakesAny, TurnTold, HandInTold, AnyTold, with_reply, without_reply}
+use Rattle.sk_workers.specs.History.{as_opened, HandsIn, CallPost, TakesInAdds, HandInAdds, TurnAdds, TakesAny, TurnTold, HandInTold, AnyTold, with_reply, without_reply, without_lease}
 
 -- the opening stays
 abbrev Keeps : DeskView → DeskView → Type 0
@@ -129,10 +130,22 @@ turn_told r b w pid b' w' (inl none) = inl (none.0, none.2)
 turn_told r b w pid b' w' (inr adds) = inr (adds.0.1, length b.history, requests_taken b.desk, adds.2)
 
 -- a lease that is refused comes back
-pub comes_back : (why : HandIn) (b : BookView) (w : WorkerView) (l : LeaseView) (b' : BookView) (w' : WorkerView)
-    → TakesInAdds (Err why) b w l b' w' → HandInAdds (Err (l, why)) b w l b' w'
-comes_back why b w l b' w' (inl none) = inl none
-comes_back why b w l b' w' (inr adds) = inr ((refl, adds.0), adds.1)
+pub without_back : (back : LeaseView × HandIn) (b : BookView) (w : WorkerView) (l : LeaseView) (b' : BookView) (w' : WorkerView)
+    → HandInAdds (Err back) b w l b' w' → TakesInAdds (Err back.1) b w l b' w'
+without_back back b w l b' w' (inl none) = inl none
+without_back back b w l b' w' (inr adds) = inr (adds.0.1, adds.1)
+
+pub desk_takes : (r : Result (Unit {0}) (LeaseView × HandIn)) (l : LeaseView) (d e : DeskView) → DeskHandInPost r l d e → DeskTakesIn (without_lease r) l d e
+desk_takes (Ok u) l d e post = post
+desk_takes (Err back) l d e post = post.1
+
+-- what comes back is what was given, and for want of memory all is as it was
+pub comes_back : (r : Result (Unit {0}) (LeaseView × HandIn)) (l : LeaseView) (d e : DeskView) → DeskHandInPost r l d e → IfErr r (λ back. back.0 ≡ l)
+comes_back (Ok u) l d e post = tt
+comes_back (Err back) l d e post = post.0
+
+pub short_back : (r : Result (Unit {0}) (LeaseView × HandIn)) (l : LeaseView) (d e : DeskView) → DeskHandInPost r l d e → without_lease r ≡ Err Memory → e ≡ d
+short_back r l d e post is = (subst (λ (x : Result (Unit {0}) HandIn). DeskTakesIn x l d e) is (desk_takes r l d e post)).3
 
 taken_told : (r : Result (Unit {0}) HandIn) (b : BookView) (w : WorkerView) (l : LeaseView) (b' : BookView) (w' : WorkerView)
     → TakesInAdds r b w l b' w' → HandInTold r w l w'

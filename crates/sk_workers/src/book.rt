@@ -5,7 +5,7 @@ ghost use Rattle.sk_plain.specs.Leased.{Lends};
 ghost use Rattle.sk_client.specs.Desk.{opened_at, first_sent, first_taken};
 ghost use Rattle.sk_client.specs.Leasing.{desk_lease, DeskHandInPost};
 ghost use Rattle.sk_workers.specs.declared.worker.TheConstants.{WORKERS_LIMIT};
-ghost use Rattle.sk_workers.specs.History.{CallPost, Adds, TurnAdds, TakesInAdds, HandInAdds, TakesAny, LendsAny, IsLeaseOf, AreFresh, IsLegal, receipt, without_reply};
+ghost use Rattle.sk_workers.specs.History.{CallPost, Adds, TurnAdds, HandInAdds, TakesAny, LendsAny, IsLeaseOf, AreFresh, IsLegal, receipt, without_reply, without_lease};
 ghost use Rattle.sk_workers.specs.Views.{BookView, WorkerView};
 
 use crate::entry::{Answered, DeskCall, HistoryEntry, Receipt};
@@ -177,7 +177,7 @@ impl<L: Ledger> Book<L> {
     /// Takes a lease in, for a worker, as the desk does. Where memory runs out, first of all for
     /// the entry and the receipt, the answer is `Memory` and nothing has changed; every other
     /// answer is entered. After a refusal the lease comes back.
-    #[tactic(auto, using(crate::proofs::Steps::comes_back))]
+    #[tactic(auto, using(crate::proofs::Steps::comes_back, crate::proofs::Steps::short_back))]
     pub fn hand_in(
         &mut self,
         worker: Worker<L>,
@@ -186,34 +186,21 @@ impl<L: Ledger> Book<L> {
         ensures back { IfErr result.1 (λ back. back.0 ≡ lease) }
         ensures entered { HandInAdds result.1 self.old worker lease self.new result.0 }
     {
-        let (worker, done) = self.take_in(worker, &lease);
-        match done {
-            Ok(()) => {
-                lease.give_up();
-                (worker, Ok(()))
-            }
-            Err(why) => (worker, Err((lease, why))),
-        }
-    }
-
-    /// The same of a lease that stays where it is.
-    fn take_in(&mut self, worker: Worker<L>, lease: &Lease) -> (Worker<L>, Result<(), HandIn>)
-        ensures { TakesInAdds result.1 self.old worker lease.now self.new result.0 }
-    {
         let mut worker = worker;
         if make_room(&mut self.history, &mut worker.receipts).is_err() {
-            return (worker, Err(HandIn::Memory));
+            return (worker, Err((lease, HandIn::Memory)));
         }
         let taken = self.desk.requests_taken();
-        let (call, again) = calls_with(lease);
-        let answer = self.desk.take_in(lease);
-        if is_short(&answer) {
+        let (call, again) = calls_with(&lease);
+        let answer = self.desk.hand_in(lease);
+        let told = told_of(&answer);
+        if is_short(&told) {
             return (worker, answer);
         }
         let entry = HistoryEntry {
             worker: worker.number,
             call,
-            answer: Answered::HandedIn(answer),
+            answer: Answered::HandedIn(told),
             taken,
         };
         enter(
@@ -227,7 +214,8 @@ impl<L: Ledger> Book<L> {
         (worker, answer)
     }
 
-    /// Takes in the lease in its place, if there is one, which is given up.
+    /// Takes in the lease in its place, if there is one, which is given up where it comes back.
+    #[tactic(auto, using(crate::proofs::Steps::without_back))]
     fn take_any(
         &mut self,
         worker: Worker<L>,
@@ -236,12 +224,16 @@ impl<L: Ledger> Book<L> {
         ensures taken { TakesAny result.1 self.old worker lease.old self.new result.0 }
         ensures none { lease.new ≡ None }
     {
-        let Some(lent) = lease else {
+        let Some(lent) = lease.take() else {
             return (worker, None);
         };
-        let (worker, done) = self.take_in(worker, lent);
-        give_up(lease);
-        (worker, Some(done))
+        match self.hand_in(worker, lent) {
+            (worker, Ok(())) => (worker, Some(Ok(()))),
+            (worker, Err((lent, why))) => {
+                lent.give_up();
+                (worker, Some(Err(why)))
+            }
+        }
     }
 
     /// Lends a process into an empty place, if one is asked for.
@@ -438,6 +430,16 @@ fn without_reply(given: &Result<Given, (Reply, ReplyRefusal)>) -> Result<Given, 
     }
 }
 
+/// What a hand-in is answered, without the lease that came back.
+fn told_of(answer: &Result<(), (Lease, HandIn)>) -> Result<(), HandIn>
+    ensures { result ≡ without_lease answer.now }
+{
+    match answer {
+        Ok(()) => Ok(()),
+        Err((_, why)) => Err(*why),
+    }
+}
+
 /// Whether a lease came back for want of memory.
 fn is_short(answer: &Result<(), HandIn>) -> bool
     ensures { IsTrue result ↔ (answer.now ≡ Err HandIn.Memory) }
@@ -457,15 +459,6 @@ fn lend(desk: &Desk, pid: Pid) -> Result<Lease, Refusal>
     }
     lease.give_up();
     Err(Refusal::Memory)
-}
-
-/// Gives up the lease in its place, if there is one.
-fn give_up(place: &mut Option<Lease>)
-    ensures { place.new ≡ None }
-{
-    if let Some(lease) = place.take() {
-        lease.give_up();
-    }
 }
 
 /// Puts a lease into its place; one that was there is given up.

@@ -9,7 +9,7 @@ use Rattle.sk_machine.proofs.Given.{from_ok, from_err}
 use Rattle.sk_kernel.specs.Kernel.{KernelView, room}
 use Rattle.sk_kernel.specs.HandIn.{IsAsLent, alone_step, with_steps}
 use Rattle.sk_kernel.specs.contracts.kernel.Kernel.{the_view}
-use Rattle.sk_kernel.proofs.Whole.{look_is, tidy, opens_rise, open_count}
+use Rattle.sk_kernel.proofs.Whole.{look_is, tidy, opens_rise}
 use Rattle.sk_kernel.proofs.HandedIn.{handed_whole, same_opens, fits_places}
 use Rattle.sk_kernel.proofs.Opened.{still_opened}
 use Rattle.sk_kernel.proofs.kernel.Kernel.do_steps.Goals as goal

@@ -9,15 +9,19 @@ use crate::Kernel;
 use sk_ids::Pid;
 use sk_plain::{Event, KeptInput, Refusal, Trace, is_as_lent, lease_of};
 use sk_script::Lease;
+use thiserror::Error;
 
 /// Why a lease came back, in the order in which the causes are tried; nothing has changed.
-#[derive(Clone, Copy, Debug, PartialEq, Eq)]
+#[derive(Clone, Copy, Debug, PartialEq, Eq, Error)]
 pub enum HandIn {
     /// The process or its script is not as it was lent, or a signal is due.
+    #[error("the process or its script is not as it was lent, or a signal is due")]
     Stale,
     /// The trace has fewer places left than instructions were done.
+    #[error("the trace is full")]
     TraceFull,
     /// A growth was refused.
+    #[error("out of memory")]
     Memory,
 }
 

@@ -35,6 +35,7 @@ use sk_terminal::{Terminal, Texts};
 use std::alloc::{AllocError, Global};
 use std::marker::Model;
 use std::mem;
+use thiserror::Error;
 
 /// What a decision came to.
 #[derive(Clone, Copy, Debug, PartialEq, Eq)]
@@ -84,10 +85,12 @@ impl Model for Kernel {
 }
 
 /// Why no epoch was begun; nothing has changed.
-#[derive(Clone, Copy, Debug, PartialEq, Eq)]
+#[derive(Clone, Copy, Debug, PartialEq, Eq, Error)]
 pub enum EpochRefusal {
     /// So many guesses are undecided.
+    #[error("{0} guesses are undecided")]
     Undecided(usize),
+    #[error("out of memory")]
     Memory,
 }
 

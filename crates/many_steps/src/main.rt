@@ -1,0 +1,201 @@
+//! A kernel over own keys that takes as many steps under as many guesses as it is asked for.
+#![tactic(auto)]
+
+ghost use Rattle.std.specs.Prelude.{◌≡◌, IfOk};
+ghost use Rattle.sk_record.specs.UndoState.{numbers};
+ghost use Rattle.many_steps.specs.Own.{IsOwn};
+
+use sk_guesses::Guess;
+use sk_speculator::{Refusal, Speculator, Step};
+use std::alloc::{AllocError, AllocFailed, Global};
+use std::env;
+use thiserror::Error;
+
+/// How many channels are written to.
+const CHANNELS: u64 = 3;
+
+/// Why a run stops.
+#[derive(Debug, Drop, Error)]
+enum RunStop {
+    #[error("out of memory")]
+    Memory,
+    #[error("a guess is refused: {0}")]
+    Guess(#[from] Refusal),
+}
+
+impl From<AllocError> for RunStop {
+    fn from(_: AllocError) -> RunStop {
+        RunStop::Memory
+    }
+}
+
+impl<T: Drop> From<AllocFailed<T>> for RunStop {
+    fn from(_: AllocFailed<T>) -> RunStop {
+        RunStop::Memory
+    }
+}
+
+/// What is asked for.
+#[derive(Clone, Copy, Debug)]
+struct StepPlan {
+    guesses: u64,
+    /// How many steps each guess has before it is decided.
+    steps: u64,
+    /// How many keys there are.
+    keys: u16,
+}
+
+/// A number that a number leads to.
+fn next(number: u64) -> u64 {
+    number
+        .wrapping_mul(6_364_136_223_846_793_005)
+        .wrapping_add(1_442_695_040_888_963_407)
+}
+
+/// Some of the keys.
+fn key_of(number: u64, keys: u16) -> u16 {
+    let key = (number >> 48) as u16;
+    if keys == 0 { key } else { key % keys }
+}
+
+/// Puts the step of a number into its buffers: it looks at one key, writes it and another, which it makes absent now and then,
+/// and may say something.
+fn fill(
+    kernel: &Speculator<u16, u64, u64>,
+    step: &mut Step<u16, u64, u64>,
+    number: u64,
+    keys: u16,
+) -> Result<(), AllocError> {
+    let own_number = next(number);
+    let other_number = next(own_number);
+    let own = key_of(own_number, keys);
+    let has = kernel.value(&own).copied().unwrap_or(0);
+    step.looked.push(own)?;
+    step.written.push((own, Some(has.wrapping_add(number))))?;
+    let value = if other_number % 8 < 2 {
+        None
+    } else {
+        Some(number)
+    };
+    step.written.push((key_of(other_number, keys), value))?;
+    step.said = if number % 4 == 0 {
+        Some(((number % CHANNELS) as u16, number))
+    } else {
+        None
+    };
+    Ok(())
+}
+
+/// Decides a guess of this kernel, which is undecided.
+fn decide(kernel: &mut Speculator<u16, u64, u64>, guess: Guess, is_right: bool)
+    requires { IsOwn kernel.old guess }
+{
+    if is_right {
+        match kernel.commit(guess) {
+            Ok(_committed) => {}
+            Err(_stranger) => unreachable!(),
+        }
+    } else {
+        match kernel.fail(guess) {
+            Ok(_failed) => {}
+            Err(_stranger) => unreachable!(),
+        }
+    }
+}
+
+/// So many steps, by these numbers from a first one on. No guess is drawn or decided.
+fn take_all(
+    kernel: &mut Speculator<u16, u64, u64>,
+    step: &mut Step<u16, u64, u64>,
+    first: u64,
+    plan: StepPlan,
+) -> Result<(), RunStop>
+    ensures guesses { kernel.new.guesses ≡ kernel.old.guesses }
+    ensures opens { numbers kernel.new.opens ≡ numbers kernel.old.opens }
+{
+    for turn in 0..plan.steps {
+        fill(kernel, step, first.wrapping_add(turn), plan.keys)?;
+        kernel.take(step)?;
+    }
+    Ok(())
+}
+
+/// Draws a guess with a step.
+fn guess(
+    kernel: &mut Speculator<u16, u64, u64>,
+    step: &mut Step<u16, u64, u64>,
+    number: u64,
+    keys: u16,
+) -> Result<Guess, RunStop>
+    ensures { IfOk result (λ guess. IsOwn kernel.new guess) }
+{
+    fill(kernel, step, number, keys)?;
+    Ok(kernel.guess(step)?)
+}
+
+/// A guess with its steps and its decision. A token can't be let go, so that it is spent before any `?`.
+fn round(
+    kernel: &mut Speculator<u16, u64, u64>,
+    step: &mut Step<u16, u64, u64>,
+    first: u64,
+    plan: StepPlan,
+    is_right: bool,
+) -> Result<(), RunStop> {
+    let token = guess(kernel, step, first, plan.keys)?;
+    let went = take_all(kernel, step, first.wrapping_add(1), plan);
+    decide(kernel, token, is_right);
+    went
+}
+
+/// Takes out what has come out: how many outputs these are.
+fn take_out(kernel: &mut Speculator<u16, u64, u64>, most: u64) -> u64 {
+    let mut count = 0u64;
+    for turn in 0..most {
+        if kernel.released((turn % CHANNELS) as u16).is_some() {
+            count = count.wrapping_add(1);
+        }
+    }
+    count
+}
+
+/// All of it: how many outputs came out.
+fn run(
+    kernel: &mut Speculator<u16, u64, u64>,
+    alloc: Global,
+    plan: StepPlan,
+) -> Result<u64, RunStop> {
+    let mut step = Step::new(alloc);
+    let mut told = 0u64;
+    for turn in 0..plan.guesses {
+        let first = turn.wrapping_mul(plan.steps.wrapping_add(1));
+        round(kernel, &mut step, first, plan, turn % 2 == 0)?;
+        told = told.wrapping_add(take_out(kernel, plan.steps.saturating_add(3)));
+    }
+    Ok(told)
+}
+
+/// The number that a word says; 0 where there is no word.
+fn number(word: Option<&String>) -> anyhow::Result<u64> {
+    match word {
+        Some(word) => Ok(word.parse::<u64>()?),
+        None => Ok(0),
+    }
+}
+
+/// The plan that three words of the command line say.
+fn read_plan(rt: &HostRuntime) -> anyhow::Result<StepPlan> {
+    let words = env::args(rt)?.collect::<Vec<String>>(rt.alloc())?;
+    Ok(StepPlan {
+        guesses: number(words.get(1))?,
+        steps: number(words.get(2))?,
+        keys: u16::try_from(number(words.get(3))?)?,
+    })
+}
+
+fn main(rt: HostRuntime) -> anyhow::Result<()> {
+    let plan = read_plan(&rt)?;
+    let mut kernel = Speculator::new(rt.alloc(), 1, 64);
+    let told = run(&mut kernel, rt.alloc(), plan)?;
+    println!(rt; "guesses {}, outputs {told}", plan.guesses)?;
+    Ok(())
+}

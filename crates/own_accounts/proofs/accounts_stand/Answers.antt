@@ -1,0 +1,7 @@
+-- The law at the step function of accounts.
+use Rattle.sk_speculator.proofs.Law.{runs_whole}
+use Rattle.own_accounts.specs.Accounts.{accounts}
+use Rattle.own_accounts.proofs.accounts_stand.Goals as goal
+
+pub returns : goal.returns
+returns c = runs_whole accounts

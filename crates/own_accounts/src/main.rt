@@ -1,0 +1,141 @@
+//! Accounts over a kernel of own keys: a transfer goes on a guess, another rests on it, and the guess is decided.
+#![tactic(auto)]
+
+ghost use Rattle.std.specs.Prelude.{◌≡◌, IfOk, OnOk};
+ghost use Rattle.sk_record.specs.UndoState.{numbers};
+ghost use Rattle.sk_slots.specs.Slots.{look_at};
+ghost use Rattle.sk_speculator.specs.Law.{OwnRunsAsPlain};
+ghost use Rattle.sk_speculator.specs.Parts.{deed};
+ghost use Rattle.std.specs.Ordering.{nat_cmp};
+ghost use Rattle.own_accounts.specs.Accounts.{accounts, balance, IsHonest};
+ghost use Rattle.own_accounts.specs.Own.{IsOwn};
+
+mod order;
+
+use order::{Order, Refused};
+use sk_guesses::Guess;
+use sk_speculator::{Speculator, Step};
+use std::alloc::Global;
+
+/// How many orders are taken at most.
+const BOOKED: u8 = 3;
+
+/// After any orders, guesses, commits, failures and takings of output, each account has what it has after a plain run of the
+/// orders that depend on no failed guess, and so do the outputs. This is the law at our own step function: it holds since
+/// what `carry_out` hands in is what an order does.
+pub fn accounts_stand()
+    ensures { OwnRunsAsPlain accounts }
+{}
+
+/// What an account has.
+fn balance(bank: &Speculator<u16, u64, u64>, account: u16) -> u64
+    ensures { result ≡ balance (look_at nat_cmp bank.now.slots account) }
+{
+    match bank.value(&account) {
+        Some(amount) => *amount,
+        None => 0,
+    }
+}
+
+/// The step of an order, on what is there.
+fn carry_out(
+    bank: &Speculator<u16, u64, u64>,
+    alloc: Global,
+    order: Order,
+) -> Result<Step<u16, u64, u64>, Refused>
+    ensures { IfOk result
+        (λ step. IsHonest bank.now.slots order
+        (deed step.looked.items step.written.items step.said)) }
+{
+    let mut step = Step::new(alloc);
+    let (account, amount) = match order {
+        Order::Deposit(account, amount) => (account, amount),
+        Order::Transfer(sender, receiver, amount) => {
+            if sender == receiver {
+                return Err(Refused::Short);
+            }
+            let Some(left) = balance(bank, sender).checked_sub(amount) else {
+                return Err(Refused::Short);
+            };
+            step.looked.push(sender)?;
+            step.written.push((sender, Some(left)))?;
+            (receiver, amount)
+        }
+    };
+    let Some(sum) = balance(bank, account).checked_add(amount) else {
+        return Err(Refused::Full);
+    };
+    step.looked.push(account)?;
+    step.written.push((account, Some(sum)))?;
+    step.said = Some((0, amount));
+    Ok(step)
+}
+
+/// Takes an order, which rests on whatever its accounts rest on. No guess is drawn or decided.
+fn take(bank: &mut Speculator<u16, u64, u64>, alloc: Global, order: Order) -> Result<(), Refused>
+    ensures guesses { bank.new.guesses ≡ bank.old.guesses }
+    ensures opens { numbers bank.new.opens ≡ numbers bank.old.opens }
+{
+    let mut step = carry_out(bank, alloc, order)?;
+    bank.take(&mut step)?;
+    Ok(())
+}
+
+/// Takes an order that may turn out wrong, on a guess. All that rests on it can be taken back.
+fn guess(
+    bank: &mut Speculator<u16, u64, u64>,
+    alloc: Global,
+    order: Order,
+) -> Result<Guess, Refused>
+    ensures { IfOk result (λ guess. IsOwn bank.new guess) }
+{
+    let mut step = carry_out(bank, alloc, order)?;
+    Ok(bank.guess(&mut step)?)
+}
+
+/// Decides a guess of these accounts. It can't come back as a stranger.
+fn decide(bank: &mut Speculator<u16, u64, u64>, guess: Guess, is_right: bool)
+    requires { IsOwn bank.old guess }
+{
+    if is_right {
+        match bank.commit(guess) {
+            Ok(_committed) => {}
+            Err(_stranger) => unreachable!(),
+        }
+    } else {
+        match bank.fail(guess) {
+            Ok(_failed) => {}
+            Err(_stranger) => unreachable!(),
+        }
+    }
+}
+
+/// A transfer on a guess, and one that rests on it; then the guess is decided. A token can't be let go, so that it is spent
+/// before any `?`.
+fn go_on(
+    bank: &mut Speculator<u16, u64, u64>,
+    alloc: Global,
+    is_right: bool,
+) -> Result<(), Refused> {
+    let token = guess(bank, alloc, Order::Transfer(1, 2, 30))?;
+    let taken = take(bank, alloc, Order::Transfer(2, 3, 10));
+    decide(bank, token, is_right);
+    taken
+}
+
+fn main(rt: HostRuntime) -> anyhow::Result<()> {
+    for is_right in [true, false] {
+        let mut bank = Speculator::new(rt.alloc(), 1, 8);
+        take(&mut bank, rt.alloc(), Order::Deposit(1, 100))?;
+        let went = go_on(&mut bank, rt.alloc(), is_right);
+        went?;
+        for _ in 0..BOOKED {
+            if let Some(amount) = bank.released(0) {
+                println!(rt; "booked: {amount}")?;
+            }
+        }
+        let (one, two, three) = (balance(&bank, 1), balance(&bank, 2), balance(&bank, 3));
+        println!(rt; "accounts: {one} {two} {three}")?;
+    }
+    Ok(())
+}

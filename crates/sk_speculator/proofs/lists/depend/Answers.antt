@@ -10,7 +10,7 @@ pub returns-then-covers-clause-ok : goal.returns-then-covers-clause-ok
 returns-then-covers-clause-ok g c =
     let total = subst IsTotalOrder g.met.K.Key.same g.met.K.Ord.total in
     let exact = subst IsAntisymmetric g.met.K.Key.same g.met.K.Key.exact in
-    depends_none total exact c.args.own.now c.args.tags.now c.args.key.now c.args.guesses.now.opens (c.covers.ensures c.if-covers.true)
+    depends_none total exact c.args.own.now c.args.tags.now c.args.key.now c.args.guesses.now.opens (c.covers.ensures.0 c.if-covers.true)
 
 pub returns-clause-ok : goal.returns-clause-ok
 returns-clause-ok g c =

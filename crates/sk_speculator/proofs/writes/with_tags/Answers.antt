@@ -13,4 +13,4 @@ covered a b h g =
     ] refl
 
 pub returns-then-covers : goal.returns-then-covers
-returns-then-covers c = covered c.args.all c.args.more.now (c.covers.ensures c.if-covers.true)
+returns-then-covers c = covered c.args.all c.args.more.now (c.covers.ensures.0 c.if-covers.true)

@@ -72,7 +72,7 @@ pub fn happen_told<W: Write>(
     ensures { MatchResult result
         (λ written. (t : WorldTold) × Happens (Some t) world.old event.now world.new
         × OnOk written (Appends (W.contents out.old) (W.contents out.new) (told_line number t)))
-        (λ _. Happens None world.old event.now world.new) }
+        (λ _. Happens None world.old event.now world.new × (out.new ≡ out.old)) }
 {
     match world.advance(event) {
         Ok(WorldNews::Turn(turn)) => Ok(write_turn(number, &turn, out)),
@@ -105,7 +105,7 @@ fn write_cause<W: Write>(
     ensures { MatchResult result
         (λ written. (t : WorldTold) × (cause_told cause ≡ Some t)
         × OnOk written (Appends (W.contents out.old) (W.contents out.new) (told_line number t)))
-        (λ _. cause_told cause ≡ None) }
+        (λ _. (cause_told cause ≡ None) × (out.new ≡ out.old)) }
 {
     let told = told_of_cause(cause)?;
     Ok(write_told(number, &told, out))

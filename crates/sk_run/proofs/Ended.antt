@@ -1,5 +1,5 @@
 -- What was done, once the buffer is written out.
-use Rattle.std.proofs.Common.{◌≡◌, inl, inr, ℕ, List, [], length, Option, Result, Ok, Err, sym, subst}
+use Rattle.std.proofs.Common.{◌≡◌, inl, inr, ℕ, List, [], length, Option, Result, Ok, Err, refl, sym, subst}
 use Rattle.std.specs.Prelude.{OnOk}
 use Rattle.std.specs.Io.KnownBytes.{Appends}
 use Rattle.std.proofs.KnownBytes.{Appends-kept, Keeps-refl}
@@ -29,29 +29,34 @@ use Rattle.sk_play.specs.Worlds.{declared_world, WorldReported}
 use Rattle.sk_run.specs.Listing.{beside}
 use Rattle.sk_run.specs.Plainly.{happened, left_by, trace_fault_end, HasRun, HasSoundTrace}
 use Rattle.sk_run.specs.Replayed.{EndsReplayed}
-use Rattle.sk_run.specs.Run.{IsPlayed, IsWorldPlayed, EndsReport, EndsPlain, EndsPlayed, EndsWorld}
+use Rattle.sk_run.specs.Run.{IsPlayed, IsWorldPlayed, EndsReport, EndsPlain, EndsPlayed, EndsWorld, HasAnswered, HasHappened}
+use Rattle.sk_run.proofs.Begun.{answered_kept, happened_kept}
 
 -- steps that were played
 pub played_out : (shows : Shows) (d : Declared) (steps : List Call) (written : Result (Unit {0}) Stop) (end : End) (buffer : List ℕ) (old mid new : Option (List ℕ))
-    → OnOk written (Reported (beside shows.steps) (IsPlayed shows) steps [] (declared_kernel d) old mid) → EndsReport written end buffer mid new → EndsPlayed shows d steps end old new
-played_out shows d steps (Ok u) ends.Done buffer old mid new played ended = reported_kept (beside shows.steps) (IsPlayed shows) steps [] (declared_kernel d) old mid new played ended.1
-played_out shows d steps (Ok u) ends.Fault buffer old mid new played ended = ended.0
-played_out shows d steps (Ok u) ends.Usage buffer old mid new played ended = ended.0
-played_out shows d steps (Ok u) ends.Trouble buffer old mid new played ended = tt
-played_out shows d steps (Ok u) ends.OutputRefused buffer old mid new played ended = tt
-played_out shows d steps (Err stops.Memory) end buffer old mid new played ended = subst (λ x. EndsPlayed shows d steps x old new) (sym ended) tt
-played_out shows d steps (Err stops.Output) end buffer old mid new played ended = subst (λ x. EndsPlayed shows d steps x old new) (sym ended) tt
+    → OnOk written (Reported (beside shows.steps) (IsPlayed shows) steps [] (declared_kernel d) old mid)
+    → (written ≡ Err stops.Memory → HasAnswered shows.steps steps [] (declared_kernel d) old mid) → EndsReport written end buffer mid new → EndsPlayed shows d steps end old new
+played_out shows d steps (Ok u) ends.Done buffer old mid new played memory ended = reported_kept (beside shows.steps) (IsPlayed shows) steps [] (declared_kernel d) old mid new played ended.1
+played_out shows d steps (Ok u) ends.Fault buffer old mid new played memory ended = ended.0
+played_out shows d steps (Ok u) ends.Usage buffer old mid new played memory ended = ended.0
+played_out shows d steps (Ok u) ends.Trouble buffer old mid new played memory ended = absurd ended.0
+played_out shows d steps (Ok u) ends.OutputRefused buffer old mid new played memory ended = tt
+played_out shows d steps (Err stops.Memory) end buffer old mid new played memory ended =
+    subst (λ x. EndsPlayed shows d steps x old new) (sym ended.0) (answered_kept shows.steps steps [] (declared_kernel d) old mid new (memory refl) ended.1)
+played_out shows d steps (Err stops.Output) end buffer old mid new played memory ended = subst (λ x. EndsPlayed shows d steps x old new) (sym ended) tt
 
 -- the events of a world
 pub world_out : (shows : Shows) (d : Declared) (es : List WorldEvent) (written : Result (Unit {0}) Stop) (end : End) (buffer : List ℕ) (old mid new : Option (List ℕ))
-    → OnOk written (WorldReported (beside shows.steps) (IsWorldPlayed shows) es (declared_world d) old mid) → EndsReport written end buffer mid new → EndsWorld shows d es end old new
-world_out shows d es (Ok u) ends.Done buffer old mid new played ended = world_reported_kept (beside shows.steps) (IsWorldPlayed shows) es (declared_world d) old mid new played ended.1
-world_out shows d es (Ok u) ends.Fault buffer old mid new played ended = ended.0
-world_out shows d es (Ok u) ends.Usage buffer old mid new played ended = ended.0
-world_out shows d es (Ok u) ends.Trouble buffer old mid new played ended = tt
-world_out shows d es (Ok u) ends.OutputRefused buffer old mid new played ended = tt
-world_out shows d es (Err stops.Memory) end buffer old mid new played ended = subst (λ x. EndsWorld shows d es x old new) (sym ended) tt
-world_out shows d es (Err stops.Output) end buffer old mid new played ended = subst (λ x. EndsWorld shows d es x old new) (sym ended) tt
+    → OnOk written (WorldReported (beside shows.steps) (IsWorldPlayed shows) es (declared_world d) old mid)
+    → (written ≡ Err stops.Memory → HasHappened shows.steps es (declared_world d) old mid) → EndsReport written end buffer mid new → EndsWorld shows d es end old new
+world_out shows d es (Ok u) ends.Done buffer old mid new played memory ended = world_reported_kept (beside shows.steps) (IsWorldPlayed shows) es (declared_world d) old mid new played ended.1
+world_out shows d es (Ok u) ends.Fault buffer old mid new played memory ended = ended.0
+world_out shows d es (Ok u) ends.Usage buffer old mid new played memory ended = ended.0
+world_out shows d es (Ok u) ends.Trouble buffer old mid new played memory ended = absurd ended.0
+world_out shows d es (Ok u) ends.OutputRefused buffer old mid new played memory ended = tt
+world_out shows d es (Err stops.Memory) end buffer old mid new played memory ended =
+    subst (λ x. EndsWorld shows d es x old new) (sym ended.0) (happened_kept shows.steps es (declared_world d) old mid new (memory refl) ended.1)
+world_out shows d es (Err stops.Output) end buffer old mid new played memory ended = subst (λ x. EndsWorld shows d es x old new) (sym ended) tt
 
 -- a trace of which all that it leaves was run
 pub plain_out : (boot : BootView) (es : List Event) (k : PlainView) (steps : ℕ) (written : Result (Unit {0}) Stop) (end : End) (buffer : List ℕ) (old mid new : Option (List ℕ))
@@ -67,7 +72,7 @@ plain_out boot es k steps (Ok u) ends.Fault buffer old mid new sound run counted
 plain_out boot es k steps (Ok u) ends.Usage buffer old mid new sound run counted report ended = ended.0
 plain_out boot es k steps (Ok u) ends.Trouble buffer old mid new sound run counted report ended = inl sound
 plain_out boot es k steps (Ok u) ends.OutputRefused buffer old mid new sound run counted report ended = sound
-plain_out boot es k steps (Err stops.Memory) end buffer old mid new sound run counted report ended = subst (λ x. EndsPlain boot es x old new) (sym ended) (inl sound)
+plain_out boot es k steps (Err stops.Memory) end buffer old mid new sound run counted report ended = subst (λ x. EndsPlain boot es x old new) (sym ended.0) (inl sound)
 plain_out boot es k steps (Err stops.Output) end buffer old mid new sound run counted report ended = subst (λ x. EndsPlain boot es x old new) (sym ended) sound
 
 -- a trace with a fault
@@ -94,5 +99,5 @@ replayed_out held k es left last (Ok u) ends.Fault buffer old mid new again is r
 replayed_out held k es left last (Ok u) ends.Usage buffer old mid new again is report ended = ended.0
 replayed_out held k es left last (Ok u) ends.Trouble buffer old mid new again is report ended = inl (left, last, again)
 replayed_out held k es left last (Ok u) ends.OutputRefused buffer old mid new again is report ended = (left, last, again)
-replayed_out held k es left last (Err stops.Memory) end buffer old mid new again is report ended = subst (λ x. EndsReplayed held k es x old new) (sym ended) (inl (left, last, again))
+replayed_out held k es left last (Err stops.Memory) end buffer old mid new again is report ended = subst (λ x. EndsReplayed held k es x old new) (sym ended.0) (inl (left, last, again))
 replayed_out held k es left last (Err stops.Output) end buffer old mid new again is report ended = subst (λ x. EndsReplayed held k es x old new) (sym ended) (left, last, again)

@@ -1,3 +1,4 @@
+mod Begun
 mod Ended
 pub mod Talked
 mod Plainly

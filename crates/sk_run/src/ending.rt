@@ -16,7 +16,7 @@ pub fn ended<W: Write + Drop>(written: Result<(), Stop>, out: &mut BufWriter<W>)
     match written {
         Ok(()) => flushed(out),
         Err(Stop::Memory) => {
-            let _ = out.flush();
+            let _ = flushed(out);
             End::Trouble
         }
         Err(Stop::Output) => End::OutputRefused,

@@ -10,8 +10,8 @@ use Rattle.sk_run.specs.Listing.{foreseen, foreseen_lines}
 use Rattle.sk_run.proofs.Listed.{lines_are}
 use Rattle.sk_run.proofs.playing.list_one.Goals as goal
 
-pub returns : goal.returns
-returns g c =
+pub returns-clause-told : goal.returns-clause-told
+returns-clause-told g c =
     let old = c.args.session.now.holder in
     let new = c.execute.new.self.holder.kernel in
     let step = c.args.step.now in

@@ -5,8 +5,8 @@ use Rattle.std.proofs.lemmas.List.{append-nil}
 use Rattle.sk_play.specs.Played.{answer_line}
 use Rattle.sk_run.proofs.playing.take_one.Goals as goal
 
-pub returns : goal.returns
-returns g c =
+pub returns-clause-told : goal.returns-clause-told
+returns-clause-told g c =
     let a = c.in_ok-answer.answer in (
       a,
       c.in_ok-answer.ensures.told,

@@ -11,8 +11,8 @@ use Rattle.sk_run.specs.Listing.{foreseen, foreseen_lines}
 use Rattle.sk_run.proofs.Listed.{lines_are}
 use Rattle.sk_run.proofs.worlds.list_event.Goals as goal
 
-pub returns : goal.returns
-returns g c =
+pub returns-clause-told : goal.returns-clause-told
+returns-clause-told g c =
     let old = c.args.world.now in
     let new = c.happen.new.world in
     let event = c.args.event.now in

@@ -6,8 +6,8 @@ use Rattle.std.proofs.lemmas.List.{append-nil}
 use Rattle.sk_play.specs.Told.{told_line}
 use Rattle.sk_run.proofs.worlds.take_event.Goals as goal
 
-pub returns : goal.returns
-returns g c =
+pub returns-clause-told : goal.returns-clause-told
+returns-clause-told g c =
     let told = c.in_ok-written.ensures in
     let old = g.W.Write.contents c.args.out.now in
     let new = g.W.Write.contents c.happen_told.new.out in

@@ -1,5 +1,5 @@
 #!/usr/bin/env python3
-"""Writes docs/API.md: the public items of the crates behind `hidewillow` and of those for threads, with their contracts.
+"""Writes docs/API.md: the public items of the crates behind `hidewillow`, for threads and for own state, with their contracts.
 
     tools/api.py            the page
     tools/api.py --write    puts it into docs/API.md
@@ -113,9 +113,10 @@ def passed_on():
 
 
 def listed():
-    """The crates of the page: those that `hidewillow` passes on, highest first, and then those for threads."""
+    """The crates of the page: those that `hidewillow` passes on, highest first, and then those for threads and for own state."""
     passed = passed_on()
-    return [it for it in reversed(crates()) if it in passed] + ["sk_crew", "sk_workers", "sk_wire"]
+    beside = ["sk_crew", "sk_workers", "sk_wire", "sk_speculator", "sk_outputs", "sk_slots", "sk_deeds"]
+    return [it for it in reversed(crates()) if it in passed] + beside
 
 
 def cited_by(index, crate, names):

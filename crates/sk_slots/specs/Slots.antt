@@ -13,6 +13,7 @@ module _ {V : Type 0} where
   slot_in None = record { value = None; log = []; ready = None }
   slot_in (Some s) = s
 
+  -- a slot is there, and prepared for a note with these tags
   abbrev pub HasPrepared : List ℕ → Option (SlotView V) → Type 0
   HasPrepared tags None = ⊥
   HasPrepared tags (Some s) = IsPrepared tags s
@@ -22,9 +23,11 @@ module _ {K V : Type 0} (R : K → K → Ordering) where
   abbrev pub found : List (K × SlotView V) → K → Option (SlotView V)
   found m k = get (seen R m) k
 
+  -- the slot of a key, or that of one that is absent
   abbrev pub slot_at : List (K × SlotView V) → K → SlotView V
   slot_at m k = slot_in (found m k)
 
+  -- what a key has
   abbrev pub look_at : List (K × SlotView V) → K → Option V
   look_at m k = (slot_at m k).value
 

@@ -40,6 +40,7 @@ parts_code {K} {V} {O} k v o =
     (λ m. (m.slots, (m.guesses, (m.opens, m.said)))) (λ p. record { slots = p.0; guesses = p.1.0; opens = p.1.1.0; said = p.1.1.1 }) (λ _. refl)
 
 module _ {K V O : Type 0} (R : K → K → Ordering) where
+  -- what keys have, with their notes and the undecided guesses
   abbrev pub undo_state_of : Parts K V O → UndoState K V
   undo_state_of m = record { look = look_at R m.slots; logs = log_at R m.slots; opens = m.opens }
 

@@ -1,5 +1,5 @@
 -- What the work of a crew comes to.
-use Rattle.std.specs.Prelude.{◌≡◌, ◌⊎◌, ℕ, List, [], ◌++◌, length, Option}
+use Rattle.std.specs.Prelude.{◌≡◌, ℕ, List, [], ◌++◌, length, Option}
 use Rattle.std.specs.Io.KnownBytes.{Appends, Keeps}
 use Rattle.sk_server.specs.Server.{ServerView}
 use Rattle.sk_client.specs.Desk.{DeskView, opened, pending}
@@ -26,15 +26,29 @@ IsWorked workers d old new =
     (calls : ℕ) × (desk : DeskView) × (server : ServerView)
     × CanLeave workers d calls desk × Appends old new (desk_report_text desk server ++ workers_line workers calls)
 
--- a crew of so many workers left a desk
-abbrev pub HasWorked : ℕ → Declared → Type 0
-HasWorked workers d = (calls : ℕ) × (desk : DeskView) × CanLeave workers d calls desk
+-- known bytes grow by a beginning of a text
+abbrev pub AppendsFront : Option (List ℕ) → Option (List ℕ) → List ℕ → Type 0
+AppendsFront old new text = (front : List ℕ) × (rest : List ℕ) × (text ≡ front ++ rest) × Appends old new front
 
--- where the run ends well, the workers' calls were made; else memory ran out, the desk could not be closed or a write was refused. Nothing is on
--- the output where the crew left no desk
+-- so many workers left a desk, and the output has a beginning of what `IsWorked` has
+abbrev pub HasBegun : ℕ → Declared → Option (List ℕ) → Option (List ℕ) → Type 0
+HasBegun workers d old new =
+    (calls : ℕ) × (desk : DeskView) × (server : ServerView)
+    × CanLeave workers d calls desk × AppendsFront old new (desk_report_text desk server ++ workers_line workers calls)
+
+-- a text was written out; where a write was refused, a beginning of it, and where memory ran out, nothing
+abbrev pub IsTold : List ℕ → End → Option (List ℕ) → Option (List ℕ) → Type 0
+IsTold text ends.Done old new = Appends old new text
+IsTold text ends.Fault old new = ⊥
+IsTold text ends.Usage old new = ⊥
+IsTold text ends.Trouble old new = Keeps old new
+IsTold text ends.OutputRefused old new = AppendsFront old new text
+
+-- where the run ends well, the workers' calls were made; where memory ran out or the desk could not be closed, nothing was written; and where a
+-- write was refused, a beginning of the report of a desk that such workers left
 abbrev pub EndsWork : ℕ → Declared → End → Option (List ℕ) → Option (List ℕ) → Type 0
 EndsWork workers d ends.Done old new = IsWorked workers d old new
 EndsWork workers d ends.Fault old new = ⊥
 EndsWork workers d ends.Usage old new = ⊥
-EndsWork workers d ends.Trouble old new = HasWorked workers d ⊎ Keeps old new
-EndsWork workers d ends.OutputRefused old new = HasWorked workers d
+EndsWork workers d ends.Trouble old new = Keeps old new
+EndsWork workers d ends.OutputRefused old new = HasBegun workers d old new

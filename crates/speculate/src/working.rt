@@ -1,23 +1,22 @@
 //! Work: a crew takes turns of the processes that a scenario declares.
-ghost use Rattle.std.specs.Prelude.{◌++◌, IfSome, OnOk};
+ghost use Rattle.std.specs.Prelude.{◌≡◌, ◌++◌, IfOk, IfSome, OnErr, OnOk};
 ghost use Rattle.std.specs.Int.{IsInRange};
 ghost use Rattle.std.specs.Io.KnownBytes.{Appends};
 ghost use Rattle.std.specs.Io.Buffered.{writer_buffer, writer_contents};
 ghost use Rattle.sk_command.specs.Ends.{IsFlushed};
 ghost use Rattle.sk_report.specs.Report.{desk_report_text, workers_line};
-ghost use Rattle.speculate.specs.Work.{CanLeave, EndsWork};
+ghost use Rattle.speculate.specs.Work.{AppendsFront, CanLeave, EndsWork, IsTold};
 
 use sk_client::Desk;
-use sk_command::end::End;
+use sk_command::end::{End, flushed};
 use sk_crew::{CrewPlan, run_crew};
 use sk_play::desk_of;
 use sk_report::{Stop, write_desk_report, write_workers};
-use sk_run::ending::ended;
 use sk_scenario::Declarations;
 use sk_server::Server;
 use sk_workers::{Gate, History};
 use std::alloc::Global;
-use std::io::{BufWriter, Write};
+use std::io::{BufWriter, ErrorKind, Write};
 use std::marker::Brand;
 use std::sync::Wait;
 use std::sync::ledger::Blank;
@@ -52,14 +51,7 @@ pub(crate) fn run_work<R: Threads + Wait + Sync, W: Write + Drop, G: Gate + Sync
     let Some(worked) = work(rt, alloc, workers, turns, declarations, gate) else {
         return End::Trouble;
     };
-    let Worked {
-        desk,
-        server,
-        calls,
-    } = worked;
-    let written = write_worked(alloc, workers, &desk, &server, calls, out);
-    desk.abandon();
-    ended(written, out)
+    tell_worked(alloc, workers, worked, out)
 }
 
 /// Lets a crew work that has a ledger of its own: each worker has a thread of its own and passes the gate before its turns,
@@ -97,19 +89,80 @@ fn work<R: Threads + Wait + Sync, G: Gate + Sync>(
     })
 }
 
-/// Writes the report of a desk and a server, and the line of workers.
-fn write_worked<W: Write>(
+/// Writes out the report of what a crew left, and the line of workers; nothing of them where memory runs out.
+fn tell_worked<W: Write + Drop>(
+    alloc: Global,
+    workers: u8,
+    worked: Worked,
+    out: &mut BufWriter<W>,
+) -> End
+    ensures end { IsTold
+        (desk_report_text worked.desk worked.server ++ workers_line workers worked.calls) result
+        (writer_contents W.contents out.old) (writer_contents W.contents out.new) }
+    ensures flushed { IsFlushed result (writer_buffer out.new) }
+{
+    let Worked {
+        desk,
+        server,
+        calls,
+    } = worked;
+    let text = worked_text(alloc, workers, &desk, &server, calls);
+    desk.abandon();
+    match text {
+        Ok(text) => tell(text.as_slice(), out),
+        Err(_) => End::Trouble,
+    }
+}
+
+/// The report of a desk and a server, and the line of workers.
+fn worked_text(
     alloc: Global,
     workers: u8,
     desk: &Desk,
     server: &Server,
     calls: usize,
-    out: &mut W,
-) -> Result<(), Stop>
-    ensures { OnOk result (Appends (W.contents out.old) (W.contents out.new)
-        (desk_report_text desk.now server.now ++ workers_line workers calls)) }
+) -> Result<Vec<u8>, Stop>
+    ensures { IfOk result (λ text. text.items
+        ≡ desk_report_text desk.now server.now ++ workers_line workers calls) }
 {
-    write_desk_report(alloc, desk, server, out)?;
-    write_workers(workers, calls, out)?;
-    Ok(())
+    let mut text = Vec::new(alloc);
+    write_desk_report(alloc, desk, server, &mut text)?;
+    write_workers(workers, calls, &mut text)?;
+    Ok(text)
+}
+
+/// Writes out a text.
+fn tell<W: Write + Drop>(text: &[u8], out: &mut BufWriter<W>) -> End
+    ensures end { IsTold text.now result
+        (writer_contents W.contents out.old) (writer_contents W.contents out.new) }
+    ensures flushed { IsFlushed result (writer_buffer out.new) }
+{
+    match put(text, out) {
+        Ok(()) => flushed(out),
+        Err(_) => End::OutputRefused,
+    }
+}
+
+/// Writes a text, of which a beginning stands there where the output refuses the rest.
+fn put<W: Write>(text: &[u8], out: &mut W) -> Result<(), Stop>
+    ensures ok { OnOk result (Appends (W.contents out.old) (W.contents out.new) text.now) }
+    ensures err { OnErr result
+        (AppendsFront (W.contents out.old) (W.contents out.new) text.now) }
+{
+    let mut rest = text;
+    for _ in 0..u64::MAX {
+        if rest.is_empty() {
+            return Ok(());
+        }
+        match out.write(rest) {
+            Ok(0) => return Err(Stop::Output),
+            Ok(count) => rest = &rest[count..],
+            Err(error) => {
+                if error.kind() != ErrorKind::Interrupted {
+                    return Err(Stop::Output);
+                }
+            }
+        }
+    }
+    Err(Stop::Output)
 }

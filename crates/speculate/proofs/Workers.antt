@@ -1,23 +1,12 @@
 -- What workers' runs come to.
-use Rattle.std.proofs.Common.{ℕ, List, [], ◌++◌, Option, sym, append-nil}
-use Rattle.std.specs.Io.KnownBytes.{Appends, Keeps}
-use Rattle.std.proofs.KnownBytes.{Appends-kept}
+use Rattle.std.proofs.Common.{ℕ, List, ◌++◌, Option}
 use Rattle.sk_server.specs.Server.{ServerView}
 use Rattle.sk_client.specs.Desk.{DeskView}
 use Rattle.sk_scenario.specs.Declarations.{Declared}
 use Rattle.sk_report.specs.Report.{desk_report_text, workers_line}
 use Rattle.sk_command.specs.declared.end.End.{End}
 use Rattle.sk_command.specs.declared.end.End.TheVariants as ends
-use Rattle.sk_command.specs.Ends.{IsWritten}
 use Rattle.speculate.specs.Work.{CanLeave, EndsWork, IsTold}
-
--- a text that was written, once the buffer is written out
-pub told : (text : List ℕ) (end : End) (buffer : List ℕ) (old mid new : Option (List ℕ)) → Appends old mid text → IsWritten end buffer → Keeps mid new → IsTold text end old new
-told text ends.Done buffer old mid new written flushed kept = Appends-kept old mid new text written kept
-told text ends.Fault buffer old mid new written flushed kept = absurd flushed
-told text ends.Usage buffer old mid new written flushed kept = flushed
-told text ends.Trouble buffer old mid new written flushed kept = absurd flushed
-told text ends.OutputRefused buffer old mid new written flushed kept = (text, [], sym (append-nil text), Appends-kept old mid new text written kept)
 
 -- what is told of a desk that a crew left
 pub worked_out : (workers : ℕ) (d : Declared) (calls : ℕ) (desk : DeskView) (server : ServerView) (end : End) (old new : Option (List ℕ))

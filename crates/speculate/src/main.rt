@@ -8,7 +8,6 @@ mod working;
 use crate::program::run;
 use sk_command::end::End;
 use sk_command::open_input::OpenInput;
-use sk_workers::Gate;
 use std::io::{BufWriter, ErrorKind, Read, Write};
 use std::process::ExitCode;
 use std::rt::Files;
@@ -50,14 +49,6 @@ impl<R: Files + Input> OpenInput for System<'_, R> {
     }
 }
 
-/// A gate that lets every worker pass at once.
-#[derive(Drop)]
-struct Unguarded;
-
-impl Gate for Unguarded {
-    fn before(&self, _worker: u8, _turn: u64) {}
-}
-
 /// How the run ends where its words can't be had.
 fn end_without_words(rt: &HostRuntime, error: &io::Error) -> End {
     if error.kind() != ErrorKind::InvalidData {
@@ -81,15 +72,7 @@ fn end_of<T: Threads + Wait + Sync>(rt: &HostRuntime, threads: &T) -> End {
     };
     let system = System { rt };
     let mut err = rt.stderr();
-    let end = run(
-        threads,
-        rt.alloc(),
-        &words,
-        &system,
-        &Unguarded,
-        &mut out,
-        &mut err,
-    );
+    let end = run(threads, rt.alloc(), &words, &system, &mut out, &mut err);
     // What a refused write left over is not written again.
     let _left = out.into_parts();
     end

@@ -16,21 +16,18 @@ use sk_run::talking::talk_declared;
 use sk_run::worlds::run_world;
 use sk_scenario::{Scenario, Section};
 use sk_words::Fault;
-use sk_workers::Gate;
 use std::alloc::Global;
 use std::io::{BufWriter, Write};
 use std::sync::Wait;
 use std::thread::Threads;
 
-/// Runs the program on its words, of which the first is its own name. Of `work` each worker has a thread of its own and
-/// passes the gate before its turns, and the server has another. After a refused write of the output nothing more is
-/// written to it.
-pub fn run<R: Threads + Wait + Sync, O: OpenInput, W: Write + Drop, E: Write, G: Gate + Sync>(
+/// Runs the program on its words, of which the first is its own name. Of `work` each worker has a thread of its own, and
+/// the server has another. After a refused write of the output nothing more is written to it.
+pub fn run<R: Threads + Wait + Sync, O: OpenInput, W: Write + Drop, E: Write>(
     rt: &R,
     alloc: Global,
     words: &[String],
     inputs: &O,
-    gate: &G,
     out: &mut BufWriter<W>,
     err: &mut E,
 ) -> End
@@ -39,19 +36,18 @@ pub fn run<R: Threads + Wait + Sync, O: OpenInput, W: Write + Drop, E: Write, G:
     ensures flushed { IsFlushed result (writer_buffer out.new) }
 {
     match asked(alloc, words) {
-        Ok(Some(job)) => run_file(rt, alloc, job, inputs, gate, out, err),
+        Ok(Some(job)) => run_file(rt, alloc, job, inputs, out, err),
         Ok(None) => End::Usage,
         Err(error) => explain(alloc, &error, out, err),
     }
 }
 
 /// Does a job with the file that it names.
-fn run_file<R: Threads + Wait + Sync, O: OpenInput, W: Write + Drop, E: Write, G: Gate + Sync>(
+fn run_file<R: Threads + Wait + Sync, O: OpenInput, W: Write + Drop, E: Write>(
     rt: &R,
     alloc: Global,
     job: Job,
     inputs: &O,
-    gate: &G,
     out: &mut BufWriter<W>,
     err: &mut E,
 ) -> End
@@ -63,19 +59,18 @@ fn run_file<R: Threads + Wait + Sync, O: OpenInput, W: Write + Drop, E: Write, G
     ensures flushed { IsFlushed result (writer_buffer out.new) }
 {
     match input(alloc, inputs, job.file(), err) {
-        Ok(text) => run_text(rt, alloc, job, &text, inputs, gate, out, err),
+        Ok(text) => run_text(rt, alloc, job, &text, inputs, out, err),
         Err(end) => end,
     }
 }
 
 /// Does a job with a scenario's text, and with the standard input where it talks, or tells its first fault.
-fn run_text<R: Threads + Wait + Sync, O: OpenInput, W: Write + Drop, E: Write, G: Gate + Sync>(
+fn run_text<R: Threads + Wait + Sync, O: OpenInput, W: Write + Drop, E: Write>(
     rt: &R,
     alloc: Global,
     job: Job,
     text: &[u8],
     inputs: &O,
-    gate: &G,
     out: &mut BufWriter<W>,
     err: &mut E,
 ) -> End
@@ -85,17 +80,16 @@ fn run_text<R: Threads + Wait + Sync, O: OpenInput, W: Write + Drop, E: Write, G
     ensures flushed { IsFlushed result (writer_buffer out.new) }
 {
     let read = Scenario::parse(alloc, text);
-    run_read(rt, alloc, job, read, inputs, gate, out, err)
+    run_read(rt, alloc, job, read, inputs, out, err)
 }
 
 /// Does a job with what was read, or tells its fault.
-fn run_read<R: Threads + Wait + Sync, O: OpenInput, W: Write + Drop, E: Write, G: Gate + Sync>(
+fn run_read<R: Threads + Wait + Sync, O: OpenInput, W: Write + Drop, E: Write>(
     rt: &R,
     alloc: Global,
     job: Job,
     read: Result<Scenario, Fault>,
     inputs: &O,
-    gate: &G,
     out: &mut BufWriter<W>,
     err: &mut E,
 ) -> End
@@ -128,7 +122,7 @@ fn run_read<R: Threads + Wait + Sync, O: OpenInput, W: Write + Drop, E: Write, G
             run_replay(alloc, &declarations, &trace, out, err)
         }
         (Job::Work { workers, turns, .. }, _) => {
-            run_work(rt, alloc, workers, turns, &declarations, gate, out)
+            run_work(rt, alloc, workers, turns, &declarations, out)
         }
         _ => tell_wrong_section(err),
     }

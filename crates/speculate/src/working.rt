@@ -25,6 +25,14 @@ use std::thread::Threads;
 /// How many private instructions a worker runs at most before each of its turns.
 const AHEAD: u32 = 64;
 
+/// A gate that lets every worker pass at once.
+#[derive(Drop)]
+struct Unguarded;
+
+impl Gate for Unguarded {
+    fn before(&self, _worker: u8, _turn: u64) {}
+}
+
 /// What a crew leaves: its desk and its server, and how many calls of the desk its workers made.
 struct Worked {
     desk: Desk,
@@ -34,13 +42,12 @@ struct Worked {
 
 /// Lets 1 to 8 workers take so many turns at most each of the processes that are declared, writes the report of the desk that
 /// they leave, and their number and that of their calls, and writes out what the output buffers.
-pub(crate) fn run_work<R: Threads + Wait + Sync, W: Write + Drop, G: Gate + Sync>(
+pub(crate) fn run_work<R: Threads + Wait + Sync, W: Write + Drop>(
     rt: &R,
     alloc: Global,
     workers: u8,
     turns: u32,
     declarations: &Declarations,
-    gate: &G,
     out: &mut BufWriter<W>,
 ) -> End
     requires { IsInRange 1 8 workers }
@@ -48,21 +55,19 @@ pub(crate) fn run_work<R: Threads + Wait + Sync, W: Write + Drop, G: Gate + Sync
         (writer_contents W.contents out.old) (writer_contents W.contents out.new) }
     ensures flushed { IsFlushed result (writer_buffer out.new) }
 {
-    let Some(worked) = work(rt, alloc, workers, turns, declarations, gate) else {
+    let Some(worked) = work(rt, alloc, workers, turns, declarations) else {
         return End::Trouble;
     };
     tell_worked(alloc, workers, worked, out)
 }
 
-/// Lets a crew work that has a ledger of its own: each worker has a thread of its own and passes the gate before its turns,
-/// and the server has another. `None` where memory ran out, or the desk could not be closed.
-fn work<R: Threads + Wait + Sync, G: Gate + Sync>(
+/// Lets a crew work that has a ledger of its own: each worker has a thread of its own, and the server has another. `None` where memory ran out, or the desk could not be closed.
+fn work<R: Threads + Wait + Sync>(
     rt: &R,
     alloc: Global,
     workers: u8,
     turns: u32,
     declarations: &Declarations,
-    gate: &G,
 ) -> Option<Worked>
     requires { IsInRange 1 8 workers }
     ensures { IfSome result (λ worked. CanLeave workers declarations.now worked.calls worked.desk) }
@@ -76,8 +81,9 @@ fn work<R: Threads + Wait + Sync, G: Gate + Sync>(
         ahead: AHEAD,
     };
     let blank = Blank::new(u64::from(workers));
-    let Ok((history, server)) = run_crew::<Brand, R, G>(rt, alloc, blank, desk, server, plan, gate)
-    else {
+    let Ok((history, server)) = run_crew::<Brand, R, Unguarded>(
+        rt, alloc, blank, desk, server, plan, &Unguarded,
+    ) else {
         return None;
     };
     let History { entries, desk } = history;

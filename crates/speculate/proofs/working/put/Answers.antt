@@ -1,3 +1,4 @@
+-- What a write takes goes from the rest to what is done.
 use Rattle.std.proofs.Common.{◌≡◌, ℕ, ◌-◌, List, ◌++◌, length, take, drop, sym, ap, ◌∙◌, append_assoc, take-append-drop}
 use Rattle.std.proofs.lemmas.List.{take_rest}
 use Rattle.std.proofs.KnownBytes.{Appends-kept, Appends-trans}

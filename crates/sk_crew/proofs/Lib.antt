@@ -1,2 +1,4 @@
 mod Ahead
+mod Turns
+mod Served
 mod Duties

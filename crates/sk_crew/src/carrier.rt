@@ -8,9 +8,6 @@ use sk_workers::{Shared, Worker};
 use std::sync::Wait;
 use std::sync::ledger::Ledger;
 
-/// How many requests, and how many replies, are carried at most between two turns.
-const CARRIED: u32 = 16;
-
 /// Carries requests from the desk to one wire, and replies from the other to the desk.
 #[derive(Drop)]
 pub(crate) struct Carrier<'a> {
@@ -51,8 +48,8 @@ impl<'a> Carrier<'a> {
         self.awaited == 0 && self.request.is_none() && self.reply.is_none()
     }
 
-    /// Sends the oldest request that is not sent yet, if there is one; whether it did.
-    fn move_out<L: Ledger, R: Wait>(self, rt: &R, shared: &Shared<L>) -> (Carrier<'a>, bool) {
+    /// Sends the oldest request that is not sent yet, if there is one.
+    fn move_out<L: Ledger, R: Wait>(self, rt: &R, shared: &Shared<L>) -> Carrier<'a> {
         let Carrier {
             requests,
             replies,
@@ -68,19 +65,18 @@ impl<'a> Carrier<'a> {
         let was_some = next.is_some();
         let (requests, request) = requests.send_if_any(rt, next);
         let sent = was_some && request.is_none();
-        let carrier = Carrier {
+        Carrier {
             requests,
             replies,
             request,
             reply,
             awaited: awaited.saturating_add(u64::from(sent)),
-        };
-        (carrier, sent)
+        }
     }
 }
 
 impl<'a, L: Ledger> Lead<'a, L> {
-    /// Moves requests out and replies in, one of each and again, until there are none or enough were moved.
+    /// Moves at most one request out and one reply in.
     pub(crate) fn carry<R: Wait>(self, rt: &R, shared: &Shared<L>) -> Lead<'a, L>
         ensures number { result.worker.number ≡ self.entry.worker.number }
         ensures replies { OnlyReplies self.entry.worker result.worker }
@@ -88,34 +84,15 @@ impl<'a, L: Ledger> Lead<'a, L> {
         if self.carrier.is_idle() && !shared.may_wait() {
             return self;
         }
-        let mut lead = self;
-        let mut moves = true;
-        for _ in 0..CARRIED {
-            if !moves {
-                break;
-            }
-            let (back, moved) = lead.move_both(rt, shared);
-            lead = back;
-            moves = moved;
-        }
-        lead
-    }
-
-    /// Moves one request out and one reply in; whether it moved anything.
-    fn move_both<R: Wait>(self, rt: &R, shared: &Shared<L>) -> (Lead<'a, L>, bool)
-        ensures number { result.0.worker.number ≡ self.entry.worker.number }
-        ensures replies { OnlyReplies self.entry.worker result.0.worker }
-    {
         let Lead { worker, carrier } = self;
-        let (carrier, sent) = carrier.move_out(rt, shared);
-        let (lead, given) = Lead { worker, carrier }.move_in(rt, shared);
-        (lead, sent || given)
+        let carrier = carrier.move_out(rt, shared);
+        Lead { worker, carrier }.move_in(rt, shared)
     }
 
-    /// Gives the desk the oldest reply that it did not take yet, if there is one; whether it took it.
-    fn move_in<R: Wait>(self, rt: &R, shared: &Shared<L>) -> (Lead<'a, L>, bool)
-        ensures number { result.0.worker.number ≡ self.entry.worker.number }
-        ensures replies { OnlyReplies self.entry.worker result.0.worker }
+    /// Gives the desk the oldest reply that it did not take yet, if there is one.
+    fn move_in<R: Wait>(self, rt: &R, shared: &Shared<L>) -> Lead<'a, L>
+        ensures number { result.worker.number ≡ self.entry.worker.number }
+        ensures replies { OnlyReplies self.entry.worker result.worker }
     {
         let Lead { worker, carrier } = self;
         let Carrier {
@@ -130,10 +107,8 @@ impl<'a, L: Ledger> Lead<'a, L> {
             Some(reply) => (replies, Some(reply)),
             None => replies.receive(rt),
         };
-        let was_some = next.is_some();
-        let awaited = awaited.saturating_sub(u64::from(is_new && was_some));
+        let awaited = awaited.saturating_sub(u64::from(is_new && next.is_some()));
         let (worker, reply) = offer(rt, shared, worker, next);
-        let given = was_some && reply.is_none();
         let carrier = Carrier {
             requests,
             replies,
@@ -141,7 +116,7 @@ impl<'a, L: Ledger> Lead<'a, L> {
             reply,
             awaited,
         };
-        (Lead { worker, carrier }, given)
+        Lead { worker, carrier }
     }
 }
 

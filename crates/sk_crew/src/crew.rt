@@ -5,7 +5,7 @@ ghost use Rattle.sk_workers.specs.declared.worker.TheConstants.{WORKERS_LIMIT};
 ghost use Rattle.sk_workers.specs.History.{Runs, AreFresh};
 ghost use Rattle.sk_workers.specs.Closing.{numbers, AreDistinct, IsClosed};
 ghost use Rattle.sk_crew.specs.Crewed.{IsCrewed, IsRefused, HasCause};
-ghost use Rattle.sk_crew.specs.Duties.{AllKeepTo};
+ghost use Rattle.sk_crew.specs.Duties.{AllKeepTo, AllTookTurns};
 
 use crate::carrier::{Carrier, Lead};
 use crate::ends::WireEnds;
@@ -51,11 +51,13 @@ fn run_served<L: Ledger + Send + Sync, R: Threads + Wait + Sync, G: Gate + Sync>
     gate: &G,
 ) -> Result<(Vec<Worker<L>>, Server), CrewFault>
     requires { 0 < vec_len workers }
-    // The workers come back, and each of their calls was theirs to make.
+    // The workers come back, each of their calls was theirs to make, and they took their turns.
     ensures numbers { IfOk result (λ back. numbers back.0.items ≡ numbers workers.items) }
     ensures count { IfOk result (λ back. vec_len back.0 ≡ vec_len workers) }
     ensures duties { IfOk result (λ back. AreFresh plan.workers workers.items
-        → AllKeepTo plan.workers setup.processes.items back.0.items) }
+        → AllKeepTo plan setup.processes.items back.0.items) }
+    ensures turns { IfOk result (λ back. AreFresh plan.workers workers.items
+        → AllTookTurns plan setup.processes.items back.0.items) }
     // Or there was no memory.
     ensures fault { IfErr result (λ fault. fault ≡ CrewFault.Memory) }
 {
@@ -125,12 +127,12 @@ pub fn run_crew<L: Ledger + Send + Sync, R: Threads + Wait + Sync, G: Gate + Syn
     requires trace { desk.kernel.trace ≡ [] }
     // The calls are of such workers and make one legal history, and nothing is pending at its end.
     ensures crewed { IfOk result (λ done.
-        IsCrewed plan.workers desk done.0.entries.items done.0.desk) }
+        IsCrewed plan desk done.0.entries.items done.0.desk) }
     ensures legal { IfOk result (λ done. desk.kernel.earlier ≡ []
         → Runs desk done.0.entries.items done.0.desk) }
     ensures settled { IfOk result (λ done. pending done.0.desk ≡ []) }
     // Or why there is none.
-    ensures fault { IfErr result (HasCause plan.workers desk) }
+    ensures fault { IfErr result (HasCause plan desk) }
 {
     let setup = match Setup::new(alloc, &desk) {
         Ok(setup) => setup,

@@ -1,6 +1,7 @@
 //! What is left when all threads have ended is served by rising number.
 ghost use Rattle.std.specs.Prelude.{◌≡◌, IfOk, IfErr};
 ghost use Rattle.sk_crew.specs.Duties.{OnlyReplies};
+ghost use Rattle.sk_crew.specs.Served.{IsServed};
 
 use crate::carrier::{Carrier, Lead};
 use crate::crew::CrewFault;
@@ -38,6 +39,7 @@ fn serve<L: Ledger, R: Wait>(
 ) -> Result<Worker<L>, CrewFault>
     ensures number { IfOk result (λ back. back.number ≡ worker.number) }
     ensures replies { IfOk result (OnlyReplies worker) }
+    ensures served { IsServed server.old server.new }
     ensures fault { IfErr result (λ fault. fault ≡ CrewFault.Memory) }
 {
     match server.answer(request) {
@@ -74,6 +76,7 @@ fn serve_kept<L: Ledger, R: Wait>(
 ) -> Result<Worker<L>, CrewFault>
     ensures number { IfOk result (λ back. back.number ≡ worker.number) }
     ensures replies { IfOk result (OnlyReplies worker) }
+    ensures served { IsServed server.old server.new }
     ensures fault { IfErr result (λ fault. fault ≡ CrewFault.Memory) }
 {
     match kept {
@@ -123,6 +126,7 @@ fn serve_received<L: Ledger, R: Wait>(
 ) -> Result<(Worker<L>, Server), CrewFault>
     ensures number { IfOk result (λ back. back.0.number ≡ worker.number) }
     ensures replies { IfOk result (λ back. OnlyReplies worker back.0) }
+    ensures served { IfOk result (λ back. IsServed service.entry.server back.1) }
     ensures fault { IfErr result (λ fault. fault ≡ CrewFault.Memory) }
 {
     let Service {
@@ -154,6 +158,7 @@ fn serve_unsent<L: Ledger, R: Wait>(
 ) -> Result<Worker<L>, CrewFault>
     ensures number { IfOk result (λ back. back.number ≡ worker.number) }
     ensures replies { IfOk result (OnlyReplies worker) }
+    ensures served { IsServed server.old server.new }
     ensures fault { IfErr result (λ fault. fault ≡ CrewFault.Memory) }
 {
     let kept = match request {
@@ -179,6 +184,7 @@ pub(crate) fn serve_remaining<L: Ledger, R: Wait>(
 ) -> Result<(Worker<L>, Server), CrewFault>
     ensures number { IfOk result (λ back. back.0.number ≡ lead.entry.worker.number) }
     ensures replies { IfOk result (λ back. OnlyReplies lead.entry.worker back.0) }
+    ensures served { IfOk result (λ back. IsServed service.entry.server back.1) }
     ensures fault { IfErr result (λ fault. fault ≡ CrewFault.Memory) }
 {
     let (worker, request) = give_received(rt, shared, lead)?;

@@ -1,4 +1,7 @@
 //! The server in a thread of its own.
+ghost use Rattle.std.specs.Prelude.{◌≡◌};
+ghost use Rattle.sk_crew.specs.Served.{IsServed};
+
 use crate::ends::{ReceivingEnd, SendingEnd};
 use sk_server::{Reply, Request, Server};
 use std::sync::Wait;
@@ -35,7 +38,9 @@ fn pause(stop: &AtomicBool) {
 }
 
 /// The reply to a request, or the request where it is not answered.
-fn answer(server: &mut Server, request: Request) -> Unfinished {
+fn answer(server: &mut Server, request: Request) -> Unfinished
+    ensures { IsServed server.old server.new }
+{
     match server.answer(request) {
         Ok(reply) => Unfinished::Reply(reply),
         Err((request, _)) => Unfinished::Request(request),
@@ -48,7 +53,9 @@ impl<'a> Service<'a> {
         server: Server,
         requests: ReceivingEnd<'a, Request>,
         replies: SendingEnd<'a, Reply>,
-    ) -> Service<'a> {
+    ) -> Service<'a>
+        ensures { result.server ≡ server }
+    {
         Service {
             server,
             requests,
@@ -58,7 +65,9 @@ impl<'a> Service<'a> {
     }
 
     /// Serves until it is told to stop.
-    pub(crate) fn serve<R: Wait>(self, rt: &R, stop: &AtomicBool) -> Service<'a> {
+    pub(crate) fn serve<R: Wait>(self, rt: &R, stop: &AtomicBool) -> Service<'a>
+        ensures { IsServed self.entry.server result.server }
+    {
         let mut service = self;
         for _ in rt.forever() {
             if stop.load(Ordering::SeqCst) {
@@ -73,7 +82,9 @@ impl<'a> Service<'a> {
     }
 
     /// Sends the reply that is kept; or answers the request that is kept, or else the next.
-    fn go_on<R: Wait>(self, rt: &R) -> Service<'a> {
+    fn go_on<R: Wait>(self, rt: &R) -> Service<'a>
+        ensures { IsServed self.entry.server result.server }
+    {
         let Service {
             mut server,
             requests,

@@ -1,12 +1,13 @@
 //! The threads of a crew.
-ghost use Rattle.std.specs.Prelude.{◌≡◌, ◌<◌, ◌≤◌, IfSome, vec_len, vec_capacity, slice_get, option_and_then};
+ghost use Rattle.std.specs.Prelude.{◌≡◌, ℕ, Some, IfOk, IfSome, vec_len, vec_capacity, slice_get, option_and_then};
 ghost use Rattle.std.specs.Thread.{IsSync};
 ghost use Rattle.sk_plain.specs.Leased.{Lends};
 ghost use Rattle.sk_client.specs.Desk.{DeskView};
 ghost use Rattle.sk_client.specs.Leasing.{desk_lease};
-ghost use Rattle.sk_crew.specs.Rounds.{due, after, is_ended};
-ghost use Rattle.sk_crew.specs.Ahead.{TakesTurn};
+ghost use Rattle.sk_crew.specs.Rounds.{due, next, after, is_ended};
+ghost use Rattle.sk_crew.specs.Ahead.{IsLent, IsLentFor, IsLentNext, HasRun, TakesTurn};
 ghost use Rattle.sk_crew.specs.Duties.{WorksOn, LeadsOn, AllWorkOn, OnlyReplies};
+ghost use Rattle.sk_crew.specs.Served.{IsServed};
 
 use crate::carrier::Lead;
 use crate::crew::CrewPlan;
@@ -40,7 +41,9 @@ fn due(rounds: &Rounds, processes: &[Pid]) -> Option<Pid>
 }
 
 /// The process whose turn comes after this one in a worker's rounds, where the worker runs ahead.
-fn following(rounds: &Rounds, processes: &[Pid], ahead: u32) -> Option<Pid> {
+fn following(rounds: &Rounds, processes: &[Pid], ahead: u32) -> Option<Pid>
+    ensures { IfSome result (λ pid. slice_get processes.now (next rounds.now) ≡ Some pid) }
+{
     if ahead == 0 {
         return None;
     }
@@ -50,8 +53,9 @@ fn following(rounds: &Rounds, processes: &[Pid], ahead: u32) -> Option<Pid> {
 /// What was lent; `None` after a refusal.
 #[tactic(auto, using(crate::proofs::Ahead::lease_fresh))]
 fn kept(lent: Result<Lease, Refusal>, pid: Pid) -> Option<Lease>
-    requires { (desk : DeskView) × Lends lent (desk_lease desk pid) }
-    ensures { IfSome result (λ lease. lease.count ≡ 0) }
+    requires lent { (desk : DeskView) × Lends lent (desk_lease desk pid) }
+    requires own { IfOk lent (λ lease. lease.lent.pid ≡ pid) }
+    ensures { IfSome result (IsLent pid) }
 {
     lent.ok()
 }
@@ -65,7 +69,7 @@ fn lease<L: Ledger, R: Wait>(
     ahead: u32,
 ) -> (Worker<L>, Option<Lease>)
     ensures same { result.0 ≡ worker }
-    ensures fresh { IfSome result.1 (λ lease. lease.count ≡ 0) }
+    ensures fresh { IfSome result.1 (IsLentFor pid) }
 {
     let Some(pid) = pid else {
         return (worker, None);
@@ -78,10 +82,8 @@ fn lease<L: Ledger, R: Wait>(
 }
 
 /// Runs up to so many private instructions on the lease in its place, outside the lock. One that ran none is given up.
-#[tactic(auto, using(crate::proofs::Ahead::ran_within))]
 fn run_ahead(place: &mut Option<Lease>, ahead: u32)
-    requires { IfSome place.old (λ lease. lease.count ≡ 0) }
-    ensures { IfSome place.new (λ lease. (0 < lease.count) × (lease.count ≤ ahead)) }
+    ensures { (pid : ℕ) → IfSome place.old (IsLent pid) → IfSome place.new (HasRun ahead pid) }
 {
     let Some(lease) = place else {
         return;
@@ -101,7 +103,6 @@ fn give_up(lease: Option<Lease>) {
 
 /// A worker hands in what it ran ahead, takes a turn of the process, and is lent the next into the same place, with the lock
 /// held once; its rounds go on by the answer. After any refusal the instructions are left to the process's turns.
-#[tactic(auto, using(crate::proofs::Ahead::told_ahead, crate::proofs::Ahead::lent_fresh))]
 fn take_turn<L: Ledger, R: Wait, G: Gate>(
     rt: &R,
     shared: &Shared<L>,
@@ -114,11 +115,11 @@ fn take_turn<L: Ledger, R: Wait, G: Gate>(
     ahead: u32,
 ) -> (Worker<L>, Result<Turn, Refusal>)
     // The lease in the place has run.
-    requires { IfSome place.old (λ lease. (0 < lease.count) × (lease.count ≤ ahead)) }
-    // The turn was taken, and the rounds go on; the lease in the place is new.
+    requires { IfSome place.old (HasRun ahead pid) }
+    // The turn was taken, and the rounds go on; the lease in the place is a new one of the next process.
     ensures told { TakesTurn ahead result.1 worker pid result.0 }
     ensures rounds { rounds.new ≡ after (is_ended result.1) rounds.old }
-    ensures lent { IfSome place.new (λ lease. lease.count ≡ 0) }
+    ensures lent { IfSome place.new (IsLentFor next) }
 {
     let (worker, leased) = shared.turn_with_leases(rt, worker, place, pid, next, gate);
     let Leased {
@@ -134,6 +135,7 @@ fn take_turn<L: Ledger, R: Wait, G: Gate>(
 }
 
 /// A worker runs ahead on the lease that it has, and takes the turn that is due.
+#[tactic(auto, using(crate::proofs::Ahead::lent_due, crate::proofs::Ahead::lent_after))]
 fn go_on<L: Ledger, R: Wait, G: Gate>(
     rt: &R,
     shared: &Shared<L>,
@@ -145,12 +147,13 @@ fn go_on<L: Ledger, R: Wait, G: Gate>(
     gate: &G,
     ahead: u32,
 ) -> (Worker<L>, Result<Turn, Refusal>)
-    // The lease in the place is new.
-    requires { IfSome place.old (λ lease. lease.count ≡ 0) }
-    // The turn was taken, and the rounds go on; the lease in the place is a new one again.
+    // The process is due, and the lease in the place is one of it.
+    requires due { option_and_then (slice_get processes.now) (due rounds.old) ≡ Some pid }
+    requires lent { IfSome place.old (IsLentNext processes.now rounds.old) }
+    // The turn was taken, and the rounds go on; the lease in the place is one of the process that is due next.
     ensures told { TakesTurn ahead result.1 worker pid result.0 }
     ensures rounds { rounds.new ≡ after (is_ended result.1) rounds.old }
-    ensures lent { IfSome place.new (λ lease. lease.count ≡ 0) }
+    ensures lent { IfSome place.new (IsLentNext processes.now rounds.new) }
 {
     let next = following(rounds, processes, ahead);
     run_ahead(place, ahead);
@@ -158,6 +161,7 @@ fn go_on<L: Ledger, R: Wait, G: Gate>(
 }
 
 /// Makes a worker's rounds.
+#[tactic(auto, using(crate::proofs::Turns::all_begun))]
 fn work<L: Ledger, R: Wait, G: Gate>(
     rt: &R,
     shared: &Shared<L>,
@@ -166,20 +170,21 @@ fn work<L: Ledger, R: Wait, G: Gate>(
     plan: CrewPlan,
     gate: &G,
 ) -> Worker<L>
-    ensures { WorksOn plan.workers processes.now worker result }
+    ensures { WorksOn plan processes.now worker result }
 {
     let mut rounds = Rounds::new(worker.number(), plan.workers, processes.len());
     let first = due(&rounds, processes);
-    let (mut worker, mut ahead) = lease(rt, shared, worker, first, plan.ahead);
-    for _ in 0..plan.turns {
+    let (mut worker, mut place) = lease(rt, shared, worker, first, plan.ahead);
+    for turn in 0..plan.turns {
         let Some(pid) = due(&rounds, processes) else {
-            break;
+            give_up(place);
+            return worker;
         };
         let (back, _) = go_on(
             rt,
             shared,
             worker,
-            &mut ahead,
+            &mut place,
             pid,
             processes,
             &mut rounds,
@@ -188,11 +193,36 @@ fn work<L: Ledger, R: Wait, G: Gate>(
         );
         worker = back;
     }
-    give_up(ahead);
+    give_up(place);
     worker
 }
 
-/// Makes the rounds of worker 0, which carries before each of its turns, and before it runs ahead.
+/// A worker is lent the process that is due, runs ahead on it, and takes the turn.
+#[tactic(auto, using(crate::proofs::Ahead::lent_for))]
+fn go_at_once<L: Ledger, R: Wait, G: Gate>(
+    rt: &R,
+    shared: &Shared<L>,
+    worker: Worker<L>,
+    pid: Pid,
+    rounds: &mut Rounds,
+    gate: &G,
+    ahead: u32,
+) -> (Worker<L>, Result<Turn, Refusal>)
+    // The turn was taken, and the rounds go on.
+    ensures told { TakesTurn ahead result.1 worker pid result.0 }
+    ensures rounds { rounds.new ≡ after (is_ended result.1) rounds.old }
+{
+    let (worker, mut place) = lease(rt, shared, worker, Some(pid), ahead);
+    run_ahead(&mut place, ahead);
+    let (worker, answer) = take_turn(
+        rt, shared, worker, &mut place, pid, None, rounds, gate, ahead,
+    );
+    give_up(place);
+    (worker, answer)
+}
+
+/// Makes the rounds of worker 0, which carries before each of its turns, and before it is lent the process.
+#[tactic(auto, using(crate::proofs::Turns::all_begun))]
 fn lead_rounds<'a, L: Ledger, R: Wait, G: Gate>(
     rt: &R,
     shared: &Shared<L>,
@@ -201,32 +231,18 @@ fn lead_rounds<'a, L: Ledger, R: Wait, G: Gate>(
     plan: CrewPlan,
     gate: &G,
 ) -> Lead<'a, L>
-    ensures { LeadsOn plan.workers processes.now lead.entry.worker result.worker }
+    ensures { LeadsOn plan processes.now lead.entry.worker result.worker }
 {
-    let Lead { worker, carrier } = lead;
-    let mut rounds = Rounds::new(worker.number(), plan.workers, processes.len());
-    let first = due(&rounds, processes);
-    let (worker, mut ahead) = lease(rt, shared, worker, first, plan.ahead);
-    let mut lead = Lead { worker, carrier };
-    for _ in 0..plan.turns {
+    let mut rounds = Rounds::new(lead.worker.number(), plan.workers, processes.len());
+    let mut lead = lead;
+    for turn in 0..plan.turns {
         let Some(pid) = due(&rounds, processes) else {
-            break;
+            return lead;
         };
         let Lead { worker, carrier } = lead.carry(rt, shared);
-        let (worker, _) = go_on(
-            rt,
-            shared,
-            worker,
-            &mut ahead,
-            pid,
-            processes,
-            &mut rounds,
-            gate,
-            plan.ahead,
-        );
+        let (worker, _) = go_at_once(rt, shared, worker, pid, &mut rounds, gate, plan.ahead);
         lead = Lead { worker, carrier };
     }
-    give_up(ahead);
     lead
 }
 
@@ -260,7 +276,7 @@ fn work_all<L: Ledger + Send + Sync, R: Threads + Wait + Sync, G: Gate + Sync>(
     plan: CrewPlan,
     gate: &G,
 ) -> Vec<Worker<L>>
-    ensures work { AllWorkOn plan.workers processes.now workers.items result.items }
+    ensures work { AllWorkOn plan processes.now workers.items result.items }
     ensures count { vec_len result ≡ vec_len workers }
     ensures room { vec_capacity result ≡ vec_capacity workers }
 {
@@ -271,11 +287,11 @@ fn work_all<L: Ledger + Send + Sync, R: Threads + Wait + Sync, G: Gate + Sync>(
     let (one, mut all) = thread::join(
         rt,
         move || -> Worker<L>
-            ensures { WorksOn plan.workers processes.entry.now last result }
+            ensures { WorksOn plan processes.entry.now last result }
         { work(rt, shared, last, processes, plan, gate) },
         move || -> Vec<Worker<L>>
             requires { IsSync R.row × IsSync G.row }
-            ensures { AllWorkOn plan.workers processes.entry.now rest.items result.items
+            ensures { AllWorkOn plan processes.entry.now rest.items result.items
                 × (vec_len result ≡ vec_len rest)
                 × (vec_capacity result ≡ vec_capacity rest) }
         { work_all(rt, shared, rest, processes, plan, gate) },
@@ -294,8 +310,8 @@ fn work_together<'a, L: Ledger + Send + Sync, R: Threads + Wait + Sync, G: Gate 
     plan: CrewPlan,
     gate: &G,
 ) -> (Lead<'a, L>, Vec<Worker<L>>)
-    ensures lead { LeadsOn plan.workers processes.now lead.entry.worker result.0.worker }
-    ensures others { AllWorkOn plan.workers processes.now others.items result.1.items }
+    ensures lead { LeadsOn plan processes.now lead.entry.worker result.0.worker }
+    ensures others { AllWorkOn plan processes.now others.items result.1.items }
     ensures count { vec_len result.1 ≡ vec_len others }
 {
     let have_stopped = AtomicBool::new(false);
@@ -303,14 +319,14 @@ fn work_together<'a, L: Ledger + Send + Sync, R: Threads + Wait + Sync, G: Gate 
     thread::join(
         rt,
         move || -> Lead<L>
-            ensures { LeadsOn plan.workers processes.entry.now lead.entry.worker result.worker }
+            ensures { LeadsOn plan processes.entry.now lead.entry.worker result.worker }
         {
             let lead = lead_rounds(rt, shared, lead, processes, plan, gate);
             carry_on(rt, shared, lead, have_stopped)
         },
         move || -> Vec<Worker<L>>
             requires { IsSync R.row × IsSync G.row }
-            ensures { AllWorkOn plan.workers processes.entry.now others.items result.items
+            ensures { AllWorkOn plan processes.entry.now others.items result.items
                 × (vec_len result ≡ vec_len others) }
         {
             let others = work_all(rt, shared, others, processes, plan, gate);
@@ -330,8 +346,8 @@ pub(crate) fn work_served<'a, L: Ledger + Send + Sync, R: Threads + Wait + Sync,
     plan: CrewPlan,
     gate: &G,
 ) -> Crew<'a, L>
-    ensures lead { LeadsOn plan.workers processes.now crew.entry.lead.worker result.lead.worker }
-    ensures others { AllWorkOn plan.workers processes.now
+    ensures lead { LeadsOn plan processes.now crew.entry.lead.worker result.lead.worker }
+    ensures others { AllWorkOn plan processes.now
         crew.entry.others.items result.others.items }
     ensures count { vec_len result.others ≡ vec_len crew.entry.others }
 {
@@ -346,11 +362,12 @@ pub(crate) fn work_served<'a, L: Ledger + Send + Sync, R: Threads + Wait + Sync,
         rt,
         move || -> Service
             requires { IsSync R.row }
+            ensures { IsServed service.entry.server result.server }
         { service.serve(rt, stop) },
         move || -> (Lead<L>, Vec<Worker<L>>)
             requires { IsSync R.row × IsSync G.row × IsSync L.row }
-            ensures { LeadsOn plan.workers processes.entry.now lead.entry.worker result.0.worker
-                × AllWorkOn plan.workers processes.entry.now others.items result.1.items
+            ensures { LeadsOn plan processes.entry.now lead.entry.worker result.0.worker
+                × AllWorkOn plan processes.entry.now others.items result.1.items
                 × (vec_len result.1 ≡ vec_len others) }
         {
             let worked = work_together(rt, shared, lead, others, processes, plan, gate);

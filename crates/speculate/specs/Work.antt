@@ -12,12 +12,12 @@ use Rattle.sk_report.specs.Report.{desk_report_text, workers_line}
 use Rattle.sk_command.specs.declared.end.End.{End}
 use Rattle.sk_command.specs.declared.end.End.TheVariants as ends
 
--- a crew of so many workers can leave this desk by so many calls: they are a legal history, which leads from the declared desk to this one, on
+-- a crew of so many workers, for some number of turns, can leave this desk by so many calls: they are a legal history, which leads from the declared desk to this one, on
 -- which nothing is pending
 abbrev pub CanLeave : ℕ → Declared → ℕ → DeskView → Type 0
 CanLeave workers d calls desk =
     (history : List HistoryEntry) × (calls ≡ length history)
-    × IsCrewed workers (opened (declared_kernel d)) history desk
+    × (turns : ℕ) × IsCrewed (record { workers = workers; turns = turns; ahead = 64 }) (opened (declared_kernel d)) history desk
     × Runs (opened (declared_kernel d)) history desk × (pending desk ≡ [])
 
 -- a crew of so many workers left a desk, and the output has the report of that desk and of a server, and the number of workers and of calls

@@ -8,15 +8,15 @@ close-requires-clause-distinct g c =
 
 pub returns-in-Ok-close-clause-crewed : goal.returns-in-Ok-close-clause-crewed
 returns-in-Ok-close-clause-crewed g c =
-    crewed c.args.plan.workers c.args.desk c.in-Ok-new.made.0 c.in-Ok-run_served.workers.items c.in-Ok-new.made.1.items c.in-Ok.setup.processes.items
+    crewed c.args.plan c.args.desk c.in-Ok-new.made.0 c.in-Ok-run_served.workers.items c.in-Ok-new.made.1.items c.in-Ok.setup.processes.items
     c.in-Ok-close.history.entries.items c.in-Ok-close.history.desk
-    c.in-Ok-new.ensures.shared c.in-Ok-new.ensures.workers c.in-Ok-run_served.ensures.numbers c.in-Ok.ensures c.in-Ok-run_served.ensures.duties c.in-Ok-close.ensures.closed
+    c.in-Ok-new.ensures.shared c.in-Ok-new.ensures.workers c.in-Ok-run_served.ensures.numbers c.in-Ok.ensures c.in-Ok-run_served.ensures.duties c.in-Ok-run_served.ensures.turns c.in-Ok-close.ensures.closed
 
 pub returns-in-Err-close-clause-fault : goal.returns-in-Err-close-clause-fault
 returns-in-Err-close-clause-fault g c =
-    has_cause c.args.plan.workers c.args.desk c.in-Ok-new.made.0 c.in-Ok-run_served.workers.items c.in-Ok-new.made.1.items c.in-Ok.setup.processes.items
+    has_cause c.args.plan c.args.desk c.in-Ok-new.made.0 c.in-Ok-run_served.workers.items c.in-Ok-new.made.1.items c.in-Ok.setup.processes.items
     c.in-Err-close.fault
-    c.in-Ok-new.ensures.shared c.in-Ok-new.ensures.workers c.in-Ok-run_served.ensures.numbers c.in-Ok.ensures c.in-Ok-run_served.ensures.duties c.in-Err-close.ensures.fault
+    c.in-Ok-new.ensures.shared c.in-Ok-new.ensures.workers c.in-Ok-run_served.ensures.numbers c.in-Ok.ensures c.in-Ok-run_served.ensures.duties c.in-Ok-run_served.ensures.turns c.in-Err-close.ensures.fault
 
 pub returns-in-Ok-close-clause-legal : goal.returns-in-Ok-close-clause-legal
 returns-in-Ok-close-clause-legal g c =

@@ -1,9 +1,11 @@
 use Rattle.std.proofs.Common.{◌≡◌}
 use Rattle.sk_crew.specs.Duties.{OnlyReplies}
+use Rattle.sk_crew.specs.Served.{IsServed}
 use Rattle.sk_crew.proofs.remaining.serve_unsent.Given as goal
 
 abbrev pub invariant-loop : goal.invariant-loop
 invariant-loop g l = record {
   number : l.worker.number ≡ l.fn.worker.number;
   replies : OnlyReplies l.fn.worker l.worker;
+  served : IsServed l.fn.server l.server;
 }

@@ -1,12 +1,15 @@
 use Rattle.std.proofs.Common.{◌≡◌}
 use Rattle.std.specs.Prelude.{IfSome}
-use Rattle.sk_crew.specs.Duties.{WorksOn}
-use Rattle.sk_crew.proofs.Duties.{IsAt}
+use Rattle.sk_crew.specs.Ahead.{IsLentNext}
+use Rattle.sk_crew.specs.Duties.{KeepsTo, IsNew}
+use Rattle.sk_crew.proofs.Turns.{Goes, HasBegun}
 use Rattle.sk_crew.proofs.working.work.Given as goal
 
-abbrev pub invariant-loop : goal.invariant-loop
-invariant-loop g l = record {
-  works : WorksOn l.plan.workers l.processes l.fn.worker l.worker;
-  at : IsAt l.plan.workers l.fn.worker.number l.rounds;
-  fresh : IfSome l.ahead (λ lease. lease.count ≡ 0);
+abbrev pub invariant-loop-turn : goal.invariant-loop-turn
+invariant-loop-turn g l = record {
+  number : l.worker.number ≡ l.fn.worker.number;
+  keeps : KeepsTo l.plan l.processes l.fn.worker → KeepsTo l.plan l.processes l.worker;
+  begun : IsNew l.fn.worker → HasBegun l.turn l.worker;
+  goes : Goes l.plan.workers l.processes l.fn.worker.number l.rounds l.worker;
+  lent : IfSome l.place (IsLentNext l.processes l.rounds);
 }

@@ -1,0 +1,108 @@
+//! Random runs over few keys.
+ghost use Rattle.std.specs.Prelude.{◌<◌};
+
+use crate::job::{ACTORS, CHANNELS, Job};
+use crate::session::Session;
+use crate::wrong::Wrong;
+use rand_core::Rng;
+use rand_pcg::Pcg32;
+use std::alloc::Global;
+use std::process::Abort;
+
+/// How many runs there are, and how many calls each has.
+const RUNS: u64 = 10_000;
+
+const CALLS: u32 = 24;
+
+/// How many runs are made with growths refused.
+const REFUSED_RUNS: u64 = 10;
+
+/// A number below a limit.
+fn below(rng: &mut Pcg32, limit: u32) -> u32
+    requires { 0 < limit }
+    ensures { result < limit }
+{
+    rng.next_u32() % limit
+}
+
+/// A key that is no actor's, or none.
+fn any_key(rng: &mut Pcg32, others: u16) -> Option<u16> {
+    let key = below(rng, u32::from(ACTORS.saturating_add(others)).max(1));
+    if key < u32::from(ACTORS) {
+        Some(key as u16)
+    } else {
+        None
+    }
+}
+
+/// A step of one of two actors, or of nobody.
+fn any_job(rng: &mut Pcg32) -> Job {
+    let actor = below(rng, 4) as u16;
+    let says = below(rng, 6) as u16;
+    Job {
+        actor: if actor < 2 {
+            Some(ACTORS + actor)
+        } else {
+            None
+        },
+        looks: any_key(rng, 4),
+        writes: any_key(rng, 2),
+        also: any_key(rng, 10),
+        says: if says < CHANNELS { Some(says) } else { None },
+        number: u64::from(rng.next_u32()),
+    }
+}
+
+/// One call, judged.
+fn call(rt: &impl Abort, rng: &mut Pcg32, session: &mut Session) -> Result<(), Wrong> {
+    match below(rng, 8) {
+        0..=2 => session.take(any_job(rng))?,
+        3 | 4 => {
+            session.guess(any_job(rng))?;
+        }
+        5 => session.decide(rt, below(rng, 4) as usize, false)?,
+        6 => session.decide(rt, below(rng, 4) as usize, true)?,
+        _ => session.release(below(rng, CHANNELS as u32) as u16)?,
+    }
+    session.judge()
+}
+
+/// The calls of a run.
+fn plays(rt: &impl Abort, number: u64, session: &mut Session) -> Result<(), Wrong> {
+    let mut rng = Pcg32::new(number, 11);
+    for _ in 0..CALLS {
+        call(rt, &mut rng, session)?;
+    }
+    Ok(())
+}
+
+/// A run to its end.
+fn run(rt: &impl Abort, alloc: Global, number: u64) -> Result<(), Wrong> {
+    let mut session = Session::new(alloc, 4);
+    let played = plays(rt, number, &mut session);
+    session.end(rt)?;
+    played
+}
+
+#[test]
+fn as_a_plain_run(rt: HostRuntime) -> Result<(), (u64, Wrong)> {
+    for number in 0..RUNS {
+        match run(&rt, rt.alloc(), number) {
+            Ok(()) => {}
+            Err(wrong) => return Err((number, wrong)),
+        }
+    }
+    Ok(())
+}
+
+/// Growths may be refused to it: what wants memory is then as it was before, and is done once more.
+#[test]
+fn once_more(rt: HostRuntime) -> Result<(), (u64, Wrong)> {
+    for number in RUNS..RUNS + REFUSED_RUNS {
+        match run(&rt, rt.alloc(), number) {
+            Ok(()) => {}
+            Err(wrong) => return Err((number, wrong)),
+        }
+    }
+    Ok(())
+}

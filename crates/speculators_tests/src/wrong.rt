@@ -1,0 +1,46 @@
+//! What a run finds wrong.
+use std::alloc::{AllocError, AllocFailed};
+
+/// Why a run does not pass.
+#[derive(Clone, Copy, Debug, PartialEq, Eq)]
+pub enum Wrong {
+    /// The run itself has no memory.
+    Memory,
+    /// Other keys are there.
+    Keys,
+    /// A key has another value.
+    Value,
+    /// A key rests on other guesses.
+    Tags,
+    /// Other keys rest on a guess.
+    Dependents,
+    /// Something else became of a guess.
+    Status,
+    /// Another output came out, or another number of them waits.
+    Output,
+    /// A failure tells something else.
+    Undone,
+    /// A step's buffers are not empty after it was taken, or not as they were after it was refused.
+    Buffers,
+    /// A call is refused that should not be, or is not that should be.
+    Refused,
+    /// A token comes back.
+    Stranger,
+}
+
+impl From<AllocError> for Wrong {
+    fn from(_: AllocError) -> Wrong {
+        Wrong::Memory
+    }
+}
+
+impl<T: Drop> From<AllocFailed<T>> for Wrong {
+    fn from(_: AllocFailed<T>) -> Wrong {
+        Wrong::Memory
+    }
+}
+
+/// What should hold holds.
+pub fn holds(is: bool, wrong: Wrong) -> Result<(), Wrong> {
+    if is { Ok(()) } else { Err(wrong) }
+}

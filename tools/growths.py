@@ -6,8 +6,8 @@
 
 A call is a public function of a library whose result can be want of memory: an `AllocError`, or an error or an answer that has it
 among its cases, at any depth. Each has a row, which names what grows past 70,000 through it: rows of `.ci/growths`, tests of the
-crates of tests and scenarios of `.ci/long-runs`, each by its name in backquotes, or the word `none` and the reason. The last line
-is 'N passed, M failed', a row each.
+crates of tests, scenarios of `.ci/long-runs` and runs of `.ci/own-runs`, each by its name in backquotes, or the word `none` and the
+reason. The last line is 'N passed, M failed', a row each.
 """
 import re
 import sys
@@ -68,7 +68,7 @@ def known_rows():
     """The names that a row may name: tests, and runs of scripts."""
     tests = (without_comments(path) for crate in crates() if crate.endswith("_tests") for path in files_of(crate))
     names = {name for text in tests for name in re.findall(r"#\[test\]\nfn (\w+)", text)}
-    for script in (".ci/growths", ".ci/long-runs"):
+    for script in (".ci/growths", ".ci/long-runs", ".ci/own-runs"):
         names |= set(re.findall(r"^def (\w+)", (ROOT / script).read_text(), re.M))
     return names
 

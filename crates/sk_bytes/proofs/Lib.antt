@@ -1,0 +1,6 @@
+pub mod Told
+pub mod Rests
+pub mod Fitting
+pub mod Moves
+pub mod Steps
+pub mod Undone

@@ -1,0 +1,24 @@
+-- A key rests on what its number rests on.
+use Rattle.std.proofs.Common.{[], sym, ap, ◌∙◌}
+use Rattle.std.specs.Ordering.{nat_cmp}
+use Rattle.sk_record.specs.Notes.{last_tags}
+use Rattle.sk_renamed.specs.Renamed.{at_key}
+use Rattle.sk_slots.specs.Slots.{log_at}
+use Rattle.sk_index.specs.Index.{bytes_cmp}
+use Rattle.sk_bytes.specs.Told.{ByteView}
+use Rattle.sk_bytes.proofs.Told.{log_told}
+use Rattle.sk_bytes.proofs.bytes.Bytes.tags_of.Goals as goal
+
+pub returns-in-Some : goal.returns-in-Some
+returns-in-Some g c =
+    c.tags_of.ensures
+    ∙ ap (λ o. last_tags [] (at_key [] (log_at nat_cmp c.self.inside.kernel.slots) o)) c.in-Some.ensures
+    ∙ ap (last_tags []) (sym (log_told c.self.inside.keys.index c.self.inside.kernel.slots c.args.key.now))
+    ∙ ap (λ (b : ByteView _ _). last_tags [] (log_at bytes_cmp b.parts.slots c.args.key.now)) c.self.view_is
+
+pub returns-in-None : goal.returns-in-None
+returns-in-None g c =
+    c.self.invariant.4
+    ∙ ap (λ o. last_tags [] (at_key [] (log_at nat_cmp c.self.inside.kernel.slots) o)) c.in-None.ensures
+    ∙ ap (last_tags []) (sym (log_told c.self.inside.keys.index c.self.inside.kernel.slots c.args.key.now))
+    ∙ ap (λ (b : ByteView _ _). last_tags [] (log_at bytes_cmp b.parts.slots c.args.key.now)) c.self.view_is

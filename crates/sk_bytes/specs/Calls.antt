@@ -1,0 +1,74 @@
+-- What the calls over byte strings promise: what those of the kernel over any keys promise, at the order of byte strings.
+use Rattle.std.specs.Prelude.{◌≡◌, ◌||◌, ℕ, Bool, true, false, nat_lt, List, [], length, Result, Ok, Err}
+use Rattle.std.specs.List.{list_any}
+use Rattle.std.specs.Global.{Vec}
+use Rattle.sk_record.specs.Effects.{is_in}
+use Rattle.sk_record.specs.Notes.{has}
+use Rattle.sk_record.specs.UndoState.{tags_at}
+use Rattle.sk_guesses.specs.Kept.{struck_with}
+use Rattle.sk_guesses.specs.Token.{Token}
+use Rattle.sk_index.specs.Index.{bytes_cmp}
+use Rattle.sk_speculator.specs.Parts.{Parts, undo_state_of, IsSame}
+use Rattle.sk_speculator.specs.Calls.{Commits, FailsIn, Forgets, IsStranger, Refuses}
+use Rattle.sk_speculator.specs.declared.step.Step.{Step}
+use Rattle.sk_speculator.specs.declared.decided.Committed.{Committed}
+use Rattle.sk_speculator.specs.declared.decided.Committed.TheVariants as commit
+use Rattle.sk_speculator.specs.declared.refusal.Refusal.{Refusal as Inner}
+use Rattle.sk_speculator.specs.declared.refusal.Refusal.TheVariants as inner
+use Rattle.sk_bytes.specs.declared.bytes.TheConstants.{KEY_LIMIT}
+use Rattle.sk_bytes.specs.declared.bytes.Unmade.{Unmade}
+use Rattle.sk_bytes.specs.declared.bytes.Unmade.TheVariants as unmade
+use Rattle.sk_bytes.specs.declared.refusal.Refusal.{Refusal}
+use Rattle.sk_bytes.specs.declared.refusal.Refusal.TheVariants.{LongKey, LongValue, TooMany, NoNumber, Memory}
+use Rattle.sk_bytes.specs.Told.{ByteView}
+
+-- a key that is longer than may be
+abbrev pub is_long : Vec ℕ → Bool
+is_long key = nat_lt KEY_LIMIT (length key.items)
+
+-- whether one of the step's is
+abbrev pub has_long_key : {V O : Type 0} → Step (Vec ℕ) V O → Bool
+has_long_key step = list_any is_long step.looked.items || list_any (λ w. is_long w.0) step.written.items
+
+-- the same refusal
+abbrev pub refusal_of : Inner → Refusal
+refusal_of inner.TooMany = TooMany
+refusal_of inner.NoNumber = NoNumber
+refusal_of inner.Memory = Memory
+
+module _ {V O : Type 0} where
+  -- why a step is not taken
+  abbrev pub RefusesStep : Step (Vec ℕ) V O → Refusal → Type 0
+  RefusesStep step LongKey = has_long_key step ≡ true
+  RefusesStep step Memory = has_long_key step ≡ false
+  RefusesStep step other = ⊥
+
+  -- and why a guess is not drawn
+  abbrev pub RefusesGuess : Parts (List ℕ) V O → Step (Vec ℕ) V O → Refusal → Type 0
+  RefusesGuess m step LongKey = has_long_key step ≡ true
+  RefusesGuess m step LongValue = ⊥
+  RefusesGuess m step TooMany = (has_long_key step ≡ false) × Refuses m inner.TooMany
+  RefusesGuess m step NoNumber = (has_long_key step ≡ false) × Refuses m inner.NoNumber
+  RefusesGuess m step Memory = has_long_key step ≡ false
+
+  -- after a refusal, and after a token that comes back, nothing has changed but that what the last failure took back is told no more
+  pub record Unchanged (old new : ByteView V O) : Type 0 where
+    pub parts : IsSame bytes_cmp old.parts new.parts
+    pub undone : new.undone ≡ []
+
+  -- just the keys that rested on the guess are told, each once, in the order of their numbers inside
+  pub record TellsUndone (old : Parts (List ℕ) V O) (g : ℕ) (many more : ℕ) (undone : List (List ℕ)) : Type 0 where
+    pub keys : (s : List ℕ) → is_in bytes_cmp undone s ≡ has g (tags_at (undo_state_of bytes_cmp old) s)
+    pub count : many ≡ length undone
+    pub struck : more ≡ length (struck_with g old.opens)
+
+  abbrev pub CommitPost : ByteView V O → Token → Result Committed Token → ByteView V O → Type 0
+  CommitPost old token (Ok commit.Done) new = (token.kernel ≡ old.parts.guesses.kernel) × Commits bytes_cmp old.parts token.id new.parts
+  CommitPost old token (Ok commit.Gone) new = (token.kernel ≡ old.parts.guesses.kernel) × Forgets bytes_cmp old.parts token.id new.parts
+  CommitPost old token (Err back) new = IsStranger old.parts token × (back ≡ token) × (new.parts ≡ old.parts)
+
+  abbrev pub FailPost : ByteView V O → Token → Result Unmade Token → ByteView V O → Type 0
+  FailPost old token (Ok (unmade.Done keys struck)) new =
+      (token.kernel ≡ old.parts.guesses.kernel) × TellsUndone old.parts token.id keys struck new.undone × FailsIn bytes_cmp old.parts token.id new.parts
+  FailPost old token (Ok unmade.Gone) new = (token.kernel ≡ old.parts.guesses.kernel) × Forgets bytes_cmp old.parts token.id new.parts
+  FailPost old token (Err back) new = IsStranger old.parts token × (back ≡ token) × (new.parts ≡ old.parts)

@@ -1,0 +1,76 @@
+-- What a kernel over numbers is, told of the byte strings that have them.
+use Rattle.std.specs.Prelude.{◌≡◌, ℕ, true, List, [], ◌∷◌, Option, Some, None, refl}
+use Rattle.std.specs.Coded.{Coded, code_by, coded×, coded_ℕ, coded_list}
+use Rattle.std.specs.Ordering.{nat_cmp}
+use Rattle.std.specs.FinMap.{FinMap, empty, entries}
+use Rattle.sk_record.specs.Run.{put}
+use Rattle.sk_record.specs.Effects.{is_in}
+use Rattle.sk_record.specs.Notes.{Note}
+use Rattle.sk_record.specs.declared.status.Status.{Status}
+use Rattle.sk_guesses.specs.Kept.{AreStatuses}
+use Rattle.sk_slots.specs.Slot.{SlotView}
+use Rattle.sk_slots.specs.Slots.{look_at, log_at}
+use Rattle.sk_index.specs.Index.{Numbered, bytes_cmp, number_of, string_of}
+use Rattle.sk_speculator.specs.Parts.{Parts, parts_code}
+
+module _ {V : Type 0} where
+  -- a slot with this, where there is anything
+  abbrev pub shown : Option V → List (Note V) → Option (SlotView V)
+  shown None [] = None
+  shown None (n ∷ ns) = Some (record { value = None; log = n ∷ ns; ready = None })
+  shown (Some v) log = Some (record { value = Some v; log = log; ready = None })
+
+  abbrev pub slot_shown : List (ℕ × SlotView V) → ℕ → Option (SlotView V)
+  slot_shown slots n = shown (look_at nat_cmp slots n) (log_at nat_cmp slots n)
+
+  -- each string has the slot of its number
+  abbrev pub slots_told : Numbered → List (ℕ × SlotView V) → FinMap bytes_cmp (SlotView V)
+  slots_told [] slots = empty
+  slots_told (e ∷ es) slots = put (slots_told es slots) e.0 (slot_shown slots e.1)
+
+  -- each note rests on something
+  abbrev pub AllRest : List (Note V) → Type 0
+  AllRest [] = Unit {0}
+  AllRest (n ∷ ns) = (n.tags ≡ [] → ⊥) × AllRest ns
+
+-- the parts, told of the strings
+abbrev pub told_of : {V O : Type 0} → Numbered → Parts ℕ V O → Parts (List ℕ) V O
+told_of es m = record { slots = entries (slots_told es m.slots); guesses = m.guesses; opens = m.opens; said = m.said }
+
+-- a string has a number just where that number is the string's
+pub record IsTwoWay (es : Numbered) : Type 0 where
+  pub there : (s : List ℕ) (n : ℕ) → number_of es s ≡ Some n → string_of es n ≡ Some s
+  pub back : (s : List ℕ) (n : ℕ) → string_of es n ≡ Some s → number_of es s ≡ Some n
+
+-- what callers see: the parts, and the keys that the last failure took back
+pub record ByteView (V O : Type 0) : Type 0 where
+  pub parts : Parts (List ℕ) V O
+  pub undone : List (List ℕ)
+
+abbrev pub byte_code : {V O : Type 0} → Coded V → Coded O → Coded (ByteView V O)
+byte_code {V} {O} v o =
+    code_by (Parts (List ℕ) V O × List (List ℕ)) (coded× (parts_code (coded_list coded_ℕ) v o) (coded_list (coded_list coded_ℕ)))
+    (λ b. (b.parts, b.undone)) (λ p. record { parts = p.0; undone = p.1 }) (λ _. refl)
+
+abbrev pub with_string : Option (List ℕ) → List (List ℕ) → List (List ℕ)
+with_string None rest = rest
+with_string (Some s) rest = s ∷ rest
+
+-- the strings of these numbers
+abbrev pub strings_of : Numbered → List ℕ → List (List ℕ)
+strings_of es [] = []
+strings_of es (n ∷ ns) = with_string (string_of es n) (strings_of es ns)
+
+-- each key that is there or rests on something has a number, and each note rests on something
+pub record Fits {V O : Type 0} (es : Numbered) (m : Parts ℕ V O) : Type 0 where
+  pub two_way : IsTwoWay es
+  pub rests : (n : ℕ) → AllRest (log_at nat_cmp m.slots n)
+  pub used : (n : ℕ) → string_of es n ≡ None → slot_shown m.slots n ≡ None
+  -- some statuses of all guesses agree with what is kept of them
+  pub status : ℕ → Option Status
+  pub agrees : AreStatuses m.guesses m.opens status
+
+-- between calls: so it is, and each key that the last failure took back has a number still
+pub record IsTold {V O : Type 0} (es : Numbered) (m : Parts ℕ V O) (undone : List ℕ) : Type 0 where
+  pub fits : Fits es m
+  pub held : (n : ℕ) → is_in nat_cmp undone n ≡ true → string_of es n ≡ None → ⊥

@@ -1,0 +1,189 @@
+//! Numbers for the keys of a step, and what becomes of them behind it.
+ghost use Rattle.std.specs.Prelude.{◌≡◌, ◌∷◌, ◌++◌, ◌<◌, ℕ, Bool, [], None, Some, is_none, length, map, IfOk, OnErr, OnOk};
+ghost use Rattle.std.specs.Ordering.{nat_cmp};
+ghost use Rattle.std.specs.Vec.{vec_capacity, vec_items, vec_len};
+ghost use Rattle.sk_record.specs.Effects.{is_in};
+ghost use Rattle.sk_renamed.specs.Renamed.{at_key, keys_of};
+ghost use Rattle.sk_slots.specs.Slots.{log_at};
+ghost use Rattle.sk_index.specs.Index.{number_of};
+ghost use Rattle.sk_bytes.specs.Told.{slot_shown, AllRest, IsTwoWay};
+ghost use Rattle.sk_bytes.specs.Numbers.{exchanged, names, AreNames, Gains, LetsGo};
+
+use crate::ByteStep;
+use sk_index::{Index, Number};
+use sk_speculator::{Speculator, Step};
+use std::alloc::AllocError;
+use std::mem;
+
+/// Whether a key is absent and rests on nothing.
+fn is_bare<V, O>(kernel: &Speculator<Number, V, O>, number: Number) -> bool
+    requires { AllRest (log_at nat_cmp kernel.now.slots number) }
+    ensures { result ≡ is_none (slot_shown kernel.now.slots number) }
+{
+    kernel.value(&number).is_none() && kernel.tags_of(&number).ids().is_empty()
+}
+
+/// Gives a number back whose key is absent and rests on nothing. This takes no memory.
+fn give_back<V, O>(index: &mut Index, kernel: &Speculator<Number, V, O>, number: Number)
+    requires two_way { IsTwoWay index.old }
+    requires rests { AllRest (log_at nat_cmp kernel.now.slots number) }
+    ensures { LetsGo index.old (is_in nat_cmp (number ∷ [])) kernel.now.slots index.new }
+{
+    if is_bare(kernel, number) {
+        index.remove(number);
+    }
+}
+
+/// Gives those of these numbers back whose keys are absent and rest on nothing.
+pub(crate) fn give_back_all<V, O>(
+    index: &mut Index,
+    kernel: &Speculator<Number, V, O>,
+    numbers: &[Number],
+)
+    requires two_way { IsTwoWay index.old }
+    requires rests { (n : ℕ) → AllRest (log_at nat_cmp kernel.now.slots n) }
+    ensures { LetsGo index.old (is_in nat_cmp numbers.now) kernel.now.slots index.new }
+{
+    for number in numbers {
+        give_back(index, kernel, *number);
+    }
+}
+
+/// Gives each number back whose key is absent and rests on nothing, where there is no memory for a list of them.
+fn give_back_unused<V, O>(index: &mut Index, kernel: &Speculator<Number, V, O>)
+    requires two_way { IsTwoWay index.old }
+    requires rests { (n : ℕ) → AllRest (log_at nat_cmp kernel.now.slots n) }
+    ensures { (some : ℕ → Bool) × LetsGo index.old some kernel.now.slots index.new }
+{
+    for place in 0..index.places() {
+        give_back(index, kernel, Number::new(place));
+    }
+}
+
+/// Gives numbers back whose keys are absent and rest on nothing: these, or where there was no memory for them, all.
+pub(crate) fn give_back_any<V, O>(
+    index: &mut Index,
+    kernel: &Speculator<Number, V, O>,
+    numbers: Result<Vec<Number>, AllocError>,
+)
+    requires two_way { IsTwoWay index.old }
+    requires rests { (n : ℕ) → AllRest (log_at nat_cmp kernel.now.slots n) }
+    ensures { (some : ℕ → Bool) × LetsGo index.old some kernel.now.slots index.new }
+{
+    match numbers {
+        Ok(numbers) => give_back_all(index, kernel, numbers.as_slice()),
+        Err(AllocError) => give_back_unused(index, kernel),
+    }
+}
+
+/// The number of a key, which it is given where it has none.
+fn number_for(index: &mut Index, key: &[u8]) -> Result<Number, AllocError>
+    requires { IsTwoWay index.old }
+    ensures ok { IfOk result (λ n. number_of index.new key.now ≡ Some n) }
+    ensures more { IfOk result (λ n. Gains index.old (n ∷ []) index.new) }
+    ensures err { OnErr result (index.new ≡ index.old) }
+{
+    match index.find(key) {
+        Some(number) => Ok(number),
+        None => index.add(key),
+    }
+}
+
+/// Numbers for what a step writes, without the values. Those that were given are among the loose ones, also where memory ends.
+fn number_written<V>(
+    index: &mut Index,
+    written: &[(Vec<u8>, Option<V>)],
+    numbered: &mut Vec<(Number, Option<V>)>,
+    loose: &mut Vec<Number>,
+) -> Result<(), AllocError>
+    requires two_way { IsTwoWay index.old }
+    requires numbered { numbered.old.items ≡ [] }
+    requires loose { loose.old.items ≡ [] }
+    ensures gains { Gains index.old loose.new.items index.new }
+    ensures ok { OnOk result
+        (AreNames (number_of index.new) (map (λ w. vec_items w.0) written.now)
+        (names numbered.new.items)) }
+    ensures loose { OnOk result (loose.new.items ≡ names numbered.new.items) }
+{
+    for write in written {
+        loose.reserve(1)?;
+        numbered.reserve(1)?;
+        let number = number_for(index, write.0.as_slice())?;
+        loose.push_reserved(number);
+        numbered.push_reserved((number, None));
+    }
+    Ok(())
+}
+
+/// Adds a number to a list, where there is one.
+fn push_found(numbered: &mut Vec<Number>, found: Option<Number>)
+    requires { vec_len numbered.old < vec_capacity numbered.old }
+    ensures { numbered.new.items ≡ numbered.old.items ++ at_key [] (λ n. n ∷ []) found }
+{
+    if let Some(number) = found {
+        numbered.push_reserved(number);
+    }
+}
+
+/// The numbers of the keys that a step looked at. One that has none is absent and rests on nothing.
+fn number_looked(
+    index: &Index,
+    looked: &[Vec<u8>],
+    numbered: &mut Vec<Number>,
+) -> Result<(), AllocError>
+    requires { numbered.old.items ≡ [] }
+    ensures { OnOk result
+        (numbered.new.items ≡ keys_of (number_of index.now) (map vec_items looked.now)) }
+{
+    for key in looked {
+        numbered.reserve(1)?;
+        push_found(numbered, index.find(key.as_slice()));
+    }
+    Ok(())
+}
+
+/// Numbers for the keys of a step, without its values. Those that were given are among the loose ones, also where memory ends.
+pub(crate) fn number_step<V, O>(
+    index: &mut Index,
+    step: &ByteStep<V, O>,
+    numbered: &mut Step<Number, V, O>,
+    loose: &mut Vec<Number>,
+) -> Result<(), AllocError>
+    requires two_way { IsTwoWay index.old }
+    requires looked { numbered.old.looked.items ≡ [] }
+    requires written { numbered.old.written.items ≡ [] }
+    requires loose { loose.old.items ≡ [] }
+    ensures gains { Gains index.old loose.new.items index.new }
+    ensures looked { OnOk result
+        (numbered.new.looked.items
+        ≡ keys_of (number_of index.new) (map vec_items step.now.looked.items)) }
+    ensures written { OnOk result
+        (AreNames (number_of index.new) (map (λ w. vec_items w.0) step.now.written.items)
+        (names numbered.new.written.items)) }
+    ensures loose { OnOk result (loose.new.items ≡ names numbered.new.written.items) }
+    ensures said { numbered.new.said ≡ numbered.old.said }
+{
+    number_written(index, step.written.as_slice(), &mut numbered.written, loose)?;
+    number_looked(index, step.looked.as_slice(), &mut numbered.looked)
+}
+
+/// Exchanges what two have behind their names.
+fn exchange_one<A, B, V>(left: &mut (A, V), right: &mut (B, V))
+    ensures left { left.new ≡ (left.old.0, right.old.1) }
+    ensures right { right.new ≡ (right.old.0, left.old.1) }
+{
+    mem::swap(&mut left.1, &mut right.1);
+}
+
+/// Exchanges what stands behind names, place by place.
+pub(crate) fn exchange<A, B, V>(left: &mut Vec<(A, V)>, right: &mut Vec<(B, V)>)
+    requires { length left.old.items ≡ length right.old.items }
+    ensures left { left.new.items ≡ exchanged left.old.items right.old.items }
+    ensures right { right.new.items ≡ exchanged right.old.items left.old.items }
+    ensures left_room { vec_capacity left.new ≡ vec_capacity left.old }
+    ensures right_room { vec_capacity right.new ≡ vec_capacity right.old }
+{
+    for place in 0..left.len() {
+        exchange_one(&mut left[place], &mut right[place]);
+    }
+}

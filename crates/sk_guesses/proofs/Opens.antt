@@ -160,7 +160,7 @@ none_named g h (o ∷ os) none =
       | false ↦ λ e. none_named g h os e
     ] none
 
-not_above : (x g : ℕ) (xs : List ℕ) → (x == g) ≡ true → AllByRecursion (λ y. nat_cmp x y ≡ Less) xs → has g xs ≡ false
+pub not_above : (x g : ℕ) (xs : List ℕ) → (x == g) ≡ true → AllByRecursion (λ y. nat_cmp x y ≡ Less) xs → has g xs ≡ false
 not_above x g xs is all =
     elim (has g xs) as (λ b. has g xs ≡ b → b ≡ false) [
       | true ↦ λ here. let more = above x xs g all here in let same = eqb-true x g is in absurd (omega arith)

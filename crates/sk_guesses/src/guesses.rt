@@ -19,9 +19,10 @@ ghost use Rattle.sk_guesses.specs.Calls.{Draws, redeemed};
 
 use crate::open_guess::OpenGuess;
 use crate::open_list::{
-    are_earlier, close, close_committed, close_resting, depend_on, is_rested_on, make_room,
-    place_of, take_list,
+    are_earlier, close, close_committed, close_resting, depend_on, is_rested_on, leave_to,
+    make_room, oldest, place_of, relieve, take_list,
 };
+use crate::row::Row;
 use crate::settled::{Settled, status_at};
 use crate::{EntitySet, Guess, Redeemed, Status};
 use sk_ids::{GuessId, TagSet};
@@ -52,7 +53,7 @@ pub struct Guesses<E: Key> {
     earlier: Settled,
     statuses: Vec<Status>,
     /// The undecided guesses, by rising number.
-    opens: Vec<OpenGuess<E>>,
+    opens: Row<OpenGuess<E>>,
     /// The list with which the next guess begins: room, and no entity yet.
     next: EntitySet<E>,
 }
@@ -72,7 +73,7 @@ impl<E: Key> Model for Guesses<E> {
       };
       opens = map (λ l. l.guess) a.opens.items;
       places = vec_capacity a.statuses;
-      keys = vec_capacity a.opens;
+      keys = a.opens.places;
       next = a.next.room;
     } };
 
@@ -106,16 +107,16 @@ fn strike_one<E: Key>(statuses: &mut Vec<Status>, before: usize, open: &OpenGues
 fn strike_all<E: Key>(
     statuses: &mut Vec<Status>,
     before: usize,
-    opens: &[OpenGuess<E>],
+    opens: &Row<OpenGuess<E>>,
     id: GuessId,
 )
-    requires { (k : ℕ) (d : Listing E) → k < length opens.now
-        → (slice_index_or opens.now k d).guess.id - before - 1 < length statuses.old.items }
+    requires { (k : ℕ) (d : Listing E) → k < length opens.now.items
+        → (slice_index_or opens.now.items k d).guess.id - before - 1 < length statuses.old.items }
     ensures { statuses.new.items
-        ≡ struck_by before id (map (λ l. l.guess) opens.now) statuses.old.items }
+        ≡ struck_by before id (map (λ l. l.guess) opens.now.items) statuses.old.items }
 {
-    for open in opens {
-        strike_one(statuses, before, open, id);
+    for place in 0..opens.len() {
+        strike_one(statuses, before, opens.at(place), id);
     }
 }
 
@@ -130,7 +131,7 @@ impl<E: Key> Guesses<E> {
             kernel,
             earlier: Settled::new(alloc),
             statuses: Vec::new(alloc),
-            opens: Vec::new(alloc),
+            opens: Row::new(alloc),
             next: EntitySet::new(alloc),
         }
     }
@@ -163,10 +164,7 @@ impl<E: Key> Guesses<E> {
     pub fn oldest(&self) -> Option<GuessId>
         ensures { (g : ℕ) → unwrap_or result g ≡ get_or (numbers (opens_of self.now.opens)) 0 g }
     {
-        match self.opens.first() {
-            Some(open) => Some(open.id()),
-            None => None,
-        }
+        oldest(&self.opens)
     }
 
     /// The entities that rest on a guess, by rising order; none where it is not undecided.
@@ -177,11 +175,11 @@ impl<E: Key> Guesses<E> {
             → has id (numbers (opens_of self.now.opens)) ≡ true }
         ensures none { status_since self.now.view id ≢ Some Undecided → result.now ≡ [] }
     {
-        let place = place_of(self.opens.as_slice(), id);
+        let place = place_of(&self.opens, id);
         if place >= self.opens.len() {
             return &[];
         }
-        self.opens[place].dependents()
+        self.opens.at(place).dependents()
     }
 
     /// Moves out the list of the entities that rest on a guess, for its decision.
@@ -294,7 +292,7 @@ impl<E: Key> Guesses<E> {
             (self.new.opens ≡ map (depending E.order tags.now entity.now) self.old.opens) }
         ensures err { OnErr result (self.new.opens ≡ self.old.opens) }
     {
-        if are_earlier(self.opens.as_slice(), tags) {
+        if are_earlier(&self.opens, tags) {
             return Ok(());
         }
         make_room(&mut self.opens, tags)?;
@@ -307,10 +305,7 @@ impl<E: Key> Guesses<E> {
         ensures view { self.new.view ≡ self.old.view }
         ensures opens { self.new.opens ≡ map (relieved E.order tags.now entity.now) self.old.opens }
     {
-        self.opens.retain_mut(|open: &mut OpenGuess<E>| {
-            open.relieve(tags, entity);
-            true
-        });
+        relieve(&mut self.opens, tags, entity);
     }
 
     /// Leaves an entity to the lists of these guesses alone.
@@ -318,10 +313,7 @@ impl<E: Key> Guesses<E> {
         ensures view { self.new.view ≡ self.old.view }
         ensures opens { self.new.opens ≡ map (left_to E.order tags.now entity.now) self.old.opens }
     {
-        self.opens.retain_mut(|open: &mut OpenGuess<E>| {
-            open.leave_to(tags, entity);
-            true
-        });
+        leave_to(&mut self.opens, tags, entity);
     }
 
     /// Takes a token in, or hands it back where it is another kernel's, or its guess is neither
@@ -410,15 +402,10 @@ impl<E: Key> Guesses<E> {
         ensures drawn { length self.new.view.statuses ≡ length self.old.view.statuses }
         ensures opens { self.new.opens ≡ not_resting id self.old.opens }
     {
-        if !is_rested_on(self.opens.as_slice(), id) {
+        if !is_rested_on(&self.opens, id) {
             return;
         }
-        strike_all(
-            &mut self.statuses,
-            self.earlier.len(),
-            self.opens.as_slice(),
-            id,
-        );
+        strike_all(&mut self.statuses, self.earlier.len(), &self.opens, id);
         close_resting(&mut self.opens, id);
     }
 }

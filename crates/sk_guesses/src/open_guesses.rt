@@ -15,8 +15,10 @@ ghost use Rattle.sk_guesses.specs.Opens.{after_commit, depending, dependents_of,
 
 use crate::open_guess::OpenGuess;
 use crate::open_list::{
-    are_earlier, close_committed, close_resting, depend_on, make_room, place_of, take_list,
+    are_earlier, close_committed, close_resting, depend_on, leave_to, make_room, oldest, place_of,
+    take_list,
 };
+use crate::row::Row;
 use crate::{EntitySet, Guess, Redeemed, Status};
 use sk_ids::{GuessId, TagSet};
 use sk_map::Key;
@@ -33,7 +35,7 @@ pub struct OpenGuesses<E: Key> {
     limit: u16,
     drawn: u64,
     /// The undecided guesses, by rising number.
-    opens: Vec<OpenGuess<E>>,
+    opens: Row<OpenGuess<E>>,
     /// The list with which the next guess begins: room, and no entity yet.
     next: EntitySet<E>,
     struck: Vec<GuessId>,
@@ -53,7 +55,7 @@ impl<E: Key> Model for OpenGuesses<E> {
         struck = a.struck.items;
       };
       opens = map (λ l. l.guess) a.opens.items;
-      places = vec_capacity a.opens;
+      places = a.opens.places;
       strikes = vec_capacity a.struck;
       next = a.next.room;
     } };
@@ -89,14 +91,14 @@ fn note_struck<E: Key>(struck: &mut Vec<GuessId>, open: &OpenGuess<E>, id: Guess
 }
 
 /// Notes the guesses that the failure of one strikes, for which there is room.
-fn strike_all<E: Key>(struck: &mut Vec<GuessId>, opens: &[OpenGuess<E>], id: GuessId)
-    requires { length struck.old.items + length opens.now ≤ vec_capacity struck.old }
+fn strike_all<E: Key>(struck: &mut Vec<GuessId>, opens: &Row<OpenGuess<E>>, id: GuessId)
+    requires { length struck.old.items + length opens.now.items ≤ vec_capacity struck.old }
     ensures struck { struck.new.items
-        ≡ struck.old.items ++ struck_with id (opens_of (map (λ l. l.guess) opens.now)) }
+        ≡ struck.old.items ++ struck_with id (opens_of (map (λ l. l.guess) opens.now.items)) }
     ensures room { vec_capacity struck.new ≡ vec_capacity struck.old }
 {
-    for open in opens {
-        note_struck(struck, open, id);
+    for place in 0..opens.len() {
+        note_struck(struck, opens.at(place), id);
     }
 }
 
@@ -130,7 +132,7 @@ impl<E: Key> OpenGuesses<E> {
             kernel,
             limit,
             drawn: 0,
-            opens: Vec::new(alloc),
+            opens: Row::new(alloc),
             next: EntitySet::new(alloc),
             struck: Vec::new(alloc),
         }
@@ -170,10 +172,7 @@ impl<E: Key> OpenGuesses<E> {
     pub fn oldest(&self) -> Option<GuessId>
         ensures { (g : ℕ) → unwrap_or result g ≡ get_or (numbers (opens_of self.now.opens)) 0 g }
     {
-        match self.opens.first() {
-            Some(open) => Some(open.id()),
-            None => None,
-        }
+        oldest(&self.opens)
     }
 
     /// The struck guesses whose tokens have not come back, in the order in which they were struck.
@@ -202,7 +201,7 @@ impl<E: Key> OpenGuesses<E> {
     fn is_open(&self, id: GuessId) -> bool
         ensures { result ≡ has id (numbers (opens_of self.now.opens)) }
     {
-        place_of(self.opens.as_slice(), id) < self.opens.len()
+        place_of(&self.opens, id) < self.opens.len()
     }
 
     /// What is known of a guess: that it is undecided, or that it is struck and its token is out.
@@ -225,11 +224,11 @@ impl<E: Key> OpenGuesses<E> {
         ensures none { known self.now.view (opens_of self.now.opens) id ≢ Some Undecided
             → result.now ≡ [] }
     {
-        let place = place_of(self.opens.as_slice(), id);
+        let place = place_of(&self.opens, id);
         if place >= self.opens.len() {
             return &[];
         }
-        self.opens[place].dependents()
+        self.opens.at(place).dependents()
     }
 
     /// Moves out the list of the entities that rest on a guess, for its decision.
@@ -289,7 +288,7 @@ impl<E: Key> OpenGuesses<E> {
             (self.new.opens ≡ map (depending E.order tags.now entity.now) self.old.opens) }
         ensures err { OnErr result (self.new.opens ≡ self.old.opens) }
     {
-        if are_earlier(self.opens.as_slice(), tags) {
+        if are_earlier(&self.opens, tags) {
             return Ok(());
         }
         make_room(&mut self.opens, tags)?;
@@ -302,10 +301,7 @@ impl<E: Key> OpenGuesses<E> {
         ensures view { self.new.view ≡ self.old.view }
         ensures opens { self.new.opens ≡ map (left_to E.order tags.now entity.now) self.old.opens }
     {
-        self.opens.retain_mut(|open: &mut OpenGuess<E>| {
-            open.leave_to(tags, entity);
-            true
-        });
+        leave_to(&mut self.opens, tags, entity);
     }
 
     /// Takes a token in, or hands it back where it is another kernel's, or its guess is neither undecided nor struck. A
@@ -360,7 +356,7 @@ impl<E: Key> OpenGuesses<E> {
             (with_failure id (opens_of self.old.opens) status) }
     {
         let before = self.struck.len();
-        strike_all(&mut self.struck, self.opens.as_slice(), id);
+        strike_all(&mut self.struck, &self.opens, id);
         close_resting(&mut self.opens, id);
         self.struck.len() - before
     }

@@ -1,22 +1,24 @@
 //! The open guesses of a list, by rising number, and what calls make of all of them.
-ghost use Rattle.std.specs.Prelude.{◌≡◌, ◌<◌, ◌≤◌, ◌==◌, ℕ, true, length, map, not, slice_index_or, OnOk};
+ghost use Rattle.std.specs.Prelude.{◌≡◌, ◌<◌, ◌≤◌, ◌==◌, ℕ, true, length, map, not, slice_index_or, get_or, OnOk};
 ghost use Rattle.std.specs.List.{list_any, prefix_len};
 ghost use Rattle.std.specs.List.Sorted.{IsStrictlySortedBy};
+ghost use Rattle.std.specs.Option.{unwrap_or};
 ghost use Rattle.std.specs.Ordering.{nat_cmp};
 ghost use Rattle.sk_record.specs.Notes.{has};
 ghost use Rattle.sk_record.specs.UndoState.{numbers};
-ghost use Rattle.sk_guesses.specs.Opens.{opens_of, dependents_of, depending, but, not_resting, after_commit, without_list};
+ghost use Rattle.sk_guesses.specs.Opens.{opens_of, dependents_of, depending, relieved, left_to, without_tag, but, not_resting, after_commit, without_list};
 ghost use Rattle.sk_guesses.specs.Room.{Listing};
 
 use crate::EntitySet;
 use crate::open_guess::OpenGuess;
+use crate::row::Row;
 use sk_ids::{GuessId, TagSet};
 use sk_map::Key;
 use std::alloc::{AllocError, Global};
 
 /// Makes room for one entity more in the lists of these guesses.
 pub(crate) fn make_room<E: Key>(
-    opens: &mut Vec<OpenGuess<E>>,
+    opens: &mut Row<OpenGuess<E>>,
     tags: &TagSet,
 ) -> Result<(), AllocError>
     ensures same { map (λ l. l.guess) opens.new.items ≡ map (λ l. l.guess) opens.old.items }
@@ -26,13 +28,13 @@ pub(crate) fn make_room<E: Key>(
         → 0 < (slice_index_or opens.new.items k d).room) }
 {
     for place in 0..opens.len() {
-        opens[place].reserve(tags)?;
+        opens.at_mut(place).reserve(tags)?;
     }
     Ok(())
 }
 
 /// Adds an entity to the lists of these guesses, where there is room for it.
-pub(crate) fn depend_on<E: Key>(opens: &mut Vec<OpenGuess<E>>, tags: &TagSet, entity: &E)
+pub(crate) fn depend_on<E: Key>(opens: &mut Row<OpenGuess<E>>, tags: &TagSet, entity: &E)
     requires { (k : ℕ) (d : Listing E) → k < length opens.old.items
         → has (slice_index_or opens.old.items k d).guess.id tags.now ≡ true
         → 0 < (slice_index_or opens.old.items k d).room }
@@ -40,45 +42,42 @@ pub(crate) fn depend_on<E: Key>(opens: &mut Vec<OpenGuess<E>>, tags: &TagSet, en
         ≡ map (depending E.order tags.now entity.now) (map (λ l. l.guess) opens.old.items) }
 {
     for place in 0..opens.len() {
-        opens[place].depend(tags, entity);
+        opens.at_mut(place).depend(tags, entity);
     }
 }
 
 /// Whether none of these guesses is in a set, as where each in it was drawn later.
-pub(crate) fn are_earlier<E: Key>(opens: &[OpenGuess<E>], tags: &TagSet) -> bool
-    requires { IsStrictlySortedBy nat_cmp (numbers (opens_of (map (λ l. l.guess) opens.now))) }
+pub(crate) fn are_earlier<E: Key>(opens: &Row<OpenGuess<E>>, tags: &TagSet) -> bool
+    requires { IsStrictlySortedBy nat_cmp (numbers (opens_of (map (λ l. l.guess) opens.now.items))) }
     ensures { result ≡ true → (e : E)
-        → map (depending E.order tags.now e) (map (λ l. l.guess) opens.now) ≡ map (λ l. l.guess) opens.now }
+        → map (depending E.order tags.now e) (map (λ l. l.guess) opens.now.items) ≡ map (λ l. l.guess) opens.now.items }
 {
-    let [.., newest] = opens else {
+    if opens.len() == 0 {
         return true;
-    };
+    }
     let ids = tags.ids();
     let [oldest, ..] = ids else {
         return true;
     };
+    let newest = opens.at(opens.len() - 1);
     newest.id().number() < oldest.number()
 }
 
 /// How many undecided guesses stand before one.
-pub(crate) fn place_of<E: Key>(opens: &[OpenGuess<E>], id: GuessId) -> usize
-    ensures { result ≡ prefix_len (λ l. not (l.guess.id == id)) opens.now }
+pub(crate) fn place_of<E: Key>(opens: &Row<OpenGuess<E>>, id: GuessId) -> usize
+    ensures { result ≡ prefix_len (λ l. not (l.guess.id == id)) opens.now.items }
 {
-    opens
-        .iter()
-        .take_while(|open| is_another(*open, id))
-        .count()
-}
-
-fn is_another<E: Key>(open: &OpenGuess<E>, id: GuessId) -> bool
-    ensures { result ≡ not (open.now.guess.id == id) }
-{
-    open.id() != id
+    for place in 0..opens.len() {
+        if opens.at(place).id() == id {
+            return place;
+        }
+    }
+    opens.len()
 }
 
 /// Moves out the list of a guess.
 pub(crate) fn take_list<E: Key>(
-    opens: &mut Vec<OpenGuess<E>>,
+    opens: &mut Row<OpenGuess<E>>,
     alloc: Global,
     id: GuessId,
 ) -> EntitySet<E>
@@ -87,46 +86,104 @@ pub(crate) fn take_list<E: Key>(
         ≡ without_list id (map (λ l. l.guess) opens.old.items) }
     ensures as_many { length opens.new.items ≡ length opens.old.items }
 {
-    let place = place_of(opens.as_slice(), id);
+    let place = place_of(opens, id);
     if place >= opens.len() {
         return EntitySet::new(alloc);
     }
-    opens[place].take_dependents(alloc)
+    opens.at_mut(place).take_dependents(alloc)
 }
 
 /// Takes a guess out of the undecided ones.
-pub(crate) fn close<E: Key>(opens: &mut Vec<OpenGuess<E>>, id: GuessId)
+pub(crate) fn close<E: Key>(opens: &mut Row<OpenGuess<E>>, id: GuessId)
+    requires { IsStrictlySortedBy nat_cmp
+        (numbers (opens_of (map (λ l. l.guess) opens.old.items))) }
     ensures opens { map (λ l. l.guess) opens.new.items
         ≡ but id (map (λ l. l.guess) opens.old.items) }
     ensures fewer { length opens.new.items ≤ length opens.old.items }
 {
-    opens.retain(|open: &OpenGuess<E>| open.id() != id);
+    let place = place_of(opens, id);
+    if place < opens.len() {
+        opens.remove(place);
+    }
 }
 
-/// The same, and out of what the steps of the others rest on.
-pub(crate) fn close_committed<E: Key>(opens: &mut Vec<OpenGuess<E>>, id: GuessId)
+/// Takes a guess out of what the own steps of these rest on.
+fn withdraw<E: Key>(opens: &mut Row<OpenGuess<E>>, id: GuessId)
+    ensures opens { map (λ l. l.guess) opens.new.items
+        ≡ map (without_tag id) (map (λ l. l.guess) opens.old.items) }
+    ensures as_many { length opens.new.items ≡ length opens.old.items }
+{
+    for place in 0..opens.len() {
+        opens.at_mut(place).without(id);
+    }
+}
+
+/// Takes a guess out of the undecided ones, and out of what the steps of the others rest on.
+pub(crate) fn close_committed<E: Key>(opens: &mut Row<OpenGuess<E>>, id: GuessId)
+    requires { IsStrictlySortedBy nat_cmp
+        (numbers (opens_of (map (λ l. l.guess) opens.old.items))) }
     ensures opens { map (λ l. l.guess) opens.new.items
         ≡ after_commit id (map (λ l. l.guess) opens.old.items) }
     ensures fewer { length opens.new.items ≤ length opens.old.items }
 {
-    opens.retain_mut(|open: &mut OpenGuess<E>| {
-        open.without(id);
-        open.id() != id
-    });
+    close(opens, id);
+    withdraw(opens, id);
 }
 
 /// Takes the guesses out of the undecided ones whose own steps rest on a guess.
-pub(crate) fn close_resting<E: Key>(opens: &mut Vec<OpenGuess<E>>, id: GuessId)
+pub(crate) fn close_resting<E: Key>(opens: &mut Row<OpenGuess<E>>, id: GuessId)
     ensures opens { map (λ l. l.guess) opens.new.items
         ≡ not_resting id (map (λ l. l.guess) opens.old.items) }
     ensures fewer { length opens.new.items ≤ length opens.old.items }
 {
-    opens.retain(|open: &OpenGuess<E>| !open.rests_on(id));
+    for place in (0..opens.len()).rev() {
+        if opens.at(place).rests_on(id) {
+            opens.remove(place);
+        }
+    }
 }
 
 /// Whether the own step of one of these guesses rests on a guess.
-pub(crate) fn is_rested_on<E: Key>(opens: &[OpenGuess<E>], id: GuessId) -> bool
-    ensures { result ≡ list_any (λ l. has id l.guess.tags) opens.now }
+pub(crate) fn is_rested_on<E: Key>(opens: &Row<OpenGuess<E>>, id: GuessId) -> bool
+    ensures { result ≡ list_any (λ l. has id l.guess.tags) opens.now.items }
 {
-    opens.iter().any(|open: &OpenGuess<E>| open.rests_on(id))
+    for place in 0..opens.len() {
+        if opens.at(place).rests_on(id) {
+            return true;
+        }
+    }
+    false
+}
+
+/// The oldest of these guesses.
+pub(crate) fn oldest<E: Key>(opens: &Row<OpenGuess<E>>) -> Option<GuessId>
+    ensures { (g : ℕ) → unwrap_or result g
+        ≡ get_or (numbers (opens_of (map (λ l. l.guess) opens.now.items))) 0 g }
+{
+    if opens.len() == 0 {
+        return None;
+    }
+    Some(opens.at(0).id())
+}
+
+/// Takes an entity out of the lists of the guesses in a set.
+pub(crate) fn relieve<E: Key>(opens: &mut Row<OpenGuess<E>>, tags: &TagSet, entity: &E)
+    ensures opens { map (λ l. l.guess) opens.new.items
+        ≡ map (relieved E.order tags.now entity.now) (map (λ l. l.guess) opens.old.items) }
+    ensures as_many { length opens.new.items ≡ length opens.old.items }
+{
+    for place in 0..opens.len() {
+        opens.at_mut(place).relieve(tags, entity);
+    }
+}
+
+/// Leaves an entity to the lists of the guesses in a set alone.
+pub(crate) fn leave_to<E: Key>(opens: &mut Row<OpenGuess<E>>, tags: &TagSet, entity: &E)
+    ensures opens { map (λ l. l.guess) opens.new.items
+        ≡ map (left_to E.order tags.now entity.now) (map (λ l. l.guess) opens.old.items) }
+    ensures as_many { length opens.new.items ≡ length opens.old.items }
+{
+    for place in 0..opens.len() {
+        opens.at_mut(place).leave_to(tags, entity);
+    }
 }

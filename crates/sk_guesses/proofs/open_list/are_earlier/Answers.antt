@@ -1,5 +1,5 @@
 -- The newest of these is below the oldest in the set, or the set has none.
-use Rattle.std.proofs.Common.{◌≡◌, ◌≤◌, ◌<◌, ap, length, arith, subst}
+use Rattle.std.proofs.Common.{◌≡◌, ◌≤◌, ◌<◌, ◌-◌, ◌∙◌, ap, length, arith, subst}
 use Rattle.std.specs.Prelude.{slice_index_or}
 use Rattle.std.specs.Ordering.{nat_cmp}
 use Rattle.std.specs.List.Sorted.{IsStrictlySortedBy}
@@ -7,16 +7,19 @@ use Rattle.std.proofs.lemmas.Bool.{ltb-true}
 use Rattle.sk_guesses.proofs.Earlier.{all_earlier, of_no_tags}
 use Rattle.sk_guesses.proofs.open_list.are_earlier.Goals as goal
 
-pub returns-in_default-ids : goal.returns-in_default-ids
-returns-in_default-ids g c = λ is e. of_no_tags g.E.Key.order c.args.tags.now e _ (let same = ap length c.ids-ids.ensures.members in omega (same, c.in_default-ids.len_below, arith))
+pub returns-in_default : goal.returns-in_default
+returns-in_default g c = λ is e. of_no_tags g.E.Key.order c.args.tags.now e _ (let same = ap length c.ids-ids.ensures.members in omega (same, c.in_default.len_below, arith))
 
 pub returns : goal.returns
 returns g c = λ is e.
     let same = c.ids-ids.ensures.members in
-    all_earlier g.E.Key.order c.args.opens.now c.args.tags.now c.newest-item.result c.oldest-item.result e c.requires
+    let ls = c.args.opens.now.items in
+    let newest = c.at-newest.result.now in
+    all_earlier g.E.Key.order ls c.args.tags.now newest c.oldest-item.result e c.requires
     (subst (IsStrictlySortedBy nat_cmp) same c.ids-ids.ensures.rising)
-    c.in-len1-up.len_at_least c.newest-item.is
-    (subst (λ xs. 1 ≤ length xs) same c.in-len1-up-ids.len_at_least)
+    (omega (arith, c.if-len-eq0.false, c.len.ensures))
+    (c.at-newest.ensures ∙ ap (λ n. slice_index_or ls (n - 1) newest) c.len-2.ensures)
+    (subst (λ xs. 1 ≤ length xs) same c.in-len1-up.len_at_least)
     (subst (λ xs. c.oldest-item.result ≡ slice_index_or xs 0 c.oldest-item.result) same c.oldest-item.is)
     (let below : c.number.result < c.number-2.result = ltb-true c.number.result c.number-2.result is in
     omega (below, c.id.ensures, c.number.ensures.value, c.number-2.ensures.value, arith))

@@ -1,10 +1,7 @@
--- What the pass leaves, and what it takes out of each.
-use Rattle.std.proofs.Common.{not, rules}
-use Rattle.std.specs.Prelude.{◌==◌}
-use Rattle.sk_guesses.specs.Opens.{OpenGuess, without_tag}
-use Rattle.sk_guesses.proofs.Opens.{guess_of, in_turn}
+-- The guess goes, and then its tag.
+use Rattle.std.proofs.Common.{◌∙◌, ap, map}
+use Rattle.sk_guesses.specs.Opens.{without_tag}
 use Rattle.sk_guesses.proofs.open_list.close_committed.Goals as goal
 
 pub returns-clause-opens : goal.returns-clause-opens
-returns-clause-opens g c =
-    in_turn _ guess_of (λ (o : OpenGuess _). not (o.id == c.args.id)) (without_tag c.args.id) _ (λ x b t y step. search rules) _ _ c.retain_mut.ensures.filtered
+returns-clause-opens g c = c.withdraw.ensures.opens ∙ ap (map (without_tag c.args.id)) c.close.ensures.opens

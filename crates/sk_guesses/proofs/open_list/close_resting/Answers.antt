@@ -1,12 +1,24 @@
--- What the pass leaves is a filter of what they are seen as.
-use Rattle.std.proofs.Common.{◌∙◌, ap, map, not, rules}
-use Rattle.std.proofs.lemmas.Fn.{filter_same}
+-- At the front of all a filter of them is left.
+use Rattle.std.proofs.Common.{◌≡◌, ◌++◌, ◌∙◌, length, take, drop, ap, map, not, arith}
+use Rattle.std.specs.List.{filter}
 use Rattle.sk_record.specs.Notes.{has}
 use Rattle.sk_guesses.specs.Opens.{OpenGuess}
+use Rattle.sk_guesses.specs.Room.{Listing}
 use Rattle.sk_guesses.proofs.Opens.{guess_of, seen_filter}
+use Rattle.sk_guesses.proofs.Passes.{fewer}
 use Rattle.sk_guesses.proofs.open_list.close_resting.Goals as goal
 
 pub returns-clause-opens : goal.returns-clause-opens
 returns-clause-opens g c =
-    ap (map guess_of) (filter_same _ _ _ (λ x b g h. search rules) _ _ c.retain.ensures.filtered)
-    ∙ seen_filter guess_of (λ (o : OpenGuess _). not (has c.args.id o.tags)) c.args.opens.now.items
+    let os = c.args.opens.now.items in
+    let first : c.loop-place.place ≡ 0 = omega (arith, c.loop-place-test.false) in
+    ap (map guess_of) (c.loop-place.invariant.0 ∙ (λ j. take (first j) os ++ filter (λ (x : Listing _). not (has c.args.id x.guess.tags)) (drop (first j) os)))
+    ∙ seen_filter guess_of (λ (o : OpenGuess _). not (has c.args.id o.tags)) os
+
+pub returns-clause-fewer : goal.returns-clause-fewer
+returns-clause-fewer g c =
+    let os = c.args.opens.now.items in
+    let first : c.loop-place.place ≡ 0 = omega (arith, c.loop-place-test.false) in
+    let as_long = ap length (c.loop-place.invariant.0 ∙ (λ j. take (first j) os ++ filter (λ (x : Listing _). not (has c.args.id x.guess.tags)) (drop (first j) os))) in
+    let no_more = fewer (λ (x : Listing _). not (has c.args.id x.guess.tags)) os in
+    omega (arith, as_long, no_more)

@@ -26,3 +26,6 @@ returns-clause-statuses g c = λ status are here.
     let os = map guess_of c.self.inside.opens.items in
     subst (λ xs. AreStatuses v (opens_of xs) (with_status c.args.id Committed status)) (sym c.close_committed.ensures.opens)
     (statuses_committed v os status c.args.id (subst (λ (r : Kept _). AreStatuses r.view (opens_of r.opens) status) (sym c.self.view_is) are) (ap (λ (r : Kept _). has c.args.id (numbers (opens_of r.opens))) c.self.view_is ∙ here))
+
+pub close_committed-requires : goal.close_committed-requires
+close_committed-requires g c = c.self.invariant.rising

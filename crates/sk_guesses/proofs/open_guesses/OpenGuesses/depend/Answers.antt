@@ -12,12 +12,12 @@ use Rattle.sk_guesses.proofs.Opens.{guess_of, same_opens, depending_keeps}
 use Rattle.sk_guesses.proofs.open_guesses.OpenGuesses.depend.Goals as goal
 
 pub are_earlier-requires : goal.are_earlier-requires
-are_earlier-requires g c = subst (λ ls. IsStrictlySortedBy nat_cmp (numbers (opens_of (map guess_of ls)))) (sym c.as_slice.ensures.value) c.self.invariant.rising
+are_earlier-requires g c = c.self.invariant.rising
 
 pub returns-then-are_earlier-clause-ok : goal.returns-then-are_earlier-clause-ok
 returns-then-are_earlier-clause-ok g c =
     let f = depending g.E.Key.order c.args.tags.now c.args.entity.now in
-    let same = subst (λ ls. map f (map guess_of ls) ≡ map guess_of ls) c.as_slice.ensures.value (c.are_earlier.ensures c.if-are_earlier.true c.args.entity.now) in
+    let same = c.are_earlier.ensures c.if-are_earlier.true c.args.entity.now in
     ap (λ (r : Kept _). r.opens) (sym c.self.view_is) ∙ sym same ∙ ap (λ (r : Kept _). map f r.opens) c.self.view_is
 
 pub invariant_of-self : goal.invariant_of-self

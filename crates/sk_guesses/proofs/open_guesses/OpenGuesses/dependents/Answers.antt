@@ -11,7 +11,7 @@ use Rattle.sk_guesses.proofs.open_guesses.OpenGuesses.dependents.Goals as goal
 pub returns-then-place-len-clause-value : goal.returns-then-place-len-clause-value
 returns-then-place-len-clause-value g c =
     let far : length c.self.inside.opens.items ≤ c.place_of-place.result = omega (arith, c.if-place-len.true, c.len.ensures) in
-    missing c.args.id c.place_of-place.result c.self.inside.opens.items (c.place_of-place.ensures ∙ ap (prefix_len (is_other c.args.id)) c.as_slice.ensures.value) far
+    missing c.args.id c.place_of-place.result c.self.inside.opens.items c.place_of-place.ensures far
     ∙ ap (λ (g : Kept _). dependents_of c.args.id g.opens) c.self.view_is
 
 pub returns-then-place-len-clause-rising : goal.returns-then-place-len-clause-rising
@@ -22,7 +22,7 @@ pub returns-clause-value : goal.returns-clause-value
 returns-clause-value g c =
     let near : c.place_of-place.result < length c.self.inside.opens.items = omega (arith, c.if-place-len.false, c.len.ensures) in
     c.dependents.ensures.value
-    ∙ found c.args.id c.place_of-place.result c.self.inside.opens.items c.index.result.now (c.place_of-place.ensures ∙ ap (prefix_len (is_other c.args.id)) c.as_slice.ensures.value) near c.index.ensures
+    ∙ found c.args.id c.place_of-place.result c.self.inside.opens.items c.at.result.now c.place_of-place.ensures near c.at.ensures
     ∙ ap (λ (g : Kept _). dependents_of c.args.id g.opens) c.self.view_is
 
 pub returns-clause-none : goal.returns-clause-none
@@ -31,6 +31,6 @@ returns-clause-none g c = λ other.
     let os = map guess_of c.self.inside.opens.items in
     let near : c.place_of-place.result < length c.self.inside.opens.items = omega (arith, c.if-place-len.false, c.len.ensures) in
     c.dependents.ensures.value
-    ∙ found c.args.id c.place_of-place.result c.self.inside.opens.items c.index.result.now (c.place_of-place.ensures ∙ ap (prefix_len (is_other c.args.id)) c.as_slice.ensures.value) near c.index.ensures
+    ∙ found c.args.id c.place_of-place.result c.self.inside.opens.items c.at.result.now c.place_of-place.ensures near c.at.ensures
     ∙ none_there c.args.id os
     (not_known v (opens_of os) c.args.id (λ is. other (ap (λ (g : Kept _). known g.view (opens_of g.opens) c.args.id) (sym c.self.view_is) ∙ is)))

@@ -11,7 +11,7 @@ use Rattle.sk_guesses.proofs.Opens.{guess_of}
 use Rattle.sk_guesses.proofs.open_guesses.OpenGuesses.fail.Goals as goal
 
 pub strike_all-requires : goal.strike_all-requires
-strike_all-requires g c = omega (arith, c.self.invariant.places, ap length c.as_slice.ensures.value)
+strike_all-requires g c = c.self.invariant.places
 
 pub returns-clause-machine : goal.returns-clause-machine
 returns-clause-machine g c =
@@ -21,7 +21,7 @@ pub invariant_of-self : goal.invariant_of-self
 invariant_of-self g c =
     let v : KeptView = record { kernel = c.self.inside.kernel; limit = c.self.inside.limit; drawn = c.self.inside.drawn; struck = c.self.inside.struck.items } in
     let so : c.strike_all.new.struck.items ≡ v.struck ++ struck_with c.args.id (opens_of (map guess_of c.self.inside.opens.items)) =
-    c.strike_all.ensures.struck ∙ ap (λ ls. v.struck ++ struck_with c.args.id (opens_of (map guess_of ls))) c.as_slice.ensures.value in
+    c.strike_all.ensures.struck in
     kept_failed v c.self.inside.opens.items c.close_resting.new.opens.items c.self.inside.next.entities (vec_capacity c.strike_all.new.struck) c.args.id c.strike_all.new.struck.items so
     c.close_resting.ensures.opens c.close_resting.ensures.fewer (subst (AreKept v c.self.inside.opens.items c.self.inside.next.entities) (sym c.strike_all.ensures.room) c.self.invariant)
 
@@ -30,7 +30,7 @@ returns-clause-statuses g c = λ status are here.
     let v : KeptView = record { kernel = c.self.inside.kernel; limit = c.self.inside.limit; drawn = c.self.inside.drawn; struck = c.self.inside.struck.items } in
     let os = map guess_of c.self.inside.opens.items in
     let so : c.strike_all.new.struck.items ≡ v.struck ++ struck_with c.args.id (opens_of os) =
-    c.strike_all.ensures.struck ∙ ap (λ ls. v.struck ++ struck_with c.args.id (opens_of (map guess_of ls))) c.as_slice.ensures.value in
+    c.strike_all.ensures.struck in
     let before = subst (λ (r : Kept _). AreStatuses r.view (opens_of r.opens) status) (sym c.self.view_is) are in
     let among = ap (λ (r : Kept _). has c.args.id (numbers (opens_of r.opens))) c.self.view_is ∙ here in
     let after = statuses_failed v os status c.args.id c.self.invariant.rising c.self.invariant.own before among in

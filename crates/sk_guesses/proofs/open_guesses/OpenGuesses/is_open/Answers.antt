@@ -15,5 +15,5 @@ returns g c =
     let ls = c.self.inside.opens.items in
     let as_many : c.len.result ≡ length ls = omega (arith, c.len.ensures) in
     ap (nat_lt c.place_of.result) as_many
-    ∙ is_there c.args.id c.place_of.result ls (c.place_of.ensures ∙ ap (prefix_len (is_other c.args.id)) c.as_slice.ensures.value)
+    ∙ is_there c.args.id c.place_of.result ls c.place_of.ensures
     ∙ ap (λ (r : Kept _). has c.args.id (numbers (opens_of r.opens))) c.self.view_is

@@ -12,11 +12,11 @@ invariant_of-self g c =
     let v : KeptView = record { kernel = c.self.inside.kernel; limit = c.self.inside.limit; drawn = c.self.inside.drawn; struck = c.self.inside.struck.items } in
     let os = map guess_of c.self.inside.opens.items in
     let f = left_to g.E.Key.order c.args.tags.now c.args.entity.now in
-    let is : map guess_of c.retain_mut.new.self.items ≡ map f os = all_in_turn _ guess_of f _ (λ x b t y step. search rules) _ _ c.retain_mut.ensures.filtered in
-    kept_same v c.self.inside.opens.items c.retain_mut.new.self.items c.self.inside.next.entities (vec_capacity c.self.inside.struck)
-    (ap (λ xs. opens_of xs) is ∙ same_opens f (left_to_keeps g.E.Key.order c.args.tags.now c.args.entity.now) os) (omega (arith, c.retain_mut.ensures.bound)) c.self.invariant
+    let is : map guess_of c.leave_to.new.opens.items ≡ map f os = c.leave_to.ensures.opens in
+    kept_same v c.self.inside.opens.items c.leave_to.new.opens.items c.self.inside.next.entities (vec_capacity c.self.inside.struck)
+    (ap (λ xs. opens_of xs) is ∙ same_opens f (left_to_keeps g.E.Key.order c.args.tags.now c.args.entity.now) os) (omega (arith, c.leave_to.ensures.as_many)) c.self.invariant
 
 pub returns-clause-opens : goal.returns-clause-opens
 returns-clause-opens g c =
-    all_in_turn _ guess_of (left_to g.E.Key.order c.args.tags.now c.args.entity.now) _ (λ x b t y step. search rules) _ _ c.retain_mut.ensures.filtered
+    c.leave_to.ensures.opens
     ∙ ap (λ (r : Kept _). map (left_to g.E.Key.order c.args.tags.now c.args.entity.now) r.opens) c.self.view_is

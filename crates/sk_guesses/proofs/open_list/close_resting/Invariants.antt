@@ -1,0 +1,10 @@
+use Rattle.std.proofs.Common.{◌≡◌, ◌≤◌, ◌++◌, length, take, drop, not}
+use Rattle.std.specs.List.{filter}
+use Rattle.sk_record.specs.Notes.{has}
+use Rattle.sk_guesses.specs.Room.{Listing}
+use Rattle.sk_guesses.proofs.open_list.close_resting.Given as goal
+
+abbrev pub invariant-loop-place : goal.invariant-loop-place
+invariant-loop-place g l =
+    (l.opens.items ≡ take l.place l.fn.opens.items ++ filter (λ (x : Listing _). not (has l.id x.guess.tags)) (drop l.place l.fn.opens.items))
+    × (l.place ≤ length l.fn.opens.items)

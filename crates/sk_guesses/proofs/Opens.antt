@@ -6,7 +6,6 @@ use Rattle.std.specs.declared.cmp.Ordering.TheVariants.{Less}
 use Rattle.std.specs.Cmp.{nat_cmp_is}
 use Rattle.std.specs.List.{AllByRecursion, filter, prefix_len}
 use Rattle.std.specs.List.Sorted.{IsStrictlySortedBy}
-use Rattle.std.specs.List.Retain.{RetainsInTurn}
 use Rattle.std.specs.Prelude.{nat_le, nat_lt}
 use Rattle.std.proofs.lemmas.Bool.{true≢false, eqb-true, eq-eqb, or_left, or_right, leb-false, ltb-false}
 use Rattle.sk_ids.specs.declared.guess.TheConstants.{LAST_GUESS}
@@ -35,29 +34,6 @@ guess_of l = l.guess
 
 abbrev pub named : {E : Type 0} → List (OpenGuess E) → List ℕ
 named os = numbers (opens_of os)
-
--- ---- passes over all
-pub in_turn : {S X Y : Type 0} (R : S → X → Bool → S → X → Type 0) (view : X → Y) (p : Y → Bool) (f : Y → Y) (s : S)
-    → ((x : X) (b : Bool) (t : S) (y : X) → R s x b t y → (b ≡ p (view x)) × (t ≡ s) × (view y ≡ f (view x)))
-    → (xs ys : List X) → RetainsInTurn R s xs ys → map view ys ≡ map f (filter p (map view xs))
-in_turn R view p f s h [] ys told = ap (map view) told
-in_turn R view p f s h (x ∷ xs) ys (b, t, y, step, zs, later, is) =
-    let says = h x b t y step in
-    let rest = in_turn R view p f s h xs zs (subst (λ u. RetainsInTurn R u xs zs) says.1 later) in
-    ap (map view) (is ∙ ap (λ c. cond c (y ∷ zs) zs) says.0)
-    ∙ elim (p (view x)) as (λ q. map view (cond q (y ∷ zs) zs) ≡ map f (cond q (view x ∷ filter p (map view xs)) (filter p (map view xs)))) [
-      | true ↦ λ i. says.2 i ∷ rest i
-      | false ↦ rest
-    ]
-
-pub all_in_turn : {S X Y : Type 0} (R : S → X → Bool → S → X → Type 0) (view : X → Y) (f : Y → Y) (s : S)
-    → ((x : X) (b : Bool) (t : S) (y : X) → R s x b t y → (b ≡ true) × (t ≡ s) × (view y ≡ f (view x)))
-    → (xs ys : List X) → RetainsInTurn R s xs ys → map view ys ≡ map f (map view xs)
-all_in_turn R view f s h [] ys told = ap (map view) told
-all_in_turn R view f s h (x ∷ xs) ys (b, t, y, step, zs, later, is) =
-    let says = h x b t y step in
-    let rest = all_in_turn R view f s h xs zs (subst (λ u. RetainsInTurn R u xs zs) says.1 later) in
-    ap (map view) (is ∙ ap (λ c. cond c (y ∷ zs) zs) says.0) ∙ (λ i. says.2 i ∷ rest i)
 
 -- a filter of what they are seen as
 pub seen_filter : {X Y : Type 0} (view : X → Y) (p : Y → Bool) (xs : List X) → map view (filter (λ x. p (view x)) xs) ≡ filter p (map view xs)

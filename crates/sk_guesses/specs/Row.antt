@@ -28,7 +28,7 @@ abbrev pub AreApart : List ℕ → Type 0
 AreApart [] = ⊤
 AreApart (k ∷ ks) = (has k ks ≡ false) × AreApart ks
 
--- each of these keys has a value, none is there twice, and they are all that have one
+-- each of these keys has a value, none is there twice, and there are no more values than keys
 pub record AreKeys {T : Type 0} (values : Slab T) (keys : List ℕ) : Type 0 where
   pub present : ArePresent values.slots keys
   pub apart : AreApart keys

@@ -136,9 +136,9 @@ pub(crate) fn close_resting<E: Key>(opens: &mut Row<OpenGuess<E>>, id: GuessId)
         ≡ not_resting id (map (λ l. l.guess) opens.old.items) }
     ensures fewer { length opens.new.items ≤ length opens.old.items }
 {
-    for place in (0..opens.len()).rev() {
-        if opens.at(place).rests_on(id) {
-            opens.remove(place);
+    for back in (0..opens.len()).rev() {
+        if opens.at(back).rests_on(id) {
+            opens.remove(back);
         }
     }
 }

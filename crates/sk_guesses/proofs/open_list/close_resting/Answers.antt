@@ -11,14 +11,14 @@ use Rattle.sk_guesses.proofs.open_list.close_resting.Goals as goal
 pub returns-clause-opens : goal.returns-clause-opens
 returns-clause-opens g c =
     let os = c.args.opens.now.items in
-    let first : c.loop-place.place ≡ 0 = omega (arith, c.loop-place-test.false) in
-    ap (map guess_of) (c.loop-place.invariant.0 ∙ (λ j. take (first j) os ++ filter (λ (x : Listing _). not (has c.args.id x.guess.tags)) (drop (first j) os)))
+    let first : c.loop-back.back ≡ 0 = omega (arith, c.loop-back-test.false) in
+    ap (map guess_of) (c.loop-back.invariant.0 ∙ (λ j. take (first j) os ++ filter (λ (x : Listing _). not (has c.args.id x.guess.tags)) (drop (first j) os)))
     ∙ seen_filter guess_of (λ (o : OpenGuess _). not (has c.args.id o.tags)) os
 
 pub returns-clause-fewer : goal.returns-clause-fewer
 returns-clause-fewer g c =
     let os = c.args.opens.now.items in
-    let first : c.loop-place.place ≡ 0 = omega (arith, c.loop-place-test.false) in
-    let as_long = ap length (c.loop-place.invariant.0 ∙ (λ j. take (first j) os ++ filter (λ (x : Listing _). not (has c.args.id x.guess.tags)) (drop (first j) os))) in
+    let first : c.loop-back.back ≡ 0 = omega (arith, c.loop-back-test.false) in
+    let as_long = ap length (c.loop-back.invariant.0 ∙ (λ j. take (first j) os ++ filter (λ (x : Listing _). not (has c.args.id x.guess.tags)) (drop (first j) os))) in
     let no_more = fewer (λ (x : Listing _). not (has c.args.id x.guess.tags)) os in
     omega (arith, as_long, no_more)

@@ -4,7 +4,7 @@ use Rattle.sk_record.specs.Notes.{has}
 use Rattle.sk_guesses.specs.Room.{Listing}
 use Rattle.sk_guesses.proofs.open_list.close_resting.Given as goal
 
-abbrev pub invariant-loop-place : goal.invariant-loop-place
-invariant-loop-place g l =
-    (l.opens.items ≡ take l.place l.fn.opens.items ++ filter (λ (x : Listing _). not (has l.id x.guess.tags)) (drop l.place l.fn.opens.items))
-    × (l.place ≤ length l.fn.opens.items)
+abbrev pub invariant-loop-back : goal.invariant-loop-back
+invariant-loop-back g l =
+    (l.opens.items ≡ take l.back l.fn.opens.items ++ filter (λ (x : Listing _). not (has l.id x.guess.tags)) (drop l.back l.fn.opens.items))
+    × (l.back ≤ length l.fn.opens.items)

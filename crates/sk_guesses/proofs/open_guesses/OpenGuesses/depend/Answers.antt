@@ -1,10 +1,7 @@
 -- Numbers and tags stay.
-use Rattle.std.proofs.Common.{◌≡◌, ◌≤◌, ◌∙◌, ap, length, map, sym, subst, arith}
-use Rattle.std.specs.Ordering.{nat_cmp}
-use Rattle.std.specs.List.Sorted.{IsStrictlySortedBy}
+use Rattle.std.proofs.Common.{◌≡◌, ◌≤◌, ◌∙◌, ap, length, map, sym, arith}
 use Rattle.std.specs.Vec.{vec_capacity}
 use Rattle.std.proofs.lemmas.List.{length-map}
-use Rattle.sk_record.specs.UndoState.{numbers}
 use Rattle.sk_guesses.specs.Kept.{Kept, KeptView}
 use Rattle.sk_guesses.specs.Opens.{opens_of, depending}
 use Rattle.sk_guesses.proofs.Kept.{kept_same}

@@ -1,11 +1,10 @@
 -- The list at the place is the guess's, or there is none.
 use Rattle.std.proofs.Common.{◌<◌, ◌≤◌, length, map, sym, ◌∙◌, ap, arith}
-use Rattle.std.specs.List.{prefix_len}
 use Rattle.std.specs.List.Sorted.{IsStrictlySortedBy}
 use Rattle.sk_guesses.specs.Opens.{dependents_of, opens_of}
 use Rattle.sk_guesses.specs.Kept.{Kept, KeptView, known}
 use Rattle.sk_guesses.proofs.Kept.{not_known}
-use Rattle.sk_guesses.proofs.Opens.{guess_of, is_other, found, missing, none_there}
+use Rattle.sk_guesses.proofs.Opens.{guess_of, found, missing, none_there}
 use Rattle.sk_guesses.proofs.open_guesses.OpenGuesses.dependents.Goals as goal
 
 pub returns-then-place-len-clause-value : goal.returns-then-place-len-clause-value

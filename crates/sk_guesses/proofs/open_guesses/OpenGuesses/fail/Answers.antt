@@ -1,5 +1,5 @@
 -- It is undecided no more, and so are those whose own steps rest on it.
-use Rattle.std.proofs.Common.{◌≡◌, ◌+◌, ◌++◌, length, map, sym, ◌∙◌, ap, subst, arith}
+use Rattle.std.proofs.Common.{◌≡◌, ◌++◌, map, sym, ◌∙◌, ap, subst}
 use Rattle.std.specs.Vec.{vec_capacity}
 use Rattle.sk_record.specs.Machine.{with_failure}
 use Rattle.sk_record.specs.Notes.{has}

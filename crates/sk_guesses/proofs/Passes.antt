@@ -1,14 +1,16 @@
 -- Passes over the open guesses, one place after the other.
-use Rattle.std.proofs.Common.{◌≡◌, ℕ, zero, suc, ◌+◌, ◌<◌, ◌≤◌, length, length-set, take, drop, Bool, true, false, cond, not, ◌||◌, List, [], ◌∷◌, ◌++◌, map, refl, sym, ◌∙◌, ap, subst, arith}
+use Rattle.std.proofs.Common.{◌≡◌, ◌≢◌, ltb, ℕ, zero, suc, ◌+◌, ◌<◌, ◌≤◌, length, length-set, take, drop, Bool, true, false, cond, not, ◌||◌, List, [], ◌∷◌, ◌++◌, map, refl, sym, ◌∙◌, ap, subst, arith}
 use Rattle.std.specs.Prelude.{◌==◌, slice_set, slice_index_or}
 use Rattle.std.specs.Ordering.{nat_cmp}
 use Rattle.std.specs.List.{filter, prefix_len, remove}
 use Rattle.std.specs.List.Sorted.{IsStrictlySortedBy}
-use Rattle.std.proofs.lemmas.Bool.{true≢false}
+use Rattle.std.proofs.lemmas.Bool.{true≢false, eqb-true, eq-eqb, or_left, or_right, ltb-true, ltb-false}
 use Rattle.std.proofs.lemmas.List.{append-nil, drop_all, take_all}
 use Rattle.std.proofs.Math.Numerals.{suc-eq-add-one}
 use Rattle.std.proofs.Math.Seq.{drop-cons}
+use Rattle.std.proofs.lemmas.List.Sums.{prefix_len_passes, prefix_len_stops}
 use Rattle.sk_record.specs.Notes.{has}
+use Rattle.sk_record.proofs.Rising.{above}
 use Rattle.sk_guesses.specs.Opens.{OpenGuess, but}
 use Rattle.sk_guesses.specs.Room.{Listing}
 use Rattle.sk_guesses.proofs.Opens.{guess_of, named, is_other, set_after, done_more, not_above}
@@ -36,6 +38,12 @@ fewer p [] = omega arith
 fewer p (x ∷ xs) =
     let rest = fewer p xs in
     elim (p x) as (λ b. length (cond b (x ∷ filter p xs) (filter p xs)) ≤ suc (length xs)) [ true ↦ omega (arith, rest) | false ↦ omega (arith, rest) ]
+
+is_it : (g n : ℕ) → not (n == g) ≡ false → n ≡ g
+is_it g n is = eqb-true n g (elim (n == g) as (λ b. not b ≡ false → b ≡ true) [ true ↦ λ _. refl | false ↦ λ e. absurd (true≢false e) ] is)
+
+isnt_it : (g n : ℕ) → not (n == g) ≡ true → n ≢ g
+isnt_it g n is = λ same. true≢false (sym is ∙ ap not (eq-eqb n g same))
 
 module _ {E : Type 0} where
   -- a change is made of each before a place, and none from there on
@@ -66,6 +74,103 @@ module _ {E : Type 0} where
   -- ---- a search from the front
   pub next_of_all : (ls : List (Listing E)) (i : ℕ) (l : Listing E) → i < length ls → l ≡ slice_index_or ls i l → drop i ls ≡ l ∷ drop (i + 1) ls
   next_of_all ls i l lt at = drop-cons ls i l lt ∙ (λ k. sym at k ∷ drop (suc-eq-add-one i k) ls)
+
+  -- ---- a search by halves
+  there : (ls : List (Listing E)) (k : ℕ) (d : Listing E) → k < length ls → has (slice_index_or ls k d).guess.id (named (map guess_of ls)) ≡ true
+  there [] k d lt = absurd (omega arith)
+  there (x ∷ ls) zero d lt = or_left _ _ (eq-eqb x.guess.id x.guess.id refl)
+  there (x ∷ ls) (suc k) d lt = or_right _ _ (there ls k d (omega arith))
+
+  -- no number is above a later one
+  pub no_later : (ls : List (Listing E)) (i j : ℕ) (d e : Listing E) → IsStrictlySortedBy nat_cmp (named (map guess_of ls)) → i ≤ j → j < length ls
+      → (slice_index_or ls i d).guess.id ≤ (slice_index_or ls j e).guess.id
+  unfolding IsStrictlySortedBy
+  no_later [] i j d e rises le lt = absurd (omega arith)
+  no_later (x ∷ ls) zero zero d e rises le lt = omega arith
+  no_later (x ∷ ls) zero (suc j) d e rises le lt =
+      let more : x.guess.id < (slice_index_or ls j e).guess.id = above x.guess.id (named (map guess_of ls)) (slice_index_or ls j e).guess.id rises.0 (there ls j e (omega arith)) in
+      omega (arith, more)
+  no_later (x ∷ ls) (suc i) zero d e rises le lt = absurd (omega arith)
+  no_later (x ∷ ls) (suc i) (suc j) d e rises le lt = no_later ls i j d e rises.1 (omega arith) (omega arith)
+
+  earlier : (ls : List (Listing E)) (i j : ℕ) (d e : Listing E) → IsStrictlySortedBy nat_cmp (named (map guess_of ls)) → i < j → j < length ls
+      → (slice_index_or ls i d).guess.id < (slice_index_or ls j e).guess.id
+  unfolding IsStrictlySortedBy
+  earlier [] i j d e rises le lt = absurd (omega arith)
+  earlier (x ∷ ls) i zero d e rises le lt = absurd (omega arith)
+  earlier (x ∷ ls) zero (suc j) d e rises le lt =
+      above x.guess.id (named (map guess_of ls)) (slice_index_or ls j e).guess.id rises.0 (there ls j e (omega arith))
+  earlier (x ∷ ls) (suc i) (suc j) d e rises le lt = earlier ls i j d e rises.1 (omega arith) (omega arith)
+
+  pub at_place : (g k : ℕ) (ls : List (Listing E)) (l : Listing E) → IsStrictlySortedBy nat_cmp (named (map guess_of ls)) → k < length ls → l ≡ slice_index_or ls k l → l.guess.id ≡ g
+      → k ≡ prefix_len (is_other g) ls
+  at_place g k ls l rises lt at is =
+      let n = prefix_len (is_other g) ls in
+      let here : (slice_index_or ls k l).guess.id ≡ g = ap (λ (x : Listing E). x.guess.id) (sym at) ∙ is in
+      let no_more : n ≤ k = elim (ltb k n) as (λ b. ltb k n ≡ b → n ≤ k) [
+        | true ↦ λ low. absurd (isnt_it g (slice_index_or ls k l).guess.id (prefix_len_passes (is_other g) ls k l (ltb-true k n low)) here)
+        | false ↦ λ high. ltb-false k n high
+      ] refl in
+      let no_less : k ≤ n = elim (ltb n k) as (λ b. ltb n k ≡ b → k ≤ n) [
+        | true ↦ λ low.
+            let less : n < k = ltb-true n k low in
+            let stop = is_it g (slice_index_or ls n l).guess.id (prefix_len_stops (is_other g) ls l (omega (arith, less, lt))) in
+            let apart = earlier ls n k l l rises less lt in
+            absurd (omega (arith, apart, stop, here))
+        | false ↦ λ high. ltb-false n k high
+      ] refl in
+      omega (arith, no_more, no_less)
+
+  pub no_place : (g : ℕ) (ls : List (Listing E)) → ((k : ℕ) (d : Listing E) → k < length ls → (slice_index_or ls k d).guess.id ≢ g) → length ls ≡ prefix_len (is_other g) ls
+  no_place g [] none = refl
+  no_place g (x ∷ ls) none =
+      let rest = no_place g ls (λ k d lt. none (suc k) d (omega arith)) in
+      elim (x.guess.id == g) as (λ b. (x.guess.id == g) ≡ b → suc (length ls) ≡ cond (not b) (1 + prefix_len (is_other g) ls) 0) [
+        | true ↦ λ is. absurd (none 0 x (omega arith) (eqb-true x.guess.id g is))
+        | false ↦ λ _. omega (arith, rest)
+      ] refl
+
+  -- the places of all below a number, and of all above it
+  pub record IsBetween (ls : List (Listing E)) (g low high : ℕ) : Type 0 where
+    pub below : (k : ℕ) (d : Listing E) → k < low → (slice_index_or ls k d).guess.id < g
+    pub above_it : (k : ℕ) (d : Listing E) → high ≤ k → k < length ls → g < (slice_index_or ls k d).guess.id
+    pub within : high ≤ length ls
+
+  pub any_place : (ls : List (Listing E)) (g high : ℕ) → high ≡ length ls → IsBetween ls g 0 high
+  any_place ls g high all = record {
+    below = λ k d lt. absurd (omega arith);
+    above_it = λ k d le lt. absurd (omega (arith, all));
+    within = omega (arith, all);
+  }
+
+  pub further_on : (ls : List (Listing E)) (g low high k : ℕ) (l : Listing E) → IsStrictlySortedBy nat_cmp (named (map guess_of ls)) → k < length ls → l ≡ slice_index_or ls k l → l.guess.id < g
+      → IsBetween ls g low high → IsBetween ls g (k + 1) high
+  further_on ls g low high k l rises lt at less so = record {
+    below = λ j d before.
+        let up = no_later ls j k d l rises (omega arith) lt in
+        let here = ap (λ (x : Listing E). x.guess.id) at in
+        omega (arith, up, here, less);
+    above_it = so.above_it;
+    within = so.within;
+  }
+
+  pub further_back : (ls : List (Listing E)) (g low high k : ℕ) (l : Listing E) → IsStrictlySortedBy nat_cmp (named (map guess_of ls)) → k < length ls → l ≡ slice_index_or ls k l → g < l.guess.id
+      → IsBetween ls g low high → IsBetween ls g low k
+  further_back ls g low high k l rises lt at more so = record {
+    below = so.below;
+    above_it = λ j d le within.
+        let up = no_later ls k j l d rises le within in
+        let here = ap (λ (x : Listing E). x.guess.id) at in
+        omega (arith, up, here, more);
+    within = omega (arith, lt);
+  }
+
+  pub nowhere : (ls : List (Listing E)) (g low high : ℕ) → high ≤ low → IsBetween ls g low high → length ls ≡ prefix_len (is_other g) ls
+  nowhere ls g low high met so = no_place g ls (λ k d lt.
+      elim (ltb k low) as (λ b. ltb k low ≡ b → (slice_index_or ls k d).guess.id ≢ g) [
+        | true ↦ λ is. let less = so.below k d (ltb-true k low is) in λ same. absurd (omega (arith, less, same))
+        | false ↦ λ is. let more = so.above_it k d (let far = ltb-false k low is in omega (arith, far, met)) lt in λ same. absurd (omega (arith, more, same))
+      ] refl)
 
   -- ---- one goes
   none_but : (g : ℕ) (os : List (OpenGuess E)) → has g (named os) ≡ false → os ≡ but g os

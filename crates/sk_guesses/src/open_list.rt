@@ -63,13 +63,24 @@ pub(crate) fn are_earlier<E: Key>(opens: &Row<OpenGuess<E>>, tags: &TagSet) -> b
     newest.id().number() < oldest.number()
 }
 
-/// How many undecided guesses stand before one.
+/// How many undecided guesses stand before one; all of them, where it is none of them.
 pub(crate) fn place_of<E: Key>(opens: &Row<OpenGuess<E>>, id: GuessId) -> usize
+    requires { IsStrictlySortedBy nat_cmp
+        (numbers (opens_of (map (λ l. l.guess) opens.now.items))) }
     ensures { result ≡ prefix_len (λ l. not (l.guess.id == id)) opens.now.items }
 {
-    for place in 0..opens.len() {
-        if opens.at(place).id() == id {
-            return place;
+    let mut low = 0;
+    let mut high = opens.len();
+    while low < high {
+        let middle = low + (high - low) / 2;
+        let other = opens.at(middle).id();
+        if other == id {
+            return middle;
+        }
+        if other.number() < id.number() {
+            low = middle + 1;
+        } else {
+            high = middle;
         }
     }
     opens.len()
@@ -81,6 +92,8 @@ pub(crate) fn take_list<E: Key>(
     alloc: Global,
     id: GuessId,
 ) -> EntitySet<E>
+    requires { IsStrictlySortedBy nat_cmp
+        (numbers (opens_of (map (λ l. l.guess) opens.old.items))) }
     ensures list { result.entities ≡ dependents_of id (map (λ l. l.guess) opens.old.items) }
     ensures opens { map (λ l. l.guess) opens.new.items
         ≡ without_list id (map (λ l. l.guess) opens.old.items) }

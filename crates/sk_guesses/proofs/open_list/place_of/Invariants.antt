@@ -1,7 +1,10 @@
-use Rattle.std.proofs.Common.{◌≡◌, ◌+◌, drop}
-use Rattle.std.specs.List.{prefix_len}
-use Rattle.sk_guesses.proofs.Opens.{is_other}
+-- The guess stands between these places, or nowhere; the distance of the two falls.
+use Rattle.std.proofs.Common.{◌-◌}
+use Rattle.sk_guesses.proofs.Passes.{IsBetween}
 use Rattle.sk_guesses.proofs.open_list.place_of.Given as goal
 
-abbrev pub invariant-loop-place : goal.invariant-loop-place
-invariant-loop-place g l = prefix_len (is_other l.id) l.opens.items ≡ l.place + prefix_len (is_other l.id) (drop l.place l.opens.items)
+abbrev pub invariant-loop-low : goal.invariant-loop-low
+invariant-loop-low g l = IsBetween l.opens.items l.id l.low l.high
+
+abbrev pub decreases-loop-low : goal.decreases-loop-low
+decreases-loop-low g l = l.high - l.low

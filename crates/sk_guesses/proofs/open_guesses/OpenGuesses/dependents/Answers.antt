@@ -33,3 +33,6 @@ returns-clause-none g c = λ other.
     ∙ found c.args.id c.place_of-place.result c.self.inside.opens.items c.at.result.now c.place_of-place.ensures near c.at.ensures
     ∙ none_there c.args.id os
     (not_known v (opens_of os) c.args.id (λ is. other (ap (λ (g : Kept _). known g.view (opens_of g.opens) c.args.id) (sym c.self.view_is) ∙ is)))
+
+pub place_of-place-requires : goal.place_of-place-requires
+place_of-place-requires g c = c.self.invariant.rising

@@ -15,3 +15,6 @@ returns g c =
     ap (nat_lt c.place_of.result) as_many
     ∙ is_there c.args.id c.place_of.result ls c.place_of.ensures
     ∙ ap (λ (r : Kept _). has c.args.id (numbers (opens_of r.opens))) c.self.view_is
+
+pub place_of-requires : goal.place_of-requires
+place_of-requires g c = c.self.invariant.rising

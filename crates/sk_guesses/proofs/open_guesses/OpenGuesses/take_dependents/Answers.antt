@@ -18,3 +18,6 @@ pub returns-clause-resting : goal.returns-clause-resting
 returns-clause-resting g c =
     ap (not_resting c.args.id) c.take_list.ensures.opens ∙ taken_first c.args.id (map guess_of c.self.inside.opens.items) c.self.invariant.own
     ∙ ap (λ (r : Kept _). not_resting c.args.id r.opens) c.self.view_is
+
+pub take_list-requires : goal.take_list-requires
+take_list-requires g c = c.self.invariant.rising

@@ -1,17 +1,19 @@
 -- Passes over the open guesses, one place after the other.
-use Rattle.std.proofs.Common.{◌≡◌, ◌≢◌, ltb, ℕ, zero, suc, ◌+◌, ◌<◌, ◌≤◌, length, length-set, take, drop, Bool, true, false, cond, not, ◌||◌, List, [], ◌∷◌, ◌++◌, map, refl, sym, ◌∙◌, ap, subst, arith}
+use Rattle.std.proofs.Common.{◌≡◌, ◌≢◌, ltb, ℕ, zero, suc, ◌+◌, ◌<◌, ◌≤◌, length, length-set, take, drop, Bool, true, false, cond, not, ◌||◌, ◌&&◌, List, [], ◌∷◌, ◌++◌, map, inl, inr, refl, sym, ◌∙◌, ap, subst, arith}
 use Rattle.std.specs.Prelude.{◌==◌, slice_set, slice_index_or}
 use Rattle.std.specs.Ordering.{nat_cmp}
 use Rattle.std.specs.List.{filter, prefix_len, remove}
 use Rattle.std.specs.List.Sorted.{IsStrictlySortedBy}
-use Rattle.std.proofs.lemmas.Bool.{true≢false, eqb-true, eq-eqb, or_left, or_right, ltb-true, ltb-false}
+use Rattle.std.proofs.lemmas.Bool.{true≢false, eqb-true, eq-eqb, or_cases, or_left, or_right, ltb-true, ltb-false}
 use Rattle.std.proofs.lemmas.List.{append-nil, drop_all, take_all}
 use Rattle.std.proofs.Math.Numerals.{suc-eq-add-one}
 use Rattle.std.proofs.Math.Seq.{drop-cons}
 use Rattle.std.proofs.lemmas.List.Sums.{prefix_len_passes, prefix_len_stops}
-use Rattle.sk_record.specs.Notes.{has}
+use Rattle.sk_record.specs.Notes.{has, without}
+use Rattle.sk_record.specs.UndoState.{Open, not_struck, numbers}
+use Rattle.sk_guesses.specs.Kept.{AreBelow, struck_with}
 use Rattle.sk_record.proofs.Rising.{above}
-use Rattle.sk_guesses.specs.Opens.{OpenGuess, but}
+use Rattle.sk_guesses.specs.Opens.{OpenGuess, after_commit, but, opens_of, without_tag}
 use Rattle.sk_guesses.specs.Room.{Listing}
 use Rattle.sk_guesses.proofs.Opens.{guess_of, named, is_other, set_after, done_more, not_above}
 
@@ -44,6 +46,14 @@ is_it g n is = eqb-true n g (elim (n == g) as (λ b. not b ≡ false → b ≡ t
 
 isnt_it : (g n : ℕ) → not (n == g) ≡ true → n ≢ g
 isnt_it g n is = λ same. true≢false (sym is ∙ ap not (eq-eqb n g same))
+
+same_tags : (g : ℕ) (tags : List ℕ) → has g tags ≡ false → without g tags ≡ tags
+same_tags g [] none = refl
+same_tags g (t ∷ tags) none =
+    elim (t == g) as (λ b. (b || has g tags) ≡ false → cond (not b) (t ∷ without g tags) (without g tags) ≡ t ∷ tags) [
+      | true ↦ λ e. absurd (true≢false e)
+      | false ↦ λ e. ap (λ ts. t ∷ ts) (same_tags g tags e)
+    ] none
 
 module _ {E : Type 0} where
   -- a change is made of each before a place, and none from there on
@@ -202,3 +212,83 @@ module _ {E : Type 0} where
         | true ↦ λ none. absurd (omega arith)
         | false ↦ λ next. ap (λ os. x.guess ∷ os) (but_found g k ls rises.1 (omega arith) (omega arith))
       ] is
+
+  -- ---- none before a place has a tag
+  abbrev pub IsUnmarked : ℕ → ℕ → List (Listing E) → Type 0
+  IsUnmarked g from ls = (k : ℕ) (d : Listing E) → k < from → has g (slice_index_or ls k d).guess.tags ≡ false
+
+  still_whole : (g from : ℕ) (ls : List (Listing E)) → IsUnmarked g from ls → from ≤ length ls → map guess_of ls ≡ map (without_tag g) (map guess_of (take from ls)) ++ map guess_of (drop from ls)
+  still_whole g zero ls none le = refl
+  still_whole g (suc from) [] none le = absurd (omega arith)
+  still_whole g (suc from) (x ∷ ls) none le =
+      let first : x.guess ≡ without_tag g x.guess = ap (λ ts. record x.guess { tags = ts }) (sym (same_tags g x.guess.tags (none 0 x (omega arith)))) in
+      let rest = still_whole g from ls (λ k d lt. none (suc k) d (omega arith)) (omega arith) in
+      λ j. first j ∷ rest j
+
+  pub from_there : (g from : ℕ) (os : List (Listing E)) → IsUnmarked g from os → from ≤ length os → IsDone (without_tag g) os os from
+  from_there g from os none le = record { so_far = still_whole g from os none le; as_many = refl; left = λ k d le. refl }
+
+  pub but_without : (g : ℕ) (os : List (OpenGuess E)) → but g (map (without_tag g) os) ≡ map (without_tag g) (but g os)
+  but_without g [] = refl
+  but_without g (o ∷ os) =
+      elim (o.id == g) as (λ b. cond (not b) (without_tag g o ∷ but g (map (without_tag g) os)) (but g (map (without_tag g) os)) ≡ map (without_tag g) (cond (not b) (o ∷ but g os) (but g os))) [
+        | true ↦ but_without g os
+        | false ↦ ap (λ ps. without_tag g o ∷ ps) (but_without g os)
+      ]
+
+  pub rest_of_all : (g from : ℕ) (ls : List (Listing E)) → IsUnmarked g from ls → from ≤ length ls
+      → take from ls ++ filter (λ (x : Listing E). not (has g x.guess.tags)) (drop from ls) ≡ filter (λ (x : Listing E). not (has g x.guess.tags)) ls
+  rest_of_all g zero ls none le = refl
+  rest_of_all g (suc from) [] none le = absurd (omega arith)
+  rest_of_all g (suc from) (x ∷ ls) none le =
+      ap (λ xs. x ∷ xs) (rest_of_all g from ls (λ k d lt. none (suc k) d (omega arith)) (omega arith))
+      ∙ ap (λ b. cond (not b) (x ∷ filter (λ (x : Listing E). not (has g x.guess.tags)) ls) (filter (λ (x : Listing E). not (has g x.guess.tags)) ls)) (sym (none 0 x (omega arith)))
+
+  pub none_struck_before : (g from : ℕ) (ls : List (Listing E)) → IsUnmarked g from ls → from ≤ length ls → struck_with g (opens_of (map guess_of (drop from ls))) ≡ struck_with g (opens_of (map guess_of ls))
+  none_struck_before g zero ls none le = refl
+  none_struck_before g (suc from) [] none le = absurd (omega arith)
+  none_struck_before g (suc from) (x ∷ ls) none le =
+      none_struck_before g from ls (λ k d lt. none (suc k) d (omega arith)) (omega arith)
+      ∙ ap (λ b. numbers (cond (b && not (x.guess.id == g)) ((x.guess.id, x.guess.tags) ∷ filter (λ o. has g o.1 && not (o.0 == g)) (opens_of (map guess_of ls))) (filter (λ o. has g o.1 && not (o.0 == g)) (opens_of (map guess_of ls))))) (sym (none 0 x (omega arith)))
+
+  below_at : (ls : List (Listing E)) (k g : ℕ) (d : Listing E) → AreBelow (opens_of (map guess_of ls)) → k < length ls → has g (slice_index_or ls k d).guess.tags ≡ true → g ≤ (slice_index_or ls k d).guess.id
+  below_at [] k g d below lt here = absurd (omega arith)
+  below_at (x ∷ ls) zero g d below lt here = below.0 g here
+  below_at (x ∷ ls) (suc k) g d below lt here = below_at ls k g d below.1 (omega arith) here
+
+  pub unmarked : (g p : ℕ) (ls : List (Listing E)) → IsStrictlySortedBy nat_cmp (named (map guess_of ls)) → AreBelow (opens_of (map guess_of ls)) → p ≡ prefix_len (is_other g) ls → p < length ls
+      → (k : ℕ) (d : Listing E) → k < p → has g (slice_index_or ls k d).guess.tags ≡ false
+  unmarked g p ls rises below is lt k d before =
+      let stop : (slice_index_or ls p d).guess.id ≡ g = is_it g (slice_index_or ls p d).guess.id
+      (ap (λ n. not ((slice_index_or ls n d).guess.id == g)) is ∙ prefix_len_stops (is_other g) ls d (omega (arith, is, lt))) in
+      let apart = earlier ls k p d d rises before lt in
+      elim (has g (slice_index_or ls k d).guess.tags) as (λ b. has g (slice_index_or ls k d).guess.tags ≡ b → b ≡ false) [
+        | true ↦ λ here. let low = below_at ls k g d below (omega (arith, before, lt)) here in absurd (omega (arith, low, apart, stop))
+        | false ↦ λ _. refl
+      ] refl
+
+-- ---- no tag above its own guess
+pub below_left : (g : ℕ) (os : List Open) → AreBelow os → AreBelow (not_struck g os)
+below_left g [] below = tt
+below_left g (o ∷ os) below =
+    elim (has g o.1) as (λ b. AreBelow (cond (not b) (o ∷ not_struck g os) (not_struck g os))) [ true ↦ below_left g os below.1 | false ↦ (below.0, below_left g os below.1) ]
+
+fewer_tags : (g h : ℕ) (tags : List ℕ) → has h (without g tags) ≡ true → has h tags ≡ true
+fewer_tags g h [] here = here
+fewer_tags g h (t ∷ tags) here =
+    elim (not (t == g)) as (λ b. has h (cond b (t ∷ without g tags) (without g tags)) ≡ true → ((t == h) || has h tags) ≡ true) [
+      | true ↦ λ e. elim (or_cases (t == h) (has h (without g tags)) e) [ inl first ↦ or_left (t == h) (has h tags) first | inr later ↦ or_right (t == h) (has h tags) (fewer_tags g h tags later) ]
+      | false ↦ λ e. or_right (t == h) (has h tags) (fewer_tags g h tags e)
+    ] here
+
+pub below_committed : {E : Type 0} (g : ℕ) (os : List (OpenGuess E)) → AreBelow (opens_of os) → AreBelow (opens_of (after_commit g os))
+below_committed g [] below = tt
+below_committed g (o ∷ os) below =
+    elim (not (o.id == g)) as (λ b. AreBelow (opens_of (map (without_tag g) (cond b (o ∷ but g os) (but g os))))) [
+      | true ↦ ((λ h here. below.0 h (fewer_tags g h o.tags here)), below_committed g os below.1)
+      | false ↦ below_committed g os below.1
+    ]
+
+pub below_more : {E : Type 0} (os : List (OpenGuess E)) (o : OpenGuess E) → AreBelow (opens_of os) → ((g : ℕ) → has g o.tags ≡ true → g ≤ o.id) → AreBelow (opens_of (os ++ o ∷ []))
+below_more [] o below its = (its, tt)
+below_more (x ∷ os) o below its = (below.0, below_more os o below.1 its)

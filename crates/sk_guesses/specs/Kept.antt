@@ -85,6 +85,10 @@ pub record AreStatuses (v : KeptView) (os : List Open) (status : ℕ → Option 
 
 -- ---- between calls
 
+-- no guess is among the tags of an earlier one
+abbrev pub AreBelow : List Open → Type 0
+AreBelow os = AllByRecursion (λ o. (g : ℕ) → has g o.1 ≡ true → g ≤ o.0) os
+
 -- of what is kept, of the undecided guesses with room in their lists, of the entities on the list with which the next guess begins, and of
 -- the room for struck ones
 pub record AreKept {E : Type 0} (v : KeptView) (ls : List (Listing E)) (next : List E) (strikes : ℕ) : Type 0 where

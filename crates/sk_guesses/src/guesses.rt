@@ -349,7 +349,7 @@ impl<E: Key> Guesses<E> {
         if !self.is_open(id) {
             return;
         }
-        close_committed(&mut self.opens, id);
+        close_committed(&mut self.opens, 0, id);
         self.statuses[place_after(self.earlier.len(), id)] = Status::Committed;
     }
 
@@ -406,6 +406,6 @@ impl<E: Key> Guesses<E> {
             return;
         }
         strike_all(&mut self.statuses, self.earlier.len(), &self.opens, id);
-        close_resting(&mut self.opens, id);
+        close_resting(&mut self.opens, 0, id);
     }
 }

@@ -1,5 +1,5 @@
 //! The guesses of a kernel that keeps nothing of decided ones.
-ghost use Rattle.std.specs.Prelude.{◌≡◌, ◌≢◌, ◌<◌, ◌≤◌, ◌+◌, ◌==◌, ◌&&◌, ◌∷◌, ◌++◌, ℕ, [], true, not, if◌then◌else◌, length, map, nat_le, get_or, Option, Some, OnOk, OnErr, MatchOption};
+ghost use Rattle.std.specs.Prelude.{◌≡◌, ◌≢◌, ◌<◌, ◌≤◌, ◌+◌, ◌==◌, ◌&&◌, ◌∷◌, ◌++◌, ℕ, [], true, false, not, slice_index_or, if◌then◌else◌, length, map, nat_le, get_or, Option, Some, OnOk, OnErr, MatchOption};
 ghost use Rattle.std.specs.List.Sorted.{IsStrictlySortedBy};
 ghost use Rattle.std.specs.Option.{unwrap_or};
 ghost use Rattle.std.specs.Vec.{vec_capacity};
@@ -11,12 +11,13 @@ ghost use Rattle.sk_record.specs.declared.status.Status.{Status};
 ghost use Rattle.sk_record.specs.declared.status.Status.TheVariants.{Committed, Undecided};
 ghost use Rattle.sk_guesses.specs.EntitySet.{with_entities};
 ghost use Rattle.sk_guesses.specs.Kept.{known, none_drawn, one_drawn, keys_of, forgotten, redeemed_kept, struck_with, with_struck, AreStatuses, HasKeptRoom};
+ghost use Rattle.sk_guesses.specs.Room.{Listing};
 ghost use Rattle.sk_guesses.specs.Opens.{after_commit, depending, dependents_of, left_to, not_resting, opens_of, without_list};
 
 use crate::open_guess::OpenGuess;
 use crate::open_list::{
-    are_earlier, close_committed, close_resting, depend_on, leave_to, make_room, oldest, place_of,
-    take_list,
+    are_earlier, close_committed, close_resting, depend_on, first_resting, leave_to, make_room,
+    oldest, place_of, take_list,
 };
 use crate::row::Row;
 use crate::{EntitySet, Guess, Redeemed, Status};
@@ -36,14 +37,17 @@ pub struct OpenGuesses<E: Key> {
     drawn: u64,
     /// The undecided guesses, by rising number.
     opens: Row<OpenGuess<E>>,
+    /// Whether no guess is among the tags of an earlier one, so that a decision begins at its own place.
+    below: bool,
     /// The list with which the next guess begins: room, and no entity yet.
     next: EntitySet<E>,
     struck: Vec<GuessId>,
 }
 
 impl<E: Key> Model for OpenGuesses<E> {
-    ghost use Rattle.std.specs.Prelude.{map, vec_capacity};
-    ghost use Rattle.sk_guesses.specs.Kept.{Kept, AreKept};
+    ghost use Rattle.std.specs.Prelude.{◌≡◌, true, map, vec_capacity};
+    ghost use Rattle.sk_guesses.specs.Kept.{Kept, AreBelow, AreKept};
+    ghost use Rattle.sk_guesses.specs.Opens.{opens_of};
 
     ghost Value = { Kept E };
 
@@ -66,7 +70,8 @@ impl<E: Key> Model for OpenGuesses<E> {
           limit = a.limit;
           drawn = a.drawn;
           struck = a.struck.items;
-        }) a.opens.items a.next.entities (vec_capacity a.struck) };
+        }) a.opens.items a.next.entities (vec_capacity a.struck)
+        × (a.below ≡ true → AreBelow (opens_of (map (λ l. l.guess) a.opens.items))) };
 }
 
 /// Whether the failure of a guess strikes another.
@@ -90,16 +95,39 @@ fn note_struck<E: Key>(struck: &mut Vec<GuessId>, open: &OpenGuess<E>, id: Guess
     }
 }
 
-/// Notes the guesses that the failure of one strikes, for which there is room.
-fn strike_all<E: Key>(struck: &mut Vec<GuessId>, opens: &Row<OpenGuess<E>>, id: GuessId)
-    requires { length struck.old.items + length opens.now.items ≤ vec_capacity struck.old }
+/// Notes the guesses that the failure of one strikes, for which there is room. None of them stands before a place.
+fn strike_all<E: Key>(
+    struck: &mut Vec<GuessId>,
+    opens: &Row<OpenGuess<E>>,
+    from: usize,
+    id: GuessId,
+)
+    requires room { length struck.old.items + length opens.now.items ≤ vec_capacity struck.old }
+    requires none_before { (k : ℕ) (d : Listing E) → k < from
+        → has id (slice_index_or opens.now.items k d).guess.tags ≡ false }
+    requires bound { from ≤ length opens.now.items }
     ensures struck { struck.new.items
         ≡ struck.old.items ++ struck_with id (opens_of (map (λ l. l.guess) opens.now.items)) }
     ensures room { vec_capacity struck.new ≡ vec_capacity struck.old }
 {
-    for place in 0..opens.len() {
+    for place in from..opens.len() {
         note_struck(struck, opens.at(place), id);
     }
+}
+
+/// Whether no guess of a set was drawn after one, where it was so of all before.
+fn stays_below(below: bool, tags: &TagSet, id: GuessId) -> bool
+    ensures before { result ≡ true → below ≡ true }
+    ensures drawn { result ≡ true → (g : ℕ) → has g tags.now ≡ true → g ≤ id }
+{
+    if !below {
+        return false;
+    }
+    let ids = tags.ids();
+    let [.., newest] = ids else {
+        return true;
+    };
+    newest.number() <= id.number()
 }
 
 /// Takes a guess out of the struck ones.
@@ -133,6 +161,7 @@ impl<E: Key> OpenGuesses<E> {
             limit,
             drawn: 0,
             opens: Row::new(alloc),
+            below: true,
             next: EntitySet::new(alloc),
             struck: Vec::new(alloc),
         }
@@ -272,6 +301,7 @@ impl<E: Key> OpenGuesses<E> {
             → AreStatuses self.old.view (opens_of self.old.opens) status
             → AreStatuses self.new.view (opens_of self.new.opens) (with_drawn (Some id) status) }
     {
+        self.below = stays_below(self.below, &tags, id);
         let mut dependents = std::mem::replace(&mut self.next, EntitySet::new(self.alloc));
         add_written(&mut dependents, written);
         self.opens
@@ -340,7 +370,8 @@ impl<E: Key> OpenGuesses<E> {
             → AreStatuses self.new.view (opens_of self.new.opens)
             (with_status id Committed status) }
     {
-        close_committed(&mut self.opens, id);
+        let from = first_resting(&self.opens, self.below, id);
+        close_committed(&mut self.opens, from, id);
     }
 
     /// Fails a guess: it is undecided no more, and those whose own steps rest on it are struck. Answers how many these are.
@@ -356,8 +387,9 @@ impl<E: Key> OpenGuesses<E> {
             (with_failure id (opens_of self.old.opens) status) }
     {
         let before = self.struck.len();
-        strike_all(&mut self.struck, &self.opens, id);
-        close_resting(&mut self.opens, id);
+        let from = first_resting(&self.opens, self.below, id);
+        strike_all(&mut self.struck, &self.opens, from, id);
+        close_resting(&mut self.opens, from, id);
         self.struck.len() - before
     }
 }

@@ -1,5 +1,5 @@
 //! The open guesses of a list, by rising number, and what calls make of all of them.
-ghost use Rattle.std.specs.Prelude.{◌≡◌, ◌<◌, ◌≤◌, ◌==◌, ℕ, true, length, map, not, slice_index_or, get_or, OnOk};
+ghost use Rattle.std.specs.Prelude.{◌≡◌, ◌<◌, ◌≤◌, ◌==◌, ℕ, true, false, length, map, not, slice_index_or, get_or, OnOk};
 ghost use Rattle.std.specs.List.{list_any, prefix_len};
 ghost use Rattle.std.specs.List.Sorted.{IsStrictlySortedBy};
 ghost use Rattle.std.specs.Option.{unwrap_or};
@@ -8,6 +8,7 @@ ghost use Rattle.sk_record.specs.Notes.{has};
 ghost use Rattle.sk_record.specs.UndoState.{numbers};
 ghost use Rattle.sk_guesses.specs.Opens.{opens_of, dependents_of, depending, relieved, left_to, without_tag, but, not_resting, after_commit, without_list};
 ghost use Rattle.sk_guesses.specs.Room.{Listing};
+ghost use Rattle.sk_guesses.specs.Kept.{AreBelow};
 
 use crate::EntitySet;
 use crate::open_guess::OpenGuess;
@@ -86,6 +87,22 @@ pub(crate) fn place_of<E: Key>(opens: &Row<OpenGuess<E>>, id: GuessId) -> usize
     opens.len()
 }
 
+/// Where the guesses begin whose own steps may rest on one, if no tag of theirs is above their own number.
+pub(crate) fn first_resting<E: Key>(opens: &Row<OpenGuess<E>>, below: bool, id: GuessId) -> usize
+    requires rising { IsStrictlySortedBy nat_cmp
+        (numbers (opens_of (map (λ l. l.guess) opens.now.items))) }
+    requires below { below ≡ true → AreBelow (opens_of (map (λ l. l.guess) opens.now.items)) }
+    ensures none_before { (k : ℕ) (d : Listing E) → k < result
+        → has id (slice_index_or opens.now.items k d).guess.tags ≡ false }
+    ensures bound { result ≤ length opens.now.items }
+{
+    let place = place_of(opens, id);
+    if below && place < opens.len() {
+        return place;
+    }
+    0
+}
+
 /// Moves out the list of a guess.
 pub(crate) fn take_list<E: Key>(
     opens: &mut Row<OpenGuess<E>>,
@@ -121,35 +138,44 @@ pub(crate) fn close<E: Key>(opens: &mut Row<OpenGuess<E>>, id: GuessId)
 }
 
 /// Takes a guess out of what the own steps of these rest on.
-fn withdraw<E: Key>(opens: &mut Row<OpenGuess<E>>, id: GuessId)
+fn withdraw<E: Key>(opens: &mut Row<OpenGuess<E>>, from: usize, id: GuessId)
+    requires none_before { (k : ℕ) (d : Listing E) → k < from
+        → has id (slice_index_or opens.old.items k d).guess.tags ≡ false }
+    requires bound { from ≤ length opens.old.items }
     ensures opens { map (λ l. l.guess) opens.new.items
         ≡ map (without_tag id) (map (λ l. l.guess) opens.old.items) }
     ensures as_many { length opens.new.items ≡ length opens.old.items }
 {
-    for place in 0..opens.len() {
+    for place in from..opens.len() {
         opens.at_mut(place).without(id);
     }
 }
 
 /// Takes a guess out of the undecided ones, and out of what the steps of the others rest on.
-pub(crate) fn close_committed<E: Key>(opens: &mut Row<OpenGuess<E>>, id: GuessId)
-    requires { IsStrictlySortedBy nat_cmp
+pub(crate) fn close_committed<E: Key>(opens: &mut Row<OpenGuess<E>>, from: usize, id: GuessId)
+    requires rising { IsStrictlySortedBy nat_cmp
         (numbers (opens_of (map (λ l. l.guess) opens.old.items))) }
+    requires none_before { (k : ℕ) (d : Listing E) → k < from
+        → has id (slice_index_or opens.old.items k d).guess.tags ≡ false }
+    requires bound { from ≤ length opens.old.items }
     ensures opens { map (λ l. l.guess) opens.new.items
         ≡ after_commit id (map (λ l. l.guess) opens.old.items) }
     ensures fewer { length opens.new.items ≤ length opens.old.items }
 {
+    withdraw(opens, from, id);
     close(opens, id);
-    withdraw(opens, id);
 }
 
 /// Takes the guesses out of the undecided ones whose own steps rest on a guess.
-pub(crate) fn close_resting<E: Key>(opens: &mut Row<OpenGuess<E>>, id: GuessId)
+pub(crate) fn close_resting<E: Key>(opens: &mut Row<OpenGuess<E>>, from: usize, id: GuessId)
+    requires none_before { (k : ℕ) (d : Listing E) → k < from
+        → has id (slice_index_or opens.old.items k d).guess.tags ≡ false }
+    requires bound { from ≤ length opens.old.items }
     ensures opens { map (λ l. l.guess) opens.new.items
         ≡ not_resting id (map (λ l. l.guess) opens.old.items) }
     ensures fewer { length opens.new.items ≤ length opens.old.items }
 {
-    for back in (0..opens.len()).rev() {
+    for back in (from..opens.len()).rev() {
         if opens.at(back).rests_on(id) {
             opens.remove(back);
         }

@@ -1,10 +1,10 @@
 -- One guess more is noted, or is not struck.
-use Rattle.std.proofs.Common.{◌≡◌, ◌<◌, ◌+◌, ◌++◌, ◌∷◌, drop, length, map, sym, ◌∙◌, ap, arith}
+use Rattle.std.proofs.Common.{◌≡◌, ◌<◌, ◌+◌, ◌++◌, ◌∷◌, drop, length, map, sym, ◌∙◌, ap, refl, arith}
 use Rattle.sk_guesses.specs.Kept.{struck_with}
 use Rattle.sk_guesses.specs.Opens.{opens_of}
 use Rattle.sk_guesses.proofs.Kept.{strike_next}
 use Rattle.sk_guesses.proofs.Opens.{guess_of}
-use Rattle.sk_guesses.proofs.Passes.{next_of_all}
+use Rattle.sk_guesses.proofs.Passes.{next_of_all, none_struck_before}
 use Rattle.sk_guesses.proofs.open_guesses.strike_all.Goals as goal
 
 pub loop-place-preserved : goal.loop-place-preserved
@@ -20,3 +20,10 @@ loop-place-preserved g c =
       omega (arith, c.note_struck.ensures.more, c.loop-place.invariant.1, lt),
       c.note_struck.ensures.room ∙ c.loop-place.invariant.2,
     )
+
+pub loop-place-init : goal.loop-place-init
+loop-place-init g c = (
+  ap (λ xs. c.args.struck.now.items ++ xs) (none_struck_before c.args.id c.args.from c.args.opens.now.items c.requires.none_before c.requires.bound),
+  omega (arith, c.requires.room, c.requires.bound),
+  refl,
+)

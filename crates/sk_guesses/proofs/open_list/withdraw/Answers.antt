@@ -1,11 +1,11 @@
 -- A change is made of one after the other.
 use Rattle.std.proofs.Common.{arith}
 use Rattle.sk_guesses.specs.Opens.{without_tag}
-use Rattle.sk_guesses.proofs.Passes.{none_done, one_done, all_done}
+use Rattle.sk_guesses.proofs.Passes.{from_there, one_done, all_done}
 use Rattle.sk_guesses.proofs.open_list.withdraw.Goals as goal
 
 pub loop-place-init : goal.loop-place-init
-loop-place-init g c = none_done (without_tag c.args.id) c.args.opens.now.items
+loop-place-init g c = from_there c.args.id c.args.from c.args.opens.now.items c.requires.none_before c.requires.bound
 
 pub loop-place-preserved : goal.loop-place-preserved
 loop-place-preserved g c =

@@ -9,12 +9,16 @@ use Rattle.sk_guesses.specs.Kept.{Kept, KeptView, AreStatuses}
 use Rattle.sk_guesses.specs.Opens.{opens_of}
 use Rattle.sk_guesses.proofs.Kept.{commit_opens, kept_committed, statuses_committed}
 use Rattle.sk_guesses.proofs.Opens.{guess_of}
+use Rattle.sk_guesses.specs.Kept.{AreBelow}
+use Rattle.sk_guesses.proofs.Passes.{below_committed}
 use Rattle.sk_guesses.proofs.open_guesses.OpenGuesses.commit.Goals as goal
 
 pub invariant_of-self : goal.invariant_of-self
 invariant_of-self g c =
-    let v : KeptView = record { kernel = c.self.inside.kernel; limit = c.self.inside.limit; drawn = c.self.inside.drawn; struck = c.self.inside.struck.items } in
-    kept_committed v c.self.inside.opens.items c.close_committed.new.opens.items c.self.inside.next.entities (vec_capacity c.self.inside.struck) c.args.id c.close_committed.ensures.opens c.close_committed.ensures.fewer c.self.invariant
+    let v : KeptView = record { kernel = c.self.inside.kernel; limit = c.self.inside.limit; drawn = c.self.inside.drawn; struck = c.self.inside.struck.items } in (
+      kept_committed v c.self.inside.opens.items c.close_committed.new.opens.items c.self.inside.next.entities (vec_capacity c.self.inside.struck) c.args.id c.close_committed.ensures.opens c.close_committed.ensures.fewer c.self.invariant.0,
+      λ is. subst (λ xs. AreBelow (opens_of xs)) (sym c.close_committed.ensures.opens) (below_committed c.args.id (map guess_of c.self.inside.opens.items) (c.self.invariant.1 is)),
+    )
 
 pub returns-clause-machine : goal.returns-clause-machine
 returns-clause-machine g c =
@@ -28,4 +32,7 @@ returns-clause-statuses g c = λ status are here.
     (statuses_committed v os status c.args.id (subst (λ (r : Kept _). AreStatuses r.view (opens_of r.opens) status) (sym c.self.view_is) are) (ap (λ (r : Kept _). has c.args.id (numbers (opens_of r.opens))) c.self.view_is ∙ here))
 
 pub close_committed-requires : goal.close_committed-requires
-close_committed-requires g c = c.self.invariant.rising
+close_committed-requires g c = record { rising = c.self.invariant.0.rising; none_before = c.first_resting-from.ensures.none_before; bound = c.first_resting-from.ensures.bound }
+
+pub first_resting-from-requires : goal.first_resting-from-requires
+first_resting-from-requires g c = record { rising = c.self.invariant.0.rising; below = c.self.invariant.1 }

@@ -1,15 +1,16 @@
 -- Numbers and tags stay.
-use Rattle.std.proofs.Common.{◌≡◌, ◌≤◌, ◌∙◌, ap, length, map, sym, arith}
+use Rattle.std.proofs.Common.{◌≡◌, ◌≤◌, ◌∙◌, ap, length, map, sym, arith, subst}
 use Rattle.std.specs.Vec.{vec_capacity}
 use Rattle.std.proofs.lemmas.List.{length-map}
 use Rattle.sk_guesses.specs.Kept.{Kept, KeptView}
 use Rattle.sk_guesses.specs.Opens.{opens_of, depending}
 use Rattle.sk_guesses.proofs.Kept.{kept_same}
 use Rattle.sk_guesses.proofs.Opens.{guess_of, same_opens, depending_keeps}
+use Rattle.sk_guesses.specs.Kept.{AreBelow}
 use Rattle.sk_guesses.proofs.open_guesses.OpenGuesses.depend.Goals as goal
 
 pub are_earlier-requires : goal.are_earlier-requires
-are_earlier-requires g c = c.self.invariant.rising
+are_earlier-requires g c = c.self.invariant.0.rising
 
 pub returns-then-are_earlier-clause-ok : goal.returns-then-are_earlier-clause-ok
 returns-then-are_earlier-clause-ok g c =
@@ -21,8 +22,10 @@ pub invariant_of-self : goal.invariant_of-self
 invariant_of-self g c =
     let v : KeptView = record { kernel = c.self.inside.kernel; limit = c.self.inside.limit; drawn = c.self.inside.drawn; struck = c.self.inside.struck.items } in
     let as_many : length c.make_room.new.opens.items ≤ length c.self.inside.opens.items =
-    omega (arith, sym (length-map c.make_room.new.opens.items guess_of) ∙ ap length c.make_room.ensures.same ∙ length-map c.self.inside.opens.items guess_of) in
-    kept_same v c.self.inside.opens.items c.make_room.new.opens.items c.self.inside.next.entities (vec_capacity c.self.inside.struck) (ap opens_of c.make_room.ensures.same) as_many c.self.invariant
+    omega (arith, sym (length-map c.make_room.new.opens.items guess_of) ∙ ap length c.make_room.ensures.same ∙ length-map c.self.inside.opens.items guess_of) in (
+      kept_same v c.self.inside.opens.items c.make_room.new.opens.items c.self.inside.next.entities (vec_capacity c.self.inside.struck) (ap opens_of c.make_room.ensures.same) as_many c.self.invariant.0,
+      λ below. subst AreBelow (sym (ap opens_of c.make_room.ensures.same)) (c.self.invariant.1 below),
+    )
 
 pub invariant_of-self-2 : goal.invariant_of-self-2
 invariant_of-self-2 g c =
@@ -31,6 +34,8 @@ invariant_of-self-2 g c =
     let f = depending g.E.Key.order c.args.tags.now c.args.entity.now in
     let is : map guess_of c.depend_on.new.opens.items ≡ map f os = c.depend_on.ensures ∙ ap (map f) c.make_room.ensures.same in
     let as_many : length c.depend_on.new.opens.items ≡ length c.self.inside.opens.items =
-    sym (length-map c.depend_on.new.opens.items guess_of) ∙ ap length is ∙ length-map os f ∙ length-map c.self.inside.opens.items guess_of in
-    kept_same v c.self.inside.opens.items c.depend_on.new.opens.items c.self.inside.next.entities (vec_capacity c.self.inside.struck)
-    (ap opens_of is ∙ same_opens f (depending_keeps g.E.Key.order c.args.tags.now c.args.entity.now) os) (omega (arith, as_many)) c.self.invariant
+    sym (length-map c.depend_on.new.opens.items guess_of) ∙ ap length is ∙ length-map os f ∙ length-map c.self.inside.opens.items guess_of in (
+      kept_same v c.self.inside.opens.items c.depend_on.new.opens.items c.self.inside.next.entities (vec_capacity c.self.inside.struck)
+          (ap opens_of is ∙ same_opens f (depending_keeps g.E.Key.order c.args.tags.now c.args.entity.now) os) (omega (arith, as_many)) c.self.invariant.0,
+      λ below. subst AreBelow (sym (ap opens_of is ∙ same_opens f (depending_keeps g.E.Key.order c.args.tags.now c.args.entity.now) os)) (c.self.invariant.1 below),
+    )

@@ -35,4 +35,4 @@ returns-clause-none g c = λ other.
     (not_known v (opens_of os) c.args.id (λ is. other (ap (λ (g : Kept _). known g.view (opens_of g.opens) c.args.id) (sym c.self.view_is) ∙ is)))
 
 pub place_of-place-requires : goal.place_of-place-requires
-place_of-place-requires g c = c.self.invariant.rising
+place_of-place-requires g c = c.self.invariant.0.rising

@@ -1,5 +1,5 @@
 -- One undecided guess more.
-use Rattle.std.proofs.Common.{◌≡◌, ◌+◌, ◌<◌, ◌∷◌, ◌++◌, [], true, length, map, Some, refl, sym, ◌∙◌, ap, subst, arith}
+use Rattle.std.proofs.Common.{◌≡◌, ◌+◌, ◌<◌, ◌∷◌, ◌++◌, [], true, length, map, Some, refl, sym, ◌∙◌, ap, subst, arith, ℕ, ◌≤◌}
 use Rattle.std.proofs.lemmas.List.{length-map, map-append}
 use Rattle.std.specs.Vec.{vec_capacity}
 use Rattle.sk_ids.specs.declared.guess.TheConstants.{LAST_GUESS}
@@ -11,6 +11,8 @@ use Rattle.sk_guesses.specs.Opens.{opens_of}
 use Rattle.sk_guesses.specs.Room.{Listing}
 use Rattle.sk_guesses.proofs.Kept.{kept_drawn, statuses_drawn}
 use Rattle.sk_guesses.proofs.Opens.{guess_of}
+use Rattle.sk_guesses.specs.Kept.{AreBelow}
+use Rattle.sk_guesses.proofs.Passes.{below_more}
 use Rattle.sk_guesses.proofs.open_guesses.OpenGuesses.draw.Goals as goal
 
 pub invariant_of-self : goal.invariant_of-self
@@ -27,9 +29,14 @@ invariant_of-self g c =
     let few : length ls < v.limit = omega (arith, c.requires.few, as_many, ap (λ (r : Kept _). r.view.limit) c.self.view_is) in
     let last : v.drawn < LAST_GUESS = omega (arith, c.number-self-inside.ensures.limits.1, drawn) in
     let places : length v.struck + length ls < vec_capacity c.self.inside.struck =
-    omega (arith, c.requires.room.1, as_many, ap (λ (r : Kept _). length r.view.struck) c.self.view_is, ap (λ (r : Kept _). r.strikes) c.self.view_is) in
-    kept_drawn v ls c.push_reserved.new.self.items c.self.inside.next.entities (vec_capacity c.self.inside.struck) l c.number-self-inside.result _ c.push_reserved.ensures.items number drawn
-    (ap (λ (s : SetView _). s.entities) c.replace-dependents.ensures.after ∙ c.new.ensures) own few last places c.self.invariant
+    omega (arith, c.requires.room.1, as_many, ap (λ (r : Kept _). length r.view.struck) c.self.view_is, ap (λ (r : Kept _). r.strikes) c.self.view_is) in (
+      kept_drawn v ls c.push_reserved.new.self.items c.self.inside.next.entities (vec_capacity c.self.inside.struck) l c.number-self-inside.result _ c.push_reserved.ensures.items number drawn
+          (ap (λ (s : SetView _). s.entities) c.replace-dependents.ensures.after ∙ c.new.ensures) own few last places c.self.invariant.0,
+      λ below.
+          subst (λ xs. AreBelow (opens_of xs)) (sym (ap (map guess_of) c.push_reserved.ensures.items ∙ rw map-append refl))
+          (below_more (map guess_of ls) l.guess (c.self.invariant.1 (c.stays_below-self-inside.ensures.before below))
+          (subst (λ (x : Listing _). (h : ℕ) → has h x.guess.tags ≡ true → h ≤ x.guess.id) (sym c.new-2.ensures) (c.stays_below-self-inside.ensures.drawn below))),
+    )
 
 pub returns-clause-statuses : goal.returns-clause-statuses
 returns-clause-statuses g c = λ status are.

@@ -17,4 +17,4 @@ returns g c =
     ∙ ap (λ (r : Kept _). has c.args.id (numbers (opens_of r.opens))) c.self.view_is
 
 pub place_of-requires : goal.place_of-requires
-place_of-requires g c = c.self.invariant.rising
+place_of-requires g c = c.self.invariant.0.rising

@@ -1,23 +1,26 @@
 -- Numbers and tags stay.
-use Rattle.std.proofs.Common.{◌∙◌, ap, map, arith}
+use Rattle.std.proofs.Common.{◌∙◌, ap, map, arith, subst, sym}
 use Rattle.sk_guesses.specs.Kept.{Kept, KeptView}
 use Rattle.sk_guesses.specs.Opens.{not_resting, opens_of}
 use Rattle.std.specs.Vec.{vec_capacity}
 use Rattle.sk_guesses.proofs.Kept.{kept_same}
 use Rattle.sk_guesses.proofs.Listed.{taken_first}
 use Rattle.sk_guesses.proofs.Opens.{guess_of, taken_opens}
+use Rattle.sk_guesses.specs.Kept.{AreBelow}
 use Rattle.sk_guesses.proofs.open_guesses.OpenGuesses.take_dependents.Goals as goal
 
 pub invariant_of-self : goal.invariant_of-self
 invariant_of-self g c =
-    let v : KeptView = record { kernel = c.self.inside.kernel; limit = c.self.inside.limit; drawn = c.self.inside.drawn; struck = c.self.inside.struck.items } in
-    kept_same v c.self.inside.opens.items c.take_list.new.opens.items c.self.inside.next.entities (vec_capacity c.self.inside.struck)
-    (ap opens_of c.take_list.ensures.opens ∙ taken_opens c.args.id (map guess_of c.self.inside.opens.items)) (omega (arith, c.take_list.ensures.as_many)) c.self.invariant
+    let v : KeptView = record { kernel = c.self.inside.kernel; limit = c.self.inside.limit; drawn = c.self.inside.drawn; struck = c.self.inside.struck.items } in (
+      kept_same v c.self.inside.opens.items c.take_list.new.opens.items c.self.inside.next.entities (vec_capacity c.self.inside.struck)
+          (ap opens_of c.take_list.ensures.opens ∙ taken_opens c.args.id (map guess_of c.self.inside.opens.items)) (omega (arith, c.take_list.ensures.as_many)) c.self.invariant.0,
+      λ is. subst AreBelow (sym (ap opens_of c.take_list.ensures.opens ∙ taken_opens c.args.id (map guess_of c.self.inside.opens.items))) (c.self.invariant.1 is),
+    )
 
 pub returns-clause-resting : goal.returns-clause-resting
 returns-clause-resting g c =
-    ap (not_resting c.args.id) c.take_list.ensures.opens ∙ taken_first c.args.id (map guess_of c.self.inside.opens.items) c.self.invariant.own
+    ap (not_resting c.args.id) c.take_list.ensures.opens ∙ taken_first c.args.id (map guess_of c.self.inside.opens.items) c.self.invariant.0.own
     ∙ ap (λ (r : Kept _). not_resting c.args.id r.opens) c.self.view_is
 
 pub take_list-requires : goal.take_list-requires
-take_list-requires g c = c.self.invariant.rising
+take_list-requires g c = c.self.invariant.0.rising

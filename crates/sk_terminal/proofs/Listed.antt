@@ -63,6 +63,24 @@ missing g k (x ∷ ls) is le =
       | false ↦ λ more. (refl, missing g (prefix_len (is_other g) ls) ls refl (omega arith))
     ] is
 
+none_at : (g k : ℕ) (ls : List Listing) (l : Listing) → k < length ls → l ≡ slice_index_or ls k l → HasNone g ls → (l.guess == g) ≡ false
+none_at g k [] l lt at none = absurd (omega arith)
+none_at g zero (x ∷ ls) l lt at none = subst (λ n. (n == g) ≡ false) (sym (ap (λ (y : Listing). y.guess) at)) none.0
+none_at g (suc k) (x ∷ ls) l lt at none = none_at g k ls l (omega arith) at none.1
+
+-- a list of the guess is the only one, so it is the first
+pub place_of_own : (g k : ℕ) (ls : List Listing) (l : Listing) → k < length ls → l ≡ slice_index_or ls k l → l.guess ≡ g → AreTidy ls
+    → k ≡ prefix_len (is_other g) ls
+place_of_own g k [] l lt at is tidy = absurd (omega arith)
+place_of_own g zero (x ∷ ls) l lt at is tidy =
+    let same : (x.guess == g) ≡ true = eq-eqb x.guess g (sym (ap (λ (y : Listing). y.guess) at) ∙ is) in
+    sym (ap (λ b. cond (not b) (1 + prefix_len (is_other g) ls) 0) same)
+place_of_own g (suc k) (x ∷ ls) l lt at is tidy =
+    let later : k ≡ prefix_len (is_other g) ls = place_of_own g k ls l (omega arith) at is tidy.2 in
+    let apart : (x.guess == g) ≡ false = flipped g x.guess (subst (λ n. (n == x.guess) ≡ false) is (none_at x.guess k ls l (omega arith) at tidy.0)) in
+    let next : suc k ≡ 1 + prefix_len (is_other g) ls = omega arith in
+    next ∙ sym (ap (λ b. cond (not b) (1 + prefix_len (is_other g) ls) 0) apart)
+
 pub none_listed : (g : ℕ) (ls : List Listing) → HasNone g ls → (t : ℕ) → is_listed g t ls ≡ false
 none_listed g [] none t = refl
 none_listed g (x ∷ ls) none t = ap (λ b. cond b (has t x.terminals) (is_listed g t ls)) none.0 ∙ none_listed g ls none.1 t

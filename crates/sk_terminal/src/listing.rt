@@ -26,6 +26,17 @@ fn place_of(lists: &[Listing], guess: GuessId) -> usize
         .count()
 }
 
+/// The same, where the list at `hint` is looked at first: the lists of a text's guesses mostly stand one behind the other.
+fn place_from(lists: &[Listing], guess: GuessId, hint: usize) -> usize
+    requires { AreTidy lists.now }
+    ensures { result ≡ prefix_len (λ l. not (l.guess == guess)) lists.now }
+{
+    match lists.get(hint) {
+        Some(list) if list.guess == guess => hint,
+        _ => place_of(lists, guess),
+    }
+}
+
 fn is_of_another(list: &Listing, guess: GuessId) -> bool
     ensures { result ≡ not (list.now.guess == guess) }
 {
@@ -49,14 +60,16 @@ pub(crate) fn take_list(lists: &mut Vec<Listing>, guess: GuessId) -> Option<Numb
     Some(lists.remove(place).terminals)
 }
 
-/// Lists a terminal for a guess, where it may be listed. Without memory nothing has changed.
+/// Lists a terminal, which may be listed, for a guess before whose list `place` others stand. Without memory nothing has changed.
 fn add(
     alloc: Global,
     lists: &mut Vec<Listing>,
     guess: GuessId,
+    place: usize,
     number: u16,
 ) -> Result<(), AllocError>
-    requires { AreTidy lists.old.items }
+    requires tidy { AreTidy lists.old.items }
+    requires place { place ≡ prefix_len (λ l. not (l.guess == guess)) lists.old.items }
     ensures ok { OnOk result
         ((g t : ℕ) → is_listed g t lists.new.items
         ≡ (is_listed g t lists.old.items || ((guess == g) && (number == t)))) }
@@ -64,7 +77,6 @@ fn add(
         ((g t : ℕ) → is_listed g t lists.new.items ≡ is_listed g t lists.old.items) }
     ensures tidy { AreTidy lists.new.items }
 {
-    let place = place_of(lists.as_slice(), guess);
     if place < lists.len() {
         lists[place].terminals.add(number)?;
         return Ok(());
@@ -89,8 +101,11 @@ pub(crate) fn list(
     ensures err { OnErr result (ListsAtMost number lists.old.items lists.new.items) }
     ensures tidy { AreTidy lists.new.items }
 {
+    let mut next = 0;
     for guess in tags.ids() {
-        add(alloc, lists, *guess, number)?;
+        let place = place_from(lists.as_slice(), *guess, next);
+        add(alloc, lists, *guess, place, number)?;
+        next = place + 1;
     }
     Ok(())
 }

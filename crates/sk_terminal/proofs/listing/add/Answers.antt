@@ -11,69 +11,54 @@ use Rattle.sk_terminal.proofs.listing.add.Goals as goal
 pub returns-in_err-add-clause-err : goal.returns-in_err-add-clause-err
 returns-in_err-add-clause-err c =
     let ls = c.args.lists.now.items in
-    let long = ap length c.as_slice.ensures.value in
-    let counted = c.as_slice.ensures.len in
     let all = c.len.ensures in
     let before = c.if-place-len.true in
-    let lt : c.place_of-place.result < length ls = omega arith in
-    on_err_given c.from_residual.result (same_set c.place_of-place.result ls c.index_mut.result.now _ lt c.index_mut.ensures.value refl c.in_err-add.ensures.err)
+    let lt : c.args.place < length ls = omega arith in
+    on_err_given c.from_residual.result (same_set c.args.place ls c.index_mut.result.now _ lt c.index_mut.ensures.value refl c.in_err-add.ensures.err)
 
 pub returns-in_err-add-clause-tidy : goal.returns-in_err-add-clause-tidy
 returns-in_err-add-clause-tidy c =
     let ls = c.args.lists.now.items in
-    let long = ap length c.as_slice.ensures.value in
-    let counted = c.as_slice.ensures.len in
     let all = c.len.ensures in
     let before = c.if-place-len.true in
-    let lt : c.place_of-place.result < length ls = omega arith in
-    let some : 0 < length c.add.new.self = subst (λ ts. 0 < length ts) (sym c.in_err-add.ensures.err) (some_at c.place_of-place.result ls c.index_mut.result.now lt c.index_mut.ensures.value c.requires) in
-    tidy_set c.place_of-place.result ls c.index_mut.result.now _ lt c.index_mut.ensures.value refl some c.requires
+    let lt : c.args.place < length ls = omega arith in
+    let some : 0 < length c.add.new.self = subst (λ ts. 0 < length ts) (sym c.in_err-add.ensures.err) (some_at c.args.place ls c.index_mut.result.now lt c.index_mut.ensures.value c.requires.tidy) in
+    tidy_set c.args.place ls c.index_mut.result.now _ lt c.index_mut.ensures.value refl some c.requires.tidy
 
 pub returns-then-place-len-clause-ok : goal.returns-then-place-len-clause-ok
 returns-then-place-len-clause-ok c =
     let ls = c.args.lists.now.items in
-    let long = ap length c.as_slice.ensures.value in
-    let counted = c.as_slice.ensures.len in
     let all = c.len.ensures in
     let before = c.if-place-len.true in
-    let lt : c.place_of-place.result < length ls = omega arith in
-    let place : c.place_of-place.result ≡ prefix_len (is_other c.args.guess) ls = c.place_of-place.ensures ∙ ap (prefix_len (is_other c.args.guess)) c.as_slice.ensures.value in
-    set_listed c.args.guess c.place_of-place.result c.args.number ls c.index_mut.result.now _ place lt c.index_mut.ensures.value refl c.in_ok-add.ensures.ok
+    let lt : c.args.place < length ls = omega arith in
+    set_listed c.args.guess c.args.place c.args.number ls c.index_mut.result.now _ c.requires.place lt c.index_mut.ensures.value refl c.in_ok-add.ensures.ok
 
 pub returns-then-place-len-clause-tidy : goal.returns-then-place-len-clause-tidy
 returns-then-place-len-clause-tidy c =
     let ls = c.args.lists.now.items in
-    let long = ap length c.as_slice.ensures.value in
-    let counted = c.as_slice.ensures.len in
     let all = c.len.ensures in
     let before = c.if-place-len.true in
-    let lt : c.place_of-place.result < length ls = omega arith in
+    let lt : c.args.place < length ls = omega arith in
     let some : 0 < length c.add.new.self = some_there c.args.number c.add.new.self (c.in_ok-add.ensures.ok c.args.number ∙ or_right _ _ (eq-eqb c.args.number c.args.number refl)) in
-    tidy_set c.place_of-place.result ls c.index_mut.result.now _ lt c.index_mut.ensures.value refl some c.requires
+    tidy_set c.args.place ls c.index_mut.result.now _ lt c.index_mut.ensures.value refl some c.requires.tidy
 
 pub returns-clause-ok : goal.returns-clause-ok
 returns-clause-ok c = λ g t.
     let ls = c.args.lists.now.items in
     let new : Listing = record { guess = c.args.guess; terminals = c.in_ok-terminals.terminals } in
-    let long = ap length c.as_slice.ensures.value in
-    let counted = c.as_slice.ensures.len in
     let all = c.len.ensures in
     let past = c.if-place-len.false in
-    let le : length ls ≤ c.place_of-place.result = omega arith in
-    let place : c.place_of-place.result ≡ prefix_len (is_other c.args.guess) ls = c.place_of-place.ensures ∙ ap (prefix_len (is_other c.args.guess)) c.as_slice.ensures.value in
+    let le : length ls ≤ c.args.place = omega arith in
     ap (is_listed g t) (c.push_reserved.ensures.items ∙ ap (λ (all : List Listing). all ++ new ∷ []) c.reserve.ensures.items)
-    ∙ push_listed c.args.guess c.args.number ls new (missing c.args.guess c.place_of-place.result ls place le) refl c.in_ok-terminals.ensures g t
+    ∙ push_listed c.args.guess c.args.number ls new (missing c.args.guess c.args.place ls c.requires.place le) refl c.in_ok-terminals.ensures g t
 
 pub returns-clause-tidy : goal.returns-clause-tidy
 returns-clause-tidy c =
     let ls = c.args.lists.now.items in
     let new : Listing = record { guess = c.args.guess; terminals = c.in_ok-terminals.terminals } in
-    let long = ap length c.as_slice.ensures.value in
-    let counted = c.as_slice.ensures.len in
     let all = c.len.ensures in
     let past = c.if-place-len.false in
-    let le : length ls ≤ c.place_of-place.result = omega arith in
-    let place : c.place_of-place.result ≡ prefix_len (is_other c.args.guess) ls = c.place_of-place.ensures ∙ ap (prefix_len (is_other c.args.guess)) c.as_slice.ensures.value in
+    let le : length ls ≤ c.args.place = omega arith in
     let some : 0 < length c.in_ok-terminals.terminals = subst (λ ts. 0 < length ts) (sym c.in_ok-terminals.ensures) (omega arith) in
     subst AreTidy (sym (c.push_reserved.ensures.items ∙ ap (λ (all : List Listing). all ++ new ∷ []) c.reserve.ensures.items))
-    (tidy_push ls new c.requires (missing c.args.guess c.place_of-place.result ls place le) some)
+    (tidy_push ls new c.requires.tidy (missing c.args.guess c.args.place ls c.requires.place le) some)

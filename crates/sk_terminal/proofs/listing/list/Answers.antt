@@ -1,5 +1,6 @@
 -- One guess more has the terminal listed.
-use Rattle.std.proofs.Common.{◌≡◌, ◌||◌, ◌&&◌, take, sym, ◌∙◌, ap}
+use Rattle.std.proofs.Common.{◌≡◌, ◌<◌, ◌≤◌, ◌+◌, ◌^◌, ◌||◌, ◌&&◌, length, take, sym, ◌∙◌, ap, subst, arith, rules}
+use Rattle.std.proofs.lemmas.List.Sums.{prefix_len-le-length}
 use Rattle.std.specs.Prelude.{◌==◌}
 use Rattle.sk_record.specs.Notes.{has}
 use Rattle.sk_terminal.specs.Listing.{is_listed}
@@ -24,3 +25,12 @@ pub returns-in_err-add-clause-err : goal.returns-in_err-add-clause-err
 returns-in_err-add-clause-err c =
     on_err_given c.from_residual.result
     (at_most c.args.lists.now.items c.add.new.lists.items c.args.number (λ g. has g (take c.loop-guess.guess-index c.ids-guess-items.result.now)) (λ g t. c.in_err-add.ensures.err g t ∙ c.loop-guess.invariant.1 g t))
+
+pub overflow_add-next : goal.overflow_add-next
+overflow_add-next c =
+    let lists = c.loop-guess.lists in
+    let within : c.place_from-place.result ≤ length c.as_slice.result.now =
+    subst (λ n. n ≤ length c.as_slice.result.now) (sym c.place_from-place.ensures) (prefix_len-le-length _ c.as_slice.result.now) in
+    let below : c.place_from-place.result + 1 < 2 ^ 64 =
+    omega (arith, within, c.as_slice.ensures.len, lists.ok.0, lists.ok.1, lists.small) in
+    search (rules, below)

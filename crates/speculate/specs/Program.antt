@@ -29,7 +29,7 @@ EndsInSection (Plain file) input d (Trace es) end old new = EndsPlain d.boot es 
 EndsInSection (Replay file) input d (Steps steps) end old new = EndsUnwritten ends.Fault end old new
 EndsInSection (Replay file) input d (World es) end old new = EndsUnwritten ends.Fault end old new
 EndsInSection (Replay file) input d (Trace es) end old new = EndsReplayed [] (declared_kernel d) es end old new
-EndsInSection (Work file workers turns) input d section end old new = EndsWork workers d end old new
+EndsInSection (Work file workers turns) input d section end old new = EndsWork workers turns d end old new
 
 -- what reading a text gave is run, or is a fault of which nothing is on the output
 abbrev pub EndsRead : Wish → Option (List ℕ) → Result Scenario Fault → End → Option (List ℕ) → Option (List ℕ) → Type 0

@@ -12,29 +12,29 @@ use Rattle.sk_report.specs.Report.{desk_report_text, workers_line}
 use Rattle.sk_command.specs.declared.end.End.{End}
 use Rattle.sk_command.specs.declared.end.End.TheVariants as ends
 
--- a crew of so many workers, for some number of turns, can leave this desk by so many calls: they are a legal history, which leads from the declared desk to this one, on
--- which nothing is pending
-abbrev pub CanLeave : ℕ → Declared → ℕ → DeskView → Type 0
-CanLeave workers d calls desk =
+-- a crew of so many workers, each told so many turns, can leave this desk by so many calls: they are a legal history, which leads from the
+-- declared desk to this one, on which nothing is pending
+abbrev pub CanLeave : ℕ → ℕ → Declared → ℕ → DeskView → Type 0
+CanLeave workers turns d calls desk =
     (history : List HistoryEntry) × (calls ≡ length history)
-    × (turns : ℕ) × IsCrewed (record { workers = workers; turns = turns; ahead = 64 }) (opened (declared_kernel d)) history desk
+    × IsCrewed (record { workers = workers; turns = turns; ahead = 64 }) (opened (declared_kernel d)) history desk
     × Runs (opened (declared_kernel d)) history desk × (pending desk ≡ [])
 
--- a crew of so many workers left a desk, and the output has the report of that desk and of a server, and the number of workers and of calls
-abbrev pub IsWorked : ℕ → Declared → Option (List ℕ) → Option (List ℕ) → Type 0
-IsWorked workers d old new =
+-- such a crew left a desk, and the output has the report of that desk and of a server, and the number of workers and of calls
+abbrev pub IsWorked : ℕ → ℕ → Declared → Option (List ℕ) → Option (List ℕ) → Type 0
+IsWorked workers turns d old new =
     (calls : ℕ) × (desk : DeskView) × (server : ServerView)
-    × CanLeave workers d calls desk × Appends old new (desk_report_text desk server ++ workers_line workers calls)
+    × CanLeave workers turns d calls desk × Appends old new (desk_report_text desk server ++ workers_line workers calls)
 
 -- known bytes grow by a beginning of a text
 abbrev pub AppendsFront : Option (List ℕ) → Option (List ℕ) → List ℕ → Type 0
 AppendsFront old new text = (front : List ℕ) × (rest : List ℕ) × (text ≡ front ++ rest) × Appends old new front
 
--- so many workers left a desk, and the output has a beginning of what `IsWorked` has
-abbrev pub HasBegun : ℕ → Declared → Option (List ℕ) → Option (List ℕ) → Type 0
-HasBegun workers d old new =
+-- such a crew left a desk, and the output has a beginning of what `IsWorked` has
+abbrev pub HasBegun : ℕ → ℕ → Declared → Option (List ℕ) → Option (List ℕ) → Type 0
+HasBegun workers turns d old new =
     (calls : ℕ) × (desk : DeskView) × (server : ServerView)
-    × CanLeave workers d calls desk × AppendsFront old new (desk_report_text desk server ++ workers_line workers calls)
+    × CanLeave workers turns d calls desk × AppendsFront old new (desk_report_text desk server ++ workers_line workers calls)
 
 -- a text was written out; where a write was refused, a beginning of it, and where memory ran out, nothing
 abbrev pub IsTold : List ℕ → End → Option (List ℕ) → Option (List ℕ) → Type 0
@@ -46,9 +46,9 @@ IsTold text ends.OutputRefused old new = AppendsFront old new text
 
 -- where the run ends well, the workers' calls were made; where memory ran out or the desk could not be closed, nothing was written; and where a
 -- write was refused, a beginning of the report of a desk that such workers left
-abbrev pub EndsWork : ℕ → Declared → End → Option (List ℕ) → Option (List ℕ) → Type 0
-EndsWork workers d ends.Done old new = IsWorked workers d old new
-EndsWork workers d ends.Fault old new = ⊥
-EndsWork workers d ends.Usage old new = ⊥
-EndsWork workers d ends.Trouble old new = Keeps old new
-EndsWork workers d ends.OutputRefused old new = HasBegun workers d old new
+abbrev pub EndsWork : ℕ → ℕ → Declared → End → Option (List ℕ) → Option (List ℕ) → Type 0
+EndsWork workers turns d ends.Done old new = IsWorked workers turns d old new
+EndsWork workers turns d ends.Fault old new = ⊥
+EndsWork workers turns d ends.Usage old new = ⊥
+EndsWork workers turns d ends.Trouble old new = Keeps old new
+EndsWork workers turns d ends.OutputRefused old new = HasBegun workers turns d old new

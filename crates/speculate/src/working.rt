@@ -51,7 +51,7 @@ pub(crate) fn run_work<R: Threads + Wait + Sync, W: Write + Drop>(
     out: &mut BufWriter<W>,
 ) -> End
     requires { IsInRange 1 8 workers }
-    ensures end { EndsWork workers declarations.now result
+    ensures end { EndsWork workers turns declarations.now result
         (writer_contents W.contents out.old) (writer_contents W.contents out.new) }
     ensures flushed { IsFlushed result (writer_buffer out.new) }
 {
@@ -70,7 +70,8 @@ fn work<R: Threads + Wait + Sync>(
     declarations: &Declarations,
 ) -> Option<Worked>
     requires { IsInRange 1 8 workers }
-    ensures { IfSome result (λ worked. CanLeave workers declarations.now worked.calls worked.desk) }
+    ensures { IfSome result (λ worked. CanLeave workers turns declarations.now
+        worked.calls worked.desk) }
 {
     let Ok((desk, server)) = desk_of(alloc, declarations) else {
         return None;

@@ -12,7 +12,6 @@ returns g c =
     let calls : c.len-calls.result ≡ length h.entries.items = omega (arith, c.len-calls.ensures, h.entries.ok.0) in (
       h.entries.items,
       calls,
-      c.args.turns,
       subst (λ (d : DeskView). IsCrewed (record { workers = c.args.workers; turns = c.args.turns; ahead = 64 }) d h.entries.items h.desk) c.in-Ok.ensures.desk c.in-Ok-run_crew.ensures.crewed,
       from,
       c.in-Ok-run_crew.ensures.settled,

@@ -9,6 +9,7 @@ use sk_guesses::Guess;
 use sk_speculator::{Refusal, Speculator, Step};
 use std::alloc::{AllocError, AllocFailed, Global};
 use std::env;
+use std::num::NonZeroU16;
 use thiserror::Error;
 
 /// How many channels are written to.
@@ -194,7 +195,7 @@ fn read_plan(rt: &HostRuntime) -> anyhow::Result<StepPlan> {
 
 fn main(rt: HostRuntime) -> anyhow::Result<()> {
     let plan = read_plan(&rt)?;
-    let mut kernel = Speculator::new(rt.alloc(), 1, 64);
+    let mut kernel = Speculator::new(rt.alloc(), 1, NonZeroU16::MAX);
     let told = run(&mut kernel, rt.alloc(), plan)?;
     println!(rt; "guesses {}, outputs {told}", plan.guesses)?;
     Ok(())

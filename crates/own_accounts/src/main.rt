@@ -16,6 +16,7 @@ use order::{Order, Refused};
 use sk_guesses::Guess;
 use sk_speculator::{Speculator, Step};
 use std::alloc::Global;
+use std::num::NonZeroU16;
 
 /// How many orders are taken at most.
 const BOOKED: u8 = 3;
@@ -125,7 +126,7 @@ fn go_on(
 
 fn main(rt: HostRuntime) -> anyhow::Result<()> {
     for is_right in [true, false] {
-        let mut bank = Speculator::new(rt.alloc(), 1, 8);
+        let mut bank = Speculator::new(rt.alloc(), 1, NonZeroU16::MAX);
         take(&mut bank, rt.alloc(), Order::Deposit(1, 100))?;
         let went = go_on(&mut bank, rt.alloc(), is_right);
         went?;

@@ -1,5 +1,6 @@
 //! The kernel over byte strings.
 ghost use Rattle.std.specs.Prelude.{◌≡◌, ◌==◌, ◌∷◌, ℕ, List, [], true, false, None, Some, get_or, length, IfErr, IfOk, IfSome, OnErr, OnOk};
+ghost use Rattle.std.specs.Int.NonZero.{non_zero_u16_get};
 ghost use Rattle.std.specs.List.{slice_get};
 ghost use Rattle.std.specs.Option.{option_copied, option_map};
 ghost use Rattle.sk_guesses.specs.Kept.{known, none_drawn};
@@ -26,6 +27,7 @@ use sk_index::Number;
 use sk_speculator::{Committed, Failed, Speculator, Step, Undone};
 use std::alloc::{AllocError, Global};
 use std::marker::Model;
+use std::num::NonZeroU16;
 
 /// The greatest length of a key.
 pub const KEY_LIMIT: usize = 65_536;
@@ -73,10 +75,10 @@ impl<V, O> Model for Bytes<V, O> {
 impl<V, O> Bytes<V, O> {
     /// No key is there, and nothing has happened. A seed that users of the keys don't know keeps them from choosing keys that
     /// are found slowly.
-    pub fn new(alloc: Global, number: u64, limit: u16, seed: u64) -> Bytes<V, O>
+    pub fn new(alloc: Global, number: u64, limit: NonZeroU16, seed: u64) -> Bytes<V, O>
         ensures look { (k : List ℕ) → look_at bytes_cmp result.parts.slots k ≡ None }
         ensures log { (k : List ℕ) → log_at bytes_cmp result.parts.slots k ≡ [] }
-        ensures guesses { result.parts.guesses ≡ none_drawn number limit }
+        ensures guesses { result.parts.guesses ≡ none_drawn number (non_zero_u16_get limit) }
         ensures opens { result.parts.opens ≡ [] }
         ensures said { result.parts.said ≡ [] }
         ensures undone { result.undone ≡ [] }

@@ -2,6 +2,7 @@
 use crate::{ByteStep, Bytes, Refusal};
 use sk_speculator::Step;
 use std::alloc::{AllocError, Global};
+use std::num::NonZeroU16;
 
 /// What goes otherwise.
 #[derive(Clone, Copy, Debug, PartialEq, Eq)]
@@ -35,7 +36,7 @@ fn long_step(alloc: Global, len: usize) -> Result<ByteStep<u64, u64>, AllocError
 /// A key that is too long is refused, and the step is as it was.
 #[test]
 fn long_key(rt: HostRuntime) -> Result<(), Wrong> {
-    let mut bytes: Bytes<u64, u64> = Bytes::new(rt.alloc(), 7, 4, 1);
+    let mut bytes: Bytes<u64, u64> = Bytes::new(rt.alloc(), 7, NonZeroU16::MIN, 1);
     let mut step = long_step(rt.alloc(), crate::KEY_LIMIT)?;
     holds(bytes.take(&mut step) == Ok(()), Wrong::Taken)?;
     let mut longer = long_step(rt.alloc(), crate::KEY_LIMIT + 1)?;

@@ -1,6 +1,7 @@
 //! The kernel.
-ghost use Rattle.std.specs.Prelude.{◌≡◌, ◌==◌, ◌∷◌, ◌&&◌, ℕ, [], true, false, None, Some, Option, is_some, is_none, length, get_or, IfErr, IfOk, IfSome, OnErr, OnOk};
+ghost use Rattle.std.specs.Prelude.{◌≡◌, ◌==◌, ◌<◌, ◌∷◌, ◌&&◌, ℕ, [], true, false, None, Some, Option, is_some, is_none, length, get_or, IfErr, IfOk, IfSome, OnErr, OnOk};
 ghost use Rattle.std.specs.List.Sorted.{IsStrictlySortedBy};
+ghost use Rattle.std.specs.Int.NonZero.{non_zero_u16_get};
 ghost use Rattle.std.specs.Map.Iter.{ShowsInOrder, deref};
 ghost use Rattle.std.specs.Option.{option_copied};
 ghost use Rattle.sk_guesses.specs.Kept.{known, none_drawn, AreStatuses};
@@ -26,6 +27,7 @@ use sk_slots::{Slot, Slots};
 use std::alloc::{AllocError, Global};
 use std::collections::btree_map::Keys;
 use std::marker::Model;
+use std::num::NonZeroU16;
 
 /// A speculative kernel over its user's own keys, values and outputs, whose steps are taken outside. It keeps no record of
 /// steps.
@@ -69,17 +71,18 @@ impl<K: Key, V, O> Model for Speculator<K, V, O> {
 impl<K: Key, V, O> Speculator<K, V, O> {
     /// No key is there, and nothing has happened, in the kernel of this number, of whose guesses so many may be undecided at
     /// once.
-    pub fn new(alloc: Global, number: u64, limit: u16) -> Speculator<K, V, O>
+    pub fn new(alloc: Global, number: u64, limit: NonZeroU16) -> Speculator<K, V, O>
         ensures look { (k : K) → look_at K.order result.slots k ≡ None }
         ensures log { (k : K) → log_at K.order result.slots k ≡ [] }
-        ensures guesses { result.guesses ≡ none_drawn number limit }
+        ensures guesses { result.guesses ≡ none_drawn number (non_zero_u16_get limit) }
+        ensures some { 0 < result.guesses.limit }
         ensures opens { result.opens ≡ [] }
         ensures said { result.said ≡ [] }
     {
         Speculator {
             alloc,
             slots: Slots::new(alloc),
-            guesses: OpenGuesses::new(alloc, number, limit),
+            guesses: OpenGuesses::new(alloc, number, limit.get()),
             said: Outputs::new(alloc),
             no_tags: TagSet::new(alloc),
         }

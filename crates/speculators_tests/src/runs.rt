@@ -7,12 +7,16 @@ use crate::wrong::Wrong;
 use rand_core::Rng;
 use rand_pcg::Pcg32;
 use std::alloc::Global;
+use std::num::NonZeroU16;
 use std::process::Abort;
 
 /// How many runs there are, and how many calls each has.
 const RUNS: u64 = 10_000;
 
 const CALLS: u32 = 24;
+
+/// How many guesses may be undecided at once.
+const LIMIT: u16 = 4;
 
 /// How many runs are made with growths refused.
 const REFUSED_RUNS: u64 = 10;
@@ -78,7 +82,10 @@ fn plays(rt: &impl Abort, number: u64, session: &mut Session) -> Result<(), Wron
 
 /// A run to its end.
 fn run(rt: &impl Abort, alloc: Global, number: u64) -> Result<(), Wrong> {
-    let mut session = Session::new(alloc, 4);
+    let Some(limit) = NonZeroU16::new(LIMIT) else {
+        unreachable!();
+    };
+    let mut session = Session::new(alloc, limit);
     let played = plays(rt, number, &mut session);
     session.end(rt)?;
     played

@@ -8,6 +8,7 @@ use sk_guesses::{Guess, Status};
 use sk_ids::GuessId;
 use sk_speculator::{Committed, Failed, Refusal, Speculator, Step, Undone};
 use std::alloc::{AllocError, Global};
+use std::num::NonZeroU16;
 use std::process::Abort;
 
 /// A kernel, its tokens, the record of its steps, and of each channel how many outputs were taken out.
@@ -23,7 +24,7 @@ pub struct Session {
 
 impl Session {
     /// A kernel of which so many guesses may be undecided at once.
-    pub fn new(alloc: Global, limit: u16) -> Session {
+    pub fn new(alloc: Global, limit: NonZeroU16) -> Session {
         Session {
             alloc,
             kernel: Speculator::new(alloc, 7, limit),

@@ -11,7 +11,7 @@ use Rattle.sk_bytes.proofs.bytes.Bytes.new.Goals as goal
 pub invariant_of-result : goal.invariant_of-result
 invariant_of-result g c = (
   told_still c.new.result.index c.new-2.result c.new.result.loose.items
-      (fits_new c.new.result.index c.new-2.result c.args.number c.args.limit c.new.ensures.index c.new-2.ensures.look c.new-2.ensures.log c.new-2.ensures.guesses c.new-2.ensures.opens) c.new.ensures.loose,
+      (fits_new c.new.result.index c.new-2.result c.args.number c.args.limit.value c.new.ensures.index c.new-2.ensures.look c.new-2.ensures.log c.new-2.ensures.guesses c.new-2.ensures.opens) c.new.ensures.loose,
   c.new.ensures.looked,
   c.new.ensures.written,
   c.new.ensures.said,

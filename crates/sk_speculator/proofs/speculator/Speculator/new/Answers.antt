@@ -1,8 +1,9 @@
 -- Nothing has happened.
-use Rattle.std.proofs.Common.{◌≡◌, ℕ, [], None, sym, ◌∙◌, ap, subst}
+use Rattle.std.proofs.Common.{◌≡◌, ◌<◌, ℕ, [], None, sym, ◌∙◌, ap, subst}
 use Rattle.std.specs.Cmp.{IsTotalOrder}
 use Rattle.std.specs.FinMap.{IsAntisymmetric}
 use Rattle.sk_guesses.specs.Dependents.{AllExact, tags_by}
+use Rattle.sk_guesses.specs.Kept.{KeptView}
 use Rattle.sk_guesses.specs.Opens.{opens_of}
 use Rattle.sk_slots.specs.Slots.{log_at}
 use Rattle.sk_speculator.specs.Parts.{Parts}
@@ -19,6 +20,9 @@ invariant_of-result g c =
       record {
         settled = c.new.ensures.settled;
         exact = subst (AllExact R (tags_by (log_at R a.slots))) (sym c.new-2.ensures.opens) tt;
-        whole = whole_first total exact a c.args.number c.args.limit c.new.ensures.look c.new.ensures.log (ap opens_of c.new-2.ensures.opens) c.new-2.ensures.view c.new-3.ensures;
+        whole = whole_first total exact a c.args.number c.get.result c.new.ensures.look c.new.ensures.log (ap opens_of c.new-2.ensures.opens) c.new-2.ensures.view c.new-3.ensures;
       },
     )
+
+pub returns-clause-some : goal.returns-clause-some
+returns-clause-some g c = subst (λ (v : KeptView). 0 < v.limit) (sym c.new-2.ensures.view) c.get.ensures.nonzero

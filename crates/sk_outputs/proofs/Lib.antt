@@ -1,3 +1,5 @@
 mod Passes
 mod Firsts
+mod Numbers
+mod Ready
 mod Waiting

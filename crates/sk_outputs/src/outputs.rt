@@ -1,10 +1,12 @@
 //! Outputs that wait until what they rest on is decided.
-ghost use Rattle.std.specs.Prelude.{◌≡◌, ◌<◌, ◌==◌, ◌&&◌, ◌||◌, ◌∷◌, ◌++◌, nat_lt, ℕ, [], true, false, not, length, None, OnOk, IfSome};
+ghost use Rattle.std.specs.Prelude.{◌≡◌, ◌<◌, ◌≤◌, ◌==◌, ◌&&◌, ◌||◌, ◌∷◌, ◌++◌, ◌+◌, cond, nat_lt, ℕ, [], true, false, not, length, None, OnOk, IfSome};
 ghost use Rattle.std.specs.List.{prefix_len};
+ghost use Rattle.sk_outputs.specs.Ready.{is_ready, AreReady};
 ghost use Rattle.sk_outputs.specs.Said.{said_at, waiting_of, is_empty};
 ghost use Rattle.sk_record.specs.Notes.{has, without};
 ghost use Rattle.sk_record.specs.Machine.{lightened, not_dropped, released};
 
+use crate::channels::Channels;
 use sk_ids::{GuessId, TagSet};
 use std::alloc::{AllocError, Global};
 use std::marker::Model;
@@ -75,21 +77,30 @@ impl<O> Output<O> {
     }
 }
 
-/// The outputs in the order in which they were said.
+/// The outputs in the order in which they were said, and the channels that have one to take.
 #[derive(Drop)]
 pub struct Outputs<O> {
     said: Vec<Output<O>>,
+    ready: Channels,
 }
 
 impl<O> Model for Outputs<O> {
-    ghost use Rattle.std.specs.Prelude.{◌-◌, vec_len, vec_capacity};
+    ghost use Rattle.std.specs.Prelude.{◌≤◌, ◌-◌, max, min, length, vec_len, vec_capacity};
+    ghost use Rattle.sk_outputs.specs.Ready.{AreReady};
     ghost use Rattle.sk_outputs.specs.Said.{SaidView, said_code};
 
     ghost Value = { SaidView O };
 
     ghost coded = { said_code O.code };
 
-    ghost view = { λ a. record { said = a.said.items; room = vec_capacity a.said - vec_len a.said } };
+    ghost view = { λ a. record {
+      said = a.said.items;
+      room = min (vec_capacity a.said - vec_len a.said)
+          (a.ready.places - max (vec_len a.said) (length a.ready.channels));
+    } };
+
+    ghost invariant = { λ a. AreReady a.said.items a.ready.channels
+        × (length a.said.items ≤ a.ready.places) };
 }
 
 fn lighten_all<O: Drop>(said: &mut Vec<Output<O>>, id: GuessId)
@@ -140,6 +151,77 @@ fn waits<O>(output: &Output<O>, to: u16, held: usize) -> bool
     output.to() == to && (held > 0 || output.rests())
 }
 
+/// Whether an output rests on nothing, and is the first of its channel behind these.
+fn is_next<O>(said: &[Output<O>], output: &Output<O>) -> bool
+    ensures { result ≡ (is_empty output.now.1 && is_empty (said_at said.now output.now.0.0)) }
+{
+    !output.rests() && others_before(said, output.to()) == said.len()
+}
+
+/// Whether a channel has an output to take.
+fn is_free<O>(said: &[Output<O>], to: u16) -> bool
+    ensures { result ≡ is_ready said.now to }
+{
+    for output in said {
+        if output.to() == to {
+            return !output.rests();
+        }
+    }
+    false
+}
+
+/// An output decides whether its channel has one to take, as it rests on nothing or on a guess.
+fn decide<O>(ready: &mut Channels, output: &Output<O>)
+    requires { length ready.old.channels < ready.old.places }
+    ensures has { (t : ℕ) → has t ready.new.channels
+        ≡ cond (output.now.0.0 == t) (is_empty output.now.1) (has t ready.old.channels) }
+    ensures places { ready.old.places ≤ ready.new.places }
+    ensures count { length ready.new.channels ≤ length ready.old.channels + 1 }
+{
+    let channel = output.to();
+    if output.rests() {
+        ready.take_off(channel);
+    } else {
+        ready.put(channel);
+    }
+}
+
+/// Finds the channels that have an output to take. The first output of each decides last. It takes no memory.
+fn find_ready<O>(ready: &mut Channels, said: &[Output<O>])
+    requires { length said.now ≤ ready.old.places }
+    ensures ready { AreReady said.now ready.new.channels }
+    ensures places { ready.old.places ≤ ready.new.places }
+{
+    ready.clear();
+    for place in (0..said.len()).rev() {
+        decide(ready, &said[place]);
+    }
+}
+
+/// Puts on the channel of an output that is said behind these, if it then has one to take.
+fn put_next<O>(ready: &mut Channels, said: &[Output<O>], output: &Output<O>)
+    requires ready { AreReady said.now ready.old.channels }
+    requires room { length ready.old.channels < ready.old.places }
+    ensures ready { AreReady (said.now ++ output.now ∷ []) ready.new.channels }
+    ensures places { ready.old.places ≤ ready.new.places }
+{
+    if is_next(said, output) {
+        ready.put(output.to());
+    }
+}
+
+/// Takes a channel off, if it has no output to take any more.
+fn take_off_last<O>(ready: &mut Channels, said: &[Output<O>], to: u16)
+    requires there { has to ready.old.channels ≡ true }
+    requires others { (t : ℕ) → (to == t) ≡ false → has t ready.old.channels ≡ is_ready said.now t }
+    ensures ready { AreReady said.now ready.new.channels }
+    ensures places { ready.old.places ≤ ready.new.places }
+{
+    if !is_free(said, to) {
+        ready.take_off(to);
+    }
+}
+
 impl<O> Outputs<O> {
     /// Nothing is said yet.
     pub fn new(alloc: Global) -> Outputs<O>
@@ -147,6 +229,7 @@ impl<O> Outputs<O> {
     {
         Outputs {
             said: Vec::new(alloc),
+            ready: Channels::new(alloc),
         }
     }
 }
@@ -165,6 +248,14 @@ impl<O> Outputs<O> {
     {
         waiting_in(self.said.as_slice(), to)
     }
+
+    /// A channel that has an output to take, found without going through the others; `None` where none has.
+    pub fn next_channel(&self) -> Option<u16>
+        ensures some { IfSome result (λ to. released (said_at self.now.said to) ≡ [] → ⊥) }
+        ensures none { result ≡ None → (to : ℕ) → released (said_at self.now.said to) ≡ [] }
+    {
+        self.ready.first()
+    }
 }
 
 impl<O: Drop> Outputs<O> {
@@ -173,7 +264,8 @@ impl<O: Drop> Outputs<O> {
         ensures same { self.new.said ≡ self.old.said }
         ensures ok { OnOk result (0 < self.new.room) }
     {
-        self.said.reserve(1)
+        self.said.reserve(1)?;
+        self.ready.reserve(self.said.len() + 1)
     }
 
     /// Says an output to a channel, for which there is room.
@@ -181,7 +273,9 @@ impl<O: Drop> Outputs<O> {
         requires { 0 < self.old.room }
         ensures { self.new.said ≡ self.old.said ++ ((to, output), tags) ∷ [] }
     {
-        self.said.push_reserved(Output::new(to, output, tags));
+        let output = Output::new(to, output, tags);
+        put_next(&mut self.ready, self.said.as_slice(), &output);
+        self.said.push_reserved(output);
     }
 
     /// A guess is committed. It takes no memory.
@@ -189,6 +283,7 @@ impl<O: Drop> Outputs<O> {
         ensures { self.new.said ≡ lightened id self.old.said }
     {
         lighten_all(&mut self.said, id);
+        find_ready(&mut self.ready, self.said.as_slice());
     }
 
     /// Throws away what rests on a guess. It takes no memory.
@@ -196,6 +291,7 @@ impl<O: Drop> Outputs<O> {
         ensures { self.new.said ≡ not_dropped id self.old.said }
     {
         drop_resting(&mut self.said, id);
+        find_ready(&mut self.ready, self.said.as_slice());
     }
 
     /// Takes out the first output of a channel, if it rests on nothing. It takes no memory.
@@ -207,14 +303,12 @@ impl<O: Drop> Outputs<O> {
         ensures none { result ≡ None → self.new.said ≡ self.old.said }
         ensures held { result ≡ None → released (said_at self.old.said to) ≡ [] }
     {
+        if !self.ready.contains(to) {
+            return None;
+        }
         let place = others_before(self.said.as_slice(), to);
-        if place >= self.said.len() {
-            return None;
-        }
-        if self.said[place].rests() {
-            return None;
-        }
         let first = self.said.remove(place);
+        take_off_last(&mut self.ready, self.said.as_slice(), to);
         Some(first.output())
     }
 }

@@ -1,38 +1,56 @@
 -- What is taken out is the first of its channel.
-use Rattle.std.proofs.Common.{◌≡◌, ℕ, ◌<◌, ◌≤◌, [], ◌∷◌, true, false, length, sym, ◌∙◌, ap, arith}
+use Rattle.std.proofs.Common.{◌≡◌, ◌<◌, ◌≤◌, [], ◌∷◌, length, sym, ◌∙◌, ap, subst, arith}
 use Rattle.std.specs.Prelude.{◌==◌}
 use Rattle.std.specs.List.{prefix_len, remove}
-use Rattle.sk_record.specs.Machine.{Tagged, released}
-use Rattle.sk_outputs.specs.Said.{SaidView, said_at, is_empty}
-use Rattle.sk_outputs.proofs.Firsts.{other, none_said, first_said, others_kept, held_first, bare_tags, same_at, not_true, not_false}
+use Rattle.sk_record.specs.Machine.{released}
+use Rattle.sk_outputs.specs.Ready.{AreReady, is_ready}
+use Rattle.sk_outputs.specs.Said.{SaidView, said_at}
+use Rattle.sk_outputs.proofs.Firsts.{other, first_said, others_kept}
+use Rattle.sk_outputs.proofs.Ready.{first_bare, first_near, none_released, same_ready}
 use Rattle.sk_outputs.proofs.outputs.Outputs.take_out.Goals as goal
 
-pub returns-then-place-len-clause-held : goal.returns-then-place-len-clause-held
-returns-then-place-len-clause-held g c = λ _.
-    let xs = c.self.inside.said.items in
-    let at = c.others_before-place.ensures ∙ ap (prefix_len (other c.args.to)) c.as_slice.ensures.value in
-    let far : length xs ≤ c.others_before-place.result = omega (arith, c.if-place-len.true, c.len.ensures) in
-    ap (λ (p : SaidView _). released (said_at p.said c.args.to)) (sym c.self.view_is) ∙ ap released (none_said c.args.to c.others_before-place.result xs at far)
+pub returns-then-not-contains-clause-held : goal.returns-then-not-contains-clause-held
+returns-then-not-contains-clause-held g c = λ _.
+    let none = sym (c.self.invariant.0 c.args.to) ∙ sym c.contains.ensures ∙ c.if-not-contains.true in
+    ap (λ (p : SaidView _). released (said_at p.said c.args.to)) (sym c.self.view_is) ∙ none_released c.self.inside.said.items c.args.to none
 
-pub returns-then-rests-clause-held : goal.returns-then-rests-clause-held
-returns-then-rests-clause-held g c = λ _.
+pub remove-first-requires : goal.remove-first-requires
+remove-first-requires g c =
     let xs = c.self.inside.said.items in
+    let ready = sym (c.self.invariant.0 c.args.to) ∙ sym c.contains.ensures ∙ c.if-not-contains.false in
     let at = c.others_before-place.ensures ∙ ap (prefix_len (other c.args.to)) c.as_slice.ensures.value in
-    let near : c.others_before-place.result < length xs = omega (arith, c.if-place-len.false, c.len.ensures) in
-    let x = c.index.result.now in
-    let first = first_said c.args.to c.others_before-place.result xs x at near c.index.ensures in
-    ap (λ (p : SaidView _). released (said_at p.said c.args.to)) (sym c.self.view_is) ∙ held_first (said_at xs c.args.to) _ x first.0 (not_true (is_empty x.1) (sym c.rests.ensures ∙ c.if-rests.true))
+    omega (arith, first_near c.args.to c.others_before-place.result xs at ready)
+
+pub take_off_last-requires-clause-there : goal.take_off_last-requires-clause-there
+take_off_last-requires-clause-there g c = sym c.contains.ensures ∙ c.if-not-contains.false
+
+pub take_off_last-requires-clause-others : goal.take_off_last-requires-clause-others
+take_off_last-requires-clause-others g c = λ t apart.
+    let xs = c.self.inside.said.items in
+    let i = c.others_before-place.result in
+    let ready = sym (c.self.invariant.0 c.args.to) ∙ sym c.contains.ensures ∙ c.if-not-contains.false in
+    let at = c.others_before-place.ensures ∙ ap (prefix_len (other c.args.to)) c.as_slice.ensures.value in
+    let near : i < length xs = first_near c.args.to i xs at ready in
+    let x = c.remove-first.result in
+    let first = first_said c.args.to i xs x at near c.remove-first.ensures.value in
+    let kept = others_kept t i xs x near c.remove-first.ensures.value (ap (λ n. n == t) first.1 ∙ apart) in
+    c.self.invariant.0 t ∙ same_ready xs (remove xs i) t kept ∙ ap (λ ys. is_ready ys t) (sym (c.as_slice-2.ensures.value ∙ c.remove-first.ensures.items))
+
+pub invariant_of-self : goal.invariant_of-self
+invariant_of-self g c =
+    let fewer : length c.remove-first.new.self.items ≤ length c.self.inside.said.items = omega (arith, c.remove-first.ensures.len, c.self.inside.said.ok.0, c.remove-first.new.self.ok.0) in
+    (subst (λ ys. AreReady ys c.take_off_last.new.ready.channels) c.as_slice-2.ensures.value c.take_off_last.ensures.ready, omega (arith, fewer, c.self.invariant.1, c.take_off_last.ensures.places))
 
 pub returns-clause-some : goal.returns-clause-some
 returns-clause-some g c =
     let xs = c.self.inside.said.items in
     let i = c.others_before-place.result in
+    let ready = sym (c.self.invariant.0 c.args.to) ∙ sym c.contains.ensures ∙ c.if-not-contains.false in
     let at = c.others_before-place.ensures ∙ ap (prefix_len (other c.args.to)) c.as_slice.ensures.value in
-    let near : i < length xs = omega (arith, c.if-place-len.false, c.len.ensures) in
+    let near : i < length xs = first_near c.args.to i xs at ready in
     let x = c.remove-first.result in
     let first = first_said c.args.to i xs x at near c.remove-first.ensures.value in
-    let seen : c.index.result.now ≡ x = c.index.ensures ∙ same_at xs i c.index.result.now x near ∙ sym c.remove-first.ensures.value in
-    let bare : x.1 ≡ [] = bare_tags x.1 (ap (λ (o : Tagged (ℕ × _)). is_empty o.1) (sym seen) ∙ not_false (is_empty c.index.result.now.1) (sym c.rests.ensures ∙ c.if-rests.false)) in
+    let bare : x.1 ≡ [] = first_bare c.args.to xs (said_at (remove xs i) c.args.to) x ready first.0 in
     ap (λ (p : SaidView _). said_at p.said c.args.to) (sym c.self.view_is) ∙ first.0
     ∙ (λ j. ((first.1 j, sym c.output.ensures j), bare j) ∷ said_at (sym c.remove-first.ensures.items j) c.args.to)
 
@@ -40,8 +58,9 @@ pub returns-clause-others : goal.returns-clause-others
 returns-clause-others g c = λ t apart.
     let xs = c.self.inside.said.items in
     let i = c.others_before-place.result in
+    let ready = sym (c.self.invariant.0 c.args.to) ∙ sym c.contains.ensures ∙ c.if-not-contains.false in
     let at = c.others_before-place.ensures ∙ ap (prefix_len (other c.args.to)) c.as_slice.ensures.value in
-    let near : i < length xs = omega (arith, c.if-place-len.false, c.len.ensures) in
+    let near : i < length xs = first_near c.args.to i xs at ready in
     let x = c.remove-first.result in
     let first = first_said c.args.to i xs x at near c.remove-first.ensures.value in
     ap (λ ys. said_at ys t) c.remove-first.ensures.items ∙ others_kept t i xs x near c.remove-first.ensures.value (ap (λ n. n == t) first.1 ∙ apart)

@@ -1,0 +1,189 @@
+-- Which channels have an output to take.
+use Rattle.std.proofs.Common.{◌≡◌, ℕ, zero, suc, ◌+◌, ◌<◌, ◌≤◌, ◌&&◌, ◌||◌, Bool, true, false, not, cond, List, [], ◌∷◌, ◌++◌, length, drop, refl, sym, ◌∙◌, ap, subst, arith}
+use Rattle.std.specs.Prelude.{◌==◌, slice_index_or, Option, Some, None, Result, Ok, Err, IfSome, OnOk}
+use Rattle.std.specs.List.{filter, prefix_len}
+use Rattle.std.specs.Cmp.{both_ways}
+use Rattle.std.proofs.lemmas.Bool.{true≢false, eqb-true, eq-eqb}
+use Rattle.sk_record.specs.Machine.{Tagged, lightened, not_dropped, released, released_if}
+use Rattle.sk_record.specs.Notes.{has, without}
+use Rattle.sk_record.proofs.Machine.{has_filter}
+use Rattle.sk_record.proofs.Sound.{eqb_turned}
+use Rattle.sk_outputs.specs.Said.{Said, said_at, is_empty}
+use Rattle.sk_outputs.specs.Ready.{is_ready, AreReady}
+use Rattle.sk_outputs.proofs.Firsts.{other, not_true, not_false}
+
+suc_eq : (a b : ℕ) → (suc a == suc b) ≡ (a == b)
+suc_eq a b =
+    both_ways (suc a == suc b) (a == b)
+    (λ is. let same : suc a ≡ suc b = eqb-true (suc a) (suc b) is in let less : a ≡ b = omega (arith, same) in eq-eqb a b less)
+    (λ is. eq-eqb (suc a) (suc b) (ap suc (eqb-true a b is)))
+
+never : (n : ℕ) → (0 == suc n) ≡ false
+never n =
+    elim (0 == suc n) as (λ b. (0 == suc n) ≡ b → b ≡ false) [
+      | true ↦ λ is. let same : 0 ≡ suc n = eqb-true 0 (suc n) is in absurd (omega (arith, same))
+      | false ↦ λ _. refl
+    ] refl
+
+fewer_kept : {A : Type 0} (p : A → Bool) (xs : List A) → length (filter p xs) ≤ length xs
+fewer_kept p [] = omega arith
+fewer_kept p (x ∷ xs) =
+    let rest = fewer_kept p xs in
+    elim (p x) as (λ b. length (cond b (x ∷ filter p xs) (filter p xs)) ≤ suc (length xs)) [
+      | true ↦ omega arith
+      | false ↦ omega arith
+    ]
+
+module _ {O : Type 0} where
+  -- a failure leaves no more outputs
+  pub fewer : (g : ℕ) (xs : Said O) → length (not_dropped g xs) ≤ length xs
+  fewer g xs = fewer_kept (λ (x : Tagged (ℕ × O)). not (has g x.1)) xs
+
+  -- and a commit as many
+  pub as_many : (g : ℕ) (xs : Said O) → length (lightened g xs) ≡ length xs
+  as_many g [] = refl
+  as_many g (x ∷ xs) = ap suc (as_many g xs)
+
+  -- just those of which something is released
+  pub ready_is : (xs : Said O) (t : ℕ) → is_ready xs t ≡ not (is_empty (released (said_at xs t)))
+  ready_is [] t = refl
+  ready_is (x ∷ xs) t =
+      elim (x.0.0 == t) as (λ b. cond b (is_empty x.1) (is_ready xs t) ≡ not (is_empty (released (cond b (x ∷ said_at xs t) (said_at xs t))))) [
+        | true ↦ by_tags x.1
+        | false ↦ ready_is xs t
+      ] where
+        by_tags : (tags : List ℕ) → is_empty tags ≡ not (is_empty (released_if tags x.0 (released (said_at xs t))))
+        by_tags [] = refl
+        by_tags (g ∷ tags) = refl
+
+  pub some_released : (xs : Said O) (t : ℕ) → is_ready xs t ≡ true → released (said_at xs t) ≡ [] → ⊥
+  some_released xs t is none = true≢false (sym is ∙ ready_is xs t ∙ ap (λ ws. not (is_empty ws)) none)
+
+  pub none_released : (xs : Said O) (t : ℕ) → is_ready xs t ≡ false → released (said_at xs t) ≡ []
+  none_released xs t is = bare (released (said_at xs t)) (sym (ready_is xs t) ∙ is) where
+    bare : {A : Type 0} (ws : List A) → not (is_empty ws) ≡ false → ws ≡ []
+    bare [] none = refl
+    bare (w ∷ ws) none = absurd (true≢false none)
+
+  -- one more is behind
+  pub ready_more : (xs : Said O) (x : Tagged (ℕ × O)) (t : ℕ)
+      → is_ready (xs ++ x ∷ []) t ≡ (((x.0.0 == t) && (is_empty x.1 && is_empty (said_at xs t))) || is_ready xs t)
+  ready_more [] x t = first (x.0.0 == t) (is_empty x.1) where
+    first : (a b : Bool) → cond a b false ≡ ((a && (b && true)) || false)
+    first true true = refl
+    first true false = refl
+    first false b = refl
+  ready_more (y ∷ xs) x t =
+      elim (y.0.0 == t) as (λ b. cond b (is_empty y.1) (is_ready (xs ++ x ∷ []) t) ≡ (((x.0.0 == t) && (is_empty x.1 && is_empty (cond b (y ∷ said_at xs t) (said_at xs t)))) || cond b (is_empty y.1) (is_ready xs t))) [
+        | true ↦ behind (x.0.0 == t) (is_empty x.1) (is_empty y.1)
+        | false ↦ ready_more xs x t
+      ] where
+        behind : (a b c : Bool) → c ≡ ((a && (b && false)) || c)
+        behind true true c = refl
+        behind true false c = refl
+        behind false b c = refl
+
+  -- the output at a place decides for its channel
+  pub step : (xs : Said O) (p t : ℕ) (x : Tagged (ℕ × O)) → p < length xs → x ≡ slice_index_or xs p x
+      → is_ready (drop p xs) t ≡ cond (x.0.0 == t) (is_empty x.1) (is_ready (drop (suc p) xs) t)
+  step [] p t x lt at = absurd (omega arith)
+  step (y ∷ xs) zero t x lt at = ap (λ (z : Tagged (ℕ × O)). cond (z.0.0 == t) (is_empty z.1) (is_ready xs t)) (sym at)
+  step (y ∷ xs) (suc p) t x lt at = step xs p t x (omega arith) at
+
+  pub decided : (xs : Said O) (p : ℕ) (x : Tagged (ℕ × O)) → p < length xs → x ≡ slice_index_or xs p x → (old new : List ℕ) → AreReady (drop (suc p) xs) old
+      → ((t : ℕ) → has t new ≡ cond (x.0.0 == t) (is_empty x.1) (has t old)) → AreReady (drop p xs) new
+  decided xs p x lt at old new ready decides t = decides t ∙ ap (λ b. cond (x.0.0 == t) (is_empty x.1) b) (ready t) ∙ sym (step xs p t x lt at)
+
+  module _ (x : Tagged (ℕ × O)) (a : ℕ) (old new : List ℕ) (same : a ≡ x.0.0) where
+    -- one that rests on nothing puts its channel on
+    pub put_on : not (is_empty x.1) ≡ false → ((t : ℕ) → has t new ≡ ((a == t) || has t old)) → (t : ℕ) → has t new ≡ cond (x.0.0 == t) (is_empty x.1) (has t old)
+    put_on bare put t = put t ∙ (λ i. (same i == t) || has t old) ∙ on (x.0.0 == t) where
+      on : (b : Bool) → (b || has t old) ≡ cond b (is_empty x.1) (has t old)
+      on true = sym (not_false (is_empty x.1) bare)
+      on false = refl
+
+    -- and one that rests on a guess takes it off
+    pub taken_off : not (is_empty x.1) ≡ true → new ≡ without a old → (t : ℕ) → has t new ≡ cond (x.0.0 == t) (is_empty x.1) (has t old)
+    taken_off rests taken t =
+        ap (has t) (taken ∙ ap (λ n. without n old) same) ∙ has_filter (λ n. not (n == x.0.0)) t old ∙ ap (λ c. not c && has t old) (eqb_turned t x.0.0)
+        ∙ off (x.0.0 == t) where
+          off : (b : Bool) → (not b && has t old) ≡ cond b (is_empty x.1) (has t old)
+          off true = sym (not_true (is_empty x.1) rests)
+          off false = refl
+
+  pub same_outputs : (xs ys : Said O) (channels : List ℕ) → ys ≡ xs → AreReady xs channels → AreReady ys channels
+  same_outputs xs ys channels same ready = subst (λ zs. AreReady zs channels) (sym same) ready
+
+  -- ---- where one is said
+  pub said_so : (xs ys zs : Said O) (x : Tagged (ℕ × O)) (channels : List ℕ) → ys ≡ xs → zs ≡ xs ++ x ∷ [] → AreReady (ys ++ x ∷ []) channels → AreReady zs channels
+  said_so xs ys zs x channels same is ready = subst (λ ws. AreReady ws channels) (ap (λ ws. ws ++ x ∷ []) same ∙ sym is) ready
+
+  pub said_next : (xs : Said O) (x : Tagged (ℕ × O)) (old new : List ℕ) → AreReady xs old → (is_empty x.1 && is_empty (said_at xs x.0.0)) ≡ true
+      → ((t : ℕ) → has t new ≡ ((x.0.0 == t) || has t old)) → AreReady (xs ++ x ∷ []) new
+  said_next xs x old new ready first put t =
+      let now : ((x.0.0 == t) || is_ready xs t) ≡ (((x.0.0 == t) && (is_empty x.1 && is_empty (said_at xs t))) || is_ready xs t) =
+      elim (x.0.0 == t) as (λ b. (x.0.0 == t) ≡ b → (b || is_ready xs t) ≡ ((b && (is_empty x.1 && is_empty (said_at xs t))) || is_ready xs t)) [
+        | true ↦ λ same. ap (λ b. b || is_ready xs t) (sym first ∙ ap (λ n. is_empty x.1 && is_empty (said_at xs n)) (eqb-true x.0.0 t same))
+        | false ↦ λ _. refl
+      ] refl in
+      put t ∙ ap (λ b. (x.0.0 == t) || b) (ready t) ∙ now ∙ sym (ready_more xs x t)
+
+  pub said_behind : (xs : Said O) (x : Tagged (ℕ × O)) (old : List ℕ) → AreReady xs old → (is_empty x.1 && is_empty (said_at xs x.0.0)) ≡ false → AreReady (xs ++ x ∷ []) old
+  said_behind xs x old ready behind t =
+      let now : is_ready xs t ≡ (((x.0.0 == t) && (is_empty x.1 && is_empty (said_at xs t))) || is_ready xs t) =
+      elim (x.0.0 == t) as (λ b. (x.0.0 == t) ≡ b → is_ready xs t ≡ ((b && (is_empty x.1 && is_empty (said_at xs t))) || is_ready xs t)) [
+        | true ↦ λ same. ap (λ b. b || is_ready xs t) (sym behind ∙ ap (λ n. is_empty x.1 && is_empty (said_at xs n)) (eqb-true x.0.0 t same))
+        | false ↦ λ _. refl
+      ] refl in
+      ready t ∙ now ∙ sym (ready_more xs x t)
+
+  -- ---- where one is taken
+  pub still_ready : (ys : Said O) (to : ℕ) (old : List ℕ) → ((t : ℕ) → (to == t) ≡ false → has t old ≡ is_ready ys t) → has to old ≡ true → is_ready ys to ≡ true → AreReady ys old
+  still_ready ys to old others there free t =
+      elim (to == t) as (λ b. (to == t) ≡ b → has t old ≡ is_ready ys t) [
+        | true ↦ λ same. subst (λ n. has n old ≡ is_ready ys n) (eqb-true to t same) (there ∙ sym free)
+        | false ↦ λ apart. others t apart
+      ] refl
+
+  pub ready_no_more : (ys : Said O) (to : ℕ) (old new : List ℕ) → ((t : ℕ) → (to == t) ≡ false → has t old ≡ is_ready ys t) → is_ready ys to ≡ false → new ≡ without to old → AreReady ys new
+  ready_no_more ys to old new others gone taken t =
+      ap (has t) taken ∙ has_filter (λ n. not (n == to)) t old ∙ ap (λ c. not c && has t old) (eqb_turned t to)
+      ∙ elim (to == t) as (λ b. (to == t) ≡ b → (not b && has t old) ≡ is_ready ys t) [
+        | true ↦ λ same. sym gone ∙ ap (is_ready ys) (eqb-true to t same)
+        | false ↦ λ apart. others t apart
+      ] refl
+
+  pub same_ready : (xs ys : Said O) (t : ℕ) → said_at ys t ≡ said_at xs t → is_ready xs t ≡ is_ready ys t
+  same_ready xs ys t same = ready_is xs t ∙ ap (λ zs. not (is_empty (released zs))) (sym same) ∙ sym (ready_is ys t)
+
+  -- the first of a channel that has one to take is near, and rests on nothing
+  pub first_near : (to i : ℕ) (xs : Said O) → i ≡ prefix_len (other to) xs → is_ready xs to ≡ true → i < length xs
+  first_near to i [] is ready = absurd (true≢false (sym ready))
+  first_near to i (x ∷ xs) is ready =
+      elim (x.0.0 == to) as (λ b. i ≡ cond (not b) (1 + prefix_len (other to) xs) 0 → cond b (is_empty x.1) (is_ready xs to) ≡ true → i < suc (length xs)) [
+        | true ↦ λ first _. omega arith
+        | false ↦ λ later ready. let near = first_near to (prefix_len (other to) xs) xs refl ready in omega arith
+      ] is ready
+
+  pub first_bare : (to : ℕ) (xs rest : Said O) (x : Tagged (ℕ × O)) → is_ready xs to ≡ true → said_at xs to ≡ x ∷ rest → x.1 ≡ []
+  first_bare to xs rest x ready is = by_tags x.1 (ap (λ ys. not (is_empty (released ys))) (sym is) ∙ sym (ready_is xs to) ∙ ready) where
+    by_tags : (tags : List ℕ) → not (is_empty (released_if tags x.0 (released rest))) ≡ true → tags ≡ []
+    by_tags [] some = refl
+    by_tags (g ∷ tags) none = absurd (true≢false (sym none))
+
+  -- all are of other channels
+  pub all_others : (to : ℕ) (xs : Said O) → (prefix_len (other to) xs == length xs) ≡ is_empty (said_at xs to)
+  all_others to [] = refl
+  all_others to (x ∷ xs) =
+      elim (x.0.0 == to) as (λ b. (cond (not b) (1 + prefix_len (other to) xs) 0 == suc (length xs)) ≡ is_empty (cond b (x ∷ said_at xs to) (said_at xs to))) [
+        | true ↦ never (length xs)
+        | false ↦ let one : 1 + prefix_len (other to) xs ≡ suc (prefix_len (other to) xs) = omega arith in ap (λ n. n == suc (length xs)) one ∙ suc_eq (prefix_len (other to) xs) (length xs) ∙ all_others to xs
+      ]
+
+pub if_some : {A : Type 0} (r : Option A) (P Q : A → Type 0) → ((x : A) → P x → Q x) → IfSome r P → IfSome r Q
+if_some (Some x) P Q f p = f x p
+if_some None P Q f p = tt
+
+pub on_ok : {A B : Type 0} (r : Result A B) (P Q : Type 0) → (P → Q) → OnOk r P → OnOk r Q
+on_ok (Ok x) P Q f p = f p
+on_ok (Err e) P Q f p = tt

@@ -1,0 +1,26 @@
+-- Each output decides over those behind it.
+use Rattle.std.proofs.Common.{◌≡◌, ◌<◌, ◌-◌, zero, suc, length, drop, subst, arith}
+use Rattle.sk_outputs.specs.Ready.{AreReady}
+use Rattle.sk_outputs.proofs.Ready.{decided}
+use Rattle.sk_outputs.proofs.outputs.find_ready.Goals as goal
+
+pub decide-requires : goal.decide-requires
+decide-requires g c = omega (arith, c.loop-place-test.true, c.loop-place.invariant.1, c.loop-place.invariant.2)
+
+pub loop-place-preserved : goal.loop-place-preserved
+loop-place-preserved g c =
+    let xs = c.args.said.now in
+    let p = c.loop-place.place - 1 in
+    let old = c.loop-place.ready.channels in
+    let one : c.loop-place.place ≡ suc p = omega (arith, c.loop-place-test.true) in
+    let near : p < length xs = omega (arith, c.loop-place-test.true, c.loop-place.invariant.1) in (
+      decided xs p c.index-said-place.result near c.index-said-place.is old c.decide.new.ready.channels (subst (λ n. AreReady (drop n xs) old) one c.loop-place.invariant.0) c.decide.ensures.has,
+      omega (arith, c.loop-place-test.true, c.loop-place.invariant.1, c.decide.ensures.count),
+      omega (arith, c.loop-place.invariant.2, c.decide.ensures.places),
+      omega (arith, c.loop-place.invariant.3, c.decide.ensures.places),
+    )
+
+pub returns-clause-ready : goal.returns-clause-ready
+returns-clause-ready g c =
+    let none : c.loop-place.place ≡ zero = omega (arith, c.loop-place-test.false) in
+    subst (λ n. AreReady (drop n c.args.said.now) c.loop-place.ready.channels) none c.loop-place.invariant.0

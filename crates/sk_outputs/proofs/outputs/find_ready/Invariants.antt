@@ -1,0 +1,7 @@
+-- What the outputs from a place on say.
+use Rattle.std.proofs.Common.{◌≤◌, ◌+◌, length, drop}
+use Rattle.sk_outputs.specs.Ready.{AreReady}
+use Rattle.sk_outputs.proofs.outputs.find_ready.Given as goal
+
+abbrev pub invariant-loop-place : goal.invariant-loop-place
+invariant-loop-place g l = AreReady (drop l.place l.said) l.ready.channels × (length l.ready.channels + l.place ≤ length l.said) × (length l.said ≤ l.ready.places) × (l.fn.ready.places ≤ l.ready.places)

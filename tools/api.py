@@ -115,7 +115,7 @@ def passed_on():
 def listed():
     """The crates of the page: those that `hidewillow` passes on, highest first, and then those for threads and for own state."""
     passed = passed_on()
-    beside = ["sk_crew", "sk_workers", "sk_wire", "sk_speculator", "sk_outputs", "sk_slots", "sk_deeds"]
+    beside = ["sk_crew", "sk_workers", "sk_wire", "sk_bytes", "sk_index", "sk_speculator", "sk_outputs", "sk_slots", "sk_deeds"]
     return [it for it in reversed(crates()) if it in passed] + beside
 
 

@@ -37,13 +37,13 @@ refusal_of inner.NoNumber = NoNumber
 refusal_of inner.Memory = Memory
 
 module _ {V O : Type 0} where
-  -- why a step is not taken
+  -- why a step is not taken: a key is too long; or there is no memory
   abbrev pub RefusesStep : Step (Vec ℕ) V O → Refusal → Type 0
   RefusesStep step LongKey = has_long_key step ≡ true
   RefusesStep step Memory = has_long_key step ≡ false
   RefusesStep step other = ⊥
 
-  -- and why a guess is not drawn
+  -- why no guess is drawn: a key is too long; or as many are undecided as may be; or the last number is drawn; or there is no memory
   abbrev pub RefusesGuess : Parts (List ℕ) V O → Step (Vec ℕ) V O → Refusal → Type 0
   RefusesGuess m step LongKey = has_long_key step ≡ true
   RefusesGuess m step LongValue = ⊥
@@ -62,11 +62,13 @@ module _ {V O : Type 0} where
     pub count : many ≡ length undone
     pub struck : more ≡ length (struck_with g old.opens)
 
+  -- an undecided guess is committed; of one that was struck nothing is left; any other token comes back
   abbrev pub CommitPost : ByteView V O → Token → Result Committed Token → ByteView V O → Type 0
   CommitPost old token (Ok commit.Done) new = (token.kernel ≡ old.parts.guesses.kernel) × Commits bytes_cmp old.parts token.id new.parts
   CommitPost old token (Ok commit.Gone) new = (token.kernel ≡ old.parts.guesses.kernel) × Forgets bytes_cmp old.parts token.id new.parts
   CommitPost old token (Err back) new = IsStranger old.parts token × (back ≡ token) × (new.parts ≡ old.parts)
 
+  -- the same with a failure, which says how many keys it took back, told one by one from then on, and how many guesses it struck
   abbrev pub FailPost : ByteView V O → Token → Result Unmade Token → ByteView V O → Type 0
   FailPost old token (Ok (unmade.Done keys struck)) new =
       (token.kernel ≡ old.parts.guesses.kernel) × TellsUndone old.parts token.id keys struck new.undone × FailsIn bytes_cmp old.parts token.id new.parts

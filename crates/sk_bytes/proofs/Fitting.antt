@@ -1,20 +1,17 @@
 -- Numbers come and go: what is told stays.
-use Rattle.std.proofs.Common.{◌≡◌, ℕ, true, false, List, [], ◌∷◌, ◌++◌, Option, Some, None, Ok, cond, refl, sym, ◌∙◌, ap, subst, inl, inr}
+use Rattle.std.proofs.Common.{◌≡◌, ◌<◌, ℕ, true, false, List, [], ◌∷◌, ◌++◌, Option, Some, None, Ok, cond, refl, sym, ◌∙◌, ap, subst, inl, inr}
 use Rattle.std.specs.Prelude.{◌==◌, ◌⊎◌, ◌&&◌, ◌||◌, Bool, not, is_none, OnErr, Result, Err}
 use Rattle.std.specs.Ordering.{nat_cmp, eq_by_cmp}
-use Rattle.std.specs.Cmp.{unsigned_tied}
-use Rattle.std.specs.FinMap.{entries}
+use Rattle.std.specs.Cmp.{nat_cmp_total, unsigned_tied}
+use Rattle.std.specs.FinMap.{entries, nat_cmp-IsAntisymmetric}
 use Rattle.std.specs.Global.{Vec}
 use Rattle.std.proofs.lemmas.Bool.{ne_eqb}
 use Rattle.sk_record.specs.Run.{put}
 use Rattle.sk_record.specs.Effects.{is_in, written_value}
 use Rattle.sk_record.specs.Step.{Effect}
 use Rattle.sk_record.specs.Notes.{Note, has, without, noted, cut, unwound, committed}
-use Rattle.sk_record.specs.Machine.{with_drawn, with_failure, with_status}
 use Rattle.sk_record.specs.Merged.{Merges}
-use Rattle.sk_record.specs.UndoState.{numbers}
-use Rattle.sk_record.specs.declared.status.Status.TheVariants.{Committed}
-use Rattle.sk_guesses.specs.Kept.{none_drawn, AreStatuses, KeptView}
+use Rattle.sk_guesses.specs.Kept.{none_drawn}
 use Rattle.sk_deeds.specs.Deed.{Deed, effect_of}
 use Rattle.sk_deeds.proofs.Runs.{performs}
 use Rattle.sk_renamed.specs.Renamed.{at_key, AreWrites}
@@ -24,13 +21,14 @@ use Rattle.sk_index.specs.Index.{Numbered, number_of, string_of}
 use Rattle.sk_index.proofs.Strings.{some_none}
 use Rattle.sk_speculator.specs.Parts.{Parts, IsSame}
 use Rattle.sk_speculator.specs.Calls.{Takes, Commits, FailsIn, Forgets, Refuses}
-use Rattle.sk_bytes.specs.Told.{shown, slot_shown, slots_told, told_of, strings_of, AllRest, IsTwoWay, ByteView, Fits, IsTold}
+use Rattle.sk_bytes.specs.Told.{shown, slot_shown, slots_told, told_of, strings_of, AllRest, IsTwoWay, ByteView, Fits, IsTold, UsedBut}
 use Rattle.sk_bytes.specs.Numbers.{LetsGo, Gains, AreNames, names}
 use Rattle.sk_bytes.specs.Calls.{has_long_key, refusal_of, RefusesGuess, Unchanged}
 use Rattle.sk_speculator.specs.declared.step.Step.{Step}
 use Rattle.sk_speculator.specs.declared.refusal.Refusal.{Refusal as Inner}
 use Rattle.sk_speculator.specs.declared.refusal.Refusal.TheVariants as inner
 use Rattle.std.specs.declared.cmp.Ordering.{Ordering}
+use Rattle.sk_speculator.proofs.Afterwards.{whole_committed, whole_failed, whole_first, whole_forgotten, whole_same, whole_taken}
 use Rattle.sk_bytes.proofs.Told.{none_shown, same_told, some_same}
 use Rattle.sk_bytes.proofs.Rests.{taken_rest, committed_rest, cut_rest}
 
@@ -90,8 +88,7 @@ module _ {V O : Type 0} (es fs : Numbered) (m : Parts ℕ V O) where
       two_way = two;
       rests = fits.rests;
       used = λ n none. alike_used es fs m.slots n (fits.used n) (alike n) none;
-      status = fits.status;
-      agrees = fits.agrees;
+      whole = fits.whole;
     },
     λ i. record { slots = entries (alike_told es fs m.slots fits.two_way two alike i); guesses = m.guesses; opens = m.opens; said = m.said },
   )
@@ -109,7 +106,7 @@ none_held es n here none = absurd (cc)
 -- ---- the kernel inside
 
 module _ {V O : Type 0} (es : Numbered) (a b : Parts ℕ V O) where
-  shown_same : IsSame nat_cmp a b → (n : ℕ) → slot_shown b.slots n ≡ slot_shown a.slots n
+  pub shown_same : IsSame nat_cmp a b → (n : ℕ) → slot_shown b.slots n ≡ slot_shown a.slots n
   shown_same same n i = shown (same.look n i) (same.logs n i)
 
   slots_same : (fs : Numbered) → IsSame nat_cmp a b → slots_told fs b.slots ≡ slots_told fs a.slots
@@ -122,14 +119,13 @@ module _ {V O : Type 0} (es : Numbered) (a b : Parts ℕ V O) where
       two_way = fits.two_way;
       rests = λ n. subst AllRest (sym (same.logs n)) (fits.rests n);
       used = λ n none. shown_same same n ∙ fits.used n none;
-      status = fits.status;
-      agrees = subst (λ v. AreStatuses v b.opens fits.status) (sym same.guesses) (subst (λ os. AreStatuses a.guesses os fits.status) (sym same.opens) fits.agrees);
+      whole = whole_same nat_cmp_total nat_cmp-IsAntisymmetric a fits.whole b same;
     },
     λ i. record { slots = entries (slots_same es same i); guesses = same.guesses i; opens = same.opens i; said = same.said i },
   )
 
 module _ {V : Type 0} where
-  shown_none : (v : Option V) (log : List (Note V)) → shown v log ≡ None → (v ≡ None) × (log ≡ [])
+  pub shown_none : (v : Option V) (log : List (Note V)) → shown v log ≡ None → (v ≡ None) × (log ≡ [])
   shown_none None [] is = (refl, refl)
   shown_none None (n ∷ ns) is = some_none _ is
   shown_none (Some v) log is = some_none _ is
@@ -142,7 +138,7 @@ module _ {V : Type 0} where
   unnoted b old new tags v out none merges =
       nothing_from new (subst (λ log. Merges [] (log ++ noted false tags v []) new) none (subst (λ c. Merges [] (old ++ noted c tags v []) new) out merges))
 
-  unwritten : (ws : List (ℕ × Option V)) (n : ℕ) (v : Option V) → is_in nat_cmp (names ws) n ≡ false → written_value nat_cmp ws n v ≡ v
+  pub unwritten : (ws : List (ℕ × Option V)) (n : ℕ) (v : Option V) → is_in nat_cmp (names ws) n ≡ false → written_value nat_cmp ws n v ≡ v
   unwritten [] n v out = refl
   unwritten (w ∷ ws) n v out =
       elim (eq_by_cmp nat_cmp n w.0) as (λ b. (b || is_in nat_cmp (names ws) n) ≡ false → written_value nat_cmp ws n (cond b w.1 v) ≡ v) [
@@ -175,11 +171,16 @@ module _ {V O : Type 0} (es : Numbered) (a b : Parts ℕ V O) (fits : Fits es a)
   pub bare : (n : ℕ) → string_of es n ≡ None → (look_at nat_cmp a.slots n ≡ None) × (log_at nat_cmp a.slots n ≡ [])
   bare n none = shown_none (look_at nat_cmp a.slots n) (log_at nat_cmp a.slots n) (fits.used n none)
 
-  pub fits_taken : (bs : List (List ℕ)) (d : Deed ℕ V O) → AreNames (number_of es) bs (names d.written) → (mark : Option ℕ) → Takes nat_cmp a d mark b → Fits es b
-  fits_taken bs d are mark t =
-      let taken = t.takes fits.status fits.agrees in
-      let did : taken.effect ≡ effect_of (look_at nat_cmp a.slots) d = sym (ap (ok_or taken.effect) (sym (performs (look_at nat_cmp a.slots) d) ∙ taken.accepted)) in
-      let written : taken.effect.written ≡ d.written = ap (λ (e : Effect ℕ V (ℕ × O)). e.written) did in
+  -- the machine writes what the step does
+  pub writes_it : (d : Deed ℕ V O) (mark : Option ℕ) (t : Takes nat_cmp a d mark b) → (t.takes fits.whole.status fits.whole.agrees).effect.written ≡ d.written
+  writes_it d mark t =
+      let taken = t.takes fits.whole.status fits.whole.agrees in
+      ap (λ (e : Effect ℕ V (ℕ × O)). e.written) (sym (ap (ok_or taken.effect) (sym (performs (look_at nat_cmp a.slots) d) ∙ taken.accepted)))
+
+  pub fits_taken : (bs : List (List ℕ)) (d : Deed ℕ V O) → AreNames (number_of es) bs (names d.written) → (mark : Option ℕ) → ((g : ℕ) → mark ≡ Some g → a.guesses.drawn < g) → Takes nat_cmp a d mark b → Fits es b
+  fits_taken bs d are mark next t =
+      let taken = t.takes fits.whole.status fits.whole.agrees in
+      let written = writes_it d mark t in
       record {
         two_way = fits.two_way;
         rests = λ n. taken_rest (log_at nat_cmp a.slots n) (log_at nat_cmp b.slots n) _ _ _ (fits.rests n) (taken.logs n);
@@ -189,34 +190,31 @@ module _ {V O : Type 0} (es : Numbered) (a b : Parts ℕ V O) (fits : Fits es a)
             none_shown b.slots n
             (taken.look n ∙ unwritten taken.effect.written n (look_at nat_cmp a.slots n) out ∙ was.0)
             (unnoted _ (log_at nat_cmp a.slots n) (log_at nat_cmp b.slots n) _ _ out was.1 (taken.logs n));
-        status = with_drawn mark fits.status;
-        agrees = t.agrees fits.status fits.agrees;
+        whole = whole_taken nat_cmp_total nat_cmp-IsAntisymmetric a fits.whole b d mark next t;
       }
 
   pub fits_committed : (g : ℕ) → Commits nat_cmp a g b → Fits es b
   fits_committed g c =
-      let done = c.commits fits.status fits.agrees in
+      let done = c.commits fits.whole.status fits.whole.agrees in
       record {
         two_way = fits.two_way;
         rests = λ n. committed_rest g (log_at nat_cmp a.slots n) (log_at nat_cmp b.slots n) (done.logs n);
         used = λ n none.
             let was = bare n none in
             none_shown b.slots n (done.look n ∙ was.0) (nothing_from (log_at nat_cmp b.slots n) (subst (λ log. Merges [] (committed g log) (log_at nat_cmp b.slots n)) was.1 (done.logs n)));
-        status = with_status g Committed fits.status;
-        agrees = c.agrees fits.status fits.agrees;
+        whole = whole_committed nat_cmp_total nat_cmp-IsAntisymmetric a fits.whole b g c;
       }
 
   pub fits_failed : (g : ℕ) → FailsIn nat_cmp a g b → Fits es b
   fits_failed g f =
-      let done = f.fails fits.status fits.agrees in
+      let done = f.fails fits.whole.status fits.whole.agrees in
       record {
         two_way = fits.two_way;
         rests = λ n. subst AllRest (sym (done.state.logs n)) (cut_rest g (log_at nat_cmp a.slots n) (fits.rests n));
         used = λ n none.
             let was = bare n none in
             none_shown b.slots n (done.state.look n ∙ (λ i. unwound g (was.1 i) (was.0 i))) (done.state.logs n ∙ ap (cut g) was.1);
-        status = with_failure g a.opens fits.status;
-        agrees = f.agrees fits.status fits.agrees;
+        whole = whole_failed nat_cmp_total nat_cmp-IsAntisymmetric a fits.whole b g f;
       }
 
   pub fits_forgot : (g : ℕ) → Forgets nat_cmp a g b → Fits es b
@@ -224,31 +222,23 @@ module _ {V O : Type 0} (es : Numbered) (a b : Parts ℕ V O) (fits : Fits es a)
     two_way = fits.two_way;
     rests = fits.rests;
     used = fits.used;
-    status = fits.status;
-    agrees = record {
-      undecided = fits.agrees.undecided;
-      struck = λ h here. fits.agrees.struck h (kept_in h g a.guesses.struck here);
-      fresh = fits.agrees.fresh;
-    };
+    whole = whole_forgotten nat_cmp_total nat_cmp-IsAntisymmetric a fits.whole (record a.guesses { struck = without g a.guesses.struck }) (record {
+      undecided = fits.whole.agrees.undecided;
+      struck = λ h here. fits.whole.agrees.struck h (kept_in h g a.guesses.struck here);
+      fresh = fits.whole.agrees.fresh;
+    });
   })
 
 -- ---- at the start
 
 module _ {V O : Type 0} (es : Numbered) (m : Parts ℕ V O) where
-  pub fits_new : (number limit : ℕ) → es ≡ [] → ((n : ℕ) → look_at nat_cmp m.slots n ≡ None) → ((n : ℕ) → log_at nat_cmp m.slots n ≡ []) → m.guesses ≡ none_drawn number limit → m.opens ≡ [] → Fits es m
-  fits_new number limit is look log guesses opens = record {
+  pub fits_new : (number limit : ℕ) → es ≡ [] → ((n : ℕ) → look_at nat_cmp m.slots n ≡ None) → ((n : ℕ) → log_at nat_cmp m.slots n ≡ []) → m.guesses ≡ none_drawn number limit → m.opens ≡ [] → m.said ≡ [] → Fits es m
+  fits_new number limit is look log guesses opens said = record {
     two_way = subst IsTwoWay (sym is) (record { there = λ s n here. absurd (cc); back = λ s n here. absurd (cc) });
     rests = λ n. subst AllRest (sym (log n)) tt;
     used = λ n none. none_shown m.slots n (look n) (log n);
-    status = λ g. None;
-    agrees = record {
-      undecided = λ g. ap (λ os. has g (numbers os)) opens;
-      struck = λ g here. never (ap (λ (v : KeptView). has g v.struck) (sym guesses) ∙ here);
-      fresh = λ g above. refl;
-    };
-  } where
-    never : {P : Type 0} → false ≡ true → P
-    never is = absurd (cc)
+    whole = whole_first nat_cmp_total nat_cmp-IsAntisymmetric m number limit look log opens guesses said;
+  }
 
 -- ---- what is told of a step that is refused
 
@@ -279,8 +269,12 @@ unchanged old es fs a b undone loose view same none = record {
 }
 
 -- between calls nothing is loose
-pub told_still : {V O : Type 0} (es : Numbered) (m : Parts ℕ V O) (loose : List ℕ) → Fits es m → loose ≡ [] → IsTold es m loose
-told_still es m loose fits none = record { fits = fits; held = λ n here gone. none_held es n (ap (λ ks. is_in nat_cmp ks n) (sym none) ∙ here) gone }
+pub told_still : {V O : Type 0} (es : Numbered) (m : Parts ℕ V O) (loose : List ℕ) → Fits es m → UsedBut es m.slots [] → loose ≡ [] → IsTold es m loose
+told_still es m loose fits needed none = record {
+  fits = fits;
+  held = λ n here gone. none_held es n (ap (λ ks. is_in nat_cmp ks n) (sym none) ∙ here) gone;
+  needed = subst (UsedBut es m.slots) (sym none) needed;
+}
 
 -- why no guess is drawn is told alike
 pub refused : {V O : Type 0} (m : Parts (List ℕ) V O) (step : Step (Vec ℕ) V O) (why : Inner) → has_long_key step ≡ false → Refuses m why → RefusesGuess m step (refusal_of why)

@@ -1,6 +1,7 @@
 pub mod Told
 pub mod Rests
 pub mod Fitting
+pub mod Used
 pub mod Moves
 pub mod Steps
 pub mod Undone

@@ -1,17 +1,18 @@
 -- Numbers that go and come one after another, and a step that is handed over with them.
 use Rattle.std.proofs.Common.{◌≡◌, ℕ, zero, suc, ◌<◌, ◌≤◌, ◌+◌, arith, true, false, List, [], ◌∷◌, ◌++◌, map, length, get_or, take, Option, Some, None, cond, refl, sym, ◌∙◌, ap, subst, inl, inr}
-use Rattle.std.specs.Prelude.{◌==◌, ◌⊎◌, ◌&&◌, ◌||◌, Bool, Result, Ok, Err, IfOk, IfSome, not, is_none, is_some, slice_get, slice_set}
+use Rattle.std.specs.Prelude.{◌==◌, ◌⊎◌, ◌&&◌, ◌||◌, Bool, Result, Ok, Err, IfOk, IfSome, nat_lt, not, is_none, is_some, slice_get, slice_set}
 use Rattle.std.specs.Ordering.{nat_cmp, eq_by_cmp}
 use Rattle.std.specs.Cmp.{unsigned_tied}
 use Rattle.std.specs.Option.{option_map}
 use Rattle.std.specs.Vec.{vec_items}
 use Rattle.std.specs.Global.{Vec}
-use Rattle.std.proofs.lemmas.Bool.{eqb-true, eqb-false, eq-eqb, ne_eqb, or_left, or_right}
+use Rattle.std.proofs.lemmas.Bool.{eqb-true, eqb-false, eq-eqb, ltb-true, ltb-false, ne_eqb, or_left, or_right, or_cases, true≢false, false≢true}
 use Rattle.std.proofs.lemmas.List.Folds.{list_any-append}
 use Rattle.sk_record.specs.Effects.{is_in}
 use Rattle.sk_record.specs.Notes.{Note, last_tags}
 use Rattle.sk_renamed.specs.Renamed.{at_key, keys_of, AreWrites}
 use Rattle.sk_slots.specs.Slot.{SlotView}
+use Rattle.sk_slots.specs.Slots.{look_at}
 use Rattle.sk_index.specs.Index.{Numbered, number_of, string_of, Adds, Removes}
 use Rattle.std.specs.List.{list_any}
 use Rattle.sk_speculator.proofs.Writing.{take_all, take_next}
@@ -50,6 +51,22 @@ module _ {V : Type 0} (slots : List (ℕ × SlotView V)) where
   one_more_goes es fs gs ns n first second =
       goes_as es gs (λ m. is_in nat_cmp ns m || is_in nat_cmp (n ∷ []) m) (is_in nat_cmp (ns ++ n ∷ [])) (λ m. sym (list_any-append (eq_by_cmp nat_cmp m) ns (n ∷ [])))
       (both_go es fs gs (is_in nat_cmp ns) (is_in nat_cmp (n ∷ [])) first second)
+
+  -- where none of the others has a string, all go that are not used
+  one_of_all : (es : Numbered) (n : ℕ) (x y : Bool) (q : Option (List ℕ)) → (x ≡ false → string_of es n ≡ None) → q ≡ cond (x && y) None (string_of es n) → q ≡ cond y None (string_of es n)
+  one_of_all es n true y q free is = is
+  one_of_all es n false true q free is = is ∙ free refl
+  one_of_all es n false false q free is = is
+
+  pub all_go : (es fs : Numbered) (some : ℕ → Bool) (end : ℕ) → LetsGo es some slots fs → ((n : ℕ) → n < end → some n ≡ true) → ((n : ℕ) → end ≤ n → string_of es n ≡ None) → LetsGo es (λ n. true) slots fs
+  all_go es fs some end goes first free = record {
+    two_way = goes.two_way;
+    strings = λ n. one_of_all es n (some n) (is_none (slot_shown slots n)) (string_of fs n) (λ out. free n (above n out (nat_lt n end) refl)) (goes.strings n);
+  }
+    where
+      above : (n : ℕ) → some n ≡ false → (x : Bool) → nat_lt n end ≡ x → end ≤ n
+      above n out true is = absurd (true≢false (sym (first n (ltb-true n end is)) ∙ out))
+      above n out false is = ltb-false n end is
 
   nat_same : (m n : ℕ) → m ≡ n → eq_by_cmp nat_cmp m n ≡ true
   nat_same m n same = unsigned_tied m n ∙ eq-eqb m n same
@@ -95,6 +112,33 @@ module _ {V : Type 0} (slots : List (ℕ × SlotView V)) where
   pub removed : (es fs : Numbered) (n : ℕ) → IsTwoWay es → is_none (slot_shown slots n) ≡ true → (r : Option (Vec ℕ)) → IfSome r (λ s. Removes es s.items n fs) → (r ≡ None → string_of es n ≡ None) → (r ≡ None → fs ≡ es) → LetsGo es (is_in nat_cmp (n ∷ [])) slots fs
   removed es fs n two bare None some none same = subst (LetsGo es (is_in nat_cmp (n ∷ [])) slots) (sym (same refl)) (one_free es n two (none refl))
   removed es fs n two bare (Some s) some none same = one_gone es fs s.items n two bare some
+
+-- of the first numbers one more is among these
+pub first_more : (some : ℕ → Bool) (place k : ℕ) → k ≡ place → ((n : ℕ) → n < place → some n ≡ true) → (n : ℕ) → n < place + 1 → (some n || is_in nat_cmp (k ∷ []) n) ≡ true
+first_more some place k is first n below =
+    elim (nat_lt n place) as (λ x. nat_lt n place ≡ x → (some n || is_in nat_cmp (k ∷ []) n) ≡ true) [
+      | true ↦ λ before. or_left _ _ (first n (ltb-true n place before))
+      | false ↦ λ behind.
+          let above = ltb-false n place behind in
+          let last : n ≡ k = omega (arith, below, above, is) in
+          or_right _ _ (or_left _ _ (unsigned_tied n k ∙ eq-eqb n k last))
+    ] refl
+
+-- ---- absent keys are listed
+
+-- those of these that are absent are among the others
+abbrev pub AbsentIn : {V : Type 0} → List (ℕ × SlotView V) → List ℕ → List ℕ → Type 0
+AbsentIn slots ks ns = (n : ℕ) → is_in nat_cmp ks n ≡ true → look_at nat_cmp slots n ≡ None → is_in nat_cmp ns n ≡ true
+
+pub one_more_absent : {V : Type 0} (slots : List (ℕ × SlotView V)) (ks old new : List ℕ) (k : ℕ) → AbsentIn slots ks old → ((n : ℕ) → is_in nat_cmp old n ≡ true → is_in nat_cmp new n ≡ true)
+    → (look_at nat_cmp slots k ≡ None → is_in nat_cmp new k ≡ true) → AbsentIn slots (ks ++ k ∷ []) new
+one_more_absent slots ks old new k first kept added n here absent =
+    elim (or_cases _ _ (sym (list_any-append (eq_by_cmp nat_cmp n) ks (k ∷ [])) ∙ here)) [
+      | inl before ↦ kept n (first n before absent)
+      | inr last ↦
+          let same : n ≡ k = elim (or_cases _ _ last) [ inl is ↦ eqb-true n k (sym (unsigned_tied n k) ∙ is) | inr never ↦ absurd (false≢true never) ] in
+          subst (λ m. is_in nat_cmp new m ≡ true) (sym same) (added (ap (look_at nat_cmp slots) (sym same) ∙ absent))
+    ]
 
 -- ---- a key is bare
 

@@ -26,7 +26,7 @@ module _ {V : Type 0} where
   pub taken_rest : (old new : List (Note V)) (wrote : Bool) (tags : List ℕ) (v : Option V) → AllRest old → Merges [] (old ++ noted wrote tags v []) new → AllRest new
   taken_rest old new wrote tags v rests merges = merged_rest [] (old ++ noted wrote tags v []) new merges (append_rest old (noted wrote tags v []) rests (noted_rest wrote tags v [] tt))
 
-  lightened_rest : (g : ℕ) (log : List (Note V)) → AllRest (committed g log)
+  pub lightened_rest : (g : ℕ) (log : List (Note V)) → AllRest (committed g log)
   lightened_rest g [] = tt
   lightened_rest g (n ∷ ns) = noted_rest true (without g n.tags) n.before (committed g ns) (lightened_rest g ns)
 

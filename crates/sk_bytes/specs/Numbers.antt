@@ -1,8 +1,11 @@
 -- Numbers for the keys of a step, and what is left of them.
-use Rattle.std.specs.Prelude.{◌≡◌, ◌⊎◌, ◌&&◌, ℕ, Bool, true, List, [], ◌∷◌, map, Option, Some, None, is_none, if◌then◌else◌}
+use Rattle.std.specs.Prelude.{◌≡◌, ◌⊎◌, ◌&&◌, ℕ, Bool, true, List, [], ◌∷◌, map, Option, Some, None, is_none, if◌then◌else◌, Result, Ok, Err}
 use Rattle.std.specs.Ordering.{nat_cmp}
+use Rattle.std.specs.Global.{Vec}
 use Rattle.sk_record.specs.Effects.{is_in}
+use Rattle.sk_record.specs.Notes.{has, last_tags}
 use Rattle.sk_slots.specs.Slot.{SlotView}
+use Rattle.sk_slots.specs.Slots.{look_at, log_at}
 use Rattle.sk_index.specs.Index.{Numbered, string_of}
 use Rattle.sk_bytes.specs.Told.{slot_shown, IsTwoWay}
 
@@ -10,6 +13,15 @@ use Rattle.sk_bytes.specs.Told.{slot_shown, IsTwoWay}
 pub record LetsGo {V : Type 0} (old : Numbered) (some : ℕ → Bool) (slots : List (ℕ × SlotView V)) (new : Numbered) : Type 0 where
   pub two_way : IsTwoWay new
   pub strings : (n : ℕ) → string_of new n ≡ (if some n && is_none (slot_shown slots n) then None else string_of old n)
+
+-- the numbers of a list, or all where there was no memory for the list
+abbrev pub listed : {E : Type 0} → Result (Vec ℕ) E → ℕ → Bool
+listed (Ok ns) n = is_in nat_cmp ns.items n
+listed (Err why) n = true
+
+-- each absent key that rests on the guess is among these
+abbrev pub ListsAbsent : {V : Type 0} → List (ℕ × SlotView V) → ℕ → List ℕ → Type 0
+ListsAbsent slots g ns = (n : ℕ) → has g (last_tags [] (log_at nat_cmp slots n)) ≡ true → look_at nat_cmp slots n ≡ None → is_in nat_cmp ns n ≡ true
 
 -- numbers are given, which are among these; all others stay whose they were
 pub record Gains (old : Numbered) (loose : List ℕ) (new : Numbered) : Type 0 where

@@ -1,17 +1,15 @@
 -- What a kernel over numbers is, told of the byte strings that have them.
-use Rattle.std.specs.Prelude.{◌≡◌, ℕ, true, List, [], ◌∷◌, Option, Some, None, refl}
+use Rattle.std.specs.Prelude.{◌≡◌, ℕ, true, false, List, [], ◌∷◌, Option, Some, None, refl}
 use Rattle.std.specs.Coded.{Coded, code_by, coded×, coded_ℕ, coded_list}
 use Rattle.std.specs.Ordering.{nat_cmp}
 use Rattle.std.specs.FinMap.{FinMap, empty, entries}
 use Rattle.sk_record.specs.Run.{put}
 use Rattle.sk_record.specs.Effects.{is_in}
 use Rattle.sk_record.specs.Notes.{Note}
-use Rattle.sk_record.specs.declared.status.Status.{Status}
-use Rattle.sk_guesses.specs.Kept.{AreStatuses}
 use Rattle.sk_slots.specs.Slot.{SlotView}
 use Rattle.sk_slots.specs.Slots.{look_at, log_at}
 use Rattle.sk_index.specs.Index.{Numbered, bytes_cmp, number_of, string_of}
-use Rattle.sk_speculator.specs.Parts.{Parts, parts_code}
+use Rattle.sk_speculator.specs.Parts.{Parts, parts_code, IsWhole}
 
 module _ {V : Type 0} where
   -- a slot with this, where there is anything
@@ -61,16 +59,19 @@ abbrev pub strings_of : Numbered → List ℕ → List (List ℕ)
 strings_of es [] = []
 strings_of es (n ∷ ns) = with_string (string_of es n) (strings_of es ns)
 
--- each key that is there or rests on something has a number, and each note rests on something
+-- each key that is there or rests on something has a number, each note rests on something, and some calls lead here
 pub record Fits {V O : Type 0} (es : Numbered) (m : Parts ℕ V O) : Type 0 where
   pub two_way : IsTwoWay es
   pub rests : (n : ℕ) → AllRest (log_at nat_cmp m.slots n)
   pub used : (n : ℕ) → string_of es n ≡ None → slot_shown m.slots n ≡ None
-  -- some statuses of all guesses agree with what is kept of them
-  pub status : ℕ → Option Status
-  pub agrees : AreStatuses m.guesses m.opens status
+  pub whole : IsWhole nat_cmp m
 
--- between calls: so it is, and each key that the last failure took back has a number still
+-- no number is kept for nothing: but for these, each is that of a key that is there or rests on something
+abbrev pub UsedBut : {V : Type 0} → Numbered → List (ℕ × SlotView V) → List ℕ → Type 0
+UsedBut es slots some = (n : ℕ) → is_in nat_cmp some n ≡ false → slot_shown slots n ≡ None → string_of es n ≡ None
+
+-- between calls: so it is, each key that the last failure took back has a number still, and no other number is kept for nothing
 pub record IsTold {V O : Type 0} (es : Numbered) (m : Parts ℕ V O) (undone : List ℕ) : Type 0 where
   pub fits : Fits es m
   pub held : (n : ℕ) → is_in nat_cmp undone n ≡ true → string_of es n ≡ None → ⊥
+  pub needed : UsedBut es m.slots undone

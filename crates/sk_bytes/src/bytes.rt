@@ -19,13 +19,13 @@ ghost use Rattle.std.specs.Vec.{vec_capacity};
 
 use crate::Refusal;
 use crate::keys::Keys;
-use crate::numbers::give_back_any;
+use crate::numbers::{absent_dependents, give_back_any};
 use crate::refusal::named;
 use sk_guesses::{Guess, Status};
 use sk_ids::{GuessId, TagSet};
 use sk_index::Number;
 use sk_speculator::{Committed, Failed, Speculator, Step, Undone};
-use std::alloc::{AllocError, Global};
+use std::alloc::Global;
 use std::marker::Model;
 use std::num::NonZeroU16;
 
@@ -259,7 +259,7 @@ impl<V: Drop, O: Drop> Bytes<V, O> {
         ensures { CommitPost self.old guess result self.new }
     {
         self.keys.let_go(&self.kernel);
-        let absent = self.absent_dependents(guess.id());
+        let absent = absent_dependents(&self.kernel, self.keys.index.alloc(), guess.id());
         let committed = match self.kernel.commit(guess) {
             Ok(committed) => committed,
             Err(guess) => return Err(guess),
@@ -287,17 +287,6 @@ impl<V: Drop, O: Drop> Bytes<V, O> {
             }
             Failed::Gone => Ok(Unmade::Gone),
         }
-    }
-
-    /// The absent keys that rest on a guess: those whose numbers its commit may set free.
-    fn absent_dependents(&self, id: GuessId) -> Result<Vec<Number>, AllocError> {
-        let mut absent = Vec::new(self.keys.index.alloc());
-        for number in self.kernel.dependents(id) {
-            if self.kernel.value(number).is_none() {
-                absent.push(*number)?;
-            }
-        }
-        Ok(absent)
     }
 }
 

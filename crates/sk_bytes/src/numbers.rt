@@ -1,18 +1,19 @@
 //! Numbers for the keys of a step, and what becomes of them behind it.
-ghost use Rattle.std.specs.Prelude.{◌≡◌, ◌∷◌, ◌++◌, ◌<◌, ℕ, Bool, [], None, Some, is_none, length, map, IfOk, OnErr, OnOk};
+ghost use Rattle.std.specs.Prelude.{◌≡◌, ◌∷◌, ◌++◌, ◌<◌, ℕ, true, [], None, Some, is_none, length, map, IfOk, OnErr, OnOk};
 ghost use Rattle.std.specs.Ordering.{nat_cmp};
 ghost use Rattle.std.specs.Vec.{vec_capacity, vec_items, vec_len};
 ghost use Rattle.sk_record.specs.Effects.{is_in};
 ghost use Rattle.sk_renamed.specs.Renamed.{at_key, keys_of};
-ghost use Rattle.sk_slots.specs.Slots.{log_at};
+ghost use Rattle.sk_slots.specs.Slots.{look_at, log_at};
 ghost use Rattle.sk_index.specs.Index.{number_of};
 ghost use Rattle.sk_bytes.specs.Told.{slot_shown, AllRest, IsTwoWay};
-ghost use Rattle.sk_bytes.specs.Numbers.{exchanged, names, AreNames, Gains, LetsGo};
+ghost use Rattle.sk_bytes.specs.Numbers.{exchanged, listed, names, AreNames, Gains, LetsGo, ListsAbsent};
 
 use crate::ByteStep;
+use sk_ids::GuessId;
 use sk_index::{Index, Number};
 use sk_speculator::{Speculator, Step};
-use std::alloc::AllocError;
+use std::alloc::{AllocError, Global};
 use std::mem;
 
 /// Whether a key is absent and rests on nothing.
@@ -53,7 +54,7 @@ pub(crate) fn give_back_all<V, O>(
 fn give_back_unused<V, O>(index: &mut Index, kernel: &Speculator<Number, V, O>)
     requires two_way { IsTwoWay index.old }
     requires rests { (n : ℕ) → AllRest (log_at nat_cmp kernel.now.slots n) }
-    ensures { (some : ℕ → Bool) × LetsGo index.old some kernel.now.slots index.new }
+    ensures { LetsGo index.old (λ n. true) kernel.now.slots index.new }
 {
     for place in 0..index.places() {
         give_back(index, kernel, Number::new(place));
@@ -68,12 +69,44 @@ pub(crate) fn give_back_any<V, O>(
 )
     requires two_way { IsTwoWay index.old }
     requires rests { (n : ℕ) → AllRest (log_at nat_cmp kernel.now.slots n) }
-    ensures { (some : ℕ → Bool) × LetsGo index.old some kernel.now.slots index.new }
+    ensures { LetsGo index.old (listed numbers) kernel.now.slots index.new }
 {
     match numbers {
         Ok(numbers) => give_back_all(index, kernel, numbers.as_slice()),
         Err(AllocError) => give_back_unused(index, kernel),
     }
+}
+
+/// Adds a number to a list, where its key is absent.
+fn push_absent<V, O>(
+    absent: &mut Vec<Number>,
+    kernel: &Speculator<Number, V, O>,
+    number: Number,
+) -> Result<(), AllocError>
+    ensures kept { OnOk result ((n : ℕ) → is_in nat_cmp absent.old.items n ≡ true
+        → is_in nat_cmp absent.new.items n ≡ true) }
+    ensures added { OnOk result (look_at nat_cmp kernel.now.slots number ≡ None
+        → is_in nat_cmp absent.new.items number ≡ true) }
+{
+    if kernel.value(&number).is_none() {
+        absent.push(number)?;
+    }
+    Ok(())
+}
+
+/// The absent keys that rest on a guess: those whose numbers its commit may set free.
+pub(crate) fn absent_dependents<V, O>(
+    kernel: &Speculator<Number, V, O>,
+    alloc: Global,
+    id: GuessId,
+) -> Result<Vec<Number>, AllocError>
+    ensures { IfOk result (λ absent. ListsAbsent kernel.now.slots id absent.items) }
+{
+    let mut absent = Vec::new(alloc);
+    for number in kernel.dependents(id) {
+        push_absent(&mut absent, kernel, *number)?;
+    }
+    Ok(absent)
 }
 
 /// The number of a key, which it is given where it has none.

@@ -1,7 +1,13 @@
--- Some are given back.
+-- Those that are listed are given back.
+use Rattle.std.proofs.Common.{sym, subst}
 use Rattle.std.specs.Ordering.{nat_cmp}
 use Rattle.sk_record.specs.Effects.{is_in}
+use Rattle.sk_bytes.specs.Numbers.{listed, LetsGo}
 use Rattle.sk_bytes.proofs.numbers.give_back_any.Goals as goal
 
 pub returns-in-Ok : goal.returns-in-Ok
-returns-in-Ok g c = (is_in nat_cmp c.as_slice.result.now, c.give_back_all.ensures)
+returns-in-Ok g c =
+    let slots = c.args.kernel.now.slots in
+    let new = c.give_back_all.new.index in
+    subst (λ r. LetsGo c.args.index.now (listed r) slots new) (sym c.in-Ok.is)
+    (subst (λ ns. LetsGo c.args.index.now (is_in nat_cmp ns) slots new) c.as_slice.ensures.value c.give_back_all.ensures)

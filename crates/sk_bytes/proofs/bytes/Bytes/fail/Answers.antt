@@ -6,6 +6,7 @@ use Rattle.sk_speculator.specs.Calls.{FailPost, IsStranger}
 use Rattle.sk_speculator.specs.Parts.{Parts}
 use Rattle.sk_bytes.specs.Told.{told_of, ByteView}
 use Rattle.sk_bytes.proofs.Fitting.{fits_failed, fits_forgot, fits_less, told_still}
+use Rattle.sk_bytes.proofs.Used.{used_failed, used_forgot, used_less}
 use Rattle.sk_bytes.proofs.Undone.{failed_told, gone_told, held_back}
 use Rattle.sk_bytes.proofs.bytes.Bytes.fail.Goals as goal
 
@@ -23,10 +24,12 @@ invariant_of-self-in-Done g c =
     let b = c.fail.new.self in
     let now = c.let_go.new.self in
     let one = fits_less c.self.inside.keys.index now.index m (is_in nat_cmp c.self.inside.keys.loose.items) c.self.invariant.0.fits c.let_go.ensures.gone in
+    let needed = used_less c.self.inside.keys.index now.index m.slots c.self.inside.keys.loose.items c.self.invariant.0.needed c.let_go.ensures.gone in
     let post = subst (λ r. FailPost nat_cmp m c.args.guess (Ok r) b) c.in-Done.is c.in-Ok.ensures in (
       record {
         fits = fits_failed now.index m b one.0 c.args.guess.id post.2;
         held = held_back now.index m one.0 c.args.guess.id c.in-Done.field-0 post.1;
+        needed = used_failed now.index m b one.0 c.args.guess.id c.in-Done.field-0 needed post.1 post.2;
       },
       c.let_go.ensures.looked,
       c.let_go.ensures.written,
@@ -40,8 +43,9 @@ invariant_of-self-in-Gone g c =
     let b = c.fail.new.self in
     let now = c.let_go.new.self in
     let one = fits_less c.self.inside.keys.index now.index m (is_in nat_cmp c.self.inside.keys.loose.items) c.self.invariant.0.fits c.let_go.ensures.gone in
+    let needed = used_less c.self.inside.keys.index now.index m.slots c.self.inside.keys.loose.items c.self.invariant.0.needed c.let_go.ensures.gone in
     let post = subst (λ r. FailPost nat_cmp m c.args.guess (Ok r) b) c.in-Gone.is c.in-Ok.ensures in (
-      told_still now.index b now.loose.items (fits_forgot now.index m b one.0 c.args.guess.id post.1) c.let_go.ensures.loose,
+      told_still now.index b now.loose.items (fits_forgot now.index m b one.0 c.args.guess.id post.1) (used_forgot now.index m b c.args.guess.id needed post.1) c.let_go.ensures.loose,
       c.let_go.ensures.looked,
       c.let_go.ensures.written,
       c.let_go.ensures.said ∙ c.self.invariant.3,

@@ -3,7 +3,7 @@ use Rattle.std.proofs.Common.{[], None, ap, ◌∙◌}
 use Rattle.std.specs.Ordering.{nat_cmp}
 use Rattle.sk_renamed.specs.Renamed.{at_key}
 use Rattle.sk_slots.specs.Slots.{look_at, log_at}
-use Rattle.sk_index.specs.Index.{number_of}
+use Rattle.sk_index.specs.Index.{number_of, string_of}
 use Rattle.sk_bytes.proofs.Fitting.{fits_new, told_still}
 use Rattle.sk_bytes.proofs.Told.{look_told, log_told}
 use Rattle.sk_bytes.proofs.bytes.Bytes.new.Goals as goal
@@ -11,7 +11,8 @@ use Rattle.sk_bytes.proofs.bytes.Bytes.new.Goals as goal
 pub invariant_of-result : goal.invariant_of-result
 invariant_of-result g c = (
   told_still c.new.result.index c.new-2.result c.new.result.loose.items
-      (fits_new c.new.result.index c.new-2.result c.args.number c.args.limit.value c.new.ensures.index c.new-2.ensures.look c.new-2.ensures.log c.new-2.ensures.guesses c.new-2.ensures.opens) c.new.ensures.loose,
+      (fits_new c.new.result.index c.new-2.result c.args.number c.args.limit.value c.new.ensures.index c.new-2.ensures.look c.new-2.ensures.log c.new-2.ensures.guesses c.new-2.ensures.opens c.new-2.ensures.said)
+      (λ n _ _. ap (λ es. string_of es n) c.new.ensures.index) c.new.ensures.loose,
   c.new.ensures.looked,
   c.new.ensures.written,
   c.new.ensures.said,

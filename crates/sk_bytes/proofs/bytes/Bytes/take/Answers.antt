@@ -1,17 +1,20 @@
 -- The step that is taken over numbers is taken over strings, and one that is refused changes nothing that is told.
 use Rattle.std.proofs.Common.{None, sym, ap, ◌∙◌, subst}
 use Rattle.std.specs.Ordering.{nat_cmp}
+use Rattle.std.specs.Vec.{vec_items}
 use Rattle.sk_deeds.specs.Deed.{Deed}
 use Rattle.sk_record.specs.Effects.{is_in}
 use Rattle.sk_index.specs.Index.{bytes_cmp, number_of}
 use Rattle.sk_speculator.specs.Calls.{Takes}
 use Rattle.sk_speculator.specs.Parts.{Parts}
+use Rattle.sk_speculator.proofs.Afterwards.{no_next}
 use Rattle.sk_speculator.proofs.Writing.{from_err, from_ok}
 use Rattle.sk_bytes.specs.Numbers.{names}
 use Rattle.sk_bytes.specs.Steps.{byte_deed, deed_in}
-use Rattle.sk_bytes.specs.Told.{told_of, ByteView, Fits}
+use Rattle.sk_bytes.specs.Told.{told_of, ByteView, Fits, UsedBut}
 use Rattle.sk_bytes.proofs.Told.{takes_told}
 use Rattle.sk_bytes.proofs.Fitting.{any_err, fits_less, fits_more, fits_same, fits_taken, told_still, unchanged, writes_names}
+use Rattle.sk_bytes.proofs.Used.{used_less, used_more, used_same, used_taken}
 use Rattle.sk_bytes.proofs.bytes.Bytes.take.Goals as goal
 
 pub returns-in_err-checked-clause-err : goal.returns-in_err-checked-clause-err
@@ -56,7 +59,7 @@ let_go-requires-2-clause-rests g c =
     let deed = from_ok c.hand_over.result (sym c.if-is_err.false ∙ c.is_err.ensures.value) c.hand_over.ensures.deed in
     let takes = from_ok c.take.result (sym c.if-is_err-2.false ∙ c.is_err-2.ensures.value) c.take.ensures.ok in
     let d : Deed _ _ _ = byte_deed c.args.step.now in
-    let after = fits_taken mid.index m b two.0 (names d.written) (deed_in mid.numbered) (writes_names (number_of mid.index) d.written mid.numbered.written.items deed.written) None takes in
+    let after = fits_taken mid.index m b two.0 (names d.written) (deed_in mid.numbered) (writes_names (number_of mid.index) d.written mid.numbered.written.items deed.written) None (no_next m.guesses.drawn) takes in
     after.rests
 
 pub invariant_of-self-2 : goal.invariant_of-self-2
@@ -73,9 +76,14 @@ invariant_of-self-2 g c =
     let takes = from_ok c.take.result told c.take.ensures.ok in
     let emptied = from_ok c.take.result told c.take.ensures.emptied in
     let d : Deed _ _ _ = byte_deed c.args.step.now in
-    let after = fits_taken mid.index m b two.0 (names d.written) (deed_in mid.numbered) (writes_names (number_of mid.index) d.written mid.numbered.written.items deed.written) None takes in
+    let after = fits_taken mid.index m b two.0 (names d.written) (deed_in mid.numbered) (writes_names (number_of mid.index) d.written mid.numbered.written.items deed.written) None (no_next m.guesses.drawn) takes in
     let three = fits_less mid.index left.index b (is_in nat_cmp mid.loose.items) after c.let_go-2.ensures.gone in
-    (told_still left.index b left.loose.items three.0 c.let_go-2.ensures.loose, c.let_go-2.ensures.looked, c.let_go-2.ensures.written, c.let_go-2.ensures.said ∙ emptied.said, c.self.invariant.4)
+    let first = used_less es c.let_go.new.self.index m.slots c.self.inside.keys.loose.items c.self.invariant.0.needed c.let_go.ensures.gone in
+    let second = used_more c.let_go.new.self.index mid.index m.slots mid.loose.items first c.hand_over.ensures.gains in
+    let loose = from_ok c.hand_over.result (sym c.if-is_err.false ∙ c.is_err.ensures.value) c.hand_over.ensures.loose in
+    let third = used_taken mid.index m b two.0 (deed_in mid.numbered) None (subst (UsedBut mid.index m.slots) loose second) takes in
+    let needed = used_less mid.index left.index b.slots mid.loose.items (subst (UsedBut mid.index b.slots) (sym loose) third) c.let_go-2.ensures.gone in
+    (told_still left.index b left.loose.items three.0 needed c.let_go-2.ensures.loose, c.let_go-2.ensures.looked, c.let_go-2.ensures.written, c.let_go-2.ensures.said ∙ emptied.said, c.self.invariant.4)
 
 pub returns-clause-ok : goal.returns-clause-ok
 returns-clause-ok g c =
@@ -89,7 +97,33 @@ returns-clause-ok g c =
     let deed = from_ok c.hand_over.result (sym c.if-is_err.false ∙ c.is_err.ensures.value) c.hand_over.ensures.deed in
     let takes = from_ok c.take.result (sym c.if-is_err-2.false ∙ c.is_err-2.ensures.value) c.take.ensures.ok in
     let d : Deed _ _ _ = byte_deed c.args.step.now in
-    let after = fits_taken mid.index m b two.0 (names d.written) (deed_in mid.numbered) (writes_names (number_of mid.index) d.written mid.numbered.written.items deed.written) None takes in
+    let after = fits_taken mid.index m b two.0 (names d.written) (deed_in mid.numbered) (writes_names (number_of mid.index) d.written mid.numbered.written.items deed.written) None (no_next m.guesses.drawn) takes in
     let three = fits_less mid.index left.index b (is_in nat_cmp mid.loose.items) after c.let_go-2.ensures.gone in
     subst (λ (p : Parts _ _ _). Takes bytes_cmp p d None (told_of left.index b)) (two.1 ∙ one.1 ∙ ap (λ (v : ByteView _ _). v.parts) c.self.view_is)
     (subst (λ (p : Parts _ _ _). Takes bytes_cmp (told_of mid.index m) d None p) (sym three.1) (takes_told mid.index two.0.two_way m b d (deed_in mid.numbered) deed None takes))
+
+pub invariant_of-self-then-is_err-2 : goal.invariant_of-self-then-is_err-2
+invariant_of-self-then-is_err-2 g c =
+    let es = c.self.inside.keys.index in
+    let m = c.self.inside.kernel in
+    let b = c.take.new.self in
+    let mid = c.hand_over.new.self in
+    let back = c.hand_back.new.self in
+    let left = c.let_go-then-is_err-2.new.self in
+    let one = fits_less es c.let_go.new.self.index m (is_in nat_cmp c.self.inside.keys.loose.items) c.self.invariant.0.fits c.let_go.ensures.gone in
+    let two = fits_more c.let_go.new.self.index mid.index m mid.loose.items one.0 c.hand_over.ensures.gains in
+    let same = (from_err c.take.result (sym c.if-is_err-2.true ∙ c.is_err-2.ensures.value) c.take.ensures.err) in
+    let fits = subst (λ fs. Fits fs b) (sym c.hand_back.ensures.index) (fits_same mid.index m b two.0 same).0 in
+    let three = fits_less back.index left.index b (is_in nat_cmp back.loose.items) fits c.let_go-then-is_err-2.ensures.gone in
+    let first = used_less es c.let_go.new.self.index m.slots c.self.inside.keys.loose.items c.self.invariant.0.needed c.let_go.ensures.gone in
+    let second = used_more c.let_go.new.self.index mid.index m.slots mid.loose.items first c.hand_over.ensures.gains in
+    let third = used_same mid.index m b mid.loose.items second same in
+    let handed = subst (λ fs. UsedBut fs b.slots back.loose.items) (sym c.hand_back.ensures.index) (subst (UsedBut mid.index b.slots) (sym (ap vec_items c.hand_back.ensures.loose)) third) in
+    let needed = used_less back.index left.index b.slots back.loose.items handed c.let_go-then-is_err-2.ensures.gone in
+    let over = from_ok c.hand_over.result (sym c.if-is_err.false ∙ c.is_err.ensures.value) c.hand_over.ensures.handed in (
+      told_still left.index b left.loose.items three.0 needed c.let_go-then-is_err-2.ensures.loose,
+      c.let_go-then-is_err-2.ensures.looked,
+      c.let_go-then-is_err-2.ensures.written,
+      c.let_go-then-is_err-2.ensures.said ∙ c.hand_back.ensures.swaps.told_said ∙ over.left_said,
+      c.self.invariant.4,
+    )

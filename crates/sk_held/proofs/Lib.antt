@@ -1,0 +1,5 @@
+mod Found
+mod Kept
+mod Deciding
+mod Written
+mod Outputs

@@ -1,0 +1,8 @@
+-- None of the outputs so far is of the channel.
+use Rattle.std.proofs.Common.{◌≡◌, ◌+◌, drop}
+use Rattle.std.specs.List.{prefix_len}
+use Rattle.sk_held.proofs.Outputs.{is_other}
+use Rattle.sk_held.proofs.output.place_of.Given as goal
+
+abbrev pub invariant-loop-place : goal.invariant-loop-place
+invariant-loop-place l = prefix_len (is_other l.channel) l.outputs ≡ l.place + prefix_len (is_other l.channel) (drop l.place l.outputs)

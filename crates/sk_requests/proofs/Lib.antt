@@ -1,0 +1,6 @@
+pub mod Apart
+pub mod Arrays
+pub mod Lines
+pub mod Steps
+pub mod Streams
+pub mod Typed

@@ -1,0 +1,68 @@
+use Rattle.std.proofs.Common.{◌≡◌, ◌≢◌, ℕ, ◌+◌, ◌-◌, ◌*◌, ◌<◌, ◌≤◌, ◌^◌, Bool, true, false, List, [], ◌∷◌, ◌++◌, length, slice_index, take, drop, Option, Some, None, Result, Ok, Err, decimal, refl, sym, ◌∙◌, ap, subst, inl, inr, arith, length-append}
+use Rattle.std.specs.Prelude.{if◌then◌else◌, ◌==◌}
+use Rattle.std.proofs.lemmas.Bool.{false≢true, eqb-true, cases_lt}
+use Rattle.std.proofs.lemmas.List.{append-nil, length-take-le}
+use Rattle.std.proofs.lemmas.Result.{err_from_is_err_and}
+use Rattle.sk_requests.specs.Inline.{line_words}
+use Rattle.sk_requests.specs.Lines.{IsLine, said, head, TakesLine}
+use Rattle.sk_requests.specs.Request.{IsWithin}
+use Rattle.sk_requests.specs.Faults.{InWords, HasFault}
+use Rattle.sk_requests.specs.Reading.{Keeps, IsAt, IsBehind, Reads, words_of}
+use Rattle.sk_requests.specs.declared.fault.Fault.{Fault}
+use Rattle.sk_requests.specs.declared.fault.Fault.TheVariants as faults
+use Rattle.sk_requests.specs.declared.place.Place.{Place}
+use Rattle.sk_requests.specs.declared.place.Place.TheVariants as places
+use Rattle.sk_requests.proofs.Steps.{word_on, at_word}
+use Rattle.sk_requests.proofs.reader.Reader.word.Goals as goal
+
+pub word_end-requires-clause-place : goal.word_end-requires-clause-place
+word_end-requires-clause-place c = c.requires.place ∙ ap (λ n. places.Word c.args.left n) c.if-behind-eq0.true
+
+pub returns-in_err-add : goal.returns-in_err-add
+returns-in_err-add c =
+    let old = c.args.self.now in
+    let new = record old { part = c.add.new.part } in
+    let p = err_from_is_err_and c.from_residual.result c.from_residual.ensures.1 in
+    rw (p.1, p.2) (λ text behind.
+    let at = subst (λ p. IsAt p old text) c.requires.place behind.1 in (
+      behind.0,
+      at_word new text c.args.left c.args.behind at.0 c.requires.place (record {
+        array = record { words = at.1.array.words; array = at.1.array.array; keeps = at.1.array.keeps };
+        short = at.1.short;
+        part = λ yes. c.in_err-add.ensures.err ∙ at.1.part yes;
+      }),
+    ))
+
+pub returns : goal.returns
+returns c = λ text behind.
+    let old = c.args.self.now in
+    let bytes = c.args.bytes.now in
+    let left = c.args.left in
+    let count = c.min-count.result in
+    let chunk = take count bytes in
+    let at = subst (λ p. IsAt p old text) c.requires.place behind.1 in
+    let word = at.0 in
+    let words = at.1.array.words in
+    let within : count ≤ length bytes = omega (arith, c.min-count.ensures) in
+    let some : 0 < count = omega (arith, c.min-count.ensures, c.if-behind-eq0.false, c.requires.some) in
+    let same : length word + c.args.behind ≡ length (word ++ chunk) + (c.args.behind - count) = omega (arith, c.min-count.ensures, length-append word chunk, length-take-le count bytes within) in
+    rw c.part.ensures (
+      within,
+      λ _. some,
+      (
+        behind.0,
+        (
+          word ++ chunk,
+          record {
+            array = record {
+              words = words;
+              array = word_on words text left (length word + c.args.behind) (length (word ++ chunk) + (c.args.behind - count)) word [] chunk (word ++ chunk) [] same
+                  (ap (λ xs. xs ++ chunk) (append-nil word) ∙ sym (append-nil (word ++ chunk))) at.1.array.array;
+              keeps = subst (λ n. Keeps old.limits (length words + left) n words old.keeping (words_of old.words.items) old.room) same at.1.array.keeps;
+            };
+            short = omega (arith, at.1.short, same);
+            part = λ yes. c.in_ok-add.ensures.ok yes ∙ ap (λ xs. xs ++ chunk) (at.1.part yes);
+          },
+        ),
+      ),
+    )

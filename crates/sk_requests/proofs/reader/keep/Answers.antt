@@ -1,0 +1,17 @@
+use Rattle.std.proofs.Common.{◌≡◌, ◌≢◌, ℕ, ◌+◌, ◌-◌, ◌*◌, ◌<◌, ◌≤◌, ◌^◌, Bool, true, false, List, [], ◌∷◌, ◌++◌, length, slice_index, take, drop, Option, Some, None, Result, Ok, Err, decimal, refl, sym, ◌∙◌, ap, subst, inl, inr, arith, length-append}
+use Rattle.std.proofs.lemmas.Bool.{false≢true}
+use Rattle.std.proofs.lemmas.List.{map-append}
+use Rattle.sk_requests.specs.Reading.{words_of}
+use Rattle.sk_requests.proofs.reader.keep.Goals as goal
+
+pub returns-then-not-keeping-clause-kept : goal.returns-then-not-keeping-clause-kept
+returns-then-not-keeping-clause-kept c = λ yes. absurd (false≢true (sym c.if-not-keeping.true ∙ yes))
+
+pub returns-clause-none : goal.returns-clause-none
+returns-clause-none c = ap (λ w. w.items) c.replace.ensures.after ∙ c.new.ensures.items
+
+pub returns-clause-kept : goal.returns-clause-kept
+returns-clause-kept c = λ _.
+    ap words_of c.push_reserved.ensures
+    ∙ map-append (λ w. w.items) c.reserve.new.self.items (c.replace.result ∷ [])
+    ∙ (λ i. words_of (c.in_ok-reserve.ensures.items i) ++ (c.replace.ensures.value i).items ∷ [])

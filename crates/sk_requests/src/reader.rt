@@ -1,0 +1,344 @@
+//! The reading of requests, whose bytes come in pieces.
+ghost use Rattle.std.specs.Prelude.{◌≡◌, ◌<◌, ◌≤◌, ◌++◌, ◌∷◌, ◌↔◌, ◌==◌, if◌then◌else◌, ℕ, List, [], true, length, slice_index, vec_len, vec_capacity, IsTrue, OnOk, OnErr};
+ghost use Rattle.sk_requests.specs.Lines.{TakesLine};
+ghost use Rattle.sk_requests.specs.Reading.{IsBehind, Reads, words_of};
+
+use crate::fault::{Fault, Refusal};
+use crate::limits::Limits;
+use crate::line::{line_len, number_in, words_in};
+use crate::place::Place;
+use std::alloc::{AllocError, Global};
+use std::mem::replace;
+
+/// A request has at most so many words.
+pub const COUNT_LIMIT: usize = (1 << 31) - 1;
+
+/// A word has at most so many bytes.
+pub const LENGTH_LIMIT: usize = 1 << 29;
+
+/// What was found in the bytes that were taken.
+#[derive(Drop)]
+pub enum Found {
+    /// No request is whole yet.
+    Part,
+    /// A request of these words.
+    Request(Vec<Vec<u8>>),
+    /// A request beyond the limits, which was passed over.
+    TooLarge,
+}
+
+/// How many bytes were taken, and what was found in them.
+#[derive(Drop)]
+pub struct Taken {
+    /// How many bytes were taken, from the front.
+    pub count: usize,
+    /// What was found.
+    pub found: Found,
+}
+
+/// Reads requests, whose bytes come in pieces of any size.
+#[derive(Drop)]
+pub struct Reader {
+    alloc: Global,
+    limits: Limits,
+    place: Place,
+    /// What came of a line or of a word.
+    part: Vec<u8>,
+    /// The whole words of the request.
+    words: Vec<Vec<u8>>,
+    /// Whether the words are within the limits, and kept.
+    keeping: bool,
+    /// How many bytes more its words may have.
+    room: usize,
+}
+
+/// The last byte of a request of these words.
+fn whole(words: Vec<Vec<u8>>) -> Taken
+    ensures { result ≡ record { count = 1; found = Found.Request words } }
+{
+    Taken {
+        count: 1,
+        found: Found::Request(words),
+    }
+}
+
+/// So many bytes, and no request that is whole.
+fn part(count: usize) -> Taken
+    ensures { result ≡ record { count = count; found = Found.Part } }
+{
+    Taken {
+        count,
+        found: Found::Part,
+    }
+}
+
+impl Reader {
+    /// No byte came.
+    pub fn new(alloc: Global, limits: Limits) -> Reader
+        requires { 16 ≤ limits.line }
+        ensures { IsBehind [] result }
+    {
+        Reader {
+            alloc,
+            limits,
+            place: Place::Front,
+            part: Vec::new(alloc),
+            words: Vec::new(alloc),
+            keeping: true,
+            room: 0,
+        }
+    }
+
+    /// Takes bytes from the front: up to the end of a line or of a word, or all.
+    pub fn take(&mut self, bytes: &[u8]) -> Result<Taken, Refusal>
+        ensures { (text : List ℕ) → IsBehind text self.old → Reads text bytes.now result self.new }
+    {
+        if bytes.is_empty() {
+            return Ok(part(0));
+        }
+        match self.place {
+            Place::Front => self.front(bytes),
+            Place::Length(left) => self.length(left, bytes),
+            Place::Word(left, behind) => self.word(left, behind, bytes),
+            Place::End(left) => self.end(left, bytes),
+        }
+    }
+
+    /// In the first line of a request.
+    fn front(&mut self, bytes: &[u8]) -> Result<Taken, Refusal>
+        requires place { self.old.place ≡ Place.Front }
+        requires some { 0 < length bytes.now }
+        ensures { (text : List ℕ) → IsBehind text self.old → Reads text bytes.now result self.new }
+    {
+        let first = bytes[0];
+        if first == b'\n' {
+            return self.front_end();
+        }
+        match take_line(&mut self.part, self.limits.line, bytes)? {
+            Some(count) => Ok(part(count)),
+            None => Err(Refusal::Fault(front_fault(&self.part, first))),
+        }
+    }
+
+    /// At the end of the first line.
+    fn front_end(&mut self) -> Result<Taken, Refusal>
+        requires { self.old.place ≡ Place.Front }
+        ensures { (text more : List ℕ) → IsBehind text self.old
+            → Reads text (10 ∷ more) result self.new }
+    {
+        let first = first_of(&self.part, b'\n');
+        if first == b'*' {
+            return self.count_end();
+        }
+        let words = words_in(self.alloc, &self.part)?;
+        self.part.clear();
+        Ok(whole(words))
+    }
+
+    /// At the end of a line that says how many words a request has.
+    fn count_end(&mut self) -> Result<Taken, Refusal>
+        requires { self.old.place ≡ Place.Front }
+        ensures { (text more : List ℕ) → IsBehind text self.old
+            → slice_index (text ++ 10 ∷ []) 0 ≡ 42 → Reads text (10 ∷ more) result self.new }
+    {
+        let Some(count) = number_in(&self.part, b'*', COUNT_LIMIT) else {
+            return Err(Refusal::Fault(Fault::Count));
+        };
+        self.part.clear();
+        if count == 0 {
+            return Ok(whole(Vec::new(self.alloc)));
+        }
+        self.words.clear();
+        self.keeping = is_within(count, self.limits.words);
+        self.room = self.limits.bytes;
+        self.place = Place::Length(count);
+        Ok(part(1))
+    }
+
+    /// In the line before a word.
+    fn length(&mut self, left: usize, bytes: &[u8]) -> Result<Taken, Refusal>
+        requires place { self.old.place ≡ Place.Length left }
+        requires some { 0 < length bytes.now }
+        ensures { (text : List ℕ) → IsBehind text self.old → Reads text bytes.now result self.new }
+    {
+        let first = bytes[0];
+        if first == b'\n' {
+            return self.length_end(left);
+        }
+        match take_line(&mut self.part, self.limits.line, bytes)? {
+            Some(count) => Ok(part(count)),
+            None => Err(Refusal::Fault(length_fault(&self.part, first))),
+        }
+    }
+
+    /// At the end of the line before a word.
+    fn length_end(&mut self, left: usize) -> Result<Taken, Refusal>
+        requires { self.old.place ≡ Place.Length left }
+        ensures { (text more : List ℕ) → IsBehind text self.old
+            → Reads text (10 ∷ more) result self.new }
+    {
+        let Some(size) = number_in(&self.part, b'$', LENGTH_LIMIT) else {
+            return Err(Refusal::Fault(length_fault(&self.part, b'\n')));
+        };
+        self.part.clear();
+        self.place = Place::Word(left, size);
+        if size > self.room {
+            self.keeping = false;
+            self.words.clear();
+            return Ok(part(1));
+        }
+        self.room -= size;
+        Ok(part(1))
+    }
+
+    /// In a word, or at the carriage return behind it.
+    fn word(&mut self, left: usize, behind: usize, bytes: &[u8]) -> Result<Taken, Refusal>
+        requires place { self.old.place ≡ Place.Word left behind }
+        requires some { 0 < length bytes.now }
+        ensures { (text : List ℕ) → IsBehind text self.old → Reads text bytes.now result self.new }
+    {
+        if behind == 0 {
+            return self.word_end(left, bytes);
+        }
+        let count = behind.min(bytes.len());
+        add(&mut self.part, self.keeping, &bytes[..count])?;
+        self.place = Place::Word(left, behind - count);
+        Ok(part(count))
+    }
+
+    /// At the carriage return behind a word.
+    fn word_end(&mut self, left: usize, bytes: &[u8]) -> Result<Taken, Refusal>
+        requires place { self.old.place ≡ Place.Word left 0 }
+        requires some { 0 < length bytes.now }
+        ensures { (text : List ℕ) → IsBehind text self.old → Reads text bytes.now result self.new }
+    {
+        let first = bytes[0];
+        if first != b'\r' {
+            return Err(Refusal::Fault(Fault::End));
+        }
+        self.place = Place::End(left);
+        Ok(part(1))
+    }
+
+    /// At the end of the line behind a word.
+    fn end(&mut self, left: usize, bytes: &[u8]) -> Result<Taken, Refusal>
+        requires place { self.old.place ≡ Place.End left }
+        requires some { 0 < length bytes.now }
+        ensures { (text : List ℕ) → IsBehind text self.old → Reads text bytes.now result self.new }
+    {
+        let first = bytes[0];
+        if first != b'\n' {
+            return Err(Refusal::Fault(Fault::End));
+        }
+        keep(self.alloc, &mut self.words, &mut self.part, self.keeping)?;
+        if left > 1 {
+            self.place = Place::Length(left - 1);
+            return Ok(part(1));
+        }
+        self.place = Place::Front;
+        if !self.keeping {
+            return Ok(Taken {
+                count: 1,
+                found: Found::TooLarge,
+            });
+        }
+        Ok(whole(replace(&mut self.words, Vec::new(self.alloc))))
+    }
+}
+
+/// Puts bytes behind others, if they are kept.
+fn add(part: &mut Vec<u8>, keeping: bool, bytes: &[u8]) -> Result<(), AllocError>
+    ensures ok { OnOk result (keeping ≡ true → part.new.items ≡ part.old.items ++ bytes.now) }
+    ensures err { OnErr result (part.new.items ≡ part.old.items) }
+{
+    if !keeping {
+        return Ok(());
+    }
+    part.extend_from_slice(bytes)?;
+    Ok(())
+}
+
+/// Whether a number is within a limit.
+fn is_within(number: usize, limit: usize) -> bool
+    ensures { IsTrue result ↔ (number ≤ limit) }
+{
+    number <= limit
+}
+
+/// Puts a word behind others, if they are kept.
+fn keep(
+    alloc: Global,
+    words: &mut Vec<Vec<u8>>,
+    word: &mut Vec<u8>,
+    keeping: bool,
+) -> Result<(), AllocError>
+    ensures none { OnOk result (word.new.items ≡ []) }
+    ensures kept { OnOk result (keeping ≡ true
+        → words_of words.new.items ≡ words_of words.old.items ++ word.old.items ∷ []) }
+    ensures words { OnErr result (words_of words.new.items ≡ words_of words.old.items) }
+    ensures word { OnErr result (word.new.items ≡ word.old.items) }
+{
+    if !keeping {
+        word.clear();
+        return Ok(());
+    }
+    words.reserve(1)?;
+    push_reserved(words, replace(word, Vec::new(alloc)));
+    Ok(())
+}
+
+/// Puts a word behind others, into room that is there.
+fn push_reserved(words: &mut Vec<Vec<u8>>, word: Vec<u8>)
+    requires { vec_len words.old < vec_capacity words.old }
+    ensures { words.new.items ≡ words.old.items ++ word ∷ [] }
+{
+    let _pushed = words.push(word);
+}
+
+/// Puts bytes behind a part of a line, up to its end; none where it is too long then.
+fn take_line(part: &mut Vec<u8>, limit: usize, bytes: &[u8]) -> Result<Option<usize>, AllocError>
+    ensures { TakesLine limit part.old.items bytes.now result part.new.items }
+{
+    let len = line_len(bytes);
+    let room = limit.saturating_sub(part.as_slice().len());
+    if len > room {
+        return Ok(None);
+    }
+    part.extend_from_slice(&bytes[..len])?;
+    Ok(Some(len))
+}
+
+/// The first byte of a line, of which this part came before this byte.
+fn first_of(part: &[u8], next: u8) -> u8
+    ensures { result ≡ slice_index (part.now ++ next ∷ []) 0 }
+{
+    match part.first() {
+        Some(first) => *first,
+        None => next,
+    }
+}
+
+/// What is wrong with the first line of a request.
+fn front_fault(part: &[u8], next: u8) -> Fault
+    ensures { result ≡ (if slice_index (part.now ++ next ∷ []) 0 == 42
+        then Fault.Count else Fault.Line) }
+{
+    if first_of(part, next) == b'*' {
+        Fault::Count
+    } else {
+        Fault::Line
+    }
+}
+
+/// What is wrong with the line before a word.
+fn length_fault(part: &[u8], next: u8) -> Fault
+    ensures { result ≡ (if slice_index (part.now ++ next ∷ []) 0 == 36
+        then Fault.Length else Fault.Mark (slice_index (part.now ++ next ∷ []) 0)) }
+{
+    let first = first_of(part, next);
+    if first == b'$' {
+        Fault::Length
+    } else {
+        Fault::Mark(first)
+    }
+}

@@ -1,16 +1,15 @@
 -- What each step of a reader leaves.
-use Rattle.std.proofs.Common.{◌≡◌, ◌≢◌, ◌⊎◌, ℕ, zero, suc, ◌+◌, ◌-◌, ◌<◌, ◌≤◌, ◌^◌, Bool, true, false, List, [], ◌∷◌, ◌++◌, length, slice_index, take, drop, refl, sym, ◌∙◌, ap, subst, inl, inr, arith, length-append}
+use Rattle.std.proofs.Common.{◌≡◌, ◌≢◌, ◌⊎◌, ℕ, ◌+◌, ◌-◌, ◌<◌, ◌≤◌, ◌^◌, Bool, true, false, List, [], ◌∷◌, ◌++◌, length, slice_index, take, drop, refl, sym, ◌∙◌, ap, subst, inl, inr, arith, length-append}
 use Rattle.std.specs.Prelude.{cond, eqb, if◌then◌else◌, ◌==◌}
 use Rattle.std.proofs.lemmas.List.{append_assoc, append-nil, take-append-drop, length-take-le}
 use Rattle.std.proofs.lemmas.Bool.{false≢true, eqb-true, eqb-false}
 use Rattle.sk_requests.specs.Lines.{IsLine, said, head}
-use Rattle.sk_requests.specs.Request.{bulk, bulks, array, AreWords, total, IsArray, IsTooLarge, Fits}
+use Rattle.sk_requests.specs.Request.{bulk, bulks, AreWords, total, IsArray, IsTooLarge, Fits}
 use Rattle.sk_requests.specs.Faults.{InWords, NoHead, NoLine, NoEnd, HasFault}
 use Rattle.sk_requests.specs.Reading.{Keeps, InArray, InWord, KeepsLine, IsAt}
 use Rattle.sk_requests.specs.declared.place.Place.TheVariants as places
 use Rattle.sk_requests.specs.declared.reader.Reader.{Reader}
 use Rattle.sk_requests.specs.declared.limits.Limits.{Limits}
-use Rattle.sk_requests.specs.declared.fault.Fault.{Fault}
 use Rattle.sk_requests.specs.declared.fault.Fault.TheVariants.{Count, Line, Length, Mark, End}
 use Rattle.sk_requests.proofs.Lines.{ends_behind, line-append, long_head, other_head}
 

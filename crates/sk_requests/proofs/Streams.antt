@@ -1,17 +1,22 @@
 -- Streams of requests.
-use Rattle.std.proofs.Common.{◌≡◌, ◌≢◌, ℕ, ◌+◌, ◌<◌, ◌≤◌, ◌^◌, List, [], ◌∷◌, ◌++◌, length, slice_index, Option, Some, None, refl, sym, ◌∙◌, ap, subst, inl, inr, arith, length-append}
+use Rattle.std.proofs.Common.{◌≡◌, ℕ, ◌+◌, ◌<◌, ◌≤◌, ◌^◌, List, [], ◌∷◌, ◌++◌, length, take, Option, Some, None, Result, Ok, Err, refl, sym, ◌∙◌, ap, subst, inl, inr, arith, length-append}
 use Rattle.std.proofs.lemmas.List.{append_assoc, append-nil}
 use Rattle.sk_requests.specs.Lines.{IsLine, said, head}
-use Rattle.sk_requests.specs.Request.{bulks, IsArray, IsInline, IsRequest, IsWithin, Fits, IsTooLarge}
-use Rattle.sk_requests.specs.Faults.{InWords}
-use Rattle.sk_requests.specs.Reading.{IsAt, IsBehind}
-use Rattle.sk_requests.specs.Stream.{IsTold, Splits, IsPart}
-use Rattle.sk_requests.specs.Laws.{PartsAreNone, StreamsReadOnce, StreamsGoOn}
+use Rattle.sk_requests.specs.Request.{bulks, IsArray, IsRequest, IsWithin, Fits, IsTooLarge}
+use Rattle.sk_requests.specs.Faults.{InWords, HasFault}
+use Rattle.sk_requests.specs.Reading.{IsAt, IsBehind, IsFound, Reads, words_of}
+use Rattle.sk_requests.specs.Stream.{IsTold, Splits, IsPart, HasRead, HasFound, ReadsOn}
+use Rattle.sk_requests.specs.Laws.{PartsAreNone, StreamsReadOnce, StreamsGoOn, CutsDontMatter}
 use Rattle.sk_requests.specs.declared.limits.Limits.{Limits}
 use Rattle.sk_requests.specs.declared.place.Place.{Place}
 use Rattle.sk_requests.specs.declared.place.Place.TheVariants.{Front, Length, Word, End}
 use Rattle.sk_requests.specs.declared.reader.Reader.{Reader}
-use Rattle.sk_requests.proofs.Lines.{ends_behind, same_head, same_parts, head_line}
+use Rattle.sk_requests.specs.declared.reader.Taken.{Taken}
+use Rattle.sk_requests.specs.declared.reader.Found.{Found}
+use Rattle.sk_requests.specs.declared.reader.Found.TheVariants as finds
+use Rattle.sk_requests.specs.declared.fault.Refusal.{Refusal}
+use Rattle.sk_requests.specs.declared.fault.Refusal.TheVariants as refusals
+use Rattle.sk_requests.proofs.Lines.{ends_behind, same_head, head_line}
 use Rattle.sk_requests.proofs.Arrays.{next_word, first_in_words, first_alone, no_inline, one_request}
 
 no_end_in : (line l more : List ℕ) → IsLine line → line ≡ l ++ 10 ∷ more → ⊥
@@ -112,3 +117,44 @@ told_on limits (u ∷ ts) t rest stream more is told =
 
 pub go_on : StreamsGoOn
 go_on limits ts t rest stream more is = (rest_on limits ts rest stream more is, told_on limits ts t rest stream more is)
+
+pub cuts_dont_matter : CutsDontMatter
+cuts_dont_matter limits told other stream reader reader' one two =
+    (read_once limits told other one.rest two.rest stream one.splits (subst (λ l. IsPart l one.rest) one.same (parts_are_none one.rest reader one.behind)) two.splits
+    (subst (λ l. IsPart l two.rest) two.same (parts_are_none two.rest reader' two.behind))).0
+
+-- What was found is told of the stream.
+found_on : (limits : Limits) (told : List (Option (List (List ℕ)))) (rest stream chunk : List ℕ) (reader : Reader) (found : Found) → reader.limits ≡ limits → Splits limits told rest stream → IsFound (rest ++ chunk) found reader
+    → HasFound limits told (stream ++ chunk) found reader
+found_on limits told rest stream chunk reader finds.Part same splits found = record {
+  same = same;
+  rest = rest ++ chunk;
+  splits = rest_on limits told rest stream chunk splits;
+  behind = found;
+}
+found_on limits told rest stream chunk reader (finds.Request words) same splits found = record {
+  same = same;
+  rest = [];
+  splits = told_on limits told (Some (words_of words.items)) rest stream chunk splits (subst (λ l. IsWithin l (words_of words.items) (rest ++ chunk)) same found.0);
+  behind = found.1;
+}
+found_on limits told rest stream chunk reader finds.TooLarge same splits found = record {
+  same = same;
+  rest = [];
+  splits = told_on limits told None rest stream chunk splits (found.0, found.1, subst (λ l. IsTooLarge l found.0) same found.2);
+  behind = found.3;
+}
+
+-- A call reads the stream on.
+pub reads_on : (limits : Limits) (told : List (Option (List (List ℕ)))) (stream bytes : List ℕ) (old new : Reader) (result : Result Taken Refusal)
+    → ((text : List ℕ) → IsBehind text old → Reads text bytes result new) → new.limits ≡ old.limits → HasRead limits told stream old → ReadsOn limits told stream bytes result new
+reads_on limits told stream bytes old new (Ok taken) reads kept has =
+    let read = reads has.rest has.behind in
+    (read.0, read.1, found_on limits told has.rest stream (take taken.count bytes) new taken.found (kept ∙ has.same) has.splits read.2)
+reads_on limits told stream bytes old new (Err (refusals.Fault fault)) reads kept has =
+    let read = reads has.rest has.behind in (
+      record { same = kept ∙ has.same; rest = has.rest; splits = has.splits; behind = read.1 },
+      (has.rest ++ bytes, rest_on limits told has.rest stream bytes has.splits, subst (λ l. HasFault l fault (has.rest ++ bytes)) (kept ∙ has.same) read.0),
+    )
+reads_on limits told stream bytes old new (Err refusals.Memory) reads kept has =
+    record { same = kept ∙ has.same; rest = has.rest; splits = has.splits; behind = reads has.rest has.behind }

@@ -1,5 +1,5 @@
 -- The parts of a line.
-use Rattle.std.proofs.Common.{◌≡◌, ◌≢◌, ℕ, ◌+◌, ◌-◌, ◌<◌, ◌≤◌, ◌^◌, List, [], ◌∷◌, ◌++◌, length, slice_index, take, drop, Option, Some, None, decimal, refl, sym, ◌∙◌, ap, arith, length-append}
+use Rattle.std.proofs.Common.{◌≡◌, ◌≢◌, ℕ, ◌-◌, ◌<◌, ◌≤◌, List, [], ◌∷◌, ◌++◌, length, slice_index, take, Some, None, decimal, refl, sym, ◌∙◌, ap, arith, length-append}
 use Rattle.std.specs.Prelude.{cond, eqb, slice_get, is_some, unwrap_or}
 use Rattle.std.proofs.lemmas.List.{append_assoc, append-nil, get_or-take, get_or_at, length-take-le}
 use Rattle.std.proofs.lemmas.Bool.{false≢true, ne_eqb}

@@ -3,7 +3,7 @@ use Rattle.std.specs.Prelude.{◌≡◌, ℕ, List, [], ◌∷◌, ◌++◌, Opt
 use Rattle.sk_requests.specs.Request.{IsRequest, BeginsNone}
 use Rattle.sk_requests.specs.Faults.{HasFault}
 use Rattle.sk_requests.specs.Reading.{IsBehind}
-use Rattle.sk_requests.specs.Stream.{IsTold, Splits, IsPart}
+use Rattle.sk_requests.specs.Stream.{IsTold, Splits, IsPart, HasRead}
 use Rattle.sk_requests.specs.declared.limits.Limits.{Limits}
 use Rattle.sk_requests.specs.declared.fault.Fault.{Fault}
 use Rattle.sk_requests.specs.declared.reader.Reader.{Reader}
@@ -36,3 +36,8 @@ abbrev pub StreamsGoOn : Type 0
 StreamsGoOn = (limits : Limits) (ts : List (Option (List (List ℕ)))) (t : Option (List (List ℕ))) (rest stream more : List ℕ)
     → Splits limits ts rest stream
     → Splits limits ts (rest ++ more) (stream ++ more) × (IsTold limits t (rest ++ more) → Splits limits (ts ++ t ∷ []) [] (stream ++ more))
+
+-- Two readers are told the same of a stream, whatever way it was cut for each.
+abbrev pub CutsDontMatter : Type 0
+CutsDontMatter = (limits : Limits) (told other : List (Option (List (List ℕ)))) (stream : List ℕ) (reader reader' : Reader)
+    → HasRead limits told stream reader → HasRead limits other stream reader' → told ≡ other

@@ -1,5 +1,5 @@
 //! Laws of requests. Each is the contract of a function that does nothing.
-ghost use Rattle.sk_requests.specs.Laws.{RequestsAreApart, FaultsAreFinal, FaultsAreApart, PartsAreNone, StreamsReadOnce, StreamsGoOn};
+ghost use Rattle.sk_requests.specs.Laws.{RequestsAreApart, FaultsAreFinal, FaultsAreApart, PartsAreNone, StreamsReadOnce, StreamsGoOn, CutsDontMatter};
 
 /// One request stands at the front of bytes at most.
 pub fn one_law()
@@ -29,4 +29,9 @@ pub fn stream_law()
 /// What is told of a stream is told of it when more bytes come, and a request that they end is told next.
 pub fn on_law()
     ensures { StreamsGoOn }
+{}
+
+/// Two readers are told the same of a stream, whatever way it was cut for each.
+pub fn cut_law()
+    ensures { CutsDontMatter }
 {}

@@ -1,7 +1,9 @@
 //! The reading of requests, whose bytes come in pieces.
-ghost use Rattle.std.specs.Prelude.{◌≡◌, ◌<◌, ◌≤◌, ◌++◌, ◌∷◌, ◌↔◌, ◌==◌, if◌then◌else◌, ℕ, List, [], true, length, slice_index, vec_len, vec_capacity, IsTrue, OnOk, OnErr};
+ghost use Rattle.std.specs.Prelude.{◌≡◌, ◌<◌, ◌≤◌, ◌++◌, ◌∷◌, ◌↔◌, ◌==◌, if◌then◌else◌, ℕ, List, [], Option, true, length, slice_index, vec_len, vec_capacity, IsTrue, OnOk, OnErr};
 ghost use Rattle.sk_requests.specs.Lines.{TakesLine};
 ghost use Rattle.sk_requests.specs.Reading.{IsBehind, Reads, words_of};
+ghost use Rattle.sk_requests.specs.Stream.{HasRead, ReadsOn};
+ghost use Rattle.sk_requests.specs.declared.limits.Limits.{Limits};
 
 use crate::fault::{Fault, Refusal};
 use crate::limits::Limits;
@@ -76,7 +78,7 @@ impl Reader {
     /// No byte came.
     pub fn new(alloc: Global, limits: Limits) -> Reader
         requires { 16 ≤ limits.line }
-        ensures { IsBehind [] result }
+        ensures { HasRead limits [] [] result }
     {
         Reader {
             alloc,
@@ -91,7 +93,18 @@ impl Reader {
 
     /// Takes bytes from the front: up to the end of a line or of a word, or all.
     pub fn take(&mut self, bytes: &[u8]) -> Result<Taken, Refusal>
-        ensures { (text : List ℕ) → IsBehind text self.old → Reads text bytes.now result self.new }
+        ensures { (limits : Limits) (told : List (Option (List (List ℕ)))) (stream : List ℕ)
+            → HasRead limits told stream self.old
+            → ReadsOn limits told stream bytes.now result self.new }
+    {
+        self.step(bytes)
+    }
+
+    /// The same, where bytes of a request came before.
+    fn step(&mut self, bytes: &[u8]) -> Result<Taken, Refusal>
+        ensures read { (text : List ℕ) → IsBehind text self.old
+            → Reads text bytes.now result self.new }
+        ensures limits { self.new.limits ≡ self.old.limits }
     {
         if bytes.is_empty() {
             return Ok(part(0));
@@ -108,7 +121,8 @@ impl Reader {
     fn front(&mut self, bytes: &[u8]) -> Result<Taken, Refusal>
         requires place { self.old.place ≡ Place.Front }
         requires some { 0 < length bytes.now }
-        ensures { (text : List ℕ) → IsBehind text self.old → Reads text bytes.now result self.new }
+        ensures read { (text : List ℕ) → IsBehind text self.old → Reads text bytes.now result self.new }
+        ensures limits { self.new.limits ≡ self.old.limits }
     {
         let first = bytes[0];
         if first == b'\n' {
@@ -123,8 +137,9 @@ impl Reader {
     /// At the end of the first line.
     fn front_end(&mut self) -> Result<Taken, Refusal>
         requires { self.old.place ≡ Place.Front }
-        ensures { (text more : List ℕ) → IsBehind text self.old
+        ensures read { (text more : List ℕ) → IsBehind text self.old
             → Reads text (10 ∷ more) result self.new }
+        ensures limits { self.new.limits ≡ self.old.limits }
     {
         let first = first_of(&self.part, b'\n');
         if first == b'*' {
@@ -138,8 +153,9 @@ impl Reader {
     /// At the end of a line that says how many words a request has.
     fn count_end(&mut self) -> Result<Taken, Refusal>
         requires { self.old.place ≡ Place.Front }
-        ensures { (text more : List ℕ) → IsBehind text self.old
+        ensures read { (text more : List ℕ) → IsBehind text self.old
             → slice_index (text ++ 10 ∷ []) 0 ≡ 42 → Reads text (10 ∷ more) result self.new }
+        ensures limits { self.new.limits ≡ self.old.limits }
     {
         let Some(count) = number_in(&self.part, b'*', COUNT_LIMIT) else {
             return Err(Refusal::Fault(Fault::Count));
@@ -159,7 +175,8 @@ impl Reader {
     fn length(&mut self, left: usize, bytes: &[u8]) -> Result<Taken, Refusal>
         requires place { self.old.place ≡ Place.Length left }
         requires some { 0 < length bytes.now }
-        ensures { (text : List ℕ) → IsBehind text self.old → Reads text bytes.now result self.new }
+        ensures read { (text : List ℕ) → IsBehind text self.old → Reads text bytes.now result self.new }
+        ensures limits { self.new.limits ≡ self.old.limits }
     {
         let first = bytes[0];
         if first == b'\n' {
@@ -174,8 +191,9 @@ impl Reader {
     /// At the end of the line before a word.
     fn length_end(&mut self, left: usize) -> Result<Taken, Refusal>
         requires { self.old.place ≡ Place.Length left }
-        ensures { (text more : List ℕ) → IsBehind text self.old
+        ensures read { (text more : List ℕ) → IsBehind text self.old
             → Reads text (10 ∷ more) result self.new }
+        ensures limits { self.new.limits ≡ self.old.limits }
     {
         let Some(size) = number_in(&self.part, b'$', LENGTH_LIMIT) else {
             return Err(Refusal::Fault(length_fault(&self.part, b'\n')));
@@ -195,7 +213,8 @@ impl Reader {
     fn word(&mut self, left: usize, behind: usize, bytes: &[u8]) -> Result<Taken, Refusal>
         requires place { self.old.place ≡ Place.Word left behind }
         requires some { 0 < length bytes.now }
-        ensures { (text : List ℕ) → IsBehind text self.old → Reads text bytes.now result self.new }
+        ensures read { (text : List ℕ) → IsBehind text self.old → Reads text bytes.now result self.new }
+        ensures limits { self.new.limits ≡ self.old.limits }
     {
         if behind == 0 {
             return self.word_end(left, bytes);
@@ -210,7 +229,8 @@ impl Reader {
     fn word_end(&mut self, left: usize, bytes: &[u8]) -> Result<Taken, Refusal>
         requires place { self.old.place ≡ Place.Word left 0 }
         requires some { 0 < length bytes.now }
-        ensures { (text : List ℕ) → IsBehind text self.old → Reads text bytes.now result self.new }
+        ensures read { (text : List ℕ) → IsBehind text self.old → Reads text bytes.now result self.new }
+        ensures limits { self.new.limits ≡ self.old.limits }
     {
         let first = bytes[0];
         if first != b'\r' {
@@ -224,7 +244,8 @@ impl Reader {
     fn end(&mut self, left: usize, bytes: &[u8]) -> Result<Taken, Refusal>
         requires place { self.old.place ≡ Place.End left }
         requires some { 0 < length bytes.now }
-        ensures { (text : List ℕ) → IsBehind text self.old → Reads text bytes.now result self.new }
+        ensures read { (text : List ℕ) → IsBehind text self.old → Reads text bytes.now result self.new }
+        ensures limits { self.new.limits ≡ self.old.limits }
     {
         let first = bytes[0];
         if first != b'\n' {

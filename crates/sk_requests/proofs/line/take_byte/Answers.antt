@@ -1,4 +1,4 @@
-use Rattle.std.proofs.Common.{◌≡◌, ◌≢◌, ℕ, ◌+◌, ◌-◌, ◌*◌, ◌<◌, ◌≤◌, ◌^◌, Bool, true, false, List, [], ◌∷◌, ◌++◌, length, slice_index, take, drop, Option, Some, None, Result, Ok, Err, decimal, refl, sym, ◌∙◌, ap, subst, inl, inr, arith, length-append}
+use Rattle.std.proofs.Common.{true, false, ◌++◌, refl, ◌∙◌, ap}
 use Rattle.sk_requests.specs.Inline.{ended}
 use Rattle.sk_requests.specs.Reading.{words_of}
 use Rattle.sk_requests.proofs.Typed.{space_ends, byte_on}

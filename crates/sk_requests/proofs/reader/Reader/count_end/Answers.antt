@@ -1,28 +1,20 @@
-use Rattle.std.proofs.Common.{◌≡◌, ◌≢◌, ℕ, ◌+◌, ◌-◌, ◌*◌, ◌<◌, ◌≤◌, ◌^◌, Bool, true, false, List, [], ◌∷◌, ◌++◌, length, slice_index, take, drop, Option, Some, None, Result, Ok, Err, decimal, refl, sym, ◌∙◌, ap, subst, inl, inr, arith, length-append}
-use Rattle.std.specs.Prelude.{if◌then◌else◌, ◌==◌}
-use Rattle.std.proofs.lemmas.Bool.{false≢true, eqb-true, cases_lt}
-use Rattle.std.proofs.lemmas.List.{append-nil, length-take-le}
-use Rattle.std.proofs.lemmas.Result.{err_from_is_err_and}
-use Rattle.sk_requests.specs.Inline.{line_words}
-use Rattle.sk_requests.specs.Lines.{IsLine, said, head, TakesLine}
+use Rattle.std.proofs.Common.{◌≡◌, ◌<◌, true, false, [], ◌∷◌, ◌++◌, refl, sym, ◌∙◌, ap, subst, inl, inr, arith}
+use Rattle.std.proofs.lemmas.Bool.{false≢true, cases_lt}
+use Rattle.sk_requests.specs.Lines.{said}
 use Rattle.sk_requests.specs.Request.{IsWithin}
-use Rattle.sk_requests.specs.Faults.{InWords, HasFault}
-use Rattle.sk_requests.specs.Reading.{Keeps, IsAt, IsBehind, Reads, words_of}
-use Rattle.sk_requests.specs.declared.fault.Fault.{Fault}
-use Rattle.sk_requests.specs.declared.fault.Fault.TheVariants as faults
-use Rattle.sk_requests.specs.declared.place.Place.{Place}
-use Rattle.sk_requests.specs.declared.place.Place.TheVariants as places
+use Rattle.sk_requests.specs.Faults.{InWords}
+use Rattle.sk_requests.specs.Reading.{IsAt, words_of}
 use Rattle.sk_requests.proofs.Steps.{at_front, nothing_left, count_none, no_words, some_words, keeps_none}
 use Rattle.sk_requests.proofs.reader.Reader.count_end.Goals as goal
 
-pub returns-in_default : goal.returns-in_default
-returns-in_default c = λ text more behind first.
+pub returns-in_default-clause-read : goal.returns-in_default-clause-read
+returns-in_default-clause-read c = λ text more behind first.
     let old = c.args.self.now in
     let at = subst (λ p. IsAt p old text) c.requires behind.1 in
     (count_none old.limits old.part.items text more at.0 at.1.0 first (λ n small is. c.number_in.ensures.none c.in_default.is n small (c.deref.ensures.value ∙ is)), behind)
 
-pub returns-then-count-eq0 : goal.returns-then-count-eq0
-returns-then-count-eq0 c = λ text more behind first.
+pub returns-then-count-eq0-clause-read : goal.returns-then-count-eq0-clause-read
+returns-then-count-eq0-clause-read c = λ text more behind first.
     let old = c.args.self.now in
     let new = record old { part = c.clear.new.self } in
     let at = subst (λ p. IsAt p old text) c.requires behind.1 in
@@ -36,8 +28,8 @@ returns-then-count-eq0 c = λ text more behind first.
       ),
     )
 
-pub returns : goal.returns
-returns c = λ text more behind first.
+pub returns-clause-read : goal.returns-clause-read
+returns-clause-read c = λ text more behind first.
     let old = c.args.self.now in
     let count = c.in-Some.count in
     let at = subst (λ p. IsAt p old text) c.requires behind.1 in

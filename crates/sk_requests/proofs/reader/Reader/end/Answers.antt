@@ -1,30 +1,21 @@
-use Rattle.std.proofs.Common.{◌≡◌, ◌≢◌, ℕ, ◌+◌, ◌-◌, ◌*◌, ◌<◌, ◌≤◌, ◌^◌, Bool, true, false, List, [], ◌∷◌, ◌++◌, length, slice_index, take, drop, Option, Some, None, Result, Ok, Err, decimal, refl, sym, ◌∙◌, ap, subst, inl, inr, arith, length-append}
-use Rattle.std.specs.Prelude.{if◌then◌else◌, ◌==◌}
-use Rattle.std.proofs.lemmas.Bool.{false≢true, eqb-true, cases_lt}
-use Rattle.std.proofs.lemmas.List.{append-nil, length-take-le}
+use Rattle.std.proofs.Common.{◌≡◌, ◌+◌, ◌-◌, true, false, [], ◌∷◌, ◌++◌, length, take, refl, sym, ◌∙◌, ap, subst, inl, arith}
 use Rattle.std.proofs.lemmas.Result.{err_from_is_err_and}
-use Rattle.sk_requests.specs.Inline.{line_words}
-use Rattle.sk_requests.specs.Lines.{IsLine, said, head, TakesLine}
 use Rattle.sk_requests.specs.Request.{IsWithin}
-use Rattle.sk_requests.specs.Faults.{InWords, HasFault}
-use Rattle.sk_requests.specs.Reading.{Keeps, IsAt, IsBehind, Reads, words_of}
-use Rattle.sk_requests.specs.declared.fault.Fault.{Fault}
-use Rattle.sk_requests.specs.declared.fault.Fault.TheVariants as faults
-use Rattle.sk_requests.specs.declared.place.Place.{Place}
-use Rattle.sk_requests.specs.declared.place.Place.TheVariants as places
+use Rattle.sk_requests.specs.Faults.{InWords}
+use Rattle.sk_requests.specs.Reading.{Keeps, IsAt, words_of}
 use Rattle.sk_requests.specs.Request.{IsArray}
 use Rattle.sk_requests.proofs.Steps.{no_end, no_feed, take_one, word_next, word_last, keeps_next, keeps_fits, keeps_large, nothing_left, at_end}
 use Rattle.sk_requests.proofs.reader.Reader.end.Goals as goal
 
-pub returns-then-first-ne10 : goal.returns-then-first-ne10
-returns-then-first-ne10 c = λ text behind.
+pub returns-then-first-ne10-clause-read : goal.returns-then-first-ne10-clause-read
+returns-then-first-ne10-clause-read c = λ text behind.
     let old = c.args.self.now in
     let bytes = c.args.bytes.now in
     let at = subst (λ p. IsAt p old text) c.requires.place behind.1 in
     (no_end old.limits at.1.array.words text c.args.left (length at.0) at.0 (13 ∷ []) bytes refl at.1.short at.1.array.array (no_feed bytes c.requires.some c.if-first-ne10.true), behind)
 
-pub returns-in_err-keep : goal.returns-in_err-keep
-returns-in_err-keep c =
+pub returns-in_err-keep-clause-read : goal.returns-in_err-keep-clause-read
+returns-in_err-keep-clause-read c =
     let old = c.args.self.now in
     let left = c.args.left in
     let new = record old { part = c.keep.new.word; words = c.keep.new.words } in
@@ -44,8 +35,8 @@ returns-in_err-keep c =
       }),
     ))
 
-pub returns-then-left-gt1 : goal.returns-then-left-gt1
-returns-then-left-gt1 c = λ text behind.
+pub returns-then-left-gt1-clause-read : goal.returns-then-left-gt1-clause-read
+returns-then-left-gt1-clause-read c = λ text behind.
     let old = c.args.self.now in
     let bytes = c.args.bytes.now in
     let left = c.args.left in
@@ -72,8 +63,8 @@ returns-then-left-gt1 c = λ text behind.
       ),
     )
 
-pub returns-then-not-self : goal.returns-then-not-self
-returns-then-not-self c = λ text behind.
+pub returns-then-not-self-clause-read : goal.returns-then-not-self-clause-read
+returns-then-not-self-clause-read c = λ text behind.
     let old = c.args.self.now in
     let bytes = c.args.bytes.now in
     let left = c.args.left in
@@ -92,8 +83,8 @@ returns-then-not-self c = λ text behind.
       ),
     )
 
-pub returns : goal.returns
-returns c = λ text behind.
+pub returns-clause-read : goal.returns-clause-read
+returns-clause-read c = λ text behind.
     let old = c.args.self.now in
     let bytes = c.args.bytes.now in
     let left = c.args.left in

@@ -1,28 +1,21 @@
-use Rattle.std.proofs.Common.{◌≡◌, ◌≢◌, ℕ, ◌+◌, ◌-◌, ◌*◌, ◌<◌, ◌≤◌, ◌^◌, Bool, true, false, List, [], ◌∷◌, ◌++◌, length, slice_index, take, drop, Option, Some, None, Result, Ok, Err, decimal, refl, sym, ◌∙◌, ap, subst, inl, inr, arith, length-append}
+use Rattle.std.proofs.Common.{◌≡◌, ◌≤◌, true, false, [], ◌∷◌, ◌++◌, length, slice_index, take, drop, Ok, sym, ◌∙◌, ap, subst}
 use Rattle.std.specs.Prelude.{if◌then◌else◌, ◌==◌}
-use Rattle.std.proofs.lemmas.Bool.{false≢true, eqb-true, cases_lt}
-use Rattle.std.proofs.lemmas.List.{append-nil, length-take-le}
 use Rattle.std.proofs.lemmas.Result.{err_from_is_err_and}
-use Rattle.sk_requests.specs.Inline.{line_words}
-use Rattle.sk_requests.specs.Lines.{IsLine, said, head, TakesLine}
-use Rattle.sk_requests.specs.Request.{IsWithin}
-use Rattle.sk_requests.specs.Faults.{InWords, HasFault}
-use Rattle.sk_requests.specs.Reading.{Keeps, IsAt, IsBehind, Reads, words_of}
-use Rattle.sk_requests.specs.declared.fault.Fault.{Fault}
+use Rattle.sk_requests.specs.Lines.{IsLine, TakesLine}
+use Rattle.sk_requests.specs.Faults.{HasFault}
+use Rattle.sk_requests.specs.Reading.{IsAt, Reads}
 use Rattle.sk_requests.specs.declared.fault.Fault.TheVariants as faults
-use Rattle.sk_requests.specs.declared.place.Place.{Place}
-use Rattle.sk_requests.specs.declared.place.Place.TheVariants as places
 use Rattle.sk_requests.proofs.Steps.{begins_with, line_on, front_long, at_front}
 use Rattle.sk_requests.proofs.reader.Reader.front.Goals as goal
 
-pub returns-then-first-eq10 : goal.returns-then-first-eq10
-returns-then-first-eq10 c = λ text behind.
+pub returns-then-first-eq10-clause-read : goal.returns-then-first-eq10-clause-read
+returns-then-first-eq10-clause-read c = λ text behind.
     let bytes = c.args.bytes.now in
     let is : bytes ≡ 10 ∷ drop 1 bytes = begins_with bytes c.requires.some ∙ ap (λ b. b ∷ drop 1 bytes) c.if-first-eq10.true in
-    subst (λ xs. Reads text xs c.front_end.result c.front_end.new.self) (sym is) (c.front_end.ensures text (drop 1 bytes) behind)
+    subst (λ xs. Reads text xs c.front_end.result c.front_end.new.self) (sym is) (c.front_end.ensures.read text (drop 1 bytes) behind)
 
-pub returns-in_err-count : goal.returns-in_err-count
-returns-in_err-count c =
+pub returns-in_err-count-clause-read : goal.returns-in_err-count-clause-read
+returns-in_err-count-clause-read c =
     let old = c.args.self.now in
     let new = record old { part = c.take_line.new.part } in
     let p = err_from_is_err_and c.from_residual.result c.from_residual.ensures.1 in
@@ -31,8 +24,8 @@ returns-in_err-count c =
     let same = c.in_err-count.ensures in
     (behind.0, at_front new text c.requires.place (same ∙ at.0) (subst (λ xs. IsLine xs × (length xs ≤ old.limits.line)) (sym same) at.1)))
 
-pub returns-in-Some : goal.returns-in-Some
-returns-in-Some c = λ text behind.
+pub returns-in-Some-clause-read : goal.returns-in-Some-clause-read
+returns-in-Some-clause-read c = λ text behind.
     let old = c.args.self.now in
     let new = record old { part = c.take_line.new.part } in
     let chunk = take c.in-Some.count c.args.bytes.now in
@@ -44,8 +37,8 @@ returns-in-Some c = λ text behind.
       (behind.0, at_front new (text ++ chunk) c.requires.place (takes.1 ∙ ap (λ xs. xs ++ chunk) at.0) (line_on old.part.items chunk c.take_line.new.part.items old.limits.line at.1 takes.2 takes.1 takes.3)),
     )
 
-pub returns-in-None : goal.returns-in-None
-returns-in-None c = λ text behind.
+pub returns-in-None-clause-read : goal.returns-in-None-clause-read
+returns-in-None-clause-read c = λ text behind.
     let old = c.args.self.now in
     let bytes = c.args.bytes.now in
     let new = record old { part = c.take_line.new.part } in

@@ -1,22 +1,14 @@
-use Rattle.std.proofs.Common.{◌≡◌, ◌≢◌, ℕ, ◌+◌, ◌-◌, ◌*◌, ◌<◌, ◌≤◌, ◌^◌, Bool, true, false, List, [], ◌∷◌, ◌++◌, length, slice_index, take, drop, Option, Some, None, Result, Ok, Err, decimal, refl, sym, ◌∙◌, ap, subst, inl, inr, arith, length-append}
+use Rattle.std.proofs.Common.{◌≡◌, ℕ, ◌+◌, true, false, List, [], ◌∷◌, ◌++◌, length, slice_index, sym, ◌∙◌, ap, subst, arith}
 use Rattle.std.specs.Prelude.{if◌then◌else◌, ◌==◌}
-use Rattle.std.proofs.lemmas.Bool.{false≢true, eqb-true, cases_lt}
-use Rattle.std.proofs.lemmas.List.{append-nil, length-take-le}
-use Rattle.std.proofs.lemmas.Result.{err_from_is_err_and}
-use Rattle.sk_requests.specs.Inline.{line_words}
-use Rattle.sk_requests.specs.Lines.{IsLine, said, head, TakesLine}
-use Rattle.sk_requests.specs.Request.{IsWithin}
-use Rattle.sk_requests.specs.Faults.{InWords, HasFault}
-use Rattle.sk_requests.specs.Reading.{Keeps, IsAt, IsBehind, Reads, words_of}
-use Rattle.sk_requests.specs.declared.fault.Fault.{Fault}
+use Rattle.sk_requests.specs.Lines.{said}
+use Rattle.sk_requests.specs.Faults.{HasFault}
+use Rattle.sk_requests.specs.Reading.{IsAt, words_of}
 use Rattle.sk_requests.specs.declared.fault.Fault.TheVariants as faults
-use Rattle.sk_requests.specs.declared.place.Place.{Place}
-use Rattle.sk_requests.specs.declared.place.Place.TheVariants as places
 use Rattle.sk_requests.proofs.Steps.{length_none, word_begins, keeps_room, keeps_no_room}
 use Rattle.sk_requests.proofs.reader.Reader.length_end.Goals as goal
 
-pub returns-in_default : goal.returns-in_default
-returns-in_default c = λ text more behind.
+pub returns-in_default-clause-read : goal.returns-in_default-clause-read
+returns-in_default-clause-read c = λ text more behind.
     let old = c.args.self.now in
     let at = subst (λ p. IsAt p old text) c.requires behind.1 in
     let told = λ (xs : List ℕ). if slice_index (xs ++ 10 ∷ []) 0 == 36 then faults.Length else faults.Mark (slice_index (xs ++ 10 ∷ []) 0) in
@@ -26,8 +18,8 @@ returns-in_default c = λ text more behind.
       behind,
     )
 
-pub returns-then-size-self : goal.returns-then-size-self
-returns-then-size-self c = λ text more behind.
+pub returns-then-size-self-clause-read : goal.returns-then-size-self-clause-read
+returns-then-size-self-clause-read c = λ text more behind.
     let old = c.args.self.now in
     let size = c.in-Some.size in
     let at = subst (λ p. IsAt p old text) c.requires behind.1 in
@@ -52,8 +44,8 @@ returns-then-size-self c = λ text more behind.
       ),
     )
 
-pub returns : goal.returns
-returns c = λ text more behind.
+pub returns-clause-read : goal.returns-clause-read
+returns-clause-read c = λ text more behind.
     let old = c.args.self.now in
     let size = c.in-Some.size in
     let at = subst (λ p. IsAt p old text) c.requires behind.1 in

@@ -1,16 +1,7 @@
-use Rattle.std.proofs.Common.{◌≡◌, ◌≢◌, ℕ, ◌+◌, ◌-◌, ◌*◌, ◌<◌, ◌≤◌, ◌^◌, Bool, true, false, List, [], ◌∷◌, ◌++◌, length, slice_index, take, drop, Option, Some, None, Result, Ok, Err, decimal, refl, sym, ◌∙◌, ap, subst, inl, inr, arith, length-append}
-use Rattle.std.specs.Prelude.{if◌then◌else◌, ◌==◌}
-use Rattle.std.proofs.lemmas.Bool.{false≢true, eqb-true, cases_lt}
+use Rattle.std.proofs.Common.{◌≡◌, ◌+◌, ◌-◌, ◌<◌, ◌≤◌, true, false, [], ◌++◌, length, take, sym, ◌∙◌, ap, subst, arith, length-append}
 use Rattle.std.proofs.lemmas.List.{append-nil, length-take-le}
 use Rattle.std.proofs.lemmas.Result.{err_from_is_err_and}
-use Rattle.sk_requests.specs.Inline.{line_words}
-use Rattle.sk_requests.specs.Lines.{IsLine, said, head, TakesLine}
-use Rattle.sk_requests.specs.Request.{IsWithin}
-use Rattle.sk_requests.specs.Faults.{InWords, HasFault}
-use Rattle.sk_requests.specs.Reading.{Keeps, IsAt, IsBehind, Reads, words_of}
-use Rattle.sk_requests.specs.declared.fault.Fault.{Fault}
-use Rattle.sk_requests.specs.declared.fault.Fault.TheVariants as faults
-use Rattle.sk_requests.specs.declared.place.Place.{Place}
+use Rattle.sk_requests.specs.Reading.{Keeps, IsAt, words_of}
 use Rattle.sk_requests.specs.declared.place.Place.TheVariants as places
 use Rattle.sk_requests.proofs.Steps.{word_on, at_word}
 use Rattle.sk_requests.proofs.reader.Reader.word.Goals as goal
@@ -18,8 +9,8 @@ use Rattle.sk_requests.proofs.reader.Reader.word.Goals as goal
 pub word_end-requires-clause-place : goal.word_end-requires-clause-place
 word_end-requires-clause-place c = c.requires.place ∙ ap (λ n. places.Word c.args.left n) c.if-behind-eq0.true
 
-pub returns-in_err-add : goal.returns-in_err-add
-returns-in_err-add c =
+pub returns-in_err-add-clause-read : goal.returns-in_err-add-clause-read
+returns-in_err-add-clause-read c =
     let old = c.args.self.now in
     let new = record old { part = c.add.new.part } in
     let p = err_from_is_err_and c.from_residual.result c.from_residual.ensures.1 in
@@ -33,8 +24,8 @@ returns-in_err-add c =
       }),
     ))
 
-pub returns : goal.returns
-returns c = λ text behind.
+pub returns-clause-read : goal.returns-clause-read
+returns-clause-read c = λ text behind.
     let old = c.args.self.now in
     let bytes = c.args.bytes.now in
     let left = c.args.left in

@@ -1,22 +1,11 @@
-use Rattle.std.proofs.Common.{◌≡◌, ◌≢◌, ℕ, ◌+◌, ◌-◌, ◌*◌, ◌<◌, ◌≤◌, ◌^◌, Bool, true, false, List, [], ◌∷◌, ◌++◌, length, slice_index, take, drop, Option, Some, None, Result, Ok, Err, decimal, refl, sym, ◌∙◌, ap, subst, inl, inr, arith, length-append}
-use Rattle.std.specs.Prelude.{if◌then◌else◌, ◌==◌}
-use Rattle.std.proofs.lemmas.Bool.{false≢true, eqb-true, cases_lt}
-use Rattle.std.proofs.lemmas.List.{append-nil, length-take-le}
-use Rattle.std.proofs.lemmas.Result.{err_from_is_err_and}
-use Rattle.sk_requests.specs.Inline.{line_words}
-use Rattle.sk_requests.specs.Lines.{IsLine, said, head, TakesLine}
-use Rattle.sk_requests.specs.Request.{IsWithin}
-use Rattle.sk_requests.specs.Faults.{InWords, HasFault}
-use Rattle.sk_requests.specs.Reading.{Keeps, IsAt, IsBehind, Reads, words_of}
-use Rattle.sk_requests.specs.declared.fault.Fault.{Fault}
-use Rattle.sk_requests.specs.declared.fault.Fault.TheVariants as faults
-use Rattle.sk_requests.specs.declared.place.Place.{Place}
-use Rattle.sk_requests.specs.declared.place.Place.TheVariants as places
+use Rattle.std.proofs.Common.{◌≡◌, ◌+◌, true, false, [], ◌∷◌, ◌++◌, length, take, ◌∙◌, ap, subst, arith}
+use Rattle.std.proofs.lemmas.List.{append-nil}
+use Rattle.sk_requests.specs.Reading.{Keeps, IsAt, words_of}
 use Rattle.sk_requests.proofs.Steps.{word_on, no_end, no_return, take_one}
 use Rattle.sk_requests.proofs.reader.Reader.word_end.Goals as goal
 
-pub returns-then-first-ne13 : goal.returns-then-first-ne13
-returns-then-first-ne13 c = λ text behind.
+pub returns-then-first-ne13-clause-read : goal.returns-then-first-ne13-clause-read
+returns-then-first-ne13-clause-read c = λ text behind.
     let old = c.args.self.now in
     let bytes = c.args.bytes.now in
     let at = subst (λ p. IsAt p old text) c.requires.place behind.1 in (
@@ -24,8 +13,8 @@ returns-then-first-ne13 c = λ text behind.
       behind,
     )
 
-pub returns : goal.returns
-returns c = λ text behind.
+pub returns-clause-read : goal.returns-clause-read
+returns-clause-read c = λ text behind.
     let old = c.args.self.now in
     let bytes = c.args.bytes.now in
     let left = c.args.left in

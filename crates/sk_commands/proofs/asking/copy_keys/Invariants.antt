@@ -1,0 +1,7 @@
+-- Copies of the keys so far stand behind what was listed.
+use Rattle.std.proofs.Common.{◌≡◌, ◌++◌, take, map}
+use Rattle.std.specs.Vec.{vec_items}
+use Rattle.sk_commands.proofs.asking.copy_keys.Given as goal
+
+abbrev pub invariant-loop-key : goal.invariant-loop-key
+invariant-loop-key l = map vec_items l.looked.items ≡ map vec_items l.initial.looked.items ++ map vec_items (take l.key-index l.keys)

@@ -1,0 +1,8 @@
+-- It is there just where it has 64 bits.
+use Rattle.std.proofs.Common.{rules, arith}
+use Rattle.std.proofs.lemmas.Int.{to_z-of_z}
+use Rattle.sk_commands.proofs.Numbers.{fitting_is}
+use Rattle.sk_commands.proofs.number.negative_of.Goals as goal
+
+pub returns : goal.returns
+returns c = first_of (search (rules, fitting_is, c.checked_neg.ensures), grind (arith, to_z-of_z, fitting_is, c.checked_neg.ensures))

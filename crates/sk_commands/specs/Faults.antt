@@ -1,0 +1,14 @@
+-- Why a command is not carried out, in the words that clients know.
+use Rattle.std.specs.Prelude.{ℕ, List, ◌++◌, codes}
+use Rattle.sk_commands.specs.Names.{text_of}
+use Rattle.sk_commands.specs.declared.fault.Fault.{Fault}
+use Rattle.sk_commands.specs.declared.fault.Fault.TheVariants.{Unknown, WrongNumber, Syntax, NotInteger, Overflow, TooLong}
+
+-- the words of each fault
+abbrev pub words_of : Fault → List ℕ
+words_of Unknown = codes "ERR unknown command"
+words_of (WrongNumber name) = codes "ERR wrong number of arguments for '" ++ text_of name ++ codes "' command"
+words_of Syntax = codes "ERR syntax error"
+words_of NotInteger = codes "ERR value is not an integer or out of range"
+words_of Overflow = codes "ERR increment or decrement would overflow"
+words_of TooLong = codes "ERR string exceeds maximum allowed size"

@@ -1,0 +1,27 @@
+-- The names of commands.
+use Rattle.std.specs.Prelude.{ℕ, Bool, List, Option, codes, find, map, bytes_eq}
+use Rattle.std.specs.Char.{to_ascii_lowercase}
+use Rattle.sk_commands.specs.declared.name.Name.{Name}
+use Rattle.sk_commands.specs.declared.name.Name.TheVariants.{Get, Set, Del, Exists, Incr, Decr, IncrBy, DecrBy, Append, StrLen}
+use Rattle.sk_commands.specs.declared.name.TheConstants.{NAMES}
+
+-- each in small letters
+abbrev pub text_of : Name → List ℕ
+text_of Get = codes "get"
+text_of Set = codes "set"
+text_of Del = codes "del"
+text_of Exists = codes "exists"
+text_of Incr = codes "incr"
+text_of Decr = codes "decr"
+text_of IncrBy = codes "incrby"
+text_of DecrBy = codes "decrby"
+text_of Append = codes "append"
+text_of StrLen = codes "strlen"
+
+-- whether two words differ in the size of their letters alone
+abbrev pub is_alike : List ℕ → List ℕ → Bool
+is_alike a b = bytes_eq (map to_ascii_lowercase a) (map to_ascii_lowercase b)
+
+-- the name that a word says
+unfoldable pub name_of : List ℕ → Option Name
+name_of word = find (λ name. is_alike word (text_of name)) NAMES

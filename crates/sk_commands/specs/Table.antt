@@ -1,0 +1,122 @@
+-- What each command looks at, writes and replies.
+use Rattle.std.specs.Prelude.{◌≡◌, ℕ, ◌+◌, ℤ, pos, ◌+ℤ◌, Bool, not, ◌&&◌, List, [], ◌∷◌, ◌++◌, map, length, count_by, Option, Some, None, is_some, unwrap_or, nat_le, bytes_eq, if◌then◌else◌, Result, Ok, Err}
+use Rattle.std.specs.Fmt.{signed_decimal}
+use Rattle.std.specs.Global.{Vec}
+use Rattle.std.specs.declared.alloc.AllocError.{AllocError}
+use Rattle.std.specs.List.{list_any}
+use Rattle.sk_commands.specs.Numbers.{number_of, fitting}
+use Rattle.sk_commands.specs.declared.fault.Fault.TheVariants.{NotInteger, Overflow, TooLong}
+use Rattle.sk_commands.specs.declared.reply.Word.TheVariants as word
+use Rattle.sk_commands.specs.declared.reply.Reply.{Reply}
+use Rattle.sk_commands.specs.declared.reply.Reply.TheVariants.{Simple, Error, Integer, Bulk, Null}
+use Rattle.sk_commands.specs.declared.command.Command.{Command}
+use Rattle.sk_commands.specs.declared.command.Command.TheVariants.{Get, Set, Del, Exists, Add, Append, StrLen, Wrong}
+use Rattle.sk_commands.specs.declared.run.TheConstants.{VALUE_LIMIT}
+
+-- what each key has
+abbrev pub Have : Type 0
+Have = List ℕ → Option (List ℕ)
+
+-- what keys get, one after another; nothing, where a key is made absent
+abbrev pub Written : Type 0
+Written = List (List ℕ × Option (List ℕ))
+
+-- what a command writes, and what it replies
+pub record Outcome : Type 0 where
+  pub written : Written
+  pub reply : Reply
+
+-- it writes nothing
+abbrev pub replies : Reply → Outcome
+replies reply = record { written = []; reply = reply }
+
+-- a key gets this
+abbrev pub puts : List ℕ → List ℕ → Reply → Outcome
+puts key value reply = record { written = (key, Some value) ∷ []; reply = reply }
+
+-- a count
+abbrev pub counts : ℕ → Reply
+counts n = Integer (pos n)
+
+-- what a key has, or nothing
+abbrev pub shown : Option (List ℕ) → Reply
+shown None = Null
+shown (Some value) = Bulk value
+
+-- an absent key has no bytes
+abbrev pub bytes_of : Option (List ℕ) → List ℕ
+bytes_of has = unwrap_or has []
+
+-- whether a key is among these
+abbrev pub is_among : List ℕ → List (List ℕ) → Bool
+is_among key keys = list_any (bytes_eq key) keys
+
+-- these, and one more where it is there and not among them
+abbrev pub with_key : Have → List ℕ → List (List ℕ) → List (List ℕ)
+with_key has key found = if is_some (has key) && not (is_among key found) then found ++ key ∷ [] else found
+
+-- those of the keys that are there, each once, from the last on
+abbrev pub there : Have → List (List ℕ) → List (List ℕ)
+there has [] = []
+there has (key ∷ keys) = with_key has key (there has keys)
+
+-- these keys are made absent
+abbrev pub removals : List (List ℕ) → Written
+removals keys = map (λ key. (key, None)) keys
+
+abbrev pub deleted : List (List ℕ) → Outcome
+deleted keys = record { written = removals keys; reply = counts (length keys) }
+
+-- an absent key counts as 0
+abbrev pub number_at : Option (List ℕ) → Option ℤ
+number_at None = Some (pos 0)
+number_at (Some text) = number_of text
+
+-- a key gets the text of a sum, if that has 64 bits
+abbrev pub counted : List ℕ → Option ℤ → Outcome
+counted key None = replies (Error Overflow)
+counted key (Some sum) = puts key (signed_decimal sum) (Integer sum)
+
+-- a key gets so much more than it has
+abbrev pub added : List ℕ → ℤ → Option ℤ → Outcome
+added key by None = replies (Error NotInteger)
+added key by (Some n) = counted key (fitting (n +ℤ by))
+
+-- a key gets this, if it isn't too long
+abbrev pub joined : List ℕ → List ℕ → Outcome
+joined key value = if nat_le (length value) VALUE_LIMIT then puts key value (counts (length value)) else replies (Error TooLong)
+
+-- the keys that a command looks at
+abbrev pub asks : Command → List (List ℕ)
+asks (Get key) = key ∷ []
+asks (Set key value) = []
+asks (Del keys) = keys
+asks (Exists keys) = keys
+asks (Add key by) = key ∷ []
+asks (Append key more) = key ∷ []
+asks (StrLen key) = key ∷ []
+asks (Wrong fault) = []
+
+-- what it writes and replies, by what keys have
+abbrev pub outcome : Command → Have → Outcome
+outcome (Get key) has = replies (shown (has key))
+outcome (Set key value) has = puts key value (Simple word.Ok)
+outcome (Del keys) has = deleted (there has keys)
+outcome (Exists keys) has = replies (counts (count_by (λ key. is_some (has key)) keys))
+outcome (Add key by) has = added key by (number_at (has key))
+outcome (Append key more) has = joined key (bytes_of (has key) ++ more)
+outcome (StrLen key) has = replies (counts (length (bytes_of (has key))))
+outcome (Wrong fault) has = replies (Error fault)
+
+-- the same writes, where keys are kept as vectors
+abbrev pub told : List (Vec ℕ × Option (List ℕ)) → Written
+told ws = map (λ w. (w.0.items, w.1)) ws
+
+-- a key more that is made absent, where it is there and not among those that were
+abbrev pub one_more : Bool → Vec ℕ → List (Vec ℕ × Option (List ℕ)) → List (Vec ℕ × Option (List ℕ))
+one_more is_there key ws = if is_there && not (list_any (bytes_eq key.items) (map (λ w. w.0.items) ws)) then (key, None) ∷ [] else []
+
+-- a command came to this: its writes stand behind those that were there; without memory nothing has changed
+abbrev pub CarriesOut : Outcome → List (Vec ℕ × Option (List ℕ)) → Result Reply AllocError → List (Vec ℕ × Option (List ℕ)) → Type 0
+CarriesOut outcome old (Ok reply) new = (reply ≡ outcome.reply) × (told new ≡ told old ++ outcome.written)
+CarriesOut outcome old (Err out_of_memory) new = new ≡ old

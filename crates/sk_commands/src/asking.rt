@@ -1,0 +1,56 @@
+//! What commands look at.
+ghost use Rattle.std.specs.Prelude.{◌≡◌, ◌∷◌, ◌++◌, [], map, OnErr, OnOk};
+ghost use Rattle.std.specs.Vec.{vec_items};
+ghost use Rattle.sk_commands.specs.Table.{asks};
+
+use crate::Command;
+use std::alloc::{AllocError, Global};
+
+/// A copy of a key stands behind those that are listed.
+fn copy_key(alloc: Global, key: &[u8], looked: &mut Vec<Vec<u8>>) -> Result<(), AllocError>
+    ensures ok { OnOk result
+        (map vec_items looked.new.items ≡ map vec_items looked.old.items ++ key.now ∷ []) }
+    ensures err { OnErr result (looked.new.items ≡ looked.old.items) }
+{
+    let copy = Vec::from_slice(alloc, key)?;
+    looked.reserve(1)?;
+    looked.push_reserved(copy);
+    Ok(())
+}
+
+/// Copies of keys stand behind those that are listed. Without memory for all, none does.
+fn copy_keys(alloc: Global, keys: &[Vec<u8>], looked: &mut Vec<Vec<u8>>) -> Result<(), AllocError>
+    ensures ok { OnOk result
+        (map vec_items looked.new.items
+        ≡ map vec_items looked.old.items ++ map vec_items keys.now) }
+    ensures err { OnErr result
+        (map vec_items looked.new.items ≡ map vec_items looked.old.items) }
+{
+    let before = looked.len();
+    for key in keys {
+        if copy_key(alloc, key.as_slice(), looked).is_err() {
+            looked.truncate(before);
+            return Err(AllocError);
+        }
+    }
+    Ok(())
+}
+
+impl Command {
+    /// Copies of the keys that the command looks at stand behind those that are listed. Without memory for all, none does.
+    pub fn asks(&self, alloc: Global, looked: &mut Vec<Vec<u8>>) -> Result<(), AllocError>
+        ensures ok { OnOk result
+            (map vec_items looked.new.items ≡ map vec_items looked.old.items ++ asks self.now) }
+        ensures err { OnErr result
+            (map vec_items looked.new.items ≡ map vec_items looked.old.items) }
+    {
+        match self {
+            Command::Get(key)
+            | Command::Add(key, _)
+            | Command::Append(key, _)
+            | Command::StrLen(key) => copy_key(alloc, key.as_slice(), looked),
+            Command::Del(keys) | Command::Exists(keys) => copy_keys(alloc, keys.as_slice(), looked),
+            Command::Set(_, _) | Command::Wrong(_) => Ok(()),
+        }
+    }
+}

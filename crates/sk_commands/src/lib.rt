@@ -1,0 +1,23 @@
+//! Commands over byte strings: what each looks at, writes and replies.
+#![tactic(auto)]
+
+mod asking;
+mod byte_string;
+mod command;
+mod fault;
+pub mod laws;
+mod look;
+mod name;
+mod number;
+mod parse;
+mod reply;
+mod run;
+
+pub use byte_string::{ByteString, Keys};
+pub use command::Command;
+pub use fault::Fault;
+pub use look::Look;
+pub use name::Name;
+pub use number::number_of;
+pub use reply::{Reply, Word};
+pub use run::Writes;

@@ -1,0 +1,91 @@
+//! The names of commands.
+ghost use Rattle.std.specs.Prelude.{◌≡◌, ◌++◌, codes};
+ghost use Rattle.sk_commands.specs.Names.{is_alike, name_of, text_of};
+
+/// What a command is called.
+#[derive(Clone, Copy, Debug, PartialEq, Eq)]
+pub enum Name {
+    Get,
+    Set,
+    Del,
+    Exists,
+    Incr,
+    Decr,
+    IncrBy,
+    DecrBy,
+    Append,
+    StrLen,
+}
+
+/// All of them.
+const NAMES: [Name; 10] = [
+    Name::Get,
+    Name::Set,
+    Name::Del,
+    Name::Exists,
+    Name::Incr,
+    Name::Decr,
+    Name::IncrBy,
+    Name::DecrBy,
+    Name::Append,
+    Name::StrLen,
+];
+
+/// Whether two words differ in the size of their letters alone.
+pub(crate) fn is_alike(left: &[u8], right: &[u8]) -> bool
+    ensures { result ≡ is_alike left.now right.now }
+{
+    left.eq_ignore_ascii_case(right)
+}
+
+impl Name {
+    /// The name, in small letters.
+    pub fn text(self) -> &'static [u8]
+        ensures { result.now ≡ text_of self }
+    {
+        match self {
+            Name::Get => b"get",
+            Name::Set => b"set",
+            Name::Del => b"del",
+            Name::Exists => b"exists",
+            Name::Incr => b"incr",
+            Name::Decr => b"decr",
+            Name::IncrBy => b"incrby",
+            Name::DecrBy => b"decrby",
+            Name::Append => b"append",
+            Name::StrLen => b"strlen",
+        }
+    }
+
+    /// What is said where a command of this name has too few words, or too many.
+    pub(crate) fn wrong_number(self) -> &'static [u8]
+        ensures { result.now
+            ≡ codes "ERR wrong number of arguments for '" ++ text_of self ++ codes "' command" }
+    {
+        match self {
+            Name::Get => b"ERR wrong number of arguments for 'get' command",
+            Name::Set => b"ERR wrong number of arguments for 'set' command",
+            Name::Del => b"ERR wrong number of arguments for 'del' command",
+            Name::Exists => b"ERR wrong number of arguments for 'exists' command",
+            Name::Incr => b"ERR wrong number of arguments for 'incr' command",
+            Name::Decr => b"ERR wrong number of arguments for 'decr' command",
+            Name::IncrBy => b"ERR wrong number of arguments for 'incrby' command",
+            Name::DecrBy => b"ERR wrong number of arguments for 'decrby' command",
+            Name::Append => b"ERR wrong number of arguments for 'append' command",
+            Name::StrLen => b"ERR wrong number of arguments for 'strlen' command",
+        }
+    }
+
+    /// The name that a word says, in letters of any size.
+    #[tactic(auto, unfolding(crate::specs::Names::name_of))]
+    pub fn of(word: &[u8]) -> Option<Name>
+        ensures { result ≡ name_of word.now }
+    {
+        for name in NAMES {
+            if is_alike(word, name.text()) {
+                return Some(name);
+            }
+        }
+        None
+    }
+}

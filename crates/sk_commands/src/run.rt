@@ -1,0 +1,186 @@
+//! What commands write and reply.
+ghost use Rattle.std.specs.Prelude.{◌+◌, ◌<◌, ◌≤◌, ◌≡◌, ◌++◌, drop, IfOk, bytes_eq, count_by, is_some, length, map, pos};
+ghost use Rattle.std.specs.Vec.{vec_capacity, vec_items, vec_len};
+ghost use Rattle.std.specs.List.{list_any};
+ghost use Rattle.std.specs.Option.{option_copied};
+ghost use Rattle.sk_commands.specs.Table.{added, bytes_of, deleted, joined, number_at, one_more, outcome, puts, shown, there, CarriesOut};
+
+use crate::number::{sum_of, text_of};
+use crate::{ByteString, Command, Fault, Keys, Look, Reply, Word, number_of};
+use std::alloc::{AllocError, Global};
+
+/// The greatest length of what a key has.
+pub const VALUE_LIMIT: usize = 16_777_216;
+
+/// What keys get, one after another; nothing, where a key is made absent.
+pub type Writes = Vec<(Vec<u8>, Option<ByteString>)>;
+
+/// A key gets this.
+fn put(
+    key: ByteString,
+    value: ByteString,
+    reply: Reply,
+    written: &mut Writes,
+) -> Result<Reply, AllocError>
+    ensures { CarriesOut (puts key value reply) written.old.items result written.new.items }
+{
+    written.reserve(1)?;
+    written.push_reserved((key.into_vec(), Some(value)));
+    Ok(reply)
+}
+
+/// A copy of what a key has.
+fn show(alloc: Global, has: Option<&ByteString>) -> Result<Reply, AllocError>
+    ensures { IfOk result (λ reply. reply ≡ shown (option_copied has.entry)) }
+{
+    match has {
+        Some(value) => Ok(Reply::Bulk(ByteString::copy_of(alloc, value.as_slice())?)),
+        None => Ok(Reply::Null),
+    }
+}
+
+/// A key gets so much more than it has.
+fn add(
+    alloc: Global,
+    key: ByteString,
+    by: i64,
+    has: Option<&ByteString>,
+    written: &mut Writes,
+) -> Result<Reply, AllocError>
+    ensures { CarriesOut (added key by (number_at (option_copied has.entry)))
+        written.old.items result written.new.items }
+{
+    let number = match has {
+        Some(text) => number_of(text.as_slice()),
+        None => Some(0),
+    };
+    let Some(number) = number else {
+        return Ok(Reply::Error(Fault::NotInteger));
+    };
+    let Some(sum) = sum_of(number, by) else {
+        return Ok(Reply::Error(Fault::Overflow));
+    };
+    put(key, text_of(alloc, sum)?, Reply::Integer(sum), written)
+}
+
+/// A key gets more bytes behind those that it has.
+fn append(
+    alloc: Global,
+    key: ByteString,
+    more: ByteString,
+    has: Option<&ByteString>,
+    written: &mut Writes,
+) -> Result<Reply, AllocError>
+    ensures { CarriesOut (joined key (bytes_of (option_copied has.entry) ++ more))
+        written.old.items result written.new.items }
+{
+    let bytes: &[u8] = match has {
+        Some(value) => value.as_slice(),
+        None => &[],
+    };
+    let len = bytes.len().saturating_add(more.len());
+    if len > VALUE_LIMIT {
+        return Ok(Reply::Error(Fault::TooLong));
+    }
+    let value = if bytes.is_empty() {
+        more
+    } else {
+        ByteString::joined(alloc, bytes, more.as_slice())?
+    };
+    put(key, value, Reply::Integer(len as i64), written)
+}
+
+/// How many bytes a key has.
+fn length_of(has: Option<&ByteString>) -> i64
+    ensures { result ≡ pos (length (bytes_of (option_copied has.entry))) }
+{
+    match has {
+        Some(value) => value.as_slice().len() as i64,
+        None => 0,
+    }
+}
+
+/// Whether a key is among those that are written here.
+fn is_written(key: &[u8], written: &[(Vec<u8>, Option<ByteString>)]) -> bool
+    ensures { result ≡ list_any (bytes_eq key.now) (map (λ w. vec_items w.0) written.now) }
+{
+    for write in written {
+        if key == write.0.as_slice() {
+            return true;
+        }
+    }
+    false
+}
+
+/// Makes a key absent that is there, unless that is written behind a place already.
+fn delete_one(is_there: bool, key: Vec<u8>, from: usize, written: &mut Writes)
+    requires from { from ≤ length written.old.items }
+    requires room { vec_len written.old < vec_capacity written.old }
+    ensures written { written.new.items
+        ≡ written.old.items ++ one_more is_there key (drop from written.old.items) }
+    ensures capacity { vec_capacity written.new ≡ vec_capacity written.old }
+    ensures len { vec_len written.new ≤ vec_len written.old + 1 }
+{
+    if is_there && !is_written(key.as_slice(), &written.as_slice()[from..]) {
+        written.push_reserved((key, None));
+    }
+}
+
+/// Makes the keys absent that are there. Each is counted once, however often it is named.
+fn delete<S: Look>(store: &S, keys: Keys, written: &mut Writes) -> Result<Reply, AllocError>
+    ensures { CarriesOut (deleted (there (S.look store.now) keys)) written.old.items result
+        written.new.items }
+{
+    let mut keys = keys.into_vec();
+    written.reserve(keys.len())?;
+    let from = written.len();
+    while let Some(key) = keys.pop() {
+        let is_there = store.value(key.as_slice()).is_some();
+        delete_one(is_there, key, from, written);
+    }
+    Ok(Reply::Integer((written.as_slice().len() - from) as i64))
+}
+
+/// How many of the keys are there. One that is named twice counts twice.
+fn count<S: Look>(store: &S, keys: &Keys) -> i64
+    ensures { result ≡ pos (count_by (λ key. is_some (S.look store.now key)) keys.now) }
+{
+    let mut count: i64 = 0;
+    for key in keys.as_slice() {
+        if store.value(key.as_slice()).is_some() {
+            count += 1;
+        }
+    }
+    count
+}
+
+impl Command {
+    /// What the command writes, behind what is written, and what it replies, by what keys have. Without memory nothing has
+    /// changed.
+    pub fn run<S: Look>(
+        self,
+        alloc: Global,
+        store: &S,
+        written: &mut Writes,
+    ) -> Result<Reply, AllocError>
+        ensures { CarriesOut (outcome self (S.look store.now)) written.old.items result
+            written.new.items }
+    {
+        match self {
+            Command::Get(key) => show(alloc, store.value(key.as_slice())),
+            Command::Set(key, value) => put(key, value, Reply::Simple(Word::Ok), written),
+            Command::Del(keys) => delete(store, keys, written),
+            Command::Exists(keys) => Ok(Reply::Integer(count(store, &keys))),
+            Command::Add(key, by) => {
+                let has = store.value(key.as_slice());
+                add(alloc, key, by, has, written)
+            }
+            Command::Append(key, more) => {
+                let has = store.value(key.as_slice());
+                append(alloc, key, more, has, written)
+            }
+            Command::StrLen(key) => Ok(Reply::Integer(length_of(store.value(key.as_slice())))),
+            Command::Wrong(fault) => Ok(Reply::Error(fault)),
+        }
+    }
+}

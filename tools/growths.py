@@ -33,16 +33,26 @@ def without_comments(path):
     return re.sub(r"//[^\n]*", "", path.read_text())
 
 
+def wanted_in(crate, found, own):
+    """The names of the types that can be want of memory, as a crate sees them: a name that it has itself is its own."""
+    return {name for where, name in found if where == crate or name not in own[crate]}
+
+
 def wants_memory(texts):
-    """The names of the types that can be want of memory."""
-    bodies = [it.groups() for text in texts for it in TYPE.finditer(text)]
-    found = {"AllocError", "AllocFailed"}
+    """The types that can be want of memory, each with its crate."""
+    bodies = [(crate, *it.groups()) for crate in texts for text in texts[crate] for it in TYPE.finditer(text)]
+    own = {crate: {name for where, name, _ in bodies if where == crate} for crate in texts}
+    found = {("", "AllocError"), ("", "AllocFailed")}
     while True:
-        words = re.compile(rf"\b(?:{'|'.join(sorted(found))})\b")
-        more = {name for name, body in bodies if name not in KEPT and (re.search(r"^\s*Memory\b", body, re.M) or words.search(body))}
+        words = {crate: words_of(wanted_in(crate, found, own)) for crate in texts}
+        more = {(crate, name) for crate, name, body in bodies if name not in KEPT and (re.search(r"^\s*Memory\b", body, re.M) or words[crate].search(body))}
         if more <= found:
-            return found
+            return words
         found |= more
+
+
+def words_of(names):
+    return re.compile(rf"\b(?:{'|'.join(sorted(names))})\b")
 
 
 def functions_in(text):
@@ -58,10 +68,10 @@ def calls():
     """The public calls that can answer want of memory, by crate."""
     libraries = [crate for crate in crates() if crate.startswith("sk_")]
     texts = {crate: [without_comments(path) for path in files_of(crate)] for crate in libraries}
-    words = re.compile(rf"\b(?:{'|'.join(sorted(wants_memory(sum(texts.values(), []))))})\b")
+    words = wants_memory(texts)
     for crate in libraries:
         for text in texts[crate]:
-            yield from ((crate, name) for name, given in functions_in(text) if words.search(given))
+            yield from ((crate, name) for name, given in functions_in(text) if words[crate].search(given))
 
 
 def known_rows():

@@ -174,6 +174,16 @@ impl<K: Key, V, O> Speculator<K, V, O> {
     {
         self.said.waiting(channel)
     }
+
+    /// A channel that has an output to take, found without going through the others; `None` where none has.
+    pub fn next_channel(&self) -> Option<u16>
+        ensures some { IfSome result
+            (λ channel. released (said_at self.now.said channel) ≡ [] → ⊥) }
+        ensures none { result ≡ None
+            → (channel : ℕ) → released (said_at self.now.said channel) ≡ [] }
+    {
+        self.said.next_channel()
+    }
 }
 
 impl<K: Key, V: Drop, O: Drop> Speculator<K, V, O> {

@@ -1,4 +1,4 @@
-use Rattle.std.proofs.Common.{true, false, ◌++◌, refl, ◌∙◌, ap}
+use Rattle.std.proofs.Common.{◌++◌, refl, ◌∙◌, ap}
 use Rattle.sk_requests.specs.Inline.{ended}
 use Rattle.sk_requests.specs.Reading.{words_of}
 use Rattle.sk_requests.proofs.Typed.{space_ends, byte_on}

@@ -1,12 +1,13 @@
 -- A command's step, where keys have what they have: what it asks for is all that its row needs.
-use Rattle.std.proofs.Common.{◌≡◌, ℕ, ◌+◌, Bool, true, false, ◌&&◌, not, List, [], ◌∷◌, ◌++◌, map, length, count_by, fold, is_some, bytes_eq, pos, cond, Option, Some, None, Result, Ok, Err, if◌then◌else◌, refl, sym, ap, subst, ◌∙◌}
+use Rattle.std.proofs.Common.{◌≡◌, ℕ, ◌+◌, Bool, true, false, ◌&&◌, not, List, [], ◌∷◌, ◌++◌, map, length, count_by, fold, is_some, bytes_eq, cond, Some, None, Result, Ok, if◌then◌else◌, refl, sym, ap, ◌∙◌}
 use Rattle.std.proofs.lemmas.Slice.Eq.{bytes_eq-Decides}
 use Rattle.sk_record.specs.Step.{perform, with_read, Effect}
 use Rattle.sk_deeds.specs.Deed.{effect_of}
 use Rattle.sk_commands.specs.declared.command.Command.{Command}
-use Rattle.sk_commands.specs.declared.command.Command.TheVariants.{Get, Set, Del, Exists, Add, Append, StrLen, Wrong}
+use Rattle.sk_commands.specs.declared.command.Command.TheVariants.{Get, Set, Del, Exists, Add, Append, StrLen, MGet, Ping, Echo, Wrong}
 use Rattle.sk_commands.specs.declared.reply.Reply.{Reply}
-use Rattle.sk_commands.specs.Table.{added, asks, bytes_of, counts, deleted, is_among, joined, number_at, outcome, replies, shown, there, with_key, Have, Outcome}
+use Rattle.sk_commands.specs.declared.reply.Reply.TheVariants.{Array}
+use Rattle.sk_commands.specs.Table.{added, asks, bytes_of, counts, deleted, is_among, joined, number_at, outcome, replies, set_as, shown, there, with_key, Have, Outcome}
 use Rattle.sk_commands.specs.Law.{act, asking_for, deed, with_answer}
 
 -- keys have the same in both
@@ -55,15 +56,22 @@ counted_alike (key ∷ keys) f g n h =
 count_alike : (keys : List (List ℕ)) (f g : Have) → AreAlike keys f g → count_by (λ key. is_some (f key)) keys ≡ count_by (λ key. is_some (g key)) keys
 count_alike keys f g h = counted_alike keys f g 0 h
 
+map_alike : (keys : List (List ℕ)) (f g : Have) → AreAlike keys f g → map f keys ≡ map g keys
+map_alike [] f g h = refl
+map_alike (key ∷ keys) f g h = ap (λ value. value ∷ map f keys) h.0 ∙ ap (λ values. g key ∷ values) (map_alike keys f g h.1)
+
 -- a row needs no more than what it asks for
 pub row_alike : (c : Command) (f g : Have) → AreAlike (asks c) f g → outcome c f ≡ outcome c g
 row_alike (Get key) f g h = ap (λ has. replies (shown has)) h.0
-row_alike (Set key value) f g h = refl
+row_alike (Set key value options) f g h = ap (set_as key value options) h.0
 row_alike (Del keys) f g h = ap deleted (there_alike keys f g h)
 row_alike (Exists keys) f g h = ap (λ n. replies (counts n)) (count_alike keys f g h)
 row_alike (Add key by) f g h = ap (λ has. added key by (number_at has)) h.0
 row_alike (Append key more) f g h = ap (λ has. joined key (bytes_of has ++ more)) h.0
 row_alike (StrLen key) f g h = ap (λ has. replies (counts (length (bytes_of has)))) h.0
+row_alike (MGet keys) f g h = ap (λ values. replies (Array values)) (map_alike keys f g h)
+row_alike Ping f g h = refl
+row_alike (Echo text) f g h = refl
 row_alike (Wrong fault) f g h = refl
 
 -- these keys are read, and the rest is what came of it

@@ -12,7 +12,6 @@ use Rattle.std.proofs.lemmas.Fmt.{IsAscii-signed, parse-signed_decimal}
 use Rattle.std.proofs.lemmas.Slice.Eq.{bytes_eq-Decides}
 use Rattle.sk_commands.specs.Numbers.{fits, fitting, said_as, number_of, IsNoNumber}
 use lib.Signed.{mag}
-use mir.Val.{SFits}
 
 below : (n m : ℕ) → nat_lt n m ≡ true → n < m
 below n m h = grind (arith, nat_tests)

@@ -1,6 +1,8 @@
--- Why a command is not carried out, in the words that clients know.
+-- What is replied in the words that clients know.
 use Rattle.std.specs.Prelude.{ℕ, List, ◌++◌, codes}
 use Rattle.sk_commands.specs.Names.{text_of}
+use Rattle.sk_commands.specs.declared.reply.Word.{Word}
+use Rattle.sk_commands.specs.declared.reply.Word.TheVariants as word
 use Rattle.sk_commands.specs.declared.fault.Fault.{Fault}
 use Rattle.sk_commands.specs.declared.fault.Fault.TheVariants.{Unknown, WrongNumber, Syntax, NotInteger, Overflow, TooLong}
 
@@ -12,3 +14,8 @@ words_of Syntax = codes "ERR syntax error"
 words_of NotInteger = codes "ERR value is not an integer or out of range"
 words_of Overflow = codes "ERR increment or decrement would overflow"
 words_of TooLong = codes "ERR string exceeds maximum allowed size"
+
+-- a reply of one word
+abbrev pub said_by : Word → List ℕ
+said_by word.Ok = codes "OK"
+said_by word.Pong = codes "PONG"

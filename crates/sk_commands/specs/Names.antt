@@ -2,7 +2,7 @@
 use Rattle.std.specs.Prelude.{ℕ, Bool, List, Option, codes, find, map, bytes_eq}
 use Rattle.std.specs.Char.{to_ascii_lowercase}
 use Rattle.sk_commands.specs.declared.name.Name.{Name}
-use Rattle.sk_commands.specs.declared.name.Name.TheVariants.{Get, Set, Del, Exists, Incr, Decr, IncrBy, DecrBy, Append, StrLen}
+use Rattle.sk_commands.specs.declared.name.Name.TheVariants.{Get, Set, Del, Exists, Incr, Decr, IncrBy, DecrBy, Append, StrLen, GetSet, MGet, Ping, Echo}
 use Rattle.sk_commands.specs.declared.name.TheConstants.{NAMES}
 
 -- each in small letters
@@ -17,6 +17,10 @@ text_of IncrBy = codes "incrby"
 text_of DecrBy = codes "decrby"
 text_of Append = codes "append"
 text_of StrLen = codes "strlen"
+text_of GetSet = codes "getset"
+text_of MGet = codes "mget"
+text_of Ping = codes "ping"
+text_of Echo = codes "echo"
 
 -- whether two words differ in the size of their letters alone
 abbrev pub is_alike : List ℕ → List ℕ → Bool

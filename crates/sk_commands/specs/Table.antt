@@ -1,5 +1,5 @@
 -- What each command looks at, writes and replies.
-use Rattle.std.specs.Prelude.{◌≡◌, ℕ, ◌+◌, ℤ, pos, ◌+ℤ◌, Bool, not, ◌&&◌, List, [], ◌∷◌, ◌++◌, map, length, count_by, Option, Some, None, is_some, unwrap_or, nat_le, bytes_eq, if◌then◌else◌, Result, Ok, Err}
+use Rattle.std.specs.Prelude.{◌≡◌, ℕ, ℤ, pos, ◌+ℤ◌, Bool, not, ◌&&◌, List, [], ◌∷◌, ◌++◌, map, length, count_by, Option, Some, None, is_none, is_some, true, false, unwrap_or, nat_le, bytes_eq, if◌then◌else◌, Result, Ok, Err}
 use Rattle.std.specs.Fmt.{signed_decimal}
 use Rattle.std.specs.Global.{Vec}
 use Rattle.std.specs.declared.alloc.AllocError.{AllocError}
@@ -8,9 +8,12 @@ use Rattle.sk_commands.specs.Numbers.{number_of, fitting}
 use Rattle.sk_commands.specs.declared.fault.Fault.TheVariants.{NotInteger, Overflow, TooLong}
 use Rattle.sk_commands.specs.declared.reply.Word.TheVariants as word
 use Rattle.sk_commands.specs.declared.reply.Reply.{Reply}
-use Rattle.sk_commands.specs.declared.reply.Reply.TheVariants.{Simple, Error, Integer, Bulk, Null}
+use Rattle.sk_commands.specs.declared.reply.Reply.TheVariants.{Simple, Error, Integer, Bulk, Null, Array}
+use Rattle.sk_commands.specs.declared.command.When.{When}
+use Rattle.sk_commands.specs.declared.command.When.TheVariants as when
+use Rattle.sk_commands.specs.declared.command.Options.{Options}
 use Rattle.sk_commands.specs.declared.command.Command.{Command}
-use Rattle.sk_commands.specs.declared.command.Command.TheVariants.{Get, Set, Del, Exists, Add, Append, StrLen, Wrong}
+use Rattle.sk_commands.specs.declared.command.Command.TheVariants.{Get, Set, Del, Exists, Add, Append, StrLen, MGet, Ping, Echo, Wrong}
 use Rattle.sk_commands.specs.declared.run.TheConstants.{VALUE_LIMIT}
 
 -- what each key has
@@ -86,26 +89,52 @@ added key by (Some n) = counted key (fitting (n +ℤ by))
 abbrev pub joined : List ℕ → List ℕ → Outcome
 joined key value = if nat_le (length value) VALUE_LIMIT then puts key value (counts (length value)) else replies (Error TooLong)
 
+-- whether a key is set
+abbrev pub may_set : When → Option (List ℕ) → Bool
+may_set when.Always has = true
+may_set when.Absent has = is_none has
+may_set when.Present has = is_some has
+
+-- what it had is replied, or whether it is set
+abbrev pub set_reply : Bool → Bool → Option (List ℕ) → Reply
+set_reply true sets has = shown has
+set_reply false true has = Simple word.Ok
+set_reply false false has = Null
+
+-- a key gets this, where it may
+abbrev pub set : List ℕ → List ℕ → Bool → Reply → Outcome
+set key value true reply = puts key value reply
+set key value false reply = replies reply
+
+abbrev pub set_as : List ℕ → List ℕ → Options → Option (List ℕ) → Outcome
+set_as key value options has = set key value (may_set options.when has) (set_reply options.gives (may_set options.when has) has)
+
 -- the keys that a command looks at
 abbrev pub asks : Command → List (List ℕ)
 asks (Get key) = key ∷ []
-asks (Set key value) = []
+asks (Set key value options) = key ∷ []
 asks (Del keys) = keys
 asks (Exists keys) = keys
 asks (Add key by) = key ∷ []
 asks (Append key more) = key ∷ []
 asks (StrLen key) = key ∷ []
+asks (MGet keys) = keys
+asks Ping = []
+asks (Echo text) = []
 asks (Wrong fault) = []
 
 -- what it writes and replies, by what keys have
 abbrev pub outcome : Command → Have → Outcome
 outcome (Get key) has = replies (shown (has key))
-outcome (Set key value) has = puts key value (Simple word.Ok)
+outcome (Set key value options) has = set_as key value options (has key)
 outcome (Del keys) has = deleted (there has keys)
 outcome (Exists keys) has = replies (counts (count_by (λ key. is_some (has key)) keys))
 outcome (Add key by) has = added key by (number_at (has key))
 outcome (Append key more) has = joined key (bytes_of (has key) ++ more)
 outcome (StrLen key) has = replies (counts (length (bytes_of (has key))))
+outcome (MGet keys) has = replies (Array (map has keys))
+outcome Ping has = replies (Simple word.Pong)
+outcome (Echo text) has = replies (Bulk text)
 outcome (Wrong fault) has = replies (Error fault)
 
 -- the same writes, where keys are kept as vectors

@@ -46,11 +46,14 @@ impl Command {
     {
         match self {
             Command::Get(key)
+            | Command::Set(key, _, _)
             | Command::Add(key, _)
             | Command::Append(key, _)
             | Command::StrLen(key) => copy_key(alloc, key.as_slice(), looked),
-            Command::Del(keys) | Command::Exists(keys) => copy_keys(alloc, keys.as_slice(), looked),
-            Command::Set(_, _) | Command::Wrong(_) => Ok(()),
+            Command::Del(keys) | Command::Exists(keys) | Command::MGet(keys) => {
+                copy_keys(alloc, keys.as_slice(), looked)
+            }
+            Command::Ping | Command::Echo(_) | Command::Wrong(_) => Ok(()),
         }
     }
 }

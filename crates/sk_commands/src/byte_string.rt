@@ -111,3 +111,36 @@ impl Keys {
         self.keys
     }
 }
+
+/// What keys have, in the order of the keys; nothing for an absent one.
+#[derive(Drop)]
+pub struct Values {
+    values: Vec<Option<ByteString>>,
+}
+
+impl Model for Values {
+    ghost use Rattle.std.specs.Prelude.{ℕ, List, Option};
+    ghost use Rattle.std.specs.Coded.{coded_list, coded_option, coded_ℕ};
+
+    ghost Value = { List (Option (List ℕ)) };
+
+    ghost coded = { coded_list (coded_option (coded_list coded_ℕ)) };
+
+    ghost view = { λ v. v.values.items };
+}
+
+impl Values {
+    /// These values.
+    pub fn new(values: Vec<Option<ByteString>>) -> Values
+        ensures { result ≡ values.items }
+    {
+        Values { values }
+    }
+
+    /// The values.
+    pub fn as_slice(&self) -> &[Option<ByteString>]
+        ensures { result.now ≡ self.now }
+    {
+        self.values.as_slice()
+    }
+}

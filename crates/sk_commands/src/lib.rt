@@ -13,8 +13,8 @@ mod parse;
 mod reply;
 mod run;
 
-pub use byte_string::{ByteString, Keys};
-pub use command::Command;
+pub use byte_string::{ByteString, Keys, Values};
+pub use command::{Command, Options, When};
 pub use fault::Fault;
 pub use look::Look;
 pub use name::Name;

@@ -15,10 +15,14 @@ pub enum Name {
     DecrBy,
     Append,
     StrLen,
+    GetSet,
+    MGet,
+    Ping,
+    Echo,
 }
 
 /// All of them.
-const NAMES: [Name; 10] = [
+const NAMES: [Name; 14] = [
     Name::Get,
     Name::Set,
     Name::Del,
@@ -29,6 +33,10 @@ const NAMES: [Name; 10] = [
     Name::DecrBy,
     Name::Append,
     Name::StrLen,
+    Name::GetSet,
+    Name::MGet,
+    Name::Ping,
+    Name::Echo,
 ];
 
 /// Whether two words differ in the size of their letters alone.
@@ -54,6 +62,10 @@ impl Name {
             Name::DecrBy => b"decrby",
             Name::Append => b"append",
             Name::StrLen => b"strlen",
+            Name::GetSet => b"getset",
+            Name::MGet => b"mget",
+            Name::Ping => b"ping",
+            Name::Echo => b"echo",
         }
     }
 
@@ -73,6 +85,10 @@ impl Name {
             Name::DecrBy => b"ERR wrong number of arguments for 'decrby' command",
             Name::Append => b"ERR wrong number of arguments for 'append' command",
             Name::StrLen => b"ERR wrong number of arguments for 'strlen' command",
+            Name::GetSet => b"ERR wrong number of arguments for 'getset' command",
+            Name::MGet => b"ERR wrong number of arguments for 'mget' command",
+            Name::Ping => b"ERR wrong number of arguments for 'ping' command",
+            Name::Echo => b"ERR wrong number of arguments for 'echo' command",
         }
     }
 

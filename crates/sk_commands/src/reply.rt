@@ -1,10 +1,26 @@
 //! What is replied to a command.
-use crate::{ByteString, Fault};
+ghost use Rattle.std.specs.Prelude.{◌≡◌};
+ghost use Rattle.sk_commands.specs.Faults.{said_by};
+
+use crate::{ByteString, Fault, Values};
 
 /// A reply of one word.
 #[derive(Clone, Copy, Debug, PartialEq, Eq)]
 pub enum Word {
     Ok,
+    Pong,
+}
+
+impl Word {
+    /// The text of the word.
+    pub fn text(self) -> &'static [u8]
+        ensures { result.now ≡ said_by self }
+    {
+        match self {
+            Word::Ok => b"OK",
+            Word::Pong => b"PONG",
+        }
+    }
 }
 
 /// What is replied to a command.
@@ -15,4 +31,5 @@ pub enum Reply {
     Integer(i64),
     Bulk(ByteString),
     Null,
+    Array(Values),
 }

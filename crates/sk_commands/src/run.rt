@@ -3,10 +3,13 @@ ghost use Rattle.std.specs.Prelude.{◌+◌, ◌<◌, ◌≤◌, ◌≡◌, ◌+
 ghost use Rattle.std.specs.Vec.{vec_capacity, vec_items, vec_len};
 ghost use Rattle.std.specs.List.{list_any};
 ghost use Rattle.std.specs.Option.{option_copied};
-ghost use Rattle.sk_commands.specs.Table.{added, bytes_of, deleted, joined, number_at, one_more, outcome, puts, shown, there, CarriesOut};
+ghost use Rattle.sk_commands.specs.declared.reply.Reply.TheVariants.{Array};
+ghost use Rattle.sk_commands.specs.Table.{added, bytes_of, deleted, joined, number_at, one_more, outcome, puts, set_as, shown, there, CarriesOut};
 
 use crate::number::{sum_of, text_of};
-use crate::{ByteString, Command, Fault, Keys, Look, Reply, Word, number_of};
+use crate::{
+    ByteString, Command, Fault, Keys, Look, Options, Reply, Values, When, Word, number_of,
+};
 use std::alloc::{AllocError, Global};
 
 /// The greatest length of what a key has.
@@ -37,6 +40,50 @@ fn show(alloc: Global, has: Option<&ByteString>) -> Result<Reply, AllocError>
         Some(value) => Ok(Reply::Bulk(ByteString::copy_of(alloc, value.as_slice())?)),
         None => Ok(Reply::Null),
     }
+}
+
+/// A key gets this, where it may.
+fn set(
+    alloc: Global,
+    key: ByteString,
+    value: ByteString,
+    options: Options,
+    has: Option<&ByteString>,
+    written: &mut Writes,
+) -> Result<Reply, AllocError>
+    ensures { CarriesOut (set_as key value options (option_copied has.entry))
+        written.old.items result written.new.items }
+{
+    let sets = match options.when {
+        When::Always => true,
+        When::Absent => has.is_none(),
+        When::Present => has.is_some(),
+    };
+    let reply = match (options.gives, sets) {
+        (true, _) => show(alloc, has)?,
+        (false, true) => Reply::Simple(Word::Ok),
+        (false, false) => Reply::Null,
+    };
+    if sets {
+        put(key, value, reply, written)
+    } else {
+        Ok(reply)
+    }
+}
+
+/// Copies of what keys have.
+fn show_all<S: Look>(alloc: Global, store: &S, keys: &Keys) -> Result<Reply, AllocError>
+    ensures { IfOk result (λ reply. reply ≡ Array (map (S.look store.now) keys.now)) }
+{
+    let mut values = Vec::new(alloc);
+    for key in keys.as_slice() {
+        let value = match store.value(key.as_slice()) {
+            Some(value) => Some(ByteString::copy_of(alloc, value.as_slice())?),
+            None => None,
+        };
+        values.push(value)?;
+    }
+    Ok(Reply::Array(Values::new(values)))
 }
 
 /// A key gets so much more than it has.
@@ -168,7 +215,10 @@ impl Command {
     {
         match self {
             Command::Get(key) => show(alloc, store.value(key.as_slice())),
-            Command::Set(key, value) => put(key, value, Reply::Simple(Word::Ok), written),
+            Command::Set(key, value, options) => {
+                let has = store.value(key.as_slice());
+                set(alloc, key, value, options, has, written)
+            }
             Command::Del(keys) => delete(store, keys, written),
             Command::Exists(keys) => Ok(Reply::Integer(count(store, &keys))),
             Command::Add(key, by) => {
@@ -180,6 +230,9 @@ impl Command {
                 append(alloc, key, more, has, written)
             }
             Command::StrLen(key) => Ok(Reply::Integer(length_of(store.value(key.as_slice())))),
+            Command::MGet(keys) => show_all(alloc, store, &keys),
+            Command::Ping => Ok(Reply::Simple(Word::Pong)),
+            Command::Echo(text) => Ok(Reply::Bulk(text)),
             Command::Wrong(fault) => Ok(Reply::Error(fault)),
         }
     }

@@ -9,6 +9,3 @@ mod refusal;
 
 pub use bytes::{ByteStep, Bytes, KEY_LIMIT, Unmade};
 pub use refusal::Refusal;
-
-#[cfg(test)]
-mod tests;

@@ -1,5 +1,6 @@
 //! A kernel over byte strings whose guesses are decided by their numbers.
 ghost use Rattle.std.specs.Prelude.{◌≡◌, [], None, OnErr, OnOk};
+ghost use Rattle.std.specs.Int.NonZero.{non_zero_u16_get};
 ghost use Rattle.std.specs.Option.{option_map};
 ghost use Rattle.sk_record.specs.Machine.{released};
 ghost use Rattle.sk_outputs.specs.Said.{said_at};
@@ -16,6 +17,7 @@ use sk_ids::GuessId;
 use sk_speculator::{Committed, Step};
 use std::alloc::{AllocError, Global};
 use std::marker::Model;
+use std::num::NonZeroU16;
 
 /// A kernel over byte strings with the tokens of its guesses, which are decided by their numbers, and with a step that is written
 /// one part at a time.
@@ -48,8 +50,8 @@ impl Model for Held {
 impl Held {
     /// No key is there, and nothing has happened, in the kernel of this number, of whose guesses so many may be undecided at once;
     /// with a seed that users of the keys don't know.
-    pub fn new(alloc: Global, number: u64, limit: u16, seed: u64) -> Held
-        ensures { IsNew number limit result }
+    pub fn new(alloc: Global, number: u64, limit: NonZeroU16, seed: u64) -> Held
+        ensures { IsNew number (non_zero_u16_get limit) result }
     {
         Held {
             alloc,

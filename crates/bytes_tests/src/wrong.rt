@@ -1,0 +1,38 @@
+//! What a test finds wrong.
+use std::alloc::AllocError;
+
+/// Why a test does not pass.
+#[derive(Clone, Copy, Debug, PartialEq, Eq)]
+pub enum Wrong {
+    /// The test itself has no memory.
+    Memory,
+    /// A key has another value.
+    Value,
+    /// A key rests on other guesses.
+    Tags,
+    /// Other keys rest on a guess.
+    Dependents,
+    /// Another number of keys is kept.
+    Count,
+    /// Something else became of a guess.
+    Status,
+    /// Another output came out, or another number of them waits.
+    Output,
+    /// A failure tells something else.
+    Undone,
+    /// A step's buffers are not empty after it was taken, or not as they were after it was refused.
+    Buffers,
+    /// A call is refused that should not be, or is not that should be.
+    Refused,
+}
+
+impl From<AllocError> for Wrong {
+    fn from(_: AllocError) -> Wrong {
+        Wrong::Memory
+    }
+}
+
+/// What should hold holds.
+pub fn holds(is: bool, wrong: Wrong) -> Result<(), Wrong> {
+    if is { Ok(()) } else { Err(wrong) }
+}

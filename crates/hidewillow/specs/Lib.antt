@@ -1,7 +1,9 @@
--- What the contracts of this crate's types cite, so that callers name one crate. Four modules have names of their own here:
--- RecordNotes, RecordTrace, ServerCalls and TraceLines.
+-- What the contracts of this crate's types cite, so that callers name one crate. These modules have names of their own here:
+-- RecordNotes, RecordStep, RecordTrace, ServerCalls and TraceLines; GuessesKept, and Own.. of what the kernel over own keys is told by.
 pub use Rattle.sk_record.specs.Effects
 pub use Rattle.sk_record.specs.Run
+pub use Rattle.sk_record.specs.Step as RecordStep
+pub use Rattle.sk_record.specs.UndoState
 pub use Rattle.sk_record.specs.Strike
 pub use Rattle.sk_record.specs.Notes as RecordNotes
 pub use Rattle.sk_record.specs.Trace as RecordTrace
@@ -42,6 +44,16 @@ pub use Rattle.sk_store.specs.State
 pub use Rattle.sk_store.specs.Names
 pub use Rattle.sk_store.specs.Start
 pub use Rattle.sk_guesses.specs.Token
+pub use Rattle.sk_guesses.specs.Kept as GuessesKept
+pub use Rattle.sk_deeds.specs.Deed as OwnDeed
+pub use Rattle.sk_deeds.specs.Told as OwnTold
+pub use Rattle.sk_slots.specs.Slot as OwnSlot
+pub use Rattle.sk_slots.specs.Slots as OwnSlots
+pub use Rattle.sk_outputs.specs.Said as OwnSaid
+pub use Rattle.sk_speculator.specs.Parts as OwnParts
+pub use Rattle.sk_speculator.specs.Calls as OwnCalls
+pub use Rattle.sk_speculator.specs.Emptied as OwnEmptied
+pub use Rattle.sk_speculator.specs.Law as OwnLaw
 pub use Rattle.sk_terminal.specs.Terminal
 pub use Rattle.sk_terminal.specs.Terminals
 pub use Rattle.sk_plain.specs.View

@@ -2,11 +2,11 @@
 #![tactic(auto)]
 
 ghost use Rattle.std.specs.Prelude.{◌≡◌, IfOk};
-ghost use Rattle.sk_record.specs.UndoState.{numbers};
+ghost use Rattle.hidewillow.specs.UndoState.{numbers};
 ghost use Rattle.many_steps.specs.Own.{IsOwn};
 
-use sk_guesses::Guess;
-use sk_speculator::{Refusal, Speculator, Step};
+use hidewillow::Guess;
+use hidewillow::own::{Refusal, Speculator, Step};
 use std::alloc::{AllocError, AllocFailed, Global};
 use std::env;
 use std::num::NonZeroU16;

@@ -1,11 +1,11 @@
 -- What an order does to accounts: a step of the user's own.
 use Rattle.std.specs.Prelude.{◌≡◌, ◌+◌, ◌-◌, ◌^◌, ◌==◌, ℕ, List, [], ◌∷◌, ◌++◌, Option, Some, None, Ok, nat_le, nat_lt, if◌then◌else◌}
 use Rattle.std.specs.Ordering.{nat_cmp}
-use Rattle.sk_record.specs.Step.{Step, Ask, Refuse, Done, perform}
-use Rattle.sk_record.specs.Run.{System}
-use Rattle.sk_deeds.specs.Deed.{Deed, effect_of}
-use Rattle.sk_slots.specs.Slot.{SlotView}
-use Rattle.sk_slots.specs.Slots.{look_at}
+use Rattle.hidewillow.specs.RecordStep.{Step, Ask, Refuse, Done, perform}
+use Rattle.hidewillow.specs.Run.{System}
+use Rattle.hidewillow.specs.OwnDeed.{Deed, effect_of}
+use Rattle.hidewillow.specs.OwnSlot.{SlotView}
+use Rattle.hidewillow.specs.OwnSlots.{look_at}
 use Rattle.own_accounts.specs.declared.order.Order.{Order}
 use Rattle.own_accounts.specs.declared.order.Order.TheVariants.{Deposit, Transfer}
 

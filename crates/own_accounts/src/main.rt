@@ -2,19 +2,19 @@
 #![tactic(auto)]
 
 ghost use Rattle.std.specs.Prelude.{◌≡◌, IfOk, OnOk};
-ghost use Rattle.sk_record.specs.UndoState.{numbers};
-ghost use Rattle.sk_slots.specs.Slots.{look_at};
-ghost use Rattle.sk_speculator.specs.Law.{OwnRunsAsPlain};
-ghost use Rattle.sk_speculator.specs.Parts.{deed};
+ghost use Rattle.hidewillow.specs.UndoState.{numbers};
+ghost use Rattle.hidewillow.specs.OwnSlots.{look_at};
+ghost use Rattle.hidewillow.specs.OwnLaw.{OwnRunsAsPlain};
+ghost use Rattle.hidewillow.specs.OwnParts.{deed};
 ghost use Rattle.std.specs.Ordering.{nat_cmp};
 ghost use Rattle.own_accounts.specs.Accounts.{accounts, balance, IsHonest};
 ghost use Rattle.own_accounts.specs.Own.{IsOwn};
 
 mod order;
 
+use hidewillow::Guess;
+use hidewillow::own::{Speculator, Step};
 use order::{Order, Refused};
-use sk_guesses::Guess;
-use sk_speculator::{Speculator, Step};
 use std::alloc::Global;
 use std::num::NonZeroU16;
 

@@ -1,5 +1,5 @@
 //! What is ordered of the accounts.
-use sk_speculator::Refusal;
+use hidewillow::own::Refusal;
 use std::alloc::{AllocError, AllocFailed};
 use thiserror::Error;
 

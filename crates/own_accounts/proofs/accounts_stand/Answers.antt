@@ -1,5 +1,5 @@
 -- The law at the step function of accounts.
-use Rattle.sk_speculator.proofs.Law.{runs_whole}
+use Rattle.hidewillow.proofs.OwnLaw.{runs_whole}
 use Rattle.own_accounts.specs.Accounts.{accounts}
 use Rattle.own_accounts.proofs.accounts_stand.Goals as goal
 

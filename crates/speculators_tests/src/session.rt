@@ -264,6 +264,25 @@ impl Session {
             let waiting = self.kernel.waiting(channel);
             holds(waiting == reckoning.waiting(channel), Wrong::Output)?;
         }
+        self.judge_next(&reckoning)
+    }
+
+    /// Whether a channel has an output to take.
+    fn has_next(&self, reckoning: &Reckoning, channel: u16) -> bool {
+        match self.taken_out.get(channel as usize) {
+            Some(count) => reckoning.released(channel, *count).is_some(),
+            None => false,
+        }
+    }
+
+    /// The channel that is named has an output to take. Where none is named, none has, as going through all tells.
+    fn judge_next(&self, reckoning: &Reckoning) -> Result<(), Wrong> {
+        if let Some(channel) = self.kernel.next_channel() {
+            return holds(self.has_next(reckoning, channel), Wrong::Channel);
+        }
+        for channel in 0..CHANNELS {
+            holds(!self.has_next(reckoning, channel), Wrong::Channel)?;
+        }
         Ok(())
     }
 

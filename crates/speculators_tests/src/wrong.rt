@@ -18,6 +18,8 @@ pub enum Wrong {
     Status,
     /// Another output came out, or another number of them waits.
     Output,
+    /// A channel is named that has no output to take, or none is, though one has.
+    Channel,
     /// A failure tells something else.
     Undone,
     /// A step's buffers are not empty after it was taken, or not as they were after it was refused.

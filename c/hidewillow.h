@@ -66,7 +66,9 @@ enum hidewillow_answer {
                                       last one: nothing has changed */
     /* of a handle */
     HIDEWILLOW_HELD = 24,          /* the handle to open holds something: nothing has changed */
-    HIDEWILLOW_CLOSED = 25         /* the handle holds nothing, of which anything could be told */
+    HIDEWILLOW_CLOSED = 25,        /* the handle holds nothing, of which anything could be told */
+    /* of a kernel over its caller's own byte strings */
+    HIDEWILLOW_WRITTEN = 26        /* the step that is being written has it */
 };
 
 typedef struct {
@@ -126,6 +128,122 @@ hidewillow_told hidewillow_counts(hidewillow_handle *handle, hidewillow_counted 
 /* Ends what the handle holds, if anything, and frees its memory; guesses that are left are
  * committed. The handle holds nothing then. */
 void hidewillow_close(hidewillow_handle *handle);
+
+/* ---- A kernel over its caller's own byte strings: keys of up to 65,536 bytes, values and outputs of
+ * up to 16,777,216. The caller takes steps in code of his own, and says of each what it looked at,
+ * what it wrote and what it said. What he says of a step is kept in a draft, which hidewillow_own_take
+ * or hidewillow_own_guess takes in whole; after a refusal the draft is as it was.
+ *
+ * The handle is used as the other one. Of these calls REFUSED tells the number of a refusal, and
+ * nothing has changed: of a part of a step 1 the key is too long, 2 the value is too long; of a guess
+ * 3 as many guesses are undecided as may be, 4 the last number is drawn; of hidewillow_own_open 5 the
+ * limit is 0. Want of memory is MEMORY. Each call tells CLOSED where the handle holds nothing. */
+
+typedef struct { void *at; } hidewillow_own;
+
+typedef struct {
+    size_t keys;      /* that are there, rest on a guess, or were taken back by the last failure */
+    size_t undecided; /* guesses */
+    size_t struck;    /* guesses whose tokens have not come back */
+    uint64_t settled; /* each guess below this number is decided */
+} hidewillow_own_counted;
+
+/* Opens one in which no key is there, of whose guesses `limit` may be undecided at once, with a number
+ * and a seed of the caller's choice. Who doesn't know the seed can't choose keys that are found
+ * slowly. Told: OPENED, REFUSED where the limit is 0, MEMORY or HELD. */
+hidewillow_told hidewillow_own_open(hidewillow_own *own, uint64_t number, uint16_t limit, uint64_t seed);
+
+/* Lets the draft go. Told: WRITTEN. */
+hidewillow_told hidewillow_own_clear(hidewillow_own *own);
+
+/* The step of the draft looked at a key. Told: WRITTEN, REFUSED or MEMORY. */
+hidewillow_told hidewillow_own_look(hidewillow_own *own, const uint8_t *key, size_t key_bytes);
+
+/* It sets what a key has; of two writes of a key the later holds. Told: the same. */
+hidewillow_told hidewillow_own_put(hidewillow_own *own, const uint8_t *key, size_t key_bytes,
+                                   const uint8_t *value, size_t value_bytes);
+
+/* It makes a key absent. Told: the same. */
+hidewillow_told hidewillow_own_remove(hidewillow_own *own, const uint8_t *key, size_t key_bytes);
+
+/* It says this to a channel, and nothing that was said in it before. Told: the same. */
+hidewillow_told hidewillow_own_say(hidewillow_own *own, uint16_t channel, const uint8_t *output,
+                                   size_t output_bytes);
+
+/* Takes the step of the draft, which is empty then. Told: STEPPED or MEMORY. */
+hidewillow_told hidewillow_own_take(hidewillow_own *own);
+
+/* Draws the next guess with the step of the draft, which is empty then. Told: GUESSED with the guess
+ * as `number`, REFUSED or MEMORY. */
+hidewillow_told hidewillow_own_guess(hidewillow_own *own);
+
+/* Commits a guess: nothing rests on it any more. Told: DONE; GONE where another's failure had struck
+ * it; NO_TOKEN where it was never drawn or is decided. */
+hidewillow_told hidewillow_own_commit(hidewillow_own *own, uint64_t guess);
+
+/* Fails a guess: what rests on it is taken back. Told: DONE, where `number` is how many keys it took
+ * back and `bytes` how many guesses it struck; GONE or NO_TOKEN. It takes no memory. */
+hidewillow_told hidewillow_own_fail(hidewillow_own *own, uint64_t guess);
+
+/* Shows the key at a place among those that the last failure took back, from 0 on, in an order of its
+ * own, each once; until the next step or decision. Told: SHOWN, or ABSENT past the last. */
+hidewillow_told hidewillow_own_undone(hidewillow_own *own, size_t place, uint8_t *room,
+                                      size_t room_bytes);
+
+/* Shows what a key has. Told: SHOWN or ABSENT. */
+hidewillow_told hidewillow_own_value(hidewillow_own *own, const uint8_t *key, size_t key_bytes,
+                                     uint8_t *room, size_t room_bytes);
+
+/* Tells the undecided guess at a place among those that a key rests on, from 0 on, by rising number.
+ * Told: SHOWN with the guess as `number`, or ABSENT past the last. */
+hidewillow_told hidewillow_own_tag(hidewillow_own *own, const uint8_t *key, size_t key_bytes,
+                                   size_t place);
+
+/* Shows the next output of a channel that rests on nothing and behind which nothing older waits. It is
+ * gone then if the room has all of it; else it stays, and the next of these calls of this channel shows
+ * it again. Told: SHOWN, ABSENT where none can go out, or MEMORY. */
+hidewillow_told hidewillow_own_released(hidewillow_own *own, uint16_t channel, uint8_t *room,
+                                        size_t room_bytes);
+
+/* Counts keys and guesses, in constant time. Told: SHOWN. */
+hidewillow_told hidewillow_own_counts(hidewillow_own *own, hidewillow_own_counted *counts);
+
+/* Ends what the handle holds, if anything, and frees its memory; guesses that are left are
+ * committed. The handle holds nothing then. */
+void hidewillow_own_close(hidewillow_own *own);
+
+/* A step as arrays of slices, written into the draft in one call. */
+typedef struct { const uint8_t *bytes; size_t count; } hidewillow_slice;
+typedef struct { hidewillow_slice key; hidewillow_slice value; } hidewillow_write;
+typedef struct { uint16_t channel; hidewillow_slice output; } hidewillow_output;
+typedef struct {
+    const hidewillow_slice *looked;
+    size_t looked_count;
+    const hidewillow_write *written;
+    size_t written_count;
+    const hidewillow_slice *removed; /* behind what is written */
+    size_t removed_count;
+    const hidewillow_output *said;   /* or null */
+} hidewillow_step;
+
+/* Told: WRITTEN; else as the part that was refused, and the draft is empty. */
+static inline hidewillow_told hidewillow_own_step(hidewillow_own *own, const hidewillow_step *step) {
+    hidewillow_told told = hidewillow_own_clear(own);
+    size_t i;
+    for (i = 0; told.answer == HIDEWILLOW_WRITTEN && i < step->looked_count; i++)
+        told = hidewillow_own_look(own, step->looked[i].bytes, step->looked[i].count);
+    for (i = 0; told.answer == HIDEWILLOW_WRITTEN && i < step->written_count; i++)
+        told = hidewillow_own_put(own, step->written[i].key.bytes, step->written[i].key.count,
+                                  step->written[i].value.bytes, step->written[i].value.count);
+    for (i = 0; told.answer == HIDEWILLOW_WRITTEN && i < step->removed_count; i++)
+        told = hidewillow_own_remove(own, step->removed[i].bytes, step->removed[i].count);
+    if (told.answer == HIDEWILLOW_WRITTEN && step->said)
+        told = hidewillow_own_say(own, step->said->channel, step->said->output.bytes,
+                                  step->said->output.count);
+    if (told.answer != HIDEWILLOW_WRITTEN)
+        hidewillow_own_clear(own);
+    return told;
+}
 
 #ifdef __cplusplus
 }

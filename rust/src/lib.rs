@@ -1,6 +1,8 @@
 //! Safe Rust over the proved library. `.ci/declarations` compares what is declared here with the
 //! sources of the library.
 #![warn(missing_docs)]
+pub mod speculator;
+
 use std::ffi::c_void;
 use std::fmt;
 
@@ -38,6 +40,25 @@ pub struct Counts {
     pub notes: usize,
 }
 
+#[repr(C)]
+struct Own {
+    at: *mut c_void,
+}
+
+/// How many keys and guesses a kernel over its caller's own byte strings has.
+#[repr(C)]
+#[derive(Debug, Default, Clone, Copy, PartialEq, Eq)]
+pub struct OwnCounts {
+    /// The keys that are there, rest on a guess, or were taken back by the last failure.
+    pub keys: usize,
+    /// The undecided guesses.
+    pub undecided: usize,
+    /// The struck guesses that nobody has decided yet.
+    pub struck: usize,
+    /// Each guess below this number is decided.
+    pub settled: u64,
+}
+
 type Asks = unsafe extern "C" fn(*mut Handle, *const u8, usize, *mut u8, usize) -> Told;
 
 // Each of these takes for granted: the handle is of zeros, or as the last call left it, and this is
@@ -70,14 +91,47 @@ unsafe extern "C" {
     fn hidewillow_report(handle: *mut Handle, room: *mut u8, bytes: usize) -> Told;
     fn hidewillow_counts(handle: *mut Handle, counts: *mut Counts) -> Told;
     fn hidewillow_close(handle: *mut Handle);
+    fn hidewillow_own_open(own: *mut Own, number: u64, limit: u16, seed: u64) -> Told;
+    fn hidewillow_own_clear(own: *mut Own) -> Told;
+    fn hidewillow_own_look(own: *mut Own, key: *const u8, bytes: usize) -> Told;
+    fn hidewillow_own_put(
+        own: *mut Own,
+        key: *const u8,
+        bytes: usize,
+        value: *const u8,
+        value_bytes: usize,
+    ) -> Told;
+    fn hidewillow_own_remove(own: *mut Own, key: *const u8, bytes: usize) -> Told;
+    fn hidewillow_own_say(own: *mut Own, channel: u16, output: *const u8, bytes: usize) -> Told;
+    fn hidewillow_own_take(own: *mut Own) -> Told;
+    fn hidewillow_own_guess(own: *mut Own) -> Told;
+    fn hidewillow_own_commit(own: *mut Own, guess: u64) -> Told;
+    fn hidewillow_own_fail(own: *mut Own, guess: u64) -> Told;
+    fn hidewillow_own_undone(own: *mut Own, place: usize, room: *mut u8, bytes: usize) -> Told;
+    fn hidewillow_own_value(
+        own: *mut Own,
+        key: *const u8,
+        bytes: usize,
+        room: *mut u8,
+        room_bytes: usize,
+    ) -> Told;
+    fn hidewillow_own_tag(own: *mut Own, key: *const u8, bytes: usize, place: usize) -> Told;
+    fn hidewillow_own_released(own: *mut Own, channel: u16, room: *mut u8, bytes: usize) -> Told;
+    fn hidewillow_own_counts(own: *mut Own, counts: *mut OwnCounts) -> Told;
+    fn hidewillow_own_close(own: *mut Own);
 }
 
+const STEPPED: u32 = 0;
+const GUESSED: u32 = 1;
+const DONE: u32 = 2;
+const REFUSED: u32 = 5;
 const FAULT: u32 = 6;
 const MEMORY: u32 = 7;
 const NOTHING: u32 = 8;
 const OPENED: u32 = 9;
 const SHOWN: u32 = 10;
 const ABSENT: u32 = 11;
+const WRITTEN: u32 = 26;
 
 /// An answer is at most this long.
 const ANSWER_BYTES: usize = 64;

@@ -5,3 +5,5 @@ pub mod Lines
 pub mod Opening
 pub mod Asked
 pub mod Exports
+pub mod OwnOwned
+pub mod OwnCalls

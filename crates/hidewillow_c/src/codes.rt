@@ -52,3 +52,5 @@ pub const OTHER_VERSION: u32 = 23;
 pub const HELD: u32 = 24;
 /// The handle holds nothing.
 pub const CLOSED: u32 = 25;
+/// The step that is being written has it.
+pub const WRITTEN: u32 = 26;

@@ -4,23 +4,33 @@
 ghost use Rattle.std.specs.Prelude.{◌≡◌, None};
 ghost use Rattle.hidewillow_c.specs.Exports.{Opens, Takes, Shows, Counted};
 ghost use Rattle.hidewillow_c.specs.Asked.{report_shown, value_shown, tags_shown, terminal_shown};
+ghost use Rattle.hidewillow_c.specs.OwnCalls.{tag_at, undone_at, value_of, Clears, Commits, Fails, Guesses, Looks, OwnCounted, OwnDoes, OwnOpens, OwnReleases, OwnShows, OwnTells, Puts, Removes, Says, Steps};
 
 pub mod asked;
 pub mod codes;
 pub mod handle;
 pub mod kept;
 pub mod opening;
+pub mod own;
+pub mod own_calls;
 pub mod room;
 pub mod told;
 
 use crate::asked::{tell_counts, tell_report, tell_tags, tell_terminal, tell_value};
-use crate::codes::{CLOSED, HELD};
+use crate::codes::{CLOSED, HELD, MEMORY, REFUSED, WRITTEN};
 use crate::handle::Handle;
 use crate::opening::{play_of, tell_line};
+use crate::own::Own;
+use crate::own_calls::{
+    OwnCounts, commit, count, fail, guess, look, put_value, remove, say, take, tell_released,
+    tell_tag, tell_undone,
+};
 use crate::told::Told;
 use sk_counts::Counts;
+use sk_held::Held;
 use std::alloc::Global;
 use std::mem::replace;
+use std::num::NonZeroU16;
 
 /// Opens what a text declares, for a handle that holds nothing: a world where the text ends with the line `world`, else
 /// a kernel. Of a fault the line is told; then, and without memory, the handle still holds nothing.
@@ -147,4 +157,246 @@ pub extern "C" fn hidewillow_close(alloc: Global, handle: &mut Handle)
     ensures { handle.new.held ≡ None }
 {
     let _play = replace(handle, Handle::closed()).into_box(alloc);
+}
+
+/// Opens a kernel over its caller's own byte strings, for a handle that holds nothing: its number, how many guesses may be
+/// undecided at once, and a seed that its users don't know. A limit of 0 is refused.
+#[unsafe(no_mangle)]
+pub extern "C" fn hidewillow_own_open(
+    alloc: Global,
+    own: &mut Own,
+    number: u64,
+    limit: u16,
+    seed: u64,
+) -> Told
+    ensures { OwnOpens number limit result own.old.held own.new.held }
+{
+    if let Some(held) = replace(own, Own::closed()).into_box(alloc) {
+        replace(own, Own::of(held)).let_go();
+        return Told::of(HELD, 0);
+    }
+    let Some(limit) = NonZeroU16::new(limit) else {
+        return Told::of(REFUSED, 5);
+    };
+    match Box::new(alloc, Held::new(alloc, number, limit, seed)) {
+        Ok(held) => {
+            replace(own, Own::of(held)).let_go();
+            Told::opened()
+        }
+        Err(_) => Told::of(MEMORY, 0),
+    }
+}
+
+/// Lets go of the step that is being written.
+#[unsafe(no_mangle)]
+pub extern "C" fn hidewillow_own_clear(alloc: Global, own: &mut Own) -> Told
+    ensures { OwnDoes Clears result own.old.held own.new.held }
+{
+    let Some(mut held) = replace(own, Own::closed()).into_box(alloc) else {
+        return Told::of(CLOSED, 0);
+    };
+    held.clear();
+    replace(own, Own::of(held)).let_go();
+    Told::of(WRITTEN, 0)
+}
+
+/// The step that is being written looked at a key.
+#[unsafe(no_mangle)]
+pub extern "C" fn hidewillow_own_look(alloc: Global, own: &mut Own, key: &[u8]) -> Told
+    ensures { OwnDoes (Looks key.now) result own.old.held own.new.held }
+{
+    let Some(mut held) = replace(own, Own::closed()).into_box(alloc) else {
+        return Told::of(CLOSED, 0);
+    };
+    let told = look(&mut held, key);
+    replace(own, Own::of(held)).let_go();
+    told
+}
+
+/// It sets what a key has.
+#[unsafe(no_mangle)]
+pub extern "C" fn hidewillow_own_put(alloc: Global, own: &mut Own, key: &[u8], value: &[u8]) -> Told
+    ensures { OwnDoes (Puts key.now value.now) result own.old.held own.new.held }
+{
+    let Some(mut held) = replace(own, Own::closed()).into_box(alloc) else {
+        return Told::of(CLOSED, 0);
+    };
+    let told = put_value(&mut held, key, value);
+    replace(own, Own::of(held)).let_go();
+    told
+}
+
+/// It makes a key absent.
+#[unsafe(no_mangle)]
+pub extern "C" fn hidewillow_own_remove(alloc: Global, own: &mut Own, key: &[u8]) -> Told
+    ensures { OwnDoes (Removes key.now) result own.old.held own.new.held }
+{
+    let Some(mut held) = replace(own, Own::closed()).into_box(alloc) else {
+        return Told::of(CLOSED, 0);
+    };
+    let told = remove(&mut held, key);
+    replace(own, Own::of(held)).let_go();
+    told
+}
+
+/// It says this to a channel, and nothing that was said in it before.
+#[unsafe(no_mangle)]
+pub extern "C" fn hidewillow_own_say(
+    alloc: Global,
+    own: &mut Own,
+    channel: u16,
+    output: &[u8],
+) -> Told
+    ensures { OwnDoes (Says channel output.now) result own.old.held own.new.held }
+{
+    let Some(mut held) = replace(own, Own::closed()).into_box(alloc) else {
+        return Told::of(CLOSED, 0);
+    };
+    let told = say(&mut held, channel, output);
+    replace(own, Own::of(held)).let_go();
+    told
+}
+
+/// Takes the step that was written. After a refusal it is as it was.
+#[unsafe(no_mangle)]
+pub extern "C" fn hidewillow_own_take(alloc: Global, own: &mut Own) -> Told
+    ensures { OwnDoes Steps result own.old.held own.new.held }
+{
+    let Some(mut held) = replace(own, Own::closed()).into_box(alloc) else {
+        return Told::of(CLOSED, 0);
+    };
+    let told = take(&mut held);
+    replace(own, Own::of(held)).let_go();
+    told
+}
+
+/// Draws a guess with the step that was written. After a refusal it is as it was.
+#[unsafe(no_mangle)]
+pub extern "C" fn hidewillow_own_guess(alloc: Global, own: &mut Own) -> Told
+    ensures { OwnDoes Guesses result own.old.held own.new.held }
+{
+    let Some(mut held) = replace(own, Own::closed()).into_box(alloc) else {
+        return Told::of(CLOSED, 0);
+    };
+    let told = guess(&mut held);
+    replace(own, Own::of(held)).let_go();
+    told
+}
+
+/// Commits a guess.
+#[unsafe(no_mangle)]
+pub extern "C" fn hidewillow_own_commit(alloc: Global, own: &mut Own, number: u64) -> Told
+    ensures { OwnDoes (Commits number) result own.old.held own.new.held }
+{
+    let Some(mut held) = replace(own, Own::closed()).into_box(alloc) else {
+        return Told::of(CLOSED, 0);
+    };
+    let told = commit(&mut held, number);
+    replace(own, Own::of(held)).let_go();
+    told
+}
+
+/// Fails a guess: tells how many keys it took back, and how many guesses it struck.
+#[unsafe(no_mangle)]
+pub extern "C" fn hidewillow_own_fail(alloc: Global, own: &mut Own, number: u64) -> Told
+    ensures { OwnDoes (Fails number) result own.old.held own.new.held }
+{
+    let Some(mut held) = replace(own, Own::closed()).into_box(alloc) else {
+        return Told::of(CLOSED, 0);
+    };
+    let told = fail(&mut held, number);
+    replace(own, Own::of(held)).let_go();
+    told
+}
+
+/// Shows one of the keys that the last failure took back.
+#[unsafe(no_mangle)]
+pub extern "C" fn hidewillow_own_undone(
+    alloc: Global,
+    own: &mut Own,
+    place: usize,
+    room: &mut [u8],
+) -> Told
+    ensures { OwnShows (undone_at place) result own.old.held own.new.held room.old room.new }
+{
+    let Some(held) = replace(own, Own::closed()).into_box(alloc) else {
+        return Told::of(CLOSED, 0);
+    };
+    let told = tell_undone(&held, place, room);
+    replace(own, Own::of(held)).let_go();
+    told
+}
+
+/// Shows what a key has.
+#[unsafe(no_mangle)]
+pub extern "C" fn hidewillow_own_value(
+    alloc: Global,
+    own: &mut Own,
+    key: &[u8],
+    room: &mut [u8],
+) -> Told
+    ensures { OwnShows (value_of key.now) result own.old.held own.new.held room.old room.new }
+{
+    let Some(held) = replace(own, Own::closed()).into_box(alloc) else {
+        return Told::of(CLOSED, 0);
+    };
+    let told = own_calls::tell_value(&held, key, room);
+    replace(own, Own::of(held)).let_go();
+    told
+}
+
+/// Tells one of the undecided guesses that a key rests on, by its place among them.
+#[unsafe(no_mangle)]
+pub extern "C" fn hidewillow_own_tag(alloc: Global, own: &mut Own, key: &[u8], place: usize) -> Told
+    ensures { OwnTells (tag_at key.now place) result own.old.held own.new.held }
+{
+    let Some(held) = replace(own, Own::closed()).into_box(alloc) else {
+        return Told::of(CLOSED, 0);
+    };
+    let told = tell_tag(&held, key, place);
+    replace(own, Own::of(held)).let_go();
+    told
+}
+
+/// Shows the next output of a channel that rests on nothing, which is gone then if the room has all of it.
+#[unsafe(no_mangle)]
+pub extern "C" fn hidewillow_own_released(
+    alloc: Global,
+    own: &mut Own,
+    channel: u16,
+    room: &mut [u8],
+) -> Told
+    ensures { OwnReleases channel result own.old.held own.new.held room.old room.new }
+{
+    let Some(mut held) = replace(own, Own::closed()).into_box(alloc) else {
+        return Told::of(CLOSED, 0);
+    };
+    let told = tell_released(&mut held, channel, room);
+    replace(own, Own::of(held)).let_go();
+    told
+}
+
+/// Counts keys and guesses, in constant time.
+#[unsafe(no_mangle)]
+pub extern "C" fn hidewillow_own_counts(
+    alloc: Global,
+    own: &mut Own,
+    counts: &mut OwnCounts,
+) -> Told
+    ensures { OwnCounted result own.old.held own.new.held counts.old counts.new }
+{
+    let Some(held) = replace(own, Own::closed()).into_box(alloc) else {
+        return Told::of(CLOSED, 0);
+    };
+    let told = count(&held, counts);
+    replace(own, Own::of(held)).let_go();
+    told
+}
+
+/// Ends what the handle holds: the guesses that are left are committed. The handle holds nothing then.
+#[unsafe(no_mangle)]
+pub extern "C" fn hidewillow_own_close(alloc: Global, own: &mut Own)
+    ensures { own.new.held ≡ None }
+{
+    let _held = replace(own, Own::closed()).into_box(alloc);
 }

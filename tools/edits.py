@@ -71,7 +71,9 @@ def owner_name(line):
     """How the prover names the type, the trait's impl or the trait that a line begins."""
     text = re.sub(r"<[^<>]*>", "", re.sub(r"<[^<>]*>", "", line[2].replace("->", ""))).split("{")[0].split(" where")[0]
     names = [it.strip().lstrip("&").split("::")[-1].split("(")[0].strip() for it in text.split(" for ")]
-    return f"{names[1]}{names[0]}" if len(names) == 2 else names[0]
+    if len(names) == 2:
+        return names[1] if names[0] == "Drop" else f"{names[1]}{names[0]}"
+    return names[0]
 
 
 def functions(path):

@@ -1,17 +1,19 @@
 -- Each declaration keeps what holds of every boot.
-use Rattle.std.proofs.Common.{◌≡◌, ◌≢◌, ◌<◌, ◌==◌, ℕ, Bool, true, false, cond, List, [], length, get_or, Option, Some, is_some, refl, sym, ◌∙◌, arith, length-append}
+use Rattle.std.proofs.Common.{◌≡◌, ◌≢◌, ◌<◌, ◌==◌, ℕ, Bool, true, false, ◌||◌, cond, List, [], ◌∷◌, length, get_or, Option, Some, is_some, refl, sym, ap, ◌∙◌, arith, length-append}
 use Rattle.std.specs.Prelude.{bytes_eq}
 use Rattle.std.specs.List.{list_any}
 use Rattle.std.specs.FinMap as map
-use Rattle.std.specs.FinMap.{get-insert}
-use Rattle.std.specs.Ordering.{eq_by_cmp}
+use Rattle.std.specs.FinMap.{get-insert, get-empty}
+use Rattle.std.specs.Ordering.{eq_by_cmp, nat_cmp}
+use Rattle.std.specs.Cmp.{eq_by_cmp_equiv, nat_cmp_total}
 use Rattle.std.specs.Cmp.Lexicographic.{nat_list_cmp_total}
 use Rattle.std.proofs.lemmas.Bool.{false≢true}
-use Rattle.std.proofs.lemmas.Bool.Decides.{Decides-eqb}
+use Rattle.std.proofs.lemmas.Bool.Decides.{Decides-eqb, nat_tests}
 use Rattle.std.proofs.lemmas.List.Elements.{All-nil, All-push, All-weaker}
-use Rattle.std.proofs.lemmas.List.Folds.{list_any_at}
+use Rattle.std.proofs.lemmas.List.Folds.{list_any_at, list_any-append}
 use Rattle.std.proofs.lemmas.List.Quantifiers.{all_pairs_push}
 use Rattle.std.proofs.lemmas.Slice.Eq.{bytes_eq-Decides}
+use Rattle.std.proofs.lemmas.Map.Text.{is_eq-slice_cmp}
 use Rattle.sk_objects.specs.Content.{ContentView}
 use Rattle.sk_ids.specs.Name.{name_order}
 use Rattle.sk_script.specs.Scripts.{ScriptMap}
@@ -19,7 +21,7 @@ use Rattle.sk_script.specs.declared.instruction.Instruction.{Instruction}
 use Rattle.sk_script.specs.declared.boot.ObjectKind.{ObjectKind}
 use Rattle.sk_script.specs.declared.boot.BootObject.{BootObject}
 use Rattle.sk_script.specs.declared.boot.BootProcess.{BootProcess}
-use Rattle.sk_script.specs.Boot.{BootView, IsBoot, has_script, has_object, has_copy, has_process, with_script, with_object, with_copy, with_process}
+use Rattle.sk_script.specs.Boot.{BootView, IsBoot, has_script, has_object, has_copy, has_process, AreFound, with_script, with_object, with_copy, with_process}
 
 -- where no element passes a test, none does
 none_passes : {X : Type 0} (p : X → Bool) (xs : List X) → list_any p xs ≡ false → (k : ℕ) (d : X) → k < length xs → p (get_or xs k d) ≡ true → ⊥
@@ -83,4 +85,45 @@ process_declared b number script terminal h from_one screen new there = record {
       (λ k d below same. none_passes (λ (p : BootProcess). p.number == number) b.processes new k d below ((Decides-eqb _ number).1 same));
   processes_numbered = All-push (λ (p : BootProcess). (0 < p.number) × (0 < p.terminal)) b.processes (record { number = number; script = script; terminal = terminal }) h.processes_numbered (from_one, screen);
   scripts_there = All-push (λ (p : BootProcess). has_script b p.script ≡ true) b.processes (record { number = number; script = script; terminal = terminal }) h.scripts_there there;
+}
+
+-- ---- what is found by name and number
+
+more_found : (test before : Bool) (o : Option (Unit {0})) (u : Unit {0}) → is_some o ≡ before → is_some (cond test (Some u) o) ≡ (before || (test || false))
+more_found true true o u is = refl
+more_found true false o u is = refl
+more_found false true o u is = is
+more_found false false o u is = is
+
+pub none_found : AreFound map.empty map.empty (record { scripts = map.empty; objects = []; copies = []; processes = [] })
+none_found = record { copies = λ name. rw (get-empty name_order name) refl; processes = λ number. rw (get-empty nat_cmp number) refl }
+
+-- what has no name or number of a copy or process leaves them as they are
+pub still_found : (copied : map.FinMap name_order (Unit {0})) (numbered : map.FinMap nat_cmp (Unit {0})) (b : BootView) (scripts : ScriptMap) (objects : List BootObject)
+    → AreFound copied numbered b → AreFound copied numbered (record b { scripts = scripts; objects = objects })
+still_found copied numbered b scripts objects h = record { copies = h.copies; processes = h.processes }
+
+pub copy_found : (copied : map.FinMap name_order (Unit {0})) (numbered : map.FinMap nat_cmp (Unit {0})) (b : BootView) (name : List ℕ) (u : Unit {0}) (content : ContentView)
+    → AreFound copied numbered b → AreFound (map.insert copied name u) numbered (with_copy b name content)
+copy_found copied numbered b name u content h = record {
+  copies = λ other.
+      let ties : eq_by_cmp name_order other name ≡ bytes_eq name other =
+      (eq_by_cmp_equiv nat_list_cmp_total).symm other name ∙ is_eq-slice_cmp name other in
+      rw (get-insert nat_list_cmp_total copied name u other)
+      (more_found (eq_by_cmp name_order other name) (has_copy b other) (map.get copied other) u (h.copies other)
+      ∙ ap (λ t. has_copy b other || (t || false)) ties
+      ∙ sym (list_any-append (λ (c : List ℕ × ContentView). bytes_eq c.0 other) b.copies ((name, content) ∷ [])));
+  processes = h.processes;
+}
+
+pub process_found : (copied : map.FinMap name_order (Unit {0})) (numbered : map.FinMap nat_cmp (Unit {0})) (b : BootView) (number : ℕ) (u : Unit {0}) (script : List ℕ) (terminal : ℕ)
+    → AreFound copied numbered b → AreFound copied (map.insert numbered number u) (with_process b number script terminal)
+process_found copied numbered b number u script terminal h = record {
+  copies = h.copies;
+  processes = λ other.
+      let ties : eq_by_cmp nat_cmp other number ≡ (number == other) = grind (arith, nat_tests) in
+      rw (get-insert nat_cmp_total numbered number u other)
+      (more_found (eq_by_cmp nat_cmp other number) (has_process b other) (map.get numbered other) u (h.processes other)
+      ∙ ap (λ t. has_process b other || (t || false)) ties
+      ∙ sym (list_any-append (λ (p : BootProcess). p.number == other) b.processes (record { number = number; script = script; terminal = terminal } ∷ [])));
 }

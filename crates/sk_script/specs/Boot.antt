@@ -3,6 +3,8 @@ use Rattle.std.specs.Prelude.{◌≡◌, ◌≢◌, ◌<◌, ◌≤◌, ℕ, Boo
 use Rattle.std.specs.List.{list_any}
 use Rattle.std.specs.FinMap as map
 use Rattle.std.specs.Coded.{Coded, code_by, coded×, coded_ℕ, coded_list}
+use Rattle.std.specs.Ordering.{nat_cmp}
+use Rattle.sk_ids.specs.Name.{name_order}
 use Rattle.sk_objects.specs.Content.{ContentView, content_code}
 use Rattle.sk_script.specs.Scripts.{ScriptMap, script_map_code}
 use Rattle.sk_script.specs.declared.instruction.Instruction.{Instruction}
@@ -45,6 +47,11 @@ has_copy b name = list_any (λ c. bytes_eq c.0 name) b.copies
 
 abbrev pub has_process : BootView → ℕ → Bool
 has_process b number = list_any (λ p. p.number == number) b.processes
+
+-- found are the copies by their names and the processes by their numbers, and nothing else
+pub record AreFound (copied : map.FinMap name_order (Unit {0})) (numbered : map.FinMap nat_cmp (Unit {0})) (b : BootView) : Type 0 where
+  pub copies : (name : List ℕ) → is_some (map.get copied name) ≡ has_copy b name
+  pub processes : (number : ℕ) → is_some (map.get numbered number) ≡ has_process b number
 
 -- What holds of every boot: it has at most 64 objects, no two objects or copies have one name, and no two processes
 -- one number. Each process and its terminal have a number from 1 on, and its script is there.

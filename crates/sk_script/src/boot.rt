@@ -8,6 +8,7 @@ ghost use Rattle.sk_script.specs.declared.boot.ObjectKind.TheVariants.{Dir};
 
 use crate::{Script, Scripts};
 use sk_ids::{Name, Text};
+use sk_map::Map;
 use sk_objects::Content;
 use std::alloc::{AllocError, AllocFailed, Global};
 use std::marker::Model;
@@ -84,11 +85,18 @@ pub struct Boot {
     scripts: Scripts,
     objects: Vec<BootObject>,
     copies: Vec<(Name, Content)>,
+    /// The names of the copies.
+    copied: Map<Name, ()>,
     processes: Vec<BootProcess>,
+    /// The numbers of the processes.
+    numbered: Map<u16, ()>,
 }
 
 impl Model for Boot {
-    ghost use Rattle.sk_script.specs.Boot.{BootView, boot_code, IsBoot};
+    ghost use Rattle.std.specs.Ordering.{nat_cmp};
+    ghost use Rattle.sk_ids.specs.Name.{name_order};
+    ghost use Rattle.sk_map.specs.Seen.{seen};
+    ghost use Rattle.sk_script.specs.Boot.{BootView, boot_code, IsBoot, AreFound};
 
     ghost Value = { BootView };
 
@@ -101,7 +109,15 @@ impl Model for Boot {
       processes = b.processes.items;
     } };
 
-    ghost invariant = { λ b. IsBoot
+    ghost invariant = { λ b.
+        IsBoot
+        (record {
+          scripts = b.scripts;
+          objects = b.objects.items;
+          copies = b.copies.items;
+          processes = b.processes.items;
+        })
+        × AreFound (seen name_order b.copied) (seen nat_cmp b.numbered)
         (record {
           scripts = b.scripts;
           objects = b.objects.items;
@@ -120,7 +136,9 @@ impl Boot {
             scripts: Scripts::new(alloc),
             objects: Vec::new(alloc),
             copies: Vec::new(alloc),
+            copied: Map::new(alloc),
             processes: Vec::new(alloc),
+            numbered: Map::new(alloc),
         }
     }
 
@@ -163,7 +181,9 @@ impl Boot {
         if self.has_copy(&name) {
             return Err(BootFault::Duplicate);
         }
-        self.copies.push((name, content))?;
+        self.copies.reserve(1)?;
+        self.copied.put(name, ())?;
+        self.copies.push_reserved((name, content));
         Ok(())
     }
 
@@ -181,11 +201,13 @@ impl Boot {
         if self.scripts.get(script).is_none() {
             return Err(BootFault::NoScript);
         }
-        self.processes.push(BootProcess {
+        self.processes.reserve(1)?;
+        self.numbered.put(number, ())?;
+        self.processes.push_reserved(BootProcess {
             number,
             script: *script,
             terminal,
-        })?;
+        });
         Ok(())
     }
 
@@ -230,14 +252,12 @@ impl Boot {
     fn has_copy(&self, name: &Name) -> bool
         ensures { result ≡ has_copy self.now name.now }
     {
-        self.copies.iter().any(|(other, _)| *other == *name)
+        self.copied.get(name).is_some()
     }
 
     fn has_process(&self, number: u16) -> bool
         ensures { result ≡ has_process self.now number }
     {
-        self.processes
-            .iter()
-            .any(|process| process.number == number)
+        self.numbered.get(&number).is_some()
     }
 }

@@ -1,5 +1,5 @@
 -- One instruction more is done, or there is none to do, and then the rest does nothing.
-use Rattle.std.proofs.Common.{◌≡◌, ℕ, zero, suc, ◌+◌, ◌-◌, true, false, refl, sym, ◌∙◌, ap, subst, arith}
+use Rattle.std.proofs.Common.{◌≡◌, ℕ, zero, suc, ◌+◌, ◌-◌, false, refl, sym, ◌∙◌, ap, subst, arith}
 use Rattle.sk_script.specs.Lease.{LeaseView, advanced, ran, Advances}
 use Rattle.sk_script.proofs.lease.Lease.run.Goals as goal
 

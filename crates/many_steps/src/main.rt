@@ -15,6 +15,11 @@ use thiserror::Error;
 /// How many channels are written to.
 const CHANNELS: u64 = 3;
 
+/// What a key has.
+type Row = (u64, u64);
+
+type Kernel = Speculator<u64, Row, u64>;
+
 /// Why a run stops.
 #[derive(Debug, Drop, Error)]
 enum RunStop {

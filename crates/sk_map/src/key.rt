@@ -14,6 +14,17 @@ pub trait Key: Ord + Copy {
     ghost exact: { IsAntisymmetric Self.cmp };
 }
 
+impl Key for u8 {
+    ghost use Rattle.std.specs.Ordering.{nat_cmp};
+    ghost use Rattle.std.specs.FinMap.{nat_cmp-IsAntisymmetric};
+
+    ghost order = { nat_cmp };
+
+    ghost same = { refl };
+
+    ghost exact = { nat_cmp-IsAntisymmetric };
+}
+
 impl Key for u16 {
     ghost use Rattle.std.specs.Ordering.{nat_cmp};
     ghost use Rattle.std.specs.FinMap.{nat_cmp-IsAntisymmetric};
@@ -23,6 +34,40 @@ impl Key for u16 {
     ghost same = { refl };
 
     ghost exact = { nat_cmp-IsAntisymmetric };
+}
+
+impl Key for u32 {
+    ghost use Rattle.std.specs.Ordering.{nat_cmp};
+    ghost use Rattle.std.specs.FinMap.{nat_cmp-IsAntisymmetric};
+
+    ghost order = { nat_cmp };
+
+    ghost same = { refl };
+
+    ghost exact = { nat_cmp-IsAntisymmetric };
+}
+
+impl Key for u64 {
+    ghost use Rattle.std.specs.Ordering.{nat_cmp};
+    ghost use Rattle.std.specs.FinMap.{nat_cmp-IsAntisymmetric};
+
+    ghost order = { nat_cmp };
+
+    ghost same = { refl };
+
+    ghost exact = { nat_cmp-IsAntisymmetric };
+}
+
+impl<const N: usize> Key for [u8; N] {
+    ghost use Rattle.std.specs.Ordering.{nat_cmp};
+    ghost use Rattle.std.specs.Cmp.Lexicographic.{slice_cmp};
+    ghost use Rattle.std.specs.FinMap.{nat_cmp-IsAntisymmetric, slice_cmp-IsAntisymmetric};
+
+    ghost order = { slice_cmp nat_cmp };
+
+    ghost same = { refl };
+
+    ghost exact = { slice_cmp-IsAntisymmetric nat_cmp-IsAntisymmetric };
 }
 
 impl Key for Name {

@@ -1,7 +1,9 @@
 //! What a frame looks like, and what begins with one.
+ghost use Rattle.std.specs.Prelude.{◌<◌};
+
 use crate::support::copied;
 use sk_log::{FrameRefusal, Front, append, first_number, front_of, seal};
-use std::test::Fail;
+use std::process::Abort;
 
 /// The frame of segment 3 with the number 129 and the payload 'hi', reckoned by hand: 129 is 1 and 1 * 128, the bytes of 'hi'
 /// sum up to 209, which is 81 and 1 * 128, and those of the front to 2,905, which 5,632 exceeds by 2,727 = 39 + 21 * 128.
@@ -10,73 +12,94 @@ const HI: [u8; 26] = [
     128, 128, 128, 167, 149, 104, 105,
 ];
 
-#[test]
-fn frame_is_the_one_reckoned_by_hand(rt: HostRuntime) -> Result<(), Fail> {
-    let mut log = copied(rt.alloc(), b"x")?;
-    let mut answer = append(&mut log, 3, 129, b"hi");
-    if answer == Err(FrameRefusal::Memory) {
-        assert_eq!(rt; log.as_slice(), b"x".as_slice());
-        answer = append(&mut log, 3, 129, b"hi");
+/// Appends the frame; once more where memory was refused and the log is as it was.
+fn appends_to(rt: &impl Abort, log: &mut Vec<u8>) -> Result<(), FrameRefusal> {
+    match append(log, 3, 129, b"hi") {
+        Err(FrameRefusal::Memory) => {
+            assert!(rt; log.as_slice() == b"x".as_slice());
+            append(log, 3, 129, b"hi")
+        }
+        answer => answer,
     }
-    assert_eq!(rt; answer, Ok(()));
-    assert_eq!(rt; log.as_slice().get(1..), Some(HI.as_slice()));
+}
+
+/// Room for a frame of this payload is sealed.
+fn seals(rt: &impl Abort) {
     let mut room = [0; 26];
     room[24] = b'h';
     room[25] = b'i';
     seal(&mut room, 3, 129);
-    assert_eq!(rt; room, HI);
-    Ok(())
+    assert!(rt; room == HI);
+}
+
+#[test]
+fn frame_is_the_one_reckoned_by_hand(rt: HostRuntime) {
+    let mut log = copied(rt.alloc(), b"x").expect(&rt, "memory");
+    assert!(rt; appends_to(&rt, &mut log) == Ok(()));
+    assert!(rt; log.as_slice().get(1..) == Some(HI.as_slice()));
+    seals(&rt);
+}
+
+/// What so many bytes of the frame are told to be.
+fn told_of(len: usize) -> Option<Front> {
+    let part = HI.as_slice().get(..len)?;
+    Some(front_of(part, 3, 129))
+}
+
+fn expected_of(len: usize) -> Front {
+    match len {
+        0..24 => Front::Short(24),
+        24..26 => Front::Short(26),
+        _ => Front::Whole(2),
+    }
+}
+
+/// The frame is none of this number in this segment.
+fn is_other(rt: &impl Abort, segment: u64, number: u64) {
+    assert!(rt;
+        front_of(&HI, segment, number) == Front::Other,
+        "{segment} {number}"
+    );
 }
 
 #[test]
 fn front_is_told_of_each_part_of_a_frame(rt: HostRuntime) {
     for len in 0..=26 {
-        let expected = match len {
-            0..24 => Front::Short(24),
-            24..26 => Front::Short(26),
-            _ => Front::Whole(2),
-        };
-        assert_eq!(rt;
-            HI.as_slice().get(..len).map(|part| front_of(part, 3, 129)),
-            Some(expected),
-            "{len}"
-        );
+        assert!(rt; told_of(len) == Some(expected_of(len)), "{len}");
     }
     for (segment, number) in [(2, 129), (3, 128), (3, 130), (1 << 28, 129), (3, 1 << 56)] {
-        assert_eq!(rt;
-            front_of(&HI, segment, number),
-            Front::Other,
-            "{segment} {number}"
-        );
+        is_other(&rt, segment, number);
     }
+}
+
+/// A byte of the frame loses all bits but these, which is told where it changes anything.
+fn loses(rt: &impl Abort, place: usize, left: u8)
+    requires { place < 26 }
+{
+    let mut bytes = HI;
+    bytes[place] &= left;
+    let expected = if bytes == HI {
+        Front::Whole(2)
+    } else {
+        Front::Other
+    };
+    assert!(rt; front_of(&bytes, 3, 129) == expected, "{place} {left}");
 }
 
 #[test]
 fn lost_bytes_and_bits_are_told(rt: HostRuntime) {
     for place in 0..26 {
         for left in [0, 1, 127, 128, 254] {
-            let mut bytes = HI;
-            bytes[place] &= left;
-            let expected = if bytes == HI {
-                Front::Whole(2)
-            } else {
-                Front::Other
-            };
-            assert_eq!(rt; front_of(&bytes, 3, 129), expected, "{place} {left}");
+            loses(&rt, place, left);
         }
     }
 }
 
 #[test]
 fn first_number_is_that_of_the_first_head(rt: HostRuntime) {
-    assert_eq!(rt; first_number(&HI, 3), Some(129));
-    assert_eq!(rt; first_number(&HI, 2), None);
-    assert_eq!(rt; first_number(&HI, 1 << 28), None);
-    assert_eq!(rt; first_number(&[0; 26], 3), None);
-    assert_eq!(rt;
-        HI.as_slice()
-            .get(..23)
-            .and_then(|part| first_number(part, 3)),
-        None
-    );
+    assert!(rt; first_number(&HI, 3) == Some(129));
+    let rows: [(&[u8], u64); 4] = [(&HI, 2), (&HI, 1 << 28), (&[0; 26], 3), (&HI[..23], 3)];
+    for (bytes, segment) in rows {
+        assert!(rt; first_number(bytes, segment).is_none());
+    }
 }

@@ -30,6 +30,21 @@ pub fn copied(alloc: Global, bytes: &[u8]) -> Result<Vec<u8>, AllocError> {
     Ok(copy)
 }
 
+/// Appends the frames of these payloads.
+fn write_all(
+    log: &mut Vec<u8>,
+    segment: u64,
+    first: u64,
+    payloads: &[&[u8]],
+) -> Result<(), FrameRefusal> {
+    let mut number = first;
+    for payload in payloads {
+        append_again(log, segment, number, payload)?;
+        number = number.saturating_add(1);
+    }
+    Ok(())
+}
+
 /// The frames of these payloads, and so many zeros.
 pub fn written(
     alloc: Global,
@@ -39,11 +54,7 @@ pub fn written(
     zeros: &[u8],
 ) -> Result<Vec<u8>, FrameRefusal> {
     let mut log = Vec::new(alloc);
-    let mut number = first;
-    for payload in payloads {
-        append_again(&mut log, segment, number, payload)?;
-        number = number.saturating_add(1);
-    }
+    write_all(&mut log, segment, first, payloads)?;
     if log.extend_from_slice(zeros).is_err() {
         log.extend_from_slice(zeros)?;
     }
@@ -65,18 +76,39 @@ fn feed_again(recovery: &mut Recovery, piece: &[u8]) -> Result<(), PieceRefusal>
     }
 }
 
+/// Adds a payload and a comma, for which memory is asked once more where it was refused.
+fn add(payloads: &mut Vec<u8>, payload: &[u8]) -> Result<(), AllocError> {
+    let more = payload.len().saturating_add(1);
+    if payloads.reserve(more).is_err() {
+        payloads.reserve(more)?;
+    }
+    payloads.extend_from_slice(payload)?;
+    payloads.push(b',')?;
+    Ok(())
+}
+
 /// Takes the payloads of all frames that came.
 fn take_payloads(recovery: &mut Recovery, payloads: &mut Vec<u8>) -> Result<(), AllocError> {
     for _ in 0..1_000 {
         let Some(payload) = recovery.payload() else {
             return Ok(());
         };
-        if payloads.reserve(payload.len().saturating_add(1)).is_err() {
-            payloads.reserve(payload.len().saturating_add(1))?;
-        }
-        payloads.extend_from_slice(payload)?;
-        payloads.push(b',')?;
+        add(payloads, payload)?;
         recovery.pass();
+    }
+    Ok(())
+}
+
+/// Feeds a segment in pieces of at most so many bytes, and takes its payloads.
+fn take_all(
+    recovery: &mut Recovery,
+    bytes: &[u8],
+    piece_len: usize,
+    payloads: &mut Vec<u8>,
+) -> Result<(), PieceRefusal> {
+    for piece in bytes.chunks(piece_len.max(1)) {
+        feed_again(recovery, piece)?;
+        take_payloads(recovery, payloads)?;
     }
     Ok(())
 }
@@ -85,10 +117,7 @@ fn take_payloads(recovery: &mut Recovery, payloads: &mut Vec<u8>) -> Result<(), 
 pub fn read(alloc: Global, bytes: &[u8], piece_len: usize) -> Result<Found, PieceRefusal> {
     let mut recovery = Recovery::new(alloc, SEGMENT, FIRST);
     let mut payloads = Vec::new(alloc);
-    for piece in bytes.chunks(piece_len.max(1)) {
-        feed_again(&mut recovery, piece)?;
-        take_payloads(&mut recovery, &mut payloads)?;
-    }
+    take_all(&mut recovery, bytes, piece_len, &mut payloads)?;
     let end = recovery.end(40);
     Ok(Found { payloads, end })
 }

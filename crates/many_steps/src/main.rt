@@ -41,14 +41,26 @@ impl<T: Drop> From<AllocFailed<T>> for RunStop {
     }
 }
 
+/// What each step does.
+#[derive(Clone, Copy, Debug, PartialEq, Eq)]
+enum Deed {
+    /// Looks at one key, writes it and another, which it makes absent now and then, and every fourth says something.
+    Mixed,
+    /// Looks at one key and writes it.
+    Write,
+    /// The same, and says something.
+    Say,
+}
+
 /// What is asked for.
 #[derive(Clone, Copy, Debug)]
 struct StepPlan {
     guesses: u64,
-    /// How many steps each guess has before it is decided.
+    /// How many steps each guess has before it is decided; without guesses, how many there are in all.
     steps: u64,
     /// How many keys there are.
     keys: u16,
+    deed: Deed,
 }
 
 /// A number that a number leads to.
@@ -59,41 +71,58 @@ fn next(number: u64) -> u64 {
 }
 
 /// Some of the keys.
-fn key_of(number: u64, keys: u16) -> u16 {
+fn key_of(number: u64, keys: u16) -> u64 {
     let key = (number >> 48) as u16;
-    if keys == 0 { key } else { key % keys }
+    u64::from(if keys == 0 { key } else { key % keys })
 }
 
-/// Puts the step of a number into its buffers: it looks at one key, writes it and another, which it makes absent now and then,
-/// and may say something.
-fn fill(
-    kernel: &Speculator<u16, u64, u64>,
-    step: &mut Step<u16, u64, u64>,
+/// What a step says: a number, to a channel that follows from it.
+fn said(number: u64) -> Option<(u16, u64)> {
+    Some(((number % CHANNELS) as u16, number))
+}
+
+/// Puts a look at a key and a write of it into a step's buffers.
+fn fill_one(
+    kernel: &Kernel,
+    step: &mut Step<u64, Row, u64>,
+    key: u64,
     number: u64,
-    keys: u16,
 ) -> Result<(), AllocError> {
-    let own_number = next(number);
-    let other_number = next(own_number);
-    let own = key_of(own_number, keys);
-    let has = kernel.value(&own).copied().unwrap_or(0);
-    step.looked.push(own)?;
-    step.written.push((own, Some(has.wrapping_add(number))))?;
-    let value = if other_number % 8 < 2 {
-        None
-    } else {
-        Some(number)
+    let (times, sum) = kernel.value(&key).copied().unwrap_or((0, 0));
+    step.looked.push(key)?;
+    let row = (times.wrapping_add(1), sum.wrapping_add(number));
+    step.written.push((key, Some(row)))?;
+    Ok(())
+}
+
+/// Puts the step of a number into its buffers.
+fn fill(
+    kernel: &Kernel,
+    step: &mut Step<u64, Row, u64>,
+    number: u64,
+    plan: StepPlan,
+) -> Result<(), AllocError> {
+    let own = next(number);
+    fill_one(kernel, step, key_of(own, plan.keys), number)?;
+    step.said = match plan.deed {
+        Deed::Mixed if number % 4 == 0 => said(number),
+        Deed::Mixed | Deed::Write => None,
+        Deed::Say => said(number),
     };
-    step.written.push((key_of(other_number, keys), value))?;
-    step.said = if number % 4 == 0 {
-        Some(((number % CHANNELS) as u16, number))
-    } else {
-        None
-    };
+    if plan.deed == Deed::Mixed {
+        let other = next(own);
+        let row = if other % 8 < 2 {
+            None
+        } else {
+            Some((1, number))
+        };
+        step.written.push((key_of(other, plan.keys), row))?;
+    }
     Ok(())
 }
 
 /// Decides a guess of this kernel, which is undecided.
-fn decide(kernel: &mut Speculator<u16, u64, u64>, guess: Guess, is_right: bool)
+fn decide(kernel: &mut Kernel, guess: Guess, is_right: bool)
     requires { IsOwn kernel.old guess }
 {
     if is_right {
@@ -111,8 +140,8 @@ fn decide(kernel: &mut Speculator<u16, u64, u64>, guess: Guess, is_right: bool)
 
 /// So many steps, by these numbers from a first one on. No guess is drawn or decided.
 fn take_all(
-    kernel: &mut Speculator<u16, u64, u64>,
-    step: &mut Step<u16, u64, u64>,
+    kernel: &mut Kernel,
+    step: &mut Step<u64, Row, u64>,
     first: u64,
     plan: StepPlan,
 ) -> Result<(), RunStop>
@@ -120,7 +149,7 @@ fn take_all(
     ensures opens { numbers kernel.new.opens ≡ numbers kernel.old.opens }
 {
     for turn in 0..plan.steps {
-        fill(kernel, step, first.wrapping_add(turn), plan.keys)?;
+        fill(kernel, step, first.wrapping_add(turn), plan)?;
         kernel.take(step)?;
     }
     Ok(())
@@ -128,33 +157,33 @@ fn take_all(
 
 /// Draws a guess with a step.
 fn guess(
-    kernel: &mut Speculator<u16, u64, u64>,
-    step: &mut Step<u16, u64, u64>,
+    kernel: &mut Kernel,
+    step: &mut Step<u64, Row, u64>,
     number: u64,
-    keys: u16,
+    plan: StepPlan,
 ) -> Result<Guess, RunStop>
     ensures { IfOk result (λ guess. IsOwn kernel.new guess) }
 {
-    fill(kernel, step, number, keys)?;
+    fill(kernel, step, number, plan)?;
     Ok(kernel.guess(step)?)
 }
 
 /// A guess with its steps and its decision. A token can't be let go, so that it is spent before any `?`.
 fn round(
-    kernel: &mut Speculator<u16, u64, u64>,
-    step: &mut Step<u16, u64, u64>,
+    kernel: &mut Kernel,
+    step: &mut Step<u64, Row, u64>,
     first: u64,
     plan: StepPlan,
     is_right: bool,
 ) -> Result<(), RunStop> {
-    let token = guess(kernel, step, first, plan.keys)?;
+    let token = guess(kernel, step, first, plan)?;
     let went = take_all(kernel, step, first.wrapping_add(1), plan);
     decide(kernel, token, is_right);
     went
 }
 
 /// Takes out what has come out: how many outputs these are.
-fn take_out(kernel: &mut Speculator<u16, u64, u64>, most: u64) -> u64 {
+fn take_out(kernel: &mut Kernel, most: u64) -> u64 {
     let mut count = 0u64;
     for turn in 0..most {
         if kernel.released((turn % CHANNELS) as u16).is_some() {
@@ -165,13 +194,13 @@ fn take_out(kernel: &mut Speculator<u16, u64, u64>, most: u64) -> u64 {
 }
 
 /// All of it: how many outputs came out.
-fn run(
-    kernel: &mut Speculator<u16, u64, u64>,
-    alloc: Global,
-    plan: StepPlan,
-) -> Result<u64, RunStop> {
+fn run(kernel: &mut Kernel, alloc: Global, plan: StepPlan) -> Result<u64, RunStop> {
     let mut step = Step::new(alloc);
     let mut told = 0u64;
+    if plan.guesses == 0 {
+        take_all(kernel, &mut step, 0, plan)?;
+        told = take_out(kernel, plan.steps);
+    }
     for turn in 0..plan.guesses {
         let first = turn.wrapping_mul(plan.steps.wrapping_add(1));
         round(kernel, &mut step, first, plan, turn % 2 == 0)?;
@@ -188,13 +217,23 @@ fn number(word: Option<&String>) -> anyhow::Result<u64> {
     }
 }
 
-/// The plan that three words of the command line say.
+/// What the fourth word says that each step does: `write`, `say`, or else the mixed deed.
+fn read_deed(word: Option<&String>) -> Deed {
+    match word {
+        Some(word) if word.as_str() == "write" => Deed::Write,
+        Some(word) if word.as_str() == "say" => Deed::Say,
+        _ => Deed::Mixed,
+    }
+}
+
+/// The plan that the words of the command line say.
 fn read_plan(rt: &HostRuntime) -> anyhow::Result<StepPlan> {
     let words = env::args(rt)?.collect::<Vec<String>>(rt.alloc())?;
     Ok(StepPlan {
         guesses: number(words.get(1))?,
         steps: number(words.get(2))?,
         keys: u16::try_from(number(words.get(3))?)?,
+        deed: read_deed(words.get(4)),
     })
 }
 

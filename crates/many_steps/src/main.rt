@@ -5,15 +5,20 @@ ghost use Rattle.std.specs.Prelude.{◌≡◌, IfOk};
 ghost use Rattle.hidewillow.specs.UndoState.{numbers};
 ghost use Rattle.many_steps.specs.Own.{IsOwn};
 
+mod plan;
+
 use hidewillow::Guess;
 use hidewillow::own::{Refusal, Speculator, Step};
+use plan::{Deed, StepPlan, read_plan};
 use std::alloc::{AllocError, AllocFailed, Global};
-use std::env;
 use std::num::NonZeroU16;
 use thiserror::Error;
 
 /// How many channels are written to.
 const CHANNELS: u64 = 3;
+
+/// The first of the keys that no step goes over.
+const BEHIND: u64 = 1 << 32;
 
 /// What a key has.
 type Row = (u64, u64);
@@ -39,28 +44,6 @@ impl<T: Drop> From<AllocFailed<T>> for RunStop {
     fn from(_: AllocFailed<T>) -> RunStop {
         RunStop::Memory
     }
-}
-
-/// What each step does.
-#[derive(Clone, Copy, Debug, PartialEq, Eq)]
-enum Deed {
-    /// Looks at one key, writes it and another, which it makes absent now and then, and every fourth says something.
-    Mixed,
-    /// Looks at one key and writes it.
-    Write,
-    /// The same, and says something.
-    Say,
-}
-
-/// What is asked for.
-#[derive(Clone, Copy, Debug)]
-struct StepPlan {
-    guesses: u64,
-    /// How many steps each guess has before it is decided; without guesses, how many there are in all.
-    steps: u64,
-    /// How many keys there are.
-    keys: u16,
-    deed: Deed,
 }
 
 /// A number that a number leads to.
@@ -121,7 +104,8 @@ fn fill(
     Ok(())
 }
 
-/// Decides a guess of this kernel, which is undecided.
+/// Decides a guess of this kernel, which is undecided. It stays a function of its own, so that what it takes can be counted alone.
+#[inline(never)]
 fn decide(kernel: &mut Kernel, guess: Guess, is_right: bool)
     requires { IsOwn kernel.old guess }
 {
@@ -193,48 +177,53 @@ fn take_out(kernel: &mut Kernel, most: u64) -> u64 {
     count
 }
 
-/// All of it: how many outputs came out.
-fn run(kernel: &mut Kernel, alloc: Global, plan: StepPlan) -> Result<u64, RunStop> {
-    let mut step = Step::new(alloc);
-    let mut told = 0u64;
-    if plan.guesses == 0 {
-        take_all(kernel, &mut step, 0, plan)?;
-        told = take_out(kernel, plan.steps);
+/// Makes keys present that no step goes over.
+fn make_present(
+    kernel: &mut Kernel,
+    step: &mut Step<u64, Row, u64>,
+    plan: StepPlan,
+) -> Result<(), RunStop> {
+    for turn in 0..plan.present {
+        let key = BEHIND.wrapping_add(turn);
+        step.written.push((key, Some((1, turn))))?;
+        kernel.take(step)?;
     }
-    for turn in 0..plan.guesses {
-        let first = turn.wrapping_mul(plan.steps.wrapping_add(1));
-        round(kernel, &mut step, first, plan, turn % 2 == 0)?;
-        told = told.wrapping_add(take_out(kernel, plan.steps.saturating_add(3)));
+    Ok(())
+}
+
+/// The steps without a guess, behind each of which what it said is taken out: how many outputs these are.
+fn take_alone(
+    kernel: &mut Kernel,
+    step: &mut Step<u64, Row, u64>,
+    plan: StepPlan,
+) -> Result<u64, RunStop> {
+    let mut told = 0u64;
+    for turn in 0..plan.steps {
+        fill(kernel, step, turn, plan)?;
+        kernel.take(step)?;
+        if plan.deed.says() && kernel.released((turn % CHANNELS) as u16).is_some() {
+            told = told.wrapping_add(1);
+        }
     }
     Ok(told)
 }
 
-/// The number that a word says; 0 where there is no word.
-fn number(word: Option<&String>) -> anyhow::Result<u64> {
-    match word {
-        Some(word) => Ok(word.parse::<u64>()?),
-        None => Ok(0),
+/// All of it: how many outputs came out.
+fn run(kernel: &mut Kernel, alloc: Global, plan: StepPlan) -> Result<u64, RunStop> {
+    let mut step = Step::new(alloc);
+    make_present(kernel, &mut step, plan)?;
+    if plan.guesses == 0 {
+        return take_alone(kernel, &mut step, plan);
     }
-}
-
-/// What the fourth word says that each step does: `write`, `say`, or else the mixed deed.
-fn read_deed(word: Option<&String>) -> Deed {
-    match word {
-        Some(word) if word.as_str() == "write" => Deed::Write,
-        Some(word) if word.as_str() == "say" => Deed::Say,
-        _ => Deed::Mixed,
+    let mut told = 0u64;
+    for turn in 0..plan.guesses {
+        let first = turn.wrapping_mul(plan.steps.wrapping_add(1));
+        round(kernel, &mut step, first, plan, plan.ends.is_right(turn))?;
+        if plan.deed.says() {
+            told = told.wrapping_add(take_out(kernel, plan.steps.saturating_add(3)));
+        }
     }
-}
-
-/// The plan that the words of the command line say.
-fn read_plan(rt: &HostRuntime) -> anyhow::Result<StepPlan> {
-    let words = env::args(rt)?.collect::<Vec<String>>(rt.alloc())?;
-    Ok(StepPlan {
-        guesses: number(words.get(1))?,
-        steps: number(words.get(2))?,
-        keys: u16::try_from(number(words.get(3))?)?,
-        deed: read_deed(words.get(4)),
-    })
+    Ok(told)
 }
 
 fn main(rt: HostRuntime) -> anyhow::Result<()> {

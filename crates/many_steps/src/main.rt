@@ -17,9 +17,6 @@ use thiserror::Error;
 /// How many channels are written to.
 const CHANNELS: u64 = 3;
 
-/// The first of the keys that no step goes over.
-const BEHIND: u64 = 1 << 32;
-
 /// What a key has.
 type Row = (u64, u64);
 
@@ -177,15 +174,14 @@ fn take_out(kernel: &mut Kernel, most: u64) -> u64 {
     count
 }
 
-/// Makes keys present that no step goes over.
+/// Makes the first keys present.
 fn make_present(
     kernel: &mut Kernel,
     step: &mut Step<u64, Row, u64>,
     plan: StepPlan,
 ) -> Result<(), RunStop> {
-    for turn in 0..plan.present {
-        let key = BEHIND.wrapping_add(turn);
-        step.written.push((key, Some((1, turn))))?;
+    for key in 0..plan.present {
+        step.written.push((key, Some((0, 0))))?;
         kernel.take(step)?;
     }
     Ok(())

@@ -49,7 +49,7 @@ pub(crate) struct StepPlan {
     pub(crate) keys: u16,
     pub(crate) deed: Deed,
     pub(crate) ends: Ends,
-    /// How many other keys there are, which rest on nothing.
+    /// How many keys there are at the start, from the first on.
     pub(crate) present: u64,
 }
 

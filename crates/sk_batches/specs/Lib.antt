@@ -1,0 +1,4 @@
+pub mod Records
+pub mod Queue
+pub mod Calls
+pub mod Runs

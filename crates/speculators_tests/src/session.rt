@@ -1,26 +1,22 @@
 //! A kernel with its tokens, and the record that it is held against.
-ghost use Rattle.std.specs.Prelude.{◌≡◌, vec_len};
-
 use crate::job::{CHANNELS, Deed, Job, KEYS, NOTHING, bit_of};
 use crate::kernel::{Counts, Kernel, Told, commit, fail};
+use crate::own::Own;
 use crate::record::{Reckoning, Record};
-use crate::step::{OwnStep, fill, is_step};
+use crate::step::{fill, is_step};
 use crate::wrong::{Wrong, holds};
-use sk_guesses::{Guess, Status};
+use sk_guesses::Status;
 use sk_ids::GuessId;
-use sk_speculator::{Committed, Refusal, Step};
+use sk_speculator::{Committed, Refusal};
 use std::alloc::{AllocError, Global};
 use std::process::Abort;
 
-/// A kernel, its tokens, the record of its steps, and of each channel how many outputs were taken out.
+/// A kernel, the record of its steps, and of each channel how many outputs were taken out.
 pub struct Session<K: Kernel> {
-    alloc: Global,
-    kernel: K,
-    tokens: Vec<Guess>,
+    own: Own<K>,
     record: Record,
     taken_out: [usize; CHANNELS as usize],
     drawn: u64,
-    step: OwnStep<K::Key>,
     /// Whether a growth may be refused.
     may_lack: bool,
 }
@@ -29,20 +25,17 @@ impl<K: Kernel> Session<K> {
     /// Nothing has happened in the kernel, to which a growth may be refused or not.
     pub fn new(alloc: Global, kernel: K, may_lack: bool) -> Session<K> {
         Session {
-            alloc,
-            kernel,
-            tokens: Vec::new(alloc),
+            own: Own::new(alloc, kernel),
             record: Record::new(alloc),
             taken_out: [0; CHANNELS as usize],
             drawn: 0,
-            step: Step::new(alloc),
             may_lack,
         }
     }
 
     fn value(&self, key: Option<u32>) -> Option<u64> {
         match key {
-            Some(key) => self.kernel.value(key),
+            Some(key) => self.own.kernel.value(key),
             None => None,
         }
     }
@@ -54,19 +47,19 @@ impl<K: Kernel> Session<K> {
 
     /// The step's buffers have a deed.
     fn is_handed_back(&self, deed: &Deed) -> Result<(), Wrong> {
-        holds(is_step(&self.step, deed), Wrong::Buffers)
+        holds(is_step(&self.own.step, deed), Wrong::Buffers)
     }
 
     /// Makes ready what a call with this deed wants beside the kernel.
     fn prepare(&mut self, deed: &Deed) -> Result<(), AllocError> {
-        if fill(&mut self.step, self.alloc, deed).is_err() {
-            fill(&mut self.step, self.alloc, deed)?;
+        if fill(&mut self.own.step, self.own.alloc, deed).is_err() {
+            fill(&mut self.own.step, self.own.alloc, deed)?;
         }
         if self.record.reserve().is_err() {
             self.record.reserve()?;
         }
-        if self.tokens.reserve(1).is_err() {
-            self.tokens.reserve(1)?;
+        if self.own.tokens.reserve(1).is_err() {
+            self.own.tokens.reserve(1)?;
         }
         Ok(())
     }
@@ -80,11 +73,14 @@ impl<K: Kernel> Session<K> {
 
     /// Hands in the step; once more, where memory was refused and all is as it was.
     fn hand_in(&mut self, deed: &Deed) -> Result<(), Wrong> {
-        if self.kernel.take(&mut self.step).is_ok() {
+        if self.own.kernel.take(&mut self.own.step).is_ok() {
             return Ok(());
         }
         self.lacks(deed)?;
-        holds(self.kernel.take(&mut self.step).is_ok(), Wrong::Memory)
+        holds(
+            self.own.kernel.take(&mut self.own.step).is_ok(),
+            Wrong::Memory,
+        )
     }
 
     /// Takes a step.
@@ -102,20 +98,9 @@ impl<K: Kernel> Session<K> {
         Ok(())
     }
 
-    /// Draws a guess, and keeps its token.
-    fn draw(&mut self) -> Result<GuessId, Refusal> {
-        if self.tokens.reserve(1).is_err() {
-            return Err(Refusal::Memory);
-        }
-        let token = self.kernel.guess(&mut self.step)?;
-        let id = token.id();
-        self.tokens.push_reserved(token);
-        Ok(id)
-    }
-
     /// As many guesses are undecided as may be.
     fn is_full(&self) -> bool {
-        self.record.undecided().len() >= self.kernel.limit()
+        self.record.undecided().len() >= self.own.kernel.limit()
     }
 
     /// Draws a guess with its step, unless as many are undecided as may be; once more, where memory was refused and all is as
@@ -123,13 +108,13 @@ impl<K: Kernel> Session<K> {
     pub fn guess(&mut self, job: &Job) -> Result<(), Wrong> {
         let deed = self.deed(job);
         self.prepare(&deed)?;
-        let first = self.draw();
+        let first = self.own.draw();
         if first != Err(Refusal::Memory) {
             return self.answered(job, &deed, first);
         }
         holds(!self.is_full(), Wrong::Memory)?;
         self.lacks(&deed)?;
-        let second = self.draw();
+        let second = self.own.draw();
         self.answered(job, &deed, second)
     }
 
@@ -162,16 +147,16 @@ impl<K: Kernel> Session<K> {
 
     /// Decides the token at a place, if one is there.
     pub fn decide(&mut self, rt: &impl Abort, place: usize, fails: bool) -> Result<(), Wrong> {
-        if place >= self.tokens.len() {
+        if place >= self.own.tokens.len() {
             return Ok(());
         }
-        let token = self.tokens.remove(place);
+        let token = self.own.tokens.remove(place);
         let id = token.id();
         if fails {
-            let told = fail(rt, &mut self.kernel, token);
+            let told = fail(rt, &mut self.own.kernel, token);
             self.failed(id, told)
         } else {
-            let committed = commit(rt, &mut self.kernel, token);
+            let committed = commit(rt, &mut self.own.kernel, token);
             self.committed(id, committed)
         }
     }
@@ -209,7 +194,7 @@ impl<K: Kernel> Session<K> {
     /// Takes the next output of a channel, which is the record's.
     pub fn release(&mut self, channel: u16) -> Result<(), Wrong> {
         let due = self.due(&self.reckon()?, channel);
-        holds(self.kernel.released(channel) == due, Wrong::Output)?;
+        holds(self.own.kernel.released(channel) == due, Wrong::Output)?;
         if due.is_some() {
             self.count_out(channel);
         }
@@ -253,18 +238,18 @@ impl<K: Kernel> Session<K> {
         for key in 0..KEYS {
             self.judge_key(reckoning, key)?;
         }
-        holds(self.kernel.has_keys(reckoning.keys()), Wrong::Keys)
+        holds(self.own.kernel.has_keys(reckoning.keys()), Wrong::Keys)
     }
 
     fn judge_key(&self, reckoning: &Reckoning, key: u32) -> Result<(), Wrong> {
         let cell = reckoning.cell(Some(key));
-        holds(self.kernel.value(key) == cell.value, Wrong::Value)?;
+        holds(self.own.kernel.value(key) == cell.value, Wrong::Value)?;
         holds(self.has_tags(key, cell.rests), Wrong::Tags)
     }
 
     /// Whether a key rests on these guesses.
     fn has_tags(&self, key: u32, rests: u64) -> bool {
-        let mut tags = self.kernel.tags(key).ids().iter();
+        let mut tags = self.own.kernel.tags(key).ids().iter();
         for (place, id) in self.record.undecided().iter().enumerate() {
             if rests & bit_of(place) != 0 && tags.next() != Some(id) {
                 return false;
@@ -275,9 +260,9 @@ impl<K: Kernel> Session<K> {
 
     /// How many guesses there are, and what rests on each.
     fn judge_guesses(&self, reckoning: &Reckoning) -> Result<(), Wrong> {
-        holds(self.kernel.counts() == self.counts(), Wrong::Status)?;
+        holds(self.own.kernel.counts() == self.counts(), Wrong::Status)?;
         for (place, id) in self.record.undecided().iter().enumerate() {
-            let keys = self.kernel.dependents(*id);
+            let keys = self.own.kernel.dependents(*id);
             let is_so = keys == Some(reckoning.dependents(place));
             holds(is_so, Wrong::Dependents)?;
         }
@@ -289,7 +274,7 @@ impl<K: Kernel> Session<K> {
         let undecided = self.record.undecided();
         Counts {
             undecided: undecided.len(),
-            struck: self.tokens.len().saturating_sub(undecided.len()),
+            struck: self.own.tokens.len().saturating_sub(undecided.len()),
             settled: match undecided.first() {
                 Some(id) => id.number(),
                 None => self.drawn.saturating_add(1),
@@ -299,13 +284,13 @@ impl<K: Kernel> Session<K> {
 
     /// What became of the guesses whose tokens are out.
     fn judge_tokens(&self) -> Result<(), Wrong> {
-        for token in &self.tokens {
+        for token in &self.own.tokens {
             let id = token.id();
             let status = match self.record.place(id) {
                 Some(_) => Status::Undecided,
                 None => Status::Struck,
             };
-            holds(self.kernel.status(id) == Some(status), Wrong::Status)?;
+            holds(self.own.kernel.status(id) == Some(status), Wrong::Status)?;
         }
         Ok(())
     }
@@ -315,39 +300,23 @@ impl<K: Kernel> Session<K> {
         let mut channels = 0;
         for channel in 0..CHANNELS {
             let waiting = reckoning.waiting(channel);
-            holds(self.kernel.waiting(channel) == waiting, Wrong::Output)?;
+            holds(self.own.kernel.waiting(channel) == waiting, Wrong::Output)?;
             if self.due(reckoning, channel).is_some() {
                 channels |= bit_of(channel as usize);
             }
         }
-        holds(self.kernel.names_one_of(channels), Wrong::Channel)
-    }
-
-    /// Spends the tokens that are left.
-    fn spend(&mut self, rt: &impl Abort)
-        ensures { vec_len self.new.tokens ≡ 0 }
-    {
-        while !self.tokens.is_empty() {
-            let token = self.tokens.remove(0);
-            commit(rt, &mut self.kernel, token);
-        }
+        holds(self.own.kernel.names_one_of(channels), Wrong::Channel)
     }
 
     /// Commits the guesses whose tokens are left, and ends.
     pub fn end(self, rt: &impl Abort) -> Result<(), Wrong> {
-        let mut session = self;
-        session.spend(rt);
         let Session {
-            alloc: _,
-            kernel,
-            tokens,
+            own,
             record: _,
             taken_out: _,
             drawn: _,
-            step: _,
             may_lack: _,
-        } = session;
-        tokens.destroy_empty();
-        holds(kernel.shuts(), Wrong::Status)
+        } = self;
+        own.end(rt)
     }
 }

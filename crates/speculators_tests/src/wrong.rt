@@ -1,4 +1,5 @@
 //! What a test finds wrong.
+use sk_speculator::Refusal;
 use std::alloc::AllocError;
 
 /// Why a test does not pass.
@@ -31,6 +32,15 @@ pub enum Wrong {
 impl From<AllocError> for Wrong {
     fn from(_: AllocError) -> Wrong {
         Wrong::Memory
+    }
+}
+
+impl From<Refusal> for Wrong {
+    fn from(why: Refusal) -> Wrong {
+        match why {
+            Refusal::Memory => Wrong::Memory,
+            _ => Wrong::Refused,
+        }
     }
 }
 

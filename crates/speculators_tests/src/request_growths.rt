@@ -112,7 +112,7 @@ fn keys_of(alloc: Global, count: u32) -> Result<Keys, AllocError> {
 /// How many keys a command asks for that shows so many.
 fn asked(alloc: Global, count: u32) -> Result<usize, AllocError> {
     let mut looked = Vec::new(alloc);
-    Command::MGet(keys_of(alloc, count)?).asks(alloc, &mut looked)?;
+    Command::MGet(keys_of(alloc, count)?).asks(alloc, &[], &mut looked)?;
     Ok(looked.len())
 }
 
@@ -127,7 +127,7 @@ fn shown(reply: &Reply) -> usize {
 /// How many values a command replies that shows so many keys.
 fn shows(alloc: Global, store: &Same, count: u32) -> Result<usize, AllocError> {
     let command = Command::MGet(keys_of(alloc, count)?);
-    let reply = command.run(alloc, store, &mut Vec::new(alloc))?;
+    let reply = command.run(alloc, store, &[], &mut Vec::new(alloc))?;
     Ok(shown(&reply))
 }
 
@@ -135,7 +135,7 @@ fn shows(alloc: Global, store: &Same, count: u32) -> Result<usize, AllocError> {
 fn deletes(alloc: Global, store: &Same, count: u32) -> Result<usize, AllocError> {
     let mut written: Writes = Vec::new(alloc);
     let command = Command::Del(keys_of(alloc, count)?);
-    command.run(alloc, store, &mut written)?;
+    command.run(alloc, store, &[], &mut written)?;
     Ok(written.len())
 }
 

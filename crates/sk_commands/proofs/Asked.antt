@@ -11,7 +11,7 @@ use Rattle.sk_commands.specs.declared.work.Work.{Work}
 use Rattle.sk_commands.specs.declared.work.Work.TheVariants as works
 use Rattle.sk_commands.specs.declared.work.Answer.{Answer}
 use Rattle.sk_commands.specs.declared.work.Answer.TheVariants as answers
-use Rattle.sk_commands.specs.Table.{added, asks, begins_with, bytes_of, counts, deleted, flushed, is_among, joined, listed, number_at, outcome, replies, set_as, shown, there, with_key, Have, Outcome, Written}
+use Rattle.sk_commands.specs.Table.{added, asks, begins_with, bytes_of, counts, deleted, flushed, is_among, joined, number_at, outcome, replies, set_as, shown, there, with_key, Have, Outcome, Written}
 use Rattle.sk_commands.specs.Work.{after, answered, comes_to, each, followed, known_after, looks_at, with_known, with_value}
 use Rattle.sk_commands.specs.Law.{act, asking_for, deed}
 

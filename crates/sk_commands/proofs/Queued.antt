@@ -1,13 +1,12 @@
 -- Commands of a queue, one after another.
-use Rattle.std.proofs.Common.{◌≡◌, ℕ, Bool, true, false, List, [], ◌∷◌, ◌++◌, map, Option, bytes_eq, if◌then◌else◌, refl, sym, ap, ◌∙◌}
+use Rattle.std.proofs.Common.{◌≡◌, ℕ, true, false, List, [], ◌∷◌, ◌++◌, Option, bytes_eq, if◌then◌else◌, refl, sym, ap, ◌∙◌}
 use Rattle.std.specs.Global.{Vec}
-use Rattle.std.proofs.lemmas.List.{append_assoc, append-nil}
-use Rattle.std.proofs.lemmas.Slice.Eq.{bytes_eq-Decides}
+use Rattle.std.proofs.lemmas.List.{append_assoc}
 use Rattle.sk_commands.specs.declared.command.Command.{Command}
 use Rattle.sk_commands.specs.declared.command.Command.TheVariants.{Get, Set, Del, Exists, Add, Append, StrLen, MGet, MSet, DbSize, KeysWith, FlushAll, Ping, Echo, Wrong}
 use Rattle.sk_commands.specs.declared.reply.Reply.{Reply}
 use Rattle.sk_commands.specs.Table.{asks, is_told_of_all, outcome, told, Have, Outcome, Written}
-use Rattle.sk_commands.specs.Work.{after, each, followed, known_after, with_known, with_value}
+use Rattle.sk_commands.specs.Work.{after, each, known_after, with_known, with_value}
 use Rattle.sk_commands.proofs.Deleted.{told_append}
 
 -- what keys are known changes nothing for a command that is not told of all

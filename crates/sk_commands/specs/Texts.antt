@@ -1,5 +1,5 @@
 -- The bytes of replies.
-use Rattle.std.specs.Prelude.{ℕ, List, [], ◌++◌, flat_map, length, Option, Some, None}
+use Rattle.std.specs.Prelude.{ℕ, List, ◌++◌, flat_map, length, Option, Some, None}
 use Rattle.sk_requests.specs.Replies.{array_text, bulk_text, error_text, integer_text, null_text, simple_text}
 use Rattle.sk_commands.specs.Faults.{said_by, words_of}
 use Rattle.sk_commands.specs.declared.reply.Reply.{Reply}

@@ -1,10 +1,10 @@
 -- The place of a key, entry by entry.
-use Rattle.std.proofs.Common.{◌≡◌, ℕ, suc, ◌+◌, ◌<◌, ◌≤◌, Bool, true, false, not, cond, List, [], ◌∷◌, ◌++◌, length, take, drop, set, get_or, map, Option, Some, None, refl, sym, ap, subst, ◌∙◌, arith}
-use Rattle.std.specs.Prelude.{insert, slice_set}
-use Rattle.std.specs.FinMap.Entries.{put, by_order}
+use Rattle.std.proofs.Common.{◌≡◌, ℕ, suc, ◌+◌, ◌<◌, ◌≤◌, List, [], ◌∷◌, ◌++◌, length, take, drop, set, get_or, sym, ap, ◌∙◌, arith}
+use Rattle.std.specs.Prelude.{insert}
+use Rattle.std.specs.FinMap.Entries.{by_order}
 use Rattle.std.specs.declared.cmp.Ordering.{Ordering}
 use Rattle.std.specs.declared.cmp.Ordering.TheVariants.{Less, Equal, Greater}
-use Rattle.std.proofs.lemmas.List.{append_assoc, append-nil, drop_all, drop_more, set_split, take-append-drop, take_all, take_more}
+use Rattle.std.proofs.lemmas.List.{append_assoc, drop_all, drop_more, set_split, take_all, take_more}
 use Rattle.sk_plain_store.specs.Plain.{bytes_cmp, put_in, Entries}
 use Rattle.sk_plain_store.proofs.Kept.{tied_is}
 

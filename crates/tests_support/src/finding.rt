@@ -6,7 +6,7 @@ use std::io;
 use thiserror::Error;
 
 /// Why a run does not pass.
-#[derive(Debug, Drop, Error)]
+#[derive(Clone, Copy, Debug, Error)]
 pub enum Finding {
     // The run itself went wrong.
     #[error(transparent)]

@@ -1,11 +1,11 @@
 //! Tests as tables: the turns that are taken with a server, each with what has to come of it.
 //! A table has plain numbers and bytes, so that a test is short to prove.
 use crate::asking::{Ground, LOOSE, ServerWish, ToldAnswer, answer_of, ask_of, asked, request};
-use crate::start::server_with;
+use crate::start::{comes, server_with};
 use sk_server::{Ask, EditRefusal, Request, Server, ServerRefusal};
 use std::alloc::Global;
 use tests_support::plain::{content, name, text};
-use tests_support::wrong::{Wrong, holds};
+use tests_support::wrong::Wrong;
 
 /// A turn with a server, and what comes of it.
 #[derive(Clone, Copy)]
@@ -90,7 +90,7 @@ fn takes(alloc: Global, server: &mut Server, turn: ServerTurn<'_>) -> Result<boo
 /// Takes one turn after the other.
 fn takes_all(alloc: Global, server: &mut Server, turns: &[ServerTurn<'_>]) -> Result<(), Wrong> {
     for (place, turn) in turns.iter().enumerate() {
-        holds(place, takes(alloc, server, *turn)?)?;
+        comes(place, takes(alloc, server, *turn))?;
     }
     Ok(())
 }

@@ -1,5 +1,5 @@
 //! A process of a desk is leased, and handed in.
-use crate::start::{Start, kernel_of, passes};
+use crate::start::{BARE, Start, kernel_of, passes};
 use sk_client::{Desk, Turn};
 use sk_ids::Pid;
 use sk_kernel::HandIn;
@@ -12,13 +12,21 @@ use tests_support::wrong::{Wrong, holds};
 /// A process with two private instructions and one that is not, and one that ends it by a signal.
 const START: Start<'static> = Start {
     scripts: &[
-        b"set r1 1\nset r2 2\nsay\n",
-        b"boot r1 1\nset r2 9\nkill r1 r2\n",
+        &[(b"set r1 1\nset r2 2\nsay\n", 1)],
+        &[(b"boot r1 1\nset r2 9\nkill r1 r2\n", 1)],
     ],
-    copy: None,
-    file: None,
     limit: 1_000,
+    ..BARE
 };
+
+/// A process, how many turns of it are taken between, what the hand-in is answered, and how many events there are then.
+type Row = (u16, u32, Result<(), HandIn>, usize);
+
+const ROWS: [Row; 3] = [
+    (2, 0, Ok(()), 2),
+    (2, 3, Err(HandIn::Stale), 3),
+    (1, 1, Err(HandIn::Stale), 1),
+];
 
 /// What the hand-in of a lease is answered.
 fn answered(desk: &mut Desk, lease: Lease) -> Result<(), HandIn> {
@@ -75,9 +83,8 @@ fn leaves(
 }
 
 fn all_are_handed_in(alloc: Global) -> Result<(), Wrong> {
-    let stale = Err(HandIn::Stale);
-    for (between, turns, want, events) in [(2, 0, Ok(()), 2), (2, 3, stale, 3), (1, 1, stale, 1)] {
-        leaves(alloc, pid(between)?, turns, want, events)?;
+    for (between, turns, want, events) in &ROWS {
+        leaves(alloc, pid(*between)?, *turns, *want, *events)?;
     }
     Ok(())
 }

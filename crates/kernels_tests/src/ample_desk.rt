@@ -1,22 +1,23 @@
 //! Many guesses and many rounds, and how a desk ends. With ample memory no call is refused for want of it.
 use crate::asking::{ServerWish, ToldAnswer};
-use crate::plays::{Came, Did, Far, Sent, gives, serves, takes, turns};
-use crate::start::{Start, kernel_of, passes, server_of};
+use crate::desk_plays::{Came, Did, Far, Sent, gives, serves, takes, turns};
+use crate::start::{BARE, Lines, Start, comes, kernel_of, passes, server_of};
 use sk_client::{Desk, World, WorldEvent};
 use sk_plain::Refusal;
 use std::alloc::Global;
 use tests_support::plain::pid;
 use tests_support::wrong::{Wrong, holds};
 
-/// Processes with this script, and a copy `/x` like the server's file.
-fn fetching<'a>(scripts: &'a [&'a [u8]], limit: u32) -> Start<'a> {
-    Start {
-        scripts,
-        copy: Some((b"/x", 3, b"old")),
-        file: Some((b"/x", 3, b"old")),
-        limit,
-    }
-}
+/// A process that fetches `/x` once.
+const FETCH: Lines<'static> = &[(b"fetch /x\n", 1)];
+
+/// One such process, and a copy `/x` like the server's file.
+const FETCHING: Start<'static> = Start {
+    scripts: &[FETCH],
+    copies: &[(b"/x", 3, b"old")],
+    file: Some((b"/x", 3, b"old")),
+    ..BARE
+};
 
 /// The check of a guess on which nothing rests, where no guess was decided.
 fn check(number: u64) -> Sent<'static> {
@@ -34,10 +35,10 @@ fn all_guess(desk: &mut Desk, far: &mut Far) -> Result<(), Wrong> {
     for number in 1..=64u16 {
         let guess = u64::from(number);
         let place = usize::from(number);
-        holds(place, turns(desk, number, Did::Guessed(guess))?)?;
-        holds(place, takes(desk, far, check(guess))?)?;
+        comes(place, turns(desk, number, Did::Guessed(guess)))?;
+        comes(place, takes(desk, far, check(guess)))?;
     }
-    holds(65, turns(desk, 65, Did::Refused(Refusal::TooMany))?)
+    comes(65, turns(desk, 65, Did::Refused(Refusal::TooMany)))
 }
 
 /// The same with a new desk.
@@ -48,11 +49,16 @@ fn all_guess_anew(alloc: Global, start: Start<'_>, far: &mut Far) -> Result<(), 
     done
 }
 
+/// One process more than there can be guesses at once.
+const MANY: Start<'static> = Start {
+    scripts: &[FETCH; 65],
+    limit: 200,
+    ..FETCHING
+};
+
 fn guesses_of_all(alloc: Global) -> Result<(), Wrong> {
-    let scripts: [&[u8]; 65] = [b"fetch /x\n"; 65];
-    let start = fetching(&scripts, 200);
-    let mut far = Far::new(alloc, start)?;
-    all_guess_anew(alloc, start, &mut far)
+    let mut far = Far::new(alloc, MANY)?;
+    all_guess_anew(alloc, MANY, &mut far)
 }
 
 #[test]
@@ -77,7 +83,7 @@ fn stays(desk: Desk) -> Result<Desk, Wrong> {
 
 /// Its request is served and its reply given.
 fn settles(desk: &mut Desk, far: &mut Far) -> Result<(), Wrong> {
-    holds(3, serves(desk, far, ToldAnswer::Yes)?)?;
+    comes(3, serves(desk, far, ToldAnswer::Yes))?;
     holds(4, gives(desk, far, Came::Committed(1)))
 }
 
@@ -103,9 +109,8 @@ fn stays_and_shuts(alloc: Global, start: Start<'_>, far: &mut Far) -> Result<(),
 }
 
 fn shuts_with_pending(alloc: Global) -> Result<(), Wrong> {
-    let start = fetching(&[b"fetch /x\n"], 100);
-    let mut far = Far::new(alloc, start)?;
-    stays_and_shuts(alloc, start, &mut far)
+    let mut far = Far::new(alloc, FETCHING)?;
+    stays_and_shuts(alloc, FETCHING, &mut far)
 }
 
 #[test]
@@ -130,10 +135,16 @@ fn has_run(world: &World) -> Result<(), Wrong> {
     holds(2_001, events.len() == 6_000)
 }
 
+/// A process that fetches `/x` for ever.
+const FOR_EVER: Start<'static> = Start {
+    scripts: &[&[(b"top:\nfetch /x\njump top\n", 1)]],
+    limit: 6_000,
+    ..FETCHING
+};
+
 fn runs_many(alloc: Global) -> Result<(), Wrong> {
-    let start = fetching(&[b"top:\nfetch /x\njump top\n"], 6_000);
-    let server = server_of(alloc, start)?;
-    let desk = Desk::new(alloc, kernel_of(alloc, start)?);
+    let server = server_of(alloc, FOR_EVER)?;
+    let desk = Desk::new(alloc, kernel_of(alloc, FOR_EVER)?);
     let mut world = World::new(alloc, desk, server);
     let done = runs(&mut world);
     let has_run = has_run(&world);

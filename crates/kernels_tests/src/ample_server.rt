@@ -1,6 +1,6 @@
 //! With ample memory no call of a server is refused, however often and past round numbers.
 use crate::asking::{Ground, LOOSE, ServerWish, ToldAnswer};
-use crate::start::{passes, server_with};
+use crate::start::{comes, passes, server_with};
 use crate::turns::{asks, edits};
 use sk_server::Server;
 use std::alloc::Global;
@@ -22,8 +22,8 @@ fn stores(alloc: Global, server: &mut Server, count: u64) -> Result<(), Wrong> {
     for number in 0..count {
         let (own, other) = (numbered(number), numbered(count.saturating_add(number)));
         let store = ServerWish::Store(&own, 0, b"s");
-        holds(0, asks(alloc, server, store, LOOSE, ToldAnswer::Yes)?)?;
-        holds(1, edits(server, &other, 0, b"e", Ok(1))?)?;
+        comes(0, asks(alloc, server, store, LOOSE, ToldAnswer::Yes))?;
+        comes(1, edits(server, &other, 0, b"e", Ok(1)))?;
     }
     Ok(())
 }
@@ -70,10 +70,10 @@ fn drops(alloc: Global, server: &mut Server, guess: u64) -> Result<bool, Wrong> 
 /// Refuses many guesses, and drops what rests on the first, on one between and on the last.
 fn refuses_and_drops(alloc: Global, server: &mut Server) -> Result<(), Wrong> {
     for number in 1..3_000 {
-        holds(0, refuses(alloc, server, number)?)?;
+        comes(0, refuses(alloc, server, number))?;
     }
     for number in [1, 1_024, 2_999] {
-        holds(1, drops(alloc, server, number)?)?;
+        comes(1, drops(alloc, server, number))?;
     }
     Ok(())
 }

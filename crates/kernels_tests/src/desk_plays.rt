@@ -1,7 +1,7 @@
 //! Tests as tables: what is done with a desk and its server, each with what has to come of it.
 //! A table has plain numbers and bytes, so that a test is short to prove.
 use crate::asking::{ServerWish, ToldAnswer, answer_of, wish_of};
-use crate::start::{Start, kernel_of, server_of};
+use crate::start::{Start, comes, kernel_of, server_of};
 use crate::turns::{edits, has_file};
 use sk_client::{Desk, Given, ReplyRefusal, Turn};
 use sk_ids::{Entity, GuessId};
@@ -13,7 +13,7 @@ use sk_server::{Answer, Reply, Request, Server};
 use std::alloc::Global;
 use std::collections::VecDeque;
 use tests_support::plain::{content, name, pid, text};
-use tests_support::wrong::{Wrong, holds};
+use tests_support::wrong::Wrong;
 
 /// What a turn comes to, a guess by its number.
 #[derive(Clone, Copy, PartialEq, Eq)]
@@ -343,7 +343,7 @@ fn does(desk: &mut Desk, far: &mut Far, play: DeskPlay<'_>) -> Result<bool, Wron
     }
 }
 
-/// Does one thing after the other, of which the first has this place in the table.
+/// Does one thing after the other, the first of which has this place.
 fn does_all(
     desk: &mut Desk,
     far: &mut Far,
@@ -351,20 +351,19 @@ fn does_all(
     plays: &[DeskPlay<'_>],
 ) -> Result<(), Wrong> {
     for (play, place) in plays.iter().zip(from..usize::MAX) {
-        holds(place, does(desk, far, *play)?)?;
+        comes(place, does(desk, far, *play))?;
     }
     Ok(())
 }
 
 /// Plays one part after the other.
-fn does_both(
-    desk: &mut Desk,
-    far: &mut Far,
-    first: &[DeskPlay<'_>],
-    then: &[DeskPlay<'_>],
-) -> Result<(), Wrong> {
-    does_all(desk, far, 0, first)?;
-    does_all(desk, far, first.len(), then)
+fn does_parts(desk: &mut Desk, far: &mut Far, parts: &[&[DeskPlay<'_>]]) -> Result<(), Wrong> {
+    let mut from = 0usize;
+    for plays in parts {
+        does_all(desk, far, from, plays)?;
+        from = from.saturating_add(plays.len());
+    }
+    Ok(())
 }
 
 /// The same with a new desk, which is abandoned at the end.
@@ -372,27 +371,16 @@ fn plays_with(
     alloc: Global,
     start: Start<'_>,
     far: &mut Far,
-    first: &[DeskPlay<'_>],
-    then: &[DeskPlay<'_>],
+    parts: &[&[DeskPlay<'_>]],
 ) -> Result<(), Wrong> {
     let mut desk = Desk::new(alloc, kernel_of(alloc, start)?);
-    let done = does_both(&mut desk, far, first, then);
+    let done = does_parts(&mut desk, far, parts);
     desk.abandon();
     done
 }
 
 /// Plays one part after the other with a new desk and a new server.
-pub fn plays_both(
-    alloc: Global,
-    start: Start<'_>,
-    first: &[DeskPlay<'_>],
-    then: &[DeskPlay<'_>],
-) -> Result<(), Wrong> {
+pub fn plays(alloc: Global, start: Start<'_>, parts: &[&[DeskPlay<'_>]]) -> Result<(), Wrong> {
     let mut far = Far::new(alloc, start)?;
-    plays_with(alloc, start, &mut far, first, then)
-}
-
-/// Plays with a new desk and a new server.
-pub fn plays(alloc: Global, start: Start<'_>, plays: &[DeskPlay<'_>]) -> Result<(), Wrong> {
-    plays_both(alloc, start, plays, &[])
+    plays_with(alloc, start, &mut far, parts)
 }

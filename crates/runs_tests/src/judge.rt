@@ -5,19 +5,35 @@ use sk_ids::{Entity, GuessId, Text};
 use sk_kernel::Kernel;
 use sk_plain::Trace;
 use std::collections::BTreeSet;
+use std::process::Abort;
 use tests_support::finding::Finding;
 use tests_support::judge::{judge_present, judge_value};
 
-/// Compares the entities that are present, and notes them as seen.
+/// Fine, or this is found.
+pub fn held(is_so: bool, otherwise: Finding) -> Result<(), Finding> {
+    if is_so { Ok(()) } else { Err(otherwise) }
+}
+
+/// Whether a kernel says of each directory how many names of it are present.
+fn has_names(kernel: &Kernel, present: &[Entity]) -> bool {
+    present.iter().all(|entity| match entity {
+        Entity::Obj(directory) => kernel.names_of(directory) == names_in(present, directory),
+        _ => true,
+    })
+}
+
+/// Compares the entities that are present, with how many names each object has, and notes them as seen.
 fn judge_entities(
+    rt: &impl Abort,
     kernel: &Kernel,
     reckoning: &Reckoning,
     seen: &mut BTreeSet<Entity>,
 ) -> Result<(), Finding> {
-    for entity in &judge_present(kernel, &reckoning.plain)? {
-        seen.insert(*entity)?;
+    let present = judge_present(kernel, &reckoning.plain)?;
+    for entity in &present {
+        seen.insert(*entity).expect(rt, "memory");
     }
-    Ok(())
+    held(has_names(kernel, &present), Finding::Names)
 }
 
 /// Compares what an entity has, and what it depends on.
@@ -170,22 +186,10 @@ fn judge_counts(
     Ok(())
 }
 
-/// Compares how many names each object has.
-fn judge_names(kernel: &Kernel, reckoning: &Reckoning) -> Result<(), Finding> {
-    let present = reckoning.plain.entities()?;
-    for entity in &present {
-        if let Entity::Obj(directory) = entity
-            && kernel.names_of(directory) != names_in(&present, directory)
-        {
-            return Err(Finding::Names);
-        }
-    }
-    Ok(())
-}
-
 /// Compares a kernel with what its whole trace comes to: its entities with those seen before, its
 /// terminals, the first few of which are looked at, its guesses with what rests on each, and its counts.
 pub fn judge(
+    rt: &impl Abort,
     kernel: &Kernel,
     reckoning: &Reckoning,
     trace: &Trace,
@@ -195,8 +199,7 @@ pub fn judge(
     seen: &mut BTreeSet<Entity>,
 ) -> Result<(), Finding> {
     judge_counts(kernel, reckoning, trace, before, limit)?;
-    judge_entities(kernel, reckoning, seen)?;
-    judge_names(kernel, reckoning)?;
+    judge_entities(rt, kernel, reckoning, seen)?;
     for entity in seen.iter() {
         judge_entity(kernel, reckoning, entity)?;
     }

@@ -5,8 +5,9 @@ use sk_ids::{Entity, GuessId, ObjId, Pid, TagSet, Text};
 use sk_plain::{Entry, Event, InputRef, Plain, Plan, Trace, apply_plan, plan_step, strike};
 use sk_script::{Boot, Scripts};
 use sk_store::{EntityState, Look, Store};
-use std::alloc::{AllocError, Global};
+use std::alloc::Global;
 use std::collections::BTreeSet;
+use std::process::Abort;
 use tests_support::finding::Finding;
 
 /// The entities that depend on a guess: those that a dependent step wrote.
@@ -74,7 +75,7 @@ fn touches(dirt: &Dirt, entities: &[Entity]) -> bool {
 }
 
 /// Marks what a step writes, where it depends on the guess; says whether it does.
-fn follow_one(dirt: &mut Dirt, entry: &Entry, plan: &Plan) -> Result<bool, AllocError> {
+fn follow_one(rt: &impl Abort, dirt: &mut Dirt, entry: &Entry, plan: &Plan) -> bool {
     let reads = plan.reads(entry.pid, InputRef::of(&entry.input));
     let writes = plan.writes(entry.pid);
     let depends = entry.guess == Some(dirt.guess)
@@ -82,85 +83,94 @@ fn follow_one(dirt: &mut Dirt, entry: &Entry, plan: &Plan) -> Result<bool, Alloc
         || touches(dirt, writes.as_slice());
     if depends {
         for entity in writes.as_slice() {
-            dirt.entities.insert(*entity)?;
+            dirt.entities.insert(*entity).expect(rt, "memory");
         }
     }
-    Ok(depends)
+    depends
 }
 
 /// Marks what a step writes for each guess that it depends on; says whether there is one.
-fn follow(all: &mut Vec<Dirt>, entry: &Entry, plan: &Plan) -> Result<bool, AllocError> {
+fn follow(rt: &impl Abort, all: &mut Vec<Dirt>, entry: &Entry, plan: &Plan) -> bool {
     let mut is_held = false;
     for dirt in all.iter_mut() {
-        let depends = follow_one(dirt, entry, plan)?;
+        let depends = follow_one(rt, dirt, entry, plan);
         is_held = is_held || depends;
     }
-    Ok(is_held)
+    is_held
 }
 
 impl Reckoning {
     /// What a boot comes to.
-    fn start(alloc: Global, boot: &Boot) -> Result<Reckoning, Finding> {
-        let plain = Plain::boot(alloc, boot)?;
-        let store = Store::start(alloc, boot)?;
-        Ok(Reckoning {
+    fn start(rt: &impl Abort, alloc: Global, boot: &Boot) -> Reckoning {
+        Reckoning {
             alloc,
             entries: Vec::new(alloc),
-            plain,
-            store,
+            plain: Plain::boot(alloc, boot).expect(rt, "memory"),
+            store: Store::start(alloc, boot).expect(rt, "memory"),
             dirt: Vec::new(alloc),
             said: Vec::new(alloc),
-        })
-    }
-
-    /// Takes these steps of a trace.
-    fn take_all(&mut self, boot: &Boot, trace: &Trace, entries: &[Entry]) -> Result<(), Finding> {
-        for entry in entries {
-            self.open(trace, entry)?;
-            self.take(boot.scripts(), entry)?;
         }
-        Ok(())
     }
 
     /// What this trace comes to.
-    pub fn of(alloc: Global, boot: &Boot, trace: &Trace) -> Result<Reckoning, Finding> {
+    pub fn of(
+        rt: &impl Abort,
+        alloc: Global,
+        boot: &Boot,
+        trace: &Trace,
+    ) -> Result<Reckoning, Finding> {
         let entries = strike(alloc, boot, trace)?;
-        let mut reckoning = Reckoning::start(alloc, boot)?;
-        reckoning.take_all(boot, trace, &entries)?;
+        let mut reckoning = Reckoning::start(rt, alloc, boot);
+        for entry in &entries {
+            reckoning.open(rt, trace, entry);
+            reckoning.take(rt, boot.scripts(), entry);
+        }
         reckoning.entries = entries;
         Ok(reckoning)
     }
 
     /// Follows the guess of a step from now on, where it is undecided.
-    fn open(&mut self, trace: &Trace, entry: &Entry) -> Result<(), AllocError> {
+    fn open(&mut self, rt: &impl Abort, trace: &Trace, entry: &Entry) {
         if let Some(guess) = entry.guess
             && !is_decided(trace, guess)
         {
             let entities = BTreeSet::new(self.alloc);
-            self.dirt.push(Dirt { guess, entities })?;
+            self.dirt
+                .push(Dirt { guess, entities })
+                .expect(rt, "memory");
         }
-        Ok(())
     }
 
-    /// Takes a step.
-    fn take(&mut self, scripts: &Scripts, entry: &Entry) -> Result<(), Finding> {
+    /// Takes a step of the record, which no kernel refuses.
+    fn take(&mut self, rt: &impl Abort, scripts: &Scripts, entry: &Entry) {
         let input = InputRef::of(&entry.input);
         let plan = match plan_step(&self.store, scripts, entry.pid, input) {
             Ok(plan) => plan,
-            Err(why) => return Err(Finding::from(why)),
+            Err(why) => panic!(rt; "a step of the record: {why:?}"),
         };
-        apply_plan(&mut self.store, scripts, entry.pid, input, &plan)?;
-        let is_held = follow(&mut self.dirt, entry, &plan)?;
-        let text = self.plain.step(entry.pid, &entry.input)?;
-        if let Some(text) = text {
-            let terminal = terminal_of(&self.store, entry.pid);
-            self.said.push(SaidText {
-                terminal,
-                text,
-                is_held,
-            })?;
+        let done = apply_plan(&mut self.store, scripts, entry.pid, input, &plan);
+        done.expect(rt, "memory");
+        let is_held = follow(rt, &mut self.dirt, entry, &plan);
+        let said = self.plain.step(entry.pid, &entry.input);
+        if let Some(text) = said.expect(rt, "a step of the record") {
+            self.say(rt, entry.pid, text, is_held);
         }
-        Ok(())
+    }
+
+    /// Notes what a process said.
+    fn say(&mut self, rt: &impl Abort, pid: Pid, text: Text, is_held: bool) {
+        let terminal = terminal_of(&self.store, pid);
+        let said = SaidText {
+            terminal,
+            text,
+            is_held,
+        };
+        self.said.push(said).expect(rt, "memory");
+    }
+
+    /// The entities that are present in the plain kernel.
+    pub fn present(&self, rt: &impl Abort) -> Vec<Entity> {
+        self.plain.entities().expect(rt, "memory")
     }
 
     /// The texts of the record.

@@ -12,7 +12,7 @@ use sk_script::{Input, Scripts};
 use std::process::Abort;
 
 /// How often a run decides its guesses: so many calls of 128.
-#[derive(Clone, Copy, Debug)]
+#[derive(Clone, Copy)]
 pub struct Habit {
     pub commits: u32,
     pub fails: u32,
@@ -24,11 +24,13 @@ pub fn any_of<T: Copy>(rng: &mut Pcg32, all: &[T]) -> Option<T> {
     all.get(place).copied()
 }
 
+/// The bytes that a content may have.
+const BYTES: [&[u8]; 4] = [b"", b"new", b"foreign", b"z"];
+
 /// A content of a small version and few bytes.
 fn content(rng: &mut Pcg32) -> Option<Content> {
     let version = u64::from(rng.next_u32() % 9);
-    let bytes: [&[u8]; 4] = [b"", b"new", b"foreign", b"z"];
-    let bytes = Text::new(any_of(rng, &bytes)?)?;
+    let bytes = Text::new(any_of(rng, &BYTES)?)?;
     Content::new(version, bytes)
 }
 
@@ -60,18 +62,26 @@ fn process(rng: &mut Pcg32, reckoning: &Reckoning, present: &[Entity]) -> Option
     if rng.next_u32() % 64 == 0 {
         return Pid::boot((1 + rng.next_u32() % 4) as u16)?.child(1);
     }
-    let count = present
-        .iter()
-        .take_while(|entity| matches!(entity, Entity::Proc(_)))
-        .count();
-    let processes = present.get(..count)?;
+    let processes = processes(present);
     let first = any_of(rng, processes)?;
     let second = any_of(rng, processes)?;
-    match if is_running(reckoning, &first) {
-        first
+    if is_running(reckoning, &first) {
+        pid_of(first)
     } else {
-        second
-    } {
+        pid_of(second)
+    }
+}
+
+/// The processes, which stand before the others.
+fn processes(present: &[Entity]) -> &[Entity] {
+    let processes = present
+        .iter()
+        .take_while(|entity| matches!(entity, Entity::Proc(_)));
+    present.get(..processes.count()).unwrap_or(&[])
+}
+
+fn pid_of(entity: Entity) -> Option<Pid> {
+    match entity {
         Entity::Proc(pid) => Some(pid),
         _ => None,
     }

@@ -1,13 +1,13 @@
 //! Epochs in a run: its whole trace stays that of a kernel without them.
-use crate::judge::{held, judge_texts};
+use crate::finding::{Finding, held};
+use crate::judge::judge_texts;
 use crate::reckoning::Reckoning;
 use sk_kernel::{EpochRefusal, Kernel};
 use sk_plain::{Trace, strike_from};
 use sk_terminal::Texts;
-use tests_support::finding::Finding;
 
 /// How much of a run stood when the kernel's epoch began.
-#[derive(Clone, Copy, Debug, Default)]
+#[derive(Clone, Copy, Default)]
 pub struct Before {
     pub events: usize,
     pub entries: usize,
@@ -41,9 +41,9 @@ fn judge_left(
     before: Before,
 ) -> Result<Option<Before>, Finding> {
     let since = whole.events().get(before.events..).unwrap_or(&[]);
-    held(trace.events() == since, Finding::Epoch)?;
-    held(reckoning.undecided() == 0, Finding::Epoch)?;
-    for number in 0..=4 {
+    let is_so = trace.events() == since && reckoning.undecided() == 0;
+    held(is_so, Finding::Epoch)?;
+    for number in 0..5 {
         judge_texts(reckoning, before, number, texts.of(number), 0)?;
     }
     Ok(Some(Before::now(whole, reckoning)))

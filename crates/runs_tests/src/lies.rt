@@ -1,10 +1,11 @@
 //! Random desks whose server lies: replies of the wrong number or kind, replies that are false, twice or late.
 use crate::calls::{any_of, any_process};
-use crate::judge::held;
+use crate::finding::{Finding, held};
 use crate::leasing::{Tally, any_count, given_up, hand_in_answer, lease_refusal};
 use crate::numbers::{at_most, runs_after};
 use crate::reckoning::Reckoning;
-use crate::scenarios::{ScenarioKind, scenario};
+use crate::scenarios::{ScenarioKind, any_scenario};
+use crate::session::gives_up;
 use crate::worlds::Course;
 use rand_core::Rng;
 use rand_pcg::Pcg32;
@@ -15,20 +16,19 @@ use sk_kernel::{HandIn, Kernel};
 use sk_objects::Content;
 use sk_objects::content::LAST_VERSION;
 use sk_plain::{Event, Refusal, Trace};
-use sk_scenario::{Declarations, Scenario};
+use sk_scenario::Declarations;
 use sk_script::Lease;
 use sk_server::{Answer, Ask, Reply, Request};
 use std::alloc::{Alloc, AllocError, Global};
 use std::collections::VecDeque;
 use std::env::Env;
 use std::process::Abort;
-use tests_support::finding::Finding;
 
 /// How many desks there are in a test.
 const DESKS: u64 = 625;
 
 /// A process that waits for the reply to a request, which it made without a guess.
-#[derive(Clone, Copy, Debug)]
+#[derive(Clone, Copy)]
 struct Asked {
     pid: Pid,
     number: u64,
@@ -46,14 +46,16 @@ struct DeskTalk<'a> {
     hand_ins: Tally,
 }
 
+/// The bytes that a content may have.
+const BYTES: [&[u8]; 3] = [b"", b"lie", b"w"];
+
 /// Any content, also of the last version.
 fn content(rng: &mut Pcg32) -> Option<Content> {
     let version = match rng.next_u32() % 16 {
         0 => LAST_VERSION,
         roll => u64::from(roll % 4),
     };
-    let texts: [&[u8]; 3] = [b"", b"lie", b"w"];
-    Content::new(version, Text::new(any_of(rng, &texts)?)?)
+    Content::new(version, Text::new(any_of(rng, &BYTES)?)?)
 }
 
 /// Any reply, mostly one that is due.
@@ -286,16 +288,29 @@ impl<'a> DeskTalk<'a> {
         }
     }
 
-    /// Judges a kernel and its requests by the plain kernel.
-    fn judge(&mut self, rt: &impl Abort, desk: &Desk) -> Result<Reckoning, Finding> {
+    /// What the trace of a desk comes to.
+    fn reckoned(&self, rt: &impl Abort, desk: &Desk) -> Result<Reckoning, Finding> {
+        let boot = self.declarations.boot();
+        Reckoning::of(rt, self.alloc, boot, desk.kernel().trace())
+    }
+
+    /// Judges a kernel and its requests by what its trace comes to.
+    fn judge_by(
+        &mut self,
+        rt: &impl Abort,
+        desk: &Desk,
+        reckoning: &Reckoning,
+    ) -> Result<(), Finding> {
         let pending = desk.pending() as u64;
         held(pending == self.course.pending(), Finding::Pending)?;
-        let (kernel, declarations) = (desk.kernel(), self.declarations);
-        let boot = declarations.boot();
-        let reckoning = Reckoning::of(rt, self.alloc, boot, kernel.trace())?;
-        self.course
-            .judge(rt, kernel, &reckoning, declarations.limit())?;
-        Ok(reckoning)
+        let limit = self.declarations.limit();
+        self.course.judge(rt, desk.kernel(), reckoning, limit)
+    }
+
+    /// The same, with what its trace comes to reckoned anew.
+    fn judge(&mut self, rt: &impl Abort, desk: &Desk) -> Result<(), Finding> {
+        let reckoning = self.reckoned(rt, desk)?;
+        self.judge_by(rt, desk, &reckoning)
     }
 
     /// A request is taken, a reply given, a process leased, a lease handed in, or a turn taken.
@@ -319,6 +334,19 @@ impl<'a> DeskTalk<'a> {
     }
 
     /// One thing more happens to a desk, which is judged before.
+    fn one_more(
+        &mut self,
+        rt: &impl Abort,
+        desk: &mut Desk,
+        rng: &mut Pcg32,
+        reckoning: &Reckoning,
+        out: &mut Option<Lease>,
+    ) -> Result<(), Finding> {
+        self.judge_by(rt, desk, reckoning)?;
+        self.happens(rt, desk, rng, reckoning, out)
+    }
+
+    /// The same, with what its trace comes to reckoned anew.
     fn goes_on(
         &mut self,
         rt: &impl Abort,
@@ -326,8 +354,8 @@ impl<'a> DeskTalk<'a> {
         rng: &mut Pcg32,
         out: &mut Option<Lease>,
     ) -> Result<(), Finding> {
-        let reckoning = self.judge(rt, desk)?;
-        self.happens(rt, desk, rng, &reckoning, out)
+        let reckoning = self.reckoned(rt, desk)?;
+        self.one_more(rt, desk, rng, &reckoning, out)
     }
 
     /// So many things happen, and the desk is judged before and after each.
@@ -342,7 +370,7 @@ impl<'a> DeskTalk<'a> {
         for _ in 0..count {
             self.goes_on(rt, desk, rng, out)?;
         }
-        let _last = self.judge(rt, desk)?;
+        self.judge(rt, desk)?;
         Ok(Talked {
             replied: self.course.replied(),
             hand_ins: self.hand_ins,
@@ -354,13 +382,11 @@ impl<'a> DeskTalk<'a> {
 fn goes_out(rng: &mut Pcg32, lease: Lease, out: &mut Option<Lease>) {
     let mut lease = lease;
     lease.run(any_count(rng));
-    if let Some(before) = out.replace(lease) {
-        before.give_up();
-    }
+    gives_up(out.replace(lease));
 }
 
 /// How many requests of a desk had a reply, and how many hand-ins there were.
-#[derive(Clone, Copy, Debug)]
+#[derive(Clone, Copy)]
 struct Talked {
     replied: u64,
     hand_ins: Tally,
@@ -378,9 +404,7 @@ fn talk_to(
     let mut talk = DeskTalk::new(alloc, declarations);
     let mut out = None;
     let told = talk.go_on(rt, desk, rng, count, &mut out);
-    if let Some(lease) = out {
-        lease.give_up();
-    }
+    gives_up(out);
     told
 }
 
@@ -413,9 +437,16 @@ fn desk(
     kind: ScenarioKind,
 ) -> Result<Talked, Finding> {
     let mut rng = Pcg32::new(number, 5);
-    let text = scenario(rt, alloc, &mut rng, kind);
-    let scenario = Scenario::parse(alloc, &text).expect(rt, "a scenario");
+    let scenario = any_scenario(rt, alloc, &mut rng, kind);
     desk_of(rt, alloc, &mut rng, &scenario.declarations)
+}
+
+/// The same of a desk in which nothing is found.
+fn passed(rt: &impl Abort, alloc: Global, number: u64, kind: ScenarioKind) -> Talked {
+    match desk(rt, alloc, number, kind) {
+        Ok(talked) => talked,
+        Err(finding) => panic!(rt; "desk {number}: {finding:?}"),
+    }
 }
 
 /// So many desks from a number on, in each of which nothing is found; some requests in them have
@@ -425,16 +456,15 @@ fn desks<R: Abort + Env + Alloc>(rt: &R, alloc: Global, kind: ScenarioKind, from
     let mut hand_ins = Tally::default();
     let first = runs_after(rt).saturating_add(from);
     for number in first..first.saturating_add(at_most(rt, DESKS)) {
-        match desk(rt, alloc, number, kind) {
-            Ok(talked) => {
-                replied = replied.saturating_add(talked.replied);
-                hand_ins.add(talked.hand_ins);
-            }
-            Err(finding) => panic!(rt; "desk {number}, {kind:?}: {finding:?}"),
-        }
+        let talked = passed(rt, alloc, number, kind);
+        replied = replied.saturating_add(talked.replied);
+        hand_ins.add(talked.hand_ins);
     }
     assert!(rt; replied > 0, "no reply was given");
-    assert!(rt; hand_ins.taken > 0 && hand_ins.stale > 0, "{hand_ins:?}");
+    assert!(rt;
+        hand_ins.taken > 0 && hand_ins.stale > 0,
+        "no hand-in, or no stale one"
+    );
 }
 
 #[test]

@@ -1,5 +1,6 @@
 //! What a trace comes to without the kernel that is tested: its struck record is run by the plain
 //! kernel, and what depends on each undecided guess is followed from step to step.
+use crate::finding::Finding;
 use sk_guesses::Status;
 use sk_ids::{Entity, GuessId, ObjId, Pid, TagSet, Text};
 use sk_plain::{Entry, Event, InputRef, Plain, Plan, Trace, apply_plan, plan_step, strike};
@@ -8,7 +9,6 @@ use sk_store::{EntityState, Look, Store};
 use std::alloc::Global;
 use std::collections::BTreeSet;
 use std::process::Abort;
-use tests_support::finding::Finding;
 
 /// The entities that depend on a guess: those that a dependent step wrote.
 #[derive(Drop)]
@@ -18,7 +18,7 @@ struct Dirt {
 }
 
 /// A text of the record, and whether its step depends on an undecided guess.
-#[derive(Drop)]
+#[derive(Clone, Copy)]
 pub struct SaidText {
     pub terminal: u16,
     pub text: Text,
@@ -74,17 +74,25 @@ fn touches(dirt: &Dirt, entities: &[Entity]) -> bool {
     entities.iter().any(|entity| dirt.entities.contains(entity))
 }
 
+/// Whether a step, which writes these entities, depends on the guess.
+fn depends(dirt: &Dirt, entry: &Entry, plan: &Plan, writes: &[Entity]) -> bool {
+    let reads = plan.reads(entry.pid, InputRef::of(&entry.input));
+    entry.guess == Some(dirt.guess) || touches(dirt, reads.as_slice()) || touches(dirt, writes)
+}
+
+/// Marks these entities.
+fn mark(rt: &impl Abort, dirt: &mut Dirt, entities: &[Entity]) {
+    for entity in entities {
+        dirt.entities.insert(*entity).expect(rt, "memory");
+    }
+}
+
 /// Marks what a step writes, where it depends on the guess; says whether it does.
 fn follow_one(rt: &impl Abort, dirt: &mut Dirt, entry: &Entry, plan: &Plan) -> bool {
-    let reads = plan.reads(entry.pid, InputRef::of(&entry.input));
     let writes = plan.writes(entry.pid);
-    let depends = entry.guess == Some(dirt.guess)
-        || touches(dirt, reads.as_slice())
-        || touches(dirt, writes.as_slice());
+    let depends = depends(dirt, entry, plan, writes.as_slice());
     if depends {
-        for entity in writes.as_slice() {
-            dirt.entities.insert(*entity).expect(rt, "memory");
-        }
+        mark(rt, dirt, writes.as_slice());
     }
     depends
 }
@@ -121,12 +129,17 @@ impl Reckoning {
     ) -> Result<Reckoning, Finding> {
         let entries = strike(alloc, boot, trace)?;
         let mut reckoning = Reckoning::start(rt, alloc, boot);
-        for entry in &entries {
-            reckoning.open(rt, trace, entry);
-            reckoning.take(rt, boot.scripts(), entry);
-        }
+        reckoning.take_all(rt, boot, trace, &entries);
         reckoning.entries = entries;
         Ok(reckoning)
+    }
+
+    /// Takes the steps of a trace's record.
+    fn take_all(&mut self, rt: &impl Abort, boot: &Boot, trace: &Trace, entries: &[Entry]) {
+        for entry in entries {
+            self.open(rt, trace, entry);
+            self.take(rt, boot.scripts(), entry);
+        }
     }
 
     /// Follows the guess of a step from now on, where it is undecided.
@@ -146,26 +159,27 @@ impl Reckoning {
         let input = InputRef::of(&entry.input);
         let plan = match plan_step(&self.store, scripts, entry.pid, input) {
             Ok(plan) => plan,
-            Err(why) => panic!(rt; "a step of the record: {why:?}"),
+            Err(_) => panic!(rt; "a step of the record"),
         };
         let done = apply_plan(&mut self.store, scripts, entry.pid, input, &plan);
         done.expect(rt, "memory");
         let is_held = follow(rt, &mut self.dirt, entry, &plan);
         let said = self.plain.step(entry.pid, &entry.input);
-        if let Some(text) = said.expect(rt, "a step of the record") {
-            self.say(rt, entry.pid, text, is_held);
-        }
+        let said = said.expect(rt, "a step of the record");
+        self.say(rt, entry.pid, said, is_held);
     }
 
-    /// Notes what a process said.
-    fn say(&mut self, rt: &impl Abort, pid: Pid, text: Text, is_held: bool) {
+    /// Notes what a process said, where it said something.
+    fn say(&mut self, rt: &impl Abort, pid: Pid, said: Option<Text>, is_held: bool) {
         let terminal = terminal_of(&self.store, pid);
-        let said = SaidText {
-            terminal,
-            text,
-            is_held,
-        };
-        self.said.push(said).expect(rt, "memory");
+        if let Some(text) = said {
+            let said = SaidText {
+                terminal,
+                text,
+                is_held,
+            };
+            self.said.push(said).expect(rt, "memory");
+        }
     }
 
     /// The entities that are present in the plain kernel.
@@ -173,9 +187,21 @@ impl Reckoning {
         self.plain.entities().expect(rt, "memory")
     }
 
+    /// Whether these are the entities that are present in the plain kernel.
+    pub fn has(&self, rt: &impl Abort, entities: &[Entity]) -> bool {
+        self.present(rt).as_slice() == entities
+    }
+
     /// The texts of the record.
     pub fn said(&self) -> &[SaidText] {
         &self.said
+    }
+
+    /// The first texts of the record, so many, and those behind them.
+    pub fn said_behind(&self, count: usize) -> (&[SaidText], &[SaidText]) {
+        let said = self.said();
+        let old = said.get(..count).unwrap_or(&[]);
+        (old, said.get(count..).unwrap_or(&[]))
     }
 
     /// The struck record.

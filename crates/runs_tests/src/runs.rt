@@ -1,23 +1,23 @@
 //! The runs.
 use crate::calls::{Habit, answer, any_decision, any_process, any_step};
 use crate::epochs::{Before, begins};
-use crate::judge::{held, judge};
+use crate::finding::{Finding, held};
+use crate::judge::judge;
 use crate::leasing::{Tally, any_count, hand_in_answer, lease_refusal};
 use crate::numbers::{at_most, runs_after};
 use crate::reckoning::Reckoning;
-use crate::scenarios::{ScenarioKind, scenario};
+use crate::scenarios::{ScenarioKind, any_scenario};
 use crate::session::{SessionAnswer, TokenSession};
 use rand_core::Rng;
 use rand_pcg::Pcg32;
 use sk_ids::{Entity, GuessId, Pid};
 use sk_kernel::{HandIn, Kernel};
 use sk_plain::{Event, KeptInput, Trace};
-use sk_scenario::{Call, Declarations, Scenario};
+use sk_scenario::{Call, Declarations};
 use std::alloc::{Alloc, Global};
 use std::collections::BTreeSet;
 use std::env::Env;
 use std::process::Abort;
-use tests_support::finding::Finding;
 
 /// How many short runs of each manner there are.
 const RUNS: u64 = 1_250;
@@ -269,20 +269,39 @@ fn one_turn(
     }
 }
 
-/// Reckons anew what all that was done comes to, and judges the kernel by it.
-fn reckon(
+/// What all that was done comes to.
+fn reckoned(rt: &impl Abort, terms: Terms, course: &Course) -> Result<Reckoning, Finding> {
+    let boot = terms.declarations.boot();
+    Reckoning::of(rt, terms.alloc, boot, &course.trace)
+}
+
+/// Judges a kernel by what all that was done comes to.
+fn judges(
     rt: &impl Abort,
     terms: Terms,
     session: &TokenSession,
     course: &mut Course,
-) -> Result<Reckoning, Finding> {
-    let declarations = terms.declarations;
-    let reckoning = Reckoning::of(rt, terms.alloc, declarations.boot(), &course.trace)?;
-    course.judge(rt, session.kernel(), &reckoning, declarations.limit())?;
-    Ok(reckoning)
+) -> Result<(), Finding> {
+    let reckoning = reckoned(rt, terms, course)?;
+    let limit = terms.declarations.limit();
+    course.judge(rt, session.kernel(), &reckoning, limit)
 }
 
 /// One turn more of a kernel, which is judged before.
+fn one_more(
+    rt: &impl Abort,
+    rng: &mut Pcg32,
+    terms: Terms,
+    session: &mut TokenSession,
+    course: &mut Course,
+    reckoning: &Reckoning,
+) -> Result<(), Finding> {
+    let limit = terms.declarations.limit();
+    course.judge(rt, session.kernel(), reckoning, limit)?;
+    one_turn(rt, rng, terms, session, course, reckoning)
+}
+
+/// The same, with what all that was done comes to reckoned anew.
 fn goes_on(
     rt: &impl Abort,
     rng: &mut Pcg32,
@@ -290,8 +309,8 @@ fn goes_on(
     session: &mut TokenSession,
     course: &mut Course,
 ) -> Result<(), Finding> {
-    let reckoning = reckon(rt, terms, session, course)?;
-    one_turn(rt, rng, terms, session, course, &reckoning)
+    let reckoning = reckoned(rt, terms, course)?;
+    one_more(rt, rng, terms, session, course, &reckoning)
 }
 
 /// Makes so many random calls, leases, hand-ins and epochs, and judges the kernel before and after each; says how many
@@ -306,7 +325,7 @@ fn play(
     for _ in 0..terms.calls {
         goes_on(rt, rng, terms, session, course)?;
     }
-    let _last = reckon(rt, terms, session, course)?;
+    judges(rt, terms, session, course)?;
     Ok(course.tally)
 }
 
@@ -320,7 +339,7 @@ fn run_of(rt: &impl Abort, rng: &mut Pcg32, terms: Terms) -> Result<Tally, Findi
 }
 
 /// What all runs of a kind have in common.
-#[derive(Clone, Copy, Debug)]
+#[derive(Clone, Copy)]
 struct Manner {
     kind: ScenarioKind,
     habit: Habit,
@@ -332,8 +351,7 @@ struct Manner {
 /// The run of a number.
 fn run(rt: &impl Abort, alloc: Global, number: u64, manner: Manner) -> Result<Tally, Finding> {
     let mut rng = Pcg32::new(number, 1);
-    let text = scenario(rt, alloc, &mut rng, manner.kind);
-    let scenario = Scenario::parse(alloc, &text).expect(rt, "a scenario");
+    let scenario = any_scenario(rt, alloc, &mut rng, manner.kind);
     let calls = manner
         .least
         .saturating_add(rng.next_u32() % manner.more.max(1));
@@ -346,18 +364,27 @@ fn run(rt: &impl Abort, alloc: Global, number: u64, manner: Manner) -> Result<Ta
     run_of(rt, &mut rng, terms)
 }
 
+/// The same of a run in which nothing is found.
+fn passed(rt: &impl Abort, alloc: Global, number: u64, manner: Manner) -> Tally {
+    match run(rt, alloc, number, manner) {
+        Ok(tally) => tally,
+        Err(finding) => panic!(rt; "run {number}: {finding:?}"),
+    }
+}
+
 /// So many runs, in each of which the kernel is what its whole trace comes to after each call, as if no epoch had
 /// begun. Some hand-ins in them are taken, some are stale, and some epochs begin.
 fn runs<R: Abort + Env + Alloc>(rt: &R, alloc: Global, count: u64, manner: Manner) {
     let mut all = Tally::default();
     let first = runs_after(rt).saturating_add(1);
     for number in first..first.saturating_add(at_most(rt, count)) {
-        match run(rt, alloc, number, manner) {
-            Ok(tally) => all.add(tally),
-            Err(finding) => panic!(rt; "run {number}, {manner:?}: {finding:?}"),
-        }
+        all.add(passed(rt, alloc, number, manner));
     }
-    assert!(rt; all.taken > 0 && all.stale > 0 && all.epochs > 0, "{all:?}");
+    assert!(rt;
+        all.taken > 0 && all.stale > 0,
+        "no hand-in, or no stale one"
+    );
+    assert!(rt; all.epochs > 0, "no epoch began");
 }
 
 /// Short runs of a kind with these habits.

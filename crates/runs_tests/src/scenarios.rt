@@ -2,11 +2,12 @@
 //! directory, pipes, copies and terminals.
 use rand_core::Rng;
 use rand_pcg::Pcg32;
+use sk_scenario::Scenario;
 use std::alloc::Global;
 use std::process::Abort;
 
 /// What the processes of a scenario do.
-#[derive(Clone, Copy, Debug)]
+#[derive(Clone, Copy)]
 pub enum ScenarioKind {
     /// Anything.
     Any,
@@ -220,19 +221,22 @@ fn script(rt: &impl Abort, rng: &mut Pcg32, text: &mut Vec<u8>) {
     any_line(rt, rng, &["return", "jump b", "fetch X"], text);
 }
 
+/// The boot objects, copies and processes that each scenario has.
+const DECLARED: [&str; 8] = [
+    "file f T",
+    "file g T",
+    "pipe p T",
+    "dir d",
+    "copy /x 3 T",
+    "copy /y 1 T",
+    "process 1 S I",
+    "process 2 S I",
+];
+
 /// Writes the boot objects, copies, processes and the trace limit.
 fn others(rt: &impl Abort, rng: &mut Pcg32, text: &mut Vec<u8>) {
-    for declared in [
-        "file f T",
-        "file g T",
-        "pipe p T",
-        "dir d",
-        "copy /x 3 T",
-        "copy /y 1 T",
-        "process 1 S I",
-        "process 2 S I",
-    ] {
-        line(rt, rng, declared, text);
+    for declared in &DECLARED {
+        line(rt, rng, *declared, text);
     }
     if rng.next_u32() % 2 == 0 {
         line(rt, rng, "process 3 S I", text);
@@ -309,26 +313,57 @@ fn script_of(rt: &impl Abort, rng: &mut Pcg32, kind: ScenarioKind, name: &str, t
     line(rt, rng, "end", text);
 }
 
-/// The text of a random scenario, without its steps.
-pub fn scenario(rt: &impl Abort, alloc: Global, rng: &mut Pcg32, kind: ScenarioKind) -> Vec<u8> {
-    let mut text = Vec::new(alloc);
-    for name in ["script s1", "script s2", "script s3"] {
-        script_of(rt, rng, kind, name, &mut text);
+/// The scripts of each scenario.
+const SCRIPTS: [&str; 3] = ["script s1", "script s2", "script s3"];
+
+/// Writes the scripts, and what is declared beside them.
+fn declarations(rt: &impl Abort, rng: &mut Pcg32, kind: ScenarioKind, text: &mut Vec<u8>) {
+    for name in &SCRIPTS {
+        script_of(rt, rng, kind, *name, text);
     }
     if let ScenarioKind::Naming = kind {
-        names(rt, &mut text);
+        names(rt, text);
     }
-    others(rt, rng, &mut text);
-    text
+    others(rt, rng, text);
+}
+
+/// What a text declares.
+fn parsed(rt: &impl Abort, alloc: Global, text: &[u8]) -> Scenario {
+    Scenario::parse(alloc, text).expect(rt, "a scenario")
+}
+
+/// A random scenario, without its steps.
+pub fn any_scenario(
+    rt: &impl Abort,
+    alloc: Global,
+    rng: &mut Pcg32,
+    kind: ScenarioKind,
+) -> Scenario {
+    let mut text = Vec::new(alloc);
+    declarations(rt, rng, kind, &mut text);
+    parsed(rt, alloc, &text)
+}
+
+/// Writes a file of the server, which may be missing.
+fn remote(rt: &impl Abort, rng: &mut Pcg32, declared: &str, text: &mut Vec<u8>) {
+    if rng.next_u32() % 4 != 0 {
+        line(rt, rng, declared, text);
+    }
 }
 
 /// Writes the server's files, of which each may be missing, and that of `/x` of another version than the copy.
-pub fn remotes(rt: &impl Abort, rng: &mut Pcg32, text: &mut Vec<u8>) {
+fn remotes(rt: &impl Abort, rng: &mut Pcg32, text: &mut Vec<u8>) {
     let first = any(rng, &["remote /x 3 T", "remote /x 3 T", "remote /x 5 T"]);
-    for declared in [first, "remote /y 1 T", "remote /z 2 T"] {
-        if rng.next_u32() % 4 != 0 {
-            line(rt, rng, declared, text);
-        }
-    }
+    remote(rt, rng, first, text);
+    remote(rt, rng, "remote /y 1 T", text);
+    remote(rt, rng, "remote /z 2 T", text);
     add(rt, text, b"world\n");
+}
+
+/// A random scenario of a world, without its events.
+pub fn any_world(rt: &impl Abort, alloc: Global, rng: &mut Pcg32, kind: ScenarioKind) -> Scenario {
+    let mut text = Vec::new(alloc);
+    declarations(rt, rng, kind, &mut text);
+    remotes(rt, rng, &mut text);
+    parsed(rt, alloc, &text)
 }

@@ -12,7 +12,7 @@ use std::alloc::Global;
 use std::process::Abort;
 
 /// The answer to one call.
-#[derive(Clone, Copy, Debug, PartialEq, Eq)]
+#[derive(Clone, Copy, PartialEq, Eq)]
 pub enum SessionAnswer {
     Stepped,
     Guessed(GuessId),
@@ -62,9 +62,7 @@ impl TokenSession {
     pub fn lease(&mut self, pid: Pid, count: u32) -> Result<(), Refusal> {
         let mut lease = self.kernel.lease(pid)?;
         lease.run(count);
-        if let Some(before) = self.lease.replace(lease) {
-            before.give_up();
-        }
+        gives_up(self.lease.replace(lease));
         Ok(())
     }
 
@@ -132,14 +130,19 @@ impl TokenSession {
         let mut session = self;
         session.spend(rt);
         let TokenSession {
-            kernel: _,
+            kernel: _kernel,
             tokens,
             lease,
         } = session;
         tokens.destroy_empty();
-        if let Some(lease) = lease {
-            lease.give_up();
-        }
+        gives_up(lease);
+    }
+}
+
+/// Gives up a lease, where one is out.
+pub fn gives_up(lease: Option<Lease>) {
+    if let Some(lease) = lease {
+        lease.give_up();
     }
 }
 

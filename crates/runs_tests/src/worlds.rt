@@ -3,10 +3,11 @@ ghost use Rattle.std.specs.Prelude.{◌≡◌, IfOk};
 
 use crate::calls::{any_of, any_process};
 use crate::epochs::Before;
-use crate::judge::{held, judge};
+use crate::finding::{Finding, held};
+use crate::judge::judge;
 use crate::numbers::{at_most, runs_after};
 use crate::reckoning::Reckoning;
-use crate::scenarios::{ScenarioKind, remotes, scenario};
+use crate::scenarios::{ScenarioKind, any_world};
 use rand_core::Rng;
 use rand_pcg::Pcg32;
 use sk_client::{Cause, Desk, Given, Turn, World, WorldAnswer, WorldEvent};
@@ -14,14 +15,13 @@ use sk_ids::{Entity, GuessId, Name, Pid, Text};
 use sk_kernel::Kernel;
 use sk_objects::{Content, Value};
 use sk_plain::{Entry, Event, KeptInput, Plain, Refusal, View, strike};
-use sk_scenario::{Declarations, Remote, Scenario};
+use sk_scenario::{Declarations, Remote};
 use sk_script::Input;
 use sk_server::{Answer, EditRefusal, Reply, Server};
 use std::alloc::{Alloc, AllocError, Global};
 use std::collections::BTreeSet;
 use std::env::Env;
 use std::process::Abort;
-use tests_support::finding::Finding;
 
 /// How many worlds of a manner there are in a test.
 const WORLDS: u64 = 1_250;
@@ -30,7 +30,7 @@ const WORLDS: u64 = 1_250;
 const NAMES: [&[u8]; 3] = [b"/x", b"/y", b"/z"];
 
 /// How often each event comes: so many of 128. The others are turns.
-#[derive(Clone, Copy, Debug)]
+#[derive(Clone, Copy)]
 struct Pace {
     serves: u32,
     replies: u32,
@@ -48,14 +48,14 @@ impl Pace {
 }
 
 /// A store: what it left of which file.
-#[derive(Clone, Copy, Debug, PartialEq, Eq)]
+#[derive(Clone, Copy, PartialEq, Eq)]
 struct StoredFile {
     name: Name,
     content: Content,
 }
 
 /// A store that the server accepted, and the number of its request.
-#[derive(Clone, Copy, Debug)]
+#[derive(Clone, Copy)]
 struct Accepted {
     request: u64,
     store: StoredFile,
@@ -299,8 +299,8 @@ fn copy_of(plain: &Plain, name: Name) -> Option<Content> {
 /// The names of the files.
 fn names(rt: &impl Abort, alloc: Global) -> Vec<Name> {
     let mut all = Vec::new(alloc);
-    for bytes in NAMES {
-        let name = Name::new(bytes).expect(rt, "a name");
+    for bytes in &NAMES {
+        let name = Name::new(*bytes).expect(rt, "a name");
         all.push(name).expect(rt, "memory");
     }
     all
@@ -324,16 +324,24 @@ fn files_of(rt: &impl Abort, setting: &Setting, server: &Server) -> Vec<Option<C
     all
 }
 
+/// What was seen at a place.
+fn seen_at(looks: &[Option<Content>], place: usize) -> Option<Content> {
+    match looks.get(place) {
+        Some(seen) => *seen,
+        None => None,
+    }
+}
+
 /// Notes what has changed between two looks at a name.
 fn note_change(
     rt: &impl Abort,
     name: Name,
-    before: &Option<Content>,
-    after: &Option<Content>,
+    before: Option<Content>,
+    after: Option<Content>,
     all: &mut Vec<StoredFile>,
 ) {
-    if let Some(content) = *after
-        && *after != *before
+    if let Some(content) = after
+        && after != before
     {
         all.push(StoredFile { name, content }).expect(rt, "memory");
     }
@@ -347,8 +355,14 @@ fn note_all(
     after: &[Option<Content>],
     all: &mut Vec<StoredFile>,
 ) {
-    for (name, (before, after)) in setting.names.iter().zip(before.iter().zip(after.iter())) {
-        note_change(rt, *name, before, after, all);
+    for (place, name) in setting.names.iter().enumerate() {
+        note_change(
+            rt,
+            *name,
+            seen_at(before, place),
+            seen_at(after, place),
+            all,
+        );
     }
 }
 
@@ -369,6 +383,17 @@ fn stored(
     }
 }
 
+/// The stores of these steps of the record, in their order.
+fn stores_in(rt: &impl Abort, setting: &Setting, entries: &[Entry]) -> Vec<StoredFile> {
+    let boot = setting.declarations.boot();
+    let mut plain = Plain::boot(setting.alloc, boot).expect(rt, "memory");
+    let mut stores = Vec::new(setting.alloc);
+    for entry in entries {
+        stored(rt, setting, &mut plain, entry, &mut stores);
+    }
+    stores
+}
+
 /// The stores of the struck record, in its order.
 fn stores_of(
     rt: &impl Abort,
@@ -377,12 +402,7 @@ fn stores_of(
 ) -> Result<Vec<StoredFile>, Finding> {
     let boot = setting.declarations.boot();
     let entries = strike(setting.alloc, boot, kernel.trace())?;
-    let mut plain = Plain::boot(setting.alloc, boot).expect(rt, "memory");
-    let mut stores = Vec::new(setting.alloc);
-    for entry in &entries {
-        stored(rt, setting, &mut plain, entry, &mut stores);
-    }
-    Ok(stores)
+    Ok(stores_in(rt, setting, &entries))
 }
 
 /// Whether each accepted store whose reply was given stands among these.
@@ -457,21 +477,39 @@ fn happen(
     }
 }
 
-/// Reckons anew what the trace comes to, and judges the kernel by it.
-fn reckon(
+/// What the trace of a world comes to.
+fn reckoned(rt: &impl Abort, setting: &Setting, world: &World) -> Result<Reckoning, Finding> {
+    let boot = setting.declarations.boot();
+    Reckoning::of(rt, setting.alloc, boot, world.desk().kernel().trace())
+}
+
+/// Judges a world by what its trace comes to.
+fn judge_by(
     rt: &impl Abort,
     setting: &Setting,
     world: &World,
     course: &mut Course,
-) -> Result<Reckoning, Finding> {
+    reckoning: &Reckoning,
+) -> Result<(), Finding> {
     let pending = world.desk().pending() as u64;
     held(pending == course.pending(), Finding::Pending)?;
-    let (kernel, declarations) = (world.desk().kernel(), setting.declarations);
-    let boot = declarations.boot();
-    let reckoning = Reckoning::of(rt, setting.alloc, boot, kernel.trace())?;
-    course.judge(rt, kernel, &reckoning, declarations.limit())?;
-    Ok(reckoning)
+    let limit = setting.declarations.limit();
+    course.judge(rt, world.desk().kernel(), reckoning, limit)
 }
+
+/// The same, with what its trace comes to reckoned anew.
+fn judge_world(
+    rt: &impl Abort,
+    setting: &Setting,
+    world: &World,
+    course: &mut Course,
+) -> Result<(), Finding> {
+    let reckoning = reckoned(rt, setting, world)?;
+    judge_by(rt, setting, world, course, &reckoning)
+}
+
+/// The bytes that an edit may write.
+const BYTES: [&[u8]; 3] = [b"", b"foreign", b"w"];
 
 /// An edit of any file, mostly of the version that it has.
 fn edit(rng: &mut Pcg32, server: &Server, names: &[Name]) -> Option<WorldEvent> {
@@ -481,8 +519,7 @@ fn edit(rng: &mut Pcg32, server: &Server, names: &[Name]) -> Option<WorldEvent> 
         None => 0,
     };
     let ahead = u64::from(rng.next_u32() % 8 == 0);
-    let bytes: [&[u8]; 3] = [b"", b"foreign", b"w"];
-    let bytes = Text::new(any_of(rng, &bytes)?)?;
+    let bytes = Text::new(any_of(rng, &BYTES)?)?;
     Some(WorldEvent::Edit(name, version.saturating_add(ahead), bytes))
 }
 
@@ -512,6 +549,23 @@ fn any_event(
 }
 
 /// One random event more of a world, which is judged before.
+fn one_more(
+    rt: &impl Abort,
+    setting: &Setting,
+    rng: &mut Pcg32,
+    pace: Pace,
+    world: &mut World,
+    course: &mut Course,
+    reckoning: &Reckoning,
+) -> Result<(), Finding> {
+    judge_by(rt, setting, world, course, reckoning)?;
+    match any_event(rt, setting, rng, pace, world.server(), reckoning) {
+        Some(event) => happen(rt, setting, world, course, &event),
+        None => Ok(()),
+    }
+}
+
+/// The same, with what its trace comes to reckoned anew.
 fn goes_on(
     rt: &impl Abort,
     setting: &Setting,
@@ -520,11 +574,8 @@ fn goes_on(
     world: &mut World,
     course: &mut Course,
 ) -> Result<(), Finding> {
-    let reckoning = reckon(rt, setting, world, course)?;
-    match any_event(rt, setting, rng, pace, world.server(), &reckoning) {
-        Some(event) => happen(rt, setting, world, course, &event),
-        None => Ok(()),
-    }
+    let reckoning = reckoned(rt, setting, world)?;
+    one_more(rt, setting, rng, pace, world, course, &reckoning)
 }
 
 /// Lets an event happen, and judges the kernel behind it.
@@ -536,8 +587,34 @@ fn settle_one(
     event: &WorldEvent,
 ) -> Result<(), Finding> {
     happen(rt, setting, world, course, event)?;
-    let _reckoning = reckon(rt, setting, world, course)?;
+    judge_world(rt, setting, world, course)
+}
+
+/// The same so many times.
+fn settle_all(
+    rt: &impl Abort,
+    setting: &Setting,
+    world: &mut World,
+    course: &mut Course,
+    event: &WorldEvent,
+    count: u64,
+) -> Result<(), Finding> {
+    for _ in 0..count {
+        settle_one(rt, setting, world, course, event)?;
+    }
     Ok(())
+}
+
+/// Whether the stores of the record are just the accepted ones, with no request left.
+fn judge_settled(
+    rt: &impl Abort,
+    setting: &Setting,
+    world: &World,
+    course: &Course,
+) -> Result<(), Finding> {
+    held(world.desk().pending() == 0, Finding::Pending)?;
+    let stores = stores_of(rt, setting, world.desk().kernel())?;
+    judge_all(course, &stores)
 }
 
 /// Serves every request and gives every reply; then the stores of the record are just the accepted ones.
@@ -547,15 +624,11 @@ fn settle(
     world: &mut World,
     course: &mut Course,
 ) -> Result<(), Finding> {
-    for _ in course.served..course.made {
-        settle_one(rt, setting, world, course, &WorldEvent::Serve)?;
-    }
-    for _ in course.replied..course.made {
-        settle_one(rt, setting, world, course, &WorldEvent::Reply)?;
-    }
-    held(world.desk().pending() == 0, Finding::Pending)?;
-    let stores = stores_of(rt, setting, world.desk().kernel())?;
-    judge_all(course, &stores)
+    let unserved = course.made.saturating_sub(course.served);
+    settle_all(rt, setting, world, course, &WorldEvent::Serve, unserved)?;
+    let pending = course.pending();
+    settle_all(rt, setting, world, course, &WorldEvent::Reply, pending)?;
+    judge_settled(rt, setting, world, course)
 }
 
 /// Whether these are just the accepted stores.
@@ -577,7 +650,7 @@ fn play(
     for _ in 0..events {
         goes_on(rt, setting, rng, pace, world, course)?;
     }
-    let _last = reckon(rt, setting, world, course)?;
+    judge_world(rt, setting, world, course)?;
     settle(rt, setting, world, course)?;
     Ok(course.accepted.len())
 }
@@ -626,9 +699,7 @@ fn world(
     pace: Pace,
 ) -> Result<usize, Finding> {
     let mut rng = Pcg32::new(number, 3);
-    let mut text = scenario(rt, alloc, &mut rng, kind);
-    remotes(rt, &mut rng, &mut text);
-    let scenario = Scenario::parse(alloc, &text).expect(rt, "a scenario");
+    let scenario = any_world(rt, alloc, &mut rng, kind);
     let names = names(rt, alloc);
     let setting = Setting {
         alloc,
@@ -636,6 +707,14 @@ fn world(
         names: &names,
     };
     world_of(rt, &mut rng, pace, &setting)
+}
+
+/// The same of a world in which nothing is found.
+fn passed(rt: &impl Abort, alloc: Global, number: u64, kind: ScenarioKind, pace: Pace) -> usize {
+    match world(rt, alloc, number, kind, pace) {
+        Ok(accepted) => accepted,
+        Err(finding) => panic!(rt; "world {number}: {finding:?}"),
+    }
 }
 
 /// So many worlds from a number on, in each of which nothing is found; some stores are accepted in them.
@@ -649,10 +728,7 @@ fn worlds<R: Abort + Env + Alloc>(
     let mut accepted = 0usize;
     let first = runs_after(rt).saturating_add(from);
     for number in first..first.saturating_add(at_most(rt, WORLDS)) {
-        match world(rt, alloc, number, kind, pace) {
-            Ok(count) => accepted = accepted.saturating_add(count),
-            Err(finding) => panic!(rt; "world {number}, {kind:?}, {pace:?}: {finding:?}"),
-        }
+        accepted = accepted.saturating_add(passed(rt, alloc, number, kind, pace));
     }
     assert!(rt; accepted > 0, "no store was accepted");
 }

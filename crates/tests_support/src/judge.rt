@@ -16,8 +16,13 @@ fn is_same(one: Option<View>, other: Option<View>) -> bool {
     }
 }
 
+/// Whether an entity has the same with a kernel and with the plain kernel.
+pub fn has_value(kernel: &Kernel, plain: &Plain, entity: &Entity) -> bool {
+    is_same(kernel.value(entity), plain.value(entity))
+}
+
 /// Compares the entities that are present: hands them out.
-pub fn judge_present(kernel: &Kernel, plain: &Plain) -> Result<Vec<Entity>, Finding> {
+fn judge_present(kernel: &Kernel, plain: &Plain) -> Result<Vec<Entity>, Finding> {
     let present = kernel.entities()?;
     if present != plain.entities()? {
         return Err(Finding::Entities);
@@ -26,8 +31,8 @@ pub fn judge_present(kernel: &Kernel, plain: &Plain) -> Result<Vec<Entity>, Find
 }
 
 /// Compares what an entity has.
-pub fn judge_value(kernel: &Kernel, plain: &Plain, entity: &Entity) -> Result<(), Finding> {
-    if is_same(kernel.value(entity), plain.value(entity)) {
+fn judge_value(kernel: &Kernel, plain: &Plain, entity: &Entity) -> Result<(), Finding> {
+    if has_value(kernel, plain, entity) {
         Ok(())
     } else {
         Err(Finding::Value)

@@ -1,0 +1,38 @@
+//! What a test finds wrong.
+use sk_requests::{Fault, Refusal};
+use std::alloc::AllocError;
+
+/// Why a test does not pass.
+#[derive(Clone, Copy, Debug)]
+pub enum Wrong {
+    /// There was no memory.
+    Memory,
+    /// The bytes begin no request.
+    Fault(Fault),
+    /// The request with this number, from 0 on, is replied to otherwise.
+    Reply(usize),
+    /// Bytes that are cut at this place are replied to otherwise.
+    Cut(usize),
+    /// What is kept or looked at is otherwise.
+    Keys,
+}
+
+impl From<AllocError> for Wrong {
+    fn from(_: AllocError) -> Wrong {
+        Wrong::Memory
+    }
+}
+
+impl From<Refusal> for Wrong {
+    fn from(refusal: Refusal) -> Wrong {
+        match refusal {
+            Refusal::Fault(fault) => Wrong::Fault(fault),
+            Refusal::Memory => Wrong::Memory,
+        }
+    }
+}
+
+/// What should hold holds.
+pub fn holds(is: bool, wrong: Wrong) -> Result<(), Wrong> {
+    if is { Ok(()) } else { Err(wrong) }
+}

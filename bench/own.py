@@ -1,47 +1,150 @@
 #!/usr/bin/env python3
-"""What steps of a kernel over own keys cost, in instructions of the proved program `many_steps`, by valgrind.
+"""What steps of a kernel over own keys cost, in instructions of proved programs, by valgrind.
 
-    bench/own.py PROGRAM
+    bench/own.py PROGRAM [COSTS [LIBRARY]]
 
-PROGRAM is `crates/many_steps/out/many_steps`. A step looks at one key, writes it and another one, which it makes absent now and then,
-and every fourth says an output; it is built in buffers that are used again, and what has come out is taken. The first table has
-differences of two runs; the second holds twice the work against a limit. The status is 1 where a limit is passed.
+PROGRAM is `crates/many_steps/out/many_steps`, COSTS the test program of `costs_tests`, for what stands beside open guesses of others
+and for byte keys, and LIBRARY is `build/libhidewillow_c.a`, which `bench/own_steps.c` is linked with. Keys are of 64 bits and values of 16
+bytes, 100 keys are present, and each step looks at one key, whose value it reads, and writes it, in buffers that are used again; what
+is said is taken out. What a row says is the difference of two runs; beside it stands its limit, and OVER where it is passed. The last
+rows are of larger steps, which write another key too, make it absent now and then, and say an output every fourth time. The
+status is 1 where a limit is passed.
 """
+import os
+import pathlib
 import re
 import subprocess
 import sys
+import tempfile
 
 TWICE = 2.2
 GUESSES, STEPS = 100, 500
+HERE = pathlib.Path(__file__).resolve().parent
 
 
-def instructions(program, guesses, steps, keys):
-    """How many instructions a run takes."""
-    words = ["valgrind", "--tool=callgrind", "--callgrind-out-file=/dev/null", program, *map(str, (guesses, steps, keys))]
-    ran = subprocess.run(words, capture_output=True, text=True, check=True)
+def counted(words, inside=None, **env):
+    """How many instructions a run takes, or all that it takes inside of a function."""
+    within = [f"--toggle-collect={inside}"] if inside else []
+    words = ["valgrind", "--tool=callgrind", "--callgrind-out-file=/dev/null", *within, *map(str, words)]
+    ran = subprocess.run(words, capture_output=True, text=True, check=True, env={**os.environ, **{k: str(v) for k, v in env.items()}})
     return int(re.search(r"Collected : (\d+)", ran.stderr)[1])
 
 
-def steps_over(program, keys):
-    """What a step costs among so many keys, with its share of its guess's decision."""
-    more, less = (instructions(program, GUESSES, steps, keys) for steps in (2 * STEPS, STEPS))
-    return (more - less) / (GUESSES * STEPS)
+def peak(words):
+    """The most memory that a run has, in bytes."""
+    with subprocess.Popen([*map(str, words)], stdout=subprocess.DEVNULL) as child:
+        _, status, used = os.wait4(child.pid, 0)
+        child.returncode = status
+    if status:
+        raise SystemExit(f"own: {words} ended with {status}")
+    return used.ru_maxrss * 1024
 
 
-def main(program):
+class Rows:
+    """Prints rows, and keeps how many are over their limits."""
+
+    def __init__(self):
+        self.over = 0
+
+    def row(self, value, limit, name):
+        """One row; a ratio where the limit is no whole number."""
+        shown = f"{value:10,.0f}" if isinstance(limit, int) or limit is None else f"{value:10.3f}"
+        self.over += limit is not None and value > limit
+        told = "" if limit is None else f", at most {limit:,}{' OVER' if value > limit else ''}"
+        print(f"{shown}  {name}{told}", flush=True)
+
+
+def alone(program, deed):
+    """What a step costs where no guess is open."""
+    few, many = (counted([program, 0, steps, 100, deed, "mixed", 100]) for steps in (1_000, 3_000))
+    return (many - few) / 2_000
+
+
+def under_own(program, deed, keys=100):
+    """What a step costs under one own guess, with its share of the decision."""
+    few, many = (counted([program, GUESSES, steps, keys, deed, "mixed", min(keys, 100)]) for steps in (STEPS, 2 * STEPS))
+    return (many - few) / (GUESSES * STEPS)
+
+
+def guess_with(program, ends, deed="write"):
+    """What a guess with its own step and its decision costs."""
+    few, many = (counted([program, guesses, 0, 100, deed, ends, 100]) for guesses in (1_000, 2_000))
+    return (many - few) / 1_000
+
+
+def decision(program, ends, present):
+    """What the decision alone costs, beside so many keys that do not rest on it."""
+    words = [0, 100, "write", ends, 100 + present]
+    few, many = (counted([program, guesses, *words], inside="*decide*") for guesses in (1_000, 2_000))
+    return (many - few) / 1_000
+
+
+def beside(costs, others, present, guesses=False):
+    """What a step, or a guess with its decision, costs beside so many open guesses of others."""
+    def run(count):
+        asked = {"GUESSES": count, "STEPS": 0} if guesses else {"GUESSES": 0, "STEPS": count}
+        return counted([costs, "beside::beside_others"], OTHERS=others, PRESENT=present, **asked)
+    return (run(3_000) - run(1_000)) / 2_000
+
+
+def byte_keys(costs):
+    """What a step costs over keys of 16 bytes with values of 100."""
+    few, many = (counted([costs, "byte_keys::byte_steps"], STEPS=steps) for steps in (1_000, 3_000))
+    return (many - few) / 2_000
+
+
+def through_c(library):
+    """What the same step costs through C."""
+    with tempfile.TemporaryDirectory() as folder:
+        program = os.path.join(folder, "own_steps")
+        words = [os.environ.get("CC", "cc"), "-std=c11", "-O2", f"-I{HERE.parent / 'c'}", HERE / "own_steps.c", library, "-o", program]
+        subprocess.run(words, check=True)
+        few, many = (counted([program, steps]) for steps in (1_000, 3_000))
+    return (many - few) / 2_000
+
+
+def a_key(program):
+    """How many bytes a present key has beyond key and value."""
+    few, many = (peak([program, 0, 0, 100, "write", "right", present]) for present in (500_000, 1_000_000))
+    return (many - few) / 500_000 - 24
+
+
+def twice(program, left, right):
+    """Twice the work against the work."""
+    return counted([program, *left]) / counted([program, *right])
+
+
+def main(program, costs=None, library=None):
+    """All rows."""
+    rows = Rows()
+    rows.row(alone(program, "write"), 450, "a step, no guess open")
+    rows.row(under_own(program, "write"), 600, "a step under one own guess, with its share of the decision")
+    if costs:
+        rows.row(beside(costs, 62, 100), 500, "a step beside 62 guesses of others")
+    rows.row(alone(program, "say"), 450, "a step that says an output which goes out")
+    rows.row(guess_with(program, "right"), 1_300, "a guess with its step and its commit")
+    rows.row(guess_with(program, "wrong"), 1_300, "a guess with its step and its failure")
+    for ends, name in (("right", "commit"), ("wrong", "failure")):
+        ratio = decision(program, ends, 100_000) / decision(program, ends, 0)
+        rows.row(ratio, 1.05, f"a {name} beside 100,000 keys that don't rest on it / beside none")
+    if costs:
+        for guesses, limit, name in ((False, 1.1, "a step"), (True, 1.5, "a guess with its decision")):
+            ratio = beside(costs, 1_000, 1_100, guesses) / beside(costs, 0, 1_100, guesses)
+            rows.row(ratio, limit, f"{name} beside 1,000 open guesses of others / beside none")
+    rows.row(a_key(program), 96, "bytes of a present key beyond key and value, nothing open")
+    if costs:
+        rows.row(byte_keys(costs), 900, "a step over keys of 16 bytes with values of 100")
+    if library:
+        rows.row(through_c(library), 1_100, "the same through C")
     for keys in (1, 100, 60_000):
-        print(f"{steps_over(program, keys):10,.0f}  a step of a guess of {STEPS} to {2 * STEPS} steps, keys: {keys:,}")
-    few, many = (instructions(program, guesses, 0, 100) for guesses in (1_000, 2_000))
-    print(f"{(many - few) / 1_000:10,.0f}  a guess with its own step and its decision, keys: 100")
-    over = 0
+        rows.row(under_own(program, "mixed", keys), None, f"a larger step under an own guess, keys: {keys:,}")
+    rows.row(guess_with(program, "mixed", "mixed"), None, "a guess with a larger step and its decision")
     for name, left, right in (("guesses", (2_000, 9, 100), (1_000, 9, 100)), ("steps of a guess", (100, 1_000, 100), (100, 500, 100))):
-        ratio = instructions(program, *left) / instructions(program, *right)
-        over += ratio > TWICE
-        print(f"{ratio:10.3f}  twice as many {name}, at most {TWICE}{' OVER' if ratio > TWICE else ''}")
-    return 1 if over else 0
+        rows.row(twice(program, left, right), TWICE, f"twice as many {name}")
+    return 1 if rows.over else 0
 
 
 if __name__ == "__main__":
-    if len(sys.argv) != 2:
+    if not 2 <= len(sys.argv) <= 4:
         sys.exit(__doc__)
-    sys.exit(main(sys.argv[1]))
+    sys.exit(main(*map(os.path.realpath, sys.argv[1:])))

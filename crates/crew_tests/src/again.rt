@@ -101,6 +101,14 @@ fn make(desk: &mut Desk, entry: &HistoryEntry) -> Answered {
     }
 }
 
+/// Whether a call gives no reply, or the one that comes next.
+fn is_next(peer: &mut Peer, entry: &HistoryEntry) -> bool {
+    match &entry.call {
+        DeskCall::Reply(reply) => peer.gives(&reply.reply()),
+        DeskCall::Turn(_) | DeskCall::HandIn { .. } => true,
+    }
+}
+
 /// Makes the calls of a history on a desk, each of which has to be answered as it was; the replies have to be those of the
 /// server to the desk's requests.
 pub fn run_again(
@@ -110,10 +118,8 @@ pub fn run_again(
 ) -> Result<(), Finding> {
     for (place, entry) in entries.iter().enumerate() {
         take_until(desk, peer, entry.taken)?;
-        if let DeskCall::Reply(reply) = &entry.call {
-            if !peer.gives(&reply.reply()) {
-                return Err(Finding::Reply(place));
-            }
+        if !is_next(peer, entry) {
+            return Err(Finding::Reply(place));
         }
         if make(desk, entry) != entry.answer {
             return Err(Finding::Entry(place));

@@ -57,19 +57,18 @@ fn repeat(fresh: &mut Desk, peer: &mut Peer, left: &CrewLeft) -> Result<(), Find
     judge_files(peer.server(), left.server)
 }
 
-/// Judges the calls of a history on a fresh desk.
+/// Judges the calls of a history on a fresh desk and its peer.
 fn judge_fresh(
     alloc: Global,
     fresh: &mut Desk,
-    server: Server,
+    peer: &mut Peer,
     plan: CrewPlan,
     left: &CrewLeft,
 ) -> Result<(), Finding>
     requires { 1 ≤ plan.workers }
 {
-    let mut peer = Peer::new(alloc, server);
     judge_calls(alloc, fresh.kernel(), plan, left.entries)?;
-    repeat(fresh, &mut peer, left)
+    repeat(fresh, peer, left)
 }
 
 /// Judges the calls of a history.
@@ -82,8 +81,10 @@ fn judge_history(
     requires { 1 ≤ plan.workers }
 {
     let (mut fresh, server) = desk_of(alloc, declarations)?;
-    let judged = judge_fresh(alloc, &mut fresh, server, plan, left);
+    let mut peer = Peer::new(alloc, server);
+    let judged = judge_fresh(alloc, &mut fresh, &mut peer, plan, left);
     fresh.abandon();
+    drop(peer);
     judged
 }
 
@@ -125,6 +126,8 @@ fn one_crew<R: Threads + Wait + Sync>(
     };
     let judged = judge_crew(alloc, declarations, plan, meeting, &left);
     desk.abandon();
+    drop(server);
+    drop(entries);
     judged
 }
 
@@ -135,6 +138,23 @@ fn guests_of(declarations: &Declarations, number: u32) -> usize {
     } else {
         0
     }
+}
+
+/// The crew of a number, with as many turns fewer a worker: how many calls it makes.
+fn numbered_crew<R: Threads + Wait + Sync>(
+    rt: &R,
+    alloc: Global,
+    declarations: &Declarations,
+    plan: CrewPlan,
+    number: u32,
+) -> Result<usize, Finding>
+    requires count { (1 ≤ plan.workers) × (plan.workers ≤ 8) }
+    requires turns { 1 ≤ plan.turns }
+{
+    let turns = plan.turns - number % plan.turns;
+    let plan = CrewPlan { turns, ..plan };
+    let meeting = Meeting::new(alloc, plan.workers, guests_of(declarations, number))?;
+    one_crew(rt, alloc, declarations, plan, &meeting)
 }
 
 /// Has so many crews work, each with a turn fewer a worker than the one before, and judges each; some call has to be made.
@@ -150,10 +170,7 @@ pub fn judge_crews<R: Threads + Wait + Sync>(
 {
     let mut calls = 0usize;
     for number in 0..crews {
-        let turns = plan.turns - number % plan.turns;
-        let plan = CrewPlan { turns, ..plan };
-        let meeting = Meeting::new(alloc, plan.workers, guests_of(declarations, number))?;
-        let made = one_crew(rt, alloc, declarations, plan, &meeting)?;
+        let made = numbered_crew(rt, alloc, declarations, plan, number)?;
         calls = calls.saturating_add(made);
     }
     if calls == 0 {

@@ -28,10 +28,24 @@ use tests_support::finding::Finding;
 const AHEAD: u32 = 64;
 
 /// How many crews there are, and how large each is.
-#[derive(Clone, Copy, Debug)]
+#[derive(Clone, Copy)]
 struct CrewSizes {
     plan: CrewPlan,
     crews: u32,
+}
+
+/// The number that a word says.
+fn number(words: &[String], place: usize) -> Option<u32> {
+    words.get(place)?.parse::<u32>().ok()
+}
+
+/// How many private instructions a worker runs at most before each of its turns.
+fn ahead(words: &[String]) -> Option<u32> {
+    if words.len() > 4 {
+        number(words, 4)
+    } else {
+        Some(AHEAD)
+    }
 }
 
 /// What the words after the program's name ask for.
@@ -39,18 +53,15 @@ fn wish_of(words: &[String]) -> Option<CrewSizes>
     ensures workers { IfSome result (λ wish. (1 ≤ wish.plan.workers) × (wish.plan.workers ≤ 8)) }
     ensures turns { IfSome result (λ wish. 1 ≤ wish.plan.turns) }
 {
-    let workers = words.get(1)?.parse::<u8>().ok()?;
-    let turns = words.get(2)?.parse::<u32>().ok()?;
-    let crews = words.get(3)?.parse::<u32>().ok()?;
-    let ahead = match words.get(4) {
-        Some(word) => word.parse::<u32>().ok()?,
-        None => AHEAD,
-    };
+    let workers = number(words, 1)?;
+    let turns = number(words, 2)?;
+    let crews = number(words, 3)?;
+    let ahead = ahead(words)?;
     if workers < 1 || 8 < workers || turns < 1 {
         return None;
     }
     let plan = CrewPlan {
-        workers,
+        workers: workers as u8,
         turns,
         ahead,
     };
@@ -81,7 +92,9 @@ fn read_scenario(rt: &HostRuntime) -> Result<Scenario, Finding> {
 fn judge_input<T: Threads + Wait + Sync>(rt: &HostRuntime, threads: &T) -> Result<(), Finding> {
     let CrewSizes { plan, crews } = read_wish(rt)?;
     let scenario = read_scenario(rt)?;
-    judge_crews(threads, rt.alloc(), &scenario.declarations, plan, crews)
+    let judged = judge_crews(threads, rt.alloc(), &scenario.declarations, plan, crews);
+    drop(scenario);
+    judged
 }
 
 fn main(rt: HostRuntime) -> ExitCode {

@@ -16,13 +16,19 @@ pub struct Meeting {
     guests: usize,
 }
 
+/// Adds so many counts that begin at 0.
+fn adds_counts(begun: &mut Vec<AtomicU64>, workers: u8) -> Result<(), AllocError> {
+    for _ in 0..workers {
+        begun.push(AtomicU64::new(0))?;
+    }
+    Ok(())
+}
+
 impl Meeting {
     /// Of so many workers, the first of which wait for each other.
     pub fn new(alloc: Global, workers: u8, guests: usize) -> Result<Meeting, AllocError> {
         let mut begun = Vec::new(alloc);
-        for _ in 0..workers {
-            begun.push(AtomicU64::new(0))?;
-        }
+        adds_counts(&mut begun, workers)?;
         Ok(Meeting { begun, guests })
     }
 

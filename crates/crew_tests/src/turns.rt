@@ -9,17 +9,16 @@ use sk_workers::{Answered, DeskCall, HistoryEntry};
 use std::alloc::{AllocFailed, Global};
 use tests_support::finding::Finding;
 
-/// The processes of a worker: those whose places, by rising number from 0, are its own number modulo that of the workers.
-fn processes_of(
-    alloc: Global,
+/// Adds the processes of a worker: those whose places, by rising number from 0, are its own number modulo that of the workers.
+fn adds_processes(
+    own: &mut Vec<Pid>,
     present: &[Entity],
     workers: u8,
     worker: u8,
-) -> Result<Vec<Pid>, AllocFailed<Pid>>
+) -> Result<(), AllocFailed<Pid>>
     requires { 1 ≤ workers }
 {
     let mut place = 0usize;
-    let mut own = Vec::new(alloc);
     for entity in present {
         if let Entity::Proc(pid) = entity {
             if place % usize::from(workers) == usize::from(worker) {
@@ -28,7 +27,7 @@ fn processes_of(
             place = place.saturating_add(1);
         }
     }
-    Ok(own)
+    Ok(())
 }
 
 /// How far a worker is.
@@ -52,31 +51,10 @@ fn judge_turns(
     worker: u8,
     entries: &[HistoryEntry],
 ) -> Result<(), Finding> {
-    let mut progress = Progress {
-        turns: 0,
-        taken: 0,
-        is_ended: true,
-        has_stopped: own.is_empty(),
-        is_ahead: false,
-    };
+    let mut progress = Progress::of(own);
     for (place, entry) in entries.iter().enumerate() {
-        if entry.worker != worker {
-            continue;
-        }
-        let (pid, is_turn) = match &entry.call {
-            DeskCall::Turn(pid) => (*pid, true),
-            DeskCall::HandIn { process, .. } => (*process, false),
-            DeskCall::Reply(_) => continue,
-        };
-        if progress.has_stopped || own.get(progress.taken) != Some(&pid) {
+        if entry.worker == worker && !progress.makes(own, entry) {
             return Err(Finding::Turn(place));
-        }
-        if is_turn {
-            progress.pass(own.len(), entry.answer);
-        } else if progress.is_ahead {
-            return Err(Finding::Turn(place));
-        } else {
-            progress.is_ahead = true;
         }
     }
     if progress.has_stopped || progress.turns == plan.turns {
@@ -87,6 +65,42 @@ fn judge_turns(
 }
 
 impl Progress {
+    /// Before the first turn of one of these processes.
+    fn of(own: &[Pid]) -> Progress {
+        Progress {
+            turns: 0,
+            taken: 0,
+            is_ended: true,
+            has_stopped: own.is_empty(),
+            is_ahead: false,
+        }
+    }
+
+    /// Whether the process of a call is the one that is due.
+    fn is_due(&self, own: &[Pid], pid: Pid) -> bool {
+        !self.has_stopped && own.get(self.taken) == Some(&pid)
+    }
+
+    /// Goes on after a lease was handed in: whether it is the only one before the turn.
+    fn runs_ahead(&mut self) -> bool {
+        let is_first = !self.is_ahead;
+        self.is_ahead = true;
+        is_first
+    }
+
+    /// Goes on after a call: whether it is one that its worker makes then.
+    fn makes(&mut self, own: &[Pid], entry: &HistoryEntry) -> bool {
+        match &entry.call {
+            DeskCall::Turn(pid) if self.is_due(own, *pid) => {
+                self.pass(own.len(), entry.answer);
+                true
+            }
+            DeskCall::HandIn { process, .. } if self.is_due(own, *process) => self.runs_ahead(),
+            DeskCall::Turn(_) | DeskCall::HandIn { .. } => false,
+            DeskCall::Reply(_) => true,
+        }
+    }
+
     /// Goes on after a turn of one of so many processes.
     fn pass(&mut self, count: usize, answer: Answered) {
         self.is_ahead = false;
@@ -119,7 +133,22 @@ fn judge_owners(plan: CrewPlan, entries: &[HistoryEntry]) -> Result<(), Finding>
     Ok(())
 }
 
-/// Whether each worker made the turns that are its own, of these that are there.
+/// Whether a worker made the turns that are its own, of these that are there.
+fn judge_worker(
+    alloc: Global,
+    present: &[Entity],
+    plan: CrewPlan,
+    worker: u8,
+    entries: &[HistoryEntry],
+) -> Result<(), Finding>
+    requires { 1 ≤ plan.workers }
+{
+    let mut own = Vec::new(alloc);
+    adds_processes(&mut own, present, plan.workers, worker)?;
+    judge_turns(&own, plan, worker, entries)
+}
+
+/// Whether each of them did.
 fn judge_workers(
     alloc: Global,
     present: &[Entity],
@@ -129,8 +158,7 @@ fn judge_workers(
     requires { 1 ≤ plan.workers }
 {
     for worker in 0..plan.workers {
-        let own = processes_of(alloc, present, plan.workers, worker)?;
-        judge_turns(&own, plan, worker, entries)?;
+        judge_worker(alloc, present, plan, worker, entries)?;
     }
     Ok(())
 }

@@ -5,7 +5,7 @@ use sk_client::Desk;
 use sk_ids::{Pid, Text};
 use sk_kernel::HandIn;
 use sk_objects::Content;
-use sk_scenario::Scenario;
+use sk_scenario::{Declarations, Scenario};
 use sk_script::Lease;
 use sk_server::{Answer, Reply};
 use std::alloc::Global;
@@ -97,7 +97,7 @@ fn lends(desk: &mut Desk, count: u32) -> Result<(), Stop> {
 }
 
 fn begins(desk: &mut Desk) -> Result<(), Stop> {
-    let _left = desk.new_epoch()?;
+    drop(desk.new_epoch()?);
     Ok(())
 }
 
@@ -127,10 +127,14 @@ fn acts_all(desk: &mut Desk, parts: &[DeskPart]) -> Result<(), Stop> {
     Ok(())
 }
 
+fn declared(alloc: Global, declarations: &Declarations) -> Result<Desk, Stop> {
+    let (desk, _server) = sk_play::desk_of(alloc, declarations)?;
+    Ok(desk)
+}
+
 fn desk_of(alloc: Global, text: &[u8]) -> Result<Desk, Stop> {
     let scenario = Scenario::parse(alloc, text)?;
-    let (desk, _server) = sk_play::desk_of(alloc, &scenario.declarations)?;
-    Ok(desk)
+    declared(alloc, &scenario.declarations)
 }
 
 /// The acts on a desk.

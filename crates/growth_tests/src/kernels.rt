@@ -55,14 +55,14 @@ fn lends(kernel: &mut Kernel, count: u32) -> Result<(), Stop> {
 
 /// Prints a trace, and strikes it.
 fn asks_trace(alloc: Global, kernel: &Kernel, trace: &Trace) -> Result<(), Stop> {
-    let _printed = trace.print(alloc)?;
-    let _left = strike_from(alloc, kernel.opening().start(), trace)?;
+    drop(trace.print(alloc)?);
+    drop(strike_from(alloc, kernel.opening().start(), trace)?);
     Ok(())
 }
 
 fn sees(kernel: &Kernel) -> Result<(), Stop> {
-    let _present = kernel.entities()?;
-    let _opening = kernel.opening().copy()?;
+    drop(kernel.entities()?);
+    drop(kernel.opening().copy()?);
     Ok(())
 }
 
@@ -73,7 +73,7 @@ fn asks(alloc: Global, kernel: &Kernel) -> Result<(), Stop> {
 }
 
 fn begins(kernel: &mut Kernel) -> Result<(), Stop> {
-    let _left = kernel.new_epoch()?;
+    drop(kernel.new_epoch()?);
     Ok(())
 }
 
@@ -156,7 +156,9 @@ fn kernel_of(alloc: Global, text: &[u8]) -> Result<Kernel, Stop> {
 /// What a row grows is grown.
 fn grows_row(rt: &impl Abort, alloc: Global, row: &Row) -> Result<(), Stop> {
     let mut kernel = kernel_of(alloc, row.start)?;
-    grows(rt, alloc, &mut kernel, row.parts)
+    let told = grows(rt, alloc, &mut kernel, row.parts);
+    drop(kernel);
+    told
 }
 
 #[test]

@@ -6,14 +6,17 @@ use std::alloc::Global;
 
 const SEGMENT: u64 = 3;
 
-/// So many frames, and one that is longer than they are many.
-fn frames(alloc: Global, log: &mut Vec<u8>, payload: &[u8]) -> Result<(), Stop> {
+fn frames(log: &mut Vec<u8>, payload: &[u8]) -> Result<(), Stop> {
     for number in 0..u64::from(MANY) {
         append(log, SEGMENT, number, payload)?;
     }
-    let mut long = Vec::new(alloc);
+    Ok(())
+}
+
+/// A frame that is longer than they are many.
+fn long_frame(log: &mut Vec<u8>, long: &mut Vec<u8>) -> Result<(), Stop> {
     long.resize(MANY as usize, 7)?;
-    append(log, SEGMENT, u64::from(MANY), &long)?;
+    append(log, SEGMENT, u64::from(MANY), long)?;
     Ok(())
 }
 
@@ -30,25 +33,36 @@ fn passed(recovery: &mut Recovery) -> u32 {
     count
 }
 
-/// Reads the frames, all of them in one piece or in pieces of so many bytes.
-fn reads(alloc: Global, log: &[u8], piece: usize) -> Result<u32, Stop> {
-    let mut recovery = Recovery::new(alloc, SEGMENT, 0);
+/// Feeds a segment in pieces of so many bytes.
+fn feeds(recovery: &mut Recovery, log: &[u8], piece: usize) -> Result<(), Stop> {
     for bytes in log.chunks(piece.max(1)) {
         recovery.feed(bytes)?;
     }
-    Ok(passed(&mut recovery))
+    Ok(())
 }
 
-fn grows(alloc: Global) -> Result<(), Stop> {
-    let mut log = Vec::new(alloc);
-    frames(alloc, &mut log, b"payload")?;
-    let whole = reads(alloc, &log, log.len())?;
-    let pieces = reads(alloc, &log, 100)?;
-    if whole == MANY + 1 && pieces == MANY + 1 {
+/// Reads the frames, all of them in one piece or in pieces of so many bytes.
+fn reads(alloc: Global, log: &[u8], piece: usize) -> Result<(), Stop> {
+    let mut recovery = Recovery::new(alloc, SEGMENT, 0);
+    feeds(&mut recovery, log, piece)?;
+    if passed(&mut recovery) == MANY + 1 {
         Ok(())
     } else {
         Err(Stop::Answer)
     }
+}
+
+/// So many frames and a long one, read in one piece and in many.
+fn writes_and_reads(alloc: Global, log: &mut Vec<u8>, long: &mut Vec<u8>) -> Result<(), Stop> {
+    frames(log, b"payload")?;
+    long_frame(log, long)?;
+    reads(alloc, log, log.len())?;
+    reads(alloc, log, 100)
+}
+
+fn grows(alloc: Global) -> Result<(), Stop> {
+    let (mut log, mut long) = (Vec::new(alloc), Vec::new(alloc));
+    writes_and_reads(alloc, &mut log, &mut long)
 }
 
 #[test]

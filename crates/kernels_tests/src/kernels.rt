@@ -2,7 +2,7 @@
 ghost use Rattle.std.specs.Prelude.{◌≡◌};
 
 use crate::plays::{Decision, KernelPlay, Player, does, does_all};
-use crate::start::{Start, passes};
+use crate::start::{BARE, Start, comes, passes};
 use sk_guesses::Guess;
 use sk_kernel::{FailRefusal, Kernel, Outcome, Stranger};
 use sk_plain::Trace;
@@ -11,8 +11,6 @@ use std::alloc::Global;
 use std::process::Abort;
 use tests_support::plain::text;
 use tests_support::wrong::{Wrong, holds};
-
-const SAY_FETCH_SAY: &[u8] = b"text \"a\"\nsay\nfetch /01\ntext \"b\"\nsay\n";
 
 /// The two steps before the fetch, or behind it.
 const STEPS: KernelPlay = KernelPlay::Steps(1, 2, Ok(()));
@@ -23,15 +21,16 @@ const GUESS: KernelPlay = KernelPlay::Guesses(1, 1, 1);
 /// Its commit.
 const COMMIT: KernelPlay = KernelPlay::Decides(Decision::Commit, Outcome::Done);
 
-/// A kernel of this number with one process, which says `a`, fetches and says `b`.
-fn one_process(number: u64) -> Start<'static> {
-    Start {
-        number,
-        script: &[(SAY_FETCH_SAY, 1)],
-        processes: 1,
-        limit: 100,
-    }
-}
+/// A kernel of number 1 with one process, which says `a`, fetches and says `b`.
+const ONE: Start<'static> = Start {
+    number: 1,
+    scripts: &[&[(b"text \"a\"\nsay\nfetch /01\ntext \"b\"\nsay\n", 1)]],
+    copies: &[(b"/01", 3, b"old")],
+    ..BARE
+};
+
+/// One of number 2.
+const TWO: Start<'static> = Start { number: 2, ..ONE };
 
 /// Something that is done with two kernels.
 #[derive(Clone, Copy)]
@@ -52,11 +51,11 @@ fn refused_twice(rt: &impl Abort, kernel: &mut Kernel, token: Guess) -> Guess
     ensures kept { kernel.new ≡ kernel.old }
 {
     let token = match kernel.commit_speculation(token) {
-        Ok(outcome) => panic!(rt; "committed: {outcome:?}"),
+        Ok(_) => panic!(rt; "committed"),
         Err(Stranger { guess }) => guess,
     };
     match kernel.fail_speculation(token) {
-        Ok(outcome) => panic!(rt; "failed: {outcome:?}"),
+        Ok(_) => panic!(rt; "failed"),
         Err(FailRefusal::Stranger(guess)) => guess,
     }
 }
@@ -100,68 +99,65 @@ fn takes_all(
     turns: &[PairTurn],
 ) -> Result<(), Wrong> {
     for (place, turn) in turns.iter().enumerate() {
-        holds(place, takes(rt, one, two, *turn)?)?;
+        comes(place, takes(rt, one, two, *turn))?;
     }
     Ok(())
 }
 
-/// Takes turns with a player and a new kernel of this number.
+/// Takes turns with a player and a new kernel.
 fn meets(
     rt: &impl Abort,
     alloc: Global,
     one: &mut Player,
-    number: u64,
+    other: Start<'_>,
     turns: &[PairTurn],
 ) -> Result<(), Wrong> {
-    let mut two = Player::new(alloc, one_process(number))?;
+    let mut two = Player::new(alloc, other)?;
     let done = takes_all(rt, one, &mut two, turns);
     two.abandon(rt);
     done
 }
 
-/// Takes turns with two new kernels of these numbers.
-fn meet(
-    rt: &impl Abort,
-    alloc: Global,
-    numbers: [u64; 2],
-    turns: &[PairTurn],
-) -> Result<(), Wrong> {
-    let mut one = Player::new(alloc, one_process(numbers[0]))?;
-    let done = meets(rt, alloc, &mut one, numbers[1], turns);
+/// Takes turns with two new kernels, the first of which has number 1.
+fn meet(rt: &impl Abort, alloc: Global, other: Start<'_>, turns: &[PairTurn]) -> Result<(), Wrong> {
+    let mut one = Player::new(alloc, ONE)?;
+    let done = meets(rt, alloc, &mut one, other, turns);
     one.abandon(rt);
     done
 }
 
+const LENT: &[PairTurn] = &[
+    PairTurn::One(STEPS),
+    PairTurn::One(GUESS),
+    PairTurn::Two(STEPS),
+    PairTurn::Two(GUESS),
+    PairTurn::Lends,
+    PairTurn::One(COMMIT),
+    PairTurn::Two(COMMIT),
+    PairTurn::Alike,
+];
+
 #[test]
 fn tokens_of_two_kernels(rt: HostRuntime) {
-    let turns = [
-        PairTurn::One(STEPS),
-        PairTurn::One(GUESS),
-        PairTurn::Two(STEPS),
-        PairTurn::Two(GUESS),
-        PairTurn::Lends,
-        PairTurn::One(COMMIT),
-        PairTurn::Two(COMMIT),
-        PairTurn::Alike,
-    ];
-    passes(&rt, meet(&rt, rt.alloc(), [1, 2], &turns));
+    passes(&rt, meet(&rt, rt.alloc(), TWO, LENT));
 }
 
 /// A token is lent to a kernel of the same number that has drawn no guess, and again after that has
 /// committed its first.
+const LENT_TWICE: &[PairTurn] = &[
+    PairTurn::One(STEPS),
+    PairTurn::One(GUESS),
+    PairTurn::Lends,
+    PairTurn::Two(STEPS),
+    PairTurn::Two(GUESS),
+    PairTurn::Two(COMMIT),
+    PairTurn::Lends,
+    PairTurn::One(COMMIT),
+];
+
 #[test]
 fn tokens_of_guesses_that_are_not_undecided(rt: HostRuntime) {
-    let turns = [
-        PairTurn::One(STEPS),
-        PairTurn::One(GUESS),
-        PairTurn::Lends,
-        PairTurn::Two(STEPS),
-        PairTurn::Two(GUESS),
-        PairTurn::Two(COMMIT),
-        PairTurn::Lends,
-        PairTurn::One(COMMIT),
-    ];
-    passes(&rt, meet(&rt, rt.alloc(), [1, 1], &turns));
+    passes(&rt, meet(&rt, rt.alloc(), ONE, LENT_TWICE));
 }
 
 /// The trace and the texts of a kernel of which no guess is undecided.
@@ -172,13 +168,15 @@ fn shut(rt: &impl Abort, kernel: Kernel) -> (Trace, Texts) {
     kernel.shut()
 }
 
-const COMMITTED: &[u8] =
+const COMMITTED: &[KernelPlay] = &[STEPS, GUESS, STEPS, COMMIT];
+
+const PRINTED: &[u8] =
     b"step 1 none\nstep 1 none\nguess 1 1 good\nstep 1 none\nstep 1 none\ncommit 1\n";
 
 /// A trace is printed as that of the commit.
 fn prints(alloc: Global, trace: &Trace) -> Result<(), Wrong> {
     let printed = trace.print(alloc)?;
-    holds(0, printed.as_slice() == COMMITTED)
+    holds(0, printed.as_slice() == PRINTED)
 }
 
 /// Terminal 1 has released both texts, and terminal 2 none.
@@ -190,8 +188,8 @@ fn has_released(texts: &Texts) -> Result<(), Wrong> {
 
 /// A kernel commits its guess, and is shut.
 fn shuts(rt: &impl Abort, alloc: Global) -> Result<(), Wrong> {
-    let mut one = Player::new(alloc, one_process(1))?;
-    let done = does_all(rt, &mut one, &[STEPS, GUESS, STEPS, COMMIT]);
+    let mut one = Player::new(alloc, ONE)?;
+    let done = does_all(rt, &mut one, COMMITTED);
     let (trace, texts) = shut(rt, one.end(rt));
     let printed = prints(alloc, &trace);
     done.and(printed).and(has_released(&texts))

@@ -1,11 +1,11 @@
 //! A process is leased, and handed in.
-use crate::start::{declares_script, passes};
+use crate::start::{BARE, Start, kernel_of, lets_go, passes};
 use sk_ids::{Entity, Pid};
 use sk_kernel::{HandIn, Kernel};
 use sk_plain::{Refusal, View};
-use sk_script::{Boot, Input, Lease};
+use sk_script::{Input, Lease};
 use std::alloc::Global;
-use tests_support::plain::{name, pid};
+use tests_support::plain::pid;
 use tests_support::wrong::{Wrong, holds};
 
 /// What a hand-in comes to.
@@ -21,21 +21,15 @@ struct HandedIn {
     place: Option<u32>,
 }
 
-/// Declares a process with two private instructions and one that is not, and one that ends it by a signal.
-fn declares_lent_and_killer(alloc: Global, boot: &mut Boot) -> Result<(), Wrong> {
-    let (sets, kills) = (name(b"sets")?, name(b"kills")?);
-    declares_script(alloc, boot, &sets, b"set r1 1\nset r2 2\nsay\n")?;
-    declares_script(alloc, boot, &kills, b"boot r1 1\nset r2 9\nkill r1 r2\n")?;
-    boot.process(1, &sets, 1)?;
-    Ok(boot.process(2, &kills, 2)?)
-}
-
-/// A kernel of both.
-fn kernel(alloc: Global) -> Result<Kernel, Wrong> {
-    let mut boot = Boot::new(alloc);
-    declares_lent_and_killer(alloc, &mut boot)?;
-    Ok(Kernel::boot(alloc, 0, &boot, 1_000)?)
-}
+/// A process with two private instructions and one that is not, and one that ends it by a signal.
+const START: Start<'static> = Start {
+    scripts: &[
+        &[(b"set r1 1\nset r2 2\nsay\n", 1)],
+        &[(b"boot r1 1\nset r2 9\nkill r1 r2\n", 1)],
+    ],
+    limit: 1_000,
+    ..BARE
+};
 
 /// Where a process stands, if it is there.
 fn place_of(kernel: &Kernel, pid: Pid) -> Option<u32> {
@@ -95,29 +89,47 @@ fn hands_in(kernel: &mut Kernel, between: Pid, count: u32) -> Result<HandedIn, W
 /// The same in a new kernel.
 fn handed_in(alloc: Global, between: u16, steps: u32) -> Result<HandedIn, Wrong> {
     let between = pid(between)?;
-    let mut kernel = kernel(alloc)?;
-    hands_in(&mut kernel, between, steps)
+    let mut kernel = kernel_of(alloc, START)?;
+    let handed_in = hands_in(&mut kernel, between, steps);
+    lets_go(kernel);
+    handed_in
 }
 
-/// Both private instructions are done, and this comes of the hand-in.
-fn of_both(answer: Result<(), HandIn>, events: usize, place: u32) -> HandedIn {
-    HandedIn {
-        done: 2,
-        is_as_lent: answer.is_ok(),
-        answer,
-        events,
-        place: Some(place),
-    }
-}
+/// Both private instructions are done, and handed in.
+const BOTH: HandedIn = HandedIn {
+    done: 2,
+    is_as_lent: true,
+    answer: Ok(()),
+    events: 2,
+    place: Some(2),
+};
+
+/// A lease is stale, since its process made a step, or was ended by a signal.
+const STALE: HandedIn = HandedIn {
+    done: 2,
+    is_as_lent: false,
+    answer: Err(HandIn::Stale),
+    events: 1,
+    place: Some(1),
+};
+
+/// Whose steps are taken, and how many, before the lease is handed in.
+const ROWS: [(u16, u32, HandedIn); 3] = [
+    (2, 0, BOTH),
+    (
+        2,
+        3,
+        HandedIn {
+            events: 3,
+            place: Some(0),
+            ..STALE
+        },
+    ),
+    (1, 1, STALE),
+];
 
 fn all_are_handed_in(alloc: Global) -> Result<(), Wrong> {
-    let stale = Err(HandIn::Stale);
-    let rows = [
-        (2, 0, of_both(Ok(()), 2, 2)),
-        (2, 3, of_both(stale, 3, 0)),
-        (1, 1, of_both(stale, 1, 1)),
-    ];
-    for (place, (between, steps, want)) in rows.iter().enumerate() {
+    for (place, (between, steps, want)) in ROWS.iter().enumerate() {
         holds(place, handed_in(alloc, *between, *steps)? == *want)?;
     }
     Ok(())
@@ -128,32 +140,42 @@ fn lease_and_hand_in(rt: HostRuntime) {
     passes(&rt, all_are_handed_in(rt.alloc()));
 }
 
-/// What a hand-in comes to of a lease that did so many instructions.
-fn of_these(done: u32, events: usize, place: u32) -> HandedIn {
-    HandedIn {
-        done,
-        is_as_lent: true,
-        answer: Ok(()),
-        events,
-        place: Some(place),
-    }
+/// The first instruction alone is done, and handed in.
+const FIRST: HandedIn = HandedIn {
+    done: 1,
+    events: 1,
+    place: Some(1),
+    ..BOTH
+};
+
+/// How many instructions each lease of process 1 may run, one after the other.
+const IN_TURN: [(u32, HandedIn); 3] = [
+    (1, FIRST),
+    (10, HandedIn { done: 1, ..BOTH }),
+    (10, HandedIn { done: 0, ..BOTH }),
+];
+
+/// Process 1 is leased, runs so many private instructions and is handed in.
+fn counted(kernel: &mut Kernel, count: u32) -> Result<HandedIn, Wrong> {
+    let leased = pid(1)?;
+    let mut lease = kernel.lease(leased)?;
+    lease.run(count);
+    Ok(outcome(kernel, leased, lease))
 }
 
 /// A lease is spent by its hand-in, so that the next one of the process has just what is done from there on.
-fn none_counts_twice(alloc: Global) -> Result<(), Wrong> {
-    let mut kernel = kernel(alloc)?;
-    let leased = pid(1)?;
-    let rows = [
-        (1, of_these(1, 1, 1)),
-        (10, of_these(1, 2, 2)),
-        (10, of_these(0, 2, 2)),
-    ];
-    for (place, (count, want)) in rows.iter().enumerate() {
-        let mut lease = kernel.lease(leased)?;
-        lease.run(*count);
-        holds(place, outcome(&mut kernel, leased, lease) == *want)?;
+fn count_once(kernel: &mut Kernel) -> Result<(), Wrong> {
+    for (place, (count, want)) in IN_TURN.iter().enumerate() {
+        holds(place, counted(kernel, *count)? == *want)?;
     }
     Ok(())
+}
+
+fn none_counts_twice(alloc: Global) -> Result<(), Wrong> {
+    let mut kernel = kernel_of(alloc, START)?;
+    let counted = count_once(&mut kernel);
+    lets_go(kernel);
+    counted
 }
 
 #[test]

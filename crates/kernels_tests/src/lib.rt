@@ -1,8 +1,22 @@
-//! The tests of records and kernels over their public calls.
+//! The tests of records, kernels, servers and a client's desks over their public calls.
 #![tactic(auto)]
 
 #[cfg(test)]
+mod ample_desk;
+#[cfg(test)]
+mod ample_server;
+#[cfg(test)]
+mod asking;
+#[cfg(test)]
 mod dependents;
+#[cfg(test)]
+mod desk;
+#[cfg(test)]
+mod desk_epochs;
+#[cfg(test)]
+mod desk_leases;
+#[cfg(test)]
+mod desk_plays;
 #[cfg(test)]
 mod epochs;
 #[cfg(test)]
@@ -20,6 +34,10 @@ mod plays;
 #[cfg(test)]
 mod records;
 #[cfg(test)]
+mod server;
+#[cfg(test)]
 mod sizes;
 #[cfg(test)]
 mod start;
+#[cfg(test)]
+mod turns;

@@ -36,8 +36,8 @@ fn writes(alloc: Global, value: &mut Value, log: &mut ObjectLog) -> Result<(), W
         (CanGoBack ObjectFits object_undone (Some value.new) (reverse log.new.log.notes.items)) }
 {
     let change = write(4, b"XYZ")?;
-    let tags = tag(alloc, 1)?;
     log.reserve()?;
+    let tags = tag(alloc, 1)?;
     match value.apply(alloc, change) {
         Ok(undo) => Ok(log.note(tags, undo)?),
         Err(_) => Err(Wrong::Refused),
@@ -94,10 +94,17 @@ fn unwinds_both(log: &mut ObjectLog, value: &mut Option<Value>) -> Result<(), Wr
     holds(3, rests_on(log, &[]))
 }
 
+/// Both of a write in a log that has no notes.
+fn unwinds_written(alloc: Global, log: &mut ObjectLog) -> Result<(), Wrong>
+    requires { log.old.log.notes.items ≡ [] }
+{
+    let mut value = Some(written(alloc, log)?);
+    unwinds_both(log, &mut value)
+}
+
 fn writes_and_unwinds(alloc: Global) -> Result<(), Wrong> {
     let mut log = ObjectLog::new(alloc);
-    let mut value = Some(written(alloc, &mut log)?);
-    unwinds_both(&mut log, &mut value)
+    unwinds_written(alloc, &mut log)
 }
 
 #[test]
@@ -106,13 +113,14 @@ fn small_calls_of_an_object_log(rt: HostRuntime) {
 }
 
 /// Notes on guess 1 that a file goes, in a log that has no notes.
-fn goes(alloc: Global, before: Value, log: &mut ObjectLog) -> Result<(), Wrong>
+fn goes(alloc: Global, log: &mut ObjectLog) -> Result<(), Wrong>
     requires { log.old.log.notes.items ≡ [] }
     ensures { OnOk result
         (CanGoBack ObjectFits object_undone None (reverse log.new.log.notes.items)) }
 {
-    let tags = tag(alloc, 1)?;
     log.reserve()?;
+    let tags = tag(alloc, 1)?;
+    let before = file(alloc)?;
     log.note_death(tags, before)?;
     Ok(())
 }
@@ -126,10 +134,22 @@ fn comes_back(log: &mut ObjectLog, value: &mut Option<Value>) -> Result<(), Wron
     holds(2, rests_on(log, &[]))
 }
 
+/// The same of a file that goes in a log that has no notes.
+fn comes_back_when_gone(
+    alloc: Global,
+    log: &mut ObjectLog,
+    gone: &mut Option<Value>,
+) -> Result<(), Wrong>
+    requires log { log.old.log.notes.items ≡ [] }
+    requires gone { gone.old ≡ None }
+{
+    goes(alloc, log)?;
+    comes_back(log, gone)
+}
+
 fn goes_and_comes_back(alloc: Global) -> Result<(), Wrong> {
-    let mut log = ObjectLog::new(alloc);
-    goes(alloc, file(alloc)?, &mut log)?;
-    comes_back(&mut log, &mut None)
+    let (mut log, mut gone) = (ObjectLog::new(alloc), None);
+    comes_back_when_gone(alloc, &mut log, &mut gone)
 }
 
 #[test]
@@ -151,11 +171,10 @@ fn process(place: u32) -> Result<Process, Wrong> {
 fn stepped(alloc: Global, log: &mut ProcessLog) -> Result<Process, Wrong>
     requires { last_tags [] (runs_of log.old.log.notes.items) ≡ [] }
 {
-    let (before, after) = (process(3)?, process(4)?);
-    let tags = tag(alloc, 1)?;
+    let before = process(3)?;
     log.reserve()?;
-    log.note(tags, before)?;
-    Ok(after)
+    log.note(tag(alloc, 1)?, before)?;
+    process(4)
 }
 
 /// The place of a process, where it is present.
@@ -183,10 +202,17 @@ fn goes_back_twice(log: &mut ProcessLog, value: &mut Option<Process>) -> Result<
     holds(1, goes_back(log, value, 1, 3)?)
 }
 
+/// Both of a step in a log that has no notes.
+fn goes_back_from_step(alloc: Global, log: &mut ProcessLog) -> Result<(), Wrong>
+    requires { last_tags [] (runs_of log.old.log.notes.items) ≡ [] }
+{
+    let mut value = Some(stepped(alloc, log)?);
+    goes_back_twice(log, &mut value)
+}
+
 fn steps_and_goes_back(alloc: Global) -> Result<(), Wrong> {
     let mut log = ProcessLog::new(alloc);
-    let mut value = Some(stepped(alloc, &mut log)?);
-    goes_back_twice(&mut log, &mut value)
+    goes_back_from_step(alloc, &mut log)
 }
 
 #[test]
@@ -198,7 +224,12 @@ fn small_calls_of_a_process_log(rt: HostRuntime) {
 fn both(alloc: Global) -> Result<TagSet, Wrong>
     ensures { IfOk result (λ tags. Covers tags (1 ∷ [])) }
 {
-    Ok(tag(alloc, 1)?.union(&tag(alloc, 2)?)?)
+    let (first, second) = (guess(1)?, guess(2)?);
+    let (one, two) = (TagSet::of(alloc, first), TagSet::of(alloc, second));
+    match one.union(&two) {
+        Ok(tags) => Ok(tags),
+        Err(_) => Err(Wrong::Memory),
+    }
 }
 
 /// Notes a step on guess 1, of a process at this place, where nothing rests on another guess.
@@ -208,8 +239,7 @@ fn note_one(alloc: Global, log: &mut ProcessLog, at: u32) -> Result<(), Wrong>
     ensures { OnOk result (last_tags [] (runs_of log.new.log.notes.items) ≡ 1 ∷ []) }
 {
     let before = process(at)?;
-    let tags = tag(alloc, 1)?;
-    log.note(tags, before)?;
+    log.note(tag(alloc, 1)?, before)?;
     Ok(())
 }
 
@@ -241,11 +271,17 @@ fn keeps_runs(alloc: Global, log: &mut ProcessLog) -> Result<(), Wrong>
 }
 
 /// The failure of guess 1 goes back to before the first of them.
+fn goes_back_from_runs(alloc: Global, log: &mut ProcessLog) -> Result<(), Wrong>
+    requires { last_tags [] (runs_of log.old.log.notes.items) ≡ [] }
+{
+    keeps_runs(alloc, log)?;
+    let mut value = Some(process(104)?);
+    holds(3, goes_back(log, &mut value, 1, 3)?)
+}
+
 fn keeps_and_goes_back(alloc: Global) -> Result<(), Wrong> {
     let mut log = ProcessLog::new(alloc);
-    keeps_runs(alloc, &mut log)?;
-    let mut value = Some(process(104)?);
-    holds(3, goes_back(&mut log, &mut value, 1, 3)?)
+    goes_back_from_runs(alloc, &mut log)
 }
 
 #[test]

@@ -1,19 +1,43 @@
 //! Plain kernels and openings, compared.
-use crate::start::{Start, boot_of, kernel_of, passes};
+use crate::start::{BARE, Lines, Start, Version, declares_all, kernel_of, lets_go, passes};
 use sk_kernel::{Kernel, Opening};
 use sk_plain::Plain;
-use sk_script::Input;
+use sk_script::{Boot, Input};
 use std::alloc::Global;
 use tests_support::plain::pid;
 use tests_support::wrong::{Wrong, holds};
 
-/// A kernel of number 1 with one process, which says nothing again and again.
+/// A process that says nothing again and again.
+const AGAIN: Lines<'static> = &[(b"again:\nsay\njump again\n", 1)];
+
+const COPY: Version<'static> = (b"/01", 3, b"old");
+
+/// A kernel of number 1 with one such process and a copy.
 const START: Start<'static> = Start {
     number: 1,
-    script: &[(b"again:\nsay\njump again\n", 1)],
-    processes: 1,
-    limit: 100,
+    scripts: &[AGAIN],
+    copies: &[COPY],
+    ..BARE
 };
+
+/// Kernels that begin otherwise: of another number, with another limit, with a process and a copy more, and with another
+/// script.
+const OTHERS: &[Start<'static>] = &[
+    Start { number: 2, ..START },
+    Start {
+        limit: 101,
+        ..START
+    },
+    Start {
+        scripts: &[AGAIN, AGAIN],
+        copies: &[COPY, (b"/02", 3, b"old")],
+        ..START
+    },
+    Start {
+        scripts: &[&[(b"again:\nsay\njump again\nsay\n", 1)]],
+        ..START
+    },
+];
 
 /// Takes so many steps.
 fn says(kernel: &mut Kernel, steps: usize) -> Result<(), Wrong> {
@@ -33,7 +57,9 @@ fn said(kernel: &mut Kernel, steps: usize) -> Result<Opening, Wrong> {
 /// The opening of a new kernel after so many steps.
 fn opening_after(alloc: Global, start: Start<'_>, steps: usize) -> Result<Opening, Wrong> {
     let mut kernel = kernel_of(alloc, start)?;
-    said(&mut kernel, steps)
+    let opening = said(&mut kernel, steps);
+    lets_go(kernel);
+    opening
 }
 
 /// Whether it is that of another kernel after so many steps.
@@ -76,23 +102,8 @@ fn is_none_of(alloc: Global, opening: &Opening, table: &[Start<'_>]) -> Result<(
 }
 
 fn all_differ(alloc: Global) -> Result<(), Wrong> {
-    let table = [
-        Start { number: 2, ..START },
-        Start {
-            limit: 101,
-            ..START
-        },
-        Start {
-            processes: 2,
-            ..START
-        },
-        Start {
-            script: &[(b"again:\nsay\njump again\nsay\n", 1)],
-            ..START
-        },
-    ];
     let first = opening_after(alloc, START, 0)?;
-    is_none_of(alloc, &first, &table)
+    is_none_of(alloc, &first, OTHERS)
 }
 
 #[test]
@@ -109,10 +120,16 @@ fn steps(plain: &mut Plain, count: usize) -> Result<(), Wrong> {
     Ok(())
 }
 
+/// The plain kernel of a boot that has nothing yet.
+fn boots(alloc: Global, boot: &mut Boot) -> Result<Plain, Wrong> {
+    declares_all(alloc, boot, START)?;
+    Ok(Plain::boot(alloc, boot)?)
+}
+
 /// A plain kernel at its start.
 fn plain_at_start(alloc: Global) -> Result<Plain, Wrong> {
-    let boot = boot_of(alloc, START)?;
-    Ok(Plain::boot(alloc, &boot)?)
+    let mut boot = Boot::new(alloc);
+    boots(alloc, &mut boot)
 }
 
 /// The plain kernel after so many steps.
@@ -139,10 +156,8 @@ fn compared(alloc: Global, plain: &Plain, count: usize) -> Result<[bool; 3], Wro
 /// The plain kernel after so many steps is no other.
 fn is_itself(alloc: Global, count: usize) -> Result<(), Wrong> {
     let plain = plain_after(alloc, count)?;
-    holds(
-        count,
-        compared(alloc, &plain, count)? == [true, false, false],
-    )
+    let compared = compared(alloc, &plain, count);
+    holds(count, compared == Ok([true, false, false]))
 }
 
 fn all_are_themselves(alloc: Global) -> Result<(), Wrong> {

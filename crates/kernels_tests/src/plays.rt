@@ -2,7 +2,7 @@
 //! come of it. A table has plain numbers, so that a test is short to prove.
 ghost use Rattle.std.specs.Prelude.{◌≡◌, vec_len};
 
-use crate::start::{Start, kernel_of};
+use crate::start::{Start, comes, kernel_of, lets_go};
 use sk_guesses::{Guess, Status};
 use sk_ids::{Entity, ObjId, Pid};
 use sk_kernel::{EpochRefusal, FailRefusal, Kernel, Outcome, Stranger};
@@ -11,7 +11,7 @@ use sk_script::Input;
 use std::alloc::Global;
 use std::process::Abort;
 use tests_support::plain::{guess, pid};
-use tests_support::wrong::{Wrong, holds};
+use tests_support::wrong::Wrong;
 
 /// How a guess is decided.
 #[derive(Clone, Copy)]
@@ -243,7 +243,15 @@ pub fn does(rt: &impl Abort, player: &mut Player, play: KernelPlay) -> Result<bo
 /// Does one thing after the other.
 pub fn does_all(rt: &impl Abort, player: &mut Player, plays: &[KernelPlay]) -> Result<(), Wrong> {
     for (place, play) in plays.iter().enumerate() {
-        holds(place, does(rt, player, *play)?)?;
+        comes(place, does(rt, player, *play))?;
+    }
+    Ok(())
+}
+
+/// Plays one part after the other.
+fn does_parts(rt: &impl Abort, player: &mut Player, parts: &[&[KernelPlay]]) -> Result<(), Wrong> {
+    for plays in parts {
+        does_all(rt, player, plays)?;
     }
     Ok(())
 }
@@ -261,15 +269,9 @@ fn spends(rt: &impl Abort, player: &mut Player)
 impl Player {
     /// A new kernel.
     pub fn new(alloc: Global, start: Start<'_>) -> Result<Player, Wrong> {
-        Ok(Player::with(alloc, kernel_of(alloc, start)?))
-    }
-
-    /// A kernel of which no guess is undecided.
-    pub fn with(alloc: Global, kernel: Kernel) -> Player {
-        Player {
-            kernel,
-            tokens: Vec::new(alloc),
-        }
+        let kernel = kernel_of(alloc, start)?;
+        let tokens = Vec::new(alloc);
+        Ok(Player { kernel, tokens })
     }
 
     /// Spends the tokens that are left, and hands the kernel out.
@@ -283,19 +285,19 @@ impl Player {
 
     /// Spends the tokens that are left.
     pub fn abandon(self, rt: &impl Abort) {
-        let _kernel = self.end(rt);
+        lets_go(self.end(rt));
     }
 }
 
-/// Plays with a kernel of which no guess is undecided.
-pub fn plays_on(
+/// Plays one part after the other with a new kernel.
+fn plays_all(
     rt: &impl Abort,
     alloc: Global,
-    kernel: Kernel,
-    plays: &[KernelPlay],
+    start: Start<'_>,
+    parts: &[&[KernelPlay]],
 ) -> Result<(), Wrong> {
-    let mut player = Player::with(alloc, kernel);
-    let done = does_all(rt, &mut player, plays);
+    let mut player = Player::new(alloc, start)?;
+    let done = does_parts(rt, &mut player, parts);
     player.abandon(rt);
     done
 }
@@ -307,5 +309,18 @@ pub fn plays(
     start: Start<'_>,
     plays: &[KernelPlay],
 ) -> Result<(), Wrong> {
-    plays_on(rt, alloc, kernel_of(alloc, start)?, plays)
+    plays_all(rt, alloc, start, &[plays])
+}
+
+/// Plays with a new kernel, decides the oldest guess so, and plays on.
+pub fn plays_until(
+    rt: &impl Abort,
+    alloc: Global,
+    start: Start<'_>,
+    before: &[KernelPlay],
+    decision: Decision,
+    after: &[KernelPlay],
+) -> Result<(), Wrong> {
+    let decides = KernelPlay::Decides(decision, Outcome::Done);
+    plays_all(rt, alloc, start, &[before, &[decides], after])
 }

@@ -1,5 +1,5 @@
 //! Records, stores and steps, and what a failure leaves of a record.
-use crate::start::{declares_file, passes, two_processes};
+use crate::start::{BARE, Start, Version, declares_all, passes};
 use sk_ids::{Entity, Name, ObjId};
 use sk_plain::{Entry, Event, InputRef, KeptInput, Trace, strike_guess};
 use sk_script::{Boot, Input, ObjectKind, ROOT};
@@ -55,11 +55,21 @@ fn adds_all(entries: &mut Vec<Entry>, record: &[Did]) -> Result<(), Wrong> {
     Ok(())
 }
 
-/// What is left of entries from the start when their guess fails.
-fn left(alloc: Global, boot: &Boot, entries: &[Entry]) -> Result<Vec<Entry>, Wrong> {
+/// What is left of entries from a store on when their guess fails.
+fn left_from(
+    alloc: Global,
+    store: &mut Store,
+    boot: &Boot,
+    entries: &[Entry],
+) -> Result<Vec<Entry>, Wrong> {
     let guess = guess(1)?;
+    Ok(strike_guess(alloc, store, boot.scripts(), entries, guess)?)
+}
+
+/// What is left of them from the start.
+fn left(alloc: Global, boot: &Boot, entries: &[Entry]) -> Result<Vec<Entry>, Wrong> {
     let mut store = Store::start(alloc, boot)?;
-    Ok(strike_guess(alloc, &mut store, boot.scripts(), entries, guess)?)
+    left_from(alloc, &mut store, boot, entries)
 }
 
 /// The entries are those of this record.
@@ -77,26 +87,43 @@ fn leaves(alloc: Global, boot: &Boot, entries: &[Entry], want: &[Did]) -> Result
     is_record(&left, want)
 }
 
-/// The same of a record.
-fn leaves_of(alloc: Global, boot: &Boot, record: &[Did], want: &[Did]) -> Result<(), Wrong> {
-    let mut entries = Vec::new(alloc);
-    adds_all(&mut entries, record)?;
-    leaves(alloc, boot, &entries, want)
+/// A record of a boot, and what is left of it when its guess fails.
+#[derive(Clone, Copy)]
+struct Row {
+    start: Start<'static>,
+    record: &'static [Did],
+    left: &'static [Did],
 }
 
-/// This is left of a record of two processes with these scripts, when its guess fails.
-fn strikes(alloc: Global, scripts: [&[u8]; 2], record: &[Did], want: &[Did]) -> Result<(), Wrong> {
-    let boot = two_processes(alloc, scripts)?;
-    leaves_of(alloc, &boot, record, want)
+/// This is left of a row's record, where the boot and the entries have nothing yet.
+fn leaves_of(
+    alloc: Global,
+    boot: &mut Boot,
+    entries: &mut Vec<Entry>,
+    row: &Row,
+) -> Result<(), Wrong> {
+    declares_all(alloc, boot, row.start)?;
+    adds_all(entries, row.record)?;
+    leaves(alloc, boot, entries, row.left)
 }
 
-#[test]
-fn dependence_through_files(rt: HostRuntime) {
-    let scripts: [&[u8]; 2] = [
-        b"mkfile r1\nfetch /x\nwrite r1 r2\nfetch /y\n",
-        b"mkfile r1\nfetch /y\nwrite r1 r2\ntext \"c\"\nsay\n",
-    ];
-    let record = [
+fn strikes(alloc: Global, row: &Row) -> Result<(), Wrong> {
+    let (mut boot, mut entries) = (Boot::new(alloc), Vec::new(alloc));
+    leaves_of(alloc, &mut boot, &mut entries, row)
+}
+
+const COPIES: &[Version<'static>] = &[(b"/x", 3, b"new"), (b"/y", 1, b"new")];
+
+const DEPENDENCE_THROUGH_FILES: Row = Row {
+    start: Start {
+        scripts: &[
+            &[(b"mkfile r1\nfetch /x\nwrite r1 r2\nfetch /y\n", 1)],
+            &[(b"mkfile r1\nfetch /y\nwrite r1 r2\ntext \"c\"\nsay\n", 1)],
+        ],
+        copies: COPIES,
+        ..BARE
+    },
+    record: &[
         Did::Steps(1),
         Did::Steps(2),
         Did::Guesses(1),
@@ -106,18 +133,25 @@ fn dependence_through_files(rt: HostRuntime) {
         Did::Steps(2),
         Did::Steps(2),
         Did::Steps(2),
-    ];
-    let want = [Did::Steps(1), Did::Steps(2)];
-    passes(&rt, strikes(rt.alloc(), scripts, &record, &want));
-}
+    ],
+    left: &[Did::Steps(1), Did::Steps(2)],
+};
 
 #[test]
-fn independent_process_survives(rt: HostRuntime) {
-    let scripts: [&[u8]; 2] = [
-        b"mkfile r1\nfetch /x\nwrite r1 r2\n",
-        b"mkfile r1\ntext \"h1\"\nwrite r1 r2\nsay\n",
-    ];
-    let record = [
+fn dependence_through_files(rt: HostRuntime) {
+    passes(&rt, strikes(rt.alloc(), &DEPENDENCE_THROUGH_FILES));
+}
+
+const INDEPENDENT_PROCESS_SURVIVES: Row = Row {
+    start: Start {
+        scripts: &[
+            &[(b"mkfile r1\nfetch /x\nwrite r1 r2\n", 1)],
+            &[(b"mkfile r1\ntext \"h1\"\nwrite r1 r2\nsay\n", 1)],
+        ],
+        copies: COPIES,
+        ..BARE
+    },
+    record: &[
         Did::Steps(1),
         Did::Steps(2),
         Did::Guesses(1),
@@ -125,18 +159,37 @@ fn independent_process_survives(rt: HostRuntime) {
         Did::Steps(1),
         Did::Steps(2),
         Did::Steps(2),
-    ];
-    let two = Did::Steps(2);
-    let want = [Did::Steps(1), two, two, two, two];
-    passes(&rt, strikes(rt.alloc(), scripts, &record, &want));
+    ],
+    left: &[
+        Did::Steps(1),
+        Did::Steps(2),
+        Did::Steps(2),
+        Did::Steps(2),
+        Did::Steps(2),
+    ],
+};
+
+#[test]
+fn independent_process_survives(rt: HostRuntime) {
+    passes(&rt, strikes(rt.alloc(), &INDEPENDENT_PROCESS_SURVIVES));
 }
+
+const WRITER_BEFORE_THE_GUESS: Row = Row {
+    start: Start {
+        scripts: &[
+            &[(b"fetch /x\nfetch /y\n", 1)],
+            &[(b"fetch /y\nfetch /y\n", 1)],
+        ],
+        copies: COPIES,
+        ..BARE
+    },
+    record: &[Did::Fresh(2), Did::Guesses(1), Did::Good(1), Did::Fresh(2)],
+    left: &[Did::Fresh(2), Did::Fresh(2)],
+};
 
 #[test]
 fn writer_before_the_guess(rt: HostRuntime) {
-    let scripts: [&[u8]; 2] = [b"fetch /x\nfetch /y\n", b"fetch /y\nfetch /y\n"];
-    let two = Did::Fresh(2);
-    let record = [two, Did::Guesses(1), Did::Good(1), two];
-    passes(&rt, strikes(rt.alloc(), scripts, &record, &[two, two]));
+    passes(&rt, strikes(rt.alloc(), &WRITER_BEFORE_THE_GUESS));
 }
 
 /// An object of the boot.
@@ -144,49 +197,53 @@ fn boot_object(count: u32) -> ObjId {
     ObjId { maker: None, count }
 }
 
-/// Declares a file and a pipe, where there is room.
-fn declares_both(boot: &mut Boot, file: &Name, pipe: &Name) -> Result<(), Wrong> {
-    declares_file(boot, file, b"f0")?;
-    if boot.objects().len() >= 64 {
-        return Err(Wrong::Start);
-    }
-    Ok(boot.object(*pipe, ObjectKind::Pipe, b"ab")?)
-}
-
 /// The object of a name of the root; none where the name is absent.
-fn named(store: &Store, name: &Name) -> Option<ObjId> {
-    match store.value(Entity::Link(ROOT, *name)) {
+fn named(store: &Store, name: Name) -> Option<ObjId> {
+    match store.value(Entity::Link(ROOT, name)) {
         Some(EntityState::Value(link)) => link.target(),
         _ => None,
     }
 }
 
-/// Thirteen entities are in a store, and these two names stand for the objects behind the root.
-fn starts_with(store: &Store, file: &Name, pipe: &Name) -> Result<(), Wrong> {
-    holds(0, named(store, file) == Some(boot_object(2)))?;
-    holds(1, named(store, pipe) == Some(boot_object(3)))?;
+/// Thirteen entities are in a store, and the names of the file and the pipe stand for the objects behind the root.
+fn starts_with(store: &Store) -> Result<(), Wrong> {
+    holds(0, named(store, name(b"f")?) == Some(boot_object(2)))?;
+    holds(1, named(store, name(b"p")?) == Some(boot_object(3)))?;
     let entities = store.entities()?;
     holds(2, entities.len() == 13)
+}
+
+fn copy_of(store: &Store) -> Result<Store, Wrong> {
+    Ok(store.copy()?)
 }
 
 /// A copy of the store that starts from a boot.
 fn copied(alloc: Global, boot: &Boot) -> Result<Store, Wrong> {
     let store = Store::start(alloc, boot)?;
-    Ok(store.copy()?)
+    copy_of(&store)
 }
 
-/// A boot with two processes, and a file and a pipe of these names.
-fn with_both(alloc: Global, file: &Name, pipe: &Name) -> Result<Boot, Wrong> {
-    let mut boot = two_processes(alloc, [b"say\n", b""])?;
-    declares_both(&mut boot, file, pipe)?;
-    Ok(boot)
+/// Two processes, two copies, a file and a pipe.
+const DECLARED: Start<'static> = Start {
+    scripts: &[&[(b"say\n", 1)], &[]],
+    copies: COPIES,
+    objects: &[
+        (b"f", ObjectKind::File, b"f0"),
+        (b"p", ObjectKind::Pipe, b"ab"),
+    ],
+    ..BARE
+};
+
+/// The store of a boot that has nothing yet starts with what is declared.
+fn starts(alloc: Global, boot: &mut Boot) -> Result<(), Wrong> {
+    declares_all(alloc, boot, DECLARED)?;
+    let store = copied(alloc, boot)?;
+    starts_with(&store)
 }
 
 fn starts_with_both(alloc: Global) -> Result<(), Wrong> {
-    let (file, pipe) = (name(b"f")?, name(b"p")?);
-    let boot = with_both(alloc, &file, &pipe)?;
-    let store = copied(alloc, &boot)?;
-    starts_with(&store, &file, &pipe)
+    let mut boot = Boot::new(alloc);
+    starts(alloc, &mut boot)
 }
 
 #[test]
@@ -204,13 +261,6 @@ fn adds_two(trace: &mut Trace, step: &Entry) -> Result<(), Wrong> {
     Ok(())
 }
 
-/// A trace of both.
-fn traced(alloc: Global, step: &Entry) -> Result<Trace, Wrong> {
-    let mut trace = Trace::new(alloc);
-    adds_two(&mut trace, step)?;
-    Ok(trace)
-}
-
 /// Both events.
 fn both_events(alloc: Global, step: &Entry) -> Result<[Event; 2], Wrong> {
     let (pid, commit) = (step.pid, guess(1)?);
@@ -225,11 +275,17 @@ fn has_both(trace: &Trace, step: &Entry, both: &[Event; 2]) -> Result<(), Wrong>
     holds(2, trace.events() == both.as_slice())
 }
 
+/// A trace that has none yet keeps them.
+fn keeps(trace: &mut Trace, step: &Entry, both: &[Event; 2]) -> Result<(), Wrong> {
+    adds_two(trace, step)?;
+    has_both(trace, step, both)
+}
+
 fn keeps_both(alloc: Global) -> Result<(), Wrong> {
     let step = entry_of(Did::Steps(1))?;
     let both = both_events(alloc, &step)?;
-    let trace = traced(alloc, &step)?;
-    has_both(&trace, &step, &both)
+    let mut trace = Trace::new(alloc);
+    keeps(&mut trace, &step, &both)
 }
 
 #[test]

@@ -1,30 +1,58 @@
-//! What kernels and stores start from, as plain data.
-ghost use Rattle.std.specs.Prelude.{◌<◌};
+//! What kernels, stores, desks and servers start from, as plain data.
+ghost use Rattle.std.specs.Prelude.{◌≡◌, ◌<◌, [], IfOk, OnOk};
+ghost use Rattle.sk_kernel.specs.Kernel.{undecided_at};
 
 use sk_ids::Name;
 use sk_kernel::Kernel;
 use sk_script::{Boot, ObjectKind, Script};
+use sk_server::Server;
 use std::alloc::{AllocError, Global};
 use std::process::Abort;
 use tests_support::plain::{content, name};
-use tests_support::wrong::Wrong;
+use tests_support::wrong::{Wrong, holds};
 
-/// What a kernel starts from.
+/// Lines of a script, each so many times.
+pub type Lines<'a> = &'a [(&'a [u8], usize)];
+
+/// A name, a version and bytes: of a cached copy, or of a file of the server.
+pub type Version<'a> = (&'a [u8], u64, &'a [u8]);
+
+/// An object of the boot: its name, its kind and its bytes.
+pub type Made<'a> = (&'a [u8], ObjectKind, &'a [u8]);
+
+/// What a test starts from.
 #[derive(Clone, Copy)]
 pub struct Start<'a> {
     /// The kernel's number.
     pub number: u64,
-    /// The lines of the one script, each so many times.
-    pub script: &'a [(&'a [u8], usize)],
-    /// How many processes there are, each with that script and with a terminal and a copy of its own.
-    pub processes: u8,
+    /// The scripts of the processes from 1 on, each of which has a terminal of its own.
+    pub scripts: &'a [Lines<'a>],
+    pub copies: &'a [Version<'a>],
+    pub objects: &'a [Made<'a>],
+    /// The server's file.
+    pub file: Option<Version<'a>>,
     /// The most events that there may be.
     pub limit: u32,
 }
 
+/// Nothing, with room for a hundred events.
+pub const BARE: Start<'static> = Start {
+    number: 0,
+    scripts: &[],
+    copies: &[],
+    objects: &[],
+    file: None,
+    limit: 100,
+};
+
 /// A test passes.
 pub fn passes(rt: &impl Abort, done: Result<(), Wrong>) {
     assert_eq!(rt; done, Ok(()));
+}
+
+/// What stands at this place of a test comes to what is wanted.
+pub fn comes(place: usize, is: Result<bool, Wrong>) -> Result<(), Wrong> {
+    holds(place, is?)
 }
 
 /// Adds a line, so many times.
@@ -35,84 +63,114 @@ fn repeats(text: &mut Vec<u8>, line: &[u8], count: usize) -> Result<(), AllocErr
     Ok(())
 }
 
-fn text_of(alloc: Global, script: &[(&[u8], usize)]) -> Result<Vec<u8>, AllocError> {
-    let mut text = Vec::new(alloc);
-    for (line, count) in script {
-        repeats(&mut text, line, *count)?;
-    }
-    Ok(text)
-}
-
-/// Declares a script.
-pub fn declares_script(
-    alloc: Global,
-    boot: &mut Boot,
-    name: &Name,
-    text: &[u8],
-) -> Result<(), Wrong> {
-    Ok(boot.script(*name, Script::parse(alloc, text)?)?)
-}
-
-/// Declares a copy.
-pub fn declares_copy(boot: &mut Boot, at: &[u8], version: u64, bytes: &[u8]) -> Result<(), Wrong> {
-    Ok(boot.copy(name(at)?, content(version, bytes)?)?)
-}
-
-/// Declares a process with a terminal and a copy; the copy's name has three bytes, another for each
-/// number below 100.
-fn declares_process(boot: &mut Boot, number: u8, script: &Name) -> Result<(), Wrong>
-    requires { 0 < number }
-{
-    let at = [b'/', b'0' + number / 10 % 10, b'0' + number % 10];
-    declares_copy(boot, &at, 3, b"old")?;
-    let number = u16::from(number);
-    Ok(boot.process(number, script, number)?)
-}
-
-fn declares_all(alloc: Global, boot: &mut Boot, start: Start<'_>) -> Result<(), Wrong> {
-    let main = name(b"main")?;
-    declares_script(alloc, boot, &main, &text_of(alloc, start.script)?)?;
-    for number in 1..=start.processes {
-        declares_process(boot, number, &main)?;
+fn adds_all(text: &mut Vec<u8>, lines: Lines<'_>) -> Result<(), AllocError> {
+    for (line, count) in lines {
+        repeats(text, line, *count)?;
     }
     Ok(())
 }
 
-/// What is declared.
-pub fn boot_of(alloc: Global, start: Start<'_>) -> Result<Boot, Wrong> {
-    let mut boot = Boot::new(alloc);
-    declares_all(alloc, &mut boot, start)?;
-    Ok(boot)
+fn script_of(alloc: Global, lines: Lines<'_>) -> Result<Script, Wrong> {
+    let mut text = Vec::new(alloc);
+    adds_all(&mut text, lines)?;
+    Ok(Script::parse(alloc, &text)?)
+}
+
+/// The name of a process's script, another for each number below 100.
+fn script_name(number: u16) -> Result<Name, Wrong> {
+    let tens = (number / 10 % 10) as u8;
+    let ones = (number % 10) as u8;
+    name(&[b's', b'0' + tens, b'0' + ones])
+}
+
+/// Declares the process after this one, with its script and a terminal of its own.
+fn declares(alloc: Global, boot: &mut Boot, before: u16, lines: Lines<'_>) -> Result<(), Wrong> {
+    let number = before.checked_add(1).ok_or(Wrong::Value)?;
+    let name = script_name(number)?;
+    boot.script(name, script_of(alloc, lines)?)?;
+    Ok(boot.process(number, &name, number)?)
+}
+
+fn declares_processes(alloc: Global, boot: &mut Boot, scripts: &[Lines<'_>]) -> Result<(), Wrong> {
+    for (lines, before) in scripts.iter().zip(0..u16::MAX) {
+        declares(alloc, boot, before, lines)?;
+    }
+    Ok(())
+}
+
+fn declares_copies(boot: &mut Boot, copies: &[Version<'_>]) -> Result<(), Wrong> {
+    for (at, version, bytes) in copies {
+        boot.copy(name(at)?, content(*version, bytes)?)?;
+    }
+    Ok(())
+}
+
+/// Declares an object, where there is room; a directory is none of them.
+fn declares_object(boot: &mut Boot, made: Made<'_>) -> Result<(), Wrong> {
+    let (at, kind, bytes) = made;
+    if boot.objects().len() >= 64 || bytes.len() > 512 || kind == ObjectKind::Dir {
+        return Err(Wrong::Start);
+    }
+    Ok(boot.object(name(at)?, kind, bytes)?)
+}
+
+fn declares_objects(boot: &mut Boot, objects: &[Made<'_>]) -> Result<(), Wrong> {
+    for made in objects {
+        declares_object(boot, *made)?;
+    }
+    Ok(())
+}
+
+/// Declares all.
+pub fn declares_all(alloc: Global, boot: &mut Boot, start: Start<'_>) -> Result<(), Wrong> {
+    declares_copies(boot, start.copies)?;
+    declares_processes(alloc, boot, start.scripts)?;
+    declares_objects(boot, start.objects)
+}
+
+/// The kernel of a boot that has nothing yet.
+fn boots(alloc: Global, boot: &mut Boot, start: Start<'_>) -> Result<Kernel, Wrong>
+    ensures { IfOk result (λ kernel. undecided_at kernel ≡ []) }
+{
+    declares_all(alloc, boot, start)?;
+    Ok(Kernel::boot(alloc, start.number, boot, start.limit)?)
 }
 
 /// The kernel.
-pub fn kernel_of(alloc: Global, start: Start<'_>) -> Result<Kernel, Wrong> {
-    let boot = boot_of(alloc, start)?;
-    Ok(Kernel::boot(alloc, start.number, &boot, start.limit)?)
-}
-
-/// Declares two processes with these scripts, and copies `/x` and `/y`.
-fn declares(alloc: Global, boot: &mut Boot, scripts: [&[u8]; 2]) -> Result<(), Wrong> {
-    let (one, two) = (name(b"one")?, name(b"two")?);
-    declares_script(alloc, boot, &one, scripts[0])?;
-    declares_script(alloc, boot, &two, scripts[1])?;
-    declares_copy(boot, b"/x", 3, b"new")?;
-    declares_copy(boot, b"/y", 1, b"new")?;
-    boot.process(1, &one, 1)?;
-    Ok(boot.process(2, &two, 2)?)
-}
-
-/// A boot of both.
-pub fn two_processes(alloc: Global, scripts: [&[u8]; 2]) -> Result<Boot, Wrong> {
+pub fn kernel_of(alloc: Global, start: Start<'_>) -> Result<Kernel, Wrong>
+    ensures { IfOk result (λ kernel. undecided_at kernel ≡ []) }
+{
     let mut boot = Boot::new(alloc);
-    declares(alloc, &mut boot, scripts)?;
-    Ok(boot)
+    boots(alloc, &mut boot, start)
 }
 
-/// Declares a file, where there is room.
-pub fn declares_file(boot: &mut Boot, at: &Name, bytes: &[u8]) -> Result<(), Wrong> {
-    if boot.objects().len() >= 64 || bytes.len() > 512 {
-        return Err(Wrong::Start);
+/// Lets a kernel go. A function that owns one is short to prove where it ends with this.
+pub fn lets_go(_kernel: Kernel) {}
+
+/// Sets a file before the first request.
+pub fn seed(server: &mut Server, file: Version<'_>) -> Result<(), Wrong>
+    requires { server.old.next ≡ 1 }
+    ensures { OnOk result (server.new.next ≡ 1) }
+{
+    let (at, version, bytes) = file;
+    Ok(server.seed(name(at)?, content(version, bytes)?)?)
+}
+
+/// A server with this file.
+pub fn server_with(alloc: Global, file: Version<'_>) -> Result<Server, Wrong>
+    ensures { IfOk result (λ server. server.next ≡ 1) }
+{
+    let mut server = Server::new(alloc);
+    seed(&mut server, file)?;
+    Ok(server)
+}
+
+/// The server.
+pub fn server_of(alloc: Global, start: Start<'_>) -> Result<Server, Wrong>
+    ensures { IfOk result (λ server. server.next ≡ 1) }
+{
+    match start.file {
+        Some(file) => server_with(alloc, file),
+        None => Ok(Server::new(alloc)),
     }
-    Ok(boot.object(*at, ObjectKind::File, bytes)?)
 }

@@ -5,10 +5,12 @@ ghost use Rattle.std.specs.Prelude.{◌≡◌, IfOk};
 ghost use Rattle.hidewillow.specs.UndoState.{numbers};
 ghost use Rattle.many_steps.specs.Own.{IsOwn};
 
+mod plan;
+
 use hidewillow::Guess;
 use hidewillow::own::{Refusal, Speculator, Step};
+use plan::{Deed, StepPlan, read_plan};
 use std::alloc::{AllocError, AllocFailed, Global};
-use std::env;
 use std::num::NonZeroU16;
 use thiserror::Error;
 
@@ -41,16 +43,6 @@ impl<T: Drop> From<AllocFailed<T>> for RunStop {
     }
 }
 
-/// What is asked for.
-#[derive(Clone, Copy, Debug)]
-struct StepPlan {
-    guesses: u64,
-    /// How many steps each guess has before it is decided.
-    steps: u64,
-    /// How many keys there are.
-    keys: u16,
-}
-
 /// A number that a number leads to.
 fn next(number: u64) -> u64 {
     number
@@ -59,41 +51,59 @@ fn next(number: u64) -> u64 {
 }
 
 /// Some of the keys.
-fn key_of(number: u64, keys: u16) -> u16 {
+fn key_of(number: u64, keys: u16) -> u64 {
     let key = (number >> 48) as u16;
-    if keys == 0 { key } else { key % keys }
+    u64::from(if keys == 0 { key } else { key % keys })
 }
 
-/// Puts the step of a number into its buffers: it looks at one key, writes it and another, which it makes absent now and then,
-/// and may say something.
-fn fill(
-    kernel: &Speculator<u16, u64, u64>,
-    step: &mut Step<u16, u64, u64>,
+/// What a step says: a number, to a channel that follows from it.
+fn said(number: u64) -> Option<(u16, u64)> {
+    Some(((number % CHANNELS) as u16, number))
+}
+
+/// Puts a look at a key and a write of it into a step's buffers.
+fn fill_one(
+    kernel: &Kernel,
+    step: &mut Step<u64, Row, u64>,
+    key: u64,
     number: u64,
-    keys: u16,
 ) -> Result<(), AllocError> {
-    let own_number = next(number);
-    let other_number = next(own_number);
-    let own = key_of(own_number, keys);
-    let has = kernel.value(&own).copied().unwrap_or(0);
-    step.looked.push(own)?;
-    step.written.push((own, Some(has.wrapping_add(number))))?;
-    let value = if other_number % 8 < 2 {
-        None
-    } else {
-        Some(number)
-    };
-    step.written.push((key_of(other_number, keys), value))?;
-    step.said = if number % 4 == 0 {
-        Some(((number % CHANNELS) as u16, number))
-    } else {
-        None
-    };
+    let (times, sum) = kernel.value(&key).copied().unwrap_or((0, 0));
+    step.looked.push(key)?;
+    let row = (times.wrapping_add(1), sum.wrapping_add(number));
+    step.written.push((key, Some(row)))?;
     Ok(())
 }
 
-/// Decides a guess of this kernel, which is undecided.
-fn decide(kernel: &mut Speculator<u16, u64, u64>, guess: Guess, is_right: bool)
+/// Puts the step of a number into its buffers.
+fn fill(
+    kernel: &Kernel,
+    step: &mut Step<u64, Row, u64>,
+    number: u64,
+    plan: StepPlan,
+) -> Result<(), AllocError> {
+    let own = next(number);
+    fill_one(kernel, step, key_of(own, plan.keys), number)?;
+    step.said = match plan.deed {
+        Deed::Mixed if number % 4 == 0 => said(number),
+        Deed::Mixed | Deed::Write => None,
+        Deed::Say => said(number),
+    };
+    if plan.deed == Deed::Mixed {
+        let other = next(own);
+        let row = if other % 8 < 2 {
+            None
+        } else {
+            Some((1, number))
+        };
+        step.written.push((key_of(other, plan.keys), row))?;
+    }
+    Ok(())
+}
+
+/// Decides a guess of this kernel, which is undecided. It stays a function of its own, so that what it takes can be counted alone.
+#[inline(never)]
+fn decide(kernel: &mut Kernel, guess: Guess, is_right: bool)
     requires { IsOwn kernel.old guess }
 {
     if is_right {
@@ -111,8 +121,8 @@ fn decide(kernel: &mut Speculator<u16, u64, u64>, guess: Guess, is_right: bool)
 
 /// So many steps, by these numbers from a first one on. No guess is drawn or decided.
 fn take_all(
-    kernel: &mut Speculator<u16, u64, u64>,
-    step: &mut Step<u16, u64, u64>,
+    kernel: &mut Kernel,
+    step: &mut Step<u64, Row, u64>,
     first: u64,
     plan: StepPlan,
 ) -> Result<(), RunStop>
@@ -120,7 +130,7 @@ fn take_all(
     ensures opens { numbers kernel.new.opens ≡ numbers kernel.old.opens }
 {
     for turn in 0..plan.steps {
-        fill(kernel, step, first.wrapping_add(turn), plan.keys)?;
+        fill(kernel, step, first.wrapping_add(turn), plan)?;
         kernel.take(step)?;
     }
     Ok(())
@@ -128,33 +138,33 @@ fn take_all(
 
 /// Draws a guess with a step.
 fn guess(
-    kernel: &mut Speculator<u16, u64, u64>,
-    step: &mut Step<u16, u64, u64>,
+    kernel: &mut Kernel,
+    step: &mut Step<u64, Row, u64>,
     number: u64,
-    keys: u16,
+    plan: StepPlan,
 ) -> Result<Guess, RunStop>
     ensures { IfOk result (λ guess. IsOwn kernel.new guess) }
 {
-    fill(kernel, step, number, keys)?;
+    fill(kernel, step, number, plan)?;
     Ok(kernel.guess(step)?)
 }
 
 /// A guess with its steps and its decision. A token can't be let go, so that it is spent before any `?`.
 fn round(
-    kernel: &mut Speculator<u16, u64, u64>,
-    step: &mut Step<u16, u64, u64>,
+    kernel: &mut Kernel,
+    step: &mut Step<u64, Row, u64>,
     first: u64,
     plan: StepPlan,
     is_right: bool,
 ) -> Result<(), RunStop> {
-    let token = guess(kernel, step, first, plan.keys)?;
+    let token = guess(kernel, step, first, plan)?;
     let went = take_all(kernel, step, first.wrapping_add(1), plan);
     decide(kernel, token, is_right);
     went
 }
 
 /// Takes out what has come out: how many outputs these are.
-fn take_out(kernel: &mut Speculator<u16, u64, u64>, most: u64) -> u64 {
+fn take_out(kernel: &mut Kernel, most: u64) -> u64 {
     let mut count = 0u64;
     for turn in 0..most {
         if kernel.released((turn % CHANNELS) as u16).is_some() {
@@ -164,38 +174,52 @@ fn take_out(kernel: &mut Speculator<u16, u64, u64>, most: u64) -> u64 {
     count
 }
 
-/// All of it: how many outputs came out.
-fn run(
-    kernel: &mut Speculator<u16, u64, u64>,
-    alloc: Global,
+/// Makes the first keys present.
+fn make_present(
+    kernel: &mut Kernel,
+    step: &mut Step<u64, Row, u64>,
+    plan: StepPlan,
+) -> Result<(), RunStop> {
+    for key in 0..plan.present {
+        step.written.push((key, Some((0, 0))))?;
+        kernel.take(step)?;
+    }
+    Ok(())
+}
+
+/// The steps without a guess, behind each of which what it said is taken out: how many outputs these are.
+fn take_alone(
+    kernel: &mut Kernel,
+    step: &mut Step<u64, Row, u64>,
     plan: StepPlan,
 ) -> Result<u64, RunStop> {
-    let mut step = Step::new(alloc);
     let mut told = 0u64;
-    for turn in 0..plan.guesses {
-        let first = turn.wrapping_mul(plan.steps.wrapping_add(1));
-        round(kernel, &mut step, first, plan, turn % 2 == 0)?;
-        told = told.wrapping_add(take_out(kernel, plan.steps.saturating_add(3)));
+    for turn in 0..plan.steps {
+        fill(kernel, step, turn, plan)?;
+        kernel.take(step)?;
+        if plan.deed.says() && kernel.released((turn % CHANNELS) as u16).is_some() {
+            told = told.wrapping_add(1);
+        }
     }
     Ok(told)
 }
 
-/// The number that a word says; 0 where there is no word.
-fn number(word: Option<&String>) -> anyhow::Result<u64> {
-    match word {
-        Some(word) => Ok(word.parse::<u64>()?),
-        None => Ok(0),
+/// All of it: how many outputs came out.
+fn run(kernel: &mut Kernel, alloc: Global, plan: StepPlan) -> Result<u64, RunStop> {
+    let mut step = Step::new(alloc);
+    make_present(kernel, &mut step, plan)?;
+    if plan.guesses == 0 {
+        return take_alone(kernel, &mut step, plan);
     }
-}
-
-/// The plan that three words of the command line say.
-fn read_plan(rt: &HostRuntime) -> anyhow::Result<StepPlan> {
-    let words = env::args(rt)?.collect::<Vec<String>>(rt.alloc())?;
-    Ok(StepPlan {
-        guesses: number(words.get(1))?,
-        steps: number(words.get(2))?,
-        keys: u16::try_from(number(words.get(3))?)?,
-    })
+    let mut told = 0u64;
+    for turn in 0..plan.guesses {
+        let first = turn.wrapping_mul(plan.steps.wrapping_add(1));
+        round(kernel, &mut step, first, plan, plan.ends.is_right(turn))?;
+        if plan.deed.says() {
+            told = told.wrapping_add(take_out(kernel, plan.steps.saturating_add(3)));
+        }
+    }
+    Ok(told)
 }
 
 fn main(rt: HostRuntime) -> anyhow::Result<()> {

@@ -1,5 +1,5 @@
 //! A file of 64 blocks that is cut and written, and put back.
-ghost use Rattle.std.specs.Prelude.{◌≡◌, ◌*◌, IfOk, OnErr};
+ghost use Rattle.std.specs.Prelude.{◌≡◌, ◌<◌, ◌*◌, IfOk, OnErr};
 ghost use Rattle.sk_changes.specs.Changes.{CanUndo, value_undone};
 
 use crate::sights::begins;
@@ -52,21 +52,36 @@ fn written(alloc: Global, value: &mut Value, offset: u32, bytes: &[u8]) -> Resul
     changes(alloc, value, &Change::WriteAt { offset, bytes })
 }
 
-/// Fills the block `k` of a file, from 1 on, with 512 times the byte `k`.
+/// Fills a block of a file, at this place from 0 on, with 512 times the byte behind its place.
+fn fill_block(alloc: Global, value: &mut Value, place: u8) -> Result<(), Finding>
+    requires { place < 64 }
+{
+    let block = [place + 1; BLOCK as usize];
+    let _undo = written(alloc, value, u32::from(place) * BLOCK, &block)?;
+    Ok(())
+}
+
+/// Fills each block of a file.
 fn fill(alloc: Global, value: &mut Value) -> Result<(), Finding> {
     for place in 0..BLOCKS {
-        let block = [place + 1; BLOCK as usize];
-        let _ = written(alloc, value, u32::from(place) * BLOCK, &block)?;
+        fill_block(alloc, value, place)?;
     }
     Ok(())
+}
+
+/// Whether a block is as it was filled.
+fn is_filled_block(value: &Value, place: u8) -> bool
+    requires { place < 64 }
+{
+    let block = [place + 1; BLOCK as usize];
+    let offset = u64::from(place) * u64::from(BLOCK);
+    value.bytes_at(offset, BLOCK as usize) == Text::new(&block)
 }
 
 /// Fine where the file is as it was filled.
 fn is_filled(value: &Value) -> Result<(), Finding> {
     for place in 0..BLOCKS {
-        let block = [place + 1; BLOCK as usize];
-        let offset = u64::from(place) * u64::from(BLOCK);
-        if value.bytes_at(offset, BLOCK as usize) != Text::new(&block) {
+        if !is_filled_block(value, place) {
             return Err(Finding::Changed);
         }
     }

@@ -1,5 +1,5 @@
 //! Steps on a kernel.
-use crate::sights::{Sight, begins};
+use crate::sights::{Sight, begins, shows};
 use crate::texts::tells;
 use sk_play::{CallAnswer, Session, write_answer};
 use sk_scenario::{Call, Declarations};
@@ -39,6 +39,18 @@ fn calls<W: Write>(
     tries(alloc, session, call, &before)
 }
 
+/// The same, and tells what the call is answered.
+fn calls_and_tells<W: Write>(
+    alloc: Global,
+    session: &mut Session,
+    number: usize,
+    call: &Call,
+    out: &mut W,
+) -> Result<(), Finding> {
+    let answer = calls(alloc, session, call, out)?;
+    Ok(write_answer(number, &answer, out)?)
+}
+
 fn calls_all<W: Write>(
     alloc: Global,
     session: &mut Session,
@@ -46,11 +58,9 @@ fn calls_all<W: Write>(
     out: &mut W,
 ) -> Result<(), Finding> {
     for (place, call) in steps.iter().enumerate() {
-        let answer = calls(alloc, session, call, out)?;
-        write_answer(place + 1, &answer, out)?;
+        calls_and_tells(alloc, session, place + 1, call, out)?;
     }
-    let sight = Sight::of(alloc, session.kernel())?;
-    sight.shows(out)
+    shows(alloc, session.kernel(), out)
 }
 
 /// Makes the calls, and prints what comes of them.

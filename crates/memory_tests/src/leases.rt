@@ -2,14 +2,14 @@
 ghost use Rattle.std.specs.Prelude.{◌≡◌, IfOk};
 ghost use Rattle.sk_play.specs.Plays.{declared_kernel};
 
-use crate::sights::Sight;
+use crate::sights::{Sight, shows};
 use sk_client::Desk;
 use sk_holder::Holder;
 use sk_ids::Pid;
 use sk_kernel::{HandIn, Kernel};
 use sk_plain::Refusal;
 use sk_scenario::{Call, Declarations};
-use sk_script::Lease;
+use sk_script::{Boot, Lease};
 use std::alloc::{AllocError, Global};
 use std::io::Write;
 use tests_support::finding::Finding;
@@ -179,6 +179,19 @@ fn hands_in<L: Lender>(
     }
 }
 
+/// How many instructions the lease that is out has run.
+fn count_of(out: &Option<Lease>) -> u32 {
+    match out {
+        Some(lease) => lease.count(),
+        None => 0,
+    }
+}
+
+/// Tells what a hand-in is answered.
+fn tells<W: Write>(count: u32, answer: Result<(), HandIn>, to: &mut W) -> Result<(), Finding> {
+    Ok(writeln!(to, "leased {count}, {answer:?}")?)
+}
+
 /// Makes a call with a process leased before it, which is handed in after it.
 fn lends_once<L: Lender, W: Write>(
     alloc: Global,
@@ -189,14 +202,10 @@ fn lends_once<L: Lender, W: Write>(
     to: &mut W,
 ) -> Result<(), Finding> {
     lends(lender, pid, out)?;
-    let count = match out {
-        Some(lease) => lease.count(),
-        None => 0,
-    };
+    let count = count_of(out);
     calls(alloc, lender, call)?;
     let answer = hands_in(alloc, lender, out)?;
-    writeln!(to, "leased {count}, {answer:?}")?;
-    Ok(())
+    tells(count, answer, to)
 }
 
 /// Makes the calls. Before each of them a process is leased, one after the other, and handed in
@@ -212,8 +221,7 @@ fn lends_all<L: Lender, W: Write>(
     for (pid, call) in pids.iter().cycle().zip(steps.iter()) {
         lends_once(alloc, lender, *pid, call, out, to)?;
     }
-    let sight = Sight::of(alloc, lender.kernel())?;
-    sight.shows(to)
+    shows(alloc, lender.kernel(), to)
 }
 
 /// The same, and gives up the lease that is out at the end.
@@ -248,13 +256,19 @@ fn kernel_of(alloc: Global, declarations: &Declarations) -> Result<Kernel, Alloc
     }
 }
 
-fn try_pids(alloc: Global, declarations: &Declarations) -> Result<Vec<Pid>, AllocError> {
-    let mut pids = Vec::new(alloc);
-    for process in declarations.boot().processes() {
+/// Adds the processes of a boot.
+fn adds_pids(pids: &mut Vec<Pid>, boot: &Boot) -> Result<(), AllocError> {
+    for process in boot.processes() {
         if let Some(pid) = Pid::boot(process.number) {
             pids.push(pid)?;
         }
     }
+    Ok(())
+}
+
+fn try_pids(alloc: Global, declarations: &Declarations) -> Result<Vec<Pid>, AllocError> {
+    let mut pids = Vec::new(alloc);
+    adds_pids(&mut pids, declarations.boot())?;
     Ok(pids)
 }
 
@@ -293,6 +307,18 @@ fn plays_on_a_desk<W: Write>(
     played
 }
 
+/// The same on both.
+fn plays_on_both<W: Write>(
+    alloc: Global,
+    declarations: &Declarations,
+    pids: &[Pid],
+    steps: &[Call],
+    out: &mut W,
+) -> Result<(), Finding> {
+    plays_on_a_kernel(alloc, declarations, pids, steps, out)?;
+    plays_on_a_desk(alloc, declarations, pids, steps, out)
+}
+
 /// Plays steps with leases between them on a kernel, and the turns of their processes on a desk.
 pub fn plays_leases<W: Write>(
     alloc: Global,
@@ -301,6 +327,5 @@ pub fn plays_leases<W: Write>(
     out: &mut W,
 ) -> Result<(), Finding> {
     let pids = pids_of(alloc, declarations)?;
-    plays_on_a_kernel(alloc, declarations, &pids, steps, out)?;
-    plays_on_a_desk(alloc, declarations, &pids, steps, out)
+    plays_on_both(alloc, declarations, &pids, steps, out)
 }

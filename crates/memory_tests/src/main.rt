@@ -18,7 +18,7 @@ use crate::kernels::plays_steps;
 use crate::leases::plays_leases;
 use crate::texts::scenario_of;
 use crate::worlds::plays_world;
-use sk_scenario::Section;
+use sk_scenario::{Scenario, Section};
 use std::alloc::Global;
 use std::env;
 use std::io::{Read, Write};
@@ -27,6 +27,9 @@ use tests_support::finding::Finding;
 
 /// The greatest length of a scenario, in bytes.
 const ROOM: usize = 16_384;
+
+/// The line that stands in place of a scenario.
+const BLOCKS: &[u8] = b"blocks_restored\n";
 
 /// Reads what the input has left to an array, since what was read can't be read again: how much it was.
 fn fills<R: Read>(reader: &mut R, room: &mut [u8; ROOM]) -> Result<usize, Finding> {
@@ -42,9 +45,13 @@ fn fills<R: Read>(reader: &mut R, room: &mut [u8; ROOM]) -> Result<usize, Findin
     Err(Finding::Input)
 }
 
-/// Plays a scenario, and prints what comes of it.
-fn plays<W: Write>(alloc: Global, text: &[u8], out: &mut W) -> Result<(), Finding> {
-    let scenario = scenario_of(alloc, text)?;
+/// Plays a scenario of this text, and prints what comes of it.
+fn plays<W: Write>(
+    alloc: Global,
+    text: &[u8],
+    scenario: &Scenario,
+    out: &mut W,
+) -> Result<(), Finding> {
     let declarations = &scenario.declarations;
     match &scenario.section {
         Section::Steps(steps) => plays_steps(alloc, text, declarations, steps.as_slice(), out),
@@ -54,12 +61,28 @@ fn plays<W: Write>(alloc: Global, text: &[u8], out: &mut W) -> Result<(), Findin
 }
 
 /// Plays the steps of a scenario with leases.
-fn lends<W: Write>(alloc: Global, text: &[u8], out: &mut W) -> Result<(), Finding> {
-    let scenario = scenario_of(alloc, text)?;
+fn lends<W: Write>(alloc: Global, scenario: &Scenario, out: &mut W) -> Result<(), Finding> {
     match &scenario.section {
         Section::Steps(steps) => plays_leases(alloc, &scenario.declarations, steps.as_slice(), out),
         Section::World(_) | Section::Trace(_) => Err(Finding::Section),
     }
+}
+
+/// Plays the scenario of a text, with leases or without.
+fn plays_text<W: Write>(
+    alloc: Global,
+    text: &[u8],
+    leases: bool,
+    out: &mut W,
+) -> Result<(), Finding> {
+    let scenario = scenario_of(alloc, text)?;
+    let played = if leases {
+        lends(alloc, &scenario, out)
+    } else {
+        plays(alloc, text, &scenario, out)
+    };
+    drop(scenario);
+    played
 }
 
 /// Whether the only word is `leases`.
@@ -68,19 +91,22 @@ fn has_leases(rt: &HostRuntime) -> Result<bool, Finding> {
     Ok(words.get(1).is_some_and(|word| word.as_str() == "leases"))
 }
 
+/// Plays what was read.
+fn plays_read(rt: &HostRuntime, leases: bool, text: &[u8]) -> Result<(), Finding> {
+    if !leases && text == BLOCKS {
+        plays_blocks(rt.alloc(), &mut rt.stdout())
+    } else {
+        plays_text(rt.alloc(), text, leases, &mut rt.stdout())
+    }
+}
+
 /// Plays the scenario on the standard input.
 fn plays_input(rt: &HostRuntime) -> Result<(), Finding> {
     let leases = has_leases(rt).or_else(|_| has_leases(rt))?;
     let mut room = [0u8; ROOM];
     let count = fills(&mut rt.reader(), &mut room)?;
     let text = room.get(..count).ok_or(Finding::Input)?;
-    if leases {
-        return lends(rt.alloc(), text, &mut rt.stdout());
-    }
-    match text {
-        b"blocks_restored\n" => plays_blocks(rt.alloc(), &mut rt.stdout()),
-        _ => plays(rt.alloc(), text, &mut rt.stdout()),
-    }
+    plays_read(rt, leases, text)
 }
 
 fn main(rt: HostRuntime) -> ExitCode {

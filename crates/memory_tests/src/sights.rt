@@ -58,10 +58,9 @@ pub struct Sight {
 
 /// Writes the line `trace`, and a trace.
 fn write_trace(alloc: Global, trace: &Trace, text: &mut Vec<u8>) -> Result<(), Stop> {
-    let printed = trace.print(alloc)?;
     text.extend_from_slice(b"trace\n")?;
-    text.extend_from_slice(&printed)?;
-    Ok(())
+    let printed = trace.print(alloc)?;
+    Ok(text.extend_from_slice(&printed)?)
 }
 
 fn write_seen<S: Seen>(alloc: Global, seen: &S, text: &mut Vec<u8>) -> Result<(), Stop> {
@@ -108,10 +107,15 @@ impl Sight {
     }
 
     /// Writes it.
-    pub fn shows<W: Write>(&self, out: &mut W) -> Result<(), Finding> {
-        out.write_all(&self.text)?;
-        Ok(())
+    fn shows<W: Write>(&self, out: &mut W) -> Result<(), Finding> {
+        Ok(out.write_all(&self.text)?)
     }
+}
+
+/// Writes what is seen now.
+pub fn shows<S: Seen, W: Write>(alloc: Global, seen: &S, out: &mut W) -> Result<(), Finding> {
+    let sight = Sight::of(alloc, seen)?;
+    sight.shows(out)
 }
 
 /// Tells by an empty write, which leaves the output as it is, that a call begins.

@@ -81,17 +81,43 @@ fn same_trace(alloc: Global, again: &Trace, trace: &Trace, text: &[u8]) -> Resul
     }
 }
 
+/// How many entries are left of a trace.
+fn len_left(alloc: Global, boot: &Boot, trace: &Trace) -> Result<usize, Finding> {
+    let left = left_of(alloc, boot, trace)?;
+    Ok(left.len())
+}
+
+/// How many entries are left of a trace that was read, which has these events and this text.
+fn len_of_same(
+    alloc: Global,
+    boot: &Boot,
+    again: &Trace,
+    trace: &Trace,
+    text: &[u8],
+) -> Result<usize, Finding> {
+    same_trace(alloc, again, trace, text)?;
+    len_left(alloc, boot, again)
+}
+
 /// Reads the text of a trace: how many entries are left of it.
 fn count_left(alloc: Global, boot: &Boot, trace: &Trace, text: &[u8]) -> Result<usize, Finding> {
     let again = trace_of(alloc, text)?;
-    same_trace(alloc, &again, trace, text)?;
-    Ok(left_of(alloc, boot, &again)?.len())
+    let len = len_of_same(alloc, boot, &again, trace, text);
+    drop(again);
+    len
 }
 
 /// How many instructions the first script of a scenario has.
 fn count_instructions(alloc: Global, text: &[u8]) -> Result<u32, Finding> {
     let lines = first_script(text).ok_or(Finding::Script)?;
-    Ok(script_of(alloc, lines)?.len())
+    let script = script_of(alloc, lines)?;
+    Ok(script.len())
+}
+
+/// How many entries are left of a trace's own text.
+fn count_printed(alloc: Global, boot: &Boot, trace: &Trace) -> Result<usize, Finding> {
+    let shown = printed(alloc, trace)?;
+    count_left(alloc, boot, trace, &shown)
 }
 
 /// Reads a trace's own text and the first script of a scenario, and tells how many entries are left of the one and how many
@@ -103,8 +129,7 @@ pub fn tells<W: Write>(
     trace: &Trace,
     out: &mut W,
 ) -> Result<(), Finding> {
-    let shown = printed(alloc, trace)?;
-    let left = count_left(alloc, boot, trace, &shown)?;
+    let left = count_printed(alloc, boot, trace)?;
     let instructions = count_instructions(alloc, text)?;
     writeln!(out, "left {left} instructions {instructions}")?;
     Ok(())

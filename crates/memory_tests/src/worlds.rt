@@ -1,5 +1,5 @@
 //! Events of a world.
-use crate::sights::{Sight, begins};
+use crate::sights::{Sight, begins, shows};
 use crate::texts::tells;
 use sk_client::{World, WorldEvent};
 use sk_play::{WorldTold, happen, world_of, write_told};
@@ -40,6 +40,18 @@ fn happens<W: Write>(
     tries(alloc, world, event, &before)
 }
 
+/// The same, and tells what comes of the event.
+fn happens_and_tells<W: Write>(
+    alloc: Global,
+    world: &mut World,
+    number: usize,
+    event: &WorldEvent,
+    out: &mut W,
+) -> Result<(), Finding> {
+    let told = happens(alloc, world, event, out)?;
+    Ok(write_told(number, &told, out)?)
+}
+
 fn happens_all<W: Write>(
     alloc: Global,
     world: &mut World,
@@ -47,11 +59,9 @@ fn happens_all<W: Write>(
     out: &mut W,
 ) -> Result<(), Finding> {
     for (place, event) in events.iter().enumerate() {
-        let told = happens(alloc, world, event, out)?;
-        write_told(place + 1, &told, out)?;
+        happens_and_tells(alloc, world, place + 1, event, out)?;
     }
-    let sight = Sight::of(alloc, &*world)?;
-    sight.shows(out)
+    shows(alloc, &*world, out)
 }
 
 /// Lets the events happen, and prints what comes of them.

@@ -124,19 +124,34 @@ fn go_on(
     taken
 }
 
+/// Writes what is booked, and takes it out.
+fn show_booked(rt: &HostRuntime, bank: &mut Speculator<u16, u64, u64>) -> anyhow::Result<()> {
+    for _ in 0..BOOKED {
+        if let Some(amount) = bank.released(0) {
+            println!(rt; "booked: {amount}")?;
+        }
+    }
+    Ok(())
+}
+
+/// A deposit and what rests on a guess; then what was booked, and what each account has.
+fn show(
+    rt: &HostRuntime,
+    bank: &mut Speculator<u16, u64, u64>,
+    is_right: bool,
+) -> anyhow::Result<()> {
+    take(bank, rt.alloc(), Order::Deposit(1, 100))?;
+    go_on(bank, rt.alloc(), is_right)?;
+    show_booked(rt, bank)?;
+    let (one, two, three) = (balance(bank, 1), balance(bank, 2), balance(bank, 3));
+    println!(rt; "accounts: {one} {two} {three}")?;
+    Ok(())
+}
+
 fn main(rt: HostRuntime) -> anyhow::Result<()> {
     for is_right in [true, false] {
         let mut bank = Speculator::new(rt.alloc(), 1, NonZeroU16::MAX);
-        take(&mut bank, rt.alloc(), Order::Deposit(1, 100))?;
-        let went = go_on(&mut bank, rt.alloc(), is_right);
-        went?;
-        for _ in 0..BOOKED {
-            if let Some(amount) = bank.released(0) {
-                println!(rt; "booked: {amount}")?;
-            }
-        }
-        let (one, two, three) = (balance(&bank, 1), balance(&bank, 2), balance(&bank, 3));
-        println!(rt; "accounts: {one} {two} {three}")?;
+        show(&rt, &mut bank, is_right)?;
     }
     Ok(())
 }

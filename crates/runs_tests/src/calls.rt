@@ -9,10 +9,10 @@ use sk_objects::Content;
 use sk_plain::{InputRef, KeptInput, Plan, Refusal, Trace, View, plan_step};
 use sk_scenario::Call;
 use sk_script::{Input, Scripts};
-use std::alloc::AllocError;
+use std::process::Abort;
 
 /// How often a run decides its guesses: so many calls of 128.
-#[derive(Clone, Copy, Debug)]
+#[derive(Clone, Copy)]
 pub struct Habit {
     pub commits: u32,
     pub fails: u32,
@@ -24,11 +24,13 @@ pub fn any_of<T: Copy>(rng: &mut Pcg32, all: &[T]) -> Option<T> {
     all.get(place).copied()
 }
 
+/// The bytes that a content may have.
+const BYTES: [&[u8]; 4] = [b"", b"new", b"foreign", b"z"];
+
 /// A content of a small version and few bytes.
 fn content(rng: &mut Pcg32) -> Option<Content> {
     let version = u64::from(rng.next_u32() % 9);
-    let bytes: [&[u8]; 4] = [b"", b"new", b"foreign", b"z"];
-    let bytes = Text::new(any_of(rng, &bytes)?)?;
+    let bytes = Text::new(any_of(rng, &BYTES)?)?;
     Content::new(version, bytes)
 }
 
@@ -51,48 +53,73 @@ fn is_running(reckoning: &Reckoning, entity: &Entity) -> bool {
 }
 
 /// A process among those that are present, or one that may be absent.
-pub fn process(rng: &mut Pcg32, reckoning: &Reckoning, present: &[Entity]) -> Option<Pid> {
+pub fn any_process(rt: &impl Abort, rng: &mut Pcg32, reckoning: &Reckoning) -> Option<Pid> {
+    process(rng, reckoning, &reckoning.present(rt))
+}
+
+/// The same of these.
+fn process(rng: &mut Pcg32, reckoning: &Reckoning, present: &[Entity]) -> Option<Pid> {
     if rng.next_u32() % 64 == 0 {
         return Pid::boot((1 + rng.next_u32() % 4) as u16)?.child(1);
     }
-    let count = present
-        .iter()
-        .take_while(|entity| matches!(entity, Entity::Proc(_)))
-        .count();
-    let processes = present.get(..count)?;
+    let processes = processes(present);
     let first = any_of(rng, processes)?;
     let second = any_of(rng, processes)?;
-    match if is_running(reckoning, &first) {
-        first
+    if is_running(reckoning, &first) {
+        pid_of(first)
     } else {
-        second
-    } {
+        pid_of(second)
+    }
+}
+
+/// The processes, which stand before the others.
+fn processes(present: &[Entity]) -> &[Entity] {
+    let processes = present
+        .iter()
+        .take_while(|entity| matches!(entity, Entity::Proc(_)));
+    present.get(..processes.count()).unwrap_or(&[])
+}
+
+fn pid_of(entity: Entity) -> Option<Pid> {
+    match entity {
         Entity::Proc(pid) => Some(pid),
         _ => None,
     }
 }
 
+/// Whether a step of a process is a guess, and has a random reply: mostly where that fits.
+fn manner(rng: &mut Pcg32, fits: bool) -> (bool, bool) {
+    match (fits, rng.next_u32() % 16) {
+        (true, 0) | (false, 1) => (false, true),
+        (true, 1) => (false, false),
+        (true, _) | (false, 0) => (true, true),
+        (false, 3) => (true, false),
+        (false, _) => (false, false),
+    }
+}
+
 /// A step of a process, which is a guess wherever a random reply fits.
 fn step(
+    rt: &impl Abort,
     rng: &mut Pcg32,
     reckoning: &Reckoning,
     scripts: &Scripts,
     pid: Pid,
-) -> Result<Call, AllocError> {
+) -> Call {
     let input = reply(rng);
     let fits = plan_step(&reckoning.store, scripts, pid, InputRef::of(&input)).is_ok();
-    let input = KeptInput::keep(reckoning.alloc, InputRef::of(&input))?;
-    Ok(match (fits, rng.next_u32() % 16) {
-        (true, 0) | (false, 1) => Call::Step(pid, input),
-        (true, 1) => Call::Step(pid, KeptInput::none()),
-        (true, _) | (false, 0) => Call::Guess(pid, input),
-        (false, 3) => Call::Guess(pid, KeptInput::none()),
-        (false, _) => Call::Step(pid, KeptInput::none()),
-    })
+    let (is_guess, has_reply) = manner(rng, fits);
+    let input = if has_reply { input } else { Input::None };
+    let input = KeptInput::keep(reckoning.alloc, InputRef::of(&input)).expect(rt, "memory");
+    if is_guess {
+        Call::Guess(pid, input)
+    } else {
+        Call::Step(pid, input)
+    }
 }
 
 /// Any guess: mostly one whose token is held, and seldom any that was drawn.
-fn decided(rng: &mut Pcg32, held: &[GuessId], drawn: u64) -> Option<GuessId> {
+fn any_guess(rng: &mut Pcg32, held: &[GuessId], drawn: u64) -> Option<GuessId> {
     if rng.next_u32() % 16 == 0 {
         return GuessId::new(1 + u64::from(rng.next_u32() % 16) % drawn.max(1));
     }
@@ -110,39 +137,33 @@ fn decision(roll: u32, habit: Habit, id: GuessId) -> Option<Call> {
     None
 }
 
-/// The next call of a run.
-pub fn call(
+/// Whether the next call of a run decides a guess, and how.
+pub fn any_decision(rng: &mut Pcg32, habit: Habit, held: &[GuessId], drawn: u64) -> Option<Call> {
+    let roll = rng.next_u32() % 128;
+    let id = any_guess(rng, held, drawn)?;
+    decision(roll, habit, id)
+}
+
+/// A step or a guess of any process.
+pub fn any_step(
+    rt: &impl Abort,
     rng: &mut Pcg32,
-    habit: Habit,
     reckoning: &Reckoning,
     scripts: &Scripts,
-    present: &[Entity],
-    held: &[GuessId],
-    drawn: u64,
-) -> Result<Option<Call>, AllocError> {
-    let roll = rng.next_u32() % 128;
-    if let Some(id) = decided(rng, held, drawn) {
-        let decision = decision(roll, habit, id);
-        if decision.is_some() {
-            return Ok(decision);
-        }
-    }
-    let Some(pid) = process(rng, reckoning, present) else {
-        return Ok(None);
-    };
-    Ok(Some(step(rng, reckoning, scripts, pid)?))
+) -> Option<Call> {
+    let pid = any_process(rt, rng, reckoning)?;
+    Some(step(rt, rng, reckoning, scripts, pid))
 }
 
 /// Whether a plan adds a name to a directory that has 64 or more.
-fn is_crowded(reckoning: &Reckoning, planned: &Result<Plan, Refusal>) -> Result<bool, AllocError> {
+fn is_crowded(rt: &impl Abort, reckoning: &Reckoning, planned: &Result<Plan, Refusal>) -> bool {
     let Ok(plan) = planned else {
-        return Ok(false);
+        return false;
     };
-    let Some(directory) = plan.adds() else {
-        return Ok(false);
-    };
-    let present = reckoning.plain.entities()?;
-    Ok(names_in(&present, &directory) >= 64)
+    match plan.adds() {
+        Some(directory) => names_in(&reckoning.present(rt), &directory) >= 64,
+        None => false,
+    }
 }
 
 /// What a step is answered that the plain kernel plans so, where this much room is left, and a directory that it
@@ -189,6 +210,7 @@ fn decision_answer(status: Status, is_held: bool) -> SessionAnswer {
 
 /// What a call should be answered after this whole trace, where the epoch's trace has so many places and these tokens are held.
 pub fn answer(
+    rt: &impl Abort,
     call: &Call,
     reckoning: &Reckoning,
     scripts: &Scripts,
@@ -196,13 +218,13 @@ pub fn answer(
     places: usize,
     held: &[GuessId],
     next: GuessId,
-) -> Result<SessionAnswer, AllocError> {
+) -> SessionAnswer {
     let undecided = reckoning.undecided();
     let room = places.saturating_sub(undecided);
-    Ok(match call {
+    match call {
         Call::Step(pid, input) => {
             let planned = plan_step(&reckoning.store, scripts, *pid, input.lend());
-            let is_crowded = is_crowded(reckoning, &planned)?;
+            let is_crowded = is_crowded(rt, reckoning, &planned);
             step_answer(planned, is_crowded, room)
         }
         Call::Guess(pid, input) => {
@@ -213,5 +235,5 @@ pub fn answer(
         Call::Commit(id) | Call::Fail(id) => {
             decision_answer(reckoning.status(trace, *id), held.contains(id))
         }
-    })
+    }
 }

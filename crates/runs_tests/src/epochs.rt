@@ -1,13 +1,13 @@
 //! Epochs in a run: its whole trace stays that of a kernel without them.
+use crate::finding::{Finding, held};
 use crate::judge::judge_texts;
 use crate::reckoning::Reckoning;
 use sk_kernel::{EpochRefusal, Kernel};
 use sk_plain::{Trace, strike_from};
 use sk_terminal::Texts;
-use tests_support::finding::Finding;
 
 /// How much of a run stood when the kernel's epoch began.
-#[derive(Clone, Copy, Debug, Default)]
+#[derive(Clone, Copy, Default)]
 pub struct Before {
     pub events: usize,
     pub entries: usize,
@@ -29,28 +29,31 @@ impl Before {
 fn leaves(kernel: &Kernel, reckoning: &Reckoning, before: Before) -> Result<(), Finding> {
     let left = strike_from(reckoning.alloc, kernel.opening().start(), kernel.trace())?;
     let whole = reckoning.entries().get(before.entries..).unwrap_or(&[]);
-    if left.as_slice() != whole {
-        return Err(Finding::Epoch);
-    }
-    Ok(())
+    held(left.as_slice() == whole, Finding::Epoch)
 }
 
-/// Compares what is handed out with what came since the epoch began.
+/// Compares what is handed out with what came since the epoch began; says where the new one began.
 fn judge_left(
     trace: &Trace,
     texts: &Texts,
     whole: &Trace,
     reckoning: &Reckoning,
     before: Before,
-) -> Result<(), Finding> {
+) -> Result<Option<Before>, Finding> {
     let since = whole.events().get(before.events..).unwrap_or(&[]);
-    if trace.events() != since {
-        return Err(Finding::Epoch);
-    }
-    for number in 0..=4 {
+    let is_so = trace.events() == since && reckoning.undecided() == 0;
+    held(is_so, Finding::Epoch)?;
+    for number in 0..5 {
         judge_texts(reckoning, before, number, texts.of(number), 0)?;
     }
-    Ok(())
+    Ok(Some(Before::now(whole, reckoning)))
+}
+
+/// Compares how many guesses are undecided, as an epoch that does not begin tells.
+fn judge_undecided(reckoning: &Reckoning, count: usize) -> Result<Option<Before>, Finding> {
+    let is_so = count == reckoning.undecided() && count > 0;
+    held(is_so, Finding::Epoch)?;
+    Ok(None)
 }
 
 /// Begins an epoch of a kernel with this whole trace, and judges the answer; says where the new one began.
@@ -62,13 +65,8 @@ pub fn begins(
 ) -> Result<Option<Before>, Finding> {
     leaves(kernel, reckoning, before)?;
     match kernel.new_epoch() {
-        Ok((trace, texts)) if reckoning.undecided() == 0 => {
-            judge_left(&trace, &texts, whole, reckoning, before)?;
-            Ok(Some(Before::now(whole, reckoning)))
-        }
-        Err(EpochRefusal::Undecided(count)) if count == reckoning.undecided() && count > 0 => Ok(
-            None,
-        ),
-        _ => Err(Finding::Epoch),
+        Ok((trace, texts)) => judge_left(&trace, &texts, whole, reckoning, before),
+        Err(EpochRefusal::Undecided(count)) => judge_undecided(reckoning, count),
+        Err(EpochRefusal::Memory) => Err(Finding::Epoch),
     }
 }

@@ -12,7 +12,7 @@ use sk_script::{Lease, Process};
 const KILL: u8 = 9;
 
 /// How many of the hand-ins that had something done were taken, how many were stale, and how many epochs began.
-#[derive(Clone, Copy, Debug, Default)]
+#[derive(Clone, Copy, Default)]
 pub struct Tally {
     pub taken: u64,
     pub stale: u64,

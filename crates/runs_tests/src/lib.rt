@@ -7,6 +7,8 @@ mod calls;
 #[cfg(test)]
 mod epochs;
 #[cfg(test)]
+mod finding;
+#[cfg(test)]
 mod judge;
 #[cfg(test)]
 mod leasing;

@@ -1,10 +1,12 @@
 //! Random desks whose server lies: replies of the wrong number or kind, replies that are false, twice or late.
-use crate::calls::{any_of, process};
+use crate::calls::{any_of, any_process};
+use crate::finding::{Finding, held};
 use crate::leasing::{Tally, any_count, given_up, hand_in_answer, lease_refusal};
 use crate::numbers::{at_most, runs_after};
 use crate::reckoning::Reckoning;
-use crate::scenarios::{ScenarioKind, scenario};
-use crate::worlds::{Course, held};
+use crate::scenarios::{ScenarioKind, any_scenario};
+use crate::session::gives_up;
+use crate::worlds::Course;
 use rand_core::Rng;
 use rand_pcg::Pcg32;
 use sk_client::{Desk, Given, ReplyRefusal, Turn};
@@ -13,21 +15,20 @@ use sk_ids::{GuessId, Pid, Text};
 use sk_kernel::{HandIn, Kernel};
 use sk_objects::Content;
 use sk_objects::content::LAST_VERSION;
-use sk_plain::{Refusal, Trace};
-use sk_scenario::{Declarations, Scenario};
+use sk_plain::{Event, Refusal, Trace};
+use sk_scenario::Declarations;
 use sk_script::Lease;
 use sk_server::{Answer, Ask, Reply, Request};
-use std::alloc::{Alloc, Global};
+use std::alloc::{Alloc, AllocError, Global};
 use std::collections::VecDeque;
 use std::env::Env;
 use std::process::Abort;
-use tests_support::finding::Finding;
 
 /// How many desks there are in a test.
 const DESKS: u64 = 625;
 
 /// A process that waits for the reply to a request, which it made without a guess.
-#[derive(Clone, Copy, Debug)]
+#[derive(Clone, Copy)]
 struct Asked {
     pid: Pid,
     number: u64,
@@ -45,14 +46,16 @@ struct DeskTalk<'a> {
     hand_ins: Tally,
 }
 
+/// The bytes that a content may have.
+const BYTES: [&[u8]; 3] = [b"", b"lie", b"w"];
+
 /// Any content, also of the last version.
 fn content(rng: &mut Pcg32) -> Option<Content> {
     let version = match rng.next_u32() % 16 {
         0 => LAST_VERSION,
         roll => u64::from(roll % 4),
     };
-    let texts: [&[u8]; 3] = [b"", b"lie", b"w"];
-    Content::new(version, Text::new(any_of(rng, &texts)?)?)
+    Content::new(version, Text::new(any_of(rng, &BYTES)?)?)
 }
 
 /// Any reply, mostly one that is due.
@@ -112,21 +115,6 @@ impl<'a> DeskTalk<'a> {
         }
     }
 
-    /// So many things happen.
-    fn go_on(
-        &mut self,
-        desk: &mut Desk,
-        rng: &mut Pcg32,
-        count: u32,
-        out: &mut Option<Lease>,
-    ) -> Result<(), Finding> {
-        let mut reckoning = self.judge(desk)?;
-        for _ in 0..count {
-            reckoning = self.happen(desk, rng, &reckoning, out)?;
-        }
-        Ok(())
-    }
-
     /// The number of the request whose reply is due.
     fn due(&self) -> u64 {
         match self.sent.front() {
@@ -161,6 +149,13 @@ impl<'a> DeskTalk<'a> {
         }
     }
 
+    /// Notes a reply that was taken, after which the trace ends so.
+    fn given(&mut self, last: Option<&Event>, number: u64, given: Given) -> Result<(), Finding> {
+        self.sent.pop_front();
+        self.asked.retain(|asked| asked.number != number);
+        self.course.gave(last, given)
+    }
+
     /// Gives a reply, which is answered as foreseen.
     fn give(
         &mut self,
@@ -170,86 +165,86 @@ impl<'a> DeskTalk<'a> {
     ) -> Result<(), Finding> {
         let foreseen = self.foreseen(reckoning, desk.kernel().trace(), &reply);
         held(desk.expected() == self.due(), Finding::Answer)?;
-        match (desk.give_reply(reply), foreseen) {
-            (Ok(given), Ok(foreseen)) => {
-                self.sent.pop_front();
-                self.asked.retain(|asked| asked.number != reply.number);
-                held(given == foreseen, Finding::Answer)?;
+        match desk.give_reply(reply) {
+            Ok(given) => {
+                held(foreseen == Ok(given), Finding::Answer)?;
                 let last = desk.kernel().trace().events().last();
-                self.course.gave(last, given)
+                self.given(last, reply.number, given)
             }
-            (Err((back, why)), Err(foreseen)) => {
-                held(back == reply && why == foreseen, Finding::Answer)
-            }
-            _ => Err(Finding::Answer),
+            Err((back, why)) => held(back == reply && foreseen == Err(why), Finding::Answer),
         }
     }
 
     /// Takes a request out, where one waits: the next one by number.
-    fn take(&mut self, desk: &mut Desk) -> Result<(), Finding> {
+    fn take(&mut self, rt: &impl Abort, desk: &mut Desk) -> Result<(), Finding> {
         let waits = self.course.made() > self.taken;
         match desk.take_request() {
             Some(request) => {
+                let number = request.number;
+                self.sent.push_back(request).expect(rt, "memory");
                 self.taken = self.taken.saturating_add(1);
-                held(waits && request.number == self.taken, Finding::Answer)?;
-                self.sent.push_back(request)?;
-                Ok(())
+                held(waits && number == self.taken, Finding::Answer)
             }
             None => held(!waits, Finding::Answer),
         }
     }
 
+    /// Notes what a turn of a process was answered, after which the trace ends so.
+    fn turned(
+        &mut self,
+        rt: &impl Abort,
+        last: Option<&Event>,
+        pid: Pid,
+        turn: Turn,
+    ) -> Result<(), Finding> {
+        if let Turn::Asked(number) = turn {
+            self.asked.push(Asked { pid, number }).expect(rt, "memory");
+        }
+        self.course.turned(last, pid, turn)
+    }
+
     /// Takes a turn of any process.
     fn turn(
         &mut self,
+        rt: &impl Abort,
         desk: &mut Desk,
         rng: &mut Pcg32,
         reckoning: &Reckoning,
     ) -> Result<(), Finding> {
-        let present = reckoning.plain.entities()?;
-        let Some(pid) = process(rng, reckoning, &present) else {
+        let Some(pid) = any_process(rt, rng, reckoning) else {
             return Ok(());
         };
         match desk.turn(pid) {
-            Ok(turn) => {
-                if let Turn::Asked(number) = turn {
-                    self.asked.push(Asked { pid, number })?;
-                }
-                let last = desk.kernel().trace().events().last();
-                self.course.turned(last, pid, turn)
-            }
+            Ok(turn) => self.turned(rt, desk.kernel().trace().events().last(), pid, turn),
             Err(refusal) => held(refusal != Refusal::Memory, Finding::Answer),
         }
+    }
+
+    /// Why there is no lease of a process, where there should be none.
+    fn refused(&self, reckoning: &Reckoning, pid: Pid) -> Option<Refusal> {
+        let waits = self.asked.iter().any(|asked| asked.pid == pid);
+        lease_refusal(reckoning, pid).or(waits.then_some(Refusal::Blocked))
     }
 
     /// Leases any process, which is answered as foreseen.
     fn lend(
         &self,
+        rt: &impl Abort,
         desk: &Desk,
         rng: &mut Pcg32,
         reckoning: &Reckoning,
-    ) -> Result<Option<Lease>, Finding> {
-        let present = reckoning.plain.entities()?;
-        let Some(pid) = process(rng, reckoning, &present) else {
-            return Ok(None);
+        out: &mut Option<Lease>,
+    ) -> Result<(), Finding> {
+        let Some(pid) = any_process(rt, rng, reckoning) else {
+            return Ok(());
         };
-        let waits = self.asked.iter().any(|asked| asked.pid == pid);
-        let blocked = waits.then_some(Refusal::Blocked);
-        let foreseen = lease_refusal(reckoning, pid).or(blocked);
+        let refused = self.refused(reckoning, pid);
         match desk.lease(pid) {
-            Ok(lease) if foreseen.is_none() => {
-                let mut lease = lease;
-                lease.run(any_count(rng));
-                Ok(Some(lease))
-            }
             Ok(lease) => {
-                lease.give_up();
-                Err(Finding::HandIn)
+                goes_out(rng, lease, out);
+                held(refused.is_none(), Finding::HandIn)
             }
-            Err(why) => {
-                held(foreseen == Some(why), Finding::HandIn)?;
-                Ok(None)
-            }
+            Err(why) => held(refused == Some(why), Finding::HandIn),
         }
     }
 
@@ -281,104 +276,177 @@ impl<'a> DeskTalk<'a> {
     /// Hands in the lease that is out, or leases any process where none is.
     fn leases(
         &mut self,
+        rt: &impl Abort,
         desk: &mut Desk,
         rng: &mut Pcg32,
         reckoning: &Reckoning,
         out: &mut Option<Lease>,
     ) -> Result<(), Finding> {
-        if let Some(lease) = out.take() {
-            return self.hand_in(desk, reckoning, lease);
+        match out.take() {
+            Some(lease) => self.hand_in(desk, reckoning, lease),
+            None => self.lend(rt, desk, rng, reckoning, out),
         }
-        if let Some(lease) = self.lend(desk, rng, reckoning)?
-            && let Some(before) = out.replace(lease)
-        {
-            before.give_up();
-        }
-        Ok(())
     }
 
-    /// Judges a kernel and its requests by the plain kernel.
-    fn judge(&mut self, desk: &Desk) -> Result<Reckoning, Finding> {
-        let kernel = desk.kernel();
+    /// What the trace of a desk comes to.
+    fn reckoned(&self, rt: &impl Abort, desk: &Desk) -> Result<Reckoning, Finding> {
         let boot = self.declarations.boot();
-        let reckoning = Reckoning::of(self.alloc, boot, kernel.trace())?;
-        held(
-            desk.pending() as u64 == self.course.pending(),
-            Finding::Pending,
-        )?;
-        self.course
-            .judge(kernel, &reckoning, self.declarations.limit())?;
-        Ok(reckoning)
+        Reckoning::of(rt, self.alloc, boot, desk.kernel().trace())
     }
 
-    /// One thing more that happens to a desk: a request is taken, a reply given, a process leased,
-    /// a lease handed in, or a turn taken.
-    fn happen(
+    /// Judges a kernel and its requests by what its trace comes to.
+    fn judge_by(
         &mut self,
+        rt: &impl Abort,
+        desk: &Desk,
+        reckoning: &Reckoning,
+    ) -> Result<(), Finding> {
+        let pending = desk.pending() as u64;
+        held(pending == self.course.pending(), Finding::Pending)?;
+        let limit = self.declarations.limit();
+        self.course.judge(rt, desk.kernel(), reckoning, limit)
+    }
+
+    /// The same, with what its trace comes to reckoned anew.
+    fn judge(&mut self, rt: &impl Abort, desk: &Desk) -> Result<(), Finding> {
+        let reckoning = self.reckoned(rt, desk)?;
+        self.judge_by(rt, desk, &reckoning)
+    }
+
+    /// A request is taken, a reply given, a process leased, a lease handed in, or a turn taken.
+    fn happens(
+        &mut self,
+        rt: &impl Abort,
         desk: &mut Desk,
         rng: &mut Pcg32,
         reckoning: &Reckoning,
         out: &mut Option<Lease>,
-    ) -> Result<Reckoning, Finding> {
+    ) -> Result<(), Finding> {
         match rng.next_u32() % 16 {
-            0 | 1 => self.take(desk)?,
-            2..=5 => {
-                if let Some(reply) = lie(rng, self.due()) {
-                    self.give(desk, reckoning, reply)?;
-                }
-            }
-            6 | 7 => self.leases(desk, rng, reckoning, out)?,
-            _ => self.turn(desk, rng, reckoning)?,
+            0 | 1 => self.take(rt, desk),
+            2..=5 => match lie(rng, self.due()) {
+                Some(reply) => self.give(desk, reckoning, reply),
+                None => Ok(()),
+            },
+            6 | 7 => self.leases(rt, desk, rng, reckoning, out),
+            _ => self.turn(rt, desk, rng, reckoning),
         }
-        self.judge(desk)
+    }
+
+    /// One thing more happens to a desk, which is judged before.
+    fn one_more(
+        &mut self,
+        rt: &impl Abort,
+        desk: &mut Desk,
+        rng: &mut Pcg32,
+        reckoning: &Reckoning,
+        out: &mut Option<Lease>,
+    ) -> Result<(), Finding> {
+        self.judge_by(rt, desk, reckoning)?;
+        self.happens(rt, desk, rng, reckoning, out)
+    }
+
+    /// The same, with what its trace comes to reckoned anew.
+    fn goes_on(
+        &mut self,
+        rt: &impl Abort,
+        desk: &mut Desk,
+        rng: &mut Pcg32,
+        out: &mut Option<Lease>,
+    ) -> Result<(), Finding> {
+        let reckoning = self.reckoned(rt, desk)?;
+        self.one_more(rt, desk, rng, &reckoning, out)
+    }
+
+    /// So many things happen, and the desk is judged before and after each.
+    fn go_on(
+        &mut self,
+        rt: &impl Abort,
+        desk: &mut Desk,
+        rng: &mut Pcg32,
+        count: u32,
+        out: &mut Option<Lease>,
+    ) -> Result<Talked, Finding> {
+        for _ in 0..count {
+            self.goes_on(rt, desk, rng, out)?;
+        }
+        self.judge(rt, desk)?;
+        Ok(Talked {
+            replied: self.course.replied(),
+            hand_ins: self.hand_ins,
+        })
     }
 }
 
+/// Runs a lease and keeps it out. One that was out is given up.
+fn goes_out(rng: &mut Pcg32, lease: Lease, out: &mut Option<Lease>) {
+    let mut lease = lease;
+    lease.run(any_count(rng));
+    gives_up(out.replace(lease));
+}
+
 /// How many requests of a desk had a reply, and how many hand-ins there were.
-#[derive(Clone, Copy, Debug)]
+#[derive(Clone, Copy)]
 struct Talked {
     replied: u64,
     hand_ins: Tally,
 }
 
-/// So many things happen to a desk.
+/// So many things happen to a desk. A lease that is out then is given up.
 fn talk_to(
+    rt: &impl Abort,
     alloc: Global,
     declarations: &Declarations,
     desk: &mut Desk,
     rng: &mut Pcg32,
     count: u32,
-    out: &mut Option<Lease>,
 ) -> Result<Talked, Finding> {
     let mut talk = DeskTalk::new(alloc, declarations);
-    talk.go_on(desk, rng, count, out)?;
-    Ok(Talked {
-        replied: talk.course.replied(),
-        hand_ins: talk.hand_ins,
-    })
+    let mut out = None;
+    let told = talk.go_on(rt, desk, rng, count, &mut out);
+    gives_up(out);
+    told
+}
+
+/// The desk that a scenario declares.
+fn declared(alloc: Global, declarations: &Declarations) -> Result<Desk, AllocError> {
+    let (boot, limit) = (declarations.boot(), declarations.limit());
+    let kernel = Kernel::boot(alloc, declarations.number(), boot, limit)?;
+    Ok(Desk::new(alloc, kernel))
 }
 
 /// A desk of what is declared, to which 20 things or more happen.
-fn desk_of(alloc: Global, rng: &mut Pcg32, declarations: &Declarations) -> Result<Talked, Finding> {
-    let (boot, limit) = (declarations.boot(), declarations.limit());
-    let kernel = Kernel::boot(alloc, declarations.number(), boot, limit)?;
-    let mut desk = Desk::new(alloc, kernel);
+fn desk_of(
+    rt: &impl Abort,
+    alloc: Global,
+    rng: &mut Pcg32,
+    declarations: &Declarations,
+) -> Result<Talked, Finding> {
+    let mut desk = declared(alloc, declarations).expect(rt, "memory");
     let count = 20 + rng.next_u32() % 60;
-    let mut out = None;
-    let told = talk_to(alloc, declarations, &mut desk, rng, count, &mut out);
-    if let Some(lease) = out {
-        lease.give_up();
-    }
+    let told = talk_to(rt, alloc, declarations, &mut desk, rng, count);
     desk.abandon();
     told
 }
 
 /// The desk of a number.
-fn desk(alloc: Global, number: u64, kind: ScenarioKind) -> Result<Talked, Finding> {
+fn desk(
+    rt: &impl Abort,
+    alloc: Global,
+    number: u64,
+    kind: ScenarioKind,
+) -> Result<Talked, Finding> {
     let mut rng = Pcg32::new(number, 5);
-    let text = scenario(alloc, &mut rng, kind)?;
-    let scenario = Scenario::parse(alloc, &text)?;
-    desk_of(alloc, &mut rng, &scenario.declarations)
+    let scenario = any_scenario(rt, alloc, &mut rng, kind);
+    desk_of(rt, alloc, &mut rng, &scenario.declarations)
+}
+
+/// The same of a desk in which nothing is found.
+fn passed(rt: &impl Abort, alloc: Global, number: u64, kind: ScenarioKind) -> Talked {
+    match desk(rt, alloc, number, kind) {
+        Ok(talked) => talked,
+        Err(finding) => panic!(rt; "desk {number}: {finding:?}"),
+    }
 }
 
 /// So many desks from a number on, in each of which nothing is found; some requests in them have
@@ -388,16 +456,15 @@ fn desks<R: Abort + Env + Alloc>(rt: &R, alloc: Global, kind: ScenarioKind, from
     let mut hand_ins = Tally::default();
     let first = runs_after(rt).saturating_add(from);
     for number in first..first.saturating_add(at_most(rt, DESKS)) {
-        match desk(alloc, number, kind) {
-            Ok(talked) => {
-                replied = replied.saturating_add(talked.replied);
-                hand_ins.add(talked.hand_ins);
-            }
-            Err(finding) => panic!(rt; "desk {number}, {kind:?}: {finding:?}"),
-        }
+        let talked = passed(rt, alloc, number, kind);
+        replied = replied.saturating_add(talked.replied);
+        hand_ins.add(talked.hand_ins);
     }
     assert!(rt; replied > 0, "no reply was given");
-    assert!(rt; hand_ins.taken > 0 && hand_ins.stale > 0, "{hand_ins:?}");
+    assert!(rt;
+        hand_ins.taken > 0 && hand_ins.stale > 0,
+        "no hand-in, or no stale one"
+    );
 }
 
 #[test]

@@ -1,13 +1,14 @@
 //! What a trace comes to without the kernel that is tested: its struck record is run by the plain
 //! kernel, and what depends on each undecided guess is followed from step to step.
+use crate::finding::Finding;
 use sk_guesses::Status;
 use sk_ids::{Entity, GuessId, ObjId, Pid, TagSet, Text};
 use sk_plain::{Entry, Event, InputRef, Plain, Plan, Trace, apply_plan, plan_step, strike};
 use sk_script::{Boot, Scripts};
 use sk_store::{EntityState, Look, Store};
-use std::alloc::{AllocError, Global};
+use std::alloc::Global;
 use std::collections::BTreeSet;
-use tests_support::finding::Finding;
+use std::process::Abort;
 
 /// The entities that depend on a guess: those that a dependent step wrote.
 #[derive(Drop)]
@@ -17,7 +18,7 @@ struct Dirt {
 }
 
 /// A text of the record, and whether its step depends on an undecided guess.
-#[derive(Drop)]
+#[derive(Clone, Copy)]
 pub struct SaidText {
     pub terminal: u16,
     pub text: Text,
@@ -73,99 +74,134 @@ fn touches(dirt: &Dirt, entities: &[Entity]) -> bool {
     entities.iter().any(|entity| dirt.entities.contains(entity))
 }
 
-/// Marks what a step writes, where it depends on the guess; says whether it does.
-fn follow_one(dirt: &mut Dirt, entry: &Entry, plan: &Plan) -> Result<bool, AllocError> {
+/// Whether a step, which writes these entities, depends on the guess.
+fn depends(dirt: &Dirt, entry: &Entry, plan: &Plan, writes: &[Entity]) -> bool {
     let reads = plan.reads(entry.pid, InputRef::of(&entry.input));
-    let writes = plan.writes(entry.pid);
-    let depends = entry.guess == Some(dirt.guess)
-        || touches(dirt, reads.as_slice())
-        || touches(dirt, writes.as_slice());
-    if depends {
-        for entity in writes.as_slice() {
-            dirt.entities.insert(*entity)?;
-        }
+    entry.guess == Some(dirt.guess) || touches(dirt, reads.as_slice()) || touches(dirt, writes)
+}
+
+/// Marks these entities.
+fn mark(rt: &impl Abort, dirt: &mut Dirt, entities: &[Entity]) {
+    for entity in entities {
+        dirt.entities.insert(*entity).expect(rt, "memory");
     }
-    Ok(depends)
+}
+
+/// Marks what a step writes, where it depends on the guess; says whether it does.
+fn follow_one(rt: &impl Abort, dirt: &mut Dirt, entry: &Entry, plan: &Plan) -> bool {
+    let writes = plan.writes(entry.pid);
+    let depends = depends(dirt, entry, plan, writes.as_slice());
+    if depends {
+        mark(rt, dirt, writes.as_slice());
+    }
+    depends
 }
 
 /// Marks what a step writes for each guess that it depends on; says whether there is one.
-fn follow(all: &mut Vec<Dirt>, entry: &Entry, plan: &Plan) -> Result<bool, AllocError> {
+fn follow(rt: &impl Abort, all: &mut Vec<Dirt>, entry: &Entry, plan: &Plan) -> bool {
     let mut is_held = false;
     for dirt in all.iter_mut() {
-        let depends = follow_one(dirt, entry, plan)?;
+        let depends = follow_one(rt, dirt, entry, plan);
         is_held = is_held || depends;
     }
-    Ok(is_held)
+    is_held
 }
 
 impl Reckoning {
     /// What a boot comes to.
-    fn start(alloc: Global, boot: &Boot) -> Result<Reckoning, Finding> {
-        let plain = Plain::boot(alloc, boot)?;
-        let store = Store::start(alloc, boot)?;
-        Ok(Reckoning {
+    fn start(rt: &impl Abort, alloc: Global, boot: &Boot) -> Reckoning {
+        Reckoning {
             alloc,
             entries: Vec::new(alloc),
-            plain,
-            store,
+            plain: Plain::boot(alloc, boot).expect(rt, "memory"),
+            store: Store::start(alloc, boot).expect(rt, "memory"),
             dirt: Vec::new(alloc),
             said: Vec::new(alloc),
-        })
-    }
-
-    /// Takes these steps of a trace.
-    fn take_all(&mut self, boot: &Boot, trace: &Trace, entries: &[Entry]) -> Result<(), Finding> {
-        for entry in entries {
-            self.open(trace, entry)?;
-            self.take(boot.scripts(), entry)?;
         }
-        Ok(())
     }
 
     /// What this trace comes to.
-    pub fn of(alloc: Global, boot: &Boot, trace: &Trace) -> Result<Reckoning, Finding> {
+    pub fn of(
+        rt: &impl Abort,
+        alloc: Global,
+        boot: &Boot,
+        trace: &Trace,
+    ) -> Result<Reckoning, Finding> {
         let entries = strike(alloc, boot, trace)?;
-        let mut reckoning = Reckoning::start(alloc, boot)?;
-        reckoning.take_all(boot, trace, &entries)?;
+        let mut reckoning = Reckoning::start(rt, alloc, boot);
+        reckoning.take_all(rt, boot, trace, &entries);
         reckoning.entries = entries;
         Ok(reckoning)
     }
 
+    /// Takes the steps of a trace's record.
+    fn take_all(&mut self, rt: &impl Abort, boot: &Boot, trace: &Trace, entries: &[Entry]) {
+        for entry in entries {
+            self.open(rt, trace, entry);
+            self.take(rt, boot.scripts(), entry);
+        }
+    }
+
     /// Follows the guess of a step from now on, where it is undecided.
-    fn open(&mut self, trace: &Trace, entry: &Entry) -> Result<(), AllocError> {
+    fn open(&mut self, rt: &impl Abort, trace: &Trace, entry: &Entry) {
         if let Some(guess) = entry.guess
             && !is_decided(trace, guess)
         {
             let entities = BTreeSet::new(self.alloc);
-            self.dirt.push(Dirt { guess, entities })?;
+            self.dirt
+                .push(Dirt { guess, entities })
+                .expect(rt, "memory");
         }
-        Ok(())
     }
 
-    /// Takes a step.
-    fn take(&mut self, scripts: &Scripts, entry: &Entry) -> Result<(), Finding> {
+    /// Takes a step of the record, which no kernel refuses.
+    fn take(&mut self, rt: &impl Abort, scripts: &Scripts, entry: &Entry) {
         let input = InputRef::of(&entry.input);
         let plan = match plan_step(&self.store, scripts, entry.pid, input) {
             Ok(plan) => plan,
-            Err(why) => return Err(Finding::from(why)),
+            Err(_) => panic!(rt; "a step of the record"),
         };
-        apply_plan(&mut self.store, scripts, entry.pid, input, &plan)?;
-        let is_held = follow(&mut self.dirt, entry, &plan)?;
-        let text = self.plain.step(entry.pid, &entry.input)?;
-        if let Some(text) = text {
-            let terminal = terminal_of(&self.store, entry.pid);
-            self.said.push(SaidText {
+        let done = apply_plan(&mut self.store, scripts, entry.pid, input, &plan);
+        done.expect(rt, "memory");
+        let is_held = follow(rt, &mut self.dirt, entry, &plan);
+        let said = self.plain.step(entry.pid, &entry.input);
+        let said = said.expect(rt, "a step of the record");
+        self.say(rt, entry.pid, said, is_held);
+    }
+
+    /// Notes what a process said, where it said something.
+    fn say(&mut self, rt: &impl Abort, pid: Pid, said: Option<Text>, is_held: bool) {
+        let terminal = terminal_of(&self.store, pid);
+        if let Some(text) = said {
+            let said = SaidText {
                 terminal,
                 text,
                 is_held,
-            })?;
+            };
+            self.said.push(said).expect(rt, "memory");
         }
-        Ok(())
+    }
+
+    /// The entities that are present in the plain kernel.
+    pub fn present(&self, rt: &impl Abort) -> Vec<Entity> {
+        self.plain.entities().expect(rt, "memory")
+    }
+
+    /// Whether these are the entities that are present in the plain kernel.
+    pub fn has(&self, rt: &impl Abort, entities: &[Entity]) -> bool {
+        self.present(rt).as_slice() == entities
     }
 
     /// The texts of the record.
     pub fn said(&self) -> &[SaidText] {
         &self.said
+    }
+
+    /// The first texts of the record, so many, and those behind them.
+    pub fn said_behind(&self, count: usize) -> (&[SaidText], &[SaidText]) {
+        let said = self.said();
+        let old = said.get(..count).unwrap_or(&[]);
+        (old, said.get(count..).unwrap_or(&[]))
     }
 
     /// The struck record.

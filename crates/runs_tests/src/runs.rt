@@ -1,23 +1,23 @@
 //! The runs.
-use crate::calls::{Habit, answer, call, process};
+use crate::calls::{Habit, answer, any_decision, any_process, any_step};
 use crate::epochs::{Before, begins};
+use crate::finding::{Finding, held};
 use crate::judge::judge;
 use crate::leasing::{Tally, any_count, hand_in_answer, lease_refusal};
 use crate::numbers::{at_most, runs_after};
 use crate::reckoning::Reckoning;
-use crate::scenarios::{ScenarioKind, scenario};
+use crate::scenarios::{ScenarioKind, any_scenario};
 use crate::session::{SessionAnswer, TokenSession};
 use rand_core::Rng;
 use rand_pcg::Pcg32;
 use sk_ids::{Entity, GuessId, Pid};
 use sk_kernel::{HandIn, Kernel};
 use sk_plain::{Event, KeptInput, Trace};
-use sk_scenario::{Call, Declarations, Scenario};
-use std::alloc::{Alloc, AllocError, Global};
+use sk_scenario::{Call, Declarations};
+use std::alloc::{Alloc, Global};
 use std::collections::BTreeSet;
 use std::env::Env;
 use std::process::Abort;
-use tests_support::finding::Finding;
 
 /// How many short runs of each manner there are.
 const RUNS: u64 = 1_250;
@@ -60,8 +60,15 @@ impl Course {
     }
 
     /// Judges a kernel of this trace limit by what all that was done comes to.
-    fn judge(&mut self, kernel: &Kernel, reckoning: &Reckoning, limit: u32) -> Result<(), Finding> {
+    fn judge(
+        &mut self,
+        rt: &impl Abort,
+        kernel: &Kernel,
+        reckoning: &Reckoning,
+        limit: u32,
+    ) -> Result<(), Finding> {
         judge(
+            rt,
             kernel,
             reckoning,
             &self.trace,
@@ -72,85 +79,107 @@ impl Course {
         )
     }
 
+    /// Adds an event to the trace.
+    fn happens(&mut self, rt: &impl Abort, event: Event) {
+        if self.trace.reserve(1).is_err() {
+            panic!(rt; "memory");
+        }
+        self.trace.push(event);
+    }
+
+    /// The same input for the trace.
+    fn keep(&self, rt: &impl Abort, input: &KeptInput) -> KeptInput {
+        self.trace.keep(input.lend()).expect(rt, "memory")
+    }
+
     /// Notes what a hand-in of so many instructions of a process was answered.
-    fn handed_in(
-        &mut self,
-        pid: Pid,
-        count: u32,
-        answer: Result<(), HandIn>,
-    ) -> Result<(), AllocError> {
+    fn handed_in(&mut self, rt: &impl Abort, pid: Pid, count: u32, answer: Result<(), HandIn>) {
         self.tally.note(count, answer);
         if answer.is_err() {
-            return Ok(());
+            return;
         }
         for _ in 0..count {
-            self.trace.reserve(1)?;
             let input = KeptInput::none();
-            self.trace.push(Event::Step { pid, input });
+            self.happens(rt, Event::Step { pid, input });
         }
-        Ok(())
+    }
+
+    /// Notes a guess, whose token is held from now on.
+    fn guessed(&mut self, rt: &impl Abort, id: GuessId, pid: Pid, input: KeptInput) {
+        self.happens(rt, Event::Guess { id, pid, input });
+        self.held.push(id).expect(rt, "memory");
+        self.drawn = id.number();
+    }
+
+    /// Notes a decision, which spends the token.
+    fn decided(&mut self, rt: &impl Abort, id: GuessId, is_done: bool, fails: bool) {
+        if is_done && fails {
+            self.happens(rt, Event::Fail(id));
+        }
+        if is_done && !fails {
+            self.happens(rt, Event::Commit(id));
+        }
+        self.held.retain(|other| *other != id);
     }
 
     /// Notes what a call was answered.
-    fn note(&mut self, call: &Call, told: SessionAnswer) -> Result<(), AllocError> {
-        self.trace.reserve(1)?;
-        match call {
-            Call::Step(pid, input) => {
-                if told == SessionAnswer::Stepped {
-                    let (pid, input) = (*pid, self.trace.keep(input.lend())?);
-                    self.trace.push(Event::Step { pid, input });
-                }
+    fn note(&mut self, rt: &impl Abort, call: &Call, told: SessionAnswer) {
+        match (call, told) {
+            (Call::Step(pid, input), SessionAnswer::Stepped) => {
+                let (pid, input) = (*pid, self.keep(rt, input));
+                self.happens(rt, Event::Step { pid, input });
             }
-            Call::Guess(pid, input) => {
-                if let SessionAnswer::Guessed(id) = told {
-                    let (pid, input) = (*pid, self.trace.keep(input.lend())?);
-                    self.trace.push(Event::Guess { id, pid, input });
-                    self.held.push(id)?;
-                    self.drawn = id.number();
-                }
+            (Call::Guess(pid, input), SessionAnswer::Guessed(id)) => {
+                let input = self.keep(rt, input);
+                self.guessed(rt, id, *pid, input);
             }
-            Call::Commit(id) => {
-                if told == SessionAnswer::Done {
-                    self.trace.push(Event::Commit(*id));
-                }
-                self.held.retain(|other| *other != *id);
-            }
-            Call::Fail(id) => {
-                if told == SessionAnswer::Done {
-                    self.trace.push(Event::Fail(*id));
-                }
-                self.held.retain(|other| *other != *id);
-            }
+            (Call::Commit(id), told) => self.decided(rt, *id, told == SessionAnswer::Done, false),
+            (Call::Fail(id), told) => self.decided(rt, *id, told == SessionAnswer::Done, true),
+            _ => {}
         }
-        Ok(())
     }
 }
 
-/// Hands in the lease that is out, or leases any process where none is, and judges the answer.
-fn leases(
-    rng: &mut Pcg32,
+/// What is declared for a run, and how it goes.
+#[derive(Clone, Copy)]
+struct Terms<'a> {
+    alloc: Global,
+    habit: Habit,
+    declarations: &'a Declarations,
+    calls: u32,
+}
+
+/// Hands in the lease that is out, where one is, and judges the answer.
+fn hands_in(
+    rt: &impl Abort,
     session: &mut TokenSession,
     course: &mut Course,
     reckoning: &Reckoning,
 ) -> Result<(), Finding> {
-    if let Some(lease) = session.lent() {
-        let want = hand_in_answer(reckoning, lease, session.kernel().room());
-        let (pid, count) = (lease.lent().pid, lease.count());
-        let is_as_lent = session.kernel().as_lent(lease);
-        if session.hand_in() != want || is_as_lent != (want != Err(HandIn::Stale)) {
-            return Err(Finding::HandIn);
-        }
-        course.handed_in(pid, count, want)?;
-        return Ok(());
-    }
-    let present = reckoning.plain.entities()?;
-    let Some(pid) = process(rng, reckoning, &present) else {
+    let Some(lease) = session.lent() else {
         return Ok(());
     };
-    if session.lease(pid, any_count(rng)).err() != lease_refusal(reckoning, pid) {
-        return Err(Finding::HandIn);
-    }
+    let want = hand_in_answer(reckoning, lease, session.kernel().room());
+    let (pid, count) = (lease.lent().pid, lease.count());
+    let is_as_lent = session.kernel().as_lent(lease);
+    held(session.hand_in() == want, Finding::HandIn)?;
+    held(is_as_lent == (want != Err(HandIn::Stale)), Finding::HandIn)?;
+    course.handed_in(rt, pid, count, want);
     Ok(())
+}
+
+/// Leases any process, and judges the answer.
+fn lends(
+    rt: &impl Abort,
+    rng: &mut Pcg32,
+    session: &mut TokenSession,
+    reckoning: &Reckoning,
+) -> Result<(), Finding> {
+    let Some(pid) = any_process(rt, rng, reckoning) else {
+        return Ok(());
+    };
+    let refused = session.lease(pid, any_count(rng)).err();
+    held(refused == lease_refusal(reckoning, pid), Finding::HandIn)
 }
 
 /// Begins an epoch where no guess is undecided, and judges the answer.
@@ -159,12 +188,8 @@ fn epoch(
     course: &mut Course,
     reckoning: &Reckoning,
 ) -> Result<(), Finding> {
-    let begun = begins(
-        session.kernel_mut(),
-        &course.trace,
-        reckoning,
-        course.before,
-    )?;
+    let kernel = session.kernel_mut();
+    let begun = begins(kernel, &course.trace, reckoning, course.before)?;
     if let Some(before) = begun {
         course.before = before;
         course.tally.epochs = course.tally.epochs.saturating_add(1);
@@ -172,126 +197,149 @@ fn epoch(
     Ok(())
 }
 
-/// Makes a random call, and judges its answer and what it leaves.
-fn one_call(
+/// A random call.
+fn any_call(
     rt: &impl Abort,
     rng: &mut Pcg32,
-    habit: Habit,
-    declarations: &Declarations,
-    session: &mut TokenSession,
-    course: &mut Course,
+    terms: Terms,
+    course: &Course,
     reckoning: &Reckoning,
-) -> Result<(), Finding> {
-    let scripts = declarations.boot().scripts();
-    let places = course.places(declarations.limit());
-    let present = reckoning.plain.entities()?;
-    let Some(call) = call(
-        rng,
-        habit,
-        reckoning,
-        scripts,
-        &present,
-        &course.held,
-        course.drawn,
-    )?
-    else {
-        return Ok(());
-    };
+) -> Option<Call> {
+    match any_decision(rng, terms.habit, &course.held, course.drawn) {
+        Some(decision) => Some(decision),
+        None => any_step(rt, rng, reckoning, terms.declarations.boot().scripts()),
+    }
+}
+
+/// What a call should be answered.
+fn wanted(
+    rt: &impl Abort,
+    terms: Terms,
+    course: &Course,
+    reckoning: &Reckoning,
+    call: &Call,
+) -> SessionAnswer {
     let next = GuessId::new(course.drawn.saturating_add(1)).unwrap_or_default();
-    let want = answer(
-        &call,
+    let places = course.places(terms.declarations.limit());
+    answer(
+        rt,
+        call,
         reckoning,
-        scripts,
+        terms.declarations.boot().scripts(),
         &course.trace,
         places,
         &course.held,
         next,
-    )?;
-    let told = session.execute(rt, &call)?;
-    if told != want {
-        return Err(Finding::Answer);
-    }
-    course.note(&call, told)?;
+    )
+}
+
+/// Makes a call, and judges its answer.
+fn calls(
+    rt: &impl Abort,
+    terms: Terms,
+    session: &mut TokenSession,
+    course: &mut Course,
+    reckoning: &Reckoning,
+    call: &Call,
+) -> Result<(), Finding> {
+    let want = wanted(rt, terms, course, reckoning, call);
+    let told = session.execute(rt, call);
+    held(told == want, Finding::Answer)?;
+    course.note(rt, call, told);
     Ok(())
 }
 
-/// Makes a random call, lease, hand-in or epoch.
+/// Makes a random call, lease, hand-in or epoch, and judges the answer.
 fn one_turn(
     rt: &impl Abort,
     rng: &mut Pcg32,
-    habit: Habit,
-    declarations: &Declarations,
+    terms: Terms,
     session: &mut TokenSession,
     course: &mut Course,
     reckoning: &Reckoning,
 ) -> Result<(), Finding> {
-    let roll = rng.next_u32() % 12;
-    if roll < 2 {
-        return leases(rng, session, course, reckoning);
+    match rng.next_u32() % 12 {
+        0 | 1 if session.lent().is_some() => hands_in(rt, session, course, reckoning),
+        0 | 1 => lends(rt, rng, session, reckoning),
+        2 => epoch(session, course, reckoning),
+        _ => match any_call(rt, rng, terms, course, reckoning) {
+            Some(call) => calls(rt, terms, session, course, reckoning, &call),
+            None => Ok(()),
+        },
     }
-    if roll == 2 {
-        return epoch(session, course, reckoning);
-    }
-    one_call(rt, rng, habit, declarations, session, course, reckoning)
 }
 
-/// Reckons anew what all that was done comes to, and judges the kernel by it.
-fn reckon(
-    alloc: Global,
-    declarations: &Declarations,
+/// What all that was done comes to.
+fn reckoned(rt: &impl Abort, terms: Terms, course: &Course) -> Result<Reckoning, Finding> {
+    let boot = terms.declarations.boot();
+    Reckoning::of(rt, terms.alloc, boot, &course.trace)
+}
+
+/// Judges a kernel by what all that was done comes to.
+fn judges(
+    rt: &impl Abort,
+    terms: Terms,
     session: &TokenSession,
     course: &mut Course,
-) -> Result<Reckoning, Finding> {
-    let reckoning = Reckoning::of(alloc, declarations.boot(), &course.trace)?;
-    course.judge(session.kernel(), &reckoning, declarations.limit())?;
-    Ok(reckoning)
+) -> Result<(), Finding> {
+    let reckoning = reckoned(rt, terms, course)?;
+    let limit = terms.declarations.limit();
+    course.judge(rt, session.kernel(), &reckoning, limit)
 }
 
-/// Makes so many random calls, leases, hand-ins and epochs, and judges the kernel after each.
-fn play(
+/// One turn more of a kernel, which is judged before.
+fn one_more(
     rt: &impl Abort,
-    alloc: Global,
     rng: &mut Pcg32,
-    habit: Habit,
-    declarations: &Declarations,
+    terms: Terms,
     session: &mut TokenSession,
     course: &mut Course,
-    calls: u32,
+    reckoning: &Reckoning,
 ) -> Result<(), Finding> {
-    let mut reckoning = Reckoning::of(alloc, declarations.boot(), &course.trace)?;
-    for _ in 0..calls {
-        one_turn(rt, rng, habit, declarations, session, course, &reckoning)?;
-        reckoning = reckon(alloc, declarations, session, course)?;
-    }
-    Ok(())
+    let limit = terms.declarations.limit();
+    course.judge(rt, session.kernel(), reckoning, limit)?;
+    one_turn(rt, rng, terms, session, course, reckoning)
 }
 
-/// How many hand-ins and epochs there were in a run of so many calls.
-fn tally_of(
+/// The same, with what all that was done comes to reckoned anew.
+fn goes_on(
     rt: &impl Abort,
-    alloc: Global,
     rng: &mut Pcg32,
-    habit: Habit,
-    declarations: &Declarations,
+    terms: Terms,
     session: &mut TokenSession,
-    calls: u32,
+    course: &mut Course,
+) -> Result<(), Finding> {
+    let reckoning = reckoned(rt, terms, course)?;
+    one_more(rt, rng, terms, session, course, &reckoning)
+}
+
+/// Makes so many random calls, leases, hand-ins and epochs, and judges the kernel before and after each; says how many
+/// hand-ins and epochs there were.
+fn play(
+    rt: &impl Abort,
+    rng: &mut Pcg32,
+    terms: Terms,
+    session: &mut TokenSession,
+    course: &mut Course,
 ) -> Result<Tally, Finding> {
-    let mut course = Course::new(alloc);
-    play(
-        rt,
-        alloc,
-        rng,
-        habit,
-        declarations,
-        session,
-        &mut course,
-        calls,
-    )?;
+    for _ in 0..terms.calls {
+        goes_on(rt, rng, terms, session, course)?;
+    }
+    judges(rt, terms, session, course)?;
     Ok(course.tally)
 }
 
+/// The run of what is declared.
+fn run_of(rt: &impl Abort, rng: &mut Pcg32, terms: Terms) -> Result<Tally, Finding> {
+    let mut session = TokenSession::new(rt, terms.alloc, terms.declarations);
+    let mut course = Course::new(terms.alloc);
+    let told = play(rt, rng, terms, &mut session, &mut course);
+    session.end(rt);
+    told
+}
+
 /// What all runs of a kind have in common.
-#[derive(Clone, Copy, Debug)]
+#[derive(Clone, Copy)]
 struct Manner {
     kind: ScenarioKind,
     habit: Habit,
@@ -303,23 +351,25 @@ struct Manner {
 /// The run of a number.
 fn run(rt: &impl Abort, alloc: Global, number: u64, manner: Manner) -> Result<Tally, Finding> {
     let mut rng = Pcg32::new(number, 1);
-    let text = scenario(alloc, &mut rng, manner.kind)?;
-    let scenario = Scenario::parse(alloc, &text)?;
+    let scenario = any_scenario(rt, alloc, &mut rng, manner.kind);
     let calls = manner
         .least
         .saturating_add(rng.next_u32() % manner.more.max(1));
-    let mut session = TokenSession::new(alloc, &scenario.declarations)?;
-    let told = tally_of(
-        rt,
+    let terms = Terms {
         alloc,
-        &mut rng,
-        manner.habit,
-        &scenario.declarations,
-        &mut session,
+        habit: manner.habit,
+        declarations: &scenario.declarations,
         calls,
-    );
-    session.end(rt);
-    told
+    };
+    run_of(rt, &mut rng, terms)
+}
+
+/// The same of a run in which nothing is found.
+fn passed(rt: &impl Abort, alloc: Global, number: u64, manner: Manner) -> Tally {
+    match run(rt, alloc, number, manner) {
+        Ok(tally) => tally,
+        Err(finding) => panic!(rt; "run {number}: {finding:?}"),
+    }
 }
 
 /// So many runs, in each of which the kernel is what its whole trace comes to after each call, as if no epoch had
@@ -328,12 +378,13 @@ fn runs<R: Abort + Env + Alloc>(rt: &R, alloc: Global, count: u64, manner: Manne
     let mut all = Tally::default();
     let first = runs_after(rt).saturating_add(1);
     for number in first..first.saturating_add(at_most(rt, count)) {
-        match run(rt, alloc, number, manner) {
-            Ok(tally) => all.add(tally),
-            Err(finding) => panic!(rt; "run {number}, {manner:?}: {finding:?}"),
-        }
+        all.add(passed(rt, alloc, number, manner));
     }
-    assert!(rt; all.taken > 0 && all.stale > 0 && all.epochs > 0, "{all:?}");
+    assert!(rt;
+        all.taken > 0 && all.stale > 0,
+        "no hand-in, or no stale one"
+    );
+    assert!(rt; all.epochs > 0, "no epoch began");
 }
 
 /// Short runs of a kind with these habits.

@@ -2,10 +2,12 @@
 //! directory, pipes, copies and terminals.
 use rand_core::Rng;
 use rand_pcg::Pcg32;
-use std::alloc::{AllocError, Global};
+use sk_scenario::Scenario;
+use std::alloc::Global;
+use std::process::Abort;
 
 /// What the processes of a scenario do.
-#[derive(Clone, Copy, Debug)]
+#[derive(Clone, Copy)]
 pub enum ScenarioKind {
     /// Anything.
     Any,
@@ -163,80 +165,88 @@ fn any(rng: &mut Pcg32, words: &[&'static str]) -> &'static str {
     }
 }
 
+/// Writes bytes behind the others.
+fn add(rt: &impl Abort, text: &mut Vec<u8>, bytes: &[u8]) {
+    text.extend_from_slice(bytes).expect(rt, "memory");
+}
+
 /// Writes a letter, or an operand for a capital one.
-fn letter(rng: &mut Pcg32, byte: u8, text: &mut Vec<u8>) -> Result<(), AllocError> {
+fn letter(rt: &impl Abort, rng: &mut Pcg32, byte: u8, text: &mut Vec<u8>) {
     match operands(byte) {
-        [] => text.push(byte)?,
-        words => text.extend_from_slice(any(rng, words).as_bytes())?,
+        [] => add(rt, text, &[byte]),
+        words => add(rt, text, any(rng, words).as_bytes()),
     }
-    Ok(())
 }
 
 /// Writes a line, with an operand for each capital letter.
-fn line(rng: &mut Pcg32, template: &str, text: &mut Vec<u8>) -> Result<(), AllocError> {
+fn line(rt: &impl Abort, rng: &mut Pcg32, template: &str, text: &mut Vec<u8>) {
     for byte in template.as_bytes() {
-        letter(rng, *byte, text)?;
+        letter(rt, rng, *byte, text);
     }
-    text.push(b'\n')?;
-    Ok(())
+    add(rt, text, b"\n");
+}
+
+/// Writes a line that is any of these.
+fn any_line(rt: &impl Abort, rng: &mut Pcg32, templates: &[&'static str], text: &mut Vec<u8>) {
+    let template = any(rng, templates);
+    line(rt, rng, template, text);
 }
 
 /// Writes up to so many lines, each any of these.
 fn lines(
+    rt: &impl Abort,
     rng: &mut Pcg32,
     templates: &[&'static str],
     most: u32,
     text: &mut Vec<u8>,
-) -> Result<(), AllocError> {
+) {
     for _ in 0..rng.next_u32() % most.max(1) {
-        let template = any(rng, templates);
-        line(rng, template, text)?;
+        any_line(rt, rng, templates, text);
     }
-    Ok(())
 }
 
 /// Writes the lines of a script, which has the labels `a`, `b`, `c` and the handler `h`.
-fn script(rng: &mut Pcg32, text: &mut Vec<u8>) -> Result<(), AllocError> {
-    lines(rng, &FIRST_LINES, 5, text)?;
-    text.extend_from_slice(b"a:\n")?;
-    lines(rng, &LINES, 9, text)?;
-    text.extend_from_slice(b"b:\n")?;
-    lines(rng, &LINES, 9, text)?;
-    let last = any(rng, &["jump a", "jump a", "exit r4", "fork W L"]);
-    line(rng, last, text)?;
-    text.extend_from_slice(b"c:\n")?;
-    lines(rng, &LINES, 5, text)?;
-    text.extend_from_slice(b"h:\n")?;
-    lines(rng, &LINES, 3, text)?;
-    let last = any(rng, &["return", "jump b", "fetch X"]);
-    line(rng, last, text)
+fn script(rt: &impl Abort, rng: &mut Pcg32, text: &mut Vec<u8>) {
+    lines(rt, rng, &FIRST_LINES, 5, text);
+    add(rt, text, b"a:\n");
+    lines(rt, rng, &LINES, 9, text);
+    add(rt, text, b"b:\n");
+    lines(rt, rng, &LINES, 9, text);
+    let last = ["jump a", "jump a", "exit r4", "fork W L"];
+    any_line(rt, rng, &last, text);
+    add(rt, text, b"c:\n");
+    lines(rt, rng, &LINES, 5, text);
+    add(rt, text, b"h:\n");
+    lines(rt, rng, &LINES, 3, text);
+    any_line(rt, rng, &["return", "jump b", "fetch X"], text);
 }
 
+/// The boot objects, copies and processes that each scenario has.
+const DECLARED: [&str; 8] = [
+    "file f T",
+    "file g T",
+    "pipe p T",
+    "dir d",
+    "copy /x 3 T",
+    "copy /y 1 T",
+    "process 1 S I",
+    "process 2 S I",
+];
+
 /// Writes the boot objects, copies, processes and the trace limit.
-fn others(rng: &mut Pcg32, text: &mut Vec<u8>) -> Result<(), AllocError> {
-    for declared in [
-        "file f T",
-        "file g T",
-        "pipe p T",
-        "dir d",
-        "copy /x 3 T",
-        "copy /y 1 T",
-        "process 1 S I",
-        "process 2 S I",
-    ] {
-        line(rng, declared, text)?;
+fn others(rt: &impl Abort, rng: &mut Pcg32, text: &mut Vec<u8>) {
+    for declared in &DECLARED {
+        line(rt, rng, *declared, text);
     }
     if rng.next_u32() % 2 == 0 {
-        line(rng, "process 3 S I", text)?;
+        line(rt, rng, "process 3 S I", text);
     }
     if rng.next_u32() % 4 == 0 {
-        line(rng, "process 4 S I", text)?;
+        line(rt, rng, "process 4 S I", text);
     }
     if rng.next_u32() % 8 == 0 {
-        let limit = any(rng, &["limit 6", "limit 12", "limit 25"]);
-        line(rng, limit, text)?;
+        any_line(rt, rng, &["limit 6", "limit 12", "limit 25"], text);
     }
-    Ok(())
 }
 
 /// The lines of scripts that do little but guess.
@@ -252,10 +262,10 @@ const GUESSING_LINES: [&str; 8] = [
 ];
 
 /// Writes the lines of a script that goes round and round, mostly over guesses.
-fn guessing_script(rng: &mut Pcg32, text: &mut Vec<u8>) -> Result<(), AllocError> {
-    text.extend_from_slice(b"look r1 r7 f\na:\nfetch /x\n")?;
-    lines(rng, &GUESSING_LINES, 8, text)?;
-    text.extend_from_slice(b"jump a\n")
+fn guessing_script(rt: &impl Abort, rng: &mut Pcg32, text: &mut Vec<u8>) {
+    add(rt, text, b"look r1 r7 f\na:\nfetch /x\n");
+    lines(rt, rng, &GUESSING_LINES, 8, text);
+    add(rt, text, b"jump a\n");
 }
 
 /// The lines of scripts that do little but link, take out and look up names.
@@ -277,50 +287,83 @@ const NAMING_LINES: [&str; 14] = [
 ];
 
 /// Writes the lines of a script that goes round and round over names.
-fn naming_script(rng: &mut Pcg32, text: &mut Vec<u8>) -> Result<(), AllocError> {
-    text.extend_from_slice(b"mkfile r1\nlook r3 r7 d\na:\nfetch /x\n")?;
-    lines(rng, &NAMING_LINES, 10, text)?;
-    text.extend_from_slice(b"jump a\n")
+fn naming_script(rt: &impl Abort, rng: &mut Pcg32, text: &mut Vec<u8>) {
+    add(rt, text, b"mkfile r1\nlook r3 r7 d\na:\nfetch /x\n");
+    lines(rt, rng, &NAMING_LINES, 10, text);
+    add(rt, text, b"jump a\n");
 }
 
 /// Writes 58 boot objects, with which the root has 62 names.
-fn names(text: &mut Vec<u8>) -> Result<(), AllocError> {
+fn names(rt: &impl Abort, text: &mut Vec<u8>) {
     for number in 0..58u8 {
-        text.extend_from_slice(b"file k")?;
-        text.push(b'0' + number / 10)?;
-        text.push(b'0' + number % 10)?;
-        text.extend_from_slice(b" \"\"\n")?;
+        add(rt, text, b"file k");
+        add(rt, text, &[b'0' + number / 10, b'0' + number % 10]);
+        add(rt, text, b" \"\"\n");
     }
-    Ok(())
 }
 
-/// The text of a random scenario, without its steps.
-pub fn scenario(alloc: Global, rng: &mut Pcg32, kind: ScenarioKind) -> Result<Vec<u8>, AllocError> {
-    let mut text = Vec::new(alloc);
-    for name in ["script s1", "script s2", "script s3"] {
-        line(rng, name, &mut text)?;
-        match kind {
-            ScenarioKind::Any => script(rng, &mut text)?,
-            ScenarioKind::Guessing => guessing_script(rng, &mut text)?,
-            ScenarioKind::Naming => naming_script(rng, &mut text)?,
-        }
-        line(rng, "end", &mut text)?;
+/// Writes a script of this name.
+fn script_of(rt: &impl Abort, rng: &mut Pcg32, kind: ScenarioKind, name: &str, text: &mut Vec<u8>) {
+    line(rt, rng, name, text);
+    match kind {
+        ScenarioKind::Any => script(rt, rng, text),
+        ScenarioKind::Guessing => guessing_script(rt, rng, text),
+        ScenarioKind::Naming => naming_script(rt, rng, text),
+    }
+    line(rt, rng, "end", text);
+}
+
+/// The scripts of each scenario.
+const SCRIPTS: [&str; 3] = ["script s1", "script s2", "script s3"];
+
+/// Writes the scripts, and what is declared beside them.
+fn declarations(rt: &impl Abort, rng: &mut Pcg32, kind: ScenarioKind, text: &mut Vec<u8>) {
+    for name in &SCRIPTS {
+        script_of(rt, rng, kind, *name, text);
     }
     if let ScenarioKind::Naming = kind {
-        names(&mut text)?;
+        names(rt, text);
     }
-    others(rng, &mut text)?;
-    Ok(text)
+    others(rt, rng, text);
+}
+
+/// What a text declares.
+fn parsed(rt: &impl Abort, alloc: Global, text: &[u8]) -> Scenario {
+    Scenario::parse(alloc, text).expect(rt, "a scenario")
+}
+
+/// A random scenario, without its steps.
+pub fn any_scenario(
+    rt: &impl Abort,
+    alloc: Global,
+    rng: &mut Pcg32,
+    kind: ScenarioKind,
+) -> Scenario {
+    let mut text = Vec::new(alloc);
+    declarations(rt, rng, kind, &mut text);
+    parsed(rt, alloc, &text)
+}
+
+/// Writes a file of the server, which may be missing.
+fn remote(rt: &impl Abort, rng: &mut Pcg32, declared: &str, text: &mut Vec<u8>) {
+    if rng.next_u32() % 4 != 0 {
+        line(rt, rng, declared, text);
+    }
 }
 
 /// Writes the server's files, of which each may be missing, and that of `/x` of another version than the copy.
-pub fn remotes(rng: &mut Pcg32, text: &mut Vec<u8>) -> Result<(), AllocError> {
+fn remotes(rt: &impl Abort, rng: &mut Pcg32, text: &mut Vec<u8>) {
     let first = any(rng, &["remote /x 3 T", "remote /x 3 T", "remote /x 5 T"]);
-    for declared in [first, "remote /y 1 T", "remote /z 2 T"] {
-        if rng.next_u32() % 4 != 0 {
-            line(rng, declared, text)?;
-        }
-    }
-    text.extend_from_slice(b"world\n")?;
-    Ok(())
+    remote(rt, rng, first, text);
+    remote(rt, rng, "remote /y 1 T", text);
+    remote(rt, rng, "remote /z 2 T", text);
+    add(rt, text, b"world\n");
+}
+
+/// A random scenario of a world, without its events.
+pub fn any_world(rt: &impl Abort, alloc: Global, rng: &mut Pcg32, kind: ScenarioKind) -> Scenario {
+    let mut text = Vec::new(alloc);
+    declarations(rt, rng, kind, &mut text);
+    remotes(rt, rng, &mut text);
+    parsed(rt, alloc, &text)
 }

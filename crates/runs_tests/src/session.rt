@@ -7,12 +7,12 @@ use sk_ids::{GuessId, Pid};
 use sk_kernel::{FailRefusal, HandIn, Kernel, Outcome, Stranger};
 use sk_plain::Refusal;
 use sk_scenario::{Call, Declarations};
-use sk_script::Lease;
-use std::alloc::{AllocError, Global};
+use sk_script::{Input, Lease};
+use std::alloc::Global;
 use std::process::Abort;
 
 /// The answer to one call.
-#[derive(Clone, Copy, Debug, PartialEq, Eq)]
+#[derive(Clone, Copy, PartialEq, Eq)]
 pub enum SessionAnswer {
     Stepped,
     Guessed(GuessId),
@@ -32,18 +32,14 @@ pub struct TokenSession {
 
 impl TokenSession {
     /// The kernel that a scenario declares, at its start.
-    pub fn new(alloc: Global, declarations: &Declarations) -> Result<TokenSession, AllocError> {
-        let kernel = Kernel::boot(
-            alloc,
-            declarations.number(),
-            declarations.boot(),
-            declarations.limit(),
-        )?;
-        Ok(TokenSession {
-            kernel,
+    pub fn new(rt: &impl Abort, alloc: Global, declarations: &Declarations) -> TokenSession {
+        let (boot, limit) = (declarations.boot(), declarations.limit());
+        let kernel = Kernel::boot(alloc, declarations.number(), boot, limit);
+        TokenSession {
+            kernel: kernel.expect(rt, "memory"),
             tokens: Vec::new(alloc),
             lease: None,
-        })
+        }
     }
 
     /// The kernel.
@@ -66,9 +62,7 @@ impl TokenSession {
     pub fn lease(&mut self, pid: Pid, count: u32) -> Result<(), Refusal> {
         let mut lease = self.kernel.lease(pid)?;
         lease.run(count);
-        if let Some(before) = self.lease.replace(lease) {
-            before.give_up();
-        }
+        gives_up(self.lease.replace(lease));
         Ok(())
     }
 
@@ -81,25 +75,33 @@ impl TokenSession {
     }
 
     /// Makes a call.
-    pub fn execute(&mut self, rt: &impl Abort, call: &Call) -> Result<SessionAnswer, AllocError> {
+    pub fn execute(&mut self, rt: &impl Abort, call: &Call) -> SessionAnswer {
         match call {
-            Call::Step(pid, input) => Ok(match self.kernel.step(*pid, input.input()) {
-                Ok(()) => SessionAnswer::Stepped,
-                Err(refusal) => SessionAnswer::Refused(refusal),
-            }),
-            Call::Guess(pid, input) => {
-                self.tokens.reserve(1)?;
-                Ok(match self.kernel.create_speculation(*pid, input.input()) {
-                    Ok(token) => {
-                        let id = token.id();
-                        self.tokens.push_reserved(token);
-                        SessionAnswer::Guessed(id)
-                    }
-                    Err(refusal) => SessionAnswer::Refused(refusal),
-                })
+            Call::Step(pid, input) => self.step(*pid, input.input()),
+            Call::Guess(pid, input) => self.guess(rt, *pid, input.input()),
+            Call::Commit(id) => self.decide(rt, *id, false),
+            Call::Fail(id) => self.decide(rt, *id, true),
+        }
+    }
+
+    fn step(&mut self, pid: Pid, input: Input) -> SessionAnswer {
+        match self.kernel.step(pid, input) {
+            Ok(()) => SessionAnswer::Stepped,
+            Err(refusal) => SessionAnswer::Refused(refusal),
+        }
+    }
+
+    fn guess(&mut self, rt: &impl Abort, pid: Pid, input: Input) -> SessionAnswer {
+        if self.tokens.reserve(1).is_err() {
+            panic!(rt; "memory");
+        }
+        match self.kernel.create_speculation(pid, input) {
+            Ok(token) => {
+                let id = token.id();
+                self.tokens.push_reserved(token);
+                SessionAnswer::Guessed(id)
             }
-            Call::Commit(id) => Ok(self.decide(rt, *id, false)),
-            Call::Fail(id) => Ok(self.decide(rt, *id, true)),
+            Err(refusal) => SessionAnswer::Refused(refusal),
         }
     }
 
@@ -128,14 +130,19 @@ impl TokenSession {
         let mut session = self;
         session.spend(rt);
         let TokenSession {
-            kernel: _,
+            kernel: _kernel,
             tokens,
             lease,
         } = session;
         tokens.destroy_empty();
-        if let Some(lease) = lease {
-            lease.give_up();
-        }
+        gives_up(lease);
+    }
+}
+
+/// Gives up a lease, where one is out.
+pub fn gives_up(lease: Option<Lease>) {
+    if let Some(lease) = lease {
+        lease.give_up();
     }
 }
 

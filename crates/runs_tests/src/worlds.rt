@@ -1,12 +1,13 @@
 //! Random worlds: a client whose processes take turns, its server, and foreign edits.
 ghost use Rattle.std.specs.Prelude.{◌≡◌, IfOk};
 
-use crate::calls::{any_of, process};
+use crate::calls::{any_of, any_process};
 use crate::epochs::Before;
+use crate::finding::{Finding, held};
 use crate::judge::judge;
 use crate::numbers::{at_most, runs_after};
 use crate::reckoning::Reckoning;
-use crate::scenarios::{ScenarioKind, remotes, scenario};
+use crate::scenarios::{ScenarioKind, any_world};
 use rand_core::Rng;
 use rand_pcg::Pcg32;
 use sk_client::{Cause, Desk, Given, Turn, World, WorldAnswer, WorldEvent};
@@ -14,14 +15,13 @@ use sk_ids::{Entity, GuessId, Name, Pid, Text};
 use sk_kernel::Kernel;
 use sk_objects::{Content, Value};
 use sk_plain::{Entry, Event, KeptInput, Plain, Refusal, View, strike};
-use sk_scenario::{Declarations, Remote, Scenario};
+use sk_scenario::{Declarations, Remote};
 use sk_script::Input;
 use sk_server::{Answer, EditRefusal, Reply, Server};
 use std::alloc::{Alloc, AllocError, Global};
 use std::collections::BTreeSet;
 use std::env::Env;
 use std::process::Abort;
-use tests_support::finding::Finding;
 
 /// How many worlds of a manner there are in a test.
 const WORLDS: u64 = 1_250;
@@ -30,7 +30,7 @@ const WORLDS: u64 = 1_250;
 const NAMES: [&[u8]; 3] = [b"/x", b"/y", b"/z"];
 
 /// How often each event comes: so many of 128. The others are turns.
-#[derive(Clone, Copy, Debug)]
+#[derive(Clone, Copy)]
 struct Pace {
     serves: u32,
     replies: u32,
@@ -48,14 +48,14 @@ impl Pace {
 }
 
 /// A store: what it left of which file.
-#[derive(Clone, Copy, Debug, PartialEq, Eq)]
+#[derive(Clone, Copy, PartialEq, Eq)]
 struct StoredFile {
     name: Name,
     content: Content,
 }
 
 /// A store that the server accepted, and the number of its request.
-#[derive(Clone, Copy, Debug)]
+#[derive(Clone, Copy)]
 struct Accepted {
     request: u64,
     store: StoredFile,
@@ -81,11 +81,6 @@ pub struct Course {
     length: usize,
     drawn: u64,
     seen: BTreeSet<Entity>,
-}
-
-/// Fine, or this is found.
-pub fn held(is_so: bool, otherwise: Finding) -> Result<(), Finding> {
-    if is_so { Ok(()) } else { Err(otherwise) }
 }
 
 impl Course {
@@ -120,6 +115,7 @@ impl Course {
     /// Judges a kernel of this trace limit by what its trace comes to.
     pub fn judge(
         &mut self,
+        rt: &impl Abort,
         kernel: &Kernel,
         reckoning: &Reckoning,
         limit: u32,
@@ -128,6 +124,7 @@ impl Course {
         held(trace.events().len() == self.length, Finding::Trace)?;
         let before = Before::default();
         judge(
+            rt,
             kernel,
             reckoning,
             trace,
@@ -224,16 +221,23 @@ impl Course {
     }
 
     /// Notes a store that the server accepted.
-    fn accepts(&mut self, reply: &Reply, store: &StoredFile) -> Result<(), Finding> {
-        let request = reply.number;
-        let store = *store;
-        self.accepted.push(Accepted { request, store })?;
+    fn accepts(
+        &mut self,
+        rt: &impl Abort,
+        reply: &Reply,
+        store: &StoredFile,
+    ) -> Result<(), Finding> {
+        let (request, store) = (reply.number, *store);
+        self.accepted
+            .push(Accepted { request, store })
+            .expect(rt, "memory");
         held(reply.answer == Answer::Yes, Finding::Files)
     }
 
     /// Notes which files an event changed: an edit its file, an accepted store the file of its request.
     fn note_changes(
         &mut self,
+        rt: &impl Abort,
         event: &WorldEvent,
         answer: Option<&WorldAnswer>,
         changes: &[StoredFile],
@@ -244,7 +248,7 @@ impl Course {
             }
             (WorldEvent::Edit(..), Some(_), _) => Err(Finding::Files),
             (WorldEvent::Serve, Some(WorldAnswer::Served(reply)), [change]) => {
-                self.accepts(reply, change)
+                self.accepts(rt, reply, change)
             }
             (_, _, []) => Ok(()),
             _ => Err(Finding::Files),
@@ -293,119 +297,219 @@ fn copy_of(plain: &Plain, name: Name) -> Option<Content> {
 }
 
 /// The names of the files.
-fn names(alloc: Global) -> Result<Vec<Name>, AllocError> {
+fn names(rt: &impl Abort, alloc: Global) -> Vec<Name> {
     let mut all = Vec::new(alloc);
-    for bytes in NAMES {
-        if let Some(name) = Name::new(bytes) {
-            all.push(name)?;
-        }
+    for bytes in &NAMES {
+        let name = Name::new(*bytes).expect(rt, "a name");
+        all.push(name).expect(rt, "memory");
     }
-    Ok(all)
+    all
 }
 
 /// The copies of the names, in their order.
-fn copies_of(setting: &Setting, plain: &Plain) -> Result<Vec<Option<Content>>, AllocError> {
+fn copies_of(rt: &impl Abort, setting: &Setting, plain: &Plain) -> Vec<Option<Content>> {
     let mut all = Vec::new(setting.alloc);
     for name in setting.names {
-        all.push(copy_of(plain, *name))?;
+        all.push(copy_of(plain, *name)).expect(rt, "memory");
     }
-    Ok(all)
+    all
 }
 
 /// The server's files of the names, in their order.
-fn files_of(setting: &Setting, server: &Server) -> Result<Vec<Option<Content>>, AllocError> {
+fn files_of(rt: &impl Abort, setting: &Setting, server: &Server) -> Vec<Option<Content>> {
     let mut all = Vec::new(setting.alloc);
     for name in setting.names {
-        all.push(server.file(name).copied())?;
+        all.push(server.file(name).copied()).expect(rt, "memory");
     }
-    Ok(all)
+    all
 }
 
-/// What has changed between two looks at the names.
-fn changes(
+/// What was seen at a place.
+fn seen_at(looks: &[Option<Content>], place: usize) -> Option<Content> {
+    match looks.get(place) {
+        Some(seen) => *seen,
+        None => None,
+    }
+}
+
+/// Notes what has changed between two looks at a name.
+fn note_change(
+    rt: &impl Abort,
+    name: Name,
+    before: Option<Content>,
+    after: Option<Content>,
+    all: &mut Vec<StoredFile>,
+) {
+    if let Some(content) = after
+        && after != before
+    {
+        all.push(StoredFile { name, content }).expect(rt, "memory");
+    }
+}
+
+/// Notes what has changed between two looks at the names.
+fn note_all(
+    rt: &impl Abort,
     setting: &Setting,
     before: &[Option<Content>],
     after: &[Option<Content>],
-) -> Result<Vec<StoredFile>, AllocError> {
-    let mut all = Vec::new(setting.alloc);
-    for (name, (before, after)) in setting.names.iter().zip(before.iter().zip(after.iter())) {
-        if let Some(content) = *after
-            && *after != *before
-        {
-            let name = *name;
-            all.push(StoredFile { name, content })?;
-        }
+    all: &mut Vec<StoredFile>,
+) {
+    for (place, name) in setting.names.iter().enumerate() {
+        note_change(
+            rt,
+            *name,
+            seen_at(before, place),
+            seen_at(after, place),
+            all,
+        );
     }
-    Ok(all)
 }
 
-/// What a step with `Good` left of a copy, where it changed one: it is a store.
+/// Takes a step of the record. What one with `Good` left of a copy, where it changed one, is a store.
 fn stored(
+    rt: &impl Abort,
     setting: &Setting,
     plain: &mut Plain,
     entry: &Entry,
     stores: &mut Vec<StoredFile>,
-) -> Result<(), Finding> {
-    let before = copies_of(setting, plain)?;
-    plain.step(entry.pid, &entry.input)?;
+) {
+    let before = copies_of(rt, setting, plain);
+    let said = plain.step(entry.pid, &entry.input);
+    said.expect(rt, "a step of the record");
     if entry.input == Input::Good {
-        for change in changes(setting, &before, &copies_of(setting, plain)?)? {
-            stores.push(change)?;
-        }
+        let after = copies_of(rt, setting, plain);
+        note_all(rt, setting, &before, &after, stores);
     }
-    Ok(())
+}
+
+/// The stores of these steps of the record, in their order.
+fn stores_in(rt: &impl Abort, setting: &Setting, entries: &[Entry]) -> Vec<StoredFile> {
+    let boot = setting.declarations.boot();
+    let mut plain = Plain::boot(setting.alloc, boot).expect(rt, "memory");
+    let mut stores = Vec::new(setting.alloc);
+    for entry in entries {
+        stored(rt, setting, &mut plain, entry, &mut stores);
+    }
+    stores
 }
 
 /// The stores of the struck record, in its order.
-fn stores_of(setting: &Setting, kernel: &Kernel) -> Result<Vec<StoredFile>, Finding> {
+fn stores_of(
+    rt: &impl Abort,
+    setting: &Setting,
+    kernel: &Kernel,
+) -> Result<Vec<StoredFile>, Finding> {
     let boot = setting.declarations.boot();
-    let mut plain = Plain::boot(setting.alloc, boot)?;
-    let mut stores = Vec::new(setting.alloc);
-    for entry in &strike(setting.alloc, boot, kernel.trace())? {
-        stored(setting, &mut plain, entry, &mut stores)?;
-    }
-    Ok(stores)
+    let entries = strike(setting.alloc, boot, kernel.trace())?;
+    Ok(stores_in(rt, setting, &entries))
 }
 
 /// Whether each accepted store whose reply was given stands among these.
 fn judge_stores(course: &Course, stores: &[StoredFile]) -> Result<(), Finding> {
-    for accepted in &course.accepted {
-        let is_given = accepted.request <= course.replied;
-        held(
-            !is_given || stores.contains(&accepted.store),
-            Finding::Store,
-        )?;
-    }
-    Ok(())
+    let are_there = course.accepted.iter().all(|accepted| {
+        accepted.request > course.replied || stores.contains(&accepted.store)
+    });
+    held(are_there, Finding::Store)
 }
 
-/// Lets an event happen, and judges its answer and what it leaves.
-fn happen(
+/// The same of the struck record.
+fn judge_given(
+    rt: &impl Abort,
+    setting: &Setting,
+    world: &World,
+    course: &Course,
+) -> Result<(), Finding> {
+    let stores = stores_of(rt, setting, world.desk().kernel())?;
+    judge_stores(course, &stores)
+}
+
+/// Judges what an event was answered, and which files it changed.
+fn judge_answer(
+    rt: &impl Abort,
+    world: &World,
+    course: &mut Course,
+    event: &WorldEvent,
+    told: Result<WorldAnswer, Cause>,
+    changes: &[StoredFile],
+) -> Result<(), Finding> {
+    match told {
+        Ok(answer) => {
+            let last = world.desk().kernel().trace().events().last();
+            course.note(event, &answer, last)?;
+            course.note_changes(rt, event, Some(&answer), changes)
+        }
+        Err(cause) => {
+            held(course.refuses(event, &cause), Finding::Answer)?;
+            course.note_changes(rt, event, None, changes)
+        }
+    }
+}
+
+/// Lets an event happen, and judges its answer and which files it changed.
+fn answers(
+    rt: &impl Abort,
     setting: &Setting,
     world: &mut World,
     course: &mut Course,
     event: &WorldEvent,
-) -> Result<Reckoning, Finding> {
-    let before = files_of(setting, world.server())?;
+) -> Result<(), Finding> {
+    let before = files_of(rt, setting, world.server());
     let told = world.event(event);
-    let changes = changes(setting, &before, &files_of(setting, world.server())?)?;
-    let kernel = world.desk().kernel();
-    let trace = kernel.trace();
-    match &told {
-        Ok(answer) => course.note(event, answer, trace.events().last())?,
-        Err(cause) => held(course.refuses(event, cause), Finding::Answer)?,
+    let after = files_of(rt, setting, world.server());
+    let mut changes = Vec::new(setting.alloc);
+    note_all(rt, setting, &before, &after, &mut changes);
+    judge_answer(rt, world, course, event, told, &changes)
+}
+
+/// Lets an event happen, and judges its answer and what is stored.
+fn happen(
+    rt: &impl Abort,
+    setting: &Setting,
+    world: &mut World,
+    course: &mut Course,
+    event: &WorldEvent,
+) -> Result<(), Finding> {
+    answers(rt, setting, world, course, event)?;
+    match event {
+        WorldEvent::Reply => judge_given(rt, setting, world, course),
+        _ => Ok(()),
     }
-    course.note_changes(event, told.as_ref().ok(), &changes)?;
+}
+
+/// What the trace of a world comes to.
+fn reckoned(rt: &impl Abort, setting: &Setting, world: &World) -> Result<Reckoning, Finding> {
+    let boot = setting.declarations.boot();
+    Reckoning::of(rt, setting.alloc, boot, world.desk().kernel().trace())
+}
+
+/// Judges a world by what its trace comes to.
+fn judge_by(
+    rt: &impl Abort,
+    setting: &Setting,
+    world: &World,
+    course: &mut Course,
+    reckoning: &Reckoning,
+) -> Result<(), Finding> {
     let pending = world.desk().pending() as u64;
     held(pending == course.pending(), Finding::Pending)?;
-    let declarations = setting.declarations;
-    let reckoning = Reckoning::of(setting.alloc, declarations.boot(), trace)?;
-    course.judge(kernel, &reckoning, declarations.limit())?;
-    if let WorldEvent::Reply = *event {
-        judge_stores(course, &stores_of(setting, kernel)?)?;
-    }
-    Ok(reckoning)
+    let limit = setting.declarations.limit();
+    course.judge(rt, world.desk().kernel(), reckoning, limit)
 }
+
+/// The same, with what its trace comes to reckoned anew.
+fn judge_world(
+    rt: &impl Abort,
+    setting: &Setting,
+    world: &World,
+    course: &mut Course,
+) -> Result<(), Finding> {
+    let reckoning = reckoned(rt, setting, world)?;
+    judge_by(rt, setting, world, course, &reckoning)
+}
+
+/// The bytes that an edit may write.
+const BYTES: [&[u8]; 3] = [b"", b"foreign", b"w"];
 
 /// An edit of any file, mostly of the version that it has.
 fn edit(rng: &mut Pcg32, server: &Server, names: &[Name]) -> Option<WorldEvent> {
@@ -415,66 +519,139 @@ fn edit(rng: &mut Pcg32, server: &Server, names: &[Name]) -> Option<WorldEvent> 
         None => 0,
     };
     let ahead = u64::from(rng.next_u32() % 8 == 0);
-    let bytes: [&[u8]; 3] = [b"", b"foreign", b"w"];
-    let bytes = Text::new(any_of(rng, &bytes)?)?;
+    let bytes = Text::new(any_of(rng, &BYTES)?)?;
     Some(WorldEvent::Edit(name, version.saturating_add(ahead), bytes))
 }
 
 /// The next event of a world.
-fn event(
+fn any_event(
+    rt: &impl Abort,
     setting: &Setting,
     rng: &mut Pcg32,
     pace: Pace,
     server: &Server,
     reckoning: &Reckoning,
-) -> Result<Option<WorldEvent>, AllocError> {
+) -> Option<WorldEvent> {
     let replies = pace.serves.saturating_add(pace.replies);
     let edits = replies.saturating_add(pace.edits);
     let roll = rng.next_u32() % 128;
     if roll < pace.serves {
-        return Ok(Some(WorldEvent::Serve));
+        return Some(WorldEvent::Serve);
     }
     if roll < replies {
-        return Ok(Some(WorldEvent::Reply));
+        return Some(WorldEvent::Reply);
     }
     if roll < edits {
-        return Ok(edit(rng, server, setting.names));
+        return edit(rng, server, setting.names);
     }
-    let present = reckoning.plain.entities()?;
-    Ok(process(rng, reckoning, &present).map(WorldEvent::Turn))
+    let pid = any_process(rt, rng, reckoning)?;
+    Some(WorldEvent::Turn(pid))
 }
 
-/// Serves every request and gives every reply; then the stores of the record are just the accepted ones.
-fn settle(setting: &Setting, world: &mut World, course: &mut Course) -> Result<(), Finding> {
-    for _ in course.served..course.made {
-        happen(setting, world, course, &WorldEvent::Serve)?;
-    }
-    for _ in course.replied..course.made {
-        happen(setting, world, course, &WorldEvent::Reply)?;
-    }
-    held(world.desk().pending() == 0, Finding::Pending)?;
-    let stores = stores_of(setting, world.desk().kernel())?;
-    held(stores.len() == course.accepted.len(), Finding::Store)?;
-    judge_stores(course, &stores)
-}
-
-/// Lets so many random events happen, and settles what is left; says how many stores were accepted.
-fn play(
+/// One random event more of a world, which is judged before.
+fn one_more(
+    rt: &impl Abort,
     setting: &Setting,
     rng: &mut Pcg32,
     pace: Pace,
     world: &mut World,
+    course: &mut Course,
+    reckoning: &Reckoning,
+) -> Result<(), Finding> {
+    judge_by(rt, setting, world, course, reckoning)?;
+    match any_event(rt, setting, rng, pace, world.server(), reckoning) {
+        Some(event) => happen(rt, setting, world, course, &event),
+        None => Ok(()),
+    }
+}
+
+/// The same, with what its trace comes to reckoned anew.
+fn goes_on(
+    rt: &impl Abort,
+    setting: &Setting,
+    rng: &mut Pcg32,
+    pace: Pace,
+    world: &mut World,
+    course: &mut Course,
+) -> Result<(), Finding> {
+    let reckoning = reckoned(rt, setting, world)?;
+    one_more(rt, setting, rng, pace, world, course, &reckoning)
+}
+
+/// Lets an event happen, and judges the kernel behind it.
+fn settle_one(
+    rt: &impl Abort,
+    setting: &Setting,
+    world: &mut World,
+    course: &mut Course,
+    event: &WorldEvent,
+) -> Result<(), Finding> {
+    happen(rt, setting, world, course, event)?;
+    judge_world(rt, setting, world, course)
+}
+
+/// The same so many times.
+fn settle_all(
+    rt: &impl Abort,
+    setting: &Setting,
+    world: &mut World,
+    course: &mut Course,
+    event: &WorldEvent,
+    count: u64,
+) -> Result<(), Finding> {
+    for _ in 0..count {
+        settle_one(rt, setting, world, course, event)?;
+    }
+    Ok(())
+}
+
+/// Whether the stores of the record are just the accepted ones, with no request left.
+fn judge_settled(
+    rt: &impl Abort,
+    setting: &Setting,
+    world: &World,
+    course: &Course,
+) -> Result<(), Finding> {
+    held(world.desk().pending() == 0, Finding::Pending)?;
+    let stores = stores_of(rt, setting, world.desk().kernel())?;
+    judge_all(course, &stores)
+}
+
+/// Serves every request and gives every reply; then the stores of the record are just the accepted ones.
+fn settle(
+    rt: &impl Abort,
+    setting: &Setting,
+    world: &mut World,
+    course: &mut Course,
+) -> Result<(), Finding> {
+    let unserved = course.made.saturating_sub(course.served);
+    settle_all(rt, setting, world, course, &WorldEvent::Serve, unserved)?;
+    let pending = course.pending();
+    settle_all(rt, setting, world, course, &WorldEvent::Reply, pending)?;
+    judge_settled(rt, setting, world, course)
+}
+
+/// Whether these are just the accepted stores.
+fn judge_all(course: &Course, stores: &[StoredFile]) -> Result<(), Finding> {
+    held(stores.len() == course.accepted.len(), Finding::Store)?;
+    judge_stores(course, stores)
+}
+
+/// Lets so many random events happen, and settles what is left; says how many stores were accepted.
+fn play(
+    rt: &impl Abort,
+    setting: &Setting,
+    rng: &mut Pcg32,
+    pace: Pace,
+    world: &mut World,
+    course: &mut Course,
     events: u32,
 ) -> Result<usize, Finding> {
-    let mut course = Course::new(setting.alloc);
-    let boot = setting.declarations.boot();
-    let mut reckoning = Reckoning::of(setting.alloc, boot, world.desk().kernel().trace())?;
     for _ in 0..events {
-        if let Some(event) = event(setting, rng, pace, world.server(), &reckoning)? {
-            reckoning = happen(setting, world, &mut course, &event)?;
-        }
+        goes_on(rt, setting, rng, pace, world, course)?;
     }
-    settle(setting, world, &mut course)?;
+    judge_world(rt, setting, world, course)?;
+    settle(rt, setting, world, course)?;
     Ok(course.accepted.len())
 }
 
@@ -498,23 +675,46 @@ fn declared(alloc: Global, declarations: &Declarations) -> Result<World, AllocEr
     Ok(World::new(alloc, Desk::new(alloc, kernel), server))
 }
 
+/// The world of what is declared, in which 20 events or more happen.
+fn world_of(
+    rt: &impl Abort,
+    rng: &mut Pcg32,
+    pace: Pace,
+    setting: &Setting,
+) -> Result<usize, Finding> {
+    let events = 20 + rng.next_u32() % 60;
+    let mut world = declared(setting.alloc, setting.declarations).expect(rt, "memory");
+    let mut course = Course::new(setting.alloc);
+    let told = play(rt, setting, rng, pace, &mut world, &mut course, events);
+    world.abandon();
+    told
+}
+
 /// The world of a number.
-fn world(alloc: Global, number: u64, kind: ScenarioKind, pace: Pace) -> Result<usize, Finding> {
+fn world(
+    rt: &impl Abort,
+    alloc: Global,
+    number: u64,
+    kind: ScenarioKind,
+    pace: Pace,
+) -> Result<usize, Finding> {
     let mut rng = Pcg32::new(number, 3);
-    let mut text = scenario(alloc, &mut rng, kind)?;
-    remotes(&mut rng, &mut text)?;
-    let scenario = Scenario::parse(alloc, &text)?;
-    let names = names(alloc)?;
+    let scenario = any_world(rt, alloc, &mut rng, kind);
+    let names = names(rt, alloc);
     let setting = Setting {
         alloc,
         declarations: &scenario.declarations,
         names: &names,
     };
-    let events = 20 + rng.next_u32() % 60;
-    let mut world = declared(alloc, &scenario.declarations)?;
-    let told = play(&setting, &mut rng, pace, &mut world, events);
-    world.abandon();
-    told
+    world_of(rt, &mut rng, pace, &setting)
+}
+
+/// The same of a world in which nothing is found.
+fn passed(rt: &impl Abort, alloc: Global, number: u64, kind: ScenarioKind, pace: Pace) -> usize {
+    match world(rt, alloc, number, kind, pace) {
+        Ok(accepted) => accepted,
+        Err(finding) => panic!(rt; "world {number}: {finding:?}"),
+    }
 }
 
 /// So many worlds from a number on, in each of which nothing is found; some stores are accepted in them.
@@ -528,10 +728,7 @@ fn worlds<R: Abort + Env + Alloc>(
     let mut accepted = 0usize;
     let first = runs_after(rt).saturating_add(from);
     for number in first..first.saturating_add(at_most(rt, WORLDS)) {
-        match world(alloc, number, kind, pace) {
-            Ok(count) => accepted = accepted.saturating_add(count),
-            Err(finding) => panic!(rt; "world {number}, {kind:?}, {pace:?}: {finding:?}"),
-        }
+        accepted = accepted.saturating_add(passed(rt, alloc, number, kind, pace));
     }
     assert!(rt; accepted > 0, "no store was accepted");
 }

@@ -1,6 +1,6 @@
 -- Numbers come and go: what is told stays.
 use Rattle.std.proofs.Common.{◌≡◌, ◌<◌, ℕ, true, false, List, [], ◌∷◌, ◌++◌, Option, Some, None, Ok, cond, refl, sym, ◌∙◌, ap, subst, inl, inr}
-use Rattle.std.specs.Prelude.{◌==◌, ◌⊎◌, ◌&&◌, ◌||◌, Bool, not, is_none, OnErr, Result, Err}
+use Rattle.std.specs.Prelude.{◌==◌, ◌⊎◌, ◌&&◌, ◌||◌, Bool, not, is_none, IfErr, OnErr, Result, Err}
 use Rattle.std.specs.Ordering.{nat_cmp, eq_by_cmp}
 use Rattle.std.specs.Cmp.{nat_cmp_total, unsigned_tied}
 use Rattle.std.specs.FinMap.{entries, nat_cmp-IsAntisymmetric}
@@ -12,7 +12,7 @@ use Rattle.sk_record.specs.Step.{Effect}
 use Rattle.sk_record.specs.Notes.{Note, has, without, noted, cut, unwound, committed}
 use Rattle.sk_record.specs.Merged.{Merges}
 use Rattle.sk_guesses.specs.Kept.{none_drawn}
-use Rattle.sk_deeds.specs.Deed.{Deed, effect_of}
+use Rattle.sk_deeds.specs.Deed.{Deed}
 use Rattle.sk_deeds.proofs.Runs.{performs}
 use Rattle.sk_renamed.specs.Renamed.{at_key, AreWrites}
 use Rattle.sk_slots.specs.Slot.{SlotView}
@@ -23,7 +23,9 @@ use Rattle.sk_speculator.specs.Parts.{Parts, IsSame}
 use Rattle.sk_speculator.specs.Calls.{Takes, Commits, FailsIn, Forgets, Refuses}
 use Rattle.sk_bytes.specs.Told.{shown, slot_shown, slots_told, told_of, strings_of, AllRest, IsTwoWay, ByteView, Fits, IsTold, UsedBut}
 use Rattle.sk_bytes.specs.Numbers.{LetsGo, Gains, AreNames, names}
-use Rattle.sk_bytes.specs.Calls.{has_long_key, refusal_of, RefusesGuess, Unchanged}
+use Rattle.sk_bytes.specs.Calls.{has_long_key, refusal_of, RefusesGuess, RefusesNext, Unchanged}
+use Rattle.sk_bytes.specs.declared.refusal.Refusal.{Refusal}
+use Rattle.sk_bytes.specs.declared.refusal.Refusal.TheVariants.{LongKey, LongValue, TooMany, NoNumber, Memory}
 use Rattle.sk_speculator.specs.declared.step.Step.{Step}
 use Rattle.sk_speculator.specs.declared.refusal.Refusal.{Refusal as Inner}
 use Rattle.sk_speculator.specs.declared.refusal.Refusal.TheVariants as inner
@@ -280,4 +282,28 @@ told_still es m loose fits needed none = record {
 pub refused : {V O : Type 0} (m : Parts (List ℕ) V O) (step : Step (Vec ℕ) V O) (why : Inner) → has_long_key step ≡ false → Refuses m why → RefusesGuess m step (refusal_of why)
 refused m step inner.TooMany short is = (short, is)
 refused m step inner.NoNumber short is = (short, is)
-refused m step inner.Memory short is = short
+refused m step inner.Memory short is = (short, is)
+
+pub next_refused : {K V O : Type 0} (m : Parts K V O) (why : Inner) → (why ≡ inner.Memory → ⊥) → Refuses m why → RefusesNext m (refusal_of why)
+next_refused m inner.TooMany other is = is
+next_refused m inner.NoNumber other is = is
+next_refused m inner.Memory other is = absurd (other refl)
+
+module _ {V O : Type 0} (es : Numbered) (m : Parts ℕ V O) where
+  next_told : (why : Refusal) → RefusesNext m why → RefusesNext (told_of es m) why
+  next_told TooMany is = is
+  next_told NoNumber is = is
+  next_told LongKey is = absurd is
+  next_told LongValue is = absurd is
+  next_told Memory is = absurd is
+
+  pub answer_told : (r : Result ℕ Refusal) → IfErr r (RefusesNext m) → IfErr r (RefusesNext (told_of es m))
+  answer_told (Ok id) is = tt
+  answer_told (Err why) is = next_told why is
+
+  pub refused_next : (step : Step (Vec ℕ) V O) (why : Refusal) → has_long_key step ≡ false → RefusesNext m why → RefusesGuess (told_of es m) step why
+  refused_next step TooMany short is = (short, is)
+  refused_next step NoNumber short is = (short, is)
+  refused_next step LongKey short is = absurd is
+  refused_next step LongValue short is = absurd is
+  refused_next step Memory short is = absurd is

@@ -5,3 +5,4 @@ pub mod Used
 pub mod Moves
 pub mod Steps
 pub mod Undone
+pub mod Counted

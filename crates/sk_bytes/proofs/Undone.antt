@@ -76,7 +76,7 @@ module _ (es : Numbered) where
           | Some t ↦ λ is. λ i. sym ((keeps_apart es two).same s t k n here (two.back t n is)) i || numbered_in s k here ns i
         ] refl
 
-    strings_in : (s : List ℕ) (ns : List ℕ) (o : Option ℕ) → number_of es s ≡ o → is_in bytes_cmp (strings_of es ns) s ≡ at_key false (is_in nat_cmp ns) o
+    pub strings_in : (s : List ℕ) (ns : List ℕ) (o : Option ℕ) → number_of es s ≡ o → is_in bytes_cmp (strings_of es ns) s ≡ at_key false (is_in nat_cmp ns) o
     strings_in s ns None none = unnumbered_in s none ns
     strings_in s ns (Some k) here = numbered_in s k here ns
 

@@ -1,5 +1,5 @@
 -- What the calls over byte strings promise: what those of the kernel over any keys promise, at the order of byte strings.
-use Rattle.std.specs.Prelude.{◌≡◌, ◌||◌, ℕ, Bool, true, false, nat_lt, List, [], length, Result, Ok, Err}
+use Rattle.std.specs.Prelude.{◌≡◌, ◌||◌, ℕ, Bool, true, false, nat_lt, List, [], ◌∷◌, length, None, Result, Ok, Err}
 use Rattle.std.specs.List.{list_any}
 use Rattle.std.specs.Global.{Vec}
 use Rattle.sk_record.specs.Effects.{is_in}
@@ -7,6 +7,7 @@ use Rattle.sk_record.specs.Notes.{has}
 use Rattle.sk_record.specs.UndoState.{tags_at}
 use Rattle.sk_guesses.specs.Kept.{struck_with}
 use Rattle.sk_guesses.specs.Token.{Token}
+use Rattle.sk_slots.specs.Slots.{look_at, log_at}
 use Rattle.sk_index.specs.Index.{bytes_cmp}
 use Rattle.sk_speculator.specs.Parts.{Parts, undo_state_of, IsSame}
 use Rattle.sk_speculator.specs.Calls.{Commits, FailsIn, Forgets, IsStranger, Refuses}
@@ -22,6 +23,19 @@ use Rattle.sk_bytes.specs.declared.refusal.Refusal.{Refusal}
 use Rattle.sk_bytes.specs.declared.refusal.Refusal.TheVariants.{LongKey, LongValue, TooMany, NoNumber, Memory}
 use Rattle.sk_bytes.specs.Told.{ByteView}
 
+-- each key once
+abbrev pub AreOnce : List (List ℕ) → Type 0
+AreOnce [] = Unit {0}
+AreOnce (k ∷ ks) = (is_in bytes_cmp ks k ≡ false) × AreOnce ks
+
+-- so many keys are there, rest on a guess, or were taken back by the last failure: just these, each once
+pub record Counts {V O : Type 0} (b : ByteView V O) (many : ℕ) : Type 0 where
+  pub keys : List (List ℕ)
+  pub count : many ≡ length keys
+  pub once : AreOnce keys
+  pub all : (k : List ℕ) → is_in bytes_cmp keys k ≡ false → (look_at bytes_cmp b.parts.slots k ≡ None) × (log_at bytes_cmp b.parts.slots k ≡ []) × (is_in bytes_cmp b.undone k ≡ false)
+  pub some : (k : List ℕ) → is_in bytes_cmp keys k ≡ true → look_at bytes_cmp b.parts.slots k ≡ None → log_at bytes_cmp b.parts.slots k ≡ [] → is_in bytes_cmp b.undone k ≡ true
+
 -- a key that is longer than may be
 abbrev pub is_long : Vec ℕ → Bool
 is_long key = nat_lt KEY_LIMIT (length key.items)
@@ -36,6 +50,12 @@ refusal_of inner.TooMany = TooMany
 refusal_of inner.NoNumber = NoNumber
 refusal_of inner.Memory = Memory
 
+-- why no guess may be drawn, whatever its step is: as many are undecided as may be; or the last number is drawn
+abbrev pub RefusesNext : {K V O : Type 0} → Parts K V O → Refusal → Type 0
+RefusesNext m TooMany = Refuses m inner.TooMany
+RefusesNext m NoNumber = Refuses m inner.NoNumber
+RefusesNext m other = ⊥
+
 module _ {V O : Type 0} where
   -- why a step is not taken: a key is too long; or there is no memory
   abbrev pub RefusesStep : Step (Vec ℕ) V O → Refusal → Type 0
@@ -49,7 +69,7 @@ module _ {V O : Type 0} where
   RefusesGuess m step LongValue = ⊥
   RefusesGuess m step TooMany = (has_long_key step ≡ false) × Refuses m inner.TooMany
   RefusesGuess m step NoNumber = (has_long_key step ≡ false) × Refuses m inner.NoNumber
-  RefusesGuess m step Memory = has_long_key step ≡ false
+  RefusesGuess m step Memory = (has_long_key step ≡ false) × Refuses m inner.Memory
 
   -- after a refusal, and after a token that comes back, nothing has changed but that what the last failure took back is told no more
   pub record Unchanged (old new : ByteView V O) : Type 0 where

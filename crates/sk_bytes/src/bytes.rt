@@ -8,11 +8,12 @@ ghost use Rattle.sk_record.specs.Machine.{released};
 ghost use Rattle.sk_record.specs.UndoState.{numbers, tags_at};
 ghost use Rattle.sk_outputs.specs.Said.{said_at, waiting_of};
 ghost use Rattle.sk_slots.specs.Slots.{look_at, log_at};
-ghost use Rattle.sk_speculator.specs.Calls.{next_of, Takes};
+ghost use Rattle.sk_speculator.specs.Calls.{next_of, Refuses, Takes};
 ghost use Rattle.sk_speculator.specs.Emptied.{IsEmptied};
 ghost use Rattle.sk_speculator.specs.Parts.{undo_state_of};
+ghost use Rattle.sk_speculator.specs.declared.refusal.Refusal.TheVariants as inner;
 ghost use Rattle.sk_index.specs.Index.{bytes_cmp};
-ghost use Rattle.sk_bytes.specs.Calls.{CommitPost, FailPost, has_long_key, is_long, RefusesGuess, RefusesStep, Unchanged};
+ghost use Rattle.sk_bytes.specs.Calls.{CommitPost, Counts, FailPost, has_long_key, is_long, RefusesGuess, RefusesNext, RefusesStep, Unchanged};
 ghost use Rattle.sk_bytes.specs.Steps.{byte_deed, IsAsItWas};
 ghost use Rattle.sk_bytes.specs.declared.refusal.Refusal.TheVariants.{LongKey};
 ghost use Rattle.std.specs.Vec.{vec_capacity};
@@ -132,7 +133,9 @@ impl<V, O> Bytes<V, O> {
     }
 
     /// How many keys are there, rest on a guess, or were taken back by the last failure.
-    pub fn len(&self) -> usize {
+    pub fn len(&self) -> usize
+        ensures { Counts self.now result }
+    {
         self.keys.index.len()
     }
 
@@ -157,6 +160,15 @@ impl<V, O> Bytes<V, O> {
         self.kernel.limit()
     }
 
+    /// The number of the next guess; or why none may be drawn, whatever its step is.
+    pub fn next_guess(&self) -> Result<GuessId, Refusal>
+        ensures ok { IfOk result (λ id. id ≡ next_of self.now.parts.guesses) }
+        ensures may { OnOk result (Refuses self.now.parts inner.Memory) }
+        ensures why { IfErr result (RefusesNext self.now.parts) }
+    {
+        next_number(&self.kernel)
+    }
+
     /// The number of the oldest undecided guess, or of the next one where none is undecided.
     pub fn settled(&self) -> u64
         ensures { result
@@ -177,6 +189,16 @@ impl<V, O> Bytes<V, O> {
         ensures { result ≡ waiting_of (said_at self.now.parts.said channel) }
     {
         self.kernel.waiting(channel)
+    }
+
+    /// A channel that has an output to take, found without going through the others; `None` where none has.
+    pub fn next_channel(&self) -> Option<u16>
+        ensures some { IfSome result
+            (λ channel. released (said_at self.now.parts.said channel) ≡ [] → ⊥) }
+        ensures none { result ≡ None
+            → (channel : ℕ) → released (said_at self.now.parts.said channel) ≡ [] }
+    {
+        self.kernel.next_channel()
     }
 }
 
@@ -222,6 +244,7 @@ impl<V: Drop, O: Drop> Bytes<V, O> {
     {
         self.keys.let_go(&self.kernel);
         checked(step)?;
+        next_number(&self.kernel)?;
         if self.keys.hand_over(step).is_err() {
             self.keys.let_go(&self.kernel);
             return Err(Refusal::Memory);
@@ -287,6 +310,18 @@ impl<V: Drop, O: Drop> Bytes<V, O> {
             }
             Failed::Gone => Ok(Unmade::Gone),
         }
+    }
+}
+
+/// The number of the next guess; or why none may be drawn.
+fn next_number<V, O>(kernel: &Speculator<Number, V, O>) -> Result<GuessId, Refusal>
+    ensures ok { IfOk result (λ id. id ≡ next_of kernel.now.guesses) }
+    ensures may { OnOk result (Refuses kernel.now inner.Memory) }
+    ensures why { IfErr result (RefusesNext kernel.now) }
+{
+    match kernel.next_guess() {
+        Ok(id) => Ok(id),
+        Err(refusal) => Err(named(refusal)),
     }
 }
 

@@ -2,3 +2,5 @@ pub mod Numbers
 pub mod Deleted
 pub mod Asked
 pub mod Shown
+pub mod Pairs
+pub mod Queued

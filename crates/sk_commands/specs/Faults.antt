@@ -4,7 +4,7 @@ use Rattle.sk_commands.specs.Names.{text_of}
 use Rattle.sk_commands.specs.declared.reply.Word.{Word}
 use Rattle.sk_commands.specs.declared.reply.Word.TheVariants as word
 use Rattle.sk_commands.specs.declared.fault.Fault.{Fault}
-use Rattle.sk_commands.specs.declared.fault.Fault.TheVariants.{Unknown, WrongNumber, Syntax, NotInteger, Overflow, TooLong}
+use Rattle.sk_commands.specs.declared.fault.Fault.TheVariants.{Unknown, WrongNumber, Syntax, NotInteger, Overflow, TooLong, Pattern, Nested, ExecAlone, DiscardAlone, Aborted}
 
 -- the words of each fault
 abbrev pub words_of : Fault → List ℕ
@@ -14,8 +14,14 @@ words_of Syntax = codes "ERR syntax error"
 words_of NotInteger = codes "ERR value is not an integer or out of range"
 words_of Overflow = codes "ERR increment or decrement would overflow"
 words_of TooLong = codes "ERR string exceeds maximum allowed size"
+words_of Pattern = codes "ERR only patterns of a prefix and '*' are known"
+words_of Nested = codes "ERR MULTI calls can not be nested"
+words_of ExecAlone = codes "ERR EXEC without MULTI"
+words_of DiscardAlone = codes "ERR DISCARD without MULTI"
+words_of Aborted = codes "EXECABORT Transaction discarded because of previous errors."
 
 -- a reply of one word
 abbrev pub said_by : Word → List ℕ
 said_by word.Ok = codes "OK"
 said_by word.Pong = codes "PONG"
+said_by word.Queued = codes "QUEUED"

@@ -3,4 +3,7 @@ pub mod Faults
 pub mod Numbers
 pub mod Parsing
 pub mod Table
+pub mod Work
 pub mod Law
+pub mod Session
+pub mod Texts

@@ -2,7 +2,7 @@
 use Rattle.std.specs.Prelude.{ℕ, Bool, List, Option, codes, find, map, bytes_eq}
 use Rattle.std.specs.Char.{to_ascii_lowercase}
 use Rattle.sk_commands.specs.declared.name.Name.{Name}
-use Rattle.sk_commands.specs.declared.name.Name.TheVariants.{Get, Set, Del, Exists, Incr, Decr, IncrBy, DecrBy, Append, StrLen, GetSet, MGet, Ping, Echo}
+use Rattle.sk_commands.specs.declared.name.Name.TheVariants.{Get, Set, Del, Exists, Incr, Decr, IncrBy, DecrBy, Append, StrLen, GetSet, MGet, MSet, DbSize, Keys, FlushAll, Multi, Exec, Discard, Ping, Echo}
 use Rattle.sk_commands.specs.declared.name.TheConstants.{NAMES}
 
 -- each in small letters
@@ -19,6 +19,13 @@ text_of Append = codes "append"
 text_of StrLen = codes "strlen"
 text_of GetSet = codes "getset"
 text_of MGet = codes "mget"
+text_of MSet = codes "mset"
+text_of DbSize = codes "dbsize"
+text_of Keys = codes "keys"
+text_of FlushAll = codes "flushall"
+text_of Multi = codes "multi"
+text_of Exec = codes "exec"
+text_of Discard = codes "discard"
 text_of Ping = codes "ping"
 text_of Echo = codes "echo"
 

@@ -1,23 +1,36 @@
--- The command that words say.
-use Rattle.std.specs.Prelude.{ℕ, true, false, ℤ, pos, negsuc, neg_ℤ, codes, List, [], ◌∷◌, Option, Some, None, Result, Ok, Err, if◌then◌else◌}
+-- What words say: a command, or a word about the queue of a channel.
+use Rattle.std.specs.Prelude.{ℕ, ◌-◌, ◌%◌, ◌==◌, Bool, true, false, not, ◌&&◌, ◌||◌, ℤ, pos, negsuc, neg_ℤ, codes, List, [], ◌∷◌, length, slice_index, take, Option, Some, None, Result, Ok, Err, if◌then◌else◌}
+use Rattle.std.specs.List.{list_any}
 use Rattle.sk_commands.specs.Names.{is_alike, name_of}
 use Rattle.sk_commands.specs.Numbers.{number_of, fitting}
 use Rattle.sk_commands.specs.declared.name.Name.{Name}
 use Rattle.sk_commands.specs.declared.name.Name.TheVariants as named
 use Rattle.sk_commands.specs.declared.fault.Fault.{Fault}
-use Rattle.sk_commands.specs.declared.fault.Fault.TheVariants.{Unknown, WrongNumber, Syntax, NotInteger, Overflow}
+use Rattle.sk_commands.specs.declared.fault.Fault.TheVariants.{Unknown, WrongNumber, Syntax, NotInteger, Overflow, Pattern}
 use Rattle.sk_commands.specs.declared.command.When.{When}
 use Rattle.sk_commands.specs.declared.command.When.TheVariants as when
 use Rattle.sk_commands.specs.declared.command.Options.{Options}
 use Rattle.sk_commands.specs.declared.command.Command.{Command}
-use Rattle.sk_commands.specs.declared.command.Command.TheVariants.{Get, Set, Del, Exists, Add, Append, StrLen, MGet, Ping, Echo, Wrong}
+use Rattle.sk_commands.specs.declared.command.Command.TheVariants.{Get, Set, Del, Exists, Add, Append, StrLen, MGet, MSet, DbSize, KeysWith, FlushAll, Ping, Echo, Wrong}
+use Rattle.sk_commands.specs.declared.command.Order.{Order}
+use Rattle.sk_commands.specs.declared.command.Order.TheVariants.{Run, Multi, Exec, Discard}
 
 -- the command that something good makes
 abbrev pub made : {A : Type 0} → (A → Command) → Result A Fault → Result Command Fault
 made make (Ok a) = Ok (make a)
 made make (Err fault) = Err fault
 
+-- and that it is to be run
+abbrev pub runs : Result Command Fault → Result Order Fault
+runs (Ok command) = Ok (Run command)
+runs (Err fault) = Err fault
+
 module _ (name : Name) where
+  -- no word
+  abbrev pub alone : Order → List (List ℕ) → Result Order Fault
+  alone order [] = Ok order
+  alone order (word ∷ words) = Err (WrongNumber name)
+
   -- the only word
   abbrev pub one_of : List (List ℕ) → Result (List ℕ) Fault
   one_of [] = Err (WrongNumber name)
@@ -87,34 +100,67 @@ set_for [] = Err (WrongNumber named.Set)
 set_for (key ∷ []) = Err (WrongNumber named.Set)
 set_for (key ∷ value ∷ options) = Ok (set_of key value (with_options options (Some plainly)))
 
+-- keys, each with what it gets behind it, and one at least
+abbrev pub pairs_for : List (List ℕ) → Bool → Result Command Fault
+pairs_for [] even = Err (WrongNumber named.MSet)
+pairs_for (word ∷ words) true = Ok (MSet (word ∷ words))
+pairs_for (word ∷ words) false = Err (WrongNumber named.MSet)
+
 -- no word, or one
 abbrev pub ping_for : List (List ℕ) → Result Command Fault
 ping_for [] = Ok Ping
 ping_for (text ∷ []) = Ok (Echo text)
 ping_for (text ∷ more ∷ words) = Err (WrongNumber named.Ping)
 
--- the command of a name with these words behind it
-abbrev pub command_for : Name → List (List ℕ) → Result Command Fault
-command_for named.Get words = made Get (one_of named.Get words)
-command_for named.Set words = set_for words
-command_for named.Del words = made Del (some_of named.Del words)
-command_for named.Exists words = made Exists (some_of named.Exists words)
-command_for named.Incr words = made (λ key. Add key (pos 1)) (one_of named.Incr words)
-command_for named.Decr words = made (λ key. Add key (negsuc 0)) (one_of named.Decr words)
-command_for named.IncrBy words = made (λ w. add_of w.0 (number_of w.1)) (two_of named.IncrBy words)
-command_for named.DecrBy words = made (λ w. subtract_of w.0 (number_of w.1)) (two_of named.DecrBy words)
-command_for named.Append words = made (λ w. Append w.0 w.1) (two_of named.Append words)
-command_for named.StrLen words = made StrLen (one_of named.StrLen words)
-command_for named.GetSet words = made (λ w. Set w.0 w.1 (record { when = when.Always; gives = true })) (two_of named.GetSet words)
-command_for named.MGet words = made MGet (some_of named.MGet words)
-command_for named.Ping words = ping_for words
-command_for named.Echo words = made Echo (one_of named.Echo words)
+-- a byte that means something in a pattern: * ? [ and \
+abbrev pub is_special : ℕ → Bool
+is_special b = b == 42 || b == 63 || b == 91 || b == 92
 
-abbrev pub command_named : Option Name → List (List ℕ) → Result Command Fault
-command_named None words = Err Unknown
-command_named (Some name) words = command_for name words
+-- what stands before a pattern's last byte
+abbrev pub front : List ℕ → List ℕ
+front pattern = take (length pattern - 1) pattern
 
--- the command that words say: the first names it
-abbrev pub command_of : List (List ℕ) → Result Command Fault
-command_of [] = Err Unknown
-command_of (word ∷ words) = command_named (name_of word) words
+-- whether a pattern is that of a prefix: `*` stands last in it, and nothing special before
+abbrev pub is_of_prefix : List ℕ → Bool
+is_of_prefix pattern = slice_index pattern (length pattern - 1) == 42 && not (list_any is_special (front pattern))
+
+-- the keys that match a pattern
+abbrev pub matching : List ℕ → Command
+matching pattern = if is_of_prefix pattern then KeysWith (front pattern) else Wrong Pattern
+
+-- sets a key, and replies what it had
+abbrev pub exchanged : List ℕ → List ℕ → Command
+exchanged key value = Set key value (record { when = when.Always; gives = true })
+
+-- what a name says with these words behind it
+abbrev pub order_for : Name → List (List ℕ) → Result Order Fault
+order_for named.Get words = runs (made Get (one_of named.Get words))
+order_for named.Set words = runs (set_for words)
+order_for named.Del words = runs (made Del (some_of named.Del words))
+order_for named.Exists words = runs (made Exists (some_of named.Exists words))
+order_for named.Incr words = runs (made (λ key. Add key (pos 1)) (one_of named.Incr words))
+order_for named.Decr words = runs (made (λ key. Add key (negsuc 0)) (one_of named.Decr words))
+order_for named.IncrBy words = runs (made (λ w. add_of w.0 (number_of w.1)) (two_of named.IncrBy words))
+order_for named.DecrBy words = runs (made (λ w. subtract_of w.0 (number_of w.1)) (two_of named.DecrBy words))
+order_for named.Append words = runs (made (λ w. Append w.0 w.1) (two_of named.Append words))
+order_for named.StrLen words = runs (made StrLen (one_of named.StrLen words))
+order_for named.GetSet words = runs (made (λ w. exchanged w.0 w.1) (two_of named.GetSet words))
+order_for named.MGet words = runs (made MGet (some_of named.MGet words))
+order_for named.MSet words = runs (pairs_for words (length words % 2 == 0))
+order_for named.DbSize words = alone named.DbSize (Run DbSize) words
+order_for named.Keys words = runs (made matching (one_of named.Keys words))
+order_for named.FlushAll words = alone named.FlushAll (Run FlushAll) words
+order_for named.Multi words = alone named.Multi Multi words
+order_for named.Exec words = alone named.Exec Exec words
+order_for named.Discard words = alone named.Discard Discard words
+order_for named.Ping words = runs (ping_for words)
+order_for named.Echo words = runs (made Echo (one_of named.Echo words))
+
+abbrev pub order_named : Option Name → List (List ℕ) → Result Order Fault
+order_named None words = Err Unknown
+order_named (Some name) words = order_for name words
+
+-- what words say: the first names it
+abbrev pub order_of : List (List ℕ) → Result Order Fault
+order_of [] = Err Unknown
+order_of (word ∷ words) = order_named (name_of word) words

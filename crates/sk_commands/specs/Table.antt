@@ -1,9 +1,9 @@
--- What each command looks at, writes and replies.
-use Rattle.std.specs.Prelude.{◌≡◌, ℕ, ℤ, pos, ◌+ℤ◌, Bool, not, ◌&&◌, List, [], ◌∷◌, ◌++◌, map, length, count_by, Option, Some, None, is_none, is_some, true, false, unwrap_or, nat_le, bytes_eq, if◌then◌else◌, Result, Ok, Err}
+-- What each command looks at, writes and replies. DBSIZE, KEYS and FLUSHALL are told of all keys.
+use Rattle.std.specs.Prelude.{◌≡◌, ℕ, ℤ, pos, ◌+ℤ◌, Bool, not, ◌&&◌, List, [], ◌∷◌, ◌++◌, map, filter, length, count_by, ◌==◌, Option, Some, None, is_none, is_some, true, false, unwrap_or, nat_le, bytes_eq, if◌then◌else◌, Result, Ok, Err}
 use Rattle.std.specs.Fmt.{signed_decimal}
 use Rattle.std.specs.Global.{Vec}
 use Rattle.std.specs.declared.alloc.AllocError.{AllocError}
-use Rattle.std.specs.List.{list_any}
+use Rattle.std.specs.List.{list_any, starts_with}
 use Rattle.sk_commands.specs.Numbers.{number_of, fitting}
 use Rattle.sk_commands.specs.declared.fault.Fault.TheVariants.{NotInteger, Overflow, TooLong}
 use Rattle.sk_commands.specs.declared.reply.Word.TheVariants as word
@@ -13,7 +13,7 @@ use Rattle.sk_commands.specs.declared.command.When.{When}
 use Rattle.sk_commands.specs.declared.command.When.TheVariants as when
 use Rattle.sk_commands.specs.declared.command.Options.{Options}
 use Rattle.sk_commands.specs.declared.command.Command.{Command}
-use Rattle.sk_commands.specs.declared.command.Command.TheVariants.{Get, Set, Del, Exists, Add, Append, StrLen, MGet, Ping, Echo, Wrong}
+use Rattle.sk_commands.specs.declared.command.Command.TheVariants.{Get, Set, Del, Exists, Add, Append, StrLen, MGet, MSet, DbSize, KeysWith, FlushAll, Ping, Echo, Wrong}
 use Rattle.sk_commands.specs.declared.run.TheConstants.{VALUE_LIMIT}
 
 -- what each key has
@@ -24,17 +24,17 @@ Have = List ℕ → Option (List ℕ)
 abbrev pub Written : Type 0
 Written = List (List ℕ × Option (List ℕ))
 
--- what a command writes, and what it replies
-pub record Outcome : Type 0 where
+-- what is written, and what is replied
+pub record Outcome (R : Type 0) : Type 0 where
   pub written : Written
-  pub reply : Reply
+  pub reply : R
 
--- it writes nothing
-abbrev pub replies : Reply → Outcome
+-- nothing is written
+abbrev pub replies : Reply → Outcome Reply
 replies reply = record { written = []; reply = reply }
 
 -- a key gets this
-abbrev pub puts : List ℕ → List ℕ → Reply → Outcome
+abbrev pub puts : List ℕ → List ℕ → Reply → Outcome Reply
 puts key value reply = record { written = (key, Some value) ∷ []; reply = reply }
 
 -- a count
@@ -67,7 +67,7 @@ there has (key ∷ keys) = with_key has key (there has keys)
 abbrev pub removals : List (List ℕ) → Written
 removals keys = map (λ key. (key, None)) keys
 
-abbrev pub deleted : List (List ℕ) → Outcome
+abbrev pub deleted : List (List ℕ) → Outcome Reply
 deleted keys = record { written = removals keys; reply = counts (length keys) }
 
 -- an absent key counts as 0
@@ -76,17 +76,17 @@ number_at None = Some (pos 0)
 number_at (Some text) = number_of text
 
 -- a key gets the text of a sum, if that has 64 bits
-abbrev pub counted : List ℕ → Option ℤ → Outcome
+abbrev pub counted : List ℕ → Option ℤ → Outcome Reply
 counted key None = replies (Error Overflow)
 counted key (Some sum) = puts key (signed_decimal sum) (Integer sum)
 
 -- a key gets so much more than it has
-abbrev pub added : List ℕ → ℤ → Option ℤ → Outcome
+abbrev pub added : List ℕ → ℤ → Option ℤ → Outcome Reply
 added key by None = replies (Error NotInteger)
 added key by (Some n) = counted key (fitting (n +ℤ by))
 
 -- a key gets this, if it isn't too long
-abbrev pub joined : List ℕ → List ℕ → Outcome
+abbrev pub joined : List ℕ → List ℕ → Outcome Reply
 joined key value = if nat_le (length value) VALUE_LIMIT then puts key value (counts (length value)) else replies (Error TooLong)
 
 -- whether a key is set
@@ -102,40 +102,88 @@ set_reply false true has = Simple word.Ok
 set_reply false false has = Null
 
 -- a key gets this, where it may
-abbrev pub set : List ℕ → List ℕ → Bool → Reply → Outcome
+abbrev pub set : List ℕ → List ℕ → Bool → Reply → Outcome Reply
 set key value true reply = puts key value reply
 set key value false reply = replies reply
 
-abbrev pub set_as : List ℕ → List ℕ → Options → Option (List ℕ) → Outcome
+abbrev pub set_as : List ℕ → List ℕ → Options → Option (List ℕ) → Outcome Reply
 set_as key value options has = set key value (may_set options.when has) (set_reply options.gives (may_set options.when has) has)
 
--- the keys that a command looks at
-abbrev pub asks : Command → List (List ℕ)
-asks (Get key) = key ∷ []
-asks (Set key value options) = key ∷ []
-asks (Del keys) = keys
-asks (Exists keys) = keys
-asks (Add key by) = key ∷ []
-asks (Append key more) = key ∷ []
-asks (StrLen key) = key ∷ []
-asks (MGet keys) = keys
-asks Ping = []
-asks (Echo text) = []
-asks (Wrong fault) = []
+-- each key gets what stands behind it
+abbrev pub pairs_of : List (List ℕ) → Written
+pairs_of [] = []
+pairs_of (key ∷ []) = []
+pairs_of (key ∷ value ∷ words) = (key, Some value) ∷ pairs_of words
+
+-- whether a key begins so
+abbrev pub begins_with : List ℕ → List ℕ → Bool
+begins_with prefix key = starts_with (λ a b. a == b) key prefix
+
+-- those of the keys that begin so and are there
+abbrev pub listed : List ℕ → Have → List (List ℕ) → List (List ℕ)
+listed prefix has keys = filter (λ key. begins_with prefix key && is_some (has key)) keys
+
+-- those of the keys that are there
+abbrev pub present : Have → List (List ℕ) → List (List ℕ)
+present has keys = filter (λ key. is_some (has key)) keys
+
+-- they become absent
+abbrev pub flushed : List (List ℕ) → Outcome Reply
+flushed keys = record { written = removals keys; reply = Simple word.Ok }
+
+-- The keys that a command looks at; `known` are all keys, of which some commands are told.
+abbrev pub asks : List (List ℕ) → Command → List (List ℕ)
+asks known (Get key) = key ∷ []
+asks known (Set key value options) = key ∷ []
+asks known (Del keys) = keys
+asks known (Exists keys) = keys
+asks known (Add key by) = key ∷ []
+asks known (Append key more) = key ∷ []
+asks known (StrLen key) = key ∷ []
+asks known (MGet keys) = keys
+asks known (MSet words) = []
+asks known DbSize = known
+asks known (KeysWith prefix) = known
+asks known FlushAll = known
+asks known Ping = []
+asks known (Echo text) = []
+asks known (Wrong fault) = []
 
 -- what it writes and replies, by what keys have
-abbrev pub outcome : Command → Have → Outcome
-outcome (Get key) has = replies (shown (has key))
-outcome (Set key value options) has = set_as key value options (has key)
-outcome (Del keys) has = deleted (there has keys)
-outcome (Exists keys) has = replies (counts (count_by (λ key. is_some (has key)) keys))
-outcome (Add key by) has = added key by (number_at (has key))
-outcome (Append key more) has = joined key (bytes_of (has key) ++ more)
-outcome (StrLen key) has = replies (counts (length (bytes_of (has key))))
-outcome (MGet keys) has = replies (Array (map has keys))
-outcome Ping has = replies (Simple word.Pong)
-outcome (Echo text) has = replies (Bulk text)
-outcome (Wrong fault) has = replies (Error fault)
+abbrev pub outcome : List (List ℕ) → Command → Have → Outcome Reply
+outcome known (Get key) has = replies (shown (has key))
+outcome known (Set key value options) has = set_as key value options (has key)
+outcome known (Del keys) has = deleted (there has keys)
+outcome known (Exists keys) has = replies (counts (count_by (λ key. is_some (has key)) keys))
+outcome known (Add key by) has = added key by (number_at (has key))
+outcome known (Append key more) has = joined key (bytes_of (has key) ++ more)
+outcome known (StrLen key) has = replies (counts (length (bytes_of (has key))))
+outcome known (MGet keys) has = replies (Array (map has keys))
+outcome known (MSet words) has = record { written = pairs_of words; reply = Simple word.Ok }
+outcome known DbSize has = replies (counts (count_by (λ key. is_some (has key)) known))
+outcome known (KeysWith prefix) has = replies (Array (map Some (listed prefix has known)))
+outcome known FlushAll has = flushed (present has known)
+outcome known Ping has = replies (Simple word.Pong)
+outcome known (Echo text) has = replies (Bulk text)
+outcome known (Wrong fault) has = replies (Error fault)
+
+-- whether it is told of all keys
+abbrev pub is_told_of_all : Command → Bool
+is_told_of_all (Get key) = false
+is_told_of_all (Set key value options) = false
+is_told_of_all (Del keys) = false
+is_told_of_all (Exists keys) = false
+is_told_of_all (Add key by) = false
+is_told_of_all (Append key more) = false
+is_told_of_all (StrLen key) = false
+is_told_of_all (MGet keys) = false
+is_told_of_all (MSet words) = false
+is_told_of_all DbSize = true
+is_told_of_all (KeysWith prefix) = true
+is_told_of_all FlushAll = true
+is_told_of_all Ping = false
+is_told_of_all (Echo text) = false
+is_told_of_all (Wrong fault) = false
 
 -- the same writes, where keys are kept as vectors
 abbrev pub told : List (Vec ℕ × Option (List ℕ)) → Written
@@ -145,7 +193,7 @@ told ws = map (λ w. (w.0.items, w.1)) ws
 abbrev pub one_more : Bool → Vec ℕ → List (Vec ℕ × Option (List ℕ)) → List (Vec ℕ × Option (List ℕ))
 one_more is_there key ws = if is_there && not (list_any (bytes_eq key.items) (map (λ w. w.0.items) ws)) then (key, None) ∷ [] else []
 
--- a command came to this: its writes stand behind those that were there; without memory nothing has changed
-abbrev pub CarriesOut : Outcome → List (Vec ℕ × Option (List ℕ)) → Result Reply AllocError → List (Vec ℕ × Option (List ℕ)) → Type 0
+-- It came to this: the writes stand behind those that were there; without memory nothing has changed.
+abbrev pub CarriesOut : {R : Type 0} → Outcome R → List (Vec ℕ × Option (List ℕ)) → Result R AllocError → List (Vec ℕ × Option (List ℕ)) → Type 0
 CarriesOut outcome old (Ok reply) new = (reply ≡ outcome.reply) × (told new ≡ told old ++ outcome.written)
 CarriesOut outcome old (Err out_of_memory) new = new ≡ old

@@ -1,13 +1,17 @@
 //! What commands look at.
 ghost use Rattle.std.specs.Prelude.{◌≡◌, ◌∷◌, ◌++◌, [], map, OnErr, OnOk};
 ghost use Rattle.std.specs.Vec.{vec_items};
-ghost use Rattle.sk_commands.specs.Table.{asks};
+ghost use Rattle.sk_commands.specs.Table.{asks, is_told_of_all};
 
 use crate::Command;
 use std::alloc::{AllocError, Global};
 
 /// A copy of a key stands behind those that are listed.
-fn copy_key(alloc: Global, key: &[u8], looked: &mut Vec<Vec<u8>>) -> Result<(), AllocError>
+pub(crate) fn copy_key(
+    alloc: Global,
+    key: &[u8],
+    looked: &mut Vec<Vec<u8>>,
+) -> Result<(), AllocError>
     ensures ok { OnOk result
         (map vec_items looked.new.items ≡ map vec_items looked.old.items ++ key.now ∷ []) }
     ensures err { OnErr result (looked.new.items ≡ looked.old.items) }
@@ -19,7 +23,11 @@ fn copy_key(alloc: Global, key: &[u8], looked: &mut Vec<Vec<u8>>) -> Result<(), 
 }
 
 /// Copies of keys stand behind those that are listed. Without memory for all, none does.
-fn copy_keys(alloc: Global, keys: &[Vec<u8>], looked: &mut Vec<Vec<u8>>) -> Result<(), AllocError>
+pub(crate) fn copy_keys(
+    alloc: Global,
+    keys: &[Vec<u8>],
+    looked: &mut Vec<Vec<u8>>,
+) -> Result<(), AllocError>
     ensures ok { OnOk result
         (map vec_items looked.new.items
         ≡ map vec_items looked.old.items ++ map vec_items keys.now) }
@@ -37,10 +45,27 @@ fn copy_keys(alloc: Global, keys: &[Vec<u8>], looked: &mut Vec<Vec<u8>>) -> Resu
 }
 
 impl Command {
-    /// Copies of the keys that the command looks at stand behind those that are listed. Without memory for all, none does.
-    pub fn asks(&self, alloc: Global, looked: &mut Vec<Vec<u8>>) -> Result<(), AllocError>
+    /// Whether the command is told of all keys.
+    pub fn is_told_of_all(&self) -> bool
+        ensures { result ≡ is_told_of_all self.now }
+    {
+        matches!(
+            self,
+            Command::DbSize | Command::KeysWith(_) | Command::FlushAll
+        )
+    }
+
+    /// Copies of the keys that the command looks at stand behind those that are listed, where all keys are known. Without
+    /// memory for all, none does.
+    pub fn asks(
+        &self,
+        alloc: Global,
+        known: &[Vec<u8>],
+        looked: &mut Vec<Vec<u8>>,
+    ) -> Result<(), AllocError>
         ensures ok { OnOk result
-            (map vec_items looked.new.items ≡ map vec_items looked.old.items ++ asks self.now) }
+            (map vec_items looked.new.items
+            ≡ map vec_items looked.old.items ++ asks (map vec_items known.now) self.now) }
         ensures err { OnErr result
             (map vec_items looked.new.items ≡ map vec_items looked.old.items) }
     {
@@ -53,7 +78,10 @@ impl Command {
             Command::Del(keys) | Command::Exists(keys) | Command::MGet(keys) => {
                 copy_keys(alloc, keys.as_slice(), looked)
             }
-            Command::Ping | Command::Echo(_) | Command::Wrong(_) => Ok(()),
+            Command::DbSize | Command::KeysWith(_) | Command::FlushAll => {
+                copy_keys(alloc, known, looked)
+            }
+            Command::MSet(_) | Command::Ping | Command::Echo(_) | Command::Wrong(_) => Ok(()),
         }
     }
 }

@@ -30,8 +30,26 @@ pub enum Command {
     Append(ByteString, ByteString),
     StrLen(ByteString),
     MGet(Keys),
+    /// Keys, each with what it gets behind it.
+    MSet(Keys),
+    DbSize,
+    /// KEYS of those that begin so.
+    KeysWith(ByteString),
+    FlushAll,
     Ping,
     Echo(ByteString),
     /// Its words are of a known command and as many as it has, but one of them is wrong: it only replies the fault.
     Wrong(Fault),
+}
+
+/// What a request says: a command, or a word about the queue of its channel.
+#[derive(Drop)]
+pub enum Order {
+    Run(Command),
+    /// Commands are queued from here on.
+    Multi,
+    /// Those of the queue are carried out.
+    Exec,
+    /// The queue is dropped.
+    Discard,
 }

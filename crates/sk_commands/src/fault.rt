@@ -19,6 +19,16 @@ pub enum Fault {
     Overflow,
     /// What a key would have is longer than may be.
     TooLong,
+    /// A pattern is not the front of keys and a `*` behind it.
+    Pattern,
+    /// A queue is open already.
+    Nested,
+    /// EXEC, where no queue is open.
+    ExecAlone,
+    /// DISCARD, where no queue is open.
+    DiscardAlone,
+    /// A fault was told of a command that was to be queued, so that the others are not carried out.
+    Aborted,
 }
 
 impl Fault {
@@ -33,6 +43,11 @@ impl Fault {
             Fault::NotInteger => b"ERR value is not an integer or out of range",
             Fault::Overflow => b"ERR increment or decrement would overflow",
             Fault::TooLong => b"ERR string exceeds maximum allowed size",
+            Fault::Pattern => b"ERR only patterns of a prefix and '*' are known",
+            Fault::Nested => b"ERR MULTI calls can not be nested",
+            Fault::ExecAlone => b"ERR EXEC without MULTI",
+            Fault::DiscardAlone => b"ERR DISCARD without MULTI",
+            Fault::Aborted => b"EXECABORT Transaction discarded because of previous errors.",
         }
     }
 }

@@ -1,13 +1,23 @@
-//! Commands are steps of a kernel. It is the contract of a function that does nothing.
-ghost use Rattle.std.specs.Prelude.{◌≡◌, ℕ, Ok};
+//! Commands are steps of a kernel. Each law is the contract of a function that does nothing.
+ghost use Rattle.std.specs.Prelude.{◌≡◌, ℕ, List, Ok, false};
 ghost use Rattle.sk_record.specs.Step.{perform};
 ghost use Rattle.sk_deeds.specs.Deed.{effect_of};
 ghost use Rattle.sk_commands.specs.declared.command.Command.{Command};
-ghost use Rattle.sk_commands.specs.Table.{Have};
+ghost use Rattle.sk_commands.specs.declared.work.Work.{Work};
+ghost use Rattle.sk_commands.specs.Table.{asks, is_told_of_all, outcome, Have};
 ghost use Rattle.sk_commands.specs.Law.{act, deed};
 
-/// For whatever keys have: the step of a command asks for just the keys of its row, and then writes and says what the row does.
+/// For whatever keys have, and whatever keys are known: the step of a command, or of a queue, asks for just the keys that are looked
+/// at, and then writes and says what comes of them.
 pub fn commands_act()
-    ensures { (channel : ℕ) (command : Command) (has : Have)
-        → perform has (act channel command) ≡ Ok (effect_of has (deed channel command has)) }
+    ensures { (channel : ℕ) (known : List (List ℕ)) (work : Work) (has : Have)
+        → perform has (act channel known work) ≡ Ok (effect_of has (deed channel known work has)) }
+{}
+
+/// For a command that is not told of all keys it is the same whatever keys are known.
+pub fn others_act_alone()
+    ensures asks { (command : Command) (known others : List (List ℕ)) → is_told_of_all command ≡ false
+        → asks known command ≡ asks others command }
+    ensures outcome { (command : Command) (known others : List (List ℕ)) (has : Have)
+        → is_told_of_all command ≡ false → outcome known command has ≡ outcome others command has }
 {}

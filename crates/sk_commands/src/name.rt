@@ -1,5 +1,5 @@
 //! The names of commands.
-ghost use Rattle.std.specs.Prelude.{◌≡◌, ◌++◌, codes};
+ghost use Rattle.std.specs.Prelude.{◌≡◌, ◌++◌, codes, find};
 ghost use Rattle.sk_commands.specs.Names.{is_alike, name_of, text_of};
 
 /// What a command is called.
@@ -17,12 +17,19 @@ pub enum Name {
     StrLen,
     GetSet,
     MGet,
+    MSet,
+    DbSize,
+    Keys,
+    FlushAll,
+    Multi,
+    Exec,
+    Discard,
     Ping,
     Echo,
 }
 
 /// All of them.
-const NAMES: [Name; 14] = [
+const NAMES: [Name; 21] = [
     Name::Get,
     Name::Set,
     Name::Del,
@@ -35,6 +42,13 @@ const NAMES: [Name; 14] = [
     Name::StrLen,
     Name::GetSet,
     Name::MGet,
+    Name::MSet,
+    Name::DbSize,
+    Name::Keys,
+    Name::FlushAll,
+    Name::Multi,
+    Name::Exec,
+    Name::Discard,
     Name::Ping,
     Name::Echo,
 ];
@@ -44,6 +58,18 @@ pub(crate) fn is_alike(left: &[u8], right: &[u8]) -> bool
     ensures { result ≡ is_alike left.now right.now }
 {
     left.eq_ignore_ascii_case(right)
+}
+
+/// The first of these names that a word says, in letters of any size.
+fn first_alike(names: &[Name], word: &[u8]) -> Option<Name>
+    ensures { result ≡ find (λ name. is_alike word.now (text_of name)) names.now }
+{
+    for name in names {
+        if is_alike(word, name.text()) {
+            return Some(*name);
+        }
+    }
+    None
 }
 
 impl Name {
@@ -64,6 +90,13 @@ impl Name {
             Name::StrLen => b"strlen",
             Name::GetSet => b"getset",
             Name::MGet => b"mget",
+            Name::MSet => b"mset",
+            Name::DbSize => b"dbsize",
+            Name::Keys => b"keys",
+            Name::FlushAll => b"flushall",
+            Name::Multi => b"multi",
+            Name::Exec => b"exec",
+            Name::Discard => b"discard",
             Name::Ping => b"ping",
             Name::Echo => b"echo",
         }
@@ -87,6 +120,13 @@ impl Name {
             Name::StrLen => b"ERR wrong number of arguments for 'strlen' command",
             Name::GetSet => b"ERR wrong number of arguments for 'getset' command",
             Name::MGet => b"ERR wrong number of arguments for 'mget' command",
+            Name::MSet => b"ERR wrong number of arguments for 'mset' command",
+            Name::DbSize => b"ERR wrong number of arguments for 'dbsize' command",
+            Name::Keys => b"ERR wrong number of arguments for 'keys' command",
+            Name::FlushAll => b"ERR wrong number of arguments for 'flushall' command",
+            Name::Multi => b"ERR wrong number of arguments for 'multi' command",
+            Name::Exec => b"ERR wrong number of arguments for 'exec' command",
+            Name::Discard => b"ERR wrong number of arguments for 'discard' command",
             Name::Ping => b"ERR wrong number of arguments for 'ping' command",
             Name::Echo => b"ERR wrong number of arguments for 'echo' command",
         }
@@ -97,11 +137,6 @@ impl Name {
     pub fn of(word: &[u8]) -> Option<Name>
         ensures { result ≡ name_of word.now }
     {
-        for name in NAMES {
-            if is_alike(word, name.text()) {
-                return Some(name);
-            }
-        }
-        None
+        first_alike(&NAMES, word)
     }
 }

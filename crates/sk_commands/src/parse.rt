@@ -1,12 +1,24 @@
-//! The command that words say.
-ghost use Rattle.std.specs.Prelude.{◌≡◌, Some, map};
+//! What words say: a command, or a word about the queue of a channel.
+ghost use Rattle.std.specs.Prelude.{◌≡◌, ◌==◌, ◌%◌, Some, length, map};
+ghost use Rattle.std.specs.List.{list_any};
 ghost use Rattle.std.specs.Vec.{vec_items};
 ghost use Rattle.sk_commands.specs.Numbers.{number_of};
-ghost use Rattle.sk_commands.specs.Parsing.{add_of, command_for, command_of, one_of, some_of, plainly, set_for, subtract_of, two_of, with_option, with_options};
+ghost use Rattle.sk_commands.specs.declared.command.Command.TheVariants.{Append};
+ghost use Rattle.sk_commands.specs.Parsing.{add_of, alone, exchanged, is_of_prefix, is_special, made, matching, one_of, order_for, order_of, pairs_for, plainly, set_for, some_of, subtract_of, two_of, with_option, with_options};
 
 use crate::name::is_alike;
 use crate::number::negative_of;
-use crate::{ByteString, Command, Fault, Keys, Name, Options, When, number_of};
+use crate::{ByteString, Command, Fault, Keys, Name, Options, Order, When, number_of};
+
+/// No word.
+fn alone(name: Name, order: Order, words: &[Vec<u8>]) -> Result<Order, Fault>
+    ensures { result ≡ alone name order (map vec_items words.now) }
+{
+    if !words.is_empty() {
+        return Err(Fault::WrongNumber(name));
+    }
+    Ok(order)
+}
 
 /// The only word.
 fn one(name: Name, mut words: Vec<Vec<u8>>) -> Result<ByteString, Fault>
@@ -117,55 +129,137 @@ fn set(mut words: Vec<Vec<u8>>) -> Result<Command, Fault>
     })
 }
 
-/// The command of a name with these words behind it.
-fn command_for(name: Name, words: Vec<Vec<u8>>) -> Result<Command, Fault>
-    ensures { result ≡ command_for name (map vec_items words.items) }
+/// Keys, each with what it gets behind it.
+fn pairs(words: Vec<Vec<u8>>) -> Result<Command, Fault>
+    ensures { result
+        ≡ pairs_for (map vec_items words.items) (length (map vec_items words.items) % 2 == 0) }
 {
-    Ok(match name {
+    if words.is_empty() || words.as_slice().len() % 2 != 0 {
+        return Err(Fault::WrongNumber(Name::MSet));
+    }
+    Ok(Command::MSet(Keys::new(words)))
+}
+
+/// A byte that means something in a pattern.
+fn is_special(byte: u8) -> bool
+    ensures { result ≡ is_special byte }
+{
+    byte == b'*' || byte == b'?' || byte == b'[' || byte == b'\\'
+}
+
+/// Whether some byte means something in a pattern.
+fn has_special(bytes: &[u8]) -> bool
+    ensures { result ≡ list_any is_special bytes.now }
+{
+    for byte in bytes {
+        if is_special(*byte) {
+            return true;
+        }
+    }
+    false
+}
+
+/// Whether a pattern is that of a prefix: `*` stands last in it, and nothing special before.
+fn is_of_prefix(pattern: &[u8]) -> bool
+    ensures { result ≡ is_of_prefix pattern.now }
+{
+    if pattern.is_empty() {
+        return false;
+    }
+    let last = pattern.len() - 1;
+    pattern[last] == b'*' && !has_special(&pattern[..last])
+}
+
+/// The keys that match a pattern.
+fn matching(pattern: ByteString) -> Command
+    ensures { result ≡ matching pattern }
+{
+    if !is_of_prefix(pattern.as_slice()) {
+        return Command::Wrong(Fault::Pattern);
+    }
+    let mut prefix = pattern.into_vec();
+    prefix.truncate(prefix.len().saturating_sub(1));
+    Command::KeysWith(ByteString::new(prefix))
+}
+
+/// Adds what the second word says to what the first, a key, has.
+fn increment(name: Name, words: Vec<Vec<u8>>) -> Result<Command, Fault>
+    ensures { result
+        ≡ made (λ w. add_of w.0 (number_of w.1)) (two_of name (map vec_items words.items)) }
+{
+    let (key, text) = two(name, words)?;
+    Ok(add(key, &text))
+}
+
+/// Takes what the second word says off what the first, a key, has.
+fn decrement(name: Name, words: Vec<Vec<u8>>) -> Result<Command, Fault>
+    ensures { result
+        ≡ made (λ w. subtract_of w.0 (number_of w.1)) (two_of name (map vec_items words.items)) }
+{
+    let (key, text) = two(name, words)?;
+    Ok(subtract(key, &text))
+}
+
+/// A key, and more for it.
+fn append(name: Name, words: Vec<Vec<u8>>) -> Result<Command, Fault>
+    ensures { result ≡ made (λ w. Append w.0 w.1) (two_of name (map vec_items words.items)) }
+{
+    let (key, more) = two(name, words)?;
+    Ok(Command::Append(key, more))
+}
+
+/// A key, and what it gets; what it had is replied.
+fn exchange(name: Name, words: Vec<Vec<u8>>) -> Result<Command, Fault>
+    ensures { result ≡ made (λ w. exchanged w.0 w.1) (two_of name (map vec_items words.items)) }
+{
+    let (key, value) = two(name, words)?;
+    let options = Options {
+        when: When::Always,
+        gives: true,
+    };
+    Ok(Command::Set(key, value, options))
+}
+
+/// What a name says with these words behind it.
+fn order_for(name: Name, words: Vec<Vec<u8>>) -> Result<Order, Fault>
+    ensures { result ≡ order_for name (map vec_items words.items) }
+{
+    Ok(Order::Run(match name {
         Name::Get => Command::Get(one(name, words)?),
         Name::Set => set(words)?,
         Name::Del => Command::Del(some(name, words)?),
         Name::Exists => Command::Exists(some(name, words)?),
         Name::Incr => Command::Add(one(name, words)?, 1),
         Name::Decr => Command::Add(one(name, words)?, -1),
-        Name::IncrBy => {
-            let (key, text) = two(name, words)?;
-            add(key, &text)
-        }
-        Name::DecrBy => {
-            let (key, text) = two(name, words)?;
-            subtract(key, &text)
-        }
-        Name::Append => {
-            let (key, more) = two(name, words)?;
-            Command::Append(key, more)
-        }
+        Name::IncrBy => increment(name, words)?,
+        Name::DecrBy => decrement(name, words)?,
+        Name::Append => append(name, words)?,
         Name::StrLen => Command::StrLen(one(name, words)?),
-        Name::GetSet => {
-            let (key, value) = two(name, words)?;
-            let options = Options {
-                when: When::Always,
-                gives: true,
-            };
-            Command::Set(key, value, options)
-        }
+        Name::GetSet => exchange(name, words)?,
         Name::MGet => Command::MGet(some(name, words)?),
+        Name::MSet => pairs(words)?,
+        Name::DbSize => return alone(name, Order::Run(Command::DbSize), &words),
+        Name::Keys => matching(one(name, words)?),
+        Name::FlushAll => return alone(name, Order::Run(Command::FlushAll), &words),
+        Name::Multi => return alone(name, Order::Multi, &words),
+        Name::Exec => return alone(name, Order::Exec, &words),
+        Name::Discard => return alone(name, Order::Discard, &words),
         Name::Ping if words.is_empty() => Command::Ping,
         Name::Ping | Name::Echo => Command::Echo(one(name, words)?),
-    })
+    }))
 }
 
-impl Command {
-    /// The command that words say: the first names it. No word is copied.
-    pub fn of(mut words: Vec<Vec<u8>>) -> Result<Command, Fault>
-        ensures { result ≡ command_of (map vec_items words.items) }
+impl Order {
+    /// What words say: the first names it. No word is copied.
+    pub fn of(mut words: Vec<Vec<u8>>) -> Result<Order, Fault>
+        ensures { result ≡ order_of (map vec_items words.items) }
     {
         if words.is_empty() {
             return Err(Fault::Unknown);
         }
         let word = words.remove(0);
         match Name::of(word.as_slice()) {
-            Some(name) => command_for(name, words),
+            Some(name) => order_for(name, words),
             None => Err(Fault::Unknown),
         }
     }

@@ -9,6 +9,8 @@ use crate::{ByteString, Fault, Values};
 pub enum Word {
     Ok,
     Pong,
+    /// A command waits for EXEC.
+    Queued,
 }
 
 impl Word {
@@ -19,6 +21,7 @@ impl Word {
         match self {
             Word::Ok => b"OK",
             Word::Pong => b"PONG",
+            Word::Queued => b"QUEUED",
         }
     }
 }

@@ -1,10 +1,11 @@
 //! What commands write and reply.
-ghost use Rattle.std.specs.Prelude.{◌+◌, ◌<◌, ◌≤◌, ◌≡◌, ◌++◌, drop, IfOk, bytes_eq, count_by, is_some, length, map, pos};
+ghost use Rattle.std.specs.Prelude.{◌+◌, ◌<◌, ◌≤◌, ◌≡◌, ◌++◌, ◌&&◌, drop, IfOk, Some, bytes_eq, count_by, is_some, length, map, pos};
 ghost use Rattle.std.specs.Vec.{vec_capacity, vec_items, vec_len};
 ghost use Rattle.std.specs.List.{list_any};
 ghost use Rattle.std.specs.Option.{option_copied};
-ghost use Rattle.sk_commands.specs.declared.reply.Reply.TheVariants.{Array};
-ghost use Rattle.sk_commands.specs.Table.{added, bytes_of, deleted, joined, number_at, one_more, outcome, puts, set_as, shown, there, CarriesOut};
+ghost use Rattle.sk_commands.specs.declared.reply.Reply.TheVariants.{Array, Simple};
+ghost use Rattle.sk_commands.specs.declared.reply.Word.TheVariants as word;
+ghost use Rattle.sk_commands.specs.Table.{added, begins_with, bytes_of, deleted, flushed, joined, listed, number_at, one_more, outcome, pairs_of, present, puts, set_as, shown, there, CarriesOut};
 
 use crate::number::{sum_of, text_of};
 use crate::{
@@ -189,11 +190,12 @@ fn delete<S: Look>(store: &S, keys: Keys, written: &mut Writes) -> Result<Reply,
 }
 
 /// How many of the keys are there. One that is named twice counts twice.
-fn count<S: Look>(store: &S, keys: &Keys) -> i64
-    ensures { result ≡ pos (count_by (λ key. is_some (S.look store.now key)) keys.now) }
+fn count<S: Look>(store: &S, keys: &[Vec<u8>]) -> i64
+    ensures { result
+        ≡ pos (count_by (λ key. is_some (S.look store.now key)) (map vec_items keys.now)) }
 {
     let mut count: i64 = 0;
-    for key in keys.as_slice() {
+    for key in keys {
         if store.value(key.as_slice()).is_some() {
             count += 1;
         }
@@ -201,17 +203,82 @@ fn count<S: Look>(store: &S, keys: &Keys) -> i64
     count
 }
 
+/// Each key gets what stands behind it.
+fn put_all(words: Keys, written: &mut Writes) -> Result<Reply, AllocError>
+    ensures { CarriesOut (record { written = pairs_of words; reply = Simple word.Ok })
+        written.old.items result written.new.items }
+{
+    let words = words.into_vec();
+    written.reserve(words.len())?;
+    let mut words = words.into_iter();
+    while let Some(key) = words.next() {
+        if let Some(value) = words.next() {
+            written.push_reserved((key, Some(ByteString::new(value))));
+        }
+    }
+    Ok(Reply::Simple(Word::Ok))
+}
+
+/// Whether a key begins so and is there.
+fn is_listed<S: Look>(store: &S, prefix: &[u8], key: &[u8]) -> bool
+    ensures { result ≡ (begins_with prefix.now key.now && is_some (S.look store.now key.now)) }
+{
+    key.starts_with(prefix) && store.value(key).is_some()
+}
+
+/// Those of the keys that begin so and are there.
+fn list<S: Look>(
+    alloc: Global,
+    store: &S,
+    prefix: &[u8],
+    keys: &[Vec<u8>],
+) -> Result<Reply, AllocError>
+    ensures { IfOk result (λ reply. reply
+        ≡ Array (map Some (listed prefix.now (S.look store.now) (map vec_items keys.now)))) }
+{
+    let mut values = Vec::new(alloc);
+    for key in keys {
+        let key = key.as_slice();
+        if is_listed(store, prefix, key) {
+            values.push(Some(ByteString::copy_of(alloc, key)?))?;
+        }
+    }
+    Ok(Reply::Array(Values::new(values)))
+}
+
+/// Those of the keys that are there become absent.
+fn flush<S: Look>(
+    alloc: Global,
+    store: &S,
+    keys: &[Vec<u8>],
+    written: &mut Writes,
+) -> Result<Reply, AllocError>
+    ensures { CarriesOut (flushed (present (S.look store.now) (map vec_items keys.now)))
+        written.old.items result written.new.items }
+{
+    let mut gone: Writes = Vec::new(alloc);
+    for key in keys {
+        let key = key.as_slice();
+        if store.value(key).is_some() {
+            gone.push((Vec::from_slice(alloc, key)?, None))?;
+        }
+    }
+    written.append(&mut gone)?;
+    Ok(Reply::Simple(Word::Ok))
+}
+
 impl Command {
-    /// What the command writes, behind what is written, and what it replies, by what keys have. Without memory nothing has
-    /// changed.
+    /// What the command writes, behind what is written, and what it replies, by what keys have, where all keys are known.
+    /// Without memory nothing has changed.
     pub fn run<S: Look>(
         self,
         alloc: Global,
         store: &S,
+        known: &[Vec<u8>],
         written: &mut Writes,
     ) -> Result<Reply, AllocError>
-        ensures { CarriesOut (outcome self (S.look store.now)) written.old.items result
-            written.new.items }
+        ensures { CarriesOut (outcome (map vec_items known.now) self (S.look store.now))
+            written.old.items result written.new.items }
     {
         match self {
             Command::Get(key) => show(alloc, store.value(key.as_slice())),
@@ -220,7 +287,7 @@ impl Command {
                 set(alloc, key, value, options, has, written)
             }
             Command::Del(keys) => delete(store, keys, written),
-            Command::Exists(keys) => Ok(Reply::Integer(count(store, &keys))),
+            Command::Exists(keys) => Ok(Reply::Integer(count(store, keys.as_slice()))),
             Command::Add(key, by) => {
                 let has = store.value(key.as_slice());
                 add(alloc, key, by, has, written)
@@ -231,6 +298,10 @@ impl Command {
             }
             Command::StrLen(key) => Ok(Reply::Integer(length_of(store.value(key.as_slice())))),
             Command::MGet(keys) => show_all(alloc, store, &keys),
+            Command::MSet(words) => put_all(words, written),
+            Command::DbSize => Ok(Reply::Integer(count(store, known))),
+            Command::KeysWith(prefix) => list(alloc, store, prefix.as_slice(), known),
+            Command::FlushAll => flush(alloc, store, known, written),
             Command::Ping => Ok(Reply::Simple(Word::Pong)),
             Command::Echo(text) => Ok(Reply::Bulk(text)),
             Command::Wrong(fault) => Ok(Reply::Error(fault)),

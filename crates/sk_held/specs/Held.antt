@@ -1,5 +1,5 @@
 -- A kernel over byte strings whose guesses are decided by their numbers, as its callers see it, and what its calls answer.
-use Rattle.std.specs.Prelude.{◌≡◌, ◌⊎◌, ◌++◌, ℕ, Bool, true, false, nat_le, nat_lt, List, [], ◌∷◌, length, Option, Some, None, Result, Ok, Err}
+use Rattle.std.specs.Prelude.{◌≡◌, ◌⊎◌, ◌++◌, ℕ, Bool, true, false, nat_lt, List, [], ◌∷◌, length, Option, Some, None, Result, Ok, Err}
 use Rattle.std.specs.Global.{Vec}
 use Rattle.sk_guesses.specs.Kept.{known, none_drawn}
 use Rattle.sk_guesses.specs.Token.{Token}
@@ -115,7 +115,7 @@ pub record Stays (old new : HeldView) : Type 0 where
 abbrev pub RefusesGuess : HeldView → Refusal → Type 0
 RefusesGuess h TooMany = Refuses h.kernel.parts inner.TooMany
 RefusesGuess h NoNumber = Refuses h.kernel.parts inner.NoNumber
-RefusesGuess h Memory = nat_le h.kernel.parts.guesses.limit (length h.kernel.parts.opens) ≡ false
+RefusesGuess h Memory = Refuses h.kernel.parts inner.Memory
 RefusesGuess h other = ⊥
 
 abbrev pub StepPost : Result (Unit {0}) Refusal → HeldView → HeldView → Type 0

@@ -141,9 +141,7 @@ impl Held {
     pub fn guess(&mut self) -> Result<GuessId, Refusal>
         ensures { GuessPost result self.old self.new }
     {
-        if self.kernel.undecided() >= usize::from(self.kernel.limit()) {
-            return Err(Refusal::TooMany);
-        }
+        self.kernel.next_guess()?;
         if self.tokens.reserve(1).is_err() {
             return Err(Refusal::Memory);
         }

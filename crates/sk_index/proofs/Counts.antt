@@ -1,8 +1,10 @@
--- There is a string for each place with one.
-use Rattle.std.proofs.Common.{◌≡◌, ℕ, ◌+◌, List, [], ◌∷◌, length, Option, Some, None, is_some, cond, count_by, refl, arith}
+-- There is a string for each place with one, and none is there twice.
+use Rattle.std.proofs.Common.{◌≡◌, ℕ, suc, ◌+◌, List, [], ◌∷◌, length, Option, Some, None, is_some, cond, count_by, refl, arith}
 use Rattle.std.specs.Global.{Vec}
 use Rattle.std.proofs.lemmas.List.Sums.{sum_by-cons}
+use Rattle.sk_index.specs.Index.{number_of, AreApart}
 use Rattle.sk_index.specs.Inside.{numbered}
+use Rattle.sk_index.proofs.Strings.{apart_later, found_slot, Apart, Slots}
 
 pub length-numbered : (n : ℕ) (vs : List (Option (Vec ℕ))) → length (numbered n vs) ≡ count_by is_some vs
 length-numbered n [] = refl
@@ -10,3 +12,17 @@ length-numbered n (None ∷ vs) =
     omega (arith, length-numbered (n + 1) vs, sum_by-cons (λ (o : Option (Vec ℕ)). cond (is_some o) 1 0) None vs)
 length-numbered n (Some v ∷ vs) =
     omega (arith, length-numbered (n + 1) vs, sum_by-cons (λ (o : Option (Vec ℕ)). cond (is_some o) 1 0) (Some v) vs)
+
+pub apart_numbered : (b : ℕ) (vs : Slots) → Apart vs → AreApart (numbered b vs)
+apart_numbered b [] apart = tt
+apart_numbered b (None ∷ vs) apart = apart_numbered (b + 1) vs (apart_later None vs apart)
+apart_numbered b (Some v ∷ vs) apart =
+    (by_number (number_of (numbered (b + 1) vs) v.items) refl, apart_numbered (b + 1) vs (apart_later (Some v) vs apart))
+  where
+    by_number : (o : Option ℕ) → number_of (numbered (b + 1) vs) v.items ≡ o
+        → number_of (numbered (b + 1) vs) v.items ≡ None
+    by_number None is = is
+    by_number (Some n) is =
+        let slot = found_slot (b + 1) vs v.items n is in
+        let first : 0 ≡ suc slot.0 = apart 0 (suc slot.0) v slot.1 refl slot.3 slot.4 in
+        absurd (omega (arith, first))

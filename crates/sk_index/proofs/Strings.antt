@@ -55,7 +55,7 @@ at vs i = get_or vs i None
 abbrev pub Apart : Slots → Type 0
 Apart vs = (i j : ℕ) (v w : Vec ℕ) → at vs i ≡ Some v → at vs j ≡ Some w → v.items ≡ w.items → i ≡ j
 
-apart_later : (slot : Option (Vec ℕ)) (vs : Slots) → Apart (slot ∷ vs) → Apart vs
+pub apart_later : (slot : Option (Vec ℕ)) (vs : Slots) → Apart (slot ∷ vs) → Apart vs
 apart_later slot vs apart i j v w vi wj same = let e = apart (suc i) (suc j) v w vi wj same in omega (arith, e)
 
 -- ---- strings by numbers
@@ -110,7 +110,7 @@ slot_found b (Some w ∷ vs) apart (suc i) v q is same =
           slot_found (b + 1) vs (apart_later (Some w) vs apart) i v q is same ∙ ap Some shift
     ] refl
 
-found_slot : (b : ℕ) (vs : Slots) (q : List ℕ) (n : ℕ) → find bytes_cmp q (numbered b vs) ≡ Some n → (i : ℕ)
+pub found_slot : (b : ℕ) (vs : Slots) (q : List ℕ) (n : ℕ) → find bytes_cmp q (numbered b vs) ≡ Some n → (i : ℕ)
     × (v : Vec ℕ) × (n ≡ b + i) × (at vs i ≡ Some v) × (q ≡ v.items)
 found_slot b [] q n is = absurd (cc)
 found_slot b (None ∷ vs) q n is =

@@ -22,6 +22,11 @@ abbrev pub string_of : Numbered → ℕ → Option (List ℕ)
 string_of [] n = None
 string_of (e ∷ es) n = if e.1 == n then Some e.0 else string_of es n
 
+-- no string is there twice
+abbrev pub AreApart : Numbered → Type 0
+AreApart [] = Unit {0}
+AreApart (e ∷ es) = (number_of es e.0 ≡ None) × AreApart es
+
 -- one string more has this number, which none had; the others keep theirs
 pub record Adds (old : Numbered) (s : List ℕ) (n : ℕ) (new : Numbered) : Type 0 where
   pub absent : number_of old s ≡ None

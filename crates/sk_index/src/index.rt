@@ -2,7 +2,7 @@
 ghost use Rattle.std.specs.Prelude.{◌≡◌, ◌≤◌, ℕ, true, false, [], None, Some, IfOk, IfSome, OnErr, OnSome, length};
 ghost use Rattle.std.specs.Option.{option_map};
 ghost use Rattle.std.specs.Hash.DefaultHasher.{finish, write};
-ghost use Rattle.sk_index.specs.Index.{number_of, string_of, Adds, Removes};
+ghost use Rattle.sk_index.specs.Index.{number_of, string_of, Adds, AreApart, Removes};
 
 use crate::Number;
 use slab::Slab;
@@ -119,7 +119,8 @@ impl Index {
 
     /// How many strings there are.
     pub fn len(&self) -> usize
-        ensures { result ≡ length self.now }
+        ensures many { result ≡ length self.now }
+        ensures apart { AreApart self.now }
     {
         self.strings.len()
     }

@@ -1,5 +1,5 @@
 //! The kernel.
-ghost use Rattle.std.specs.Prelude.{◌≡◌, ◌==◌, ◌<◌, ◌∷◌, ◌&&◌, ℕ, [], true, false, None, Some, Option, is_some, is_none, length, get_or, IfErr, IfOk, IfSome, OnErr, OnOk};
+ghost use Rattle.std.specs.Prelude.{◌≡◌, ◌≢◌, ◌==◌, ◌<◌, ◌∷◌, ◌&&◌, ℕ, [], true, false, None, Some, Option, is_some, is_none, length, get_or, IfErr, IfOk, IfSome, OnErr, OnOk};
 ghost use Rattle.std.specs.List.Sorted.{IsStrictlySortedBy};
 ghost use Rattle.std.specs.Int.NonZero.{non_zero_u16_get};
 ghost use Rattle.std.specs.Map.Iter.{ShowsInOrder, deref};
@@ -15,6 +15,7 @@ ghost use Rattle.sk_slots.specs.Slots.{look_at, log_at};
 ghost use Rattle.sk_speculator.specs.Calls.{next_of, Commits, CommitPost, FailsIn, FailPost, Refuses, Takes, TookBack};
 ghost use Rattle.sk_speculator.specs.Emptied.{IsEmptied};
 ghost use Rattle.sk_speculator.specs.Parts.{deed, machine_of, made_by, undo_state_of, IsSame};
+ghost use Rattle.sk_speculator.specs.declared.refusal.Refusal.TheVariants.{Memory};
 
 use crate::asking::{StepTags, ask, perform};
 use crate::lists::{relieve_all, tags_of};
@@ -150,6 +151,20 @@ impl<K: Key, V, O, I: Inversion<V>> Speculator<K, V, O, I> {
         ensures { result ≡ self.now.guesses.limit }
     {
         self.guesses.limit()
+    }
+
+    /// The number of the next guess; or why none may be drawn, whatever its step is. Where one may, only memory can be wanting.
+    pub fn next_guess(&self) -> Result<GuessId, Refusal>
+        ensures ok { IfOk result (λ id. id ≡ next_of self.now.guesses) }
+        ensures may { OnOk result (Refuses self.now Memory) }
+        ensures why { IfErr result (λ why. (why ≢ Memory) × Refuses self.now why) }
+    {
+        let is_full = self.guesses.is_full();
+        match self.guesses.free() {
+            _ if is_full => Err(Refusal::TooMany),
+            Some(id) => Ok(id),
+            None => Err(Refusal::NoNumber),
+        }
     }
 
     /// The number of the oldest undecided guess, or of the next one where none is undecided: each guess below it is decided.

@@ -1,12 +1,10 @@
-//! What actors do: step functions of the values that they look at.
-use sk_speculator::Step;
-use std::alloc::{AllocError, Global};
+//! What actors do: steps that are functions of the values that they look at.
 
 /// How many keys there are; the last two are those of the actors.
-pub const KEYS: u16 = 8;
+pub const KEYS: u32 = 8;
 
 /// The key of the first actor.
-pub const ACTORS: u16 = 6;
+pub const ACTORS: u32 = 6;
 
 /// How many channels there are.
 pub const CHANNELS: u16 = 3;
@@ -15,13 +13,37 @@ pub const CHANNELS: u16 = 3;
 #[derive(Clone, Copy, Drop)]
 pub struct Job {
     /// The key of the actor; none where the step is nobody's.
-    pub actor: Option<u16>,
-    pub looks: Option<u16>,
-    pub writes: Option<u16>,
+    pub actor: Option<u32>,
+    pub looks: Option<u32>,
+    pub writes: Option<u32>,
     /// A second write, maybe of the same key.
-    pub also: Option<u16>,
+    pub also: Option<u32>,
     pub says: Option<u16>,
     pub number: u64,
+}
+
+/// The keys that a step looks at, its writes, and what it says.
+#[derive(Clone, Copy, Drop)]
+pub struct Deed {
+    pub looked: [Option<u32>; 2],
+    /// The keys that are written, and what they have then.
+    pub written: [(Option<u32>, Option<u64>); 3],
+    pub said: Option<(u16, u64)>,
+}
+
+/// A step that does nothing.
+pub const NOTHING: Deed = Deed {
+    looked: [None; 2],
+    written: [(None, None); 3],
+    said: None,
+};
+
+/// The bit of the key, the channel or the guess at a place.
+pub fn bit_of(place: usize) -> u64 {
+    match place {
+        0..=63 => 1u64 << place,
+        _ => 0,
+    }
 }
 
 /// A number that has something of two others.
@@ -50,43 +72,20 @@ impl Job {
         mixed(mixed(self.number, number_of(own)), number_of(seen))
     }
 
-    /// Puts into a step's buffers what it does, where its keys have these values.
-    pub fn fill(
-        &self,
-        own: Option<u64>,
-        seen: Option<u64>,
-        step: &mut Step<u16, u64, u64>,
-    ) -> Result<(), AllocError> {
+    /// What it does, where its keys have these values.
+    pub fn deed(&self, own: Option<u64>, seen: Option<u64>) -> Deed {
         let outcome = self.outcome(own, seen);
-        if let Some(actor) = self.actor {
-            step.looked.push(actor)?;
-            step.written.push((actor, Some(number_of(own))))?;
+        Deed {
+            looked: [self.actor, self.looks],
+            written: [
+                (self.actor, Some(number_of(own))),
+                (self.writes, value_of(outcome)),
+                (self.also, value_of(outcome / 4)),
+            ],
+            said: match self.says {
+                Some(channel) => Some((channel, outcome)),
+                None => None,
+            },
         }
-        if let Some(key) = self.looks {
-            step.looked.push(key)?;
-        }
-        if let Some(key) = self.writes {
-            step.written.push((key, value_of(outcome)))?;
-        }
-        if let Some(key) = self.also {
-            step.written.push((key, value_of(outcome / 4)))?;
-        }
-        step.said = match self.says {
-            Some(channel) => Some((channel, outcome)),
-            None => None,
-        };
-        Ok(())
-    }
-
-    /// The step that it is, where its keys have these values.
-    pub fn step(
-        &self,
-        alloc: Global,
-        own: Option<u64>,
-        seen: Option<u64>,
-    ) -> Result<Step<u16, u64, u64>, AllocError> {
-        let mut step = Step::new(alloc);
-        self.fill(own, seen, &mut step)?;
-        Ok(step)
     }
 }

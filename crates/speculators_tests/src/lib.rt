@@ -1,14 +1,35 @@
-//! Tests of the kernel over its user's own keys: worked rows, and random runs, each held after each call against a plain record of
-//! the steps that depend on no failed guess, which does them again from nothing.
+//! Tests of the kernels over their user's own keys, numbers and byte strings: keys that are too long, keys that come and go, random runs,
+//! each held after each call against a plain record of the steps that depend on no failed guess, which does them again from nothing,
+//! and what grows past 70,000 in them, in requests and in commands, with ample memory.
 #![tactic(auto)]
 
 #[cfg(test)]
+mod byte_runs;
+#[cfg(test)]
+mod byte_strings;
+#[cfg(test)]
+mod edges;
+#[cfg(test)]
+mod growths;
+#[cfg(test)]
+mod held_growths;
+#[cfg(test)]
 mod job;
 #[cfg(test)]
+mod kernel;
+#[cfg(test)]
+mod numbers;
+#[cfg(test)]
+mod own;
+#[cfg(test)]
 mod record;
+#[cfg(test)]
+mod request_growths;
 #[cfg(test)]
 mod runs;
 #[cfg(test)]
 mod session;
+#[cfg(test)]
+mod step;
 #[cfg(test)]
 mod wrong;

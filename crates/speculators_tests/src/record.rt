@@ -1,7 +1,6 @@
 //! A plain record of the steps that depend on no failed guess, and what they come to.
-use crate::job::{Job, KEYS};
+use crate::job::{Deed, Job, KEYS, bit_of};
 use sk_ids::GuessId;
-use sk_speculator::Step;
 use std::alloc::{AllocError, Global};
 
 /// A step that was taken, with its guess while that is undecided.
@@ -11,24 +10,22 @@ struct Taken {
     guess: Option<GuessId>,
 }
 
-/// An output that was said.
+/// An output that was said, and whether it rests on an undecided guess.
 #[derive(Clone, Copy, Drop)]
 pub struct Heard {
-    pub channel: u16,
-    pub output: u64,
-    /// Whether it rests on an undecided guess.
-    pub rests: bool,
+    channel: u16,
+    output: u64,
+    rests: bool,
 }
 
-/// What a key has, and which of the undecided guesses it rests on.
+/// What a key has, and a bit for each of the undecided guesses that it rests on, in their order.
 #[derive(Clone, Copy, Drop)]
 pub struct Cell {
     pub value: Option<u64>,
-    /// A bit for each undecided guess, in their order.
     pub rests: u64,
 }
 
-/// The steps that depend on no failed guess, in order, and the undecided guesses, in order.
+/// The steps that depend on no failed guess, and the undecided guesses, in order.
 #[derive(Drop)]
 pub struct Record {
     alloc: Global,
@@ -39,85 +36,66 @@ pub struct Record {
 /// What a plain run of the steps comes to.
 #[derive(Drop)]
 pub struct Reckoning {
-    /// What each key has.
-    pub cells: Vec<Cell>,
-    pub heard: Vec<Heard>,
+    cells: [Cell; KEYS as usize],
+    heard: Vec<Heard>,
     /// A bit for each undecided guess that the step at this place depends on.
     steps: Vec<u64>,
 }
 
-/// The bit of the guess at a place.
-pub fn bit_of(place: usize) -> u64 {
-    match place {
-        0..=63 => 1u64 << place,
-        _ => 0,
-    }
-}
+/// What an absent key has.
+const ABSENT: Cell = Cell {
+    value: None,
+    rests: 0,
+};
 
 impl Reckoning {
-    fn new(alloc: Global) -> Result<Reckoning, AllocError> {
-        let mut cells = Vec::new(alloc);
-        for _ in 0..KEYS {
-            cells.push(Cell {
-                value: None,
-                rests: 0,
-            })?;
-        }
-        Ok(Reckoning {
-            cells,
+    fn new(alloc: Global) -> Reckoning {
+        Reckoning {
+            cells: [ABSENT; KEYS as usize],
             heard: Vec::new(alloc),
             steps: Vec::new(alloc),
-        })
+        }
     }
 
     /// What a key has.
-    pub fn cell(&self, key: u16) -> Cell {
+    pub fn cell(&self, key: Option<u32>) -> Cell {
+        let Some(key) = key else {
+            return ABSENT;
+        };
         match self.cells.get(key as usize) {
             Some(cell) => *cell,
-            None => Cell {
-                value: None,
-                rests: 0,
-            },
-        }
-    }
-
-    fn value(&self, key: Option<u16>) -> Option<u64> {
-        match key {
-            Some(key) => self.cell(key).value,
-            None => None,
+            None => ABSENT,
         }
     }
 
     /// The guesses that a step rests on through what it looks at and writes.
-    fn rests(&self, step: &Step<u16, u64, u64>) -> u64 {
+    fn rests(&self, deed: &Deed) -> u64 {
         let mut rests = 0;
-        for key in &step.looked {
-            rests |= self.cell(*key).rests;
+        for key in deed.looked {
+            rests |= self.cell(key).rests;
         }
-        for write in &step.written {
-            rests |= self.cell(write.0).rests;
+        for (key, _) in deed.written {
+            rests |= self.cell(key).rests;
         }
         rests
     }
 
-    /// Makes a step's writes.
-    fn writes(&mut self, step: &Step<u16, u64, u64>, rests: u64) {
-        for write in &step.written {
-            if let Some(cell) = self.cells.get_mut(write.0 as usize) {
-                *cell = Cell {
-                    value: write.1,
-                    rests,
-                };
+    fn write(&mut self, key: Option<u32>, value: Option<u64>, rests: u64) {
+        if let Some(key) = key {
+            if let Some(cell) = self.cells.get_mut(key as usize) {
+                *cell = Cell { value, rests };
             }
         }
     }
 
     /// A step more, which also rests on this guess.
-    fn takes(&mut self, alloc: Global, job: &Job, own: u64) -> Result<(), AllocError> {
-        let step = job.step(alloc, self.value(job.actor), self.value(job.looks))?;
-        let rests = own | self.rests(&step);
-        self.writes(&step, rests);
-        if let Some((channel, output)) = step.said {
+    fn takes(&mut self, job: &Job, own: u64) -> Result<(), AllocError> {
+        let deed = job.deed(self.cell(job.actor).value, self.cell(job.looks).value);
+        let rests = own | self.rests(&deed);
+        for (key, value) in deed.written {
+            self.write(key, value, rests);
+        }
+        if let Some((channel, output)) = deed.said {
             self.heard.push(Heard {
                 channel,
                 output,
@@ -128,15 +106,27 @@ impl Reckoning {
         Ok(())
     }
 
-    /// Whether these are the keys that rest on the guess at a place, by rising order.
-    pub fn are_dependents(&self, place: usize, keys: &[u16]) -> bool {
-        let mut keys = keys.iter();
+    /// A bit for each key that rests on the guess at a place.
+    pub fn dependents(&self, place: usize) -> u64 {
+        let mut keys = 0;
         for key in 0..KEYS {
-            if self.cell(key).rests & bit_of(place) != 0 && keys.next() != Some(&key) {
-                return false;
+            if self.cell(Some(key)).rests & bit_of(place) != 0 {
+                keys |= bit_of(key as usize);
             }
         }
-        keys.next().is_none()
+        keys
+    }
+
+    /// A bit for each key that is there or rests on a guess.
+    pub fn keys(&self) -> u64 {
+        let mut keys = 0;
+        for key in 0..KEYS {
+            let cell = self.cell(Some(key));
+            if cell.value.is_some() || cell.rests != 0 {
+                keys |= bit_of(key as usize);
+            }
+        }
+        keys
     }
 
     /// The output of a channel behind so many, if neither it nor one before it rests on a guess.
@@ -184,12 +174,11 @@ impl Record {
     }
 
     /// A step more, with its guess or none.
-    pub fn take(&mut self, job: Job, guess: Option<GuessId>) -> Result<(), AllocError> {
-        self.reserve()?;
+    pub fn take(&mut self, job: &Job, guess: Option<GuessId>) -> Result<(), AllocError> {
         if let Some(id) = &guess {
             self.undecided.push(*id)?;
         }
-        self.taken.push(Taken { job, guess })?;
+        self.taken.push(Taken { job: *job, guess })?;
         Ok(())
     }
 
@@ -198,7 +187,7 @@ impl Record {
     }
 
     /// The place of a guess among the undecided ones.
-    fn place(&self, id: GuessId) -> Option<usize> {
+    pub fn place(&self, id: GuessId) -> Option<usize> {
         self.undecided.iter().position(|other| *other == id)
     }
 
@@ -215,10 +204,10 @@ impl Record {
 
     /// What a plain run of the steps comes to: each is done again, on what is there then.
     pub fn reckon(&self) -> Result<Reckoning, AllocError> {
-        let mut reckoning = Reckoning::new(self.alloc)?;
+        let mut reckoning = Reckoning::new(self.alloc);
         for taken in &self.taken {
             let own = self.bit(taken.guess);
-            reckoning.takes(self.alloc, &taken.job, own)?;
+            reckoning.takes(&taken.job, own)?;
         }
         Ok(reckoning)
     }

@@ -2,10 +2,12 @@
 ghost use Rattle.std.specs.Prelude.{◌<◌};
 
 use crate::job::{ACTORS, CHANNELS, Job};
+use crate::kernel::Kernel;
 use crate::session::Session;
 use crate::wrong::Wrong;
 use rand_core::Rng;
 use rand_pcg::Pcg32;
+use sk_speculator::Speculator;
 use std::alloc::Global;
 use std::num::NonZeroU16;
 use std::process::Abort;
@@ -30,18 +32,14 @@ fn below(rng: &mut Pcg32, limit: u32) -> u32
 }
 
 /// A key that is no actor's, or none.
-fn any_key(rng: &mut Pcg32, others: u16) -> Option<u16> {
-    let key = below(rng, u32::from(ACTORS.saturating_add(others)).max(1));
-    if key < u32::from(ACTORS) {
-        Some(key as u16)
-    } else {
-        None
-    }
+fn any_key(rng: &mut Pcg32, others: u32) -> Option<u32> {
+    let key = below(rng, ACTORS.saturating_add(others).max(1));
+    if key < ACTORS { Some(key) } else { None }
 }
 
 /// A step of one of two actors, or of nobody.
 fn any_job(rng: &mut Pcg32) -> Job {
-    let actor = below(rng, 4) as u16;
+    let actor = below(rng, 4);
     let says = below(rng, 6) as u16;
     Job {
         actor: if actor < 2 {
@@ -58,12 +56,14 @@ fn any_job(rng: &mut Pcg32) -> Job {
 }
 
 /// One call, judged.
-fn call(rt: &impl Abort, rng: &mut Pcg32, session: &mut Session) -> Result<(), Wrong> {
+fn call<K: Kernel>(
+    rt: &impl Abort,
+    rng: &mut Pcg32,
+    session: &mut Session<K>,
+) -> Result<(), Wrong> {
     match below(rng, 8) {
-        0..=2 => session.take(any_job(rng))?,
-        3 | 4 => {
-            session.guess(any_job(rng))?;
-        }
+        0..=2 => session.take(&any_job(rng))?,
+        3 | 4 => session.guess(&any_job(rng))?,
         5 => session.decide(rt, below(rng, 4) as usize, false)?,
         6 => session.decide(rt, below(rng, 4) as usize, true)?,
         _ => session.release(below(rng, CHANNELS as u32) as u16)?,
@@ -72,7 +72,7 @@ fn call(rt: &impl Abort, rng: &mut Pcg32, session: &mut Session) -> Result<(), W
 }
 
 /// The calls of a run.
-fn plays(rt: &impl Abort, number: u64, session: &mut Session) -> Result<(), Wrong> {
+fn plays<K: Kernel>(rt: &impl Abort, number: u64, session: &mut Session<K>) -> Result<(), Wrong> {
     let mut rng = Pcg32::new(number, 11);
     for _ in 0..CALLS {
         call(rt, &mut rng, session)?;
@@ -80,24 +80,45 @@ fn plays(rt: &impl Abort, number: u64, session: &mut Session) -> Result<(), Wron
     Ok(())
 }
 
-/// A run to its end.
-fn run(rt: &impl Abort, alloc: Global, number: u64) -> Result<(), Wrong> {
-    let Some(limit) = NonZeroU16::new(LIMIT) else {
-        unreachable!();
-    };
-    let mut session = Session::new(alloc, limit);
+/// A run of a kernel to its end, where a growth may be refused or not.
+pub fn run<K: Kernel>(
+    rt: &impl Abort,
+    alloc: Global,
+    kernel: K,
+    number: u64,
+    may_lack: bool,
+) -> Result<(), (u64, Wrong)> {
+    let mut session = Session::new(alloc, kernel, may_lack);
     let played = plays(rt, number, &mut session);
-    session.end(rt)?;
-    played
+    match played.and(session.end(rt)) {
+        Ok(()) => Ok(()),
+        Err(wrong) => Err((number, wrong)),
+    }
+}
+
+/// How many guesses may be undecided at once.
+pub fn limit() -> NonZeroU16 {
+    match NonZeroU16::new(LIMIT) {
+        Some(limit) => limit,
+        None => unreachable!(),
+    }
+}
+
+/// A run over numbers.
+fn number_run(
+    rt: &impl Abort,
+    alloc: Global,
+    number: u64,
+    may_lack: bool,
+) -> Result<(), (u64, Wrong)> {
+    let kernel = Speculator::new(alloc, 7, limit());
+    run(rt, alloc, kernel, number, may_lack)
 }
 
 #[test]
 fn as_a_plain_run(rt: HostRuntime) -> Result<(), (u64, Wrong)> {
     for number in 0..RUNS {
-        match run(&rt, rt.alloc(), number) {
-            Ok(()) => {}
-            Err(wrong) => return Err((number, wrong)),
-        }
+        number_run(&rt, rt.alloc(), number, false)?;
     }
     Ok(())
 }
@@ -106,10 +127,7 @@ fn as_a_plain_run(rt: HostRuntime) -> Result<(), (u64, Wrong)> {
 #[test]
 fn once_more(rt: HostRuntime) -> Result<(), (u64, Wrong)> {
     for number in RUNS..RUNS + REFUSED_RUNS {
-        match run(&rt, rt.alloc(), number) {
-            Ok(()) => {}
-            Err(wrong) => return Err((number, wrong)),
-        }
+        number_run(&rt, rt.alloc(), number, true)?;
     }
     Ok(())
 }

@@ -1,10 +1,11 @@
-//! What a run finds wrong.
-use std::alloc::{AllocError, AllocFailed};
+//! What a test finds wrong.
+use sk_speculator::Refusal;
+use std::alloc::AllocError;
 
-/// Why a run does not pass.
+/// Why a test does not pass.
 #[derive(Clone, Copy, Debug, PartialEq, Eq)]
 pub enum Wrong {
-    /// The run itself has no memory.
+    /// The test itself has no memory.
     Memory,
     /// Other keys are there.
     Keys,
@@ -26,8 +27,6 @@ pub enum Wrong {
     Buffers,
     /// A call is refused that should not be, or is not that should be.
     Refused,
-    /// A token comes back.
-    Stranger,
 }
 
 impl From<AllocError> for Wrong {
@@ -36,9 +35,12 @@ impl From<AllocError> for Wrong {
     }
 }
 
-impl<T: Drop> From<AllocFailed<T>> for Wrong {
-    fn from(_: AllocFailed<T>) -> Wrong {
-        Wrong::Memory
+impl From<Refusal> for Wrong {
+    fn from(why: Refusal) -> Wrong {
+        match why {
+            Refusal::Memory => Wrong::Memory,
+            _ => Wrong::Refused,
+        }
     }
 }
 

@@ -6,7 +6,7 @@ use std::io;
 use thiserror::Error;
 
 /// Why a run does not pass.
-#[derive(Debug, Drop, Error)]
+#[derive(Clone, Copy, Debug, Error)]
 pub enum Finding {
     // The run itself went wrong.
     #[error(transparent)]
@@ -35,29 +35,12 @@ pub enum Finding {
     Entities,
     #[error("an entity has another value")]
     Value,
-    #[error("an entity depends on other guesses")]
-    Tags,
-    #[error("a directory has another number of names")]
-    Names,
-    #[error("what rests on a guess is not what has its tag")]
-    Dependents,
-    #[error("something else became of a guess")]
-    Status,
     #[error("a terminal shows other texts")]
     Terminal,
     #[error("other guesses are undecided")]
     Undecided,
-    #[error("the trace has another number of free places")]
-    Room,
     #[error("something is not as it was before memory was wanted")]
     Changed,
-    // What it answers.
-    #[error("a call is answered otherwise")]
-    Answer,
-    #[error("a lease or its hand-in is answered otherwise")]
-    HandIn,
-    #[error("an epoch begins elsewhere, or hands out something else")]
-    Epoch,
     // Its requests, and the server's files.
     #[error("the requests are others")]
     Requests,
@@ -65,8 +48,6 @@ pub enum Finding {
     Pending,
     #[error("a file of the server is not what its edits and accepted stores make it")]
     Files,
-    #[error("an accepted store has no step, or a step that stores has no accepted store")]
-    Store,
     // The history of a crew.
     #[error("the crew has no history")]
     Crew,

@@ -16,8 +16,13 @@ fn is_same(one: Option<View>, other: Option<View>) -> bool {
     }
 }
 
+/// Whether an entity has the same with a kernel and with the plain kernel.
+pub fn has_value(kernel: &Kernel, plain: &Plain, entity: &Entity) -> bool {
+    is_same(kernel.value(entity), plain.value(entity))
+}
+
 /// Compares the entities that are present: hands them out.
-pub fn judge_present(kernel: &Kernel, plain: &Plain) -> Result<Vec<Entity>, Finding> {
+fn judge_present(kernel: &Kernel, plain: &Plain) -> Result<Vec<Entity>, Finding> {
     let present = kernel.entities()?;
     if present != plain.entities()? {
         return Err(Finding::Entities);
@@ -26,8 +31,8 @@ pub fn judge_present(kernel: &Kernel, plain: &Plain) -> Result<Vec<Entity>, Find
 }
 
 /// Compares what an entity has.
-pub fn judge_value(kernel: &Kernel, plain: &Plain, entity: &Entity) -> Result<(), Finding> {
-    if is_same(kernel.value(entity), plain.value(entity)) {
+fn judge_value(kernel: &Kernel, plain: &Plain, entity: &Entity) -> Result<(), Finding> {
+    if has_value(kernel, plain, entity) {
         Ok(())
     } else {
         Err(Finding::Value)
@@ -54,15 +59,25 @@ pub fn judge_settled(alloc: Global, boot: &Boot, kernel: &Kernel) -> Result<(), 
         return Err(Finding::Undecided);
     }
     let plain = plain_after(alloc, boot, kernel.trace())?;
-    judge_values(kernel, &plain)?;
-    judge_terminals(boot, kernel, &plain)
+    judge_all(boot, kernel, &plain)
+}
+
+/// Compares all that is there, and all that is said.
+fn judge_all(boot: &Boot, kernel: &Kernel, plain: &Plain) -> Result<(), Finding> {
+    judge_values(kernel, plain)?;
+    judge_terminals(boot, kernel, plain)
 }
 
 /// The plain kernel on a struck trace.
 fn plain_after(alloc: Global, boot: &Boot, trace: &Trace) -> Result<Plain, Finding> {
     let entries = strike(alloc, boot, trace)?;
+    plain_on(alloc, boot, &entries)
+}
+
+/// The plain kernel on these entries.
+fn plain_on(alloc: Global, boot: &Boot, entries: &[Entry]) -> Result<Plain, Finding> {
     let mut plain = Plain::boot(alloc, boot)?;
-    take_all(&mut plain, &entries)?;
+    take_all(&mut plain, entries)?;
     Ok(plain)
 }
 
@@ -76,7 +91,11 @@ fn take_all(plain: &mut Plain, entries: &[Entry]) -> Result<(), Finding> {
 /// Compares all that is there.
 fn judge_values(kernel: &Kernel, plain: &Plain) -> Result<(), Finding> {
     let present = judge_present(kernel, plain)?;
-    for entity in &present {
+    judge_each(kernel, plain, &present)
+}
+
+fn judge_each(kernel: &Kernel, plain: &Plain, entities: &[Entity]) -> Result<(), Finding> {
+    for entity in entities {
         judge_value(kernel, plain, entity)?;
     }
     Ok(())

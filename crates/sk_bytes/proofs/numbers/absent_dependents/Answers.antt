@@ -1,5 +1,5 @@
 -- One number more.
-use Rattle.std.proofs.Common.{◌≡◌, ◌+◌, ◌++◌, ◌∷◌, [], take, sym, ap, ◌∙◌, subst}
+use Rattle.std.proofs.Common.{take, sym, ap, ◌∙◌, subst}
 use Rattle.std.specs.Ordering.{nat_cmp}
 use Rattle.sk_record.specs.Effects.{is_in}
 use Rattle.sk_speculator.proofs.Writing.{take_all, take_next}

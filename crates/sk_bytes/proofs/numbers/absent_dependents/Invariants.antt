@@ -1,8 +1,5 @@
 -- The first absent ones are listed.
-use Rattle.std.proofs.Common.{◌≡◌, ℕ, true, None, take}
-use Rattle.std.specs.Ordering.{nat_cmp}
-use Rattle.sk_record.specs.Effects.{is_in}
-use Rattle.sk_slots.specs.Slots.{look_at}
+use Rattle.std.proofs.Common.{take}
 use Rattle.sk_bytes.proofs.Moves.{AbsentIn}
 use Rattle.sk_bytes.proofs.numbers.absent_dependents.Given as goal
 

@@ -5,4 +5,4 @@ use Rattle.sk_commands.proofs.run.count.Given as goal
 abbrev pub invariant-loop-key : goal.invariant-loop-key
 invariant-loop-key g l =
     (n : ℕ) × (l.count ≡ pos n) × (n ≤ l.key-index)
-    × (n + count_by (λ key. is_some (g.S.Look.look l.store key)) (map vec_items (drop l.key-index l.key-items)) ≡ count_by (λ key. is_some (g.S.Look.look l.store key)) (map vec_items l.key-items))
+    × (n + count_by (λ key. is_some (g.S.Look.look l.store key)) (map vec_items (drop l.key-index l.keys)) ≡ count_by (λ key. is_some (g.S.Look.look l.store key)) (map vec_items l.keys))

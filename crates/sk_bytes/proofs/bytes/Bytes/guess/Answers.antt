@@ -2,10 +2,12 @@
 use Rattle.std.proofs.Common.{Some, sym, ap, ◌∙◌, subst}
 use Rattle.std.specs.Ordering.{nat_cmp}
 use Rattle.std.specs.Vec.{vec_items}
+use Rattle.std.proofs.lemmas.Result.{err_from_is_err_and}
 use Rattle.sk_deeds.specs.Deed.{Deed}
 use Rattle.sk_record.specs.Effects.{is_in}
 use Rattle.sk_index.specs.Index.{bytes_cmp, number_of}
-use Rattle.sk_speculator.specs.Calls.{next_of, Takes}
+use Rattle.sk_speculator.specs.Calls.{next_of, Refuses, Takes}
+use Rattle.sk_speculator.specs.declared.refusal.Refusal.TheVariants as inner
 use Rattle.sk_speculator.specs.Parts.{Parts}
 use Rattle.sk_speculator.proofs.Afterwards.{next_above}
 use Rattle.sk_speculator.proofs.Writing.{from_ok}
@@ -14,7 +16,7 @@ use Rattle.sk_bytes.specs.Calls.{RefusesGuess}
 use Rattle.sk_bytes.specs.Steps.{byte_deed, deed_in}
 use Rattle.sk_bytes.specs.Told.{told_of, ByteView, Fits, UsedBut}
 use Rattle.sk_bytes.proofs.Told.{takes_told}
-use Rattle.sk_bytes.proofs.Fitting.{any_err, fits_less, fits_more, fits_same, fits_taken, refused, told_still, unchanged, writes_names}
+use Rattle.sk_bytes.proofs.Fitting.{any_err, fits_less, fits_more, fits_same, fits_taken, refused, refused_next, told_still, unchanged, writes_names}
 use Rattle.sk_bytes.proofs.Used.{used_less, used_more, used_same, used_taken}
 use Rattle.sk_bytes.proofs.bytes.Bytes.guess.Goals as goal
 
@@ -24,6 +26,28 @@ returns-in_err-checked-clause-err g c =
     let m = c.self.inside.kernel in
     let one = fits_less es c.let_go.new.self.index m (is_in nat_cmp c.self.inside.keys.loose.items) c.self.invariant.0.fits c.let_go.ensures.gone in
     any_err c.from_residual.result (unchanged c.args.self.now es c.let_go.new.self.index m m c.self.inside.keys.loose.items c.let_go.new.self.loose.items c.self.view_is one.1 c.let_go.ensures.loose)
+
+pub returns-in_err-next_number-clause-err : goal.returns-in_err-next_number-clause-err
+returns-in_err-next_number-clause-err g c =
+    let es = c.self.inside.keys.index in
+    let m = c.self.inside.kernel in
+    let one = fits_less es c.let_go.new.self.index m (is_in nat_cmp c.self.inside.keys.loose.items) c.self.invariant.0.fits c.let_go.ensures.gone in
+    any_err c.from_residual-in_err-next_number.result
+    (unchanged c.args.self.now es c.let_go.new.self.index m m c.self.inside.keys.loose.items c.let_go.new.self.loose.items c.self.view_is one.1 c.let_go.ensures.loose)
+
+pub returns-in_err-next_number-clause-why : goal.returns-in_err-next_number-clause-why
+returns-in_err-next_number-clause-why g c =
+    let told = err_from_is_err_and c.from_residual-in_err-next_number.result c.from_residual-in_err-next_number.ensures.1 in
+    let why = c.in_err-next_number.field-0.0 in
+    rw told.1 (subst (RefusesGuess c.args.self.now.parts c.args.step.now) (sym told.2)
+    (subst (λ (v : ByteView _ _). RefusesGuess v.parts c.args.step.now why) c.self.view_is
+    (refused_next c.self.inside.keys.index c.self.inside.kernel c.args.step.now why c.in_ok-checked.ensures.ok c.in_err-next_number.ensures.why)))
+
+pub returns-then-is_err-clause-why : goal.returns-then-is_err-clause-why
+returns-then-is_err-clause-why g c = (
+  c.in_ok-checked.ensures.ok,
+  subst (λ (v : ByteView _ _). Refuses v.parts inner.Memory) c.self.view_is c.in_ok-next_number.ensures.may,
+)
 
 pub returns-then-is_err-clause-err : goal.returns-then-is_err-clause-err
 returns-then-is_err-clause-err g c =

@@ -1,7 +1,11 @@
--- As many as there are places with a string.
-use Rattle.std.proofs.Common.{length, sym, ap, ◌∙◌}
-use Rattle.sk_index.proofs.Counts.{length-numbered}
+-- As many as there are places with a string, and none is there twice.
+use Rattle.std.proofs.Common.{length, sym, ap, ◌∙◌, subst}
+use Rattle.sk_index.specs.Index.{AreApart}
+use Rattle.sk_index.proofs.Counts.{apart_numbered, length-numbered}
 use Rattle.sk_index.proofs.index.Index.len.Goals as goal
 
-pub returns : goal.returns
-returns c = c.len.ensures ∙ sym (length-numbered 0 c.self.inside.strings.slots) ∙ ap length c.self.view_is
+pub returns-clause-many : goal.returns-clause-many
+returns-clause-many c = c.len.ensures ∙ sym (length-numbered 0 c.self.inside.strings.slots) ∙ ap length c.self.view_is
+
+pub returns-clause-apart : goal.returns-clause-apart
+returns-clause-apart c = subst AreApart c.self.view_is (apart_numbered 0 c.self.inside.strings.slots c.self.invariant.apart)

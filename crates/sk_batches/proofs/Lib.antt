@@ -1,0 +1,5 @@
+pub mod Lists
+pub mod Order
+pub mod Synced
+pub mod Lost
+pub mod Rest

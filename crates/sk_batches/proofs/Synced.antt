@@ -1,0 +1,557 @@
+-- Each batch stands where its frame is in the log, and what is told as logged stands behind nothing that is not synced.
+use Rattle.std.proofs.Common.{◌≡◌, ltb, ℕ, ◌+◌, ◌<◌, ◌≤◌, Bool, true, false, cond, ◌||◌, ◌&&◌, List, [], ◌∷◌, ◌++◌, map, Option, Some, None, inl, inr, refl, sym, ◌∙◌, ap, subst, arith}
+use Rattle.std.specs.Prelude.{◌⊎◌, ◌==◌, nat_lt}
+use Rattle.std.specs.List.{filter, list_any}
+use Rattle.std.proofs.lemmas.Bool.{true≢false, false≢true, eqb-true, eqb-false, eq-eqb, or_left, or_right, or_cases, ltb-true, ltb-false, lt-ltb}
+use Rattle.sk_batches.specs.declared.batch.Stage.{Stage}
+use Rattle.sk_batches.specs.declared.batch.Stage.TheVariants.{Kept, Sent, Synced, Failed, Refused}
+use Rattle.sk_batches.specs.declared.batch.Batch.{Batch}
+use Rattle.sk_batches.specs.declared.queue.Cut.{Cut}
+use Rattle.sk_batches.specs.Records.{RecordView, kept}
+use Rattle.sk_batches.specs.Queue.{QueueView, send, tell, awaits, cut_off, first_failed, last_in, is_kept, is_sent, is_failed, is_decided, left, past}
+use Rattle.sk_batches.specs.Runs.{Call, Appends, Withdraws, Takes, Syncs, Fails, Decides, Cuts, Stops, Happens, Runs, Story, story_after, synced_after, with_decided, with_oldest, has, LogsWhatIsSynced}
+use Rattle.sk_log.specs.declared.frame.TheConstants.{NUMBER_LIMIT}
+
+-- ---- tests
+
+first_holds : (x y : Bool) → (x && y) ≡ true → x ≡ true
+first_holds true y e = refl
+first_holds false y e = e
+
+second_holds : (x y : Bool) → (x && y) ≡ true → y ≡ true
+second_holds true y e = e
+second_holds false y e = absurd (false≢true e)
+
+both_hold : (x y : Bool) → x ≡ true → y ≡ true → (x && y) ≡ true
+both_hold true y a b = b
+both_hold false y a b = a
+
+not_second : (x y : Bool) → y ≡ false → (x && y) ≡ false
+not_second true y e = e
+not_second false y e = refl
+
+sent_undecided : (s : Stage) → is_sent s ≡ true → is_decided s ≡ false
+sent_undecided Kept e = refl
+sent_undecided Sent e = refl
+sent_undecided Synced e = absurd (false≢true e)
+sent_undecided Failed e = refl
+sent_undecided Refused e = absurd (false≢true e)
+
+sent_unkept : (s : Stage) → is_sent s ≡ true → is_kept s ≡ false
+sent_unkept Kept e = absurd (false≢true e)
+sent_unkept Sent e = refl
+sent_unkept Synced e = refl
+sent_unkept Failed e = refl
+sent_unkept Refused e = refl
+
+decided_unkept : (s : Stage) → is_decided s ≡ true → is_kept s ≡ false
+decided_unkept Kept e = absurd (false≢true e)
+decided_unkept Sent e = refl
+decided_unkept Synced e = refl
+decided_unkept Failed e = refl
+decided_unkept Refused e = refl
+
+failed_undecided : (s : Stage) → is_failed s ≡ true → is_decided s ≡ false
+failed_undecided Kept e = refl
+failed_undecided Sent e = refl
+failed_undecided Synced e = absurd (false≢true e)
+failed_undecided Failed e = refl
+failed_undecided Refused e = absurd (false≢true e)
+
+failed_unkept : (s : Stage) → is_failed s ≡ true → is_kept s ≡ false
+failed_unkept Kept e = absurd (false≢true e)
+failed_unkept Sent e = refl
+failed_unkept Synced e = refl
+failed_unkept Failed e = refl
+failed_unkept Refused e = refl
+
+kept_unfailed : (s : Stage) → is_kept s ≡ true → is_failed s ≡ false
+kept_unfailed Kept e = refl
+kept_unfailed Sent e = refl
+kept_unfailed Synced e = refl
+kept_unfailed Failed e = absurd (false≢true e)
+kept_unfailed Refused e = refl
+
+-- what is not to be sent again, not waited for and not failed is decided
+else_decided : (s : Stage) → is_kept s ≡ false → is_sent s ≡ false → is_failed s ≡ false → is_decided s ≡ true
+else_decided Kept a b c = absurd (true≢false a)
+else_decided Sent a b c = absurd (true≢false b)
+else_decided Synced a b c = refl
+else_decided Failed a b c = absurd (true≢false c)
+else_decided Refused a b c = refl
+
+-- ---- frames that are synced
+
+-- all from f up to n
+record AllTold (synced : List ℕ) (f n : ℕ) : Type 0 where
+  pub least : f ≤ n
+  pub told : (k : ℕ) → f ≤ k → k < n → has k synced ≡ true
+
+none_told : (synced : List ℕ) (f : ℕ) → AllTold synced f f
+none_told synced f = record { least = omega arith; told = λ k a b. absurd (omega arith) }
+
+join : (synced : List ℕ) (a b c : ℕ) → AllTold synced a b → AllTold synced b c → AllTold synced a c
+join synced a b c x y =
+    let one = x.least in
+    let two = y.least in
+    record {
+      least = omega arith;
+      told = λ k le lt. elim (ltb k b) as (λ t. ltb k b ≡ t → has k synced ≡ true) [
+        | true ↦ λ e. x.told k le (ltb-true k b e)
+        | false ↦ λ e. y.told k (ltb-false k b e) lt
+      ] refl;
+    }
+
+one_told : (synced : List ℕ) (f n : ℕ) → AllTold synced f n → has n synced ≡ true → AllTold synced f (n + 1)
+one_told synced f n x here =
+    let one = x.least in
+    record {
+      least = omega arith;
+      told = λ k le lt. elim (ltb k n) as (λ t. ltb k n ≡ t → has k synced ≡ true) [
+        | true ↦ λ e. x.told k le (ltb-true k n e)
+        | false ↦ λ e. let least = ltb-false k n e in let same : n ≡ k = omega arith in subst (λ z. has z synced ≡ true) same here
+      ] refl;
+    }
+
+more_told : (synced more : List ℕ) (f n : ℕ) → ((k : ℕ) → k < n → has k synced ≡ true → has k more ≡ true) → AllTold synced f n → AllTold more f n
+more_told synced more f n grows x = record { least = x.least; told = λ k le lt. grows k lt (x.told k le lt) }
+
+-- those below a frame stay
+stays_below : (frame k : ℕ) (ns : List ℕ) → k < frame → has k ns ≡ true → has k (filter (λ n. nat_lt n frame) ns) ≡ true
+stays_below frame k [] lt here = here
+stays_below frame k (n ∷ ns) lt here =
+    elim (nat_lt n frame) as (λ t. nat_lt n frame ≡ t → has k (cond t (n ∷ filter (λ m. nat_lt m frame) ns) (filter (λ m. nat_lt m frame) ns)) ≡ true) [
+      | true ↦ λ e. elim (or_cases (n == k) (has k ns) here) [
+        | inl is ↦ or_left (n == k) (has k (filter (λ m. nat_lt m frame) ns)) is
+        | inr later ↦ or_right (n == k) (has k (filter (λ m. nat_lt m frame) ns)) (stays_below frame k ns lt later)
+      ]
+      | false ↦ λ e. elim (or_cases (n == k) (has k ns) here) [
+        | inl is ↦ let same = eqb-true n k is in let least = ltb-false n frame e in absurd (omega arith)
+        | inr later ↦ stays_below frame k ns lt later
+      ]
+    ] refl
+
+-- ---- the batches in the log
+
+abbrev Before : Type 0
+Before = Option (ℕ × Stage)
+
+abbrev no_batch : Before
+no_batch = None
+
+-- the frame is the next, but for cuts, or that of the batch before, as far as that one; and it is synced where it is decided
+record IsPlaced (synced : List ℕ) (f : ℕ) (prev : Before) (frame : ℕ) (stage : Stage) : Type 0 where
+  pub small : frame < NUMBER_LIMIT
+  pub place : AllTold synced f frame ⊎ (prev ≡ Some (frame, stage))
+  pub told : is_decided stage ≡ true → has frame synced ≡ true
+
+abbrev AllKept : List Batch → Type 0
+AllKept [] = Unit {0}
+AllKept (b ∷ bs) = (is_kept b.stage ≡ true) × AllKept bs
+
+-- from frame f on, behind a batch, where all before are decided or not: each batch is placed, up to those that are to be sent again
+abbrev InLog : List ℕ → ℕ → Before → Bool → List Batch → ℕ → Type 0
+InLog synced f prev calm [] next = AllTold synced f next
+InLog synced f prev calm (b ∷ bs) next =
+    (is_kept b.stage ≡ false → IsPlaced synced f prev b.frame b.stage × InLog synced (b.frame + 1) (Some (b.frame, b.stage)) (calm && is_decided b.stage) bs next)
+    × (is_kept b.stage ≡ true → (calm ≡ true) × AllTold synced f next × AllKept bs)
+
+-- ---- a frame is taken
+
+module _ (synced : List ℕ) (number next : ℕ) (records : List RecordView) (small : next < NUMBER_LIMIT) where
+  abbrev opened : Batch
+  opened = record { number = number; frame = next; stage = Sent; records = records }
+
+  undecided : {P : Type 0} → is_decided Sent ≡ true → P
+  undecided e = absurd (false≢true e)
+
+  unkept : {P : Type 0} → is_kept Sent ≡ true → P
+  unkept e = absurd (false≢true e)
+
+  sent_behind : (calm : Bool) (bs : List Batch) → AllKept bs → InLog synced (next + 1) (Some (next, Sent)) calm (map (send next) bs ++ opened ∷ []) (next + 1)
+  sent_behind calm [] all = (λ _. (record { small = small; place = inr refl; told = undecided }, none_told synced (next + 1)), unkept)
+  sent_behind calm (b ∷ bs) all =
+      subst (λ t. InLog synced (next + 1) (Some (next, Sent)) calm (cond t (record b { frame = next; stage = Sent }) b ∷ (map (send next) bs ++ opened ∷ [])) (next + 1)) (sym all.0)
+      (λ _. (record { small = small; place = inr refl; told = undecided }, sent_behind (calm && false) bs all.1), unkept)
+
+  taken : (f : ℕ) (prev : Before) (calm : Bool) (bs : List Batch) → InLog synced f prev calm bs next → InLog synced f prev calm (map (send next) bs ++ opened ∷ []) (next + 1)
+  taken f prev calm [] so = (λ _. (record { small = small; place = inl so; told = undecided }, none_told synced (next + 1)), unkept)
+  taken f prev calm (b ∷ bs) so =
+      elim (is_kept b.stage) as (λ t. is_kept b.stage ≡ t → InLog synced f prev calm (cond t (record b { frame = next; stage = Sent }) b ∷ (map (send next) bs ++ opened ∷ [])) (next + 1)) [
+        | true ↦ λ is. (λ _. (record { small = small; place = inl (so.1 is).1; told = undecided }, sent_behind (calm && false) bs (so.1 is).2), unkept)
+        | false ↦ λ is. (
+          λ e. ((so.0 e).0, taken (b.frame + 1) (Some (b.frame, b.stage)) (calm && is_decided b.stage) bs (so.0 e).1),
+          λ e. absurd (false≢true (sym is ∙ e)),
+        )
+      ] refl
+
+-- ---- a frame is told of
+
+abbrev told_before : ℕ → Stage → Before → Before
+told_before frame stage None = None
+told_before frame stage (Some x) = Some (x.0, cond (is_sent x.1 && (x.0 == frame)) stage x.1)
+
+kept_told : (frame : ℕ) (stage : Stage) (bs : List Batch) → AllKept bs → AllKept (map (tell frame stage) bs)
+kept_told frame stage [] all = all
+kept_told frame stage (b ∷ bs) all = (
+  elim (awaits frame b) as (λ t. awaits frame b ≡ t → is_kept (cond t (record b { stage = stage }) b).stage ≡ true) [
+    | true ↦ λ e. absurd (true≢false (sym all.0 ∙ sent_unkept b.stage (first_holds (is_sent b.stage) (b.frame == frame) e)))
+    | false ↦ λ e. all.0
+  ] refl,
+  kept_told frame stage bs all.1,
+)
+
+module _ (synced more : List ℕ) (frame : ℕ) (stage : Stage) (grows : (k : ℕ) → has k synced ≡ true → has k more ≡ true) (unkept : is_kept stage ≡ false)
+    (now : is_decided stage ≡ true → has frame more ≡ true) where
+  told : (f : ℕ) (prev : Before) (calm calmer : Bool) (bs : List Batch) (next : ℕ) → (calm ≡ true → calmer ≡ true) → InLog synced f prev calm bs next
+      → InLog more f (told_before frame stage prev) calmer (map (tell frame stage) bs) next
+  told f prev calm calmer [] next calms so = more_told synced more f next (λ k lt. grows k) so
+  told f prev calm calmer (b ∷ bs) next calms so =
+      elim (awaits frame b) as (λ t. awaits frame b ≡ t → InLog more f (told_before frame stage prev) calmer (cond t (record b { stage = stage }) b ∷ map (tell frame stage) bs) next) [
+        | true ↦ λ is.
+            let sent = first_holds (is_sent b.stage) (b.frame == frame) is in
+            let same = eqb-true b.frame frame (second_holds (is_sent b.stage) (b.frame == frame) is) in
+            let old = so.0 (sent_unkept b.stage sent) in
+            let changes : cond (is_sent b.stage && (b.frame == frame)) stage b.stage ≡ stage = ap (λ t. cond t stage b.stage) is in (
+              λ _. (
+                record {
+                  small = old.0.small;
+                  place = elim old.0.place as (λ _. AllTold more f b.frame ⊎ (told_before frame stage prev ≡ Some (b.frame, stage))) [
+                    | inl all ↦ inl (more_told synced more f b.frame (λ k lt. grows k) all)
+                    | inr was ↦ inr (ap (told_before frame stage) was ∙ ap (λ (s : Stage). Some (b.frame, s)) changes)
+                  ];
+                  told = λ e. subst (λ n. has n more ≡ true) (sym same) (now e);
+                },
+                subst (λ s. InLog more (b.frame + 1) (Some (b.frame, s)) (calmer && is_decided stage) (map (tell frame stage) bs) next) changes
+                    (told (b.frame + 1) (Some (b.frame, b.stage)) (calm && is_decided b.stage) (calmer && is_decided stage) bs next
+                    (λ e. absurd (true≢false (sym (second_holds calm (is_decided b.stage) e) ∙ sent_undecided b.stage sent))) old.1),
+              ),
+              λ e. absurd (true≢false (sym e ∙ unkept)),
+            )
+        | false ↦ λ is.
+            let stays : cond (is_sent b.stage && (b.frame == frame)) stage b.stage ≡ b.stage = ap (λ t. cond t stage b.stage) is in (
+              λ n.
+                  let old = so.0 n in (
+                    record {
+                      small = old.0.small;
+                      place = elim old.0.place as (λ _. AllTold more f b.frame ⊎ (told_before frame stage prev ≡ Some (b.frame, b.stage))) [
+                        | inl all ↦ inl (more_told synced more f b.frame (λ k lt. grows k) all)
+                        | inr was ↦ inr (ap (told_before frame stage) was ∙ ap (λ (s : Stage). Some (b.frame, s)) stays)
+                      ];
+                      told = λ e. grows b.frame (old.0.told e);
+                    },
+                    subst (λ s. InLog more (b.frame + 1) (Some (b.frame, s)) (calmer && is_decided b.stage) (map (tell frame stage) bs) next) stays
+                        (told (b.frame + 1) (Some (b.frame, b.stage)) (calm && is_decided b.stage) (calmer && is_decided b.stage) bs next
+                        (λ e. both_hold calmer (is_decided b.stage) (calms (first_holds calm (is_decided b.stage) e)) (second_holds calm (is_decided b.stage) e)) old.1),
+                  ),
+              λ k. (calms (so.1 k).0, more_told synced more f next (λ k lt. grows k) (so.1 k).1, kept_told frame stage bs (so.1 k).2),
+            )
+      ] refl
+
+-- ---- the oldest is let go of
+
+none_is : (x : ℕ × Stage) → None ≡ Some x → ⊥
+none_is x e = cc
+
+abbrev frame_in : Before → ℕ
+frame_in None = 0
+frame_in (Some x) = x.0
+
+lower : (synced : List ℕ) (first p : ℕ) (stage : Stage) (calm : Bool) (bs : List Batch) (next : ℕ) → first ≤ p → AllTold synced first (p + 1)
+    → InLog synced (p + 1) (Some (p, stage)) calm bs next → InLog synced first None calm bs next
+lower synced first p stage calm [] next le all so = join synced first (p + 1) next all so
+lower synced first p stage calm (b ∷ bs) next le all so = (
+  λ n.
+      let old = so.0 n in (
+        record {
+          small = old.0.small;
+          place = elim old.0.place as (λ _. AllTold synced first b.frame ⊎ (no_batch ≡ Some (b.frame, b.stage))) [
+            | inl more ↦ inl (join synced first (p + 1) b.frame all more)
+            | inr was ↦ let same : p ≡ b.frame = ap frame_in was in inl (record { least = omega arith; told = λ k a c. all.told k a (omega arith) })
+          ];
+          told = old.0.told;
+        },
+        old.1,
+      ),
+  λ k. ((so.1 k).0, join synced first (p + 1) next all (so.1 k).1, (so.1 k).2),
+)
+
+-- where the oldest is decided, all frames up to its are synced
+oldest_told : (synced : List ℕ) (first frame : ℕ) (stage : Stage) → IsPlaced synced first None frame stage → is_decided stage ≡ true → AllTold synced first (frame + 1)
+oldest_told synced first frame stage placed is =
+    elim placed.place as (λ _. AllTold synced first (frame + 1)) [
+      | inl all ↦ one_told synced first frame all (placed.told is)
+      | inr was ↦ absurd (none_is (frame, stage) was)
+    ]
+
+popped : (synced : List ℕ) (first : ℕ) (bs : List Batch) (next : ℕ) → InLog synced first None true bs next → InLog synced first None true (left bs) next
+popped synced first [] next so = so
+popped synced first (b ∷ bs) next so =
+    elim (is_decided b.stage) as (λ t. is_decided b.stage ≡ t → InLog synced first None true (cond t bs (b ∷ bs)) next) [
+      | true ↦ λ is.
+          let old = so.0 (decided_unkept b.stage is) in
+          let all = oldest_told synced first b.frame b.stage old.0 is in
+          let within = elim old.0.place as (λ _. first ≤ b.frame) [ inl more ↦ more.least | inr was ↦ absurd (none_is (b.frame, b.stage) was) ] in
+          lower synced first b.frame b.stage true bs next within all (subst (λ t. InLog synced (b.frame + 1) (Some (b.frame, b.stage)) t bs next) is old.1)
+      | false ↦ λ is. so
+    ] refl
+
+-- ---- a cut
+
+module _ (synced : List ℕ) (c : Cut) (small : c.frame < NUMBER_LIMIT) where
+  abbrev cut_synced : List ℕ
+  cut_synced = synced_after c synced
+
+  the_cut : (n : ℕ) → n ≡ c.frame → has n cut_synced ≡ true
+  the_cut n same = or_left (c.frame == n) (has n (filter (λ m. nat_lt m c.frame) synced)) (eq-eqb c.frame n (sym same))
+
+  earlier : (k n : ℕ) → n ≤ c.frame → k < n → has k synced ≡ true → has k cut_synced ≡ true
+  earlier k n le lt here = or_right (c.frame == k) (has k (filter (λ m. nat_lt m c.frame) synced)) (stays_below c.frame k synced (omega arith) here)
+
+  past_cut : past c.frame ≡ c.frame + 1
+  past_cut = ap (λ t. cond t (c.frame + 1) c.frame) (lt-ltb c.frame NUMBER_LIMIT small)
+
+  behind_cut : AllTold cut_synced (c.frame + 1) (past c.frame)
+  behind_cut = subst (λ n. AllTold cut_synced (c.frame + 1) n) (sym past_cut) (none_told cut_synced (c.frame + 1))
+
+  abbrev kept_batch : Batch → Batch
+  kept_batch b = record b { stage = Kept; records = kept c.first c.last b.records }
+
+  cut_kept : (b : Batch) → c.frame < b.frame → cut_off c b ≡ kept_batch b
+  cut_kept b lt =
+      let not_before : nat_lt b.frame c.frame ≡ false = elim (ltb b.frame c.frame) as (λ t. ltb b.frame c.frame ≡ t → t ≡ false) [
+        | true ↦ λ e. let less = ltb-true b.frame c.frame e in absurd (omega arith)
+        | false ↦ λ e. refl
+      ] refl in
+      let not_same : (b.frame == c.frame) ≡ false = elim (b.frame == c.frame) as (λ t. (b.frame == c.frame) ≡ t → t ≡ false) [
+        | true ↦ λ e. let same = eqb-true b.frame c.frame e in absurd (omega arith)
+        | false ↦ λ e. refl
+      ] refl in
+      ap (λ t. cond t b (cond (b.frame == c.frame) (record b { stage = Refused }) (kept_batch b))) not_before
+      ∙ ap (λ t. cond t (record b { stage = Refused }) (kept_batch b)) not_same
+
+  cut_refused : (b : Batch) → b.frame ≡ c.frame → cut_off c b ≡ record b { stage = Refused }
+  cut_refused b same =
+      let not_before : nat_lt b.frame c.frame ≡ false = elim (ltb b.frame c.frame) as (λ t. ltb b.frame c.frame ≡ t → t ≡ false) [
+        | true ↦ λ e. let less = ltb-true b.frame c.frame e in absurd (omega arith)
+        | false ↦ λ e. refl
+      ] refl in
+      ap (λ t. cond t b (cond (b.frame == c.frame) (record b { stage = Refused }) (kept_batch b))) not_before
+      ∙ ap (λ t. cond t (record b { stage = Refused }) (kept_batch b)) (eq-eqb b.frame c.frame same)
+
+  cut_stays : (b : Batch) → b.frame < c.frame → cut_off c b ≡ b
+  cut_stays b lt = ap (λ t. cond t b (cond (b.frame == c.frame) (record b { stage = Refused }) (kept_batch b))) (lt-ltb b.frame c.frame lt)
+
+  -- where a batch stands behind one of frame p
+  no_earlier : (p frame : ℕ) (before stage : Stage) → IsPlaced synced (p + 1) (Some (p, before)) frame stage → p ≤ frame
+  no_earlier p frame before stage placed =
+      elim placed.place as (λ _. p ≤ frame) [ inl all ↦ let one = all.least in omega arith | inr was ↦ let same : p ≡ frame = ap frame_in was in omega arith ]
+
+  rest_kept : (p : ℕ) (before : Stage) (calm : Bool) (bs : List Batch) (next : ℕ) → calm ≡ false → c.frame < p → InLog synced (p + 1) (Some (p, before)) calm bs next
+      → AllKept (map (cut_off c) bs)
+  rest_kept p before calm [] next rough lt so = tt
+  rest_kept p before calm (b ∷ bs) next rough lt so =
+      elim (is_kept b.stage) as (λ t. is_kept b.stage ≡ t → AllKept (map (cut_off c) (b ∷ bs))) [
+        | true ↦ λ is. absurd (true≢false (sym (so.1 is).0 ∙ rough))
+        | false ↦ λ is.
+            let old = so.0 is in
+            let least = no_earlier p b.frame before b.stage old.0 in
+            let more : c.frame < b.frame = omega arith in (
+              subst (λ (x : Batch). is_kept x.stage ≡ true) (sym (cut_kept b more)) refl,
+              rest_kept b.frame b.stage (calm && is_decided b.stage) bs next (ap (λ t. t && is_decided b.stage) rough) more old.1,
+            )
+      ] refl
+
+  -- what stands behind a batch of the frame that is cut off
+  cut_behind : (before : Stage) (calm calmer : Bool) (bs : List Batch) (next : ℕ) → calm ≡ false → calmer ≡ true → InLog synced (c.frame + 1) (Some (c.frame, before)) calm bs next
+      → InLog cut_synced (c.frame + 1) (Some (c.frame, Refused)) calmer (map (cut_off c) bs) (past c.frame)
+  cut_behind before calm calmer [] next rough calms so = behind_cut
+  cut_behind before calm calmer (b ∷ bs) next rough calms so =
+      elim (is_kept b.stage) as (λ t. is_kept b.stage ≡ t → InLog cut_synced (c.frame + 1) (Some (c.frame, Refused)) calmer (map (cut_off c) (b ∷ bs)) (past c.frame)) [
+        | true ↦ λ is. absurd (true≢false (sym (so.1 is).0 ∙ rough))
+        | false ↦ λ is.
+            let old = so.0 is in
+            let least = no_earlier c.frame b.frame before b.stage old.0 in
+            let roughs : (calm && is_decided b.stage) ≡ false = ap (λ t. t && is_decided b.stage) rough in
+            elim (b.frame == c.frame) as (λ t. (b.frame == c.frame) ≡ t → InLog cut_synced (c.frame + 1) (Some (c.frame, Refused)) calmer (map (cut_off c) (b ∷ bs)) (past c.frame)) [
+              | true ↦ λ e.
+                  let same = eqb-true b.frame c.frame e in
+                  let rest = cut_behind b.stage (calm && is_decided b.stage) (calmer && true) bs next roughs (both_hold calmer true calms refl)
+                  (subst (λ n. InLog synced (n + 1) (Some (n, b.stage)) (calm && is_decided b.stage) bs next) same old.1) in
+                  subst (λ (x : Batch). InLog cut_synced (c.frame + 1) (Some (c.frame, Refused)) calmer (x ∷ map (cut_off c) bs) (past c.frame)) (sym (cut_refused b same)) (
+                    λ _. (
+                      record { small = old.0.small; place = inr (ap (λ (n : ℕ). Some (n, Refused)) (sym same)); told = λ _. the_cut b.frame same },
+                      subst (λ n. InLog cut_synced (n + 1) (Some (n, Refused)) (calmer && true) (map (cut_off c) bs) (past c.frame)) (sym same) rest,
+                    ),
+                    λ e. absurd (false≢true e),
+                  )
+              | false ↦ λ e.
+                  let other = eqb-false b.frame c.frame e in
+                  let more : c.frame < b.frame = omega arith in
+                  subst (λ (x : Batch). InLog cut_synced (c.frame + 1) (Some (c.frame, Refused)) calmer (x ∷ map (cut_off c) bs) (past c.frame)) (sym (cut_kept b more)) (
+                    λ e. absurd (true≢false e),
+                    λ _. (calms, behind_cut, rest_kept b.frame b.stage (calm && is_decided b.stage) bs next roughs more old.1),
+                  )
+            ] refl
+      ] refl
+
+abbrev frame_cut : Option Cut → ℕ
+frame_cut None = 0
+frame_cut (Some c) = c.frame
+
+no_cut : (c : Cut) → None ≡ Some c → ⊥
+no_cut c e = cc
+
+kept_unfailing : (bs : List Batch) → AllKept bs → first_failed bs ≡ None
+kept_unfailing [] all = refl
+kept_unfailing (b ∷ bs) all =
+    ap (λ t. cond t (Some (record { frame = b.frame; first = b.number; last = last_in b.frame b.number bs })) (first_failed bs)) (kept_unfailed b.stage all.0)
+    ∙ kept_unfailing bs all.1
+
+-- the batch before is of the frame before, and decided
+abbrev Follows : ℕ → Before → Type 0
+Follows f None = Unit {0}
+Follows f (Some x) = (f ≡ x.0 + 1) × (is_decided x.1 ≡ true)
+
+followed : (f : ℕ) (prev : Before) (x : ℕ × Stage) → prev ≡ Some x → Follows f prev → (f ≡ x.0 + 1) × (is_decided x.1 ≡ true)
+followed f prev x same so = subst (Follows f) same so
+
+not_sent : (x y : Bool) → (x || y) ≡ false → (x ≡ false) × (y ≡ false)
+not_sent true y e = absurd (true≢false e)
+not_sent false y e = (refl, e)
+
+record IsCut (synced : List ℕ) (c : Cut) (f : ℕ) (prev : Before) (calmer : Bool) (bs : List Batch) : Type 0 where
+  pub least : f ≤ c.frame
+  pub small : c.frame < NUMBER_LIMIT
+  pub placed : InLog (synced_after c synced) f prev calmer (map (cut_off c) bs) (past c.frame)
+
+module _ (synced : List ℕ) (c : Cut) where
+  -- the failed one is the first of its frame
+  cut_here : (f : ℕ) (prev : Before) (calm calmer : Bool) (b : Batch) (bs : List Batch) (next : ℕ) → b.frame ≡ c.frame → is_failed b.stage ≡ true → calmer ≡ true → Follows f prev
+      → IsPlaced synced f prev b.frame b.stage → InLog synced (b.frame + 1) (Some (b.frame, b.stage)) (calm && is_decided b.stage) bs next → IsCut synced c f prev calmer (b ∷ bs)
+  cut_here f prev calm calmer b bs next same fails calms follows placed behind =
+      let small : c.frame < NUMBER_LIMIT = subst (λ n. n < NUMBER_LIMIT) same placed.small in
+      let all : AllTold synced f b.frame = elim placed.place as (λ _. AllTold synced f b.frame) [
+        | inl all ↦ all
+        | inr was ↦ absurd (true≢false (sym (followed f prev (b.frame, b.stage) was follows).1 ∙ failed_undecided b.stage fails))
+      ] in
+      let rough = not_second calm (is_decided b.stage) (failed_undecided b.stage fails) in
+      let rest = cut_behind synced c small b.stage (calm && is_decided b.stage) (calmer && true) bs next rough (both_hold calmer true calms refl)
+      (subst (λ n. InLog synced (n + 1) (Some (n, b.stage)) (calm && is_decided b.stage) bs next) same behind) in
+      record {
+        least = subst (λ n. f ≤ n) same all.least;
+        small = small;
+        placed = subst (λ (x : Batch). InLog (synced_after c synced) f prev calmer (x ∷ map (cut_off c) bs) (past c.frame)) (sym (cut_refused synced c small b same)) (
+          λ _. (
+            record {
+              small = placed.small;
+              place = inl (more_told synced (synced_after c synced) f b.frame (λ k lt. earlier synced c small k b.frame (subst (λ n. b.frame ≤ n) same (omega arith)) lt) all);
+              told = λ _. the_cut synced c small b.frame same;
+            },
+            subst (λ n. InLog (synced_after c synced) (n + 1) (Some (n, Refused)) (calmer && true) (map (cut_off c) bs) (past c.frame)) (sym same) rest,
+          ),
+          λ e. absurd (false≢true e),
+        );
+      }
+
+  -- one before it is decided, and stays
+  cut_later : (f : ℕ) (prev : Before) (calmer : Bool) (b : Batch) (bs : List Batch) → is_kept b.stage ≡ false → Follows f prev → IsPlaced synced f prev b.frame b.stage
+      → IsCut synced c (b.frame + 1) (Some (b.frame, b.stage)) (calmer && is_decided b.stage) bs → IsCut synced c f prev calmer (b ∷ bs)
+  cut_later f prev calmer b bs unkept follows placed later =
+      let small = later.small in
+      let one = later.least in
+      let lt : b.frame < c.frame = omega arith in
+      let least : f ≤ c.frame = elim placed.place as (λ _. f ≤ c.frame) [
+        | inl all ↦ let two = all.least in omega arith
+        | inr was ↦ let two = (followed f prev (b.frame, b.stage) was follows).0 in omega arith
+      ] in
+      record {
+        least = least;
+        small = small;
+        placed = subst (λ (x : Batch). InLog (synced_after c synced) f prev calmer (x ∷ map (cut_off c) bs) (past c.frame)) (sym (cut_stays synced c small b lt)) (
+          λ _. (
+            record {
+              small = placed.small;
+              place = elim placed.place as (λ _. AllTold (synced_after c synced) f b.frame ⊎ (prev ≡ Some (b.frame, b.stage))) [
+                | inl all ↦ inl (more_told synced (synced_after c synced) f b.frame (λ k less. earlier synced c small k b.frame (omega arith) less) all)
+                | inr was ↦ inr was
+              ];
+              told = λ e. earlier synced c small b.frame c.frame (omega arith) lt (placed.told e);
+            },
+            later.placed,
+          ),
+          λ e. absurd (true≢false (sym e ∙ unkept)),
+        );
+      }
+
+  cut_all : (f : ℕ) (prev : Before) (calm calmer : Bool) (bs : List Batch) (next : ℕ) → calmer ≡ true → Follows f prev → InLog synced f prev calm bs next
+      → list_any (λ (b : Batch). is_sent b.stage) bs ≡ false → first_failed bs ≡ Some c → IsCut synced c f prev calmer bs
+  cut_all f prev calm calmer [] next calms follows so none is = absurd (no_cut c is)
+  cut_all f prev calm calmer (b ∷ bs) next calms follows so none is =
+      let unsent = not_sent (is_sent b.stage) (list_any (λ (x : Batch). is_sent x.stage) bs) none in
+      let found : Cut = record { frame = b.frame; first = b.number; last = last_in b.frame b.number bs } in
+      elim (is_failed b.stage) as (λ t. is_failed b.stage ≡ t → cond t (Some found) (first_failed bs) ≡ Some c → IsCut synced c f prev calmer (b ∷ bs)) [
+        | true ↦ λ fails here.
+            let old = so.0 (failed_unkept b.stage fails) in
+            cut_here f prev calm calmer b bs next (ap frame_cut here) fails calms follows old.0 old.1
+        | false ↦ λ stands later.
+            elim (is_kept b.stage) as (λ t. is_kept b.stage ≡ t → IsCut synced c f prev calmer (b ∷ bs)) [
+              | true ↦ λ k. absurd (no_cut c (sym (kept_unfailing bs (so.1 k).2) ∙ later))
+              | false ↦ λ n.
+                  let old = so.0 n in
+                  let decided = else_decided b.stage n unsent.0 stands in
+                  cut_later f prev calmer b bs n follows old.0
+                  (cut_all (b.frame + 1) (Some (b.frame, b.stage)) (calm && is_decided b.stage) (calmer && is_decided b.stage) bs next
+                  (both_hold calmer (is_decided b.stage) calms decided) (refl, decided) old.1 unsent.1 later)
+            ] refl
+      ] refl is
+
+-- ---- any calls
+
+oldest_synced : (stage : Stage) (b : Batch) (s : Story) → (with_oldest stage b s).synced ≡ s.synced
+oldest_synced Kept b s = refl
+oldest_synced Sent b s = refl
+oldest_synced Synced b s = refl
+oldest_synced Failed b s = refl
+oldest_synced Refused b s = refl
+
+decided_synced : (bs : List Batch) (s : Story) → (with_decided bs s).synced ≡ s.synced
+decided_synced [] s = refl
+decided_synced (b ∷ bs) s = oldest_synced b.stage b s
+
+abbrev AreLogged : ℕ → QueueView → Story → Type 0
+AreLogged first q s = InLog s.synced first None true q.batches q.frame
+
+due_cut : (sent : Bool) (found : Option Cut) (c : Cut) → cond sent None found ≡ Some c → (sent ≡ false) × (found ≡ Some c)
+due_cut true found c is = absurd (no_cut c is)
+due_cut false found c is = (refl, is)
+
+step : (first : ℕ) (q : QueueView) (s : Story) (c : Call) (m : QueueView) → Happens q c m → AreLogged first q s → AreLogged first m (story_after q c s)
+step first q s (Appends added) m h so = subst (λ x. AreLogged first x (story_after q (Appends added) s)) (sym h) so
+step first q s Withdraws m h so = subst (λ x. AreLogged first x (story_after q Withdraws s)) (sym h) so
+step first q s Takes m h so = subst (λ x. AreLogged first x s) (sym h.1) (taken s.synced q.number q.frame q.records h.0 first None true q.batches so)
+step first q s (Syncs frame) m h so =
+    subst (λ x. AreLogged first x (story_after q (Syncs frame) s)) (sym h.1)
+    (told s.synced (frame ∷ s.synced) frame Synced (λ k here. or_right (frame == k) (has k s.synced) here) refl (λ _. or_left (frame == frame) (has frame s.synced) (eq-eqb frame frame refl)) first None true true q.batches q.frame (λ e. e) so)
+step first q s (Fails frame) m h so =
+    subst (λ x. AreLogged first x s) (sym h.1)
+    (told s.synced s.synced frame Failed (λ k here. here) refl (λ e. absurd (false≢true e)) first None true true q.batches q.frame (λ e. e) so)
+step first q s Decides m h so =
+    subst (λ x. AreLogged first x (with_decided q.batches s)) (sym h)
+    (subst (λ ns. InLog ns first None true (left q.batches) q.frame) (sym (decided_synced q.batches s)) (popped s.synced first q.batches q.frame so))
+step first q s (Cuts cut) m h so =
+    let due = due_cut (list_any (λ (b : Batch). is_sent b.stage) q.batches) (first_failed q.batches) cut h.0 in
+    subst (λ x. AreLogged first x (story_after q (Cuts cut) s)) (sym h.1)
+    (cut_all s.synced cut first None true true q.batches q.frame refl tt so due.0 due.1).placed
+step first q s Stops m h so = subst (λ x. AreLogged first x s) (sym h) so
+
+run : (first : ℕ) (cs : List Call) (q : QueueView) (s : Story) (last : QueueView) (told : Story) → Runs q s cs last told → AreLogged first q s → AreLogged first last told
+run first [] q s last told r so = subst (λ x. AreLogged first x told) r.0 (subst (λ t. AreLogged first q t) r.1 so)
+run first (c ∷ cs) q s last told r so = run first cs r.0 (story_after q c s) last told r.2 (step first q s c r.0 r.1 so)
+
+pub logs_what_is_synced : LogsWhatIsSynced
+logs_what_is_synced most most_bytes frame cs q s b bs n runs oldest synced from upto =
+    let so = run frame cs _ _ q s runs (none_told [] frame) in
+    let here = subst (λ (xs : List Batch). InLog s.synced frame None true xs q.frame) oldest so in
+    let old = here.0 (ap is_kept synced) in
+    (oldest_told s.synced frame b.frame b.stage old.0 (ap is_decided synced)).told n from (omega arith)

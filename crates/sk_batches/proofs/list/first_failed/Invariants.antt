@@ -1,0 +1,7 @@
+-- None so far.
+use Rattle.std.proofs.Common.{◌≡◌, drop}
+use Rattle.sk_batches.specs.Queue.{first_failed}
+use Rattle.sk_batches.proofs.list.first_failed.Given as goal
+
+abbrev pub invariant-loop-place : goal.invariant-loop-place
+invariant-loop-place l = first_failed l.batches ≡ first_failed (drop l.place l.batches)

@@ -1,0 +1,7 @@
+-- What the pass leaves.
+use Rattle.std.proofs.Common.{rules}
+use Rattle.std.proofs.lemmas.Fn.{filter_same}
+use Rattle.sk_batches.proofs.records.drop_struck.Goals as goal
+
+pub returns : goal.returns
+returns c = filter_same _ _ _ (λ x b g h. search rules) _ _ c.retain.ensures.filtered

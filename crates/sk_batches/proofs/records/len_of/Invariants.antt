@@ -1,0 +1,7 @@
+-- The bytes so far, with those that are left.
+use Rattle.std.proofs.Common.{◌≡◌, ◌+◌, drop, length}
+use Rattle.sk_batches.specs.Records.{payload}
+use Rattle.sk_batches.proofs.records.len_of.Given as goal
+
+abbrev pub invariant-loop-record : goal.invariant-loop-record
+invariant-loop-record l = l.len + length (payload (drop l.record-index l.records)) ≡ length (payload l.records)

@@ -1,0 +1,6 @@
+pub mod Records
+pub mod Queue
+pub mod Calls
+pub mod Runs
+pub mod Rounds
+pub mod Places

@@ -1,0 +1,30 @@
+-- Where frames stand in the segments of a log.
+use Rattle.std.specs.Prelude.{◌≡◌, ◌+◌, ◌<◌, ◌≤◌, ◌^◌, ℕ, Bool, if◌then◌else◌, Result, Ok, Err}
+use Rattle.sk_batches.specs.declared.refusal.Refusal.{Refusal}
+use Rattle.sk_batches.specs.declared.refusal.Refusal.TheVariants.{Full, NoNumber}
+use Rattle.sk_batches.specs.declared.places.Place.{Place}
+
+-- how many bytes a segment has, the segment of the next frame, and where it begins there
+pub record PlacesView : Type 0 where
+  pub length : ℕ
+  pub segment : ℕ
+  pub offset : ℕ
+
+abbrev pub places_at : ℕ → ℕ → ℕ → PlacesView
+places_at length segment offset = record { length = length; segment = segment; offset = offset }
+
+-- where a frame of so many bytes of payload, and its head of 24, would end
+abbrev pub end_of : PlacesView → ℕ → ℕ
+end_of p len = p.offset + (24 + len)
+
+-- it stands where the one before ended, within its segment; else nothing has changed
+abbrev pub NextPost : Result Place Refusal → ℕ → PlacesView → PlacesView → Type 0
+NextPost (Ok place) len old new =
+    (end_of old len ≤ old.length) × (place ≡ record { segment = old.segment; offset = old.offset }) × (new ≡ record old { offset = end_of old len })
+NextPost (Err why) len old new = (old.length < end_of old len) × (why ≡ Full) × (new ≡ old)
+
+-- the next segment is begun, behind a cut with the head of a frame
+abbrev pub TurnPost : Bool → Result (Unit {0}) Refusal → PlacesView → PlacesView → Type 0
+TurnPost cut (Ok _) old new =
+    (old.segment + 1 < 2 ^ 28) × (new ≡ record old { segment = old.segment + 1; offset = if cut then 24 else 0 })
+TurnPost cut (Err why) old new = (2 ^ 28 ≤ old.segment + 1) × (why ≡ NoNumber) × (new ≡ old)

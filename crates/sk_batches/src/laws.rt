@@ -1,0 +1,22 @@
+//! Laws of all runs of a queue. Each is the contract of a function that does nothing.
+ghost use Rattle.sk_batches.specs.Runs.{DecidesInOrder, KeepsTheRest, LogsWhatIsSynced, LosesNothing};
+
+/// Batches are decided in the order of their numbers, each once.
+pub fn order_law()
+    ensures { DecidesInOrder }
+{}
+
+/// A batch that is decided as logged is in a front part of the log whose frames the host all said are synced.
+pub fn synced_law()
+    ensures { LogsWhatIsSynced }
+{}
+
+/// Each record that was appended is logged, refused, taken back or undecided, once.
+pub fn nothing_lost_law()
+    ensures { LosesNothing }
+{}
+
+/// Behind a cut just the records are logged anew that don't rest on what was cut off, in their order.
+pub fn kept_law()
+    ensures { KeepsTheRest }
+{}

@@ -1,0 +1,73 @@
+-- The keys that have numbers are just those of which anything is known, each once.
+use Rattle.std.proofs.Common.{◌≡◌, ℕ, true, false, List, [], ◌∷◌, length, Option, Some, None, cond, refl, sym, ap, ◌∙◌}
+use Rattle.std.specs.Prelude.{◌||◌, Bool, is_some}
+use Rattle.std.specs.Ordering.{nat_cmp, eq_by_cmp}
+use Rattle.std.proofs.lemmas.List.{length-map}
+use Rattle.sk_record.specs.Effects.{is_in}
+use Rattle.sk_renamed.specs.Renamed.{at_key}
+use Rattle.sk_slots.specs.Slots.{look_at, log_at}
+use Rattle.sk_index.specs.Index.{Numbered, bytes_cmp, number_of, AreApart}
+use Rattle.sk_index.proofs.Strings.{some_none}
+use Rattle.sk_speculator.specs.Parts.{Parts}
+use Rattle.sk_bytes.specs.Numbers.{names}
+use Rattle.sk_bytes.specs.Told.{strings_of, told_of, IsTold}
+use Rattle.sk_bytes.specs.Calls.{AreOnce, Counts}
+use Rattle.sk_bytes.proofs.Told.{log_told, look_told, none_shown}
+use Rattle.sk_bytes.proofs.Undone.{strings_in}
+
+in_names : (es : Numbered) (q : List ℕ) → is_in bytes_cmp (names es) q ≡ is_some (number_of es q)
+in_names [] q = refl
+in_names (e ∷ es) q =
+    elim (eq_by_cmp bytes_cmp q e.0)
+    as (λ b. (b || is_in bytes_cmp (names es) q) ≡ is_some (cond b (Some e.1) (number_of es q))) [
+      | true ↦ refl
+      | false ↦ in_names es q
+    ]
+
+once : (es : Numbered) → AreApart es → AreOnce (names es)
+once [] apart = tt
+once (e ∷ es) apart = (in_names es e.0 ∙ ap is_some apart.0, once es apart.1)
+
+module _ {V O : Type 0} (es : Numbered) (m : Parts ℕ V O) (undone : List ℕ) (told : IsTold es m undone) where
+  -- of a key without a number nothing is known
+  without : (k : List ℕ) → number_of es k ≡ None → (look_at bytes_cmp (told_of es m).slots k ≡ None)
+      × (log_at bytes_cmp (told_of es m).slots k ≡ []) × (is_in bytes_cmp (strings_of es undone) k ≡ false)
+  without k none = (
+    look_told es m.slots k ∙ ap (at_key None (look_at nat_cmp m.slots)) none,
+    log_told es m.slots k ∙ ap (at_key [] (log_at nat_cmp m.slots)) none,
+    strings_in es told.fits.two_way k undone None none,
+  )
+
+  -- a key with one that is absent and rests on nothing was taken back
+  taken_back : (k : List ℕ) (n : ℕ) → number_of es k ≡ Some n → look_at bytes_cmp (told_of es m).slots k ≡ None
+      → log_at bytes_cmp (told_of es m).slots k ≡ [] → (b : Bool) → is_in nat_cmp undone n ≡ b → is_in nat_cmp undone n ≡ true
+  taken_back k n here absent rests true is = is
+  taken_back k n here absent rests false is =
+      let look : look_at nat_cmp m.slots n ≡ None =
+      sym (look_told es m.slots k ∙ ap (at_key None (look_at nat_cmp m.slots)) here) ∙ absent in
+      let log : log_at nat_cmp m.slots n ≡ [] =
+      sym (log_told es m.slots k ∙ ap (at_key [] (log_at nat_cmp m.slots)) here) ∙ rests in
+      some_none k (sym (told.fits.two_way.there k n here) ∙ told.needed n is (none_shown m.slots n look log))
+
+  all_of : (k : List ℕ) (o : Option ℕ) → number_of es k ≡ o → is_some o ≡ false
+      → (look_at bytes_cmp (told_of es m).slots k ≡ None)
+      × (log_at bytes_cmp (told_of es m).slots k ≡ []) × (is_in bytes_cmp (strings_of es undone) k ≡ false)
+  all_of k None is out = without k is
+  all_of k (Some n) is out = absurd (cc)
+
+  some_of : (k : List ℕ) (o : Option ℕ) → number_of es k ≡ o → is_some o ≡ true
+      → look_at bytes_cmp (told_of es m).slots k ≡ None → log_at bytes_cmp (told_of es m).slots k ≡ []
+      → is_in bytes_cmp (strings_of es undone) k ≡ true
+  some_of k None is here absent rests = absurd (cc)
+  some_of k (Some n) is here absent rests =
+      strings_in es told.fits.two_way k undone (Some n) is
+      ∙ taken_back k n is absent rests (is_in nat_cmp undone n) refl
+
+  pub counts : AreApart es → Counts (record { parts = told_of es m; undone = strings_of es undone }) (length es)
+  counts apart = record {
+    keys = names es;
+    count = sym (length-map es (λ (e : List ℕ × ℕ). e.0));
+    once = once es apart;
+    all = λ k out. all_of k (number_of es k) refl (sym (in_names es k) ∙ out);
+    some = λ k here. some_of k (number_of es k) refl (sym (in_names es k) ∙ here);
+  }

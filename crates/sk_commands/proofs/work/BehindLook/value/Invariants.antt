@@ -1,0 +1,11 @@
+-- A key has the same behind the writes that are left as behind all.
+use Rattle.std.proofs.Common.{◌≡◌, length}
+use Rattle.sk_commands.specs.Table.{told, Have}
+use Rattle.sk_commands.specs.Work.{after}
+use Rattle.sk_commands.proofs.work.BehindLook.value.Given as goal
+
+abbrev pub invariant-loop-last : goal.invariant-loop-last
+invariant-loop-last g l = (has : Have) → after (told l.left) has l.key ≡ after (told l.initial.left) has l.key
+
+abbrev pub decreases-loop-last : goal.decreases-loop-last
+decreases-loop-last g l = length l.left

@@ -1,0 +1,10 @@
+-- The keys of the commands so far stand behind what was listed.
+use Rattle.std.proofs.Common.{◌≡◌, ◌++◌, List, ℕ, drop, map, flat_map}
+use Rattle.std.specs.Vec.{vec_items}
+use Rattle.sk_commands.specs.Table.{asks}
+use Rattle.sk_commands.proofs.work.ask_each.Given as goal
+
+abbrev pub invariant-loop-command : goal.invariant-loop-command
+invariant-loop-command l =
+    (more : List (List ℕ)) × (map vec_items l.looked.items ≡ map vec_items l.initial.looked.items ++ more)
+    × (more ++ flat_map (asks (map vec_items l.known)) (drop l.command-index l.commands) ≡ flat_map (asks (map vec_items l.known)) l.commands)

@@ -1,0 +1,15 @@
+-- What is written and replied so far, with what comes of the commands that are left, is what comes of all.
+use Rattle.std.proofs.Common.{◌≡◌, ◌++◌, map}
+use Rattle.std.specs.Vec.{vec_items}
+use Rattle.std.specs.Vec.Iter.{into_iter_items}
+use Rattle.sk_commands.specs.Table.{told}
+use Rattle.sk_commands.specs.Work.{each}
+use Rattle.sk_commands.proofs.Queued.{left_over}
+use Rattle.sk_commands.proofs.work.run_each.Given as goal
+
+abbrev pub invariant-loop-command : goal.invariant-loop-command
+invariant-loop-command g l =
+    (told l.so_far.items ++ (left_over (map vec_items l.known) (g.S.Look.look l.store) (into_iter_items l.command-iterator) (told l.so_far.items)).written
+    ≡ (each (map vec_items l.known) l.fn.commands (g.S.Look.look l.store)).written)
+    × (l.replies.items ++ (left_over (map vec_items l.known) (g.S.Look.look l.store) (into_iter_items l.command-iterator) (told l.so_far.items)).reply
+    ≡ (each (map vec_items l.known) l.fn.commands (g.S.Look.look l.store)).reply)

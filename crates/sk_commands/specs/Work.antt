@@ -1,0 +1,60 @@
+-- What is done as one step: a command, or the commands of a queue, one after another.
+use Rattle.std.specs.Prelude.{ℕ, Bool, false, List, [], ◌∷◌, ◌++◌, flat_map, Option, bytes_eq, if◌then◌else◌}
+use Rattle.std.specs.List.{list_any}
+use Rattle.sk_commands.specs.declared.command.Command.{Command}
+use Rattle.sk_commands.specs.declared.reply.Reply.{Reply}
+use Rattle.sk_commands.specs.declared.work.Work.{Work}
+use Rattle.sk_commands.specs.declared.work.Work.TheVariants as works
+use Rattle.sk_commands.specs.declared.work.Answer.{Answer}
+use Rattle.sk_commands.specs.declared.work.Answer.TheVariants as answers
+use Rattle.sk_commands.specs.Table.{asks, is_among, is_told_of_all, outcome, Have, Outcome, Written}
+
+-- a key has this, and the others what they have
+abbrev pub with_value : List ℕ → Option (List ℕ) → Have → Have
+with_value key value has k = if bytes_eq k key then value else has k
+
+-- what keys have when this is written
+abbrev pub after : Written → Have → Have
+after [] has = has
+after (w ∷ ws) has = after ws (with_value w.0 w.1 has)
+
+-- all keys when this is written: each stands among them once
+abbrev pub with_known : List (List ℕ) → List ℕ → List (List ℕ)
+with_known known key = if is_among key known then known else known ++ key ∷ []
+
+abbrev pub known_after : Written → List (List ℕ) → List (List ℕ)
+known_after [] known = known
+known_after (w ∷ ws) known = known_after ws (with_known known w.0)
+
+-- what came of a command, and then of others
+abbrev pub followed : Outcome Reply → Outcome (List Reply) → Outcome (List Reply)
+followed one others = record { written = one.written ++ others.written; reply = one.reply ∷ others.reply }
+
+-- what commands write and reply, one after another: each sees what those before it wrote
+abbrev pub each : List (List ℕ) → List Command → Have → Outcome (List Reply)
+each known [] has = record { written = []; reply = [] }
+each known (command ∷ commands) has =
+    let one = outcome known command has in
+    followed one (each (known_after one.written known) commands (after one.written has))
+
+-- one answer for them
+abbrev pub answered : {R : Type 0} → (R → Answer) → Outcome R → Outcome Answer
+answered answer outcome = record { written = outcome.written; reply = answer outcome.reply }
+
+-- the keys that are looked at
+abbrev pub looks_at : List (List ℕ) → Work → List (List ℕ)
+looks_at known (works.Say reply) = []
+looks_at known (works.One command) = asks known command
+looks_at known (works.Each commands) = flat_map (asks known) commands
+
+-- what is written and answered, by what keys have
+abbrev pub comes_to : List (List ℕ) → Work → Have → Outcome Answer
+comes_to known (works.Say reply) has = record { written = []; reply = answers.One reply }
+comes_to known (works.One command) has = answered answers.One (outcome known command has)
+comes_to known (works.Each commands) has = answered answers.Each (each known commands has)
+
+-- whether some of it is told of all keys
+abbrev pub wants_all : Work → Bool
+wants_all (works.Say reply) = false
+wants_all (works.One command) = is_told_of_all command
+wants_all (works.Each commands) = list_any is_told_of_all commands

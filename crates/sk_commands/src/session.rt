@@ -1,0 +1,128 @@
+//! The queue of a channel: what is to be done for each of its requests.
+ghost use Rattle.std.specs.Prelude.{◌≡◌, None, Some, map, IfOk, OnErr, OnOk};
+ghost use Rattle.std.specs.Vec.{vec_items};
+ghost use Rattle.sk_commands.specs.declared.reply.Reply.TheVariants.{Error, Simple};
+ghost use Rattle.sk_commands.specs.declared.reply.Word.TheVariants as word;
+ghost use Rattle.sk_commands.specs.declared.work.Work.TheVariants.{Say};
+ghost use Rattle.sk_commands.specs.Parsing.{order_of};
+ghost use Rattle.sk_commands.specs.Session.{no_commands, one_more, spoilt, turn, Takes};
+
+use crate::{Command, Commands, Fault, Order, Reply, Word, Work};
+use std::alloc::{AllocError, Global};
+
+/// Commands that wait for EXEC.
+#[derive(Drop)]
+pub struct Queue {
+    commands: Commands,
+    /// A fault was told since, so that they are not to be carried out.
+    spoiled: bool,
+}
+
+impl Queue {
+    /// No command waits.
+    fn new(alloc: Global) -> Queue
+        ensures { result ≡ no_commands }
+    {
+        Queue {
+            commands: Commands::new(alloc),
+            spoiled: false,
+        }
+    }
+
+    /// One command more waits; without memory none is to be carried out.
+    fn push(&mut self, command: Command) -> Result<Work, AllocError>
+        ensures ok { OnOk result (self.new ≡ one_more self.old command) }
+        ensures said { IfOk result (λ work. work ≡ Say (Simple word.Queued)) }
+        ensures err { OnErr result (self.new ≡ spoilt self.old) }
+    {
+        if self.commands.push(command).is_err() {
+            self.spoiled = true;
+            return Err(AllocError);
+        }
+        Ok(said(Word::Queued))
+    }
+}
+
+/// What a channel asked for between its requests: the queue that is open, if one is.
+#[derive(Drop)]
+pub struct Session {
+    alloc: Global,
+    queue: Option<Queue>,
+}
+
+/// A word is replied.
+fn said(word: Word) -> Work
+    ensures { result ≡ Say (Simple word) }
+{
+    Work::Say(Reply::Simple(word))
+}
+
+/// A fault is replied.
+fn refused(fault: Fault) -> Work
+    ensures { result ≡ Say (Error fault) }
+{
+    Work::Say(Reply::Error(fault))
+}
+
+/// What a request comes to where no queue is open.
+fn idle(alloc: Global, order: Result<Order, Fault>) -> (Option<Queue>, Work)
+    ensures queue { result.0 ≡ (turn None order).queue }
+    ensures work { result.1 ≡ (turn None order).work }
+{
+    match order {
+        Ok(Order::Run(command)) => (None, Work::One(command)),
+        Ok(Order::Multi) => (Some(Queue::new(alloc)), said(Word::Ok)),
+        Ok(Order::Exec) => (None, refused(Fault::ExecAlone)),
+        Ok(Order::Discard) => (None, refused(Fault::DiscardAlone)),
+        Err(fault) => (None, refused(fault)),
+    }
+}
+
+/// What a request comes to where a queue is open.
+fn waiting(
+    mut queue: Queue,
+    order: Result<Order, Fault>,
+) -> (Option<Queue>, Result<Work, AllocError>)
+    ensures { Takes (Some queue) order result.1 result.0 }
+{
+    match order {
+        Ok(Order::Run(command)) => {
+            let work = queue.push(command);
+            (Some(queue), work)
+        }
+        Ok(Order::Multi) => (Some(queue), Ok(refused(Fault::Nested))),
+        Ok(Order::Exec) if queue.spoiled => (None, Ok(refused(Fault::Aborted))),
+        Ok(Order::Exec) => (None, Ok(Work::Each(queue.commands))),
+        Ok(Order::Discard) => (None, Ok(said(Word::Ok))),
+        Err(fault) => {
+            queue.spoiled = true;
+            (Some(queue), Ok(refused(fault)))
+        }
+    }
+}
+
+impl Session {
+    /// No queue is open.
+    pub fn new(alloc: Global) -> Session
+        ensures { result.queue ≡ None }
+    {
+        Session { alloc, queue: None }
+    }
+
+    /// What is to be done for a request of these words, none of which is copied. Only a command that is to be queued wants
+    /// memory; without it the queue is not to be carried out.
+    pub fn take(&mut self, words: Vec<Vec<u8>>) -> Result<Work, AllocError>
+        ensures { Takes self.old.queue (order_of (map vec_items words.items)) result self.new.queue }
+    {
+        let order = Order::of(words);
+        let (queue, work) = match self.queue.take() {
+            None => {
+                let (queue, work) = idle(self.alloc, order);
+                (queue, Ok(work))
+            }
+            Some(queue) => waiting(queue, order),
+        };
+        self.queue = queue;
+        work
+    }
+}

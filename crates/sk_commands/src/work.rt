@@ -1,0 +1,319 @@
+//! What is done as one step: a command, or the commands of a queue, one after another.
+ghost use Rattle.std.specs.Prelude.{◌≡◌, ◌∷◌, ◌++◌, [], bytes_eq, flat_map, map, IfOk, OnErr, OnOk};
+ghost use Rattle.std.specs.List.{list_any};
+ghost use Rattle.std.specs.Vec.{vec_items};
+ghost use Rattle.sk_commands.specs.Table.{asks, is_among, is_told_of_all, outcome, told, CarriesOut};
+ghost use Rattle.sk_commands.specs.Work.{after, comes_to, each, known_after, looks_at, wants_all};
+
+use crate::asking::{copy_key, copy_keys};
+use crate::{ByteString, Command, Look, Reply, Writes};
+use std::alloc::{AllocError, Global};
+use std::marker::Model;
+
+/// Commands, one after another.
+#[derive(Drop)]
+pub struct Commands {
+    commands: Vec<Command>,
+}
+
+impl Model for Commands {
+    ghost use Rattle.std.specs.Prelude.{List};
+    ghost use Rattle.std.specs.Coded.{coded_list};
+    ghost use Rattle.sk_commands.specs.declared.command.Command.{Command};
+    ghost use Rattle.sk_commands.specs.contracts.command.Command as command_row;
+
+    ghost Value = { List Command };
+
+    ghost coded = { coded_list command_row.the_row.coded };
+
+    ghost view = { λ c. c.commands.items };
+}
+
+impl Commands {
+    /// None.
+    pub fn new(alloc: Global) -> Commands
+        ensures { result ≡ [] }
+    {
+        Commands {
+            commands: Vec::new(alloc),
+        }
+    }
+
+    /// One more, behind the others.
+    pub fn push(&mut self, command: Command) -> Result<(), AllocError>
+        ensures ok { OnOk result (self.new ≡ self.old ++ command ∷ []) }
+        ensures err { OnErr result (self.new ≡ self.old) }
+    {
+        self.commands.push(command)?;
+        Ok(())
+    }
+
+    /// The commands.
+    pub fn as_slice(&self) -> &[Command]
+        ensures { result.now ≡ self.now }
+    {
+        self.commands.as_slice()
+    }
+
+    /// The commands, which are not copied.
+    pub fn into_vec(self) -> Vec<Command>
+        ensures { result.items ≡ self }
+    {
+        self.commands
+    }
+}
+
+/// Replies, one for each command.
+#[derive(Drop)]
+pub struct Replies {
+    replies: Vec<Reply>,
+}
+
+impl Model for Replies {
+    ghost use Rattle.std.specs.Prelude.{List};
+    ghost use Rattle.std.specs.Coded.{coded_list};
+    ghost use Rattle.sk_commands.specs.declared.reply.Reply.{Reply};
+    ghost use Rattle.sk_commands.specs.contracts.reply.Reply as reply_row;
+
+    ghost Value = { List Reply };
+
+    ghost coded = { coded_list reply_row.the_row.coded };
+
+    ghost view = { λ r. r.replies.items };
+}
+
+impl Replies {
+    /// These replies.
+    pub fn new(replies: Vec<Reply>) -> Replies
+        ensures { result ≡ replies.items }
+    {
+        Replies { replies }
+    }
+
+    /// The replies.
+    pub fn as_slice(&self) -> &[Reply]
+        ensures { result.now ≡ self.now }
+    {
+        self.replies.as_slice()
+    }
+}
+
+/// What is done for a request, as one step.
+#[derive(Drop)]
+pub enum Work {
+    /// This is replied, and nothing else is done.
+    Say(Reply),
+    One(Command),
+    /// EXEC: the commands of a queue, one after another, all or none.
+    Each(Commands),
+}
+
+/// What is replied to it.
+#[derive(Drop)]
+pub enum Answer {
+    One(Reply),
+    /// An array: one reply for each command.
+    Each(Replies),
+}
+
+/// Whether two keys are the same.
+fn are_same(key: &[u8], other: &[u8]) -> bool
+    ensures { result ≡ bytes_eq key.now other.now }
+{
+    key == other
+}
+
+/// A store behind writes: a key has what it got last.
+#[derive_where(Clone, Copy)]
+struct Behind<'a, S> {
+    written: &'a [(Vec<u8>, Option<ByteString>)],
+    store: &'a S,
+}
+
+impl<S: Look> Look for Behind<'_, S> {
+    ghost use Rattle.sk_commands.specs.Table.{told};
+    ghost use Rattle.sk_commands.specs.Work.{after};
+
+    ghost look = { λ b. after (told b.written.now) (S.look b.store.now) };
+
+    fn value(&self, key: &[u8]) -> Option<&ByteString> {
+        let mut left = self.written;
+        while let Some((last, others)) = left.split_last() {
+            if are_same(key, last.0.as_slice()) {
+                return last.1.as_ref();
+            }
+            left = others;
+        }
+        self.store.value(key)
+    }
+}
+
+/// Whether a key is among these.
+fn is_among(key: &[u8], keys: &[Vec<u8>]) -> bool
+    ensures { result ≡ is_among key.now (map vec_items keys.now) }
+{
+    for other in keys {
+        if key == other.as_slice() {
+            return true;
+        }
+    }
+    false
+}
+
+/// Copies of all keys when this is written, each once.
+fn known_after(
+    alloc: Global,
+    written: &[(Vec<u8>, Option<ByteString>)],
+    known: &[Vec<u8>],
+) -> Result<Vec<Vec<u8>>, AllocError>
+    ensures { IfOk result (λ all. map vec_items all.items
+        ≡ known_after (told written.now) (map vec_items known.now)) }
+{
+    let mut all = Vec::new(alloc);
+    copy_keys(alloc, known, &mut all)?;
+    for write in written {
+        if !is_among(write.0.as_slice(), all.as_slice()) {
+            copy_key(alloc, write.0.as_slice(), &mut all)?;
+        }
+    }
+    Ok(all)
+}
+
+/// One command more, which sees what is written so far.
+fn run_next<S: Look>(
+    alloc: Global,
+    command: Command,
+    store: &S,
+    known: &[Vec<u8>],
+    so_far: &mut Writes,
+) -> Result<Reply, AllocError>
+    ensures { CarriesOut
+        (outcome (known_after (told so_far.old.items) (map vec_items known.now)) command
+        (after (told so_far.old.items) (S.look store.now)))
+        so_far.old.items result so_far.new.items }
+{
+    let mut own = Vec::new(alloc);
+    let seen = Behind {
+        written: so_far.as_slice(),
+        store,
+    };
+    let reply = if command.is_told_of_all() {
+        let known = known_after(alloc, so_far.as_slice(), known)?;
+        command.run(alloc, &seen, known.as_slice(), &mut own)?
+    } else {
+        command.run(alloc, &seen, &[], &mut own)?
+    };
+    so_far.append(&mut own)?;
+    Ok(reply)
+}
+
+/// Commands, one after another: each sees what those before it wrote.
+fn run_each<S: Look>(
+    alloc: Global,
+    commands: Commands,
+    store: &S,
+    known: &[Vec<u8>],
+    written: &mut Writes,
+) -> Result<Replies, AllocError>
+    ensures { CarriesOut (each (map vec_items known.now) commands (S.look store.now))
+        written.old.items result written.new.items }
+{
+    let mut so_far = Vec::new(alloc);
+    let mut replies = Vec::new(alloc);
+    for command in commands.into_vec() {
+        let reply = run_next(alloc, command, store, known, &mut so_far)?;
+        replies.push(reply)?;
+    }
+    written.append(&mut so_far)?;
+    Ok(Replies::new(replies))
+}
+
+/// Copies of the keys that commands look at stand behind those that are listed. Without memory for all, none does.
+fn ask_each(
+    alloc: Global,
+    commands: &[Command],
+    known: &[Vec<u8>],
+    looked: &mut Vec<Vec<u8>>,
+) -> Result<(), AllocError>
+    ensures ok { OnOk result
+        (map vec_items looked.new.items
+        ≡ map vec_items looked.old.items ++ flat_map (asks (map vec_items known.now)) commands.now) }
+    ensures err { OnErr result
+        (map vec_items looked.new.items ≡ map vec_items looked.old.items) }
+{
+    let before = looked.len();
+    for command in commands {
+        if command.asks(alloc, known, looked).is_err() {
+            looked.truncate(before);
+            return Err(AllocError);
+        }
+    }
+    Ok(())
+}
+
+/// Whether some of these commands is told of all keys.
+fn are_told_of_all(commands: &[Command]) -> bool
+    ensures { result ≡ list_any is_told_of_all commands.now }
+{
+    for command in commands {
+        if command.is_told_of_all() {
+            return true;
+        }
+    }
+    false
+}
+
+impl Work {
+    /// Whether some of it is told of all keys. Where not, what keys are known changes nothing.
+    pub fn is_told_of_all(&self) -> bool
+        ensures { result ≡ wants_all self.now }
+    {
+        match self {
+            Work::Say(_) => false,
+            Work::One(command) => command.is_told_of_all(),
+            Work::Each(commands) => are_told_of_all(commands.as_slice()),
+        }
+    }
+
+    /// Copies of the keys that are looked at stand behind those that are listed, where all keys are known. Without memory for
+    /// all, none does.
+    pub fn asks(
+        &self,
+        alloc: Global,
+        known: &[Vec<u8>],
+        looked: &mut Vec<Vec<u8>>,
+    ) -> Result<(), AllocError>
+        ensures ok { OnOk result
+            (map vec_items looked.new.items
+            ≡ map vec_items looked.old.items ++ looks_at (map vec_items known.now) self.now) }
+        ensures err { OnErr result
+            (map vec_items looked.new.items ≡ map vec_items looked.old.items) }
+    {
+        match self {
+            Work::Say(_) => Ok(()),
+            Work::One(command) => command.asks(alloc, known, looked),
+            Work::Each(commands) => ask_each(alloc, commands.as_slice(), known, looked),
+        }
+    }
+
+    /// What is written, behind what is written already, and what is answered, by what keys have, where all keys are known.
+    /// Without memory nothing has changed.
+    pub fn run<S: Look>(
+        self,
+        alloc: Global,
+        store: &S,
+        known: &[Vec<u8>],
+        written: &mut Writes,
+    ) -> Result<Answer, AllocError>
+        ensures { CarriesOut (comes_to (map vec_items known.now) self (S.look store.now))
+            written.old.items result written.new.items }
+    {
+        match self {
+            Work::Say(reply) => Ok(Answer::One(reply)),
+            Work::One(command) => Ok(Answer::One(command.run(alloc, store, known, written)?)),
+            Work::Each(commands) => Ok(Answer::Each(run_each(
+                alloc, commands, store, known, written,
+            )?)),
+        }
+    }
+}

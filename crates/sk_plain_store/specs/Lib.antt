@@ -1,0 +1,3 @@
+pub mod Plain
+pub mod Places
+pub mod Laws

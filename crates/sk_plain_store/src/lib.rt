@@ -1,0 +1,8 @@
+//! A plain store: a map of byte strings that carries out commands at once.
+#![tactic(auto)]
+
+pub mod laws;
+mod place;
+mod store;
+
+pub use store::PlainStore;

@@ -78,8 +78,8 @@ module _ {K V W : Type 0} (R : K → K → Ordering) (written : W → Option V �
   writing_done new clean w = record {
     look = w.look;
     logs = λ q.
-    subst (λ ks. Merges [] (log_at R old q ++ noted (is_in R ks q) tags (look_at R old q) []) (log_at R new q)) (sym (keys_made R written (look_at R old) all))
-    (subst (Merges [] (log_at R old q ++ noted (is_in R (keys_of all) q) tags (look_at R old q) [])) (sym (w.logs q)) (noted_merges (is_in R (keys_of all) q) tags (look_at R old q) (log_at R old q) (clean q)));
+        subst (λ ks. Merges [] (log_at R old q ++ noted (is_in R ks q) tags (look_at R old q) []) (log_at R new q)) (sym (keys_made R written (look_at R old) all))
+        (subst (Merges [] (log_at R old q ++ noted (is_in R (keys_of all) q) tags (look_at R old q) [])) (sym (w.logs q)) (noted_merges (is_in R (keys_of all) q) tags (look_at R old q) (log_at R old q) (clean q)));
   }
 
   pub writing_more : IsAntisymmetric R → (now new : List (K × SlotView V)) (k : K) (one : W) (rest : List (K × W)) → Writing R written tags old all now ((k, one) ∷ rest)
@@ -87,13 +87,13 @@ module _ {K V W : Type 0} (R : K → K → Ordering) (written : W → Option V �
       → ((q : K) → IsReady R tags now q → IsReady R tags new q) → Writing R written tags old all new rest
   writing_more exact now new k one rest w look log ready = record {
     look = λ q.
-    let after = λ x. cond (eq_by_cmp R x k) (written one (look_at R now x)) (look_at R now x) in
-    let own : after q ≡ cond (eq_by_cmp R q k) (written one (look_at R now k)) (look_at R now q) =
+        let after : K → Option V = λ x. cond (eq_by_cmp R x k) (written one (look_at R now x)) (look_at R now x) in
+        let own : after q ≡ cond (eq_by_cmp R q k) (written one (look_at R now k)) (look_at R now q) =
         elim (eq_by_cmp R q k) as (λ b. eq_by_cmp R q k ≡ b → cond b (written one (look_at R now q)) (look_at R now q) ≡ cond b (written one (look_at R now k)) (look_at R now q)) [
           | true ↦ λ e. ap (λ x. written one (look_at R now x)) (exact q k ((Equal-is (R q k)).0 e))
           | false ↦ λ _. refl
         ] refl in
-    (λ i. written_value R (made_by R written (λ x. look x i) rest) q (look q i)) ∙ ap (written_value R (made_by R written after rest) q) own ∙ w.look q;
+        (λ i. written_value R (made_by R written (λ x. look x i) rest) q (look q i)) ∙ ap (written_value R (made_by R written after rest) q) own ∙ w.look q;
     logs = λ q. write_more tags (eq_by_cmp R q k) (is_in R (keys_of rest) q) (look_at R now q) (look_at R new q) (written one (look_at R now q)) (log_at R now q) (log_at R new q) (look q) (log q) ∙ w.logs q;
     ready = λ q here. ready q (w.ready q (or_right _ _ here));
   }

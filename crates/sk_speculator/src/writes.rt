@@ -24,7 +24,11 @@ fn with_tags(all: TagSet, more: &TagSet) -> Result<TagSet, AllocError>
 }
 
 /// Adds to a set the guesses that a key rests on.
-fn add_tags_at<K: Key, V, I: Inversion<V>>(slots: &Slots<K, V, I>, tags: TagSet, key: &K) -> Result<TagSet, AllocError>
+fn add_tags_at<K: Key, V, I: Inversion<V>>(
+    slots: &Slots<K, V, I>,
+    tags: TagSet,
+    key: &K,
+) -> Result<TagSet, AllocError>
     ensures { IfOk result
         (λ all. (g : ℕ) → has g all ≡ (has g tags || any_rests K.order slots.now g (key.now ∷ []))) }
 {
@@ -118,7 +122,10 @@ pub(crate) fn write_all<K: Key, V: Drop, I: Inversion<V>>(
 }
 
 /// Lets go of the room that was made for notes of these keys, and of slots of which there is nothing. It takes no memory.
-pub(crate) fn settle_all<K: Key, V: Drop, I: Inversion<V>>(slots: &mut Slots<K, V, I>, written: &[(K, I::Write)])
+pub(crate) fn settle_all<K: Key, V: Drop, I: Inversion<V>>(
+    slots: &mut Slots<K, V, I>,
+    written: &[(K, I::Write)],
+)
     ensures look { (q : K) → look_at K.order slots.new q ≡ look_at K.order slots.old q }
     ensures log { (q : K) → log_at K.order slots.new q ≡ log_at K.order slots.old q }
     ensures settled { SettledBut K.order (keys_of written.now) slots.old

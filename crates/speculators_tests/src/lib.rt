@@ -32,4 +32,6 @@ mod session;
 #[cfg(test)]
 mod step;
 #[cfg(test)]
+mod sums;
+#[cfg(test)]
 mod wrong;

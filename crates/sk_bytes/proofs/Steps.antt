@@ -8,7 +8,7 @@ use Rattle.sk_bytes.specs.Numbers.{exchanged, names, AreNames}
 use Rattle.sk_bytes.specs.Steps.{byte_deed, deed_in, IsAsItWas, IsHandedOver, Swaps}
 use Rattle.sk_bytes.proofs.Moves.{exchanged_back, exchanged_length, exchanged_names, map_length, names_length, writes_named}
 
-module _ {V O : Type 0} (step left : Step (Vec ℕ) V O) (numbered told : Step ℕ V O) where
+module _ {V O : Type 0} (step left : Step (Vec ℕ) O (Option V)) (numbered told : Step ℕ O (Option V)) where
   abbrev pub AreNumbered : (List ℕ → Option ℕ) → Type 0
   AreNumbered key = AreNames key (map (λ w. vec_items w.0) step.written.items) (names numbered.written.items)
 
@@ -38,7 +38,7 @@ module _ {V O : Type 0} (step left : Step (Vec ℕ) V O) (numbered told : Step �
     said = swaps.told_said;
   }
 
-module _ {V O : Type 0} (step left back : Step (Vec ℕ) V O) (told none : Step ℕ V O) where
+module _ {V O : Type 0} (step left back : Step (Vec ℕ) O (Option V)) (told none : Step ℕ O (Option V)) where
   pub handed_back : IsHandedOver step left told → Swaps left told back none → IsAsItWas step back
   handed_back over swaps = record {
     looked = swaps.looked ∙ over.looked;

@@ -1,5 +1,5 @@
 -- A step is taken as the machine takes it, and nothing is seen of one that is refused.
-use Rattle.std.proofs.Common.{◌≡◌, ◌||◌, None, sym, ap, ◌∙◌, subst}
+use Rattle.std.proofs.Common.{◌≡◌, ℕ, ◌||◌, None, sym, ap, ◌∙◌, subst}
 use Rattle.std.specs.Cmp.{IsTotalOrder}
 use Rattle.std.specs.FinMap.{IsAntisymmetric}
 use Rattle.sk_guesses.specs.Opens.{opens_of}
@@ -36,7 +36,7 @@ perform-requires-clause-clean g c = λ q here none.
     let looked = c.args.step.now.looked.items in
     let d : Deed _ _ _ = record { looked = looked; written = made_by R wr (look_at R a.slots) ws; said = c.args.step.now.said } in
     let keys = keys_made R wr (look_at R a.slots) ws in
-    let members = λ n. c.in-Ok.ensures.members n ∙ ap (λ ks. (is_marked None n || any_rests R a.slots n looked) || any_rests R a.slots n ks) (sym keys) in
+    let members = λ (n : ℕ). c.in-Ok.ensures.members n ∙ ap (λ ks. (is_marked None n || any_rests R a.slots n looked) || any_rests R a.slots n ks) (sym keys) in
     c.ask-asked.ensures.log q ∙ clean total exact a os c.self.invariant.1 d (None) c.in-Ok.both.tags members q (ap (λ ks. is_in R ks q) keys ∙ here) none
 
 pub invariant_of-self-2 : goal.invariant_of-self-2
@@ -51,7 +51,7 @@ invariant_of-self-2 g c =
     let looked = c.args.step.now.looked.items in
     let d : Deed _ _ _ = record { looked = looked; written = made_by R wr (look_at R a.slots) ws; said = c.args.step.now.said } in
     let keys = keys_made R wr (look_at R a.slots) ws in
-    let members = λ n. c.in-Ok.ensures.members n ∙ ap (λ ks. (is_marked None n || any_rests R a.slots n looked) || any_rests R a.slots n ks) (sym keys) in
+    let members = λ (n : ℕ). c.in-Ok.ensures.members n ∙ ap (λ ks. (is_marked None n || any_rests R a.slots n looked) || any_rests R a.slots n ks) (sym keys) in
     let writes = subst (λ vs. Performed R c.ask-asked.new.slots c.in-Ok.both.tags vs c.perform.new.slots) (λ i. made_by R wr (λ q. c.ask-asked.ensures.look q i) ws) c.perform.ensures.writes in
     let exactly = subst (λ ks. AllExact R (with_tags R c.in-Ok.both.tags ks (tags_by (log_at R a.slots))) c.ask-asked.new.guesses.opens) (sym keys) c.in-Ok.ensures.exact in
     let after = after_take total exact a os c.self.invariant.1 c.ask-asked.new.slots c.perform.new.slots d c.in-Ok.both.tags c.ask-asked.new.guesses.view c.ask-asked.new.guesses.opens c.ask-asked.new.said.said c.perform.new.said.said
@@ -71,7 +71,7 @@ returns-clause-ok g c =
     let looked = c.args.step.now.looked.items in
     let d : Deed _ _ _ = record { looked = looked; written = made_by R wr (look_at R a.slots) ws; said = c.args.step.now.said } in
     let keys = keys_made R wr (look_at R a.slots) ws in
-    let members = λ n. c.in-Ok.ensures.members n ∙ ap (λ ks. (is_marked None n || any_rests R a.slots n looked) || any_rests R a.slots n ks) (sym keys) in
+    let members = λ (n : ℕ). c.in-Ok.ensures.members n ∙ ap (λ ks. (is_marked None n || any_rests R a.slots n looked) || any_rests R a.slots n ks) (sym keys) in
     let writes = subst (λ vs. Performed R c.ask-asked.new.slots c.in-Ok.both.tags vs c.perform.new.slots) (λ i. made_by R wr (λ q. c.ask-asked.ensures.look q i) ws) c.perform.ensures.writes in
     let exactly = subst (λ ks. AllExact R (with_tags R c.in-Ok.both.tags ks (tags_by (log_at R a.slots))) c.ask-asked.new.guesses.opens) (sym keys) c.in-Ok.ensures.exact in
     let b : Parts _ _ _ = record { slots = c.perform.new.slots; guesses = c.ask-asked.new.guesses.view; opens = opens_of c.ask-asked.new.guesses.opens; said = c.perform.new.said.said } in

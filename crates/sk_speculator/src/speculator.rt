@@ -202,12 +202,11 @@ impl<K: Key, V, O, I: Inversion<V>> Speculator<K, V, O, I> {
     }
 }
 
-impl<K: Key, V: Drop, O: Drop, I: Inversion<V>> Speculator<K, V, O, I>
-where
-    I::Write: Drop,
-{
+impl<K: Key, V: Drop, O: Drop, I: Inversion<V>> Speculator<K, V, O, I> {
     /// Takes a step. Its buffers are empty then, with their room. Without memory the step is as it was, and nothing has changed.
     pub fn take(&mut self, step: &mut Step<K, V, O, I>) -> Result<(), AllocError>
+    where
+        I::Write: Drop,
         ensures ok { OnOk result
             (Takes K.order self.old
             (deed step.old.looked.items
@@ -237,6 +236,8 @@ where
     /// Draws the next guess and takes its step, which rests on it. The step's buffers are empty then, with their room. After a
     /// refusal the step is as it was, and nothing has changed.
     pub fn guess(&mut self, step: &mut Step<K, V, O, I>) -> Result<Guess, Refusal>
+    where
+        I::Write: Drop,
         ensures token { IfOk result
             (λ guess. guess
             ≡ record { kernel = self.old.guesses.kernel; id = next_of self.old.guesses }) }

@@ -21,7 +21,7 @@ use Rattle.sk_index.specs.Index.{Numbered, bytes_cmp, number_of, string_of, Adds
 use Rattle.sk_index.proofs.Strings.{same_bytes, same_list, some_none}
 use Rattle.sk_speculator.specs.Parts.{made_by, Parts, machine_of}
 use Rattle.sk_speculator.specs.Calls.{Takes, Commits, FailsIn, Forgets}
-use Rattle.sk_speculator.specs.declared.step.Step.{Step}
+use Rattle.sk_speculator.specs.WholeStep.{WholeStep}
 use Rattle.sk_speculator.proofs.Writing.{made_whole}
 use Rattle.sk_bytes.specs.Steps.{deed_in}
 use Rattle.sk_bytes.specs.Told.{shown, slot_shown, slots_told, told_of, IsTwoWay}
@@ -227,7 +227,7 @@ keeps_apart es two = record {
 -- ---- the calls
 
 -- what is written is there, as values are only ever set
-pub taken_whole : {V O : Type 0} (a b : Parts ℕ V O) (step : Step ℕ O (Option V)) (mark : Option ℕ)
+pub taken_whole : {V O : Type 0} (a b : Parts ℕ V O) (step : WholeStep ℕ V O) (mark : Option ℕ)
     → Takes nat_cmp a (record { looked = step.looked.items; written = made_by nat_cmp (λ value _. value) (look_at nat_cmp a.slots) step.written.items; said = step.said }) mark b → Takes nat_cmp a (deed_in step) mark b
 taken_whole {V} {O} a b step mark =
     subst (λ (ws : List (ℕ × Option V)). Takes nat_cmp a (record { looked = step.looked.items; written = ws; said = step.said }) mark b) (made_whole nat_cmp (look_at nat_cmp a.slots) step.written.items)

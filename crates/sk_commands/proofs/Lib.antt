@@ -4,3 +4,4 @@ pub mod Asked
 pub mod Shown
 pub mod Pairs
 pub mod Queued
+pub mod Unwritten

@@ -1,10 +1,11 @@
 //! Commands are steps of a kernel. Each law is the contract of a function that does nothing.
-ghost use Rattle.std.specs.Prelude.{◌≡◌, ℕ, List, Ok, false};
+ghost use Rattle.std.specs.Prelude.{◌≡◌, ℕ, List, Ok, [], false};
 ghost use Rattle.sk_record.specs.Step.{perform};
 ghost use Rattle.sk_deeds.specs.Deed.{effect_of};
 ghost use Rattle.sk_commands.specs.declared.command.Command.{Command};
 ghost use Rattle.sk_commands.specs.declared.work.Work.{Work};
-ghost use Rattle.sk_commands.specs.Table.{asks, is_told_of_all, outcome, Have};
+ghost use Rattle.sk_commands.specs.Table.{asks, is_told_of_all, may_write, outcome, Have};
+ghost use Rattle.sk_commands.specs.Work.{comes_to, may_write_some};
 ghost use Rattle.sk_commands.specs.Law.{act, deed};
 
 /// For whatever keys have, and whatever keys are known: the step of a command, or of a queue, asks for just the keys that are looked
@@ -20,4 +21,12 @@ pub fn others_act_alone()
         → asks known command ≡ asks others command }
     ensures outcome { (command : Command) (known others : List (List ℕ)) (has : Have)
         → is_told_of_all command ≡ false → outcome known command has ≡ outcome others command has }
+{}
+
+/// What may not write writes nothing, for whatever keys have and whatever keys are known.
+pub fn others_write_nothing()
+    ensures command { (command : Command) (known : List (List ℕ)) (has : Have)
+        → may_write command ≡ false → (outcome known command has).written ≡ [] }
+    ensures work { (work : Work) (known : List (List ℕ)) (has : Have)
+        → may_write_some work ≡ false → (comes_to known work has).written ≡ [] }
 {}

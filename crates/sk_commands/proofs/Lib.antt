@@ -5,3 +5,6 @@ pub mod Shown
 pub mod Pairs
 pub mod Queued
 pub mod Unwritten
+pub mod Said
+pub mod Works
+pub mod Bulks

@@ -1,5 +1,5 @@
 -- The requests of works come to these works again.
-use Rattle.std.proofs.Common.{◌≡◌, ℕ, false, List, [], ◌∷◌, ◌++◌, flat_map, map, Option, Some, None, Result, Ok, Err, refl, sym, ap, subst, ◌∙◌}
+use Rattle.std.proofs.Common.{◌≡◌, ℕ, Bool, true, false, List, [], ◌∷◌, ◌++◌, flat_map, map, Option, Some, None, Result, Ok, Err, refl, sym, ap, subst, ◌∙◌}
 use Rattle.std.proofs.lemmas.Grind.{flat_map-append}
 use Rattle.std.proofs.lemmas.List.{append_assoc, append-nil}
 use Rattle.sk_requests.specs.Request.{array}
@@ -7,13 +7,13 @@ use Rattle.sk_requests.specs.Stream.{Splits}
 use Rattle.sk_requests.specs.declared.limits.Limits.{Limits}
 use Rattle.sk_commands.specs.Names.{text_of}
 use Rattle.sk_commands.specs.Parsing.{order_of}
-use Rattle.sk_commands.specs.Session.{one_more, turn}
-use Rattle.sk_commands.specs.Requests.{log_text, requests_of, with_work, words_for, work_for, AreAsked, AreSaid, AreWithin, IsAsked, IsSaid}
+use Rattle.sk_commands.specs.Session.{executes, turn}
+use Rattle.sk_commands.specs.Requests.{log_text, requests_of, with_work, words_for, work_for, AreAsked, AreSaid, AreWithin, IsAsked, IsReplyOrAsked, IsSaid, WaitsSaid}
 use Rattle.sk_commands.specs.declared.name.Name.TheVariants as named
 use Rattle.sk_commands.specs.declared.fault.Fault.{Fault}
 use Rattle.sk_commands.specs.declared.command.Command.{Command}
 use Rattle.sk_commands.specs.declared.command.Order.{Order}
-use Rattle.sk_commands.specs.declared.command.Order.TheVariants.{Run, Multi, Exec}
+use Rattle.sk_commands.specs.declared.command.Order.TheVariants.{Run, Multi, Exec, Discard}
 use Rattle.sk_commands.specs.declared.session.Queue.{Queue}
 use Rattle.sk_commands.specs.declared.work.Work.{Work}
 use Rattle.sk_commands.specs.declared.work.Work.TheVariants as works
@@ -62,3 +62,28 @@ splits limits (r ∷ rs) within = (array r, flat_map array rs, within.0, refl, s
 pub read_again : (limits : Limits) (ws : List Work) → AreWithin limits (flat_map requests_of ws) → Splits limits (map Some (flat_map requests_of ws)) [] (flat_map log_text ws)
 read_again limits ws within =
     subst (λ t. Splits limits (map Some (flat_map requests_of ws)) [] t) (sym (texts_of ws)) (splits limits (flat_map requests_of ws) within)
+
+-- ---- what is carried out was said
+
+one_more_said : (cs : List Command) (c : Command) → AreSaid cs → IsSaid c → AreSaid (cs ++ c ∷ [])
+one_more_said [] c said new = (new, tt)
+one_more_said (b ∷ cs) c said new = (said.0, one_more_said cs c said.1 new)
+
+executed : (spoiled : Bool) (cs : List Command) → AreSaid cs → WaitsSaid (executes spoiled cs).queue × IsReplyOrAsked (executes spoiled cs).work
+executed true cs said = (tt, tt)
+executed false cs said = (tt, said)
+
+row : (queue : Option Queue) (words : List (List ℕ)) (o : Result Order Fault) → order_of words ≡ o → WaitsSaid queue → WaitsSaid (turn queue o).queue × IsReplyOrAsked (turn queue o).work
+row None words (Ok (Run c)) e said = (tt, (words, e))
+row None words (Ok Multi) e said = (tt, tt)
+row None words (Ok Exec) e said = (tt, tt)
+row None words (Ok Discard) e said = (tt, tt)
+row None words (Err fault) e said = (tt, tt)
+row (Some queue) words (Ok (Run c)) e said = (one_more_said queue.commands c said (words, e), tt)
+row (Some queue) words (Ok Multi) e said = (said, tt)
+row (Some queue) words (Ok Exec) e said = executed queue.spoiled queue.commands said
+row (Some queue) words (Ok Discard) e said = (tt, tt)
+row (Some queue) words (Err fault) e said = (said, tt)
+
+pub what_is_said : (queue : Option Queue) (words : List (List ℕ)) → WaitsSaid queue → WaitsSaid (turn queue (order_of words)).queue × IsReplyOrAsked (turn queue (order_of words)).work
+what_is_said queue words said = row queue words (order_of words) refl said

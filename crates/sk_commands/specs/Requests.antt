@@ -1,5 +1,5 @@
 -- Requests that say what was done, as a log keeps them.
-use Rattle.std.specs.Prelude.{◌≡◌, ℕ, ◌-◌, ◌^◌, ℤ, negsuc, Bool, true, false, codes, List, [], ◌∷◌, ◌++◌, flat_map, map, Option, Ok}
+use Rattle.std.specs.Prelude.{◌≡◌, ℕ, ◌-◌, ◌^◌, ℤ, negsuc, Bool, true, false, codes, List, [], ◌∷◌, ◌++◌, flat_map, map, Option, Some, None, Ok}
 use Rattle.std.specs.Fmt.{signed_decimal}
 use Rattle.sk_requests.specs.Request.{array, IsWithin}
 use Rattle.sk_requests.specs.declared.limits.Limits.{Limits}
@@ -85,6 +85,16 @@ IsAsked (works.Each commands) = AreSaid commands
 abbrev pub AreAsked : List Work → Type 0
 AreAsked [] = Unit {0}
 AreAsked (work ∷ others) = IsAsked work × AreAsked others
+
+-- Work is only a reply, or such work; and each command that waits in a queue is said.
+abbrev pub IsReplyOrAsked : Work → Type 0
+IsReplyOrAsked (works.Say reply) = Unit {0}
+IsReplyOrAsked (works.One command) = IsSaid command
+IsReplyOrAsked (works.Each commands) = AreSaid commands
+
+abbrev pub WaitsSaid : Option Queue → Type 0
+WaitsSaid None = Unit {0}
+WaitsSaid (Some queue) = AreSaid queue.commands
 
 -- work before others; a reply is none
 abbrev pub with_work : Work → List Work → List Work

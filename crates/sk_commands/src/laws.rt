@@ -1,17 +1,19 @@
 //! Commands are steps of a kernel. Each law is the contract of a function that does nothing.
-ghost use Rattle.std.specs.Prelude.{◌≡◌, ℕ, List, None, Ok, Some, [], false, flat_map, map};
+ghost use Rattle.std.specs.Prelude.{◌≡◌, ℕ, List, None, Ok, Option, Some, [], false, flat_map, map};
 ghost use Rattle.sk_record.specs.Step.{perform};
 ghost use Rattle.sk_deeds.specs.Deed.{effect_of};
 ghost use Rattle.sk_requests.specs.declared.limits.Limits.{Limits};
 ghost use Rattle.sk_requests.specs.Stream.{Splits};
 ghost use Rattle.sk_commands.specs.declared.command.Command.{Command};
 ghost use Rattle.sk_commands.specs.declared.command.Order.TheVariants.{Run};
+ghost use Rattle.sk_commands.specs.declared.session.Queue.{Queue};
 ghost use Rattle.sk_commands.specs.declared.work.Work.{Work};
 ghost use Rattle.sk_commands.specs.Table.{asks, is_told_of_all, may_write, outcome, Have};
 ghost use Rattle.sk_commands.specs.Work.{comes_to, may_write_some};
 ghost use Rattle.sk_commands.specs.Law.{act, deed};
 ghost use Rattle.sk_commands.specs.Parsing.{order_of};
-ghost use Rattle.sk_commands.specs.Requests.{log_text, requests_of, words_for, work_for, AreAsked, AreWithin};
+ghost use Rattle.sk_commands.specs.Session.{turn};
+ghost use Rattle.sk_commands.specs.Requests.{log_text, requests_of, words_for, work_for, AreAsked, AreWithin, IsReplyOrAsked, WaitsSaid};
 
 /// For whatever keys have, and whatever keys are known: the step of a command, or of a queue, asks for just the keys that are looked
 /// at, and then writes and says what comes of them.
@@ -40,6 +42,13 @@ pub fn others_write_nothing()
 pub fn commands_are_said_again()
     ensures { (words : List (List ℕ)) (command : Command) → order_of words ≡ Ok (Run command)
         → order_of (words_for command) ≡ Ok (Run command) }
+{}
+
+/// What a channel carries out is what its requests said, whatever it was asked before.
+pub fn channels_carry_out_what_is_said()
+    ensures { (queue : Option Queue) (words : List (List ℕ)) → WaitsSaid queue
+        → WaitsSaid (turn queue (order_of words)).queue
+        × IsReplyOrAsked (turn queue (order_of words)).work }
 {}
 
 /// What a channel carries out for the requests that a log keeps is just what was carried out.

@@ -128,13 +128,16 @@ fn acts_all(desk: &mut Desk, parts: &[DeskPart]) -> Result<(), Stop> {
 }
 
 fn declared(alloc: Global, declarations: &Declarations) -> Result<Desk, Stop> {
-    let (desk, _server) = sk_play::desk_of(alloc, declarations)?;
+    let (desk, server) = sk_play::desk_of(alloc, declarations)?;
+    drop(server);
     Ok(desk)
 }
 
 fn desk_of(alloc: Global, text: &[u8]) -> Result<Desk, Stop> {
     let scenario = Scenario::parse(alloc, text)?;
-    declared(alloc, &scenario.declarations)
+    let desk = declared(alloc, &scenario.declarations);
+    drop(scenario);
+    desk
 }
 
 /// The acts on a desk.

@@ -150,7 +150,9 @@ fn declared(alloc: Global, declarations: &Declarations) -> Result<Kernel, Stop> 
 
 fn kernel_of(alloc: Global, text: &[u8]) -> Result<Kernel, Stop> {
     let scenario = Scenario::parse(alloc, text)?;
-    declared(alloc, &scenario.declarations)
+    let kernel = declared(alloc, &scenario.declarations);
+    drop(scenario);
+    kernel
 }
 
 /// What a row grows is grown.

@@ -47,12 +47,14 @@ pub use Rattle.sk_guesses.specs.Token
 pub use Rattle.sk_guesses.specs.Kept as GuessesKept
 pub use Rattle.sk_deeds.specs.Deed as OwnDeed
 pub use Rattle.sk_deeds.specs.Told as OwnTold
+pub use Rattle.sk_inversion.specs.Undone as OwnUndone
 pub use Rattle.sk_slots.specs.Slot as OwnSlot
 pub use Rattle.sk_slots.specs.Slots as OwnSlots
 pub use Rattle.sk_outputs.specs.Said as OwnSaid
 pub use Rattle.sk_speculator.specs.Parts as OwnParts
 pub use Rattle.sk_speculator.specs.Calls as OwnCalls
 pub use Rattle.sk_speculator.specs.Emptied as OwnEmptied
+pub use Rattle.sk_speculator.specs.WholeStep as OwnWholeStep
 pub use Rattle.sk_speculator.specs.Law as OwnLaw
 pub use Rattle.sk_terminal.specs.Terminal
 pub use Rattle.sk_terminal.specs.Terminals

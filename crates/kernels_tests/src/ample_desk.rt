@@ -19,6 +19,8 @@ const FETCHING: Start<'static> = Start {
     ..BARE
 };
 
+const ONE: &Start<'static> = &FETCHING;
+
 /// The check of a guess on which nothing rests, where no guess was decided.
 fn check(number: u64) -> Sent<'static> {
     Sent {
@@ -42,7 +44,7 @@ fn all_guess(desk: &mut Desk, far: &mut Far) -> Result<(), Wrong> {
 }
 
 /// The same with a new desk.
-fn all_guess_anew(alloc: Global, start: Start<'_>, far: &mut Far) -> Result<(), Wrong> {
+fn all_guess_anew(alloc: Global, start: &Start<'_>, far: &mut Far) -> Result<(), Wrong> {
     let mut desk = Desk::new(alloc, kernel_of(alloc, start)?);
     let done = all_guess(&mut desk, far);
     desk.abandon();
@@ -50,7 +52,7 @@ fn all_guess_anew(alloc: Global, start: Start<'_>, far: &mut Far) -> Result<(), 
 }
 
 /// One process more than there can be guesses at once.
-const MANY: Start<'static> = Start {
+const MANY: &Start<'static> = &Start {
     scripts: &[FETCH; 65],
     limit: 200,
     ..FETCHING
@@ -58,7 +60,9 @@ const MANY: Start<'static> = Start {
 
 fn guesses_of_all(alloc: Global) -> Result<(), Wrong> {
     let mut far = Far::new(alloc, MANY)?;
-    all_guess_anew(alloc, MANY, &mut far)
+    let guessed = all_guess_anew(alloc, MANY, &mut far);
+    drop(far);
+    guessed
 }
 
 #[test]
@@ -99,7 +103,7 @@ fn shuts(desk: Desk) -> Result<(), Wrong> {
 }
 
 /// A desk guesses, stays with its request, and shuts once that is settled.
-fn stays_and_shuts(alloc: Global, start: Start<'_>, far: &mut Far) -> Result<(), Wrong> {
+fn stays_and_shuts(alloc: Global, start: &Start<'_>, far: &mut Far) -> Result<(), Wrong> {
     let mut desk = Desk::new(alloc, kernel_of(alloc, start)?);
     let guessed = turns(&mut desk, 1, Did::Guessed(1));
     let mut desk = stays(desk)?;
@@ -109,8 +113,10 @@ fn stays_and_shuts(alloc: Global, start: Start<'_>, far: &mut Far) -> Result<(),
 }
 
 fn shuts_with_pending(alloc: Global) -> Result<(), Wrong> {
-    let mut far = Far::new(alloc, FETCHING)?;
-    stays_and_shuts(alloc, FETCHING, &mut far)
+    let mut far = Far::new(alloc, ONE)?;
+    let shut = stays_and_shuts(alloc, ONE, &mut far);
+    drop(far);
+    shut
 }
 
 #[test]
@@ -136,20 +142,30 @@ fn has_run(world: &World) -> Result<(), Wrong> {
 }
 
 /// A process that fetches `/x` for ever.
-const FOR_EVER: Start<'static> = Start {
+const FOR_EVER: &Start<'static> = &Start {
     scripts: &[&[(b"top:\nfetch /x\njump top\n", 1)]],
     limit: 6_000,
     ..FETCHING
 };
 
-fn runs_many(alloc: Global) -> Result<(), Wrong> {
-    let server = server_of(alloc, FOR_EVER)?;
-    let desk = Desk::new(alloc, kernel_of(alloc, FOR_EVER)?);
-    let mut world = World::new(alloc, desk, server);
+/// The rounds of a world, which is abandoned at the end.
+fn runs_through(world: World) -> Result<(), Wrong> {
+    let mut world = world;
     let done = runs(&mut world);
     let has_run = has_run(&world);
     world.abandon();
     done.and(has_run)
+}
+
+fn runs_many(alloc: Global) -> Result<(), Wrong> {
+    let server = server_of(alloc, FOR_EVER)?;
+    match kernel_of(alloc, FOR_EVER) {
+        Ok(kernel) => runs_through(World::new(alloc, Desk::new(alloc, kernel), server)),
+        Err(wrong) => {
+            drop(server);
+            Err(wrong)
+        }
+    }
 }
 
 #[test]

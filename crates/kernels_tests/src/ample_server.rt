@@ -36,8 +36,12 @@ fn files(server: &Server) -> Result<usize, Wrong> {
 
 fn stores_many(alloc: Global) -> Result<(), Wrong> {
     let mut server = Server::new(alloc);
-    stores(alloc, &mut server, 3_000)?;
-    holds(2, files(&server) == Ok(6_000)).and(holds(3, server.next() == 3_001))
+    let stored = stores(alloc, &mut server, 3_000);
+    let (files, next) = (files(&server), server.next());
+    drop(server);
+    stored?;
+    holds(2, files == Ok(6_000))?;
+    holds(3, next == 3_001)
 }
 
 #[test]
@@ -80,7 +84,9 @@ fn refuses_and_drops(alloc: Global, server: &mut Server) -> Result<(), Wrong> {
 
 fn refuses_many(alloc: Global) -> Result<(), Wrong> {
     let mut server = server_with(alloc, (b"/x", 3, b"old"))?;
-    refuses_and_drops(alloc, &mut server)
+    let done = refuses_and_drops(alloc, &mut server);
+    drop(server);
+    done
 }
 
 #[test]

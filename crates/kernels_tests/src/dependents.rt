@@ -4,7 +4,7 @@ use crate::start::{BARE, Start, passes};
 use sk_script::ObjectKind;
 
 /// A process that writes what it fetches to a file, and one that copies this file to another, and says something.
-const START: Start<'static> = Start {
+const START: &Start<'static> = &Start {
     number: 1,
     scripts: &[
         &[(b"look r1 r7 f\nfetch /x\nwrite r1 r2\n", 1)],

@@ -1,7 +1,7 @@
 //! Runs with a desk and a server, and each kind of reply.
 use crate::asking::{ServerWish, ToldAnswer};
 use crate::desk_plays::{Came, DeskPlay, Did, Sent, Sight, plays};
-use crate::start::{BARE, Start, passes};
+use crate::start::{BARE, Lines, Start, passes};
 use sk_client::ReplyRefusal;
 use sk_objects::content::LAST_VERSION;
 use sk_plain::Refusal;
@@ -19,7 +19,7 @@ const FETCHES: Start<'static> = Start {
 };
 
 /// The same where there is no copy.
-const UNCOPIED: Start<'static> = Start {
+const UNCOPIED: &Start<'static> = &Start {
     copies: &[],
     ..FETCHES
 };
@@ -65,7 +65,7 @@ const THIRD_IS_NEXT: Came = Came::Back(ReplyRefusal::OutOfTurn { expected: 3 });
 /// The reply does not fit what was asked.
 const WRONG_KIND: Came = Came::Back(ReplyRefusal::WrongKind);
 
-const STALE: Start<'static> = Start {
+const STALE: &Start<'static> = &Start {
     file: Some((b"/x", 3, b"old")),
     ..FETCHES_AND_STORES
 };
@@ -96,7 +96,7 @@ fn stale_store_dropped(rt: HostRuntime) {
     passes(&rt, plays(rt.alloc(), STALE, &[DROPPED_STORE]));
 }
 
-const FETCHES_NEW: Start<'static> = Start {
+const FETCHES_NEW: &Start<'static> = &Start {
     file: Some((b"/x", 4, b"new")),
     ..FETCHES
 };
@@ -140,7 +140,7 @@ fn late_and_wrong_replies(rt: HostRuntime) {
     }
 }
 
-const LAST_COPY: Start<'static> = Start {
+const LAST_COPY: &Start<'static> = &Start {
     scripts: &[&[(b"store /x\n", 1)]],
     copies: &[(b"/x", LAST_VERSION, b"m")],
     ..BARE
@@ -166,7 +166,7 @@ fn last_version(rt: HostRuntime) {
     passes(&rt, plays(rt.alloc(), LAST_COPY, &[LAST]));
 }
 
-const FETCHES_LATER: Start<'static> = Start {
+const FETCHES_LATER: &Start<'static> = &Start {
     file: Some((b"/x", 5, b"z")),
     ..FETCHES_AND_STORES
 };
@@ -248,14 +248,17 @@ fn each_kind_of_reply_to_a_get(rt: HostRuntime) {
     passes(&rt, plays(rt.alloc(), UNCOPIED, &[REPLIES_TO_A_GET]));
 }
 
-const STORES: Start<'static> = Start {
-    scripts: &[&[(b"store /x\n", 1)]],
+/// A process that stores it.
+const STORING: &[Lines<'static>] = &[&[(b"store /x\n", 1)]];
+
+const STORES: &Start<'static> = &Start {
+    scripts: STORING,
     ..COPIED
 };
 
-const STORES_UNCOPIED: Start<'static> = Start {
-    copies: &[],
-    ..STORES
+const STORES_UNCOPIED: &Start<'static> = &Start {
+    scripts: STORING,
+    ..BARE
 };
 
 const REPLIES_TO_A_STORE: &[DeskPlay<'static>] = &[
@@ -297,7 +300,7 @@ fn each_kind_of_reply_to_a_store(rt: HostRuntime) {
     );
 }
 
-const FETCHES_TWICE: Start<'static> = Start {
+const FETCHES_TWICE: &Start<'static> = &Start {
     scripts: &[&[(b"fetch /x\n", 2)]],
     ..COPIED
 };
@@ -318,7 +321,7 @@ fn kept_answer_is_used_once(rt: HostRuntime) {
     passes(&rt, plays(rt.alloc(), FETCHES_TWICE, &[USED_ONCE]));
 }
 
-const SIGNALLED: Start<'static> = Start {
+const SIGNALLED: &Start<'static> = &Start {
     scripts: &[
         &[(b"handler h\nfetch /x\nh:\nreturn\n", 1)],
         &[(b"boot r1 1\nset r2 5\nkill r1 r2\n", 1)],
@@ -347,7 +350,7 @@ fn kept_answer_is_forgotten_for_a_signal(rt: HostRuntime) {
     passes(&rt, plays(rt.alloc(), SIGNALLED, &[FORGOTTEN_FOR_A_SIGNAL]));
 }
 
-const FETCHES_TWO_FILES: Start<'static> = Start {
+const FETCHES_TWO_FILES: &Start<'static> = &Start {
     scripts: &[&[(b"fetch /x\nfetch /y\n", 1)]],
     ..COPIED
 };
@@ -375,7 +378,7 @@ fn void_request_is_forgotten(rt: HostRuntime) {
     passes(&rt, plays(rt.alloc(), FETCHES_TWO_FILES, &[FORGOTTEN]));
 }
 
-const TWO_PLACES: Start<'static> = Start {
+const TWO_PLACES: &Start<'static> = &Start {
     scripts: &[&[(b"fetch /x\n", 1)], &[(b"set r1 1\nset r1 2\n", 1)]],
     limit: 2,
     ..BARE
@@ -390,7 +393,7 @@ const ASKS: &[DeskPlay<'static>] = &[
     DeskPlay::See(Sight::Trace(2, 0)),
 ];
 
-const ONE_PLACE: Start<'static> = Start {
+const ONE_PLACE: &Start<'static> = &Start {
     limit: 1,
     ..FETCHES
 };
@@ -407,7 +410,7 @@ fn places_of_the_trace(rt: HostRuntime) {
     passes(&rt, plays(rt.alloc(), ONE_PLACE, &[GUESSES]));
 }
 
-const ASKERS: Start<'static> = Start {
+const ASKERS: &Start<'static> = &Start {
     scripts: &[&[(b"fetch /x\n", 1)], &[(b"fetch /y\n", 1)]],
     ..BARE
 };

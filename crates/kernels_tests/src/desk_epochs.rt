@@ -5,7 +5,7 @@ use crate::start::{BARE, Start, passes};
 use sk_kernel::EpochRefusal;
 
 /// A process that fetches twice, and a copy like the server's file.
-const FETCHING: Start<'static> = Start {
+const FETCHING: &Start<'static> = &Start {
     scripts: &[&[(b"fetch /x\n", 2)]],
     copies: &[(b"/x", 3, b"old")],
     file: Some((b"/x", 3, b"old")),

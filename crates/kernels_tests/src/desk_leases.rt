@@ -10,7 +10,7 @@ use tests_support::plain::pid;
 use tests_support::wrong::{Wrong, holds};
 
 /// A process with two private instructions and one that is not, and one that ends it by a signal.
-const START: Start<'static> = Start {
+const START: &Start<'static> = &Start {
     scripts: &[
         &[(b"set r1 1\nset r2 2\nsay\n", 1)],
         &[(b"boot r1 1\nset r2 9\nkill r1 r2\n", 1)],

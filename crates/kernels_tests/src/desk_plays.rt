@@ -103,7 +103,7 @@ pub struct Far {
 
 impl Far {
     /// A server at its start.
-    pub fn new(alloc: Global, start: Start<'_>) -> Result<Far, Wrong> {
+    pub fn new(alloc: Global, start: &Start<'_>) -> Result<Far, Wrong> {
         Ok(Far {
             server: server_of(alloc, start)?,
             requests: VecDeque::new(alloc),
@@ -369,7 +369,7 @@ fn does_parts(desk: &mut Desk, far: &mut Far, parts: &[&[DeskPlay<'_>]]) -> Resu
 /// The same with a new desk, which is abandoned at the end.
 fn plays_with(
     alloc: Global,
-    start: Start<'_>,
+    start: &Start<'_>,
     far: &mut Far,
     parts: &[&[DeskPlay<'_>]],
 ) -> Result<(), Wrong> {
@@ -380,7 +380,9 @@ fn plays_with(
 }
 
 /// Plays one part after the other with a new desk and a new server.
-pub fn plays(alloc: Global, start: Start<'_>, parts: &[&[DeskPlay<'_>]]) -> Result<(), Wrong> {
+pub fn plays(alloc: Global, start: &Start<'_>, parts: &[&[DeskPlay<'_>]]) -> Result<(), Wrong> {
     let mut far = Far::new(alloc, start)?;
-    plays_with(alloc, start, &mut far, parts)
+    let done = plays_with(alloc, start, &mut far, parts);
+    drop(far);
+    done
 }

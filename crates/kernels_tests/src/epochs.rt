@@ -1,6 +1,6 @@
 //! Epochs: what is handed out, and what is known of the guesses of earlier ones.
 use crate::plays::{Count, Decision, KernelPlay, Player, does_all, plays};
-use crate::start::{BARE, Start, kernel_of, lets_go, passes};
+use crate::start::{BARE, Start, kernel_of, passes};
 use sk_guesses::Status;
 use sk_kernel::{EpochRefusal, Kernel, Outcome};
 use sk_plain::{Refusal, strike_from};
@@ -25,14 +25,14 @@ fn leaves(alloc: Global, kernel: &Kernel, want: usize) -> Result<(), Wrong> {
 fn plays_to_one(
     rt: &impl Abort,
     alloc: Global,
-    start: Start<'_>,
+    start: &Start<'_>,
     table: &[KernelPlay],
 ) -> Result<(), Wrong> {
     let mut player = Player::new(alloc, start)?;
     let done = does_all(rt, &mut player, table);
     let kernel = player.end(rt);
     let left = leaves(alloc, &kernel, 1);
-    lets_go(kernel);
+    drop(kernel);
     done.and(left)
 }
 
@@ -42,7 +42,7 @@ const FAILS: KernelPlay = KernelPlay::Decides(Decision::Fail, Outcome::Done);
 
 const GONE: KernelPlay = KernelPlay::Decides(Decision::Commit, Outcome::Gone);
 
-const FULL: Start<'static> = Start {
+const FULL: &Start<'static> = &Start {
     scripts: &[&[(b"fetch /01\n", 2)]],
     limit: 3,
     ..ALONE
@@ -71,7 +71,7 @@ fn epoch_hands_out(rt: HostRuntime) {
     passes(&rt, plays_to_one(&rt, rt.alloc(), FULL, HANDED_OUT));
 }
 
-const TWO_FETCHES: Start<'static> = Start {
+const TWO_FETCHES: &Start<'static> = &Start {
     scripts: &[&[(b"fetch /01\n", 2), (b"say\n", 1)]],
     ..ALONE
 };
@@ -96,7 +96,7 @@ fn epoch_and_old_tokens(rt: HostRuntime) {
     passes(&rt, plays_to_one(&rt, rt.alloc(), TWO_FETCHES, OLD_TOKENS));
 }
 
-const THREE_TEXTS: Start<'static> = Start {
+const THREE_TEXTS: &Start<'static> = &Start {
     scripts: &[&[(b"say\n", 3)]],
     limit: 2,
     ..ALONE
@@ -124,10 +124,11 @@ fn begins_as_before(kernel: &mut Kernel) -> Result<(), Wrong> {
     let before = kernel.opening().copy()?;
     let begun = kernel.new_epoch().is_ok();
     let is_same = *kernel.opening() == before;
+    drop(before);
     holds(0, begun && is_same && kernel.trace().events().is_empty())
 }
 
-const ONE_TEXT: Start<'static> = Start {
+const ONE_TEXT: &Start<'static> = &Start {
     scripts: &[&[(b"say\n", 1)]],
     limit: 10,
     ..ALONE
@@ -136,7 +137,7 @@ const ONE_TEXT: Start<'static> = Start {
 fn begins_after_the_boot(alloc: Global) -> Result<(), Wrong> {
     let mut kernel = kernel_of(alloc, ONE_TEXT)?;
     let begun = begins_as_before(&mut kernel);
-    lets_go(kernel);
+    drop(kernel);
     begun
 }
 
@@ -173,7 +174,7 @@ fn epochs(rt: &impl Abort, player: &mut Player, count: u64) -> Result<(), Wrong>
     Ok(())
 }
 
-const MANY_FETCHES: Start<'static> = Start {
+const MANY_FETCHES: &Start<'static> = &Start {
     scripts: &[&[(b"fetch /01\n", 201)]],
     limit: 2,
     ..ALONE

@@ -22,15 +22,20 @@ const GUESS: KernelPlay = KernelPlay::Guesses(1, 1, 1);
 const COMMIT: KernelPlay = KernelPlay::Decides(Decision::Commit, Outcome::Done);
 
 /// A kernel of number 1 with one process, which says `a`, fetches and says `b`.
-const ONE: Start<'static> = Start {
+const SAYING: Start<'static> = Start {
     number: 1,
     scripts: &[&[(b"text \"a\"\nsay\nfetch /01\ntext \"b\"\nsay\n", 1)]],
     copies: &[(b"/01", 3, b"old")],
     ..BARE
 };
 
+const ONE: &Start<'static> = &SAYING;
+
 /// One of number 2.
-const TWO: Start<'static> = Start { number: 2, ..ONE };
+const TWO: &Start<'static> = &Start {
+    number: 2,
+    ..SAYING
+};
 
 /// Something that is done with two kernels.
 #[derive(Clone, Copy)]
@@ -109,7 +114,7 @@ fn meets(
     rt: &impl Abort,
     alloc: Global,
     one: &mut Player,
-    other: Start<'_>,
+    other: &Start<'_>,
     turns: &[PairTurn],
 ) -> Result<(), Wrong> {
     let mut two = Player::new(alloc, other)?;
@@ -119,7 +124,12 @@ fn meets(
 }
 
 /// Takes turns with two new kernels, the first of which has number 1.
-fn meet(rt: &impl Abort, alloc: Global, other: Start<'_>, turns: &[PairTurn]) -> Result<(), Wrong> {
+fn meet(
+    rt: &impl Abort,
+    alloc: Global,
+    other: &Start<'_>,
+    turns: &[PairTurn],
+) -> Result<(), Wrong> {
     let mut one = Player::new(alloc, ONE)?;
     let done = meets(rt, alloc, &mut one, other, turns);
     one.abandon(rt);
@@ -192,7 +202,10 @@ fn shuts(rt: &impl Abort, alloc: Global) -> Result<(), Wrong> {
     let done = does_all(rt, &mut one, COMMITTED);
     let (trace, texts) = shut(rt, one.end(rt));
     let printed = prints(alloc, &trace);
-    done.and(printed).and(has_released(&texts))
+    let released = has_released(&texts);
+    drop(trace);
+    drop(texts);
+    done.and(printed).and(released)
 }
 
 #[test]

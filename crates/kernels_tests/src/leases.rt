@@ -1,5 +1,5 @@
 //! A process is leased, and handed in.
-use crate::start::{BARE, Start, kernel_of, lets_go, passes};
+use crate::start::{BARE, Start, kernel_of, passes};
 use sk_ids::{Entity, Pid};
 use sk_kernel::{HandIn, Kernel};
 use sk_plain::{Refusal, View};
@@ -22,7 +22,7 @@ struct HandedIn {
 }
 
 /// A process with two private instructions and one that is not, and one that ends it by a signal.
-const START: Start<'static> = Start {
+const START: &Start<'static> = &Start {
     scripts: &[
         &[(b"set r1 1\nset r2 2\nsay\n", 1)],
         &[(b"boot r1 1\nset r2 9\nkill r1 r2\n", 1)],
@@ -91,7 +91,7 @@ fn handed_in(alloc: Global, between: u16, steps: u32) -> Result<HandedIn, Wrong>
     let between = pid(between)?;
     let mut kernel = kernel_of(alloc, START)?;
     let handed_in = hands_in(&mut kernel, between, steps);
-    lets_go(kernel);
+    drop(kernel);
     handed_in
 }
 
@@ -174,7 +174,7 @@ fn count_once(kernel: &mut Kernel) -> Result<(), Wrong> {
 fn none_counts_twice(alloc: Global) -> Result<(), Wrong> {
     let mut kernel = kernel_of(alloc, START)?;
     let counted = count_once(&mut kernel);
-    lets_go(kernel);
+    drop(kernel);
     counted
 }
 

@@ -14,7 +14,7 @@ const ALONE: Start<'static> = Start {
 };
 
 /// A thousand private steps behind a fetch.
-const MERGED: Start<'static> = Start {
+const MERGED: &Start<'static> = &Start {
     scripts: &[&[(b"fetch /01\n", 1), (b"set r1 1\n", 1_000)]],
     limit: 2_000,
     ..ALONE
@@ -40,7 +40,7 @@ fn merged_notes_are_one(rt: HostRuntime) {
 }
 
 /// A process that writes what it fetches to a file, three times, and one that reads the file, and says something.
-const WRITTEN: Start<'static> = Start {
+const WRITTEN: &Start<'static> = &Start {
     number: 1,
     scripts: &[
         &[(
@@ -78,7 +78,7 @@ fn notes_of_files_and_processes(rt: HostRuntime) {
 }
 
 /// Five private steps behind two fetches.
-const TWO_GUESSES: Start<'static> = Start {
+const TWO_GUESSES: &Start<'static> = &Start {
     scripts: &[&[(b"fetch /01\n", 2), (b"set r1 1\n", 5)]],
     ..ALONE
 };

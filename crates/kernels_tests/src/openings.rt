@@ -1,5 +1,5 @@
 //! Plain kernels and openings, compared.
-use crate::start::{BARE, Lines, Start, Version, declares_all, kernel_of, lets_go, passes};
+use crate::start::{BARE, Lines, Start, Version, declares_all, kernel_of, passes};
 use sk_kernel::{Kernel, Opening};
 use sk_plain::Plain;
 use sk_script::{Boot, Input};
@@ -13,29 +13,34 @@ const AGAIN: Lines<'static> = &[(b"again:\nsay\njump again\n", 1)];
 const COPY: Version<'static> = (b"/01", 3, b"old");
 
 /// A kernel of number 1 with one such process and a copy.
-const START: Start<'static> = Start {
+const SAYING: Start<'static> = Start {
     number: 1,
     scripts: &[AGAIN],
     copies: &[COPY],
     ..BARE
 };
 
+const START: &Start<'static> = &SAYING;
+
 /// Kernels that begin otherwise: of another number, with another limit, with a process and a copy more, and with another
 /// script.
 const OTHERS: &[Start<'static>] = &[
-    Start { number: 2, ..START },
+    Start {
+        number: 2,
+        ..SAYING
+    },
     Start {
         limit: 101,
-        ..START
+        ..SAYING
     },
     Start {
         scripts: &[AGAIN, AGAIN],
         copies: &[COPY, (b"/02", 3, b"old")],
-        ..START
+        ..SAYING
     },
     Start {
         scripts: &[&[(b"again:\nsay\njump again\nsay\n", 1)]],
-        ..START
+        ..SAYING
     },
 ];
 
@@ -55,10 +60,10 @@ fn said(kernel: &mut Kernel, steps: usize) -> Result<Opening, Wrong> {
 }
 
 /// The opening of a new kernel after so many steps.
-fn opening_after(alloc: Global, start: Start<'_>, steps: usize) -> Result<Opening, Wrong> {
+fn opening_after(alloc: Global, start: &Start<'_>, steps: usize) -> Result<Opening, Wrong> {
     let mut kernel = kernel_of(alloc, start)?;
     let opening = said(&mut kernel, steps);
-    lets_go(kernel);
+    drop(kernel);
     opening
 }
 
@@ -66,11 +71,13 @@ fn opening_after(alloc: Global, start: Start<'_>, steps: usize) -> Result<Openin
 fn is_opening(
     alloc: Global,
     opening: &Opening,
-    start: Start<'_>,
+    start: &Start<'_>,
     steps: usize,
 ) -> Result<bool, Wrong> {
     let other = opening_after(alloc, start, steps)?;
-    Ok(*opening == other)
+    let is_same = *opening == other;
+    drop(other);
+    Ok(is_same)
 }
 
 /// What an opening has is as a kernel of this start has it.
@@ -85,6 +92,7 @@ fn is_same_later(alloc: Global) -> Result<(), Wrong> {
     let first = opening_after(alloc, START, 0)?;
     let is_same = is_opening(alloc, &first, START, 5);
     let is_first = holds(1, begins(&first));
+    drop(first);
     holds(0, is_same == Ok(true)).and(is_first)
 }
 
@@ -96,14 +104,16 @@ fn openings_after_the_same_boot(rt: HostRuntime) {
 /// An opening is none of these kernels'.
 fn is_none_of(alloc: Global, opening: &Opening, table: &[Start<'_>]) -> Result<(), Wrong> {
     for (place, start) in table.iter().enumerate() {
-        holds(place, !is_opening(alloc, opening, *start, 0)?)?;
+        holds(place, !is_opening(alloc, opening, start, 0)?)?;
     }
     Ok(())
 }
 
 fn all_differ(alloc: Global) -> Result<(), Wrong> {
     let first = opening_after(alloc, START, 0)?;
-    is_none_of(alloc, &first, OTHERS)
+    let differ = is_none_of(alloc, &first, OTHERS);
+    drop(first);
+    differ
 }
 
 #[test]
@@ -129,20 +139,29 @@ fn boots(alloc: Global, boot: &mut Boot) -> Result<Plain, Wrong> {
 /// A plain kernel at its start.
 fn plain_at_start(alloc: Global) -> Result<Plain, Wrong> {
     let mut boot = Boot::new(alloc);
-    boots(alloc, &mut boot)
+    let plain = boots(alloc, &mut boot);
+    drop(boot);
+    plain
 }
 
 /// The plain kernel after so many steps.
 fn plain_after(alloc: Global, count: usize) -> Result<Plain, Wrong> {
     let mut plain = plain_at_start(alloc)?;
-    steps(&mut plain, count)?;
-    Ok(plain)
+    match steps(&mut plain, count) {
+        Ok(()) => Ok(plain),
+        Err(wrong) => {
+            drop(plain);
+            Err(wrong)
+        }
+    }
 }
 
 /// Whether it is the plain kernel after so many steps.
 fn is_after(alloc: Global, plain: &Plain, count: usize) -> Result<bool, Wrong> {
     let other = plain_after(alloc, count)?;
-    Ok(*plain == other)
+    let is_same = *plain == other;
+    drop(other);
+    Ok(is_same)
 }
 
 /// Whether it is the one after so many steps, after one more and after two more.
@@ -157,6 +176,7 @@ fn compared(alloc: Global, plain: &Plain, count: usize) -> Result<[bool; 3], Wro
 fn is_itself(alloc: Global, count: usize) -> Result<(), Wrong> {
     let plain = plain_after(alloc, count)?;
     let compared = compared(alloc, &plain, count);
+    drop(plain);
     holds(count, compared == Ok([true, false, false]))
 }
 

@@ -2,7 +2,7 @@
 //! come of it. A table has plain numbers, so that a test is short to prove.
 ghost use Rattle.std.specs.Prelude.{◌≡◌, vec_len};
 
-use crate::start::{Start, comes, kernel_of, lets_go};
+use crate::start::{Start, comes, kernel_of};
 use sk_guesses::{Guess, Status};
 use sk_ids::{Entity, ObjId, Pid};
 use sk_kernel::{EpochRefusal, FailRefusal, Kernel, Outcome, Stranger};
@@ -268,7 +268,7 @@ fn spends(rt: &impl Abort, player: &mut Player)
 
 impl Player {
     /// A new kernel.
-    pub fn new(alloc: Global, start: Start<'_>) -> Result<Player, Wrong> {
+    pub fn new(alloc: Global, start: &Start<'_>) -> Result<Player, Wrong> {
         let kernel = kernel_of(alloc, start)?;
         let tokens = Vec::new(alloc);
         Ok(Player { kernel, tokens })
@@ -285,7 +285,7 @@ impl Player {
 
     /// Spends the tokens that are left.
     pub fn abandon(self, rt: &impl Abort) {
-        lets_go(self.end(rt));
+        drop(self.end(rt));
     }
 }
 
@@ -293,7 +293,7 @@ impl Player {
 fn plays_all(
     rt: &impl Abort,
     alloc: Global,
-    start: Start<'_>,
+    start: &Start<'_>,
     parts: &[&[KernelPlay]],
 ) -> Result<(), Wrong> {
     let mut player = Player::new(alloc, start)?;
@@ -306,7 +306,7 @@ fn plays_all(
 pub fn plays(
     rt: &impl Abort,
     alloc: Global,
-    start: Start<'_>,
+    start: &Start<'_>,
     plays: &[KernelPlay],
 ) -> Result<(), Wrong> {
     plays_all(rt, alloc, start, &[plays])
@@ -316,7 +316,7 @@ pub fn plays(
 pub fn plays_until(
     rt: &impl Abort,
     alloc: Global,
-    start: Start<'_>,
+    start: &Start<'_>,
     before: &[KernelPlay],
     decision: Decision,
     after: &[KernelPlay],

@@ -69,7 +69,9 @@ fn left_from(
 /// What is left of them from the start.
 fn left(alloc: Global, boot: &Boot, entries: &[Entry]) -> Result<Vec<Entry>, Wrong> {
     let mut store = Store::start(alloc, boot)?;
-    left_from(alloc, &mut store, boot, entries)
+    let left = left_from(alloc, &mut store, boot, entries);
+    drop(store);
+    left
 }
 
 /// The entries are those of this record.
@@ -84,7 +86,9 @@ fn is_record(entries: &[Entry], want: &[Did]) -> Result<(), Wrong> {
 /// This is left of entries when their guess fails.
 fn leaves(alloc: Global, boot: &Boot, entries: &[Entry], want: &[Did]) -> Result<(), Wrong> {
     let left = left(alloc, boot, entries)?;
-    is_record(&left, want)
+    let is_record = is_record(&left, want);
+    drop(left);
+    is_record
 }
 
 /// A record of a boot, and what is left of it when its guess fails.
@@ -102,19 +106,22 @@ fn leaves_of(
     entries: &mut Vec<Entry>,
     row: &Row,
 ) -> Result<(), Wrong> {
-    declares_all(alloc, boot, row.start)?;
+    declares_all(alloc, boot, &row.start)?;
     adds_all(entries, row.record)?;
     leaves(alloc, boot, entries, row.left)
 }
 
 fn strikes(alloc: Global, row: &Row) -> Result<(), Wrong> {
     let (mut boot, mut entries) = (Boot::new(alloc), Vec::new(alloc));
-    leaves_of(alloc, &mut boot, &mut entries, row)
+    let struck = leaves_of(alloc, &mut boot, &mut entries, row);
+    drop(boot);
+    drop(entries);
+    struck
 }
 
 const COPIES: &[Version<'static>] = &[(b"/x", 3, b"new"), (b"/y", 1, b"new")];
 
-const DEPENDENCE_THROUGH_FILES: Row = Row {
+const DEPENDENCE_THROUGH_FILES: &Row = &Row {
     start: Start {
         scripts: &[
             &[(b"mkfile r1\nfetch /x\nwrite r1 r2\nfetch /y\n", 1)],
@@ -139,10 +146,10 @@ const DEPENDENCE_THROUGH_FILES: Row = Row {
 
 #[test]
 fn dependence_through_files(rt: HostRuntime) {
-    passes(&rt, strikes(rt.alloc(), &DEPENDENCE_THROUGH_FILES));
+    passes(&rt, strikes(rt.alloc(), DEPENDENCE_THROUGH_FILES));
 }
 
-const INDEPENDENT_PROCESS_SURVIVES: Row = Row {
+const INDEPENDENT_PROCESS_SURVIVES: &Row = &Row {
     start: Start {
         scripts: &[
             &[(b"mkfile r1\nfetch /x\nwrite r1 r2\n", 1)],
@@ -171,10 +178,10 @@ const INDEPENDENT_PROCESS_SURVIVES: Row = Row {
 
 #[test]
 fn independent_process_survives(rt: HostRuntime) {
-    passes(&rt, strikes(rt.alloc(), &INDEPENDENT_PROCESS_SURVIVES));
+    passes(&rt, strikes(rt.alloc(), INDEPENDENT_PROCESS_SURVIVES));
 }
 
-const WRITER_BEFORE_THE_GUESS: Row = Row {
+const WRITER_BEFORE_THE_GUESS: &Row = &Row {
     start: Start {
         scripts: &[
             &[(b"fetch /x\nfetch /y\n", 1)],
@@ -189,7 +196,7 @@ const WRITER_BEFORE_THE_GUESS: Row = Row {
 
 #[test]
 fn writer_before_the_guess(rt: HostRuntime) {
-    passes(&rt, strikes(rt.alloc(), &WRITER_BEFORE_THE_GUESS));
+    passes(&rt, strikes(rt.alloc(), WRITER_BEFORE_THE_GUESS));
 }
 
 /// An object of the boot.
@@ -220,11 +227,13 @@ fn copy_of(store: &Store) -> Result<Store, Wrong> {
 /// A copy of the store that starts from a boot.
 fn copied(alloc: Global, boot: &Boot) -> Result<Store, Wrong> {
     let store = Store::start(alloc, boot)?;
-    copy_of(&store)
+    let copy = copy_of(&store);
+    drop(store);
+    copy
 }
 
 /// Two processes, two copies, a file and a pipe.
-const DECLARED: Start<'static> = Start {
+const DECLARED: &Start<'static> = &Start {
     scripts: &[&[(b"say\n", 1)], &[]],
     copies: COPIES,
     objects: &[
@@ -238,12 +247,16 @@ const DECLARED: Start<'static> = Start {
 fn starts(alloc: Global, boot: &mut Boot) -> Result<(), Wrong> {
     declares_all(alloc, boot, DECLARED)?;
     let store = copied(alloc, boot)?;
-    starts_with(&store)
+    let starts = starts_with(&store);
+    drop(store);
+    starts
 }
 
 fn starts_with_both(alloc: Global) -> Result<(), Wrong> {
     let mut boot = Boot::new(alloc);
-    starts(alloc, &mut boot)
+    let starts = starts(alloc, &mut boot);
+    drop(boot);
+    starts
 }
 
 #[test]

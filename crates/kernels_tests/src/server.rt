@@ -247,8 +247,10 @@ fn has_three_files(server: &Server) -> Result<(), Wrong> {
 
 fn seeds_three_files(alloc: Global) -> Result<(), Wrong> {
     let mut server = Server::new(alloc);
-    seeds(&mut server)?;
-    has_three_files(&server)
+    let seeded = seeds(&mut server);
+    let has_three = has_three_files(&server);
+    drop(server);
+    seeded.and(has_three)
 }
 
 #[test]

@@ -122,14 +122,14 @@ fn declares_objects(boot: &mut Boot, objects: &[Made<'_>]) -> Result<(), Wrong> 
 }
 
 /// Declares all.
-pub fn declares_all(alloc: Global, boot: &mut Boot, start: Start<'_>) -> Result<(), Wrong> {
+pub fn declares_all(alloc: Global, boot: &mut Boot, start: &Start<'_>) -> Result<(), Wrong> {
     declares_copies(boot, start.copies)?;
     declares_processes(alloc, boot, start.scripts)?;
     declares_objects(boot, start.objects)
 }
 
 /// The kernel of a boot that has nothing yet.
-fn boots(alloc: Global, boot: &mut Boot, start: Start<'_>) -> Result<Kernel, Wrong>
+fn boots(alloc: Global, boot: &mut Boot, start: &Start<'_>) -> Result<Kernel, Wrong>
     ensures { IfOk result (λ kernel. undecided_at kernel ≡ []) }
 {
     declares_all(alloc, boot, start)?;
@@ -137,15 +137,14 @@ fn boots(alloc: Global, boot: &mut Boot, start: Start<'_>) -> Result<Kernel, Wro
 }
 
 /// The kernel.
-pub fn kernel_of(alloc: Global, start: Start<'_>) -> Result<Kernel, Wrong>
+pub fn kernel_of(alloc: Global, start: &Start<'_>) -> Result<Kernel, Wrong>
     ensures { IfOk result (λ kernel. undecided_at kernel ≡ []) }
 {
     let mut boot = Boot::new(alloc);
-    boots(alloc, &mut boot, start)
+    let kernel = boots(alloc, &mut boot, start);
+    drop(boot);
+    kernel
 }
-
-/// Lets a kernel go. A function that owns one is short to prove where it ends with this.
-pub fn lets_go(_kernel: Kernel) {}
 
 /// Sets a file before the first request.
 pub fn seed(server: &mut Server, file: Version<'_>) -> Result<(), Wrong>
@@ -161,12 +160,17 @@ pub fn server_with(alloc: Global, file: Version<'_>) -> Result<Server, Wrong>
     ensures { IfOk result (λ server. server.next ≡ 1) }
 {
     let mut server = Server::new(alloc);
-    seed(&mut server, file)?;
-    Ok(server)
+    match seed(&mut server, file) {
+        Ok(()) => Ok(server),
+        Err(wrong) => {
+            drop(server);
+            Err(wrong)
+        }
+    }
 }
 
 /// The server.
-pub fn server_of(alloc: Global, start: Start<'_>) -> Result<Server, Wrong>
+pub fn server_of(alloc: Global, start: &Start<'_>) -> Result<Server, Wrong>
     ensures { IfOk result (λ server. server.next ≡ 1) }
 {
     match start.file {

@@ -103,5 +103,7 @@ pub fn starts(
     turns: &[ServerTurn<'_>],
 ) -> Result<(), Wrong> {
     let mut server = server_with(alloc, (b"/x", version, bytes))?;
-    takes_all(alloc, &mut server, turns)
+    let taken = takes_all(alloc, &mut server, turns);
+    drop(server);
+    taken
 }

@@ -1,12 +1,15 @@
 //! The limit of undecided guesses, tokens of decided ones, second decisions, and lists of dependents.
 use crate::plain::{guess, pid, tags};
 use sk_guesses::{DrawRefusal, GUESS_LIMIT, Guess, Guesses, Redeemed, Status};
-use sk_ids::{Entity, GuessId, TagSet};
+use sk_ids::{Entity, GuessId, Pid, TagSet};
 use std::alloc::Global;
 use std::process::Abort;
 
 /// The number of the kernel that the guesses are of.
 const KERNEL: u64 = 7;
+
+/// What becomes of a guess by its decision.
+const DECIDED: [Status; 3] = [Status::Committed, Status::Failed, Status::Struck];
 
 /// Draws a guess whose step rests on itself alone, and on which these entities rest.
 fn draw(
@@ -64,14 +67,19 @@ fn refuses(rt: &impl Abort, alloc: Global, guesses: &mut Guesses<Entity>) {
     }
 }
 
+/// As many guesses are drawn as may be undecided, and no more.
+fn draws_all(rt: &impl Abort, alloc: Global, guesses: &mut Guesses<Entity>) {
+    for number in 1..65u64 {
+        assert!(rt; draws(rt, alloc, guesses).number() == number);
+    }
+    assert!(rt; guesses.undecided() == GUESS_LIMIT);
+    refuses(rt, alloc, guesses);
+}
+
 #[test]
 fn sixty_four_guesses(rt: HostRuntime) {
     let mut guesses = Guesses::new(rt.alloc(), KERNEL);
-    for number in 1..=64u64 {
-        assert!(rt; draws(&rt, rt.alloc(), &mut guesses).number() == number);
-    }
-    assert!(rt; guesses.undecided() == GUESS_LIMIT);
-    refuses(&rt, rt.alloc(), &mut guesses);
+    draws_all(&rt, rt.alloc(), &mut guesses);
 }
 
 /// Decides the guess so.
@@ -115,16 +123,31 @@ fn comes_back(
     assert!(rt; guesses.status(id) == Some(to));
 }
 
+/// The tokens of guesses that are committed and failed come back.
+fn come_back(
+    rt: &impl Abort,
+    alloc: Global,
+    guesses: &mut Guesses<Entity>,
+    twin: &mut Guesses<Entity>,
+) {
+    comes_back(rt, alloc, guesses, twin, Status::Committed);
+    comes_back(rt, alloc, guesses, twin, Status::Failed);
+}
+
+/// The tokens of two guesses come back, and those of two more say what became of them.
+fn decides_four(rt: &impl Abort, alloc: Global, guesses: &mut Guesses<Entity>) {
+    let mut twin = Guesses::new(alloc, KERNEL);
+    come_back(rt, alloc, guesses, &mut twin);
+    tells(rt, alloc, guesses, Status::Undecided);
+    tells(rt, alloc, guesses, Status::Struck);
+}
+
 #[test]
 fn tokens_after_a_decision(rt: HostRuntime) {
     let mut guesses = Guesses::new(rt.alloc(), KERNEL);
-    let mut twin = Guesses::new(rt.alloc(), KERNEL);
-    comes_back(&rt, rt.alloc(), &mut guesses, &mut twin, Status::Committed);
-    comes_back(&rt, rt.alloc(), &mut guesses, &mut twin, Status::Failed);
-    tells(&rt, rt.alloc(), &mut guesses, Status::Undecided);
-    tells(&rt, rt.alloc(), &mut guesses, Status::Struck);
-    assert!(rt; guesses.undecided() == 1);
-    assert!(rt; guesses.status(guess(&rt, 5)).is_none());
+    decides_four(&rt, rt.alloc(), &mut guesses);
+    let fifth = guesses.status(guess(&rt, 5));
+    assert!(rt; guesses.undecided() == 1 && fifth.is_none());
 }
 
 /// A guess keeps what became of it through a second decision.
@@ -143,20 +166,25 @@ fn stays(
 fn decides_again(rt: &impl Abort, alloc: Global, guesses: &mut Guesses<Entity>, first: Status) {
     let id = draws(rt, alloc, guesses);
     decide(guesses, id, first);
-    for second in [Status::Committed, Status::Failed, Status::Struck] {
-        stays(rt, guesses, id, Some(first), second);
+    for second in &DECIDED {
+        stays(rt, guesses, id, Some(first), *second);
     }
+}
+
+/// Each guess keeps what became of it first, and one that was not drawn has no status.
+fn decides_all_again(rt: &impl Abort, alloc: Global, guesses: &mut Guesses<Entity>) {
+    for first in &DECIDED {
+        decides_again(rt, alloc, guesses, *first);
+    }
+    let undrawn = guess(rt, guesses.next());
+    stays(rt, guesses, undrawn, None, Status::Committed);
+    assert!(rt; guesses.undecided() == 0);
 }
 
 #[test]
 fn decided_once(rt: HostRuntime) {
     let mut guesses = Guesses::new(rt.alloc(), KERNEL);
-    for first in [Status::Committed, Status::Failed, Status::Struck] {
-        decides_again(&rt, rt.alloc(), &mut guesses, first);
-    }
-    let undrawn = guess(&rt, guesses.next());
-    stays(&rt, &mut guesses, undrawn, None, Status::Committed);
-    assert!(rt; guesses.undecided() == 0);
+    decides_all_again(&rt, rt.alloc(), &mut guesses);
 }
 
 /// Draws a guess on which these entities rest, and spends its token.
@@ -170,17 +198,27 @@ fn process(rt: &impl Abort, number: u16) -> Entity {
     Entity::Proc(pid(rt, number))
 }
 
-/// These entities are just these processes, in this order.
-fn are(rt: &impl Abort, entities: &[Entity], processes: &[u16]) {
-    assert!(rt; entities.len() == processes.len());
-    for (entity, number) in entities.iter().zip(processes) {
-        assert!(rt; *entity == process(rt, *number));
+/// Whether an entity is the process of a number.
+fn is_process(entity: Option<&Entity>, number: u16) -> bool {
+    match entity {
+        Some(Entity::Proc(pid)) => Pid::boot(number) == Some(*pid),
+        _ => false,
     }
+}
+
+/// Whether these entities are just these processes, in this order.
+fn are(entities: &[Entity], processes: &[u16]) -> bool {
+    for (place, number) in processes.iter().enumerate() {
+        if !is_process(entities.get(place), *number) {
+            return false;
+        }
+    }
+    entities.len() == processes.len()
 }
 
 /// Just these processes rest on the guess of a number.
 fn rest(rt: &impl Abort, guesses: &Guesses<Entity>, number: u64, processes: &[u16]) {
-    are(rt, guesses.dependents(guess(rt, number)), processes);
+    assert!(rt; are(guesses.dependents(guess(rt, number)), processes));
 }
 
 /// Each entity stands once in the list of a guess.
@@ -213,7 +251,7 @@ fn relieves(rt: &impl Abort, alloc: Global, guesses: &mut Guesses<Entity>) {
 /// The list of the first guess is moved out: it is just this, and none is left.
 fn gives_up(rt: &impl Abort, guesses: &mut Guesses<Entity>) {
     let list = guesses.take_dependents(guess(rt, 1));
-    are(rt, list.as_slice(), &[1, 2]);
+    assert!(rt; are(list.as_slice(), &[1, 2]));
     rest(rt, guesses, 1, &[]);
 }
 
@@ -228,14 +266,19 @@ fn decides_both(rt: &impl Abort, guesses: &mut Guesses<Entity>) {
     assert!(rt; guesses.oldest().is_none());
 }
 
+/// Two guesses are drawn, and what rests on them changes until both are decided.
+fn lists_change(rt: &impl Abort, alloc: Global, guesses: &mut Guesses<Entity>) {
+    draws_two(rt, alloc, guesses);
+    rests_on_both(rt, alloc, guesses);
+    relieves(rt, alloc, guesses);
+    gives_up(rt, guesses);
+    decides_both(rt, guesses);
+}
+
 #[test]
 fn lists_of_dependents(rt: HostRuntime) {
     let mut guesses = Guesses::new(rt.alloc(), KERNEL);
-    draws_two(&rt, rt.alloc(), &mut guesses);
-    rests_on_both(&rt, rt.alloc(), &mut guesses);
-    relieves(&rt, rt.alloc(), &mut guesses);
-    gives_up(&rt, &mut guesses);
-    decides_both(&rt, &mut guesses);
+    lists_change(&rt, rt.alloc(), &mut guesses);
 }
 
 /// Ends an epoch in which no guess is undecided.
@@ -272,30 +315,47 @@ fn keeps_its(rt: &impl Abort, guesses: &mut Guesses<Entity>, number: u64) {
     stays(rt, guesses, id, status, Status::Committed);
 }
 
-/// Each guess keeps its status through epochs of so many guesses.
-fn epochs_of(rt: &impl Abort, alloc: Global, count: u64) {
-    let mut guesses = Guesses::new(alloc, KERNEL);
-    decides_thirty(rt, alloc, &mut guesses, count);
-    for number in 1..=30u64 {
-        keeps_its(rt, &mut guesses, number);
+/// Each of thirty guesses keeps its status.
+fn keep_theirs(rt: &impl Abort, guesses: &mut Guesses<Entity>) {
+    for number in 1..31u64 {
+        keeps_its(rt, guesses, number);
     }
     assert!(rt; guesses.next() == 31);
 }
 
+/// The same through epochs of so many guesses.
+fn epochs_of(rt: &impl Abort, alloc: Global, count: u64) {
+    let mut guesses = Guesses::new(alloc, KERNEL);
+    decides_thirty(rt, alloc, &mut guesses, count);
+    keep_theirs(rt, &mut guesses);
+}
+
 #[test]
 fn statuses_of_earlier_epochs(rt: HostRuntime) {
-    for count in [1, 2, 3, 4, 5, 7, 30, 31] {
-        epochs_of(&rt, rt.alloc(), count);
+    const COUNTS: [u64; 8] = [1, 2, 3, 4, 5, 7, 30, 31];
+    for count in &COUNTS {
+        epochs_of(&rt, rt.alloc(), *count);
     }
+}
+
+/// Draws a guess that is struck, and ends the epoch.
+fn strikes(rt: &impl Abort, alloc: Global, guesses: &mut Guesses<Entity>) -> Guess {
+    let struck = drawn(rt, alloc, guesses, &[]);
+    guesses.strike(struck.id());
+    settles(rt, guesses);
+    struck
+}
+
+/// Its token tells so in the next epoch.
+fn tells_struck(rt: &impl Abort, alloc: Global, guesses: &mut Guesses<Entity>) {
+    let struck = strikes(rt, alloc, guesses);
+    let want = Redeemed::Struck(struck.id());
+    assert!(rt; said(rt, guesses, struck) == want);
 }
 
 /// The token of a guess that was struck in an earlier epoch tells so.
 #[test]
 fn tokens_of_an_earlier_epoch(rt: HostRuntime) {
     let mut guesses = Guesses::new(rt.alloc(), KERNEL);
-    let struck = drawn(&rt, rt.alloc(), &mut guesses, &[]);
-    let id = struck.id();
-    guesses.strike(id);
-    settles(&rt, &mut guesses);
-    assert!(rt; said(&rt, &guesses, struck) == Redeemed::Struck(id));
+    tells_struck(&rt, rt.alloc(), &mut guesses);
 }

@@ -1,52 +1,90 @@
 //! Tag sets, processes and entities.
 use crate::plain::{child, guess, name, pid, tags, union};
 use sk_ids::{Entity, GuessId, Name, ObjId, Pid, TagSet, Text};
+use std::alloc::Global;
 use std::cmp::Ordering;
 use std::process::Abort;
 
-/// A set lists just these guesses, in this order, and contains each.
-fn has(rt: &impl Abort, set: &TagSet, numbers: &[u64]) {
-    assert!(rt; set.ids().len() == numbers.len());
-    for (id, number) in set.ids().iter().zip(numbers) {
-        assert!(rt; id.number() == *number && set.contains(*id));
+/// Whether a set has the guess of this number at a place, and contains it.
+fn has_at(set: &TagSet, place: usize, number: u64) -> bool {
+    match set.ids().get(place) {
+        Some(id) => id.number() == number && set.contains(*id),
+        None => false,
     }
+}
+
+/// Whether a set lists just these guesses, in this order, and contains each.
+fn has(set: &TagSet, numbers: &[u64]) -> bool {
+    for (place, number) in numbers.iter().enumerate() {
+        if !has_at(set, place, *number) {
+            return false;
+        }
+    }
+    set.ids().len() == numbers.len()
+}
+
+/// The set of these guesses lists them so.
+fn lists(rt: &impl Abort, alloc: Global, numbers: &[u64], want: &[u64]) {
+    let set = tags(rt, alloc, numbers);
+    assert!(rt; has(&set, want));
+}
+
+/// The set of these guesses without one of them has just these.
+fn loses(rt: &impl Abort, alloc: Global, numbers: &[u64], number: u64, want: &[u64]) {
+    let mut set = tags(rt, alloc, numbers);
+    set.without(guess(rt, number));
+    assert!(rt; has(&set, want));
+}
+
+/// The guesses of two sets together are just these.
+fn join(rt: &impl Abort, one: &TagSet, other: &TagSet, want: &[u64]) {
+    let both = union(rt, one, other);
+    assert!(rt; has(&both, want));
+}
+
+/// The same of the sets of these guesses.
+fn joins(rt: &impl Abort, alloc: Global, one: &[u64], other: &[u64], want: &[u64]) {
+    let one = tags(rt, alloc, one);
+    let other = tags(rt, alloc, other);
+    join(rt, &one, &other, want);
 }
 
 #[test]
 fn small_calls_of_tag_sets(rt: HostRuntime) {
-    let alloc = rt.alloc();
-    let (one, other) = (tags(&rt, alloc, &[1, 3]), tags(&rt, alloc, &[2, 3]));
-    has(&rt, &union(&rt, &one, &other), &[1, 2, 3]);
-    let mut less = tags(&rt, alloc, &[1, 2, 3]);
-    less.without(guess(&rt, 2));
-    has(&rt, &less, &[1, 3]);
-    let nine = tags(&rt, alloc, &[9, 8, 7, 6, 5, 4, 3, 2, 1]);
-    has(&rt, &nine, &[1, 2, 3, 4, 5, 6, 7, 8, 9]);
+    const NINE: &[u64] = &[9, 8, 7, 6, 5, 4, 3, 2, 1];
+    joins(&rt, rt.alloc(), &[1, 3], &[2, 3], &[1, 2, 3]);
+    loses(&rt, rt.alloc(), &[1, 2, 3], 2, &[1, 3]);
+    lists(&rt, rt.alloc(), NINE, &[1, 2, 3, 4, 5, 6, 7, 8, 9]);
+}
+
+/// The number of the guess of a number, where there is one.
+fn number_of(number: u64) -> Option<u64> {
+    Some(GuessId::new(number)?.number())
 }
 
 #[test]
 fn limits_of_guess_numbers(rt: HostRuntime) {
     let last = 9_223_372_036_854_775_807;
-    assert!(rt; guess(&rt, 1).number() == 1);
-    assert!(rt; guess(&rt, last).number() == last);
-    assert!(rt; GuessId::new(0).is_none());
-    assert!(rt; GuessId::new(last + 1).is_none());
+    assert!(rt; number_of(1) == Some(1) && number_of(last) == Some(last));
+    assert!(rt; number_of(0).is_none() && number_of(last + 1).is_none());
+}
+
+/// The path of a child of the first process, where there is such a child.
+fn path_of(number: u16) -> Option<u64> {
+    Some(Pid::boot(1)?.child(number)?.path())
 }
 
 #[test]
 fn small_calls_of_processes(rt: HostRuntime) {
-    let first = pid(&rt, 1);
-    assert!(rt; child(&rt, first, 3).path() == 65_539);
-    assert!(rt; child(&rt, first, 65_535).path() == 131_071);
-    assert!(rt; Pid::boot(0).is_none() && first.child(0).is_none());
+    assert!(rt; path_of(3) == Some(65_539) && path_of(65_535) == Some(131_071));
+    assert!(rt; Pid::boot(0).is_none() && path_of(0).is_none());
 }
 
 #[test]
 fn four_levels_of_processes(rt: HostRuntime) {
     let third = child(&rt, child(&rt, pid(&rt, 1), 1), 1);
     let fourth = child(&rt, third, 1);
-    assert!(rt; fourth.path() == 281_479_271_743_489);
-    assert!(rt; fourth.child(1).is_none());
+    assert!(rt; fourth.path() == 281_479_271_743_489 && fourth.child(1).is_none());
 }
 
 /// The first entity stands before the other.

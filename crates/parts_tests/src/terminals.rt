@@ -1,5 +1,6 @@
 //! Which texts are out after two decisions, in either order.
 use crate::plain::{guess, tags, text};
+use sk_ids::Text;
 use sk_terminal::Terminal;
 use std::alloc::Global;
 use std::process::Abort;
@@ -10,10 +11,12 @@ enum Decision {
     Fail(u64),
 }
 
+use Decision::{Commit, Fail};
+
 fn decide(rt: &impl Abort, terminal: &mut Terminal, decision: Decision) {
     match decision {
-        Decision::Commit(number) => terminal.commit(guess(rt, number)),
-        Decision::Fail(number) => terminal.drop_of(guess(rt, number)),
+        Commit(number) => terminal.commit(guess(rt, number)),
+        Fail(number) => terminal.drop_of(guess(rt, number)),
     }
 }
 
@@ -23,13 +26,19 @@ fn say(rt: &impl Abort, alloc: Global, terminal: &mut Terminal, letter: u8, on: 
     terminal.say(text, tags(rt, alloc, on)).expect(rt, "memory");
 }
 
+/// Whether these are a text of each of these letters.
+fn are(texts: &[Text], letters: &[u8]) -> bool {
+    for (place, letter) in letters.iter().enumerate() {
+        if texts.get(place).copied() != Text::new(&[*letter]) {
+            return false;
+        }
+    }
+    texts.len() == letters.len()
+}
+
 /// A terminal has released a text of each of these letters, and so many wait.
 fn shows(rt: &impl Abort, terminal: &Terminal, letters: &[u8], waiting: usize) {
-    assert!(rt; terminal.released().len() == letters.len());
-    for (shown, letter) in terminal.released().iter().zip(letters) {
-        assert!(rt; *shown == text(rt, &[*letter]));
-    }
-    assert!(rt; terminal.waiting() == waiting);
+    assert!(rt; are(terminal.released(), letters) && terminal.waiting() == waiting);
 }
 
 /// Texts `a` to `e`, those of `b`, `d` and `e` on guesses 1, 1 and 2, and 2.
@@ -60,19 +69,20 @@ fn shows_after(
     shows(rt, &terminal, two.0, two.1);
 }
 
+/// What is out and how many texts wait after a first decision, and after a second.
+const AFTER: [(Decision, (&[u8], usize), Decision, (&[u8], usize)); 7] = [
+    (Commit(1), (b"abc", 2), Commit(2), (b"abcde", 0)),
+    (Commit(1), (b"abc", 2), Fail(2), (b"abc", 0)),
+    (Fail(1), (b"ac", 1), Commit(2), (b"ace", 0)),
+    (Fail(2), (b"a", 2), Commit(1), (b"abc", 0)),
+    (Fail(2), (b"a", 2), Fail(1), (b"ac", 0)),
+    (Commit(2), (b"a", 4), Commit(1), (b"abcde", 0)),
+    (Commit(3), (b"a", 4), Fail(3), (b"a", 4)),
+];
+
 #[test]
 fn released_after_two_decisions(rt: HostRuntime) {
-    use Decision::{Commit, Fail};
-    let rows: [(Decision, (&[u8], usize), Decision, (&[u8], usize)); 7] = [
-        (Commit(1), (b"abc", 2), Commit(2), (b"abcde", 0)),
-        (Commit(1), (b"abc", 2), Fail(2), (b"abc", 0)),
-        (Fail(1), (b"ac", 1), Commit(2), (b"ace", 0)),
-        (Fail(2), (b"a", 2), Commit(1), (b"abc", 0)),
-        (Fail(2), (b"a", 2), Fail(1), (b"ac", 0)),
-        (Commit(2), (b"a", 4), Commit(1), (b"abcde", 0)),
-        (Commit(3), (b"a", 4), Fail(3), (b"a", 4)),
-    ];
-    for (first, one, second, two) in rows {
-        shows_after(&rt, rt.alloc(), first, one, second, two);
+    for (first, one, second, two) in &AFTER {
+        shows_after(&rt, rt.alloc(), *first, *one, *second, *two);
     }
 }

@@ -11,12 +11,6 @@ use sk_words::{Cursor, Fault, FaultKind};
 use std::alloc::Global;
 use std::process::Abort;
 
-/// A step with no input.
-fn step_of(pid: Pid) -> Event {
-    let input = KeptInput::none();
-    Event::Step { pid, input }
-}
-
 /// A trace whose text is well.
 fn parsed(rt: &impl Abort, alloc: Global, text: &[u8]) -> Trace {
     Trace::parse(alloc, text).expect(rt, "a trace")
@@ -28,34 +22,44 @@ fn prints(rt: &impl Abort, alloc: Global, trace: &Trace, text: &[u8]) {
     assert!(rt; printed.as_slice() == text);
 }
 
-/// A trace has this event at a place.
-fn has_at(rt: &impl Abort, trace: &Trace, place: usize, want: &Event) {
-    assert!(rt;
-        trace
-            .events()
-            .get(place)
-            .is_some_and(|event| *event == *want)
-    );
+/// Whether an event is a step of the process with no input.
+fn is_step(event: &Event, process: Pid) -> bool {
+    match event {
+        Event::Step { pid, input } => *pid == process && input.input() == Input::None,
+        _ => false,
+    }
 }
 
-/// A trace has just a guess of the process, with steps around it, and its failure.
-fn has_six(rt: &impl Abort, trace: &Trace, pid: Pid, want: &Event) {
-    let step = step_of(pid);
-    for place in [0, 1, 3, 4] {
-        has_at(rt, trace, place, &step);
+/// Whether an event is a guess of the process, at which a check is guessed to say that all is well.
+fn is_guess(event: &Event, process: Pid, number: u64) -> bool {
+    match event {
+        Event::Guess { id, pid, input } => {
+            id.number() == number && *pid == process && input.input() == Input::Good
+        }
+        _ => false,
     }
-    has_at(rt, trace, 2, want);
-    has_at(rt, trace, 5, &Event::Fail(guess(rt, 1)));
-    assert!(rt; trace.events().len() == 6);
+}
+
+/// Whether these are just a guess of the process, with steps around it, and its failure.
+fn are_six(events: &[Event], pid: Pid) -> bool {
+    match events {
+        [one, two, three, four, five, Event::Fail(id)] => {
+            is_step(one, pid)
+                && is_step(two, pid)
+                && is_guess(three, pid, 1)
+                && is_step(four, pid)
+                && is_step(five, pid)
+                && id.number() == 1
+        }
+        _ => false,
+    }
 }
 
 #[test]
 fn trace_text(rt: HostRuntime) {
     let text = b"step 1 none\nstep 1 none\nguess 1 1 good\nstep 1 none\nstep 1 none\nfail 1\n";
-    let (id, pid) = (guess(&rt, 1), pid(&rt, 1));
-    let input = KeptInput::keep(rt.alloc(), InputRef::Good).expect(&rt, "memory");
     let trace = parsed(&rt, rt.alloc(), text);
-    has_six(&rt, &trace, pid, &Event::Guess { id, pid, input });
+    assert!(rt; are_six(trace.events(), pid(&rt, 1)));
     prints(&rt, rt.alloc(), &trace, text);
 }
 
@@ -209,12 +213,17 @@ fn random_trace(rt: &impl Abort, alloc: Global, rng: &mut Pcg32, len: u32) -> Tr
     trace
 }
 
+/// A text is read as a trace of just these events, and printed as that text again.
+fn is_read(rt: &impl Abort, alloc: Global, text: &[u8], events: &[Event]) {
+    let again = parsed(rt, alloc, text);
+    assert!(rt; again.events() == events);
+    prints(rt, alloc, &again, text);
+}
+
 /// A trace is read again from its text, and printed as that text again.
 fn is_read_again(rt: &impl Abort, alloc: Global, trace: &Trace) {
     let text = trace.print(alloc).expect(rt, "memory");
-    let again = parsed(rt, alloc, &text);
-    assert!(rt; again.events() == trace.events());
-    prints(rt, alloc, &again, &text);
+    is_read(rt, alloc, &text, trace.events());
 }
 
 #[test]

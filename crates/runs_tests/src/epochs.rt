@@ -65,7 +65,12 @@ pub fn begins(
 ) -> Result<Option<Before>, Finding> {
     leaves(kernel, reckoning, before)?;
     match kernel.new_epoch() {
-        Ok((trace, texts)) => judge_left(&trace, &texts, whole, reckoning, before),
+        Ok((trace, texts)) => {
+            let judged = judge_left(&trace, &texts, whole, reckoning, before);
+            drop(trace);
+            drop(texts);
+            judged
+        }
         Err(EpochRefusal::Undecided(count)) => judge_undecided(reckoning, count),
         Err(EpochRefusal::Memory) => Err(Finding::Epoch),
     }

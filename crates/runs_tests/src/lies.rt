@@ -310,7 +310,9 @@ impl<'a> DeskTalk<'a> {
     /// The same, with what its trace comes to reckoned anew.
     fn judge(&mut self, rt: &impl Abort, desk: &Desk) -> Result<(), Finding> {
         let reckoning = self.reckoned(rt, desk)?;
-        self.judge_by(rt, desk, &reckoning)
+        let judged = self.judge_by(rt, desk, &reckoning);
+        drop(reckoning);
+        judged
     }
 
     /// A request is taken, a reply given, a process leased, a lease handed in, or a turn taken.
@@ -355,7 +357,9 @@ impl<'a> DeskTalk<'a> {
         out: &mut Option<Lease>,
     ) -> Result<(), Finding> {
         let reckoning = self.reckoned(rt, desk)?;
-        self.one_more(rt, desk, rng, &reckoning, out)
+        let done = self.one_more(rt, desk, rng, &reckoning, out);
+        drop(reckoning);
+        done
     }
 
     /// So many things happen, and the desk is judged before and after each.
@@ -405,6 +409,7 @@ fn talk_to(
     let mut out = None;
     let told = talk.go_on(rt, desk, rng, count, &mut out);
     gives_up(out);
+    drop(talk);
     told
 }
 
@@ -438,7 +443,9 @@ fn desk(
 ) -> Result<Talked, Finding> {
     let mut rng = Pcg32::new(number, 5);
     let scenario = any_scenario(rt, alloc, &mut rng, kind);
-    desk_of(rt, alloc, &mut rng, &scenario.declarations)
+    let told = desk_of(rt, alloc, &mut rng, &scenario.declarations);
+    drop(scenario);
+    told
 }
 
 /// The same of a desk in which nothing is found.

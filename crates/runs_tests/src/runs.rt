@@ -284,7 +284,9 @@ fn judges(
 ) -> Result<(), Finding> {
     let reckoning = reckoned(rt, terms, course)?;
     let limit = terms.declarations.limit();
-    course.judge(rt, session.kernel(), &reckoning, limit)
+    let judged = course.judge(rt, session.kernel(), &reckoning, limit);
+    drop(reckoning);
+    judged
 }
 
 /// One turn more of a kernel, which is judged before.
@@ -310,7 +312,9 @@ fn goes_on(
     course: &mut Course,
 ) -> Result<(), Finding> {
     let reckoning = reckoned(rt, terms, course)?;
-    one_more(rt, rng, terms, session, course, &reckoning)
+    let done = one_more(rt, rng, terms, session, course, &reckoning);
+    drop(reckoning);
+    done
 }
 
 /// Makes so many random calls, leases, hand-ins and epochs, and judges the kernel before and after each; says how many
@@ -335,6 +339,7 @@ fn run_of(rt: &impl Abort, rng: &mut Pcg32, terms: Terms) -> Result<Tally, Findi
     let mut course = Course::new(terms.alloc);
     let told = play(rt, rng, terms, &mut session, &mut course);
     session.end(rt);
+    drop(course);
     told
 }
 
@@ -361,7 +366,9 @@ fn run(rt: &impl Abort, alloc: Global, number: u64, manner: Manner) -> Result<Ta
         declarations: &scenario.declarations,
         calls,
     };
-    run_of(rt, &mut rng, terms)
+    let told = run_of(rt, &mut rng, terms);
+    drop(scenario);
+    told
 }
 
 /// The same of a run in which nothing is found.

@@ -130,12 +130,13 @@ impl TokenSession {
         let mut session = self;
         session.spend(rt);
         let TokenSession {
-            kernel: _kernel,
+            kernel,
             tokens,
             lease,
         } = session;
         tokens.destroy_empty();
         gives_up(lease);
+        drop(kernel);
     }
 }
 

@@ -505,7 +505,9 @@ fn judge_world(
     course: &mut Course,
 ) -> Result<(), Finding> {
     let reckoning = reckoned(rt, setting, world)?;
-    judge_by(rt, setting, world, course, &reckoning)
+    let judged = judge_by(rt, setting, world, course, &reckoning);
+    drop(reckoning);
+    judged
 }
 
 /// The bytes that an edit may write.
@@ -575,7 +577,9 @@ fn goes_on(
     course: &mut Course,
 ) -> Result<(), Finding> {
     let reckoning = reckoned(rt, setting, world)?;
-    one_more(rt, setting, rng, pace, world, course, &reckoning)
+    let done = one_more(rt, setting, rng, pace, world, course, &reckoning);
+    drop(reckoning);
+    done
 }
 
 /// Lets an event happen, and judges the kernel behind it.
@@ -687,6 +691,7 @@ fn world_of(
     let mut course = Course::new(setting.alloc);
     let told = play(rt, setting, rng, pace, &mut world, &mut course, events);
     world.abandon();
+    drop(course);
     told
 }
 

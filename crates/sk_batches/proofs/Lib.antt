@@ -3,3 +3,4 @@ pub mod Order
 pub mod Synced
 pub mod Lost
 pub mod Rest
+pub mod Sealing

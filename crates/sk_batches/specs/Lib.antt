@@ -4,3 +4,4 @@ pub mod Calls
 pub mod Runs
 pub mod Rounds
 pub mod Places
+pub mod Frames

@@ -1,5 +1,5 @@
 -- Where frames stand in the segments of a log.
-use Rattle.std.specs.Prelude.{◌≡◌, ◌+◌, ◌<◌, ◌≤◌, ◌^◌, ℕ, Bool, if◌then◌else◌, Result, Ok, Err}
+use Rattle.std.specs.Prelude.{◌≡◌, ◌+◌, ◌<◌, ◌≤◌, ◌^◌, ◌&&◌, ℕ, Bool, nat_lt, nat_le, if◌then◌else◌, Result, Ok, Err}
 use Rattle.sk_batches.specs.declared.refusal.Refusal.{Refusal}
 use Rattle.sk_batches.specs.declared.refusal.Refusal.TheVariants.{Full, NoNumber}
 use Rattle.sk_batches.specs.declared.places.Place.{Place}
@@ -17,10 +17,21 @@ places_at length segment offset = record { length = length; segment = segment; o
 abbrev pub end_of : PlacesView → ℕ → ℕ
 end_of p len = p.offset + (24 + len)
 
+-- whether a frame may be so long, and has room in its segment
+abbrev pub has_room : PlacesView → ℕ → Bool
+has_room p len = nat_lt (24 + len) (2 ^ 28) && nat_le (end_of p len) p.length
+
+-- where it begins, and what is left behind it
+abbrev pub place_of : PlacesView → Place
+place_of p = record { segment = p.segment; offset = p.offset }
+
+abbrev pub behind : PlacesView → ℕ → PlacesView
+behind p len = record p { offset = end_of p len }
+
 -- it stands where the one before ended, within its segment; else nothing has changed
 abbrev pub NextPost : Result Place Refusal → ℕ → PlacesView → PlacesView → Type 0
 NextPost (Ok place) len old new =
-    (end_of old len ≤ old.length) × (place ≡ record { segment = old.segment; offset = old.offset }) × (new ≡ record old { offset = end_of old len })
+    (end_of old len ≤ old.length) × (place ≡ place_of old) × (new ≡ behind old len)
 NextPost (Err why) len old new = (old.length < end_of old len) × (why ≡ Full) × (new ≡ old)
 
 -- the next segment is begun, behind a cut with the head of a frame

@@ -2,6 +2,7 @@
 #![tactic(auto)]
 
 mod batch;
+pub mod frames;
 pub mod laws;
 mod list;
 pub mod places;
@@ -11,6 +12,7 @@ mod records;
 pub mod refusal;
 pub mod rounds;
 
+pub use frames::{Sealed, take_frame};
 pub use places::{Place, Places};
 pub use queue::{Cut, Decision, Queue, Taken};
 pub use refusal::Refusal;

@@ -1,10 +1,10 @@
 //! Where frames stand in the segments of a log.
-ghost use Rattle.std.specs.Prelude.{◌≡◌};
-ghost use Rattle.sk_batches.specs.Places.{NextPost, TurnPost, places_at};
+ghost use Rattle.std.specs.Prelude.{◌≡◌, ◌≤◌, nat_le};
+ghost use Rattle.sk_batches.specs.Places.{behind, end_of, has_room, place_of, places_at, NextPost, TurnPost};
 
 use crate::Refusal;
 use sk_log::HEAD;
-use sk_log::frame::SEGMENT_LIMIT;
+use sk_log::frame::{PAYLOAD_LIMIT, SEGMENT_LIMIT};
 use std::marker::Model;
 
 /// Where a frame stands: its segment, and the place of its first byte there.
@@ -46,23 +46,43 @@ impl Places {
         }
     }
 
+    /// Whether a frame may have so many bytes of payload, and has room in its segment.
+    pub fn has_room(&self, len: usize) -> bool
+        ensures { result ≡ has_room self.now len }
+    {
+        len < PAYLOAD_LIMIT - HEAD && self.fits(len)
+    }
+
     /// The place of the next frame, whose payload has so many bytes; `Full` where its segment has no room for it.
     pub fn next(&mut self, len: usize) -> Result<Place, Refusal>
         ensures { NextPost result len self.old self.new }
     {
+        if !self.fits(len) {
+            return Err(Refusal::Full);
+        }
+        Ok(self.advance(len))
+    }
+
+    /// Whether the segment has room for a frame with so many bytes of payload.
+    fn fits(&self, len: usize) -> bool
+        ensures { result ≡ nat_le (end_of self.now len) self.now.length }
+    {
         let left = self.length.saturating_sub(self.offset);
-        if left < HEAD as u64 {
-            return Err(Refusal::Full);
-        }
-        if left - (HEAD as u64) < len as u64 {
-            return Err(Refusal::Full);
-        }
+        left >= HEAD as u64 && left - (HEAD as u64) >= len as u64
+    }
+
+    /// The place of the next frame, for which there is room.
+    pub(crate) fn advance(&mut self, len: usize) -> Place
+        requires { end_of self.old len ≤ self.old.length }
+        ensures place { result ≡ place_of self.old }
+        ensures left { self.new ≡ behind self.old len }
+    {
         let place = Place {
             segment: self.segment,
             offset: self.offset,
         };
         self.offset += HEAD as u64 + len as u64;
-        Ok(place)
+        place
     }
 
     /// The log goes on in the next segment: behind the last frame of this one, or behind a cut, which is itself a frame

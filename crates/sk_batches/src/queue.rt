@@ -250,7 +250,7 @@ impl Queue {
     }
 
     /// Why no frame is taken into so much room, if one is there.
-    fn may_take(&self, len: usize, room: usize) -> Result<(), Refusal>
+    pub(crate) fn may_take(&self, len: usize, room: usize) -> Result<(), Refusal>
         requires { len ≡ length (payload (next_records self.now)) }
         ensures ok { OnOk result (take_refused self.now room ≡ None) }
         ensures err { IfErr result

@@ -26,7 +26,7 @@ use Rattle.sk_bytes.specs.Numbers.{LetsGo, Gains, AreNames, names}
 use Rattle.sk_bytes.specs.Calls.{has_long_key, refusal_of, RefusesGuess, RefusesNext, Unchanged}
 use Rattle.sk_bytes.specs.declared.refusal.Refusal.{Refusal}
 use Rattle.sk_bytes.specs.declared.refusal.Refusal.TheVariants.{LongKey, LongValue, TooMany, NoNumber, Memory}
-use Rattle.sk_speculator.specs.declared.step.Step.{Step}
+use Rattle.sk_speculator.specs.WholeStep.{WholeStep}
 use Rattle.sk_speculator.specs.declared.refusal.Refusal.{Refusal as Inner}
 use Rattle.sk_speculator.specs.declared.refusal.Refusal.TheVariants as inner
 use Rattle.std.specs.declared.cmp.Ordering.{Ordering}
@@ -279,7 +279,7 @@ told_still es m loose fits needed none = record {
 }
 
 -- why no guess is drawn is told alike
-pub refused : {V O : Type 0} (m : Parts (List ℕ) V O) (step : Step (Vec ℕ) V O) (why : Inner) → has_long_key step ≡ false → Refuses m why → RefusesGuess m step (refusal_of why)
+pub refused : {V O : Type 0} (m : Parts (List ℕ) V O) (step : WholeStep (Vec ℕ) V O) (why : Inner) → has_long_key step ≡ false → Refuses m why → RefusesGuess m step (refusal_of why)
 refused m step inner.TooMany short is = (short, is)
 refused m step inner.NoNumber short is = (short, is)
 refused m step inner.Memory short is = (short, is)
@@ -301,7 +301,7 @@ module _ {V O : Type 0} (es : Numbered) (m : Parts ℕ V O) where
   answer_told (Ok id) is = tt
   answer_told (Err why) is = next_told why is
 
-  pub refused_next : (step : Step (Vec ℕ) V O) (why : Refusal) → has_long_key step ≡ false → RefusesNext m why → RefusesGuess (told_of es m) step why
+  pub refused_next : (step : WholeStep (Vec ℕ) V O) (why : Refusal) → has_long_key step ≡ false → RefusesNext m why → RefusesGuess (told_of es m) step why
   refused_next step TooMany short is = (short, is)
   refused_next step NoNumber short is = (short, is)
   refused_next step LongKey short is = absurd is

@@ -3,12 +3,12 @@ use Rattle.std.proofs.Common.{◌≡◌, ℕ, List, map, length, Option, None, s
 use Rattle.std.specs.Global.{Vec}
 use Rattle.std.specs.Vec.{vec_items}
 use Rattle.sk_renamed.specs.Renamed.{keys_of, AreWrites, IsDeed}
-use Rattle.sk_speculator.specs.declared.step.Step.{Step}
+use Rattle.sk_speculator.specs.WholeStep.{WholeStep}
 use Rattle.sk_bytes.specs.Numbers.{exchanged, names, AreNames}
 use Rattle.sk_bytes.specs.Steps.{byte_deed, deed_in, IsAsItWas, IsHandedOver, Swaps}
 use Rattle.sk_bytes.proofs.Moves.{exchanged_back, exchanged_length, exchanged_names, map_length, names_length, writes_named}
 
-module _ {V O : Type 0} (step left : Step (Vec ℕ) V O) (numbered told : Step ℕ V O) where
+module _ {V O : Type 0} (step left : WholeStep (Vec ℕ) V O) (numbered told : WholeStep ℕ V O) where
   abbrev pub AreNumbered : (List ℕ → Option ℕ) → Type 0
   AreNumbered key = AreNames key (map (λ w. vec_items w.0) step.written.items) (names numbered.written.items)
 
@@ -38,7 +38,7 @@ module _ {V O : Type 0} (step left : Step (Vec ℕ) V O) (numbered told : Step �
     said = swaps.told_said;
   }
 
-module _ {V O : Type 0} (step left back : Step (Vec ℕ) V O) (told none : Step ℕ V O) where
+module _ {V O : Type 0} (step left back : WholeStep (Vec ℕ) V O) (told none : WholeStep ℕ V O) where
   pub handed_back : IsHandedOver step left told → Swaps left told back none → IsAsItWas step back
   handed_back over swaps = record {
     looked = swaps.looked ∙ over.looked;

@@ -19,8 +19,11 @@ use Rattle.sk_slots.specs.Slot.{SlotView}
 use Rattle.sk_slots.specs.Slots.{found, slot_in, look_at, log_at}
 use Rattle.sk_index.specs.Index.{Numbered, bytes_cmp, number_of, string_of, Adds, Removes}
 use Rattle.sk_index.proofs.Strings.{same_bytes, same_list, some_none}
-use Rattle.sk_speculator.specs.Parts.{Parts, machine_of}
+use Rattle.sk_speculator.specs.Parts.{made_by, Parts, machine_of}
 use Rattle.sk_speculator.specs.Calls.{Takes, Commits, FailsIn, Forgets}
+use Rattle.sk_speculator.specs.WholeStep.{WholeStep}
+use Rattle.sk_speculator.proofs.Writing.{made_whole}
+use Rattle.sk_bytes.specs.Steps.{deed_in}
 use Rattle.sk_bytes.specs.Told.{shown, slot_shown, slots_told, told_of, IsTwoWay}
 
 pub bytes_total : IsTotalOrder bytes_cmp
@@ -222,6 +225,12 @@ keeps_apart es two = record {
     nat_other k l other = unsigned_tied k l ∙ ne_eqb k l other
 
 -- ---- the calls
+
+-- what is written is there, as values are only ever set
+pub taken_whole : {V O : Type 0} (a b : Parts ℕ V O) (step : WholeStep ℕ V O) (mark : Option ℕ)
+    → Takes nat_cmp a (record { looked = step.looked.items; written = made_by nat_cmp (λ value _. value) (look_at nat_cmp a.slots) step.written.items; said = step.said }) mark b → Takes nat_cmp a (deed_in step) mark b
+taken_whole {V} {O} a b step mark =
+    subst (λ (ws : List (ℕ × Option V)). Takes nat_cmp a (record { looked = step.looked.items; written = ws; said = step.said }) mark b) (made_whole nat_cmp (look_at nat_cmp a.slots) step.written.items)
 
 module _ {V O : Type 0} (es : Numbered) (two : IsTwoWay es) (a b : Parts ℕ V O) where
   pub takes_told : (d : Deed (List ℕ) V O) (told : Deed ℕ V O) → IsDeed (number_of es) d told → (mark : Option ℕ) → Takes nat_cmp a told mark b → Takes bytes_cmp (told_of es a) d mark (told_of es b)

@@ -11,7 +11,7 @@ use Rattle.sk_slots.specs.Slots.{look_at, log_at}
 use Rattle.sk_index.specs.Index.{bytes_cmp}
 use Rattle.sk_speculator.specs.Parts.{Parts, undo_state_of, IsSame}
 use Rattle.sk_speculator.specs.Calls.{Commits, FailsIn, Forgets, IsStranger, Refuses}
-use Rattle.sk_speculator.specs.declared.step.Step.{Step}
+use Rattle.sk_speculator.specs.WholeStep.{WholeStep}
 use Rattle.sk_speculator.specs.declared.decided.Committed.{Committed}
 use Rattle.sk_speculator.specs.declared.decided.Committed.TheVariants as commit
 use Rattle.sk_speculator.specs.declared.refusal.Refusal.{Refusal as Inner}
@@ -41,7 +41,7 @@ abbrev pub is_long : Vec ℕ → Bool
 is_long key = nat_lt KEY_LIMIT (length key.items)
 
 -- whether one of the step's is
-abbrev pub has_long_key : {V O : Type 0} → Step (Vec ℕ) V O → Bool
+abbrev pub has_long_key : {V O : Type 0} → WholeStep (Vec ℕ) V O → Bool
 has_long_key step = list_any is_long step.looked.items || list_any (λ w. is_long w.0) step.written.items
 
 -- the same refusal
@@ -58,13 +58,13 @@ RefusesNext m other = ⊥
 
 module _ {V O : Type 0} where
   -- why a step is not taken: a key is too long; or there is no memory
-  abbrev pub RefusesStep : Step (Vec ℕ) V O → Refusal → Type 0
+  abbrev pub RefusesStep : WholeStep (Vec ℕ) V O → Refusal → Type 0
   RefusesStep step LongKey = has_long_key step ≡ true
   RefusesStep step Memory = has_long_key step ≡ false
   RefusesStep step other = ⊥
 
   -- why no guess is drawn: a key is too long; or as many are undecided as may be; or the last number is drawn; or there is no memory
-  abbrev pub RefusesGuess : Parts (List ℕ) V O → Step (Vec ℕ) V O → Refusal → Type 0
+  abbrev pub RefusesGuess : Parts (List ℕ) V O → WholeStep (Vec ℕ) V O → Refusal → Type 0
   RefusesGuess m step LongKey = has_long_key step ≡ true
   RefusesGuess m step LongValue = ⊥
   RefusesGuess m step TooMany = (has_long_key step ≡ false) × Refuses m inner.TooMany

@@ -3,21 +3,21 @@ use Rattle.std.specs.Prelude.{◌≡◌, ℕ, List, length, map, None}
 use Rattle.std.specs.Vec.{vec_capacity, vec_items}
 use Rattle.std.specs.Global.{Vec}
 use Rattle.sk_deeds.specs.Deed.{Deed}
-use Rattle.sk_speculator.specs.declared.step.Step.{Step}
+use Rattle.sk_speculator.specs.WholeStep.{WholeStep}
 use Rattle.sk_bytes.specs.Numbers.{exchanged}
 
 module _ {V O : Type 0} where
   -- what a step over byte strings did
-  abbrev pub byte_deed : Step (Vec ℕ) V O → Deed (List ℕ) V O
+  abbrev pub byte_deed : WholeStep (Vec ℕ) V O → Deed (List ℕ) V O
   byte_deed step = record
       { looked = map vec_items step.looked.items; written = map (λ w. (vec_items w.0, w.1)) step.written.items; said = step.said }
 
   -- and what one over numbers did
-  abbrev pub deed_in : Step ℕ V O → Deed ℕ V O
+  abbrev pub deed_in : WholeStep ℕ V O → Deed ℕ V O
   deed_in step = record { looked = step.looked.items; written = step.written.items; said = step.said }
 
   -- two steps exchange what they write to their keys, and what they say
-  pub record Swaps (step : Step (Vec ℕ) V O) (numbered : Step ℕ V O) (left : Step (Vec ℕ) V O) (told : Step ℕ V O) : Type 0 where
+  pub record Swaps (step : WholeStep (Vec ℕ) V O) (numbered : WholeStep ℕ V O) (left : WholeStep (Vec ℕ) V O) (told : WholeStep ℕ V O) : Type 0 where
     pub looked : left.looked ≡ step.looked
     pub written : left.written.items ≡ exchanged step.written.items numbered.written.items
     pub room : vec_capacity left.written ≡ vec_capacity step.written
@@ -27,7 +27,7 @@ module _ {V O : Type 0} where
     pub told_said : told.said ≡ step.said
 
   -- what is left of a step that is handed over: it gets back what it wrote and said where this is exchanged once more
-  pub record IsHandedOver (step left : Step (Vec ℕ) V O) (told : Step ℕ V O) : Type 0 where
+  pub record IsHandedOver (step left : WholeStep (Vec ℕ) V O) (told : WholeStep ℕ V O) : Type 0 where
     pub looked : left.looked ≡ step.looked
     pub written : exchanged left.written.items told.written.items ≡ step.written.items
     pub same : length left.written.items ≡ length told.written.items
@@ -36,7 +36,7 @@ module _ {V O : Type 0} where
     pub said : told.said ≡ step.said
 
   -- the same keys and writes, with the room for more, and what it says
-  pub record IsAsItWas (old new : Step (Vec ℕ) V O) : Type 0 where
+  pub record IsAsItWas (old new : WholeStep (Vec ℕ) V O) : Type 0 where
     pub looked : new.looked ≡ old.looked
     pub written : new.written.items ≡ old.written.items
     pub room : vec_capacity new.written ≡ vec_capacity old.written

@@ -4,3 +4,7 @@ pub mod Asked
 pub mod Shown
 pub mod Pairs
 pub mod Queued
+pub mod Unwritten
+pub mod Said
+pub mod Works
+pub mod Bulks

@@ -2,6 +2,7 @@ pub mod Names
 pub mod Faults
 pub mod Numbers
 pub mod Parsing
+pub mod Requests
 pub mod Table
 pub mod Work
 pub mod Law

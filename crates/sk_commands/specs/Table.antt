@@ -185,6 +185,24 @@ is_told_of_all Ping = false
 is_told_of_all (Echo text) = false
 is_told_of_all (Wrong fault) = false
 
+-- whether it may write
+abbrev pub may_write : Command → Bool
+may_write (Get key) = false
+may_write (Set key value options) = true
+may_write (Del keys) = true
+may_write (Exists keys) = false
+may_write (Add key by) = true
+may_write (Append key more) = true
+may_write (StrLen key) = false
+may_write (MGet keys) = false
+may_write (MSet words) = true
+may_write DbSize = false
+may_write (KeysWith prefix) = false
+may_write FlushAll = true
+may_write Ping = false
+may_write (Echo text) = false
+may_write (Wrong fault) = false
+
 -- the same writes, where keys are kept as vectors
 abbrev pub told : List (Vec ℕ × Option (List ℕ)) → Written
 told ws = map (λ w. (w.0.items, w.1)) ws

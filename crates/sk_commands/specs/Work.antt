@@ -7,7 +7,7 @@ use Rattle.sk_commands.specs.declared.work.Work.{Work}
 use Rattle.sk_commands.specs.declared.work.Work.TheVariants as works
 use Rattle.sk_commands.specs.declared.work.Answer.{Answer}
 use Rattle.sk_commands.specs.declared.work.Answer.TheVariants as answers
-use Rattle.sk_commands.specs.Table.{asks, is_among, is_told_of_all, outcome, Have, Outcome, Written}
+use Rattle.sk_commands.specs.Table.{asks, is_among, is_told_of_all, may_write, outcome, Have, Outcome, Written}
 
 -- a key has this, and the others what they have
 abbrev pub with_value : List ℕ → Option (List ℕ) → Have → Have
@@ -58,3 +58,9 @@ abbrev pub wants_all : Work → Bool
 wants_all (works.Say reply) = false
 wants_all (works.One command) = is_told_of_all command
 wants_all (works.Each commands) = list_any is_told_of_all commands
+
+-- whether some of it may write
+abbrev pub may_write_some : Work → Bool
+may_write_some (works.Say reply) = false
+may_write_some (works.One command) = may_write command
+may_write_some (works.Each commands) = list_any may_write commands

@@ -1,7 +1,7 @@
 //! What commands look at.
 ghost use Rattle.std.specs.Prelude.{◌≡◌, ◌∷◌, ◌++◌, [], map, OnErr, OnOk};
 ghost use Rattle.std.specs.Vec.{vec_items};
-ghost use Rattle.sk_commands.specs.Table.{asks, is_told_of_all};
+ghost use Rattle.sk_commands.specs.Table.{asks, is_told_of_all, may_write};
 
 use crate::Command;
 use std::alloc::{AllocError, Global};
@@ -52,6 +52,21 @@ impl Command {
         matches!(
             self,
             Command::DbSize | Command::KeysWith(_) | Command::FlushAll
+        )
+    }
+
+    /// Whether the command may write. Where not, it writes nothing, whatever keys have.
+    pub fn may_write(&self) -> bool
+        ensures { result ≡ may_write self.now }
+    {
+        matches!(
+            self,
+            Command::Set(..)
+                | Command::Del(_)
+                | Command::Add(..)
+                | Command::Append(..)
+                | Command::MSet(_)
+                | Command::FlushAll
         )
     }
 

@@ -11,6 +11,7 @@ mod name;
 mod number;
 mod parse;
 mod reply;
+mod requests;
 mod run;
 mod session;
 mod text;

@@ -2,8 +2,8 @@
 ghost use Rattle.std.specs.Prelude.{◌≡◌, ◌∷◌, ◌++◌, [], bytes_eq, flat_map, map, IfOk, OnErr, OnOk};
 ghost use Rattle.std.specs.List.{list_any};
 ghost use Rattle.std.specs.Vec.{vec_items};
-ghost use Rattle.sk_commands.specs.Table.{asks, is_among, is_told_of_all, outcome, told, CarriesOut};
-ghost use Rattle.sk_commands.specs.Work.{after, comes_to, each, known_after, looks_at, wants_all};
+ghost use Rattle.sk_commands.specs.Table.{asks, is_among, is_told_of_all, may_write, outcome, told, CarriesOut};
+ghost use Rattle.sk_commands.specs.Work.{after, comes_to, each, known_after, looks_at, may_write_some, wants_all};
 
 use crate::asking::{copy_key, copy_keys};
 use crate::{ByteString, Command, Look, Reply, Writes};
@@ -263,7 +263,30 @@ fn are_told_of_all(commands: &[Command]) -> bool
     false
 }
 
+/// Whether some of these commands may write.
+fn may_write(commands: &[Command]) -> bool
+    ensures { result ≡ list_any may_write commands.now }
+{
+    for command in commands {
+        if command.may_write() {
+            return true;
+        }
+    }
+    false
+}
+
 impl Work {
+    /// Whether some of it may write. Where not, it writes nothing, whatever keys have.
+    pub fn may_write(&self) -> bool
+        ensures { result ≡ may_write_some self.now }
+    {
+        match self {
+            Work::Say(_) => false,
+            Work::One(command) => command.may_write(),
+            Work::Each(commands) => may_write(commands.as_slice()),
+        }
+    }
+
     /// Whether some of it is told of all keys. Where not, what keys are known changes nothing.
     pub fn is_told_of_all(&self) -> bool
         ensures { result ≡ wants_all self.now }

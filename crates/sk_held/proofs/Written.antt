@@ -5,7 +5,7 @@ use Rattle.std.specs.Vec.{vec_items}
 use Rattle.std.specs.List.{list_any}
 use Rattle.std.proofs.lemmas.List.{map-append}
 use Rattle.std.proofs.lemmas.List.Folds.{list_any-append}
-use Rattle.sk_speculator.specs.declared.step.Step.{Step}
+use Rattle.sk_speculator.specs.WholeStep.{WholeStep}
 use Rattle.sk_bytes.specs.Calls.{has_long_key, is_long}
 use Rattle.sk_bytes.specs.Steps.{byte_deed}
 use Rattle.sk_bytes.specs.declared.refusal.Refusal.{Refusal}
@@ -34,7 +34,7 @@ turn true false = refl
 turn false true = refl
 turn false false = refl
 
-module _ (old new : Step Bytes Bytes Bytes) (key : Bytes) (bytes : List ℕ) (same : key.items ≡ bytes) (said : new.said ≡ old.said) where
+module _ (old new : WholeStep Bytes Bytes Bytes) (key : Bytes) (bytes : List ℕ) (same : key.items ≡ bytes) (said : new.said ≡ old.said) where
   module _ (looked : new.looked.items ≡ old.looked.items ++ key ∷ []) (written : new.written.items ≡ old.written.items) where
     pub looked_more : byte_deed new ≡ record (byte_deed old) { looked = (byte_deed old).looked ++ bytes ∷ [] }
     looked_more = λ i. record {
@@ -64,7 +64,7 @@ module _ (old new : Step Bytes Bytes Bytes) (key : Bytes) (bytes : List ℕ) (sa
         (turn (list_any (λ w. is_long w.0) old.written.items) (list_any is_long old.looked.items) ∙ short) (ap is_long_key same ∙ is)
 
 -- nothing is left of a step
-module _ (step : Step Bytes Bytes Bytes) (looked : step.looked.items ≡ []) (written : step.written.items ≡ []) where
+module _ (step : WholeStep Bytes Bytes Bytes) (looked : step.looked.items ≡ []) (written : step.written.items ≡ []) where
   pub nothing_left : step.said ≡ None → byte_deed step ≡ no_step
   nothing_left said = λ i. record { looked = map vec_items (looked i); written = map told (written i); said = said i }
 
@@ -72,7 +72,7 @@ module _ (step : Step Bytes Bytes Bytes) (looked : step.looked.items ≡ []) (wr
   nothing_long = λ i. list_any is_long (looked i) || list_any (λ w. is_long w.0) (written i)
 
 -- a step that is as it was
-module _ (old new : Step Bytes Bytes Bytes) (looked : new.looked.items ≡ old.looked.items) (written : new.written.items ≡ old.written.items) where
+module _ (old new : WholeStep Bytes Bytes Bytes) (looked : new.looked.items ≡ old.looked.items) (written : new.written.items ≡ old.written.items) where
   pub as_before : new.said ≡ old.said → byte_deed new ≡ byte_deed old
   as_before said = λ i. record { looked = map vec_items (looked i); written = map told (written i); said = said i }
 

@@ -7,11 +7,11 @@ use Rattle.sk_record.specs.Notes.{Note, has, without, noted, last_tags, committe
 use Rattle.sk_record.specs.Merged.{Merges, merged, same_tags}
 use Rattle.sk_record.proofs.Merged.{past}
 
-abbrev HasTags : List ℕ → Type 0
+abbrev pub HasTags : List ℕ → Type 0
 HasTags [] = ⊥
 HasTags (t ∷ tags) = Unit {0}
 
-without_twice : (g : ℕ) (tags : List ℕ) → without g (without g tags) ≡ without g tags
+pub without_twice : (g : ℕ) (tags : List ℕ) → without g (without g tags) ≡ without g tags
 without_twice g [] = refl
 without_twice g (t ∷ tags) =
     elim (not (t == g)) as (λ b. not (t == g) ≡ b → without g (cond b (t ∷ without g tags) (without g tags)) ≡ cond b (t ∷ without g tags) (without g tags)) [
@@ -82,7 +82,7 @@ module _ {V : Type 0} where
 
   -- ---- a commit done twice
   -- each note rests on something, and not on the guess
-  abbrev AllFree : ℕ → List (Note V) → Type 0
+  abbrev pub AllFree : ℕ → List (Note V) → Type 0
   AllFree g [] = Unit {0}
   AllFree g (n ∷ ns) = (without g n.tags ≡ n.tags) × HasTags n.tags × AllFree g ns
 
@@ -106,7 +106,7 @@ module _ {V : Type 0} where
   noted_some [] v rest some = absurd some
   noted_some (t ∷ tags) v rest some = refl
 
-  free_same : (g : ℕ) (ns : List (Note V)) → AllFree g ns → committed g ns ≡ ns
+  pub free_same : (g : ℕ) (ns : List (Note V)) → AllFree g ns → committed g ns ≡ ns
   free_same g [] all = refl
   free_same g (n ∷ ns) all = (λ i. noted true (all.0 i) n.before (free_same g ns all.2 i)) ∙ noted_some n.tags n.before ns all.1
 

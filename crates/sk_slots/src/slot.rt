@@ -1,154 +1,84 @@
 //! What a key has, with its undo log.
-ghost use Rattle.std.specs.Prelude.{◌≡◌, ◌<◌, ◌≤◌, [], OnOk, IsOk, None, true, not, length, take, slice_index_or, vec_len, vec_capacity};
+ghost use Rattle.std.specs.Prelude.{◌≡◌, ◌<◌, [], OnOk, IsOk, Option, None, Some, true, false, not, is_some, vec_len, vec_capacity};
 ghost use Rattle.std.specs.Option.{option_copied, unwrap_or};
-ghost use Rattle.std.specs.List.{prefix_len};
-ghost use Rattle.sk_record.specs.Notes.{Note, has, without, last_tags, unwound, cut, committed};
-ghost use Rattle.sk_record.specs.Merged.{merged};
-ghost use Rattle.sk_slots.specs.Slot.{goes_unnoted, noted_on, is_bare, is_empty, IsPrepared};
+ghost use Rattle.sk_record.specs.Notes.{last_tags, unwound, cut, committed};
+ghost use Rattle.sk_record.specs.Merged.{merged, same_tags};
+ghost use Rattle.sk_inversion.specs.Undone.{value_before, FitsBefore};
+ghost use Rattle.sk_slots.specs.Kept.{newest_tags, seen, CanGoBack, CanTakeIn};
+ghost use Rattle.sk_slots.specs.Slot.{goes_unnoted, noted_on, is_bare, IsPrepared};
 
+use crate::notes::{
+    Kept, Notes, before_first, go_back, goes_unnoted, lighten, merge, take_in_newest,
+};
 use sk_ids::{GuessId, TagSet};
+use sk_inversion::{Before, Inversion, Whole};
 use std::alloc::{AllocError, Global};
 use std::marker::Model;
 use std::mem;
 
-/// A write: the guesses that it rests on, and what was there before it.
-#[derive(Drop)]
-pub struct Note<V> {
-    tags: TagSet,
-    before: Option<V>,
-}
-
-impl<V> Model for Note<V> {
-    ghost use Rattle.sk_record.specs.Notes.{Note as NoteView};
-    ghost use Rattle.sk_slots.specs.Slot.{note_code};
-
-    ghost Value = { NoteView V };
-
-    ghost coded = { note_code V.code };
-
-    ghost view = { λ n. record { tags = n.tags; before = n.before } };
-}
-
-impl<V> Note<V> {
-    fn new(tags: TagSet, before: Option<V>) -> Note<V>
-        ensures { result ≡ record { tags = tags; before = before } }
-    {
-        Note { tags, before }
-    }
-
-    fn tags(&self) -> &TagSet
-        ensures { result.now ≡ self.now.tags }
-    {
-        &self.tags
-    }
-
-    /// What was there before.
-    fn before(self) -> Option<V>
-        ensures { result ≡ self.before }
-    {
-        let Note { tags: _, before } = self;
-        before
-    }
-
-    /// Takes a guess out, and answers whether others are left.
-    fn without(&mut self, id: GuessId) -> bool
-        ensures left { result ≡ not (is_empty (without id self.old.tags)) }
-        ensures note { self.new
-            ≡ record { tags = without id self.old.tags; before = self.old.before } }
-    {
-        self.tags.without(id);
-        !self.tags.ids().is_empty()
-    }
-}
-
 /// What a key has, and the writes that can be undone.
 #[derive(Drop)]
-pub struct Slot<V> {
+pub struct Slot<V, I: Inversion<V> = Whole> {
     value: Option<V>,
-    log: Vec<Note<V>>,
+    log: Vec<Kept<V, I::Undo>>,
     /// The tags of the next note, for which there is room.
     ready: Option<TagSet>,
 }
 
-impl<V> Model for Slot<V> {
+impl<V, I: Inversion<V>> Model for Slot<V, I> {
     ghost use Rattle.std.specs.Prelude.{◌<◌, vec_len, vec_capacity, is_some, ◌≡◌, true};
     ghost use Rattle.sk_slots.specs.Slot.{SlotView, slot_code};
+    ghost use Rattle.sk_slots.specs.Kept.{seen, CanGoBack};
 
     ghost Value = { SlotView V };
 
     ghost coded = { slot_code V.code };
 
-    ghost view = { λ s. record { value = s.value; log = s.log.items; ready = s.ready } };
+    ghost view = { λ s. record {
+      value = s.value;
+      log = seen I.undone s.value s.log.items;
+      ready = s.ready;
+    } };
 
-    ghost invariant = { λ s. is_some s.ready ≡ true → vec_len s.log < vec_capacity s.log };
+    ghost invariant = { λ s. (is_some s.ready ≡ true → vec_len s.log < vec_capacity s.log)
+        × CanGoBack I.undone I.fits s.value s.log.items };
 }
 
-/// Whether a write with these tags is not noted.
-fn goes_unnoted<V>(log: &[Note<V>], tags: &TagSet) -> bool
-    ensures { result ≡ goes_unnoted tags.now log.now }
+/// Notes what puts a write back: a note for which there is room, or the newest one, where that has these tags.
+fn note<V: Drop, I: Inversion<V>>(
+    log: &mut Notes<V, I>,
+    ready: &mut Option<TagSet>,
+    tags: &TagSet,
+    before: Before<V, I::Undo>,
+)
+    requires can { CanTakeIn I.undone I.fits before log.old.items }
+    requires room { is_some ready.old ≡ true → vec_len log.old < vec_capacity log.old }
+    requires ready { same_tags tags.now (newest_tags [] log.old.items) ≡ false
+        → ready.old ≡ Some tags.now }
+    ensures seen { (now : Option V) → FitsBefore I.fits before now
+        → CanGoBack I.undone I.fits (value_before I.undone before now) log.old.items
+        → seen I.undone now log.new.items
+        ≡ noted_on tags.now (value_before I.undone before now)
+        (seen I.undone (value_before I.undone before now) log.old.items) }
+    ensures can { (now : Option V) → FitsBefore I.fits before now
+        → CanGoBack I.undone I.fits (value_before I.undone before now) log.old.items
+        → CanGoBack I.undone I.fits now log.new.items }
+    ensures room { is_some ready.new ≡ true → vec_len log.new < vec_capacity log.new }
+    ensures again { same_tags tags.now (newest_tags [] log.new.items) ≡ true }
 {
-    match log.last() {
-        Some(newest) => tags.is_same(newest.tags()),
-        None => tags.ids().is_empty(),
+    if goes_unnoted(log.as_slice(), tags) {
+        take_in_newest::<V, I>(log, before);
+        return;
     }
+    let Some(own) = mem::replace(ready, None) else {
+        unreachable!();
+    };
+    log.push_reserved(Kept { tags: own, before });
 }
 
-/// How many notes stand before the first that rests on a guess.
-fn before_first<V>(log: &[Note<V>], id: GuessId) -> usize
-    ensures { result ≡ prefix_len (λ n. not (has id n.tags)) log.now }
-{
-    log.iter().take_while(|note| is_apart(*note, id)).count()
-}
-
-fn is_apart<V>(note: &Note<V>, id: GuessId) -> bool
-    ensures { result ≡ not (has id note.now.tags) }
-{
-    !note.tags().contains(id)
-}
-
-/// Takes a guess out of the notes, and leaves out those that then rest on nothing.
-fn lighten<V: Drop>(log: &mut Vec<Note<V>>, id: GuessId)
-    ensures log { log.new.items ≡ committed id log.old.items }
-    ensures len { vec_len log.new ≤ vec_len log.old }
-    ensures capacity { vec_capacity log.new ≡ vec_capacity log.old }
-{
-    log.retain_mut(|note: &mut Note<V>| note.without(id));
-}
-
-/// Leaves out each note that has the tags of the note before it.
-fn join<V: Drop>(log: &mut Vec<Note<V>>)
-    ensures log { log.new.items ≡ merged [] log.old.items }
-    ensures len { vec_len log.new ≤ vec_len log.old }
-    ensures capacity { vec_capacity log.new ≡ vec_capacity log.old }
-{
-    let mut place = 0;
-    while place < log.len() {
-        if goes_unnoted(&log[..place], log[place].tags()) {
-            log.remove(place);
-        } else {
-            place += 1;
-        }
-    }
-}
-
-/// Moves out what was there before the note at a place, and drops it with those after it.
-fn go_back<V: Drop>(log: &mut Vec<Note<V>>, place: usize) -> Option<V>
-    requires { place < length log.old.items }
-    ensures before { (d : Note V) → result ≡ (slice_index_or log.old.items place d).before }
-    ensures log { log.new.items ≡ take place log.old.items }
-    ensures len { vec_len log.new ≤ vec_len log.old }
-    ensures capacity { vec_capacity log.new ≡ vec_capacity log.old }
-{
-    log.truncate(place + 1);
-    match log.pop() {
-        Some(note) => note.before(),
-        None => unreachable!(),
-    }
-}
-
-impl<V> Slot<V> {
+impl<V, I: Inversion<V>> Slot<V, I> {
     /// Nothing is there, and nothing is noted.
-    pub fn new(alloc: Global) -> Slot<V>
+    pub fn new(alloc: Global) -> Slot<V, I>
         ensures { result ≡ record { value = None; log = []; ready = None } }
     {
         Slot {
@@ -172,7 +102,7 @@ impl<V> Slot<V> {
         ensures { unwrap_or (option_copied result) [] ≡ last_tags [] self.now.log }
     {
         match self.log.last() {
-            Some(newest) => Some(newest.tags()),
+            Some(newest) => Some(&newest.tags),
             None => None,
         }
     }
@@ -194,7 +124,7 @@ impl<V> Slot<V> {
     }
 }
 
-impl<V: Drop> Slot<V> {
+impl<V: Drop, I: Inversion<V>> Slot<V, I> {
     /// Makes room for what a write with these tags notes.
     pub fn prepare(&mut self, tags: &TagSet) -> Result<(), AllocError>
         ensures value { self.new.value ≡ self.old.value }
@@ -212,22 +142,15 @@ impl<V: Drop> Slot<V> {
         Ok(())
     }
 
-    /// Sets what is there, where what is to be noted has room. The old value is moved into the note.
-    pub fn write(&mut self, tags: &TagSet, value: Option<V>)
+    /// Sets or changes what is there, where what is to be noted has room. An old value is moved into the note.
+    pub fn write(&mut self, tags: &TagSet, write: I::Write)
         requires { IsPrepared tags.now self.old }
-        ensures value { self.new.value ≡ value }
+        ensures value { self.new.value ≡ I.written write self.old.value }
         ensures log { self.new.log ≡ noted_on tags.now self.old.value self.old.log }
         ensures again { IsPrepared tags.now self.new }
     {
-        if goes_unnoted(self.log.as_slice(), tags) {
-            self.value = value;
-            return;
-        }
-        let Some(own) = mem::replace(&mut self.ready, None) else {
-            unreachable!();
-        };
-        let before = mem::replace(&mut self.value, value);
-        self.log.push_reserved(Note::new(own, before));
+        let before = I::write(&mut self.value, write);
+        note::<V, I>(&mut self.log, &mut self.ready, tags, before);
     }
 
     /// Takes a guess out of all notes, and drops those that then rest on nothing, or on just what the note before
@@ -236,19 +159,16 @@ impl<V: Drop> Slot<V> {
         ensures value { self.new.value ≡ self.old.value }
         ensures log { self.new.log ≡ merged [] (committed id self.old.log) }
     {
-        lighten(&mut self.log, id);
-        join(&mut self.log);
+        lighten::<V, I>(&mut self.log, id);
+        merge::<V, I>(&mut self.log);
     }
 
-    /// Moves back what was there before the first write that rests on the guess. It takes no memory.
+    /// Puts back what was there before the first write that rests on the guess. It takes no memory.
     pub fn unwind(&mut self, id: GuessId)
         ensures value { self.new.value ≡ unwound id self.old.log self.old.value }
         ensures log { self.new.log ≡ cut id self.old.log }
     {
         let place = before_first(self.log.as_slice(), id);
-        if place >= self.log.len() {
-            return;
-        }
-        self.value = go_back(&mut self.log, place);
+        go_back::<V, I>(&mut self.value, &mut self.log, place);
     }
 }

@@ -12,6 +12,7 @@ ghost use Rattle.sk_slots.specs.Slots.{found, look_at, log_at, AllSettled, IsRea
 
 use crate::Slot;
 use sk_ids::{GuessId, TagSet};
+use sk_inversion::{Inversion, Whole};
 use sk_map::{Key, Map};
 use std::alloc::{AllocError, Global};
 use std::collections::btree_map::Keys;
@@ -19,11 +20,11 @@ use std::marker::Model;
 
 /// What keys have. One without a slot is absent, and nothing is noted of it.
 #[derive(Drop)]
-pub struct Slots<K: Key, V> {
-    slots: Map<K, Slot<V>>,
+pub struct Slots<K: Key, V, I: Inversion<V> = Whole> {
+    slots: Map<K, Slot<V, I>>,
 }
 
-impl<K: Key, V> Model for Slots<K, V> {
+impl<K: Key, V, I: Inversion<V>> Model for Slots<K, V, I> {
     ghost use Rattle.std.specs.Prelude.{List};
     ghost use Rattle.std.specs.Coded.{coded_list, coded×};
     ghost use Rattle.sk_slots.specs.Slot.{SlotView, slot_code};
@@ -35,8 +36,8 @@ impl<K: Key, V> Model for Slots<K, V> {
     ghost view = { λ a. a.slots };
 }
 
-impl<K: Key, V> Slots<K, V> {
-    pub fn new(alloc: Global) -> Slots<K, V>
+impl<K: Key, V, I: Inversion<V>> Slots<K, V, I> {
+    pub fn new(alloc: Global) -> Slots<K, V, I>
         ensures look { (k : K) → look_at K.order result k ≡ None }
         ensures log { (k : K) → log_at K.order result k ≡ [] }
         ensures settled { AllSettled K.order result }
@@ -66,7 +67,7 @@ impl<K: Key, V> Slots<K, V> {
     }
 }
 
-impl<K: Key, V> Slots<K, V> {
+impl<K: Key, V, I: Inversion<V>> Slots<K, V, I> {
     /// Whether a key has a slot.
     pub fn has(&self, key: &K) -> bool
         ensures { result ≡ is_some (found K.order self.now key.now) }
@@ -75,7 +76,7 @@ impl<K: Key, V> Slots<K, V> {
     }
 
     /// The keys that have slots, by their order, each once.
-    pub fn keys(&self) -> Keys<'_, K, Slot<V>>
+    pub fn keys(&self) -> Keys<'_, K, Slot<V, I>>
         ensures all { (q : K) → is_in K.order result q ≡ is_some (found K.order self.now q) }
         ensures rising { IsStrictlySortedBy K.order result }
         ensures runs { ShowsInOrder (deref {X = K}) }
@@ -84,7 +85,7 @@ impl<K: Key, V> Slots<K, V> {
     }
 }
 
-impl<K: Key, V: Drop> Slots<K, V> {
+impl<K: Key, V: Drop, I: Inversion<V>> Slots<K, V, I> {
     /// Makes room for what a write of a key with these tags notes.
     pub fn prepare(&mut self, key: &K, tags: &TagSet) -> Result<(), AllocError>
         ensures look { (q : K) → look_at K.order self.new q ≡ look_at K.order self.old q }
@@ -105,11 +106,12 @@ impl<K: Key, V: Drop> Slots<K, V> {
         self.slots.put(*key, slot)
     }
 
-    /// Sets what a key has, where what is to be noted has room.
-    pub fn write(&mut self, key: &K, tags: &TagSet, value: Option<V>)
+    /// Sets or changes what a key has, where what is to be noted has room.
+    pub fn write(&mut self, key: &K, tags: &TagSet, write: I::Write)
         requires { IsReady K.order tags.now self.old key.now }
         ensures look { (q : K) → look_at K.order self.new q
-            ≡ (if eq_by_cmp K.order q key.now then value else look_at K.order self.old q) }
+            ≡ (if eq_by_cmp K.order q key.now then I.written write (look_at K.order self.old q) else
+            look_at K.order self.old q) }
         ensures log { (q : K) → log_at K.order self.new q
             ≡ (if eq_by_cmp K.order q key.now then noted_on tags.now (look_at K.order self.old q)
             (log_at K.order self.old q) else log_at K.order self.old q) }
@@ -119,7 +121,7 @@ impl<K: Key, V: Drop> Slots<K, V> {
             → SettledBut K.order keys self.old → SettledBut K.order keys self.new }
     {
         match self.slots.get_mut(key) {
-            Some(slot) => slot.write(tags, value),
+            Some(slot) => slot.write(tags, write),
             None => unreachable!(),
         }
     }

@@ -21,7 +21,7 @@ use Rattle.sk_slots.specs.Slot.{SlotView, goes_unnoted, noted_on}
 use Rattle.sk_slots.specs.Slots.{look_at, log_at, IsReady}
 use Rattle.sk_slots.proofs.Logs.{noted_again}
 use Rattle.sk_guesses.specs.Kept.{keys_of}
-use Rattle.sk_speculator.specs.Parts.{Performed}
+use Rattle.sk_speculator.specs.Parts.{made_by, Performed}
 
 module _ {V : Type 0} where
   -- a note for a write, or what stands for it
@@ -54,28 +54,47 @@ module _ {V : Type 0} where
   write_more tags false true v w value x y is log = λ i. noted_on tags (is i) (log i)
   write_more tags false false v w value x y is log = log
 
+-- the keys of what writes make are theirs
+pub keys_made : {K V W : Type 0} (R : K → K → Ordering) (written : W → Option V → Option V) (look : K → Option V) (ws : List (K × W)) → keys_of (made_by R written look ws) ≡ keys_of ws
+keys_made R written look [] = refl
+keys_made R written look (w ∷ ws) = ap (λ ks. w.0 ∷ ks) (keys_made R written (λ q. cond (eq_by_cmp R q w.0) (written w.1 (look q)) (look q)) ws)
+
+-- whole values are what is written
+pub made_whole : {K V : Type 0} (R : K → K → Ordering) (look : K → Option V) (ws : List (K × Option V)) → made_by R (λ value _. value) look ws ≡ ws
+made_whole R look [] = refl
+made_whole R look (w ∷ ws) = ap (λ vs. w ∷ vs) (made_whole R (λ q. cond (eq_by_cmp R q w.0) w.1 (look q)) ws)
+
 -- what is left to write
-pub record Writing {K V : Type 0} (R : K → K → Ordering) (tags : List ℕ) (old : List (K × SlotView V)) (all : List (K × Option V)) (now : List (K × SlotView V)) (rest : List (K × Option V)) : Type 0 where
-  pub look : (q : K) → written_value R rest q (look_at R now q) ≡ written_value R all q (look_at R old q)
+pub record Writing {K V W : Type 0} (R : K → K → Ordering) (written : W → Option V → Option V) (tags : List ℕ) (old : List (K × SlotView V)) (all : List (K × W)) (now : List (K × SlotView V)) (rest : List (K × W)) : Type 0 where
+  pub look : (q : K) → written_value R (made_by R written (look_at R now) rest) q (look_at R now q) ≡ written_value R (made_by R written (look_at R old) all) q (look_at R old q)
   pub logs : (q : K) → cond (is_in R (keys_of rest) q) (noted_on tags (look_at R now q) (log_at R now q)) (log_at R now q) ≡ cond (is_in R (keys_of all) q) (noted_on tags (look_at R old q) (log_at R old q)) (log_at R old q)
   pub ready : (q : K) → is_in R (keys_of rest) q ≡ true → IsReady R tags now q
 
-module _ {K V : Type 0} (R : K → K → Ordering) (tags : List ℕ) (old : List (K × SlotView V)) (all : List (K × Option V)) where
-  pub writing_from : ((q : K) → is_in R (keys_of all) q ≡ true → IsReady R tags old q) → Writing R tags old all old all
+module _ {K V W : Type 0} (R : K → K → Ordering) (written : W → Option V → Option V) (tags : List ℕ) (old : List (K × SlotView V)) (all : List (K × W)) where
+  pub writing_from : ((q : K) → is_in R (keys_of all) q ≡ true → IsReady R tags old q) → Writing R written tags old all old all
   writing_from ready = record { look = λ q. refl; logs = λ q. refl; ready = ready }
 
-  pub writing_done : (new : List (K × SlotView V)) → ((q : K) → is_in R (keys_of all) q ≡ true → tags ≡ [] → log_at R old q ≡ []) → Writing R tags old all new [] → Performed R old tags all new
+  pub writing_done : (new : List (K × SlotView V)) → ((q : K) → is_in R (keys_of all) q ≡ true → tags ≡ [] → log_at R old q ≡ []) → Writing R written tags old all new [] → Performed R old tags (made_by R written (look_at R old) all) new
   writing_done new clean w = record {
     look = w.look;
-    logs = λ q. subst (Merges [] (log_at R old q ++ noted (is_in R (keys_of all) q) tags (look_at R old q) [])) (sym (w.logs q)) (noted_merges (is_in R (keys_of all) q) tags (look_at R old q) (log_at R old q) (clean q));
+    logs = λ q.
+        subst (λ ks. Merges [] (log_at R old q ++ noted (is_in R ks q) tags (look_at R old q) []) (log_at R new q)) (sym (keys_made R written (look_at R old) all))
+        (subst (Merges [] (log_at R old q ++ noted (is_in R (keys_of all) q) tags (look_at R old q) [])) (sym (w.logs q)) (noted_merges (is_in R (keys_of all) q) tags (look_at R old q) (log_at R old q) (clean q)));
   }
 
-  pub writing_more : (now new : List (K × SlotView V)) (k : K) (value : Option V) (rest : List (K × Option V)) → Writing R tags old all now ((k, value) ∷ rest)
-      → ((q : K) → look_at R new q ≡ cond (eq_by_cmp R q k) value (look_at R now q)) → ((q : K) → log_at R new q ≡ cond (eq_by_cmp R q k) (noted_on tags (look_at R now q) (log_at R now q)) (log_at R now q))
-      → ((q : K) → IsReady R tags now q → IsReady R tags new q) → Writing R tags old all new rest
-  writing_more now new k value rest w look log ready = record {
-    look = λ q. ap (written_value R rest q) (look q) ∙ w.look q;
-    logs = λ q. write_more tags (eq_by_cmp R q k) (is_in R (keys_of rest) q) (look_at R now q) (look_at R new q) value (log_at R now q) (log_at R new q) (look q) (log q) ∙ w.logs q;
+  pub writing_more : IsAntisymmetric R → (now new : List (K × SlotView V)) (k : K) (one : W) (rest : List (K × W)) → Writing R written tags old all now ((k, one) ∷ rest)
+      → ((q : K) → look_at R new q ≡ cond (eq_by_cmp R q k) (written one (look_at R now q)) (look_at R now q)) → ((q : K) → log_at R new q ≡ cond (eq_by_cmp R q k) (noted_on tags (look_at R now q) (log_at R now q)) (log_at R now q))
+      → ((q : K) → IsReady R tags now q → IsReady R tags new q) → Writing R written tags old all new rest
+  writing_more exact now new k one rest w look log ready = record {
+    look = λ q.
+        let after : K → Option V = λ x. cond (eq_by_cmp R x k) (written one (look_at R now x)) (look_at R now x) in
+        let own : after q ≡ cond (eq_by_cmp R q k) (written one (look_at R now k)) (look_at R now q) =
+        elim (eq_by_cmp R q k) as (λ b. eq_by_cmp R q k ≡ b → cond b (written one (look_at R now q)) (look_at R now q) ≡ cond b (written one (look_at R now k)) (look_at R now q)) [
+          | true ↦ λ e. ap (λ x. written one (look_at R now x)) (exact q k ((Equal-is (R q k)).0 e))
+          | false ↦ λ _. refl
+        ] refl in
+        (λ i. written_value R (made_by R written (λ x. look x i) rest) q (look q i)) ∙ ap (written_value R (made_by R written after rest) q) own ∙ w.look q;
+    logs = λ q. write_more tags (eq_by_cmp R q k) (is_in R (keys_of rest) q) (look_at R now q) (look_at R new q) (written one (look_at R now q)) (log_at R now q) (log_at R new q) (look q) (log q) ∙ w.logs q;
     ready = λ q here. ready q (w.ready q (or_right _ _ here));
   }
 

@@ -4,7 +4,7 @@ use Rattle.std.specs.Vec.{vec_capacity}
 use Rattle.sk_speculator.specs.declared.step.Step.{Step}
 
 -- they are empty, and have their room
-pub record IsEmptied {K V O : Type 0} (old new : Step K V O) : Type 0 where
+pub record IsEmptied {K V O I W U : Type 0} (old new : Step K V O I W U) : Type 0 where
   pub looked : new.looked.items ≡ []
   pub written : new.written.items ≡ []
   pub said : new.said ≡ None

@@ -2,3 +2,4 @@ pub mod Parts
 pub mod Calls
 pub mod Emptied
 pub mod Law
+pub mod WholeStep

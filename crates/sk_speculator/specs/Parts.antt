@@ -1,5 +1,6 @@
 -- What a kernel keeps, and the machine of records that it is.
-use Rattle.std.specs.Prelude.{◌≡◌, ℕ, Bool, List, [], ◌∷◌, ◌++◌, Option, Some, None, refl}
+use Rattle.std.specs.Prelude.{◌≡◌, ℕ, Bool, List, [], ◌∷◌, ◌++◌, Option, Some, None, refl, if◌then◌else◌}
+use Rattle.std.specs.Ordering.{eq_by_cmp}
 use Rattle.std.specs.List.{list_any}
 use Rattle.std.specs.Coded.{Coded, code_by, coded×, coded_ℕ, coded_list}
 use Rattle.std.specs.declared.cmp.Ordering.{Ordering}
@@ -73,6 +74,11 @@ module _ {K V : Type 0} (R : K → K → Ordering) where
   -- whether one of these keys rests on a guess
   abbrev pub any_rests : List (K × SlotView V) → ℕ → List K → Bool
   any_rests m g ks = list_any (λ k. has g (last_tags [] (log_at R m k))) ks
+
+  -- what writes make of what keys have, each after those before it
+  abbrev pub made_by : {W : Type 0} → (W → Option V → Option V) → (K → Option V) → List (K × W) → List (K × Option V)
+  made_by written look [] = []
+  made_by written look (w ∷ ws) = (w.0, written w.1 (look w.0)) ∷ made_by written (λ q. if eq_by_cmp R q w.0 then written w.1 (look q) else look q) ws
 
   -- the writes of a step that has these tags, whose notes may be left out
   pub record Performed (old : List (K × SlotView V)) (tags : List ℕ) (ws : List (K × Option V)) (new : List (K × SlotView V)) : Type 0 where

@@ -8,7 +8,7 @@ ghost use Rattle.sk_guesses.specs.Opens.{opens_of};
 ghost use Rattle.sk_record.specs.Effects.{is_in, is_marked};
 ghost use Rattle.sk_record.specs.Notes.{has};
 ghost use Rattle.sk_slots.specs.Slots.{look_at, log_at, AllSettled, IsReady, SettledBut};
-ghost use Rattle.sk_speculator.specs.Parts.{any_rests, says, Performed};
+ghost use Rattle.sk_speculator.specs.Parts.{any_rests, made_by, says, Performed};
 ghost use Rattle.sk_speculator.specs.Emptied.{IsEmptied};
 
 use crate::Step;
@@ -16,6 +16,7 @@ use crate::lists::{depend_all, relieve_written};
 use crate::writes::{add_tags, add_written_tags, prepare_all, settle_all, write_all};
 use sk_guesses::OpenGuesses;
 use sk_ids::{GuessId, TagSet};
+use sk_inversion::Inversion;
 use sk_map::Key;
 use sk_outputs::Outputs;
 use sk_slots::Slots;
@@ -50,11 +51,11 @@ fn copy_for(alloc: Global, own: &Option<GuessId>, tags: &TagSet) -> Result<TagSe
 }
 
 /// The guesses that a step rests on: those of all keys that it touches, and its own.
-fn tags_of_step<K: Key, V, O>(
+fn tags_of_step<K: Key, V, O, I: Inversion<V>>(
     alloc: Global,
-    slots: &Slots<K, V>,
+    slots: &Slots<K, V, I>,
     own: &Option<GuessId>,
-    step: &Step<K, V, O>,
+    step: &Step<K, V, O, I>,
 ) -> Result<StepTags, AllocError>
     ensures members { IfOk result
         (λ both. (g : ℕ) → has g both.tags
@@ -103,13 +104,13 @@ fn reserve_guess<K: Key>(
 
 /// Makes room for the notes of writes, adds their keys to the lists of the guesses that they come to rest on, and makes
 /// room for the guess of the step. Without memory the lists have what they had.
-fn make_ready<K: Key, V: Drop>(
-    slots: &mut Slots<K, V>,
+fn make_ready<K: Key, V: Drop, I: Inversion<V>>(
+    slots: &mut Slots<K, V, I>,
     guesses: &mut OpenGuesses<K>,
     no_tags: &TagSet,
     own: &Option<GuessId>,
     tags: &TagSet,
-    written: &[(K, Option<V>)],
+    written: &[(K, I::Write)],
 ) -> Result<(), AllocError>
     requires exact { AllExact K.order (tags_by (log_at K.order slots.old)) guesses.old.opens }
     requires covers { Covers K.order tags.now (keys_of written.now)
@@ -143,14 +144,14 @@ fn make_ready<K: Key, V: Drop>(
 
 /// Answers the guesses that a step rests on, and makes all room that it wants. Nothing that is seen changes. Without memory
 /// no room stays but what is free for all.
-pub(crate) fn ask<K: Key, V: Drop, O: Drop>(
+pub(crate) fn ask<K: Key, V: Drop, O: Drop, I: Inversion<V>>(
     alloc: Global,
-    slots: &mut Slots<K, V>,
+    slots: &mut Slots<K, V, I>,
     guesses: &mut OpenGuesses<K>,
     said: &mut Outputs<O>,
     no_tags: &TagSet,
     own: &Option<GuessId>,
-    step: &Step<K, V, O>,
+    step: &Step<K, V, O, I>,
 ) -> Result<StepTags, AllocError>
     requires settled { AllSettled K.order slots.old }
     requires exact { AllExact K.order (tags_by (log_at K.order slots.old)) guesses.old.opens }
@@ -194,19 +195,22 @@ pub(crate) fn ask<K: Key, V: Drop, O: Drop>(
 
 /// Makes the writes of a step, for which all is ready, and says its output. The step's buffers are empty then, with their
 /// room. It takes no memory.
-pub(crate) fn perform<K: Key, V: Drop, O: Drop>(
-    slots: &mut Slots<K, V>,
+pub(crate) fn perform<K: Key, V: Drop, O: Drop, I: Inversion<V>>(
+    slots: &mut Slots<K, V, I>,
     said: &mut Outputs<O>,
     tags: TagSet,
-    step: &mut Step<K, V, O>,
+    step: &mut Step<K, V, O, I>,
 )
+where
+    I::Write: Drop,
     requires ready { (q : K) → is_in K.order (keys_of step.old.written.items) q ≡ true
         → IsReady K.order tags slots.old q }
     requires clean { (q : K) → is_in K.order (keys_of step.old.written.items) q ≡ true → tags ≡ []
         → log_at K.order slots.old q ≡ [] }
     requires unsettled { SettledBut K.order (keys_of step.old.written.items) slots.old }
     requires room { is_some step.old.said ≡ true → 0 < said.old.room }
-    ensures writes { Performed K.order slots.old tags step.old.written.items slots.new }
+    ensures writes { Performed K.order slots.old tags
+        (made_by K.order I.written (look_at K.order slots.old) step.old.written.items) slots.new }
     ensures settled { AllSettled K.order slots.new }
     ensures says { said.new.said ≡ says step.old.said tags said.old.said }
     ensures emptied { IsEmptied step.old step.new }

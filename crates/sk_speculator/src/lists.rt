@@ -8,13 +8,14 @@ ghost use Rattle.sk_slots.specs.Slots.{log_at};
 
 use sk_guesses::OpenGuesses;
 use sk_ids::TagSet;
+use sk_inversion::Inversion;
 use sk_map::Key;
 use sk_slots::Slots;
 use std::alloc::AllocError;
 
 /// The guesses that a key rests on, where this is the set of none.
-pub(crate) fn tags_of<'a, K: Key, V>(
-    slots: &'a Slots<K, V>,
+pub(crate) fn tags_of<'a, K: Key, V, I: Inversion<V>>(
+    slots: &'a Slots<K, V, I>,
     no_tags: &'a TagSet,
     key: &K,
 ) -> &'a TagSet
@@ -47,12 +48,12 @@ fn depend<K: Key>(
 
 /// Adds what a step writes to the lists of the guesses that the step rests on. Without memory the lists have what they
 /// had.
-pub(crate) fn depend_all<K: Key, V>(
+pub(crate) fn depend_all<K: Key, V, I: Inversion<V>>(
     guesses: &mut OpenGuesses<K>,
-    slots: &Slots<K, V>,
+    slots: &Slots<K, V, I>,
     no_tags: &TagSet,
     tags: &TagSet,
-    written: &[(K, Option<V>)],
+    written: &[(K, I::Write)],
 ) -> Result<(), AllocError>
     requires exact { AllExact K.order (tags_by (log_at K.order slots.now)) guesses.old.opens }
     requires covers { Covers K.order tags.now (keys_of written.now)
@@ -78,11 +79,11 @@ pub(crate) fn depend_all<K: Key, V>(
 }
 
 /// Takes the keys of writes out of the lists of the guesses that they do not rest on.
-pub(crate) fn relieve_written<K: Key, V>(
+pub(crate) fn relieve_written<K: Key, V, I: Inversion<V>>(
     guesses: &mut OpenGuesses<K>,
-    slots: &Slots<K, V>,
+    slots: &Slots<K, V, I>,
     no_tags: &TagSet,
-    written: &[(K, Option<V>)],
+    written: &[(K, I::Write)],
 )
     requires almost { AllAlmostExact K.order (tags_by (log_at K.order slots.now))
         (keys_of written.now) guesses.old.opens }
@@ -97,9 +98,9 @@ pub(crate) fn relieve_written<K: Key, V>(
 }
 
 /// Takes keys out of the lists of the guesses that they do not rest on.
-pub(crate) fn relieve_all<K: Key, V>(
+pub(crate) fn relieve_all<K: Key, V, I: Inversion<V>>(
     guesses: &mut OpenGuesses<K>,
-    slots: &Slots<K, V>,
+    slots: &Slots<K, V, I>,
     no_tags: &TagSet,
     keys: &[K],
 )

@@ -14,7 +14,7 @@ ghost use Rattle.sk_outputs.specs.Said.{said_at, waiting_of};
 ghost use Rattle.sk_slots.specs.Slots.{look_at, log_at};
 ghost use Rattle.sk_speculator.specs.Calls.{next_of, Commits, CommitPost, FailsIn, FailPost, Refuses, Takes, TookBack};
 ghost use Rattle.sk_speculator.specs.Emptied.{IsEmptied};
-ghost use Rattle.sk_speculator.specs.Parts.{deed, machine_of, undo_state_of, IsSame};
+ghost use Rattle.sk_speculator.specs.Parts.{deed, machine_of, made_by, undo_state_of, IsSame};
 ghost use Rattle.sk_speculator.specs.declared.refusal.Refusal.TheVariants.{Memory};
 
 use crate::asking::{StepTags, ask, perform};
@@ -22,6 +22,7 @@ use crate::lists::{relieve_all, tags_of};
 use crate::{Committed, Failed, Refusal, Step, Undone};
 use sk_guesses::{Guess, OpenGuesses, Redeemed, Status};
 use sk_ids::{GuessId, TagSet};
+use sk_inversion::{Inversion, Whole};
 use sk_map::Key;
 use sk_outputs::Outputs;
 use sk_slots::{Slot, Slots};
@@ -33,16 +34,16 @@ use std::num::NonZeroU16;
 /// A speculative kernel over its user's own keys, values and outputs, whose steps are taken outside. It keeps no record of
 /// steps.
 #[derive(Drop)]
-pub struct Speculator<K: Key, V, O> {
+pub struct Speculator<K: Key, V, O, I: Inversion<V> = Whole> {
     alloc: Global,
-    slots: Slots<K, V>,
+    slots: Slots<K, V, I>,
     guesses: OpenGuesses<K>,
     said: Outputs<O>,
     /// What `tags_of` lends where a key rests on nothing.
     no_tags: TagSet,
 }
 
-impl<K: Key, V, O> Model for Speculator<K, V, O> {
+impl<K: Key, V, O, I: Inversion<V>> Model for Speculator<K, V, O, I> {
     ghost use Rattle.std.specs.Prelude.{◌≡◌, []};
     ghost use Rattle.sk_guesses.specs.Opens.{opens_of};
     ghost use Rattle.sk_speculator.specs.Parts.{Parts, parts_code, IsSound};
@@ -69,10 +70,10 @@ impl<K: Key, V, O> Model for Speculator<K, V, O> {
         m.guesses.opens };
 }
 
-impl<K: Key, V, O> Speculator<K, V, O> {
+impl<K: Key, V, O, I: Inversion<V>> Speculator<K, V, O, I> {
     /// No key is there, and nothing has happened, in the kernel of this number, of whose guesses so many may be undecided at
     /// once.
-    pub fn new(alloc: Global, number: u64, limit: NonZeroU16) -> Speculator<K, V, O>
+    pub fn new(alloc: Global, number: u64, limit: NonZeroU16) -> Speculator<K, V, O, I>
         ensures look { (k : K) → look_at K.order result.slots k ≡ None }
         ensures log { (k : K) → log_at K.order result.slots k ≡ [] }
         ensures guesses { result.guesses ≡ none_drawn number (non_zero_u16_get limit) }
@@ -104,7 +105,7 @@ impl<K: Key, V, O> Speculator<K, V, O> {
     }
 
     /// The keys that are there or rest on a guess, by their order, each once.
-    pub fn keys(&self) -> Keys<'_, K, Slot<V>>
+    pub fn keys(&self) -> Keys<'_, K, Slot<V, I>>
         ensures present { (k : K) → is_in K.order result k ≡ false
             → look_at K.order self.now.slots k ≡ None }
         ensures noted { (k : K) → is_in K.order result k ≡ false
@@ -201,12 +202,16 @@ impl<K: Key, V, O> Speculator<K, V, O> {
     }
 }
 
-impl<K: Key, V: Drop, O: Drop> Speculator<K, V, O> {
+impl<K: Key, V: Drop, O: Drop, I: Inversion<V>> Speculator<K, V, O, I> {
     /// Takes a step. Its buffers are empty then, with their room. Without memory the step is as it was, and nothing has changed.
-    pub fn take(&mut self, step: &mut Step<K, V, O>) -> Result<(), AllocError>
+    pub fn take(&mut self, step: &mut Step<K, V, O, I>) -> Result<(), AllocError>
+    where
+        I::Write: Drop,
         ensures ok { OnOk result
             (Takes K.order self.old
-            (deed step.old.looked.items step.old.written.items step.old.said) None self.new) }
+            (deed step.old.looked.items
+            (made_by K.order I.written (look_at K.order self.old.slots) step.old.written.items)
+            step.old.said) None self.new) }
         ensures emptied { OnOk result (IsEmptied step.old step.new) }
         ensures err { OnErr result (IsSame K.order self.old self.new) }
         ensures kept { OnErr result (step.new ≡ step.old) }
@@ -230,13 +235,17 @@ impl<K: Key, V: Drop, O: Drop> Speculator<K, V, O> {
 
     /// Draws the next guess and takes its step, which rests on it. The step's buffers are empty then, with their room. After a
     /// refusal the step is as it was, and nothing has changed.
-    pub fn guess(&mut self, step: &mut Step<K, V, O>) -> Result<Guess, Refusal>
+    pub fn guess(&mut self, step: &mut Step<K, V, O, I>) -> Result<Guess, Refusal>
+    where
+        I::Write: Drop,
         ensures token { IfOk result
             (λ guess. guess
             ≡ record { kernel = self.old.guesses.kernel; id = next_of self.old.guesses }) }
         ensures ok { OnOk result
             (Takes K.order self.old
-            (deed step.old.looked.items step.old.written.items step.old.said)
+            (deed step.old.looked.items
+            (made_by K.order I.written (look_at K.order self.old.slots) step.old.written.items)
+            step.old.said)
             (Some (next_of self.old.guesses)) self.new) }
         ensures emptied { OnOk result (IsEmptied step.old step.new) }
         ensures why { IfErr result (Refuses self.old) }
@@ -346,7 +355,7 @@ impl<K: Key, V: Drop, O: Drop> Speculator<K, V, O> {
     }
 
     /// Ends the kernel, if no guess is undecided: hands out what keys have, and the outputs that were not taken out.
-    pub fn shut(self) -> Result<(Slots<K, V>, Outputs<O>), Speculator<K, V, O>>
+    pub fn shut(self) -> Result<(Slots<K, V, I>, Outputs<O>), Speculator<K, V, O, I>>
         ensures slots { IfOk result (λ left. left.0 ≡ self.slots) }
         ensures said { IfOk result (λ left. left.1.said ≡ self.said) }
         ensures opens { OnOk result (self.opens ≡ []) }

@@ -4,9 +4,10 @@ ghost use Rattle.sk_guesses.specs.Kept.{keys_of};
 ghost use Rattle.sk_record.specs.Effects.{is_in};
 ghost use Rattle.sk_record.specs.Notes.{has};
 ghost use Rattle.sk_slots.specs.Slots.{look_at, log_at, AllSettled, IsReady, SettledBut};
-ghost use Rattle.sk_speculator.specs.Parts.{any_rests, Performed};
+ghost use Rattle.sk_speculator.specs.Parts.{any_rests, made_by, Performed};
 
 use sk_ids::TagSet;
+use sk_inversion::Inversion;
 use sk_map::Key;
 use sk_slots::Slots;
 use std::alloc::AllocError;
@@ -23,7 +24,11 @@ fn with_tags(all: TagSet, more: &TagSet) -> Result<TagSet, AllocError>
 }
 
 /// Adds to a set the guesses that a key rests on.
-fn add_tags_at<K: Key, V>(slots: &Slots<K, V>, tags: TagSet, key: &K) -> Result<TagSet, AllocError>
+fn add_tags_at<K: Key, V, I: Inversion<V>>(
+    slots: &Slots<K, V, I>,
+    tags: TagSet,
+    key: &K,
+) -> Result<TagSet, AllocError>
     ensures { IfOk result
         (λ all. (g : ℕ) → has g all ≡ (has g tags || any_rests K.order slots.now g (key.now ∷ []))) }
 {
@@ -34,8 +39,8 @@ fn add_tags_at<K: Key, V>(slots: &Slots<K, V>, tags: TagSet, key: &K) -> Result<
 }
 
 /// Adds to a set the guesses that these keys rest on.
-pub(crate) fn add_tags<K: Key, V>(
-    slots: &Slots<K, V>,
+pub(crate) fn add_tags<K: Key, V, I: Inversion<V>>(
+    slots: &Slots<K, V, I>,
     tags: TagSet,
     keys: &[K],
 ) -> Result<TagSet, AllocError>
@@ -50,10 +55,10 @@ pub(crate) fn add_tags<K: Key, V>(
 }
 
 /// Adds to a set the guesses that the keys of writes rest on.
-pub(crate) fn add_written_tags<K: Key, V>(
-    slots: &Slots<K, V>,
+pub(crate) fn add_written_tags<K: Key, V, I: Inversion<V>>(
+    slots: &Slots<K, V, I>,
     tags: TagSet,
-    written: &[(K, Option<V>)],
+    written: &[(K, I::Write)],
 ) -> Result<TagSet, AllocError>
     ensures { IfOk result
         (λ all. (g : ℕ) → has g all
@@ -67,10 +72,10 @@ pub(crate) fn add_written_tags<K: Key, V>(
 }
 
 /// Makes room for what writes with these tags note.
-pub(crate) fn prepare_all<K: Key, V: Drop>(
-    slots: &mut Slots<K, V>,
+pub(crate) fn prepare_all<K: Key, V: Drop, I: Inversion<V>>(
+    slots: &mut Slots<K, V, I>,
     tags: &TagSet,
-    written: &[(K, Option<V>)],
+    written: &[(K, I::Write)],
 ) -> Result<(), AllocError>
     ensures look { (q : K) → look_at K.order slots.new q ≡ look_at K.order slots.old q }
     ensures log { (q : K) → log_at K.order slots.new q ≡ log_at K.order slots.old q }
@@ -85,38 +90,42 @@ pub(crate) fn prepare_all<K: Key, V: Drop>(
     Ok(())
 }
 
-/// The key of a write, and its value, which is moved out.
-fn take_write<K: Key, V>(write: &mut (K, Option<V>)) -> (K, Option<V>)
+/// The key of a write, and what is written, which is moved out.
+fn take_write<K: Key, W: Default>(write: &mut (K, W)) -> (K, W)
     ensures key { result.0 ≡ write.old.0 }
     ensures value { result.1 ≡ write.old.1 }
-    ensures left { write.new ≡ (write.old.0, None) }
+    ensures left { write.new.0 ≡ write.old.0 }
 {
-    (write.0, mem::replace(&mut write.1, None))
+    (write.0, mem::take(&mut write.1))
 }
 
-/// Makes writes that are ready, all with these tags. Their values are moved out.
-pub(crate) fn write_all<K: Key, V: Drop>(
-    slots: &mut Slots<K, V>,
+/// Makes writes that are ready, all with these tags. They are moved out.
+pub(crate) fn write_all<K: Key, V: Drop, I: Inversion<V>>(
+    slots: &mut Slots<K, V, I>,
     tags: &TagSet,
-    written: &mut [(K, Option<V>)],
+    written: &mut [(K, I::Write)],
 )
     requires ready { (q : K) → is_in K.order (keys_of written.old) q ≡ true
         → IsReady K.order tags.now slots.old q }
     requires clean { (q : K) → is_in K.order (keys_of written.old) q ≡ true → tags.now ≡ []
         → log_at K.order slots.old q ≡ [] }
-    ensures performed { Performed K.order slots.old tags.now written.old slots.new }
+    ensures performed { Performed K.order slots.old tags.now
+        (made_by K.order I.written (look_at K.order slots.old) written.old) slots.new }
     ensures keys { keys_of written.new ≡ keys_of written.old }
     ensures settled { SettledBut K.order (keys_of written.old) slots.old
         → SettledBut K.order (keys_of written.old) slots.new }
 {
     for place in 0..written.len() {
-        let (key, value) = take_write(&mut written[place]);
-        slots.write(&key, tags, value);
+        let (key, write) = take_write(&mut written[place]);
+        slots.write(&key, tags, write);
     }
 }
 
 /// Lets go of the room that was made for notes of these keys, and of slots of which there is nothing. It takes no memory.
-pub(crate) fn settle_all<K: Key, V: Drop>(slots: &mut Slots<K, V>, written: &[(K, Option<V>)])
+pub(crate) fn settle_all<K: Key, V: Drop, I: Inversion<V>>(
+    slots: &mut Slots<K, V, I>,
+    written: &[(K, I::Write)],
+)
     ensures look { (q : K) → look_at K.order slots.new q ≡ look_at K.order slots.old q }
     ensures log { (q : K) → log_at K.order slots.new q ≡ log_at K.order slots.old q }
     ensures settled { SettledBut K.order (keys_of written.now) slots.old

@@ -177,7 +177,9 @@ impl Kernel for Bytes<u64, u64> {
     }
 
     fn shuts(self) -> bool {
-        self.undecided() == 0
+        let is_settled = self.undecided() == 0;
+        drop(self);
+        is_settled
     }
 }
 

@@ -39,7 +39,11 @@ fn judge_long(
 #[test]
 fn long_key(rt: HostRuntime) -> Result<(), Wrong> {
     let mut bytes = Bytes::new(rt.alloc(), 7, NonZeroU16::MIN, 1);
-    judge_long(&mut bytes, &mut Step::new(rt.alloc()), rt.alloc())
+    let mut step = Step::new(rt.alloc());
+    let judged = judge_long(&mut bytes, &mut step, rt.alloc());
+    drop(bytes);
+    drop(step);
+    judged
 }
 
 /// Takes a step that writes one key, with which so many are there.
@@ -95,5 +99,8 @@ fn all_pass(
 fn keys_come_and_go(rt: HostRuntime) -> Result<(), Wrong> {
     let mut bytes = Bytes::new(rt.alloc(), 7, NonZeroU16::MIN, 1);
     let mut step = Step::new(rt.alloc());
-    all_pass(&rt, &mut bytes, &mut step, rt.alloc())
+    let passed = all_pass(&rt, &mut bytes, &mut step, rt.alloc());
+    drop(bytes);
+    drop(step);
+    passed
 }

@@ -1,6 +1,6 @@
-//! Tests of the kernels over their user's own keys, numbers and byte strings: keys that are too long, keys that come and go, random runs,
-//! each held after each call against a plain record of the steps that depend on no failed guess, which does them again from nothing,
-//! and what grows past 70,000 in them, in requests and in commands, with ample memory.
+//! Tests of the kernels over their user's own keys, numbers and byte strings: keys that are too long, keys that come and go,
+//! numbers that are added to, random runs, each held after each call against a plain record of the steps that depend on no failed
+//! guess, which does them again from nothing, and what grows past 70,000 in them, in requests and in commands, with ample memory.
 #![tactic(auto)]
 
 #[cfg(test)]
@@ -31,5 +31,7 @@ mod runs;
 mod session;
 #[cfg(test)]
 mod step;
+#[cfg(test)]
+mod sums;
 #[cfg(test)]
 mod wrong;

@@ -114,8 +114,14 @@ impl Kernel for Speculator<u32, u64, u64> {
 
     fn shuts(self) -> bool {
         match self.shut() {
-            Ok(_left) => true,
-            Err(_kernel) => false,
+            Ok(left) => {
+                drop(left);
+                true
+            }
+            Err(kernel) => {
+                drop(kernel);
+                false
+            }
         }
     }
 }

@@ -4,5 +4,4 @@
 pub mod finding;
 pub mod judge;
 pub mod plain;
-pub mod values;
 pub mod wrong;

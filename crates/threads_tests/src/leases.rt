@@ -3,19 +3,18 @@ ghost use Rattle.std.specs.Prelude.{◌≡◌, []};
 ghost use Rattle.sk_client.specs.Desk.{opened_at};
 
 use crate::same::same;
-use crate::start::{FreeGate, desk_of, process, shared_by};
+use crate::start::{FreeGate, desk_of, shared_by};
 use sk_client::{Desk, Turn};
 use sk_ids::Pid;
 use sk_kernel::HandIn;
 use sk_plain::Refusal;
 use sk_script::Lease;
-use sk_workers::{Answered, DeskCall, HistoryEntry, Leased, Shared, Worker};
+use sk_workers::{Answered, DeskCall, HistoryEntry, Leased, Receipt, Shared, Worker};
 use std::alloc::Global;
 use std::marker::Brand;
 use std::process::Abort;
 use std::sync::Wait;
 use std::sync::ledger::{Blank, Ledger};
-use std::test::Fail;
 
 /// A process with two private instructions and one that is not, and one that ends it by a signal.
 const SCENARIO: &[u8] = b"
@@ -33,22 +32,41 @@ process 1 sets 1
 process 2 kills 2
 ";
 
-/// What a worker does.
+/// What a worker does, with processes by their numbers.
 #[derive(Clone, Copy)]
 enum Act {
     /// It takes a turn, which is a step.
-    Steps(Pid),
+    Steps(u16),
     /// It leases a process, and runs its two private instructions.
-    Lends(Pid),
+    Lends(u16),
     /// It hands in the lease that is out, and is answered so.
     HandsIn(Result<(), HandIn>),
     /// It takes a turn that is a step. The lease that is out is handed in before and answered so; behind it a process is lent,
     /// where one is named, and given up.
-    Between(Pid, Result<(), HandIn>, Option<Pid>),
+    Between(u16, Result<(), HandIn>, Option<u16>),
 }
 
-/// What a receipt is for: a turn of a process, or the hand-in of one with so many instructions.
-type Seen = (Option<Pid>, u32, Answered);
+/// What a receipt is for: a turn of a process that is a step, or the hand-in of one with so many instructions, which is taken or
+/// stale.
+#[derive(Clone, Copy)]
+enum Seen {
+    Stepped(u16),
+    Taken(u16, u32),
+    Stale(u16, u32),
+}
+
+/// The boot process of a number.
+fn pid(rt: &impl Abort, number: u16) -> Pid {
+    Pid::boot(number).expect(rt, "a process")
+}
+
+/// The same, where a number is named.
+fn pid_of(rt: &impl Abort, number: Option<u16>) -> Option<Pid> {
+    match number {
+        Some(number) => Some(pid(rt, number)),
+        None => None,
+    }
+}
 
 /// Takes a turn, which is a step.
 fn steps<L: Ledger, R: Wait + Abort>(
@@ -168,10 +186,11 @@ fn acts<L: Ledger, R: Wait + Abort>(
     act: Act,
 ) -> Worker<L> {
     match act {
-        Act::Steps(pid) => steps(rt, shared, worker, pid),
-        Act::Lends(pid) => lends(rt, shared, worker, out, pid),
+        Act::Steps(number) => steps(rt, shared, worker, pid(rt, number)),
+        Act::Lends(number) => lends(rt, shared, worker, out, pid(rt, number)),
         Act::HandsIn(answer) => hands_in(rt, shared, worker, out, answer),
-        Act::Between(pid, answer, next) => {
+        Act::Between(number, answer, next) => {
+            let (pid, next) = (pid(rt, number), pid_of(rt, next));
             takes_between(rt, shared, worker, out, pid, answer, &next)
         }
     }
@@ -196,21 +215,39 @@ fn acts_all<L: Ledger, R: Wait + Abort>(
     worker
 }
 
-/// What a receipt's entry is for.
-fn seen(entry: &HistoryEntry) -> Seen {
+/// The process that a receipt's entry is for, and with how many instructions.
+fn subject(entry: &HistoryEntry) -> (Option<Pid>, u32) {
     match &entry.call {
-        DeskCall::Turn(pid) => (Some(*pid), 0, entry.answer),
-        DeskCall::HandIn { process, count } => (Some(*process), *count, entry.answer),
-        DeskCall::Reply(_) => (None, 0, entry.answer),
+        DeskCall::Turn(pid) => (Some(*pid), 0),
+        DeskCall::HandIn { process, count } => (Some(*process), *count),
+        DeskCall::Reply(_) => (None, 0),
     }
+}
+
+/// Whether an entry is for this process, with so many instructions, and was answered so.
+fn is_for(entry: &HistoryEntry, number: u16, count: u32, answer: Answered) -> bool {
+    subject(entry) == (Pid::boot(number), count) && entry.answer == answer
+}
+
+/// Whether a receipt is for this call, and has this place of the history.
+fn is_so(receipt: &Receipt, place: u64, wanted: Option<&Seen>) -> bool {
+    let entry = &receipt.entry;
+    let is_wanted = match wanted {
+        Some(Seen::Stepped(pid)) => is_for(entry, *pid, 0, Answered::Turned(Ok(Turn::Stepped))),
+        Some(Seen::Taken(pid, count)) => is_for(entry, *pid, *count, Answered::HandedIn(Ok(()))),
+        Some(Seen::Stale(pid, count)) => {
+            is_for(entry, *pid, *count, Answered::HandedIn(Err(HandIn::Stale)))
+        }
+        None => false,
+    };
+    is_wanted && receipt.place == place
 }
 
 /// Looks at a worker's receipts: they are for these calls, and have the places of the history in their order.
 fn looks<L: Ledger>(rt: &impl Abort, worker: &Worker<L>, wanted: &[Seen]) {
     same(rt, &worker.receipts().len(), &wanted.len());
-    for (place, (receipt, wanted)) in worker.receipts().iter().zip(wanted.iter()).enumerate() {
-        same(rt, &receipt.place, &(place as u64));
-        same(rt, &seen(&receipt.entry), wanted);
+    for (place, receipt) in worker.receipts().iter().enumerate() {
+        assert!(rt; is_so(receipt, place as u64, wanted.get(place)));
     }
 }
 
@@ -240,96 +277,74 @@ fn plays<L: Ledger, R: Wait + Abort>(
 }
 
 /// What a worker does on a desk of its own, what its receipts are for, and how many steps the trace has in the end.
-fn session<R: Wait + Abort>(
-    rt: &R,
-    alloc: Global,
-    all: &[Act],
-    receipts: &[Seen],
-    steps: usize,
-) -> Result<(), Fail> {
-    let desk = desk_of(alloc, SCENARIO)?;
+fn session<R: Wait + Abort>(rt: &R, alloc: Global, all: &[Act], receipts: &[Seen], steps: usize) {
+    let desk = desk_of(rt, alloc, SCENARIO);
     let taken = plays::<Brand, _>(rt, alloc, Blank::new(1), desk, all, receipts);
     same(rt, &taken, &steps);
-    Ok(())
-}
-
-/// What the receipt of a turn is for.
-fn turn_of(pid: Pid) -> Seen {
-    (Some(pid), 0, Answered::Turned(Ok(Turn::Stepped)))
-}
-
-/// What the receipt of a hand-in is for.
-fn hand_in_of(pid: Pid, answer: Result<(), HandIn>) -> Seen {
-    (Some(pid), 2, Answered::HandedIn(answer))
 }
 
 #[test]
-fn lease_is_handed_in(rt: HostRuntime) -> Result<(), Fail> {
-    let sets = process(1);
-    let acts = [Act::Lends(sets), Act::HandsIn(Ok(()))];
-    session(&rt, rt.alloc(), &acts, &[hand_in_of(sets, Ok(()))], 2)
+fn lease_is_handed_in(rt: HostRuntime) {
+    const ACTS: &[Act] = &[Act::Lends(1), Act::HandsIn(Ok(()))];
+    session(&rt, rt.alloc(), ACTS, &[Seen::Taken(1, 2)], 2);
 }
 
 #[test]
-fn lease_is_handed_in_behind_turns_of_another(rt: HostRuntime) -> Result<(), Fail> {
-    let (sets, kills) = (process(1), process(2));
-    let acts = [
-        Act::Lends(sets),
-        Act::Steps(kills),
-        Act::Steps(kills),
+fn lease_is_handed_in_behind_turns_of_another(rt: HostRuntime) {
+    const ACTS: &[Act] = &[
+        Act::Lends(1),
+        Act::Steps(2),
+        Act::Steps(2),
         Act::HandsIn(Ok(())),
     ];
-    let receipts = [turn_of(kills), turn_of(kills), hand_in_of(sets, Ok(()))];
-    session(&rt, rt.alloc(), &acts, &receipts, 4)
+    const RECEIPTS: &[Seen] = &[Seen::Stepped(2), Seen::Stepped(2), Seen::Taken(1, 2)];
+    session(&rt, rt.alloc(), ACTS, RECEIPTS, 4);
 }
 
 #[test]
-fn lease_is_stale_behind_a_signal(rt: HostRuntime) -> Result<(), Fail> {
-    let (sets, kills) = (process(1), process(2));
-    let acts = [
-        Act::Lends(sets),
-        Act::Steps(kills),
-        Act::Steps(kills),
-        Act::Steps(kills),
+fn lease_is_stale_behind_a_signal(rt: HostRuntime) {
+    const ACTS: &[Act] = &[
+        Act::Lends(1),
+        Act::Steps(2),
+        Act::Steps(2),
+        Act::Steps(2),
         Act::HandsIn(Err(HandIn::Stale)),
     ];
-    let receipts = [
-        turn_of(kills),
-        turn_of(kills),
-        turn_of(kills),
-        hand_in_of(sets, Err(HandIn::Stale)),
+    const RECEIPTS: &[Seen] = &[
+        Seen::Stepped(2),
+        Seen::Stepped(2),
+        Seen::Stepped(2),
+        Seen::Stale(1, 2),
     ];
-    session(&rt, rt.alloc(), &acts, &receipts, 3)
+    session(&rt, rt.alloc(), ACTS, RECEIPTS, 3);
 }
 
 #[test]
-fn lease_is_stale_behind_a_turn(rt: HostRuntime) -> Result<(), Fail> {
-    let sets = process(1);
-    let acts = [
-        Act::Lends(sets),
-        Act::Steps(sets),
+fn lease_is_stale_behind_a_turn(rt: HostRuntime) {
+    const ACTS: &[Act] = &[
+        Act::Lends(1),
+        Act::Steps(1),
         Act::HandsIn(Err(HandIn::Stale)),
     ];
-    let receipts = [turn_of(sets), hand_in_of(sets, Err(HandIn::Stale))];
-    session(&rt, rt.alloc(), &acts, &receipts, 1)
+    const RECEIPTS: &[Seen] = &[Seen::Stepped(1), Seen::Stale(1, 2)];
+    session(&rt, rt.alloc(), ACTS, RECEIPTS, 1);
 }
 
 #[test]
-fn turn_between_leases(rt: HostRuntime) -> Result<(), Fail> {
-    let (sets, kills) = (process(1), process(2));
-    let acts = [
-        Act::Lends(sets),
-        Act::Between(sets, Ok(()), Some(kills)),
-        Act::Lends(kills),
-        Act::Steps(kills),
-        Act::Between(kills, Err(HandIn::Stale), None),
+fn turn_between_leases(rt: HostRuntime) {
+    const ACTS: &[Act] = &[
+        Act::Lends(1),
+        Act::Between(1, Ok(()), Some(2)),
+        Act::Lends(2),
+        Act::Steps(2),
+        Act::Between(2, Err(HandIn::Stale), None),
     ];
-    let receipts = [
-        hand_in_of(sets, Ok(())),
-        turn_of(sets),
-        turn_of(kills),
-        hand_in_of(kills, Err(HandIn::Stale)),
-        turn_of(kills),
+    const RECEIPTS: &[Seen] = &[
+        Seen::Taken(1, 2),
+        Seen::Stepped(1),
+        Seen::Stepped(2),
+        Seen::Stale(2, 2),
+        Seen::Stepped(2),
     ];
-    session(&rt, rt.alloc(), &acts, &receipts, 5)
+    session(&rt, rt.alloc(), ACTS, RECEIPTS, 5);
 }

@@ -1,6 +1,7 @@
 //! Replies that go by a wire, each told apart from all others.
 ghost use Rattle.std.specs.Prelude.{◌≡◌, ◌<◌, ◌+◌, ◌^◌, length};
 ghost use Rattle.crossbeam_queue.specs.Passes.{view};
+ghost use Rattle.sk_wire.specs.Rule.{sender};
 ghost use Rattle.sk_wire.specs.Wire.{IsSending, IsReceiving};
 
 use crate::same::same;
@@ -8,9 +9,22 @@ use sk_ids::Text;
 use sk_objects::Content;
 use sk_objects::content::LAST_VERSION;
 use sk_server::{Answer, Reply};
-use sk_wire::{Wire, WirePass};
+use sk_wire::{HasNumber, Wire, WirePass};
+use std::alloc::Global;
 use std::process::Abort;
 use std::sync::Wait;
+
+/// A wire for items that are numbered from `first` on, its sending and its receiving pass.
+pub fn wire_from<T: HasNumber + Drop>(
+    rt: &impl Abort,
+    alloc: Global,
+    first: u64,
+) -> (Wire<T>, WirePass<T>, WirePass<T>)
+    ensures sending { IsSending result.0 result.1 × (view result.1 ≡ sender first) }
+    ensures receiving { IsReceiving result.0 result.2 }
+{
+    Wire::<T>::new(alloc, first).expect(rt, "memory")
+}
 
 /// The reply of a number, with an answer of its own.
 pub fn reply(number: u64) -> Reply

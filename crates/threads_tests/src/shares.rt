@@ -17,7 +17,6 @@ use std::process::Abort;
 use std::sync::Wait;
 use std::sync::atomic::{AtomicU64, Ordering};
 use std::sync::ledger::{Blank, Ledger};
-use std::test::Fail;
 use std::thread;
 use std::thread::Threads;
 
@@ -132,9 +131,9 @@ fn closes<L: Ledger>(rt: &impl Abort, shared: Shared<L>, workers: Vec<Worker<L>>
 {
     match shared.close(workers) {
         Ok(history) => history,
-        Err((shared, _workers, refusal)) => {
+        Err((shared, _workers, _refusal)) => {
             shared.reopen().abandon();
-            panic!(rt; "{refusal:?}")
+            panic!(rt; "not closed")
         }
     }
 }
@@ -193,10 +192,9 @@ fn one_history<R: Threads + Wait + Sync + Abort>(rt: &R, alloc: Global, desk: De
 }
 
 #[test]
-fn two_workers_one_history(rt: HostRuntime) -> Result<(), Fail> {
-    let desk = desk_of(rt.alloc(), SCENARIO)?;
+fn two_workers_one_history(rt: HostRuntime) {
+    let desk = desk_of(&rt, rt.alloc(), SCENARIO);
     one_history(&rt, rt.alloc(), desk).abandon();
-    Ok(())
 }
 
 /// Takes a turn that is a guess.
@@ -287,44 +285,35 @@ fn settled<R: Wait + Abort>(rt: &R, alloc: Global, desk: Desk) -> Desk
 }
 
 #[test]
-fn closed_when_settled(rt: HostRuntime) -> Result<(), Fail> {
-    let desk = desk_of(rt.alloc(), SCENARIO)?;
+fn closed_when_settled(rt: HostRuntime) {
+    let desk = desk_of(&rt, rt.alloc(), SCENARIO);
     settled(&rt, rt.alloc(), desk).abandon();
-    Ok(())
 }
 
 /// Begins an epoch of a desk, for which so many events are handed out.
-fn next_epoch(rt: &impl Abort, desk: Desk, events: usize) -> Desk
-    ensures opened { result ≡ opened_at result.kernel result.first }
-    ensures trace { result.kernel.trace ≡ [] }
+fn next_epoch(rt: &impl Abort, desk: &mut Desk, events: usize)
+    ensures opened { desk.new ≡ opened_at desk.new.kernel desk.new.first }
+    ensures trace { desk.new.kernel.trace ≡ [] }
 {
-    let mut desk = desk;
     match desk.new_epoch() {
-        Ok((trace, _texts)) => {
-            same(rt, &trace.events().len(), &events);
-            desk
-        }
-        Err(why) => {
-            desk.abandon();
-            panic!(rt; "{why:?}")
-        }
+        Ok((trace, _texts)) => same(rt, &trace.events().len(), &events),
+        Err(_) => panic!(rt; "no epoch"),
     }
 }
 
 /// Two workers close a desk, which is shared again in each of two more epochs.
 #[test]
-fn shared_again_in_the_next_epoch(rt: HostRuntime) -> Result<(), Fail> {
-    let desk = desk_of(rt.alloc(), SCENARIO)?;
-    let desk = one_history(&rt, rt.alloc(), desk);
-    let desk = next_epoch(&rt, desk, 5);
+fn shared_again_in_the_next_epoch(rt: HostRuntime) {
+    let desk = desk_of(&rt, rt.alloc(), SCENARIO);
+    let mut desk = one_history(&rt, rt.alloc(), desk);
+    next_epoch(&rt, &mut desk, 5);
     same(&rt, &desk.first(), &1);
-    let desk = settled(&rt, rt.alloc(), desk);
-    let desk = next_epoch(&rt, desk, 2);
+    let mut desk = settled(&rt, rt.alloc(), desk);
+    next_epoch(&rt, &mut desk, 2);
     same(
         &rt,
         &(desk.first(), desk.kernel().opening().guess()),
         &(2, 2),
     );
     desk.abandon();
-    Ok(())
 }

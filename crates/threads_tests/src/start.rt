@@ -11,7 +11,7 @@ use sk_workers::{Gate, Shared, Worker};
 use std::alloc::Global;
 use std::process::Abort;
 use std::sync::ledger::{Blank, Ledger};
-use std::test::Fail;
+use tests_support::wrong::Wrong;
 
 /// Waits for nothing.
 #[derive(Drop)]
@@ -32,14 +32,21 @@ pub fn process(number: u16) -> Pid
     }
 }
 
-/// The desk that a scenario's text declares, on which nothing was done.
-pub fn desk_of(alloc: Global, text: &[u8]) -> Result<Desk, Fail>
+fn declared(alloc: Global, text: &[u8]) -> Result<Desk, Wrong>
     ensures opened { IfOk result (λ desk. desk ≡ opened_at desk.kernel desk.first) }
     ensures trace { IfOk result (λ desk. desk.kernel.trace ≡ []) }
 {
     let scenario = Scenario::parse(alloc, text)?;
     let (desk, _server) = sk_play::desk_of(alloc, &scenario.declarations)?;
     Ok(desk)
+}
+
+/// The desk that a scenario's text declares, on which nothing was done.
+pub fn desk_of(rt: &impl Abort, alloc: Global, text: &[u8]) -> Desk
+    ensures opened { result ≡ opened_at result.kernel result.first }
+    ensures trace { result.kernel.trace ≡ [] }
+{
+    declared(alloc, text).expect(rt, "a desk")
 }
 
 /// A desk that so many workers share, and the workers.

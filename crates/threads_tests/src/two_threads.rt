@@ -4,12 +4,11 @@ ghost use Rattle.crossbeam_queue.specs.Passes.{view};
 ghost use Rattle.sk_wire.specs.Rule.{sender};
 ghost use Rattle.sk_wire.specs.Wire.{IsSending, IsReceiving};
 
-use crate::replies::{empties, reply};
+use crate::replies::{empties, reply, wire_from};
 use crate::same::same;
 use sk_server::Reply;
 use sk_wire::{Wire, WirePass};
 use std::sync::Wait;
-use std::test::Fail;
 use std::thread;
 use std::thread::Threads;
 
@@ -100,10 +99,9 @@ fn both<R: Threads + Wait + Sync>(
 }
 
 #[test]
-fn two_threads(rt: HostRuntime) -> Result<(), Fail> {
-    let (wire, sending, receiving) = Wire::<Reply>::new(rt.alloc(), 1)?;
+fn two_threads(rt: HostRuntime) {
+    let (wire, sending, receiving) = wire_from::<Reply>(&rt, rt.alloc(), 1);
     let (pass, right) = both(&rt, &wire, sending, receiving);
     same(&rt, &right, &5_000);
     let _pass = empties(&rt, &wire, pass, 0, 0);
-    Ok(())
 }

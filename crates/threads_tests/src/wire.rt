@@ -4,7 +4,7 @@ ghost use Rattle.crossbeam_queue.specs.Passes.{view};
 ghost use Rattle.sk_wire.specs.Rule.{sender};
 ghost use Rattle.sk_wire.specs.Wire.{IsSending, IsReceiving};
 
-use crate::replies::{empties, receives, reply};
+use crate::replies::{empties, receives, reply, wire_from};
 use crate::same::same;
 use sk_ids::{Name, TagSet};
 use sk_server::{Ask, Reply, Request};
@@ -12,8 +12,7 @@ use sk_wire::{HasNumber, WIRE_LIMIT, Wire, WirePass};
 use std::alloc::Global;
 use std::process::Abort;
 use std::sync::Wait;
-use std::test::Fail;
-use tests_support::values::name;
+use tests_support::plain::name;
 
 /// Sends the replies from 7 on until one comes back: how many were taken, and the one that came back.
 fn fill<R: Wait>(
@@ -63,17 +62,15 @@ fn fills_and_empties<R: Wait + Abort>(
 }
 
 #[test]
-fn full_wire_hands_back(rt: HostRuntime) -> Result<(), Fail> {
-    let (wire, sending, receiving) = Wire::<Reply>::new(rt.alloc(), 7)?;
+fn full_wire_hands_back(rt: HostRuntime) {
+    let (wire, sending, receiving) = wire_from::<Reply>(&rt, rt.alloc(), 7);
     fills_and_empties(&rt, &wire, sending, receiving);
-    Ok(())
 }
 
 #[test]
-fn empty_wire_has_none(rt: HostRuntime) -> Result<(), Fail> {
-    let (wire, _sending, receiving) = Wire::<Reply>::new(rt.alloc(), 1)?;
+fn empty_wire_has_none(rt: HostRuntime) {
+    let (wire, _sending, receiving) = wire_from::<Reply>(&rt, rt.alloc(), 1);
     let _receiving = empties(&rt, &wire, receiving, 0, 0);
-    Ok(())
 }
 
 /// A request of a number, which asks for a file.
@@ -139,9 +136,11 @@ fn sends_two<R: Wait + Abort>(
 }
 
 #[test]
-fn requests_in_turn(rt: HostRuntime) -> Result<(), Fail> {
-    let names = (name(b"/x")?, name(b"/y")?);
-    let (wire, sending, receiving) = Wire::<Request>::new(rt.alloc(), 1)?;
+fn requests_in_turn(rt: HostRuntime) {
+    let names = (
+        name(b"/x").expect(&rt, "a name"),
+        name(b"/y").expect(&rt, "a name"),
+    );
+    let (wire, sending, receiving) = wire_from::<Request>(&rt, rt.alloc(), 1);
     sends_two(&rt, rt.alloc(), &wire, sending, receiving, names);
-    Ok(())
 }

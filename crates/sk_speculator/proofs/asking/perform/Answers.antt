@@ -1,22 +1,22 @@
 -- The slots of what was written are settled at the end.
 use Rattle.std.proofs.Common.{sym, subst}
 use Rattle.sk_guesses.specs.Kept.{keys_of}
-use Rattle.sk_slots.specs.Slots.{SettledBut}
-use Rattle.sk_speculator.specs.Parts.{Performed}
+use Rattle.sk_slots.specs.Slots.{look_at, SettledBut}
+use Rattle.sk_speculator.specs.Parts.{made_by, Performed}
 use Rattle.sk_speculator.proofs.Writing.{performed_settled}
 use Rattle.sk_speculator.proofs.asking.perform.Goals as goal
 
 pub returns-in-Some-clause-writes : goal.returns-in-Some-clause-writes
 returns-in-Some-clause-writes g c =
     let R = g.K.Key.order in
-    performed_settled R c.args.slots.now c.write_all.new.slots c.settle_all.new.slots c.args.tags c.args.step.now.written.items c.settle_all.ensures.look c.settle_all.ensures.log
-    (subst (λ xs. Performed R c.args.slots.now c.args.tags xs c.write_all.new.slots) c.as_mut_slice-written.ensures.value c.write_all.ensures.performed)
+    performed_settled R c.args.slots.now c.write_all.new.slots c.settle_all.new.slots c.args.tags (made_by R g.I.Inversion.written (look_at R c.args.slots.now) c.args.step.now.written.items) c.settle_all.ensures.look c.settle_all.ensures.log
+    (subst (λ xs. Performed R c.args.slots.now c.args.tags (made_by R g.I.Inversion.written (look_at R c.args.slots.now) xs) c.write_all.new.slots) c.as_mut_slice-written.ensures.value c.write_all.ensures.performed)
 
 pub returns-in_default-clause-writes : goal.returns-in_default-clause-writes
 returns-in_default-clause-writes g c =
     let R = g.K.Key.order in
-    performed_settled R c.args.slots.now c.write_all.new.slots c.settle_all.new.slots c.args.tags c.args.step.now.written.items c.settle_all.ensures.look c.settle_all.ensures.log
-    (subst (λ xs. Performed R c.args.slots.now c.args.tags xs c.write_all.new.slots) c.as_mut_slice-written.ensures.value c.write_all.ensures.performed)
+    performed_settled R c.args.slots.now c.write_all.new.slots c.settle_all.new.slots c.args.tags (made_by R g.I.Inversion.written (look_at R c.args.slots.now) c.args.step.now.written.items) c.settle_all.ensures.look c.settle_all.ensures.log
+    (subst (λ xs. Performed R c.args.slots.now c.args.tags (made_by R g.I.Inversion.written (look_at R c.args.slots.now) xs) c.write_all.new.slots) c.as_mut_slice-written.ensures.value c.write_all.ensures.performed)
 
 pub returns-in-Some-clause-settled : goal.returns-in-Some-clause-settled
 returns-in-Some-clause-settled g c =

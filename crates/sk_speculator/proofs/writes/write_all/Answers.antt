@@ -1,6 +1,7 @@
 -- One write more.
 use Rattle.std.proofs.Common.{◌≡◌, ℕ, ◌<◌, ◌+◌, ◌∷◌, ◌||◌, true, length, drop, arith, sym, ◌∙◌, ap, subst, slice_set}
 use Rattle.std.specs.Cmp.{IsTotalOrder, eq_by_cmp_equiv}
+use Rattle.std.specs.FinMap.{IsAntisymmetric}
 use Rattle.std.proofs.lemmas.Bool.{or_left}
 use Rattle.sk_guesses.specs.Kept.{keys_of}
 use Rattle.sk_record.specs.Effects.{is_in}
@@ -23,6 +24,7 @@ pub loop-place-preserved : goal.loop-place-preserved
 loop-place-preserved g c =
     let R = g.K.Key.order in
     let total = subst IsTotalOrder g.met.K.Key.same g.met.K.Ord.total in
+    let exact = subst IsAntisymmetric g.met.K.Key.same g.met.K.Key.exact in
     let l = c.loop-place in
     let w = c.index-written-place.result in
     let all = c.args.written.now in
@@ -33,10 +35,10 @@ loop-place-preserved g c =
     let one : w ≡ c.take_write-key.result = λ i. (own i, value i) in
     let from : drop l.place all ≡ c.take_write-key.result ∷ drop (l.place + 1) all = sym l.invariant.1 ∙ drop_next l.written l.place w lt c.index-written-place.is ∙ (λ i. one i ∷ behind i) in
     let left = c.take_write-key.new.write in (
-      writing_more R c.args.tags.now c.args.slots.now all l.slots c.write.new.self c.take_write-key.result.0 c.take_write-key.result.1 (drop (l.place + 1) all)
-          (subst (Writing R c.args.tags.now c.args.slots.now all l.slots) from l.invariant.0) c.write.ensures.look c.write.ensures.log c.write.ensures.ready,
+      writing_more R g.I.Inversion.written c.args.tags.now c.args.slots.now all exact l.slots c.write.new.self c.take_write-key.result.0 c.take_write-key.result.1 (drop (l.place + 1) all)
+          (subst (Writing R g.I.Inversion.written c.args.tags.now c.args.slots.now all l.slots) from l.invariant.0) c.write.ensures.look c.write.ensures.log c.write.ensures.ready,
       drop_set l.written l.place left ∙ behind,
-      keys_set l.written l.place w left lt c.index-written-place.is (ap (λ (p : _ × _). p.0) c.take_write-key.ensures.left ∙ sym (ap (λ (p : _ × _). p.0) c.index-written-place.is)) ∙ l.invariant.2,
+      keys_set l.written l.place w left lt c.index-written-place.is (c.take_write-key.ensures.left ∙ sym (ap (λ (p : _ × _). p.0) c.index-written-place.is)) ∙ l.invariant.2,
       set_length l.written l.place left ∙ l.invariant.3,
       λ before.
           c.write.ensures.settled (keys_of all)
@@ -49,5 +51,5 @@ returns-clause-performed g c =
     let R = g.K.Key.order in
     let l = c.loop-place in
     let all = c.args.written.now in
-    writing_done R c.args.tags.now c.args.slots.now all l.slots c.requires.clean
-    (subst (Writing R c.args.tags.now c.args.slots.now all l.slots) (drop_all all l.place c.loop-place-test.false) l.invariant.0)
+    writing_done R g.I.Inversion.written c.args.tags.now c.args.slots.now all l.slots c.requires.clean
+    (subst (Writing R g.I.Inversion.written c.args.tags.now c.args.slots.now all l.slots) (drop_all all l.place c.loop-place-test.false) l.invariant.0)

@@ -8,7 +8,7 @@ use Rattle.sk_speculator.proofs.writes.write_all.Given as goal
 abbrev pub invariant-loop-place : goal.invariant-loop-place
 invariant-loop-place g l =
     let R = g.K.Key.order in
-    Writing R l.tags l.fn.slots l.fn.written l.slots (drop l.place l.fn.written)
+    Writing R g.I.Inversion.written l.tags l.fn.slots l.fn.written l.slots (drop l.place l.fn.written)
     × (drop l.place l.written ≡ drop l.place l.fn.written)
     × (keys_of l.written ≡ keys_of l.fn.written)
     × (length l.written ≡ length l.fn.written)

@@ -15,7 +15,7 @@ use Rattle.sk_bytes.specs.Numbers.{names}
 use Rattle.sk_bytes.specs.Calls.{RefusesGuess}
 use Rattle.sk_bytes.specs.Steps.{byte_deed, deed_in}
 use Rattle.sk_bytes.specs.Told.{told_of, ByteView, Fits, UsedBut}
-use Rattle.sk_bytes.proofs.Told.{takes_told}
+use Rattle.sk_bytes.proofs.Told.{taken_whole, takes_told}
 use Rattle.sk_bytes.proofs.Fitting.{any_err, fits_less, fits_more, fits_same, fits_taken, refused, refused_next, told_still, unchanged, writes_names}
 use Rattle.sk_bytes.proofs.Used.{used_less, used_more, used_same, used_taken}
 use Rattle.sk_bytes.proofs.bytes.Bytes.guess.Goals as goal
@@ -82,7 +82,7 @@ let_go-requires-in-Ok-clause-rests g c =
     let one = fits_less es c.let_go.new.self.index m (is_in nat_cmp c.self.inside.keys.loose.items) c.self.invariant.0.fits c.let_go.ensures.gone in
     let two = fits_more c.let_go.new.self.index mid.index m mid.loose.items one.0 c.hand_over.ensures.gains in
     let deed = from_ok c.hand_over.result (sym c.if-is_err.false ∙ c.is_err.ensures.value) c.hand_over.ensures.deed in
-    let takes = c.in-Ok.ensures.ok in
+    let takes = taken_whole m b mid.numbered (Some (next_of m.guesses)) c.in-Ok.ensures.ok in
     let d : Deed _ _ _ = byte_deed c.args.step.now in
     let after = fits_taken mid.index m b two.0 (names d.written) (deed_in mid.numbered) (writes_names (number_of mid.index) d.written mid.numbered.written.items deed.written) (Some (next_of m.guesses)) (next_above m.guesses.drawn) takes in
     after.rests
@@ -97,7 +97,7 @@ invariant_of-self-in-Ok g c =
     let one = fits_less es c.let_go.new.self.index m (is_in nat_cmp c.self.inside.keys.loose.items) c.self.invariant.0.fits c.let_go.ensures.gone in
     let two = fits_more c.let_go.new.self.index mid.index m mid.loose.items one.0 c.hand_over.ensures.gains in
     let deed = from_ok c.hand_over.result (sym c.if-is_err.false ∙ c.is_err.ensures.value) c.hand_over.ensures.deed in
-    let takes = c.in-Ok.ensures.ok in
+    let takes = taken_whole m b mid.numbered (Some (next_of m.guesses)) c.in-Ok.ensures.ok in
     let emptied = c.in-Ok.ensures.emptied in
     let d : Deed _ _ _ = byte_deed c.args.step.now in
     let after = fits_taken mid.index m b two.0 (names d.written) (deed_in mid.numbered) (writes_names (number_of mid.index) d.written mid.numbered.written.items deed.written) (Some (next_of m.guesses)) (next_above m.guesses.drawn) takes in
@@ -119,7 +119,7 @@ returns-in-Ok-clause-ok g c =
     let one = fits_less es c.let_go.new.self.index m (is_in nat_cmp c.self.inside.keys.loose.items) c.self.invariant.0.fits c.let_go.ensures.gone in
     let two = fits_more c.let_go.new.self.index mid.index m mid.loose.items one.0 c.hand_over.ensures.gains in
     let deed = from_ok c.hand_over.result (sym c.if-is_err.false ∙ c.is_err.ensures.value) c.hand_over.ensures.deed in
-    let takes = c.in-Ok.ensures.ok in
+    let takes = taken_whole m b mid.numbered (Some (next_of m.guesses)) c.in-Ok.ensures.ok in
     let d : Deed _ _ _ = byte_deed c.args.step.now in
     let after = fits_taken mid.index m b two.0 (names d.written) (deed_in mid.numbered) (writes_names (number_of mid.index) d.written mid.numbered.written.items deed.written) (Some (next_of m.guesses)) (next_above m.guesses.drawn) takes in
     let three = fits_less mid.index left.index b (is_in nat_cmp mid.loose.items) after c.let_go-in-Ok.ensures.gone in

@@ -12,7 +12,7 @@ use Rattle.sk_speculator.proofs.Writing.{from_err, from_ok}
 use Rattle.sk_bytes.specs.Numbers.{names}
 use Rattle.sk_bytes.specs.Steps.{byte_deed, deed_in}
 use Rattle.sk_bytes.specs.Told.{told_of, ByteView, Fits, UsedBut}
-use Rattle.sk_bytes.proofs.Told.{takes_told}
+use Rattle.sk_bytes.proofs.Told.{taken_whole, takes_told}
 use Rattle.sk_bytes.proofs.Fitting.{any_err, fits_less, fits_more, fits_same, fits_taken, told_still, unchanged, writes_names}
 use Rattle.sk_bytes.proofs.Used.{used_less, used_more, used_same, used_taken}
 use Rattle.sk_bytes.proofs.bytes.Bytes.take.Goals as goal
@@ -57,7 +57,7 @@ let_go-requires-2-clause-rests g c =
     let one = fits_less es c.let_go.new.self.index m (is_in nat_cmp c.self.inside.keys.loose.items) c.self.invariant.0.fits c.let_go.ensures.gone in
     let two = fits_more c.let_go.new.self.index mid.index m mid.loose.items one.0 c.hand_over.ensures.gains in
     let deed = from_ok c.hand_over.result (sym c.if-is_err.false ∙ c.is_err.ensures.value) c.hand_over.ensures.deed in
-    let takes = from_ok c.take.result (sym c.if-is_err-2.false ∙ c.is_err-2.ensures.value) c.take.ensures.ok in
+    let takes = taken_whole m b mid.numbered None (from_ok c.take.result (sym c.if-is_err-2.false ∙ c.is_err-2.ensures.value) c.take.ensures.ok) in
     let d : Deed _ _ _ = byte_deed c.args.step.now in
     let after = fits_taken mid.index m b two.0 (names d.written) (deed_in mid.numbered) (writes_names (number_of mid.index) d.written mid.numbered.written.items deed.written) None (no_next m.guesses.drawn) takes in
     after.rests
@@ -73,7 +73,7 @@ invariant_of-self-2 g c =
     let two = fits_more c.let_go.new.self.index mid.index m mid.loose.items one.0 c.hand_over.ensures.gains in
     let deed = from_ok c.hand_over.result (sym c.if-is_err.false ∙ c.is_err.ensures.value) c.hand_over.ensures.deed in
     let told = sym c.if-is_err-2.false ∙ c.is_err-2.ensures.value in
-    let takes = from_ok c.take.result told c.take.ensures.ok in
+    let takes = taken_whole m b mid.numbered None (from_ok c.take.result told c.take.ensures.ok) in
     let emptied = from_ok c.take.result told c.take.ensures.emptied in
     let d : Deed _ _ _ = byte_deed c.args.step.now in
     let after = fits_taken mid.index m b two.0 (names d.written) (deed_in mid.numbered) (writes_names (number_of mid.index) d.written mid.numbered.written.items deed.written) None (no_next m.guesses.drawn) takes in
@@ -95,7 +95,7 @@ returns-clause-ok g c =
     let one = fits_less es c.let_go.new.self.index m (is_in nat_cmp c.self.inside.keys.loose.items) c.self.invariant.0.fits c.let_go.ensures.gone in
     let two = fits_more c.let_go.new.self.index mid.index m mid.loose.items one.0 c.hand_over.ensures.gains in
     let deed = from_ok c.hand_over.result (sym c.if-is_err.false ∙ c.is_err.ensures.value) c.hand_over.ensures.deed in
-    let takes = from_ok c.take.result (sym c.if-is_err-2.false ∙ c.is_err-2.ensures.value) c.take.ensures.ok in
+    let takes = taken_whole m b mid.numbered None (from_ok c.take.result (sym c.if-is_err-2.false ∙ c.is_err-2.ensures.value) c.take.ensures.ok) in
     let d : Deed _ _ _ = byte_deed c.args.step.now in
     let after = fits_taken mid.index m b two.0 (names d.written) (deed_in mid.numbered) (writes_names (number_of mid.index) d.written mid.numbered.written.items deed.written) None (no_next m.guesses.drawn) takes in
     let three = fits_less mid.index left.index b (is_in nat_cmp mid.loose.items) after c.let_go-2.ensures.gone in

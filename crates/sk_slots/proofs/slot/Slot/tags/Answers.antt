@@ -2,8 +2,11 @@
 use Rattle.std.proofs.Common.{[], ◌∙◌, ap, sym, arith}
 use Rattle.sk_record.specs.Notes.{last_tags}
 use Rattle.sk_slots.specs.Slot.{SlotView}
-use Rattle.sk_slots.proofs.Logs.{newest}
+use Rattle.sk_slots.specs.Kept.{newest_tags}
+use Rattle.sk_slots.proofs.Undoing.{newest, seen_tags}
 use Rattle.sk_slots.proofs.slot.Slot.tags.Goals as goal
 
 pub returns-in-Some : goal.returns-in-Some
-returns-in-Some g c = c.tags.ensures ∙ newest c.deref.result.now c.in-Some.newest.now c.in-Some.ensures.item.3.0 c.in-Some.ensures.item.3.1 ∙ ap (last_tags []) c.deref.ensures.value ∙ ap (λ (s : SlotView _). last_tags [] s.log) c.self.view_is
+returns-in-Some g c =
+    newest c.deref.result.now c.in-Some.newest.now c.in-Some.ensures.item.3.0 c.in-Some.ensures.item.3.1 ∙ ap (newest_tags []) c.deref.ensures.value
+    ∙ sym (seen_tags g.I.Inversion.undone c.self.inside.value [] c.self.inside.log.items) ∙ ap (λ (s : SlotView _). last_tags [] s.log) c.self.view_is

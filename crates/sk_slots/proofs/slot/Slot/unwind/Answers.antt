@@ -1,35 +1,46 @@
--- The first note that rests on the guess has what was there.
-use Rattle.std.proofs.Common.{[], None, ◌≡◌, ◌≤◌, ◌<◌, not, length, ◌∙◌, ap, sym, arith}
+-- What was there before the first note that rests on the guess is put back.
+use Rattle.std.proofs.Common.{◌≡◌, ◌≤◌, length, take, not, sym, ◌∙◌, ap, subst, arith}
 use Rattle.std.specs.List.{prefix_len}
-use Rattle.sk_record.specs.Notes.{Note, has, unwound, cut}
+use Rattle.sk_record.specs.Notes.{has, unwound, cut}
+use Rattle.sk_slots.specs.Kept.{seen, rewound, CanGoBack}
 use Rattle.sk_slots.specs.Slot.{SlotView}
-use Rattle.sk_slots.proofs.Logs.{unwound_at, unwound_none, cut_at, cut_none}
+use Rattle.sk_slots.proofs.Logs.{cut_at}
+use Rattle.sk_slots.proofs.Undoing.{can_front, prefix_within, rewound_first, seen_front, seen_prefix}
 use Rattle.sk_slots.proofs.slot.Slot.unwind.Goals as goal
 
-pub returns-then-place-len-clause-value : goal.returns-then-place-len-clause-value
-returns-then-place-len-clause-value g c =
-    let log = c.self.inside.log.items in
-    let at = c.before_first-place.ensures ∙ ap (prefix_len (λ (n : Note _). not (has c.args.id n.tags))) c.as_slice.ensures.value in
-    let far : length log ≤ c.before_first-place.result = omega (arith, c.if-place-len.true, c.len.ensures) in
-    ap (λ (s : SlotView _). s.value) (sym c.self.view_is) ∙ unwound_none c.args.id log c.self.inside.value c.before_first-place.result at far ∙ ap (λ (s : SlotView _). unwound c.args.id s.log s.value) c.self.view_is
+pub go_back-requires-clause-can : goal.go_back-requires-clause-can
+go_back-requires-clause-can g c = c.self.invariant.1
 
-pub returns-then-place-len-clause-log : goal.returns-then-place-len-clause-log
-returns-then-place-len-clause-log g c =
-    let log = c.self.inside.log.items in
-    let at = c.before_first-place.ensures ∙ ap (prefix_len (λ (n : Note _). not (has c.args.id n.tags))) c.as_slice.ensures.value in
-    let far : length log ≤ c.before_first-place.result = omega (arith, c.if-place-len.true, c.len.ensures) in
-    ap (λ (s : SlotView _). s.log) (sym c.self.view_is) ∙ cut_none c.args.id log c.before_first-place.result at far ∙ ap (λ (s : SlotView _). cut c.args.id s.log) c.self.view_is
+pub go_back-requires-clause-within : goal.go_back-requires-clause-within
+go_back-requires-clause-within g c =
+    let ks = c.self.inside.log.items in
+    let at = c.before_first-place.ensures ∙ ap (prefix_len (λ n. not (has c.args.id n.tags))) c.as_slice.ensures.value in
+    subst (λ p. p ≤ length ks) (sym at) (prefix_within c.args.id ks)
+
+pub invariant_of-self : goal.invariant_of-self
+invariant_of-self g c =
+    let undone = g.I.Inversion.undone in
+    let fits = g.I.Inversion.fits in
+    let ks = c.self.inside.log.items in
+    let place = c.before_first-place.result in
+    let room = c.self.invariant.0 in (
+      (λ some. let le = room some in omega (arith, le, c.go_back.ensures.len, c.go_back.ensures.capacity)),
+      subst (λ v. CanGoBack undone fits v c.go_back.new.log.items) (sym c.go_back.ensures.value)
+          (subst (CanGoBack undone fits _) (sym c.go_back.ensures.log) (can_front undone fits c.self.inside.value place ks c.self.invariant.1)),
+    )
 
 pub returns-clause-value : goal.returns-clause-value
 returns-clause-value g c =
-    let log = c.self.inside.log.items in
-    let at = c.before_first-place.ensures ∙ ap (prefix_len (λ (n : Note _). not (has c.args.id n.tags))) c.as_slice.ensures.value in
-    let near : c.before_first-place.result < length log = omega (arith, c.if-place-len.false, c.len.ensures) in
-    let d : Note _ = record { tags = []; before = None } in
-    c.go_back.ensures.before d ∙ unwound_at c.args.id log c.self.inside.value c.before_first-place.result d at near ∙ ap (λ (s : SlotView _). unwound c.args.id s.log s.value) c.self.view_is
+    let ks = c.self.inside.log.items in
+    let at = c.before_first-place.ensures ∙ ap (prefix_len (λ n. not (has c.args.id n.tags))) c.as_slice.ensures.value in
+    c.go_back.ensures.value ∙ rewound_first g.I.Inversion.undone c.args.id c.self.inside.value ks c.before_first-place.result at ∙ ap (λ (s : SlotView _). unwound c.args.id s.log s.value) c.self.view_is
 
 pub returns-clause-log : goal.returns-clause-log
 returns-clause-log g c =
-    let log = c.self.inside.log.items in
-    let at = c.before_first-place.ensures ∙ ap (prefix_len (λ (n : Note _). not (has c.args.id n.tags))) c.as_slice.ensures.value in
-    c.go_back.ensures.log ∙ cut_at c.args.id log c.before_first-place.result at ∙ ap (λ (s : SlotView _). cut c.args.id s.log) c.self.view_is
+    let undone = g.I.Inversion.undone in
+    let ks = c.self.inside.log.items in
+    let v = c.self.inside.value in
+    let place = c.before_first-place.result in
+    let at = c.before_first-place.ensures ∙ ap (prefix_len (λ n. not (has c.args.id n.tags))) c.as_slice.ensures.value in
+    (λ i. seen undone (c.go_back.ensures.value i) (c.go_back.ensures.log i)) ∙ seen_front undone v place ks
+    ∙ cut_at c.args.id (seen undone v ks) place (at ∙ sym (seen_prefix undone c.args.id v ks)) ∙ ap (λ (s : SlotView _). cut c.args.id s.log) c.self.view_is

@@ -1,16 +1,38 @@
--- A second write with the same tags is not noted.
-use Rattle.std.proofs.Common.{◌≡◌, [], Some, ◌∙◌, sym, ap}
-use Rattle.std.specs.Prelude.{false}
-use Rattle.std.specs.Option.{unwrap_or}
+-- What puts the write back is noted on the notes of the value before it.
+use Rattle.std.proofs.Common.{◌≡◌, [], true, sym, ◌∙◌, ap, subst}
 use Rattle.std.proofs.lemmas.Bool.{true≢false}
-use Rattle.sk_slots.specs.Slot.{SlotView, goes_unnoted}
-use Rattle.sk_slots.proofs.Logs.{noted_again}
+use Rattle.sk_record.specs.Merged.{same_tags}
+use Rattle.sk_slots.specs.Kept.{newest_tags, seen, CanGoBack}
+use Rattle.sk_slots.specs.Slot.{SlotView, goes_unnoted, noted_on}
+use Rattle.sk_slots.proofs.Undoing.{seen_tags}
 use Rattle.sk_slots.proofs.slot.Slot.write.Goals as goal
+
+pub note-requires-clause-can : goal.note-requires-clause-can
+note-requires-clause-can g c =
+    (c.write-before.new.value, c.write-before.ensures.fits, subst (λ v. CanGoBack g.I.Inversion.undone g.I.Inversion.fits v c.self.inside.log.items) (sym c.write-before.ensures.back) c.self.invariant.1)
+
+pub note-requires-clause-ready : goal.note-requires-clause-ready
+note-requires-clause-ready g c = λ off.
+    ap (λ (s : SlotView _). s.ready) c.self.view_is
+    ∙ c.requires (ap (λ (s : SlotView _). goes_unnoted c.args.tags.now s.log) (sym c.self.view_is) ∙ ap (same_tags c.args.tags.now) (seen_tags g.I.Inversion.undone c.self.inside.value [] c.self.inside.log.items) ∙ off)
+
+pub invariant_of-self : goal.invariant_of-self
+invariant_of-self g c =
+    let can = subst (λ v. CanGoBack g.I.Inversion.undone g.I.Inversion.fits v c.self.inside.log.items) (sym c.write-before.ensures.back) c.self.invariant.1 in
+    (c.note.ensures.room, c.note.ensures.can c.write-before.new.value c.write-before.ensures.fits can)
+
+pub returns-clause-value : goal.returns-clause-value
+returns-clause-value g c = c.write-before.ensures.value ∙ ap (λ (s : SlotView _). g.I.Inversion.written c.args.write s.value) c.self.view_is
+
+pub returns-clause-log : goal.returns-clause-log
+returns-clause-log g c =
+    let undone = g.I.Inversion.undone in
+    let ks = c.self.inside.log.items in
+    let can = subst (λ v. CanGoBack undone g.I.Inversion.fits v ks) (sym c.write-before.ensures.back) c.self.invariant.1 in
+    c.note.ensures.seen c.write-before.new.value c.write-before.ensures.fits can
+    ∙ ap (λ v. noted_on c.args.tags.now v (seen undone v ks)) c.write-before.ensures.back
+    ∙ ap (λ (s : SlotView _). noted_on c.args.tags.now s.value s.log) c.self.view_is
 
 pub returns-clause-again : goal.returns-clause-again
 returns-clause-again g c = λ off.
-    let tags = c.args.tags.now in
-    let log = c.self.inside.log.items in
-    let noted : goes_unnoted tags c.args.self.now.log ≡ false = ap (λ (s : SlotView _). goes_unnoted tags s.log) (sym c.self.view_is) ∙ ap (goes_unnoted tags) (sym c.as_slice.ensures.value) ∙ sym c.goes_unnoted.ensures ∙ c.if-goes_unnoted.false in
-    let own : c.in-Some.own ≡ tags = ap (λ o. unwrap_or o []) (sym c.in-Some.is ∙ c.replace.ensures.value ∙ ap (λ (s : SlotView _). s.ready) c.self.view_is ∙ c.requires noted) in
-    absurd (true≢false (sym (ap (goes_unnoted tags) c.push_reserved.ensures.items ∙ noted_again tags log c.new.result (ap (λ n. n.tags) c.new.ensures ∙ own)) ∙ off))
+    absurd (true≢false (sym (ap (same_tags c.args.tags.now) (seen_tags g.I.Inversion.undone c.write-before.new.value [] c.note.new.log.items) ∙ c.note.ensures.again) ∙ off))

@@ -19,7 +19,7 @@ returns-clause-look g c =
     let m = seen R c.self.inside.slots in
     let all = rw c.in-Some.is at (c.get_mut.follows.holds c.write.new.self) in
     let here = sym c.in-Some.ensures.value in
-    λ q. one_changed total exact (λ (s : SlotView _). s.value) (λ s. c.args.value) m _ k _ c.write.new.self here all c.write.ensures.value q ∙ ap (λ es. cond (eq_by_cmp R q k) c.args.value (look_at R es q)) c.self.view_is
+    λ q. one_changed total exact (λ (s : SlotView _). s.value) (λ (s : SlotView _). g.I.Inversion.written c.args.write s.value) m _ k _ c.write.new.self here all c.write.ensures.value q ∙ ap (λ es. cond (eq_by_cmp R q k) (g.I.Inversion.written c.args.write (look_at R es q)) (look_at R es q)) c.self.view_is
 
 pub returns-clause-log : goal.returns-clause-log
 returns-clause-log g c =

@@ -1,5 +1,5 @@
 -- A guess is taken as the machine takes it, and nothing is seen of one that is refused.
-use Rattle.std.proofs.Common.{◌≡◌, ◌<◌, length, false, arith, Some, refl, sym, ◌∙◌, ap, subst}
+use Rattle.std.proofs.Common.{◌≡◌, ℕ, ◌<◌, ◌||◌, length, false, arith, Some, refl, sym, ◌∙◌, ap, subst}
 use Rattle.std.specs.Cmp.{IsTotalOrder}
 use Rattle.std.specs.FinMap.{IsAntisymmetric}
 use Rattle.std.proofs.lemmas.Bool.{eq-eqb, leb-false, or_left}
@@ -8,7 +8,11 @@ use Rattle.sk_guesses.specs.Kept.{keys_of}
 use Rattle.sk_guesses.specs.Opens.{opens_of}
 use Rattle.sk_deeds.specs.Deed.{Deed}
 use Rattle.sk_speculator.specs.Calls.{next_of, Takes}
-use Rattle.sk_speculator.specs.Parts.{IsSame, Parts}
+use Rattle.sk_slots.specs.Slots.{look_at, log_at}
+use Rattle.sk_guesses.specs.Dependents.{tags_by, with_tags, AllExact}
+use Rattle.sk_record.specs.Effects.{is_in, is_marked}
+use Rattle.sk_speculator.specs.Parts.{any_rests, made_by, IsSame, Parts, Performed}
+use Rattle.sk_speculator.proofs.Writing.{keys_made}
 use Rattle.sk_speculator.proofs.Taking.{after_guess, clean, opens_length, sound_refused}
 use Rattle.sk_speculator.proofs.speculator.Speculator.guess.Goals as goal
 
@@ -43,8 +47,13 @@ perform-requires-clause-clean g c = λ q here none.
     let exact = subst IsAntisymmetric g.met.K.Key.same g.met.K.Key.exact in
     let a : Parts _ _ _ = record { slots = c.self.inside.slots; guesses = c.self.inside.guesses.view; opens = opens_of c.self.inside.guesses.opens; said = c.self.inside.said.said } in
     let os = c.self.inside.guesses.opens in
-    let d : Deed _ _ _ = record { looked = c.args.step.now.looked.items; written = c.args.step.now.written.items; said = c.args.step.now.said } in
-    c.ask-asked.ensures.log q ∙ clean total exact a os c.self.invariant.1 d (Some c.in-Some.id) c.in-Ok.both.tags c.in-Ok.ensures.members q here none
+    let wr = g.I.Inversion.written in
+    let ws = c.args.step.now.written.items in
+    let looked = c.args.step.now.looked.items in
+    let d : Deed _ _ _ = record { looked = looked; written = made_by R wr (look_at R a.slots) ws; said = c.args.step.now.said } in
+    let keys = keys_made R wr (look_at R a.slots) ws in
+    let members = λ (n : ℕ). c.in-Ok.ensures.members n ∙ ap (λ ks. (is_marked (Some c.in-Some.id) n || any_rests R a.slots n looked) || any_rests R a.slots n ks) (sym keys) in
+    c.ask-asked.ensures.log q ∙ clean total exact a os c.self.invariant.1 d (Some c.in-Some.id) c.in-Ok.both.tags members q (ap (λ ks. is_in R ks q) keys ∙ here) none
 
 pub invariant_of-self-2 : goal.invariant_of-self-2
 invariant_of-self-2 g c =
@@ -53,11 +62,18 @@ invariant_of-self-2 g c =
     let exact = subst IsAntisymmetric g.met.K.Key.same g.met.K.Key.exact in
     let a : Parts _ _ _ = record { slots = c.self.inside.slots; guesses = c.self.inside.guesses.view; opens = opens_of c.self.inside.guesses.opens; said = c.self.inside.said.said } in
     let os = c.self.inside.guesses.opens in
-    let d : Deed _ _ _ = record { looked = c.args.step.now.looked.items; written = c.args.step.now.written.items; said = c.args.step.now.said } in
+    let wr = g.I.Inversion.written in
+    let ws = c.args.step.now.written.items in
+    let looked = c.args.step.now.looked.items in
+    let d : Deed _ _ _ = record { looked = looked; written = made_by R wr (look_at R a.slots) ws; said = c.args.step.now.said } in
+    let keys = keys_made R wr (look_at R a.slots) ws in
+    let members = λ (n : ℕ). c.in-Ok.ensures.members n ∙ ap (λ ks. (is_marked (Some c.in-Some.id) n || any_rests R a.slots n looked) || any_rests R a.slots n ks) (sym keys) in
+    let writes = subst (λ vs. Performed R c.ask-asked.new.slots c.in-Ok.both.tags vs c.perform.new.slots) (λ i. made_by R wr (λ q. c.ask-asked.ensures.look q i) ws) c.perform.ensures.writes in
+    let exactly = subst (λ ks. AllExact R (with_tags R c.in-Ok.both.tags ks (tags_by (log_at R a.slots))) c.ask-asked.new.guesses.opens) (sym keys) c.in-Ok.ensures.exact in
     let after = after_guess total exact a os c.self.invariant.1 c.ask-asked.new.slots c.perform.new.slots d c.in-Ok.both.tags c.ask-asked.new.guesses.view c.ask-asked.new.guesses.opens c.ask-asked.new.said.said c.perform.new.said.said
-    c.ask-asked.ensures.look c.ask-asked.ensures.log c.ask-asked.ensures.view c.ask-asked.ensures.opens c.ask-asked.ensures.said c.in-Ok.ensures.rising c.perform.ensures.writes c.perform.ensures.says c.perform.ensures.settled c.in-Ok.ensures.exact
-    c.in-Ok.both.own c.in-Some.id c.draw-guess.new.self.view c.draw-guess.new.self.opens (keys_of c.as_slice.result.now) c.in-Some.ensures.0 c.in-Ok.ensures.members (c.in-Ok.ensures.own refl) c.draw-guess.ensures.view
-    c.draw-guess.ensures.opens (ap keys_of c.as_slice.ensures.value) c.draw-guess.ensures.statuses in
+    c.ask-asked.ensures.look c.ask-asked.ensures.log c.ask-asked.ensures.view c.ask-asked.ensures.opens c.ask-asked.ensures.said c.in-Ok.ensures.rising writes c.perform.ensures.says c.perform.ensures.settled exactly
+    c.in-Ok.both.own c.in-Some.id c.draw-guess.new.self.view c.draw-guess.new.self.opens (keys_of c.as_slice.result.now) c.in-Some.ensures.0 members (c.in-Ok.ensures.own refl) c.draw-guess.ensures.view
+    c.draw-guess.ensures.opens (ap keys_of c.as_slice.ensures.value ∙ sym keys) c.draw-guess.ensures.statuses in
     (c.self.invariant.0, after.1)
 
 pub returns-clause-ok : goal.returns-clause-ok
@@ -67,10 +83,17 @@ returns-clause-ok g c =
     let exact = subst IsAntisymmetric g.met.K.Key.same g.met.K.Key.exact in
     let a : Parts _ _ _ = record { slots = c.self.inside.slots; guesses = c.self.inside.guesses.view; opens = opens_of c.self.inside.guesses.opens; said = c.self.inside.said.said } in
     let os = c.self.inside.guesses.opens in
-    let d : Deed _ _ _ = record { looked = c.args.step.now.looked.items; written = c.args.step.now.written.items; said = c.args.step.now.said } in
+    let wr = g.I.Inversion.written in
+    let ws = c.args.step.now.written.items in
+    let looked = c.args.step.now.looked.items in
+    let d : Deed _ _ _ = record { looked = looked; written = made_by R wr (look_at R a.slots) ws; said = c.args.step.now.said } in
+    let keys = keys_made R wr (look_at R a.slots) ws in
+    let members = λ (n : ℕ). c.in-Ok.ensures.members n ∙ ap (λ ks. (is_marked (Some c.in-Some.id) n || any_rests R a.slots n looked) || any_rests R a.slots n ks) (sym keys) in
+    let writes = subst (λ vs. Performed R c.ask-asked.new.slots c.in-Ok.both.tags vs c.perform.new.slots) (λ i. made_by R wr (λ q. c.ask-asked.ensures.look q i) ws) c.perform.ensures.writes in
+    let exactly = subst (λ ks. AllExact R (with_tags R c.in-Ok.both.tags ks (tags_by (log_at R a.slots))) c.ask-asked.new.guesses.opens) (sym keys) c.in-Ok.ensures.exact in
     let b : Parts _ _ _ = record { slots = c.perform.new.slots; guesses = c.draw-guess.new.self.view; opens = opens_of c.draw-guess.new.self.opens; said = c.perform.new.said.said } in
     let after = after_guess total exact a os c.self.invariant.1 c.ask-asked.new.slots c.perform.new.slots d c.in-Ok.both.tags c.ask-asked.new.guesses.view c.ask-asked.new.guesses.opens c.ask-asked.new.said.said c.perform.new.said.said
-    c.ask-asked.ensures.look c.ask-asked.ensures.log c.ask-asked.ensures.view c.ask-asked.ensures.opens c.ask-asked.ensures.said c.in-Ok.ensures.rising c.perform.ensures.writes c.perform.ensures.says c.perform.ensures.settled c.in-Ok.ensures.exact
-    c.in-Ok.both.own c.in-Some.id c.draw-guess.new.self.view c.draw-guess.new.self.opens (keys_of c.as_slice.result.now) c.in-Some.ensures.0 c.in-Ok.ensures.members (c.in-Ok.ensures.own refl) c.draw-guess.ensures.view
-    c.draw-guess.ensures.opens (ap keys_of c.as_slice.ensures.value) c.draw-guess.ensures.statuses in
-    subst (λ (p : Parts _ _ _). Takes R p d (Some (next_of p.guesses)) b) c.self.view_is after.0
+    c.ask-asked.ensures.look c.ask-asked.ensures.log c.ask-asked.ensures.view c.ask-asked.ensures.opens c.ask-asked.ensures.said c.in-Ok.ensures.rising writes c.perform.ensures.says c.perform.ensures.settled exactly
+    c.in-Ok.both.own c.in-Some.id c.draw-guess.new.self.view c.draw-guess.new.self.opens (keys_of c.as_slice.result.now) c.in-Some.ensures.0 members (c.in-Ok.ensures.own refl) c.draw-guess.ensures.view
+    c.draw-guess.ensures.opens (ap keys_of c.as_slice.ensures.value ∙ sym keys) c.draw-guess.ensures.statuses in
+    subst (λ (p : Parts _ _ _). Takes R p (record { looked = looked; written = made_by R wr (look_at R p.slots) ws; said = c.args.step.now.said }) (Some (next_of p.guesses)) b) c.self.view_is after.0

@@ -1,0 +1,19 @@
+-- What is left merges to the same, and the notes up to the place are merged.
+use Rattle.std.proofs.Common.{◌≡◌, ◌≤◌, ◌-◌, [], take}
+use Rattle.std.specs.Vec.{vec_len, vec_capacity}
+use Rattle.sk_record.specs.Merged.{merged}
+use Rattle.sk_slots.specs.Kept.{seen, CanGoBack}
+use Rattle.sk_slots.proofs.Joins.{IsJoined}
+use Rattle.sk_slots.proofs.notes.merge.Given as goal
+
+abbrev pub invariant-loop-place : goal.invariant-loop-place
+invariant-loop-place g l =
+    let undone = g.I.Inversion.undone in
+    let fits = g.I.Inversion.fits in
+    ((now : _) → CanGoBack undone fits now l.fn.log.items → CanGoBack undone fits now l.log.items
+    × (merged [] (seen undone now l.log.items) ≡ merged [] (seen undone now l.fn.log.items))
+    × IsJoined [] (take l.place (seen undone now l.log.items)))
+    × (vec_len l.log ≤ vec_len l.fn.log) × (vec_capacity l.log ≡ vec_capacity l.fn.log)
+
+abbrev pub decreases-loop-place : goal.decreases-loop-place
+decreases-loop-place g l = vec_len l.log - l.place

@@ -1,0 +1,29 @@
+-- The tags of the newest note are those that are seen of it.
+use Rattle.std.proofs.Common.{◌≡◌, [], true, false, sym, ◌∙◌, ap}
+use Rattle.std.proofs.lemmas.Bool.{true≢false}
+use Rattle.sk_record.specs.Merged.{same_tags}
+use Rattle.sk_slots.specs.Kept.{newest_tags}
+use Rattle.sk_slots.specs.Slot.{SlotView, goes_unnoted}
+use Rattle.sk_slots.proofs.Undoing.{seen_tags}
+use Rattle.sk_slots.proofs.slot.Slot.prepare.Goals as goal
+
+pub returns-then-goes_unnoted-clause-ok : goal.returns-then-goes_unnoted-clause-ok
+returns-then-goes_unnoted-clause-ok g c = λ off.
+    let tags = c.args.tags.now in
+    let ks = c.self.inside.log.items in
+    let on : same_tags tags (newest_tags [] ks) ≡ true = ap (λ xs. same_tags tags (newest_tags [] xs)) (sym c.as_slice.ensures.value) ∙ sym c.goes_unnoted.ensures ∙ c.if-goes_unnoted.true in
+    absurd (true≢false (sym (ap (same_tags tags) (seen_tags g.I.Inversion.undone c.self.inside.value [] ks) ∙ on) ∙ ap (λ (s : SlotView _). goes_unnoted tags s.log) c.self.view_is ∙ off))
+
+pub returns-in_err-own-clause-room : goal.returns-in_err-own-clause-room
+returns-in_err-own-clause-room g c = λ on.
+    let tags = c.args.tags.now in
+    let ks = c.self.inside.log.items in
+    let off : same_tags tags (newest_tags [] ks) ≡ false = ap (λ xs. same_tags tags (newest_tags [] xs)) (sym c.as_slice.ensures.value) ∙ sym c.goes_unnoted.ensures ∙ c.if-goes_unnoted.false in
+    absurd (true≢false (sym on ∙ ap (λ (s : SlotView _). goes_unnoted tags s.log) (sym c.self.view_is) ∙ ap (same_tags tags) (seen_tags g.I.Inversion.undone c.self.inside.value [] ks) ∙ off))
+
+pub returns-in_err-reserve-clause-room : goal.returns-in_err-reserve-clause-room
+returns-in_err-reserve-clause-room g c = λ on.
+    let tags = c.args.tags.now in
+    let ks = c.self.inside.log.items in
+    let off : same_tags tags (newest_tags [] ks) ≡ false = ap (λ xs. same_tags tags (newest_tags [] xs)) (sym c.as_slice.ensures.value) ∙ sym c.goes_unnoted.ensures ∙ c.if-goes_unnoted.false in
+    absurd (true≢false (sym on ∙ ap (λ (s : SlotView _). goes_unnoted tags s.log) (sym c.self.view_is) ∙ ap (same_tags tags) (seen_tags g.I.Inversion.undone c.self.inside.value [] ks) ∙ off))

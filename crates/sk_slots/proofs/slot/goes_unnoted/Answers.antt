@@ -1,8 +1,0 @@
--- The newest note is the last.
-use Rattle.std.proofs.Common.{◌∙◌, ap, sym, arith}
-use Rattle.sk_record.specs.Merged.{same_tags}
-use Rattle.sk_slots.proofs.Logs.{newest}
-use Rattle.sk_slots.proofs.slot.goes_unnoted.Goals as goal
-
-pub returns-in-Some : goal.returns-in-Some
-returns-in-Some g c = c.is_same.ensures ∙ ap (same_tags c.args.tags.now) (c.tags.ensures ∙ newest c.args.log.now c.in-Some.newest.now c.in-Some.ensures.item.3.0 c.in-Some.ensures.item.3.1)

@@ -2,9 +2,9 @@
 use crate::{Before, Inversion};
 use std::mem;
 
-/// There is none.
+/// Nothing: what was there before is put back whole.
 #[derive(Drop)]
-pub enum NoUndo {}
+pub struct NoUndo;
 
 /// Values are only ever set.
 pub struct Whole;
@@ -26,9 +26,7 @@ impl<V> Inversion<V> for Whole {
         Before::Was(mem::replace(value, write))
     }
 
-    fn undo(_value: &mut V, undo: NoUndo) {
-        match undo {}
-    }
+    fn undo(_value: &mut V, _undo: NoUndo) {}
 
     fn join(later: NoUndo, _earlier: NoUndo) -> NoUndo {
         later

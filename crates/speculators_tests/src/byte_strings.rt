@@ -1,10 +1,11 @@
 //! A kernel whose keys are byte strings.
-use crate::job::{KEYS, bit_of};
+use crate::job::{KEYS, Written, bit_of};
 use crate::kernel::{Counts, Kernel, Told};
 use crate::step::{Name, OwnStep};
 use sk_bytes::{Bytes, Refusal as ByteRefusal, Unmade};
 use sk_guesses::{Guess, Status};
 use sk_ids::{GuessId, TagSet};
+use sk_inversion::Whole;
 use sk_speculator::{Committed, Refusal};
 use std::alloc::{AllocError, Global};
 
@@ -39,6 +40,10 @@ fn key_of(name: &[u8]) -> Option<u32> {
 }
 
 impl Name for Vec<u8> {
+    type Write = Option<u64>;
+
+    type Way = Whole;
+
     /// Behind the first keys each has eight bytes.
     fn of(alloc: Global, key: u32) -> Result<Vec<u8>, AllocError> {
         if key < KEYS {
@@ -50,6 +55,19 @@ impl Name for Vec<u8> {
 
     fn is(&self, key: u32) -> bool {
         self.as_slice() == name_of(key)
+    }
+
+    fn may_add() -> bool {
+        false
+    }
+
+    /// An amount, of which there is none, is a value.
+    fn write(written: Written) -> Option<u64> {
+        written.on(Some(0))
+    }
+
+    fn is_write(write: &Option<u64>, written: Written) -> bool {
+        *write == written.on(Some(0))
     }
 }
 

@@ -1,5 +1,5 @@
 //! Keys that are too long, and keys that come and go.
-use crate::job::KEYS;
+use crate::job::{KEYS, Written};
 use crate::kernel::{commit, fail};
 use crate::step::{OwnStep, add_write};
 use crate::wrong::{Wrong, holds};
@@ -54,7 +54,7 @@ fn take(
     value: Option<u64>,
     count: usize,
 ) -> Result<(), Wrong> {
-    add_write(step, key.0, key.1, value)?;
+    add_write(step, key.0, key.1, Written::Set(value))?;
     holds(bytes.take(step).is_ok(), Wrong::Refused)?;
     holds(bytes.len() == count, Wrong::Keys)
 }
@@ -66,7 +66,7 @@ fn passes(
     step: &mut OwnStep<Vec<u8>>,
     key: (Global, u32),
 ) -> Result<(), Wrong> {
-    add_write(step, key.0, key.1, Some(1))?;
+    add_write(step, key.0, key.1, Written::Set(Some(1)))?;
     let Ok(guess) = bytes.guess(step) else {
         return Err(Wrong::Refused);
     };

@@ -1,10 +1,11 @@
 //! What grows in the kernels over own keys.
-use crate::job::bit_of;
+use crate::job::{Written, bit_of};
 use crate::kernel::{Kernel, fail};
 use crate::own::Own;
 use crate::step::{add_look, add_write};
 use crate::wrong::{Wrong, holds};
 use sk_bytes::Bytes;
+use sk_inversion::Sum;
 use sk_speculator::{Refusal, Speculator};
 use std::alloc::{AllocError, Global};
 use std::num::NonZeroU16;
@@ -40,7 +41,12 @@ enum Row {
 /// Puts into the step writes of so many keys, from a first one on.
 fn writes<K: Kernel>(own: &mut Own<K>, first: u32, count: u32) -> Result<(), AllocError> {
     for turn in 0..count {
-        add_write(&mut own.step, own.alloc, first.wrapping_add(turn), Some(1))?;
+        add_write(
+            &mut own.step,
+            own.alloc,
+            first.wrapping_add(turn),
+            Written::Set(Some(1)),
+        )?;
     }
     Ok(())
 }
@@ -161,7 +167,8 @@ fn grows<K: Kernel>(rt: &impl Abort, alloc: Global, kernel: K, row: Row) -> Resu
 
 /// A kernel over numbers grows.
 fn numbers_grow(rt: &impl Abort, alloc: Global, row: Row) -> Result<(), Wrong> {
-    grows(rt, alloc, Speculator::new(alloc, 7, NonZeroU16::MAX), row)
+    let kernel: Speculator<u32, u64, u64, Sum> = Speculator::new(alloc, 7, NonZeroU16::MAX);
+    grows(rt, alloc, kernel, row)
 }
 
 /// A kernel over byte strings grows.

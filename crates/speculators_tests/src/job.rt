@@ -18,23 +18,31 @@ pub struct Job {
     pub writes: Option<u32>,
     /// A second write, maybe of the same key.
     pub also: Option<u32>,
+    /// Whether each of these two is an amount that is added.
+    pub adds: [bool; 2],
     pub says: Option<u16>,
     pub number: u64,
+}
+
+/// What is written of a key: what it has then, or an amount that is added to what it has.
+#[derive(Clone, Copy, PartialEq, Eq, Drop)]
+pub enum Written {
+    Set(Option<u64>),
+    Add(u64),
 }
 
 /// The keys that a step looks at, its writes, and what it says.
 #[derive(Clone, Copy, Drop)]
 pub struct Deed {
     pub looked: [Option<u32>; 2],
-    /// The keys that are written, and what they have then.
-    pub written: [(Option<u32>, Option<u64>); 3],
+    pub written: [(Option<u32>, Written); 3],
     pub said: Option<(u16, u64)>,
 }
 
 /// A step that does nothing.
 pub const NOTHING: Deed = Deed {
     looked: [None; 2],
-    written: [(None, None); 3],
+    written: [(None, Written::Set(None)); 3],
     said: None,
 };
 
@@ -66,6 +74,26 @@ fn number_of(value: Option<u64>) -> u64 {
     }
 }
 
+impl Written {
+    /// What it makes of what a key has: an amount leaves an absent key absent.
+    pub fn on(self, value: Option<u64>) -> Option<u64> {
+        match (self, value) {
+            (Written::Set(new), _) => new,
+            (Written::Add(amount), Some(number)) => Some(number.wrapping_add(amount)),
+            (Written::Add(_), None) => None,
+        }
+    }
+}
+
+/// A value that comes from a number, or the number as an amount.
+fn write_of(number: u64, adds: bool) -> Written {
+    if adds {
+        Written::Add(number)
+    } else {
+        Written::Set(value_of(number))
+    }
+}
+
 impl Job {
     /// The number that all its writes and what it says come from, where its keys have these values.
     fn outcome(&self, own: Option<u64>, seen: Option<u64>) -> u64 {
@@ -78,9 +106,9 @@ impl Job {
         Deed {
             looked: [self.actor, self.looks],
             written: [
-                (self.actor, Some(number_of(own))),
-                (self.writes, value_of(outcome)),
-                (self.also, value_of(outcome / 4)),
+                (self.actor, Written::Set(Some(number_of(own)))),
+                (self.writes, write_of(outcome, self.adds[0])),
+                (self.also, write_of(outcome / 4, self.adds[1])),
             ],
             said: match self.says {
                 Some(channel) => Some((channel, outcome)),

@@ -1,19 +1,43 @@
 //! A kernel whose keys are numbers.
-use crate::job::{KEYS, bit_of};
+use crate::job::{KEYS, Written, bit_of};
 use crate::kernel::{Counts, Kernel, Told};
 use crate::step::{Name, OwnStep};
 use sk_guesses::{Guess, Status};
 use sk_ids::{GuessId, TagSet};
+use sk_inversion::{Sum, Write};
 use sk_speculator::{Committed, Failed, Refusal, Speculator};
 use std::alloc::{AllocError, Global};
 
 impl Name for u32 {
+    type Write = Write<u64, u64>;
+
+    type Way = Sum;
+
     fn of(_alloc: Global, key: u32) -> Result<u32, AllocError> {
         Ok(key)
     }
 
     fn is(&self, key: u32) -> bool {
         *self == key
+    }
+
+    fn may_add() -> bool {
+        true
+    }
+
+    fn write(written: Written) -> Write<u64, u64> {
+        match written {
+            Written::Set(value) => Write::Set(value),
+            Written::Add(amount) => Write::Change(amount),
+        }
+    }
+
+    fn is_write(write: &Write<u64, u64>, written: Written) -> bool {
+        match (write, written) {
+            (Write::Set(value), Written::Set(other)) => *value == other,
+            (Write::Change(amount), Written::Add(other)) => *amount == other,
+            _ => false,
+        }
     }
 }
 
@@ -30,7 +54,7 @@ fn bits_of(keys: &[u32]) -> Option<u64> {
     Some(bits)
 }
 
-impl Kernel for Speculator<u32, u64, u64> {
+impl Kernel for Speculator<u32, u64, u64, Sum> {
     type Key = u32;
 
     fn take(&mut self, step: &mut OwnStep<u32>) -> Result<(), Refusal> {

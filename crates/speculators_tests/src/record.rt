@@ -1,5 +1,5 @@
 //! A plain record of the steps that depend on no failed guess, and what they come to.
-use crate::job::{Deed, Job, KEYS, bit_of};
+use crate::job::{Deed, Job, KEYS, Written, bit_of};
 use sk_ids::GuessId;
 use std::alloc::{AllocError, Global};
 
@@ -80,9 +80,10 @@ impl Reckoning {
         rests
     }
 
-    fn write(&mut self, key: Option<u32>, value: Option<u64>, rests: u64) {
+    fn write(&mut self, key: Option<u32>, written: Written, rests: u64) {
         if let Some(key) = key {
             if let Some(cell) = self.cells.get_mut(key as usize) {
+                let value = written.on(cell.value);
                 *cell = Cell { value, rests };
             }
         }
@@ -92,8 +93,8 @@ impl Reckoning {
     fn takes(&mut self, job: &Job, own: u64) -> Result<(), AllocError> {
         let deed = job.deed(self.cell(job.actor).value, self.cell(job.looks).value);
         let rests = own | self.rests(&deed);
-        for (key, value) in deed.written {
-            self.write(key, value, rests);
+        for (key, written) in deed.written {
+            self.write(key, written, rests);
         }
         if let Some((channel, output)) = deed.said {
             self.heard.push(Heard {

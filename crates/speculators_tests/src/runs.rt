@@ -4,9 +4,11 @@ ghost use Rattle.std.specs.Prelude.{◌<◌};
 use crate::job::{ACTORS, CHANNELS, Job};
 use crate::kernel::Kernel;
 use crate::session::Session;
+use crate::step::Name;
 use crate::wrong::Wrong;
 use rand_core::Rng;
 use rand_pcg::Pcg32;
+use sk_inversion::Sum;
 use sk_speculator::Speculator;
 use std::alloc::Global;
 use std::num::NonZeroU16;
@@ -37,8 +39,13 @@ fn any_key(rng: &mut Pcg32, others: u32) -> Option<u32> {
     if key < ACTORS { Some(key) } else { None }
 }
 
-/// A step of one of two actors, or of nobody.
-fn any_job(rng: &mut Pcg32) -> Job {
+/// Whether one thing is done rather than another, where it may be.
+fn any(rng: &mut Pcg32, may: bool) -> bool {
+    may && below(rng, 2) == 0
+}
+
+/// A step of one of two actors, or of nobody, which may add amounts or not.
+fn any_job(rng: &mut Pcg32, may_add: bool) -> Job {
     let actor = below(rng, 4);
     let says = below(rng, 6) as u16;
     Job {
@@ -50,6 +57,7 @@ fn any_job(rng: &mut Pcg32) -> Job {
         looks: any_key(rng, 4),
         writes: any_key(rng, 2),
         also: any_key(rng, 10),
+        adds: [any(rng, may_add), any(rng, may_add)],
         says: if says < CHANNELS { Some(says) } else { None },
         number: u64::from(rng.next_u32()),
     }
@@ -62,8 +70,8 @@ fn call<K: Kernel>(
     session: &mut Session<K>,
 ) -> Result<(), Wrong> {
     match below(rng, 8) {
-        0..=2 => session.take(&any_job(rng))?,
-        3 | 4 => session.guess(&any_job(rng))?,
+        0..=2 => session.take(&any_job(rng, K::Key::may_add()))?,
+        3 | 4 => session.guess(&any_job(rng, K::Key::may_add()))?,
         5 => session.decide(rt, below(rng, 4) as usize, false)?,
         6 => session.decide(rt, below(rng, 4) as usize, true)?,
         _ => session.release(below(rng, CHANNELS as u32) as u16)?,
@@ -111,7 +119,7 @@ fn number_run(
     number: u64,
     may_lack: bool,
 ) -> Result<(), (u64, Wrong)> {
-    let kernel = Speculator::new(alloc, 7, limit());
+    let kernel: Speculator<u32, u64, u64, Sum> = Speculator::new(alloc, 7, limit());
     run(rt, alloc, kernel, number, may_lack)
 }
 

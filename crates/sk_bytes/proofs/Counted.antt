@@ -6,13 +6,14 @@ use Rattle.std.proofs.lemmas.List.{length-map}
 use Rattle.sk_record.specs.Effects.{is_in}
 use Rattle.sk_renamed.specs.Renamed.{at_key}
 use Rattle.sk_slots.specs.Slots.{look_at, log_at}
-use Rattle.sk_index.specs.Index.{Numbered, bytes_cmp, number_of, AreApart}
+use Rattle.sk_index.specs.Index.{Numbered, bytes_cmp, number_of, string_of, AreApart}
 use Rattle.sk_index.proofs.Strings.{some_none}
 use Rattle.sk_speculator.specs.Parts.{Parts}
 use Rattle.sk_bytes.specs.Numbers.{names}
 use Rattle.sk_bytes.specs.Told.{strings_of, told_of, IsTold}
-use Rattle.sk_bytes.specs.Calls.{AreOnce, Counts}
+use Rattle.sk_bytes.specs.Calls.{AreOnce, Counts, HasPlaces}
 use Rattle.sk_bytes.proofs.Told.{log_told, look_told, none_shown}
+use Rattle.sk_bytes.proofs.Fitting.{shown_none}
 use Rattle.sk_bytes.proofs.Undone.{strings_in}
 
 in_names : (es : Numbered) (q : List ℕ) → is_in bytes_cmp (names es) q ≡ is_some (number_of es q)
@@ -63,7 +64,20 @@ module _ {V O : Type 0} (es : Numbered) (m : Parts ℕ V O) (undone : List ℕ) 
       strings_in es told.fits.two_way k undone (Some n) is
       ∙ taken_back k n is absent rests (is_in nat_cmp undone n) refl
 
-  pub counts : AreApart es → Counts (record { parts = told_of es m; undone = strings_of es undone }) (length es)
+  pub has_places : HasPlaces (record { parts = told_of es m; undone = strings_of es undone; keys = es })
+  has_places = record {
+    two_way = told.fits.two_way;
+    all = λ k none. without k none;
+    some = λ k place here. some_of k (Some place) here refl;
+  }
+
+  pub value_in_place : (n : ℕ) → look_at nat_cmp m.slots n ≡ at_key None (look_at bytes_cmp (told_of es m).slots) (string_of es n)
+  value_in_place n = by_string (string_of es n) refl where
+    by_string : (o : Option (List ℕ)) → string_of es n ≡ o → look_at nat_cmp m.slots n ≡ at_key None (look_at bytes_cmp (told_of es m).slots) o
+    by_string None none = (shown_none (look_at nat_cmp m.slots n) (log_at nat_cmp m.slots n) (told.fits.used n none)).0
+    by_string (Some s) is = sym (look_told es m.slots s ∙ ap (at_key None (look_at nat_cmp m.slots)) (told.fits.two_way.back s n is))
+
+  pub counts : AreApart es → Counts (record { parts = told_of es m; undone = strings_of es undone; keys = es }) (length es)
   counts apart = record {
     keys = names es;
     count = sym (length-map es (λ (e : List ℕ × ℕ). e.0));

@@ -263,8 +263,8 @@ same_parts {R = R} a b same = record {
   said = ap (λ (m : Parts _ _ _). m.said) same;
 }
 
-pub unchanged : {V O : Type 0} (old : ByteView V O) (es fs : Numbered) (a b : Parts ℕ V O) (undone loose : List ℕ) → record { parts = told_of es a; undone = strings_of es undone } ≡ old → told_of fs b ≡ told_of es a → loose ≡ []
-    → Unchanged old (record { parts = told_of fs b; undone = strings_of fs loose })
+pub unchanged : {V O : Type 0} (old : ByteView V O) (es fs : Numbered) (a b : Parts ℕ V O) (undone loose : List ℕ) → record { parts = told_of es a; undone = strings_of es undone; keys = es } ≡ old → told_of fs b ≡ told_of es a → loose ≡ []
+    → Unchanged old (record { parts = told_of fs b; undone = strings_of fs loose; keys = fs })
 unchanged old es fs a b undone loose view same none = record {
   parts = same_parts old.parts (told_of fs b) (same ∙ ap (λ (v : ByteView _ _). v.parts) view);
   undone = ap (strings_of fs) none;

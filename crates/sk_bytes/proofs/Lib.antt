@@ -6,3 +6,4 @@ pub mod Moves
 pub mod Steps
 pub mod Undone
 pub mod Counted
+mod Resting

@@ -1,6 +1,6 @@
 -- What the calls over byte strings promise: what those of the kernel over any keys promise, at the order of byte strings.
-use Rattle.std.specs.Prelude.{◌≡◌, ◌||◌, ℕ, Bool, true, false, nat_lt, List, [], ◌∷◌, length, None, Result, Ok, Err}
-use Rattle.std.specs.List.{list_any}
+use Rattle.std.specs.Prelude.{◌≡◌, ◌||◌, ℕ, Bool, true, false, nat_lt, List, [], ◌∷◌, length, Some, None, Result, Ok, Err}
+use Rattle.std.specs.List.{filter, list_any}
 use Rattle.std.specs.Global.{Vec}
 use Rattle.sk_record.specs.Effects.{is_in}
 use Rattle.sk_record.specs.Notes.{has}
@@ -8,7 +8,7 @@ use Rattle.sk_record.specs.UndoState.{tags_at}
 use Rattle.sk_guesses.specs.Kept.{struck_with}
 use Rattle.sk_guesses.specs.Token.{Token}
 use Rattle.sk_slots.specs.Slots.{look_at, log_at}
-use Rattle.sk_index.specs.Index.{bytes_cmp}
+use Rattle.sk_index.specs.Index.{bytes_cmp, number_of}
 use Rattle.sk_speculator.specs.Parts.{Parts, undo_state_of, IsSame}
 use Rattle.sk_speculator.specs.Calls.{Commits, FailsIn, Forgets, IsStranger, Refuses}
 use Rattle.sk_speculator.specs.WholeStep.{WholeStep}
@@ -21,7 +21,8 @@ use Rattle.sk_bytes.specs.declared.bytes.Unmade.{Unmade}
 use Rattle.sk_bytes.specs.declared.bytes.Unmade.TheVariants as unmade
 use Rattle.sk_bytes.specs.declared.refusal.Refusal.{Refusal}
 use Rattle.sk_bytes.specs.declared.refusal.Refusal.TheVariants.{LongKey, LongValue, TooMany, NoNumber, Memory}
-use Rattle.sk_bytes.specs.Told.{ByteView}
+use Rattle.sk_bytes.specs.Numbers.{names}
+use Rattle.sk_bytes.specs.Told.{ByteView, IsTwoWay}
 
 -- each key once
 abbrev pub AreOnce : List (List ℕ) → Type 0
@@ -35,6 +36,16 @@ pub record Counts {V O : Type 0} (b : ByteView V O) (many : ℕ) : Type 0 where
   pub once : AreOnce keys
   pub all : (k : List ℕ) → is_in bytes_cmp keys k ≡ false → (look_at bytes_cmp b.parts.slots k ≡ None) × (log_at bytes_cmp b.parts.slots k ≡ []) × (is_in bytes_cmp b.undone k ≡ false)
   pub some : (k : List ℕ) → is_in bytes_cmp keys k ≡ true → look_at bytes_cmp b.parts.slots k ≡ None → log_at bytes_cmp b.parts.slots k ≡ [] → is_in bytes_cmp b.undone k ≡ true
+
+-- each key that is there, rests on a guess, or was taken back by the last failure has one place, and no other key has any
+pub record HasPlaces {V O : Type 0} (b : ByteView V O) : Type 0 where
+  pub two_way : IsTwoWay b.keys
+  pub all : (k : List ℕ) → number_of b.keys k ≡ None → (look_at bytes_cmp b.parts.slots k ≡ None) × (log_at bytes_cmp b.parts.slots k ≡ []) × (is_in bytes_cmp b.undone k ≡ false)
+  pub some : (k : List ℕ) (place : ℕ) → number_of b.keys k ≡ Some place → look_at bytes_cmp b.parts.slots k ≡ None → log_at bytes_cmp b.parts.slots k ≡ [] → is_in bytes_cmp b.undone k ≡ true
+
+-- the keys that rest on a guess, by their places
+abbrev pub resting_on : {V O : Type 0} → ByteView V O → ℕ → List (List ℕ)
+resting_on b g = names (filter (λ e. has g (tags_at (undo_state_of bytes_cmp b.parts) e.0)) b.keys)
 
 -- a key that is longer than may be
 abbrev pub is_long : Vec ℕ → Bool

@@ -40,15 +40,17 @@ pub record IsTwoWay (es : Numbered) : Type 0 where
   pub there : (s : List ℕ) (n : ℕ) → number_of es s ≡ Some n → string_of es n ≡ Some s
   pub back : (s : List ℕ) (n : ℕ) → string_of es n ≡ Some s → number_of es s ≡ Some n
 
--- what callers see: the parts, and the keys that the last failure took back
+-- what callers see: the parts, the keys that the last failure took back, and the keys with their places
 pub record ByteView (V O : Type 0) : Type 0 where
   pub parts : Parts (List ℕ) V O
   pub undone : List (List ℕ)
+  pub keys : Numbered
 
 abbrev pub byte_code : {V O : Type 0} → Coded V → Coded O → Coded (ByteView V O)
 byte_code {V} {O} v o =
-    code_by (Parts (List ℕ) V O × List (List ℕ)) (coded× (parts_code (coded_list coded_ℕ) v o) (coded_list (coded_list coded_ℕ)))
-    (λ b. (b.parts, b.undone)) (λ p. record { parts = p.0; undone = p.1 }) (λ _. refl)
+    code_by (Parts (List ℕ) V O × (List (List ℕ) × Numbered))
+    (coded× (parts_code (coded_list coded_ℕ) v o) (coded× (coded_list (coded_list coded_ℕ)) (coded_list (coded× (coded_list coded_ℕ) coded_ℕ))))
+    (λ b. (b.parts, (b.undone, b.keys))) (λ p. record { parts = p.0; undone = p.1.0; keys = p.1.1 }) (λ _. refl)
 
 abbrev pub with_string : Option (List ℕ) → List (List ℕ) → List (List ℕ)
 with_string None rest = rest

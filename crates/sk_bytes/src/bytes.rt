@@ -1,19 +1,20 @@
 //! The kernel over byte strings.
-ghost use Rattle.std.specs.Prelude.{◌≡◌, ◌==◌, ◌∷◌, ℕ, List, [], true, false, None, Some, get_or, length, IfErr, IfOk, IfSome, OnErr, OnOk};
+ghost use Rattle.std.specs.Prelude.{◌≡◌, ◌==◌, ◌≤◌, ◌∷◌, ℕ, List, [], true, false, None, Some, get_or, length, IfErr, IfOk, IfSome, OnErr, OnOk};
 ghost use Rattle.std.specs.Int.NonZero.{non_zero_u16_get};
 ghost use Rattle.std.specs.List.{slice_get};
 ghost use Rattle.std.specs.Option.{option_copied, option_map};
 ghost use Rattle.sk_guesses.specs.Kept.{known, none_drawn};
 ghost use Rattle.sk_record.specs.Machine.{released};
 ghost use Rattle.sk_record.specs.UndoState.{numbers, tags_at};
-ghost use Rattle.sk_outputs.specs.Said.{said_at, waiting_of};
+ghost use Rattle.sk_outputs.specs.Said.{said_at, first_of, waiting_of};
 ghost use Rattle.sk_slots.specs.Slots.{look_at, log_at};
 ghost use Rattle.sk_speculator.specs.Calls.{next_of, Refuses, Takes};
 ghost use Rattle.sk_speculator.specs.Emptied.{IsEmptied};
 ghost use Rattle.sk_speculator.specs.Parts.{undo_state_of};
 ghost use Rattle.sk_speculator.specs.declared.refusal.Refusal.TheVariants as inner;
-ghost use Rattle.sk_index.specs.Index.{bytes_cmp};
-ghost use Rattle.sk_bytes.specs.Calls.{CommitPost, Counts, FailPost, has_long_key, is_long, RefusesGuess, RefusesNext, RefusesStep, Unchanged};
+ghost use Rattle.sk_index.specs.Index.{bytes_cmp, string_of};
+ghost use Rattle.sk_renamed.specs.Renamed.{at_key};
+ghost use Rattle.sk_bytes.specs.Calls.{CommitPost, Counts, FailPost, has_long_key, is_long, resting_on, HasPlaces, RefusesGuess, RefusesNext, RefusesStep, Unchanged};
 ghost use Rattle.sk_bytes.specs.Steps.{byte_deed, IsAsItWas};
 ghost use Rattle.sk_bytes.specs.declared.refusal.Refusal.TheVariants.{LongKey};
 ghost use Rattle.std.specs.Vec.{vec_capacity};
@@ -64,6 +65,7 @@ impl<V, O> Model for Bytes<V, O> {
     ghost view = { λ b. record {
       parts = told_of b.keys.index b.kernel;
       undone = strings_of b.keys.index b.keys.loose.items;
+      keys = b.keys.index;
     } };
 
     ghost invariant = { λ b. IsTold b.keys.index b.kernel b.keys.loose.items
@@ -112,14 +114,30 @@ impl<V, O> Bytes<V, O> {
     }
 
     /// How many keys rest on a guess.
-    pub fn dependents(&self, id: GuessId) -> usize {
-        self.kernel.dependents(id).len()
+    pub fn dependents(&self, id: GuessId) -> usize
+        ensures { result ≡ length (resting_on self.now id) }
+    {
+        self.numbers_on(id).len()
     }
 
     /// One of the keys that rest on a guess, by its place among them.
-    pub fn dependent(&self, id: GuessId, place: usize) -> Option<&[u8]> {
-        let number = self.kernel.dependents(id).get(place)?;
-        self.keys.index.string(*number)
+    pub fn dependent(&self, id: GuessId, place: usize) -> Option<&[u8]>
+        ensures { option_map (λ s. s.now) result ≡ slice_get (resting_on self.now id) place }
+    {
+        match self.numbers_on(id).get(place) {
+            Some(number) => self.keys.index.string(*number),
+            None => None,
+        }
+    }
+
+    /// The numbers of the keys that rest on a guess.
+    fn numbers_on(&self, id: GuessId) -> &[Number]
+        ensures count { length result.now ≡ length (resting_on self.now id) }
+        ensures keys { (place : ℕ) → at_key None (string_of self.now.keys) (slice_get result.now place)
+            ≡ slice_get (resting_on self.now id) place }
+    {
+        let _rising = self.keys.index.places();
+        self.kernel.dependents(id)
     }
 
     /// One of the keys that the last failure took back, by its place among them.
@@ -137,6 +155,30 @@ impl<V, O> Bytes<V, O> {
         ensures { Counts self.now result }
     {
         self.keys.index.len()
+    }
+
+    /// A place behind all that keys have. Each key that is there, rests on a guess, or was taken back by the last failure has one
+    /// place before it, and no other key has any.
+    pub fn places(&self) -> usize
+        ensures behind { (place : ℕ) → result ≤ place → string_of self.now.keys place ≡ None }
+        ensures keys { HasPlaces self.now }
+    {
+        self.keys.index.places()
+    }
+
+    /// The key that has a place.
+    pub fn key_at(&self, place: usize) -> Option<&[u8]>
+        ensures { option_map (λ s. s.now) result ≡ string_of self.now.keys place }
+    {
+        self.keys.index.string(Number::new(place))
+    }
+
+    /// What the key has that has a place; `None` where it is absent.
+    pub fn value_at(&self, place: usize) -> Option<&V>
+        ensures { option_copied result
+            ≡ at_key None (look_at bytes_cmp self.now.parts.slots) (string_of self.now.keys place) }
+    {
+        self.kernel.value(&Number::new(place))
     }
 
     /// What is known of a guess.
@@ -189,6 +231,22 @@ impl<V, O> Bytes<V, O> {
         ensures { result ≡ waiting_of (said_at self.now.parts.said channel) }
     {
         self.kernel.waiting(channel)
+    }
+
+    /// The first output of a channel, whether it waits or not.
+    pub fn first(&self, channel: u16) -> Option<&O>
+        ensures { option_copied result ≡ first_of (said_at self.now.parts.said channel) }
+    {
+        self.kernel.first(channel)
+    }
+
+    /// The output of a channel that `released` would take out; `None` where it would take none.
+    pub fn next_output(&self, channel: u16) -> Option<&O>
+        ensures { option_copied result
+            ≡ option_map (λ w. w.1)
+            (slice_get (released (said_at self.now.parts.said channel)) 0) }
+    {
+        self.kernel.next_output(channel)
     }
 
     /// A channel that has an output to take, found without going through the others; `None` where none has.

@@ -1,8 +1,13 @@
--- There is a string for each place with one, and none is there twice.
-use Rattle.std.proofs.Common.{◌≡◌, ℕ, suc, ◌+◌, List, [], ◌∷◌, length, Option, Some, None, is_some, cond, count_by, refl, arith}
+-- There is a string for each place with one, none is there twice, and the places rise.
+use Rattle.std.proofs.Common.{◌≡◌, ℕ, suc, ◌+◌, ◌<◌, List, [], ◌∷◌, length, Option, Some, None, is_some, cond, count_by, refl, sym, arith}
 use Rattle.std.specs.Global.{Vec}
+use Rattle.std.specs.Cmp.{nat_cmp_is}
+use Rattle.std.specs.List.{AllByRecursion}
+use Rattle.std.specs.List.Sorted.{IsStrictlySortedBy}
+use Rattle.std.specs.Ordering.{nat_cmp}
+use Rattle.std.specs.declared.cmp.Ordering.TheVariants.{Less}
 use Rattle.std.proofs.lemmas.List.Sums.{sum_by-cons}
-use Rattle.sk_index.specs.Index.{number_of, AreApart}
+use Rattle.sk_index.specs.Index.{number_of, numbers_in, AreApart}
 use Rattle.sk_index.specs.Inside.{numbered}
 use Rattle.sk_index.proofs.Strings.{apart_later, found_slot, Apart, Slots}
 
@@ -26,3 +31,14 @@ apart_numbered b (Some v ∷ vs) apart =
         let slot = found_slot (b + 1) vs v.items n is in
         let first : 0 ≡ suc slot.0 = apart 0 (suc slot.0) v slot.1 refl slot.3 slot.4 in
         absurd (omega (arith, first))
+
+above_numbered : (n b : ℕ) (vs : Slots) → n < b → AllByRecursion (λ m. nat_cmp n m ≡ Less) (numbers_in (numbered b vs))
+above_numbered n b [] below = tt
+above_numbered n b (None ∷ vs) below = above_numbered n (b + 1) vs (omega (arith, below))
+above_numbered n b (Some v ∷ vs) below = (sym (nat_cmp_is n b Less below), above_numbered n (b + 1) vs (omega (arith, below)))
+
+pub rising_numbered : (b : ℕ) (vs : Slots) → IsStrictlySortedBy nat_cmp (numbers_in (numbered b vs))
+unfolding IsStrictlySortedBy
+rising_numbered b [] = tt
+rising_numbered b (None ∷ vs) = rising_numbered (b + 1) vs
+rising_numbered b (Some v ∷ vs) = (above_numbered b (b + 1) vs (omega arith), rising_numbered (b + 1) vs)

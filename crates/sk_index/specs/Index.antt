@@ -1,5 +1,5 @@
 -- Byte strings, each with a number.
-use Rattle.std.specs.Prelude.{◌≡◌, ◌==◌, ℕ, List, [], ◌∷◌, Option, Some, None, if◌then◌else◌}
+use Rattle.std.specs.Prelude.{◌≡◌, ◌==◌, ℕ, List, [], ◌∷◌, map, Option, Some, None, if◌then◌else◌}
 use Rattle.std.specs.Ordering.{nat_cmp, eq_by_cmp}
 use Rattle.std.specs.Cmp.Lexicographic.{slice_cmp}
 use Rattle.std.specs.FinMap.{find}
@@ -21,6 +21,10 @@ number_of es s = find bytes_cmp s es
 abbrev pub string_of : Numbered → ℕ → Option (List ℕ)
 string_of [] n = None
 string_of (e ∷ es) n = if e.1 == n then Some e.0 else string_of es n
+
+-- the numbers that strings have
+abbrev pub numbers_in : Numbered → List ℕ
+numbers_in es = map (λ e. e.1) es
 
 -- no string is there twice
 abbrev pub AreApart : Numbered → Type 0

@@ -2,7 +2,9 @@
 ghost use Rattle.std.specs.Prelude.{◌≡◌, ◌≤◌, ℕ, true, false, [], None, Some, IfOk, IfSome, OnErr, OnSome, length};
 ghost use Rattle.std.specs.Option.{option_map};
 ghost use Rattle.std.specs.Hash.DefaultHasher.{finish, write};
-ghost use Rattle.sk_index.specs.Index.{number_of, string_of, Adds, AreApart, Removes};
+ghost use Rattle.std.specs.List.Sorted.{IsStrictlySortedBy};
+ghost use Rattle.std.specs.Ordering.{nat_cmp};
+ghost use Rattle.sk_index.specs.Index.{number_of, numbers_in, string_of, Adds, AreApart, Removes};
 
 use crate::Number;
 use slab::Slab;
@@ -125,9 +127,10 @@ impl Index {
         self.strings.len()
     }
 
-    /// A place behind all that strings have: each number is below it.
+    /// A place behind all that strings have: each number is below it. They are told by their numbers, which rise.
     pub fn places(&self) -> usize
-        ensures { (n : ℕ) → result ≤ n → string_of self.now n ≡ None }
+        ensures behind { (n : ℕ) → result ≤ n → string_of self.now n ≡ None }
+        ensures rising { IsStrictlySortedBy nat_cmp (numbers_in self.now) }
     {
         self.strings.capacity()
     }

@@ -1,10 +1,10 @@
 -- The first output of a channel.
 use Rattle.std.proofs.Common.{◌≡◌, ℕ, zero, suc, ◌+◌, ◌<◌, Bool, true, false, not, cond, [], ◌∷◌, length, refl, sym, ◌∙◌, ap, arith}
-use Rattle.std.specs.Prelude.{◌==◌, slice_index_or}
+use Rattle.std.specs.Prelude.{◌==◌, slice_index_or, Some, None}
 use Rattle.std.specs.List.{prefix_len, remove}
 use Rattle.std.proofs.lemmas.Bool.{eqb-true}
 use Rattle.sk_record.specs.Machine.{Tagged}
-use Rattle.sk_outputs.specs.Said.{Said, said_at}
+use Rattle.sk_outputs.specs.Said.{Said, said_at, first_of}
 
 module _ {O : Type 0} where
   abbrev pub other : ℕ → Tagged (ℕ × O) → Bool
@@ -22,6 +22,18 @@ module _ {O : Type 0} where
       elim (y.0.0 == to) as (λ b. suc i ≡ cond (not b) (1 + prefix_len (other to) xs) 0 → (cond b (y ∷ said_at xs to) (said_at xs to) ≡ x ∷ cond b (y ∷ said_at (remove xs i) to) (said_at (remove xs i) to)) × (x.0.0 ≡ to)) [
         | true ↦ λ first. absurd (omega arith)
         | false ↦ λ later. first_said to i xs x (omega arith) (omega arith) at
+      ] is
+
+  -- the first of the channel
+  pub first_there : (to i : ℕ) (xs : Said O) (x : Tagged (ℕ × O)) → i ≡ prefix_len (other to) xs → i < length xs → x ≡ slice_index_or xs i x → Some x.0.1 ≡ first_of (said_at xs to)
+  first_there to i xs x is lt at = sym (ap first_of (first_said to i xs x is lt at).0)
+
+  pub first_none : (to i : ℕ) (xs : Said O) → i ≡ prefix_len (other to) xs → (i < length xs → ⊥) → None ≡ first_of (said_at xs to)
+  first_none to i [] is far = refl
+  first_none to i (x ∷ xs) is far =
+      elim (x.0.0 == to) as (λ b. i ≡ cond (not b) (1 + prefix_len (other to) xs) 0 → None ≡ first_of (cond b (x ∷ said_at xs to) (said_at xs to))) [
+        | true ↦ λ first. absurd (far (omega (arith, first)))
+        | false ↦ λ later. first_none to (prefix_len (other to) xs) xs refl (λ lt. far (omega (arith, later, lt)))
       ] is
 
   -- the other channels keep theirs

@@ -2,4 +2,6 @@ mod Passes
 mod Firsts
 mod Numbers
 mod Ready
+mod Counted
+mod Taken
 mod Waiting

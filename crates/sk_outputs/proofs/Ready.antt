@@ -1,14 +1,15 @@
 -- Which channels have an output to take.
 use Rattle.std.proofs.Common.{◌≡◌, ℕ, zero, suc, ◌+◌, ◌<◌, ◌≤◌, ◌&&◌, ◌||◌, Bool, true, false, not, cond, List, [], ◌∷◌, ◌++◌, length, drop, refl, sym, ◌∙◌, ap, subst, arith}
 use Rattle.std.specs.Prelude.{◌==◌, slice_index_or, Option, Some, None, Result, Ok, Err, IfSome, OnOk}
-use Rattle.std.specs.List.{filter, prefix_len}
+use Rattle.std.specs.List.{filter, prefix_len, slice_get}
+use Rattle.std.specs.Option.{option_map}
 use Rattle.std.specs.Cmp.{both_ways}
 use Rattle.std.proofs.lemmas.Bool.{true≢false, eqb-true, eq-eqb}
 use Rattle.sk_record.specs.Machine.{Tagged, lightened, not_dropped, released, released_if}
 use Rattle.sk_record.specs.Notes.{has, without}
 use Rattle.sk_record.proofs.Machine.{has_filter}
 use Rattle.sk_record.proofs.Sound.{eqb_turned}
-use Rattle.sk_outputs.specs.Said.{Said, said_at, is_empty}
+use Rattle.sk_outputs.specs.Said.{Said, said_at, first_of, is_empty}
 use Rattle.sk_outputs.specs.Ready.{is_ready, AreReady}
 use Rattle.sk_outputs.proofs.Firsts.{other, not_true, not_false}
 
@@ -25,7 +26,7 @@ never n =
       | false ↦ λ _. refl
     ] refl
 
-fewer_kept : {A : Type 0} (p : A → Bool) (xs : List A) → length (filter p xs) ≤ length xs
+pub fewer_kept : {A : Type 0} (p : A → Bool) (xs : List A) → length (filter p xs) ≤ length xs
 fewer_kept p [] = omega arith
 fewer_kept p (x ∷ xs) =
     let rest = fewer_kept p xs in
@@ -59,11 +60,28 @@ module _ {O : Type 0} where
   pub some_released : (xs : Said O) (t : ℕ) → is_ready xs t ≡ true → released (said_at xs t) ≡ [] → ⊥
   some_released xs t is none = true≢false (sym is ∙ ready_is xs t ∙ ap (λ ws. not (is_empty ws)) none)
 
+  -- one that is there first and rests on nothing
+  pub front_ready : (xs : Said O) (x : Tagged (ℕ × O)) → 0 < length xs → x ≡ slice_index_or xs 0 x → is_empty x.1 ≡ true → is_ready xs x.0.0 ≡ true
+  front_ready [] x some at bare = absurd (omega arith)
+  front_ready (y ∷ xs) x some at bare =
+      ap (λ (z : Tagged (ℕ × O)). cond (z.0.0 == x.0.0) (is_empty z.1) (is_ready xs x.0.0)) (sym at)
+      ∙ ap (λ b. cond b (is_empty x.1) (is_ready xs x.0.0)) (eq-eqb x.0.0 x.0.0 refl) ∙ bare
+
   pub none_released : (xs : Said O) (t : ℕ) → is_ready xs t ≡ false → released (said_at xs t) ≡ []
   none_released xs t is = bare (released (said_at xs t)) (sym (ready_is xs t) ∙ is) where
     bare : {A : Type 0} (ws : List A) → not (is_empty ws) ≡ false → ws ≡ []
     bare [] none = refl
     bare (w ∷ ws) none = absurd (true≢false none)
+
+  -- the first is the next to take, where the channel has one
+  pub next_is : (xs : Said O) (t : ℕ) → is_ready xs t ≡ true → first_of (said_at xs t) ≡ option_map (λ w. w.1) (slice_get (released (said_at xs t)) 0)
+  next_is xs t ready = by_list (said_at xs t) (sym (ready_is xs t) ∙ ready) where
+    by_list : (ys : Said O) → not (is_empty (released ys)) ≡ true → first_of ys ≡ option_map (λ w. w.1) (slice_get (released ys) 0)
+    by_list [] some = refl
+    by_list (y ∷ ys) some = by_tags y.1 some where
+      by_tags : (tags : List ℕ) → not (is_empty (released_if tags y.0 (released ys))) ≡ true → Some y.0.1 ≡ option_map (λ w. w.1) (slice_get (released_if tags y.0 (released ys)) 0)
+      by_tags [] some = refl
+      by_tags (g ∷ tags) none = absurd (true≢false (sym none))
 
   -- one more is behind
   pub ready_more : (xs : Said O) (x : Tagged (ℕ × O)) (t : ℕ)

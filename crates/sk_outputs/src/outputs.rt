@@ -1,14 +1,17 @@
 //! Outputs that wait until what they rest on is decided.
-ghost use Rattle.std.specs.Prelude.{◌≡◌, ◌<◌, ◌≤◌, ◌==◌, ◌&&◌, ◌||◌, ◌∷◌, ◌++◌, ◌+◌, cond, nat_lt, ℕ, [], true, false, not, length, None, OnOk, IfSome};
-ghost use Rattle.std.specs.List.{prefix_len};
-ghost use Rattle.sk_outputs.specs.Ready.{is_ready, AreReady};
-ghost use Rattle.sk_outputs.specs.Said.{said_at, waiting_of, is_empty};
+ghost use Rattle.std.specs.Prelude.{◌≡◌, ◌<◌, ◌≤◌, ◌==◌, ◌&&◌, ◌||◌, ◌∷◌, ◌++◌, ◌+◌, cond, nat_lt, ℕ, [], true, false, not, drop, get_or, length, None, OnOk, IfSome};
+ghost use Rattle.std.specs.List.{prefix_len, slice_get};
+ghost use Rattle.std.specs.Option.{option_copied, option_map};
+ghost use Rattle.sk_outputs.specs.Ready.{is_ready, AreCounted, AreReady};
+ghost use Rattle.sk_outputs.specs.Said.{said_at, first_of, waiting_of, is_empty, HasRoom, Said};
 ghost use Rattle.sk_record.specs.Notes.{has, without};
 ghost use Rattle.sk_record.specs.Machine.{lightened, not_dropped, released};
 
 use crate::channels::Channels;
+use crate::counts::{count_down, count_of, count_up, reserve_count};
 use sk_ids::{GuessId, TagSet};
 use std::alloc::{AllocError, Global};
+use std::collections::VecDeque;
 use std::marker::Model;
 
 /// An output, its channel, and the guesses that it rests on.
@@ -50,6 +53,12 @@ impl<O> Output<O> {
         !self.tags.ids().is_empty()
     }
 
+    fn text(&self) -> &O
+        ensures { result.now ≡ self.now.0.1 }
+    {
+        &self.output
+    }
+
     fn output(self) -> O
         ensures { result ≡ self.0.1 }
     {
@@ -77,16 +86,19 @@ impl<O> Output<O> {
     }
 }
 
-/// The outputs in the order in which they were said, and the channels that have one to take.
+/// The outputs in the order in which they were said, how many of them each channel has, and the channels that have one to
+/// take.
 #[derive(Drop)]
 pub struct Outputs<O> {
-    said: Vec<Output<O>>,
+    said: VecDeque<Output<O>>,
+    counts: Vec<usize>,
     ready: Channels,
 }
 
 impl<O> Model for Outputs<O> {
-    ghost use Rattle.std.specs.Prelude.{◌≤◌, ◌-◌, max, min, length, vec_len, vec_capacity};
-    ghost use Rattle.sk_outputs.specs.Ready.{AreReady};
+    ghost use Rattle.std.specs.Prelude.{◌≤◌, ◌-◌, max, min, length, vec_len};
+    ghost use Rattle.std.specs.VecDeque.{deque_len, deque_capacity};
+    ghost use Rattle.sk_outputs.specs.Ready.{AreCounted, AreReady};
     ghost use Rattle.sk_outputs.specs.Said.{SaidView, said_code};
 
     ghost Value = { SaidView O };
@@ -95,48 +107,60 @@ impl<O> Model for Outputs<O> {
 
     ghost view = { λ a. record {
       said = a.said.items;
-      room = min (vec_capacity a.said - vec_len a.said)
-          (a.ready.places - max (vec_len a.said) (length a.ready.channels));
+      room = min (deque_capacity a.said - deque_len a.said)
+          (a.ready.places - max (deque_len a.said) (length a.ready.channels));
+      counted = vec_len a.counts;
     } };
 
     ghost invariant = { λ a. AreReady a.said.items a.ready.channels
-        × (length a.said.items ≤ a.ready.places) };
+        × (length a.said.items ≤ a.ready.places)
+        × AreCounted a.said.items a.counts.items };
 }
 
-fn lighten_all<O: Drop>(said: &mut Vec<Output<O>>, id: GuessId)
+fn lighten_all<O: Drop>(said: &mut VecDeque<Output<O>>, id: GuessId)
     ensures { said.new.items ≡ lightened id said.old.items }
 {
     said.retain_mut(|output: &mut Output<O>| output.lighten(id));
 }
 
-fn drop_resting<O: Drop>(said: &mut Vec<Output<O>>, id: GuessId)
+fn drop_resting<O: Drop>(said: &mut VecDeque<Output<O>>, id: GuessId)
     ensures { said.new.items ≡ not_dropped id said.old.items }
 {
     said.retain(|output: &Output<O>| !output.rests_on(id));
 }
 
-/// How many outputs stand before the first of a channel.
-fn others_before<O>(said: &[Output<O>], to: u16) -> usize
-    ensures { result ≡ prefix_len (λ o. not (o.0.0 == to)) said.now }
+/// Counts no more what rests on a guess.
+fn count_without<O>(counts: &mut Vec<usize>, said: &VecDeque<Output<O>>, id: GuessId)
+    requires { AreCounted said.now.items counts.old.items }
+    ensures { AreCounted (not_dropped id said.now.items) counts.new.items }
 {
-    said.iter()
-        .take_while(|output| is_other(*output, to))
-        .count()
+    for place in 0..said.len() {
+        let output = &said[place];
+        if output.rests_on(id) {
+            count_down(counts, output.to());
+        }
+    }
 }
 
-fn is_other<O>(output: &Output<O>, to: u16) -> bool
-    ensures { result ≡ not (output.now.0.0 == to) }
+/// How many outputs stand before the first of a channel.
+fn others_before<O>(said: &VecDeque<Output<O>>, to: u16) -> usize
+    ensures { result ≡ prefix_len (λ o. not (o.0.0 == to)) said.now.items }
 {
-    output.to() != to
+    for place in 0..said.len() {
+        if said[place].to() == to {
+            return place;
+        }
+    }
+    said.len()
 }
 
 /// How many outputs of a channel wait: the first that rests on a guess, and all behind it.
-fn waiting_in<O>(said: &[Output<O>], to: u16) -> usize
-    ensures { result ≡ waiting_of (said_at said.now to) }
+fn waiting_in<O>(said: &VecDeque<Output<O>>, to: u16) -> usize
+    ensures { result ≡ waiting_of (said_at said.now.items to) }
 {
     let mut held = 0;
-    for output in said {
-        if waits(output, to, held) {
+    for place in 0..said.len() {
+        if waits(&said[place], to, held) {
             held += 1;
         }
     }
@@ -151,23 +175,33 @@ fn waits<O>(output: &Output<O>, to: u16, held: usize) -> bool
     output.to() == to && (held > 0 || output.rests())
 }
 
-/// Whether an output rests on nothing, and is the first of its channel behind these.
-fn is_next<O>(said: &[Output<O>], output: &Output<O>) -> bool
-    ensures { result ≡ (is_empty output.now.1 && is_empty (said_at said.now output.now.0.0)) }
+/// Whether an output rests on nothing, and its channel has no other.
+fn is_next<O>(counts: &[usize], output: &Output<O>) -> bool
+    ensures { result ≡ (is_empty output.now.1 && (get_or counts.now output.now.0.0 0 == 0)) }
 {
-    !output.rests() && others_before(said, output.to()) == said.len()
+    !output.rests() && count_of(counts, output.to()) == 0
 }
 
-/// Whether a channel has an output to take.
-fn is_free<O>(said: &[Output<O>], to: u16) -> bool
-    ensures { result ≡ is_ready said.now to }
+/// Whether the first output of a channel from a place on rests on nothing.
+fn is_free<O>(said: &VecDeque<Output<O>>, from: usize, to: u16) -> bool
+    ensures { result ≡ is_ready (drop from said.now.items) to }
 {
-    for output in said {
+    for place in from..said.len() {
+        let output = &said[place];
         if output.to() == to {
             return !output.rests();
         }
     }
     false
+}
+
+/// Whether a channel has an output to take, where none of its outputs stands before a place.
+fn has_next<O>(counts: &[usize], said: &VecDeque<Output<O>>, from: usize, to: u16) -> bool
+    requires counted { AreCounted said.now.items counts.now }
+    requires later { is_ready (drop from said.now.items) to ≡ is_ready said.now.items to }
+    ensures { result ≡ is_ready said.now.items to }
+{
+    count_of(counts, to) > 0 && is_free(said, from, to)
 }
 
 /// An output decides whether its channel has one to take, as it rests on nothing or on a guess.
@@ -187,9 +221,9 @@ fn decide<O>(ready: &mut Channels, output: &Output<O>)
 }
 
 /// Finds the channels that have an output to take. The first output of each decides last. It takes no memory.
-fn find_ready<O>(ready: &mut Channels, said: &[Output<O>])
-    requires { length said.now ≤ ready.old.places }
-    ensures ready { AreReady said.now ready.new.channels }
+fn find_ready<O>(ready: &mut Channels, said: &VecDeque<Output<O>>)
+    requires { length said.now.items ≤ ready.old.places }
+    ensures ready { AreReady said.now.items ready.new.channels }
     ensures places { ready.old.places ≤ ready.new.places }
 {
     ready.clear();
@@ -198,26 +232,35 @@ fn find_ready<O>(ready: &mut Channels, said: &[Output<O>])
     }
 }
 
-/// Puts on the channel of an output that is said behind these, if it then has one to take.
-fn put_next<O>(ready: &mut Channels, said: &[Output<O>], output: &Output<O>)
-    requires ready { AreReady said.now ready.old.channels }
-    requires room { length ready.old.channels < ready.old.places }
-    ensures ready { AreReady (said.now ++ output.now ∷ []) ready.new.channels }
+/// Puts on the channel of an output that is said behind others, if it then has one to take.
+fn put_next<O>(ready: &mut Channels, counts: &[usize], output: &Output<O>)
+    requires { length ready.old.channels < ready.old.places }
+    ensures ready { (said : Said O) → AreReady said ready.old.channels → AreCounted said counts.now
+        → AreReady (said ++ output.now ∷ []) ready.new.channels }
     ensures places { ready.old.places ≤ ready.new.places }
 {
-    if is_next(said, output) {
+    if is_next(counts, output) {
         ready.put(output.to());
     }
 }
 
-/// Takes a channel off, if it has no output to take any more.
-fn take_off_last<O>(ready: &mut Channels, said: &[Output<O>], to: u16)
+/// Takes a channel off, if it has no output to take any more. None of its outputs stands before a place.
+fn take_off_last<O>(
+    ready: &mut Channels,
+    counts: &[usize],
+    said: &VecDeque<Output<O>>,
+    from: usize,
+    to: u16,
+)
     requires there { has to ready.old.channels ≡ true }
-    requires others { (t : ℕ) → (to == t) ≡ false → has t ready.old.channels ≡ is_ready said.now t }
-    ensures ready { AreReady said.now ready.new.channels }
+    requires others { (t : ℕ) → (to == t) ≡ false
+        → has t ready.old.channels ≡ is_ready said.now.items t }
+    requires counted { AreCounted said.now.items counts.now }
+    requires later { is_ready (drop from said.now.items) to ≡ is_ready said.now.items to }
+    ensures ready { AreReady said.now.items ready.new.channels }
     ensures places { ready.old.places ≤ ready.new.places }
 {
-    if !is_free(said, to) {
+    if !has_next(counts, said, from, to) {
         ready.take_off(to);
     }
 }
@@ -228,7 +271,8 @@ impl<O> Outputs<O> {
         ensures { result.said ≡ [] }
     {
         Outputs {
-            said: Vec::new(alloc),
+            said: VecDeque::new(alloc),
+            counts: Vec::new(alloc),
             ready: Channels::new(alloc),
         }
     }
@@ -246,36 +290,63 @@ impl<O> Outputs<O> {
     pub fn waiting(&self, to: u16) -> usize
         ensures { result ≡ waiting_of (said_at self.now.said to) }
     {
-        waiting_in(self.said.as_slice(), to)
+        waiting_in(&self.said, to)
     }
 
-    /// A channel that has an output to take, found without going through the others; `None` where none has.
+    /// The first output of a channel, whether it waits or not.
+    pub fn first(&self, to: u16) -> Option<&O>
+        ensures { option_copied result ≡ first_of (said_at self.now.said to) }
+    {
+        match self.said.get(others_before(&self.said, to)) {
+            Some(output) => Some(output.text()),
+            None => None,
+        }
+    }
+
+    /// The output of a channel that `take_out` would take out; `None` where it would take none.
+    pub fn next_output(&self, to: u16) -> Option<&O>
+        ensures { option_copied result
+            ≡ option_map (λ w. w.1) (slice_get (released (said_at self.now.said to)) 0) }
+    {
+        if !self.ready.contains(to) {
+            return None;
+        }
+        self.first(to)
+    }
+
+    /// A channel that has an output to take, found without going through the others; `None` where none has. The one that was
+    /// said first is told, if it may be taken.
     pub fn next_channel(&self) -> Option<u16>
         ensures some { IfSome result (λ to. released (said_at self.now.said to) ≡ [] → ⊥) }
         ensures none { result ≡ None → (to : ℕ) → released (said_at self.now.said to) ≡ [] }
     {
-        self.ready.first()
+        match self.said.front() {
+            Some(output) if !output.rests() => Some(output.to()),
+            _ => self.ready.first(),
+        }
     }
 }
 
 impl<O: Drop> Outputs<O> {
-    /// Makes room for one output.
-    pub fn reserve(&mut self) -> Result<(), AllocError>
+    /// Makes room for one output of a channel.
+    pub fn reserve(&mut self, to: u16) -> Result<(), AllocError>
         ensures same { self.new.said ≡ self.old.said }
-        ensures ok { OnOk result (0 < self.new.room) }
+        ensures ok { OnOk result (HasRoom self.new to) }
     {
         self.said.reserve(1)?;
-        self.ready.reserve(self.said.len() + 1)
+        self.ready.reserve(self.said.len() + 1)?;
+        reserve_count(&mut self.counts, to)
     }
 
     /// Says an output to a channel, for which there is room.
     pub fn say(&mut self, to: u16, output: O, tags: TagSet)
-        requires { 0 < self.old.room }
+        requires { HasRoom self.old to }
         ensures { self.new.said ≡ self.old.said ++ ((to, output), tags) ∷ [] }
     {
         let output = Output::new(to, output, tags);
-        put_next(&mut self.ready, self.said.as_slice(), &output);
-        self.said.push_reserved(output);
+        put_next(&mut self.ready, self.counts.as_slice(), &output);
+        count_up(&mut self.counts, to);
+        self.said.push_back_reserved(output);
     }
 
     /// A guess is committed. It takes no memory.
@@ -283,15 +354,16 @@ impl<O: Drop> Outputs<O> {
         ensures { self.new.said ≡ lightened id self.old.said }
     {
         lighten_all(&mut self.said, id);
-        find_ready(&mut self.ready, self.said.as_slice());
+        find_ready(&mut self.ready, &self.said);
     }
 
     /// Throws away what rests on a guess. It takes no memory.
     pub fn drop_of(&mut self, id: GuessId)
         ensures { self.new.said ≡ not_dropped id self.old.said }
     {
+        count_without(&mut self.counts, &self.said, id);
         drop_resting(&mut self.said, id);
-        find_ready(&mut self.ready, self.said.as_slice());
+        find_ready(&mut self.ready, &self.said);
     }
 
     /// Takes out the first output of a channel, if it rests on nothing. It takes no memory.
@@ -306,9 +378,18 @@ impl<O: Drop> Outputs<O> {
         if !self.ready.contains(to) {
             return None;
         }
-        let place = others_before(self.said.as_slice(), to);
-        let first = self.said.remove(place);
-        take_off_last(&mut self.ready, self.said.as_slice(), to);
+        let place = others_before(&self.said, to);
+        let Some(first) = self.said.remove(place) else {
+            unreachable!();
+        };
+        count_down(&mut self.counts, to);
+        take_off_last(
+            &mut self.ready,
+            self.counts.as_slice(),
+            &self.said,
+            place,
+            to,
+        );
         Some(first.output())
     }
 }

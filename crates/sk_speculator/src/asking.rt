@@ -1,11 +1,12 @@
 //! What a step asks for before it is taken, so that nothing can be refused then, and its taking.
-ghost use Rattle.std.specs.Prelude.{◌≡◌, ◌||◌, ◌<◌, ℕ, true, [], None, Some, is_some, length, IfOk, OnErr, OnOk};
+ghost use Rattle.std.specs.Prelude.{◌≡◌, ◌||◌, ℕ, true, [], None, Some, is_some, length, IfOk, IfSome, OnErr, OnOk};
 ghost use Rattle.std.specs.List.Sorted.{IsStrictlySortedBy};
 ghost use Rattle.std.specs.Ordering.{nat_cmp};
 ghost use Rattle.sk_guesses.specs.Dependents.{tags_by, with_tags, AllExact, Covers};
 ghost use Rattle.sk_guesses.specs.Kept.{keys_of, HasKeptRoom};
 ghost use Rattle.sk_guesses.specs.Opens.{opens_of};
 ghost use Rattle.sk_record.specs.Effects.{is_in, is_marked};
+ghost use Rattle.sk_outputs.specs.Said.{HasRoom};
 ghost use Rattle.sk_record.specs.Notes.{has};
 ghost use Rattle.sk_slots.specs.Slots.{look_at, log_at, AllSettled, IsReady, SettledBut};
 ghost use Rattle.sk_speculator.specs.Parts.{any_rests, made_by, says, Performed};
@@ -78,12 +79,12 @@ fn reserve_output<O: Drop>(
     output: &Option<(u16, O)>,
 ) -> Result<(), AllocError>
     ensures same { said.new.said ≡ said.old.said }
-    ensures ok { OnOk result (is_some output.now ≡ true → 0 < said.new.room) }
+    ensures ok { OnOk result (IfSome output.now (λ w. HasRoom said.new w.0)) }
 {
-    if output.is_some() {
-        said.reserve()?;
+    match output {
+        Some((to, _)) => said.reserve(*to),
+        None => Ok(()),
     }
-    Ok(())
 }
 
 /// Makes room for the guess of a step.
@@ -181,7 +182,7 @@ pub(crate) fn ask<K: Key, V: Drop, O: Drop, I: Inversion<V>>(
         (tags_by (log_at K.order slots.old))) guesses.new.opens) }
     ensures places { OnOk result (is_some own.now ≡ true
         → HasKeptRoom guesses.new (length step.now.written.items)) }
-    ensures room { OnOk result (is_some step.now.said ≡ true → 0 < said.new.room) }
+    ensures room { OnOk result (IfSome step.now.said (λ w. HasRoom said.new w.0)) }
 {
     let both = tags_of_step(alloc, slots, own, step)?;
     reserve_output(said, &step.said)?;
@@ -208,7 +209,7 @@ where
     requires clean { (q : K) → is_in K.order (keys_of step.old.written.items) q ≡ true → tags ≡ []
         → log_at K.order slots.old q ≡ [] }
     requires unsettled { SettledBut K.order (keys_of step.old.written.items) slots.old }
-    requires room { is_some step.old.said ≡ true → 0 < said.old.room }
+    requires room { IfSome step.old.said (λ w. HasRoom said.old w.0) }
     ensures writes { Performed K.order slots.old tags
         (made_by K.order I.written (look_at K.order slots.old) step.old.written.items) slots.new }
     ensures settled { AllSettled K.order slots.new }

@@ -3,14 +3,15 @@ ghost use Rattle.std.specs.Prelude.{◌≡◌, ◌≢◌, ◌==◌, ◌<◌, ◌
 ghost use Rattle.std.specs.List.Sorted.{IsStrictlySortedBy};
 ghost use Rattle.std.specs.Int.NonZero.{non_zero_u16_get};
 ghost use Rattle.std.specs.Map.Iter.{ShowsInOrder, deref};
-ghost use Rattle.std.specs.Option.{option_copied};
+ghost use Rattle.std.specs.List.{slice_get};
+ghost use Rattle.std.specs.Option.{option_copied, option_map};
 ghost use Rattle.sk_guesses.specs.Kept.{known, none_drawn, AreStatuses};
 ghost use Rattle.sk_record.specs.Effects.{is_in};
 ghost use Rattle.sk_record.specs.Machine.{released};
 ghost use Rattle.sk_record.specs.Notes.{has};
 ghost use Rattle.sk_record.specs.UndoState.{numbers, tags_at};
 ghost use Rattle.sk_record.specs.declared.status.Status.{Status};
-ghost use Rattle.sk_outputs.specs.Said.{said_at, waiting_of};
+ghost use Rattle.sk_outputs.specs.Said.{said_at, first_of, waiting_of};
 ghost use Rattle.sk_slots.specs.Slots.{look_at, log_at};
 ghost use Rattle.sk_speculator.specs.Calls.{next_of, Commits, CommitPost, FailsIn, FailPost, Refuses, Takes, TookBack};
 ghost use Rattle.sk_speculator.specs.Emptied.{IsEmptied};
@@ -189,6 +190,21 @@ impl<K: Key, V, O, I: Inversion<V>> Speculator<K, V, O, I> {
         ensures { result ≡ waiting_of (said_at self.now.said channel) }
     {
         self.said.waiting(channel)
+    }
+
+    /// The first output of a channel, whether it waits or not.
+    pub fn first(&self, channel: u16) -> Option<&O>
+        ensures { option_copied result ≡ first_of (said_at self.now.said channel) }
+    {
+        self.said.first(channel)
+    }
+
+    /// The output of a channel that `released` would take out; `None` where it would take none.
+    pub fn next_output(&self, channel: u16) -> Option<&O>
+        ensures { option_copied result
+            ≡ option_map (λ w. w.1) (slice_get (released (said_at self.now.said channel)) 0) }
+    {
+        self.said.next_output(channel)
     }
 
     /// A channel that has an output to take, found without going through the others; `None` where none has.

@@ -27,4 +27,4 @@ loop-place-preserved g c =
 pub returns : goal.returns
 returns g c =
     all_go c.args.kernel.now.slots c.args.index.now c.loop-place.index c.loop-place.invariant.0 c.loop-place.place c.loop-place.invariant.1 c.loop-place.invariant.2
-    (λ n above. c.places-place-end.ensures n (omega (arith, above, c.loop-place-test.false)))
+    (λ n above. c.places-place-end.ensures.behind n (omega (arith, above, c.loop-place-test.false)))

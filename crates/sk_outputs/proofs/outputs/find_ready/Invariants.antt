@@ -4,4 +4,4 @@ use Rattle.sk_outputs.specs.Ready.{AreReady}
 use Rattle.sk_outputs.proofs.outputs.find_ready.Given as goal
 
 abbrev pub invariant-loop-place : goal.invariant-loop-place
-invariant-loop-place g l = AreReady (drop l.place l.said) l.ready.channels × (length l.ready.channels + l.place ≤ length l.said) × (length l.said ≤ l.ready.places) × (l.fn.ready.places ≤ l.ready.places)
+invariant-loop-place g l = AreReady (drop l.place l.said.items) l.ready.channels × (length l.ready.channels + l.place ≤ length l.said.items) × (length l.said.items ≤ l.ready.places) × (l.fn.ready.places ≤ l.ready.places)

@@ -1,14 +1,13 @@
--- Nothing of its channel is there.
-use Rattle.std.proofs.Common.{◌≡◌, ◌==◌, ◌&&◌, length, true, sym, ◌∙◌, ap}
-use Rattle.std.specs.List.{prefix_len}
-use Rattle.sk_outputs.specs.Said.{said_at, is_empty}
-use Rattle.sk_outputs.proofs.Firsts.{other, not_false}
-use Rattle.sk_outputs.proofs.Ready.{all_others}
+-- Its channel has no output yet.
+use Rattle.std.proofs.Common.{◌≡◌, ◌&&◌, true, get_or, sym, ◌∙◌, ap}
+use Rattle.std.specs.Prelude.{◌==◌}
+use Rattle.sk_outputs.specs.Said.{is_empty}
+use Rattle.sk_outputs.proofs.Firsts.{not_false}
 use Rattle.sk_outputs.proofs.outputs.is_next.Goals as goal
 
 pub returns-then-not-rests : goal.returns-then-not-rests
 returns-then-not-rests g c =
-    let xs = c.args.said.now in
-    let to = c.args.output.now.0.0 in
-    let bare : is_empty c.args.output.now.1 ≡ true = not_false (is_empty c.args.output.now.1) (sym c.rests.ensures ∙ c.if-not-rests.true) in
-    ap (λ n. n == length xs) (c.others_before.ensures ∙ ap (λ n. prefix_len (other n) xs) c.to.ensures) ∙ all_others to xs ∙ ap (λ b. b && is_empty (said_at xs to)) (sym bare)
+    let ns = c.args.counts.now in
+    let x = c.args.output.now in
+    let bare : is_empty x.1 ≡ true = not_false (is_empty x.1) (sym c.rests.ensures ∙ c.if-not-rests.true) in
+    ap (λ n. n == 0) (c.count_of.ensures ∙ ap (λ t. get_or ns t 0) c.to.ensures) ∙ ap (λ b. b && (get_or ns x.0.0 0 == 0)) (sym bare)

@@ -48,7 +48,7 @@ returns g c =
     let one = fits_less c.self.inside.keys.index now.index m (is_in nat_cmp c.self.inside.keys.loose.items) c.self.invariant.0.fits c.let_go.ensures.gone in
     let two = fits_decided now.index m b one.0 c.args.guess c.in-Ok.committed c.in-Ok.ensures in
     let three = fits_less now.index c.give_back_any.new.index b (listed c.absent_dependents-absent.result) two c.give_back_any.ensures in
-    commit_told now.index m b one.0 c.args.guess c.in-Ok.committed c.args.self.now (record { parts = told_of c.give_back_any.new.index b; undone = strings_of c.give_back_any.new.index now.loose.items })
+    commit_told now.index m b one.0 c.args.guess c.in-Ok.committed c.args.self.now (record { parts = told_of c.give_back_any.new.index b; undone = strings_of c.give_back_any.new.index now.loose.items; keys = c.give_back_any.new.index })
     (one.1 ∙ ap (λ (v : ByteView _ _). v.parts) c.self.view_is) (sym three.1) c.in-Ok.ensures
 
 pub returns-in-Err : goal.returns-in-Err

@@ -1,21 +1,31 @@
--- There is room for the output, and for its channel.
-use Rattle.std.proofs.Common.{ap, arith}
+-- There is room for the output, for its channel, and for its count.
+use Rattle.std.proofs.Common.{sym, ap, subst, arith, ◌==◌}
 use Rattle.sk_outputs.specs.Said.{SaidView}
-use Rattle.sk_outputs.proofs.Ready.{said_so, same_outputs}
+use Rattle.sk_outputs.specs.Ready.{AreCounted, AreReady}
+use Rattle.sk_outputs.proofs.Counted.{counted_more}
+use Rattle.sk_outputs.proofs.Ready.{fewer_kept}
 use Rattle.sk_outputs.proofs.outputs.Outputs.say.Goals as goal
 
-pub put_next-requires-clause-ready : goal.put_next-requires-clause-ready
-put_next-requires-clause-ready g c = same_outputs c.self.inside.said.items c.as_slice.result.now c.self.inside.ready.channels c.as_slice.ensures.value c.self.invariant.0
+pub put_next-requires : goal.put_next-requires
+put_next-requires g c = let room = ap (λ (v : SaidView _). v.room) c.self.view_is in omega (arith, room, c.requires.0)
 
-pub put_next-requires-clause-room : goal.put_next-requires-clause-room
-put_next-requires-clause-room g c = let room = ap (λ (v : SaidView _). v.room) c.self.view_is in omega (arith, room, c.requires)
+pub count_up-requires-clause-more : goal.count_up-requires-clause-more
+count_up-requires-clause-more g c =
+    let xs = c.self.inside.said.items in
+    let few = fewer_kept (λ x. x.0.0 == c.args.to) xs in
+    omega (arith, c.self.invariant.2 c.args.to, few, c.self.inside.said.ok.0, c.self.inside.said.small.0, c.self.inside.said.small.1)
 
-pub push_reserved-requires : goal.push_reserved-requires
-push_reserved-requires g c = let room = ap (λ (v : SaidView _). v.room) c.self.view_is in omega (arith, room, c.requires)
+pub push_back_reserved-requires : goal.push_back_reserved-requires
+push_back_reserved-requires g c = let room = ap (λ (v : SaidView _). v.room) c.self.view_is in omega (arith, room, c.requires.0)
 
 pub invariant_of-self : goal.invariant_of-self
 invariant_of-self g c =
-    let room = ap (λ (v : SaidView _). v.room) c.self.view_is in (
-      said_so c.self.inside.said.items c.as_slice.result.now c.push_reserved.new.self.items c.new-output.result c.put_next.new.ready.channels c.as_slice.ensures.value c.push_reserved.ensures.items c.put_next.ensures.ready,
-      omega (arith, room, c.requires, c.put_next.ensures.places, c.push_reserved.ensures.len, c.self.inside.said.ok.0, c.push_reserved.new.self.ok.0),
+    let xs = c.self.inside.said.items in
+    let room = ap (λ (v : SaidView _). v.room) c.self.view_is in
+    let counted = subst (AreCounted xs) (sym c.as_slice.ensures.value) c.self.invariant.2 in
+    let behind = sym c.push_back_reserved.ensures.items in (
+      subst (λ zs. AreReady zs c.put_next.new.ready.channels) behind (c.put_next.ensures.ready xs c.self.invariant.0 counted),
+      omega (arith, room, c.requires.0, c.put_next.ensures.places, c.push_back_reserved.ensures.len, c.self.inside.said.ok.0, c.push_back_reserved.new.self.ok.0),
+      subst (λ zs. AreCounted zs c.count_up.new.counts.items) behind
+          (counted_more xs c.new-output.result c.args.to (ap (λ o. o.0.0) (sym c.new-output.ensures)) c.self.inside.counts.items c.count_up.new.counts.items c.self.invariant.2 c.count_up.ensures),
     )

@@ -1,0 +1,4 @@
+//! What each step of a kernel over own keys rested on when it was taken, and what that says of the end.
+#![tactic(auto)]
+
+pub mod laws;

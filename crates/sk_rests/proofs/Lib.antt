@@ -1,0 +1,4 @@
+pub mod Lists
+pub mod Along
+pub mod Ends
+pub mod Idle

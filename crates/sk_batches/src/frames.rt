@@ -1,5 +1,8 @@
 //! The next frame of a queue, whole, and where it is to be written.
-ghost use Rattle.sk_batches.specs.Frames.{FramePost};
+ghost use Rattle.std.specs.Prelude.{◌≡◌, ◌-◌, ◌≤◌, length, true, None, Some, IfErr, OnOk};
+ghost use Rattle.sk_batches.specs.Calls.{cause_of, take_refused};
+ghost use Rattle.sk_batches.specs.Frames.{frame_refused, next_payload, FramePost};
+ghost use Rattle.sk_batches.specs.Places.{has_room};
 
 use crate::Refusal;
 use crate::places::Places;
@@ -19,6 +22,25 @@ pub struct Sealed {
     pub len: usize,
 }
 
+/// Why the next frame of a queue is not taken into so much room, whatever memory there is.
+pub fn may_take_frame(queue: &Queue, places: &Places, room: usize) -> Result<(), Refusal>
+    ensures ok { OnOk result (frame_refused queue.now places.now room ≡ None) }
+    ensures err { IfErr result
+        (λ why. (frame_refused queue.now places.now room ≡ Some why) × (cause_of why ≡ Some why)) }
+    ensures free { OnOk result (take_refused queue.now (room - 24) ≡ None) }
+    ensures head { OnOk result (24 ≤ room) }
+    ensures fits { OnOk result (has_room places.now (length (next_payload queue.now)) ≡ true) }
+{
+    queue.may_take(room.saturating_sub(HEAD))?;
+    if room < HEAD {
+        return Err(Refusal::Short);
+    }
+    if !places.has_room(queue.next_len()) {
+        return Err(Refusal::Full);
+    }
+    Ok(())
+}
+
 /// Takes the next frame of a queue whole into a room, and says where it is to be written.
 pub fn take_frame(
     queue: &mut Queue,
@@ -27,14 +49,8 @@ pub fn take_frame(
 ) -> Result<Sealed, Refusal>
     ensures { FramePost result queue.old places.old room.old queue.new places.new room.new }
 {
+    may_take_frame(queue, places, room.len())?;
     let len = queue.next_len();
-    queue.may_take(len, room.len().saturating_sub(HEAD))?;
-    if room.len() < HEAD {
-        return Err(Refusal::Short);
-    }
-    if !places.has_room(len) {
-        return Err(Refusal::Full);
-    }
     let taken = queue.take(&mut room[HEAD..])?;
     let place = places.advance(len);
     seal(&mut room[..HEAD + len], place.segment, taken.frame);

@@ -153,7 +153,7 @@ impl Queue {
         ensures { TakePost result self.old room.old self.new room.new }
     {
         let len = self.next_len();
-        self.may_take(len, room.len())?;
+        self.may_take(room.len())?;
         self.batches.reserve(1)?;
         fill(
             self.batches.as_slice(),
@@ -232,8 +232,8 @@ impl Queue {
         Ok(())
     }
 
-    /// Why no record of so many bytes is added, if one is there.
-    fn may_append(&self, len: usize) -> Result<(), Refusal>
+    /// Why no record of so many bytes is added, whatever memory there is.
+    pub fn may_append(&self, len: usize) -> Result<(), Refusal>
         ensures ok { OnOk result (append_refused self.now len ≡ None) }
         ensures err { IfErr result
             (λ why. (append_refused self.now len ≡ Some why) × (cause_of why ≡ Some why)) }
@@ -249,9 +249,8 @@ impl Queue {
         Ok(())
     }
 
-    /// Why no frame is taken into so much room, if one is there.
-    pub(crate) fn may_take(&self, len: usize, room: usize) -> Result<(), Refusal>
-        requires { len ≡ length (payload (next_records self.now)) }
+    /// Why no frame is taken into so much room, whatever memory there is.
+    pub fn may_take(&self, room: usize) -> Result<(), Refusal>
         ensures ok { OnOk result (take_refused self.now room ≡ None) }
         ensures err { IfErr result
             (λ why. (take_refused self.now room ≡ Some why) × (cause_of why ≡ Some why)) }
@@ -273,7 +272,7 @@ impl Queue {
         if self.number >= NUMBER_LIMIT || self.frame >= NUMBER_LIMIT {
             return Err(Refusal::NoNumber);
         }
-        if room < len {
+        if room < self.next_len() {
             return Err(Refusal::Short);
         }
         Ok(())

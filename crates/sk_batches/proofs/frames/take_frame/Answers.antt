@@ -2,23 +2,18 @@
 use Rattle.std.proofs.Common.{◌≡◌, ◌+◌, ◌-◌, length, drop, take, sym, ap, ◌∙◌}
 use borrow.Rule.Slice.PartMut.{put_mid}
 use Rattle.sk_log.specs.Frame.{frame}
-use Rattle.sk_batches.specs.Calls.{take_refused}
 use Rattle.sk_batches.specs.Frames.{next_payload, sealed_of}
-use Rattle.sk_batches.specs.Places.{behind, has_room}
+use Rattle.sk_batches.specs.Places.{behind}
 use Rattle.sk_batches.specs.declared.frames.Sealed.{Sealed}
-use Rattle.sk_batches.proofs.Sealing.{above, framed, none_against, refused_frame}
+use Rattle.sk_batches.proofs.Sealing.{framed, refused_frame}
 use Rattle.sk_batches.proofs.frames.take_frame.Goals as goal
 
 pub returns-in_err-taken : goal.returns-in_err-taken
 returns-in_err-taken c =
-    let q = c.args.queue.now in
-    let p = c.args.places.now in
-    let free = ap (take_refused q) (sym c.saturating_sub.ensures) ∙ c.in_ok-may_take.ensures.ok in
-    let there = ap (has_room p) (sym c.next_len-len.ensures) ∙ sym c.has_room.ensures ∙ c.if-not-has_room.false in
-    let none = none_against q p (length c.args.room.now) free (above (length c.args.room.now) c.if-room-lt-HEAD.false) there in
+    let may = c.in_ok-may_take_frame.ensures in
     let told = c.in_err-taken.ensures in
-    refused_frame c.from_residual-in_err-taken.result c.in_err-taken.field-0.0 q c.take.new.self p c.args.room.now c.take.new.room
-    c.from_residual-in_err-taken.ensures.1 none free told.0 told.1 told.2
+    refused_frame c.from_residual-in_err-taken.result c.in_err-taken.field-0.0 c.args.queue.now c.take.new.self c.args.places.now c.args.room.now c.take.new.room
+    c.from_residual-in_err-taken.ensures.1 may.ok may.free told.0 told.1 told.2
 
 pub returns : goal.returns
 returns c =
@@ -26,8 +21,6 @@ returns c =
     let p = c.args.places.now in
     let room = c.args.room.now in
     let len = c.next_len-len.ensures in
-    let free = ap (take_refused q) (sym c.saturating_sub.ensures) ∙ c.in_ok-may_take.ensures.ok in
-    let there = ap (has_room p) (sym len) ∙ sym c.has_room.ensures ∙ c.if-not-has_room.false in
     let took = c.in_ok-taken.ensures in
     let place = c.advance-place.ensures.place in
     let number = ap (λ t. t.frame) took.1 in
@@ -36,9 +29,9 @@ returns c =
     (λ i. record { frame = number i; segment = (place i).segment; offset = (place i).offset; len = 24 + len i }) in
     let seal = c.seal.ensures
     ∙ (λ i. frame ((place i).segment) (number i) (drop 24 (take (24 + c.next_len-len.result) (put_mid 24 (length room - 24) room c.take.new.room)))) in (
-      none_against q p (length room) free (above (length room) c.if-room-lt-HEAD.false) there,
+      c.in_ok-may_take_frame.ensures.ok,
       answer,
       took.2,
       c.advance-place.ensures.left ∙ ap (behind p) len,
-      framed room (next_payload q) c.take.new.room c.seal.new.room p.segment q.frame c.next_len-len.result c.if-room-lt-HEAD.false len took.3 seal,
+      framed room (next_payload q) c.take.new.room c.seal.new.room p.segment q.frame c.next_len-len.result c.in_ok-may_take_frame.ensures.head len took.3 seal,
     )

@@ -1,0 +1,80 @@
+-- What calls of the kernel leave of the step that kernel and queue keep, whatever they answer.
+use Rattle.std.proofs.Common.{◌≡◌, ℕ, ◌+◌, ◌*◌, ◌<◌, ◌≤◌, Bool, true, false, cond, is_err, List, [], ◌∷◌, ◌++◌, length, map, Option, Some, None, Result, Ok, Err, inl, inr, refl, sym, ◌∙◌, ap, subst, arith}
+use Rattle.std.specs.Prelude.{◌⊎◌, nat_le, nat_lt, IfOk, OnErr, OnOk}
+use Rattle.std.specs.Global.{Vec}
+use Rattle.std.specs.Vec.{vec_items}
+use Rattle.std.proofs.lemmas.Bool.{true≢false, leb-false, ltb-false}
+use Rattle.sk_guesses.specs.Token.{Token}
+use Rattle.sk_index.specs.Index.{bytes_cmp}
+use Rattle.sk_deeds.specs.Deed.{Deed}
+use Rattle.sk_speculator.specs.Calls.{Refuses, Takes}
+use Rattle.sk_speculator.specs.Parts.{Parts, IsSame}
+use Rattle.sk_speculator.specs.WholeStep.{WholeStep}
+use Rattle.sk_speculator.specs.declared.refusal.Refusal.TheVariants as inner
+use Rattle.sk_bytes.specs.Calls.{Unchanged}
+use Rattle.sk_bytes.specs.Steps.{byte_deed}
+use Rattle.sk_bytes.specs.Told.{ByteView}
+use Rattle.sk_batches.specs.Queue.{QueueView}
+use Rattle.sk_batches.specs.Frames.{FramePost}
+use Rattle.sk_batches.specs.Places.{PlacesView}
+use Rattle.sk_batches.specs.declared.frames.Sealed.{Sealed}
+use Rattle.sk_batches.specs.declared.refusal.Refusal.{Refusal}
+use Rattle.sk_batched.specs.Keys.{batch_key}
+use Rattle.sk_batched.specs.Batched.{capped, opening, BatchedView, Begins, Draws, IsStill, MayBegin}
+use Rattle.sk_batched.specs.InStep.{IsInStep}
+use Rattle.sk_batched.proofs.Moves.{Spares}
+use Rattle.sk_batched.proofs.Queues.{same_seen, step_taken, taken}
+use Rattle.sk_batched.proofs.Same.{all_same, takes_to}
+
+pub capped_small : (most : ℕ) → capped most ≤ 63
+capped_small most = elim (nat_lt 63 most) as (λ b. nat_lt 63 most ≡ b → cond b 63 most ≤ 63) [
+  | true ↦ λ _. omega arith
+  | false ↦ λ is. let le = ltb-false 63 most is in omega (arith, le)
+] refl
+
+-- a step is taken or refused
+pub step_or_not : {V O E : Type 0} (r : Result (Unit {0}) E) (old new : ByteView V O) (q : QueueView) (begun : Bool) (ts : List Token) (d : Deed (List ℕ) V O) → Spares d
+    → OnOk r (Takes bytes_cmp old.parts d None new.parts) → OnErr r (Unchanged old new) → IsInStep old.parts q begun ts → IsInStep new.parts q begun ts
+step_or_not (Ok u) old new q begun ts d spares takes still h = step_taken old.parts q begun ts h new.parts d spares takes
+step_or_not (Err why) old new q begun ts d spares takes still h = same_seen old.parts q begun ts h new.parts still.parts
+
+-- there is room for one guess more
+pub room_for : {V O E : Type 0} (m : Parts (List ℕ) V O) (r : Result ℕ E) → is_err r ≡ false → OnOk r (Refuses m inner.Memory) → length m.opens < m.guesses.limit
+room_for m (Ok id) is may = leb-false m.guesses.limit (length m.opens) may.0
+room_for m (Err why) is may = absurd (true≢false is)
+
+-- the step that draws a guess
+pub opened_deed : {V O : Type 0} (step : WholeStep (Vec ℕ) V O) (number : ℕ) (key : Vec ℕ) → step.looked.items ≡ [] → step.written.items ≡ (key, None) ∷ [] → key.items ≡ batch_key number → step.said ≡ None
+    → byte_deed step ≡ opening number
+opened_deed {V} step number key looked written named said = (λ i. record {
+  looked = map vec_items (looked i);
+  written = (map (λ (w : Vec ℕ × Option V). (vec_items w.0, w.1)) (written i));
+  said = said i;
+}) ∙ (λ i. record { looked = []; written = (named i, None) ∷ []; said = None })
+
+pub drawn_as : {V O : Type 0} (a b : Parts (List ℕ) V O) (d e : Deed (List ℕ) V O) (g n : ℕ) → d ≡ e → g ≡ n → Takes bytes_cmp a d (Some g) b → Takes bytes_cmp a e (Some n) b
+drawn_as a b d e g n same next takes = subst (λ m. Takes bytes_cmp a e (Some m) b) next (subst (λ f. Takes bytes_cmp a f (Some g) b) same takes)
+
+-- a guess was drawn where it was not, and then a step refused
+still_parts : {V O : Type 0} (old new : ByteView V O) → IsStill old new → IsSame bytes_cmp old.parts new.parts
+still_parts old new (inl is) = subst (λ (b : ByteView _ _). IsSame bytes_cmp old.parts b.parts) (sym is) (all_same bytes_cmp old.parts)
+still_parts old new (inr still) = still.parts
+
+module _ {V O : Type 0} (old mid new : BatchedView V O) where
+  began_by : (b : Bool) → old.begun ≡ b → Draws b old.kernel old.queue.number mid.kernel → mid.queue ≡ old.queue → mid.begun ≡ true → IsStill mid.kernel new.kernel → new.queue ≡ mid.queue → new.begun ≡ mid.begun → MayBegin old new
+  began_by true is same queue begun still queue_too begun_too =
+      inl (record { kernel = subst (λ k. IsStill k new.kernel) same still; queue = queue_too ∙ queue; begun = begun_too ∙ begun ∙ sym is })
+  began_by false is takes queue begun still queue_too begun_too =
+      inr (is, (subst (λ b. Draws b old.kernel old.queue.number new.kernel) (sym is) (takes_to bytes_cmp old.kernel.parts mid.kernel.parts new.kernel.parts (opening old.queue.number) (Some old.queue.number) (still_parts mid.kernel new.kernel still) takes), queue_too ∙ queue, begun_too ∙ begun))
+
+  pub began_still : Begins old mid → IsStill mid.kernel new.kernel → new.queue ≡ mid.queue → new.begun ≡ mid.begun → MayBegin old new
+  began_still (draws, queue, begun) still queue_too begun_too = began_by old.begun refl draws queue begun still queue_too begun_too
+
+pub on_err : {A E P Q : Type 0} (r : Result A E) → (P → Q) → OnErr r P → OnErr r Q
+on_err (Ok x) f p = p
+on_err (Err why) f p = f p
+
+-- the next frame is taken or refused
+pub sent : {V O : Type 0} (r : Result Sealed Refusal) (m : Parts (List ℕ) V O) (q q' : QueueView) (p p' : PlacesView) (room filled : List ℕ) (ts : List Token) → FramePost r q p room q' p' filled → IsInStep m q true ts → IsInStep m q' (is_err r) ts
+sent (Ok sealed) m q q' p p' room filled ts post h = subst (λ x. IsInStep m x false ts) (sym post.2) (taken m q ts h)
+sent (Err why) m q q' p p' room filled ts post h = subst (λ x. IsInStep m x true ts) (sym post.1) h

@@ -1,0 +1,9 @@
+mod Rows
+mod Moves
+mod Queues
+mod Spared
+mod Touched
+mod Same
+mod Answering
+mod Decided
+mod Law

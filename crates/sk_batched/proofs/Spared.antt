@@ -1,0 +1,54 @@
+-- A step that names no reserved key writes no key of a batch.
+use Rattle.std.proofs.Common.{◌≡◌, ℕ, Bool, true, false, ◌||◌, List, [], ◌∷◌, map, Option, Some, None, refl, sym, ◌∙◌, ap}
+use Rattle.std.specs.Prelude.{if◌then◌else◌}
+use Rattle.std.specs.List.{list_any}
+use Rattle.std.specs.Global.{Vec}
+use Rattle.std.specs.Vec.{vec_items}
+use Rattle.std.specs.Ordering.{eq_by_cmp}
+use Rattle.std.proofs.lemmas.Bool.{true≢false, or_from, or_parts, false_from_ne_true}
+use Rattle.sk_record.specs.Effects.{is_in}
+use Rattle.sk_index.specs.Index.{bytes_cmp}
+use Rattle.sk_index.proofs.Strings.{same_bytes}
+use Rattle.sk_speculator.specs.WholeStep.{WholeStep}
+use Rattle.sk_bytes.specs.Calls.{has_long_key}
+use Rattle.sk_bytes.specs.Steps.{byte_deed}
+use Rattle.sk_batched.specs.declared.refusal.Refusal.{Refusal}
+use Rattle.sk_batched.specs.declared.refusal.Refusal.TheVariants.{LongKey, Reserved}
+use Rattle.sk_batched.specs.Keys.{batch_key, has_reserved_key, is_batch_key, is_reserved}
+use Rattle.sk_batched.specs.Refused.{step_refused}
+use Rattle.sk_batched.specs.Batched.{in_batch}
+use Rattle.sk_batched.proofs.Moves.{Spares}
+
+neither : (a b : Bool) → (if a then Some LongKey else if b then Some Reserved else None) ≡ None → (a ≡ false) × (b ≡ false)
+neither true b is = absurd (some_none LongKey is) where
+  some_none : (x : Refusal) → Some x ≡ None → ⊥
+  some_none x is = cc
+neither false true is = absurd (some_none Reserved is) where
+  some_none : (x : Refusal) → Some x ≡ None → ⊥
+  some_none x is = cc
+neither false false is = (refl, refl)
+
+reserves : (n : ℕ) → is_reserved (batch_key n) ≡ true
+reserves n = refl
+
+written_spared : {V : Type 0} (ws : List (Vec ℕ × Option V)) (n : ℕ) → list_any (λ (w : Vec ℕ × Option V). is_batch_key w.0) ws ≡ false
+    → is_in bytes_cmp (map (λ (w : List ℕ × Option V). w.0) (map (λ (w : Vec ℕ × Option V). (vec_items w.0, w.1)) ws)) (batch_key n) ≡ false
+written_spared [] n none = refl
+written_spared (w ∷ ws) n none =
+    let parts = or_parts (is_reserved w.0.items) (list_any (λ v. is_batch_key v.0) ws) none in
+    or_from (eq_by_cmp bytes_cmp (batch_key n) w.0.items) _
+    (false_from_ne_true (eq_by_cmp bytes_cmp (batch_key n) w.0.items) (λ same. true≢false (sym (reserves n) ∙ ap is_reserved ((same_bytes (batch_key n) w.0.items).0 same) ∙ parts.0)))
+    (written_spared ws n parts.1)
+
+module _ {V O : Type 0} (step : WholeStep (Vec ℕ) V O) (free : step_refused step ≡ None) where
+  pub short : has_long_key step ≡ false
+  short = (neither (has_long_key step) (has_reserved_key step) free).0
+
+  unreserved : has_reserved_key step ≡ false
+  unreserved = (neither (has_long_key step) (has_reserved_key step) free).1
+
+  pub spared : Spares (byte_deed step)
+  spared n = written_spared step.written.items n (or_parts (list_any is_batch_key step.looked.items) (list_any (λ w. is_batch_key w.0) step.written.items) unreserved).1
+
+  pub spared_in_batch : (number : ℕ) → Spares (in_batch number (byte_deed step))
+  spared_in_batch number = spared

@@ -1,0 +1,11 @@
+-- None of the first keys is too long.
+use Rattle.std.proofs.Common.{◌≡◌, false, take}
+use Rattle.std.specs.List.{list_any}
+use Rattle.sk_bytes.specs.Calls.{is_long}
+use Rattle.sk_batched.proofs.checks.has_long_key.Given as goal
+
+abbrev pub invariant-loop-key : goal.invariant-loop-key
+invariant-loop-key g l = list_any is_long (take l.key-index l.step.looked.items) ≡ false
+
+abbrev pub invariant-loop-write : goal.invariant-loop-write
+invariant-loop-write g l = (list_any is_long l.step.looked.items ≡ false) × (list_any (λ (w : _ × _). is_long w.0) (take l.write-index l.step.written.items) ≡ false)

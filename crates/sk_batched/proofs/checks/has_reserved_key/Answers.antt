@@ -1,0 +1,14 @@
+-- One key more is none.
+use Rattle.std.proofs.Common.{◌≡◌, ◌<◌, false, length, slice_index_or, sym, ap, ◌∙◌, arith}
+use Rattle.sk_batched.specs.Keys.{is_batch_key}
+use Rattle.sk_batched.proofs.Touched.{any_next}
+use Rattle.sk_batched.proofs.checks.has_reserved_key.Goals as goal
+
+pub loop-write-preserved : goal.loop-write-preserved
+loop-write-preserved g c =
+    let i = c.loop-write.write-index in
+    let ws = c.args.step.now.written.items in
+    let lt : i < length ws = omega arith in
+    let here : is_batch_key c.write-item.result.0 ≡ false = sym c.is_batch_key-in-loop-write.ensures ∙ c.if-is_batch_key-2.false in
+    let at = c.write-item.is ∙ ap (λ xs. slice_index_or xs i c.write-item.result) c.as_slice-write-items.ensures.value in
+    (c.loop-write.invariant.0, any_next (λ w. is_batch_key w.0) ws i c.write-item.result lt at c.loop-write.invariant.1 here)

@@ -1,0 +1,8 @@
+-- The guesses so far, with those that are left.
+use Rattle.std.proofs.Common.{◌≡◌, ℕ, ◌||◌, ◌&&◌, not, drop}
+use Rattle.std.specs.Prelude.{◌==◌}
+use Rattle.sk_record.specs.Notes.{has}
+use Rattle.sk_batched.proofs.rests.add_all.Given as goal
+
+abbrev pub invariant-loop-id : goal.invariant-loop-id
+invariant-loop-id l = (g : ℕ) → (has g l.rests.items || (has g (drop l.id-index l.ids) && not (g == l.own))) ≡ (has g l.fn.rests.items || (has g l.ids && not (g == l.own)))

@@ -1,0 +1,19 @@
+-- What the keys so far rest on is there, with what those rest on that are left.
+use Rattle.std.proofs.Common.{◌≡◌, ℕ, List, ◌||◌, ◌&&◌, not, drop}
+use Rattle.std.specs.Prelude.{◌==◌}
+use Rattle.std.specs.List.{list_any}
+use Rattle.std.specs.Global.{Vec}
+use Rattle.sk_record.specs.Notes.{has}
+use Rattle.sk_record.specs.UndoState.{tags_at}
+use Rattle.sk_index.specs.Index.{bytes_cmp}
+use Rattle.sk_speculator.specs.Parts.{undo_state_of}
+use Rattle.sk_batched.proofs.rests.rests_of.Given as goal
+
+abbrev pub invariant-loop-key : goal.invariant-loop-key
+invariant-loop-key g l = (n : ℕ) → (has n l.rests.items || (list_any (λ (k : Vec ℕ). has n (tags_at (undo_state_of bytes_cmp l.kernel.parts) k.items)) (drop l.key-index l.step.looked.items) && not (n == l.own)))
+    ≡ (list_any (λ (k : Vec ℕ). has n (tags_at (undo_state_of bytes_cmp l.kernel.parts) k.items)) l.step.looked.items && not (n == l.own))
+
+abbrev pub invariant-loop-write : goal.invariant-loop-write
+invariant-loop-write g l = (n : ℕ) → (has n l.rests.items || (list_any (λ (w : Vec ℕ × _). has n (tags_at (undo_state_of bytes_cmp l.kernel.parts) w.0.items)) (drop l.write-index l.step.written.items) && not (n == l.own)))
+    ≡ ((list_any (λ (k : Vec ℕ). has n (tags_at (undo_state_of bytes_cmp l.kernel.parts) k.items)) l.step.looked.items
+    || list_any (λ (w : Vec ℕ × _). has n (tags_at (undo_state_of bytes_cmp l.kernel.parts) w.0.items)) l.step.written.items) && not (n == l.own))

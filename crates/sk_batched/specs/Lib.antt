@@ -1,0 +1,5 @@
+pub mod Keys
+pub mod Refused
+pub mod Batched
+pub mod InStep
+pub mod Runs

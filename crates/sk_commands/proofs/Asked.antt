@@ -1,5 +1,10 @@
 -- A step, where keys have what they have: what it asks for is all that it needs.
 use Rattle.std.proofs.Common.{◌≡◌, ℕ, ◌+◌, Bool, true, false, ◌&&◌, not, List, [], ◌∷◌, ◌++◌, map, filter, flat_map, length, count_by, fold, is_some, bytes_eq, cond, Option, Some, None, Result, Ok, if◌then◌else◌, refl, sym, ap, ◌∙◌}
+use Rattle.std.specs.Ordering.{nat_cmp}
+use Rattle.std.specs.Cmp.Lexicographic.{slice_cmp}
+use Rattle.std.specs.FinMap.Entries.{by_order}
+use Rattle.std.specs.declared.cmp.Ordering.{Ordering}
+use Rattle.std.specs.declared.cmp.Ordering.TheVariants.{Less, Equal, Greater}
 use Rattle.std.proofs.lemmas.Slice.Eq.{bytes_eq-Decides}
 use Rattle.sk_record.specs.Step.{perform, with_read, Effect}
 use Rattle.sk_deeds.specs.Deed.{effect_of}
@@ -114,13 +119,20 @@ keys_after ws (key ∷ keys) f g h = (after_alike ws key f g h.0, keys_after ws 
 has_it : (key : List ℕ) (value : Option (List ℕ)) (f : Have) → with_value key value f key ≡ value
 has_it key value f = ap (λ b. if b then value else f key) ((bytes_eq-Decides key key).1 refl)
 
+-- one key more, wherever it stands
+placed_alike : (r : Ordering) (k key : List ℕ) (known more : List (List ℕ)) (f g : Have) → f key ≡ g key → AreAlike (k ∷ known) f g → AreAlike more f g → AreAlike (by_order r (key ∷ k ∷ known) (k ∷ known) (k ∷ more)) f g
+placed_alike Less k key known more f g is h rest = (is, h)
+placed_alike Equal k key known more f g is h rest = h
+placed_alike Greater k key known more f g is h rest = (h.0, rest)
+
+one_more : (known : List (List ℕ)) (key : List ℕ) (f g : Have) → f key ≡ g key → AreAlike known f g → AreAlike (with_known known key) f g
+one_more [] key f g is h = (is, tt)
+one_more (k ∷ known) key f g is h =
+    placed_alike (slice_cmp nat_cmp key k) k key known (with_known known key) f g is h (one_more known key f g is h.1)
+
 one_known : (known : List (List ℕ)) (w : List ℕ × Option (List ℕ)) (f g : Have) → AreAlike known f g → AreAlike (with_known known w.0) (with_value w.0 w.1 f) (with_value w.0 w.1 g)
 one_known known w f g h =
-    let same = keys_after (w ∷ []) known f g h in
-    elim (is_among w.0 known) as (λ b. AreAlike (if b then known else known ++ w.0 ∷ []) (with_value w.0 w.1 f) (with_value w.0 w.1 g)) [
-      | true ↦ same
-      | false ↦ both_alike known (w.0 ∷ []) (with_value w.0 w.1 f) (with_value w.0 w.1 g) same (has_it w.0 w.1 f ∙ sym (has_it w.0 w.1 g), tt)
-    ]
+    one_more known w.0 (with_value w.0 w.1 f) (with_value w.0 w.1 g) (has_it w.0 w.1 f ∙ sym (has_it w.0 w.1 g)) (keys_after (w ∷ []) known f g h)
 
 -- and so of all keys that are known then
 all_after : (ws : Written) (known : List (List ℕ)) (f g : Have) → AreAlike known f g → AreAlike (known_after ws known) (after ws f) (after ws g)

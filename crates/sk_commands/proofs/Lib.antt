@@ -5,6 +5,8 @@ pub mod Shown
 pub mod Pairs
 pub mod Queued
 pub mod Unwritten
+pub mod Alone
 pub mod Said
 pub mod Works
 pub mod Bulks
+pub mod Placed

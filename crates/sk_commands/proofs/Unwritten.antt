@@ -26,7 +26,7 @@ nothing (Echo text) known has h = refl
 nothing (Wrong fault) known has h = refl
 
 -- neither may write
-neither : (a b : Bool) → (a || b) ≡ false → (a ≡ false) × (b ≡ false)
+pub neither : (a b : Bool) → (a || b) ≡ false → (a ≡ false) × (b ≡ false)
 neither true b h = cc
 neither false b h = (refl, h)
 

@@ -1,5 +1,10 @@
 -- What is done as one step: a command, or the commands of a queue, one after another.
-use Rattle.std.specs.Prelude.{ℕ, Bool, false, List, [], ◌∷◌, ◌++◌, flat_map, Option, bytes_eq, if◌then◌else◌}
+use Rattle.std.specs.Prelude.{◌≡◌, ◌≤◌, ℕ, Bool, false, List, [], ◌∷◌, ◌++◌, drop, flat_map, length, map, take, Option, Some, None, bytes_eq, if◌then◌else◌}
+use Rattle.std.specs.Ordering.{nat_cmp}
+use Rattle.std.specs.Cmp.Lexicographic.{slice_cmp}
+use Rattle.std.specs.FinMap.Entries.{by_order}
+use Rattle.std.specs.Global.{Vec}
+use Rattle.std.specs.Vec.{vec_items}
 use Rattle.std.specs.List.{list_any}
 use Rattle.sk_commands.specs.declared.command.Command.{Command}
 use Rattle.sk_commands.specs.declared.reply.Reply.{Reply}
@@ -7,7 +12,7 @@ use Rattle.sk_commands.specs.declared.work.Work.{Work}
 use Rattle.sk_commands.specs.declared.work.Work.TheVariants as works
 use Rattle.sk_commands.specs.declared.work.Answer.{Answer}
 use Rattle.sk_commands.specs.declared.work.Answer.TheVariants as answers
-use Rattle.sk_commands.specs.Table.{asks, is_among, is_told_of_all, may_write, outcome, Have, Outcome, Written}
+use Rattle.sk_commands.specs.Table.{asks, is_told_of_all, may_write, outcome, Have, Outcome, Written}
 
 -- a key has this, and the others what they have
 abbrev pub with_value : List ℕ → Option (List ℕ) → Have → Have
@@ -18,9 +23,18 @@ abbrev pub after : Written → Have → Have
 after [] has = has
 after (w ∷ ws) has = after ws (with_value w.0 w.1 has)
 
--- all keys when this is written: each stands among them once
+-- a key stands among keys once, in the order of their bytes
 abbrev pub with_known : List (List ℕ) → List ℕ → List (List ℕ)
-with_known known key = if is_among key known then known else known ++ key ∷ []
+with_known [] key = key ∷ []
+with_known (k ∷ known) key = by_order (slice_cmp nat_cmp key k) (key ∷ k ∷ known) (k ∷ known) (k ∷ with_known known key)
+
+-- The key is among these; or it would stand behind so many of them.
+abbrev pub IsPlace : List (Vec ℕ) → List ℕ → Option ℕ → Type 0
+IsPlace keys key None = with_known (map vec_items keys) key ≡ map vec_items keys
+IsPlace keys key (Some i) = (i ≤ length keys)
+    × (with_known (map vec_items keys) key ≡ map vec_items (take i keys) ++ key ∷ map vec_items (drop i keys))
+
+-- all keys when this is written
 
 abbrev pub known_after : Written → List (List ℕ) → List (List ℕ)
 known_after [] known = known

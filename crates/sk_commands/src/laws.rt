@@ -9,7 +9,7 @@ ghost use Rattle.sk_commands.specs.declared.command.Order.TheVariants.{Run};
 ghost use Rattle.sk_commands.specs.declared.session.Queue.{Queue};
 ghost use Rattle.sk_commands.specs.declared.work.Work.{Work};
 ghost use Rattle.sk_commands.specs.Table.{asks, is_told_of_all, may_write, outcome, Have};
-ghost use Rattle.sk_commands.specs.Work.{comes_to, may_write_some};
+ghost use Rattle.sk_commands.specs.Work.{comes_to, may_write_some, wants_all};
 ghost use Rattle.sk_commands.specs.Law.{act, deed};
 ghost use Rattle.sk_commands.specs.Parsing.{order_of};
 ghost use Rattle.sk_commands.specs.Session.{turn};
@@ -22,12 +22,14 @@ pub fn commands_act()
         → perform has (act channel known work) ≡ Ok (effect_of has (deed channel known work has)) }
 {}
 
-/// For a command that is not told of all keys it is the same whatever keys are known.
+/// For a command, or a queue, that is not told of all keys it is the same whatever keys are known.
 pub fn others_act_alone()
     ensures asks { (command : Command) (known others : List (List ℕ)) → is_told_of_all command ≡ false
         → asks known command ≡ asks others command }
     ensures outcome { (command : Command) (known others : List (List ℕ)) (has : Have)
         → is_told_of_all command ≡ false → outcome known command has ≡ outcome others command has }
+    ensures work { (work : Work) (known others : List (List ℕ)) (has : Have)
+        → wants_all work ≡ false → comes_to known work has ≡ comes_to others work has }
 {}
 
 /// What may not write writes nothing, for whatever keys have and whatever keys are known.

@@ -1,5 +1,5 @@
 //! The queue of a channel: what is to be done for each of its requests.
-ghost use Rattle.std.specs.Prelude.{◌≡◌, None, Some, map, IfOk, OnErr, OnOk};
+ghost use Rattle.std.specs.Prelude.{◌≡◌, None, Some, is_some, map, IfOk, OnErr, OnOk};
 ghost use Rattle.std.specs.Vec.{vec_items};
 ghost use Rattle.sk_commands.specs.declared.reply.Reply.TheVariants.{Error, Simple};
 ghost use Rattle.sk_commands.specs.declared.reply.Word.TheVariants as word;
@@ -107,6 +107,13 @@ impl Session {
         ensures { result.queue ≡ None }
     {
         Session { alloc, queue: None }
+    }
+
+    /// Whether a queue is open.
+    pub fn is_open(&self) -> bool
+        ensures { result ≡ is_some self.now.queue }
+    {
+        self.queue.is_some()
     }
 
     /// What is to be done for a request of these words, none of which is copied. Only a command that is to be queued wants

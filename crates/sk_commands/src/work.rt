@@ -2,12 +2,13 @@
 ghost use Rattle.std.specs.Prelude.{◌≡◌, ◌∷◌, ◌++◌, [], bytes_eq, flat_map, map, IfOk, OnErr, OnOk};
 ghost use Rattle.std.specs.List.{list_any};
 ghost use Rattle.std.specs.Vec.{vec_items};
-ghost use Rattle.sk_commands.specs.Table.{asks, is_among, is_told_of_all, may_write, outcome, told, CarriesOut};
-ghost use Rattle.sk_commands.specs.Work.{after, comes_to, each, known_after, looks_at, may_write_some, wants_all};
+ghost use Rattle.sk_commands.specs.Table.{asks, is_told_of_all, may_write, outcome, told, CarriesOut};
+ghost use Rattle.sk_commands.specs.Work.{after, comes_to, each, known_after, looks_at, may_write_some, wants_all, with_known, IsPlace};
 
-use crate::asking::{copy_key, copy_keys};
+use crate::asking::copy_keys;
 use crate::{ByteString, Command, Look, Reply, Writes};
 use std::alloc::{AllocError, Global};
+use std::cmp::Ordering;
 use std::marker::Model;
 
 /// Commands, one after another.
@@ -148,19 +149,33 @@ impl<S: Look> Look for Behind<'_, S> {
     }
 }
 
-/// Whether a key is among these.
-fn is_among(key: &[u8], keys: &[Vec<u8>]) -> bool
-    ensures { result ≡ is_among key.now (map vec_items keys.now) }
+/// Where a key would stand among keys, in the order of their bytes; `None` where it is among them.
+fn place_of(keys: &[Vec<u8>], key: &[u8]) -> Option<usize>
+    ensures { IsPlace keys.now key.now result }
 {
-    for other in keys {
-        if key == other.as_slice() {
-            return true;
+    for (i, other) in keys.iter().enumerate() {
+        match key.cmp(other.as_slice()) {
+            Ordering::Less => return Some(i),
+            Ordering::Equal => return None,
+            Ordering::Greater => {}
         }
     }
-    false
+    Some(keys.len())
 }
 
-/// Copies of all keys when this is written, each once.
+/// A copy of a key stands among keys once, in the order of their bytes.
+fn place_key(alloc: Global, key: &[u8], keys: &mut Vec<Vec<u8>>) -> Result<(), AllocError>
+    ensures { OnOk result
+        (map vec_items keys.new.items ≡ with_known (map vec_items keys.old.items) key.now) }
+{
+    if let Some(place) = place_of(keys.as_slice(), key) {
+        let copy = Vec::from_slice(alloc, key)?;
+        keys.insert(place, copy)?;
+    }
+    Ok(())
+}
+
+/// Copies of all keys when this is written, each once, in the order of their bytes where they stood so.
 fn known_after(
     alloc: Global,
     written: &[(Vec<u8>, Option<ByteString>)],
@@ -172,9 +187,7 @@ fn known_after(
     let mut all = Vec::new(alloc);
     copy_keys(alloc, known, &mut all)?;
     for write in written {
-        if !is_among(write.0.as_slice(), all.as_slice()) {
-            copy_key(alloc, write.0.as_slice(), &mut all)?;
-        }
+        place_key(alloc, write.0.as_slice(), &mut all)?;
     }
     Ok(all)
 }

@@ -25,7 +25,7 @@ fn is_of(alloc: Global, work: &Work, row: &Row) -> Result<(), Wrong> {
 }
 
 /// What is to be done for the words of a line.
-fn work_of(alloc: Global, session: &mut Session, line: &[u8]) -> Result<Work, AllocError> {
+pub fn work_of(alloc: Global, session: &mut Session, line: &[u8]) -> Result<Work, AllocError> {
     let words = words_of(alloc, line)?;
     session.take(words)
 }

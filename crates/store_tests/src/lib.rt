@@ -13,9 +13,13 @@ mod plain;
 #[cfg(test)]
 mod queues;
 #[cfg(test)]
+mod replay;
+#[cfg(test)]
 mod replies;
 #[cfg(test)]
 mod requests;
+#[cfg(test)]
+mod reserved;
 #[cfg(test)]
 mod words;
 #[cfg(test)]

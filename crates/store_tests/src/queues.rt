@@ -17,7 +17,7 @@ const CARRIED_OUT: &[(&[u8], &[u8])] = &[
     (b"INCRBY a x\r\n", QUEUED),
     (
         b"exec\r\n",
-        b"*5\r\n+OK\r\n:2\r\n:2\r\n*2\r\n$3\r\nold\r\n$1\r\na\r\n-ERR value is not an integer or out of range\r\n",
+        b"*5\r\n+OK\r\n:2\r\n:2\r\n*2\r\n$1\r\na\r\n$3\r\nold\r\n-ERR value is not an integer or out of range\r\n",
     ),
     (b"GET a\r\n", b"$1\r\n2\r\n"),
     (b"MULTI\r\n", OK),

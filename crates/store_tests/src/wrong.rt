@@ -15,6 +15,8 @@ pub enum Wrong {
     Cut(usize),
     /// What is kept or looked at is otherwise.
     Keys,
+    /// A payload is read otherwise.
+    Payload,
 }
 
 impl From<AllocError> for Wrong {
@@ -28,6 +30,15 @@ impl From<Refusal> for Wrong {
         match refusal {
             Refusal::Fault(fault) => Wrong::Fault(fault),
             Refusal::Memory => Wrong::Memory,
+        }
+    }
+}
+
+impl From<sk_replay::Refusal> for Wrong {
+    fn from(refusal: sk_replay::Refusal) -> Wrong {
+        match refusal {
+            sk_replay::Refusal::Memory => Wrong::Memory,
+            _ => Wrong::Payload,
         }
     }
 }

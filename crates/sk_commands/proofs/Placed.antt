@@ -1,0 +1,67 @@
+-- The place of a key among keys, key by key.
+use Rattle.std.proofs.Common.{◌≡◌, ℕ, ◌+◌, ◌<◌, ◌≤◌, List, [], ◌∷◌, ◌++◌, length, map, take, drop, get_or, refl, sym, ap, ◌∙◌, arith}
+use Rattle.std.specs.Prelude.{insert}
+use Rattle.std.specs.Ordering.{nat_cmp}
+use Rattle.std.specs.Cmp.Lexicographic.{slice_cmp}
+use Rattle.std.specs.FinMap.Entries.{by_order}
+use Rattle.std.specs.Global.{Vec}
+use Rattle.std.specs.Vec.{vec_items}
+use Rattle.std.specs.declared.cmp.Ordering.{Ordering}
+use Rattle.std.specs.declared.cmp.Ordering.TheVariants.{Less, Equal, Greater}
+use Rattle.std.proofs.lemmas.List.{append_assoc, drop_all, drop_more, take_all, take_more, take-append-drop}
+use Rattle.sk_commands.specs.Work.{with_known}
+
+-- A key stands behind the first of these.
+abbrev pub IsBehind : List ℕ → List (Vec ℕ) → ℕ → Type 0
+IsBehind key keys i = with_known (map vec_items keys) key ≡ map vec_items (take i keys) ++ with_known (map vec_items (drop i keys)) key
+
+map_append : (xs ys : List (Vec ℕ)) → map vec_items (xs ++ ys) ≡ map vec_items xs ++ map vec_items ys
+map_append [] ys = refl
+map_append (x ∷ xs) ys = ap (λ r. x.items ∷ r) (map_append xs ys)
+
+here : (key : List ℕ) (keys : List (Vec ℕ)) (i : ℕ) (e : Vec ℕ) (o : Ordering) → i < length keys
+    → get_or keys i e ≡ e → slice_cmp nat_cmp key e.items ≡ o
+    → with_known (map vec_items (drop i keys)) key ≡ by_order o (key ∷ e.items ∷ map vec_items (drop (i + 1) keys)) (e.items ∷ map vec_items (drop (i + 1) keys)) (e.items ∷ with_known (map vec_items (drop (i + 1) keys)) key)
+here key keys i e o small is order =
+    let rest = map vec_items (drop (i + 1) keys) in
+    ap (λ ks. with_known (map vec_items ks) key) (drop_more keys i e small ∙ ap (λ x. x ∷ drop (i + 1) keys) is)
+    ∙ ap (λ o. by_order o (key ∷ e.items ∷ rest) (e.items ∷ rest) (e.items ∷ with_known rest key)) order
+
+rest_is : (keys : List (Vec ℕ)) (i : ℕ) (e : Vec ℕ) → i < length keys → get_or keys i e ≡ e
+    → e.items ∷ map vec_items (drop (i + 1) keys) ≡ map vec_items (drop i keys)
+rest_is keys i e small is = sym (ap (map vec_items) (drop_more keys i e small ∙ ap (λ x. x ∷ drop (i + 1) keys) is))
+
+pub goes_before : (key : List ℕ) (keys : List (Vec ℕ)) (i : ℕ) (e : Vec ℕ) → i < length keys → get_or keys i e ≡ e
+    → slice_cmp nat_cmp key e.items ≡ Less → IsBehind key keys i
+    → with_known (map vec_items keys) key ≡ map vec_items (take i keys) ++ key ∷ map vec_items (drop i keys)
+goes_before key keys i e small is less behind =
+    behind ∙ ap (λ r. map vec_items (take i keys) ++ r) (here key keys i e Less small is less)
+    ∙ ap (λ r. map vec_items (take i keys) ++ key ∷ r) (rest_is keys i e small is)
+
+pub stands_at : (key : List ℕ) (keys : List (Vec ℕ)) (i : ℕ) (e : Vec ℕ) → i < length keys → get_or keys i e ≡ e
+    → slice_cmp nat_cmp key e.items ≡ Equal → IsBehind key keys i
+    → with_known (map vec_items keys) key ≡ map vec_items keys
+stands_at key keys i e small is equal behind =
+    behind ∙ ap (λ r. map vec_items (take i keys) ++ r) (here key keys i e Equal small is equal ∙ rest_is keys i e small is)
+    ∙ sym (map_append (take i keys) (drop i keys)) ∙ ap (map vec_items) (take-append-drop i keys)
+
+pub goes_behind : (key : List ℕ) (keys : List (Vec ℕ)) (i : ℕ) (e : Vec ℕ) → i < length keys → get_or keys i e ≡ e
+    → slice_cmp nat_cmp key e.items ≡ Greater → IsBehind key keys i → IsBehind key keys (i + 1)
+goes_behind key keys i e small is greater behind =
+    let rest = with_known (map vec_items (drop (i + 1) keys)) key in
+    behind ∙ ap (λ r. map vec_items (take i keys) ++ r) (here key keys i e Greater small is greater)
+    ∙ sym (append_assoc (map vec_items (take i keys)) (e.items ∷ []) rest)
+    ∙ ap (λ r. r ++ rest) (sym (map_append (take i keys) (e ∷ [])) ∙ ap (map vec_items) (sym (take_more keys i e small ∙ ap (λ x. take i keys ++ x ∷ []) is)))
+
+pub goes_last : (key : List ℕ) (keys : List (Vec ℕ)) (i : ℕ) → length keys ≤ i → IsBehind key keys i
+    → with_known (map vec_items keys) key ≡ map vec_items (take (length keys) keys) ++ key ∷ map vec_items (drop (length keys) keys)
+goes_last key keys i past behind =
+    let all : length keys ≤ length keys = omega arith in
+    behind ∙ ap (λ r. map vec_items (take i keys) ++ with_known (map vec_items r) key) (drop_all i keys past)
+    ∙ ap (λ r. map vec_items r ++ key ∷ []) (take_all i keys past ∙ sym (take_all (length keys) keys all))
+    ∙ ap (λ r. map vec_items (take (length keys) keys) ++ key ∷ map vec_items r) (sym (drop_all (length keys) keys all))
+
+-- what stands at the place of an inserted key
+pub inserted : (keys : List (Vec ℕ)) (i : ℕ) (copy : Vec ℕ)
+    → map vec_items (insert keys i copy) ≡ map vec_items (take i keys) ++ copy.items ∷ map vec_items (drop i keys)
+inserted keys i copy = map_append (take i keys) (copy ∷ drop i keys)

@@ -1,0 +1,9 @@
+pub mod Steps
+pub mod Known
+pub mod Free
+pub mod Absent
+pub mod Runs
+pub mod Stored
+pub mod Batch
+pub mod Called
+pub mod Writing

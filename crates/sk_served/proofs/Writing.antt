@@ -1,0 +1,23 @@
+-- What may not write leaves what was there.
+use Rattle.std.proofs.Common.{◌≡◌, Bool, true, false, List, [], ◌∷◌, if◌then◌else◌, refl, ap, ◌∙◌}
+use Rattle.sk_commands.specs.declared.work.Work.{Work}
+use Rattle.sk_commands.specs.Work.{may_write_some}
+use Rattle.sk_commands.proofs.Unwritten.{nothing_done}
+use Rattle.sk_plain_store.specs.Plain.{held, keys_of, written_to, Entries}
+use Rattle.sk_served.specs.Served.{Entry, Opens, Runs}
+use Rattle.sk_served.specs.Plain.{after_work, entries_after, works_after, writing}
+
+unchanged : (work : Work) (entries : Entries) → may_write_some work ≡ false → after_work work entries ≡ entries
+unchanged work entries is = ap (λ ws. written_to ws entries) (nothing_done work (keys_of entries) (held entries) is)
+
+-- by whether the work may write
+one : (work : Work) (works : List Work) (entries : Entries) (b : Bool) → may_write_some work ≡ b
+    → works_after works (after_work work entries) ≡ works_after (if b then work ∷ works else works) entries
+one work works entries true is = refl
+one work works entries false is = ap (works_after works) (unchanged work entries is)
+
+pub writing_is_all : (ns : List Entry) (entries : Entries) → entries_after ns entries ≡ works_after (writing ns) entries
+writing_is_all [] entries = refl
+writing_is_all (Opens n ∷ ns) entries = writing_is_all ns entries
+writing_is_all (Runs a ∷ ns) entries =
+    writing_is_all ns (after_work a.work entries) ∙ one a.work (writing ns) entries (may_write_some a.work) refl

@@ -1,0 +1,36 @@
+-- The keys that work names, and that none of them is a batch's.
+use Rattle.std.specs.Prelude.{◌≡◌, ℕ, Bool, false, List, [], ◌∷◌, map}
+use Rattle.std.specs.List.{list_any}
+use Rattle.sk_record.specs.Trace.{Event, Taken, Commit, Fail}
+use Rattle.sk_commands.specs.declared.command.Command.{Command}
+use Rattle.sk_commands.specs.declared.command.Command.TheVariants.{MSet}
+use Rattle.sk_commands.specs.declared.work.Work.{Work}
+use Rattle.sk_commands.specs.declared.work.Work.TheVariants as works
+use Rattle.sk_commands.specs.Table.{asks, pairs_of}
+use Rattle.sk_served.specs.Served.{is_reserved, Entry, Opens, Runs}
+
+-- the keys that a command names: those that it looks at, and those that MSET sets
+abbrev pub names_of : Command → List (List ℕ)
+names_of (MSet words) = map (λ w. w.0) (pairs_of words)
+names_of other = asks [] other
+
+-- whether one of them is reserved
+abbrev pub command_names_reserved : Command → Bool
+command_names_reserved command = list_any is_reserved (names_of command)
+
+abbrev pub names_reserved : Work → Bool
+names_reserved (works.Say reply) = false
+names_reserved (works.One command) = command_names_reserved command
+names_reserved (works.Each commands) = list_any command_names_reserved commands
+
+-- Its work names no key that is a batch's.
+abbrev pub NamesNoReserved : Entry → Type 0
+NamesNoReserved (Opens n) = Unit {0}
+NamesNoReserved (Runs a) = names_reserved a.work ≡ false
+
+-- So it is with each entry that is taken.
+abbrev pub NoneTakenNamesReserved : List (Event Entry) → Type 0
+NoneTakenNamesReserved [] = Unit {0}
+NoneTakenNamesReserved (Taken n ∷ es) = NamesNoReserved n × NoneTakenNamesReserved es
+NoneTakenNamesReserved (Commit g ∷ es) = NoneTakenNamesReserved es
+NoneTakenNamesReserved (Fail g ∷ es) = NoneTakenNamesReserved es

@@ -2,7 +2,8 @@
 ghost use Rattle.std.specs.Prelude.{◌≡◌, ◌+◌, ◌<◌, ◌≤◌, [], length, map, IfOk};
 ghost use Rattle.std.specs.Vec.{vec_capacity, vec_items, vec_len};
 ghost use Rattle.sk_commands.specs.Table.{told};
-ghost use Rattle.sk_plain_store.specs.Plain.{keys_of, put_in, taken_out, written_to, Runs};
+ghost use Rattle.sk_commands.specs.Work.{comes_to};
+ghost use Rattle.sk_plain_store.specs.Plain.{held, keys_of, put_in, taken_out, written_to, Runs};
 
 use crate::place::{Place, place_of};
 use sk_commands::{Answer, ByteString, Look, Work, Writes};
@@ -91,6 +92,13 @@ impl PlainStore {
         }
     }
 
+    /// The keys with what they have, in the order of their bytes.
+    pub fn entries(&self) -> &[(ByteString, ByteString)]
+        ensures { result.now ≡ self.now }
+    {
+        self.entries.as_slice()
+    }
+
     /// Copies of the keys, in the order of their bytes.
     pub fn keys(&self) -> Result<Vec<Vec<u8>>, AllocError>
         ensures { IfOk result (λ keys. map vec_items keys.items ≡ keys_of self.now) }
@@ -102,11 +110,22 @@ impl PlainStore {
         Ok(keys)
     }
 
+    /// Copies of the keys, where some of the work is told of all; else none, which changes nothing of what comes of it.
+    fn known_to(&self, work: &Work) -> Result<Vec<Vec<u8>>, AllocError>
+        ensures { IfOk result (λ known. comes_to (map vec_items known.items) work.now (held self.now)
+            ≡ comes_to (keys_of self.now) work.now (held self.now)) }
+    {
+        if work.is_told_of_all() {
+            return self.keys();
+        }
+        Ok(Vec::new(self.alloc))
+    }
+
     /// Carries out a command, or the commands of a queue, and answers. Without memory nothing has changed.
     pub fn run(&mut self, work: Work) -> Result<Answer, AllocError>
         ensures { Runs work self.old result self.new }
     {
-        let known = self.keys()?;
+        let known = self.known_to(&work)?;
         let mut written = Vec::new(self.alloc);
         let answer = work.run(self.alloc, &*self, known.as_slice(), &mut written)?;
         self.entries.reserve(written.len())?;

@@ -1,11 +1,11 @@
 -- Streams of requests.
-use Rattle.std.proofs.Common.{◌≡◌, ℕ, ◌+◌, ◌<◌, ◌≤◌, ◌^◌, List, [], ◌∷◌, ◌++◌, length, take, Option, Some, None, Result, Ok, Err, refl, sym, ◌∙◌, ap, subst, inl, inr, arith, length-append}
+use Rattle.std.proofs.Common.{◌≡◌, ℕ, ◌+◌, ◌<◌, ◌≤◌, ◌^◌, not, ◌==◌, List, [], ◌∷◌, ◌++◌, length, take, Option, Some, None, Result, Ok, Err, true, refl, sym, ◌∙◌, ap, subst, inl, inr, arith, length-append, rules}
 use Rattle.std.proofs.lemmas.List.{append_assoc, append-nil}
 use Rattle.sk_requests.specs.Lines.{IsLine, said, head}
 use Rattle.sk_requests.specs.Request.{bulks, IsArray, IsRequest, IsWithin, Fits, IsTooLarge}
 use Rattle.sk_requests.specs.Faults.{InWords, HasFault}
-use Rattle.sk_requests.specs.Reading.{IsAt, IsBehind, IsFound, Reads, words_of}
-use Rattle.sk_requests.specs.Stream.{IsTold, Splits, IsPart, HasRead, HasFound, ReadsOn}
+use Rattle.sk_requests.specs.Reading.{has_some, IsAt, IsBehind, IsFound, Reads, words_of}
+use Rattle.sk_requests.specs.Stream.{EndsWithin, IsTold, Splits, IsPart, HasRead, HasFound, ReadsOn}
 use Rattle.sk_requests.specs.Laws.{PartsAreNone, StreamsReadOnce, StreamsGoOn, CutsDontMatter}
 use Rattle.sk_requests.specs.declared.limits.Limits.{Limits}
 use Rattle.sk_requests.specs.declared.place.Place.{Place}
@@ -16,7 +16,7 @@ use Rattle.sk_requests.specs.declared.reader.Found.{Found}
 use Rattle.sk_requests.specs.declared.reader.Found.TheVariants as finds
 use Rattle.sk_requests.specs.declared.fault.Refusal.{Refusal}
 use Rattle.sk_requests.specs.declared.fault.Refusal.TheVariants as refusals
-use Rattle.sk_requests.proofs.Lines.{ends_behind, same_head, head_line}
+use Rattle.sk_requests.proofs.Lines.{ends_behind, same_head, head_line, head_parts}
 use Rattle.sk_requests.proofs.Arrays.{next_word, first_in_words, first_alone, no_inline, one_request}
 
 no_end_in : (line l more : List ℕ) → IsLine line → line ≡ l ++ 10 ∷ more → ⊥
@@ -24,7 +24,7 @@ no_end_in line l more one is =
     omega (arith, ends_behind line [] l more one (append-nil line ∙ is), ap length is, length-append l (10 ∷ more))
 
 -- A line that doesn't end is no request.
-line_is_part : (limits : Limits) (line : List ℕ) → IsLine line → IsPart limits line
+pub line_is_part : (limits : Limits) (line : List ℕ) → IsLine line → IsPart limits line
 line_is_part limits line one words text more request is = elim request [
   | inl a ↦
       let front : line ≡ said 42 (length words) ++ 10 ∷ (bulks words ++ more) =
@@ -66,7 +66,7 @@ part_at (End left) reader text at =
 pub parts_are_none : PartsAreNone
 parts_are_none text reader behind = part_at reader.place reader text behind.1
 
-request_within : (limits : Limits) (words : List (List ℕ)) (text : List ℕ) → IsWithin limits words text → IsRequest limits words text
+pub request_within : (limits : Limits) (words : List (List ℕ)) (text : List ℕ) → IsWithin limits words text → IsRequest limits words text
 request_within limits words text within = elim within [ inl a ↦ inl a.0 | inr l ↦ inr l ]
 
 never : (limits : Limits) (us ws : List (List ℕ)) → us ≡ ws → Fits limits us → IsTooLarge limits ws → ⊥
@@ -81,7 +81,7 @@ apart limits us ws text text' x y within a large is = elim within [
   | inr l ↦ no_inline limits us text' y text x (first_alone ws text' a) l (sym is)
 ]
 
-told_once : (limits : Limits) (t u : Option (List (List ℕ))) (text text' x y : List ℕ) → IsTold limits t text → IsTold limits u text' → text ++ x ≡ text' ++ y → (t ≡ u) × (x ≡ y)
+pub told_once : (limits : Limits) (t u : Option (List (List ℕ))) (text text' x y : List ℕ) → IsTold limits t text → IsTold limits u text' → text ++ x ≡ text' ++ y → (t ≡ u) × (x ≡ y)
 told_once limits (Some us) (Some ws) text text' x y one two is =
     let same = one_request limits us ws text text' x y (request_within limits us text one) (request_within limits ws text' two) is in
     (ap Some same.0, same.2)
@@ -158,3 +158,32 @@ reads_on limits told stream bytes old new (Err (refusals.Fault fault)) reads kep
     )
 reads_on limits told stream bytes old new (Err refusals.Memory) reads kept has =
     record { same = kept ∙ has.same; rest = has.rest; splits = has.splits; behind = reads has.rest has.behind }
+
+-- ---- whether a stream ends within a request
+
+some_in_words : (vs : List (List ℕ)) (text : List ℕ) (left : ℕ) (rest : List ℕ) → InWords vs text left rest → 0 < length text
+some_in_words vs text left rest inside =
+    let n = length vs + left in
+    let is = inside.begins ∙ ap (λ h. h ++ (bulks vs ++ rest)) (head_parts 42 n) in subst (λ t. 0 < length t) (sym is) (omega arith)
+
+front_ends : (limits : Limits) (told : List (Option (List (List ℕ)))) (stream text : List ℕ) → IsPart limits text → Splits limits told text stream → EndsWithin limits told stream (not (length text == 0))
+front_ends limits told stream [] part splits = splits
+front_ends limits told stream (b ∷ bs) part splits =
+    let some : not (length (b ∷ bs) == 0) ≡ true = first_of (search rules, grind arith) in
+    subst (EndsWithin limits told stream) (sym some) (b ∷ bs, splits, omega arith, part)
+
+ends_at : (place : Place) (reader : Reader) (told : List (Option (List (List ℕ)))) (stream text : List ℕ) → IsAt place reader text → Splits reader.limits told text stream → EndsWithin reader.limits told stream (has_some place reader.part.items)
+ends_at Front reader told stream text at splits =
+    subst (λ p. EndsWithin reader.limits told stream (not (length p == 0))) (sym at.0) (front_ends reader.limits told stream text (part_at Front reader text at) splits)
+ends_at (Length left) reader told stream text at splits =
+    (text, splits, some_in_words at.0.words text left reader.part.items at.0.array, part_at (Length left) reader text at)
+ends_at (Word left behind) reader told stream text at splits =
+    let size = length at.0 + behind in
+    (text, splits, some_in_words at.1.array.words text left (head 36 size ++ (at.0 ++ [])) at.1.array.array, part_at (Word left behind) reader text at)
+ends_at (End left) reader told stream text at splits =
+    (text, splits, some_in_words at.1.array.words text left (head 36 (length at.0) ++ (at.0 ++ 13 ∷ [])) at.1.array.array, part_at (End left) reader text at)
+
+pub ends_within : (limits : Limits) (told : List (Option (List (List ℕ)))) (stream : List ℕ) (reader : Reader) → HasRead limits told stream reader → EndsWithin limits told stream (has_some reader.place reader.part.items)
+ends_within limits told stream reader has =
+    subst (λ l. EndsWithin l told stream (has_some reader.place reader.part.items)) has.same
+    (ends_at reader.place reader told stream has.rest has.behind.1 (subst (λ l. Splits l told has.rest stream) (sym has.same) has.splits))

@@ -1,5 +1,5 @@
 -- The reading of a request, whose bytes come in pieces.
-use Rattle.std.specs.Prelude.{◌≡◌, ◌⊎◌, ℕ, ◌+◌, ◌<◌, ◌≤◌, ◌^◌, Bool, true, false, List, [], ◌∷◌, ◌++◌, length, take, map, Result, Ok, Err}
+use Rattle.std.specs.Prelude.{◌≡◌, ◌⊎◌, ℕ, ◌+◌, ◌<◌, ◌≤◌, ◌^◌, Bool, true, false, not, ◌==◌, List, [], ◌∷◌, ◌++◌, length, take, map, Result, Ok, Err}
 use Rattle.std.specs.Global.{Vec}
 use Rattle.sk_requests.specs.Lines.{IsLine, head}
 use Rattle.sk_requests.specs.Request.{total, IsArray, IsWithin, IsTooLarge}
@@ -48,6 +48,13 @@ IsAt places.Front reader text = (reader.part.items ≡ text) × KeepsLine reader
 IsAt (places.Length left) reader text = InArray reader text left 0 reader.part.items × KeepsLine reader
 IsAt (places.Word left behind) reader text = (word : List ℕ) × InWord reader text left (length word + behind) word []
 IsAt (places.End left) reader text = (word : List ℕ) × InWord reader text left (length word) word (13 ∷ [])
+
+-- whether a reader at this place has some of a request, where these bytes of a line or of a word came
+abbrev pub has_some : Place → List ℕ → Bool
+has_some places.Front part = not (length part == 0)
+has_some (places.Length left) part = true
+has_some (places.Word left behind) part = true
+has_some (places.End left) part = true
 
 -- These bytes of a request came, and no more.
 abbrev pub IsBehind : List ℕ → Reader → Type 0

@@ -1,5 +1,5 @@
 -- A stream of bytes, whatever way it was cut into pieces.
-use Rattle.std.specs.Prelude.{◌≡◌, ℕ, ◌<◌, ◌≤◌, List, [], ◌∷◌, ◌++◌, length, take, Option, Some, None, Result, Ok, Err}
+use Rattle.std.specs.Prelude.{◌≡◌, ℕ, ◌<◌, ◌≤◌, Bool, true, false, List, [], ◌∷◌, ◌++◌, length, take, Option, Some, None, Result, Ok, Err}
 use Rattle.sk_requests.specs.Request.{IsArray, IsRequest, IsWithin, IsTooLarge}
 use Rattle.sk_requests.specs.Faults.{HasFault}
 use Rattle.sk_requests.specs.Reading.{IsBehind, words_of}
@@ -46,3 +46,8 @@ ReadsOn limits told stream bytes (Ok taken) reader = (taken.count ≤ length byt
 ReadsOn limits told stream bytes (Err (refusals.Fault fault)) reader = HasRead limits told stream reader
     × ((rest : List ℕ) × Splits limits told rest (stream ++ bytes) × HasFault limits fault rest)
 ReadsOn limits told stream bytes (Err refusals.Memory) reader = HasRead limits told stream reader
+
+-- Whether the stream, of which this was told, ends within a request.
+abbrev pub EndsWithin : Limits → List (Option (List (List ℕ))) → List ℕ → Bool → Type 0
+EndsWithin limits told stream false = Splits limits told [] stream
+EndsWithin limits told stream true = (rest : List ℕ) × Splits limits told rest stream × (0 < length rest) × IsPart limits rest

@@ -1,8 +1,8 @@
 //! The reading of requests, whose bytes come in pieces.
 ghost use Rattle.std.specs.Prelude.{◌≡◌, ◌<◌, ◌≤◌, ◌++◌, ◌∷◌, ◌↔◌, ◌==◌, if◌then◌else◌, ℕ, List, [], Option, true, length, slice_index, vec_len, vec_capacity, IsTrue, OnOk, OnErr};
 ghost use Rattle.sk_requests.specs.Lines.{TakesLine};
-ghost use Rattle.sk_requests.specs.Reading.{IsBehind, Reads, words_of};
-ghost use Rattle.sk_requests.specs.Stream.{HasRead, ReadsOn};
+ghost use Rattle.sk_requests.specs.Reading.{has_some, IsBehind, Reads, words_of};
+ghost use Rattle.sk_requests.specs.Stream.{EndsWithin, HasRead, ReadsOn};
 ghost use Rattle.sk_requests.specs.declared.limits.Limits.{Limits};
 
 use crate::fault::{Fault, Refusal};
@@ -100,7 +100,25 @@ impl Reader {
         self.step(bytes)
     }
 
-    /// The same, where bytes of a request came before.
+    /// Whether what came ends within a request.
+    pub fn is_inside(&self) -> bool
+        ensures { (limits : Limits) (told : List (Option (List (List ℕ)))) (stream : List ℕ)
+            → HasRead limits told stream self.now → EndsWithin limits told stream result }
+    {
+        self.has_some()
+    }
+
+    /// The same, by its place.
+    fn has_some(&self) -> bool
+        ensures { result ≡ has_some self.now.place self.now.part.items }
+    {
+        match self.place {
+            Place::Front => !self.part.as_slice().is_empty(),
+            Place::Length(_) | Place::Word(..) | Place::End(_) => true,
+        }
+    }
+
+    /// Takes bytes from the front, where bytes of a request came before.
     fn step(&mut self, bytes: &[u8]) -> Result<Taken, Refusal>
         ensures read { (text : List ℕ) → IsBehind text self.old
             → Reads text bytes.now result self.new }

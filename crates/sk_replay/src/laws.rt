@@ -1,0 +1,14 @@
+//! What holds of frames that are read again, and of snapshots. Each law is the contract of a function that does nothing.
+ghost use Rattle.sk_replay.specs.Frames.{FramesRestore};
+ghost use Rattle.sk_replay.specs.Snapshot.{SnapshotsRestore};
+
+/// Works that set the entries of a plain store make it again.
+pub fn snapshots_restore()
+    ensures { SnapshotsRestore }
+{}
+
+/// Of however many first frames the payloads are read again, a plain store behind what they say is that behind the works that
+/// were logged in these frames.
+pub fn frames_restore()
+    ensures { FramesRestore }
+{}

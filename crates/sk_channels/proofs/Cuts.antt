@@ -1,0 +1,127 @@
+-- Streams that were cut in different ways.
+use Rattle.std.proofs.Common.{◌≡◌, ◌≢◌, ℕ, ◌+◌, Bool, true, false, List, [], ◌∷◌, ◌++◌, drop, get_or, None, refl, sym, ◌∙◌, ap, subst, inl, inr}
+use Rattle.std.specs.Prelude.{◌⊎◌}
+use Rattle.std.proofs.lemmas.Bool.{true≢false}
+use Rattle.sk_requests.specs.declared.fault.Fault.{Fault}
+use Rattle.sk_requests.specs.declared.limits.Limits.{Limits}
+use Rattle.sk_requests.specs.Faults.{HasFault}
+use Rattle.sk_requests.specs.Stream.{IsPart}
+use Rattle.sk_requests.proofs.Apart.{one_fault}
+use Rattle.sk_requests.proofs.Arrays.{fault_is_final}
+use Rattle.sk_requests.proofs.Streams.{parts_are_none, read_once}
+use Rattle.sk_channels.specs.declared.rejection.Rejection.TheVariants as rejections
+use Rattle.sk_channels.specs.declared.inlet.Ask.{Ask}
+use Rattle.sk_channels.specs.declared.inlet.Ask.TheVariants.{Reject}
+use Rattle.sk_channels.specs.declared.inlet.Inlet.{Inlet}
+use Rattle.sk_channels.specs.Asking.{with_words, asks_of, HadMemory}
+use Rattle.sk_channels.specs.Hearing.{IsOpen, IsClosed, HasHeard}
+use Rattle.sk_channels.specs.Laws.{AsksAreSaid, CutsDontMatter, TicketsInOrder}
+use Rattle.sk_channels.proofs.Asks.{asks_are, had_before}
+use Rattle.sk_channels.proofs.Heard.{opened, closed_one}
+
+-- Of two fronts of the same bytes one is the front of the other.
+fronts : (xs a ys b : List ℕ) → xs ++ a ≡ ys ++ b → ((m : List ℕ) × (ys ≡ xs ++ m)) ⊎ ((m : List ℕ) × (xs ≡ ys ++ m))
+fronts [] a ys b is = inl (ys, refl)
+fronts (x ∷ xs) a [] b is = inr (x ∷ xs, refl)
+fronts (x ∷ xs) a (y ∷ ys) b is =
+    let first : x ≡ y = ap (λ (zs : List ℕ). get_or zs 0 0) is in
+    elim (fronts xs a ys b (ap (λ (zs : List ℕ). drop 1 zs) is)) [
+      | inl f ↦ inl (f.0, λ i. sym first i ∷ f.1 i)
+      | inr f ↦ inr (f.0, λ i. first i ∷ f.1 i)
+    ]
+
+-- The rest behind what was told is no request that is whole.
+open_part : (limits : Limits) (asked : List Ask) (stream : List ℕ) (inlet : Inlet)
+    (is : IsOpen limits asked stream inlet) → IsPart limits is.read.rest
+open_part limits asked stream inlet is = subst (λ l. IsPart l is.read.rest) is.read.same
+    (parts_are_none is.read.rest inlet.reader is.read.behind)
+
+closed_part : (limits : Limits) (asked : List Ask) (stream : List ℕ) (is : IsClosed limits asked stream)
+    → IsPart limits (is.faulty ++ is.behind)
+closed_part limits asked stream is words text more request same = fault_is_final limits is.fault is.faulty is.has words
+    text is.behind more request same
+
+open_asks : (limits : Limits) (asked : List Ask) (stream : List ℕ) (inlet : Inlet)
+    (is : IsOpen limits asked stream inlet) → HadMemory asked → asked ≡ asks_of None (with_words is.told)
+open_asks limits asked stream inlet is had = asks_are None (with_words is.told) asked inlet.session.queue is.asks had
+
+closed_asks : (limits : Limits) (asked : List Ask) (stream : List ℕ) (is : IsClosed limits asked stream)
+    → HadMemory asked → is.before ≡ asks_of None (with_words is.told)
+closed_asks limits asked stream is had =
+    asks_are None (with_words is.told) is.before is.queue is.asks
+    (had_before is.before (Reject (rejections.Fault is.fault)) (subst HadMemory is.rejects had))
+
+pub asks_are_said : AsksAreSaid
+asks_are_said limits asked stream told handed channel has is_open had =
+    let is = opened limits asked stream channel.inlet is_open has.heard in (
+      is.told,
+      is.read.rest,
+      is.read.splits,
+      open_part limits asked stream channel.inlet is,
+      open_asks limits asked
+          stream channel.inlet is had,
+    )
+
+both_open : (limits : Limits) (asked other : List Ask) (stream : List ℕ) (inlet inlet' : Inlet)
+    → IsOpen limits asked stream inlet → IsOpen limits other stream inlet'
+    → HadMemory asked → HadMemory other → asked ≡ other
+both_open limits asked other stream inlet inlet' one two had had' =
+    let same = read_once limits one.told two.told one.read.rest two.read.rest stream one.read.splits
+    (open_part limits asked stream inlet one) two.read.splits (open_part limits other stream inlet' two) in
+    open_asks limits asked stream inlet one had ∙ ap (λ ts. asks_of None (with_words ts)) same.0
+    ∙ sym (open_asks limits other stream inlet' two had')
+
+-- The same fault is told.
+same_fault : (limits : Limits) (f g : Fault) (xs a ys b : List ℕ) → HasFault limits f xs → HasFault limits g ys
+    → xs ++ a ≡ ys ++ b → f ≡ g
+same_fault limits f g xs a ys b has has' is = elim (fronts xs a ys b is) [
+  | inl m ↦ one_fault limits f g xs m.0 has (subst (HasFault limits g) m.1 has')
+  | inr m ↦ sym (one_fault limits g f ys m.0 has' (subst (HasFault limits f) m.1 has))
+]
+
+both_closed : (limits : Limits) (asked other : List Ask) (stream : List ℕ) → IsClosed limits asked stream
+    → IsClosed limits other stream → HadMemory asked → HadMemory other → asked ≡ other
+both_closed limits asked other stream one two had had' =
+    let same = read_once limits one.told two.told (one.faulty ++ one.behind)
+    (two.faulty ++ two.behind) stream one.splits (closed_part limits asked stream one) two.splits
+    (closed_part limits other stream two) in
+    let before : one.before ≡ two.before = closed_asks limits asked stream one had
+    ∙ ap (λ ts. asks_of None (with_words ts)) same.0 ∙ sym (closed_asks limits other stream two had') in
+    let fault : one.fault ≡ two.fault = same_fault limits one.fault two.fault one.faulty one.behind two.faulty
+    two.behind one.has two.has same.1 in
+    one.rejects ∙ (λ i. before i ++ Reject (rejections.Fault (fault i)) ∷ []) ∙ sym two.rejects
+
+one_closed : (limits : Limits) (asked other : List Ask) (stream : List ℕ) (inlet : Inlet)
+    → IsOpen limits asked stream inlet → IsClosed limits other stream
+    → HadMemory asked → HadMemory other → (fault : Fault) × (other ≡ asked ++ Reject (rejections.Fault fault) ∷ [])
+one_closed limits asked other stream inlet one two had had' =
+    let same = read_once limits one.told two.told one.read.rest (two.faulty ++ two.behind) stream one.read.splits
+    (open_part limits asked stream inlet one) two.splits (closed_part limits other stream two) in
+    let before : two.before ≡ asked = closed_asks limits other stream two had'
+    ∙ ap (λ ts. asks_of None (with_words ts)) (sym same.0) ∙ sym (open_asks limits asked stream inlet one had) in
+    (two.fault, two.rejects ∙ ap (λ xs. xs ++ Reject (rejections.Fault two.fault) ∷ []) before)
+
+alike : (limits : Limits) (asked other : List Ask) (stream : List ℕ) (inlet inlet' : Inlet) (closed closed' : Bool)
+    → inlet.closed ≡ closed → inlet'.closed ≡ closed' → closed ≡ closed'
+    → HasHeard limits asked stream inlet → HasHeard limits other stream inlet' → HadMemory asked → HadMemory other
+    → asked ≡ other
+alike limits asked other stream inlet inlet' false false is is' same one two had had' =
+    both_open limits asked other stream inlet inlet' (opened limits asked stream inlet is one)
+    (opened limits other stream inlet' is' two) had had'
+alike limits asked other stream inlet inlet' true true is is' same one two had had' =
+    both_closed limits asked other stream (closed_one limits asked stream inlet is one)
+    (closed_one limits other stream inlet' is' two) had had'
+alike limits asked other stream inlet inlet' true false is is' same one two had had' = absurd (true≢false same)
+alike limits asked other stream inlet inlet' false true is is' same one two had had' = absurd (true≢false (sym same))
+
+pub cuts_dont_matter : CutsDontMatter
+cuts_dont_matter limits asked other stream told said handed given channel channel' one two had had' = (
+  (λ same. alike limits asked other stream channel.inlet channel'.inlet channel.inlet.closed channel'.inlet.closed refl
+      refl same one.heard two.heard had had'),
+  (λ is_open closed. one_closed limits asked other stream channel.inlet
+      (opened limits asked stream channel.inlet is_open one.heard)
+      (closed_one limits other stream channel'.inlet closed two.heard) had had'),
+)
+
+pub tickets_in_order : TicketsInOrder
+tickets_in_order limits asked stream told handed channel has = ((channel.outlet.waiting, sym has.said.bytes), has.given)

@@ -1,0 +1,6 @@
+pub mod Asks
+pub mod Cuts
+pub mod Heard
+pub mod Served
+pub mod Stepped
+pub mod Tellings

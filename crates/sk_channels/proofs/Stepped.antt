@@ -1,0 +1,149 @@
+-- What was fed, step by step.
+use Rattle.std.proofs.Common.{◌≡◌, ℕ, ◌+◌, ◌-◌, ◌<◌, ◌≤◌, Bool, true, false, List, ◌++◌, length, take, drop, Option, Some, None, Ok, Err, refl, sym, ◌∙◌, ap, subst, inl, inr, arith, append_assoc}
+use Rattle.std.proofs.lemmas.List.{append-nil, length-drop, take-append-drop, take-take, drop-take, drop-drop, drop_all}
+use Rattle.std.proofs.lemmas.Bool.{cases_lt, iff_false, true≢false}
+use Rattle.std.specs.Prelude.{◌↔◌, IsTrue, is_some}
+use Rattle.sk_channels.specs.declared.inlet.Asked.{Asked}
+use Rattle.sk_requests.specs.declared.limits.Limits.{Limits}
+use Rattle.sk_channels.specs.declared.refusal.Refusal.{Refusal}
+use Rattle.sk_channels.specs.declared.refusal.Refusal.TheVariants.{NoTicket, Full, Memory}
+use Rattle.sk_channels.specs.declared.inlet.Ask.{Ask}
+use Rattle.sk_channels.specs.declared.inlet.Fed.{Fed}
+use Rattle.sk_channels.specs.declared.inlet.Inlet.{Inlet}
+use Rattle.sk_channels.specs.Hearing.{HasHeard, HasHeardOn, Feeds}
+
+-- how many bytes came, where these are left
+abbrev pub gone : List ℕ → List ℕ → ℕ
+gone bytes rest = length bytes - length rest
+
+-- These are left of the bytes, and the others came.
+pub record IsLeft (old new : Inlet) (bytes rest : List ℕ) (steps : ℕ) : Type 0 where
+  pub within : length rest ≤ length bytes
+  pub left : rest ≡ drop (gone bytes rest) bytes
+  pub heard : (limits : Limits) (asked : List Ask) (stream : List ℕ) → HasHeard limits asked stream old
+      → HasHeard limits asked (stream ++ take (gone bytes rest) bytes) new × (0 < steps → length rest < length bytes)
+
+pub all_left : (old : Inlet) (bytes : List ℕ) → IsLeft old old bytes bytes 0
+all_left old bytes =
+    let none : 0 ≡ gone bytes bytes = omega arith in record {
+      within = omega arith;
+      left = ap (λ n. drop n bytes) none;
+      heard = λ limits asked stream has. (
+        subst (λ n. HasHeard limits asked (stream ++ take n bytes) old) none
+            (subst (λ s. HasHeard limits asked s old) (sym (append-nil stream)) has),
+        (λ some. absurd (omega (arith, some))),
+      );
+    }
+
+-- Some bytes and more of those behind them.
+taken_on : (n k : ℕ) (xs : List ℕ) → take n xs ++ take k (drop n xs) ≡ take (n + k) xs
+taken_on n k xs =
+    (λ i. sym (take-take n (n + k) xs (omega arith)) i ++ sym (drop-take n k xs) i)
+    ∙ take-append-drop n (take (n + k) xs)
+
+came_on : (stream bytes rest : List ℕ) (k : ℕ) → length rest ≤ length bytes → rest ≡ drop (gone bytes rest) bytes
+    → k ≤ length rest
+    → (stream ++ take (gone bytes rest) bytes) ++ take k rest ≡ stream ++ take (gone bytes (drop k rest)) bytes
+came_on stream bytes rest k within left few =
+    let n = gone bytes rest in
+    let same : n + k ≡ gone bytes (drop k rest) = omega (arith, within, few, length-drop k rest) in
+    append_assoc stream (take n bytes) (take k rest)
+    ∙ ap (λ xs. stream ++ xs) ((λ i. take n bytes ++ take k (left i)) ∙ taken_on n k bytes
+    ∙ ap (λ m. take m bytes) same)
+
+left_behind : (bytes rest : List ℕ) (k : ℕ) → length rest ≤ length bytes → rest ≡ drop (gone bytes rest) bytes
+    → drop k rest ≡ drop (gone bytes (drop k rest)) bytes
+left_behind bytes rest k within left = elim (cases_lt (length rest) k) [
+  | inr few ↦
+      ap (λ xs. drop k xs) left ∙ drop-drop k (gone bytes rest) bytes
+      ∙ ap (λ n. drop n bytes) (omega (arith, within, few, length-drop k rest))
+  | inl many ↦
+      drop_all k rest (omega (arith, many))
+      ∙ sym (drop_all (gone bytes (drop k rest)) bytes (omega (arith, many, length-drop k rest)))
+]
+
+-- A step took some, and asks for something or nothing.
+pub step_on : (old mid new : Inlet) (bytes rest : List ℕ) (steps : ℕ) (fed : Fed) → IsLeft old mid bytes rest steps
+    → ((limits : Limits) (asked : List Ask) (stream : List ℕ) → HasHeard limits asked stream mid
+    → Feeds limits asked stream rest (Ok fed) new)
+    → (limits : Limits) (asked : List Ask) (stream : List ℕ) → HasHeard limits asked stream old
+    → HasHeardOn limits asked (stream ++ take (gone bytes (drop fed.count rest)) bytes) fed.asked new ×
+    (fed.count ≤ length rest)
+    × (0 < length rest → 0 < fed.count)
+step_on old mid new bytes rest steps fed was feeds limits asked stream has =
+    let fed_so = feeds limits asked (stream ++ take (gone bytes rest) bytes) (was.heard limits asked stream has).0 in (
+      subst (λ s. HasHeardOn limits asked s fed.asked new)
+          (came_on stream bytes rest fed.count was.within was.left fed_so.0) fed_so.2,
+      fed_so.0,
+      fed_so.1,
+    )
+
+-- What is left behind a step that asks for nothing.
+pub less_left : (old mid new : Inlet) (bytes rest rest' : List ℕ) (steps steps' : ℕ) (fed : Fed)
+    → IsLeft old mid bytes rest steps
+    → 0 < length rest → fed.asked ≡ None → rest' ≡ drop fed.count rest
+    → ((limits : Limits) (asked : List Ask) (stream : List ℕ) → HasHeard limits asked stream mid
+    → Feeds limits asked stream rest (Ok fed) new)
+    → IsLeft old new bytes rest' steps'
+less_left old mid new bytes rest rest' steps steps' fed was some none is feeds =
+    let left : drop fed.count rest ≡ drop (gone bytes (drop fed.count rest)) bytes = left_behind bytes rest fed.count
+    was.within was.left in
+    subst (λ r. IsLeft old new bytes r steps') (sym is) (record {
+      within = omega (arith, was.within, length-drop fed.count rest);
+      left = left;
+      heard = λ limits asked stream has.
+          let on = step_on old mid new bytes rest steps fed was feeds limits asked stream has in (
+            subst (λ a. HasHeardOn limits asked (stream ++ take (gone bytes (drop fed.count rest)) bytes) a new) none
+                on.0,
+            (λ more. omega (arith, was.within, some, on.1, on.2 some, length-drop fed.count rest)),
+          );
+    })
+
+-- A step was refused.
+pub still_heard : (limits : Limits) (asked : List Ask) (stream rest : List ℕ) (why : Refusal) (new : Inlet)
+    → Feeds limits asked stream rest (Err why) new → HasHeard limits asked stream new
+still_heard limits asked stream rest NoTicket new fed = fed.0
+still_heard limits asked stream rest Full new fed = absurd fed
+still_heard limits asked stream rest Memory new fed = fed
+
+refused_at_once : (limits : Limits) (asked : List Ask) (stream rest bytes : List ℕ) (why : Refusal) (new : Inlet)
+    → Feeds limits asked stream rest (Err why) new → Feeds limits asked stream bytes (Err why) new
+refused_at_once limits asked stream rest bytes NoTicket new fed = fed
+refused_at_once limits asked stream rest bytes Full new fed = absurd fed
+refused_at_once limits asked stream rest bytes Memory new fed = fed
+
+pub refused_first : (old mid new : Inlet) (bytes rest : List ℕ) (steps : ℕ) (why : Refusal)
+    → IsLeft old mid bytes rest steps
+    → length rest ≡ length bytes
+    → ((limits : Limits) (asked : List Ask) (stream : List ℕ) → HasHeard limits asked stream mid
+    → Feeds limits asked stream rest (Err why) new)
+    → (limits : Limits) (asked : List Ask) (stream : List ℕ) → HasHeard limits asked stream old
+    → Feeds limits asked stream bytes (Err why) new
+refused_first old mid new bytes rest steps why was same feeds limits asked stream has =
+    let none : gone bytes rest ≡ 0 = omega (arith, same) in
+    let heard = subst (λ s. HasHeard limits asked s mid) (append-nil stream)
+    (subst (λ n. HasHeard limits asked (stream ++ take n bytes) mid) none (was.heard limits asked stream has).0) in
+    refused_at_once limits asked stream rest bytes why new (feeds limits asked stream heard)
+
+pub asked_on : (old mid new : Inlet) (bytes rest rest' : List ℕ) (steps : ℕ) (fed : Fed)
+    → IsLeft old mid bytes rest steps
+    → 0 < length rest → rest' ≡ drop fed.count rest
+    → ((limits : Limits) (asked : List Ask) (stream : List ℕ) → HasHeard limits asked stream mid
+    → Feeds limits asked stream rest (Ok fed) new)
+    → (limits : Limits) (asked : List Ask) (stream : List ℕ) → HasHeard limits asked stream old
+    → (gone bytes rest' ≤ length bytes) × (0 < length bytes → 0 < gone bytes rest')
+    × HasHeardOn limits asked (stream ++ take (gone bytes rest') bytes) fed.asked new
+asked_on old mid new bytes rest rest' steps fed was some is feeds limits asked stream has =
+    let on = step_on old mid new bytes rest steps fed was feeds limits asked stream has in
+    let less : length (drop fed.count rest) < length bytes =
+    omega (arith, was.within, some, on.1, on.2 some, length-drop fed.count rest) in
+    subst (λ r. (gone bytes r ≤ length bytes) × (0 < length bytes → 0 < gone bytes r)
+    × HasHeardOn limits asked (stream ++ take (gone bytes r) bytes) fed.asked new) (sym is)
+    (omega arith, (λ more. omega (arith, less)), on.0)
+
+pub some_left : (none : Bool) (n : ℕ) → IsTrue none ↔ (n ≡ 0) → none ≡ false → 0 < n
+some_left none n iff is = omega (arith, iff_false {b = none} {P = n ≡ 0} iff is)
+
+pub nothing_asked : (asked : Option Asked) (some : Bool) → some ≡ is_some asked → some ≡ false → asked ≡ None
+nothing_asked None some same is = refl
+nothing_asked (Some one) some same is = absurd (true≢false (sym same ∙ is))

@@ -1,0 +1,54 @@
+-- What requests ask for, one after another, by the queue that is open.
+use Rattle.std.specs.Prelude.{◌≡◌, ◌≢◌, ℕ, List, [], ◌∷◌, Option, Some, None}
+use Rattle.sk_commands.specs.declared.session.Queue.{Queue}
+use Rattle.sk_commands.specs.Parsing.{order_of}
+use Rattle.sk_commands.specs.Session.{turn, spoilt}
+use Rattle.sk_channels.specs.declared.rejection.Rejection.TheVariants as rejections
+use Rattle.sk_channels.specs.declared.inlet.Ask.{Ask}
+use Rattle.sk_channels.specs.declared.inlet.Ask.TheVariants.{Do, Reject}
+
+-- what came, one after another: the words of each request, or none where it is beyond the limits
+abbrev pub Requests : Type 0
+Requests = List (Option (List (List ℕ)))
+
+-- the queue that is open is not to be carried out
+abbrev pub spoilt_queue : Option Queue → Option Queue
+spoilt_queue None = None
+spoilt_queue (Some queue) = Some (spoilt queue)
+
+-- A command was to be queued, and there was no memory.
+abbrev pub IsUnqueued : Option Queue → Option Queue → Type 0
+IsUnqueued None new = ⊥
+IsUnqueued (Some queue) new = new ≡ Some (spoilt queue)
+
+-- What a request comes to where this queue is open, and which is open then: the work that its words say. Where there was no memory
+-- to queue a command, and where a request is beyond the limits, the queue is not to be carried out.
+abbrev pub Asks : Option Queue → Option (List (List ℕ)) → Ask → Option Queue → Type 0
+Asks old (Some words) (Do work) new = (work ≡ (turn old (order_of words)).work) × (new ≡ (turn old (order_of words)).queue)
+Asks old (Some words) (Reject rejections.Memory) new = IsUnqueued old new
+Asks old None (Reject rejections.TooLarge) new = new ≡ spoilt_queue old
+Asks old told other new = ⊥
+
+-- the requests that have words; the others ask for nothing
+abbrev pub with_words : Requests → Requests
+with_words [] = []
+with_words (Some [] ∷ told) = with_words told
+with_words (Some (word ∷ words) ∷ told) = Some (word ∷ words) ∷ with_words told
+with_words (None ∷ told) = None ∷ with_words told
+
+-- The same for requests, one after another.
+abbrev pub AskInTurn : Option Queue → Requests → List Ask → Option Queue → Type 0
+AskInTurn old [] [] new = new ≡ old
+AskInTurn old (t ∷ told) (a ∷ asked) new = (next : Option Queue) × Asks old t a next × AskInTurn next told asked new
+AskInTurn old told asked new = ⊥
+
+-- what requests ask for where there is memory to queue
+abbrev pub asks_of : Option Queue → Requests → List Ask
+asks_of queue [] = []
+asks_of queue (Some words ∷ told) = Do (turn queue (order_of words)).work ∷ asks_of (turn queue (order_of words)).queue told
+asks_of queue (None ∷ told) = Reject rejections.TooLarge ∷ asks_of (spoilt_queue queue) told
+
+-- There was memory to queue each command.
+abbrev pub HadMemory : List Ask → Type 0
+HadMemory [] = Unit {0}
+HadMemory (a ∷ asked) = (a ≢ Reject rejections.Memory) × HadMemory asked

@@ -1,0 +1,80 @@
+-- What a channel asked for of the bytes that came.
+use Rattle.std.specs.Prelude.{◌≡◌, ℕ, ◌+◌, ◌-◌, ◌<◌, ◌≤◌, ◌^◌, Bool, true, false, List, [], ◌∷◌, ◌++◌, length, take, Option, Some, None, Result, Ok, Err}
+use Rattle.sk_requests.specs.declared.fault.Fault.{Fault}
+use Rattle.sk_requests.specs.declared.limits.Limits.{Limits}
+use Rattle.sk_requests.specs.declared.reader.Found.{Found}
+use Rattle.sk_requests.specs.declared.reader.Found.TheVariants as finds
+use Rattle.sk_requests.specs.Faults.{HasFault}
+use Rattle.sk_requests.specs.Reading.{words_of}
+use Rattle.sk_requests.specs.Stream.{HasRead, Splits}
+use Rattle.sk_commands.specs.declared.session.Queue.{Queue}
+use Rattle.sk_channels.specs.declared.refusal.Refusal.{Refusal}
+use Rattle.sk_channels.specs.declared.refusal.Refusal.TheVariants.{NoTicket, Full, Memory}
+use Rattle.sk_channels.specs.declared.rejection.Rejection.TheVariants as rejections
+use Rattle.sk_channels.specs.declared.inlet.Ask.{Ask}
+use Rattle.sk_channels.specs.declared.inlet.Ask.TheVariants.{Reject}
+use Rattle.sk_channels.specs.declared.inlet.Asked.{Asked}
+use Rattle.sk_channels.specs.declared.inlet.Fed.{Fed}
+use Rattle.sk_channels.specs.declared.inlet.Inlet.{Inlet}
+use Rattle.sk_channels.specs.Asking.{Requests, with_words, Asks, AskInTurn}
+
+-- The stream is requests for which this was asked (those without words ask for nothing), and then no request that is whole.
+pub record IsOpen (limits : Limits) (asked : List Ask) (stream : List ℕ) (inlet : Inlet) : Type 0 where
+  pub told : Requests
+  pub read : HasRead limits told stream inlet.reader
+  pub asks : AskInTurn None (with_words told) asked inlet.session.queue
+
+-- It is requests for which this was asked, then bytes with a fault, for which it is rejected, and whatever follows.
+pub record IsClosed (limits : Limits) (asked : List Ask) (stream : List ℕ) : Type 0 where
+  pub told : Requests
+  pub before : List Ask
+  pub fault : Fault
+  pub faulty : List ℕ
+  pub behind : List ℕ
+  pub queue : Option Queue
+  pub splits : Splits limits told (faulty ++ behind) stream
+  pub has : HasFault limits fault faulty
+  pub asks : AskInTurn None (with_words told) before queue
+  pub rejects : asked ≡ before ++ Reject (rejections.Fault fault) ∷ []
+
+abbrev pub IsHeard : Bool → Limits → List Ask → List ℕ → Inlet → Type 0
+IsHeard false limits asked stream inlet = IsOpen limits asked stream inlet
+IsHeard true limits asked stream inlet = IsClosed limits asked stream
+
+-- The stream came, and this was asked for, in this order, each with its ticket: 1, 2 and so on.
+pub record HasHeard (limits : Limits) (asked : List Ask) (stream : List ℕ) (inlet : Inlet) : Type 0 where
+  pub heard : IsHeard inlet.closed limits asked stream inlet
+  pub tickets : inlet.next ≡ length asked + 1
+
+-- The same, with what is asked for now.
+abbrev pub HasHeardOn : Limits → List Ask → List ℕ → Option Asked → Inlet → Type 0
+HasHeardOn limits asked stream None inlet = HasHeard limits asked stream inlet
+HasHeardOn limits asked stream (Some one) inlet = HasHeard limits (asked ++ one.ask ∷ []) stream inlet × (one.ticket ≡ length asked + 1)
+
+-- What a call with these bytes leaves and answers: so many came, and they end a request or none. After a refusal no more came.
+abbrev pub Feeds : Limits → List Ask → List ℕ → List ℕ → Result Fed Refusal → Inlet → Type 0
+Feeds limits asked stream bytes (Ok fed) inlet = (fed.count ≤ length bytes) × (0 < length bytes → 0 < fed.count)
+    × HasHeardOn limits asked (stream ++ take fed.count bytes) fed.asked inlet
+Feeds limits asked stream bytes (Err NoTicket) inlet = HasHeard limits asked stream inlet × (length asked + 1 ≡ 2 ^ 64 - 1)
+Feeds limits asked stream bytes (Err Full) inlet = ⊥
+Feeds limits asked stream bytes (Err Memory) inlet = HasHeard limits asked stream inlet
+
+-- A request asks for something, which gets the next ticket.
+pub record IsGiven (old : Inlet) (told : Option (List (List ℕ))) (asked : Option Asked) (new : Inlet) : Type 0 where
+  pub ask : Ask
+  pub given : asked ≡ Some (record { ticket = old.next; ask = ask })
+  pub asks : Asks old.session.queue told ask new.session.queue
+  pub reader : new.reader ≡ old.reader
+  pub next : new.next ≡ old.next + 1
+  pub closed : new.closed ≡ old.closed
+
+-- Words ask for something, if there are any.
+abbrev pub WordsAsk : Inlet → List (List ℕ) → Option Asked → Inlet → Type 0
+WordsAsk old [] asked new = (asked ≡ None) × (new ≡ old)
+WordsAsk old (word ∷ words) asked new = IsGiven old (Some (word ∷ words)) asked new
+
+-- What was found asks for something, if it is a request.
+abbrev pub Finds : Inlet → Found → Option Asked → Inlet → Type 0
+Finds old finds.Part asked new = (asked ≡ None) × (new ≡ old)
+Finds old (finds.Request words) asked new = WordsAsk old (words_of words.items) asked new
+Finds old finds.TooLarge asked new = IsGiven old None asked new

@@ -1,0 +1,7 @@
+pub mod Asking
+pub mod Hearing
+pub mod Laws
+pub mod Rejections
+pub mod Serving
+pub mod Table
+pub mod Telling

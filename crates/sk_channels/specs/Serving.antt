@@ -1,0 +1,54 @@
+-- What a channel asked for, and what of its replies it handed over.
+use Rattle.std.specs.Prelude.{◌≡◌, ◌⊎◌, ℕ, ◌+◌, ◌-◌, ◌<◌, ◌≤◌, ◌^◌, List, [], ◌∷◌, ◌++◌, length, take, Option, Some, None, Result, Ok, Err}
+use Rattle.sk_requests.specs.declared.limits.Limits.{Limits}
+use Rattle.sk_channels.specs.declared.refusal.Refusal.{Refusal}
+use Rattle.sk_channels.specs.declared.refusal.Refusal.TheVariants.{NoTicket, Full, Memory}
+use Rattle.sk_channels.specs.declared.inlet.Ask.{Ask}
+use Rattle.sk_channels.specs.declared.inlet.Asked.{Asked}
+use Rattle.sk_channels.specs.declared.inlet.Fed.{Fed}
+use Rattle.sk_channels.specs.declared.channel.Channel.{Channel}
+use Rattle.sk_channels.specs.Hearing.{HasHeard}
+use Rattle.sk_channels.specs.Telling.{Told, refused_up_to, HasTold}
+
+-- The stream came, and this was asked for, in this order, with the tickets 1, 2 and so on. Of these as many tickets were told this,
+-- each once, and of its bytes these were handed over.
+pub record HasServed (limits : Limits) (asked : List Ask) (stream : List ℕ) (told : Told) (handed : List ℕ) (channel : Channel) : Type 0 where
+  pub heard : HasHeard limits asked stream channel.inlet
+  pub said : HasTold told handed channel.outlet
+  pub given : length told ≤ length asked
+
+-- The same, with what is asked for now.
+abbrev pub HasServedOn : Limits → List Ask → List ℕ → Option Asked → Told → List ℕ → Channel → Type 0
+HasServedOn limits asked stream None told handed channel = HasServed limits asked stream told handed channel
+HasServedOn limits asked stream (Some one) told handed channel =
+    HasServed limits (asked ++ one.ask ∷ []) stream told handed channel × (one.ticket ≡ length asked + 1)
+
+-- What a call with these bytes leaves and answers: so many came, and they end a request or none. After a refusal nothing has changed.
+abbrev pub FeedPost : Limits → List Ask → List ℕ → Told → List ℕ → List ℕ → Result Fed Refusal → Channel → Type 0
+FeedPost limits asked stream told handed bytes (Ok fed) channel = (fed.count ≤ length bytes) × (0 < length bytes → 0 < fed.count)
+    × HasServedOn limits asked (stream ++ take fed.count bytes) fed.asked told handed channel
+FeedPost limits asked stream told handed bytes (Err NoTicket) channel =
+    HasServed limits asked stream told handed channel × (length asked + 1 ≡ 2 ^ 64 - 1)
+FeedPost limits asked stream told handed bytes (Err Full) channel = ⊥
+FeedPost limits asked stream told handed bytes (Err Memory) channel = HasServed limits asked stream told handed channel
+
+-- A ticket that was given and told nothing is told a text, and those before it that were told nothing that their writes did not reach
+-- the disk. After a refusal nothing has changed: there is no such ticket, more bytes wait than may, or there was no memory.
+abbrev pub ReplyPost : Limits → List Ask → List ℕ → Told → List ℕ → ℕ → List ℕ → Result (Unit {0}) Refusal → Channel → Type 0
+ReplyPost limits asked stream told handed ticket text (Ok _) channel = (length told < ticket) × (ticket ≤ length asked)
+    × HasServed limits asked stream (told ++ (refused_up_to told ticket ++ Some text ∷ [])) handed channel
+ReplyPost limits asked stream told handed ticket text (Err NoTicket) channel =
+    HasServed limits asked stream told handed channel × ((ticket ≤ length told) ⊎ (length asked < ticket))
+ReplyPost limits asked stream told handed ticket text (Err Full) channel =
+    HasServed limits asked stream told handed channel × (channel.outlet.most < length channel.outlet.waiting)
+ReplyPost limits asked stream told handed ticket text (Err Memory) channel = HasServed limits asked stream told handed channel
+
+-- Only those before it are told.
+abbrev pub RefusePost : Limits → List Ask → List ℕ → Told → List ℕ → ℕ → Result (Unit {0}) Refusal → Channel → Type 0
+RefusePost limits asked stream told handed ticket (Ok _) channel =
+    (ticket ≤ length asked + 1) × HasServed limits asked stream (told ++ refused_up_to told ticket) handed channel
+RefusePost limits asked stream told handed ticket (Err NoTicket) channel =
+    HasServed limits asked stream told handed channel × (length asked + 1 < ticket)
+RefusePost limits asked stream told handed ticket (Err Full) channel =
+    HasServed limits asked stream told handed channel × (channel.outlet.most < length channel.outlet.waiting)
+RefusePost limits asked stream told handed ticket (Err Memory) channel = HasServed limits asked stream told handed channel

@@ -1,2 +1,3 @@
 mod Heap
 mod Pointer
+mod Shown

@@ -1,6 +1,5 @@
 -- What is asked of what is at play, and what is told of it.
-use Rattle.std.specs.Prelude.{◌≡◌, ◌⊎◌, ⊤, ℕ, Bool, List, bytes_eq, Option, Some, None, Result, Ok, Err}
-use Rattle.std.specs.List.{find}
+use Rattle.std.specs.Prelude.{◌≡◌, ◌⊎◌, ⊤, ℕ, List, Option, Some, None, Result, Ok, Err}
 use Rattle.std.specs.FinMap as map
 use Rattle.std.specs.declared.vec.Vec.{Vec}
 use Rattle.std.specs.declared.alloc.Global.{Global}
@@ -10,23 +9,17 @@ use Rattle.sk_kernel.specs.Kernel.{KernelView, state_at, tags_at}
 use Rattle.sk_counts.specs.Counts.{AreCounts}
 use Rattle.sk_counts.specs.declared.counts.Counts.{Counts}
 use Rattle.sk_report.specs.declared.stop.Stop.{Stop}
-use Rattle.sk_report.specs.Printed.{entity_text, tags_text}
+use Rattle.sk_report.specs.Printed.{tags_text}
 use Rattle.sk_report.specs.Directories.{gathered}
 use Rattle.sk_report.specs.Report.{terminal_said}
+use Rattle.sk_talk.specs.Asked.{named}
 use Rattle.sk_talk.specs.Played.{kernel_of, report_of}
 use Rattle.sk_talk.specs.declared.play.Play.{Play}
 use Rattle.hidewillow_c.specs.declared.codes.TheConstants.{SHOWN, ABSENT, MEMORY}
 use Rattle.hidewillow_c.specs.declared.told.Told.{Told}
 use Rattle.hidewillow_c.specs.Told.{just, texted, put}
 
--- ---- an entity, by the name that the report has for it
-
-abbrev pub is_named : List ℕ → Entity → Bool
-is_named name e = bytes_eq (entity_text e) name
-
--- the present entity of this name
-abbrev pub named : KernelView → List ℕ → Option Entity
-named k name = find (is_named name) (map.keys (state_at k))
+-- ---- of an entity that is named
 
 abbrev pub of_named : (Entity → Option (List ℕ)) → Option Entity → Option (List ℕ)
 of_named text None = None
@@ -49,10 +42,10 @@ tags_text_of k e = Some (tags_text (tags_at k e))
 abbrev pub report_shown : Play → Option (List ℕ)
 report_shown p = Some (report_of p)
 
-abbrev pub value_shown : List ℕ → Play → Option (List ℕ)
+unfoldable pub value_shown : List ℕ → Play → Option (List ℕ)
 value_shown name p = of_named (value_text (kernel_of p)) (named (kernel_of p) name)
 
-abbrev pub tags_shown : List ℕ → Play → Option (List ℕ)
+unfoldable pub tags_shown : List ℕ → Play → Option (List ℕ)
 tags_shown name p = of_named (tags_text_of (kernel_of p)) (named (kernel_of p) name)
 
 -- the lines of a terminal, as the report has them

@@ -1,9 +1,9 @@
 //! What is asked of what is at play, which changes nothing.
-ghost use Rattle.std.specs.Prelude.{◌≡◌, Some, IfOk};
-ghost use Rattle.std.specs.List.{find};
+ghost use Rattle.std.specs.Prelude.{◌≡◌, Some};
 ghost use Rattle.sk_report.specs.Report.{terminal_said};
+ghost use Rattle.sk_talk.specs.Asked.{named};
 ghost use Rattle.sk_talk.specs.Played.{kernel_of};
-ghost use Rattle.hidewillow_c.specs.Asked.{is_named, named, of_named, value_text, tags_text_of, report_shown, value_shown, tags_shown, terminal_shown, Reads, ShowsText, ShowsRead, CountsKernel};
+ghost use Rattle.hidewillow_c.specs.Asked.{of_named, value_text, tags_text_of, report_shown, value_shown, tags_shown, terminal_shown, Reads, ShowsText, ShowsRead, CountsKernel};
 
 use crate::codes::{ABSENT, MEMORY, SHOWN};
 use crate::room::put;
@@ -11,8 +11,8 @@ use crate::told::Told;
 use sk_counts::Counts;
 use sk_ids::Entity;
 use sk_kernel::Kernel;
-use sk_report::{PrintedEntity, PrintedTags, Stop, Subject, write_held};
-use sk_talk::Play;
+use sk_report::{PrintedTags, Stop, Subject};
+use sk_talk::{Play, named, write_value};
 use std::alloc::Global;
 use std::io::Write;
 
@@ -64,36 +64,6 @@ pub fn tell_counts(play: &Play, alloc: Global, counts: &mut Counts) -> Told
     }
 }
 
-/// Whether the report names an entity so.
-fn is_named(alloc: Global, entity: Entity, name: &[u8]) -> Result<bool, Stop>
-    ensures { IfOk result (λ is. is ≡ is_named name.now entity) }
-{
-    let mut text = Vec::new(alloc);
-    let entity = PrintedEntity(entity);
-    write!(text, "{entity}")?;
-    Ok(text.as_slice() == name)
-}
-
-/// The first of these that the report names so.
-fn find_named(alloc: Global, entities: &[Entity], name: &[u8]) -> Result<Option<Entity>, Stop>
-    ensures { IfOk result (λ found. found ≡ find (is_named name.now) entities.now) }
-{
-    for entity in entities {
-        if is_named(alloc, *entity, name)? {
-            return Ok(Some(*entity));
-        }
-    }
-    Ok(None)
-}
-
-/// The entity that the report names so.
-fn named(alloc: Global, kernel: &Kernel, name: &[u8]) -> Result<Option<Entity>, Stop>
-    ensures { IfOk result (λ found. found ≡ named kernel.now name.now) }
-{
-    let entities = kernel.entities()?;
-    find_named(alloc, &entities, name)
-}
-
 fn value(alloc: Global, kernel: &Kernel, name: &[u8]) -> Result<Option<Vec<u8>>, Stop>
     ensures { Reads result (of_named (value_text kernel.now) (named kernel.now name.now)) }
 {
@@ -111,9 +81,8 @@ fn value_of(alloc: Global, kernel: &Kernel, entity: Entity) -> Result<Option<Vec
     if kernel.value(&entity).is_none() {
         return Ok(None);
     }
-    let entities = kernel.entities()?;
     let mut text = Vec::new(alloc);
-    write_held(kernel, &entities, &entity, &mut text)?;
+    write_value(kernel, &entity, &mut text)?;
     Ok(Some(text))
 }
 

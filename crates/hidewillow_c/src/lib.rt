@@ -151,7 +151,7 @@ pub extern "C" fn hidewillow_counts(alloc: Global, handle: &mut Handle, counts: 
     told
 }
 
-/// Ends what the handle holds: the guesses that are left are committed. The handle holds nothing then.
+/// Ends what the handle holds: the guesses that are left fail, and nothing is committed. The handle holds nothing then.
 #[unsafe(no_mangle)]
 pub extern "C" fn hidewillow_close(alloc: Global, handle: &mut Handle)
     ensures { handle.new.held ≡ None }
@@ -393,7 +393,7 @@ pub extern "C" fn hidewillow_own_counts(
     told
 }
 
-/// Ends what the handle holds: the guesses that are left are committed. The handle holds nothing then.
+/// Ends what the handle holds: the guesses that are left fail, and nothing is committed. The handle holds nothing then.
 #[unsafe(no_mangle)]
 pub extern "C" fn hidewillow_own_close(alloc: Global, own: &mut Own)
     ensures { own.new.held ≡ None }

@@ -61,17 +61,29 @@ replay_command = with_rule (new_app (codes "replay")) file_rule
 abbrev pub work_command : App
 work_command = with_rule (with_rule (with_rule (new_app (codes "work")) file_rule) workers_rule) turns_rule
 
--- it has a version, one command has to be named, and no other word is one
+-- it takes no word, and without one it has help to print
+abbrev pub prints_help : Shape → Shape
+prints_help s = record s { arg_required_else_help = true }
+
+-- the command that prints the table of instructions
+abbrev pub instructions_command : App
+instructions_command = on_top prints_help (new_app (codes "instructions"))
+
+-- it has a version, and one command has to be named; `help` is one, of clap's own
 abbrev pub wants_command : Shape → Shape
-wants_command s = record s { has_version = true; subcommand_required = true; disable_help_subcommand = true }
+wants_command s = record s { has_version = true; subcommand_required = true }
 
 -- before it has its commands
 abbrev pub bare_command_line : App
 bare_command_line = on_top wants_command (new_app (codes "speculate"))
 
-abbrev pub command_line : App
-command_line =
+-- with those that take a file
+abbrev pub with_files : App
+with_files =
     with_subcommand (with_subcommand (with_subcommand (with_subcommand (with_subcommand bare_command_line play_command.top) talk_command.top) plain_command.top) replay_command.top) work_command.top
+
+abbrev pub command_line : App
+command_line = with_subcommand with_files instructions_command.top
 
 -- ---- what words ask for
 

@@ -2,7 +2,7 @@
 use Rattle.std.specs.Prelude.{◌≡◌, ℕ, List, [], ⊤, Option, None, IfSome}
 use Rattle.std.specs.Io.KnownBytes.{Appends, Keeps}
 use Rattle.clap.specs.declared.error.kind.ErrorKind.{ErrorKind}
-use Rattle.clap.specs.declared.error.kind.ErrorKind.TheVariants.{DisplayHelp, DisplayVersion, OutOfMemory}
+use Rattle.clap.specs.declared.error.kind.ErrorKind.TheVariants.{DisplayHelp, DisplayHelpOnMissingArgumentOrSubcommand, DisplayVersion, OutOfMemory}
 use Rattle.sk_words.specs.declared.fault.FaultKind.{FaultKind}
 use Rattle.sk_words.specs.declared.fault.FaultKind.TheVariants.{Word, Operand, Label, TooLong, Memory}
 use Rattle.sk_command.specs.declared.end.End.{End}
@@ -52,10 +52,11 @@ EndsWithHelp text ends.Usage old new = ⊥
 EndsWithHelp text ends.Trouble old new = Keeps old new
 EndsWithHelp text ends.OutputRefused old new = ⊤
 
--- Ends as the reader of the command line has it: help was asked for, memory ran out, or the words are faulty. The
--- reader does not say what its help is.
+-- Ends as the reader of the command line has it: help was asked for, also by a command that has nothing else to print;
+-- memory ran out; or the words are faulty. The reader does not say what its help is.
 abbrev pub EndsFor : ErrorKind → End → Option (List ℕ) → Option (List ℕ) → Type 0
 EndsFor DisplayHelp end old new = EndsWithHelp None end old new
+EndsFor DisplayHelpOnMissingArgumentOrSubcommand end old new = EndsWithHelp None end old new
 EndsFor DisplayVersion end old new = EndsWithHelp None end old new
 EndsFor OutOfMemory end old new = EndsUnwritten ends.Trouble end old new
 EndsFor kind end old new = EndsUnwritten ends.Usage end old new

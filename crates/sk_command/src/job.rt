@@ -8,10 +8,13 @@ ghost use Rattle.clap.specs.Simple.{app_of, subcommand_rows_of};
 ghost use Rattle.clap.specs.Values.{kind_of};
 ghost use Rattle.clap.specs.Walk.{rows_of, rule_of};
 ghost use Rattle.clap.specs.declared.builder.command.Command.TheViews.{out-Command as fields_of};
-ghost use Rattle.sk_command.specs.CommandLine.{bare_command_line, command_line, play_of_file, play_command, talk_command, plain_command, replay_command, work_command, file_rule, trace_rule, steps_rule, counts_rule, workers_rule, turns_rule, has_flag, shows_found, number_said, number_found, wish_to_work, IsWithinBounds, wish_of, wish_found, wished, faults_of, wish_file};
+ghost use Rattle.sk_command.specs.CommandLine.{bare_command_line, command_line, play_of_file, play_command, talk_command, plain_command, replay_command, work_command, instructions_command, file_rule, trace_rule, steps_rule, counts_rule, workers_rule, turns_rule, has_flag, shows_found, number_said, number_found, wish_to_work, IsWithinBounds, wish_of, wish_found, wished, faults_of, wish_file};
 ghost use Rattle.sk_command.specs.Ends.{EndsFor, EndsWithHelp, IsFlushed};
 
 use crate::end::{End, flushed};
+use crate::help::{
+    COMMAND_LINE, FORMS, INSTRUCTIONS, INSTRUCTIONS_TABLE, PLAIN, PLAY, REPLAY, TALK, WORK,
+};
 use clap::builder::ValueParser;
 use clap::error::ErrorKind;
 use clap::{Arg, ArgAction, ArgMatches, Command, Error};
@@ -78,53 +81,6 @@ pub const WORKERS_MOST: u32 = 8;
 
 /// How many turns each worker of `work` can have.
 pub const TURNS_MOST: u32 = 1_000_000;
-
-const PLAY_HELP: &str =
-    "Plays the events of a scenario and prints each answer, and then the report.";
-
-const TALK_HELP: &str = "Answers the events of standard input one by one, each at once.";
-
-const PLAIN_HELP: &str =
-    "Strikes a trace, runs what it leaves without guesses and prints the report.";
-
-const REPLAY_HELP: &str = "Takes the events of a trace anew and prints the report.";
-
-const WORK_HELP: &str =
-    "Lets workers take turns of a scenario's processes on one desk and prints the report.";
-
-const FORMS: &str = "A scenario is a text of lines. First come the declarations:
-  script NAME .. end    a script, an instruction or label per line
-  file NAME LIT         the next boot object: a file with these bytes
-  pipe NAME LIT         a pipe with these bytes
-  dir NAME              an empty directory
-  copy NAME V LIT       a cached copy of a remote file and its version
-  remote NAME V LIT     a file of the server and its version
-  process N SCRIPT T    a boot process, its script and its terminal
-  limit N               the trace limit, 1000000 where none is given
-  number N              the kernel's number, 1 where none is given
-For `play` then comes the line `steps`, and below it an event per line:
-  step PID INPUT        the process takes a step
-  guess PID INPUT       the process takes a step on a guessed input
-  commit G              the guess was right
-  fail G                the guess was wrong
-or the line `world`, and below it an event of desk and server per line:
-  turn PID              the desk takes a turn of the process
-  serve                 the server answers the next request
-  reply                 the desk is given the next reply
-  edit NAME V LIT       another client writes a file of the server
-For `plain` and `replay` then comes the line `trace`, and below it what happened:
-  step PID INPUT        the process took a step
-  guess G PID INPUT     the process took a step on a guessed input
-  commit G              the guess was right
-  fail G                the guess was wrong
-For `talk` the file ends there, or with the line `world`. Then each event is a
-line of standard input; the line `report` prints the report, and `end` ends.
-`work` takes any section, and runs none of its lines.
-INPUT is none, good, fresh V LIT or stale V LIT.
-
-Status: 0 done; 1 a fault in the file; 2 a fault in the words;
-3 want of memory, a read or write that failed, or a desk that
-could not be closed.";
 
 fn file_arg<'a>(alloc: Global) -> Arg<'a>
     ensures rule { rule_of result ≡ file_rule }
@@ -199,7 +155,7 @@ fn play_of_file<'a>(alloc: Global) -> Result<Command<'a>, AllocError>
     ensures local { IfOk result (λ command. (fields_of command).has_globals ≡ false) }
 {
     Command::new(alloc, "play")
-        .about(PLAY_HELP)
+        .about(PLAY)
         .after_help(FORMS)
         .arg(file_arg(alloc))?
         .arg(trace_arg(alloc))
@@ -219,7 +175,7 @@ fn talk<'a>(alloc: Global) -> Result<Command<'a>, AllocError>
     ensures local { IfOk result (λ command. (fields_of command).has_globals ≡ false) }
 {
     Command::new(alloc, "talk")
-        .about(TALK_HELP)
+        .about(TALK)
         .after_help(FORMS)
         .arg(file_arg(alloc))
 }
@@ -229,7 +185,7 @@ fn plain<'a>(alloc: Global) -> Result<Command<'a>, AllocError>
     ensures local { IfOk result (λ command. (fields_of command).has_globals ≡ false) }
 {
     Command::new(alloc, "plain")
-        .about(PLAIN_HELP)
+        .about(PLAIN)
         .after_help(FORMS)
         .arg(file_arg(alloc))
 }
@@ -239,7 +195,7 @@ fn replay<'a>(alloc: Global) -> Result<Command<'a>, AllocError>
     ensures local { IfOk result (λ command. (fields_of command).has_globals ≡ false) }
 {
     Command::new(alloc, "replay")
-        .about(REPLAY_HELP)
+        .about(REPLAY)
         .after_help(FORMS)
         .arg(file_arg(alloc))
 }
@@ -249,11 +205,22 @@ fn work<'a>(alloc: Global) -> Result<Command<'a>, AllocError>
     ensures local { IfOk result (λ command. (fields_of command).has_globals ≡ false) }
 {
     Command::new(alloc, "work")
-        .about(WORK_HELP)
+        .about(WORK)
         .after_help(FORMS)
         .arg(file_arg(alloc))?
         .arg(workers_arg(alloc))?
         .arg(turns_arg(alloc))
+}
+
+/// The command that prints the table of instructions, and does nothing else.
+fn instructions<'a>(alloc: Global) -> Command<'a>
+    ensures app { app_of result ≡ instructions_command }
+    ensures local { (fields_of result).has_globals ≡ false }
+{
+    Command::new(alloc, "instructions")
+        .about(INSTRUCTIONS)
+        .after_help(INSTRUCTIONS_TABLE)
+        .arg_required_else_help(true)
 }
 
 /// The command line without its commands, one of which has to be named.
@@ -262,10 +229,9 @@ fn without_commands<'a>(alloc: Global) -> Command<'a>
 {
     Command::new(alloc, "speculate")
         .version("0.1.0")
-        .about("A kernel that runs ahead on guesses, and takes back what a wrong one touched.")
+        .about(COMMAND_LINE)
         .after_help(FORMS)
         .subcommand_required(true)
-        .disable_help_subcommand(true)
 }
 
 fn command<'a>(alloc: Global) -> Result<Command<'a>, AllocError>
@@ -276,7 +242,8 @@ fn command<'a>(alloc: Global) -> Result<Command<'a>, AllocError>
         .subcommand(talk(alloc)?)?
         .subcommand(plain(alloc)?)?
         .subcommand(replay(alloc)?)?
-        .subcommand(work(alloc)?)
+        .subcommand(work(alloc)?)?
+        .subcommand(instructions(alloc))
 }
 
 /// Whether a command has this flag among its words.
@@ -389,7 +356,9 @@ pub fn explain<W: Write + Drop, E: Write>(
 {
     match error.kind() {
         ErrorKind::OutOfMemory => End::Trouble,
-        ErrorKind::DisplayHelp | ErrorKind::DisplayVersion => print_help(alloc, error, out),
+        ErrorKind::DisplayHelp
+        | ErrorKind::DisplayVersion
+        | ErrorKind::DisplayHelpOnMissingArgumentOrSubcommand => print_help(alloc, error, out),
         _ => {
             let _ = write!(err, "{error}");
             End::Usage

@@ -3,6 +3,7 @@
 #![tactic(auto)]
 
 pub mod end;
+pub mod help;
 pub mod job;
 pub mod message;
 pub mod open_input;

@@ -1,5 +1,5 @@
 -- The lines of a talk: how a reader gives them, and that one more is answered.
-use Rattle.std.proofs.Common.{◌≡◌, ◌⊎◌, inl, inr, ◌∙◌, ℕ, ◌+◌, ◌≤◌, Bool, true, false, eqb, List, [], ◌∷◌, ◌++◌, length, length-append, Option, Some, None, refl, sym, ap, subst, arith}
+use Rattle.std.proofs.Common.{◌≡◌, ◌⊎◌, inl, inr, ◌∙◌, ℕ, ◌+◌, ◌≤◌, true, false, eqb, List, [], ◌∷◌, ◌++◌, length, length-append, Option, Some, None, Result, Ok, Err, refl, sym, ap, subst, arith}
 use Rattle.std.specs.Prelude.{IfSome, IsSome, ⊤}
 use Rattle.std.specs.Io.BufRead.{take_through, drop_through, DropsThrough}
 use Rattle.std.specs.Io.Buffered.{reader_buffer, reader_capacity, reader_inner, reader_remaining}
@@ -11,6 +11,9 @@ use Rattle.std.proofs.lemmas.List.{append-nil, append_assoc}
 use Rattle.std.specs.Str.Lines.{lines}
 use Rattle.sk_words.specs.Lines.{parts}
 use Rattle.sk_words.proofs.Parts.{next_line}
+use Rattle.sk_words.specs.declared.fault.FaultKind.{FaultKind}
+use Rattle.sk_questions.specs.Questions.{asked_by}
+use Rattle.sk_questions.specs.declared.question.Question.{Question}
 use Rattle.sk_talk.specs.declared.play.Play.{Play}
 use Rattle.sk_talk.specs.declared.line.LineTold.{LineTold}
 use Rattle.sk_talk.specs.declared.line.LineTold.TheVariants as tells
@@ -18,7 +21,7 @@ use Rattle.sk_command.specs.declared.end.End.{End}
 use Rattle.sk_command.specs.declared.end.End.TheVariants as ends
 use Rattle.sk_command.specs.Ends.{IsWritten}
 use Rattle.sk_run.specs.declared.talking.Talk.{Talk}
-use Rattle.sk_run.specs.Talk.{is_end, is_report, talked, number_behind, AnswersAs, Answers, Talks, begun, EndsTalk, EndsOpened, TakesLine}
+use Rattle.sk_run.specs.Talk.{is_end, talked, number_behind, AnswersAs, Answers, Talks, begun, EndsTalk, EndsOpened, TakesLine}
 
 -- ---- a line is what a reader gives up to a line feed
 
@@ -75,9 +78,10 @@ next_number (tells.Happened t) n = omega arith
 next_number tells.Nothing n = omega arith
 next_number (tells.Fault kind) n = omega arith
 
-answered_number : (b : Bool) (n : ℕ) (l : List ℕ) (old new : Talk) (text : List ℕ) → AnswersAs b n l old new text → new.number ≤ old.number + 1
-answered_number true n l old new text h = rw h.0 (omega arith)
-answered_number false n l old new text h = rw h.3 (next_number h.0 old.number)
+answered_number : (asked : Result (Option Question) FaultKind) (n : ℕ) (l : List ℕ) (old new : Talk) (text : List ℕ) → AnswersAs asked n l old new text → new.number ≤ old.number + 1
+answered_number (Ok (Some question)) n l old new text h = rw h.0 (omega arith)
+answered_number (Ok None) n l old new text h = rw h.3 (next_number h.0 old.number)
+answered_number (Err kind) n l old new text h = rw h.0 (omega arith)
 
 -- of the lines of a talk these are the first, and the others are those of what is left
 abbrev pub Leaves : Option (List ℕ) → List (List ℕ) → Option (List ℕ) → Type 0
@@ -137,7 +141,7 @@ goes_on play input n talk next left then old mid new l answer tail g t e h w = r
   ls = g.ls ++ l ∷ [];
   text = g.text ++ answer;
   count = omega (arith, g.count, length-append g.ls (l ∷ []));
-  number = omega (arith, g.number, answered_number (is_report l) n l talk next answer h);
+  number = omega (arith, g.number, answered_number (asked_by l) n l talk next answer h);
   talks = talks_more 1 g.ls l (begun play) talk next g.text answer g.talks (subst (λ m. Answers m l talk next answer) g.count h);
   written = Appends-trans _ _ _ _ _ g.written w;
   leaves = leaves_more input left then g.ls tail l g.leaves t e;

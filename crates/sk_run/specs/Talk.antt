@@ -1,5 +1,5 @@
 -- What a talk comes to: the lines of an input, each answered before the next one is read.
-use Rattle.std.specs.Prelude.{◌≡◌, ◌⊎◌, ℕ, ◌+◌, Bool, true, false, List, [], ◌∷◌, ◌++◌, codes, bytes_eq, if◌then◌else◌, ⊤, Option, Some, None, IfSome}
+use Rattle.std.specs.Prelude.{◌≡◌, ◌⊎◌, ℕ, ◌+◌, Bool, false, List, [], ◌∷◌, ◌++◌, codes, bytes_eq, if◌then◌else◌, ⊤, Option, Some, None, Result, Ok, Err, IfSome}
 use Rattle.std.specs.Str.Lines.{lines}
 use Rattle.std.specs.Io.KnownBytes.{Appends}
 use Rattle.sk_words.specs.Words.{words}
@@ -7,7 +7,9 @@ use Rattle.sk_words.specs.declared.fault.FaultKind.{FaultKind}
 use Rattle.sk_words.specs.declared.fault.FaultKind.TheVariants as kinds
 use Rattle.sk_play.specs.Played.{answer_line}
 use Rattle.sk_play.specs.Told.{told_line}
-use Rattle.sk_talk.specs.Played.{report_of}
+use Rattle.sk_questions.specs.Questions.{asked_by}
+use Rattle.sk_questions.specs.declared.question.Question.{Question}
+use Rattle.sk_talk.specs.Asked.{IsAnswer}
 use Rattle.sk_talk.specs.Lines.{LineTaken}
 use Rattle.sk_talk.specs.declared.play.Play.{Play}
 use Rattle.sk_talk.specs.declared.line.LineTold.{LineTold}
@@ -26,9 +28,6 @@ abbrev pub is_alone : List ℕ → List (List ℕ) → Bool
 is_alone word [] = false
 is_alone word (w ∷ []) = bytes_eq w word
 is_alone word (w ∷ x ∷ xs) = false
-
-abbrev pub is_report : List ℕ → Bool
-is_report line = is_alone (codes "report") (words line)
 
 abbrev pub is_end : List ℕ → Bool
 is_end line = is_alone (codes "end") (words line)
@@ -59,18 +58,19 @@ number_behind (tells.Happened t) number = number + 1
 number_behind tells.Nothing number = number
 number_behind (tells.Fault kind) number = number
 
--- a line that is `report` is answered with the report, any other as what is at play takes it
-abbrev pub AnswersAs : Bool → ℕ → List ℕ → Talk → Talk → List ℕ → Type 0
-AnswersAs true number line old new text = (new ≡ old) × (text ≡ report_of old.play)
-AnswersAs false number line old new text =
+-- A line that asks is answered, any other as what is at play takes it; what is wrong with a line that asks is told with its number.
+abbrev pub AnswersAs : Result (Option Question) FaultKind → ℕ → List ℕ → Talk → Talk → List ℕ → Type 0
+AnswersAs (Ok (Some question)) number line old new text = (new ≡ old) × IsAnswer old.play question text
+AnswersAs (Ok None) number line old new text =
     (told : LineTold) × LineTaken told line old.play new.play × (told_as number old.number told ≡ Some text) × (new.number ≡ number_behind told old.number)
+AnswersAs (Err kind) number line old new text = (new ≡ old) × (text ≡ message_text (messages.Fault number kind) ++ 10 ∷ [])
 
 abbrev pub Answers : ℕ → List ℕ → Talk → Talk → List ℕ → Type 0
-Answers number line old new text = AnswersAs (is_report line) number line old new text
+Answers number line old new text = AnswersAs (asked_by line) number line old new text
 
--- a line can want memory: it is `report`, or has no fault
+-- a line can want memory: it asks, or what is at play takes it and it has no fault
 abbrev pub WantsMemory : List ℕ → Play → Play → Type 0
-WantsMemory line old new = (is_report line ≡ true) ⊎ LineTaken (tells.Fault kinds.Memory) line old new
+WantsMemory line old new = ((question : Question) × (asked_by line ≡ Ok (Some question))) ⊎ LineTaken (tells.Fault kinds.Memory) line old new
 
 -- the lines in turn, numbered from here, and this text is their answers
 abbrev pub Talks : ℕ → List (List ℕ) → Talk → Talk → List ℕ → Type 0
@@ -104,6 +104,10 @@ EndsOpened None input end old new = EndsUnwritten ends.Fault end old new
 EndsOpened (Some play) input end old new = EndsTalk play input end old new
 
 -- ---- what functions answer, in these words
+
+-- the answer to a question is written
+abbrev pub WritesAnswer : Play → Question → Option (List ℕ) → Option (List ℕ) → Type 0
+WritesAnswer play question old new = (text : List ℕ) × IsAnswer play question text × Appends old new text
 
 -- the next line was taken from a reader, or there is none
 abbrev pub TakesLine : Option (List ℕ) → Option (List ℕ) → List (List ℕ) → Type 0

@@ -1,23 +1,27 @@
 //! Talking: what a scenario declares is played by the lines of a reader, each of which is answered before the next one
 //! is read.
-ghost use Rattle.std.specs.Prelude.{◌≡◌, ◌<◌, ◌^◌, ◌-◌, ◌+◌, ℕ, List, [], false, Some, Err, OnOk, codes};
+ghost use Rattle.std.specs.Prelude.{◌≡◌, ◌<◌, ◌^◌, ◌-◌, ◌+◌, ◌++◌, ◌∷◌, ℕ, List, [], None, Some, Ok, Err, OnOk, codes};
 ghost use Rattle.std.specs.Str.Lines.{lines};
 ghost use Rattle.std.specs.Io.KnownBytes.{Appends};
 ghost use Rattle.std.specs.Io.Buffered.{writer_buffer, writer_contents};
 ghost use Rattle.sk_words.specs.Words.{words};
 ghost use Rattle.sk_command.specs.Ends.{IsFlushed};
+ghost use Rattle.sk_command.specs.Messages.{message_text};
+ghost use Rattle.sk_command.specs.declared.message.Message.TheVariants as messages;
 ghost use Rattle.sk_scenario.specs.Scenario.{section_view};
-ghost use Rattle.sk_talk.specs.Played.{opened_in, report_of};
+ghost use Rattle.sk_talk.specs.Played.{opened_in};
+ghost use Rattle.sk_talk.specs.Lines.{LineTaken};
 ghost use Rattle.sk_words.specs.declared.fault.FaultKind.TheVariants as kinds;
 ghost use Rattle.sk_talk.specs.declared.line.LineTold.TheVariants as tells;
 ghost use Rattle.sk_report.specs.declared.stop.Stop.TheVariants as stops;
-ghost use Rattle.sk_run.specs.Talk.{is_alone, fault_line, told_as, number_behind, AnswersAs, Answers, EndsTalk, EndsOpened, TakesLine, WantsMemory};
+ghost use Rattle.sk_run.specs.Talk.{is_alone, fault_line, told_as, number_behind, AnswersAs, Answers, WritesAnswer, EndsTalk, EndsOpened, TakesLine, WantsMemory};
 
 use sk_command::end::{End, flushed, tell_unread, tell_wrong_section};
 use sk_command::message::{Message, write_message};
 use sk_command::open_input::OpenInput;
 use sk_command::read_all::ReadFault;
 use sk_play::{write_answer, write_told};
+use sk_questions::Question;
 use sk_report::Stop;
 use sk_scenario::{Declarations, Section};
 use sk_talk::{LineTold, Play};
@@ -60,6 +64,16 @@ fn read_fault(error: &io::Error) -> ReadFault {
         ErrorKind::OutOfMemory => ReadFault::Memory,
         kind => ReadFault::Failed(kind),
     }
+}
+
+/// Tells what is wrong with the line of this number.
+fn write_wrong<W: Write>(line: u64, kind: FaultKind, out: &mut W) -> Result<(), Stop>
+    ensures written { OnOk result (Appends (W.contents out.old) (W.contents out.new)
+        (message_text (messages.Fault line kind) ++ 10 ∷ [])) }
+    ensures stop { result ≡ Err stops.Memory → ⊥ }
+{
+    write_message(&Message::Fault { line, kind }, out)?;
+    Ok(())
 }
 
 /// Tells the fault of the line of this number; of want of memory nothing is told.
@@ -112,13 +126,13 @@ fn number_behind(told: &LineTold, number: usize) -> usize
 }
 
 impl Talk {
-    /// Writes the report.
-    fn report<W: Write>(&self, alloc: Global, out: &mut W) -> Result<(), Stop>
+    /// Writes the answer to a question.
+    fn reply<W: Write>(&self, alloc: Global, question: &Question, out: &mut W) -> Result<(), Stop>
         ensures written { OnOk result
-            (Appends (W.contents out.old) (W.contents out.new) (report_of self.now.play)) }
+            (WritesAnswer self.now.play question.now (W.contents out.old) (W.contents out.new)) }
         ensures memory { result ≡ Err stops.Memory → out.new ≡ out.old }
     {
-        let text = self.play.report(alloc)?;
+        let text = self.play.asked(alloc, question)?;
         out.write_all(&text)?;
         Ok(())
     }
@@ -133,10 +147,11 @@ impl Talk {
     ) -> Result<(), Stop>
         requires { self.old.number < 2 ^ 64 - 1 }
         ensures written { OnOk result
-            ((text : List ℕ) × AnswersAs false number line.now self.old self.new text
+            ((text : List ℕ) × AnswersAs (Ok None) number line.now self.old self.new text
             × Appends (W.contents out.old) (W.contents out.new) text) }
         ensures memory { result ≡ Err stops.Memory
-            → WantsMemory line.now self.old.play self.new.play × (out.new ≡ out.old) }
+            → LineTaken (tells.Fault kinds.Memory) line.now self.old.play self.new.play
+            × (out.new ≡ out.old) }
     {
         let told = self.play.line(alloc, line);
         write_line(number, self.number, &told, out)?;
@@ -159,10 +174,10 @@ impl Talk {
         ensures memory { result ≡ Err stops.Memory
             → WantsMemory line.now self.old.play self.new.play × (out.new ≡ out.old) }
     {
-        if is_alone(b"report", line) {
-            self.report(alloc, out)
-        } else {
-            self.take(alloc, number, line, out)
+        match Question::of(line) {
+            Ok(Some(question)) => self.reply(alloc, &question, out),
+            Ok(None) => self.take(alloc, number, line, out),
+            Err(kind) => write_wrong(number, kind, out),
         }
     }
 

@@ -16,7 +16,7 @@ use sk_scenario::{Call, Calls, Declarations, Section, WorldEvents};
 use sk_words::{FaultKind, Reader};
 use std::alloc::{AllocError, Global};
 
-/// What is at play. What is let go of ends: its guesses that are left are committed.
+/// What is at play. What is let go of ends: its guesses that are left fail.
 pub enum Play {
     Steps(Session),
     World(World),

@@ -10,4 +10,5 @@ returns c =
     let second = c.in_ok-subcommand-2.ensures.shape c.in_ok-talk.ensures.local ∙ ap₂ with_subcommand first (ap (λ (a : App). a.top) c.in_ok-talk.ensures.app) in
     let third = c.in_ok-subcommand-3.ensures.shape c.in_ok-plain.ensures.local ∙ ap₂ with_subcommand second (ap (λ (a : App). a.top) c.in_ok-plain.ensures.app) in
     let fourth = c.in_ok-subcommand-4.ensures.shape c.in_ok-replay.ensures.local ∙ ap₂ with_subcommand third (ap (λ (a : App). a.top) c.in_ok-replay.ensures.app) in
-    IfOk-weaker c.subcommand-5.result _ _ (λ command adds. adds.shape c.in_ok-work.ensures.local ∙ ap₂ with_subcommand fourth (ap (λ (a : App). a.top) c.in_ok-work.ensures.app)) c.subcommand-5.ensures
+    let fifth = c.in_ok-subcommand-5.ensures.shape c.in_ok-work.ensures.local ∙ ap₂ with_subcommand fourth (ap (λ (a : App). a.top) c.in_ok-work.ensures.app) in
+    IfOk-weaker c.subcommand-6.result _ _ (λ command adds. adds.shape c.instructions.ensures.local ∙ ap₂ with_subcommand fifth (ap (λ (a : App). a.top) c.instructions.ensures.app)) c.subcommand-6.ensures

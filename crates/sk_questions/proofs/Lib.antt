@@ -1,0 +1,2 @@
+mod Halves
+pub mod Again

@@ -1,0 +1,10 @@
+-- A word that begins no name is unknown.
+use Rattle.std.proofs.Common.{refl, rules}
+use Rattle.sk_words.specs.Tables.{unknown}
+use Rattle.sk_words.proofs.Unknown.{skipped}
+use Rattle.sk_questions.specs.Named.{entity_of, entity_rules}
+use Rattle.sk_questions.proofs.named.entity_of.Goals as goal
+
+pub returns-in_default : goal.returns-in_default
+unfolding entity_of
+returns-in_default c = rw (skipped entity_rules unknown c.args.word.now (search rules)) refl

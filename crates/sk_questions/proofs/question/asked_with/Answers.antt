@@ -1,0 +1,9 @@
+-- A word that begins no question asks nothing.
+use Rattle.std.proofs.Common.{refl, rules}
+use Rattle.sk_words.proofs.Unknown.{skipped}
+use Rattle.sk_questions.specs.Questions.{asked_with, question_rules, no_question}
+use Rattle.sk_questions.proofs.question.asked_with.Goals as goal
+
+pub returns-in_default : goal.returns-in_default
+unfolding asked_with
+returns-in_default c = rw (skipped question_rules no_question c.args.word.now (search rules)) refl

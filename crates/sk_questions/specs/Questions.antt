@@ -1,0 +1,36 @@
+-- What lines ask.
+use Rattle.std.specs.Prelude.{ℕ, List, [], ◌∷◌, Option, Some, None, Result, Ok, codes}
+use Rattle.sk_words.specs.declared.fault.FaultKind.{FaultKind}
+use Rattle.sk_words.specs.Faults.{◌>>=◌}
+use Rattle.sk_words.specs.Operands.{none_of, one_of, positive, index}
+use Rattle.sk_words.specs.Tables.{Rule, rule_in}
+use Rattle.sk_words.specs.Words.{words, first_of}
+use Rattle.sk_questions.specs.Named.{entity}
+use Rattle.sk_questions.specs.declared.question.Question.{Question}
+use Rattle.sk_questions.specs.declared.question.Question.TheVariants as questions
+
+abbrev pub question_rules : List (List ℕ × Rule (Option Question))
+question_rules =
+    (codes "value", λ ws. entity ws >>= λ e. Ok (Some (questions.Value e))) ∷
+    (codes "tags", λ ws. entity ws >>= λ e. Ok (Some (questions.Tags e))) ∷
+    (codes "dependents", λ ws. one_of positive ws >>= λ id. Ok (Some (questions.Dependents id))) ∷
+    (codes "terminal", λ ws. one_of index ws >>= λ n. Ok (Some (questions.Terminal n))) ∷
+    (codes "trace", λ ws. none_of ws >>= λ _. Ok (Some questions.Trace)) ∷
+    (codes "report", λ ws. none_of ws >>= λ _. Ok (Some questions.Report)) ∷
+    []
+
+-- a word that does not ask
+abbrev pub no_question : Rule (Option Question)
+no_question ws = Ok None
+
+-- what a line asks whose first word this is
+unfoldable pub asked_with : List ℕ → Rule (Option Question)
+asked_with word ws = rule_in question_rules no_question word ws
+
+abbrev pub asked_in : Option (List ℕ × List (List ℕ)) → Result (Option Question) FaultKind
+asked_in None = Ok None
+asked_in (Some x) = asked_with x.0 x.1
+
+-- what a line asks, if anything
+abbrev pub asked_by : List ℕ → Result (Option Question) FaultKind
+asked_by line = asked_in (first_of (words line))

@@ -35,6 +35,8 @@ NEW_TAGS = 4
 UNDER_A_GUESS = 1.1
 # A build without proofs, in which the checks are left that a proof makes needless.
 UNPROVED = 3.5
+# A name is looked up in a tree.
+ASKED = 1.25
 
 
 def spent():
@@ -51,13 +53,13 @@ class Meter:
         self.seconds = seconds
         self.known = {}
 
-    def run(self, command, text):
-        key = (command, text)
+    def run(self, command, text, *flags):
+        key = (command, text, flags)
         if key not in self.known:
             with tempfile.NamedTemporaryFile("w", suffix=".scenario") as file:
                 file.write(text)
                 file.flush()
-                words = [self.program, command, file.name]
+                words = [self.program, command, file.name, *flags]
                 self.known[key] = self.timed(words) if self.seconds else self.counted(words)
         return self.known[key]
 
@@ -70,19 +72,28 @@ class Meter:
             ran = subprocess.Popen(words, stdout=subprocess.DEVNULL, stderr=subprocess.DEVNULL)
             return os.wait4(ran.pid, 0)[2].ru_maxrss
 
-    def counted(self, words):
+    def talked(self, text, lines):
+        """A talk to what a text declares, by these lines."""
+        with tempfile.NamedTemporaryFile("w", suffix=".scenario") as file:
+            file.write(text)
+            file.flush()
+            words = [self.program, "talk", file.name]
+            said = "".join(f"{line}\n" for line in lines)
+            return self.timed(words, said) if self.seconds else self.counted(words, said)
+
+    def counted(self, words, said=""):
         tool = ["valgrind", "--tool=cachegrind", "--cache-sim=no", "--cachegrind-out-file=/dev/null"]
-        ran = subprocess.run(tool + words, stdout=subprocess.DEVNULL, stderr=subprocess.PIPE, text=True)
+        ran = subprocess.run(tool + words, input=said, stdout=subprocess.DEVNULL, stderr=subprocess.PIPE, text=True)
         found = re.search(r"I\s+refs:\s+([\d,]+)", ran.stderr)
         if not found:
             sys.exit("no count of instructions:\n" + ran.stderr)
         return int(found.group(1).replace(",", ""))
 
-    def timed(self, words):
+    def timed(self, words, said=""):
         best = float("inf")
         for _ in range(5):
             begin = spent()
-            subprocess.run(words, stdout=subprocess.DEVNULL, stderr=subprocess.DEVNULL)
+            subprocess.run(words, input=said, stdout=subprocess.DEVNULL, stderr=subprocess.DEVNULL, text=True)
             best = min(best, spent() - begin)
         return best
 
@@ -339,6 +350,16 @@ def long_rows(meter):
 TABLE_EVENTS = 20_000
 
 
+def counts_rows(meter):
+    """The counts of a run: twice as many guesses and steps, and as many steps with more guesses among them."""
+    for decision in ("commit", "fail"):
+        def counting(guesses, body):
+            text = decided(body, guesses, decision, "set r0 1")
+            return meter.run("play", text, "--counts") - meter.run("play", text)
+        yield f"counts of 200 guesses with 100 steps each, {decision} / of 100", counting(200, 100), counting(100, 100), TWICE
+        yield f"counts of 200 guesses with 100 steps each, {decision} / of 50 with 400", counting(200, 100), counting(50, 400), LOOSE
+
+
 def private_steps(count):
     return scenario(looping(["set r0 1"], 64), ["step 1 none"] * count)
 
@@ -431,6 +452,14 @@ def block_rows(meter):
     yield "take and put of 512 bytes: on a full pipe / on an empty one", pipe(True), pipe(False), 1.1
 
 
+def asked_rows(meter):
+    """A question of a talk, beside so many copies: a name is read and looked up, whatever else there is."""
+    copies = lambda count: "\n".join([f'copy /c{number} 0 "c"' for number in range(count)] + ["script a", "say", "end", "process 1 a 1"]) + "\n"
+    asked = lambda question, count: (meter.talked(copies(count), [question] * 2000) - meter.talked(copies(count), [question] * 1000)) / 1000
+    for question in ("value copy /c7", "value proc 1", "tags proc 1"):
+        yield f"`{question}` in a talk: beside 2,000 copies / beside 500", asked(question, 2000), asked(question, 500), ASKED
+
+
 def shown(cost, seconds):
     return f"{cost * 1e6:14,.2f}" if seconds else f"{cost:14,.0f}"
 
@@ -447,7 +476,7 @@ def main():
     meter = Meter(words.program, words.seconds)
     unit = "microseconds" if words.seconds else "instructions"
     print(f"{'ratio':>7} {'limit':>6} {unit + ' left':>20} {'right':>14}  what")
-    kinds = (table_rows, step_rows, rest_rows, long_rows, decision_rows, held_rows, nested_rows, text_rows, relisted_rows, block_rows)
+    kinds = (table_rows, step_rows, rest_rows, long_rows, decision_rows, held_rows, nested_rows, text_rows, relisted_rows, block_rows, asked_rows, counts_rows)
     tables = [(it.__name__, it(meter)) for it in kinds]
     if words.unproved:
         tables.append(("unproved_rows", unproved_rows(meter, Meter(words.unproved, words.seconds))))

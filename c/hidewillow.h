@@ -107,8 +107,8 @@ hidewillow_told hidewillow_line(hidewillow_handle *handle, const uint8_t *line, 
 hidewillow_told hidewillow_report(hidewillow_handle *handle, uint8_t *room, size_t room_bytes);
 
 /* Shows what an entity has, as the report prints it behind its name. The name is the report's:
- * `proc 1`, `obj 1:1`, `copy /x`. It goes through all entities. Told: SHOWN, ABSENT, MEMORY, or
- * CLOSED. */
+ * `proc 1`, `obj 1:1`, `copy /x`. The name is read and looked up; all entities are gone through
+ * only for the names of a directory. Told: SHOWN, ABSENT, MEMORY, or CLOSED. */
 hidewillow_told hidewillow_value(hidewillow_handle *handle, const uint8_t *name, size_t name_bytes,
                                  uint8_t *room, size_t room_bytes);
 
@@ -121,12 +121,14 @@ hidewillow_told hidewillow_tags(hidewillow_handle *handle, const uint8_t *name, 
 hidewillow_told hidewillow_terminal(hidewillow_handle *handle, uint16_t number, uint8_t *room,
                                     size_t room_bytes);
 
-/* Counts the guesses and the steps so far; each failure so far costs a run of the steps before it.
+/* Counts the guesses and the steps so far, in one pass over what was done: each failure costs a run
+ * of the steps behind the oldest guess that was undecided there, and no other.
  * Told: SHOWN; or MEMORY or CLOSED, and the counts are as they were. */
 hidewillow_told hidewillow_counts(hidewillow_handle *handle, hidewillow_counted *counts);
 
-/* Ends what the handle holds, if anything, and frees its memory; guesses that are left are
- * committed. The handle holds nothing then. */
+/* Ends what the handle holds, if anything, and frees its memory. Guesses that are left undecided
+ * fail: closing commits nothing, and no text or output that rests on one comes out. The handle
+ * holds nothing then. */
 void hidewillow_close(hidewillow_handle *handle);
 
 /* ---- A kernel over its caller's own byte strings: keys of up to 65,536 bytes, values and outputs of
@@ -208,8 +210,9 @@ hidewillow_told hidewillow_own_released(hidewillow_own *own, uint16_t channel, u
 /* Counts keys and guesses, in constant time. Told: SHOWN. */
 hidewillow_told hidewillow_own_counts(hidewillow_own *own, hidewillow_own_counted *counts);
 
-/* Ends what the handle holds, if anything, and frees its memory; guesses that are left are
- * committed. The handle holds nothing then. */
+/* Ends what the handle holds, if anything, and frees its memory. Guesses that are left undecided
+ * fail: closing commits nothing, and no text or output that rests on one comes out. The handle
+ * holds nothing then. */
 void hidewillow_own_close(hidewillow_own *own);
 
 /* A step as arrays of slices, written into the draft in one call. */

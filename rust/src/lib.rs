@@ -172,7 +172,8 @@ impl fmt::Display for Error {
 
 impl std::error::Error for Error {}
 
-/// A kernel or a world at play; it ends when it is dropped. It may be moved, but it is neither `Send`
+/// A kernel or a world at play; it ends when it is dropped, and guesses that are undecided then
+/// fail: dropping commits nothing. It may be moved, but it is neither `Send`
 /// nor `Sync`: it stays on its thread.
 pub struct Play {
     handle: Handle,

@@ -192,7 +192,8 @@ impl Step<'_> {
 
 /// A speculative kernel over its caller's own byte strings. What a step looks at, writes and says rests on the guesses that are
 /// undecided in what it looked at and wrote. A guess that fails takes back just what rests on it; output waits until what it rests
-/// on is decided. It may be moved, but it is neither `Send` nor `Sync`: it stays on its thread.
+/// on is decided. Where it is dropped the guesses that are undecided fail. It may be moved, but it is neither `Send` nor `Sync`: it
+/// stays on its thread.
 ///
 /// ```no_run
 /// # use hidewillow::speculator::{Decided, Refusal, Speculator};

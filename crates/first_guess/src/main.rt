@@ -62,7 +62,7 @@ fn main(rt: HostRuntime) -> anyhow::Result<()> {
     };
     for is_right in [true, false] {
         let mut holder = boot(rt.alloc(), START)?;
-        // A holder has the tokens of its guesses, which can't be lost: it is ended before any `?`. `abandon` commits
+        // A holder has the tokens of its guesses, which can't be lost: it is ended before any `?`. `abandon` fails
         // what is left; where no guess is held, `shut` would hand out the trace and the texts.
         let seen = go_on(&mut holder, pid, is_right);
         holder.abandon();

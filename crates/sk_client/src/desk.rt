@@ -735,7 +735,7 @@ impl Desk {
         Ok(holder.shut())
     }
 
-    /// Commits the guess of each pending request, the oldest first, and ends. This takes no memory.
+    /// Fails the guess of each pending request, the oldest first, and ends. This takes no memory.
     pub fn abandon(self) {
         let Desk {
             holder,

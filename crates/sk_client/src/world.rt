@@ -287,7 +287,7 @@ impl World {
         }
     }
 
-    /// Commits the guess of each pending request, the oldest first, and ends.
+    /// Fails the guess of each pending request, the oldest first, and ends.
     pub fn abandon(self) {
         let World {
             desk,

@@ -1,14 +1,20 @@
 -- The record along a trace, one event further.
-use Rattle.std.proofs.Common.{◌≡◌, ℕ, zero, suc, ◌+◌, ◌<◌, ◌≤◌, List, [], ◌∷◌, ◌++◌, length, map, take, get_or, refl, sym, ◌∙◌, ap, arith}
+use Rattle.std.proofs.Common.{◌≡◌, ℕ, zero, suc, ◌+◌, ◌<◌, ◌≤◌, List, [], ◌∷◌, ◌++◌, length, map, take, drop, get_or, Some, refl, sym, ◌∙◌, ap, subst, arith}
 use Rattle.std.specs.Prelude.{max}
 use Rattle.std.proofs.lemmas.List.{take_more}
-use Rattle.sk_record.specs.Trace.{Record, all_recorded, no_record, recorded}
-use Rattle.sk_record.proofs.Sound.{entries_are}
+use Rattle.sk_record.specs.Notes.{has}
+use Rattle.sk_record.specs.Trace.{Record, Fail, IsSound, all_recorded, no_record, recorded}
+use Rattle.sk_record.proofs.Sound.{entries_are, fresh_from, marked_is, sound_before, undecided_is}
+use Rattle.sk_record.proofs.Texts.{map_append}
 use Rattle.sk_record.proofs.Tidy.{recorded_more}
 use Rattle.sk_trace.specs.Entry.{EntryView}
 use Rattle.sk_trace.specs.declared.event.Event.{Event}
 use Rattle.sk_plain.specs.Act.{plain}
-use Rattle.sk_plain.specs.Replay.{image}
+use Rattle.sk_plain.specs.Replay.{image, is_made}
+use Rattle.sk_trace.specs.declared.event.Event.TheVariants as events
+use Rattle.sk_kernel.specs.Laws.{HasSoundTrace}
+use Rattle.sk_counts.specs.declared.standing.Standing.{Standing}
+use Rattle.sk_counts.specs.Standing.{seen, Fits}
 use Rattle.sk_kernel.specs.Kernel.{KernelView, record_at}
 use Rattle.sk_counts.specs.Counts.{most_up_to}
 
@@ -21,6 +27,11 @@ whole [] zero past = refl
 whole [] (suc i) past = refl
 whole (x ∷ xs) zero past = absurd (omega arith)
 whole (x ∷ xs) (suc i) past = ap (λ rest. x ∷ rest) (whole xs i (omega arith))
+
+parts_again : {A : Type 0} (n : ℕ) (xs : List A) → take n xs ++ drop n xs ≡ xs
+parts_again zero xs = refl
+parts_again (suc n) [] = refl
+parts_again (suc n) (x ∷ xs) = ap (λ rest. x ∷ rest) (parts_again n xs)
 
 module _ (k : KernelView) where
   abbrev pub after_first : ℕ → Record EntryView
@@ -46,3 +57,27 @@ module _ (k : KernelView) where
   all_entries i past =
       ap (λ (es : List Event). (all_recorded (plain k.scripts) k.start no_record (map image es)).entries) (whole k.trace i past)
       ∙ entries_are (plain k.scripts) k.start (map image k.trace)
+
+  -- ---- what comes next may come
+  front_sound : (n : ℕ) → HasSoundTrace k → IsSound (plain k.scripts) k.start (map image (take n k.trace))
+  front_sound n whole =
+      sound_before (plain k.scripts) k.start (map image (take n k.trace)) (map image (drop n k.trace))
+      (subst (λ es. IsSound (plain k.scripts) k.start es) (sym (sym (map_append image (take n k.trace) (drop n k.trace)) ∙ ap (λ (es : List Event). map image es) (parts_again n k.trace))) whole.sound)
+
+  fits_from : (i : ℕ) (x : Event) (s : Standing) → IsSound (plain k.scripts) k.start (map image (take i k.trace) ++ image x ∷ []) → seen s ≡ after_first i → Fits s x
+  fits_from i (events.Step pid input) s sound is = tt
+  fits_from i (events.Guess id pid input) s sound is =
+      ap (λ (r : Record EntryView). is_made r.entries id) is
+      ∙ sym (marked_is (plain k.scripts) k.start k.start (after_first i).entries id)
+      ∙ (fresh_from (plain k.scripts) k.start (map image (take i k.trace)) (record { pid = pid; input = input; guess = Some id }) sound).1
+  fits_from i (events.Commit id) s sound is = tt
+  fits_from i (events.Fail id) s sound is =
+      ap (λ (r : Record EntryView). has id r.undecided) is
+      ∙ (undecided_is (plain k.scripts) k.start (map image (take i k.trace)) (sound_before (plain k.scripts) k.start (map image (take i k.trace)) (Fail id ∷ []) sound) id).1
+      (sound.allowed (map image (take i k.trace)) [] (Fail id) refl)
+
+  pub fits_next : (i : ℕ) (x : Event) (s : Standing) → i < length k.trace → x ≡ get_or k.trace i x → HasSoundTrace k → seen s ≡ after_first i → Fits s x
+  fits_next i x s lt is whole stands =
+      let next : map image (take (i + 1) k.trace) ≡ map image (take i k.trace) ++ image x ∷ [] =
+      ap (λ (es : List Event). map image es) (take_more k.trace i x lt ∙ ap (λ (y : Event). take i k.trace ++ y ∷ []) (sym is)) ∙ pushed image (take i k.trace) x in
+      fits_from i x s (subst (λ es. IsSound (plain k.scripts) k.start es) next (front_sound (i + 1) whole)) stands

@@ -1,2 +1,5 @@
 pub mod Struck
 pub mod Along
+pub mod Behind
+pub mod Settled
+pub mod Alike

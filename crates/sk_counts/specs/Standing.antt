@@ -1,8 +1,46 @@
 -- Where the reading of a trace stands.
-use Rattle.sk_record.specs.Trace.{Record}
+use Rattle.std.specs.Prelude.{◌≡◌, ℕ, Bool, true, false, not, List, ◌++◌, Option, Some, None}
+use Rattle.sk_record.specs.Run.{run}
+use Rattle.sk_record.specs.Notes.{has}
+use Rattle.sk_record.specs.Trace.{Record, recorded}
+use Rattle.sk_store.specs.State.{State}
 use Rattle.sk_trace.specs.Entry.{EntryView}
+use Rattle.sk_trace.specs.declared.event.Event.{Event}
+use Rattle.sk_trace.specs.declared.event.Event.TheVariants as events
+use Rattle.sk_plain.specs.Act.{Scripts, plain}
+use Rattle.sk_plain.specs.Replay.{image, is_made}
 use Rattle.sk_counts.specs.declared.standing.Standing.{Standing}
 
 -- the record so far, with its undecided guesses
 abbrev pub seen : Standing → Record EntryView
-seen s = record { entries = s.entries.items; undecided = s.undecided.items }
+seen s = record { entries = s.settled.items ++ s.behind.items; undecided = s.undecided.items }
+
+-- whether a guess is none of these
+abbrev pub is_other : List ℕ → Option ℕ → Bool
+is_other undecided (Some g) = not (has g undecided)
+is_other undecided None = true
+
+-- whether an entry made none of them
+abbrev pub is_settled : List ℕ → EntryView → Bool
+is_settled undecided n = is_other undecided n.guess
+
+-- from this start: entities have in it what they have after the settled entries, none of which made an undecided guess
+pub record Stands (scripts : Scripts) (start : State) (s : Standing) : Type 0 where
+  pub after : s.after ≡ run (plain scripts) start s.settled.items
+  pub unmade : (g : ℕ) → has g s.undecided.items ≡ true → is_made s.settled.items g ≡ false
+
+-- an event may come next: a guess is new, and one that fails is undecided
+abbrev pub Fits : Standing → Event → Type 0
+Fits s (events.Step pid input) = Unit {0}
+Fits s (events.Guess id pid input) = is_made (seen s).entries id ≡ false
+Fits s (events.Commit id) = Unit {0}
+Fits s (events.Fail id) = has id s.undecided.items ≡ true
+
+-- the record with one event more
+abbrev pub GoesOn : Scripts → Event → Standing → Standing → Type 0
+GoesOn scripts event old new =
+    (start : State) → Stands scripts start old → Fits old event → Stands scripts start new × (seen new ≡ recorded (plain scripts) start (seen old) (image event))
+
+-- the record stays as it is, whatever of it is settled
+abbrev pub Settles : Scripts → Standing → Standing → Type 0
+Settles scripts old new = (start : State) → Stands scripts start old → Stands scripts start new × (seen new ≡ seen old)

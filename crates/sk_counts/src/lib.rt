@@ -4,6 +4,7 @@
 pub mod counts;
 pub mod kinds;
 pub mod laws;
+mod left;
 pub mod standing;
 pub mod text;
 

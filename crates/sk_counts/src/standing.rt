@@ -1,24 +1,34 @@
 //! The record of a trace and its undecided guesses, read event by event.
-ghost use Rattle.std.specs.Prelude.{◌≡◌, length, max, OnOk, IfOk};
-ghost use Rattle.sk_record.specs.Trace.{recorded};
+ghost use Rattle.std.specs.Prelude.{◌≡◌, ◌≤◌, ◌∷◌, ◌++◌, [], List, length, take, drop, max, OnOk, IfOk};
+ghost use Rattle.std.specs.List.{prefix_len};
+ghost use Rattle.sk_record.specs.Run.{run};
+ghost use Rattle.sk_record.specs.Notes.{has};
+ghost use Rattle.sk_record.specs.Strike.{strike};
+ghost use Rattle.sk_record.specs.Trace.{marks};
+ghost use Rattle.sk_trace.specs.Entry.{EntryView};
+ghost use Rattle.sk_trace.specs.declared.event.Event.TheVariants as events;
 ghost use Rattle.sk_plain.specs.Act.{plain};
-ghost use Rattle.sk_plain.specs.Replay.{image, is_made};
+ghost use Rattle.sk_plain.specs.Replay.{is_made};
 ghost use Rattle.sk_kernel.specs.Kernel.{record_at};
 ghost use Rattle.sk_counts.specs.Counts.{most_up_to};
-ghost use Rattle.sk_counts.specs.Standing.{seen};
+ghost use Rattle.sk_counts.specs.Standing.{is_settled, GoesOn, Settles};
 
+use crate::left::strike_guess;
 use sk_ids::GuessId;
 use sk_kernel::Kernel;
-use sk_plain::strike_guess;
+use sk_plain::{InputRef, Refusal, apply_plan, plan_step};
 use sk_script::Scripts;
 use sk_store::Store;
 use sk_trace::{Entry, Event};
 use std::alloc::{AllocError, Global};
 
-/// The entries that count so far, and the guesses that are undecided.
+/// The entries that count so far: the settled ones, which no undecided guess is among, with what entities have after them, and
+/// those behind; and the guesses that are undecided.
 #[derive(Drop)]
 pub(crate) struct Standing {
-    pub entries: Vec<Entry>,
+    pub settled: Vec<Entry>,
+    pub after: Store,
+    pub behind: Vec<Entry>,
     pub undecided: Vec<GuessId>,
 }
 
@@ -29,52 +39,175 @@ fn is_made(entries: &[Entry], guess: GuessId) -> bool
     entries.iter().any(|entry| entry.guess == Some(guess))
 }
 
-/// Takes a failure: what depends on the guess is struck out.
-fn fail(
+/// Whether a guess is one of these.
+fn is_among(guesses: &[GuessId], guess: GuessId) -> bool
+    ensures { result ≡ has guess guesses.now }
+{
+    guesses.iter().any(|id| *id == guess)
+}
+
+/// Whether an entry made none of these guesses.
+fn is_settled(undecided: &[GuessId], entry: &Entry) -> bool
+    ensures { result ≡ is_settled undecided.now entry.now }
+{
+    match entry.guess {
+        Some(guess) => !is_among(undecided, guess),
+        None => true,
+    }
+}
+
+/// How many entries stand before the first that made one of these guesses.
+fn settled_in(entries: &[Entry], undecided: &[GuessId]) -> usize
+    ensures count { result ≡ prefix_len (is_settled undecided.now) entries.now }
+    ensures bound { result ≤ length entries.now }
+{
+    entries
+        .iter()
+        .take_while(|entry| is_settled(undecided, *entry))
+        .count()
+}
+
+/// Takes the step of an entry.
+fn take_step(store: &mut Store, scripts: &Scripts, entry: &Entry) -> Result<(), Refusal>
+    ensures { OnOk result
+        ((rest : List EntryView)
+        → run (plain scripts.now) store.new rest
+        ≡ run (plain scripts.now) store.old (entry.now ∷ rest)) }
+{
+    let input = InputRef::of(&entry.input);
+    let plan = match plan_step(store, scripts, entry.pid, input) {
+        Ok(plan) => plan,
+        Err(why) => return Err(why),
+    };
+    apply_plan(store, scripts, entry.pid, input, &plan)?;
+    Ok(())
+}
+
+/// Takes the steps of a record.
+fn run_on(store: &mut Store, scripts: &Scripts, entries: &[Entry]) -> Result<(), Refusal>
+    ensures { OnOk result (store.new ≡ run (plain scripts.now) store.old entries.now) }
+{
+    for entry in entries {
+        take_step(store, scripts, entry)?;
+    }
+    Ok(())
+}
+
+/// Moves the first entries over to the settled ones.
+fn move_over(
+    settled: &mut Vec<Entry>,
+    behind: &mut Vec<Entry>,
+    count: usize,
+) -> Result<(), AllocError>
+    requires { count ≤ length behind.old.items }
+    ensures settled { OnOk result
+        (settled.new.items ≡ settled.old.items ++ take count behind.old.items) }
+    ensures behind { OnOk result (behind.new.items ≡ drop count behind.old.items) }
+{
+    settled.extend_from_slice(&behind[..count])?;
+    behind.drain(..count);
+    Ok(())
+}
+
+/// Settles the entries that stand before the first undecided guess.
+fn settle(scripts: &Scripts, standing: &mut Standing) -> Result<(), AllocError>
+    ensures { OnOk result (Settles scripts.now standing.old standing.new) }
+{
+    let count = settled_in(&standing.behind, &standing.undecided);
+    // The record of a kernel's trace is legal: only memory can be wanting.
+    if run_on(&mut standing.after, scripts, &standing.behind[..count]).is_err() {
+        return Err(AllocError);
+    }
+    move_over(&mut standing.settled, &mut standing.behind, count)
+}
+
+/// Takes an entry in.
+fn add(standing: &mut Standing, entry: Entry) -> Result<(), AllocError>
+    ensures behind { OnOk result
+        (standing.new.behind.items ≡ standing.old.behind.items ++ entry ∷ []) }
+    ensures undecided { OnOk result
+        (standing.new.undecided.items ≡ standing.old.undecided.items ++ marks entry.guess) }
+    ensures settled { standing.new.settled.items ≡ standing.old.settled.items }
+    ensures after { standing.new.after ≡ standing.old.after }
+{
+    standing.behind.push(entry)?;
+    if let Some(guess) = entry.guess {
+        standing.undecided.push(guess)?;
+    }
+    Ok(())
+}
+
+/// What a failure leaves of the entries that are not settled.
+fn left_behind(
     alloc: Global,
-    start: &Store,
+    scripts: &Scripts,
+    standing: &Standing,
+    guess: GuessId,
+) -> Result<Vec<Entry>, AllocError>
+    ensures { IfOk result
+        (λ left. left.items
+        ≡ strike (plain scripts.now) standing.now.after standing.now.behind.items guess) }
+{
+    let mut store = standing.after.copy()?;
+    // The record of a kernel's trace is legal: only memory can be wanting.
+    match strike_guess(alloc, &mut store, scripts, &standing.behind, guess) {
+        Ok(left) => Ok(left),
+        Err(_) => Err(AllocError),
+    }
+}
+
+/// Strikes out what depends on a guess. None of that is settled.
+fn strike_out(
+    alloc: Global,
     scripts: &Scripts,
     standing: &mut Standing,
     guess: GuessId,
 ) -> Result<(), AllocError>
-    ensures { OnOk result (seen standing.new
-        ≡ recorded (plain scripts.now) start.now (seen standing.old) (image (Event.Fail guess))) }
+    ensures { OnOk result (GoesOn scripts.now (events.Fail guess) standing.old standing.new) }
 {
-    let mut store = start.copy()?;
-    // The record of a kernel's trace is legal: only memory can be wanting.
-    let Ok(kept) = strike_guess(alloc, &mut store, scripts, &standing.entries, guess) else {
-        return Err(AllocError);
-    };
-    standing.undecided.retain(|id| is_made(&kept, *id));
-    standing.entries = kept;
+    let left = left_behind(alloc, scripts, standing, guess)?;
+    standing.undecided.retain(|id| is_made(&left, *id));
+    standing.behind = left;
     Ok(())
+}
+
+/// Takes a failure. What no failure can strike is settled first, so that it is run once.
+fn fail(
+    alloc: Global,
+    scripts: &Scripts,
+    standing: &mut Standing,
+    guess: GuessId,
+) -> Result<(), AllocError>
+    ensures { OnOk result (GoesOn scripts.now (events.Fail guess) standing.old standing.new) }
+{
+    settle(scripts, standing)?;
+    strike_out(alloc, scripts, standing, guess)
 }
 
 /// Goes on with an event. Refused only for want of memory.
 fn go_on(
     alloc: Global,
-    start: &Store,
     scripts: &Scripts,
     standing: &mut Standing,
     event: &Event,
 ) -> Result<(), AllocError>
-    ensures { OnOk result (seen standing.new
-        ≡ recorded (plain scripts.now) start.now (seen standing.old) (image event.now)) }
+    ensures { OnOk result (GoesOn scripts.now event.now standing.old standing.new) }
 {
     match event {
         Event::Step { pid, input } => {
             let (pid, input, guess) = (*pid, input.input(), None);
-            standing.entries.push(Entry { pid, input, guess })?;
+            add(standing, Entry { pid, input, guess })
         }
         Event::Guess { id, pid, input } => {
             let (pid, input, guess) = (*pid, input.input(), Some(*id));
-            standing.entries.push(Entry { pid, input, guess })?;
-            standing.undecided.push(*id)?;
+            add(standing, Entry { pid, input, guess })
         }
-        Event::Commit(id) => standing.undecided.retain(|other| *other != *id),
-        Event::Fail(id) => return fail(alloc, start, scripts, standing, *id),
+        Event::Commit(id) => {
+            standing.undecided.retain(|other| *other != *id);
+            Ok(())
+        }
+        Event::Fail(id) => fail(alloc, scripts, standing, *id),
     }
-    Ok(())
 }
 
 /// The larger of two numbers.
@@ -92,13 +225,15 @@ pub(crate) fn read_trace(alloc: Global, kernel: &Kernel) -> Result<(usize, usize
 {
     let start = kernel.opening().start();
     let mut standing = Standing {
-        entries: Vec::new(alloc),
+        settled: Vec::new(alloc),
+        after: start.state().copy()?,
+        behind: Vec::new(alloc),
         undecided: Vec::new(alloc),
     };
     let mut most = 0;
     for event in kernel.trace().events() {
-        go_on(alloc, start.state(), start.scripts(), &mut standing, event)?;
+        go_on(alloc, start.scripts(), &mut standing, event)?;
         most = larger(most, standing.undecided.len());
     }
-    Ok((standing.entries.len(), most))
+    Ok((standing.settled.len() + standing.behind.len(), most))
 }

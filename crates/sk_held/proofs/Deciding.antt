@@ -103,8 +103,8 @@ module _ {V O : Type 0} (old : ByteView V O) (ts us : List Token) (t : Token) (h
   held_so : AreHeld old.parts (us ++ t ∷ [])
   held_so = subst (AreHeld old.parts) is held
 
-  pub last_met : (result : Result Committed Token) (s : Token) (new : ByteView V O) → CommitPost old t result new → result ≡ Err s → ⊥
-  last_met result s new h e = commit_met old (us ++ t ∷ []) us t (length us) t.id held_so (last_at us t) (last_is us t) (all_but_last us t) result s new h e
+  pub last_met : (result : Result Unmade Token) (s : Token) (new : ByteView V O) → FailPost old t result new → result ≡ Err s → ⊥
+  last_met result s new h e = fail_met old (us ++ t ∷ []) us t (length us) t.id held_so (last_at us t) (last_is us t) (all_but_last us t) result s new h e
 
-  pub last_holds : (result : Result Committed Token) (o : Committed) (new : ByteView V O) → CommitPost old t result new → result ≡ Ok o → AreHeld new.parts us
-  last_holds result o new h e = commit_holds old (us ++ t ∷ []) us t (length us) t.id held_so (last_at us t) (last_is us t) (all_but_last us t) result o new h e
+  pub last_holds : (result : Result Unmade Token) (o : Unmade) (new : ByteView V O) → FailPost old t result new → result ≡ Ok o → AreHeld new.parts us
+  last_holds result o new h e = fail_holds old (us ++ t ∷ []) us t (length us) t.id held_so (last_at us t) (last_is us t) (all_but_last us t) result o new h e

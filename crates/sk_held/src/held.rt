@@ -209,7 +209,7 @@ impl Held {
     }
 }
 
-/// The guesses that are left are committed, the newest first.
+/// The guesses that are left fail, the newest first.
 impl Drop for Held {
     fn drop(self) {
         let Held {
@@ -220,7 +220,7 @@ impl Drop for Held {
             out: _out,
         } = self;
         while let Some(token) = tokens.pop() {
-            match kernel.commit(token) {
+            match kernel.fail(token) {
                 Ok(_) => {}
                 Err(_stranger) => unreachable!(),
             }

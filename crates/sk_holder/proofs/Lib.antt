@@ -4,3 +4,4 @@ pub mod Kept
 pub mod Decided
 pub mod HandedIn
 mod Epochs
+pub mod Spent

@@ -10,6 +10,7 @@ use Rattle.sk_trace.specs.declared.event.Event.TheVariants as events
 use Rattle.sk_plain.specs.Refusal.{cause}
 use Rattle.sk_plain.specs.declared.refusal.Refusal.{Refusal}
 use Rattle.sk_kernel.specs.Kernel.{KernelView, HasStatus, kernel_code, next_guess, undecided_at, with_event}
+use Rattle.sk_kernel.specs.Laws.{with_events}
 use Rattle.sk_kernel.specs.declared.kernel.Outcome.{Outcome}
 use Rattle.sk_kernel.specs.declared.kernel.Outcome.TheVariants as outcomes
 
@@ -51,3 +52,7 @@ DecidesPost (Some outcomes.Done) event id old new =
 DecidesPost (Some outcomes.Gone) event id old new =
     (has id old.held ≡ true) × HasStatus old.kernel id Struck × (has id (undecided_at old.kernel) ≡ false)
     × (new ≡ record { kernel = old.kernel; held = but id old.held })
+
+-- only failures happened
+abbrev pub FailsSome : KernelView → KernelView → Type 0
+FailsSome old new = (failed : List ℕ) × (new ≡ with_events old (map events.Fail failed))

@@ -8,7 +8,7 @@ ghost use Rattle.sk_kernel.specs.HandIn.{HandInPost};
 ghost use Rattle.sk_terminal.specs.Terminals.{released_at};
 ghost use Rattle.sk_trace.specs.Kept.{input_in};
 ghost use Rattle.sk_trace.specs.declared.event.Event.TheVariants as events;
-ghost use Rattle.sk_holder.specs.Holder.{holding, GuessesPost, DecidesPost};
+ghost use Rattle.sk_holder.specs.Holder.{holding, GuessesPost, DecidesPost, FailsSome};
 
 use sk_guesses::Guess;
 use sk_ids::{GuessId, Pid};
@@ -176,17 +176,18 @@ impl Holder {
         kernel.shut()
     }
 
-    /// Spends the tokens by commits, the oldest first.
+    /// Spends the tokens by failures, the oldest first: nothing is committed.
     fn spend(&mut self)
-        ensures { self.new.held ≡ [] }
+        ensures held { self.new.held ≡ [] }
+        ensures fails { FailsSome self.old.kernel self.new.kernel }
     {
         while let Some(token) = self.tokens.first() {
             let id = token.id();
-            self.commit(id);
+            self.fail(id);
         }
     }
 
-    /// Spends the tokens by commits, the oldest first, and ends. This takes no memory.
+    /// Fails the guesses that are left, the oldest first, and ends. This takes no memory.
     pub fn abandon(self) {
         let mut holder = self;
         holder.spend();

@@ -107,7 +107,7 @@ impl Session {
         }
     }
 
-    /// Spends the tokens that are left by commits, and ends.
+    /// Fails the guesses that are left, and ends.
     pub fn end(self) {
         let Session { holder } = self;
         holder.abandon();

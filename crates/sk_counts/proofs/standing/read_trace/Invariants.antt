@@ -4,11 +4,12 @@ use Rattle.sk_record.specs.Trace.{all_recorded, no_record}
 use Rattle.sk_plain.specs.Act.{plain}
 use Rattle.sk_plain.specs.Replay.{image}
 use Rattle.sk_counts.specs.Counts.{most_up_to}
-use Rattle.sk_counts.specs.Standing.{seen}
+use Rattle.sk_counts.specs.Standing.{seen, Stands}
 use Rattle.sk_counts.proofs.standing.read_trace.Given as goal
 
 abbrev pub invariant-loop-event : goal.invariant-loop-event
 invariant-loop-event l = record {
+  stands : Stands l.kernel.scripts l.kernel.start l.standing;
   standing : seen l.standing ≡ all_recorded (plain l.kernel.scripts) l.kernel.start no_record (map image (take l.event-index l.kernel.trace));
   most : l.most ≡ most_up_to l.kernel l.event-index;
 }

@@ -1,0 +1,11 @@
+-- It is there already.
+use Rattle.std.proofs.Common.{◌≡◌, true, rules}
+use Rattle.sk_record.specs.Effects.{is_in}
+use Rattle.sk_ids.specs.Entity.{entity_cmp}
+use Rattle.sk_counts.proofs.Alike.{there_is}
+use Rattle.sk_counts.proofs.left.soil_one.Goals as goal
+
+pub returns-then-is_dirty : goal.returns-then-is_dirty
+returns-then-is_dirty c =
+    let there : is_in entity_cmp c.args.dirty.now.items c.args.entity.now ≡ true = search rules in
+    there_is c.args.dirty.now.items c.args.entity.now there

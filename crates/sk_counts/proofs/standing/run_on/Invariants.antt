@@ -1,0 +1,10 @@
+-- From here the rest of the record comes to where all of it does.
+use Rattle.std.proofs.Common.{◌≡◌, drop}
+use Rattle.sk_record.specs.Run.{run}
+use Rattle.sk_plain.specs.Act.{plain}
+use Rattle.sk_counts.proofs.standing.run_on.Given as goal
+
+abbrev pub invariant-loop-entry : goal.invariant-loop-entry
+invariant-loop-entry l = record {
+  run : run (plain l.scripts) l.store (drop l.entry-index l.entries) ≡ run (plain l.scripts) l.fn.store l.entries;
+}

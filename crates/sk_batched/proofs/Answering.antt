@@ -19,7 +19,7 @@ use Rattle.sk_batches.specs.Frames.{FramePost}
 use Rattle.sk_batches.specs.Places.{PlacesView}
 use Rattle.sk_batches.specs.declared.frames.Sealed.{Sealed}
 use Rattle.sk_batches.specs.declared.refusal.Refusal.{Refusal}
-use Rattle.sk_batched.specs.Keys.{batch_key}
+use Rattle.sk_reserved.specs.Keys.{batch_key}
 use Rattle.sk_batched.specs.Batched.{capped, opening, BatchedView, Begins, Draws, IsStill, MayBegin}
 use Rattle.sk_batched.specs.InStep.{IsInStep}
 use Rattle.sk_batched.proofs.Moves.{Spares}

@@ -27,7 +27,7 @@ use Rattle.sk_bytes.specs.Calls.{Unchanged}
 use Rattle.sk_batches.specs.Queue.{QueueView, after_word, after_cut, after_take, decided, left}
 use Rattle.sk_batches.specs.declared.queue.Decision.{Decision}
 use Rattle.sk_batches.specs.declared.queue.Decision.TheVariants.{Logged, Refused}
-use Rattle.sk_batched.specs.Keys.{batch_key, is_reserved}
+use Rattle.sk_reserved.specs.Keys.{batch_key, is_reserved}
 use Rattle.sk_batched.specs.Batched.{capped, in_batch, is_full, opening, BatchedView, Draws, IsNew, IsStill}
 use Rattle.sk_batched.specs.InStep.{open_if, open_numbers, tokens_of, IsInStep, IsRow}
 use Rattle.sk_batched.specs.Runs.{act_of, in_batches, kernel_calls, looking_at, opens_first, BatchStep, Opens, Plain, InBatch, Call, Steps, LogsStep, IsRefused, DrawsGuess, Sends, Hears, Cuts, Stops, Decides, LetsOut, HandsIn, Runs, BatchesAsPlain}

@@ -1,9 +1,9 @@
-mod Rows
-mod Moves
-mod Queues
-mod Spared
-mod Touched
-mod Same
-mod Answering
-mod Decided
-mod Law
+pub mod Rows
+pub mod Moves
+pub mod Queues
+pub mod Spared
+pub mod Touched
+pub mod Same
+pub mod Answering
+pub mod Decided
+pub mod Law

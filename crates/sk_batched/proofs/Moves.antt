@@ -23,7 +23,7 @@ use Rattle.sk_index.specs.Index.{bytes_cmp}
 use Rattle.sk_index.proofs.Strings.{same_bytes}
 use Rattle.sk_speculator.specs.Calls.{Commits, FailsIn, Takes}
 use Rattle.sk_speculator.specs.Parts.{Parts, machine_of, undo_state_of, IsSame}
-use Rattle.sk_batched.specs.Keys.{batch_key}
+use Rattle.sk_reserved.specs.Keys.{batch_key}
 use Rattle.sk_batched.specs.Batched.{opening}
 use Rattle.sk_batched.specs.InStep.{alone, notes_by, AreInRow, IsRow}
 use Rattle.sk_batched.proofs.Rows.{alone_more, first_committed, first_failed, longer, never_there, none_before, none_left_out, not_again, not_beyond, notes_committed, notes_cut, notes_more, numbers_alone, only_new, strikes_none}

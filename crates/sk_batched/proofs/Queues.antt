@@ -24,7 +24,7 @@ use Rattle.sk_batches.specs.declared.refusal.Refusal.TheVariants.{Stopped, NoCut
 use Rattle.sk_batches.specs.Calls.{new_queue, CutPost, WordPost}
 use Rattle.sk_batches.specs.Records.{kept}
 use Rattle.sk_batches.specs.Queue.{QueueView, after_cut, after_take, after_word, awaits, cut_off, decided, decision_of, is_decided, is_kept, left, open_batch, send, tell}
-use Rattle.sk_batched.specs.Keys.{batch_key}
+use Rattle.sk_reserved.specs.Keys.{batch_key}
 use Rattle.sk_batched.specs.Batched.{opening}
 use Rattle.sk_batched.specs.InStep.{alone, not_yet, open_if, open_numbers, tokens_of, AreInRow, IsInStep, IsRow}
 use Rattle.sk_batched.proofs.Rows.{numbers_alone, strikes_none, tokens_more}

@@ -14,7 +14,8 @@ use Rattle.sk_bytes.specs.Calls.{has_long_key}
 use Rattle.sk_bytes.specs.Steps.{byte_deed}
 use Rattle.sk_batched.specs.declared.refusal.Refusal.{Refusal}
 use Rattle.sk_batched.specs.declared.refusal.Refusal.TheVariants.{LongKey, Reserved}
-use Rattle.sk_batched.specs.Keys.{batch_key, has_reserved_key, is_batch_key, is_reserved}
+use Rattle.sk_reserved.specs.Keys.{batch_key, is_reserved}
+use Rattle.sk_batched.specs.Keys.{has_reserved_key, is_batch_key}
 use Rattle.sk_batched.specs.Refused.{step_refused}
 use Rattle.sk_batched.specs.Batched.{in_batch}
 use Rattle.sk_batched.proofs.Moves.{Spares}

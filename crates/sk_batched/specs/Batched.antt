@@ -28,7 +28,7 @@ use Rattle.sk_batched.specs.declared.batched.Outcome.TheVariants.{Logged, Refuse
 use Rattle.sk_batched.specs.declared.batched.TheConstants.{MOST_IN_FLIGHT}
 use Rattle.sk_batched.specs.declared.refusal.Refusal.{Refusal}
 use Rattle.sk_batched.specs.declared.refusal.Refusal.TheVariants.{TooMany, Memory}
-use Rattle.sk_batched.specs.Keys.{batch_key}
+use Rattle.sk_reserved.specs.Keys.{batch_key}
 use Rattle.sk_batched.specs.Refused.{cause_of, refusal_of, step_refused}
 
 -- the kernel, the queue, and whether the guess of the open batch is drawn

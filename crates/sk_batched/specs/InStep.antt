@@ -7,7 +7,7 @@ use Rattle.sk_slots.specs.Slots.{look_at, log_at}
 use Rattle.sk_index.specs.Index.{bytes_cmp}
 use Rattle.sk_speculator.specs.Parts.{Parts}
 use Rattle.sk_batches.specs.Queue.{QueueView}
-use Rattle.sk_batched.specs.Keys.{batch_key}
+use Rattle.sk_reserved.specs.Keys.{batch_key}
 
 -- the open batch, where its guess is drawn
 abbrev pub open_if : Bool → ℕ → List ℕ

@@ -21,7 +21,7 @@ use Rattle.sk_batches.specs.declared.batch.Stage.{Stage}
 use Rattle.sk_batches.specs.declared.queue.Cut.{Cut}
 use Rattle.sk_batches.specs.declared.queue.Decision.{Decision}
 use Rattle.sk_batches.specs.declared.queue.Decision.TheVariants.{Logged, Refused}
-use Rattle.sk_batched.specs.Keys.{batch_key, is_reserved}
+use Rattle.sk_reserved.specs.Keys.{batch_key, is_reserved}
 use Rattle.sk_batched.specs.Batched.{is_full, Begins, BatchedView, Draws, IsNew, Logs, Stays}
 
 -- ---- the steps that the kernel takes

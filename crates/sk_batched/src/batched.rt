@@ -20,12 +20,12 @@ ghost use Rattle.sk_batched.specs.Refused.{cause_of, step_refused};
 ghost use Rattle.sk_batched.specs.Batched.{capped, in_batch, is_full, is_touched, log_refused, Appends, Begins, DecidePost, IsEmpty, IsKept, IsNew, IsStill, LogPost, MayBegin, NextPost, RunsInBatch, Stays, TakePost};
 
 use crate::checks;
-use crate::keys::batch_key;
 use crate::refusal::{Refusal, named};
 use crate::rests::rests_of;
 use sk_batches::{Cut, Decision, Places, Queue, Sealed, may_take_frame, take_frame};
 use sk_bytes::{ByteStep, Bytes, Unmade};
 use sk_guesses::Guess;
+use sk_reserved::batch_key;
 use sk_speculator::Step;
 use std::alloc::{AllocError, Global};
 use std::marker::Model;

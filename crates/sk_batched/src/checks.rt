@@ -5,8 +5,8 @@ ghost use Rattle.sk_batched.specs.Keys.{has_reserved_key, is_batch_key};
 ghost use Rattle.sk_batched.specs.Refused.{cause_of, step_refused};
 
 use crate::Refusal;
-use crate::keys::is_reserved;
 use sk_bytes::{ByteStep, KEY_LIMIT};
+use sk_reserved::is_reserved;
 
 /// Why a step is not taken, whatever memory there is.
 pub(crate) fn may_take<V, O>(step: &ByteStep<V, O>) -> Result<(), Refusal>

@@ -3,11 +3,9 @@
 
 mod batched;
 mod checks;
-pub mod keys;
 pub mod laws;
 mod refusal;
 mod rests;
 
 pub use batched::{Batched, MOST_IN_FLIGHT, Outcome};
-pub use keys::is_reserved;
 pub use refusal::Refusal;

@@ -3,4 +3,5 @@ pub mod Order
 pub mod Synced
 pub mod Lost
 pub mod Rest
+pub mod Dense
 pub mod Sealing

@@ -28,13 +28,13 @@ same_numbers : (f : Batch → Batch) → ((b : Batch) → (f b).number ≡ b.num
 same_numbers f same [] = refl
 same_numbers f same (b ∷ bs) = λ k. same b k ∷ same_numbers f same bs k
 
-sent_number : (frame : ℕ) (b : Batch) → (send frame b).number ≡ b.number
+pub sent_number : (frame : ℕ) (b : Batch) → (send frame b).number ≡ b.number
 sent_number frame b = elim (is_kept b.stage) as (λ t. (cond t (record b { frame = frame; stage = Sent }) b).number ≡ b.number) [ true ↦ refl | false ↦ refl ]
 
-told_number : (frame : ℕ) (stage : Stage) (b : Batch) → (tell frame stage b).number ≡ b.number
+pub told_number : (frame : ℕ) (stage : Stage) (b : Batch) → (tell frame stage b).number ≡ b.number
 told_number frame stage b = elim (awaits frame b) as (λ t. (cond t (record b { stage = stage }) b).number ≡ b.number) [ true ↦ refl | false ↦ refl ]
 
-cut_number : (c : Cut) (b : Batch) → (cut_off c b).number ≡ b.number
+pub cut_number : (c : Cut) (b : Batch) → (cut_off c b).number ≡ b.number
 cut_number c b =
     elim (nat_lt b.frame c.frame) as (λ t. (cond t b (cond (b.frame == c.frame) (record b { stage = Refused }) (record b { stage = Kept; records = kept c.first c.last b.records }))).number ≡ b.number) [
       | true ↦ refl

@@ -8,8 +8,8 @@ use Rattle.sk_batches.specs.declared.batch.Stage.TheVariants.{Kept, Sent, Synced
 use Rattle.sk_batches.specs.declared.batch.Batch.{Batch}
 use Rattle.sk_batches.specs.declared.queue.Cut.{Cut}
 use Rattle.sk_batches.specs.Records.{RecordView, kept}
-use Rattle.sk_batches.specs.Queue.{QueueView, send, tell, awaits, cut_off, first_failed, last_in, is_kept, is_sent, is_failed, is_decided, left, past}
-use Rattle.sk_batches.specs.Runs.{Call, Appends, Withdraws, Takes, Syncs, Fails, Decides, Cuts, Stops, Happens, Runs, Story, story_after, synced_after, with_decided, with_oldest, has, LogsWhatIsSynced}
+use Rattle.sk_batches.specs.Queue.{QueueView, send, tell, awaits, cut_off, first_failed, last_in, is_kept, is_sent, is_failed, is_decided, kept_records, left, past}
+use Rattle.sk_batches.specs.Runs.{Call, Appends, Withdraws, Takes, Syncs, Fails, Decides, Cuts, Stops, Happens, Runs, Story, story_after, synced_after, with_decided, with_oldest, has, LogsWhatIsSynced, NoneIsKept}
 use Rattle.sk_log.specs.declared.frame.TheConstants.{NUMBER_LIMIT}
 
 -- ---- tests
@@ -30,14 +30,14 @@ not_second : (x y : Bool) → y ≡ false → (x && y) ≡ false
 not_second true y e = e
 not_second false y e = refl
 
-sent_undecided : (s : Stage) → is_sent s ≡ true → is_decided s ≡ false
+pub sent_undecided : (s : Stage) → is_sent s ≡ true → is_decided s ≡ false
 sent_undecided Kept e = refl
 sent_undecided Sent e = refl
 sent_undecided Synced e = absurd (false≢true e)
 sent_undecided Failed e = refl
 sent_undecided Refused e = absurd (false≢true e)
 
-sent_unkept : (s : Stage) → is_sent s ≡ true → is_kept s ≡ false
+pub sent_unkept : (s : Stage) → is_sent s ≡ true → is_kept s ≡ false
 sent_unkept Kept e = absurd (false≢true e)
 sent_unkept Sent e = refl
 sent_unkept Synced e = refl
@@ -51,14 +51,14 @@ decided_unkept Synced e = refl
 decided_unkept Failed e = refl
 decided_unkept Refused e = refl
 
-failed_undecided : (s : Stage) → is_failed s ≡ true → is_decided s ≡ false
+pub failed_undecided : (s : Stage) → is_failed s ≡ true → is_decided s ≡ false
 failed_undecided Kept e = refl
 failed_undecided Sent e = refl
 failed_undecided Synced e = absurd (false≢true e)
 failed_undecided Failed e = refl
 failed_undecided Refused e = absurd (false≢true e)
 
-failed_unkept : (s : Stage) → is_failed s ≡ true → is_kept s ≡ false
+pub failed_unkept : (s : Stage) → is_failed s ≡ true → is_kept s ≡ false
 failed_unkept Kept e = absurd (false≢true e)
 failed_unkept Sent e = refl
 failed_unkept Synced e = refl
@@ -73,7 +73,7 @@ kept_unfailed Failed e = absurd (false≢true e)
 kept_unfailed Refused e = refl
 
 -- what is not to be sent again, not waited for and not failed is decided
-else_decided : (s : Stage) → is_kept s ≡ false → is_sent s ≡ false → is_failed s ≡ false → is_decided s ≡ true
+pub else_decided : (s : Stage) → is_kept s ≡ false → is_sent s ≡ false → is_failed s ≡ false → is_decided s ≡ true
 else_decided Kept a b c = absurd (true≢false a)
 else_decided Sent a b c = absurd (true≢false b)
 else_decided Synced a b c = refl
@@ -117,7 +117,7 @@ more_told : (synced more : List ℕ) (f n : ℕ) → ((k : ℕ) → k < n → ha
 more_told synced more f n grows x = record { least = x.least; told = λ k le lt. grows k lt (x.told k le lt) }
 
 -- those below a frame stay
-stays_below : (frame k : ℕ) (ns : List ℕ) → k < frame → has k ns ≡ true → has k (filter (λ n. nat_lt n frame) ns) ≡ true
+pub stays_below : (frame k : ℕ) (ns : List ℕ) → k < frame → has k ns ≡ true → has k (filter (λ n. nat_lt n frame) ns) ≡ true
 stays_below frame k [] lt here = here
 stays_below frame k (n ∷ ns) lt here =
     elim (nat_lt n frame) as (λ t. nat_lt n frame ≡ t → has k (cond t (n ∷ filter (λ m. nat_lt m frame) ns) (filter (λ m. nat_lt m frame) ns)) ≡ true) [
@@ -399,7 +399,7 @@ abbrev frame_cut : Option Cut → ℕ
 frame_cut None = 0
 frame_cut (Some c) = c.frame
 
-no_cut : (c : Cut) → None ≡ Some c → ⊥
+pub no_cut : (c : Cut) → None ≡ Some c → ⊥
 no_cut c e = cc
 
 kept_unfailing : (bs : List Batch) → AllKept bs → first_failed bs ≡ None
@@ -416,7 +416,7 @@ Follows f (Some x) = (f ≡ x.0 + 1) × (is_decided x.1 ≡ true)
 followed : (f : ℕ) (prev : Before) (x : ℕ × Stage) → prev ≡ Some x → Follows f prev → (f ≡ x.0 + 1) × (is_decided x.1 ≡ true)
 followed f prev x same so = subst (Follows f) same so
 
-not_sent : (x y : Bool) → (x || y) ≡ false → (x ≡ false) × (y ≡ false)
+pub not_sent : (x y : Bool) → (x || y) ≡ false → (x ≡ false) × (y ≡ false)
 not_sent true y e = absurd (true≢false e)
 not_sent false y e = (refl, e)
 
@@ -515,14 +515,14 @@ oldest_synced Synced b s = refl
 oldest_synced Failed b s = refl
 oldest_synced Refused b s = refl
 
-decided_synced : (bs : List Batch) (s : Story) → (with_decided bs s).synced ≡ s.synced
+pub decided_synced : (bs : List Batch) (s : Story) → (with_decided bs s).synced ≡ s.synced
 decided_synced [] s = refl
 decided_synced (b ∷ bs) s = oldest_synced b.stage b s
 
 abbrev AreLogged : ℕ → QueueView → Story → Type 0
 AreLogged first q s = InLog s.synced first None true q.batches q.frame
 
-due_cut : (sent : Bool) (found : Option Cut) (c : Cut) → cond sent None found ≡ Some c → (sent ≡ false) × (found ≡ Some c)
+pub due_cut : (sent : Bool) (found : Option Cut) (c : Cut) → cond sent None found ≡ Some c → (sent ≡ false) × (found ≡ Some c)
 due_cut true found c is = absurd (no_cut c is)
 due_cut false found c is = (refl, is)
 
@@ -555,3 +555,41 @@ logs_what_is_synced most most_bytes frame cs q s b bs n runs oldest synced from 
     let here = subst (λ (xs : List Batch). InLog s.synced frame None true xs q.frame) oldest so in
     let old = here.0 (ap is_kept synced) in
     (oldest_told s.synced frame b.frame b.stage old.0 (ap is_decided synced)).told n from (omega arith)
+
+-- ---- none is to be sent again where a cut is due
+
+none_of : (b : Batch) (bs : List Batch) → is_kept b.stage ≡ false → kept_records bs ≡ [] → kept_records (b ∷ bs) ≡ []
+none_of b bs unkept rest = ap (λ t. cond t b.records [] ++ kept_records bs) unkept ∙ rest
+
+-- behind one that is not decided
+rough_none : (synced : List ℕ) (f : ℕ) (prev : Before) (bs : List Batch) (next : ℕ) → InLog synced f prev false bs next → kept_records bs ≡ []
+rough_none synced f prev [] next so = refl
+rough_none synced f prev (b ∷ bs) next so =
+    elim (is_kept b.stage) as (λ t. is_kept b.stage ≡ t → kept_records (b ∷ bs) ≡ []) [
+      | true ↦ λ is. absurd (false≢true (so.1 is).0)
+      | false ↦ λ is. none_of b bs is (rough_none synced (b.frame + 1) (Some (b.frame, b.stage)) bs next (so.0 is).1)
+    ] refl
+
+unkept_at_cut : (synced : List ℕ) (f : ℕ) (prev : Before) (calm : Bool) (bs : List Batch) (next : ℕ) (c : Cut) → InLog synced f prev calm bs next
+    → first_failed bs ≡ Some c → kept_records bs ≡ []
+unkept_at_cut synced f prev calm [] next c so is = absurd (no_cut c is)
+unkept_at_cut synced f prev calm (b ∷ bs) next c so is =
+    let found : Cut = record { frame = b.frame; first = b.number; last = last_in b.frame b.number bs } in
+    elim (is_failed b.stage) as (λ t. is_failed b.stage ≡ t → cond t (Some found) (first_failed bs) ≡ Some c → kept_records (b ∷ bs) ≡ []) [
+      | true ↦ λ fails here.
+          let unkept = failed_unkept b.stage fails in
+          none_of b bs unkept
+          (rough_none synced (b.frame + 1) (Some (b.frame, b.stage)) bs next
+          (subst (λ t. InLog synced (b.frame + 1) (Some (b.frame, b.stage)) t bs next) (not_second calm (is_decided b.stage) (failed_undecided b.stage fails)) (so.0 unkept).1))
+      | false ↦ λ stands later.
+          elim (is_kept b.stage) as (λ t. is_kept b.stage ≡ t → kept_records (b ∷ bs) ≡ []) [
+            | true ↦ λ k. absurd (no_cut c (sym (kept_unfailing bs (so.1 k).2) ∙ later))
+            | false ↦ λ n. none_of b bs n (unkept_at_cut synced (b.frame + 1) (Some (b.frame, b.stage)) (calm && is_decided b.stage) bs next c (so.0 n).1 later)
+          ] refl
+    ] refl is
+
+pub none_is_kept : NoneIsKept
+none_is_kept most most_bytes frame cs q s c runs due =
+    let so = run frame cs _ _ q s runs (none_told [] frame) in
+    let parts = due_cut (list_any (λ (b : Batch). is_sent b.stage) q.batches) (first_failed q.batches) c due in
+    unkept_at_cut s.synced frame None true q.batches q.frame c so parts.1

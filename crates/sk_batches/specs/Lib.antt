@@ -5,3 +5,4 @@ pub mod Runs
 pub mod Rounds
 pub mod Places
 pub mod Frames
+pub mod Dense

@@ -1,5 +1,5 @@
 -- Where frames stand in the segments of a log.
-use Rattle.std.specs.Prelude.{◌≡◌, ◌+◌, ◌<◌, ◌≤◌, ◌^◌, ◌&&◌, ℕ, Bool, nat_lt, nat_le, if◌then◌else◌, Result, Ok, Err}
+use Rattle.std.specs.Prelude.{◌≡◌, ◌+◌, ◌<◌, ◌≤◌, ◌^◌, ◌&&◌, ℕ, Bool, nat_lt, nat_le, Option, Some, None, if◌then◌else◌, Result, Ok, Err}
 use Rattle.sk_batches.specs.declared.refusal.Refusal.{Refusal}
 use Rattle.sk_batches.specs.declared.refusal.Refusal.TheVariants.{Full, NoNumber}
 use Rattle.sk_batches.specs.declared.places.Place.{Place}
@@ -27,6 +27,10 @@ place_of p = record { segment = p.segment; offset = p.offset }
 
 abbrev pub behind : PlacesView → ℕ → PlacesView
 behind p len = record p { offset = end_of p len }
+
+-- the number of the next segment, if there may be one
+abbrev pub next_segment : PlacesView → Option ℕ
+next_segment p = if nat_le (2 ^ 28) (p.segment + 1) then None else Some (p.segment + 1)
 
 -- it stands where the one before ended, within its segment; else nothing has changed
 abbrev pub NextPost : Result Place Refusal → ℕ → PlacesView → PlacesView → Type 0

@@ -33,6 +33,10 @@ abbrev pub is_failed : Stage → Bool
 is_failed Failed = true
 is_failed other = false
 
+abbrev pub is_refused : Stage → Bool
+is_refused Refused = true
+is_refused other = false
+
 -- whether a frame was sent and is not decided, whatever was told of it
 abbrev pub is_taken : Stage → Bool
 is_taken Sent = true

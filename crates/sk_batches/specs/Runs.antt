@@ -131,3 +131,8 @@ behind frame (b ∷ bs) = behind_of frame b ++ behind frame bs
 abbrev pub KeepsTheRest : Type 0
 KeepsTheRest = (c : Cut) (q : QueueView) → kept_records q.batches ≡ []
     → next_records (after_cut c q) ≡ kept c.first c.last (behind c.frame q.batches ++ q.records)
+
+-- where a cut is due none is to be sent again
+abbrev pub NoneIsKept : Type 0
+NoneIsKept = (most most_bytes frame : ℕ) (cs : List Call) (q : QueueView) (s : Story) (c : Cut)
+    → Runs (new_queue most most_bytes frame) no_story cs q s → cut_due q ≡ Some c → kept_records q.batches ≡ []

@@ -1,7 +1,7 @@
 //! A batch that was sent, or that is to be sent again.
 ghost use Rattle.std.specs.Prelude.{◌≡◌, ◌+◌, ◌≤◌, ◌==◌, ◌++◌, length, take, drop};
 ghost use Rattle.sk_batches.specs.Records.{payload};
-ghost use Rattle.sk_batches.specs.Queue.{awaits, cut_off, decision_of, is_failed, is_kept, kept_of, is_sent, is_taken, send, tell};
+ghost use Rattle.sk_batches.specs.Queue.{awaits, cut_off, decision_of, is_failed, is_kept, is_refused, kept_of, is_sent, is_taken, send, tell};
 
 use crate::queue::{Cut, Decision};
 use crate::records::Records;
@@ -47,6 +47,12 @@ impl Batch {
         ensures { result ≡ is_failed self.now.stage }
     {
         matches!(self.stage, Stage::Failed)
+    }
+
+    pub(crate) fn is_refused(&self) -> bool
+        ensures { result ≡ is_refused self.now.stage }
+    {
+        matches!(self.stage, Stage::Refused)
     }
 
     /// How many bytes it has that are to be sent again.

@@ -1,5 +1,6 @@
 //! Laws of all runs of a queue. Each is the contract of a function that does nothing.
-ghost use Rattle.sk_batches.specs.Runs.{DecidesInOrder, KeepsTheRest, LogsWhatIsSynced, LosesNothing};
+ghost use Rattle.sk_batches.specs.Dense.{CutsARange, FramesAreDense};
+ghost use Rattle.sk_batches.specs.Runs.{DecidesInOrder, KeepsTheRest, LogsWhatIsSynced, LosesNothing, NoneIsKept};
 
 /// Batches are decided in the order of their numbers, each once.
 pub fn order_law()
@@ -19,4 +20,19 @@ pub fn nothing_lost_law()
 /// Behind a cut just the records are logged anew that don't rest on what was cut off, in their order.
 pub fn kept_law()
     ensures { KeepsTheRest }
+{}
+
+/// Where a cut is due no batch is to be sent again from an earlier one.
+pub fn none_kept_law()
+    ensures { NoneIsKept }
+{}
+
+/// Batches stand in the log one behind another, with their numbers in a row, and those that are to be sent again last.
+pub fn dense_law()
+    ensures { FramesAreDense }
+{}
+
+/// A cut takes away just the batches of one frame, which are those from its first number to its last.
+pub fn range_law()
+    ensures { CutsARange }
 {}

@@ -2,7 +2,7 @@
 ghost use Rattle.std.specs.Prelude.{◌≡◌, ◌+◌, ◌<◌, ◌≤◌, ◌^◌, ◌++◌, ◌==◌, map, length, drop};
 ghost use Rattle.std.specs.List.{list_any, sum_by};
 ghost use Rattle.sk_batches.specs.Records.{payload};
-ghost use Rattle.sk_batches.specs.Queue.{awaits, cut_off, decided, first_failed, first_taken, is_failed, is_sent, kept_records, last_in, send, tell};
+ghost use Rattle.sk_batches.specs.Queue.{awaits, cut_off, decided, first_failed, first_taken, is_failed, is_refused, is_sent, kept_records, last_in, send, tell};
 
 use crate::batch::{Batch, Stage};
 use crate::queue::{Cut, Decision};
@@ -64,6 +64,18 @@ pub(crate) fn is_any_failed(batches: &[Batch]) -> bool
 {
     for batch in batches {
         if batch.is_failed() {
+            return true;
+        }
+    }
+    false
+}
+
+/// Whether one was cut off, and is not decided.
+pub(crate) fn is_any_refused(batches: &[Batch]) -> bool
+    ensures { result ≡ list_any (λ b. is_refused b.stage) batches.now }
+{
+    for batch in batches {
+        if batch.is_refused() {
             return true;
         }
     }

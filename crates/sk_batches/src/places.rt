@@ -1,6 +1,6 @@
 //! Where frames stand in the segments of a log.
 ghost use Rattle.std.specs.Prelude.{◌≡◌, ◌≤◌, nat_le};
-ghost use Rattle.sk_batches.specs.Places.{behind, end_of, has_room, place_of, places_at, NextPost, TurnPost};
+ghost use Rattle.sk_batches.specs.Places.{behind, end_of, has_room, next_segment, place_of, places_at, NextPost, TurnPost};
 
 use crate::Refusal;
 use sk_log::HEAD;
@@ -83,6 +83,16 @@ impl Places {
         };
         self.offset += HEAD as u64 + len as u64;
         place
+    }
+
+    /// The number of the next segment, if there may be one.
+    pub fn next_segment(&self) -> Option<u64>
+        ensures { result ≡ next_segment self.now }
+    {
+        if self.segment >= SEGMENT_LIMIT - 1 {
+            return None;
+        }
+        Some(self.segment + 1)
     }
 
     /// The log goes on in the next segment: behind the last frame of this one, or behind a cut, which is itself a frame

@@ -1,8 +1,9 @@
 //! A queue of batches.
 ghost use Rattle.std.specs.Prelude.{◌≡◌, ◌+◌, ◌<◌, ◌≤◌, ◌^◌, ◌++◌, length, drop, None, Some, OnOk, IfErr};
 ghost use Rattle.std.specs.Int.NonZero.{non_zero_u16_get};
+ghost use Rattle.std.specs.List.{list_any};
 ghost use Rattle.sk_batches.specs.Records.{but_last, payload};
-ghost use Rattle.sk_batches.specs.Queue.{cut_due, decided, in_flight, kept_records, left, next_records, past, undecided};
+ghost use Rattle.sk_batches.specs.Queue.{cut_due, decided, in_flight, is_refused, kept_records, left, next_records, past, undecided};
 ghost use Rattle.sk_batches.specs.Calls.{append_refused, cause_of, new_queue, take_refused, AppendPost, CutPost, TakePost, WordPost};
 ghost use Rattle.sk_batches.specs.declared.batch.Stage.TheVariants.{Synced, Failed};
 
@@ -10,10 +11,11 @@ use crate::Refusal;
 use crate::batch::{Batch, Stage};
 use crate::list::{
     bytes_of, cut_all, decided, first_failed, first_taken, has_no_kept, is_any_awaited,
-    is_any_failed, is_any_sent, kept_len, send_all, tell_all, write_kept,
+    is_any_failed, is_any_refused, is_any_sent, kept_len, send_all, tell_all, write_kept,
 };
 use crate::record::Record;
 use crate::records::Records;
+use sk_log::HEAD;
 use sk_log::frame::NUMBER_LIMIT;
 use std::alloc::Global;
 use std::marker::Model;
@@ -148,6 +150,13 @@ impl Queue {
         kept_len(self.batches.as_slice(), self.most_bytes) + self.records.len()
     }
 
+    /// How many bytes the next frame has with its head.
+    pub fn next_frame_len(&self) -> usize
+        ensures { result ≡ 24 + length (payload (next_records self.now)) }
+    {
+        HEAD + (kept_len(self.batches.as_slice(), self.most_bytes) + self.records.len())
+    }
+
     /// Sends the open batch, and those that are to be sent again before it, in one frame, whose payload is written into a room.
     pub fn take(&mut self, room: &mut [u8]) -> Result<Taken, Refusal>
         ensures { TakePost result self.old room.old self.new room.new }
@@ -200,6 +209,13 @@ impl Queue {
         let decision = decided(self.batches.as_slice())?;
         self.batches.remove(0);
         Some(decision)
+    }
+
+    /// Whether a batch was cut off and is not told as decided yet. What rests on one must not be added.
+    pub fn has_refused(&self) -> bool
+        ensures { result ≡ list_any (λ b. is_refused b.stage) self.now.batches }
+    {
+        is_any_refused(self.batches.as_slice())
     }
 
     /// The cut that is to be made: once a frame failed, and all that were sent were told of.

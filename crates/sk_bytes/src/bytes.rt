@@ -226,6 +226,13 @@ impl<V, O> Bytes<V, O> {
         self.kernel.struck().len()
     }
 
+    /// How many outputs there are, of all channels, whether they wait or not.
+    pub fn outputs(&self) -> usize
+        ensures { result ≡ length self.now.parts.said }
+    {
+        self.kernel.outputs()
+    }
+
     /// How many outputs of a channel wait: the first that rests on a guess, and all behind it.
     pub fn waiting(&self, channel: u16) -> usize
         ensures { result ≡ waiting_of (said_at self.now.parts.said channel) }

@@ -16,7 +16,8 @@ use Rattle.sk_commands.specs.Table.{Have}
 use Rattle.sk_commands.specs.Work.{looks_at}
 use Rattle.sk_plain_store.specs.Plain.{bytes_cmp}
 use Rattle.sk_plain_store.proofs.Kept.{bytes_same, bytes_total, tied_is}
-use Rattle.sk_served.specs.Served.{batch_key, batch_keys, deed, mark, served, Asked, Entry, Opens, Runs}
+use Rattle.sk_reserved.specs.Keys.{batch_key}
+use Rattle.sk_served.specs.Served.{batch_keys, deed, mark, served, Asked, Entry, Opens, Runs}
 use Rattle.sk_served.proofs.Steps.{acts}
 
 -- what an entry leaves, where keys have this

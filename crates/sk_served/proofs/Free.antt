@@ -15,7 +15,7 @@ use Rattle.sk_commands.specs.declared.work.Work.TheVariants as works
 use Rattle.sk_commands.specs.Numbers.{fitting}
 use Rattle.sk_commands.specs.Table.{added, bytes_of, counted, joined, may_set, number_at, outcome, pairs_of, present, puts, removals, replies, set, set_reply, there, counts, Have, Written}
 use Rattle.sk_commands.specs.Work.{after, comes_to, each, known_after, with_value}
-use Rattle.sk_served.specs.Served.{is_reserved}
+use Rattle.sk_reserved.specs.Keys.{is_reserved}
 use Rattle.sk_served.specs.Names.{command_names_reserved, names_reserved}
 use Rattle.sk_served.specs.Known.{HasNoReserved}
 

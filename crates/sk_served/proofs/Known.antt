@@ -21,7 +21,7 @@ use Rattle.sk_commands.specs.Work.{after, answered, comes_to, each, followed, kn
 use Rattle.sk_commands.proofs.Queued.{alone}
 use Rattle.sk_plain_store.specs.Plain.{bytes_cmp, held, keys_of, Entries}
 use Rattle.sk_plain_store.proofs.Kept.{bytes_same, bytes_total, knows, tied_is}
-use Rattle.sk_served.specs.Served.{is_reserved}
+use Rattle.sk_reserved.specs.Keys.{is_reserved}
 use Rattle.sk_served.specs.Known.{HasNoReserved, KnowsAll}
 
 -- keys as entries that have nothing

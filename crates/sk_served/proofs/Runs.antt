@@ -14,7 +14,8 @@ use Rattle.sk_commands.specs.Table.{Outcome, Written}
 use Rattle.sk_commands.specs.Work.{after as written_after, comes_to, wants_all, with_value}
 use Rattle.sk_plain_store.specs.Plain.{bytes_cmp, held, keys_of, Entries}
 use Rattle.sk_plain_store.proofs.Kept.{bytes_same, bytes_total, holds_written, stays_in_order}
-use Rattle.sk_served.specs.Served.{batch_key, deed, is_reserved, mark, served, Asked, Entry, Opens, Runs}
+use Rattle.sk_reserved.specs.Keys.{batch_key, is_reserved}
+use Rattle.sk_served.specs.Served.{deed, mark, served, Asked, Entry, Opens, Runs}
 use Rattle.sk_served.specs.Names.{NamesNoReserved}
 use Rattle.sk_served.specs.Plain.{entries_after, entry_after, replies_to, reply_to}
 use Rattle.sk_served.specs.Known.{AreTold, IsTold, KnowsAll}

@@ -17,7 +17,8 @@ use Rattle.sk_commands.specs.Table.{is_among}
 use Rattle.sk_commands.specs.Work.{wants_all}
 use Rattle.sk_plain_store.specs.Plain.{bytes_cmp, held, Entries}
 use Rattle.sk_plain_store.proofs.Kept.{bytes_total, tied_is}
-use Rattle.sk_served.specs.Served.{is_reserved, served, Entry, Opens, Runs}
+use Rattle.sk_reserved.specs.Keys.{is_reserved}
+use Rattle.sk_served.specs.Served.{served, Entry, Opens, Runs}
 use Rattle.sk_served.specs.Names.{NamesNoReserved, NoneTakenNamesReserved}
 use Rattle.sk_served.specs.Plain.{entries_after, replies_to}
 use Rattle.sk_served.specs.Known.{AreTold, IsTold, LeaveOutNothing}

@@ -11,7 +11,8 @@ use Rattle.sk_commands.specs.declared.work.Answer.{Answer}
 use Rattle.sk_commands.specs.Table.{is_among}
 use Rattle.sk_commands.specs.Work.{wants_all}
 use Rattle.sk_plain_store.specs.Plain.{bytes_cmp, held, Entries}
-use Rattle.sk_served.specs.Served.{is_reserved, served, Entry, Opens, Runs}
+use Rattle.sk_reserved.specs.Keys.{is_reserved}
+use Rattle.sk_served.specs.Served.{served, Entry, Opens, Runs}
 use Rattle.sk_served.specs.Names.{names_reserved}
 use Rattle.sk_served.specs.Plain.{entries_after, replies_to}
 use Rattle.sk_served.specs.Laws.{HoldsSame}

@@ -8,7 +8,8 @@ use Rattle.sk_commands.specs.declared.work.Work.{Work}
 use Rattle.sk_commands.specs.Table.{is_among, Have}
 use Rattle.sk_commands.specs.Work.{comes_to, wants_all}
 use Rattle.sk_plain_store.specs.Plain.{bytes_cmp, held, keys_of, Entries}
-use Rattle.sk_served.specs.Served.{is_reserved, served, Asked, Entry, Opens, Runs}
+use Rattle.sk_reserved.specs.Keys.{is_reserved}
+use Rattle.sk_served.specs.Served.{served, Asked, Entry, Opens, Runs}
 
 -- No reserved key is there.
 abbrev pub HasNoReserved : Have → Type 0

@@ -7,7 +7,8 @@ use Rattle.sk_commands.specs.declared.command.Command.TheVariants.{MSet}
 use Rattle.sk_commands.specs.declared.work.Work.{Work}
 use Rattle.sk_commands.specs.declared.work.Work.TheVariants as works
 use Rattle.sk_commands.specs.Table.{asks, pairs_of}
-use Rattle.sk_served.specs.Served.{is_reserved, Entry, Opens, Runs}
+use Rattle.sk_reserved.specs.Keys.{is_reserved}
+use Rattle.sk_served.specs.Served.{Entry, Opens, Runs}
 
 -- the keys that a command names: those that it looks at, and those that MSET sets
 abbrev pub names_of : Command → List (List ℕ)

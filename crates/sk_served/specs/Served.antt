@@ -1,28 +1,17 @@
 -- The steps of the store: a batch begins; or what a channel asked for is carried out.
-use Rattle.std.specs.Prelude.{ℕ, ◌%◌, Bool, codes, List, [], ◌∷◌, ◌++◌, Option, Some, None}
+use Rattle.std.specs.Prelude.{ℕ, List, [], ◌∷◌, ◌++◌, Option, Some, None}
 use Rattle.std.specs.Option.{option_map}
 use Rattle.std.specs.Ordering.{nat_cmp}
 use Rattle.std.specs.Cmp.Lexicographic.{slice_cmp}
 use Rattle.sk_record.specs.Step.{Step, Ask, Refuse, Done}
 use Rattle.sk_record.specs.Run.{System}
 use Rattle.sk_deeds.specs.Deed.{Deed, asking}
+use Rattle.sk_reserved.specs.Keys.{batch_key}
 use Rattle.sk_commands.specs.declared.work.Work.{Work}
 use Rattle.sk_commands.specs.declared.work.Answer.{Answer}
-use Rattle.sk_commands.specs.Table.{begins_with, Have}
+use Rattle.sk_commands.specs.Table.{Have}
 use Rattle.sk_commands.specs.Work.{comes_to, looks_at}
 use Rattle.sk_commands.specs.Law.{act as works}
-
--- what the keys of batches begin with
-abbrev pub batch_front : List ℕ
-batch_front = 255 ∷ codes "batch"
-
--- the key of a batch
-abbrev pub batch_key : ℕ → List ℕ
-batch_key n = batch_front ++ (n % 128) ∷ []
-
--- whether a key begins as those do
-abbrev pub is_reserved : List ℕ → Bool
-is_reserved key = begins_with batch_front key
 
 -- Work that came on a channel with this ticket, where these keys are known; where it may write, the batch that logs it.
 pub record Asked : Type 0 where

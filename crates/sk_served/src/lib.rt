@@ -4,4 +4,4 @@
 pub mod laws;
 mod reserved;
 
-pub use reserved::{is_reserved, names_reserved};
+pub use reserved::names_reserved;

@@ -3,20 +3,11 @@ ghost use Rattle.std.specs.Prelude.{◌≡◌, map};
 ghost use Rattle.std.specs.Vec.{vec_items};
 ghost use Rattle.std.specs.List.{list_any};
 ghost use Rattle.sk_commands.specs.Table.{pairs_of};
-ghost use Rattle.sk_served.specs.Served.{is_reserved};
+ghost use Rattle.sk_reserved.specs.Keys.{is_reserved};
 ghost use Rattle.sk_served.specs.Names.{command_names_reserved, names_reserved};
 
 use sk_commands::{Command, Work};
-
-/// What the keys of batches begin with.
-const BATCH_FRONT: &[u8] = b"\xffbatch";
-
-/// Whether a key begins as those of batches do.
-pub fn is_reserved(key: &[u8]) -> bool
-    ensures { result ≡ is_reserved key.now }
-{
-    key.starts_with(BATCH_FRONT)
-}
+use sk_reserved::is_reserved;
 
 /// Whether one of these keys does.
 fn are_reserved(keys: &[Vec<u8>]) -> bool

@@ -185,6 +185,13 @@ impl<K: Key, V, O, I: Inversion<V>> Speculator<K, V, O, I> {
         self.guesses.struck()
     }
 
+    /// How many outputs there are, of all channels, whether they wait or not.
+    pub fn outputs(&self) -> usize
+        ensures { result ≡ length self.now.said }
+    {
+        self.said.len()
+    }
+
     /// How many outputs of a channel wait: the first that rests on a guess, and all behind it.
     pub fn waiting(&self, channel: u16) -> usize
         ensures { result ≡ waiting_of (said_at self.now.said channel) }

@@ -2,7 +2,7 @@
 use Rattle.std.proofs.Common.{◌≡◌, drop, map}
 use Rattle.std.specs.Vec.{vec_items}
 use Rattle.std.specs.List.{list_any}
-use Rattle.sk_served.specs.Served.{is_reserved}
+use Rattle.sk_reserved.specs.Keys.{is_reserved}
 use Rattle.sk_served.proofs.reserved.are_reserved.Given as goal
 
 abbrev pub invariant-loop-key : goal.invariant-loop-key

@@ -3,7 +3,7 @@ use Rattle.std.proofs.Common.{◌≡◌, length, map}
 use Rattle.std.specs.Vec.{vec_items}
 use Rattle.std.specs.List.{list_any}
 use Rattle.sk_commands.specs.Table.{pairs_of}
-use Rattle.sk_served.specs.Served.{is_reserved}
+use Rattle.sk_reserved.specs.Keys.{is_reserved}
 use Rattle.sk_served.proofs.reserved.set_reserved.Given as goal
 
 abbrev pub invariant-loop-key : goal.invariant-loop-key

@@ -2,7 +2,7 @@
 use Rattle.std.proofs.Common.{rules, ◌≡◌, false, is_err, [], ◌∷◌, ◌++◌, None, subst}
 use Rattle.sk_speculator.specs.Calls.{next_of}
 use Rattle.sk_bytes.specs.Steps.{byte_deed}
-use Rattle.sk_batched.specs.Keys.{batch_key}
+use Rattle.sk_reserved.specs.Keys.{batch_key}
 use Rattle.sk_batched.specs.Batched.{opening}
 use Rattle.sk_batched.specs.InStep.{IsInStep}
 use Rattle.sk_batched.proofs.Answering.{drawn_as, opened_deed, room_for}

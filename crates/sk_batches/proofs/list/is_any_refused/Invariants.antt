@@ -1,0 +1,9 @@
+-- None so far.
+use Rattle.std.proofs.Common.{◌≡◌, drop}
+use Rattle.std.specs.List.{list_any}
+use Rattle.sk_batches.specs.Queue.{is_refused}
+use Rattle.sk_batches.specs.declared.batch.Batch.{Batch}
+use Rattle.sk_batches.proofs.list.is_any_refused.Given as goal
+
+abbrev pub invariant-loop-batch : goal.invariant-loop-batch
+invariant-loop-batch l = list_any (λ (b : Batch). is_refused b.stage) l.batches ≡ list_any (λ (b : Batch). is_refused b.stage) (drop l.batch-index l.batches)

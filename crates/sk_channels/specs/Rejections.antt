@@ -14,8 +14,12 @@ fault_words (faults.Mark mark) = codes "ERR Protocol error: expected '$', got '"
 fault_words faults.Line = codes "ERR Protocol error: too big inline request"
 fault_words faults.End = codes "ERR Protocol error: expected CRLF behind a bulk"
 
--- the bytes of the reply
+-- the words of the reply
+abbrev pub rejection_words : Rejection → List ℕ
+rejection_words (rejections.Fault fault) = fault_words fault
+rejection_words rejections.TooLarge = codes "ERR the request is too large"
+rejection_words rejections.Memory = codes "OOM there is no memory to queue the command"
+
+-- its bytes
 abbrev pub rejection_text : Rejection → List ℕ
-rejection_text (rejections.Fault fault) = error_text (fault_words fault)
-rejection_text rejections.TooLarge = error_text (codes "ERR the request is too large")
-rejection_text rejections.Memory = error_text (codes "OOM there is no memory to queue the command")
+rejection_text rejection = error_text (rejection_words rejection)

@@ -31,6 +31,8 @@ impl Word {
 pub enum Reply {
     Simple(Word),
     Error(Fault),
+    /// An error in words that no command has, as of a request that can't be read.
+    Rejected(ByteString),
     Integer(i64),
     Bulk(ByteString),
     Null,

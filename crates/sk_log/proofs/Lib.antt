@@ -1,10 +1,10 @@
 mod Digits
 mod Fade
-mod Crash
+pub mod Crash
 mod Read
 mod Blanked
 mod Reading
 mod Further
-mod Segments
+pub mod Segments
 mod First
 mod Told

@@ -1,9 +1,9 @@
 -- What the front of some bytes is, by what was compared of it.
-use Rattle.std.proofs.Common.{◌≡◌, ℕ, ◌+◌, ◌<◌, ◌≤◌, ◌^◌, List, [], ◌++◌, length, take, drop, sum, refl, sym, ◌∙◌, ap, arith, length-drop}
-use Rattle.std.proofs.lemmas.List.{length-take-le, append-nil}
+use Rattle.std.proofs.Common.{◌≡◌, ℕ, ◌+◌, ◌<◌, ◌≤◌, ◌^◌, List, [], ◌++◌, length, take, drop, sum, refl, sym, ◌∙◌, ap, subst, arith, length-drop}
+use Rattle.std.proofs.lemmas.List.{length-take, length-take-le, append-nil}
 use Rattle.sk_log.specs.Frame.{head_of, head, frame, IsFrame, Ends}
-use Rattle.sk_log.specs.Front.{BeginsFrame, IsShort, IsOther}
-use Rattle.sk_log.proofs.Read.{parts_there, payload_there, frame_there}
+use Rattle.sk_log.specs.Front.{BeginsAs, BeginsFrame, IsShort, IsOther}
+use Rattle.sk_log.proofs.Read.{frame_length, parts_there, payload_there, frame_there}
 
 pub other_segment : (segment number : ℕ) (bytes : List ℕ) → 2 ^ 28 ≤ segment → IsOther segment number bytes
 other_segment segment number bytes high later p more made is = omega (arith, made.segment_small, high)
@@ -80,3 +80,16 @@ no_first segment number said_number len total bytes long says_len says_total say
     let b : length p ≡ len = sym (says_len segment number (length p) (sum p) made.short there) in
     let c : sum p ≡ total = sym (says_total segment number (length p) (sum p) made.light there) in
     differ (there ∙ (λ i. head_of segment (a i) (b i) (c i)))
+
+-- The same of all bytes that begin as these do.
+pub no_first_as : (segment number said_number len total : ℕ) (bytes left : List ℕ) → BeginsAs left bytes → 24 ≤ length bytes → SaidLen (take 24 bytes) len → SaidTotal (take 24 bytes) total
+    → ((segment number len total : ℕ) → number < 2 ^ 56 → take 24 bytes ≡ head_of segment number len total → said_number ≡ number)
+    → (take 24 bytes ≡ head_of segment said_number len total → ⊥) → Ends segment number left
+no_first_as segment number said_number len total bytes left same long says_len says_total says_number differ =
+    no_first segment number said_number len total left (omega (arith, long, ap length same, length-take 24 left, length-take 24 bytes)) (subst (λ t. SaidLen t len) (sym same) says_len) (subst (λ t. SaidTotal t total) (sym same) says_total)
+    (λ s n l t small is. says_number s n l t small (sym same ∙ is)) (λ is. differ (sym same ∙ is))
+
+-- Where fewer bytes than a head has begin so, no frame begins there.
+pub short_as : (segment number : ℕ) (bytes left : List ℕ) → BeginsAs left bytes → length bytes < 24 → Ends segment number left
+short_as segment number bytes left same few p more made is =
+    omega (arith, few, ap length same, length-take 24 left, length-take 24 bytes, frame_length segment number left p more is)

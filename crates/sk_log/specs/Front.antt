@@ -25,6 +25,10 @@ pub record SaysNumber (segment : ℕ) (bytes : List ℕ) (number : ℕ) : Type 0
   pub total : ℕ
   pub head : take 24 bytes ≡ head_of segment number len total
 
+-- These are the first 24 of some bytes, or all that there are.
+abbrev pub BeginsAs : List ℕ → List ℕ → Type 0
+BeginsAs left bytes = take 24 left ≡ take 24 bytes
+
 -- No frame of this segment and number begins here, whatever follows.
 abbrev pub IsOther : ℕ → ℕ → List ℕ → Type 0
 IsOther segment number bytes = (later : List ℕ) → Ends segment number (bytes ++ later)

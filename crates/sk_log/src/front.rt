@@ -1,7 +1,7 @@
 //! What the front of some bytes is to a reader who waits for a frame.
 ghost use Rattle.std.specs.Prelude.{◌≡◌, ◌<◌, ◌≤◌, ℕ, List, length, IfSome};
 ghost use Rattle.sk_log.specs.Frame.{Ends};
-ghost use Rattle.sk_log.specs.Front.{FrontIs, SaysNumber};
+ghost use Rattle.sk_log.specs.Front.{BeginsAs, FrontIs, SaysNumber};
 ghost use Rattle.sk_log.specs.Crash.{Crashed};
 
 use crate::bytes::{HEAD, are_same, head_bytes, said_len, said_number, said_total, sum_of};
@@ -48,15 +48,17 @@ pub fn front_of(bytes: &[u8], segment: u64, number: u64) -> Front
 }
 
 /// The number of the first frame of a segment, as its head says it: from there on the log goes on in this segment. None
-/// where no whole head of this segment stands there.
+/// where no whole head of this segment stands there. The first 24 bytes of the segment, or all there are, are enough.
 pub fn first_number(bytes: &[u8], segment: u64) -> Option<u64>
     ensures some { IfSome result (λ number. SaysNumber segment bytes.now number) }
-    ensures none { result ≡ None → (number : ℕ) → Ends segment number bytes.now }
-    ensures written { (number synced : ℕ) (payloads : List (List ℕ))
-        → Crashed segment number payloads synced bytes.now
+    ensures none { result ≡ None → (number : ℕ) (left : List ℕ) → BeginsAs left bytes.now
+        → Ends segment number left }
+    ensures written { (number synced : ℕ) (payloads : List (List ℕ)) (left : List ℕ)
+        → BeginsAs left bytes.now → Crashed segment number payloads synced left
         → IfSome result (λ first. first ≡ number) }
-    ensures synced { (number synced : ℕ) (payloads : List (List ℕ))
-        → Crashed segment number payloads synced bytes.now → 0 < synced → result ≡ Some number }
+    ensures synced { (number synced : ℕ) (payloads : List (List ℕ)) (left : List ℕ)
+        → BeginsAs left bytes.now → Crashed segment number payloads synced left → 0 < synced
+        → result ≡ Some number }
 {
     if segment >= SEGMENT_LIMIT {
         return None;

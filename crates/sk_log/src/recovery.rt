@@ -190,6 +190,13 @@ impl Recovery {
         self.number
     }
 
+    /// Where the next frame begins, in bytes from the front of the segment.
+    pub fn place(&self) -> u64
+        ensures { result ≡ self.now.place }
+    {
+        self.place
+    }
+
     /// The payload of the next frame, where all of it came.
     pub fn payload(&self) -> Option<&[u8]>
         ensures some { IfSome result (λ payload. IsNext self.now payload.now) }
@@ -206,6 +213,8 @@ impl Recovery {
         ensures passed { (segment first : ℕ) (payloads : List (List ℕ)) (bytes payload : List ℕ)
             → HasRead segment first payloads bytes self.old → IsNext self.old payload
             → HasRead segment first (payloads ++ payload ∷ []) bytes self.new }
+        ensures shorter { (payload : List ℕ) → IsNext self.old payload
+            → length self.new.unread < length self.old.unread }
         ensures none { Ends self.old.segment self.old.number self.old.unread → self.new ≡ self.old }
     {
         if let Front::Whole(len) = self.front {

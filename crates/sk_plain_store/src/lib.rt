@@ -2,7 +2,7 @@
 #![tactic(auto)]
 
 pub mod laws;
-mod place;
+mod places;
 mod store;
 
 pub use store::PlainStore;

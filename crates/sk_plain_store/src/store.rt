@@ -1,12 +1,12 @@
 //! A map of byte strings that carries out commands at once.
-ghost use Rattle.std.specs.Prelude.{◌≡◌, ◌+◌, ◌<◌, ◌≤◌, [], length, map, IfOk};
-ghost use Rattle.std.specs.Vec.{vec_capacity, vec_items, vec_len};
-ghost use Rattle.sk_commands.specs.Table.{told};
+ghost use Rattle.std.specs.Prelude.{◌≡◌, [], true, map, IfOk};
+ghost use Rattle.std.specs.FinMap.{is_sorted};
+ghost use Rattle.std.specs.Vec.{vec_items};
 ghost use Rattle.sk_commands.specs.Work.{comes_to};
-ghost use Rattle.sk_plain_store.specs.Plain.{held, keys_of, put_in, taken_out, written_to, Runs};
+ghost use Rattle.sk_plain_store.specs.Plain.{bytes_cmp, held, keys_of, Runs};
 
-use crate::place::{Place, place_of};
-use sk_commands::{Answer, ByteString, Look, Work, Writes};
+use crate::places::{Places, write};
+use sk_commands::{Answer, ByteString, Look, Work};
 use std::alloc::{AllocError, Global};
 use std::marker::Model;
 
@@ -14,18 +14,19 @@ use std::marker::Model;
 #[derive(Drop)]
 pub struct PlainStore {
     alloc: Global,
-    entries: Vec<(ByteString, ByteString)>,
+    places: Places,
 }
 
 impl Model for PlainStore {
     ghost use Rattle.std.specs.Coded.{coded_list, coded×, coded_ℕ};
     ghost use Rattle.sk_plain_store.specs.Plain.{Entries};
+    ghost use Rattle.sk_plain_store.specs.Places.{entries_of};
 
     ghost Value = { Entries };
 
     ghost coded = { coded_list (coded× (coded_list coded_ℕ) (coded_list coded_ℕ)) };
 
-    ghost view = { λ s. s.entries.items };
+    ghost view = { λ s. entries_of s.places.entries };
 }
 
 impl Look for PlainStore {
@@ -34,49 +35,10 @@ impl Look for PlainStore {
     ghost look = { held };
 
     fn value(&self, key: &[u8]) -> Option<&ByteString> {
-        for entry in &self.entries {
-            if key.cmp(entry.0.as_slice()).is_eq() {
-                return Some(&entry.1);
-            }
-        }
-        None
-    }
-}
-
-/// A key gets this, for which there is room.
-fn put(entries: &mut Vec<(ByteString, ByteString)>, key: ByteString, value: ByteString)
-    requires { vec_len entries.old < vec_capacity entries.old }
-    ensures items { entries.new.items ≡ put_in key value entries.old.items }
-    ensures len { vec_len entries.new ≤ vec_len entries.old + 1 }
-    ensures capacity { vec_capacity entries.old ≤ vec_capacity entries.new }
-{
-    match place_of(entries.as_slice(), key.as_slice()) {
-        Place::At(i) => entries[i] = (key, value),
-        Place::Before(i) => {
-            let _inserted = entries.insert(i, (key, value));
-        }
-    }
-}
-
-/// A key becomes absent.
-fn take_out(entries: &mut Vec<(ByteString, ByteString)>, key: &[u8])
-    ensures items { entries.new.items ≡ taken_out key.now entries.old.items }
-    ensures len { vec_len entries.new ≤ vec_len entries.old }
-    ensures capacity { vec_capacity entries.old ≤ vec_capacity entries.new }
-{
-    entries.retain(|entry| !key.cmp(entry.0.as_slice()).is_eq());
-}
-
-/// Keys get these, one after another, for which there is room.
-fn write(entries: &mut Vec<(ByteString, ByteString)>, written: Writes)
-    requires { vec_len entries.old + vec_len written ≤ vec_capacity entries.old }
-    ensures { entries.new.items ≡ written_to (told written.items) entries.old.items }
-{
-    for write in written {
-        let (key, value) = write;
-        match value {
-            Some(value) => put(entries, ByteString::new(key), value),
-            None => take_out(entries, key.as_slice()),
+        let _rising = self.places.len();
+        match self.places.get(key) {
+            Some(has) => has.as_ref(),
+            None => None,
         }
     }
 }
@@ -88,15 +50,22 @@ impl PlainStore {
     {
         PlainStore {
             alloc,
-            entries: Vec::new(alloc),
+            places: Places::new(alloc),
         }
     }
 
-    /// The keys with what they have, in the order of their bytes.
-    pub fn entries(&self) -> &[(ByteString, ByteString)]
-        ensures { result.now ≡ self.now }
+    /// The keys with what they have, in the order of their bytes. Neither is copied.
+    pub fn into_entries(self) -> Result<Vec<(ByteString, ByteString)>, AllocError>
+        ensures all { IfOk result (λ entries. entries.items ≡ self) }
+        ensures rising { is_sorted bytes_cmp self ≡ true }
     {
-        self.entries.as_slice()
+        let mut entries = Vec::new(self.alloc);
+        for (key, value) in self.places {
+            if let Some(value) = value {
+                entries.push((ByteString::new(key), value))?;
+            }
+        }
+        Ok(entries)
     }
 
     /// Copies of the keys, in the order of their bytes.
@@ -104,8 +73,10 @@ impl PlainStore {
         ensures { IfOk result (λ keys. map vec_items keys.items ≡ keys_of self.now) }
     {
         let mut keys = Vec::new(self.alloc);
-        for entry in &self.entries {
-            keys.push(Vec::from_slice(self.alloc, entry.0.as_slice())?)?;
+        for (key, value) in &self.places {
+            if value.is_some() {
+                keys.push(Vec::from_slice(self.alloc, key.as_slice())?)?;
+            }
         }
         Ok(keys)
     }
@@ -128,8 +99,7 @@ impl PlainStore {
         let known = self.known_to(&work)?;
         let mut written = Vec::new(self.alloc);
         let answer = work.run(self.alloc, &*self, known.as_slice(), &mut written)?;
-        self.entries.reserve(written.len())?;
-        write(&mut self.entries, written);
+        write(self.alloc, &mut self.places, written)?;
         Ok(answer)
     }
 }

@@ -5,3 +5,5 @@ pub mod Come
 pub mod Restored
 pub mod Filled
 pub mod Framed
+pub mod Short
+pub mod Left

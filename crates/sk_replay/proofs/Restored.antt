@@ -14,7 +14,7 @@ first_is : (a b : Bool) → (a && b) ≡ true → a ≡ true
 first_is true b h = refl
 first_is false b h = cc
 
-second_is : (a b : Bool) → (a && b) ≡ true → b ≡ true
+pub second_is : (a b : Bool) → (a && b) ≡ true → b ≡ true
 second_is true b h = h
 second_is false b h = cc
 

@@ -1,5 +1,5 @@
 -- What the frames of a log say, one after another.
-use Rattle.std.specs.Prelude.{◌≡◌, ℕ, List, [], ◌∷◌, ◌++◌, flat_map, map, take}
+use Rattle.std.specs.Prelude.{◌≡◌, ℕ, ◌<◌, ◌^◌, List, [], ◌∷◌, ◌++◌, flat_map, length, map, take}
 use Rattle.sk_commands.specs.Requests.{log_text, requests_of, AreAsked, AreWithin}
 use Rattle.sk_commands.specs.declared.work.Work.{Work}
 use Rattle.sk_plain_store.specs.Plain.{Entries}
@@ -27,3 +27,7 @@ works_in frames = flat_map (λ works. works) frames
 abbrev pub FramesRestore : Type 0
 FramesRestore = (n : ℕ) (frames : List (List Work)) (works : List Work) (start : Entries)
     → AreLogged frames → SayAll (take n (payloads_of frames)) works → after_works works start ≡ after_works (works_in (take n frames)) start
+
+-- Works whose bytes have room in a frame are within the limits of a log.
+abbrev pub ShortIsWithin : Type 0
+ShortIsWithin = (works : List Work) → length (flat_map log_text works) < 2 ^ 28 → AreWithin log_limits (flat_map requests_of works)

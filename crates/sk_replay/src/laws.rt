@@ -1,5 +1,5 @@
 //! What holds of frames that are read again, and of snapshots. Each law is the contract of a function that does nothing.
-ghost use Rattle.sk_replay.specs.Frames.{FramesRestore};
+ghost use Rattle.sk_replay.specs.Frames.{FramesRestore, ShortIsWithin};
 ghost use Rattle.sk_replay.specs.Snapshot.{SnapshotsRestore};
 
 /// Works that set the entries of a plain store make it again.
@@ -11,4 +11,9 @@ pub fn snapshots_restore()
 /// were logged in these frames.
 pub fn frames_restore()
     ensures { FramesRestore }
+{}
+
+/// Works whose bytes have room in a frame are within the limits of a log.
+pub fn short_law()
+    ensures { ShortIsWithin }
 {}

@@ -9,4 +9,4 @@ pub mod snapshot;
 
 pub use payload::works_of;
 pub use refusal::Refusal;
-pub use snapshot::Snapshot;
+pub use snapshot::{Snapshot, set_work};

@@ -1,16 +1,47 @@
 //! Snapshots: what a store has, as works that set it.
-ghost use Rattle.std.specs.Prelude.{◌≡◌, ◌++◌, ◌==◌, [], length, IfOk, OnErr, OnOk};
+ghost use Rattle.std.specs.Prelude.{◌≡◌, ◌++◌, ◌==◌, [], true, length, IfOk, OnErr, OnOk};
+ghost use Rattle.std.specs.FinMap.{is_sorted};
+ghost use Rattle.sk_plain_store.specs.Plain.{bytes_cmp};
 ghost use Rattle.sk_commands.specs.Requests.{log_text};
 ghost use Rattle.sk_replay.specs.Snapshot.{set_of, IsFilled, IsPiece};
 
-use sk_commands::{ByteString, Name};
+use sk_commands::{ByteString, Command, Name, Options, When, Work};
+use sk_plain_store::PlainStore;
 use sk_requests::reply::{array, bulk};
 use std::alloc::{AllocError, Global};
+use std::marker::Model;
 
-/// Entries that are to be written, piece by piece.
-#[derive_where(Clone, Copy)]
-pub struct Snapshot<'a> {
-    left: &'a [(ByteString, ByteString)],
+/// The work that sets an entry. Such works, one after another, make a store again.
+pub fn set_work(key: ByteString, value: ByteString) -> Work
+    ensures { result ≡ set_of (key, value) }
+{
+    let options = Options {
+        when: When::Always,
+        gives: false,
+    };
+    Work::One(Command::Set(key, value, options))
+}
+
+/// The entries of a store, which are written piece by piece. Contracts see those that are left.
+#[derive(Drop)]
+pub struct Snapshot {
+    entries: Vec<(ByteString, ByteString)>,
+    written: usize,
+}
+
+impl Model for Snapshot {
+    ghost use Rattle.std.specs.Prelude.{◌≡◌, ◌≤◌, true, drop, length};
+    ghost use Rattle.std.specs.FinMap.{is_sorted};
+    ghost use Rattle.std.specs.Coded.{coded_list, coded×, coded_ℕ};
+    ghost use Rattle.sk_plain_store.specs.Plain.{bytes_cmp, Entries};
+
+    ghost Value = { Entries };
+
+    ghost coded = { coded_list (coded× (coded_list coded_ℕ) (coded_list coded_ℕ)) };
+
+    ghost view = { λ s. drop s.written s.entries.items };
+
+    ghost invariant = { λ s. (s.written ≤ length s.entries.items) × (is_sorted bytes_cmp s.entries.items ≡ true) };
 }
 
 /// Writes the bytes that a log keeps of a work that sets an entry.
@@ -43,31 +74,41 @@ fn fill(
     Ok(entries.len())
 }
 
-impl<'a> Snapshot<'a> {
-    /// All of these are to be written.
-    pub fn new(entries: &'a [(ByteString, ByteString)]) -> Snapshot<'a>
-        ensures { result.left.now ≡ entries.now }
+impl Snapshot {
+    /// All that a store has is to be written.
+    pub fn new(store: PlainStore) -> Result<Snapshot, AllocError>
+        ensures all { IfOk result (λ snapshot. snapshot ≡ store) }
+        ensures rising { is_sorted bytes_cmp store ≡ true }
     {
-        Snapshot { left: entries }
+        Ok(Snapshot {
+            entries: store.into_entries()?,
+            written: 0,
+        })
+    }
+
+    /// The entries that are left, in the order of their keys.
+    pub fn left(&self) -> &[(ByteString, ByteString)]
+        ensures left { result.now ≡ self.now }
+        ensures rising { is_sorted bytes_cmp result.now ≡ true }
+    {
+        &self.entries.as_slice()[self.written..]
     }
 
     /// Whether all are written.
     pub fn is_done(&self) -> bool
-        ensures { result ≡ (length self.now.left.now == 0) }
+        ensures { result ≡ (length self.now == 0) }
     {
-        self.left.is_empty()
+        self.entries.len() == self.written
     }
 
     /// The payload of the next frame: the next entries, as many as have room, and one at least if there is one. Without memory
     /// nothing has changed.
     pub fn piece(&mut self, alloc: Global, room: usize) -> Result<Vec<u8>, AllocError>
-        ensures ok { IfOk result (λ payload.
-            IsPiece room self.old.left.now payload.items self.new.left.now) }
-        ensures err { OnErr result (self.new.left.now ≡ self.old.left.now) }
+        ensures ok { IfOk result (λ payload. IsPiece room self.old payload.items self.new) }
+        ensures err { OnErr result (self.new ≡ self.old) }
     {
         let mut payload = Vec::new(alloc);
-        let count = fill(&mut payload, self.left, room)?;
-        self.left = &self.left[count..];
+        self.written += fill(&mut payload, &self.entries.as_slice()[self.written..], room)?;
         Ok(payload)
     }
 }

@@ -1,8 +1,8 @@
-use Rattle.std.proofs.Common.{ℕ, ◌+◌, List, refl, sym, subst}
+use Rattle.std.proofs.Common.{ℕ, ◌+◌, List, length, refl, sym, ap, subst, arith, length-drop}
 use Rattle.sk_log.specs.Frame.{Ends}
 use Rattle.sk_log.specs.Reading.{Reading, KeptBegin, Settles, HasRead, IsNext}
 use Rattle.sk_log.specs.contracts.recovery.Recovery.{the_view}
-use Rattle.sk_log.proofs.Reading.{kept_ends, passed}
+use Rattle.sk_log.proofs.Reading.{kept_ends, kept_few, passed}
 use Rattle.sk_log.proofs.recovery.Recovery.pass.Goals as goal
 
 pub returns-in-Whole-clause-passed : goal.returns-in-Whole-clause-passed
@@ -19,5 +19,13 @@ returns-in_default c =
     let ends = subst (λ (r : Reading). Ends r.segment r.number r.unread) c.self.view_is (kept_ends inside.segment inside.number inside.unread inside.front c.in_default.not-Whole c.self.invariant.kept) in
     record {
       passed = λ segment first payloads bytes payload read next. absurd (ends payload next.more next.made next.begins);
+      shorter = λ payload next. absurd (ends payload next.more next.made next.begins);
       none = λ _. refl;
     }
+
+pub returns-in-Whole-clause-shorter : goal.returns-in-Whole-clause-shorter
+returns-in-Whole-clause-shorter c = λ payload next.
+    let inside = c.self.inside in
+    let begins = subst (KeptBegin inside.segment inside.number inside.unread) c.in-Whole.is c.self.invariant.kept in
+    let few = kept_few inside.segment (inside.number + 1) c.pass.new.self c.settle-front.new.unread c.settle-front.result.0 c.settle-front.result.1 c.settle-front.ensures in
+    omega (arith, few, begins.within, ap length c.pass.ensures, length-drop (24 + c.in-Whole.len) inside.unread, ap (λ (r : Reading). length r.unread) c.self.view_is)

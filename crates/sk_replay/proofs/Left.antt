@@ -1,0 +1,11 @@
+-- What is left of entries in the order of their keys is in it.
+use Rattle.std.proofs.Common.{◌≡◌, ℕ, zero, suc, true, [], ◌∷◌, drop, refl}
+use Rattle.std.specs.FinMap.{is_sorted}
+use Rattle.std.specs.FinMap.Entries.{below_all}
+use Rattle.sk_plain_store.specs.Plain.{bytes_cmp, Entries}
+use Rattle.sk_replay.proofs.Restored.{second_is}
+
+pub left_rises : (n : ℕ) (entries : Entries) → is_sorted bytes_cmp entries ≡ true → is_sorted bytes_cmp (drop n entries) ≡ true
+left_rises zero entries h = h
+left_rises (suc n) [] h = refl
+left_rises (suc n) (e ∷ es) h = left_rises n es (second_is (below_all bytes_cmp e.0 es) (is_sorted bytes_cmp es) h)

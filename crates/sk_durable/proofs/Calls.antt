@@ -1,0 +1,276 @@
+-- What the calls come to that bring bytes in, and those that connect and hang up.
+use Rattle.std.proofs.Common.{is_some, true≢false, IfSome, ◌≡◌, ◌<◌, ◌≤◌, ◌+◌, ◌||◌, ℕ, Bool, true, false, List, [], ◌∷◌, ◌++◌, length, take, Option, Some, None, Result, Ok, Err, flat_map, inl, inr, refl, sym, ◌∙◌, ap, subst}
+use Rattle.std.specs.List.{list_any}
+use Rattle.std.specs.Prelude.{◌==◌}
+use Rattle.std.proofs.lemmas.List.Folds.{list_any-append}
+use Rattle.sk_record.specs.Effects.{is_marked}
+use Rattle.sk_record.specs.Notes.{has}
+use Rattle.sk_record.specs.Trace.{marks}
+use Rattle.sk_record.specs.UndoState.{tags_at}
+use Rattle.sk_index.specs.Index.{bytes_cmp}
+use Rattle.sk_speculator.specs.Law.{TakesOut}
+use Rattle.sk_speculator.specs.Parts.{undo_state_of}
+use Rattle.sk_batched.specs.Batched.{Stays}
+use Rattle.sk_requests.specs.declared.limits.Limits.{Limits as Requests}
+use Rattle.sk_commands.specs.declared.work.Answer.{Answer}
+use Rattle.sk_commands.specs.declared.work.Work.{Work}
+use Rattle.sk_commands.specs.Work.{comes_to}
+use Rattle.sk_served.specs.Names.{names_reserved}
+use Rattle.sk_served.specs.Served.{Asked}
+use Rattle.sk_channels.specs.declared.channel.Channel.{Channel}
+use Rattle.sk_channels.specs.declared.inlet.Ask.{Ask}
+use Rattle.sk_channels.specs.declared.inlet.Asked.{Asked as OneAsked}
+use Rattle.sk_channels.specs.declared.inlet.Fed.{Fed as FedBytes}
+use Rattle.sk_channels.specs.declared.refusal.Refusal.{Refusal as Refused}
+use Rattle.sk_channels.specs.declared.refusal.Refusal.TheVariants as channels
+use Rattle.sk_channels.specs.declared.table.Channels.{Channels}
+use Rattle.sk_channels.specs.Serving.{FeedPost as Feeds, HasServed, HasServedOn}
+use Rattle.sk_channels.specs.Table.{channel_at}
+use Rattle.sk_channels.specs.Telling.{Told}
+use Rattle.sk_durable.specs.declared.refusal.NotDone.{NotDone}
+use Rattle.sk_durable.specs.declared.refusal.NotDone.TheVariants.{LongKey, Memory}
+use Rattle.sk_durable.specs.declared.store.End.{End}
+use Rattle.sk_durable.specs.declared.store.End.TheVariants as ends
+use Rattle.sk_durable.specs.declared.works.Asker.{Asker}
+use Rattle.sk_durable.specs.Asked.{error, long_key_words, work_of}
+use Rattle.sk_durable.specs.Refused.{channel_refused}
+use Rattle.sk_durable.specs.Works.{against, asked_by, batch_for, deed_now, has_now, touched, Batches, CarryPost, IsNotDone, IsTold, KnowsIfTold}
+use Rattle.sk_durable.specs.Store.{asked_for, came, first_answer, Becomes, Goes, HasPast, HavePasts, Past, StoreView}
+use Rattle.sk_durable.specs.Calls.{AsksFor, Call, Drops, IsDone, IsFor, LeavesIt, Serves}
+use Rattle.sk_durable.specs.Posts.{drops, AnswerPost, FeedPost, FreesIfLast, HasNoneReady, LetGoPost, MayFeed, TryPost}
+use Rattle.sk_durable.proofs.Ways.{nothing_came}
+
+-- ---- calls, one after another
+
+pub serves_on : (a m b : StoreView) (cs ds : List Call) → Serves a cs m → Serves m ds b → Serves a (cs ++ ds) b
+serves_on a m b [] ds same serves = subst (λ s. Serves s ds b) (sym same) serves
+serves_on a m b (c ∷ cs) ds (next, does, rest) serves = (next, does, serves_on next m b cs ds rest serves)
+
+-- ---- answers are dropped
+
+-- these answers of a channel were dropped
+pub record AreDropped (t : ℕ) (a b : StoreView) : Type 0 where
+  pub answers : List (ℕ × Answer)
+  pub serves : Serves a (drops t answers) b
+
+pub none_dropped : (t : ℕ) (a : StoreView) → AreDropped t a a
+none_dropped t a = record { answers = []; serves = refl }
+
+drops_on : (t : ℕ) (answers : List (ℕ × Answer)) (x : ℕ × Answer) → drops t (answers ++ x ∷ []) ≡ drops t answers ++ Drops t x.0 x.1 ∷ []
+drops_on t [] x = refl
+drops_on t (answer ∷ answers) x = ap (λ cs. Drops t answer.0 answer.1 ∷ cs) (drops_on t answers x)
+
+-- one more is
+one_dropped : (t : ℕ) (a b : StoreView) (x : ℕ × Answer) (c : Batches) → AreDropped t a b → channel_at b.channels t ≡ None
+    → TakesOut b.batched.kernel.parts t x c.kernel.parts → c ≡ record b.batched { kernel = c.kernel } → AreDropped t a (record b { batched = c })
+one_dropped t a b x c dropped gone takes rest = record {
+  answers = dropped.answers ++ x ∷ [];
+  serves = subst (λ cs. Serves a cs (record b { batched = c })) (sym (drops_on t dropped.answers x))
+      (serves_on a b (record b { batched = c }) (drops t dropped.answers) (Drops t x.0 x.1 ∷ []) dropped.serves (
+        record b { batched = c },
+        (gone, takes, ap (λ (k : Batches). k.queue) rest, ap (λ (k : Batches). k.begun) rest, (refl, refl), refl),
+        refl,
+      ));
+}
+
+pub some_dropped : (t : ℕ) (a b : StoreView) (told : Option (ℕ × Answer)) (c : Batches) → AreDropped t a b → channel_at b.channels t ≡ None → is_some told ≡ true
+    → IfSome told (λ x. TakesOut b.batched.kernel.parts t x c.kernel.parts) → c ≡ record b.batched { kernel = c.kernel } → AreDropped t a (record b { batched = c })
+some_dropped t a b None c dropped gone some takes rest = absurd (true≢false (sym some))
+some_dropped t a b (Some x) c dropped gone some takes rest = one_dropped t a b x c dropped gone takes rest
+
+pub none_is : (told : Option (ℕ × Answer)) → is_some told ≡ false → told ≡ None
+none_is None none = refl
+none_is (Some x) none = absurd (true≢false none)
+
+pub let_go : (t : ℕ) (a m b : StoreView) → AreDropped t a m → HasNoneReady t m → FreesIfLast t (first_answer m t) m b → LetGoPost t a b
+let_go t a m b dropped none frees = (dropped.answers, m, dropped.serves, none, frees)
+
+-- the number stays taken where an answer is left
+pub still_taken : (t : ℕ) (first : Option (ℕ × Answer)) (m b : StoreView) → (first ≡ None → ⊥) → b ≡ m → FreesIfLast t first m b
+still_taken t None m b some same = absurd (some refl)
+still_taken t (Some told) m b some same = same
+
+-- ---- what was asked for is carried out
+
+-- whether a guess is among lists of guesses, one behind another
+has_some : {K : Type 0} (g : ℕ) (rests : K → List ℕ) (keys : List K) → has g (flat_map rests keys) ≡ list_any (λ k. has g (rests k)) keys
+has_some g rests [] = refl
+has_some g rests (k ∷ keys) = list_any-append (λ t. t == g) (rests k) (flat_map rests keys) ∙ ap (λ b. has g (rests k) || b) (has_some g rests keys)
+
+or_no : (b : Bool) → (b || false) ≡ b
+or_no true = refl
+or_no false = refl
+
+has_mark : (g : ℕ) (batch : Option ℕ) → has g (marks batch) ≡ is_marked batch g
+has_mark g None = refl
+has_mark g (Some n) = or_no (n == g)
+
+-- what it is asked with, its answer and what it rests on
+abbrev pub now_asked : Batches → Asker → List (List ℕ) → Work → Asked
+now_asked b asker known work = record (asked_by asker known work) { batch = batch_for b work }
+
+abbrev pub answer_of : Batches → List (List ℕ) → Work → Answer
+answer_of b known work = (comes_to known work (has_now b.kernel)).reply
+
+abbrev pub rests_of : Batches → Asker → List (List ℕ) → Work → List ℕ
+rests_of b asker known work =
+    flat_map (tags_at (undo_state_of bytes_cmp b.kernel.parts)) (touched (deed_now b.kernel (asked_by asker known work))) ++ marks (batch_for b work)
+
+told_of : (b : Batches) (asker : Asker) (known : List (List ℕ)) (work : Work) → IsTold b (now_asked b asker known work) (answer_of b known work) (rests_of b asker known work)
+told_of b asker known work = record {
+  batch = refl;
+  answer_is = refl;
+  rests_are = λ g.
+      list_any-append (λ t. t == g) (flat_map (tags_at (undo_state_of bytes_cmp b.kernel.parts)) (touched (deed_now b.kernel (asked_by asker known work)))) (marks (batch_for b work))
+      ∙ (λ i. has_some g (tags_at (undo_state_of bytes_cmp b.kernel.parts)) (touched (deed_now b.kernel (asked_by asker known work))) i || has_mark g (batch_for b work) i);
+}
+
+pub all_stays : (b : Batches) → Stays b b
+all_stays b = record { kernel = inl refl; queue = refl; begun = refl }
+
+-- what became of what was asked for, in the batches alone
+abbrev pub Comes : Asker → Ask → Result (Unit {0}) NotDone → Batches → Batches → Type 0
+Comes asker ask (Ok _) b c = (asked : Asked) × (answer : Answer) × (rests : List ℕ) × (asked.channel ≡ asker.channel) × (asked.ticket ≡ asker.ticket)
+    × IsDone b ask asked answer rests c
+Comes asker ask (Err why) b c = LeavesIt b asker ask why c
+
+module _ (asker : Asker) (ask : Ask) (b seen : Batches) (still : Stays b seen) (work : Work) (is_for : IsFor b asker ask work) (free : names_reserved work ≡ false) where
+  pub comes : (result : Result (Unit {0}) NotDone) (c : Batches) → CarryPost asker work result seen c → Comes asker ask result b c
+  comes (Ok _) c (known, none, carries) = (
+    now_asked seen asker known work,
+    answer_of seen known work,
+    rests_of seen asker known work,
+    refl,
+    refl,
+    record { seen = seen; still = still; is_for = is_for; free = free; carries = carries; told = told_of seen asker known work },
+  )
+  comes (Err why) c not_done = (seen, still, work, is_for, not_done)
+
+-- without memory nothing of it is done
+pub no_memory : (asker : Asker) (ask : Ask) (b c : Batches) → Stays b c → Comes asker ask (Err Memory) b c
+no_memory asker ask b c still = (b, all_stays b, work_of ask, inl refl, inl still)
+
+-- a key was too long: nothing has changed
+pub was_long : (asker : Asker) (ask : Ask) (b c : Batches) (work : Work) → work ≡ work_of ask → IsNotDone LongKey b asker work c → Stays b c × IsFor b asker ask (error long_key_words)
+was_long asker ask b c work is (known, knows, long, still) = (
+  still,
+  inr (
+    refl,
+    (
+      known,
+      subst (λ w. KnowsIfTold b.kernel w known) is knows,
+      subst (λ w. against b (asked_by asker known w) ≡ Some LongKey) is long,
+    ),
+  ),
+)
+
+pub tried : (asker : Asker) (ask : Ask) (result : Result (Unit {0}) NotDone) (a : StoreView) (b : StoreView) → Comes asker ask result a.batched b.batched → b ≡ record a { batched = b.batched } → TryPost asker ask result a b
+tried asker ask (Ok _) a b (asked, answer, rests, channel, ticket, done) same = (asked, answer, rests, channel, ticket, done, same)
+tried asker ask (Err why) a b leaves same = (leaves, same)
+
+-- twice the batches alone were others
+pub rest_on : (a m b : StoreView) → m ≡ record a { batched = m.batched } → b ≡ record m { batched = b.batched } → b ≡ record a { batched = b.batched }
+rest_on a m b first then = then ∙ ap (λ (s : StoreView). record s { batched = b.batched }) first
+
+-- ---- bytes come
+
+-- what a channel answers and leaves, whatever its past was
+abbrev pub IsServed : List ℕ → Result FedBytes Refused → Channel → Channel → Type 0
+IsServed bytes result before after = (limits : Requests) (asked : List Ask) (stream : List ℕ) (told : Told) (handed : List ℕ)
+    → HasServed limits asked stream told handed before → Feeds limits asked stream told handed bytes result after
+
+past_on : (limits : Requests) (after : Channel) (one : Option OneAsked) (p : Past) (more : List ℕ)
+    → HasServedOn limits p.asked (p.stream ++ more) one p.told p.handed after → (p : Past) × HasPast limits p after
+past_on limits after None p more has = (came more p, has)
+past_on limits after (Some one) p more has = (asked_for more one.ask p, has.0)
+
+past_of : (limits : Requests) (bytes : List ℕ) (after : Channel) (result : Result FedBytes Refused) (p : Past)
+    → Feeds limits p.asked p.stream p.told p.handed bytes result after → (p : Past) × HasPast limits p after
+past_of limits bytes after (Ok fed) p post = past_on limits after fed.asked p (take fed.count bytes) post.2
+past_of limits bytes after (Err channels.NoTicket) p post = (p, post.0)
+past_of limits bytes after (Err channels.Full) p post = absurd post
+past_of limits bytes after (Err channels.Memory) p post = (p, post)
+
+-- the channel has some past then
+pub has_past : (limits : Requests) (bytes : List ℕ) (before after : Channel) (result : Result FedBytes Refused) → IsServed bytes result before after
+    → (p : Past) × HasPast limits p before → (p : Past) × HasPast limits p after
+has_past limits bytes before after result served (p, has) =
+    past_of limits bytes after result p (served limits p.asked p.stream p.told p.handed has)
+
+module _ (t : ℕ) (bytes : List ℕ) (a : StoreView) (before after : Channel) (new : Channels) (may : MayFeed a) (becomes : Becomes t before after a.channels new) where
+  abbrev heard : StoreView
+  heard = record a { channels = new }
+
+  module _ (fed : FedBytes) (served : IsServed bytes (Ok fed) before after) (have : HavePasts a.limits.requests a.channels) where
+    -- so many bytes came
+    counts : (fed.count ≤ length bytes) × (0 < length bytes → 0 < fed.count)
+    counts =
+        let was : (p : Past) × HasPast a.limits.requests p before = have t before becomes.there in
+        let all = served a.limits.requests was.0.asked was.0.stream was.0.told was.0.handed was.1 in (all.0, all.1)
+
+    hears : fed.asked ≡ None → Goes (came (take fed.count bytes)) before after
+    hears none limits p has =
+        subst (λ one. HasServedOn limits p.asked (p.stream ++ take fed.count bytes) one p.told p.handed after) none
+        (served limits p.asked p.stream p.told p.handed has).2
+
+    asks : (one : OneAsked) → fed.asked ≡ Some one → (limits : Requests) (p : Past) → HasPast limits p before → HasPast limits (asked_for (take fed.count bytes) one.ask p) after × (one.ticket ≡ length p.asked + 1)
+    asks one some limits p has =
+        subst (λ asked. HasServedOn limits p.asked (p.stream ++ take fed.count bytes) asked p.told p.handed after) some
+        (served limits p.asked p.stream p.told p.handed has).2
+
+    pub part_fed : fed.asked ≡ None → FeedPost t bytes (Ok (record { count = fed.count; end = ends.Part })) a heard
+    part_fed none = (may, counts.0, counts.1, ((before, after, becomes, hears none), (refl, refl, refl)))
+
+    asks_for : (one : OneAsked) → fed.asked ≡ Some one → AsksFor (take fed.count bytes) one.ask one.ticket t a heard
+    asks_for one some =
+        (before, after, becomes, (λ limits p has. (asks one some limits p has).0), (λ limits p has. (asks one some limits p has).1))
+
+    -- what they ask for is answered
+    pub all_fed : (one : OneAsked) → fed.asked ≡ Some one → (end : End) (b : StoreView) → AnswerPost (record { channel = t; ticket = one.ticket }) one.ask end heard b
+        → FeedPost t bytes (Ok (record { count = fed.count; end = end })) a b
+    all_fed one some ends.Part b post = absurd post
+    all_fed one some ends.Done b (asked, answer, rests, channel, ticket, done, same) = (
+      may,
+      counts.0,
+      counts.1,
+      (
+        one.ask,
+        asked,
+        answer,
+        rests,
+        (
+          may.0,
+          sym channel,
+          subst (λ n. AsksFor (take fed.count bytes) one.ask n t a b) (sym ticket) (subst (λ s. AsksFor (take fed.count bytes) one.ask one.ticket t a s) (sym same) (asks_for one some)),
+          done,
+          (ap (λ (s : StoreView). s.limits) same, ap (λ (s : StoreView). s.places) same),
+        ),
+      ),
+    )
+    all_fed one some (ends.NotDone why) b (leaves, same) = (
+      may,
+      counts.0,
+      counts.1,
+      (
+        one.ask,
+        one.ticket,
+        (
+          subst (λ s. AsksFor (take fed.count bytes) one.ask one.ticket t a s) (sym same) (asks_for one some),
+          leaves,
+          (ap (λ (s : StoreView). s.limits) same, ap (λ (s : StoreView). s.places) same),
+        ),
+      ),
+    )
+
+  -- no more came
+  pub not_fed : (why : Refused) → IsServed bytes (Err why) before after → HavePasts a.limits.requests a.channels → FeedPost t bytes (Err (channel_refused why)) a heard
+  not_fed channels.NoTicket served have = (
+    may,
+    (before, becomes.there, λ limits p has. (served limits p.asked p.stream p.told p.handed has).1),
+    ((before, after, becomes, nothing_came before after (λ limits p has. (served limits p.asked p.stream p.told p.handed has).0)), (refl, refl, refl)),
+  )
+  not_fed channels.Full served have =
+      let was : (p : Past) × HasPast a.limits.requests p before = have t before becomes.there in
+      absurd (served a.limits.requests was.0.asked was.0.stream was.0.told was.0.handed was.1)
+  not_fed channels.Memory served have =
+      (may, ((before, after, becomes, nothing_came before after (λ limits p has. served limits p.asked p.stream p.told p.handed has)), (refl, refl, refl)))

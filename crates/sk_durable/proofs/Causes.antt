@@ -1,0 +1,247 @@
+-- Why work is not carried out is why its step is not taken.
+use Rattle.std.proofs.Common.{◌≡◌, ℕ, Bool, true, false, cond, ◌||◌, List, [], ◌∷◌, length, Option, Some, None, Result, Ok, Err, inl, inr, ⊎_elim, refl, sym, ap, ◌∙◌, subst}
+use Rattle.std.specs.Prelude.{nat_lt, IfSome, OnErr, OnOk}
+use Rattle.std.specs.List.{list_any}
+use Rattle.std.specs.Option.{option_map, option_or}
+use Rattle.std.specs.Result.{IsErr, IsErrAnd}
+use Rattle.sk_record.specs.Machine.{released}
+use Rattle.sk_outputs.specs.Said.{said_at}
+use Rattle.sk_speculator.specs.Calls.{Takes}
+use Rattle.sk_speculator.specs.Law.{TakesOut}
+use Rattle.sk_index.specs.Index.{bytes_cmp}
+use Rattle.sk_deeds.specs.Deed.{Deed}
+use Rattle.sk_bytes.specs.declared.bytes.TheConstants.{KEY_LIMIT}
+use Rattle.sk_bytes.specs.Calls.{has_long_key}
+use Rattle.sk_bytes.specs.Steps.{byte_deed}
+use Rattle.sk_batches.specs.Calls.{append_refused}
+use Rattle.sk_batches.specs.declared.refusal.Refusal.{Refusal as Queued}
+use Rattle.sk_batched.specs.declared.refusal.Refusal.{Refusal}
+use Rattle.sk_batched.specs.declared.refusal.Refusal.TheVariants.{LongKey, Reserved, Stopped, Full, TooMany, Memory}
+use Rattle.sk_batched.specs.Batched.{is_full, log_refused, LogPost, Logs, Stays, TakePost}
+use Rattle.sk_reserved.specs.Keys.{is_reserved}
+use Rattle.sk_batched.specs.Keys.{has_reserved_key}
+use Rattle.sk_batched.specs.Refused.{refusal_of, step_refused}
+use Rattle.sk_batched.proofs.Touched.{any_touched}
+use Rattle.sk_commands.specs.declared.work.Work.{Work}
+use Rattle.sk_commands.specs.declared.work.Answer.{Answer}
+use Rattle.sk_commands.specs.Requests.{log_text}
+use Rattle.sk_commands.specs.Work.{may_write_some}
+use Rattle.sk_served.specs.Served.{Asked}
+use Rattle.sk_durable.specs.declared.refusal.NotDone.{NotDone}
+use Rattle.sk_durable.specs.declared.refusal.NotDone.TheVariants as undone
+use Rattle.sk_durable.specs.declared.works.Asker.{Asker}
+use Rattle.sk_durable.specs.Refused as told
+use Rattle.sk_durable.specs.Works as works
+use Rattle.sk_durable.specs.Works.{against, asked_by, deed_now, names_wrong, touched, Batches, CarryPost, IsHanded, IsNotDone, KnowsIfTold, LetsOut, RestorePost, TakenIn, TakesAlone, WorkStep}
+
+abbrev Done : Type 0
+Done = Deed (List ℕ) (List ℕ) (ℕ × Answer)
+
+-- ---- what a step names
+
+mixed : (a b c d : Bool) → ((a || b) || (c || d)) ≡ ((a || c) || (b || d))
+mixed true b c d = refl
+mixed false true true d = refl
+mixed false true false d = refl
+mixed false false c d = refl
+
+module _ (p q : List ℕ → Bool) where
+  either : (keys : List (List ℕ)) → list_any (λ k. p k || q k) keys ≡ (list_any p keys || list_any q keys)
+  either [] = refl
+  either (k ∷ keys) = ap (λ b. (p k || q k) || b) (either keys) ∙ mixed (p k) (q k) (list_any p keys) (list_any q keys)
+
+abbrev too_long : List ℕ → Bool
+too_long k = nat_lt KEY_LIMIT (length k)
+
+long_is : (step : WorkStep) → list_any too_long (touched (byte_deed step)) ≡ has_long_key step
+long_is step = any_touched too_long step.looked.items step.written.items
+
+reserved_is : (step : WorkStep) → list_any is_reserved (touched (byte_deed step)) ≡ has_reserved_key step
+reserved_is step = any_touched is_reserved step.looked.items step.written.items
+
+wrong_is : (step : WorkStep) → names_wrong (byte_deed step) ≡ (has_long_key step || has_reserved_key step)
+wrong_is step =
+    either too_long is_reserved (touched (byte_deed step)) ∙ (λ i. long_is step i || reserved_is step i)
+
+-- ---- causes, and what they are told as
+
+abbrev told_as : Option Refusal → Option NotDone
+told_as first = option_map told.step_refused first
+
+-- a key is too long, or reserved
+abbrev of_step : Bool → Bool → Option Refusal
+of_step long reserved = cond long (Some LongKey) (cond reserved (Some Reserved) None)
+
+-- what the queue says, or that as many batches are undecided as may be
+abbrev of_queue : Option Queued → Bool → Option Refusal
+of_queue queued full = option_or (option_map refusal_of queued) (cond full (Some TooMany) None)
+
+step_told : (long reserved : Bool) (rest : Option Refusal)
+    → told_as (option_or (of_step long reserved) rest) ≡ cond (long || reserved) (Some undone.LongKey) (told_as rest)
+step_told true reserved rest = refl
+step_told false true rest = refl
+step_told false false rest = refl
+
+step_alone : (long reserved : Bool)
+    → told_as (of_step long reserved) ≡ cond (long || reserved) (Some undone.LongKey) None
+step_alone true reserved = refl
+step_alone false true = refl
+step_alone false false = refl
+
+queue_told : (queued : Option Queued) (full : Bool)
+    → told_as (of_queue queued full)
+    ≡ option_or (option_map (λ why. told.step_refused (refusal_of why)) queued) (cond full (Some undone.TooMany) None)
+queue_told (Some why) full = refl
+queue_told None true = refl
+queue_told None false = refl
+
+not_full : (first : Option Refusal) (queued : Option Queued) (full : Bool)
+    → option_or first (of_queue queued full) ≡ None → full ≡ false
+not_full (Some why) queued full is = cc
+not_full None (Some why) full is = cc
+not_full None None true is = cc
+not_full None None false is = refl
+
+first_none : (first rest : Option Refusal) → option_or first rest ≡ None → first ≡ None
+first_none None rest is = refl
+first_none (Some why) rest is = is
+
+none_reserved : (long reserved : Bool) → of_step long reserved ≡ None → reserved ≡ false
+none_reserved true reserved is = cc
+none_reserved false true is = cc
+none_reserved false false is = refl
+
+-- ---- work whose step is handed in
+
+module _ (b : Batches) (asker : Asker) (work : Work) (step : WorkStep) (h : IsHanded b.kernel asker work step) where
+  abbrev asked : Asked
+  asked = asked_by asker h.known work
+
+  abbrev queued : ℕ → Option Queued
+  queued len = append_refused b.queue len
+
+  abbrev now : Done
+  now = deed_now b.kernel asked
+
+  wrong_now : (has_long_key step || has_reserved_key step) ≡ names_wrong now
+  wrong_now = sym (wrong_is step) ∙ ap (λ (d : Done). names_wrong d) h.does
+
+  logs_against : may_write_some work ≡ true → (bytes : List ℕ) → bytes ≡ log_text work
+      → told_as (log_refused b step (length bytes)) ≡ against b asked
+  logs_against writes bytes is =
+      step_told (has_long_key step) (has_reserved_key step) (of_queue (queued (length bytes)) (is_full b))
+      ∙ (λ i. cond (wrong_now i) (Some undone.LongKey) (told_as (of_queue (queued (length (is i))) (is_full b))))
+      ∙ ap (cond (names_wrong now) (Some undone.LongKey)) (queue_told (queued (length (log_text work))) (is_full b))
+      ∙ (λ i. cond (names_wrong now) (Some undone.LongKey) (cond (sym writes i) (works.log_against b asked) None))
+
+  takes_against : may_write_some work ≡ false → told_as (step_refused step) ≡ against b asked
+  takes_against reads =
+      step_alone (has_long_key step) (has_reserved_key step)
+      ∙ (λ i. cond (wrong_now i) (Some undone.LongKey) (cond (sym reads i) (works.log_against b asked) None))
+
+  plain : step_refused step ≡ None → list_any is_reserved (touched now) ≡ false
+  plain none =
+      ap (λ (d : Done). list_any is_reserved (touched d)) (sym h.does)
+      ∙ reserved_is step
+      ∙ none_reserved (has_long_key step) (has_reserved_key step) none
+
+  -- nothing is done, for this cause
+  abbrev Left : NotDone → Batches → Type 0
+  Left cause c =
+      (known : List (List ℕ)) × KnowsIfTold b.kernel work known × (against b (asked_by asker known work) ≡ Some cause)
+      × Stays b c
+
+  left : (c : Batches) (first : Option Refusal) (why : Refusal) → told_as first ≡ against b asked → first ≡ Some why
+      → Stays b c → Left (told.step_refused why) c
+  left c first why is at stays = (h.known, h.knows, sym is ∙ ap told_as at, stays)
+
+  still : (c : Batches) → c ≡ b → Stays b c
+  still c same = record {
+    kernel = inl (ap (λ (x : Batches). x.kernel) same);
+    queue = ap (λ (x : Batches). x.queue) same;
+    begun = ap (λ (x : Batches). x.begun) same;
+  }
+
+  -- ---- it is to be logged
+
+  module _ (writes : may_write_some work ≡ true) (bytes : List ℕ) (is : bytes ≡ log_text work) (c : Batches)
+      (after : WorkStep) where
+    abbrev first : Option Refusal
+    first = log_refused b step (length bytes)
+
+    room : first ≡ None → is_full b ≡ false
+    room none = not_full (step_refused step) (queued (length bytes)) (is_full b) none
+
+    pub not_logged : (why : Refusal) → LogPost (Err why) step after bytes b c
+        → IsNotDone (told.step_refused why) b asker work c
+    not_logged LongKey post = left c first LongKey (logs_against writes bytes is) post.0 (still c post.1)
+    not_logged Reserved post = left c first Reserved (logs_against writes bytes is) post.0 (still c post.1)
+    not_logged Stopped post = left c first Stopped (logs_against writes bytes is) post.0 (still c post.1)
+    not_logged Full post = left c first Full (logs_against writes bytes is) post.0 (still c post.1)
+    not_logged TooMany post = left c first TooMany (logs_against writes bytes is) post.0 (still c post.1)
+    not_logged Memory post = ⊎_elim (λ stays. inl stays) (λ begins. inr (room post.0, begins.1)) post.1
+
+    pub logged : (number : ℕ) → LogPost (Ok number) step after bytes b c → CarryPost asker work (Ok tt) b c
+    logged number post = (
+      h.known,
+      sym (logs_against writes bytes is) ∙ ap told_as post.0,
+      record {
+        knows = h.knows;
+        plain = plain (first_none (step_refused step) (of_queue (queued (length bytes)) (is_full b)) post.0);
+        taken = subst (λ w. TakenIn w b asked c) (sym writes) (
+          room post.0,
+          subst (λ (d : Done). Logs b d (log_text work) c) h.does
+              (subst (λ bs. Logs b (byte_deed step) bs c) is post.2),
+        );
+      },
+    )
+
+  -- ---- it is not
+
+  module _ (reads : may_write_some work ≡ false) (c : Batches) (after : WorkStep) where
+    pub not_taken : (why : Refusal) → TakePost (Err why) step after b c
+        → IsNotDone (told.step_refused why) b asker work c
+    not_taken LongKey post = left c (step_refused step) LongKey (takes_against reads) post.0 post.1
+    not_taken Reserved post = left c (step_refused step) Reserved (takes_against reads) post.0 post.1
+    not_taken Stopped post = left c (step_refused step) Stopped (takes_against reads) post.0 post.1
+    not_taken Full post = left c (step_refused step) Full (takes_against reads) post.0 post.1
+    not_taken TooMany post = left c (step_refused step) TooMany (takes_against reads) post.0 post.1
+    not_taken Memory post = inl post.1
+
+    pub taken : TakePost (Ok tt) step after b c → CarryPost asker work (Ok tt) b c
+    taken post = (
+      h.known,
+      sym (takes_against reads) ∙ ap told_as post.0,
+      record {
+        knows = h.knows;
+        plain = plain post.0;
+        taken = subst (λ w. TakenIn w b asked c) (sym reads)
+            (subst (λ (d : Done). Takes bytes_cmp b.kernel.parts d None c.kernel.parts) h.does post.1, post.2, post.3);
+      },
+    )
+
+-- it is told as its cause here
+module _ (b c : Batches) (asker : Asker) (work : Work) (why : Refusal) where
+  pub told_so : (result : Result (Unit {0}) NotDone) → IsErr result
+      → IsErrAnd result (λ cause. cause ≡ told.step_refused why)
+      → IsNotDone (told.step_refused why) b asker work c → CarryPost asker work result b c
+  told_so (Ok done) is gives left = absurd (cc)
+  told_so (Err cause) is gives left = subst (λ w. IsNotDone w b asker work c) (sym gives) left
+
+-- ---- work that is in the log already
+
+-- what is taken out of a channel, if anything is
+module _ (t : ℕ) (b c : Batches) where
+  pub lets_out : (told : Option (ℕ × Answer)) → IfSome told (λ output. TakesOut b.kernel.parts t output c.kernel.parts)
+      → (told ≡ None → c ≡ b) → (told ≡ None → released (said_at b.kernel.parts.said t) ≡ [])
+      → c ≡ record b { kernel = c.kernel } → LetsOut t told b c
+  lets_out None some none held rest = (held refl, none refl)
+  lets_out (Some told) some none held rest =
+      (some, ap (λ (x : Batches). x.queue) rest, ap (λ (x : Batches). x.begun) rest)
+
+module _ (asker : Asker) (work : Work) (b behind c : Batches) (told : Option (ℕ × Answer))
+    (lets : LetsOut asker.channel told behind c) where
+  pub restored : (result : Result (Unit {0}) NotDone) → OnOk result (TakesAlone asker work b behind)
+      → OnErr result (Stays b behind) → RestorePost asker work result b c
+  restored (Ok done) ok err = record { behind = behind; takes = ok; dropped = told; lets = lets }
+  restored (Err why) ok err = record { behind = behind; stays = err; dropped = told; lets = lets }

@@ -1,0 +1,315 @@
+-- Records of batches in frames, and what a queue's calls make of them.
+use Rattle.std.proofs.Common.{◌≡◌, ℕ, zero, suc, ◌+◌, ◌<◌, ◌≤◌, Bool, true, false, cond, List, [], ◌∷◌, ◌++◌, flat_map, length, map, drop, inl, inr, refl, sym, ◌∙◌, ap, append_assoc, arith}
+use Rattle.std.specs.Prelude.{◌⊎◌, ◌==◌, ◌&&◌}
+use Rattle.std.specs.List.{filter, AllByRecursion, Contains}
+use Rattle.std.proofs.lemmas.Bool.{false≢true}
+use Rattle.std.proofs.lemmas.List.{append-nil, map-append}
+use Rattle.std.proofs.lemmas.List.Concat.{flat_map-append}
+use Rattle.std.proofs.lemmas.List.Elements.{filter-append, Contains-append_cases, Contains-append_left, Contains-append_right, Contains-push_cases}
+use Rattle.sk_batches.specs.declared.batch.Stage.{Stage}
+use Rattle.sk_batches.specs.declared.batch.Stage.TheVariants.{Kept, Sent, Synced, Failed, Refused}
+use Rattle.sk_batches.specs.declared.batch.Batch.{Batch}
+use Rattle.sk_batches.specs.Dense.{AreDense, IsBehind}
+use Rattle.sk_batches.specs.Queue.{after_take, awaits, is_kept, is_refused, is_sent, is_taken, kept_of, kept_records, next_records, open_batch, send, tell, QueueView}
+use Rattle.sk_batches.specs.Records.{RecordView}
+use Rattle.sk_durable.proofs.Contained.{from_map, nothing_there, to_map}
+use Rattle.sk_durable.proofs.Frames.{in_frame, marked, next_marked, numbered, off, placed, unsent, Marked, Placed}
+
+-- ---- stages
+
+kept_untaken : (s : Stage) → is_kept s ≡ true → is_taken s ≡ false
+kept_untaken Kept e = refl
+kept_untaken Sent e = absurd (false≢true e)
+kept_untaken Synced e = absurd (false≢true e)
+kept_untaken Failed e = absurd (false≢true e)
+kept_untaken Refused e = absurd (false≢true e)
+
+kept_unrefused : (s : Stage) → is_kept s ≡ true → is_refused s ≡ false
+kept_unrefused Kept e = refl
+kept_unrefused Sent e = refl
+kept_unrefused Synced e = refl
+kept_unrefused Failed e = refl
+kept_unrefused Refused e = absurd (false≢true e)
+
+sent_taken : (s : Stage) → is_sent s ≡ true → is_taken s ≡ true
+sent_taken Kept e = absurd (false≢true e)
+sent_taken Sent e = refl
+sent_taken Synced e = refl
+sent_taken Failed e = refl
+sent_taken Refused e = absurd (false≢true e)
+
+sent_unkept : (s : Stage) → is_sent s ≡ true → is_kept s ≡ false
+sent_unkept Kept e = absurd (false≢true e)
+sent_unkept Sent e = refl
+sent_unkept Synced e = refl
+sent_unkept Failed e = refl
+sent_unkept Refused e = refl
+
+sent_unrefused : (s : Stage) → is_sent s ≡ true → is_refused s ≡ false
+sent_unrefused Kept e = refl
+sent_unrefused Sent e = refl
+sent_unrefused Synced e = refl
+sent_unrefused Failed e = refl
+sent_unrefused Refused e = absurd (false≢true e)
+
+pub first_holds : (x y : Bool) → (x && y) ≡ true → x ≡ true
+first_holds true y e = refl
+first_holds false y e = e
+
+-- ---- lists that are made of others
+
+flat_same : {A B : Type 0} (f : A → List B) (g : A → A) → ((x : A) → f (g x) ≡ f x) → (xs : List A)
+    → flat_map f (map g xs) ≡ flat_map f xs
+flat_same f g same [] = refl
+flat_same f g same (x ∷ xs) = λ i. same x i ++ flat_same f g same xs i
+
+off_same : (g : Batch → Batch) → ((b : Batch) → is_refused (g b).stage ≡ is_refused b.stage)
+    → ((b : Batch) → (g b).number ≡ b.number)
+    → (bs : List Batch) → off (map g bs) ≡ off bs
+off_same g stage number [] = refl
+off_same g stage number (b ∷ bs) =
+    (λ i. map (λ (d : Batch). d.number)
+    (cond (stage b i) (g b ∷ filter (λ d. is_refused d.stage) (map g bs))
+    (filter (λ d. is_refused d.stage) (map g bs))))
+    ∙ elim (is_refused b.stage) as
+    (λ t. map (λ (d : Batch). d.number)
+    (cond t (g b ∷ filter (λ d. is_refused d.stage) (map g bs)) (filter (λ d. is_refused d.stage) (map g bs)))
+    ≡ map (λ (d : Batch). d.number)
+    (cond t (b ∷ filter (λ d. is_refused d.stage) bs) (filter (λ d. is_refused d.stage) bs))) [
+      | true ↦ λ i. number b i ∷ off_same g stage number bs i
+      | false ↦ off_same g stage number bs
+    ]
+
+off_append : (bs ds : List Batch) → off (bs ++ ds) ≡ off bs ++ off ds
+off_append bs ds =
+    ap (map (λ (d : Batch). d.number)) (filter-append (λ (d : Batch). is_refused d.stage) bs ds)
+    ∙ map-append (λ (d : Batch). d.number) (filter (λ (d : Batch). is_refused d.stage) bs)
+    (filter (λ (d : Batch). is_refused d.stage) ds)
+
+-- ---- marks
+
+unmarked : (number : ℕ) (rs : List RecordView) → map (λ (x : Marked). x.1) (marked number rs) ≡ rs
+unmarked number [] = refl
+unmarked number (r ∷ rs) = ap (λ xs. r ∷ xs) (unmarked number rs)
+
+kept_unmarked : (b : Batch) → map (λ (x : Marked). x.1) (unsent b) ≡ kept_of b
+kept_unmarked b = elim (is_kept b.stage) as
+    (λ t. map (λ (x : Marked). x.1) (cond t (marked b.number b.records) []) ≡ cond t b.records []) [
+      | true ↦ unmarked b.number b.records
+      | false ↦ refl
+    ]
+
+all_unmarked : (bs : List Batch) → map (λ (x : Marked). x.1) (flat_map unsent bs) ≡ kept_records bs
+all_unmarked [] = refl
+all_unmarked (b ∷ bs) = map-append (λ (x : Marked). x.1) (unsent b) (flat_map unsent bs)
+    ∙ (λ i. kept_unmarked b i ++ all_unmarked bs i)
+
+-- what is to be sent are the records of the next frame
+pub next_unmarked : (q : QueueView) → map (λ (x : Marked). x.1) (next_marked q) ≡ next_records q
+next_unmarked q =
+    map-append (λ (x : Marked). x.1) (flat_map unsent q.batches) (marked q.number q.records)
+    ∙ (λ i. all_unmarked q.batches i ++ unmarked q.number q.records i)
+
+pub numbered_push : (f : ℕ) (sent : List (List Marked)) (xs : List Marked)
+    → numbered f (sent ++ xs ∷ []) ≡ numbered f sent ++ in_frame (f + length sent) xs
+numbered_push f [] xs = append-nil (in_frame f xs)
+    ∙ (let same : f ≡ f + 0 = omega arith in ap (λ k. in_frame k xs) same)
+numbered_push f (ys ∷ sent) xs =
+    let same : (f + 1) + length sent ≡ f + length (ys ∷ sent) = omega arith in
+    ap (λ zs. in_frame f ys ++ zs)
+    (numbered_push (f + 1) sent xs ∙ ap (λ k. numbered (f + 1) sent ++ in_frame k xs) same)
+    ∙ sym (append_assoc (in_frame f ys) (numbered (f + 1) sent) (in_frame (f + length (ys ∷ sent)) xs))
+
+-- frames have numbers from the first on, below the next
+pub numbered_within : (f : ℕ) (sent : List (List Marked)) (y : Placed) → Contains (numbered f sent) y → (f ≤ y.0)
+    × (y.0 < f + length sent)
+numbered_within f [] y at = nothing_there y at
+numbered_within f (xs ∷ sent) y at = elim (Contains-append_cases (in_frame f xs) (numbered (f + 1) sent) y at) [
+  | inl here ↦ let same : f ≡ y.0 = ap (λ (z : Placed). z.0) (from_map (λ (x : Marked). (f, x)) xs y here).2 in
+      (omega (arith, same), omega (arith, same))
+  | inr later ↦ let rest = numbered_within (f + 1) sent y later in (omega (arith, rest.0), omega (arith, rest.1))
+]
+
+-- what lies behind the first n frames
+pub numbered_behind : (f n : ℕ) (sent : List (List Marked)) (x : Marked)
+    → Contains (flat_map (λ xs. xs) (drop n sent)) x
+    → (k : ℕ) × (f + n ≤ k) × Contains (numbered f sent) (k, x)
+numbered_behind f zero [] x at = nothing_there x at
+numbered_behind f (suc n) [] x at = nothing_there x at
+numbered_behind f zero (xs ∷ sent) x at = elim (Contains-append_cases xs (flat_map (λ ys. ys) sent) x at) [
+  | inl here ↦ (
+    f,
+    omega arith,
+    Contains-append_left (in_frame f xs) (numbered (f + 1) sent) (f, x)
+        (to_map (λ (z : Marked). (f, z)) xs x here),
+  )
+  | inr later ↦ let rest = numbered_behind (f + 1) zero sent x later in
+      (rest.0, omega (arith, rest.1), Contains-append_right (in_frame f xs) (numbered (f + 1) sent) (rest.0, x) rest.2)
+]
+numbered_behind f (suc n) (xs ∷ sent) x at =
+    let rest = numbered_behind (f + 1) n sent x at in
+    (rest.0, omega (arith, rest.1), Contains-append_right (in_frame f xs) (numbered (f + 1) sent) (rest.0, x) rest.2)
+
+-- what a batch has in its frame is its own
+pub placed_of : (b : Batch) (y : Placed) → Contains (placed b) y → (y.0 ≡ b.frame) × (y.1.0 ≡ b.number)
+placed_of b y at =
+    elim (is_taken b.stage) as (λ t. Contains (cond t (in_frame b.frame (marked b.number b.records)) []) y
+    → (y.0 ≡ b.frame) × (y.1.0 ≡ b.number)) [
+      | true ↦ λ here.
+          let framed = from_map (λ (x : Marked). (b.frame, x)) (marked b.number b.records) y here in
+          let own = from_map (λ (r : RecordView). (b.number, r)) b.records framed.0 framed.1 in (
+            sym (ap (λ (z : Placed). z.0) framed.2),
+            sym (ap (λ (z : Placed). z.1.0) framed.2)
+                ∙ sym (ap (λ (x : Marked). x.0) own.2),
+          )
+      | false ↦ λ here. nothing_there y here
+    ] at
+
+pub unsent_of : (b : Batch) (x : Marked) → Contains (unsent b) x → x.0 ≡ b.number
+unsent_of b x at =
+    elim (is_kept b.stage) as (λ t. Contains (cond t (marked b.number b.records) []) x → x.0 ≡ b.number) [
+      | true ↦ λ here. sym (ap (λ (z : Marked). z.0) (from_map (λ (r : RecordView). (b.number, r)) b.records x here).2)
+      | false ↦ λ here. nothing_there x here
+    ] at
+
+-- ---- a frame is taken
+
+pub sent_number : (frame : ℕ) (b : Batch) → (send frame b).number ≡ b.number
+sent_number frame b = elim (is_kept b.stage) as
+    (λ t. (cond t (record b { frame = frame; stage = Sent }) b).number ≡ b.number) [
+      | true ↦ refl
+      | false ↦ refl
+    ]
+
+sent_refused : (frame : ℕ) (b : Batch) → is_refused (send frame b).stage ≡ is_refused b.stage
+sent_refused frame b =
+    elim (is_kept b.stage) as
+    (λ t. is_kept b.stage ≡ t → is_refused (cond t (record b { frame = frame; stage = Sent }) b).stage
+    ≡ is_refused b.stage) [
+      | true ↦ λ is. sym (kept_unrefused b.stage is)
+      | false ↦ λ is. refl
+    ] refl
+
+sent_all : (frame : ℕ) (b : Batch) → unsent (send frame b) ≡ []
+sent_all frame b =
+    elim (is_kept b.stage) as
+    (λ t. is_kept b.stage ≡ t → unsent (cond t (record b { frame = frame; stage = Sent }) b) ≡ []) [
+      | true ↦ λ is. refl
+      | false ↦ λ is. ap (λ t. cond t (marked b.number b.records) []) is
+    ] refl
+
+flat_none : {A B : Type 0} (f : A → List B) (g : A → A) → ((x : A) → f (g x) ≡ []) → (xs : List A)
+    → flat_map f (map g xs) ≡ []
+flat_none f g none [] = refl
+flat_none f g none (x ∷ xs) = λ i. none x i ++ flat_none f g none xs i
+
+none_placed : (bs : List Batch) → AllByRecursion (λ d. is_kept d.stage ≡ true) bs → flat_map placed bs ≡ []
+none_placed [] all = refl
+none_placed (b ∷ bs) all = λ i. cond (kept_untaken b.stage all.0 i)
+    (in_frame b.frame (marked b.number b.records)) [] ++ none_placed bs all.1 i
+
+all_kept : (b : Batch) (bs : List Batch) → is_kept b.stage ≡ true → AllByRecursion (IsBehind b) bs
+    → AllByRecursion (λ d. is_kept d.stage ≡ true) bs
+all_kept b [] is all = tt
+all_kept b (d ∷ bs) is all = (all.0.last is, all_kept b bs is all.1)
+
+sends_placed : (first next number frame : ℕ) (bs : List Batch) → AreDense first next number bs
+    → flat_map placed (map (send frame) bs) ≡ flat_map placed bs ++ in_frame frame (flat_map unsent bs)
+sends_placed first next number frame [] dense = refl
+sends_placed first next number frame (b ∷ bs) dense =
+    let rest = sends_placed first next number frame bs dense.3 in
+    let own = marked b.number b.records in
+    let place = in_frame b.frame own in
+    let all : List Placed = flat_map placed bs in
+    let kept : List Marked = flat_map unsent bs in
+    elim (is_kept b.stage) as (λ t. is_kept b.stage ≡ t
+    → placed (cond t (record b { frame = frame; stage = Sent }) b) ++ flat_map placed (map (send frame) bs)
+    ≡ (placed b ++ all) ++ in_frame frame (cond t own [] ++ kept)) [
+      | true ↦ λ is.
+          let none = none_placed bs (all_kept b bs is dense.2) in
+          ap (λ zs. in_frame frame own ++ zs) (rest ∙ ap (λ zs. zs ++ in_frame frame kept) none)
+          ∙ sym (map-append (λ (x : Marked). (frame, x)) own kept)
+          ∙ ap (λ zs. zs ++ in_frame frame (own ++ kept)) (sym none)
+          ∙ (λ i. (cond (sym (kept_untaken b.stage is) i) place [] ++ all) ++ in_frame frame (own ++ kept))
+      | false ↦ λ is. ap (λ zs. placed b ++ zs) rest ∙ sym (append_assoc (placed b) all (in_frame frame kept))
+    ] refl
+
+module _ (first : ℕ) (q : QueueView) (dense : AreDense first q.frame q.number q.batches) where
+  abbrev kept : List Marked
+  kept = flat_map unsent q.batches
+
+  abbrev own : List Marked
+  own = marked q.number q.records
+
+  pub placed_sent : flat_map placed (after_take q).batches ≡ flat_map placed q.batches ++ in_frame q.frame
+      (next_marked q)
+  placed_sent =
+      flat_map-append placed (map (send q.frame) q.batches) (open_batch q ∷ [])
+      ∙ (λ i. sends_placed first q.frame q.number q.frame q.batches dense i ++ append-nil (in_frame q.frame own) i)
+      ∙ append_assoc (flat_map placed q.batches) (in_frame q.frame kept) (in_frame q.frame own)
+      ∙ ap (λ zs. flat_map placed q.batches ++ zs) (sym (map-append (λ (x : Marked). (q.frame, x)) kept own))
+
+pub none_unsent : (q : QueueView) → next_marked (after_take q) ≡ []
+none_unsent q =
+    append-nil (flat_map unsent (map (send q.frame) q.batches ++ open_batch q ∷ []))
+    ∙ flat_map-append unsent (map (send q.frame) q.batches) (open_batch q ∷ [])
+    ∙ append-nil (flat_map unsent (map (send q.frame) q.batches))
+    ∙ flat_none unsent (send q.frame) (sent_all q.frame) q.batches
+
+pub off_sent : (q : QueueView) → off (after_take q).batches ≡ off q.batches
+off_sent q =
+    off_append (map (send q.frame) q.batches) (open_batch q ∷ [])
+    ∙ append-nil (off (map (send q.frame) q.batches))
+    ∙ off_same (send q.frame) (sent_refused q.frame) (sent_number q.frame) q.batches
+
+-- a batch that was sent
+pub of_sent : (q : QueueView) (d : Batch) → Contains (after_take q).batches d
+    → ((b : Batch) × Contains q.batches b × (send q.frame b ≡ d)) ⊎ (open_batch q ≡ d)
+of_sent q d at = elim (Contains-push_cases (map (send q.frame) q.batches) (open_batch q) d at) [
+  | inl before ↦ inl (from_map (send q.frame) q.batches d before)
+  | inr last ↦ inr last
+]
+
+-- ---- a frame is told of
+
+module _ (frame : ℕ) (stage : Stage) (taken : is_taken stage ≡ true) (unkept : is_kept stage ≡ false)
+    (stands : is_refused stage ≡ false) where
+  pub told_number : (b : Batch) → (tell frame stage b).number ≡ b.number
+  told_number b = elim (awaits frame b) as (λ t. (cond t (record b { stage = stage }) b).number ≡ b.number) [
+    | true ↦ refl
+    | false ↦ refl
+  ]
+
+  told_refused : (b : Batch) → is_refused (tell frame stage b).stage ≡ is_refused b.stage
+  told_refused b =
+      elim (awaits frame b) as (λ t. awaits frame b ≡ t → is_refused (cond t (record b { stage = stage }) b).stage
+      ≡ is_refused b.stage) [
+        | true ↦ λ is. stands ∙ sym (sent_unrefused b.stage (first_holds (is_sent b.stage) (b.frame == frame) is))
+        | false ↦ λ is. refl
+      ] refl
+
+  told_placed : (b : Batch) → placed (tell frame stage b) ≡ placed b
+  told_placed b =
+      let own = in_frame b.frame (marked b.number b.records) in
+      elim (awaits frame b) as (λ t. awaits frame b ≡ t → placed (cond t (record b { stage = stage }) b) ≡ placed b) [
+        | true ↦ λ is. ap (λ t. cond t own [])
+            (taken ∙ sym (sent_taken b.stage (first_holds (is_sent b.stage) (b.frame == frame) is)))
+        | false ↦ λ is. refl
+      ] refl
+
+  told_unsent : (b : Batch) → unsent (tell frame stage b) ≡ unsent b
+  told_unsent b =
+      elim (awaits frame b) as (λ t. awaits frame b ≡ t → unsent (cond t (record b { stage = stage }) b) ≡ unsent b) [
+        | true ↦ λ is. ap (λ t. cond t (marked b.number b.records) [])
+            (unkept ∙ sym (sent_unkept b.stage (first_holds (is_sent b.stage) (b.frame == frame) is)))
+        | false ↦ λ is. refl
+      ] refl
+
+  pub all_told_placed : (bs : List Batch) → flat_map placed (map (tell frame stage) bs) ≡ flat_map placed bs
+  all_told_placed bs = flat_same placed (tell frame stage) told_placed bs
+
+  pub all_told_unsent : (bs : List Batch) → flat_map unsent (map (tell frame stage) bs) ≡ flat_map unsent bs
+  all_told_unsent bs = flat_same unsent (tell frame stage) told_unsent bs
+
+  pub off_told : (bs : List Batch) → off (map (tell frame stage) bs) ≡ off bs
+  off_told bs = off_same (tell frame stage) told_refused told_number bs

@@ -1,0 +1,311 @@
+-- What keys have and what was said is as in a plain store that carries out what stands.
+use Rattle.std.proofs.Common.{◌≡◌, ◌↔◌, ◌⊎◌, ℕ, zero, suc, ◌+◌, ◌*◌, Bool, true, false, cond, not, List, [], ◌∷◌, ◌++◌, map, Option, Some, None, inl, inr, refl, sym, ◌∙◌, ap, subst, arith}
+use Rattle.std.specs.Prelude.{◌==◌, T}
+use Rattle.std.specs.Int.NonZero.{non_zero_u16_get}
+use Rattle.std.specs.List.{filter, Contains}
+use Rattle.std.specs.FinMap.{FinMap, from_sorted, get, get-from_sorted}
+use Rattle.std.proofs.lemmas.Bool.{false≢true}
+use Rattle.std.proofs.lemmas.List.{map-append}
+use Rattle.std.proofs.lemmas.List.Elements.{Contains-append_cases, Contains-append_right}
+use Rattle.sk_record.specs.Machine.{Tagged}
+use Rattle.sk_record.specs.Notes.{has}
+use Rattle.sk_record.specs.Release as releases
+use Rattle.sk_record.specs.Trace.{Commit, Event, Fail, Taken}
+use Rattle.sk_record.specs.UndoState.{numbers}
+use Rattle.sk_record.specs.declared.status.Status.TheVariants as status_as
+use Rattle.sk_guesses.specs.Kept.{KeptView}
+use Rattle.sk_deeds.specs.Moves.{Starts}
+use Rattle.sk_deeds.specs.Told.{moves_of}
+use Rattle.sk_outputs.specs.Said.{said_at}
+use Rattle.sk_index.specs.Index.{bytes_cmp}
+use Rattle.sk_bytes.proofs.Told.{bytes_exact, bytes_total}
+use Rattle.sk_batched.specs.Batched.{capped}
+use Rattle.sk_batched.specs.declared.batched.Outcome.TheVariants.{Logged as LoggedBatch, Refused}
+use Rattle.sk_batched.specs.InStep.{IsInStep, IsRow}
+use Rattle.sk_reserved.specs.Keys.{batch_key}
+use Rattle.sk_batched.proofs.Answering.{capped_small}
+use Rattle.sk_batched.proofs.Queues.{new_in_step}
+use Rattle.sk_rests.specs.Laws.{IsAsLogged}
+use Rattle.sk_rests.specs.Logged.{failed_in, is_struck, kept, resting_among, said_to}
+use Rattle.sk_rests.proofs.Ends.{as_logged}
+use Rattle.sk_rests.proofs.Idle.{part_is_kept}
+use Rattle.sk_commands.specs.declared.work.Answer.{Answer}
+use Rattle.sk_plain_store.specs.Plain.{held, Entries}
+use Rattle.sk_served.specs.Calls.{Out}
+use Rattle.sk_served.specs.Laws.{HoldsSame}
+use Rattle.sk_served.specs.Plain.{entries_after, entry_after, replies_to, reply_to}
+use Rattle.sk_served.specs.Served.{served, Entry, Opens, Runs}
+use Rattle.sk_served.proofs.Called.{calls_plain}
+use Rattle.sk_durable.specs.declared.limits.Limits.{Limits}
+use Rattle.sk_durable.specs.declared.store.Next.{Next}
+use Rattle.sk_durable.specs.Works.{has_now}
+use Rattle.sk_durable.specs.Store.{StoreView}
+use Rattle.sk_durable.specs.Calls.{Call, Decides}
+use Rattle.sk_durable.specs.History.{carried, decided, decided_by, entries, failed, stands, Command}
+use Rattle.sk_durable.specs.Laws.{said_by, said_to as says_to, AnswersArePlain, HasDone, IsLogged, MapIsPlain}
+use Rattle.sk_durable.proofs.Machines.{Agree, is_decision, machine, runs_work, InStep, Led, Quiet}
+use Rattle.sk_durable.proofs.Served.{calls, outs_from}
+
+-- batches that begin change nothing of a plain store, and it replies nothing to them
+runs_after : (ns : List Entry) (e : Entries) → entries_after (filter runs_work ns) e ≡ entries_after ns e
+runs_after [] e = refl
+runs_after (Opens n ∷ ns) e = runs_after ns e
+runs_after (Runs a ∷ ns) e = runs_after ns (entry_after (Runs a) e)
+
+runs_reply : (t : ℕ) (ns : List Entry) (e : Entries) → replies_to t (filter runs_work ns) e ≡ replies_to t ns e
+runs_reply t [] e = refl
+runs_reply t (Opens n ∷ ns) e = runs_reply t ns e
+runs_reply t (Runs a ∷ ns) e = ap (λ rs. reply_to t (Runs a) e ++ rs) (runs_reply t ns (entry_after (Runs a) e))
+
+-- what one command said
+said_one : (t : ℕ) (said : Option (ℕ × (ℕ × Answer))) (rests : List ℕ)
+    → says_to t said ≡ map (λ x. x.0) (releases.said_by served t said rests)
+said_one t None rests = refl
+said_one t (Some w) rests =
+    elim (w.0 == t) as (λ b. cond b (w ∷ []) []
+    ≡ map (λ (x : Tagged (ℕ × (ℕ × Answer))). x.0) (cond b ((w, rests) ∷ []) [])) [
+      | true ↦ refl
+      | false ↦ refl
+    ]
+
+-- what all that stand said is what the commands among them said
+said_all : (t : ℕ) (fails : List ℕ) (log : List Command) → Quiet log
+    → said_by t (kept fails (filter (λ r. runs_work r.entry) log)) ≡ map (λ x. x.0) (said_to served t (kept fails log))
+said_all t fails [] quiet = refl
+said_all t fails (r ∷ log) quiet =
+    let others = filter (λ (q : Command). runs_work q.entry) log in
+    let rest = said_all t fails log quiet.1 in
+    let heads : (said : Option (ℕ × (ℕ × Answer))) → says_to t said ++ said_by t (kept fails others)
+    ≡ map (λ x. x.0) (releases.said_by served t said r.rests ++ said_to served t (kept fails log)) =
+    λ said. (λ i. said_one t said r.rests i ++ rest i)
+    ∙ sym (map-append (λ (x : Tagged (ℕ × (ℕ × Answer))). x.0) (releases.said_by served t said r.rests)
+    (said_to served t (kept fails log))) in
+    elim (runs_work r.entry) as (λ b. runs_work r.entry ≡ b
+    → said_by t (kept fails (cond b (r ∷ others) others)) ≡ map (λ x. x.0) (said_to served t (kept fails (r ∷ log)))) [
+      | true ↦ λ runs.
+          elim (not (is_struck fails r)) as (λ b. said_by t (cond b (r ∷ kept fails others) (kept fails others))
+          ≡ map (λ x. x.0) (said_to served t (cond b (r ∷ kept fails log) (kept fails log)))) [
+            | true ↦ heads r.said
+            | false ↦ rest
+          ]
+      | false ↦ λ begins.
+          elim (not (is_struck fails r)) as (λ b. said_by t (kept fails others)
+          ≡ map (λ x. x.0) (said_to served t (cond b (r ∷ kept fails log) (kept fails log)))) [
+            | true ↦ ap (λ said. says_to t said ++ said_by t (kept fails others)) (sym (quiet.0 begins)) ∙ heads r.said
+            | false ↦ rest
+          ]
+    ] refl
+
+-- the same outputs, whatever they rest on
+firsts : (guesses : List ℕ) (xs : List (Tagged (ℕ × (ℕ × Answer))))
+    → map (λ x. x.0) (resting_among guesses xs) ≡ map (λ x. x.0) xs
+firsts guesses [] = refl
+firsts guesses (x ∷ xs) = ap (λ ws. x.0 ∷ ws) (firsts guesses xs)
+
+-- what fails is decided
+fails_of : (es : List (Event Entry)) → failed_in (filter is_decision es) ≡ failed_in es
+fails_of [] = refl
+fails_of (Taken n ∷ es) = fails_of es
+fails_of (Commit g ∷ es) = fails_of es
+fails_of (Fail g ∷ es) = ap (λ gs. g ∷ gs) (fails_of es)
+
+-- what lists contain
+module _ {A : Type 0} where
+  first_there : (x : A) (xs : List A) → Contains (x ∷ xs) x
+  first_there x xs = (0, omega arith, refl)
+
+  later_there : (y x : A) (xs : List A) → Contains xs x → Contains (y ∷ xs) x
+  later_there y x xs (k, less, is) = (suc k, omega (arith, less), is)
+
+  first_or_later : (y x : A) (xs : List A) → Contains (y ∷ xs) x → (y ≡ x) ⊎ Contains xs x
+  first_or_later y x xs (zero, less, is) = inl is
+  first_or_later y x xs (suc k, less, is) = inr (k, omega (arith, less), is)
+
+  none_there : {P : Type 0} (x : A) → Contains [] x → P
+  none_there x there = let less = there.1 in absurd (omega (arith, less))
+
+  passes : (p : A → Bool) (xs : List A) (x : A) → p x ≡ true → Contains xs x → Contains (filter p xs) x
+  passes p [] x is there = there
+  passes p (y ∷ xs) x is there =
+      elim (first_or_later y x xs there) [
+        | inl same ↦ subst (λ b. Contains (cond b (y ∷ filter p xs) (filter p xs)) x) (sym (ap p same ∙ is))
+            (subst (λ z. Contains (z ∷ filter p xs) x) (sym same) (first_there x (filter p xs)))
+        | inr more ↦ elim (p y) as (λ b. Contains (cond b (y ∷ filter p xs) (filter p xs)) x) [
+          | true ↦ later_there y x (filter p xs) (passes p xs x is more)
+          | false ↦ passes p xs x is more
+        ]
+      ]
+
+  passed : (p : A → Bool) (xs : List A) (x : A) → Contains (filter p xs) x → Contains xs x
+  passed p [] x there = there
+  passed p (y ∷ xs) x there =
+      elim (p y) as (λ b. Contains (cond b (y ∷ filter p xs) (filter p xs)) x → Contains (y ∷ xs) x) [
+        | true ↦ λ h. elim (first_or_later y x (filter p xs) h) [
+          | inl same ↦ subst (λ z. Contains (z ∷ xs) x) (sym same) (first_there x xs)
+          | inr more ↦ later_there y x xs (passed p xs x more)
+        ]
+        | false ↦ λ h. later_there y x xs (passed p xs x h)
+      ] there
+
+-- a batch was told as logged just where it is among the decisions
+abbrev commit_of : ℕ → Event Entry → ℕ
+commit_of g (Commit h) = h
+commit_of g other = g
+
+fail_commit : {P : Type 0} (g h : ℕ) → ◌≡◌ {A = Event Entry} (Fail g) (Commit h) → P
+fail_commit g h is = cc
+
+told_logged : (c : Call) (n : ℕ) → Contains (decided_by c) (Commit n) → c ≡ Decides (LoggedBatch n)
+told_logged (Decides (LoggedBatch m)) n there =
+    elim (first_or_later (Commit m) (Commit n) [] there) [
+      | inl same ↦ ap (λ k. Decides (LoggedBatch k)) (ap (commit_of m) same)
+      | inr more ↦ none_there (Commit n) more
+    ]
+told_logged (Decides (Refused m keys)) n there =
+    elim (first_or_later (Fail m) (Commit n) [] there) [
+      | inl same ↦ fail_commit m n same
+      | inr more ↦ none_there (Commit n) more
+    ]
+told_logged other n there = none_there (Commit n) there
+
+pub logged_told : (cs : List Call) (n : ℕ) → Contains cs (Decides (LoggedBatch n)) → Contains (decided cs) (Commit n)
+logged_told [] n there = none_there (Decides (LoggedBatch n)) there
+logged_told (c ∷ cs) n there =
+    elim (first_or_later c (Decides (LoggedBatch n)) cs there) [
+      | inl same ↦ subst (λ d. Contains (decided_by d ++ decided cs) (Commit n)) (sym same)
+          (first_there (Commit n) (decided cs))
+      | inr more ↦ Contains-append_right (decided_by c) (decided cs) (Commit n) (logged_told cs n more)
+    ]
+
+pub logged_by : (cs : List Call) (n : ℕ) → Contains (decided cs) (Commit n) → Contains cs (Decides (LoggedBatch n))
+logged_by [] n there = none_there (Commit n) there
+logged_by (c ∷ cs) n there =
+    elim (Contains-append_cases (decided_by c) (decided cs) (Commit n) there) [
+      | inl now ↦ subst (λ d. Contains (d ∷ cs) (Decides (LoggedBatch n))) (sym (told_logged c n now))
+          (first_there (Decides (LoggedBatch n)) cs)
+      | inr more ↦ later_there c (Decides (LoggedBatch n)) cs (logged_by cs n more)
+    ]
+
+module _ (limits : Limits) (next : Next) (start : Entries) (cs : List Call) (s : StoreView)
+    (done : HasDone limits next start cs s) where
+  abbrev first : StoreView
+  first = done.first
+
+  -- nothing is known of any guess
+  are_none : Agree first.batched.kernel (λ g. None)
+  are_none = record {
+    undecided = λ g. ap (λ os. has g (numbers os)) done.new.opens;
+    struck = λ g here. absurd (false≢true (sym (ap (λ (v : KeptView). has g v.struck) done.new.guesses.1) ∙ here));
+    fresh = λ g above. refl;
+  }
+
+  in_step : InStep first.batched
+  in_step =
+      let most = non_zero_u16_get limits.in_flight in
+      let row : IsRow first.batched.kernel.parts [] = record {
+        row = tt;
+        opens = done.new.opens;
+        struck = ap (λ (v : KeptView). v.struck) done.new.guesses.1;
+        few = omega arith;
+        limit = let at = ap (λ (v : KeptView). v.limit) done.new.guesses.1 in let small = capped_small most in
+            omega (arith, at, small);
+        look = λ n. done.new.look (batch_key n) ∙ done.new.none_reserved (batch_key n) refl;
+        log = λ n. done.new.log (batch_key n);
+      } in (
+        [],
+        subst (λ e. IsInStep first.batched.kernel.parts first.batched.queue e []) (sym done.new.begun)
+            (new_in_step first.batched.kernel.parts first.batched.queue [] done.new.guesses.0
+            (capped most) limits.undecided next.frame (2 * capped most + 1)
+            row done.new.guesses.1 done.new.queue refl),
+      )
+
+  abbrev map_of : FinMap served.order (List ℕ)
+  map_of = from_sorted start
+
+  holds_start : (key : List ℕ) → get map_of key ≡ held start key
+  holds_start key = get-from_sorted bytes_cmp start key (subst T (sym done.new.in_order) tt)
+
+  starts : Starts served map_of (machine first.batched.kernel (λ g. None))
+  starts = record {
+    look = λ k. done.new.look k ∙ sym (holds_start k);
+    logs = done.new.log;
+    opens = done.new.opens;
+    status = λ g. refl;
+    texts = λ t. ap (λ xs. said_at xs t) done.new.said;
+  }
+
+  holds : HoldsSame map_of start
+  holds = record { same = holds_start; in_order = done.new.in_order; none_reserved = done.new.none_reserved }
+
+  -- what was taken out of each channel
+  abbrev pub outs : Out
+  outs = outs_from (λ t. []) cs
+
+  pub led : Led (λ t. []) outs (machine first.batched.kernel (λ g. None)) (carried cs) (decided cs) s
+  led = calls (λ t. []) first (λ g. None) are_none in_step cs s done.serves
+
+  pub as_log : IsAsLogged served map_of (moves_of led.moves) led.log outs (machine s.batched.kernel led.status)
+  as_log = as_logged served bytes_total bytes_exact (λ w. refl) map_of (machine first.batched.kernel (λ g. None))
+      (machine s.batched.kernel led.status)
+      led.moves led.log outs starts led.logs
+
+  abbrev fails : List ℕ
+  fails = failed_in (moves_of led.moves)
+
+  pub fails_are : fails ≡ failed cs
+  fails_are = sym (fails_of (moves_of led.moves)) ∙ ap failed_in led.decides_are
+
+  -- a batch is committed just where it was told as logged
+  pub commits_are : (n : ℕ) → Contains (moves_of led.moves) (Commit n) ↔ IsLogged cs n
+  commits_are n = (
+    λ there. logged_by cs n
+        (subst (λ es. Contains es (Commit n)) led.decides_are
+        (passes is_decision (moves_of led.moves) (Commit n) refl there)),
+    λ there. passed is_decision (moves_of led.moves) (Commit n)
+        (subst (λ es. Contains es (Commit n)) (sym led.decides_are) (logged_told cs n there)),
+  )
+
+  pub logged_is : (n : ℕ) → IsLogged cs n ↔ (led.status n ≡ Some status_as.Committed)
+  logged_is n = (
+    λ there. (as_log.committed n).0 ((commits_are n).1 there),
+    λ is. (commits_are n).0 ((as_log.committed n).1 is),
+  )
+
+  -- it has failed just where it was told as refused
+  pub failed_is : (n : ℕ) → (has n (failed cs) ≡ true) ↔ (led.status n ≡ Some status_as.Failed)
+  failed_is n = subst (λ gs. (has n gs ≡ true) ↔ (led.status n ≡ Some status_as.Failed)) fails_are (as_log.failed n)
+
+  -- the entries that stand are the commands that stand, and batches that began
+  left_are : filter runs_work (map (λ (r : Command). r.entry) (kept fails led.log)) ≡ entries (stands cs)
+  left_are =
+      sym (part_is_kept Entry (ℕ × Answer) runs_work fails led.log)
+      ∙ (λ i. map (λ (r : Command). r.entry) (kept (fails_are i) (led.commands_are i)))
+
+  pub map_plain : (key : List ℕ) → has_now s.batched.kernel key ≡ held (entries_after (entries (stands cs)) start) key
+  map_plain key =
+      (calls_plain map_of start _ (machine s.batched.kernel led.status) led.moves outs holds starts led.calls).0 key
+      ∙ ap (λ ns. held (entries_after ns start) key) as_log.entries
+      ∙ ap (λ e. held e key) (sym (runs_after (map (λ (r : Command). r.entry) (kept fails led.log)) start))
+      ∙ ap (λ ns. held (entries_after ns start) key) left_are
+
+  pub answers_plain : (t : ℕ) → said_by t (stands cs) ≡ replies_to t (entries (stands cs)) start
+  answers_plain t =
+      let at = as_log.channels t in
+      let plain = (calls_plain map_of start _
+      (machine s.batched.kernel led.status) led.moves outs holds starts led.calls).1 t in
+      (λ i. said_by t (kept (sym fails_are i) (sym led.commands_are i)))
+      ∙ said_all t fails led.log led.quiet
+      ∙ ap (map (λ (x : Tagged (ℕ × (ℕ × Answer))). x.0)) at.split
+      ∙ map-append (λ (x : Tagged (ℕ × (ℕ × Answer))). x.0) at.out at.waiting
+      ∙ (λ i. sym at.gone i ++ (sym (firsts (numbers s.batched.kernel.parts.opens) at.waiting)
+      ∙ ap (map (λ (x : Tagged (ℕ × (ℕ × Answer))). x.0)) (sym at.texts)) i)
+      ∙ plain
+      ∙ ap (λ ns. replies_to t ns start) as_log.entries
+      ∙ sym (runs_reply t (map (λ (r : Command). r.entry) (kept fails led.log)) start)
+      ∙ ap (λ ns. replies_to t ns start) left_are
+
+pub map_is_plain : MapIsPlain
+map_is_plain limits next start cs s done key = map_plain limits next start cs s done key
+
+pub answers_are_plain : AnswersArePlain
+answers_are_plain limits next start cs s done t = answers_plain limits next start cs s done t

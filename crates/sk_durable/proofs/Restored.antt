@@ -1,0 +1,294 @@
+-- A new store that has carried out work which is in the log already is a new one with what the work leaves.
+use Rattle.std.proofs.Common.{◌≡◌, ℕ, Bool, true, false, cond, List, [], ◌∷◌, ◌++◌, Option, Some, None, Result, Ok, Err, is_some, inl, inr, refl, sym, ap, ◌∙◌, subst}
+use Rattle.std.specs.Prelude.{◌==◌}
+use Rattle.std.specs.List.{filter}
+use Rattle.std.proofs.lemmas.Bool.{eq-eqb, eqb-true, false≢true, true≢false, true_from_ne_false}
+use Rattle.sk_record.specs.Effects.{is_in, MarkedEffect, written_value, writes}
+use Rattle.sk_record.specs.Machine.{released}
+use Rattle.sk_record.specs.Release.{said_by}
+use Rattle.sk_record.specs.Merged.{MergedTakes, Merges}
+use Rattle.sk_record.specs.Notes.{has, noted}
+use Rattle.sk_record.specs.Run.{marked_effect}
+use Rattle.sk_record.specs.Step.{Effect}
+use Rattle.sk_record.specs.UndoState.{is_tag, numbers, step_tags}
+use Rattle.sk_record.specs.declared.status.Status.{Status}
+use Rattle.sk_record.proofs.Merged.{none_left}
+use Rattle.sk_guesses.specs.Kept.{AreStatuses, KeptView}
+use Rattle.sk_deeds.specs.Deed.{again, effect_of, Deed}
+use Rattle.sk_deeds.proofs.Runs.{performs}
+use Rattle.sk_slots.specs.Slots.{look_at, log_at}
+use Rattle.sk_outputs.specs.Said.{said_at, Said}
+use Rattle.sk_index.specs.Index.{bytes_cmp}
+use Rattle.sk_speculator.specs.Calls.{Takes}
+use Rattle.sk_speculator.specs.Parts.{machine_of, undo_state_of, IsSame, Parts}
+use Rattle.sk_batched.specs.Batched.{IsStill}
+use Rattle.sk_batched.proofs.Same.{all_same}
+use Rattle.sk_commands.specs.declared.work.Answer.{Answer}
+use Rattle.sk_commands.specs.declared.work.Work.{Work}
+use Rattle.sk_commands.specs.Table.{is_among, Have, Written}
+use Rattle.sk_commands.specs.Work.{after, comes_to, wants_all, with_value}
+use Rattle.sk_plain_store.specs.Plain.{held, keys_of, Entries}
+use Rattle.sk_plain_store.proofs.Kept.{bytes_same, holds_written, stays_in_order}
+use Rattle.sk_served.specs.Known.{KnowsAll}
+use Rattle.sk_served.specs.Names.{names_reserved}
+use Rattle.sk_served.specs.Plain.{after_work}
+use Rattle.sk_served.proofs.Free.{free_after, work_free}
+use Rattle.sk_served.proofs.Known.{alone_work, more_known, store_knows}
+use Rattle.sk_durable.specs.declared.limits.Limits.{Limits}
+use Rattle.sk_durable.specs.declared.refusal.NotDone.{NotDone}
+use Rattle.sk_durable.specs.declared.store.Next.{Next}
+use Rattle.sk_durable.specs.declared.works.Asker.{Asker}
+use Rattle.sk_durable.specs.Works as works
+use Rattle.sk_durable.specs.Works.{asked_by, deed_now, has_now, Batches, IsNotRestored, Kernel, KnowsIfTold, LacksNone, LetsOut, Restores}
+use Rattle.sk_durable.specs.Posts.{RestorePost}
+use Rattle.sk_durable.specs.Store.{IsNew, StoreView}
+
+abbrev Told : Type 0
+Told = ℕ × Answer
+
+abbrev State : Type 0
+State = Parts (List ℕ) (List ℕ) Told
+
+abbrev Done : Type 0
+Done = Deed (List ℕ) (List ℕ) Told
+
+-- ---- what is said of channels
+
+nothing : {A P : Type 0} (x : A) (xs : List A) → x ∷ xs ≡ [] → P
+nothing x xs is = cc
+
+rest_of : {A : Type 0} (x y : A) (xs ys : List A) → x ∷ xs ≡ y ∷ ys → xs ≡ ys
+rest_of x y xs ys is = cc
+
+-- where no channel has any there is none
+none_said : (xs : Said Told) → ((t : ℕ) → said_at xs t ≡ []) → xs ≡ []
+none_said [] none = refl
+none_said (x ∷ xs) none =
+    nothing x (said_at xs x.0.0)
+    (ap (λ b. cond b (x ∷ said_at xs x.0.0) (said_at xs x.0.0)) (sym (eq-eqb x.0.0 x.0.0 refl)) ∙ none x.0.0)
+
+-- ---- what is written
+
+written_is : (ws : Written) (has : Have) (key : List ℕ) → written_value bytes_cmp ws key (has key) ≡ after ws has key
+written_is [] has key = refl
+written_is (w ∷ ws) has key =
+    ap (λ b. written_value bytes_cmp ws key (cond b w.1 (has key))) (bytes_same key w.0)
+    ∙ written_is ws (with_value w.0 w.1 has) key
+
+-- ---- a step in a kernel in which no guess is undecided and nothing waits
+
+abbrev ok_or : {A B : Type 0} → A → Result A B → A
+ok_or d (Ok x) = x
+ok_or d (Err y) = d
+
+not_noted : (b : Bool) (v : Option (List ℕ)) → noted b [] v [] ≡ []
+not_noted true v = refl
+not_noted false v = refl
+
+-- no guess was drawn
+abbrev no_status : ℕ → Option Status
+no_status g = None
+
+abbrev Shown : Type 0
+Shown = Effect (List ℕ) (List ℕ) (ℕ × Told)
+
+module _ (a b : State) (d : Done) (w : ℕ × Told) (says : d.said ≡ Some w) (opens : a.opens ≡ []) (said : a.said ≡ [])
+    (log : (key : List ℕ) → log_at bytes_cmp a.slots key ≡ [])
+    (are : AreStatuses a.guesses a.opens no_status) (takes : Takes bytes_cmp a d None b) where
+  t : MergedTakes (again bytes_cmp) (machine_of bytes_cmp a no_status) (record { deed = d; guess = None })
+      (machine_of bytes_cmp b no_status)
+  t = takes.takes no_status are
+
+  did : effect_of (look_at bytes_cmp a.slots) d ≡ t.effect
+  did = ap (ok_or t.effect) (sym (performs (look_at bytes_cmp a.slots) d) ∙ t.accepted)
+
+  abbrev left : MarkedEffect (List ℕ) (List ℕ) (ℕ × Told)
+  left = marked_effect (again {V = List ℕ} {O = Told} bytes_cmp) None (Ok t.effect)
+
+  abbrev tags : List ℕ
+  tags = step_tags (undo_state_of bytes_cmp a) left
+
+  no_tags : tags ≡ []
+  no_tags = ap (λ os. filter (is_tag (undo_state_of bytes_cmp a) left) (numbers os ++ [])) opens
+
+  look_after : (key : List ℕ)
+      → look_at bytes_cmp b.slots key ≡ written_value bytes_cmp d.written key (look_at bytes_cmp a.slots key)
+  look_after key =
+      t.look key ∙ ap (λ (f : Shown). written_value bytes_cmp f.written key (look_at bytes_cmp a.slots key)) (sym did)
+
+  log_after : (key : List ℕ) → log_at bytes_cmp b.slots key ≡ []
+  log_after key =
+      let has = look_at bytes_cmp a.slots key in
+      let written = is_in bytes_cmp (writes left) key in
+      let none : log_at bytes_cmp a.slots key ++ noted written tags has [] ≡ [] =
+      (λ i. log key i ++ noted written (no_tags i) has []) ∙ not_noted written has in
+      let merges = subst (λ ns. Merges [] ns (log_at bytes_cmp b.slots key)) none (t.logs key) in
+      none_left [] (log_at bytes_cmp b.slots key) merges
+
+  opens_after : b.opens ≡ []
+  opens_after = t.opens ∙ ap (λ os. os ++ []) opens
+
+  -- only the answer is said
+  said_after : (u : ℕ) → said_at b.said u ≡ cond (w.0 == u) ((w, []) ∷ []) []
+  said_after u =
+      let by = λ (o : Option (ℕ × Told)). said_by (again {V = List ℕ} {O = Told} bytes_cmp) u o tags in
+      t.texts u
+      ∙ ap (λ (f : Shown). said_at a.said u ++ by f.said) (sym did)
+      ∙ ap (λ o. said_at a.said u ++ by o) says
+      ∙ (λ i. said_at (said i) u ++ cond (w.0 == u) ((w, no_tags i) ∷ []) [])
+
+  said_here : said_at b.said w.0 ≡ (w, []) ∷ []
+  said_here = said_after w.0 ∙ ap (λ e. cond e ((w, []) ∷ []) []) (eq-eqb w.0 w.0 refl)
+
+-- ---- the store
+
+module _ (limits : Limits) (next : Next) (start : Entries) (a : StoreView) (new : IsNew limits next start a) where
+  none_known : AreStatuses a.batched.kernel.parts.guesses a.batched.kernel.parts.opens no_status
+  none_known = record {
+    undecided = λ g. ap (λ os. has g (numbers os)) new.opens;
+    struck = λ g here. absurd (false≢true (sym (ap (λ (v : KeptView). has g v.struck) new.guesses.1) ∙ here));
+    fresh = λ g above. refl;
+  }
+
+  -- with what is seen as it was
+  still_new : (c : Batches) → IsSame bytes_cmp a.batched.kernel.parts c.kernel.parts → c.queue ≡ a.batched.queue
+      → c.begun ≡ a.batched.begun → IsNew limits next start (record a { batched = c })
+  still_new c same queue begun = record {
+    takes = new.takes;
+    look = λ key. same.look key ∙ new.look key;
+    in_order = new.in_order;
+    none_reserved = new.none_reserved;
+    log = λ key. same.logs key ∙ new.log key;
+    guesses = (new.guesses.0, same.guesses ∙ new.guesses.1);
+    opens = same.opens ∙ new.opens;
+    said = same.said ∙ new.said;
+    queue = queue ∙ new.queue;
+    begun = begun ∙ new.begun;
+    channels = new.channels;
+    places = new.places;
+  }
+
+  seen : (c : Kernel) → IsStill a.batched.kernel c → IsSame bytes_cmp a.batched.kernel.parts c.parts
+  seen c (inl is) =
+      let parts = a.batched.kernel.parts in
+      subst (λ (k : Kernel). IsSame bytes_cmp parts k.parts) (sym is) (all_same bytes_cmp parts)
+  seen c (inr still) = still.parts
+
+  -- nothing was there to be dropped
+  none_dropped : (b c : Batches) (channel : ℕ) (dropped : Option Told) → b.kernel.parts.said ≡ []
+      → LetsOut channel dropped b c → c ≡ b
+  none_dropped b c channel None none lets = lets.1
+  none_dropped b c channel (Some told) none lets =
+      let first = sym lets.0.first ∙ ap (λ xs. said_at xs channel) none in
+      nothing ((channel, told), []) (said_at c.kernel.parts.said channel) first
+
+  pub not_restored : (c : Batches) (why : NotDone) (asker : Asker) → IsNotRestored why asker a.batched c
+      → IsNew limits next start (record a { batched = c })
+  not_restored c why asker r =
+      let same = seen r.behind.kernel r.stays.kernel in
+      let none = none_dropped r.behind c asker.channel r.dropped (same.said ∙ new.said) r.lets in
+      subst (λ x. IsNew limits next start (record a { batched = x })) (sym none)
+      (still_new r.behind same r.stays.queue r.stays.begun)
+
+  -- ---- work is carried out
+
+  module _ (work : Work) (free : names_reserved work ≡ false) where
+    abbrev ws : Written
+    ws = (comes_to (keys_of start) work (held start)).written
+
+    same_have : has_now a.batched.kernel ≡ held start
+    same_have i key = new.look key i
+
+    knows_all : (known : List (List ℕ)) → LacksNone a.batched.kernel known → KnowsAll known (held start)
+    knows_all known lacks = (
+      lacks.0,
+      λ key named there.
+          true_from_ne_false (is_among key known)
+          (λ lacking. true≢false (sym there ∙ ap is_some (sym (new.look key) ∙ (lacks.1 key named lacking).0))),
+    )
+
+    -- it comes to what it comes to by these entries
+    comes_same : (known : List (List ℕ)) → KnowsIfTold a.batched.kernel work known
+        → comes_to known work (has_now a.batched.kernel) ≡ comes_to (keys_of start) work (held start)
+    comes_same known knows =
+        ap (comes_to known work) same_have
+        ∙ elim (wants_all work) as (λ b. wants_all work ≡ b
+        → comes_to known work (held start) ≡ comes_to (keys_of start) work (held start)) [
+          | true ↦ λ is.
+              let all = knows_all known (knows is) in
+              more_known work known (keys_of start) (held start) new.none_reserved all (store_knows start new.in_order)
+          | false ↦ λ is. alone_work work known (keys_of start) (held start) is
+        ] refl
+
+    module _ (asker : Asker) (known : List (List ℕ)) (knows : KnowsIfTold a.batched.kernel work known) (b : Batches)
+        (took : works.TakenIn false a.batched (asked_by asker known work) b) where
+      abbrev d : Done
+      d = deed_now a.batched.kernel (asked_by asker known work)
+
+      abbrev answer : ℕ × Told
+      answer = (asker.channel, (asker.ticket, (comes_to known work (has_now a.batched.kernel)).reply))
+
+      abbrev old : State
+      old = a.batched.kernel.parts
+
+      look_behind : (key : List ℕ) → has_now b.kernel key ≡ held (after_work work start) key
+      look_behind key =
+          look_after old b.kernel.parts d answer refl new.opens new.said new.log none_known took.0 key
+          ∙ written_is d.written (has_now a.batched.kernel) key
+          ∙ (λ i. after ((comes_same known knows i).written) (same_have i) key)
+          ∙ sym (holds_written ws start key)
+
+      said_behind : (u : ℕ) → said_at b.kernel.parts.said u ≡ cond (asker.channel == u) ((answer, []) ∷ []) []
+      said_behind u = said_after old b.kernel.parts d answer refl new.opens new.said new.log none_known took.0 u
+
+      said_there : said_at b.kernel.parts.said asker.channel ≡ (answer, []) ∷ []
+      said_there = said_here old b.kernel.parts d answer refl new.opens new.said new.log none_known took.0
+
+      module _ (c : Batches) (told : Told) (lets : LetsOut asker.channel (Some told) b c) where
+        none_left_of : (u : ℕ) → said_at c.kernel.parts.said u ≡ []
+        none_left_of u =
+            elim (asker.channel == u) as (λ e. (asker.channel == u) ≡ e → said_at c.kernel.parts.said u ≡ []) [
+              | true ↦ λ e.
+                  let left = said_at c.kernel.parts.said asker.channel in
+                  ap (said_at c.kernel.parts.said) (sym (eqb-true asker.channel u e))
+                  ∙ sym (rest_of (answer, []) ((asker.channel, told), []) [] left (sym said_there ∙ lets.0.first))
+              | false ↦ λ e. lets.0.others u e ∙ said_behind u ∙ ap (λ x. cond x ((answer, []) ∷ []) []) e
+            ] refl
+
+        let_go : IsNew limits next (after_work work start) (record a { batched = c })
+        let_go = record {
+          takes = new.takes;
+          look = λ key. ap (λ (m : State). look_at bytes_cmp m.slots key) lets.0.same ∙ look_behind key;
+          in_order = stays_in_order ws start new.in_order;
+          none_reserved = λ key reserved.
+              let free_ws = work_free work (keys_of start) (held start) free in
+              holds_written ws start key ∙ free_after ws (held start) free_ws new.none_reserved key reserved;
+          log = λ key.
+              ap (λ (m : State). log_at bytes_cmp m.slots key) lets.0.same
+              ∙ log_after old b.kernel.parts d answer refl new.opens new.said new.log none_known took.0 key;
+          guesses = (new.guesses.0, ap (λ (m : State). m.guesses) lets.0.same ∙ took.0.guesses ∙ new.guesses.1);
+          opens = ap (λ (m : State). m.opens) lets.0.same
+              ∙ opens_after old b.kernel.parts d answer refl new.opens new.said new.log none_known took.0;
+          said = none_said c.kernel.parts.said none_left_of;
+          queue = lets.1 ∙ took.1 ∙ new.queue;
+          begun = lets.2 ∙ took.2 ∙ new.begun;
+          channels = new.channels;
+          places = new.places;
+        }
+
+      -- the answer rests on nothing, so it was taken out
+      let_out : (c : Batches) (dropped : Option Told) → LetsOut asker.channel dropped b c
+          → IsNew limits next (after_work work start) (record a { batched = c })
+      let_out c None lets = nothing answer [] (ap released (sym said_there) ∙ lets.0)
+      let_out c (Some told) lets = let_go c told lets
+
+    pub restored : (c : Batches) (asker : Asker) → Restores asker work a.batched c
+        → IsNew limits next (after_work work start) (record a { batched = c })
+    restored c asker r = let_out asker r.takes.known r.takes.knows r.behind r.takes.taken c r.dropped r.lets
+
+-- what the call leaves
+module _ (a : StoreView) (c : Batches) (asker : Asker) (work : Work) (free : names_reserved work ≡ false) where
+  pub restores : (result : Result (Unit {0}) NotDone) → works.RestorePost asker work result a.batched c
+      → RestorePost work result a (record a { batched = c })
+  restores (Ok done) post = λ next start new. restored a.limits next start a new work free c asker post
+  restores (Err why) post = λ next start new. not_restored a.limits next start a new c why asker post

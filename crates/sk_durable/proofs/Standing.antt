@@ -1,0 +1,191 @@
+-- A command that is carried out rests on nothing that failed, and on guesses that were drawn alone.
+use Rattle.std.proofs.Common.{◌≡◌, ℕ, ◌<◌, ◌≤◌, Bool, true, false, not, List, [], ◌∷◌, ◌++◌, length, map, Option, Some, None, inl, inr, refl, sym, ◌∙◌, ap, subst, append_assoc, arith}
+use Rattle.std.specs.Prelude.{T}
+use Rattle.std.specs.List.{filter, fold, Contains}
+use Rattle.std.specs.FinMap.{FinMap, from_sorted, get-from_sorted}
+use Rattle.std.proofs.lemmas.Bool.{false≢true}
+use Rattle.std.proofs.lemmas.List.{append-nil, append_cancel_left, length-map, map-append}
+use Rattle.std.proofs.lemmas.List.Elements.{filter-append, Contains-append_right}
+use Rattle.std.proofs.lemmas.List.Sums.{fold-append}
+use Rattle.sk_record.specs.Notes.{has}
+use Rattle.sk_record.specs.Trace.{record_after, record_of, Commit, Event, Fail, Taken}
+use Rattle.sk_record.specs.declared.status.Status.{Status}
+use Rattle.sk_record.specs.declared.status.Status.TheVariants as status_as
+use Rattle.sk_deeds.specs.Moves.{Starts}
+use Rattle.sk_deeds.specs.Told.{moves_of, told_more, Does as DoesMove, Tells as TellsOut}
+use Rattle.sk_outputs.specs.Said.{said_at}
+use Rattle.sk_index.specs.Index.{bytes_cmp}
+use Rattle.sk_bytes.proofs.Told.{bytes_exact, bytes_total}
+use Rattle.sk_rests.specs.Laws.{IsAsLogged}
+use Rattle.sk_rests.specs.Logged.{failed_in, is_struck, kept, Logs}
+use Rattle.sk_rests.proofs.Ends.{as_logged}
+use Rattle.sk_plain_store.specs.Plain.{Entries}
+use Rattle.sk_served.specs.Calls.{Out}
+use Rattle.sk_served.specs.Served.{served, Entry}
+use Rattle.sk_durable.specs.declared.limits.Limits.{Limits}
+use Rattle.sk_durable.specs.declared.store.Next.{Next}
+use Rattle.sk_durable.specs.Store.{StoreView}
+use Rattle.sk_durable.specs.Calls.{Call, Does}
+use Rattle.sk_durable.specs.History.{carried, carried_by, decided, decided_by, failed, Command}
+use Rattle.sk_durable.specs.Laws.{HasDone}
+use Rattle.sk_durable.proofs.Contained.{from_filter, none_lost, to_filter}
+use Rattle.sk_durable.proofs.Machines.{is_decision, machine, runs_work, Led, Machine, Move}
+use Rattle.sk_durable.proofs.Plain.{as_log, fails_are, led, outs}
+use Rattle.sk_durable.proofs.Served.{call, outs_by}
+
+moves_both : (cs ds : List Move) → moves_of (cs ++ ds) ≡ moves_of cs ++ moves_of ds
+moves_both [] ds = refl
+moves_both (DoesMove e ∷ cs) ds = ap (λ es. e ∷ es) (moves_both cs ds)
+moves_both (TellsOut t output ∷ cs) ds = moves_both cs ds
+
+failed_both : (es fs : List (Event Entry)) → failed_in (es ++ fs) ≡ failed_in es ++ failed_in fs
+failed_both [] fs = refl
+failed_both (Taken n ∷ es) fs = failed_both es fs
+failed_both (Commit g ∷ es) fs = failed_both es fs
+failed_both (Fail g ∷ es) fs = ap (λ gs. g ∷ gs) (failed_both es fs)
+
+none_failed : (es : List (Event Entry)) → filter is_decision es ≡ [] → failed_in es ≡ []
+none_failed [] none = refl
+none_failed (Taken n ∷ es) none = none_failed es none
+none_failed (Commit g ∷ es) none = cc
+none_failed (Fail g ∷ es) none = cc
+
+-- what is logged of calls behind others
+logs_both : (cs ds : List Move) (told mid last : Out) (x y z : Machine) (one two : List Command)
+    → Logs served told x cs one mid y → Logs served mid y ds two last z
+    → Logs served told x (cs ++ ds) (one ++ two) last z
+logs_both [] ds told mid last x y z one two (none, same, is) rest =
+    subst (λ l. Logs served told x ds (l ++ two) last z) (sym none)
+    (subst (λ w. Logs served w x ds two last z) (sym same) (subst (λ m. Logs served mid m ds two last z) (sym is) rest))
+logs_both (DoesMove e ∷ cs) ds told mid last x y z one two (m, first, more, is, goes, logged, behind) rest = (
+  m,
+  first,
+  more ++ two,
+  ap (λ l. l ++ two) is ∙ append_assoc first more two,
+  goes,
+  logged,
+  logs_both cs ds told mid last m y z more two behind rest,
+)
+logs_both (TellsOut t output ∷ cs) ds told mid last x y z one two (m, out, behind) rest =
+    (m, out, logs_both cs ds (told_more t output told) mid last m y z one two behind rest)
+
+-- steps alone are recorded as they are logged
+module _ (start : FinMap served.order (List ℕ)) where
+  recorded : (cs : List Move) (told : Out) (x : Machine) (log : List Command) (last : Out) (y : Machine)
+      (ns : List Entry)
+      → Logs served told x cs log last y → filter is_decision (moves_of cs) ≡ []
+      → fold (record_after served start) ns (moves_of cs) ≡ ns ++ map (λ r. r.entry) log
+  recorded [] told x log last y ns (none, same, is) quiet = sym (append-nil ns)
+      ∙ ap (λ (l : List Command). ns ++ map (λ r. r.entry) l) (sym none)
+  recorded (DoesMove (Taken n) ∷ cs) told x log last y ns (m, one, more, is, goes, (r, one_is, logged), behind) quiet =
+      recorded cs told m more last y (ns ++ n ∷ []) behind quiet
+      ∙ append_assoc ns (n ∷ []) (map (λ (c : Command). c.entry) more)
+      ∙ ap (λ e. ns ++ e ∷ map (λ (c : Command). c.entry) more) (sym logged.entry)
+      ∙ ap (λ (l : List Command). ns ++ map (λ c. c.entry) l) (sym (is ∙ ap (λ l. l ++ more) one_is))
+  recorded (DoesMove (Commit g) ∷ cs) told x log last y ns logs quiet = cc
+  recorded (DoesMove (Fail g) ∷ cs) told x log last y ns logs quiet = cc
+  recorded (TellsOut t output ∷ cs) told x log last y ns (m, out, behind) quiet = recorded cs
+      (told_more t output told) m log last y ns behind quiet
+
+some_none : {P : Type 0} (o : Option Status) (st : Status) → o ≡ Some st → o ≡ None → P
+some_none o st some none = cc
+
+not_back : (b : Bool) → not b ≡ true → b ≡ false
+not_back true e = absurd (false≢true e)
+not_back false e = refl
+
+module _ (limits : Limits) (next : Next) (start : Entries) (cs : List Call) (m : StoreView)
+    (done : HasDone limits next start cs m)
+    (c : Call) (s : StoreView) (does : Does m c s) (undecided : decided_by c ≡ []) where
+  abbrev first : StoreView
+  first = done.first
+
+  abbrev map_of : FinMap served.order (List ℕ)
+  map_of = from_sorted start
+
+  starts : Starts served map_of (machine first.batched.kernel (λ g. None))
+  starts = record {
+    look = λ k. done.new.look k ∙ sym (get-from_sorted bytes_cmp start k (subst T (sym done.new.in_order) tt));
+    logs = done.new.log;
+    opens = done.new.opens;
+    status = λ g. refl;
+    texts = λ t. ap (λ xs. said_at xs t) done.new.said;
+  }
+
+  abbrev told : Out
+  told = outs limits next start cs m done
+
+  abbrev one : Led (λ t. []) told (machine first.batched.kernel (λ g. None)) (carried cs) (decided cs) m
+  one = led limits next start cs m done
+
+  abbrev two : Led told (outs_by c told) (machine m.batched.kernel one.status) (carried_by c) (decided_by c) s
+  two = call told m one.status one.agrees one.known s c does
+
+  both_logged : Logs served (λ t. []) (machine first.batched.kernel (λ g. None)) (one.moves ++ two.moves)
+      (one.log ++ two.log) (outs_by c told)
+      (machine s.batched.kernel two.status)
+  both_logged = logs_both one.moves two.moves (λ t. []) told (outs_by c told)
+      (machine first.batched.kernel (λ g. None)) (machine m.batched.kernel one.status)
+      (machine s.batched.kernel two.status) one.log two.log one.logs two.logs
+
+  both_as : IsAsLogged served map_of (moves_of (one.moves ++ two.moves)) (one.log ++ two.log) (outs_by c told)
+      (machine s.batched.kernel two.status)
+  both_as = as_logged served bytes_total bytes_exact (λ w. refl) map_of (machine first.batched.kernel (λ g. None))
+      (machine s.batched.kernel two.status)
+      (one.moves ++ two.moves) (one.log ++ two.log) (outs_by c told) starts both_logged
+
+  abbrev fails : List ℕ
+  fails = failed_in (moves_of one.moves)
+
+  same_fails : failed_in (moves_of (one.moves ++ two.moves)) ≡ fails
+  same_fails =
+      ap failed_in (moves_both one.moves two.moves) ∙ failed_both (moves_of one.moves) (moves_of two.moves)
+      ∙ ap (λ gs. fails ++ gs) (none_failed (moves_of two.moves) (two.decides_are ∙ undecided)) ∙ append-nil fails
+
+  abbrev entry_of : List Command → List Entry
+  entry_of rs = map (λ r. r.entry) rs
+
+  -- what is recorded of the call is all that is logged of it
+  all_kept : entry_of two.log ≡ entry_of (kept fails two.log)
+  all_kept = append_cancel_left (entry_of (kept fails one.log)) (entry_of two.log) (entry_of (kept fails two.log))
+      (ap (λ ns. ns ++ entry_of two.log) (sym (as_log limits next start cs m done).entries)
+      ∙ sym (recorded map_of two.moves told (machine m.batched.kernel one.status) two.log (outs_by c told)
+      (machine s.batched.kernel two.status)
+      (record_of served map_of (moves_of one.moves)) two.logs (two.decides_are ∙ undecided))
+      ∙ sym (fold-append (record_after served map_of) [] (moves_of one.moves) (moves_of two.moves))
+      ∙ ap (record_of served map_of) (sym (moves_both one.moves two.moves))
+      ∙ both_as.entries
+      ∙ ap (λ gs. entry_of (kept gs (one.log ++ two.log))) same_fails
+      ∙ ap entry_of (filter-append (λ (r : Command). not (is_struck fails r)) one.log two.log)
+      ∙ map-append (λ (r : Command). r.entry) (kept fails one.log) (kept fails two.log))
+
+  stands : (r : Command) → Contains (carried_by c) r → Contains two.log r × (not (is_struck fails r) ≡ true)
+  stands r at =
+      let there = (from_filter (λ (q : Command). runs_work q.entry) two.log r
+      (subst (λ rs. Contains rs r) (sym two.commands_are) at)).0 in
+      let sizes : length (kept fails two.log) ≡ length two.log =
+      sym (length-map (kept fails two.log) (λ (q : Command). q.entry)) ∙ ap length (sym all_kept)
+      ∙ length-map two.log (λ (q : Command). q.entry) in
+      (there, none_lost (λ (q : Command). not (is_struck fails q)) two.log r sizes there)
+
+  -- no guess failed that it rests on
+  pub unstruck : (r : Command) → Contains (carried_by c) r → is_struck (failed cs) r ≡ false
+  unstruck r at = ap (λ gs. is_struck gs r) (sym (fails_are limits next start cs m done))
+      ∙ not_back (is_struck fails r) (stands r at).1
+
+  -- and each was drawn
+  pub drawn : (r : Command) → Contains (carried_by c) r → (g : ℕ) → has g r.rests ≡ true → g ≤ s.batched.queue.number
+  drawn r at g here =
+      let kept_there : Contains (kept (failed_in (moves_of (one.moves ++ two.moves))) (one.log ++ two.log)) r =
+      subst (λ gs. Contains (kept gs (one.log ++ two.log)) r) (sym same_fails)
+      (subst (λ rs. Contains rs r) (sym (filter-append (λ (q : Command). not (is_struck fails q)) one.log two.log))
+      (Contains-append_right (kept fails one.log) (kept fails two.log) r
+      (to_filter (λ (q : Command). not (is_struck fails q)) two.log r (stands r at).0 (stands r at).1))) in
+      let decided = both_as.decided r g kept_there here in
+      let within : s.batched.kernel.parts.guesses.drawn < g → ⊥ =
+      λ above. (let none = two.agrees.fresh g above in elim decided [
+        | inl undecided ↦ some_none (two.status g) status_as.Undecided undecided none
+        | inr committed ↦ some_none (two.status g) status_as.Committed committed none
+      ]) in
+      let number = two.known.1.number in
+      omega (arith, within, number)

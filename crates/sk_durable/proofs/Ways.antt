@@ -1,0 +1,109 @@
+-- Channels by number, and the pasts that they have.
+use Rattle.std.proofs.Common.{◌≡◌, ◌≢◌, ◌<◌, ℕ, [], append-nil, length, get_or-set_same, get_or-set_other, set, Option, Some, None, ⊎_elim, refl, sym, ◌∙◌, ap, subst}
+use Rattle.std.proofs.lemmas.Bool.{cases_eq, cases_lt}
+use Rattle.std.proofs.lemmas.List.{get_or_past, set-get_or}
+use Rattle.sk_requests.specs.declared.limits.Limits.{Limits as Requests}
+use Rattle.sk_channels.specs.declared.channel.Channel.{Channel}
+use Rattle.sk_channels.specs.declared.table.Channels.{Channels}
+use Rattle.sk_channels.specs.Serving.{HasServed}
+use Rattle.sk_channels.specs.Table as table
+use Rattle.sk_channels.specs.Table.{channel_at, channel_of, hung_up, place_at, released, with_channel, KeepsAll, KeepsOthers}
+use Rattle.sk_durable.specs.Store.{came, no_past, Becomes, Goes, HasPast, HavePasts, Past}
+
+-- ---- a channel becomes another
+
+-- a place with a channel
+place_is : (place : Option (Option Channel)) (channel : Channel) → channel_of place ≡ Some channel → place ≡ Some (Some channel)
+place_is None channel is = cc
+place_is (Some place) channel is = ap Some is
+
+module _ (old : Channels) (t : ℕ) (before : Channel) (there : channel_at old t ≡ Some before) where
+  within : t < length old.places.slots
+  within =
+      ⊎_elim (λ lt. lt)
+      (λ past. absurd (let none : channel_at old t ≡ None = ap channel_of (get_or_past old.places.slots t None past) in cc (there, none)))
+      (cases_lt t (length old.places.slots))
+
+  -- it is there
+  pub now_there : (after : Channel) → channel_at (with_channel old t after) t ≡ Some after
+  now_there after = ap channel_of (get_or-set_same old.places.slots t (Some (Some after)) None within)
+
+  -- nothing has changed where it is as it was
+  pub unchanged : with_channel old t before ≡ old
+  unchanged =
+      ap (λ slots. record old { places = record old.places { slots = slots } })
+      (ap (set old.places.slots t) (sym (place_is (place_at old t) before there)) ∙ set-get_or old.places.slots t None)
+
+  pub becomes : (after : Channel) → after.outlet.most ≡ before.outlet.most → Becomes t before after old (with_channel old t after)
+  becomes after most = record { there = there; left = refl; most = most }
+
+-- the others are as they were
+pub others_there : (old : Channels) (t : ℕ) (after : Channel) (u : ℕ) → u ≢ t → channel_at (with_channel old t after) u ≡ channel_at old u
+others_there old t after u apart = ap channel_of (get_or-set_other old.places.slots t u (Some (Some after)) None apart)
+
+none_hung_up : (place : Option (Option Channel)) → channel_of (hung_up place) ≡ None
+none_hung_up None = refl
+none_hung_up (Some place) = refl
+
+-- what is hung up is no more
+pub gone : (t : ℕ) (old new : Channels) → table.HangsUp t old new → channel_at new t ≡ None
+gone t old new (here, others) = ap channel_of here ∙ none_hung_up (place_at old t)
+
+same_released : (place : Option (Option Channel)) → channel_of (released place) ≡ channel_of place
+same_released None = refl
+same_released (Some None) = refl
+same_released (Some (Some channel)) = refl
+
+-- ---- pasts
+
+module _ (limits : Requests) where
+  -- the channels are the same
+  pub same_pasts : (old new : Channels) → ((u : ℕ) → channel_at new u ≡ channel_at old u) → HavePasts limits old → HavePasts limits new
+  same_pasts old new same have u channel at = have u channel (sym (same u) ∙ at)
+
+  pub kept_pasts : (old new : Channels) → KeepsAll old new → HavePasts limits old → HavePasts limits new
+  kept_pasts old new keeps = same_pasts old new (λ u. ap channel_of (keeps u))
+
+  -- one channel is another, and the others are as they were
+  module _ (old new : Channels) (t : ℕ) (have : HavePasts limits old) (others : (u : ℕ) → u ≢ t → channel_at new u ≡ channel_at old u) where
+    one_past : (after : Channel) → channel_at new t ≡ Some after → (p : Past) × HasPast limits p after → HavePasts limits new
+    one_past after here past u channel at =
+        ⊎_elim
+        (λ same. let is : channel ≡ after = (let there : channel_at new t ≡ Some channel = ap (channel_at new) (sym same) ∙ at in cc (there, here)) in
+        subst (λ c. (p : Past) × HasPast limits p c) (sym is) past)
+        (λ apart. have u channel (sym (others u apart) ∙ at)) (cases_eq u t)
+
+    no_channel : channel_at new t ≡ None → HavePasts limits new
+    no_channel here u channel at =
+        ⊎_elim
+        (λ same. absurd (let none : channel_at new u ≡ None = ap (channel_at new) same ∙ here in cc (none, at)))
+        (λ apart. have u channel (sym (others u apart) ∙ at)) (cases_eq u t)
+
+  -- it was lent, and has some past then
+  pub lent_pasts : (t : ℕ) (before after : Channel) (old : Channels) → HavePasts limits old → channel_at old t ≡ Some before → (p : Past) × HasPast limits p after → HavePasts limits (with_channel old t after)
+  lent_pasts t before after old have there past =
+      one_past old (with_channel old t after) t have (others_there old t after) after (now_there old t before there after) past
+
+  -- a channel has another past then
+  pub past_goes : (t : ℕ) (before after : Channel) (old new : Channels) (change : Past → Past) → HavePasts limits old → Becomes t before after old new → Goes change before after → HavePasts limits new
+  past_goes t before after old new change have is goes =
+      let was : (p : Past) × HasPast limits p before = have t before is.there in
+      subst (HavePasts limits) (sym is.left) (lent_pasts t before after old have is.there (change was.0, goes limits was.0 was.1))
+
+  pub connected_past : (channel : Channel) (t : ℕ) (old new : Channels) → HasPast limits no_past channel → place_at new t ≡ Some (Some channel) → KeepsOthers t old new → HavePasts limits old → HavePasts limits new
+  connected_past channel t old new has here others have =
+      one_past old new t have (λ u apart. ap channel_of (others u apart)) channel (ap channel_of here) (no_past, has)
+
+  pub hung_up_past : (t : ℕ) (old new : Channels) → table.HangsUp t old new → HavePasts limits old → HavePasts limits new
+  hung_up_past t old new (here, others) have =
+      no_channel old new t have (λ u apart. ap channel_of (others u apart)) (ap channel_of here ∙ none_hung_up (place_at old t))
+
+  pub released_past : (t : ℕ) (old new : Channels) → table.Releases t old new → HavePasts limits old → HavePasts limits new
+  released_past t old new (here, others) have =
+      same_pasts old new
+      (λ u. ⊎_elim (λ same. subst (λ n. channel_at new n ≡ channel_at old n) (sym same) (ap channel_of here ∙ same_released (place_at old t))) (λ apart. ap channel_of (others u apart)) (cases_eq u t))
+      have
+
+-- no byte came
+pub nothing_came : (before after : Channel) → ((limits : Requests) (p : Past) → HasPast limits p before → HasPast limits p after) → Goes (came []) before after
+nothing_came before after still limits p has = subst (λ stream. HasServed limits p.asked stream p.told p.handed after) (sym (append-nil p.stream)) (still limits p has)

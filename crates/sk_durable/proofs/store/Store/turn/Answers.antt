@@ -1,0 +1,11 @@
+-- The places turn.
+use Rattle.std.proofs.Common.{subst}
+use Rattle.sk_durable.specs.contracts.store.Store.{the_view}
+use Rattle.sk_durable.specs.Posts.{TurnPost}
+use Rattle.sk_durable.proofs.Out.{turns}
+use Rattle.sk_durable.proofs.store.Store.turn.Goals as goal
+
+pub returns : goal.returns
+returns c =
+    subst (λ s. TurnPost c.turn.result s (the_view (record c.self.inside { places = c.turn.new.self }))) c.self.view_is
+    (turns c.turn.result (the_view c.self.inside) c.turn.new.self c.turn.ensures)

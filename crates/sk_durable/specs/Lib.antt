@@ -1,0 +1,9 @@
+pub mod Limits
+pub mod Refused
+pub mod Asked
+pub mod Works
+pub mod Store
+pub mod Calls
+pub mod Posts
+pub mod History
+pub mod Laws

@@ -1,0 +1,126 @@
+-- A store, as its callers see it; and what came on its channels.
+use Rattle.std.specs.Prelude.{◌≡◌, ◌+◌, ◌*◌, ℕ, Bool, true, false, nat_lt, List, [], ◌∷◌, ◌++◌, Option, Some, None}
+use Rattle.std.specs.FinMap.{is_sorted}
+use Rattle.std.specs.List.{slice_get}
+use Rattle.std.specs.Int.NonZero.{non_zero_u16_get}
+use Rattle.std.specs.Option.{option_map}
+use Rattle.sk_record.specs.UndoState.{tags_at}
+use Rattle.sk_guesses.specs.Kept.{none_drawn}
+use Rattle.sk_slots.specs.Slots.{log_at}
+use Rattle.sk_outputs.specs.Said.{said_at, first_of}
+use Rattle.sk_speculator.specs.Parts.{undo_state_of}
+use Rattle.sk_index.specs.Index.{bytes_cmp}
+use Rattle.sk_batches.specs.Calls.{new_queue}
+use Rattle.sk_batches.specs.Places.{places_at, PlacesView}
+use Rattle.sk_batched.specs.Batched.{capped}
+use Rattle.sk_plain_store.specs.Plain.{held, Entries}
+use Rattle.sk_served.specs.Known.{HasNoReserved}
+use Rattle.sk_requests.specs.declared.limits.Limits.{Limits as Requests}
+use Rattle.sk_channels.specs.declared.channel.Channel.{Channel}
+use Rattle.sk_channels.specs.declared.inlet.Ask.{Ask}
+use Rattle.sk_channels.specs.declared.table.Channels.{Channels}
+use Rattle.sk_channels.specs.Serving.{HasServed}
+use Rattle.sk_channels.specs.Table.{channel_at, place_at, with_channel}
+use Rattle.sk_channels.specs.Telling.{refused_up_to, Told}
+use Rattle.sk_commands.specs.declared.work.Answer.{Answer}
+use Rattle.sk_durable.specs.declared.limits.Limits.{Limits}
+use Rattle.sk_durable.specs.declared.store.Next.{Next}
+use Rattle.sk_durable.specs.Works.{has_now, Batches}
+
+-- what it takes, its kernel with the queue of batches, its channels, and where the next frame stands
+pub record StoreView : Type 0 where
+  pub limits : Limits
+  pub batched : Batches
+  pub channels : Channels
+  pub places : PlacesView
+
+-- the first answer of a channel, whether it waits or not
+abbrev pub first_answer : StoreView → ℕ → Option (ℕ × Answer)
+first_answer s t = first_of (said_at s.batched.kernel.parts.said t)
+
+-- the batch at a place among those that a key rests on
+abbrev pub rests_on_at : List ℕ → ℕ → StoreView → Option ℕ
+rests_on_at key place s = slice_get (tags_at (undo_state_of bytes_cmp s.batched.kernel.parts) key) place
+
+-- each key has just what these entries hold, and nothing else has happened
+pub record IsNew (limits : Limits) (next : Next) (start : Entries) (s : StoreView) : Type 0 where
+  pub takes : s.limits ≡ limits
+  pub look : (key : List ℕ) → has_now s.batched.kernel key ≡ held start key
+  pub in_order : is_sorted bytes_cmp start ≡ true
+  pub none_reserved : HasNoReserved (held start)
+  pub log : (key : List ℕ) → log_at bytes_cmp s.batched.kernel.parts.slots key ≡ []
+  pub guesses : (number : ℕ) × (s.batched.kernel.parts.guesses ≡ none_drawn number (2 * capped (non_zero_u16_get limits.in_flight) + 1))
+  pub opens : s.batched.kernel.parts.opens ≡ []
+  pub said : s.batched.kernel.parts.said ≡ []
+  pub queue : s.batched.queue ≡ new_queue (capped (non_zero_u16_get limits.in_flight)) limits.undecided next.frame
+  pub begun : s.batched.begun ≡ false
+  pub channels : (t : ℕ) → place_at s.channels t ≡ None
+  pub places : s.places ≡ places_at limits.segment next.segment next.offset
+
+-- ---- what came on a channel
+
+-- what was asked for, the bytes that came, what its tickets were told, and what of that was handed over
+pub record Past : Type 0 where
+  pub asked : List Ask
+  pub stream : List ℕ
+  pub told : Told
+  pub handed : List ℕ
+
+abbrev pub no_past : Past
+no_past = record { asked = []; stream = []; told = []; handed = [] }
+
+abbrev pub HasPast : Requests → Past → Channel → Type 0
+HasPast limits p channel = HasServed limits p.asked p.stream p.told p.handed channel
+
+-- each channel has some past
+abbrev pub HavePasts : Requests → Channels → Type 0
+HavePasts limits channels = (t : ℕ) (channel : Channel) → channel_at channels t ≡ Some channel → (p : Past) × HasPast limits p channel
+
+abbrev pub came : List ℕ → Past → Past
+came bytes p = record p { stream = p.stream ++ bytes }
+
+abbrev pub asked_for : List ℕ → Ask → Past → Past
+asked_for bytes ask p = record p { stream = p.stream ++ bytes; asked = p.asked ++ ask ∷ [] }
+
+-- a ticket is told a text, and those before it that were told nothing that nothing of what they asked for was done
+abbrev pub was_told : ℕ → List ℕ → Past → Past
+was_told ticket text p = record p { told = p.told ++ (refused_up_to p.told ticket ++ Some text ∷ []) }
+
+abbrev pub was_refused : ℕ → Past → Past
+was_refused ticket p = record p { told = p.told ++ refused_up_to p.told ticket }
+
+abbrev pub was_handed : List ℕ → Past → Past
+was_handed bytes p = record p { handed = p.handed ++ bytes }
+
+-- whatever its past was, a channel has this one then
+abbrev pub Goes : (Past → Past) → Channel → Channel → Type 0
+Goes change before after = (limits : Requests) (p : Past) → HasPast limits p before → HasPast limits (change p) after
+
+-- a channel is another one, and all others are as they were
+pub record Becomes (t : ℕ) (before after : Channel) (old new : Channels) : Type 0 where
+  pub there : channel_at old t ≡ Some before
+  pub left : new ≡ with_channel old t after
+  pub most : after.outlet.most ≡ before.outlet.most
+
+-- whether a fault was told on it
+abbrev pub is_closed : Option Channel → Bool
+is_closed None = false
+is_closed (Some channel) = channel.inlet.closed
+
+-- ---- tickets that are told that nothing was done
+
+-- the ticket of the first answer, or the next that is given
+abbrev pub bound : Channel → Option (ℕ × Answer) → ℕ
+bound channel None = channel.inlet.next
+bound channel (Some told) = told.0
+
+-- whether some ticket before it was told nothing
+abbrev pub has_refusals : Option Channel → Option (ℕ × Answer) → Bool
+has_refusals None first = false
+has_refusals (Some channel) first = nat_lt channel.outlet.next (bound channel first)
+
+abbrev pub HasRefusals : StoreView → ℕ → Bool → Type 0
+HasRefusals s t result = result ≡ has_refusals (channel_at s.channels t) (first_answer s t)
+
+abbrev pub HasFirstTicket : StoreView → ℕ → Option ℕ → Type 0
+HasFirstTicket s t result = result ≡ option_map (λ told. told.0) (first_answer s t)

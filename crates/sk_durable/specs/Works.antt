@@ -1,0 +1,174 @@
+-- Works that are carried out by what keys have at once, in the open batch where they may write.
+use Rattle.std.specs.Prelude.{◌≡◌, ◌⊎◌, ◌||◌, ℕ, Bool, true, false, nat_lt, List, [], ◌∷◌, ◌++◌, length, map, Option, Some, None, if◌then◌else◌, Result, Ok, Err}
+use Rattle.std.specs.List.{list_any}
+use Rattle.std.specs.List.Sorted.{IsStrictlySortedBy}
+use Rattle.std.specs.Option.{option_map, option_or}
+use Rattle.std.specs.Global.{Vec}
+use Rattle.sk_record.specs.Effects.{is_marked}
+use Rattle.sk_record.specs.Machine.{released}
+use Rattle.sk_record.specs.Notes.{has}
+use Rattle.sk_deeds.specs.Deed.{Deed}
+use Rattle.sk_slots.specs.Slots.{look_at, log_at}
+use Rattle.sk_outputs.specs.Said.{said_at}
+use Rattle.sk_index.specs.Index.{bytes_cmp}
+use Rattle.sk_speculator.specs.Calls.{Takes}
+use Rattle.sk_speculator.specs.Law.{TakesOut}
+use Rattle.sk_speculator.specs.WholeStep.{WholeStep}
+use Rattle.sk_bytes.specs.declared.bytes.TheConstants.{KEY_LIMIT}
+use Rattle.sk_bytes.specs.Steps.{byte_deed}
+use Rattle.sk_bytes.specs.Told.{ByteView}
+use Rattle.sk_batches.specs.Calls.{append_refused}
+use Rattle.sk_batched.specs.Batched.{is_full, is_touched, BatchedView, Begins, Logs, Stays}
+use Rattle.sk_reserved.specs.Keys.{is_reserved}
+use Rattle.sk_batched.specs.Refused.{refusal_of}
+use Rattle.sk_commands.specs.declared.work.Work.{Work}
+use Rattle.sk_commands.specs.declared.work.Answer.{Answer}
+use Rattle.sk_commands.specs.Requests.{log_text}
+use Rattle.sk_commands.specs.Table.{is_among, Have}
+use Rattle.sk_commands.specs.Work.{comes_to, may_write_some, wants_all}
+use Rattle.sk_served.specs.Served.{deed, Asked, Runs}
+use Rattle.sk_durable.specs.declared.refusal.NotDone.{NotDone}
+use Rattle.sk_durable.specs.declared.refusal.NotDone.TheVariants.{LongKey, TooMany, Memory}
+use Rattle.sk_durable.specs.declared.works.Asker.{Asker}
+use Rattle.sk_durable.specs.Refused.{step_refused}
+
+-- a kernel over byte strings whose outputs are tickets with answers, and the queue of its batches
+abbrev pub Kernel : Type 0
+Kernel = ByteView (List ℕ) (ℕ × Answer)
+
+abbrev pub Batches : Type 0
+Batches = BatchedView (List ℕ) (ℕ × Answer)
+
+abbrev pub WorkStep : Type 0
+WorkStep = WholeStep (Vec ℕ) (List ℕ) (ℕ × Answer)
+
+-- what keys have
+abbrev pub has_now : Kernel → Have
+has_now kernel = look_at bytes_cmp kernel.parts.slots
+
+-- ---- all keys, for work that is told of them
+
+-- with one key more, unless it is reserved
+abbrev pub KnowsMore : List ℕ → List (List ℕ) → List (List ℕ) → Type 0
+KnowsMore key old new = new ≡ (if is_reserved key then old else old ++ key ∷ [])
+
+-- The keys rise by their bytes, and each that is not among them is absent and rests on nothing, but for reserved ones.
+abbrev pub LacksNone : Kernel → List (List ℕ) → Type 0
+LacksNone kernel known = IsStrictlySortedBy bytes_cmp known
+    × ((key : List ℕ) → is_reserved key ≡ false → is_among key known ≡ false
+    → (has_now kernel key ≡ None) × (log_at bytes_cmp kernel.parts.slots key ≡ []))
+
+abbrev pub KnowsIfTold : Kernel → Work → List (List ℕ) → Type 0
+KnowsIfTold kernel work known = wants_all work ≡ true → LacksNone kernel known
+
+-- ---- work is handed in
+
+-- what was asked for, before a batch logs it
+abbrev pub asked_by : Asker → List (List ℕ) → Work → Asked
+asked_by asker known work = record { channel = asker.channel; ticket = asker.ticket; known = known; batch = None; work = work }
+
+-- what it does now
+abbrev pub deed_now : Kernel → Asked → Deed (List ℕ) (List ℕ) (ℕ × Answer)
+deed_now kernel asked = deed (Runs asked) (has_now kernel)
+
+-- the step is what the work does now
+pub record IsHanded (kernel : Kernel) (asker : Asker) (work : Work) (step : WorkStep) : Type 0 where
+  pub known : List (List ℕ)
+  pub knows : KnowsIfTold kernel work known
+  pub does : byte_deed step ≡ deed_now kernel (asked_by asker known work)
+
+-- ---- work is carried out
+
+-- the keys that it looks at or writes
+abbrev pub touched : Deed (List ℕ) (List ℕ) (ℕ × Answer) → List (List ℕ)
+touched d = d.looked ++ map (λ w. w.0) d.written
+
+-- whether one of them is longer than may be, or reserved, which none is that work names
+abbrev pub names_wrong : Deed (List ℕ) (List ℕ) (ℕ × Answer) → Bool
+names_wrong d = list_any (λ k. nat_lt KEY_LIMIT (length k) || is_reserved k) (touched d)
+
+-- the first cause against logging it, whatever memory there is, or none
+abbrev pub log_against : Batches → Asked → Option NotDone
+log_against b asked = option_or
+    (option_map (λ why. step_refused (refusal_of why)) (append_refused b.queue (length (log_text asked.work))))
+    (if is_full b then Some TooMany else None)
+
+-- the first cause against it, or none
+abbrev pub against : Batches → Asked → Option NotDone
+against b asked =
+    if names_wrong (deed_now b.kernel asked) then Some LongKey
+    else if may_write_some asked.work then log_against b asked
+    else None
+
+-- in the open batch, or in none
+abbrev pub TakenIn : Bool → Batches → Asked → Batches → Type 0
+TakenIn true b asked c = (is_full b ≡ false) × Logs b (deed_now b.kernel asked) (log_text asked.work) c
+TakenIn false b asked c =
+    Takes bytes_cmp b.kernel.parts (deed_now b.kernel asked) None c.kernel.parts × (c.queue ≡ b.queue) × (c.begun ≡ b.begun)
+
+-- it is carried out by what keys have: in the open batch where it may write
+pub record CarriesOut (b : Batches) (asked : Asked) (c : Batches) : Type 0 where
+  pub knows : KnowsIfTold b.kernel asked.work asked.known
+  pub plain : list_any is_reserved (touched (deed_now b.kernel asked)) ≡ false
+  pub taken : TakenIn (may_write_some asked.work) b asked c
+
+-- nothing has changed, or just the guess of the open batch is drawn
+abbrev pub MayDraw : Batches → Batches → Type 0
+MayDraw b c = Stays b c ⊎ ((is_full b ≡ false) × Begins b c)
+
+-- nothing of it is done
+abbrev pub IsNotDone : NotDone → Batches → Asker → Work → Batches → Type 0
+IsNotDone Memory b asker work c = MayDraw b c
+IsNotDone why b asker work c =
+    (known : List (List ℕ)) × KnowsIfTold b.kernel work known × (against b (asked_by asker known work) ≡ Some why) × Stays b c
+
+abbrev pub CarryPost : Asker → Work → Result (Unit {0}) NotDone → Batches → Batches → Type 0
+CarryPost asker work (Ok _) b c =
+    (known : List (List ℕ)) × (against b (asked_by asker known work) ≡ None) × CarriesOut b (asked_by asker known work) c
+CarryPost asker work (Err why) b c = IsNotDone why b asker work c
+
+-- ---- what is told of it
+
+-- the batch that logs it, if one does
+abbrev pub batch_for : Batches → Work → Option ℕ
+batch_for b work = if may_write_some work then Some b.queue.number else None
+
+-- its answer, and the guesses that it rests on: those of what it looks at or writes, and its batch's
+pub record IsTold (b : Batches) (asked : Asked) (answer : Answer) (rests : List ℕ) : Type 0 where
+  pub batch : asked.batch ≡ batch_for b asked.work
+  pub answer_is : answer ≡ (comes_to asked.known asked.work (has_now b.kernel)).reply
+  pub rests_are : (g : ℕ) → has g rests
+      ≡ (is_touched b.kernel.parts (deed_now b.kernel (record asked { batch = None })) g || is_marked asked.batch g)
+
+-- ---- answers are taken out
+
+-- the first answer of a channel, where it rests on nothing
+abbrev pub LetsOut : ℕ → Option (ℕ × Answer) → Batches → Batches → Type 0
+LetsOut t None b c = (released (said_at b.kernel.parts.said t) ≡ []) × (c ≡ b)
+LetsOut t (Some told) b c = TakesOut b.kernel.parts t told c.kernel.parts × (c.queue ≡ b.queue) × (c.begun ≡ b.begun)
+
+-- ---- work that is in the log already
+
+-- it is carried out in no batch
+pub record TakesAlone (asker : Asker) (work : Work) (b c : Batches) : Type 0 where
+  pub known : List (List ℕ)
+  pub knows : KnowsIfTold b.kernel work known
+  pub taken : TakenIn false b (asked_by asker known work) c
+
+-- and its answer is dropped where it may go out
+pub record Restores (asker : Asker) (work : Work) (b c : Batches) : Type 0 where
+  pub behind : Batches
+  pub takes : TakesAlone asker work b behind
+  pub dropped : Option (ℕ × Answer)
+  pub lets : LetsOut asker.channel dropped behind c
+
+-- nothing of it is done, and an answer may be dropped that was there
+pub record IsNotRestored (why : NotDone) (asker : Asker) (b c : Batches) : Type 0 where
+  pub behind : Batches
+  pub stays : Stays b behind
+  pub dropped : Option (ℕ × Answer)
+  pub lets : LetsOut asker.channel dropped behind c
+
+abbrev pub RestorePost : Asker → Work → Result (Unit {0}) NotDone → Batches → Batches → Type 0
+RestorePost asker work (Ok _) b c = Restores asker work b c
+RestorePost asker work (Err why) b c = IsNotRestored why asker b c

@@ -1,0 +1,12 @@
+pub mod Joins
+pub mod Writing
+pub mod Untold
+pub mod Scanned
+pub mod Tried
+pub mod Done
+pub mod Said
+pub mod Once
+pub mod Refused
+pub mod Disks
+pub mod Places
+pub mod Lives

@@ -1,0 +1,4 @@
+pub mod Taken
+pub mod Counted
+pub mod Joined
+pub mod Crashed

@@ -1,0 +1,13 @@
+-- What is known is known still, and less is kept after each frame.
+use Rattle.std.proofs.Common.{ℕ, List, length}
+use Rattle.sk_plain_store.specs.Plain.{Entries}
+use Rattle.sk_recovered.specs.declared.heads.Head.{Head}
+use Rattle.sk_recovered.specs.Recovered.{IsWithin}
+use Rattle.sk_recovered.proofs.segment.Segment.run.Given as goal
+
+abbrev pub invariant-loop : goal.invariant-loop
+invariant-loop l = (start : Entries) (first : ℕ) (heads : List Head) (bytes : List (List ℕ)) (came : List ℕ)
+    → IsWithin start first heads bytes came l.initial.self → IsWithin start first heads bytes came l.self
+
+abbrev pub decreases-loop : goal.decreases-loop
+decreases-loop l = length l.self.log.unread

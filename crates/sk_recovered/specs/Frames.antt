@@ -1,0 +1,35 @@
+-- Frames that are carried out, one after another.
+use Rattle.std.specs.Prelude.{◌≡◌, ◌+◌, ℕ, Bool, true, false, List, [], ◌∷◌, ◌++◌, length, Option, Some, None}
+use Rattle.sk_commands.specs.declared.work.Work.{Work}
+use Rattle.sk_plain_store.specs.Plain.{Entries}
+use Rattle.sk_replay.specs.Snapshot.{after_works}
+use Rattle.sk_replay.specs.Frames.{SayAll}
+use Rattle.sk_replay.specs.Works.{log_limits, IsRefused}
+use Rattle.sk_replay.specs.declared.refusal.Refusal.TheVariants.{Memory}
+use Rattle.sk_recovered.specs.declared.frames.Damage.{Damage}
+use Rattle.sk_recovered.specs.declared.frames.Frames.{Frames}
+
+-- Behind so many frames nothing is left; or a frame that says no works is next, and its number is told.
+abbrev pub IsLeft : ℕ → Option Damage → List (List ℕ) → Type 0
+IsLeft number None left = left ≡ []
+IsLeft number (Some damage) left = (payload : List ℕ) × (more : List (List ℕ)) × (left ≡ payload ∷ more)
+    × IsRefused log_limits payload damage.why × (damage.why ≡ Memory → ⊥) × (damage.place.number ≡ number)
+
+-- Of the payloads, the first of which has this number, the first say works that made this store from what it was at the start; and this is
+-- why the others were left.
+pub record IsMade (first : ℕ) (start : Entries) (payloads : List (List ℕ)) (store : Entries) (damage : Option Damage) : Type 0 where
+  pub taken : List (List ℕ)
+  pub left : List (List ℕ)
+  pub all : payloads ≡ taken ++ left
+  pub works : List Work
+  pub say : SayAll taken works
+  pub store_is : store ≡ after_works works start
+  pub left_is : IsLeft (first + length taken) damage left
+
+abbrev pub HasTaken : ℕ → Entries → List (List ℕ) → Frames → Type 0
+HasTaken first start payloads frames = IsMade first start payloads frames.store frames.damage
+
+-- one payload more, where it counts
+abbrev pub with_one : Bool → List (List ℕ) → List ℕ → List (List ℕ)
+with_one false payloads payload = payloads
+with_one true payloads payload = payloads ++ payload ∷ []

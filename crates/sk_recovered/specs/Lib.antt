@@ -1,0 +1,5 @@
+pub mod Segments
+pub mod Frames
+pub mod Recovered
+pub mod Laws
+pub mod Crash

@@ -1,0 +1,135 @@
+//! A segment of a log, which is read in pieces of any size.
+ghost use Rattle.std.specs.Prelude.{◌≡◌, ◌&&◌, ◌++◌, ◌∷◌, ℕ, List, [], length, if◌then◌else◌, IfOk, OnOk};
+ghost use Rattle.sk_log.specs.Frame.{Ends};
+ghost use Rattle.sk_plain_store.specs.Plain.{Entries};
+ghost use Rattle.sk_recovered.specs.declared.heads.Head.{Head};
+ghost use Rattle.sk_recovered.specs.Segments.{is_below};
+ghost use Rattle.sk_recovered.specs.Recovered.{HasRecovered, IsWithin, StepPost};
+
+use crate::frames::Place;
+use crate::heads::Head;
+use crate::recovered::Recovered;
+use sk_log::{End, PieceRefusal, Recovery, Rest};
+use std::alloc::AllocError;
+
+/// A segment that is being read, and all before it.
+#[derive(Drop)]
+pub struct Segment {
+    pub(crate) recovered: Recovered,
+    pub(crate) log: Recovery,
+    pub(crate) head: Head,
+    /// The least number from which a later segment goes on.
+    pub(crate) bound: Option<u64>,
+    /// Whether its first frame is the next.
+    pub(crate) counts: bool,
+}
+
+/// Whether a frame of this number is one that no later segment goes on from, nor from one before it.
+fn is_below(bound: Option<u64>, number: u64) -> bool
+    ensures { result ≡ is_below bound number }
+{
+    match bound {
+        None => true,
+        Some(bound) => number < bound,
+    }
+}
+
+/// How many bytes these are.
+pub(crate) fn len_of(rest: Rest) -> u64 {
+    match rest {
+        Rest::Zeros => 0,
+        Rest::Torn(len) | Rest::Damaged(len) => len,
+    }
+}
+
+/// The first where it is so, else the second.
+fn choose(so: bool, first: u64, second: u64) -> u64
+    ensures { result ≡ (if so then first else second) }
+{
+    if so { first } else { second }
+}
+
+impl Segment {
+    /// Takes the next piece of the segment, and carries out the frames that came whole and count. After a refusal recovery begins
+    /// anew: it has changed nothing on the disk.
+    pub fn feed(mut self, piece: &[u8]) -> Result<Segment, PieceRefusal>
+        ensures { IfOk result (λ now. (start : Entries) (first : ℕ) (heads : List Head)
+            (bytes : List (List ℕ)) (came : List ℕ)
+            → IsWithin start first heads bytes came self
+            → IsWithin start first heads bytes (came ++ piece.now) now) }
+    {
+        self.log.feed(piece)?;
+        self.run()?;
+        Ok(self)
+    }
+
+    /// All bytes of the segment came.
+    pub fn close(mut self) -> Result<Recovered, AllocError>
+        ensures { IfOk result (λ now. (start : Entries) (first : ℕ) (heads : List Head)
+            (bytes : List (List ℕ)) (came : List ℕ)
+            → IsWithin start first heads bytes came self
+            → HasRecovered start first heads (bytes ++ came ∷ []) now) }
+    {
+        self.run()?;
+        let end = self.log.end(self.recovered.in_flight);
+        let dropped = self.dropped(end);
+        let ends = self.counts && is_below(self.bound, end.number);
+        let mut recovered = self.recovered;
+        recovered.dropped = recovered.dropped.saturating_add(dropped);
+        recovered.segment = choose(ends, self.head.segment, recovered.segment);
+        recovered.offset = choose(ends, end.place, recovered.offset);
+        Ok(recovered)
+    }
+
+    /// How many bytes count for nothing, but for those that were cut off.
+    fn dropped(&self, end: End) -> u64 {
+        if self.counts {
+            if is_below(self.bound, end.number) {
+                return len_of(end.rest);
+            }
+            return 0;
+        }
+        if is_below(self.bound, self.head.first) {
+            return end.place.saturating_add(len_of(end.rest));
+        }
+        0
+    }
+
+    /// Carries out the frames that came whole and count.
+    fn run(&mut self) -> Result<(), AllocError>
+        ensures ok { OnOk result ((start : Entries) (first : ℕ) (heads : List Head)
+            (bytes : List (List ℕ)) (came : List ℕ)
+            → IsWithin start first heads bytes came self.old
+            → IsWithin start first heads bytes came self.new) }
+        ensures all { OnOk result (Ends self.new.log.segment self.new.log.number self.new.log.unread) }
+    {
+        while self.step()? {}
+        Ok(())
+    }
+
+    /// Whether the next frame counts.
+    fn takes(&self) -> bool
+        ensures { result ≡ (self.now.counts && is_below self.now.bound self.now.log.number) }
+    {
+        self.counts && is_below(self.bound, self.log.number())
+    }
+
+    /// Goes past the next frame, if all of it came, and carries it out, if it counts.
+    fn step(&mut self) -> Result<bool, AllocError>
+        ensures { StepPost self.old result self.new }
+    {
+        let counts = self.takes();
+        let place = Place {
+            segment: self.head.segment,
+            offset: self.log.place(),
+            number: self.log.number(),
+        };
+        let Some(payload) = self.log.payload() else {
+            return Ok(false);
+        };
+        self.recovered.frames.take_if(counts, place, payload)?;
+        self.log.pass();
+        self.recovered.next = choose(counts, self.log.number(), self.recovered.next);
+        Ok(true)
+    }
+}

@@ -1,0 +1,55 @@
+-- Entries that a new store gets, one after another.
+use Rattle.std.proofs.Common.{◌≡◌, ◌||◌, ℕ, Bool, true, false, List, [], ◌∷◌, map, drop, take, refl, sym, ap, subst, ◌∙◌}
+use Rattle.std.proofs.lemmas.List.{drop-take}
+use Rattle.std.specs.List.{list_any}
+use Rattle.sk_plain_store.specs.Plain.{keys_of, Entries}
+use Rattle.sk_replay.specs.Snapshot.{after_work, after_works, set_of}
+use Rattle.sk_served.specs.Names.{names_reserved}
+use Rattle.sk_reserved.specs.Keys.{is_reserved}
+use Rattle.sk_durable.specs.declared.limits.Limits.{Limits}
+use Rattle.sk_durable.specs.declared.store.Next.{Next}
+use Rattle.sk_durable.specs.Store.{IsNew, StoreView}
+use Rattle.sk_reopened.specs.Reopened.{has_wrong, is_wrong}
+
+either_false : (a b : Bool) → (a || b) ≡ false → a ≡ false
+either_false false b h = refl
+either_false true b h = h
+
+no_more : (a : Bool) → (a || false) ≡ a
+no_more false = refl
+no_more true = refl
+
+-- the work that sets an entry names just its key
+pub names_key : (entry : List ℕ × List ℕ) → is_wrong entry.0 ≡ false → names_reserved (set_of entry) ≡ false
+names_key entry right = no_more (is_reserved entry.0) ∙ either_false (is_reserved entry.0) _ right
+
+-- A store that was new has some entries, and those that are left make of them what all make of the first.
+abbrev pub HasSome : Entries → Entries → StoreView → StoreView → Type 0
+HasSome all left a b = (next : Next) (start : Entries) → IsNew a.limits next start a
+    → (mid : Entries) × IsNew a.limits next mid b × (after_works (map set_of left) mid ≡ after_works (map set_of all) start)
+
+pub none_yet : (all : Entries) (a : StoreView) → HasSome all all a a
+none_yet all a = λ next start is. (start, is, refl)
+
+-- one more
+pub one_more : (all left : Entries) (entry : List ℕ × List ℕ) (a b c : StoreView) → HasSome all (entry ∷ left) a b
+    → ((next : Next) (start : Entries) → IsNew b.limits next start b → IsNew b.limits next (after_work (set_of entry) start) c)
+    → HasSome all left a c
+one_more all left entry a b c has sets = λ next start is.
+    let h = has next start is in
+    let mid = h.0 in
+    let same : b.limits ≡ a.limits = h.1.takes in
+    let at : IsNew b.limits next mid b = subst (λ (l : Limits). IsNew l next mid b) (sym same) h.1 in
+    let on : IsNew a.limits next (after_work (set_of entry) mid) c =
+    subst (λ (l : Limits). IsNew l next (after_work (set_of entry) mid) c) same (sets next mid at) in
+    (after_work (set_of entry) mid, on, h.2)
+
+pub all_set : (all : Entries) (a b : StoreView) → HasSome all [] a b
+    → (next : Next) (start : Entries) → IsNew a.limits next start a → IsNew a.limits next (after_works (map set_of all) start) b
+all_set all a b has next start is =
+    let h = has next start is in
+    subst (λ (es : Entries). IsNew a.limits next es b) h.2 h.1
+
+-- behind the first bytes of a room stands none of them
+pub front_has_none : (room : List ℕ) → drop 24 (take 24 room) ≡ []
+front_has_none room = drop-take 24 0 room

@@ -6,12 +6,13 @@
 
 A call is a public function of a library whose result can be want of memory: an `AllocError`, or an error or an answer that has it
 among its cases, at any depth. Each has a row, which names what grows past 70,000 through it: rows of `.ci/growths`, tests of the
-crates of tests, scenarios of `.ci/long-runs` and runs of `.ci/own-runs`, each by its name in backquotes, or the word `none` and the
+crates of tests, scenarios of `.ci/long-runs` and runs of `.ci/own-runs` and `.ci/store-runs`, each by its name in backquotes, or the word `none` and the
 reason. The last line is 'N passed, M failed', a row each.
 """
 import re
 import sys
 sys.dont_write_bytecode = True
+from kit import listed
 from sources import ROOT, crates
 
 PAGE = "docs/GROWTHS.md"
@@ -33,18 +34,19 @@ def without_comments(path):
     return re.sub(r"//[^\n]*", "", path.read_text())
 
 
-def wanted_in(crate, found, own):
-    """The names of the types that can be want of memory, as a crate sees them: a name that it has itself is its own."""
-    return {name for where, name in found if where == crate or name not in own[crate]}
+def wanted_in(crate, found, own, named):
+    """The names of the types that can be want of memory, as a crate sees them: those of the crates that it names, and its own."""
+    return {name for where, name in found if where == crate or where in named[crate] and name not in own[crate]}
 
 
 def wants_memory(texts):
     """The types that can be want of memory, each with its crate."""
     bodies = [(crate, *it.groups()) for crate in texts for text in texts[crate] for it in TYPE.finditer(text)]
     own = {crate: {name for where, name, _ in bodies if where == crate} for crate in texts}
+    named = {crate: {"", *listed(crate)} for crate in texts}
     found = {("", "AllocError"), ("", "AllocFailed")}
     while True:
-        words = {crate: words_of(wanted_in(crate, found, own)) for crate in texts}
+        words = {crate: words_of(wanted_in(crate, found, own, named)) for crate in texts}
         more = {(crate, name) for crate, name, body in bodies if name not in KEPT and (re.search(r"^\s*Memory\b", body, re.M) or words[crate].search(body))}
         if more <= found:
             return words
@@ -78,7 +80,7 @@ def known_rows():
     """The names that a row may name: tests, and runs of scripts."""
     tests = (without_comments(path) for crate in crates() if crate.endswith("_tests") for path in files_of(crate))
     names = {name for text in tests for name in re.findall(r"#\[test\]\nfn (\w+)", text)}
-    for script in (".ci/growths", ".ci/long-runs", ".ci/own-runs"):
+    for script in (".ci/growths", ".ci/long-runs", ".ci/own-runs", ".ci/store-runs"):
         names |= set(re.findall(r"^def (\w+)", (ROOT / script).read_text(), re.M))
     return names
 

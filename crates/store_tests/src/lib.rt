@@ -1,5 +1,6 @@
 //! Tests of a store's requests and commands over their public calls: a client of a plain store, whose bytes come cut at every place,
-//! and what each command replies.
+//! what each command replies,
+//! and what a store has again of the segments of a log.
 #![tactic(auto)]
 
 #[cfg(test)]
@@ -12,6 +13,8 @@ mod commands;
 mod plain;
 #[cfg(test)]
 mod queues;
+#[cfg(test)]
+mod recovered;
 #[cfg(test)]
 mod replay;
 #[cfg(test)]

@@ -3,7 +3,7 @@ use crate::words::are_keys;
 use crate::wrong::{Wrong, holds};
 use sk_commands::{Fault as CommandFault, Look};
 use sk_plain_store::PlainStore;
-use sk_replay::{Refusal, Snapshot, works_of};
+use sk_replay::{Refusal, Snapshot, set_work, works_of};
 use sk_requests::Fault;
 use std::alloc::Global;
 
@@ -69,11 +69,16 @@ fn other_payloads_are_refused(rt: HostRuntime) -> Result<(), Wrong> {
     Ok(())
 }
 
-/// What a store has is written in pieces with so much room, and carried out on an empty store.
-fn restore(alloc: Global, store: &PlainStore, room: usize) -> Result<PlainStore, Wrong> {
+/// What a store of so many keys has is written in pieces with so much room, and carried out on an empty store.
+fn restore(
+    alloc: Global,
+    store: PlainStore,
+    keys: usize,
+    room: usize,
+) -> Result<PlainStore, Wrong> {
     let mut restored = PlainStore::new(alloc);
-    let mut snapshot = Snapshot::new(store.entries());
-    for _ in store.entries() {
+    let mut snapshot = Snapshot::new(store)?;
+    for _ in 0..keys {
         let payload = snapshot.piece(alloc, room)?;
         carry_out(alloc, &mut restored, payload.as_slice())?;
     }
@@ -84,12 +89,31 @@ fn restore(alloc: Global, store: &PlainStore, room: usize) -> Result<PlainStore,
 #[test]
 fn snapshots_have_it_all(rt: HostRuntime) -> Result<(), Wrong> {
     let alloc = rt.alloc();
-    let mut store = PlainStore::new(alloc);
-    carry_out(alloc, &mut store, PAYLOAD)?;
     for room in [0, 30, 60, 1000] {
-        let restored = restore(alloc, &store, room)?;
+        let mut store = PlainStore::new(alloc);
+        carry_out(alloc, &mut store, PAYLOAD)?;
+        let restored = restore(alloc, store, 2, room)?;
         are_keys(alloc, restored.keys()?.as_slice(), b"a b")?;
         has(&restored, b"b", b"xy")?;
     }
     Ok(())
+}
+
+/// Works that set the entries of a store are carried out on an empty one.
+fn set_again(alloc: Global, store: PlainStore) -> Result<PlainStore, Wrong> {
+    let mut again = PlainStore::new(alloc);
+    for (key, value) in store.into_entries()? {
+        again.run(set_work(key, value))?;
+    }
+    Ok(again)
+}
+
+#[test]
+fn entries_set_again_make_the_store(rt: HostRuntime) -> Result<(), Wrong> {
+    let alloc = rt.alloc();
+    let mut store = PlainStore::new(alloc);
+    carry_out(alloc, &mut store, PAYLOAD)?;
+    let again = set_again(alloc, store)?;
+    are_keys(alloc, again.keys()?.as_slice(), b"a b")?;
+    has(&again, b"a", b"5")
 }

@@ -43,6 +43,24 @@ impl From<sk_replay::Refusal> for Wrong {
     }
 }
 
+impl From<sk_log::FrameRefusal> for Wrong {
+    fn from(refusal: sk_log::FrameRefusal) -> Wrong {
+        match refusal {
+            sk_log::FrameRefusal::Memory => Wrong::Memory,
+            sk_log::FrameRefusal::TooLong => Wrong::Payload,
+        }
+    }
+}
+
+impl From<sk_log::PieceRefusal> for Wrong {
+    fn from(refusal: sk_log::PieceRefusal) -> Wrong {
+        match refusal {
+            sk_log::PieceRefusal::Memory => Wrong::Memory,
+            sk_log::PieceRefusal::TooLong => Wrong::Payload,
+        }
+    }
+}
+
 /// What should hold holds.
 pub fn holds(is: bool, wrong: Wrong) -> Result<(), Wrong> {
     if is { Ok(()) } else { Err(wrong) }

@@ -1,0 +1,97 @@
+//! Random runs of a store over a disk that fails and crashes, each held against a plain store after each call.
+#![tactic(auto)]
+
+mod chance;
+mod disk;
+mod frames;
+mod host;
+mod model;
+mod played;
+mod recovery;
+mod requests;
+mod script;
+mod wrong;
+
+use crate::host::Host;
+use crate::script::Script;
+use crate::wrong::Wrong;
+use sk_durable::Limits;
+use std::alloc::Global;
+use std::env;
+use std::io::Write;
+use std::num::NonZeroU16;
+
+/// How many bytes a segment has, and how many may be undecided.
+const SEGMENT: usize = 700;
+
+const UNDECIDED: u32 = 400;
+
+/// How many answers may wait.
+const COMMANDS: u32 = 60;
+
+/// How many things happen in a run, where it is not said.
+const TURNS: u32 = 120;
+
+fn limits(in_flight: NonZeroU16) -> Limits {
+    Limits {
+        requests: sk_requests::Limits {
+            words: 100,
+            bytes: 1000,
+            line: 100,
+        },
+        waiting: 100_000,
+        in_flight,
+        undecided: UNDECIDED,
+        commands: COMMANDS,
+        segment: SEGMENT as u64,
+    }
+}
+
+/// A run, and its script where that is wanted.
+fn run(alloc: Global, number: u64, turns: u32, wanted: bool) -> Result<Host, Wrong> {
+    let Some(in_flight) = NonZeroU16::new(4) else {
+        return Err(Wrong::Refused("a limit"));
+    };
+    let mut host = Host::new(
+        alloc,
+        limits(in_flight),
+        SEGMENT,
+        number,
+        Script::new(alloc, wanted),
+    )?;
+    for _ in 0..turns {
+        host.turn()?;
+    }
+    Ok(host)
+}
+
+/// The number that a word says, or another where there is no word.
+fn number(word: Option<&String>, other: u64) -> anyhow::Result<u64> {
+    match word {
+        Some(word) => Ok(word.parse::<u64>()?),
+        None => Ok(other),
+    }
+}
+
+/// `store_runs COUNT [FIRST [TURNS [script]]]`: so many runs from the first on, of so many things that happen; or the calls and answers
+/// of each.
+fn main(rt: HostRuntime) -> anyhow::Result<()> {
+    let words = env::args(&rt)?.collect::<Vec<String>>(rt.alloc())?;
+    let count = number(words.get(1), 0)?;
+    let first = number(words.get(2), 0)?;
+    let turns = u32::try_from(number(words.get(3), u64::from(TURNS))?)?;
+    let wanted = words.get(4).is_some();
+    for turn in first..first.saturating_add(count) {
+        match run(rt.alloc(), turn, turns, wanted) {
+            Ok(mut host) => rt.stdout().write_all(host.script())?,
+            Err(wrong) => {
+                println!(rt; "run {turn}: {wrong}")?;
+                return Err(wrong.into());
+            }
+        }
+    }
+    if !wanted {
+        println!(rt; "{count} runs")?;
+    }
+    Ok(())
+}

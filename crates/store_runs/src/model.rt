@@ -1,0 +1,329 @@
+//! What a store has to be, by a plain store and the list of the commands that came.
+
+use crate::wrong::{Wrong, holds};
+use sk_commands::{Answer, Look, Work, Writes};
+use sk_plain_store::PlainStore;
+use sk_replay::works_of;
+use std::alloc::Global;
+
+/// The first key; the others follow it.
+pub(crate) const FIRST_KEY: u8 = b'a';
+
+/// How many keys there are.
+pub(crate) const KEYS: u8 = 6;
+
+/// What a ticket is told of which nothing was done.
+const REFUSED: &[u8] = b"-IOERR the write did not reach the disk, nothing of it was done\r\n";
+
+/// A command that was carried out.
+#[derive(Drop)]
+struct Command {
+    /// Its channel, by the order in which channels were connected.
+    link: usize,
+    ticket: u64,
+    /// Its work, as a log has it; nothing where it is just a reply.
+    text: Vec<u8>,
+    answer: Vec<u8>,
+    /// The keys that it wrote.
+    wrote: u8,
+    /// The batches that it rested on.
+    rests: u64,
+    logged: bool,
+}
+
+/// What a store has to be.
+#[derive(Drop)]
+pub(crate) struct Model {
+    alloc: Global,
+    /// What it began with, as works of a log.
+    start: Vec<u8>,
+    commands: Vec<Command>,
+    /// A plain store behind those that stand.
+    plain: PlainStore,
+    /// The number of the open batch.
+    batch: u64,
+    committed: u64,
+    failed: u64,
+    /// Those that were cut off, and are not told as decided.
+    cut_off: u64,
+}
+
+/// The bit of a batch: a run has few of them.
+fn bit_of(batch: u64) -> u64 {
+    1u64 << (batch % 64)
+}
+
+/// The bit of a key; of all where it is none of the few.
+fn key_bit(key: &[u8]) -> u8 {
+    match key.first() {
+        Some(first) if *first >= FIRST_KEY && *first - FIRST_KEY < KEYS => 1u8
+            << (*first - FIRST_KEY),
+        _ => 0,
+    }
+}
+
+/// The keys of a list.
+fn keys_of(keys: &[Vec<u8>]) -> u8 {
+    let mut bits = 0u8;
+    for key in keys {
+        bits |= key_bit(key.as_slice());
+    }
+    bits
+}
+
+/// The keys that are written.
+fn written_keys(writes: &Writes) -> u8 {
+    let mut bits = 0u8;
+    for write in writes {
+        bits |= key_bit(write.0.as_slice());
+    }
+    bits
+}
+
+/// Carries out works of a log in a plain store, and answers what the last says.
+fn run_text(alloc: Global, plain: &mut PlainStore, text: &[u8]) -> Result<Vec<u8>, Wrong> {
+    let mut said = Vec::new(alloc);
+    let works = match works_of(alloc, text) {
+        Ok(works) => works,
+        Err(_) => return Err(Wrong::Answer),
+    };
+    for work in works {
+        said = plain.run(work)?.text(alloc)?;
+    }
+    Ok(said)
+}
+
+impl Model {
+    /// Nothing is there.
+    pub(crate) fn new(alloc: Global) -> Model {
+        Model {
+            alloc,
+            start: Vec::new(alloc),
+            commands: Vec::new(alloc),
+            plain: PlainStore::new(alloc),
+            batch: 1,
+            committed: 0,
+            failed: 0,
+            cut_off: 0,
+        }
+    }
+
+    /// A plain store as it was at the start.
+    fn at_start(&self) -> Result<PlainStore, Wrong> {
+        let mut plain = PlainStore::new(self.alloc);
+        run_text(self.alloc, &mut plain, self.start.as_slice())?;
+        Ok(plain)
+    }
+
+    /// The undecided batches that some keys rest on.
+    fn rests_of(&self, keys: u8) -> u64 {
+        let mut rests = 0u64;
+        let mut left = keys;
+        for command in self.commands.iter().rev() {
+            if command.rests & self.failed == 0 && command.wrote & left != 0 {
+                rests |= command.rests;
+                left &= !command.wrote;
+            }
+        }
+        rests & !self.committed
+    }
+
+    /// The keys that work looks at.
+    fn looked(&self, work: &Work, known: &[Vec<u8>]) -> Result<u8, Wrong> {
+        let mut looked = Vec::new(self.alloc);
+        work.asks(self.alloc, known, &mut looked)?;
+        Ok(if work.is_told_of_all() {
+            u8::MAX
+        } else {
+            keys_of(looked.as_slice())
+        })
+    }
+
+    /// Work of a ticket of a channel is carried out.
+    pub(crate) fn carry(&mut self, link: usize, ticket: u64, work: Work) -> Result<(), Wrong> {
+        let known = self.plain.keys()?;
+        let text = work.log_text(self.alloc)?;
+        let logged = work.may_write();
+        let looked = self.looked(&work, known.as_slice())?;
+        let mut writes = Vec::new(self.alloc);
+        let answer: Answer = work.run(self.alloc, &self.plain, known.as_slice(), &mut writes)?;
+        let answer = answer.text(self.alloc)?;
+        if !text.is_empty() {
+            let again = run_text(self.alloc, &mut self.plain, text.as_slice())?;
+            holds(again == answer, Wrong::Answer)?;
+        }
+        let wrote = written_keys(&writes);
+        let own = if logged { bit_of(self.batch) } else { 0 };
+        let rests = self.rests_of(looked | wrote) | own;
+        self.commands.push(Command {
+            link,
+            ticket,
+            text,
+            answer,
+            wrote,
+            rests,
+            logged,
+        })?;
+        Ok(())
+    }
+
+    /// A frame was taken: the next batch is open.
+    pub(crate) fn seal(&mut self) {
+        self.batch = self.batch.saturating_add(1);
+    }
+
+    /// How many batches there were.
+    pub(crate) fn batches(&self) -> u64 {
+        self.batch
+    }
+
+    /// Whether a batch was cut off that is not told as decided.
+    pub(crate) fn is_due(&self) -> bool {
+        self.cut_off != 0
+    }
+
+    /// These batches are cut off.
+    pub(crate) fn cut(&mut self, first: u64, last: u64) {
+        for batch in first..last.saturating_add(1) {
+            self.cut_off |= bit_of(batch);
+        }
+    }
+
+    /// A batch was told as logged.
+    pub(crate) fn commit(&mut self, batch: u64) -> Result<(), Wrong> {
+        holds(
+            (self.failed | self.cut_off | self.committed) & bit_of(batch) == 0,
+            Wrong::Decided,
+        )?;
+        self.committed |= bit_of(batch);
+        Ok(())
+    }
+
+    /// A batch was told as refused: what rested on it never was, and the others have just what they had and said.
+    pub(crate) fn fail(&mut self, batch: u64) -> Result<(), Wrong> {
+        holds(self.cut_off & bit_of(batch) != 0, Wrong::Decided)?;
+        self.cut_off &= !bit_of(batch);
+        self.failed |= bit_of(batch);
+        let mut plain = self.at_start()?;
+        for command in &self.commands {
+            if command.rests & self.failed == 0 && !command.text.is_empty() {
+                let again = run_text(self.alloc, &mut plain, command.text.as_slice())?;
+                holds(again == command.answer, Wrong::Answer)?;
+            }
+        }
+        self.plain = plain;
+        Ok(())
+    }
+
+    /// How many commands stand.
+    pub(crate) fn standing(&self) -> usize {
+        let mut count = 0usize;
+        for command in &self.commands {
+            if command.rests & self.failed == 0 {
+                count = count.saturating_add(1);
+            }
+        }
+        count
+    }
+
+    /// What a key has.
+    pub(crate) fn value(&self, key: &[u8]) -> Option<&[u8]> {
+        match self.plain.value(key) {
+            Some(value) => Some(value.as_slice()),
+            None => None,
+        }
+    }
+
+    /// What a ticket of a channel is told by now: `None` where its command waits.
+    fn told(&self, link: usize, ticket: u64) -> Option<&[u8]> {
+        for command in &self.commands {
+            if command.link == link
+                && command.ticket == ticket
+                && command.rests & self.failed == 0
+            {
+                return if command.rests & !self.committed == 0 {
+                    Some(command.answer.as_slice())
+                } else {
+                    None
+                };
+            }
+        }
+        Some(REFUSED)
+    }
+
+    /// All that a channel which has given so many tickets has to be told by now.
+    pub(crate) fn due(&self, link: usize, given: u64) -> Result<Vec<u8>, Wrong> {
+        let mut due = Vec::new(self.alloc);
+        for before in 0..given {
+            match self.told(link, before.saturating_add(1)) {
+                Some(text) => due.extend_from_slice(text)?,
+                None => break,
+            }
+        }
+        Ok(due)
+    }
+
+    /// Whether a plain store is what another has.
+    fn is_same(&self, plain: &PlainStore, read: &PlainStore) -> Result<bool, Wrong> {
+        let keys = plain.keys()?;
+        if keys != read.keys()? {
+            return Ok(false);
+        }
+        for key in &keys {
+            let (one, other) = (plain.value(key.as_slice()), read.value(key.as_slice()));
+            let same = match (one, other) {
+                (Some(one), Some(other)) => one.as_slice() == other.as_slice(),
+                _ => false,
+            };
+            if !same {
+                return Ok(false);
+            }
+        }
+        Ok(true)
+    }
+
+    /// What was read after a crash is a plain store after the first of the logged commands, with all that was told as logged. It goes
+    /// on from there.
+    pub(crate) fn recover(&mut self, read: &PlainStore) -> Result<(), Wrong> {
+        let gone = self.failed | self.cut_off;
+        let mut plain = self.at_start()?;
+        let mut start = Vec::from_slice(self.alloc, self.start.as_slice())?;
+        let mut found = false;
+        if self.is_settled(0) && self.is_same(&plain, read)? {
+            found = true;
+        }
+        for (place, command) in self.commands.iter().enumerate() {
+            if found || command.rests & gone != 0 || !command.logged {
+                continue;
+            }
+            run_text(self.alloc, &mut plain, command.text.as_slice())?;
+            start.extend_from_slice(command.text.as_slice())?;
+            if self.is_settled(place.saturating_add(1)) && self.is_same(&plain, read)? {
+                found = true;
+            }
+        }
+        holds(found, Wrong::Recovered)?;
+        let alloc = self.alloc;
+        *self = Model {
+            alloc,
+            start,
+            commands: Vec::new(alloc),
+            plain,
+            batch: 1,
+            committed: 0,
+            failed: 0,
+            cut_off: 0,
+        };
+        Ok(())
+    }
+
+    /// Whether no command from a place on is logged in a batch that was told so.
+    fn is_settled(&self, from: usize) -> bool {
+        for (place, command) in self.commands.iter().enumerate() {
+            if place >= from && command.logged && command.rests & !self.committed == 0 {
+                return false;
+            }
+        }
+        true
+    }
+}

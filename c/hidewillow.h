@@ -32,7 +32,7 @@ enum hidewillow_answer {
     /* of a line of a kernel */
     HIDEWILLOW_STEPPED = 0,        /* the step is taken; also of a world's `turn` */
     HIDEWILLOW_GUESSED = 1,        /* taken on a guess, `number`; also of a world's `turn` */
-    HIDEWILLOW_DONE = 2,           /* the guess is decided */
+    HIDEWILLOW_DONE = 2,           /* the guess is decided; of a store's calls it is done */
     HIDEWILLOW_GONE = 3,           /* another guess's failure had struck it; of a world's `reply`
                                       `number` is the guess */
     HIDEWILLOW_NO_TOKEN = 4,       /* the guess was never drawn, or is decided */
@@ -247,6 +247,180 @@ static inline hidewillow_told hidewillow_own_step(hidewillow_own *own, const hid
         hidewillow_own_clear(own);
     return told;
 }
+
+/* ---- A store of byte strings whose replies wait for exactly what they rest on. Commands come as bytes on
+ * channels, in the protocol that its clients speak, and are carried out at once, in memory, under the guess
+ * that the batch which logs them reaches the disk. A reply goes out once all that it rests on is there. No
+ * call reads or writes a file or a socket: the host moves bytes, writes frames where it is told, and says
+ * what the disk said.
+ *
+ * A log is segments of the host, each of as many bytes as the limits say, of zeros before it is used. A
+ * frame is synced once its own bytes are. What is refused tells its number, and nothing has changed but
+ * what is told of below: of a call 1 no channel, 2 a decision is due, 3 full, 4 no ticket, 5 stopped,
+ * 6 nothing waits, 7 busy, 8 no number, 9 short, 10 unknown, 11 no cut, 12 limits, 13 key, 14 order,
+ * 15 damaged; here the refusals end. Want of memory is MEMORY. Each call tells CLOSED where the handle
+ * holds nothing. The handles are used as the first one.
+ *
+ * A start: hidewillow_recovery_open, then _head of each segment by rising number, then _feed of each
+ * segment whole, in pieces, by rising number, then _end; then hidewillow_store_open, whose head is to be
+ * written and synced before any other call. So an empty disk begins too. */
+
+typedef struct { void *at; } hidewillow_recovery;
+typedef struct { void *at; } hidewillow_store;
+
+typedef struct {
+    uint64_t frames;   /* that count */
+    uint64_t commands; /* that they say, a queue as one */
+    uint64_t keys;     /* that are there */
+    uint64_t next;     /* the number of the frame that would follow */
+    uint64_t segment;  /* where the frames that count end: this segment, */
+    uint64_t place;    /* so many bytes from its front */
+    uint64_t dropped;  /* bytes behind that count for nothing, up to the last that is not 0 */
+} hidewillow_read_counted;
+
+/* Begins to read a log. Told: OPENED, MEMORY or HELD. */
+hidewillow_told hidewillow_recovery_open(hidewillow_recovery *recovery);
+
+/* The first 24 bytes of the next segment, or all there are. Segments come by rising number. Told: DONE;
+ * ABSENT where no whole head stands there: the segment counts for nothing; REFUSED 14 where the number
+ * does not rise, or a piece came already; MEMORY. */
+hidewillow_told hidewillow_recovery_head(hidewillow_recovery *recovery, uint64_t segment,
+                                         const uint8_t *bytes, size_t byte_count);
+
+/* The next piece of a segment, of any size. What came whole and counts is carried out. Told: DONE;
+ * REFUSED 14 where another segment comes first, or this one came already; MEMORY, and all begins anew
+ * with the heads: nothing on the disk has changed. */
+hidewillow_told hidewillow_recovery_feed(hidewillow_recovery *recovery, uint64_t segment,
+                                         const uint8_t *bytes, size_t byte_count);
+
+/* All came. Told: DONE; REFUSED 15 where a whole frame says no works, or more bytes were dropped than
+ * may have been in flight: the counts tell the place, and all begins anew; REFUSED 14 where this was told
+ * before; MEMORY, and all begins anew. */
+hidewillow_told hidewillow_recovery_end(hidewillow_recovery *recovery, uint64_t in_flight,
+                                        hidewillow_read_counted *counts);
+
+/* Ends what the handle holds, if anything, and frees its memory. */
+void hidewillow_recovery_close(hidewillow_recovery *recovery);
+
+typedef struct {
+    size_t words;       /* of a request, at most */
+    size_t bytes;       /* of all its words together */
+    size_t line;        /* of a line of it, at least 16 */
+    size_t waiting;     /* no more of a channel's replies is taken while more bytes than these wait */
+    uint64_t segment;   /* bytes of a segment, at least `undecided` and 48 */
+    uint32_t undecided; /* bytes that may be undecided, less than 2^28 - 24 */
+    uint32_t commands;  /* whose answers may wait */
+    uint16_t in_flight; /* frames that may be, at least 1; more than 63 are 63 */
+} hidewillow_store_limits;
+
+typedef struct {
+    uint64_t frame;   /* its number */
+    uint64_t segment; /* is to be written here, */
+    uint64_t offset;  /* so many bytes from the front, */
+    size_t len;       /* so many bytes */
+} hidewillow_frame_place;
+
+typedef struct {
+    uint64_t frame; /* that failed */
+    uint64_t first; /* its first batch, and its last */
+    uint64_t last;
+} hidewillow_cut_off;
+
+typedef struct {
+    size_t undecided;    /* bytes */
+    uint64_t in_flight;  /* frames */
+    size_t open_batches; /* that are undecided and have a guess */
+    size_t next_frame;   /* how many bytes the next frame has: as long a room is wanted */
+} hidewillow_store_counted;
+
+/* Opens a store with what was read. The log goes on behind the
+ * last segment whose head was told of; the first 24 bytes of the room are the head of the next one, which
+ * is to be written and synced before anything else is done. Who doesn't know the seed can't choose keys
+ * that are found slowly. Told: OPENED, and the recovery holds nothing; REFUSED 14 before the end, 12 where
+ * the limits are not those of a store, 8 where no number is left for a segment or a frame, 9 where the
+ * room is shorter than 24 bytes, 13 where a key was read that no store has; MEMORY, and the room may have
+ * the head; CLOSED where the recovery holds nothing; HELD. But for OPENED nothing else has changed. */
+hidewillow_told hidewillow_store_open(hidewillow_store *store, hidewillow_recovery *recovery,
+                                      const hidewillow_store_limits *limits, uint64_t seed,
+                                      uint8_t *room, size_t room_bytes,
+                                      hidewillow_frame_place *place);
+
+/* A channel more. Told: DONE, with its number; REFUSED 3; MEMORY. */
+hidewillow_told hidewillow_store_connect(hidewillow_store *store);
+
+/* A channel is gone: its replies are dropped, its writes stand. Its number is given again once no answer
+ * of it is left. Told: DONE. */
+hidewillow_told hidewillow_store_hang_up(hidewillow_store *store, uint16_t channel);
+
+/* Takes bytes that came on a channel, up to the end of a request, which is carried out, or all. Told:
+ * DONE, with how many `bytes` were taken; `number` is what became of the request that they end: 0 it is
+ * not whole yet or asks for nothing, 1 it was carried out, or an error is its answer; nothing of it was
+ * done, which its client is told in its turn, since 2 a key is too long, 3 the store stopped, 4 too many
+ * bytes would be undecided, 5 too many batches are, 6 there was no memory. REFUSED 2 where `decide` is to
+ * be called first, 3 where as many bytes are undecided or answers wait as may, 1, or 4; MEMORY: no byte was taken. */
+hidewillow_told hidewillow_store_feed(hidewillow_store *store, uint16_t channel, const uint8_t *bytes,
+                                      size_t byte_count);
+
+/* Tells whether a fault was told on a channel: what comes is dropped, and it is to be hung up once its
+ * output is taken. Told: DONE with 1, or 0. */
+hidewillow_told hidewillow_store_is_closed(hidewillow_store *store, uint16_t channel);
+
+/* Moves bytes that may go out on a channel into the room, in the order of what it asked for. To be called
+ * until it moves none. Told: DONE, with how many `bytes`; REFUSED 1; MEMORY where none was moved for want
+ * of it: nothing is lost. */
+hidewillow_told hidewillow_store_output(hidewillow_store *store, uint16_t channel, uint8_t *room,
+                                        size_t room_bytes);
+
+/* Tells a channel that there is output for: the same until that is taken. Told: DONE with its number, or
+ * ABSENT. */
+hidewillow_told hidewillow_store_next_ready(hidewillow_store *store);
+
+/* Takes the next frame into the room, and tells where it is to be written. Told: DONE; REFUSED 5, 6, 7, 8
+ * or 9, or 3 where it has no room in its segment (turn then); MEMORY. */
+hidewillow_told hidewillow_store_take_frame(hidewillow_store *store, uint8_t *room, size_t room_bytes,
+                                            hidewillow_frame_place *place);
+
+/* The log goes on at the front of the next segment. Told: DONE or REFUSED 8. */
+hidewillow_told hidewillow_store_turn(hidewillow_store *store);
+
+/* What the disk says of a frame, in any order. Told: DONE; REFUSED 5 or 10. */
+hidewillow_told hidewillow_store_synced(hidewillow_store *store, uint64_t frame);
+hidewillow_told hidewillow_store_failed(hidewillow_store *store, uint64_t frame);
+
+/* Tells the cut that is to be made, once a frame failed and all that were sent were told of. Told: DONE or
+ * ABSENT. */
+hidewillow_told hidewillow_store_cut_due(hidewillow_store *store, hidewillow_cut_off *cut);
+
+/* Writes the head that makes the cut into the first 24 bytes of the room, and tells where it is to be
+ * written: at the front of the next segment. Told: DONE; REFUSED 8, 9 or 11. */
+hidewillow_told hidewillow_store_cut_frame(hidewillow_store *store, uint8_t *room, size_t room_bytes,
+                                           hidewillow_frame_place *place);
+
+/* Says that this head is synced (1), or that it could not be written (0): then the store stops, and nothing
+ * is logged or decided any more. Told: DONE; REFUSED 5, 8 or 11. */
+hidewillow_told hidewillow_store_cut(hidewillow_store *store, uint32_t made);
+
+/* Decides the oldest batch, if it can be: what rests on it may go out, or is taken back. To be called until
+ * it tells ABSENT, after each word of the disk and each cut. It takes no memory. Told: COMMITTED with the
+ * batch, where it is logged; FAILED with the batch, where it was cut off, and `bytes` is how many keys were
+ * taken back; ABSENT. */
+hidewillow_told hidewillow_store_decide(hidewillow_store *store);
+
+/* Shows what a key has now, whatever it rests on. Told: SHOWN or ABSENT. */
+hidewillow_told hidewillow_store_value(hidewillow_store *store, const uint8_t *key, size_t key_bytes,
+                                       uint8_t *room, size_t room_bytes);
+
+/* Tells the undecided batch at a place among those that a key rests on, from 0 on, by rising number. Told:
+ * SHOWN with the batch, or ABSENT past the last. */
+hidewillow_told hidewillow_store_rests_on(hidewillow_store *store, const uint8_t *key, size_t key_bytes,
+                                          size_t place);
+
+/* Counts what is undecided, in constant time. Told: SHOWN. */
+hidewillow_told hidewillow_store_counts(hidewillow_store *store, hidewillow_store_counted *counts);
+
+/* Ends what the handle holds, if anything, and frees its memory. What is undecided is dropped, and nothing
+ * goes out any more. */
+void hidewillow_store_close(hidewillow_store *store);
 
 #ifdef __cplusplus
 }

@@ -2,6 +2,7 @@
 //! sources of the library.
 #![warn(missing_docs)]
 pub mod speculator;
+pub mod store;
 
 use std::ffi::c_void;
 use std::fmt;
@@ -11,11 +12,16 @@ struct Handle {
     at: *mut c_void,
 }
 
+/// What a call is told.
 #[repr(C)]
-struct Told {
-    answer: u32,
-    number: u64,
-    bytes: usize,
+#[derive(Debug, Clone, Copy, PartialEq, Eq)]
+pub struct Told {
+    /// The number of the answer.
+    pub answer: u32,
+    /// What the answer names, or 0.
+    pub number: u64,
+    /// The whole length of the text, or 0.
+    pub bytes: usize,
 }
 
 /// The guesses and the steps so far.

@@ -1,3 +1,4 @@
 mod Heap
 mod Pointer
 mod Shown
+mod Read

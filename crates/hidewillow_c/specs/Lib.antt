@@ -7,3 +7,8 @@ pub mod Asked
 pub mod Exports
 pub mod OwnOwned
 pub mod OwnCalls
+pub mod StoreOwned
+pub mod StoreCalls
+pub mod ReadingOwned
+pub mod Reading
+pub mod Reopening

@@ -4,20 +4,31 @@
 ghost use Rattle.std.specs.Prelude.{◌≡◌, None};
 ghost use Rattle.hidewillow_c.specs.Exports.{Opens, Takes, Shows, Counted};
 ghost use Rattle.hidewillow_c.specs.Asked.{report_shown, value_shown, tags_shown, terminal_shown};
+ghost use Rattle.hidewillow_c.specs.Reading.{EndsWith, ReadingDoes, ReadingOpens, TakesHead, TakesPiece};
+ghost use Rattle.hidewillow_c.specs.Reopening.{StoreOpens};
+ghost use Rattle.hidewillow_c.specs.StoreCalls as durable;
+ghost use Rattle.hidewillow_c.specs.StoreCalls.{Connects, CountsStore, CutsOff, Decides, Feeds, HangsUp, NextReady, OutputsTo, SendsHead, ShowsValue, StoreDoes, StoreTells, Syncs, TakesFrame, TellsClosed, TellsCut, TellsRests, Turns};
 ghost use Rattle.hidewillow_c.specs.OwnCalls.{tag_at, undone_at, value_of, Clears, Commits, Fails, Guesses, Looks, OwnCounted, OwnDoes, OwnOpens, OwnReleases, OwnShows, OwnTells, Puts, Removes, Says, Steps};
 
 pub mod asked;
 pub mod codes;
+pub mod durable;
 pub mod handle;
 pub mod kept;
 pub mod opening;
 pub mod own;
 pub mod own_calls;
+pub mod reading;
+pub mod recovering;
+pub mod reopening;
+pub mod rising;
 pub mod room;
+pub mod store_calls;
 pub mod told;
 
 use crate::asked::{tell_counts, tell_report, tell_tags, tell_terminal, tell_value};
 use crate::codes::{CLOSED, HELD, MEMORY, REFUSED, WRITTEN};
+use crate::durable::Durable;
 use crate::handle::Handle;
 use crate::opening::{play_of, tell_line};
 use crate::own::Own;
@@ -25,6 +36,10 @@ use crate::own_calls::{
     OwnCounts, commit, count, fail, guess, look, put_value, remove, say, take, tell_released,
     tell_tag, tell_undone,
 };
+use crate::reading::{ReadCounts, Reading};
+use crate::recovering::Recovering;
+use crate::reopening::{StoreLimits, not_opened, opened};
+use crate::store_calls::{CutOff, FramePlace, StoreCounts};
 use crate::told::Told;
 use sk_counts::Counts;
 use sk_held::Held;
@@ -399,4 +414,399 @@ pub extern "C" fn hidewillow_own_close(alloc: Global, own: &mut Own)
     ensures { own.new.held ≡ None }
 {
     let _held = replace(own, Own::closed()).into_box(alloc);
+}
+
+/// Begins to read a log, for a handle that holds nothing.
+#[unsafe(no_mangle)]
+pub extern "C" fn hidewillow_recovery_open(alloc: Global, recovery: &mut Recovering) -> Told
+    ensures { ReadingOpens result recovery.old.held recovery.new.held }
+{
+    if let Some(read) = replace(recovery, Recovering::closed()).into_box(alloc) {
+        replace(recovery, Recovering::of(read)).let_go();
+        return Told::of(HELD, 0);
+    }
+    match Box::new(alloc, Reading::new(alloc)) {
+        Ok(read) => {
+            replace(recovery, Recovering::of(read)).let_go();
+            Told::opened()
+        }
+        Err(_) => Told::of(MEMORY, 0),
+    }
+}
+
+/// The head of the next segment comes: its first 24 bytes, or all there are.
+#[unsafe(no_mangle)]
+pub extern "C" fn hidewillow_recovery_head(
+    alloc: Global,
+    recovery: &mut Recovering,
+    segment: u64,
+    bytes: &[u8],
+) -> Told
+    ensures { ReadingDoes (TakesHead segment bytes.now) (Unit {0}) result recovery.old.held
+        recovery.new.held }
+{
+    let Some(mut read) = replace(recovery, Recovering::closed()).into_box(alloc) else {
+        return Told::of(CLOSED, 0);
+    };
+    let told = read.head(segment, bytes);
+    replace(recovery, Recovering::of(read)).let_go();
+    told
+}
+
+/// A piece of a segment comes, and what came whole is carried out. Without memory all begins anew.
+#[unsafe(no_mangle)]
+pub extern "C" fn hidewillow_recovery_feed(
+    alloc: Global,
+    recovery: &mut Recovering,
+    segment: u64,
+    bytes: &[u8],
+) -> Told
+    ensures { ReadingDoes (TakesPiece segment bytes.now) (Unit {0}) result recovery.old.held
+        recovery.new.held }
+{
+    let Some(mut read) = replace(recovery, Recovering::closed()).into_box(alloc) else {
+        return Told::of(CLOSED, 0);
+    };
+    let told = read.feed(alloc, segment, bytes);
+    replace(recovery, Recovering::of(read)).let_go();
+    told
+}
+
+/// All came: counts what was read, where no more was dropped than may have been in flight.
+#[unsafe(no_mangle)]
+pub extern "C" fn hidewillow_recovery_end(
+    alloc: Global,
+    recovery: &mut Recovering,
+    in_flight: u64,
+    counts: &mut ReadCounts,
+) -> Told
+    ensures { ReadingDoes (EndsWith in_flight counts.old counts.new) (counts.new ≡ counts.old)
+        result recovery.old.held recovery.new.held }
+{
+    let Some(mut read) = replace(recovery, Recovering::closed()).into_box(alloc) else {
+        return Told::of(CLOSED, 0);
+    };
+    let told = read.end(alloc, in_flight, counts);
+    replace(recovery, Recovering::of(read)).let_go();
+    told
+}
+
+/// Ends what the handle holds. It holds nothing then.
+#[unsafe(no_mangle)]
+pub extern "C" fn hidewillow_recovery_close(alloc: Global, recovery: &mut Recovering)
+    ensures { recovery.new.held ≡ None }
+{
+    let _read = replace(recovery, Recovering::closed()).into_box(alloc);
+}
+
+/// Opens a store behind what was read of its log, for a handle that holds nothing. The room has the head of the segment then in
+/// which the log goes on, and its place is told: it is to be written and synced before anything else is done. The recovery
+/// holds nothing then; where no store is opened it holds what it held.
+#[unsafe(no_mangle)]
+pub extern "C" fn hidewillow_store_open(
+    alloc: Global,
+    store: &mut Durable,
+    recovery: &mut Recovering,
+    limits: &StoreLimits,
+    seed: u64,
+    room: &mut [u8],
+    place: &mut FramePlace,
+) -> Told
+    ensures { StoreOpens limits.now result store.old.held store.new.held recovery.old.held
+        recovery.new.held room.old room.new place.old place.new }
+{
+    if let Some(held) = replace(store, Durable::closed()).into_box(alloc) {
+        replace(store, Durable::of(held)).let_go();
+        return Told::of(HELD, 0);
+    }
+    let Some(read) = replace(recovery, Recovering::closed()).into_box(alloc) else {
+        return Told::of(CLOSED, 0);
+    };
+    match opened(alloc, &read, limits, seed, room, place) {
+        Ok(held) => {
+            replace(store, Durable::of(held)).let_go();
+            Told::opened()
+        }
+        Err(why) => {
+            replace(recovery, Recovering::of(read)).let_go();
+            not_opened(why)
+        }
+    }
+}
+
+/// A channel more, whose number is told.
+#[unsafe(no_mangle)]
+pub extern "C" fn hidewillow_store_connect(alloc: Global, store: &mut Durable) -> Told
+    ensures { StoreDoes Connects (Unit {0}) result store.old.held store.new.held }
+{
+    let Some(mut held) = replace(store, Durable::closed()).into_box(alloc) else {
+        return Told::of(CLOSED, 0);
+    };
+    let told = store_calls::connect(&mut held);
+    replace(store, Durable::of(held)).let_go();
+    told
+}
+
+/// A channel is gone: its replies are dropped, its writes stand.
+#[unsafe(no_mangle)]
+pub extern "C" fn hidewillow_store_hang_up(alloc: Global, store: &mut Durable, channel: u16) -> Told
+    ensures { StoreDoes (HangsUp channel) (Unit {0}) result store.old.held store.new.held }
+{
+    let Some(mut held) = replace(store, Durable::closed()).into_box(alloc) else {
+        return Told::of(CLOSED, 0);
+    };
+    let told = store_calls::hang_up(&mut held, channel);
+    replace(store, Durable::of(held)).let_go();
+    told
+}
+
+/// Takes bytes that came on a channel, up to the end of a request, which is carried out, or all.
+#[unsafe(no_mangle)]
+pub extern "C" fn hidewillow_store_feed(
+    alloc: Global,
+    store: &mut Durable,
+    channel: u16,
+    bytes: &[u8],
+) -> Told
+    ensures { StoreDoes (Feeds channel bytes.now) (Unit {0}) result store.old.held store.new.held }
+{
+    let Some(mut held) = replace(store, Durable::closed()).into_box(alloc) else {
+        return Told::of(CLOSED, 0);
+    };
+    let told = store_calls::feed(&mut held, channel, bytes);
+    replace(store, Durable::of(held)).let_go();
+    told
+}
+
+/// Tells whether a fault was told on a channel: what comes is dropped, and it is to be hung up once its output is taken.
+#[unsafe(no_mangle)]
+pub extern "C" fn hidewillow_store_is_closed(
+    alloc: Global,
+    store: &mut Durable,
+    channel: u16,
+) -> Told
+    ensures { StoreTells (TellsClosed channel) (Unit {0}) result store.old.held store.new.held }
+{
+    let Some(mut held) = replace(store, Durable::closed()).into_box(alloc) else {
+        return Told::of(CLOSED, 0);
+    };
+    let told = store_calls::tell_closed(&mut held, channel);
+    replace(store, Durable::of(held)).let_go();
+    told
+}
+
+/// Moves bytes that may go out on a channel into the room. It is to be called until it moves none.
+#[unsafe(no_mangle)]
+pub extern "C" fn hidewillow_store_output(
+    alloc: Global,
+    store: &mut Durable,
+    channel: u16,
+    room: &mut [u8],
+) -> Told
+    ensures { StoreDoes (OutputsTo channel room.old room.new) (room.new ≡ room.old) result
+        store.old.held store.new.held }
+{
+    let Some(mut held) = replace(store, Durable::closed()).into_box(alloc) else {
+        return Told::of(CLOSED, 0);
+    };
+    let told = store_calls::output(&mut held, channel, room);
+    replace(store, Durable::of(held)).let_go();
+    told
+}
+
+/// Tells a channel that there is output for.
+#[unsafe(no_mangle)]
+pub extern "C" fn hidewillow_store_next_ready(alloc: Global, store: &mut Durable) -> Told
+    ensures { StoreDoes NextReady (Unit {0}) result store.old.held store.new.held }
+{
+    let Some(mut held) = replace(store, Durable::closed()).into_box(alloc) else {
+        return Told::of(CLOSED, 0);
+    };
+    let told = store_calls::next_ready(&mut held);
+    replace(store, Durable::of(held)).let_go();
+    told
+}
+
+/// Takes the next frame into the room, and tells where it is to be written.
+#[unsafe(no_mangle)]
+pub extern "C" fn hidewillow_store_take_frame(
+    alloc: Global,
+    store: &mut Durable,
+    room: &mut [u8],
+    place: &mut FramePlace,
+) -> Told
+    ensures { StoreDoes (TakesFrame room.old room.new place.old place.new) ((room.new ≡ room.old) ×
+        (place.new ≡ place.old)) result store.old.held store.new.held }
+{
+    let Some(mut held) = replace(store, Durable::closed()).into_box(alloc) else {
+        return Told::of(CLOSED, 0);
+    };
+    let told = store_calls::take_frame(&mut held, room, place);
+    replace(store, Durable::of(held)).let_go();
+    told
+}
+
+/// The log goes on at the front of the next segment.
+#[unsafe(no_mangle)]
+pub extern "C" fn hidewillow_store_turn(alloc: Global, store: &mut Durable) -> Told
+    ensures { StoreDoes Turns (Unit {0}) result store.old.held store.new.held }
+{
+    let Some(mut held) = replace(store, Durable::closed()).into_box(alloc) else {
+        return Told::of(CLOSED, 0);
+    };
+    let told = store_calls::turn(&mut held);
+    replace(store, Durable::of(held)).let_go();
+    told
+}
+
+/// The host says that a frame is synced.
+#[unsafe(no_mangle)]
+pub extern "C" fn hidewillow_store_synced(alloc: Global, store: &mut Durable, frame: u64) -> Told
+    ensures { StoreDoes (Syncs frame) (Unit {0}) result store.old.held store.new.held }
+{
+    let Some(mut held) = replace(store, Durable::closed()).into_box(alloc) else {
+        return Told::of(CLOSED, 0);
+    };
+    let told = store_calls::synced(&mut held, frame);
+    replace(store, Durable::of(held)).let_go();
+    told
+}
+
+/// The host says that a frame failed.
+#[unsafe(no_mangle)]
+pub extern "C" fn hidewillow_store_failed(alloc: Global, store: &mut Durable, frame: u64) -> Told
+    ensures { StoreDoes (durable.Fails frame) (Unit {0}) result store.old.held store.new.held }
+{
+    let Some(mut held) = replace(store, Durable::closed()).into_box(alloc) else {
+        return Told::of(CLOSED, 0);
+    };
+    let told = store_calls::failed(&mut held, frame);
+    replace(store, Durable::of(held)).let_go();
+    told
+}
+
+/// Tells the cut that is to be made, once a frame failed and all that were sent were told of.
+#[unsafe(no_mangle)]
+pub extern "C" fn hidewillow_store_cut_due(
+    alloc: Global,
+    store: &mut Durable,
+    cut: &mut CutOff,
+) -> Told
+    ensures { StoreTells (TellsCut cut.old cut.new) (cut.new ≡ cut.old) result store.old.held
+        store.new.held }
+{
+    let Some(held) = replace(store, Durable::closed()).into_box(alloc) else {
+        return Told::of(CLOSED, 0);
+    };
+    let told = store_calls::tell_cut(&held, cut);
+    replace(store, Durable::of(held)).let_go();
+    told
+}
+
+/// Writes the head that makes the cut into the room, and tells where it is to be written.
+#[unsafe(no_mangle)]
+pub extern "C" fn hidewillow_store_cut_frame(
+    alloc: Global,
+    store: &mut Durable,
+    room: &mut [u8],
+    place: &mut FramePlace,
+) -> Told
+    ensures { StoreTells (SendsHead room.old room.new place.old place.new) ((room.new ≡ room.old) ×
+        (place.new ≡ place.old)) result store.old.held store.new.held }
+{
+    let Some(held) = replace(store, Durable::closed()).into_box(alloc) else {
+        return Told::of(CLOSED, 0);
+    };
+    let told = store_calls::cut_frame(&held, room, place);
+    replace(store, Durable::of(held)).let_go();
+    told
+}
+
+/// The host says whether the cut was made; 0 says that it could not be, and the store stops.
+#[unsafe(no_mangle)]
+pub extern "C" fn hidewillow_store_cut(alloc: Global, store: &mut Durable, made: u32) -> Told
+    ensures { StoreDoes (CutsOff made) (Unit {0}) result store.old.held store.new.held }
+{
+    let Some(mut held) = replace(store, Durable::closed()).into_box(alloc) else {
+        return Told::of(CLOSED, 0);
+    };
+    let told = store_calls::cut(&mut held, made);
+    replace(store, Durable::of(held)).let_go();
+    told
+}
+
+/// Decides the oldest batch, if it is decided. It is to be called until it tells none.
+#[unsafe(no_mangle)]
+pub extern "C" fn hidewillow_store_decide(alloc: Global, store: &mut Durable) -> Told
+    ensures { StoreDoes Decides (Unit {0}) result store.old.held store.new.held }
+{
+    let Some(mut held) = replace(store, Durable::closed()).into_box(alloc) else {
+        return Told::of(CLOSED, 0);
+    };
+    let told = store_calls::decide(&mut held);
+    replace(store, Durable::of(held)).let_go();
+    told
+}
+
+/// Shows what a key has, whatever it rests on.
+#[unsafe(no_mangle)]
+pub extern "C" fn hidewillow_store_value(
+    alloc: Global,
+    store: &mut Durable,
+    key: &[u8],
+    room: &mut [u8],
+) -> Told
+    ensures { StoreTells (ShowsValue key.now room.old room.new) (room.new ≡ room.old) result
+        store.old.held store.new.held }
+{
+    let Some(held) = replace(store, Durable::closed()).into_box(alloc) else {
+        return Told::of(CLOSED, 0);
+    };
+    let told = store_calls::tell_value(&held, key, room);
+    replace(store, Durable::of(held)).let_go();
+    told
+}
+
+/// Tells one of the undecided batches that a key rests on, by its place among them.
+#[unsafe(no_mangle)]
+pub extern "C" fn hidewillow_store_rests_on(
+    alloc: Global,
+    store: &mut Durable,
+    key: &[u8],
+    place: usize,
+) -> Told
+    ensures { StoreTells (TellsRests key.now place) (Unit {0}) result store.old.held store.new.held }
+{
+    let Some(held) = replace(store, Durable::closed()).into_box(alloc) else {
+        return Told::of(CLOSED, 0);
+    };
+    let told = store_calls::tell_rests_on(&held, key, place);
+    replace(store, Durable::of(held)).let_go();
+    told
+}
+
+/// Counts what is undecided, in constant time.
+#[unsafe(no_mangle)]
+pub extern "C" fn hidewillow_store_counts(
+    alloc: Global,
+    store: &mut Durable,
+    counts: &mut StoreCounts,
+) -> Told
+    ensures { StoreTells (CountsStore counts.new) (counts.new ≡ counts.old) result store.old.held
+        store.new.held }
+{
+    let Some(held) = replace(store, Durable::closed()).into_box(alloc) else {
+        return Told::of(CLOSED, 0);
+    };
+    let told = store_calls::count(&held, counts);
+    replace(store, Durable::of(held)).let_go();
+    told
+}
+
+/// Ends what the handle holds: what is undecided is dropped, and nothing goes out. It holds nothing then.
+#[unsafe(no_mangle)]
+pub extern "C" fn hidewillow_store_close(alloc: Global, store: &mut Durable)
+    ensures { store.new.held ≡ None }
+{
+    let _held = replace(store, Durable::closed()).into_box(alloc);
 }

@@ -1,0 +1,114 @@
+//! The library's calls, made safe: `c/hidewillow.h` says what each does and is told.
+use hidewillow::store::*;
+use hidewillow::Told;
+use std::{io, ptr};
+
+/// What a call is told.
+pub const DONE: u32 = 2;
+pub const REFUSED: u32 = 5;
+pub const MEMORY: u32 = 7;
+pub const OPENED: u32 = 9;
+pub const ABSENT: u32 = 11;
+/// Why one is refused.
+pub const DECISION_DUE: u64 = 2;
+pub const FULL: u64 = 3;
+pub const NOTHING: u64 = 6;
+pub const BUSY: u64 = 7;
+pub const NO_CUT: u64 = 11;
+pub const DAMAGED: u64 = 15;
+
+/// What a call was told, where that is one of these answers.
+pub fn well(told: Told, answers: &[u32], what: &str) -> io::Result<Told> {
+    match told.answer {
+        answer if answers.contains(&answer) => Ok(told),
+        MEMORY => Err(io::Error::other(format!("{what}: out of memory"))),
+        answer => Err(io::Error::other(format!("{what}: the library told {answer}, {}", told.number))),
+    }
+}
+
+pub fn done(told: Told, what: &str) -> io::Result<()> {
+    well(told, &[DONE], what).map(drop)
+}
+
+/// Makes calls methods of a handle.
+macro_rules! calls {
+    ($(fn $method:ident($($given:ident: $type:ty),*) = $call:ident($($passed:expr),*);)*) => {
+        $(pub fn $method(&mut self, $($given: $type),*) -> Told {
+            // Safety: the handle is of zeros or as the library left it. All else that is given are numbers, structs that the library
+            // declares alike, and slices with their own lengths, which live for the call and don't overlap.
+            unsafe { $call(&mut self.0, $($passed),*) }
+        })*
+    };
+}
+
+/// A log that is read.
+pub struct Recovery(Recovering);
+
+impl Recovery {
+    pub fn new() -> Recovery {
+        Recovery(Recovering { at: ptr::null_mut() })
+    }
+
+    calls! {
+        fn open() = hidewillow_recovery_open();
+        fn head(segment: u64, head: &[u8]) = hidewillow_recovery_head(segment, head.as_ptr(), head.len());
+        fn feed(segment: u64, piece: &[u8]) = hidewillow_recovery_feed(segment, piece.as_ptr(), piece.len());
+        fn end(in_flight: u64, counts: &mut ReadCounts) = hidewillow_recovery_end(in_flight, counts);
+    }
+}
+
+impl Drop for Recovery {
+    fn drop(&mut self) {
+        // Safety: as of all calls.
+        unsafe { hidewillow_recovery_close(&mut self.0) }
+    }
+}
+
+/// A store. It isn't `Send`: one thread uses it.
+pub struct Store(Durable);
+
+impl Store {
+    /// Goes on behind a log. The head in the room is to be on the disk, at this place, before anything else is done.
+    pub fn open(
+        mut log: Recovery,
+        limits: &StoreLimits,
+        seed: u64,
+        room: &mut [u8],
+    ) -> io::Result<(Store, FramePlace)> {
+        let (mut store, mut at) = (Store(Durable { at: ptr::null_mut() }), FramePlace::default());
+        well(store.begin(&mut log, limits, seed, room, &mut at), &[OPENED], "store").map(|_| (store, at))
+    }
+
+    calls! {
+        fn begin(log: &mut Recovery, limits: &StoreLimits, seed: u64, room: &mut [u8], at: &mut FramePlace)
+            = hidewillow_store_open(&mut log.0, limits, seed, room.as_mut_ptr(), room.len(), at);
+        fn connect() = hidewillow_store_connect();
+        fn hang_up(channel: u16) = hidewillow_store_hang_up(channel);
+        fn feed(channel: u16, bytes: &[u8]) = hidewillow_store_feed(channel, bytes.as_ptr(), bytes.len());
+        fn is_closed(channel: u16) = hidewillow_store_is_closed(channel);
+        fn output(channel: u16, room: &mut [u8]) = hidewillow_store_output(channel, room.as_mut_ptr(), room.len());
+        fn next_ready() = hidewillow_store_next_ready();
+        fn take_frame(room: &mut [u8], at: &mut FramePlace)
+            = hidewillow_store_take_frame(room.as_mut_ptr(), room.len(), at);
+        fn turn() = hidewillow_store_turn();
+        fn synced(frame: u64) = hidewillow_store_synced(frame);
+        fn failed(frame: u64) = hidewillow_store_failed(frame);
+        fn cut_frame(room: &mut [u8], at: &mut FramePlace) = hidewillow_store_cut_frame(room.as_mut_ptr(), room.len(), at);
+        fn cut(made: u32) = hidewillow_store_cut(made);
+        fn decide() = hidewillow_store_decide();
+        fn count(counts: &mut StoreCounts) = hidewillow_store_counts(counts);
+    }
+
+    pub fn counts(&mut self) -> StoreCounts {
+        let mut counts = StoreCounts::default();
+        self.count(&mut counts);
+        counts
+    }
+}
+
+impl Drop for Store {
+    fn drop(&mut self) {
+        // Safety: as of all calls.
+        unsafe { hidewillow_store_close(&mut self.0) }
+    }
+}

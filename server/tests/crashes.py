@@ -1,0 +1,518 @@
+#!/usr/bin/env python3
+"""Crashes of the server, and what must hold after each.
+
+    tests/crashes.py [--server PROGRAM] [--modes kill,power,fault,full,mixed] [--crashes 50] [--seconds 0.4] [--seed N] [--batches 4]
+    tests/crashes.py --wrong [NAME]      builds hosts that are wrong on purpose, and says whether they are found
+
+Eight connections write and read with 1 to 8 commands under way; one reads what it wrote once that is acknowledged. After each crash the server starts again, and then:
+
+    acknowledged writes are there              refused ones are not, and no reader ever saw one
+    what a reader saw is there                 INCR answers no number twice, over all restarts
+    MSET is whole                              appends are there once, and in order
+    with --slow: reads of what is acknowledged were not held behind syncs
+
+Modes: kill (-9); power (then bytes that no sync covered are taken back, all, none, or torn at any byte; names too); fault (also writes
+that fail or are short, and syncs that fail, told once to each open file); full (the disk is full from time to time); mixed (faults, and
+each crash is kill or power, so that a start also reads what is not on the disk).
+"""
+import argparse
+import os
+import pathlib
+import random
+import re
+import shutil
+import signal
+import socket
+import struct
+import subprocess
+import sys
+import tempfile
+import threading
+import time
+
+HERE = pathlib.Path(__file__).resolve().parent
+TOP = HERE.parent
+RECORD = struct.Struct("<5Q")
+CONNECTIONS, LISTS, COUNTERS, PAIRS = 8, 3, 3, 4
+REFUSALS = ("IOERR",)
+FAULTS = "30,30,20"
+# Hosts that are wrong on purpose: the file, what stands there, and what is put in its place.
+WRONG = {
+    "reply at once": [("log.rs", "self.log.under_way.push(at);",
+                       "self.log.under_way.push(at);\n                    if !self.log.is_cutting {\n"
+                       "                        done(self.store.synced(at.frame), \"synced\")?;\n                    }"),
+                      ("log.rs", "return done(self.store.synced(at.frame), \"synced\"); // [2]", "return Ok(());"),
+                      ("log.rs", "log.is_cutting = true;\n        if !is_head {\n            return done(self.store.failed(at.frame), \"failed\"); // [2]",
+                       "if !is_head {\n            return Ok(());")],
+    "no sync": [("disk.rs", "file.sync_data() // [2]", "Ok(())")],
+    "no cut": [("disk.rs", "let did = write(&folder, &job.at, &job.bytes);",
+                "let did = if job.is_head { Ok(()) } else { write(&folder, &job.at, &job.bytes) };")],
+    "shared file handle": [("disk.rs", "    let file = OpenOptions::new().write(true).open(folder.segment(at.segment))?; // [4]\n",
+                            """    static SHARED: Mutex<Option<(u64, &'static std::fs::File)>> = Mutex::new(None);
+    let mut shared = SHARED.lock().unwrap();
+    if shared.is_none_or(|(of, _)| of != at.segment) {
+        let file = OpenOptions::new().write(true).open(folder.segment(at.segment))?;
+        *shared = Some((at.segment, Box::leak(Box::new(file))));
+    }
+    let (_, file) = shared.unwrap();
+    drop(shared);
+""")],
+    "short write taken for whole": [("disk.rs", "file.write_all_at(&bytes[..at.len], at.offset)?; // [1]",
+                                     "let _ = file.write_at(&bytes[..at.len], at.offset)?;")],
+    "start that writes nothing again": [("folder.rs", "read(path, again, feed)", "read(path, false, feed)")],
+    "refusal before the cut": [("log.rs", "self.log.under_way.push(at);",
+                                "self.log.under_way.push(at);\n                    if self.log.is_cutting {\n"
+                                "                        done(self.store.cut(1), \"cut\")?;\n                    }"),
+                               ("log.rs", "return done(self.store.cut(1), \"cut\"); // [5]", "return Ok(());"),
+                               ("log.rs", "return done(self.store.turn(), \"turn\");", "return Ok(());")],
+    "start that serves before its head": [("main.rs", "disk::write(&folder, &at, &room)?; // [5]", "let _ = room;")],
+}
+
+
+class Wrong(Exception):
+    """What must hold doesn't."""
+
+
+def need(holds, *words):
+    if not holds:
+        raise Wrong(" ".join(str(word) for word in words))
+
+
+class Link:
+    """A connection: commands out, replies in, in order."""
+
+    def __init__(self, port):
+        self.socket = socket.create_connection(("127.0.0.1", port), timeout=20)
+        self.socket.setsockopt(socket.IPPROTO_TCP, socket.TCP_NODELAY, 1)
+        self.file = self.socket.makefile("rb")
+
+    def send(self, *commands):
+        text = b""
+        for words in commands:
+            words = [str(word).encode() for word in words]
+            text += b"*%d\r\n" % len(words) + b"".join(b"$%d\r\n%s\r\n" % (len(word), word) for word in words)
+        self.socket.sendall(text)
+
+    def reply(self):
+        line = self.file.readline()
+        if not line.endswith(b"\r\n"):
+            raise ConnectionError("closed")
+        kind, rest = line[:1], line[1:-2]
+        if kind == b"+":
+            return rest.decode()
+        if kind == b"-":
+            return RuntimeError(rest.decode())
+        if kind == b":":
+            return int(rest)
+        if kind == b"*":
+            return [self.reply() for _ in range(int(rest))]
+        if rest == b"-1":
+            return None
+        bulk = self.file.read(int(rest) + 2)
+        if len(bulk) < int(rest) + 2:
+            raise ConnectionError("closed")
+        return bulk[:-2].decode()
+
+    def ask(self, *words):
+        self.send(words)
+        return self.reply()
+
+    def close(self):
+        self.file.close()
+        self.socket.close()
+
+
+def is_refused(reply):
+    if not isinstance(reply, RuntimeError):
+        return False
+    need(str(reply).startswith(REFUSALS), "an error that no client should see:", reply)
+    return True
+
+
+class Book:
+    """What clients were told, over all restarts."""
+
+    def __init__(self):
+        self.lock = threading.Lock()
+        self.next = 0
+        self.acknowledged, self.refused, self.seen, self.newest = {}, set(), set(), {}
+        self.appended = [dict(acked=set(), longest="") for _ in range(LISTS)]
+        self.counts = [dict(told=set(), most=0) for _ in range(COUNTERS)]
+        self.held, self.totals = [], dict(acknowledged=0, refused=0)
+
+    def token(self, who):
+        with self.lock:
+            self.next += 1
+            return f"{who}.{self.next}"
+
+    def acks(self, key, token):
+        with self.lock:
+            self.acknowledged[key] = token
+            self.totals["acknowledged"] += 1
+
+    def refuses(self, token):
+        with self.lock:
+            self.refused.add(token)
+            self.totals["refused"] += 1
+
+    def sees(self, text):
+        with self.lock:
+            self.seen.update(token for token in (text or "").split(";") if token)
+
+    def own(self, key, token):
+        """Its one writer writes rising numbers."""
+        self.sees(token)
+        with self.lock:
+            self.newest[key] = max(self.newest.get(key, 0), int(token.split(".")[1]) if token else 0)
+
+    def lists(self, place, text):
+        with self.lock:
+            book = self.appended[place]
+            text = text or ""
+            need(text.startswith(book["longest"]) or book["longest"].startswith(text), "a list that a reader saw is gone:", place)
+            if len(text) > len(book["longest"]):
+                book["longest"] = text
+
+    def counted(self, place, number):
+        with self.lock:
+            book = self.counts[place]
+            need(number not in book["told"], "INCR answered twice:", place, number)
+            book["told"].add(number)
+            book["most"] = max(book["most"], number)
+            self.totals["acknowledged"] += 1
+
+
+class Client(threading.Thread):
+    """A connection at work, until the server is gone."""
+
+    def __init__(self, book, port, who, seed):
+        super().__init__(daemon=True)
+        self.book, self.port, self.who, self.random, self.wrong = book, port, who, random.Random(seed), None
+
+    def run(self):
+        try:
+            link = Link(self.port)
+            self.quiet(link) if self.who == 1 else self.work(link)
+        except OSError:
+            pass
+        except Wrong as wrong:
+            self.wrong = wrong
+        except Exception as error:
+            self.wrong = Wrong(f"a reply that no client should see: {error!r}")
+
+    def command(self):
+        """A command, and what to do with its reply."""
+        book, pick, token = self.book, self.random.randrange(10), self.book.token(self.who)
+        if pick < 3:
+            key = f"own:{self.who}"
+            return ("SET", key, token), lambda reply: book.refuses(token) if is_refused(reply) else book.acks(key, token)
+        if pick == 3:
+            place = self.random.randrange(LISTS)
+
+            def appended(reply):
+                if is_refused(reply):
+                    return book.refuses(token)
+                book.acks(f"list:{place}:{token}", token)
+                return book.appended[place]["acked"].add(token)
+            return ("APPEND", f"list:{place}", token + ";"), appended
+        if pick == 4:
+            place = self.random.randrange(COUNTERS)
+            return ("INCR", f"count:{place}"), lambda reply: is_refused(reply) or book.counted(place, reply)
+        if pick == 5:
+            place = self.random.randrange(PAIRS)
+            return (("MSET", f"left:{place}", token, f"right:{place}", token),
+                    lambda reply: book.refuses(token) if is_refused(reply) else None)
+        if pick == 6:
+            place = self.random.randrange(PAIRS)
+
+            def pair(reply):
+                if not is_refused(reply):
+                    need(reply[0] == reply[1], "MSET is not whole:", reply)
+                    book.sees(reply[0])
+            return ("MGET", f"left:{place}", f"right:{place}"), pair
+        if pick == 7:
+            place = self.random.randrange(LISTS)
+
+            def listed(reply):
+                if not is_refused(reply):
+                    book.lists(place, reply)
+                    book.sees(reply)
+            return ("GET", f"list:{place}"), listed
+        key = f"own:{self.random.randrange(CONNECTIONS)}"
+        return ("GET", key), lambda reply: is_refused(reply) or book.own(key, reply)
+
+    def work(self, link):
+        while True:
+            commands = [self.command() for _ in range(self.random.randint(1, 8))]
+            link.send(*(words for words, _ in commands))
+            for _, tell in commands:
+                tell(link.reply())
+
+    def quiet(self, link):
+        """Reads what it wrote before, once that is acknowledged: such a read rests on nothing, and isn't to wait for what others write."""
+        key = f"own:{self.who}"
+        while True:
+            token = self.book.token(self.who)
+            if is_refused(link.ask("SET", key, token)):
+                self.book.refuses(token)
+            else:
+                self.book.acks(key, token)
+            for _ in range(8):
+                begun = time.monotonic()
+                value = link.ask("GET", key)
+                self.book.held.append(time.monotonic() - begun)
+                need(value not in self.book.refused, "a reader saw what was refused:", value)
+
+
+def check(book, link, mode, slow):
+    """What must hold after a restart."""
+    for key, token in list(book.acknowledged.items()):
+        if key.startswith("own:"):
+            value = link.ask("GET", key)
+            need(value is not None, "an acknowledged write is gone:", key, token)
+            need(int(value.split(".")[1]) >= int(token.split(".")[1]), "an acknowledged write is gone:", key, token, value)
+            need(value not in book.refused, "a refused write is there:", key, value)
+            book.own(key, value)
+    for key, number in book.newest.items():
+        value = link.ask("GET", key)
+        need(not number or value and int(value.split(".")[1]) >= number, "what a reader saw is gone:", key, number, value)
+    for place, lists in enumerate(book.appended):
+        text = link.ask("GET", f"list:{place}") or ""
+        tokens = text.split(";")[:-1]
+        need(text.startswith(lists["longest"]), "what a reader saw is gone:", f"list:{place}")
+        need(len(tokens) == len(set(tokens)), "an append is there twice:", f"list:{place}")
+        missing, there = lists["acked"] - set(tokens), set(tokens) & book.refused
+        need(not missing, "acknowledged appends are gone:", sorted(missing)[:3])
+        need(not there, "refused appends are there:", sorted(there)[:3])
+        last = {}
+        for who, number in (token.split(".") for token in tokens):
+            need(int(number) > last.get(who, 0), "appends out of order:", who, number)
+            last[who] = int(number)
+        lists["longest"] = text
+    for place, counts in enumerate(book.counts):
+        value = int(link.ask("GET", f"count:{place}") or 0)
+        need(value >= counts["most"], "a number that INCR told is gone:", place, value, counts["most"])
+    for place in range(PAIRS):
+        left, right = link.ask("MGET", f"left:{place}", f"right:{place}")
+        need(left == right, "MSET is not whole:", left, right)
+        need(left not in book.refused, "a refused write is there:", left)
+    both = book.seen & book.refused
+    need(not both, "a reader saw what was refused:", sorted(both)[:3])
+    if slow and len(book.held) > 20:
+        late = sorted(book.held)[len(book.held) * 9 // 10]
+        need(late < slow / 2, "reads that rest on nothing were held:", late)
+    book.held.clear()
+
+
+def take_back(journal, dice):
+    """What a loss of power may do: takes back bytes that no sync covered, and names. Answers how many writes it took back of."""
+    text, at, step, run = journal.read_bytes(), 0, 0, 0
+    writes, begun, names = {}, {}, []
+    while at + RECORD.size <= len(text):
+        kind, inode, number, offset, size = RECORD.unpack_from(text, at)
+        bulk, at, step = text[at + RECORD.size:at + RECORD.size + size], at + RECORD.size + size, step + 1
+        kind = chr(kind)
+        if kind == "R":
+            run += 1
+        elif kind == "W":
+            writes[run, number] = dict(inode=inode, offset=offset, old=bulk, done=None, lost=False, covered=False)
+        elif kind == "C":
+            writes.get((run, number), {})["done"] = step
+        elif kind == "B":
+            begun[run, number] = step
+        elif kind == "F":
+            for write in writes.values():
+                if write["inode"] == inode and write["done"] and not write["covered"]:
+                    write["lost"] = True
+        elif kind == "E":
+            since = begun[run, number]
+            news = [it for it in writes.values() if it["inode"] == inode and it["done"] and it["done"] < since and not it["lost"]]
+            for write in news:
+                write["covered"] = True
+            for old in (it for it in writes.values() if it["inode"] == inode and it["lost"] and not it["covered"]):
+                old["covered"] = any(new["offset"] <= old["offset"] and new["done"] > old["done"]
+                                     and old["offset"] + len(old["old"]) <= new["offset"] + len(new["old"]) for new in news)
+        elif kind == "U":
+            writes = {key: write for key, write in writes.items() if write["inode"] != inode}
+        elif kind == "N":
+            names.append(bulk.decode().split("\n"))
+        elif kind == "D":
+            names.clear()
+    paths = {path.stat().st_ino: path for path in journal.with_name("folder").iterdir()}
+    count = 0
+    for write in reversed(list(writes.values())):
+        path, old = paths.get(write["inode"]), write["old"]
+        if write["covered"] or path is None or dice.random() < 0.3:
+            continue
+        count += 1
+        with path.open("r+b") as file:
+            file.seek(write["offset"])
+            now = file.read(len(old))
+            old = old[:len(now)]
+            how = dice.randrange(4)
+            place = dice.randint(0, len(old))
+            torn = [old, now[:place] + old[place:], old[:place] + now[place:],
+                    bytes(b if dice.random() < 0.9 else a for a, b in zip(old, now))][how]
+            file.seek(write["offset"])
+            file.write(torn)
+    for source, target in reversed(names):
+        if dice.random() < 0.5 and pathlib.Path(target).exists():
+            pathlib.Path(target).rename(source)
+    journal.unlink()
+    return count
+
+
+class Host:
+    """A server on a folder, under the shim."""
+
+    def __init__(self, options, room, mode):
+        self.options, self.room, self.mode, self.process = options, room, mode, None
+        self.folder, self.journal, self.full = room / "folder", room / "journal", room / "full"
+        self.folder.mkdir()
+        with socket.socket() as probe:
+            probe.bind(("127.0.0.1", 0))
+            self.port = probe.getsockname()[1]
+
+    def start(self, faults):
+        shim = dict(LD_PRELOAD=str(self.room / "shim.so"), SHIM_FOLDER=str(self.folder), SHIM_JOURNAL=str(self.journal),
+                    SHIM_SLOW=str(int(self.options.slow * 1e6)), SHIM_FULL=str(self.full))
+        if self.options.lies:
+            shim["SHIM_LIES"] = "1"
+        if faults and self.mode in ("fault", "mixed"):
+            shim["SHIM_FAULTS"] = FAULTS
+        words = [self.options.server, "--folder", self.folder, "--address", f"127.0.0.1:{self.port}", "--segment", "256k",
+                 "--undecided", "64k", "--batches", self.options.batches]
+        with (self.room / "log").open("ab") as log:
+            self.process = subprocess.Popen([str(word) for word in words], env=shim, stdout=log, stderr=log)
+        for _ in range(1000):
+            try:
+                return Link(self.port)
+            except OSError:
+                if self.process.poll() is not None:
+                    return None
+                time.sleep(0.01)
+        raise Wrong("the server doesn't listen")
+
+    def end(self, how):
+        self.process.send_signal(how)
+        return self.process.wait(30)
+
+
+def one_crash(options, host, book, dice):
+    """Starts, lets clients work, and crashes; answers how often writes were taken back of."""
+    link = host.start(True)
+    if link is None:
+        if host.mode != "kill":
+            take_back(host.journal, dice)
+        link = host.start(False)
+        need(link is not None, "the server doesn't start")
+    check(book, link, host.mode, options.slow)
+    clients = [Client(book, host.port, who, dice.random()) for who in range(CONNECTIONS)]
+    for client in clients:
+        client.start()
+    until = time.monotonic() + options.seconds * (0.5 + dice.random())
+    while time.monotonic() < until and host.process.poll() is None:
+        if host.mode == "full":
+            host.full.touch() if dice.random() < 0.5 else host.full.unlink(missing_ok=True)
+        time.sleep(0.05)
+    host.full.unlink(missing_ok=True)
+    if host.process.poll() is None:
+        host.end(signal.SIGKILL)
+    for client in clients:
+        client.join(30)
+        if client.wrong:
+            raise client.wrong
+    link.close()
+    if host.mode == "kill" or host.mode == "mixed" and dice.random() < 0.5:
+        return 0
+    return take_back(host.journal, dice)
+
+
+def try_mode(options, mode, shim):
+    """So many crashes of a mode, and a clean stop; answers a line."""
+    dice = random.Random(f"{options.seed} {mode}")
+    room = pathlib.Path(tempfile.mkdtemp(prefix="crashes-"))
+    shutil.copy(shim, room / "shim.so")
+    host, book, taken = Host(options, room, mode), Book(), 0
+    crashes = 0
+    try:
+        for crashes in range(1, options.crashes + 1):
+            taken += one_crash(options, host, book, dice)
+        link = host.start(False)
+        check(book, link, mode, options.slow)
+        need(link.ask("SET", "last", "1") == "OK", "SET")
+        link.close()
+        need(host.end(signal.SIGTERM) == 0, "a clean stop exits 0")
+        link = host.start(False)
+        need(link.ask("GET", "last") == "1", "a clean stop keeps the last write")
+        need(host.end(signal.SIGINT) == 0, "a clean stop exits 0")
+    except Wrong as wrong:
+        host.process.kill()
+        return f"{mode}: WRONG at crash {crashes}: {wrong} (seed {options.seed}, {room})", False
+    finally:
+        if host.process.poll() is None:
+            host.process.kill()
+    shutil.rmtree(room)
+    return f"{mode}: {crashes} crashes, {book.totals}, unsynced writes taken back {taken}: nothing wrong", True
+
+
+def built(folder, edits):
+    """A server with edits of its source."""
+    source = folder / "server"
+    for name in ("server", "rust"):
+        shutil.copytree(TOP.parent / name, folder / name, ignore=shutil.ignore_patterns("target"))
+    for name, old, new in edits:
+        path = source / "src" / name
+        text = path.read_text()
+        if text.count(old) != 1:
+            sys.exit(f"{name} has this {text.count(old)} times: {old}")
+        path.write_text(text.replace(old, new))
+    words = ["cargo", "build", "--release", "--offline", "--quiet", "--target-dir", str(folder / "target")]
+    where = {"HIDEWILLOW_LIB": str(TOP.parent / "build"), **os.environ}
+    did = subprocess.run(words, cwd=source, env=where, capture_output=True, text=True)
+    if did.returncode:
+        sys.exit(f"a wrong host doesn't compile: {did.stderr}")
+    return folder / "target/release/hidewillow-server"
+
+
+def marks():
+    """Each of the ten sentences has its line, and no line has another number."""
+    found = {int(number) for path in (TOP / "src").glob("*.rs") for number in re.findall(r"// \[(\d+)\]", path.read_text())}
+    return found == set(range(1, 11))
+
+
+def main():
+    words = argparse.ArgumentParser(description=__doc__, formatter_class=argparse.RawDescriptionHelpFormatter)
+    words.add_argument("--server", default=str(TOP / "target/release/hidewillow-server"))
+    words.add_argument("--modes", default="kill,power,fault,full,mixed")
+    words.add_argument("--crashes", type=int, default=50)
+    words.add_argument("--seconds", type=float, default=0.4)
+    words.add_argument("--slow", type=float, default=0.0, help="seconds that each sync takes longer")
+    words.add_argument("--seed", type=int, default=1)
+    words.add_argument("--batches", type=int, default=4)
+    words.add_argument("--lies", action="store_true", help="a disk whose syncs do nothing, which is to be found in power and fault")
+    words.add_argument("--wrong", nargs="?", const="")
+    options = words.parse_args()
+    if not marks():
+        sys.exit("the ten sentences and the marks of their lines don't agree")
+    with tempfile.TemporaryDirectory() as folder:
+        shim = pathlib.Path(folder) / "shim.so"
+        subprocess.run(["cc", "-O2", "-Wall", "-Wextra", "-shared", "-fPIC", "-o", shim, HERE / "shim.c", "-ldl", "-lpthread"], check=True)
+        if options.wrong is None:
+            lines = [try_mode(options, mode, shim) for mode in options.modes.split(",")]
+            print("\n".join(line for line, _ in lines))
+            sys.exit(not all(well for _, well in lines))
+        missed = 0
+        for name, edits in WRONG.items():
+            if options.wrong in name:
+                with tempfile.TemporaryDirectory() as room:
+                    options.server = built(pathlib.Path(room), edits)
+                    tries = (try_mode(options, mode, shim) for mode in ["fault", "power", "mixed"])
+                    found = next((line for line, well in tries if not well), None)
+                missed += found is None
+                print(f"{name}: {found or 'NOT FOUND'}", flush=True)
+        sys.exit(missed > 0)
+
+
+if __name__ == "__main__":
+    main()

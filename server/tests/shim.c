@@ -1,0 +1,229 @@
+/* Stands before the C library under a server whose crashes are tested (LD_PRELOAD): keeps what was in the place of bytes that
+ * are not synced yet, so that crashes.py can take them back, and makes writes and syncs fail.
+ *
+ *   SHIM_FOLDER   the folder that it looks at      SHIM_JOURNAL  where it keeps what it saw
+ *   SHIM_FAULTS   parts of a thousand: writes that fail, writes that are short, syncs that fail (`30,30,20`)
+ *   SHIM_FULL     while a file of this name is there, the disk is full
+ *   SHIM_SLOW     microseconds that each sync takes longer
+ *   SHIM_LIES     syncs answer well and do nothing, which crashes.py is to find
+ *
+ * A sync that fails is told once to each open file that wrote before, and what it was to bring to the disk is not on it, nor will
+ * a later sync bring it there: so Linux does.
+ *
+ * Records: 'R' a run begins, 'W' before a write (what was there follows), 'C' once it is done, 'B' before a sync, 'E' once it is done, 'F' where one
+ * failed, 'N' a name that was given (both paths follow), 'D' the
+ * folder was synced, 'U' a file is gone. */
+#define _GNU_SOURCE
+#include <dlfcn.h>
+#include <errno.h>
+#include <fcntl.h>
+#include <pthread.h>
+#include <stdint.h>
+#include <stdio.h>
+#include <stdlib.h>
+#include <string.h>
+#include <sys/random.h>
+#include <sys/stat.h>
+#include <sys/uio.h>
+#include <unistd.h>
+
+#define FDS 4096
+#define INODES 1024
+
+struct record { uint64_t kind, inode, id, offset, len; };
+static struct { int known, ours, is_folder, inode, seen; uint64_t number; } fds[FDS];
+static struct { uint64_t number; int failures; } inodes[INODES];
+static pthread_mutex_t lock = PTHREAD_MUTEX_INITIALIZER;
+static int journal = -1, faults[3];
+static useconds_t slow;
+static int lies;
+static uint64_t next_id = 1, state;
+static const char *folder, *full;
+static ssize_t (*real_pwrite)(int, const void *, size_t, off_t), (*real_write)(int, const void *, size_t);
+static int (*real_fdatasync)(int), (*real_fsync)(int), (*real_close)(int), (*real_rename)(const char *, const char *), (*real_unlink)(const char *);
+
+__attribute__((constructor)) static void begin(void) {
+    const char *text;
+    real_pwrite = dlsym(RTLD_NEXT, "pwrite64");
+    real_write = dlsym(RTLD_NEXT, "write");
+    real_fdatasync = dlsym(RTLD_NEXT, "fdatasync");
+    real_fsync = dlsym(RTLD_NEXT, "fsync");
+    real_close = dlsym(RTLD_NEXT, "close");
+    real_rename = dlsym(RTLD_NEXT, "rename");
+    real_unlink = dlsym(RTLD_NEXT, "unlink");
+    folder = getenv("SHIM_FOLDER");
+    full = getenv("SHIM_FULL");
+    if ((text = getenv("SHIM_FAULTS"))) sscanf(text, "%d,%d,%d", faults, faults + 1, faults + 2);
+    lies = getenv("SHIM_LIES") != NULL;
+    if ((text = getenv("SHIM_SLOW"))) slow = atoi(text);
+    if ((text = getenv("SHIM_JOURNAL"))) journal = open(text, O_WRONLY | O_CREAT | O_APPEND | O_CLOEXEC, 0600);
+    if (journal >= 0) {
+        struct record record = {'R', 0, 0, 0, 0};
+        if (real_write(journal, &record, sizeof record) < 0) abort();
+    }
+    if (getrandom(&state, sizeof state, 0) < 0 || !state) state = 88172645463325252u;
+}
+
+static int happens(int of_thousand) {
+    state ^= state << 13, state ^= state >> 7, state ^= state << 17;
+    return (int)(state % 1000) < of_thousand;
+}
+
+static int is_full(void) { return full && access(full, F_OK) == 0; }
+
+static void note(char kind, uint64_t inode, uint64_t id, uint64_t offset, const void *bytes, uint64_t len) {
+    struct record record = {(uint64_t)kind, inode, id, offset, len};
+    struct iovec parts[2] = {{&record, sizeof record}, {(void *)bytes, len}};
+    if (journal >= 0 && writev(journal, parts, 2) < 0) abort();
+}
+
+/* Looks at a handle; the lock is held. */
+static int is_ours(int fd) {
+    char name[64], path[4096];
+    struct stat stat;
+    ssize_t len;
+    int i;
+    if (fd < 0 || fd >= FDS || !folder) return 0;
+    if (fds[fd].known) return fds[fd].ours;
+    snprintf(name, sizeof name, "/proc/self/fd/%d", fd);
+    len = readlink(name, path, sizeof path - 1);
+    fds[fd].known = 1;
+    fds[fd].ours = 0;
+    if (len < 0 || fstat(fd, &stat) < 0) return 0;
+    path[len] = 0;
+    if (strncmp(path, folder, strlen(folder))) return 0;
+    fds[fd].is_folder = S_ISDIR(stat.st_mode);
+    fds[fd].number = stat.st_ino;
+    for (i = 0; i < INODES - 1 && inodes[i].number && inodes[i].number != stat.st_ino; i++) {}
+    inodes[i].number = stat.st_ino;
+    fds[fd].inode = i;
+    fds[fd].seen = inodes[i].failures;
+    return fds[fd].ours = fds[fd].is_folder || S_ISREG(stat.st_mode);
+}
+
+ssize_t pwrite64(int fd, const void *bytes, size_t len, off_t offset) {
+    uint64_t id = 0;
+    ssize_t did;
+    pthread_mutex_lock(&lock);
+    if (is_ours(fd)) {
+        char name[64], *before;
+        int reader;
+        if ((is_full() && happens(500)) || happens(faults[0])) {
+            int is_no_room = is_full();
+            pthread_mutex_unlock(&lock);
+            errno = is_no_room ? ENOSPC : EIO;
+            return -1;
+        }
+        if (len > 1 && happens(faults[1])) len = 1 + (size_t)(state % (len - 1));
+        if (journal >= 0) {
+            snprintf(name, sizeof name, "/proc/self/fd/%d", fd);
+            reader = open(name, O_RDONLY | O_CLOEXEC);
+            before = calloc(1, len);
+            if (reader < 0 || !before || pread(reader, before, len, offset) < 0) abort();
+            real_close(reader);
+            id = next_id++;
+            note('W', fds[fd].number, id, (uint64_t)offset, before, len);
+            free(before);
+        }
+    }
+    pthread_mutex_unlock(&lock);
+    did = real_pwrite(fd, bytes, len, offset);
+    if (id) {
+        pthread_mutex_lock(&lock);
+        note('C', fds[fd].number, id, 0, "", 0);
+        pthread_mutex_unlock(&lock);
+    }
+    return did;
+}
+
+ssize_t pwrite(int fd, const void *bytes, size_t len, off_t offset) { return pwrite64(fd, bytes, len, offset); }
+
+ssize_t write(int fd, const void *bytes, size_t len) {
+    int fails = 0, is_no_room = 0;
+    pthread_mutex_lock(&lock);
+    if (is_ours(fd)) {
+        is_no_room = is_full();
+        fails = is_no_room || happens(faults[0] / 10);
+    }
+    pthread_mutex_unlock(&lock);
+    if (!fails) return real_write(fd, bytes, len);
+    errno = is_no_room ? ENOSPC : EIO;
+    return -1;
+}
+
+static int sync_by(int fd, int (*real)(int)) {
+    uint64_t id = 0;
+    int did, ours, is_folder = 0;
+    if (lies) return 0;
+    pthread_mutex_lock(&lock);
+    ours = is_ours(fd);
+    if (ours) {
+        is_folder = fds[fd].is_folder;
+        if (!is_folder && happens(faults[2])) {
+            inodes[fds[fd].inode].failures++;
+            note('F', fds[fd].number, 0, 0, "", 0);
+        }
+        if (fds[fd].seen < inodes[fds[fd].inode].failures) {
+            fds[fd].seen = inodes[fds[fd].inode].failures;
+            pthread_mutex_unlock(&lock);
+            errno = EIO;
+            return -1;
+        }
+        id = next_id++;
+        note('B', fds[fd].number, id, 0, "", 0);
+    }
+    pthread_mutex_unlock(&lock);
+    did = real(fd);
+    if (!ours) return did;
+    if (slow) usleep(slow);
+    pthread_mutex_lock(&lock);
+    if (fds[fd].seen < inodes[fds[fd].inode].failures) { /* it failed meanwhile */
+        fds[fd].seen = inodes[fds[fd].inode].failures;
+        did = -1;
+    } else if (did == 0) {
+        note(is_folder ? 'D' : 'E', fds[fd].number, id, 0, "", 0);
+    }
+    pthread_mutex_unlock(&lock);
+    if (did < 0) errno = EIO;
+    return did;
+}
+
+int fdatasync(int fd) { return sync_by(fd, real_fdatasync); }
+int fsync(int fd) { return sync_by(fd, real_fsync); }
+
+int close(int fd) {
+    if (fd >= 0 && fd < FDS) {
+        pthread_mutex_lock(&lock);
+        memset(&fds[fd], 0, sizeof fds[fd]);
+        pthread_mutex_unlock(&lock);
+    }
+    return real_close(fd);
+}
+
+/* A file is gone, whose number another may get. */
+static void note_gone(const char *path) {
+    struct stat stat;
+    if (!folder || strncmp(path, folder, strlen(folder)) || lstat(path, &stat) < 0) return;
+    pthread_mutex_lock(&lock);
+    note('U', stat.st_ino, 0, 0, "", 0);
+    pthread_mutex_unlock(&lock);
+}
+
+int unlink(const char *path) {
+    note_gone(path);
+    return real_unlink(path);
+}
+
+int rename(const char *from, const char *to) {
+    int did;
+    note_gone(to);
+    did = real_rename(from, to);
+    if (did == 0 && folder && !strncmp(to, folder, strlen(folder))) {
+        char both[8192];
+        int len = snprintf(both, sizeof both, "%s\n%s", from, to);
+        pthread_mutex_lock(&lock);
+        note('N', 0, 0, 0, both, (uint64_t)len);
+        pthread_mutex_unlock(&lock);
+    }
+    return did;
+}

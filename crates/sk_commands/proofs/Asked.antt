@@ -8,6 +8,8 @@ use Rattle.std.specs.declared.cmp.Ordering.TheVariants.{Less, Equal, Greater}
 use Rattle.std.proofs.lemmas.Slice.Eq.{bytes_eq-Decides}
 use Rattle.sk_record.specs.Step.{perform, with_read, Effect}
 use Rattle.sk_deeds.specs.Deed.{effect_of}
+use Rattle.sk_commands.specs.declared.command.When.{When}
+use Rattle.sk_commands.specs.declared.command.When.TheVariants as when
 use Rattle.sk_commands.specs.declared.command.Command.{Command}
 use Rattle.sk_commands.specs.declared.command.Command.TheVariants.{Get, Set, Del, Exists, Add, Append, StrLen, MGet, MSet, DbSize, KeysWith, FlushAll, Ping, Echo, Wrong}
 use Rattle.sk_commands.specs.declared.reply.Reply.{Reply}
@@ -16,7 +18,7 @@ use Rattle.sk_commands.specs.declared.work.Work.{Work}
 use Rattle.sk_commands.specs.declared.work.Work.TheVariants as works
 use Rattle.sk_commands.specs.declared.work.Answer.{Answer}
 use Rattle.sk_commands.specs.declared.work.Answer.TheVariants as answers
-use Rattle.sk_commands.specs.Table.{added, asks, begins_with, bytes_of, counts, deleted, flushed, is_among, joined, number_at, outcome, replies, set_as, shown, there, with_key, Have, Outcome, Written}
+use Rattle.sk_commands.specs.Table.{added, asks, begins_with, bytes_of, counts, deleted, flushed, is_among, joined, number_at, outcome, replies, shown, there, with_key, is_seen, may_set, set, set_reply, Have, Outcome, Written}
 use Rattle.sk_commands.specs.Work.{after, answered, comes_to, each, followed, known_after, looks_at, with_known, with_value}
 use Rattle.sk_commands.specs.Law.{act, asking_for, deed}
 
@@ -76,10 +78,18 @@ listed_alike p (key ∷ keys) f g h =
     ap (λ has. cond (p key && is_some has) (key ∷ filter (λ k. p k && is_some (f k)) keys) (filter (λ k. p k && is_some (f k)) keys)) h.0
     ∙ ap (λ found. cond (p key && is_some (g key)) (key ∷ found) found) (listed_alike p keys f g h.1)
 
+-- a key that isn't looked at is set the same whatever it has
+set_alike : (key value : List ℕ) (w : When) (gives : Bool) (f g : Have) → AreAlike (if is_seen w gives then key ∷ [] else []) f g
+    → set key value (may_set w (f key)) (set_reply gives (may_set w (f key)) (f key)) ≡ set key value (may_set w (g key)) (set_reply gives (may_set w (g key)) (g key))
+set_alike key value when.Always false f g h = refl
+set_alike key value when.Always true f g h = ap (λ has. set key value (may_set when.Always has) (set_reply true (may_set when.Always has) has)) h.0
+set_alike key value when.Absent gives f g h = ap (λ has. set key value (may_set when.Absent has) (set_reply gives (may_set when.Absent has) has)) h.0
+set_alike key value when.Present gives f g h = ap (λ has. set key value (may_set when.Present has) (set_reply gives (may_set when.Present has) has)) h.0
+
 -- a row needs no more than what it asks for
 pub row_alike : (known : List (List ℕ)) (c : Command) (f g : Have) → AreAlike (asks known c) f g → outcome known c f ≡ outcome known c g
 row_alike known (Get key) f g h = ap (λ has. replies (shown has)) h.0
-row_alike known (Set key value options) f g h = ap (set_as key value options) h.0
+row_alike known (Set key value options) f g h = set_alike key value options.when options.gives f g h
 row_alike known (Del keys) f g h = ap deleted (there_alike keys f g h)
 row_alike known (Exists keys) f g h = ap (λ n. replies (counts n)) (count_alike keys f g h)
 row_alike known (Add key by) f g h = ap (λ has. added key by (number_at has)) h.0
@@ -141,7 +151,7 @@ all_after (w ∷ ws) known f g h = all_after ws (with_known known w.0) (with_val
 
 asks_after : (ws : Written) (known : List (List ℕ)) (c : Command) (f g : Have) → AreAlike (asks known c) f g → AreAlike (asks (known_after ws known) c) (after ws f) (after ws g)
 asks_after ws known (Get key) f g h = keys_after ws (key ∷ []) f g h
-asks_after ws known (Set key value options) f g h = keys_after ws (key ∷ []) f g h
+asks_after ws known (Set key value options) f g h = keys_after ws (if is_seen options.when options.gives then key ∷ [] else []) f g h
 asks_after ws known (Del keys) f g h = keys_after ws keys f g h
 asks_after ws known (Exists keys) f g h = keys_after ws keys f g h
 asks_after ws known (Add key by) f g h = keys_after ws (key ∷ []) f g h

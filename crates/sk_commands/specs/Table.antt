@@ -131,10 +131,16 @@ present has keys = filter (λ key. is_some (has key)) keys
 abbrev pub flushed : List (List ℕ) → Outcome Reply
 flushed keys = record { written = removals keys; reply = Simple word.Ok }
 
+-- whether it matters for how a key is set, or for the reply, what it has
+abbrev pub is_seen : When → Bool → Bool
+is_seen when.Always gives = gives
+is_seen when.Absent gives = true
+is_seen when.Present gives = true
+
 -- The keys that a command looks at; `known` are all keys, of which some commands are told.
 abbrev pub asks : List (List ℕ) → Command → List (List ℕ)
 asks known (Get key) = key ∷ []
-asks known (Set key value options) = key ∷ []
+asks known (Set key value options) = if is_seen options.when options.gives then key ∷ [] else []
 asks known (Del keys) = keys
 asks known (Exists keys) = keys
 asks known (Add key by) = key ∷ []

@@ -3,7 +3,7 @@ use Rattle.std.specs.Prelude.{ℕ, List, ◌++◌, flat_map, length, Option, Som
 use Rattle.sk_requests.specs.Replies.{array_text, bulk_text, error_text, integer_text, null_text, simple_text}
 use Rattle.sk_commands.specs.Faults.{said_by, words_of}
 use Rattle.sk_commands.specs.declared.reply.Reply.{Reply}
-use Rattle.sk_commands.specs.declared.reply.Reply.TheVariants.{Simple, Error, Rejected, Integer, Bulk, Null, Array}
+use Rattle.sk_commands.specs.declared.reply.Reply.TheVariants.{Simple, Error, Rejected, Text, Integer, Bulk, Null, Array}
 use Rattle.sk_commands.specs.declared.work.Answer.{Answer}
 use Rattle.sk_commands.specs.declared.work.Answer.TheVariants.{One, Each}
 
@@ -16,6 +16,7 @@ abbrev pub reply_text : Reply → List ℕ
 reply_text (Simple word) = simple_text (said_by word)
 reply_text (Error fault) = error_text (words_of fault)
 reply_text (Rejected words) = error_text words
+reply_text (Text bytes) = bytes
 reply_text (Integer n) = integer_text n
 reply_text (Bulk bytes) = bulk_text bytes
 reply_text Null = null_text

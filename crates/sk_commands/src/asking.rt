@@ -1,9 +1,9 @@
 //! What commands look at.
-ghost use Rattle.std.specs.Prelude.{◌≡◌, ◌∷◌, ◌++◌, [], map, OnErr, OnOk};
+ghost use Rattle.std.specs.Prelude.{◌≡◌, ◌∷◌, ◌++◌, [], map, if◌then◌else◌, OnErr, OnOk};
 ghost use Rattle.std.specs.Vec.{vec_items};
-ghost use Rattle.sk_commands.specs.Table.{asks, is_told_of_all, may_write};
+ghost use Rattle.sk_commands.specs.Table.{asks, is_seen, is_told_of_all, may_write};
 
-use crate::Command;
+use crate::{Command, Options, When};
 use std::alloc::{AllocError, Global};
 
 /// A copy of a key stands behind those that are listed.
@@ -42,6 +42,35 @@ pub(crate) fn copy_keys(
         }
     }
     Ok(())
+}
+
+/// Whether it matters for how a key is set, or for the reply, what it has.
+fn is_seen(options: Options) -> bool
+    ensures { result ≡ is_seen options.when options.gives }
+{
+    match options.when {
+        When::Always => options.gives,
+        When::Absent | When::Present => true,
+    }
+}
+
+/// A copy of a key that is set stands behind those that are listed, where it matters what it has.
+fn copy_seen(
+    alloc: Global,
+    key: &[u8],
+    options: Options,
+    looked: &mut Vec<Vec<u8>>,
+) -> Result<(), AllocError>
+    ensures ok { OnOk result
+        (map vec_items looked.new.items ≡ map vec_items looked.old.items
+        ++ (if is_seen options.when options.gives then key.now ∷ [] else [])) }
+    ensures err { OnErr result (looked.new.items ≡ looked.old.items) }
+{
+    if is_seen(options) {
+        copy_key(alloc, key, looked)
+    } else {
+        Ok(())
+    }
 }
 
 impl Command {
@@ -86,10 +115,10 @@ impl Command {
     {
         match self {
             Command::Get(key)
-            | Command::Set(key, _, _)
             | Command::Add(key, _)
             | Command::Append(key, _)
             | Command::StrLen(key) => copy_key(alloc, key.as_slice(), looked),
+            Command::Set(key, _, options) => copy_seen(alloc, key.as_slice(), *options, looked),
             Command::Del(keys) | Command::Exists(keys) | Command::MGet(keys) => {
                 copy_keys(alloc, keys.as_slice(), looked)
             }

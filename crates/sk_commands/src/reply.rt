@@ -33,6 +33,8 @@ pub enum Reply {
     Error(Fault),
     /// An error in words that no command has, as of a request that can't be read.
     Rejected(ByteString),
+    /// These bytes, as they are.
+    Text(ByteString),
     Integer(i64),
     Bulk(ByteString),
     Null,

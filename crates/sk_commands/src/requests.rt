@@ -15,6 +15,9 @@ use itoa::Buffer;
 use sk_requests::reply;
 use std::alloc::{AllocError, Global};
 
+/// How many bytes the request of a key that is set has beyond the key and its value, at most, without options.
+const SET_ROOM: usize = 48;
+
 /// Writes how many words a request has, and the first, its name.
 fn begin(text: &mut Vec<u8>, name: Name, count: usize) -> Result<(), AllocError>
     ensures { OnOk result (text.new.items
@@ -131,6 +134,11 @@ fn write_set(
     ensures { OnOk result (text.new.items
         ≡ text.old.items ++ array (words_for (Set key.now value.now options))) }
 {
+    text.reserve(
+        key.len()
+            .saturating_add(value.len())
+            .saturating_add(SET_ROOM),
+    )?;
     begin(text, Name::Set, option_count(options) + 3)?;
     reply::bulk(text, key)?;
     reply::bulk(text, value)?;

@@ -1,5 +1,5 @@
 //! What commands write and reply.
-ghost use Rattle.std.specs.Prelude.{◌+◌, ◌<◌, ◌≤◌, ◌≡◌, ◌++◌, ◌&&◌, drop, IfOk, Some, bytes_eq, count_by, is_some, length, map, pos};
+ghost use Rattle.std.specs.Prelude.{◌+◌, ◌<◌, ◌≤◌, ◌≡◌, ◌++◌, ◌&&◌, ℕ, List, drop, IfOk, Some, bytes_eq, count_by, is_some, length, map, pos};
 ghost use Rattle.std.specs.Vec.{vec_capacity, vec_items, vec_len};
 ghost use Rattle.std.specs.List.{list_any};
 ghost use Rattle.std.specs.Option.{option_copied};
@@ -40,6 +40,17 @@ fn show(alloc: Global, has: Option<&ByteString>) -> Result<Reply, AllocError>
     match has {
         Some(value) => Ok(Reply::Bulk(ByteString::copy_of(alloc, value.as_slice())?)),
         None => Ok(Reply::Null),
+    }
+}
+
+/// What a key has, where it matters for how it is set.
+fn seen<'a, S: Look>(store: &'a S, key: &[u8], options: Options) -> Option<&'a ByteString>
+    ensures { (value : List ℕ) → set_as key.now value options (option_copied result)
+        ≡ set_as key.now value options (S.look store.now key.now) }
+{
+    match (options.when, options.gives) {
+        (When::Always, false) => None,
+        _ => store.value(key),
     }
 }
 
@@ -283,7 +294,7 @@ impl Command {
         match self {
             Command::Get(key) => show(alloc, store.value(key.as_slice())),
             Command::Set(key, value, options) => {
-                let has = store.value(key.as_slice());
+                let has = seen(store, key.as_slice(), options);
                 set(alloc, key, value, options, has, written)
             }
             Command::Del(keys) => delete(store, keys, written),

@@ -37,6 +37,7 @@ fn write_reply(text: &mut Vec<u8>, reply: &Reply) -> Result<(), AllocError>
         Reply::Simple(word) => simple(text, word.text()),
         Reply::Error(fault) => error(text, fault.words()),
         Reply::Rejected(words) => error(text, words.as_slice()),
+        Reply::Text(bytes) => text.extend_from_slice(bytes.as_slice()),
         Reply::Integer(number) => integer(text, *number),
         Reply::Bulk(bytes) => bulk(text, bytes.as_slice()),
         Reply::Null => null(text),

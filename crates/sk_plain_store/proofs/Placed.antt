@@ -187,6 +187,39 @@ sets_place key value (p ∷ places) h there =
           ∙ passed key p.0.items p.1 value (entries_of places) e
     ] refl there
 
+-- ---- one write in one go
+
+all_behind : (key : List ℕ) (p : Vec ℕ × Option (List ℕ)) (places : Places) → AreInOrder (p ∷ places) → bytes_cmp key p.0.items ≡ Less → AreBehind key (p ∷ places)
+all_behind key p places h e = (e, behind_lower key p.0.items places e (behind_first p.0 places (sorted_head key_cmp p.0 (pairs.keys_of places) h)))
+
+pub puts_in : (k : Vec ℕ) (value : List ℕ) (places : Places) → AreInOrder places → entries_of (insert_entry key_cmp places k (Some value)) ≡ written_at k.items (Some value) (entries_of places)
+puts_in k value [] h = refl
+puts_in k value (p ∷ places) h =
+    let more = insert_entry key_cmp places k (Some value) in
+    elim (bytes_cmp k.items p.0.items) as (λ o. bytes_cmp k.items p.0.items ≡ o
+    → entries_of (match_ordering o ((k, Some value) ∷ p ∷ places) ((p.0, Some value) ∷ places) (p ∷ more)) ≡ written_at k.items (Some value) (entries_of (p ∷ places))) [
+      | Less ↦ λ e. sym (put_first k.items value (entries_of (p ∷ places)) (below k.items (p ∷ places) (all_behind k.items p places h e)))
+      | Equal ↦ λ e. replaced k.items p.0.items p.1 (Some value) (entries_of places) e (head_below p places h)
+      | Greater ↦ λ e.
+          ap (with_entry p.0.items p.1) (puts_in k value places (rest_in_order p places h))
+          ∙ passed k.items p.0.items p.1 (Some value) (entries_of places) e
+    ] refl
+
+pub takes_out : (key : List ℕ) (places : Places) → AreInOrder places → entries_of (remove_entry (is_at (λ k. bytes_cmp key k.items)) places) ≡ written_at key None (entries_of places)
+takes_out key [] h = refl
+takes_out key (p ∷ places) h =
+    let more = remove_entry (is_at (λ k. bytes_cmp key k.items)) places in
+    elim (bytes_cmp key p.0.items) as (λ o. bytes_cmp key p.0.items ≡ o → entries_of (cond (is_eq o) places (p ∷ more)) ≡ written_at key None (entries_of (p ∷ places))) [
+      | Less ↦ λ e.
+          let behind = all_behind key p places h e in
+          ap (with_entry p.0.items p.1) (takes_out key places (rest_in_order p places h) ∙ untouched key (entries_of places) (below key places behind.1))
+          ∙ sym (untouched key (entries_of (p ∷ places)) (below key (p ∷ places) behind))
+      | Equal ↦ λ e. replaced key p.0.items p.1 None (entries_of places) e (head_below p places h)
+      | Greater ↦ λ e.
+          ap (with_entry p.0.items p.1) (takes_out key places (rest_in_order p places h))
+          ∙ passed key p.0.items p.1 None (entries_of places) e
+    ] refl
+
 -- ---- a place is let go
 
 same_in : (x : Option (List ℕ)) → Some x ≡ Some None → x ≡ None

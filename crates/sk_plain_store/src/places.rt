@@ -1,5 +1,5 @@
 //! Places of keys, in the order of their bytes.
-ghost use Rattle.std.specs.Prelude.{◌≡◌, true, OnErr, OnOk};
+ghost use Rattle.std.specs.Prelude.{◌≡◌, ◌∷◌, [], true, None, IfSome, OnErr, OnOk};
 ghost use Rattle.sk_commands.specs.Table.{told};
 ghost use Rattle.sk_plain_store.specs.Plain.{written_at, written_to};
 ghost use Rattle.sk_plain_store.specs.Places.{entries_of, has_place, HavePlaces, KeepsPlaces};
@@ -93,7 +93,7 @@ fn give_up(places: &mut Places, written: &[(Vec<u8>, Option<ByteString>)])
 }
 
 /// Keys get these, one after another, once all have places; without memory nothing has changed.
-pub(crate) fn write(alloc: Global, places: &mut Places, written: Writes) -> Result<(), AllocError>
+fn write_all(alloc: Global, places: &mut Places, written: Writes) -> Result<(), AllocError>
     ensures ok { OnOk result (entries_of places.new.entries
         ≡ written_to (told written.items) (entries_of places.old.entries)) }
     ensures err { OnErr result (entries_of places.new.entries ≡ entries_of places.old.entries) }
@@ -106,4 +106,49 @@ pub(crate) fn write(alloc: Global, places: &mut Places, written: Writes) -> Resu
     set_all(places, written, &mut keys);
     let_go_all(places, keys.as_slice());
     Ok(())
+}
+
+/// A key gets this; without memory nothing has changed.
+fn write_one(places: &mut Places, key: Vec<u8>, value: Option<ByteString>) -> Result<(), AllocError>
+    ensures ok { OnOk result (entries_of places.new.entries
+        ≡ written_at key.items value (entries_of places.old.entries)) }
+    ensures err { OnErr result (entries_of places.new.entries ≡ entries_of places.old.entries) }
+{
+    let _rising = places.len();
+    match value {
+        Some(value) => {
+            places.insert(key, Some(value))?;
+        }
+        None => {
+            places.remove(key.as_slice());
+        }
+    }
+    Ok(())
+}
+
+/// The only write of a list, taken out; `None` where there is none or more than one.
+fn take_only(written: &mut Writes) -> Option<(Vec<u8>, Option<ByteString>)>
+    ensures only { IfSome result (λ write. written.old.items ≡ write ∷ []) }
+    ensures same { result ≡ None → written.new.items ≡ written.old.items }
+{
+    if written.len() != 1 {
+        return None;
+    }
+    written.pop()
+}
+
+/// Keys get these, one after another; without memory nothing has changed.
+pub(crate) fn write(
+    alloc: Global,
+    places: &mut Places,
+    mut written: Writes,
+) -> Result<(), AllocError>
+    ensures ok { OnOk result (entries_of places.new.entries
+        ≡ written_to (told written.items) (entries_of places.old.entries)) }
+    ensures err { OnErr result (entries_of places.new.entries ≡ entries_of places.old.entries) }
+{
+    match take_only(&mut written) {
+        Some((key, value)) => write_one(places, key, value),
+        None => write_all(alloc, places, written),
+    }
 }

@@ -1,16 +1,18 @@
 -- What each step of a reader leaves.
-use Rattle.std.proofs.Common.{◌≡◌, ◌≢◌, ◌⊎◌, ℕ, ◌+◌, ◌-◌, ◌<◌, ◌≤◌, ◌^◌, Bool, true, false, List, [], ◌∷◌, ◌++◌, length, slice_index, take, drop, refl, sym, ◌∙◌, ap, subst, inl, inr, arith, length-append}
+use Rattle.std.proofs.Common.{◌≡◌, ◌≢◌, ◌⊎◌, ℕ, zero, suc, ◌+◌, ◌-◌, ◌<◌, ◌≤◌, ◌^◌, Bool, true, false, List, [], ◌∷◌, ◌++◌, length, slice_index, take, drop, Err, refl, sym, ◌∙◌, ap, subst, inl, inr, arith, length-append}
 use Rattle.std.specs.Prelude.{cond, eqb, if◌then◌else◌, ◌==◌}
-use Rattle.std.proofs.lemmas.List.{append_assoc, append-nil, take-append-drop, length-take-le}
+use Rattle.std.proofs.lemmas.List.{append_assoc, append-nil, take-append-drop, take_all, length-drop, length-take-le}
 use Rattle.std.proofs.lemmas.Bool.{false≢true, eqb-true, eqb-false}
 use Rattle.sk_requests.specs.Lines.{IsLine, said, head}
 use Rattle.sk_requests.specs.Request.{bulk, bulks, AreWords, total, IsArray, IsTooLarge, Fits}
 use Rattle.sk_requests.specs.Faults.{InWords, NoHead, NoLine, NoEnd, HasFault}
-use Rattle.sk_requests.specs.Reading.{Keeps, InArray, InWord, KeepsLine, IsAt}
+use Rattle.sk_requests.specs.Reading.{Keeps, InArray, InWord, KeepsLine, IsAt, IsBehind, Reads}
 use Rattle.sk_requests.specs.declared.place.Place.TheVariants as places
 use Rattle.sk_requests.specs.declared.reader.Reader.{Reader}
 use Rattle.sk_requests.specs.declared.limits.Limits.{Limits}
 use Rattle.sk_requests.specs.declared.fault.Fault.TheVariants.{Count, Line, Length, Mark, End}
+use Rattle.sk_requests.specs.declared.fault.Refusal.{Refusal}
+use Rattle.sk_requests.specs.declared.fault.Refusal.TheVariants as refusals
 use Rattle.sk_requests.proofs.Lines.{ends_behind, line-append, long_head, other_head}
 
 pub begins_with : (bytes : List ℕ) → 0 < length bytes → bytes ≡ slice_index bytes 0 ∷ drop 1 bytes
@@ -183,11 +185,12 @@ keeps_no_room limits count size words keeping kept left room keeps long = record
 }
 
 -- The line before a word says how long it is.
-pub word_begins : (words : List (List ℕ)) (text : List ℕ) (left size : ℕ) (part : List ℕ) → InWords words text left part → part ≡ said 36 size → InWords words (text ++ 10 ∷ []) left (head 36 (0 + size) ++ ([] ++ []))
-word_begins words text left size part inside is =
+pub word_begins : (words : List (List ℕ)) (text : List ℕ) (left size : ℕ) (part chunk : List ℕ)
+    → InWords words text left part → part ++ chunk ≡ head 36 size → InWords words (text ++ chunk) left (head 36 (0 + size) ++ ([] ++ []))
+word_begins words text left size part chunk inside is =
     let plain : size ≡ 0 + size = omega arith in
-    subst (InWords words (text ++ 10 ∷ []) left) (ap (λ xs. xs ++ 10 ∷ []) is ∙ sym (append-nil (head 36 size)) ∙ ap (λ n. head 36 n ++ []) plain)
-    (words_on words text left part (10 ∷ []) inside)
+    subst (InWords words (text ++ chunk) left) (is ∙ sym (append-nil (head 36 size)) ∙ ap (λ n. head 36 n ++ []) plain)
+    (words_on words text left part chunk inside)
 
 -- Bytes of a word came, or what stands behind it.
 pub word_on : (words : List (List ℕ)) (text : List ℕ) (left size size' : ℕ) (word behind chunk word' behind' : List ℕ) → size ≡ size' → (word ++ behind) ++ chunk ≡ word' ++ behind' → InWords words text left (head 36 size ++ (word ++ behind))
@@ -296,3 +299,20 @@ keeps_large limits words left word keeping kept room last some keeps lost =
       | inl many ↦ inl (omega (arith, many, length-append words (word ∷ []), last, some))
       | inr long ↦ inr (omega (arith, long, total-push words word))
     ]
+
+-- More is taken behind some bytes.
+pub take_on : (front rest : List ℕ) (m n : ℕ) → m ≡ length front + n → take m (front ++ rest) ≡ front ++ take n rest
+take_on [] rest m n is =
+    let same : m ≡ n = omega (arith, is) in
+    ap (λ k. take k rest) same
+take_on (b ∷ front) rest zero n is = absurd (omega (arith, is))
+take_on (b ∷ front) rest (suc m) n is = ap (λ xs. b ∷ xs) (take_on front rest m n (omega (arith, is)))
+
+-- The rest of bytes, as a slice has it.
+pub slice_on : (bytes : List ℕ) (n : ℕ) → take (length bytes - n) (drop n bytes) ≡ drop n bytes
+slice_on bytes n = take_all (length bytes - n) (drop n bytes) (omega (arith, length-drop n bytes))
+
+-- A reader that refuses is where it was.
+pub stays_behind : (text bytes : List ℕ) (refusal : Refusal) (reader : Reader) → Reads text bytes (Err refusal) reader → IsBehind text reader
+stays_behind text bytes (refusals.Fault fault) reader is = is.1
+stays_behind text bytes refusals.Memory reader is = is

@@ -1,6 +1,6 @@
 //! The reading of requests, whose bytes come in pieces.
-ghost use Rattle.std.specs.Prelude.{◌≡◌, ◌<◌, ◌≤◌, ◌++◌, ◌∷◌, ◌↔◌, ◌==◌, if◌then◌else◌, ℕ, List, [], Option, true, length, slice_index, vec_len, vec_capacity, IsTrue, OnOk, OnErr};
-ghost use Rattle.sk_requests.specs.Lines.{TakesLine};
+ghost use Rattle.std.specs.Prelude.{◌≡◌, ◌+◌, ◌<◌, ◌≤◌, ◌^◌, ◌++◌, ◌∷◌, ◌↔◌, ◌==◌, if◌then◌else◌, ℕ, List, [], Option, true, length, slice_index, vec_len, vec_capacity, drop, take, Ok, IfSome, IsTrue, OnOk, OnErr};
+ghost use Rattle.sk_requests.specs.Lines.{head, TakesLine};
 ghost use Rattle.sk_requests.specs.Reading.{has_some, IsBehind, Reads, words_of};
 ghost use Rattle.sk_requests.specs.Stream.{EndsWithin, HasRead, ReadsOn};
 ghost use Rattle.sk_requests.specs.declared.limits.Limits.{Limits};
@@ -200,6 +200,9 @@ impl Reader {
         if first == b'\n' {
             return self.length_end(left);
         }
+        if let Some((count, size)) = whole_size(&self.part, bytes) {
+            return Ok(self.word_next(left, count, size));
+        }
         match take_line(&mut self.part, self.limits.line, bytes)? {
             Some(count) => Ok(part(count)),
             None => Err(Refusal::Fault(length_fault(&self.part, first))),
@@ -216,15 +219,28 @@ impl Reader {
         let Some(size) = number_in(&self.part, b'$', LENGTH_LIMIT) else {
             return Err(Refusal::Fault(length_fault(&self.part, b'\n')));
         };
+        Ok(self.word_next(left, 1, size))
+    }
+
+    /// Behind so many bytes, with which the line before a word ends that says its size.
+    fn word_next(&mut self, left: usize, count: usize, size: usize) -> Taken
+        requires place { self.old.place ≡ Place.Length left }
+        requires short { size ≤ 2 ^ 29 }
+        requires some { 0 < count }
+        ensures read { (text bytes : List ℕ) → IsBehind text self.old → count ≤ length bytes
+            → self.old.part.items ++ take count bytes ≡ head 36 size
+            → Reads text bytes (Ok result) self.new }
+        ensures limits { self.new.limits ≡ self.old.limits }
+    {
         self.part.clear();
         self.place = Place::Word(left, size);
         if size > self.room {
             self.keeping = false;
             self.words.clear();
-            return Ok(part(1));
+            return part(count);
         }
         self.room -= size;
-        Ok(part(1))
+        part(count)
     }
 
     /// In a word, or at the carriage return behind it.
@@ -240,7 +256,35 @@ impl Reader {
         let count = behind.min(bytes.len());
         add(&mut self.part, self.keeping, &bytes[..count])?;
         self.place = Place::Word(left, behind - count);
-        Ok(part(count))
+        Ok(self.word_rest(left, behind - count, count, &bytes[count..]))
+    }
+
+    /// Behind so many bytes of a word, at its end or before: what is found with the rest, if that begins with the end of its line.
+    fn word_rest(&mut self, left: usize, behind: usize, count: usize, rest: &[u8]) -> Taken
+        requires place { self.old.place ≡ Place.Word left behind }
+        requires some { 0 < count }
+        requires short { count + length rest.now < 2 ^ 64 }
+        ensures read { (text front : List ℕ) → IsBehind (text ++ front) self.old → length front ≡ count
+            → Reads text (front ++ rest.now) (Ok result) self.new }
+        ensures limits { self.new.limits ≡ self.old.limits }
+    {
+        if behind > 0 {
+            return part(count);
+        }
+        if !ends_line(rest) {
+            return part(count);
+        }
+        self.place = Place::End(left);
+        match self.end(left, &rest[1..]) {
+            Ok(taken) => {
+                let all = (count + 1).saturating_add(taken.count);
+                Taken {
+                    count: all,
+                    found: taken.found,
+                }
+            }
+            Err(_refusal) => part(count + 1),
+        }
     }
 
     /// At the carriage return behind a word.
@@ -295,6 +339,29 @@ fn add(part: &mut Vec<u8>, keeping: bool, bytes: &[u8]) -> Result<(), AllocError
     }
     part.extend_from_slice(bytes)?;
     Ok(())
+}
+
+/// The line before a word, where it is whole and no part of it came before: how many bytes it has, and the size that it says.
+fn whole_size(part: &[u8], bytes: &[u8]) -> Option<(usize, usize)>
+    ensures { IfSome result (λ r. (0 < r.0) × (r.0 ≤ length bytes.now) × (r.1 ≤ 2 ^ 29)
+        × (part.now ++ take r.0 bytes.now ≡ head 36 r.1)) }
+{
+    if !part.is_empty() {
+        return None;
+    }
+    let len = line_len(bytes);
+    if len == bytes.len() {
+        return None;
+    }
+    let size = number_in(&bytes[..len], b'$', LENGTH_LIMIT)?;
+    Some((len + 1, size))
+}
+
+/// Whether bytes begin with the end of a line.
+fn ends_line(bytes: &[u8]) -> bool
+    ensures { result ≡ true → bytes.now ≡ 13 ∷ 10 ∷ drop 2 bytes.now }
+{
+    bytes.starts_with(b"\r\n")
 }
 
 /// Whether a number is within a limit.

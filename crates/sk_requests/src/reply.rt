@@ -29,9 +29,7 @@ pub fn integer(out: &mut Vec<u8>, number: i64) -> Result<(), AllocError>
     let mut buffer = Buffer::new();
     let digits = buffer.format(number).as_bytes();
     out.reserve(digits.len() + 3)?;
-    append(out, b":");
-    append(out, digits);
-    append(out, b"\r\n");
+    append_head(out, b':', digits);
     Ok(())
 }
 
@@ -43,9 +41,9 @@ pub fn bulk(out: &mut Vec<u8>, bytes: &[u8]) -> Result<(), AllocError>
     let mut buffer = Buffer::new();
     let digits = buffer.format(bytes.len()).as_bytes();
     out.reserve(digits.len() + 5 + bytes.len())?;
-    append_head(out, b"$", digits);
+    append_head(out, b'$', digits);
     append(out, bytes);
-    append(out, b"\r\n");
+    append_end(out);
     Ok(())
 }
 
@@ -65,7 +63,7 @@ pub fn array(out: &mut Vec<u8>, count: usize) -> Result<(), AllocError>
     let mut buffer = Buffer::new();
     let digits = buffer.format(count).as_bytes();
     out.reserve(digits.len() + 3)?;
-    append_head(out, b"*", digits);
+    append_head(out, b'*', digits);
     Ok(())
 }
 
@@ -75,9 +73,9 @@ fn line(out: &mut Vec<u8>, mark: u8, text: &[u8]) -> Result<(), AllocError>
     ensures err { OnErr result (out.new.items ≡ out.old.items) }
 {
     out.reserve(text.len() + 3)?;
-    append(out, &[mark]);
+    out.push_reserved(mark);
     append_text(out, text);
-    append(out, b"\r\n");
+    append_end(out);
     Ok(())
 }
 
@@ -88,7 +86,7 @@ fn append_text(out: &mut Vec<u8>, text: &[u8])
     ensures capacity { vec_capacity out.old ≤ vec_capacity out.new }
 {
     for byte in text {
-        append(out, &[in_line(*byte)]);
+        out.push_reserved(in_line(*byte));
     }
 }
 
@@ -104,14 +102,35 @@ fn in_line(byte: u8) -> u8
 }
 
 /// Writes a line of a mark and digits, into room that is there.
-fn append_head(out: &mut Vec<u8>, mark: &[u8], digits: &[u8])
-    requires { length out.old.items + (length mark.now + length digits.now + 2) ≤ vec_capacity out.old }
-    ensures items { out.new.items ≡ out.old.items ++ (mark.now ++ (digits.now ++ 13 ∷ 10 ∷ [])) }
+fn append_head(out: &mut Vec<u8>, mark: u8, digits: &[u8])
+    requires { length out.old.items + (length digits.now + 3) ≤ vec_capacity out.old }
+    ensures items { out.new.items ≡ out.old.items ++ (mark ∷ (digits.now ++ 13 ∷ 10 ∷ [])) }
     ensures capacity { vec_capacity out.old ≤ vec_capacity out.new }
 {
-    append(out, mark);
-    append(out, digits);
-    append(out, b"\r\n");
+    out.push_reserved(mark);
+    append_digits(out, digits);
+    append_end(out);
+}
+
+/// Writes digits, which are few, into room that is there.
+fn append_digits(out: &mut Vec<u8>, digits: &[u8])
+    requires { length out.old.items + length digits.now ≤ vec_capacity out.old }
+    ensures items { out.new.items ≡ out.old.items ++ digits.now }
+    ensures capacity { vec_capacity out.old ≤ vec_capacity out.new }
+{
+    for digit in digits {
+        out.push_reserved(*digit);
+    }
+}
+
+/// Writes the end of a line, into room that is there.
+fn append_end(out: &mut Vec<u8>)
+    requires { length out.old.items + 2 ≤ vec_capacity out.old }
+    ensures items { out.new.items ≡ out.old.items ++ 13 ∷ 10 ∷ [] }
+    ensures capacity { vec_capacity out.old ≤ vec_capacity out.new }
+{
+    out.push_reserved(b'\r');
+    out.push_reserved(b'\n');
 }
 
 /// Writes bytes, into room that is there.

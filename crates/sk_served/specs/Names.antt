@@ -3,15 +3,16 @@ use Rattle.std.specs.Prelude.{◌≡◌, ℕ, Bool, false, List, [], ◌∷◌, 
 use Rattle.std.specs.List.{list_any}
 use Rattle.sk_record.specs.Trace.{Event, Taken, Commit, Fail}
 use Rattle.sk_commands.specs.declared.command.Command.{Command}
-use Rattle.sk_commands.specs.declared.command.Command.TheVariants.{MSet}
+use Rattle.sk_commands.specs.declared.command.Command.TheVariants.{MSet, Set}
 use Rattle.sk_commands.specs.declared.work.Work.{Work}
 use Rattle.sk_commands.specs.declared.work.Work.TheVariants as works
 use Rattle.sk_commands.specs.Table.{asks, pairs_of}
 use Rattle.sk_reserved.specs.Keys.{is_reserved}
 use Rattle.sk_served.specs.Served.{Entry, Opens, Runs}
 
--- the keys that a command names: those that it looks at, and those that MSET sets
+-- the keys that a command names: those that it looks at, and those that SET and MSET set
 abbrev pub names_of : Command → List (List ℕ)
+names_of (Set key value options) = key ∷ []
 names_of (MSet words) = map (λ w. w.0) (pairs_of words)
 names_of other = asks [] other
 

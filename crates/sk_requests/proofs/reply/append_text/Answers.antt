@@ -21,11 +21,11 @@ loop-byte-preserved c =
     let at = c.loop-byte.byte-index in
     let old = c.args.out.now.items in
     let front = map in_line (take at text) in
-    let grown = c.append.ensures.items in
+    let grown = c.push_reserved.ensures.items in
     record {
       items = grown ∙ (λ i. c.loop-byte.invariant.items i ++ c.in_line.ensures i ∷ []) ∙ append_assoc old front (in_line (slice_index text at) ∷ []) ∙ ap (λ xs. old ++ xs) (sym (mapped text at (omega arith)));
-      room = omega (arith, c.loop-byte.invariant.room, c.append.ensures.capacity, ap (λ (xs : List ℕ). length xs) grown, length-append c.loop-byte.out.items (c.in_line.result ∷ []));
-      capacity = omega (arith, c.loop-byte.invariant.capacity, c.append.ensures.capacity);
+      room = omega (arith, c.loop-byte.invariant.room, c.push_reserved.ensures.capacity, ap (λ (xs : List ℕ). length xs) grown, length-append c.loop-byte.out.items (c.in_line.result ∷ []));
+      capacity = omega (arith, c.loop-byte.invariant.capacity, c.push_reserved.ensures.capacity);
     }
 
 pub returns-clause-items : goal.returns-clause-items

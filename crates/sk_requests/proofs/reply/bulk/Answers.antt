@@ -12,7 +12,7 @@ returns-clause-ok c =
     let digits : c.as_bytes-digits.result.now ≡ decimal size = c.as_bytes-digits.ensures.value ∙ c.format.ensures.text in
     let start : c.append_head.new.out.items ≡ old ++ head 36 size =
     c.append_head.ensures.items ∙ (λ i. c.in_ok-reserve.ensures.items i ++ 36 ∷ (digits i ++ 13 ∷ 10 ∷ [])) ∙ ap (λ xs. old ++ xs) (sym (head_parts 36 size)) in
-    c.append-2.ensures.items
+    c.append_end.ensures.items
     ∙ ap (λ xs. xs ++ 13 ∷ 10 ∷ []) (c.append.ensures.items ∙ ap (λ xs. xs ++ bytes) start)
     ∙ append_assoc (old ++ head 36 size) bytes (13 ∷ 10 ∷ [])
     ∙ append_assoc old (head 36 size) (bytes ++ 13 ∷ 10 ∷ [])

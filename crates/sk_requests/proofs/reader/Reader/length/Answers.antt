@@ -30,12 +30,18 @@ returns-in_err-count-clause-read c =
 
 pub returns-in-Some-clause-read : goal.returns-in-Some-clause-read
 returns-in-Some-clause-read c = λ text behind.
+    let said = c.in-Some.ensures in
+    c.word_next.ensures.read text c.args.bytes.now behind said.1
+    (ap (λ xs. xs ++ take c.in-Some.count c.args.bytes.now) (sym c.deref.ensures.value) ∙ said.3)
+
+pub returns-in-Some-2-clause-read : goal.returns-in-Some-2-clause-read
+returns-in-Some-2-clause-read c = λ text behind.
     let old = c.args.self.now in
     let left = c.args.left in
     let new = record old { part = c.take_line.new.part } in
-    let chunk = take c.in-Some.count c.args.bytes.now in
+    let chunk = take c.in-Some-2.count c.args.bytes.now in
     let at = subst (λ p. IsAt p old text) c.requires.place behind.1 in
-    let takes = subst (λ v. TakesLine old.limits.line old.part.items c.args.bytes.now (Ok v) c.take_line.new.part.items) c.in-Some.is c.in_ok-count.ensures in
+    let takes = subst (λ v. TakesLine old.limits.line old.part.items c.args.bytes.now (Ok v) c.take_line.new.part.items) c.in-Some-2.is c.in_ok-count.ensures in
     rw c.part.ensures (
       takes.0,
       λ some. takes.4 c.if-first-eq10.false some,
@@ -56,7 +62,7 @@ returns-in-None-clause-read c = λ text behind.
     let at = subst (λ p. IsAt p old text) c.requires.place behind.1 in
     let takes = subst (λ v. TakesLine old.limits.line old.part.items bytes (Ok v) c.take_line.new.part.items) c.in-None.is c.in_ok-count.ensures in
     let told = λ (xs : List ℕ). if slice_index (xs ++ slice_index bytes 0 ∷ []) 0 == 36 then faults.Length else faults.Mark (slice_index (xs ++ slice_index bytes 0 ∷ []) 0) in
-    let fault : c.length_fault.result ≡ told old.part.items = c.length_fault.ensures ∙ ap told (c.deref.ensures.value ∙ takes.0) in (
+    let fault : c.length_fault.result ≡ told old.part.items = c.length_fault.ensures ∙ ap told (c.deref-in-None.ensures.value ∙ takes.0) in (
       subst (λ f. HasFault old.limits f (text ++ bytes)) (sym fault) (length_long old.limits at.0.words left old.part.items text bytes takes.1.0 at.0.array at.1.0 behind.0 c.requires.some takes.1.1 takes.1.2 takes.1.3),
       (
         behind.0,

@@ -1,9 +1,9 @@
-use Rattle.std.proofs.Common.{◌≡◌, ◌+◌, ◌-◌, ◌<◌, ◌≤◌, [], ◌++◌, length, take, sym, ◌∙◌, ap, subst, arith, length-append}
-use Rattle.std.proofs.lemmas.List.{append-nil, length-take-le}
+use Rattle.std.proofs.Common.{◌≡◌, ◌+◌, ◌-◌, ◌≤◌, [], ◌++◌, length, take, Ok, sym, ◌∙◌, ap, subst, arith, length-append}
+use Rattle.std.proofs.lemmas.List.{append-nil, length-take-le, take-append-drop}
 use Rattle.std.proofs.lemmas.Result.{err_from_is_err_and}
-use Rattle.sk_requests.specs.Reading.{Keeps, IsAt, words_of}
+use Rattle.sk_requests.specs.Reading.{Keeps, IsAt, Reads, words_of}
 use Rattle.sk_requests.specs.declared.place.Place.TheVariants as places
-use Rattle.sk_requests.proofs.Steps.{word_on, at_word}
+use Rattle.sk_requests.proofs.Steps.{word_on, at_word, slice_on}
 use Rattle.sk_requests.proofs.reader.Reader.word.Goals as goal
 
 pub word_end-requires-clause-place : goal.word_end-requires-clause-place
@@ -24,6 +24,9 @@ returns-in_err-add-clause-read c =
       }),
     ))
 
+pub word_rest-requires-clause-some : goal.word_rest-requires-clause-some
+word_rest-requires-clause-some c = omega (arith, c.min-count.ensures, c.if-behind-eq0.false, c.requires.some)
+
 pub returns-clause-read : goal.returns-clause-read
 returns-clause-read c = λ text behind.
     let old = c.args.self.now in
@@ -35,25 +38,22 @@ returns-clause-read c = λ text behind.
     let word = at.0 in
     let words = at.1.array.words in
     let within : count ≤ length bytes = omega (arith, c.min-count.ensures) in
-    let some : 0 < count = omega (arith, c.min-count.ensures, c.if-behind-eq0.false, c.requires.some) in
     let same : length word + c.args.behind ≡ length (word ++ chunk) + (c.args.behind - count) = omega (arith, c.min-count.ensures, length-append word chunk, length-take-le count bytes within) in
-    rw c.part.ensures (
-      within,
-      λ _. some,
+    let read = c.word_rest.ensures.read text chunk (
+      behind.0,
       (
-        behind.0,
-        (
-          word ++ chunk,
-          record {
-            array = record {
-              words = words;
-              array = word_on words text left (length word + c.args.behind) (length (word ++ chunk) + (c.args.behind - count)) word [] chunk (word ++ chunk) [] same
-                  (ap (λ xs. xs ++ chunk) (append-nil word) ∙ sym (append-nil (word ++ chunk))) at.1.array.array;
-              keeps = subst (λ n. Keeps old.limits (length words + left) n words old.keeping (words_of old.words.items) old.room) same at.1.array.keeps;
-            };
-            short = omega (arith, at.1.short, same);
-            part = λ yes. c.in_ok-add.ensures.ok yes ∙ ap (λ xs. xs ++ chunk) (at.1.part yes);
-          },
-        ),
+        word ++ chunk,
+        record {
+          array = record {
+            words = words;
+            array = word_on words text left (length word + c.args.behind) (length (word ++ chunk) + (c.args.behind - count)) word [] chunk (word ++ chunk) [] same
+                (ap (λ xs. xs ++ chunk) (append-nil word) ∙ sym (append-nil (word ++ chunk))) at.1.array.array;
+            keeps = subst (λ n. Keeps old.limits (length words + left) n words old.keeping (words_of old.words.items) old.room) same at.1.array.keeps;
+          };
+          short = omega (arith, at.1.short, same);
+          part = λ yes. c.in_ok-add.ensures.ok yes ∙ ap (λ xs. xs ++ chunk) (at.1.part yes);
+        },
       ),
-    )
+    ) (length-take-le count bytes within) in
+    subst (λ xs. Reads text xs (Ok c.word_rest.result) c.word_rest.new.self)
+    (ap (λ xs. chunk ++ xs) (slice_on bytes count) ∙ take-append-drop count bytes) read

@@ -1,16 +1,27 @@
 -- What requests ask for, one after another.
-use Rattle.std.proofs.Common.{◌≡◌, ◌≢◌, ℕ, List, [], ◌∷◌, ◌++◌, Option, Some, None, Result, Ok, Err, refl, ◌∙◌, ap, subst}
+use Rattle.std.proofs.Common.{◌≡◌, ◌≢◌, ℕ, Bool, true, false, List, [], ◌∷◌, ◌++◌, map, Option, Some, None, Result, Ok, Err, refl, sym, ◌∙◌, ap, subst}
+use Rattle.std.proofs.lemmas.Bool.{false≢true}
+use Rattle.std.specs.Prelude.{is_none}
 use Rattle.std.specs.declared.alloc.AllocError.{AllocError}
 use Rattle.sk_requests.specs.declared.fault.Fault.{Fault}
+use Rattle.sk_commands.specs.declared.command.Command.{Command}
+use Rattle.sk_commands.specs.declared.command.Order.{Order}
+use Rattle.sk_commands.specs.declared.command.Order.TheVariants.{Run, Multi, Exec, Discard}
+use Rattle.sk_commands.specs.declared.fault.Fault.{Fault as Said}
+use Rattle.sk_commands.specs.declared.fault.Fault.TheVariants.{Unknown}
+use Rattle.sk_commands.specs.declared.name.Name.{Name}
+use Rattle.sk_commands.specs.declared.reply.Reply.TheVariants.{Error, Text}
 use Rattle.sk_commands.specs.declared.session.Queue.{Queue}
 use Rattle.sk_commands.specs.declared.work.Work.{Work}
-use Rattle.sk_commands.specs.Parsing.{order_of}
-use Rattle.sk_commands.specs.Session.{Takes}
+use Rattle.sk_commands.specs.declared.work.Work.TheVariants.{Say}
+use Rattle.sk_commands.specs.Names.{name_of}
+use Rattle.sk_commands.specs.Parsing.{order_named, order_of}
+use Rattle.sk_commands.specs.Session.{executes, refuses, turn, Takes, Turn}
 use Rattle.sk_channels.specs.declared.rejection.Rejection.{Rejection}
 use Rattle.sk_channels.specs.declared.rejection.Rejection.TheVariants as rejections
 use Rattle.sk_channels.specs.declared.inlet.Ask.{Ask}
 use Rattle.sk_channels.specs.declared.inlet.Ask.TheVariants.{Do, Reject}
-use Rattle.sk_channels.specs.Asking.{Requests, spoilt_queue, with_words, IsUnqueued, Asks, AskInTurn, asks_of, HadMemory}
+use Rattle.sk_channels.specs.Asking.{Requests, is_for_host, is_hosts, spoilt_queue, with_words, IsUnqueued, Asks, AskInTurn, ComesTo, asks_of, untold, HadMemory}
 
 pub unqueued : (old : Option Queue) (words : List (List ℕ)) (e : AllocError) (new : Option Queue)
     → Takes old (order_of words) (Err e) new → IsUnqueued old new
@@ -33,39 +44,85 @@ passed_over old words said new none takes = no_words old said new
 -- One more request asks for something.
 pub ask_on : (old : Option Queue) (told : Requests) (asked : List Ask) (mid : Option Queue)
     (t : Option (List (List ℕ))) (a : Ask) (new : Option Queue)
-    → AskInTurn old told asked mid → Asks mid t a new → AskInTurn old (told ++ t ∷ []) (asked ++ a ∷ []) new
-ask_on old [] [] mid t a new is asks = (new, subst (λ q. Asks q t a new) is asks, refl)
+    → AskInTurn old told asked mid → ComesTo (is_hosts mid t) mid t a new
+    → AskInTurn old (told ++ t ∷ []) (asked ++ a ∷ []) new
+ask_on old [] [] mid t a new is asks = (new, subst (λ q. ComesTo (is_hosts q t) q t a new) is asks, refl)
 ask_on old [] (b ∷ asked) mid t a new is asks = absurd is
 ask_on old (u ∷ told) [] mid t a new is asks = absurd is
 ask_on old (u ∷ told) (b ∷ asked) mid t a new is asks = (is.0, is.1, ask_on is.0 told asked mid t a new is.2 asks)
 
+-- ---- the host's requests
+
+unnamed : (name : Option Name) (words : List (List ℕ)) → is_none name ≡ true → order_named name words ≡ Err Unknown
+unnamed None words none = refl
+unnamed (Some name) words none = absurd (false≢true none)
+
+-- no queue is open, and no command has this name
+hosts_is : (old : Option Queue) (words : List (List ℕ)) → is_for_host old words ≡ true
+    → (old ≡ None) × (order_of words ≡ Err Unknown)
+hosts_is None [] hosts = absurd (false≢true hosts)
+hosts_is (Some queue) [] hosts = absurd (false≢true hosts)
+hosts_is None (word ∷ words) hosts = (refl, unnamed (name_of word) words hosts)
+hosts_is (Some queue) (word ∷ words) hosts = absurd (false≢true hosts)
+
+-- no request says what only a host tells
+executes_untold : (spoiled : Bool) (commands : List Command)
+    → untold (Do (executes spoiled commands).work) ≡ Do (executes spoiled commands).work
+executes_untold true commands = refl
+executes_untold false commands = refl
+
+never_told : (old : Option Queue) (order : Result Order Said) → untold (Do (turn old order).work) ≡ Do (turn old order).work
+never_told None (Ok (Run command)) = refl
+never_told None (Ok Multi) = refl
+never_told None (Ok Exec) = refl
+never_told None (Ok Discard) = refl
+never_told None (Err fault) = refl
+never_told (Some queue) (Ok (Run command)) = refl
+never_told (Some queue) (Ok Multi) = refl
+never_told (Some queue) (Ok Exec) = executes_untold queue.spoiled queue.commands
+never_told (Some queue) (Ok Discard) = refl
+never_told (Some queue) (Err fault) = refl
+
 -- There is one ask, and one queue is open then.
-one_ask : (old : Option Queue) (t : Option (List (List ℕ))) (a : Ask) (next : Option Queue) (told : Requests)
-    (asked : List Ask)
-    → Asks old t a next → (a ≢ Reject rejections.Memory) → asked ≡ asks_of next told
-    → a ∷ asked ≡ asks_of old (t ∷ told)
-one_ask old (Some words) (Do work) next told asked is had rest = λ i. Do (is.0 i) ∷
-    (rest ∙ ap (λ q. asks_of q told) is.1) i
-one_ask old (Some words) (Reject (rejections.Fault fault)) next told asked is had rest = absurd is
-one_ask old (Some words) (Reject rejections.TooLarge) next told asked is had rest = absurd is
-one_ask old (Some words) (Reject rejections.Memory) next told asked is had rest = absurd (had refl)
-one_ask old None (Do work) next told asked is had rest = absurd is
-one_ask old None (Reject (rejections.Fault fault)) next told asked is had rest = absurd is
-one_ask old None (Reject rejections.TooLarge) next told asked is had rest = λ i. Reject rejections.TooLarge ∷
+one_ask : (hosts : Bool) (old : Option Queue) (t : Option (List (List ℕ))) (a : Ask) (next : Option Queue)
+    (told : Requests) (asked : List Ask)
+    → is_hosts old t ≡ hosts → ComesTo hosts old t a next → (a ≢ Reject rejections.Memory)
+    → map untold asked ≡ asks_of next told → untold a ∷ map untold asked ≡ asks_of old (t ∷ told)
+one_ask true old None a next told asked hosts is had rest = absurd (false≢true hosts)
+one_ask true old (Some words) a next told asked hosts ((text, says), same) had rest =
+    let known = hosts_is old words hosts in
+    let turned : turn old (order_of words) ≡ refuses None Unknown = λ i. turn (known.0 i) (known.1 i) in
+    (λ i. untold (says i) ∷ (rest ∙ ap (λ q. asks_of q told) (same ∙ known.0)) i)
+    ∙ sym (ap (λ (u : Turn). Do u.work ∷ asks_of u.queue told) turned)
+one_ask false old (Some words) (Do work) next told asked hosts is had rest = λ i.
+    (ap (λ w. untold (Do w)) is.0 ∙ never_told old (order_of words)) i ∷ (rest ∙ ap (λ q. asks_of q told) is.1) i
+one_ask false old (Some words) (Reject (rejections.Fault fault)) next told asked hosts is had rest = absurd is
+one_ask false old (Some words) (Reject rejections.TooLarge) next told asked hosts is had rest = absurd is
+one_ask false old (Some words) (Reject rejections.Memory) next told asked hosts is had rest = absurd (had refl)
+one_ask false old None (Do work) next told asked hosts is had rest = absurd is
+one_ask false old None (Reject (rejections.Fault fault)) next told asked hosts is had rest = absurd is
+one_ask false old None (Reject rejections.TooLarge) next told asked hosts is had rest = λ i. Reject rejections.TooLarge ∷
     (rest ∙ ap (λ q. asks_of q told) is) i
-one_ask old None (Reject rejections.Memory) next told asked is had rest = absurd is
+one_ask false old None (Reject rejections.Memory) next told asked hosts is had rest = absurd is
 
 pub asks_are : (old : Option Queue) (told : Requests) (asked : List Ask) (new : Option Queue)
-    → AskInTurn old told asked new → HadMemory asked → asked ≡ asks_of old told
+    → AskInTurn old told asked new → HadMemory asked → map untold asked ≡ asks_of old told
 asks_are old [] [] new is had = refl
 asks_are old [] (b ∷ asked) new is had = absurd is
 asks_are old (u ∷ told) [] new is had = absurd is
-asks_are old (u ∷ told) (b ∷ asked) new is had = one_ask old u b is.0 told asked is.1 had.0
+asks_are old (u ∷ told) (b ∷ asked) new is had = one_ask (is_hosts old u) old u b is.0 told asked refl is.1 had.0
     (asks_are is.0 told asked new is.2 had.1)
 
 pub had_before : (before : List Ask) (a : Ask) → HadMemory (before ++ a ∷ []) → HadMemory before
 had_before [] a had = tt
 had_before (b ∷ before) a had = (had.0, had_before before a had.1)
+
+done_no_reject : (work : Work) → Do work ≢ Reject rejections.Memory
+done_no_reject work is = cc
+
+pub had_more : (asked : List Ask) (work : Work) → HadMemory asked → HadMemory (asked ++ Do work ∷ [])
+had_more [] work had = (done_no_reject work, tt)
+had_more (b ∷ asked) work had = (had.0, had_more asked work had.1)
 
 -- One request more has words, or is too large.
 pub words_more : (word : List ℕ) (words : List (List ℕ)) (told : Requests)
@@ -87,3 +144,13 @@ empty_more [] = refl
 empty_more (Some [] ∷ told) = empty_more told
 empty_more (Some (w ∷ ws) ∷ told) = ap (λ ts. Some (w ∷ ws) ∷ ts) (empty_more told)
 empty_more (None ∷ told) = ap (λ ts. None ∷ ts) (empty_more told)
+
+-- The request that the host is asked is asked for with what it tells.
+pub text_on : (queue : Option Queue) (told : Requests) (asked : List Ask) (words : List (List ℕ)) (text : List ℕ)
+    → is_for_host queue words ≡ true → AskInTurn None (with_words told) asked queue
+    → AskInTurn None (with_words (told ++ Some words ∷ [])) (asked ++ Do (Say (Text text)) ∷ []) queue
+text_on queue told asked [] text hosts asks = absurd (false≢true hosts)
+text_on queue told asked (word ∷ words) text hosts asks =
+    subst (λ ts. AskInTurn None ts (asked ++ Do (Say (Text text)) ∷ []) queue) (sym (words_more word words told))
+    (ask_on None (with_words told) asked queue (Some (word ∷ words)) (Do (Say (Text text))) queue asks
+    (subst (λ b. ComesTo b queue (Some (word ∷ words)) (Do (Say (Text text))) queue) (sym hosts) ((text, refl), refl)))

@@ -5,8 +5,10 @@ use Rattle.sk_requests.specs.declared.limits.Limits.{Limits}
 use Rattle.sk_channels.specs.declared.refusal.Refusal.{Refusal}
 use Rattle.sk_channels.specs.declared.refusal.Refusal.TheVariants.{NoTicket, Full, Memory}
 use Rattle.sk_channels.specs.declared.inlet.Ask.{Ask}
+use Rattle.sk_channels.specs.declared.inlet.Inlet.{Inlet}
 use Rattle.sk_channels.specs.declared.outlet.Outlet.{Outlet}
 use Rattle.sk_channels.specs.declared.channel.Channel.{Channel}
+use Rattle.sk_channels.specs.Hearing.{HasHeard}
 use Rattle.sk_channels.specs.Telling.{Told, refused_up_to, HasTold, Tells, Refuses}
 use Rattle.sk_channels.specs.Serving.{HasServed, ReplyPost, RefusePost}
 
@@ -74,3 +76,11 @@ refused_on limits asked stream told handed ticket (Err Full) old outlet given ha
     (same_served limits asked stream told handed old outlet has tells.0, tells.1)
 refused_on limits asked stream told handed ticket (Err Memory) old outlet given has tells = same_served limits asked
     stream told handed old outlet has tells
+
+-- One request more was asked for.
+pub asked_more : (limits : Limits) (asked : List Ask) (stream : List ℕ) (told : Told) (handed : List ℕ) (ask : Ask)
+    (old : Channel) (inlet : Inlet)
+    → HasServed limits asked stream told handed old → HasHeard limits (asked ++ ask ∷ []) stream inlet
+    → HasServed limits (asked ++ ask ∷ []) stream told handed (record { inlet = inlet; outlet = old.outlet })
+asked_more limits asked stream told handed ask old inlet has heard = record
+    { heard = heard; said = has.said; given = omega (arith, has.given, length-append asked (ask ∷ [])) }

@@ -2,7 +2,7 @@
 use Rattle.std.proofs.Common.{◌≡◌, ℕ, ◌+◌, ◌-◌, ◌<◌, ◌≤◌, Bool, true, false, List, ◌++◌, length, take, drop, Option, Some, None, Ok, Err, refl, sym, ◌∙◌, ap, subst, inl, inr, arith, append_assoc}
 use Rattle.std.proofs.lemmas.List.{append-nil, length-drop, take-append-drop, take-take, drop-take, drop-drop, drop_all}
 use Rattle.std.proofs.lemmas.Bool.{cases_lt, iff_false, true≢false}
-use Rattle.std.specs.Prelude.{◌↔◌, IsTrue, is_some}
+use Rattle.std.specs.Prelude.{◌↔◌, ◌||◌, IsTrue, is_some}
 use Rattle.sk_channels.specs.declared.inlet.Asked.{Asked}
 use Rattle.sk_requests.specs.declared.limits.Limits.{Limits}
 use Rattle.sk_channels.specs.declared.refusal.Refusal.{Refusal}
@@ -10,7 +10,7 @@ use Rattle.sk_channels.specs.declared.refusal.Refusal.TheVariants.{NoTicket, Ful
 use Rattle.sk_channels.specs.declared.inlet.Ask.{Ask}
 use Rattle.sk_channels.specs.declared.inlet.Fed.{Fed}
 use Rattle.sk_channels.specs.declared.inlet.Inlet.{Inlet}
-use Rattle.sk_channels.specs.Hearing.{HasHeard, HasHeardOn, Feeds}
+use Rattle.sk_channels.specs.Hearing.{only_posed, HasHeard, HasHeardOn, Feeds}
 
 -- how many bytes came, where these are left
 abbrev pub gone : List ℕ → List ℕ → ℕ
@@ -69,7 +69,7 @@ pub step_on : (old mid new : Inlet) (bytes rest : List ℕ) (steps : ℕ) (fed :
     → (limits : Limits) (asked : List Ask) (stream : List ℕ) → HasHeard limits asked stream old
     → HasHeardOn limits asked (stream ++ take (gone bytes (drop fed.count rest)) bytes) fed.asked new ×
     (fed.count ≤ length rest)
-    × (0 < length rest → 0 < fed.count)
+    × (0 < length rest → only_posed fed.asked new ≡ false → 0 < fed.count)
 step_on old mid new bytes rest steps fed was feeds limits asked stream has =
     let fed_so = feeds limits asked (stream ++ take (gone bytes rest) bytes) (was.heard limits asked stream has).0 in (
       subst (λ s. HasHeardOn limits asked s fed.asked new)
@@ -78,14 +78,14 @@ step_on old mid new bytes rest steps fed was feeds limits asked stream has =
       fed_so.1,
     )
 
--- What is left behind a step that asks for nothing.
+-- What is left behind a step that asks for nothing, and the host for nothing.
 pub less_left : (old mid new : Inlet) (bytes rest rest' : List ℕ) (steps steps' : ℕ) (fed : Fed)
     → IsLeft old mid bytes rest steps
-    → 0 < length rest → fed.asked ≡ None → rest' ≡ drop fed.count rest
+    → 0 < length rest → fed.asked ≡ None → is_some new.posed ≡ false → rest' ≡ drop fed.count rest
     → ((limits : Limits) (asked : List Ask) (stream : List ℕ) → HasHeard limits asked stream mid
     → Feeds limits asked stream rest (Ok fed) new)
     → IsLeft old new bytes rest' steps'
-less_left old mid new bytes rest rest' steps steps' fed was some none is feeds =
+less_left old mid new bytes rest rest' steps steps' fed was some none idle is feeds =
     let left : drop fed.count rest ≡ drop (gone bytes (drop fed.count rest)) bytes = left_behind bytes rest fed.count
     was.within was.left in
     subst (λ r. IsLeft old new bytes r steps') (sym is) (record {
@@ -95,7 +95,7 @@ less_left old mid new bytes rest rest' steps steps' fed was some none is feeds =
           let on = step_on old mid new bytes rest steps fed was feeds limits asked stream has in (
             subst (λ a. HasHeardOn limits asked (stream ++ take (gone bytes (drop fed.count rest)) bytes) a new) none
                 on.0,
-            (λ more. omega (arith, was.within, some, on.1, on.2 some, length-drop fed.count rest)),
+            (λ more. omega (arith, was.within, some, on.1, on.2 some (ap (λ a. only_posed a new) none ∙ idle), length-drop fed.count rest)),
           );
     })
 
@@ -131,15 +131,18 @@ pub asked_on : (old mid new : Inlet) (bytes rest rest' : List ℕ) (steps : ℕ)
     → ((limits : Limits) (asked : List Ask) (stream : List ℕ) → HasHeard limits asked stream mid
     → Feeds limits asked stream rest (Ok fed) new)
     → (limits : Limits) (asked : List Ask) (stream : List ℕ) → HasHeard limits asked stream old
-    → (gone bytes rest' ≤ length bytes) × (0 < length bytes → 0 < gone bytes rest')
+    → (gone bytes rest' ≤ length bytes) × (0 < length bytes → only_posed fed.asked new ≡ false → 0 < gone bytes rest')
     × HasHeardOn limits asked (stream ++ take (gone bytes rest') bytes) fed.asked new
 asked_on old mid new bytes rest rest' steps fed was some is feeds limits asked stream has =
     let on = step_on old mid new bytes rest steps fed was feeds limits asked stream has in
-    let less : length (drop fed.count rest) < length bytes =
-    omega (arith, was.within, some, on.1, on.2 some, length-drop fed.count rest) in
-    subst (λ r. (gone bytes r ≤ length bytes) × (0 < length bytes → 0 < gone bytes r)
-    × HasHeardOn limits asked (stream ++ take (gone bytes r) bytes) fed.asked new) (sym is)
-    (omega arith, (λ more. omega (arith, less)), on.0)
+    subst (λ r. (gone bytes r ≤ length bytes) × (0 < length bytes → only_posed fed.asked new ≡ false → 0 < gone bytes r)
+    × HasHeardOn limits asked (stream ++ take (gone bytes r) bytes) fed.asked new) (sym is) (
+      omega arith,
+      (λ more none.
+          let taken = on.2 some none in
+          omega (arith, was.within, some, on.1, taken, length-drop fed.count rest)),
+      on.0,
+    )
 
 pub some_left : (none : Bool) (n : ℕ) → IsTrue none ↔ (n ≡ 0) → none ≡ false → 0 < n
 some_left none n iff is = omega (arith, iff_false {b = none} {P = n ≡ 0} iff is)
@@ -147,3 +150,8 @@ some_left none n iff is = omega (arith, iff_false {b = none} {P = n ≡ 0} iff i
 pub nothing_asked : (asked : Option Asked) (some : Bool) → some ≡ is_some asked → some ≡ false → asked ≡ None
 nothing_asked None some same is = refl
 nothing_asked (Some one) some same is = absurd (true≢false (sym same ∙ is))
+
+-- neither was asked
+pub neither : (one other some : Bool) → some ≡ (one || other) → some ≡ false → (one ≡ false) × (other ≡ false)
+neither true other some same is = absurd (true≢false (sym same ∙ is))
+neither false other some same is = (refl, sym same ∙ is)

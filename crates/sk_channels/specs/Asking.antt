@@ -1,6 +1,10 @@
 -- What requests ask for, one after another, by the queue that is open.
-use Rattle.std.specs.Prelude.{◌≡◌, ◌≢◌, ℕ, List, [], ◌∷◌, Option, Some, None}
+use Rattle.std.specs.Prelude.{◌≡◌, ◌≢◌, ◌&&◌, ℕ, Bool, true, false, not, is_none, is_some, List, [], ◌∷◌, Option, Some, None}
+use Rattle.sk_commands.specs.declared.fault.Fault.TheVariants.{Unknown}
+use Rattle.sk_commands.specs.declared.reply.Reply.TheVariants.{Error, Text}
 use Rattle.sk_commands.specs.declared.session.Queue.{Queue}
+use Rattle.sk_commands.specs.declared.work.Work.TheVariants.{Say}
+use Rattle.sk_commands.specs.Names.{name_of}
 use Rattle.sk_commands.specs.Parsing.{order_of}
 use Rattle.sk_commands.specs.Session.{turn, spoilt}
 use Rattle.sk_channels.specs.declared.rejection.Rejection.TheVariants as rejections
@@ -29,6 +33,20 @@ Asks old (Some words) (Reject rejections.Memory) new = IsUnqueued old new
 Asks old None (Reject rejections.TooLarge) new = new ≡ spoilt_queue old
 Asks old told other new = ⊥
 
+-- whether a request of these words is the host's to answer: no queue is open, and they name no command
+abbrev pub is_for_host : Option Queue → List (List ℕ) → Bool
+is_for_host queue [] = false
+is_for_host queue (word ∷ words) = not (is_some queue) && is_none (name_of word)
+
+abbrev pub is_hosts : Option Queue → Option (List (List ℕ)) → Bool
+is_hosts queue None = false
+is_hosts queue (Some words) = is_for_host queue words
+
+-- Of the host's request it is what the host told, and no queue is open then; of each other what it asks for.
+abbrev pub ComesTo : Bool → Option Queue → Option (List (List ℕ)) → Ask → Option Queue → Type 0
+ComesTo true old told ask new = ((text : List ℕ) × (ask ≡ Do (Say (Text text)))) × (new ≡ old)
+ComesTo false old told ask new = Asks old told ask new
+
 -- the requests that have words; the others ask for nothing
 abbrev pub with_words : Requests → Requests
 with_words [] = []
@@ -39,7 +57,7 @@ with_words (None ∷ told) = None ∷ with_words told
 -- The same for requests, one after another.
 abbrev pub AskInTurn : Option Queue → Requests → List Ask → Option Queue → Type 0
 AskInTurn old [] [] new = new ≡ old
-AskInTurn old (t ∷ told) (a ∷ asked) new = (next : Option Queue) × Asks old t a next × AskInTurn next told asked new
+AskInTurn old (t ∷ told) (a ∷ asked) new = (next : Option Queue) × ComesTo (is_hosts old t) old t a next × AskInTurn next told asked new
 AskInTurn old told asked new = ⊥
 
 -- what requests ask for where there is memory to queue
@@ -47,6 +65,11 @@ abbrev pub asks_of : Option Queue → Requests → List Ask
 asks_of queue [] = []
 asks_of queue (Some words ∷ told) = Do (turn queue (order_of words)).work ∷ asks_of (turn queue (order_of words)).queue told
 asks_of queue (None ∷ told) = Reject rejections.TooLarge ∷ asks_of (spoilt_queue queue) told
+
+-- what was asked for, where for what the host told it stands that no command has this name
+abbrev pub untold : Ask → Ask
+untold (Do (Say (Text text))) = Do (Say (Error Unknown))
+untold other = other
 
 -- There was memory to queue each command.
 abbrev pub HadMemory : List Ask → Type 0

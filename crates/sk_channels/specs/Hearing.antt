@@ -1,5 +1,5 @@
 -- What a channel asked for of the bytes that came.
-use Rattle.std.specs.Prelude.{◌≡◌, ℕ, ◌+◌, ◌-◌, ◌<◌, ◌≤◌, ◌^◌, Bool, true, false, List, [], ◌∷◌, ◌++◌, length, take, Option, Some, None, Result, Ok, Err}
+use Rattle.std.specs.Prelude.{◌≡◌, ℕ, ◌+◌, ◌-◌, ◌<◌, ◌≤◌, ◌^◌, ◌&&◌, Bool, true, false, is_some, nat_lt, List, [], ◌∷◌, ◌++◌, length, take, slice_get, Option, Some, None, if◌then◌else◌, Result, Ok, Err}
 use Rattle.sk_requests.specs.declared.fault.Fault.{Fault}
 use Rattle.sk_requests.specs.declared.limits.Limits.{Limits}
 use Rattle.sk_requests.specs.declared.reader.Found.{Found}
@@ -16,13 +16,25 @@ use Rattle.sk_channels.specs.declared.inlet.Ask.TheVariants.{Reject}
 use Rattle.sk_channels.specs.declared.inlet.Asked.{Asked}
 use Rattle.sk_channels.specs.declared.inlet.Fed.{Fed}
 use Rattle.sk_channels.specs.declared.inlet.Inlet.{Inlet}
-use Rattle.sk_channels.specs.Asking.{Requests, with_words, Asks, AskInTurn}
+use Rattle.sk_channels.specs.Asking.{is_for_host, Requests, with_words, Asks, AskInTurn}
 
--- The stream is requests for which this was asked (those without words ask for nothing), and then no request that is whole.
+-- with the request that the host is asked, if it is
+abbrev pub with_posed : Requests → Option (List (List ℕ)) → Requests
+with_posed told None = told
+with_posed told (Some words) = told ++ Some words ∷ []
+
+-- It is the host's to answer.
+abbrev pub IsHosts : Option Queue → Option (List (List ℕ)) → Type 0
+IsHosts queue None = Unit {0}
+IsHosts queue (Some words) = is_for_host queue words ≡ true
+
+-- The stream is requests for which this was asked (those without words ask for nothing), and the one that the host is asked, if it is;
+-- and then no request that is whole.
 pub record IsOpen (limits : Limits) (asked : List Ask) (stream : List ℕ) (inlet : Inlet) : Type 0 where
   pub told : Requests
-  pub read : HasRead limits told stream inlet.reader
+  pub read : HasRead limits (with_posed told inlet.posed) stream inlet.reader
   pub asks : AskInTurn None (with_words told) asked inlet.session.queue
+  pub hosts : IsHosts inlet.session.queue inlet.posed
 
 -- It is requests for which this was asked, then bytes with a fault, for which it is rejected, and whatever follows.
 pub record IsClosed (limits : Limits) (asked : List Ask) (stream : List ℕ) : Type 0 where
@@ -39,7 +51,7 @@ pub record IsClosed (limits : Limits) (asked : List Ask) (stream : List ℕ) : T
 
 abbrev pub IsHeard : Bool → Limits → List Ask → List ℕ → Inlet → Type 0
 IsHeard false limits asked stream inlet = IsOpen limits asked stream inlet
-IsHeard true limits asked stream inlet = IsClosed limits asked stream
+IsHeard true limits asked stream inlet = IsClosed limits asked stream × (inlet.posed ≡ None)
 
 -- The stream came, and this was asked for, in this order, each with its ticket: 1, 2 and so on.
 pub record HasHeard (limits : Limits) (asked : List Ask) (stream : List ℕ) (inlet : Inlet) : Type 0 where
@@ -51,9 +63,15 @@ abbrev pub HasHeardOn : Limits → List Ask → List ℕ → Option Asked → In
 HasHeardOn limits asked stream None inlet = HasHeard limits asked stream inlet
 HasHeardOn limits asked stream (Some one) inlet = HasHeard limits (asked ++ one.ask ∷ []) stream inlet × (one.ticket ≡ length asked + 1)
 
--- What a call with these bytes leaves and answers: so many came, and they end a request or none. After a refusal no more came.
+-- whether only the host is asked
+abbrev pub only_posed : Option Asked → Inlet → Bool
+only_posed None inlet = is_some inlet.posed
+only_posed (Some one) inlet = false
+
+-- What a call with these bytes leaves and answers: so many came, at least one where not only the host is asked, and they end a request
+-- or none. After a refusal no more came.
 abbrev pub Feeds : Limits → List Ask → List ℕ → List ℕ → Result Fed Refusal → Inlet → Type 0
-Feeds limits asked stream bytes (Ok fed) inlet = (fed.count ≤ length bytes) × (0 < length bytes → 0 < fed.count)
+Feeds limits asked stream bytes (Ok fed) inlet = (fed.count ≤ length bytes) × (0 < length bytes → only_posed fed.asked inlet ≡ false → 0 < fed.count)
     × HasHeardOn limits asked (stream ++ take fed.count bytes) fed.asked inlet
 Feeds limits asked stream bytes (Err NoTicket) inlet = HasHeard limits asked stream inlet × (length asked + 1 ≡ 2 ^ 64 - 1)
 Feeds limits asked stream bytes (Err Full) inlet = ⊥
@@ -65,16 +83,33 @@ pub record IsGiven (old : Inlet) (told : Option (List (List ℕ))) (asked : Opti
   pub given : asked ≡ Some (record { ticket = old.next; ask = ask })
   pub asks : Asks old.session.queue told ask new.session.queue
   pub reader : new.reader ≡ old.reader
+  pub posed : new.posed ≡ old.posed
   pub next : new.next ≡ old.next + 1
   pub closed : new.closed ≡ old.closed
+
+-- The host is asked, if the request is its to answer.
+abbrev pub IsAsked : Bool → Inlet → List (List ℕ) → Option Asked → Inlet → Type 0
+IsAsked true old words asked new = (asked ≡ None) × (new ≡ record old { posed = Some words })
+IsAsked false old words asked new = IsGiven old (Some words) asked new
 
 -- Words ask for something, if there are any.
 abbrev pub WordsAsk : Inlet → List (List ℕ) → Option Asked → Inlet → Type 0
 WordsAsk old [] asked new = (asked ≡ None) × (new ≡ old)
-WordsAsk old (word ∷ words) asked new = IsGiven old (Some (word ∷ words)) asked new
+WordsAsk old (word ∷ words) asked new = IsAsked (is_for_host old.session.queue (word ∷ words)) old (word ∷ words) asked new
 
 -- What was found asks for something, if it is a request.
 abbrev pub Finds : Inlet → Found → Option Asked → Inlet → Type 0
 Finds old finds.Part asked new = (asked ≡ None) × (new ≡ old)
 Finds old (finds.Request words) asked new = WordsAsk old (words_of words.items) asked new
 Finds old finds.TooLarge asked new = IsGiven old None asked new
+
+-- ---- the request that the host is asked
+
+-- one of its words
+abbrev pub word_at : ℕ → Option (List (List ℕ)) → Option (List ℕ)
+word_at place None = None
+word_at place (Some words) = slice_get words place
+
+-- its ticket, which is the next
+abbrev pub posed_ticket : Inlet → Option ℕ
+posed_ticket inlet = if is_some inlet.posed && nat_lt inlet.next (2 ^ 64 - 1) then Some inlet.next else None

@@ -1,5 +1,5 @@
 -- What a channel asked for, and what of its replies it handed over.
-use Rattle.std.specs.Prelude.{◌≡◌, ◌⊎◌, ℕ, ◌+◌, ◌-◌, ◌<◌, ◌≤◌, ◌^◌, List, [], ◌∷◌, ◌++◌, length, take, Option, Some, None, Result, Ok, Err}
+use Rattle.std.specs.Prelude.{◌≡◌, ◌⊎◌, false, ℕ, ◌+◌, ◌-◌, ◌<◌, ◌≤◌, ◌^◌, List, [], ◌∷◌, ◌++◌, length, take, Option, Some, None, Result, Ok, Err}
 use Rattle.sk_requests.specs.declared.limits.Limits.{Limits}
 use Rattle.sk_channels.specs.declared.refusal.Refusal.{Refusal}
 use Rattle.sk_channels.specs.declared.refusal.Refusal.TheVariants.{NoTicket, Full, Memory}
@@ -7,7 +7,7 @@ use Rattle.sk_channels.specs.declared.inlet.Ask.{Ask}
 use Rattle.sk_channels.specs.declared.inlet.Asked.{Asked}
 use Rattle.sk_channels.specs.declared.inlet.Fed.{Fed}
 use Rattle.sk_channels.specs.declared.channel.Channel.{Channel}
-use Rattle.sk_channels.specs.Hearing.{HasHeard}
+use Rattle.sk_channels.specs.Hearing.{only_posed, HasHeard}
 use Rattle.sk_channels.specs.Telling.{Told, refused_up_to, HasTold}
 
 -- The stream came, and this was asked for, in this order, with the tickets 1, 2 and so on. Of these as many tickets were told this,
@@ -23,9 +23,11 @@ HasServedOn limits asked stream None told handed channel = HasServed limits aske
 HasServedOn limits asked stream (Some one) told handed channel =
     HasServed limits (asked ++ one.ask ∷ []) stream told handed channel × (one.ticket ≡ length asked + 1)
 
--- What a call with these bytes leaves and answers: so many came, and they end a request or none. After a refusal nothing has changed.
+-- What a call with these bytes leaves and answers: so many came, at least one where not only the host is asked, and they end a
+-- request or none. After a refusal nothing has changed.
 abbrev pub FeedPost : Limits → List Ask → List ℕ → Told → List ℕ → List ℕ → Result Fed Refusal → Channel → Type 0
-FeedPost limits asked stream told handed bytes (Ok fed) channel = (fed.count ≤ length bytes) × (0 < length bytes → 0 < fed.count)
+FeedPost limits asked stream told handed bytes (Ok fed) channel = (fed.count ≤ length bytes)
+    × (0 < length bytes → only_posed fed.asked channel.inlet ≡ false → 0 < fed.count)
     × HasServedOn limits asked (stream ++ take fed.count bytes) fed.asked told handed channel
 FeedPost limits asked stream told handed bytes (Err NoTicket) channel =
     HasServed limits asked stream told handed channel × (length asked + 1 ≡ 2 ^ 64 - 1)

@@ -1,7 +1,11 @@
 //! A channel: bytes in, works with tickets, and what the tickets are told, as bytes, in order.
-ghost use Rattle.std.specs.Prelude.{◌≡◌, ◌+◌, ◌<◌, ◌≤◌, ◌++◌, ℕ, List, [], length, drop, take, min, OnOk};
+ghost use Rattle.std.specs.Prelude.{◌≡◌, ◌+◌, ◌-◌, ◌<◌, ◌≤◌, ◌^◌, ◌++◌, ◌∷◌, ℕ, true, List, [], None, is_some, length, drop, take, min, option_map, OnOk};
 ghost use Rattle.sk_requests.specs.declared.limits.Limits.{Limits};
+ghost use Rattle.sk_commands.specs.declared.reply.Reply.TheVariants.{Text};
+ghost use Rattle.sk_commands.specs.declared.work.Work.TheVariants.{Say};
 ghost use Rattle.sk_channels.specs.declared.inlet.Ask.{Ask};
+ghost use Rattle.sk_channels.specs.declared.inlet.Ask.TheVariants.{Do};
+ghost use Rattle.sk_channels.specs.Hearing.{posed_ticket, word_at};
 ghost use Rattle.sk_channels.specs.Serving.{FeedPost, HasServed, RefusePost, ReplyPost};
 ghost use Rattle.sk_channels.specs.Telling.{Told};
 
@@ -59,7 +63,42 @@ impl Channel {
         self.outlet.waiting_len()
     }
 
-    /// Takes bytes from the front: up to the end of a request, or all; fewer where there is no memory for more.
+    /// Whether the host is asked for the reply to a request: no byte is taken until it told.
+    pub fn is_posed(&self) -> bool
+        ensures { result ≡ is_some self.now.inlet.posed }
+    {
+        self.inlet.is_posed()
+    }
+
+    /// A word of the request that the host is asked; `None` past the last, and where it is not asked.
+    pub fn word(&self, place: usize) -> Option<&[u8]>
+        ensures { option_map (λ s. s.now) result ≡ word_at place self.now.inlet.posed }
+    {
+        self.inlet.word(place)
+    }
+
+    /// The ticket that the request has which the host is asked.
+    pub fn posed_ticket(&self) -> Option<u64>
+        ensures { result ≡ posed_ticket self.now.inlet }
+    {
+        self.inlet.posed_ticket()
+    }
+
+    /// The host told what is to be replied: its request has its ticket, and the next bytes may come.
+    pub fn tell(&mut self)
+        requires posed { is_some self.old.inlet.posed ≡ true }
+        requires next { self.old.inlet.next < 2 ^ 64 - 1 }
+        ensures served { (limits : Limits) (asked : List Ask) (stream : List ℕ) (told : Told)
+            (handed text : List ℕ) → HasServed limits asked stream told handed self.old
+            → HasServed limits (asked ++ Do (Say (Text text)) ∷ []) stream told handed self.new }
+        ensures idle { self.new.inlet.posed ≡ None }
+        ensures most { self.new.outlet.most ≡ self.old.outlet.most }
+    {
+        self.inlet.tell();
+    }
+
+    /// Takes bytes from the front: up to the end of a request, or all; fewer where there is no memory for more, and none while the
+    /// host is asked.
     pub fn feed(&mut self, bytes: &[u8]) -> Result<Fed, Refusal>
         ensures served { (limits : Limits) (asked : List Ask) (stream : List ℕ) (told : Told)
             (handed : List ℕ) → HasServed limits asked stream told handed self.old

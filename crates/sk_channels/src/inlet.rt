@@ -1,13 +1,16 @@
 //! The way in: bytes that came to works with tickets.
-ghost use Rattle.std.specs.Prelude.{◌≡◌, ◌+◌, ◌-◌, ◌<◌, ◌≤◌, ◌^◌, ℕ, List, [], Option, None, Some, map, drop, length, ◌↔◌, IsTrue};
+ghost use Rattle.std.specs.Prelude.{◌≡◌, ◌+◌, ◌-◌, ◌<◌, ◌≤◌, ◌^◌, ◌++◌, ◌∷◌, ◌||◌, ℕ, true, false, List, [], Option, None, Some, is_some, map, drop, length, option_map, ◌↔◌, IsTrue};
 ghost use Rattle.std.specs.Vec.{vec_items};
 ghost use Rattle.sk_requests.specs.declared.limits.Limits.{Limits};
 ghost use Rattle.sk_channels.specs.declared.inlet.Ask.{Ask};
-ghost use Rattle.sk_channels.specs.Asking.{Asks};
-ghost use Rattle.sk_channels.specs.Hearing.{Feeds, Finds, HasHeard, WordsAsk};
+ghost use Rattle.sk_commands.specs.declared.reply.Reply.TheVariants.{Text};
+ghost use Rattle.sk_commands.specs.declared.work.Work.TheVariants.{Say};
+ghost use Rattle.sk_channels.specs.declared.inlet.Ask.TheVariants.{Do};
+ghost use Rattle.sk_channels.specs.Asking.{is_for_host, Asks};
+ghost use Rattle.sk_channels.specs.Hearing.{posed_ticket, word_at, Feeds, Finds, HasHeard, WordsAsk};
 
 use crate::{Refusal, Rejection};
-use sk_commands::{Session, Work};
+use sk_commands::{Keys, Name, Session, Work};
 use sk_requests::{Found, Limits, Reader};
 use std::alloc::Global;
 
@@ -34,7 +37,7 @@ pub struct Asked {
 pub struct Fed {
     /// How many bytes were taken, from the front.
     pub count: usize,
-    /// What is to be done, where they end a request.
+    /// What is to be done, where they end a request that is not the host's to answer.
     pub asked: Option<Asked>,
 }
 
@@ -44,10 +47,22 @@ pub(crate) struct Inlet {
     alloc: Global,
     reader: Reader,
     session: Session,
+    /// The words of the request that the host is asked.
+    posed: Option<Keys>,
     /// The next ticket to be given.
     next: u64,
     /// A fault was told: what comes is dropped.
     closed: bool,
+}
+
+/// Whether a request of these words is the host's to answer: no queue is open, and they name no command.
+fn is_for_host(session: &Session, words: &[Vec<u8>]) -> bool
+    ensures { result ≡ is_for_host session.now.queue (map vec_items words.now) }
+{
+    match words.first() {
+        Some(name) => !session.is_open() && Name::of(name.as_slice()).is_none(),
+        None => false,
+    }
 }
 
 /// What a request of these words comes to.
@@ -92,6 +107,7 @@ impl Inlet {
             alloc,
             reader: Reader::new(alloc, limits),
             session: Session::new(alloc),
+            posed: None,
             next: 1,
             closed: false,
         }
@@ -111,6 +127,46 @@ impl Inlet {
         self.closed
     }
 
+    /// Whether the host is asked: no byte is taken until it told.
+    pub(crate) fn is_posed(&self) -> bool
+        ensures { result ≡ is_some self.now.posed }
+    {
+        self.posed.is_some()
+    }
+
+    /// A word of the request that the host is asked.
+    pub(crate) fn word(&self, place: usize) -> Option<&[u8]>
+        ensures { option_map (λ s. s.now) result ≡ word_at place self.now.posed }
+    {
+        let words = self.posed.as_ref()?;
+        Some(words.as_slice().get(place)?.as_slice())
+    }
+
+    /// The ticket that the request has which the host is asked.
+    pub(crate) fn posed_ticket(&self) -> Option<u64>
+        ensures { result ≡ posed_ticket self.now }
+    {
+        if self.is_posed() && self.next < u64::MAX {
+            Some(self.next)
+        } else {
+            None
+        }
+    }
+
+    /// The host told what is to be replied, and its request has its ticket.
+    pub(crate) fn tell(&mut self)
+        requires posed { is_some self.old.posed ≡ true }
+        requires next { self.old.next < 2 ^ 64 - 1 }
+        ensures heard { (limits : Limits) (asked : List Ask) (stream text : List ℕ)
+            → HasHeard limits asked stream self.old
+            → HasHeard limits (asked ++ Do (Say (Text text)) ∷ []) stream self.new }
+        ensures idle { self.new.posed ≡ None }
+    {
+        let ticket = self.next;
+        self.posed = None;
+        self.next = ticket + 1;
+    }
+
     /// Gives a ticket.
     fn give(&mut self, ask: Ask) -> Asked
         requires { self.old.next < 2 ^ 64 - 1 }
@@ -122,12 +178,16 @@ impl Inlet {
         Asked { ticket, ask }
     }
 
-    /// Asks for what words say, if there are any.
+    /// Asks for what words say, if there are any; or asks the host.
     fn asked(&mut self, words: Vec<Vec<u8>>) -> Option<Asked>
         requires { self.old.next < 2 ^ 64 - 1 }
         ensures { WordsAsk self.old (map vec_items words.items) result self.new }
     {
         if words.is_empty() {
+            return None;
+        }
+        if is_for_host(&self.session, words.as_slice()) {
+            self.posed = Some(Keys::new(words));
             return None;
         }
         let ask = ask_for(&mut self.session, words);
@@ -161,6 +221,12 @@ impl Inlet {
                 asked: None,
             });
         }
+        if self.is_posed() {
+            return Ok(Fed {
+                count: 0,
+                asked: None,
+            });
+        }
         if self.next == u64::MAX {
             return Err(Refusal::NoTicket);
         }
@@ -180,7 +246,15 @@ impl Inlet {
         }
     }
 
-    /// Takes bytes from the front: up to the end of a request, or all; fewer where there is no memory for more.
+    /// Whether nothing is to be fed behind this: something was asked for, or the host is asked.
+    fn ends(&self, fed: &Fed) -> bool
+        ensures { result ≡ (is_some fed.now.asked || is_some self.now.posed) }
+    {
+        fed.asked.is_some() || self.is_posed()
+    }
+
+    /// Takes bytes from the front: up to the end of a request, or all; fewer where there is no memory for more, and none while the
+    /// host is asked.
     pub(crate) fn feed(&mut self, bytes: &[u8]) -> Result<Fed, Refusal>
         ensures { (limits : Limits) (asked : List Ask) (stream : List ℕ)
             → HasHeard limits asked stream self.old
@@ -205,7 +279,7 @@ impl Inlet {
                 }
             };
             rest = behind(rest, fed.count);
-            if fed.asked.is_some() {
+            if self.ends(&fed) {
                 return Ok(Fed {
                     count: bytes.len() - rest.len(),
                     asked: fed.asked,

@@ -1,7 +1,7 @@
 //! Channels by number.
 ghost use Rattle.std.specs.Prelude.{◌≡◌, ◌<◌, ℕ, None, Some};
 ghost use Rattle.std.specs.Borrow.{LendsIf, sem};
-ghost use Rattle.std.specs.Option.{option_copied_mut};
+ghost use Rattle.std.specs.Option.{option_copied, option_copied_mut};
 ghost use Rattle.sk_channels.specs.contracts.table.Channels.{the_row};
 ghost use Rattle.sk_channels.specs.contracts.channel.Channel as channel_row;
 ghost use Rattle.sk_channels.specs.Table.{channel_at, is_hung_up, place_at, with_channel, Connects, HangsUp, Releases};
@@ -50,6 +50,13 @@ impl Channels {
         ensures value { option_copied_mut result ≡ channel_at self.old number }
     {
         self.places.get_mut(number as usize)?.as_mut()
+    }
+
+    /// Shows the channel with this number.
+    pub fn get(&self, number: u16) -> Option<&Channel>
+        ensures { option_copied result ≡ channel_at self.now number }
+    {
+        self.places.get(number as usize)?.as_ref()
     }
 
     /// Drops the channel with this number, which stays taken until it is released.

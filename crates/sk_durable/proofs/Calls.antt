@@ -1,7 +1,9 @@
 -- What the calls come to that bring bytes in, and those that connect and hang up.
-use Rattle.std.proofs.Common.{is_some, true≢false, IfSome, ◌≡◌, ◌<◌, ◌≤◌, ◌+◌, ◌||◌, ℕ, Bool, true, false, List, [], ◌∷◌, ◌++◌, length, take, Option, Some, None, Result, Ok, Err, flat_map, inl, inr, refl, sym, ◌∙◌, ap, subst}
+use Rattle.std.proofs.Common.{is_some, true≢false, IfSome, ◌≡◌, ◌<◌, ◌≤◌, ◌+◌, ◌-◌, ◌^◌, ◌||◌, ◌&&◌, cond, unwrap_or, ⊎_elim, ℕ, Bool, true, false, List, [], ◌∷◌, ◌++◌, length, take, Option, Some, None, Result, Ok, Err, flat_map, inl, inr, refl, sym, ◌∙◌, ap, subst}
 use Rattle.std.specs.List.{list_any}
-use Rattle.std.specs.Prelude.{◌==◌}
+use Rattle.std.specs.Prelude.{◌==◌, ◌⊎◌, nat_lt}
+use Rattle.std.specs.Result.{is_err}
+use Rattle.std.proofs.lemmas.List.{append-nil}
 use Rattle.std.proofs.lemmas.List.Folds.{list_any-append}
 use Rattle.sk_record.specs.Effects.{is_marked}
 use Rattle.sk_record.specs.Notes.{has}
@@ -14,31 +16,36 @@ use Rattle.sk_batched.specs.Batched.{Stays}
 use Rattle.sk_requests.specs.declared.limits.Limits.{Limits as Requests}
 use Rattle.sk_commands.specs.declared.work.Answer.{Answer}
 use Rattle.sk_commands.specs.declared.work.Work.{Work}
+use Rattle.sk_commands.specs.Texts.{answer_text}
 use Rattle.sk_commands.specs.Work.{comes_to}
 use Rattle.sk_served.specs.Names.{names_reserved}
 use Rattle.sk_served.specs.Served.{Asked}
 use Rattle.sk_channels.specs.declared.channel.Channel.{Channel}
 use Rattle.sk_channels.specs.declared.inlet.Ask.{Ask}
+use Rattle.sk_channels.specs.declared.inlet.Ask.TheVariants.{Do}
 use Rattle.sk_channels.specs.declared.inlet.Asked.{Asked as OneAsked}
 use Rattle.sk_channels.specs.declared.inlet.Fed.{Fed as FedBytes}
 use Rattle.sk_channels.specs.declared.refusal.Refusal.{Refusal as Refused}
 use Rattle.sk_channels.specs.declared.refusal.Refusal.TheVariants as channels
 use Rattle.sk_channels.specs.declared.table.Channels.{Channels}
+use Rattle.sk_channels.specs.Hearing.{only_posed, posed_ticket}
 use Rattle.sk_channels.specs.Serving.{FeedPost as Feeds, HasServed, HasServedOn}
-use Rattle.sk_channels.specs.Table.{channel_at}
+use Rattle.sk_channels.specs.Table.{channel_at, place_at, with_channel}
 use Rattle.sk_channels.specs.Telling.{Told}
+use Rattle.sk_durable.specs.declared.refusal.Refusal.{Refusal}
+use Rattle.sk_durable.specs.declared.refusal.Refusal.TheVariants as refusals
 use Rattle.sk_durable.specs.declared.refusal.NotDone.{NotDone}
-use Rattle.sk_durable.specs.declared.refusal.NotDone.TheVariants.{LongKey, Memory}
+use Rattle.sk_durable.specs.declared.refusal.NotDone.TheVariants.{LongKey, Stopped, Full, TooMany, Memory}
 use Rattle.sk_durable.specs.declared.store.End.{End}
 use Rattle.sk_durable.specs.declared.store.End.TheVariants as ends
 use Rattle.sk_durable.specs.declared.works.Asker.{Asker}
-use Rattle.sk_durable.specs.Asked.{error, long_key_words, work_of}
+use Rattle.sk_durable.specs.Asked.{error, long_key_words, told_work, work_of}
 use Rattle.sk_durable.specs.Refused.{channel_refused}
-use Rattle.sk_durable.specs.Works.{against, asked_by, batch_for, deed_now, has_now, touched, Batches, CarryPost, IsNotDone, IsTold, KnowsIfTold}
+use Rattle.sk_durable.specs.Works.{against, ahead_of, asked_by, batch_for, deed_now, has_now, touched, Batches, CarryPost, IsNotDone, IsTold, KnowsIfTold}
 use Rattle.sk_durable.specs.Store.{asked_for, came, first_answer, Becomes, Goes, HasPast, HavePasts, Past, StoreView}
-use Rattle.sk_durable.specs.Calls.{AsksFor, Call, Drops, IsDone, IsFor, LeavesIt, Serves}
-use Rattle.sk_durable.specs.Posts.{drops, AnswerPost, FeedPost, FreesIfLast, HasNoneReady, LetGoPost, MayFeed, TryPost}
-use Rattle.sk_durable.proofs.Ways.{nothing_came}
+use Rattle.sk_durable.specs.Calls.{AsksFor, Call, Does, Draws, Drops, Rests, IsDone, IsFor, LeavesIt, Serves}
+use Rattle.sk_durable.specs.Posts.{drops, end_of, is_posed, AnswerPost, has_refused, FreesIfLast, HasNoneReady, LetGoPost, MayFeed, PosedPost, TakePost, TellPost, TryPost}
+use Rattle.sk_durable.proofs.Ways.{nothing_came, now_there}
 
 -- ---- calls, one after another
 
@@ -129,26 +136,27 @@ pub all_stays : (b : Batches) → Stays b b
 all_stays b = record { kernel = inl refl; queue = refl; begun = refl }
 
 -- what became of what was asked for, in the batches alone
-abbrev pub Comes : Asker → Ask → Result (Unit {0}) NotDone → Batches → Batches → Type 0
-Comes asker ask (Ok _) b c = (asked : Asked) × (answer : Answer) × (rests : List ℕ) × (asked.channel ≡ asker.channel) × (asked.ticket ≡ asker.ticket)
-    × IsDone b ask asked answer rests c
-Comes asker ask (Err why) b c = LeavesIt b asker ask why c
+abbrev pub Comes : Bool → Asker → Ask → Result (Option (List ℕ)) NotDone → Batches → Batches → Type 0
+Comes looks asker ask (Ok ahead) b c = (asked : Asked) × (answer : Answer) × (rests : List ℕ) × (asked.channel ≡ asker.channel) × (asked.ticket ≡ asker.ticket)
+    × IsDone b ask asked answer rests c × (ahead ≡ ahead_of looks answer)
+Comes looks asker ask (Err why) b c = LeavesIt b asker ask why c
 
-module _ (asker : Asker) (ask : Ask) (b seen : Batches) (still : Stays b seen) (work : Work) (is_for : IsFor b asker ask work) (free : names_reserved work ≡ false) where
-  pub comes : (result : Result (Unit {0}) NotDone) (c : Batches) → CarryPost asker work result seen c → Comes asker ask result b c
-  comes (Ok _) c (known, none, carries) = (
+module _ (looks : Bool) (asker : Asker) (ask : Ask) (b seen : Batches) (still : Stays b seen) (work : Work) (is_for : IsFor b asker ask work) (free : names_reserved work ≡ false) where
+  pub comes : (result : Result (Option (List ℕ)) NotDone) (c : Batches) → CarryPost looks asker work result seen c → Comes looks asker ask result b c
+  comes (Ok ahead) c (known, none, carries, is_ahead) = (
     now_asked seen asker known work,
     answer_of seen known work,
     rests_of seen asker known work,
     refl,
     refl,
     record { seen = seen; still = still; is_for = is_for; free = free; carries = carries; told = told_of seen asker known work },
+    is_ahead,
   )
   comes (Err why) c not_done = (seen, still, work, is_for, not_done)
 
 -- without memory nothing of it is done
-pub no_memory : (asker : Asker) (ask : Ask) (b c : Batches) → Stays b c → Comes asker ask (Err Memory) b c
-no_memory asker ask b c still = (b, all_stays b, work_of ask, inl refl, inl still)
+pub no_memory : (looks : Bool) (asker : Asker) (ask : Ask) (b c : Batches) → Stays b c → Comes looks asker ask (Err Memory) b c
+no_memory looks asker ask b c still = (b, all_stays b, work_of ask, inl refl, inl still)
 
 -- a key was too long: nothing has changed
 pub was_long : (asker : Asker) (ask : Ask) (b c : Batches) (work : Work) → work ≡ work_of ask → IsNotDone LongKey b asker work c → Stays b c × IsFor b asker ask (error long_key_words)
@@ -164,9 +172,11 @@ was_long asker ask b c work is (known, knows, long, still) = (
   ),
 )
 
-pub tried : (asker : Asker) (ask : Ask) (result : Result (Unit {0}) NotDone) (a : StoreView) (b : StoreView) → Comes asker ask result a.batched b.batched → b ≡ record a { batched = b.batched } → TryPost asker ask result a b
-tried asker ask (Ok _) a b (asked, answer, rests, channel, ticket, done) same = (asked, answer, rests, channel, ticket, done, same)
-tried asker ask (Err why) a b leaves same = (leaves, same)
+pub tried : (looks : Bool) (asker : Asker) (ask : Ask) (result : Result (Option (List ℕ)) NotDone) (a : StoreView) (b : StoreView)
+    → Comes looks asker ask result a.batched b.batched → b ≡ record a { batched = b.batched } → TryPost looks asker ask result a b
+tried looks asker ask (Ok ahead) a b (asked, answer, rests, channel, ticket, done, is_ahead) same =
+    (asked, answer, rests, channel, ticket, done, is_ahead, same)
+tried looks asker ask (Err why) a b leaves same = (leaves, same)
 
 -- twice the batches alone were others
 pub rest_on : (a m b : StoreView) → m ≡ record a { batched = m.batched } → b ≡ record m { batched = b.batched } → b ≡ record a { batched = b.batched }
@@ -197,13 +207,20 @@ pub has_past : (limits : Requests) (bytes : List ℕ) (before after : Channel) (
 has_past limits bytes before after result served (p, has) =
     past_of limits bytes after result p (served limits p.asked p.stream p.told p.handed has)
 
-module _ (t : ℕ) (bytes : List ℕ) (a : StoreView) (before after : Channel) (new : Channels) (may : MayFeed a) (becomes : Becomes t before after a.channels new) where
+module _ (looks : Bool) (t : ℕ) (bytes : List ℕ) (a : StoreView) (before after : Channel) (new : Channels) (may : MayFeed a) (becomes : Becomes t before after a.channels new) where
   abbrev heard : StoreView
   heard = record a { channels = new }
 
+  -- the host is asked there, or not
+  pub posed_is : (posed : Bool) → posed ≡ is_some after.inlet.posed → posed ≡ is_posed (channel_at new t)
+  posed_is posed is =
+      let here : channel_at new t ≡ Some after =
+      ap (λ (cs : Channels). channel_at cs t) becomes.left ∙ now_there a.channels t before becomes.there after in
+      is ∙ sym (ap is_posed here)
+
   module _ (fed : FedBytes) (served : IsServed bytes (Ok fed) before after) (have : HavePasts a.limits.requests a.channels) where
     -- so many bytes came
-    counts : (fed.count ≤ length bytes) × (0 < length bytes → 0 < fed.count)
+    counts : (fed.count ≤ length bytes) × (0 < length bytes → only_posed fed.asked after.inlet ≡ false → 0 < fed.count)
     counts =
         let was : (p : Past) × HasPast a.limits.requests p before = have t before becomes.there in
         let all = served a.limits.requests was.0.asked was.0.stream was.0.told was.0.handed was.1 in (all.0, all.1)
@@ -218,21 +235,37 @@ module _ (t : ℕ) (bytes : List ℕ) (a : StoreView) (before after : Channel) (
         subst (λ asked. HasServedOn limits p.asked (p.stream ++ take fed.count bytes) asked p.told p.handed after) some
         (served limits p.asked p.stream p.told p.handed has).2
 
-    pub part_fed : fed.asked ≡ None → FeedPost t bytes (Ok (record { count = fed.count; end = ends.Part })) a heard
-    part_fed none = (may, counts.0, counts.1, ((before, after, becomes, hears none), (refl, refl, refl)))
+    pub part_fed : fed.asked ≡ None → (posed : Bool) → posed ≡ is_some after.inlet.posed
+        → TakePost looks t bytes (Ok (record { count = fed.count; end = end_of posed })) a heard
+    part_fed none true is = (
+      may,
+      counts.0,
+      (λ more not_asked. absurd (not_asked refl)),
+      (((before, after, becomes, hears none), (refl, refl, refl)), ap end_of (posed_is true is), refl),
+    )
+    part_fed none false is = (
+      may,
+      counts.0,
+      (λ more not_asked. counts.1 more (ap (λ asked. only_posed asked after.inlet) none ∙ sym is)),
+      (((before, after, becomes, hears none), (refl, refl, refl)), ap end_of (posed_is false is), refl),
+    )
+
+    some_fed : (one : OneAsked) → fed.asked ≡ Some one → 0 < length bytes → 0 < fed.count
+    some_fed one some more = counts.1 more (ap (λ asked. only_posed asked after.inlet) some)
 
     asks_for : (one : OneAsked) → fed.asked ≡ Some one → AsksFor (take fed.count bytes) one.ask one.ticket t a heard
     asks_for one some =
         (before, after, becomes, (λ limits p has. (asks one some limits p has).0), (λ limits p has. (asks one some limits p has).1))
 
     -- what they ask for is answered
-    pub all_fed : (one : OneAsked) → fed.asked ≡ Some one → (end : End) (b : StoreView) → AnswerPost (record { channel = t; ticket = one.ticket }) one.ask end heard b
-        → FeedPost t bytes (Ok (record { count = fed.count; end = end })) a b
+    pub all_fed : (one : OneAsked) → fed.asked ≡ Some one → (end : End) (b : StoreView) → AnswerPost looks (record { channel = t; ticket = one.ticket }) one.ask end heard b
+        → TakePost looks t bytes (Ok (record { count = fed.count; end = end })) a b
     all_fed one some ends.Part b post = absurd post
+    all_fed one some ends.Asked b post = absurd post
     all_fed one some ends.Done b (asked, answer, rests, channel, ticket, done, same) = (
       may,
       counts.0,
-      counts.1,
+      (λ more done. some_fed one some more),
       (
         one.ask,
         asked,
@@ -245,12 +278,13 @@ module _ (t : ℕ) (bytes : List ℕ) (a : StoreView) (before after : Channel) (
           done,
           (ap (λ (s : StoreView). s.limits) same, ap (λ (s : StoreView). s.places) same),
         ),
+        ap (λ (s : StoreView). s.ahead) same,
       ),
     )
     all_fed one some (ends.NotDone why) b (leaves, same) = (
       may,
       counts.0,
-      counts.1,
+      (λ more done. some_fed one some more),
       (
         one.ask,
         one.ticket,
@@ -259,11 +293,12 @@ module _ (t : ℕ) (bytes : List ℕ) (a : StoreView) (before after : Channel) (
           leaves,
           (ap (λ (s : StoreView). s.limits) same, ap (λ (s : StoreView). s.places) same),
         ),
+        ap (λ (s : StoreView). s.ahead) same,
       ),
     )
 
   -- no more came
-  pub not_fed : (why : Refused) → IsServed bytes (Err why) before after → HavePasts a.limits.requests a.channels → FeedPost t bytes (Err (channel_refused why)) a heard
+  pub not_fed : (why : Refused) → IsServed bytes (Err why) before after → HavePasts a.limits.requests a.channels → TakePost looks t bytes (Err (channel_refused why)) a heard
   not_fed channels.NoTicket served have = (
     may,
     (before, becomes.there, λ limits p has. (served limits p.asked p.stream p.told p.handed has).1),
@@ -274,3 +309,137 @@ module _ (t : ℕ) (bytes : List ℕ) (a : StoreView) (before after : Channel) (
       absurd (served a.limits.requests was.0.asked was.0.stream was.0.told was.0.handed was.1)
   not_fed channels.Memory served have =
       (may, ((before, after, becomes, nothing_came before after (λ limits p has. served limits p.asked p.stream p.told p.handed has)), (refl, refl, refl)))
+
+-- ---- what the host told
+
+-- a ticket is given where the host is asked, and it is the next
+pub given_ticket : (some : Bool) (next ticket : ℕ) → cond some (Some next) None ≡ Some ticket → (some ≡ true) × (ticket ≡ next)
+given_ticket true next ticket is = (refl, sym (ap (λ (o : Option ℕ). unwrap_or o next) is))
+given_ticket false next ticket is = cc
+
+-- what is carried out only replies what it told
+told_is : (b : Batches) (asker : Asker) (text : List ℕ) (work : Work) → IsFor b asker (Do (told_work text)) work → work ≡ told_work text
+told_is b asker text work (inl is) = is
+told_is b asker text work (inr (is, (known, knows, long))) = cc
+
+told_reply : (b : Batches) (text : List ℕ) (asked : Asked) (answer : Answer) (rests : List ℕ) (c : Batches)
+    → IsDone b (Do (told_work text)) asked answer rests c → answer_text answer ≡ text
+told_reply b text asked answer rests c done =
+    ap answer_text (
+    done.told.answer_is
+    ∙ ap (λ w. (comes_to asked.known w (has_now done.seen.kernel)).reply)
+    (told_is b (record { channel = asked.channel; ticket = asked.ticket }) text asked.work done.is_for)
+    )
+
+-- a text is told to a channel, whatever its past was
+abbrev pub IsToldTo : Channel → Channel → Type 0
+IsToldTo before after = (limits : Requests) (asked : List Ask) (stream : List ℕ) (told : Told) (handed text : List ℕ)
+    → HasServed limits asked stream told handed before
+    → HasServed limits (asked ++ Do (told_work text) ∷ []) stream told handed after
+
+rests_still : (a b : StoreView) → Stays a.batched b.batched → b ≡ record a { batched = b.batched } → Does a Rests b
+rests_still a b stays same = (
+  stays,
+  (λ number. ap (λ (s : StoreView). place_at s.channels number) same),
+  (ap (λ (s : StoreView). s.limits) same, ap (λ (s : StoreView). s.places) same),
+)
+
+-- it is not asked there
+pub not_posed : (t : ℕ) (text : List ℕ) (a : StoreView) (why : Refusal) → has_refused a ≡ false → PosedPost t (Err why) a
+    → TellPost t text (Err why) a a
+not_posed t text a refusals.NoChannel none posed = (none, posed, refl)
+not_posed t text a refusals.NoTicket none posed = (none, posed, refl)
+not_posed t text a refusals.DecisionDue none posed = absurd posed
+not_posed t text a refusals.Full none posed = absurd posed
+not_posed t text a refusals.Memory none posed = absurd posed
+
+-- without memory for the text
+pub no_text : (a : StoreView) → Does a Rests a
+no_text a = (all_stays a.batched, (λ number. refl), (refl, refl))
+
+-- nothing of it is done: nothing is seen to have changed, or the guess of the open batch is drawn
+pub not_told : (why : NotDone) (asker : Asker) (work : Work) (a b : StoreView) → IsNotDone why a.batched asker work b.batched
+    → b ≡ record a { batched = b.batched } → Does a Rests b ⊎ Does a Draws b
+not_told Memory asker work a b left same =
+    ⊎_elim (λ stays. inl (rests_still a b stays same)) (λ begins. inr (
+      begins.0,
+      begins.1,
+      (ap (λ (s : StoreView). s.limits) same, ap (λ (s : StoreView). s.channels) same),
+      ap (λ (s : StoreView). s.places) same,
+    )) left
+not_told LongKey asker work a b (known, knows, is, stays) same = inl (rests_still a b stays same)
+not_told Stopped asker work a b (known, knows, is, stays) same = inl (rests_still a b stays same)
+not_told Full asker work a b (known, knows, is, stays) same = inl (rests_still a b stays same)
+not_told TooMany asker work a b (known, knows, is, stays) same = inl (rests_still a b stays same)
+
+-- the channel has some past then
+pub told_past : (limits : Requests) (before after : Channel) → IsToldTo before after → (p : Past) × HasPast limits p before
+    → (p : Past) × HasPast limits p after
+told_past limits before after tells (p, has) = (
+  asked_for [] (Do (told_work [])) p,
+  subst (λ stream. HasServed limits (p.asked ++ Do (told_work []) ∷ []) stream p.told p.handed after) (sym (append-nil p.stream))
+      (tells limits p.asked p.stream p.told p.handed [] has),
+)
+
+-- the channel that is asked is the one that is there
+pub posed_there : (t ticket : ℕ) (a : StoreView) (before : Channel) → PosedPost t (Ok ticket) a → channel_at a.channels t ≡ Some before
+    → posed_ticket before.inlet ≡ Some ticket
+posed_there t ticket a before (channel, there, posed) here =
+    let same : channel ≡ before = cc (there, here) in
+    subst (λ (c : Channel). posed_ticket c.inlet ≡ Some ticket) same posed
+
+-- it was carried out
+pub was_done : (looks : Bool) (asker : Asker) (work : Work) (result : Result (Option (List ℕ)) NotDone) (b c : Batches)
+    → false ≡ is_err result → CarryPost looks asker work result b c → (ahead : Option (List ℕ)) × CarryPost looks asker work (Ok ahead) b c
+was_done looks asker work (Ok ahead) b c is post = (ahead, post)
+was_done looks asker work (Err why) b c is post = absurd (true≢false (sym is))
+
+module _ (t : ℕ) (text : List ℕ) (a m : StoreView) (before after : Channel) (ticket : ℕ) where
+  abbrev told_ask : Ask
+  told_ask = Do (told_work text)
+
+  abbrev left : StoreView
+  left = record a { batched = m.batched; channels = with_channel a.channels t after }
+
+  -- its request has the ticket that is the next
+  is_asked : IsToldTo before after → posed_ticket before.inlet ≡ Some ticket → Becomes t before after a.channels left.channels
+      → AsksFor [] told_ask ticket t a left
+  is_asked tells posed becomes = (
+    before,
+    after,
+    becomes,
+    (λ limits p has. subst (λ stream. HasServed limits (p.asked ++ told_ask ∷ []) stream p.told p.handed after) (sym (append-nil p.stream))
+        (tells limits p.asked p.stream p.told p.handed text has)),
+    (λ limits p has.
+        (given_ticket (is_some before.inlet.posed && nat_lt before.inlet.next (2 ^ 64 - 1)) before.inlet.next ticket posed).1
+        ∙ has.heard.tickets),
+  )
+
+  pub all_told : (ahead : Option (List ℕ)) → has_refused a ≡ false → channel_at a.channels t ≡ Some before
+      → posed_ticket before.inlet ≡ Some ticket
+      → CarryPost false (record { channel = t; ticket = ticket }) (told_work text) (Ok ahead) a.batched m.batched
+      → IsToldTo before after → after.inlet.posed ≡ None → after.outlet.most ≡ before.outlet.most
+      → TellPost t text (Ok tt) a left
+  all_told ahead none there posed carries tells idle most =
+      let asker : Asker = record { channel = t; ticket = ticket } in
+      let all : Comes false asker told_ask (Ok ahead) a.batched m.batched = comes false asker told_ask a.batched a.batched
+      (all_stays a.batched) (told_work text) (inl refl) refl (Ok ahead) m.batched carries in
+      let asked : Asked = all.0 in
+      let answer : Answer = all.1 in
+      let rests : List ℕ = all.2 in
+      let becomes : Becomes t before after a.channels left.channels = record { there = there; left = refl; most = most } in
+      let here : channel_at left.channels t ≡ Some after = now_there a.channels t before there after in (
+        asked,
+        answer,
+        rests,
+        (
+          none,
+          sym all.3,
+          subst (λ n. AsksFor [] told_ask n t a left) (sym all.4) (is_asked tells posed becomes),
+          all.5,
+          (refl, refl),
+        ),
+        told_reply a.batched text asked answer rests m.batched all.5,
+        (before, there, subst (λ n. posed_ticket before.inlet ≡ Some n) (sym all.4) posed),
+        ap is_posed here ∙ ap (λ (p : Option (List (List ℕ))). is_some p) idle,
+      )

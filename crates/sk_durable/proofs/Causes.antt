@@ -32,7 +32,7 @@ use Rattle.sk_durable.specs.declared.refusal.NotDone.TheVariants as undone
 use Rattle.sk_durable.specs.declared.works.Asker.{Asker}
 use Rattle.sk_durable.specs.Refused as told
 use Rattle.sk_durable.specs.Works as works
-use Rattle.sk_durable.specs.Works.{against, asked_by, deed_now, names_wrong, touched, Batches, CarryPost, IsHanded, IsNotDone, KnowsIfTold, LetsOut, RestorePost, TakenIn, TakesAlone, WorkStep}
+use Rattle.sk_durable.specs.Works.{against, asked_by, ahead_in, deed_now, names_wrong, touched, Batches, CarryPost, IsAhead, IsHanded, IsNotDone, KnowsIfTold, LetsOut, RestorePost, TakenIn, TakesAlone, WorkStep}
 
 abbrev Done : Type 0
 Done = Deed (List ℕ) (List ℕ) (ℕ × Answer)
@@ -162,6 +162,10 @@ module _ (b : Batches) (asker : Asker) (work : Work) (step : WorkStep) (h : IsHa
     begun = ap (λ (x : Batches). x.begun) same;
   }
 
+  -- what is told ahead is its answer
+  ahead_now : (looks : Bool) (ahead : Option (List ℕ)) → ahead ≡ ahead_in looks step.said → IsAhead looks b asked ahead
+  ahead_now looks ahead is = is ∙ ap (λ (d : Done). ahead_in looks d.said) h.does
+
   -- ---- it is to be logged
 
   module _ (writes : may_write_some work ≡ true) (bytes : List ℕ) (is : bytes ≡ log_text work) (c : Batches)
@@ -181,8 +185,9 @@ module _ (b : Batches) (asker : Asker) (work : Work) (step : WorkStep) (h : IsHa
     not_logged TooMany post = left c first TooMany (logs_against writes bytes is) post.0 (still c post.1)
     not_logged Memory post = ⊎_elim (λ stays. inl stays) (λ begins. inr (room post.0, begins.1)) post.1
 
-    pub logged : (number : ℕ) → LogPost (Ok number) step after bytes b c → CarryPost asker work (Ok tt) b c
-    logged number post = (
+    pub logged : (number : ℕ) (looks : Bool) (ahead : Option (List ℕ)) → LogPost (Ok number) step after bytes b c
+        → ahead ≡ ahead_in looks step.said → CarryPost looks asker work (Ok ahead) b c
+    logged number looks ahead post told = (
       h.known,
       sym (logs_against writes bytes is) ∙ ap told_as post.0,
       record {
@@ -194,6 +199,7 @@ module _ (b : Batches) (asker : Asker) (work : Work) (step : WorkStep) (h : IsHa
               (subst (λ bs. Logs b (byte_deed step) bs c) is post.2),
         );
       },
+      ahead_now looks ahead told,
     )
 
   -- ---- it is not
@@ -208,8 +214,9 @@ module _ (b : Batches) (asker : Asker) (work : Work) (step : WorkStep) (h : IsHa
     not_taken TooMany post = left c (step_refused step) TooMany (takes_against reads) post.0 post.1
     not_taken Memory post = inl post.1
 
-    pub taken : TakePost (Ok tt) step after b c → CarryPost asker work (Ok tt) b c
-    taken post = (
+    pub taken : (looks : Bool) (ahead : Option (List ℕ)) → TakePost (Ok tt) step after b c
+        → ahead ≡ ahead_in looks step.said → CarryPost looks asker work (Ok ahead) b c
+    taken looks ahead post told = (
       h.known,
       sym (takes_against reads) ∙ ap told_as post.0,
       record {
@@ -218,14 +225,15 @@ module _ (b : Batches) (asker : Asker) (work : Work) (step : WorkStep) (h : IsHa
         taken = subst (λ w. TakenIn w b asked c) (sym reads)
             (subst (λ (d : Done). Takes bytes_cmp b.kernel.parts d None c.kernel.parts) h.does post.1, post.2, post.3);
       },
+      ahead_now looks ahead told,
     )
 
 -- it is told as its cause here
-module _ (b c : Batches) (asker : Asker) (work : Work) (why : Refusal) where
-  pub told_so : (result : Result (Unit {0}) NotDone) → IsErr result
+module _ (b c : Batches) (asker : Asker) (work : Work) (why : Refusal) (looks : Bool) where
+  pub told_so : (result : Result (Option (List ℕ)) NotDone) → IsErr result
       → IsErrAnd result (λ cause. cause ≡ told.step_refused why)
-      → IsNotDone (told.step_refused why) b asker work c → CarryPost asker work result b c
-  told_so (Ok done) is gives left = absurd (cc)
+      → IsNotDone (told.step_refused why) b asker work c → CarryPost looks asker work result b c
+  told_so (Ok ahead) is gives left = absurd (cc)
   told_so (Err cause) is gives left = subst (λ w. IsNotDone w b asker work c) (sym gives) left
 
 -- ---- work that is in the log already

@@ -20,8 +20,9 @@ use Rattle.sk_channels.specs.declared.inlet.Ask.TheVariants.{Do, Reject}
 use Rattle.sk_channels.specs.declared.inlet.Inlet.{Inlet}
 use Rattle.sk_channels.specs.declared.rejection.Rejection.{Rejection}
 use Rattle.sk_channels.specs.declared.rejection.Rejection.TheVariants as rejections
-use Rattle.sk_channels.specs.Asking.{with_words, AskInTurn, Asks, Requests}
+use Rattle.sk_channels.specs.Asking.{is_hosts, with_words, AskInTurn, Asks, ComesTo, Requests}
 use Rattle.sk_channels.specs.Hearing.{IsHeard}
+use Rattle.sk_commands.specs.declared.reply.Reply.TheVariants.{Text}
 use Rattle.sk_commands.specs.declared.session.Queue.{Queue}
 use Rattle.sk_commands.specs.declared.work.Answer.{Answer}
 use Rattle.sk_commands.specs.declared.work.Work.{Work}
@@ -143,6 +144,16 @@ one_asked (Some queue) None (Reject rejections.TooLarge) next asks said =
     (subst WaitsSaid (sym asks) said, λ work is. reject_or_do rejections.TooLarge work is)
 one_asked old told ask next asks said = absurd asks
 
+-- what a host told is only a reply
+one_comes : (hosts : Bool) (old : Option Queue) (told : Option (List (List ℕ))) (ask : Ask) (next : Option Queue)
+    → ComesTo hosts old told ask next → WaitsSaid old
+    → WaitsSaid next × ((work : Work) → ask ≡ Do work → IsReplyOrAsked work)
+one_comes true old told ask next ((text, says), same) said = (
+  subst WaitsSaid (sym same) said,
+  λ work is. subst IsReplyOrAsked (same_do (Say (Text text)) work (sym says ∙ is)) tt,
+)
+one_comes false old told ask next asks said = one_asked old told ask next asks said
+
 all_asked : (old : Option Queue) (told : Requests) (asked : List Ask) (next : Option Queue)
     → AskInTurn old told asked next → WaitsSaid old
     → (work : Work) → Contains asked (Do work) → IsReplyOrAsked work
@@ -150,7 +161,7 @@ all_asked old [] [] next asks said work at = nothing_there (Do work) at
 all_asked old [] (a ∷ asked) next asks said work at = absurd asks
 all_asked old (t ∷ told) [] next asks said work at = absurd asks
 all_asked old (t ∷ told) (a ∷ asked) next (mid, one, more) said work at =
-    let here = one_asked old t a mid one said in
+    let here = one_comes (is_hosts old t) old t a mid one said in
     elim (first_or_later a asked (Do work) at) [
       | inl is ↦ here.1 work is
       | inr later ↦ all_asked mid told asked next more here.0 work later
@@ -161,7 +172,7 @@ heard_asked : (closed : Bool) (limits : ReaderLimits) (asked : List Ask) (stream
     → (work : Work) → Contains asked (Do work) → IsReplyOrAsked work
 heard_asked false limits asked stream inlet heard work at = all_asked None
     (with_words heard.told) asked inlet.session.queue heard.asks tt work at
-heard_asked true limits asked stream inlet heard work at =
+heard_asked true limits asked stream inlet (heard, none) work at =
     elim (Contains-push_cases heard.before (Reject (rejections.Fault heard.fault)) (Do work)
     (subst (λ all. Contains all (Do work)) heard.rejects at)) [
       | inl before ↦ all_asked None (with_words heard.told) heard.before heard.queue heard.asks tt work before

@@ -1,6 +1,6 @@
 -- What is carried out for what a channel asked for.
 use Rattle.std.specs.Prelude.{ℕ, List, codes, if◌then◌else◌}
-use Rattle.sk_commands.specs.declared.reply.Reply.TheVariants.{Rejected}
+use Rattle.sk_commands.specs.declared.reply.Reply.TheVariants.{Rejected, Text}
 use Rattle.sk_commands.specs.declared.work.Work.{Work}
 use Rattle.sk_commands.specs.declared.work.Work.TheVariants.{Say}
 use Rattle.sk_served.specs.Names.{names_reserved}
@@ -18,6 +18,10 @@ long_key_words = codes "ERR a key is longer than 65536 bytes"
 -- the work that only replies an error of these words
 abbrev pub error : List ℕ → Work
 error words = Say (Rejected words)
+
+-- the work that only replies what the host told
+abbrev pub told_work : List ℕ → Work
+told_work text = Say (Text text)
 
 -- the work that was asked for; an error where it names a reserved key, and for a rejection
 abbrev pub work_of : Ask → Work

@@ -1,5 +1,5 @@
 -- What each call of a store answers, and what it leaves.
-use Rattle.std.specs.Prelude.{◌≡◌, ◌≢◌, ◌⊎◌, ◌||◌, ◌+◌, ◌-◌, ◌<◌, ◌≤◌, ◌^◌, ℕ, Bool, true, false, nat_le, min, List, [], ◌∷◌, ◌++◌, length, map, take, drop, Option, Some, None, Result, Ok, Err}
+use Rattle.std.specs.Prelude.{◌≡◌, ◌≢◌, ◌⊎◌, ◌||◌, ◌+◌, ◌-◌, ◌<◌, ◌≤◌, ◌^◌, ℕ, Bool, true, false, is_some, nat_le, min, List, [], ◌∷◌, ◌++◌, length, map, take, drop, Option, Some, None, Result, Ok, Err}
 use Rattle.std.specs.List.{list_any}
 use Rattle.sk_record.specs.Machine.{released}
 use Rattle.sk_outputs.specs.Said.{said_at}
@@ -18,9 +18,12 @@ use Rattle.sk_batched.specs.declared.batched.Outcome.{Outcome}
 use Rattle.sk_batches.specs.Queue as queues
 use Rattle.sk_channels.specs.declared.channel.Channel.{Channel}
 use Rattle.sk_channels.specs.declared.inlet.Ask.{Ask}
+use Rattle.sk_channels.specs.declared.inlet.Ask.TheVariants.{Do}
+use Rattle.sk_channels.specs.Hearing.{posed_ticket}
 use Rattle.sk_channels.specs.Table.{channel_at}
 use Rattle.sk_commands.specs.declared.work.Answer.{Answer}
 use Rattle.sk_commands.specs.declared.work.Work.{Work}
+use Rattle.sk_commands.specs.Texts.{answer_text}
 use Rattle.sk_plain_store.specs.Plain.{Entries}
 use Rattle.sk_requests.specs.declared.limits.Limits.{Limits as Requests}
 use Rattle.sk_served.specs.Plain.{after_work}
@@ -33,8 +36,10 @@ use Rattle.sk_durable.specs.declared.store.End.TheVariants as ends
 use Rattle.sk_durable.specs.declared.store.Fed.{Fed}
 use Rattle.sk_durable.specs.declared.store.Next.{Next}
 use Rattle.sk_durable.specs.declared.works.Asker.{Asker}
+use Rattle.sk_durable.specs.Asked.{told_work}
+use Rattle.sk_durable.specs.Works.{ahead_of}
 use Rattle.sk_durable.specs.Store.{first_answer, has_refusals, HasPast, IsNew, Past, StoreView}
-use Rattle.sk_durable.specs.Calls.{Call, Connects, HangsUp, Frees, Hears, Carries, Declines, Tells, Drops, Refuses, Hands, Turns, Learns, Cuts, Stops, Decides, Rests, Does, IsDone, LeavesIt, Serves}
+use Rattle.sk_durable.specs.Calls.{Call, Connects, HangsUp, Frees, Hears, Carries, Declines, Tells, Drops, Refuses, Hands, Draws, Turns, Learns, Cuts, Stops, Decides, Rests, Does, IsDone, LeavesIt, Serves}
 
 -- ---- work that is in the log already
 
@@ -78,22 +83,33 @@ HangUpPost t a b = (m : StoreView) × Does a (HangsUp t) m × LetGoPost t m b
 -- ---- the way in
 
 -- what became of what was asked for
-abbrev pub TryPost : Asker → Ask → Result (Unit {0}) NotDone → StoreView → StoreView → Type 0
-TryPost asker ask (Ok _) a b = (asked : Asked) × (answer : Answer) × (rests : List ℕ) × (asked.channel ≡ asker.channel) × (asked.ticket ≡ asker.ticket)
-    × IsDone a.batched ask asked answer rests b.batched × (b ≡ record a { batched = b.batched })
-TryPost asker ask (Err why) a b = LeavesIt a.batched asker ask why b.batched × (b ≡ record a { batched = b.batched })
+abbrev pub TryPost : Bool → Asker → Ask → Result (Option (List ℕ)) NotDone → StoreView → StoreView → Type 0
+TryPost looks asker ask (Ok ahead) a b = (asked : Asked) × (answer : Answer) × (rests : List ℕ) × (asked.channel ≡ asker.channel) × (asked.ticket ≡ asker.ticket)
+    × IsDone a.batched ask asked answer rests b.batched × (ahead ≡ ahead_of looks answer) × (b ≡ record a { batched = b.batched })
+TryPost looks asker ask (Err why) a b = LeavesIt a.batched asker ask why b.batched × (b ≡ record a { batched = b.batched })
 
-abbrev pub AnswerPost : Asker → Ask → End → StoreView → StoreView → Type 0
-AnswerPost asker ask ends.Part a b = ⊥
-AnswerPost asker ask ends.Done a b = (asked : Asked) × (answer : Answer) × (rests : List ℕ) × (asked.channel ≡ asker.channel) × (asked.ticket ≡ asker.ticket)
-    × IsDone a.batched ask asked answer rests b.batched × (b ≡ record a { batched = b.batched })
-AnswerPost asker ask (ends.NotDone why) a b = LeavesIt a.batched asker ask why b.batched × (b ≡ record a { batched = b.batched })
+abbrev pub AnswerPost : Bool → Asker → Ask → End → StoreView → StoreView → Type 0
+AnswerPost looks asker ask ends.Done a b = (asked : Asked) × (answer : Answer) × (rests : List ℕ) × (asked.channel ≡ asker.channel) × (asked.ticket ≡ asker.ticket)
+    × IsDone a.batched ask asked answer rests b.batched × (b ≡ record a { batched = b.batched; ahead = ahead_of looks answer })
+AnswerPost looks asker ask (ends.NotDone why) a b = LeavesIt a.batched asker ask why b.batched × (b ≡ record a { batched = b.batched })
+AnswerPost looks asker ask other a b = ⊥
 
--- these bytes came, and what they end became this
-abbrev pub Ends : ℕ → List ℕ → End → StoreView → StoreView → Type 0
-Ends t bytes ends.Part a b = Does a (Hears t bytes) b
-Ends t bytes ends.Done a b = (ask : Ask) × (asked : Asked) × (answer : Answer) × (rests : List ℕ) × Does a (Carries t bytes ask asked answer rests) b
-Ends t bytes (ends.NotDone why) a b = (ask : Ask) × (ticket : ℕ) × Does a (Declines t bytes ask ticket why) b
+-- whether the host is asked on a channel
+abbrev pub is_posed : Option Channel → Bool
+is_posed None = false
+is_posed (Some channel) = is_some channel.inlet.posed
+
+-- what became of bytes that end no request that is carried out
+abbrev pub end_of : Bool → End
+end_of true = ends.Asked
+end_of false = ends.Part
+
+-- these bytes came, and what they end became this; its answer is told ahead, where it is looked at
+abbrev pub Ends : Bool → ℕ → List ℕ → End → StoreView → StoreView → Type 0
+Ends looks t bytes ends.Done a b = (ask : Ask) × (asked : Asked) × (answer : Answer) × (rests : List ℕ)
+    × Does a (Carries t bytes ask asked answer rests) b × (b.ahead ≡ ahead_of looks answer)
+Ends looks t bytes (ends.NotDone why) a b = (ask : Ask) × (ticket : ℕ) × Does a (Declines t bytes ask ticket why) b × (b.ahead ≡ a.ahead)
+Ends looks t bytes other a b = Does a (Hears t bytes) b × (other ≡ end_of (is_posed (channel_at b.channels t))) × (b.ahead ≡ a.ahead)
 
 -- a channel has given its last ticket
 abbrev pub HasGivenAll : ℕ → StoreView → Type 0
@@ -113,13 +129,40 @@ abbrev pub MayFeed : StoreView → Type 0
 MayFeed a = (has_refused a ≡ false) × (is_at_limit a ≡ false)
 
 -- so many bytes came, and what they end became this; after a refusal nothing is seen to have changed
+abbrev pub TakePost : Bool → ℕ → List ℕ → Result Fed Refusal → StoreView → StoreView → Type 0
+TakePost looks t bytes (Ok fed) a b = MayFeed a × (fed.count ≤ length bytes) × (0 < length bytes → fed.end ≢ ends.Asked → 0 < fed.count)
+    × Ends looks t (take fed.count bytes) fed.end a b
+TakePost looks t bytes (Err DecisionDue) a b = (has_refused a ≡ true) × (b ≡ a)
+TakePost looks t bytes (Err Full) a b = (has_refused a ≡ false) × (is_at_limit a ≡ true) × (b ≡ a)
+TakePost looks t bytes (Err NoChannel) a b = MayFeed a × (channel_at a.channels t ≡ None) × (b ≡ a)
+TakePost looks t bytes (Err NoTicket) a b = MayFeed a × HasGivenAll t a × Does a (Hears t []) b
+TakePost looks t bytes (Err Memory) a b = MayFeed a × Does a (Hears t []) b
+
 abbrev pub FeedPost : ℕ → List ℕ → Result Fed Refusal → StoreView → StoreView → Type 0
-FeedPost t bytes (Ok fed) a b = MayFeed a × (fed.count ≤ length bytes) × (0 < length bytes → 0 < fed.count) × Ends t (take fed.count bytes) fed.end a b
-FeedPost t bytes (Err DecisionDue) a b = (has_refused a ≡ true) × (b ≡ a)
-FeedPost t bytes (Err Full) a b = (has_refused a ≡ false) × (is_at_limit a ≡ true) × (b ≡ a)
-FeedPost t bytes (Err NoChannel) a b = MayFeed a × (channel_at a.channels t ≡ None) × (b ≡ a)
-FeedPost t bytes (Err NoTicket) a b = MayFeed a × HasGivenAll t a × Does a (Hears t []) b
-FeedPost t bytes (Err Memory) a b = MayFeed a × Does a (Hears t []) b
+FeedPost t bytes result a b = TakePost false t bytes result a b
+
+-- nothing is told ahead before
+abbrev pub FeedAheadPost : ℕ → List ℕ → Result Fed Refusal → StoreView → StoreView → Type 0
+FeedAheadPost t bytes result a b = TakePost true t bytes result (record a { ahead = None }) b
+
+-- ---- what the host is asked
+
+-- the ticket of the request that it is asked on a channel
+abbrev pub PosedPost : ℕ → Result ℕ Refusal → StoreView → Type 0
+PosedPost t (Ok ticket) a = (channel : Channel) × (channel_at a.channels t ≡ Some channel) × (posed_ticket channel.inlet ≡ Some ticket)
+PosedPost t (Err NoChannel) a = channel_at a.channels t ≡ None
+PosedPost t (Err NoTicket) a = (channel : Channel) × (channel_at a.channels t ≡ Some channel) × (posed_ticket channel.inlet ≡ None)
+PosedPost t (Err other) a = ⊥
+
+-- what it told is carried out as work that only replies that; after a refusal nothing has changed, but that the guess of the open batch
+-- may be drawn where there was no memory
+abbrev pub TellPost : ℕ → List ℕ → Result (Unit {0}) Refusal → StoreView → StoreView → Type 0
+TellPost t text (Ok _) a b = (asked : Asked) × (answer : Answer) × (rests : List ℕ)
+    × Does a (Carries t [] (Do (told_work text)) asked answer rests) b × (answer_text answer ≡ text)
+    × PosedPost t (Ok asked.ticket) a × (is_posed (channel_at b.channels t) ≡ false)
+TellPost t text (Err DecisionDue) a b = (has_refused a ≡ true) × (b ≡ a)
+TellPost t text (Err Memory) a b = (has_refused a ≡ false) × (Does a Rests b ⊎ Does a Draws b)
+TellPost t text (Err why) a b = (has_refused a ≡ false) × PosedPost t (Err why) a × (b ≡ a)
 
 -- ---- the way out
 

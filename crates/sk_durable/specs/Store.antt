@@ -19,6 +19,7 @@ use Rattle.sk_requests.specs.declared.limits.Limits.{Limits as Requests}
 use Rattle.sk_channels.specs.declared.channel.Channel.{Channel}
 use Rattle.sk_channels.specs.declared.inlet.Ask.{Ask}
 use Rattle.sk_channels.specs.declared.table.Channels.{Channels}
+use Rattle.sk_channels.specs.Hearing.{word_at}
 use Rattle.sk_channels.specs.Serving.{HasServed}
 use Rattle.sk_channels.specs.Table.{channel_at, place_at, with_channel}
 use Rattle.sk_channels.specs.Telling.{refused_up_to, Told}
@@ -27,12 +28,14 @@ use Rattle.sk_durable.specs.declared.limits.Limits.{Limits}
 use Rattle.sk_durable.specs.declared.store.Next.{Next}
 use Rattle.sk_durable.specs.Works.{has_now, Batches}
 
--- what it takes, its kernel with the queue of batches, its channels, and where the next frame stands
+-- what it takes, its kernel with the queue of batches, its channels, where the next frame stands, and what is told ahead of what was
+-- carried out last
 pub record StoreView : Type 0 where
   pub limits : Limits
   pub batched : Batches
   pub channels : Channels
   pub places : PlacesView
+  pub ahead : Option (List ℕ)
 
 -- the first answer of a channel, whether it waits or not
 abbrev pub first_answer : StoreView → ℕ → Option (ℕ × Answer)
@@ -106,6 +109,11 @@ pub record Becomes (t : ℕ) (before after : Channel) (old new : Channels) : Typ
 abbrev pub is_closed : Option Channel → Bool
 is_closed None = false
 is_closed (Some channel) = channel.inlet.closed
+
+-- a word of the request that the host is asked on it
+abbrev pub asked_at : ℕ → Option Channel → Option (List ℕ)
+asked_at place None = None
+asked_at place (Some channel) = word_at place channel.inlet.posed
 
 -- ---- tickets that are told that nothing was done
 

@@ -25,6 +25,7 @@ use Rattle.sk_commands.specs.declared.work.Work.{Work}
 use Rattle.sk_commands.specs.declared.work.Answer.{Answer}
 use Rattle.sk_commands.specs.Requests.{log_text}
 use Rattle.sk_commands.specs.Table.{is_among, Have}
+use Rattle.sk_commands.specs.Texts.{answer_text}
 use Rattle.sk_commands.specs.Work.{comes_to, may_write_some, wants_all}
 use Rattle.sk_served.specs.Served.{deed, Asked, Runs}
 use Rattle.sk_durable.specs.declared.refusal.NotDone.{NotDone}
@@ -122,10 +123,24 @@ IsNotDone Memory b asker work c = MayDraw b c
 IsNotDone why b asker work c =
     (known : List (List ℕ)) × KnowsIfTold b.kernel work known × (against b (asked_by asker known work) ≡ Some why) × Stays b c
 
-abbrev pub CarryPost : Asker → Work → Result (Unit {0}) NotDone → Batches → Batches → Type 0
-CarryPost asker work (Ok _) b c =
-    (known : List (List ℕ)) × (against b (asked_by asker known work) ≡ None) × CarriesOut b (asked_by asker known work) c
-CarryPost asker work (Err why) b c = IsNotDone why b asker work c
+-- the text of an answer, where it is looked at ahead
+abbrev pub ahead_of : Bool → Answer → Option (List ℕ)
+ahead_of true answer = Some (answer_text answer)
+ahead_of false answer = None
+
+-- that of what is said
+abbrev pub ahead_in : Bool → Option (ℕ × (ℕ × Answer)) → Option (List ℕ)
+ahead_in looks None = None
+ahead_in looks (Some said) = ahead_of looks said.1.1
+
+-- it is told ahead of what is carried out
+abbrev pub IsAhead : Bool → Batches → Asked → Option (List ℕ) → Type 0
+IsAhead looks b asked ahead = ahead ≡ ahead_of looks (comes_to asked.known asked.work (has_now b.kernel)).reply
+
+abbrev pub CarryPost : Bool → Asker → Work → Result (Option (List ℕ)) NotDone → Batches → Batches → Type 0
+CarryPost looks asker work (Ok ahead) b c = (known : List (List ℕ)) × (against b (asked_by asker known work) ≡ None)
+    × CarriesOut b (asked_by asker known work) c × IsAhead looks b (asked_by asker known work) ahead
+CarryPost looks asker work (Err why) b c = IsNotDone why b asker work c
 
 -- ---- what is told of it
 

@@ -1,7 +1,7 @@
 //! What is carried out for what a channel asked for.
 ghost use Rattle.std.specs.Prelude.{◌≡◌, false, IfOk};
 ghost use Rattle.sk_served.specs.Names.{names_reserved};
-ghost use Rattle.sk_durable.specs.Asked.{error, long_key_words, reserved_words, work_of};
+ghost use Rattle.sk_durable.specs.Asked.{error, long_key_words, reserved_words, told_work, work_of};
 
 use sk_channels::Ask;
 use sk_commands::{ByteString, Reply, Work};
@@ -13,6 +13,17 @@ const RESERVED: &[u8] = b"ERR a key begins as those that are kept for batches";
 
 /// What is replied to a command that names a key which is longer than may be.
 const LONG_KEY: &[u8] = b"ERR a key is longer than 65536 bytes";
+
+/// What is replied where the host knows no such command either.
+pub(crate) const UNKNOWN: &[u8] = b"-ERR unknown command\r\n";
+
+/// The work that only replies what the host told.
+pub(crate) fn text(alloc: Global, reply: &[u8]) -> Result<Work, AllocError>
+    ensures work { IfOk result (λ work. work ≡ told_work reply.now) }
+    ensures named { IfOk result (λ work. names_reserved work ≡ false) }
+{
+    Ok(Work::Say(Reply::Text(ByteString::copy_of(alloc, reply)?)))
+}
 
 /// The work that only replies an error of these words.
 fn error(words: Vec<u8>) -> Work

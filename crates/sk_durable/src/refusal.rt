@@ -16,7 +16,7 @@ pub enum Refusal {
     /// handed over than may.
     #[error("full")]
     Full,
-    /// The channel has given its last ticket.
+    /// The channel has given its last ticket; of `tell`, the host is not asked there.
     #[error("the last ticket is given")]
     NoTicket,
     /// There was no memory.

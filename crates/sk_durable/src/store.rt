@@ -1,18 +1,21 @@
 //! The store.
-ghost use Rattle.std.specs.Prelude.{◌≡◌, ◌+◌, [], true, false, length, None};
+ghost use Rattle.std.specs.Prelude.{◌≡◌, ◌+◌, [], true, false, length, option_map, None};
 ghost use Rattle.std.specs.Option.{option_copied};
 ghost use Rattle.sk_slots.specs.Slots.{look_at};
 ghost use Rattle.sk_index.specs.Index.{bytes_cmp};
 ghost use Rattle.sk_batches.specs.Frames.{next_payload};
 ghost use Rattle.sk_batches.specs.Queue.{cut_due, in_flight, undecided};
+ghost use Rattle.sk_requests.specs.Replies.{error_text};
+ghost use Rattle.sk_commands.specs.Faults.{words_of};
+ghost use Rattle.sk_commands.specs.declared.fault.Fault.TheVariants.{Unknown};
 ghost use Rattle.sk_served.specs.Names.{names_reserved};
 ghost use Rattle.sk_channels.specs.Table.{channel_at};
 ghost use Rattle.sk_durable.specs.Limits.{are_sound};
-ghost use Rattle.sk_durable.specs.Posts.{AnswerPost, BringAnswersPost, BringPost, ConnectPost, CutFramePost, CutPost, DecidePost, FailedPost, FeedPost, FramePost, HangUpPost, LetGoPost, OutputPost, ReadyPost, RefusedPost, RestorePost, SyncedPost, TryPost, TurnPost, is_at_limit};
+ghost use Rattle.sk_durable.specs.Posts.{AnswerPost, BringAnswersPost, BringPost, ConnectPost, CutFramePost, CutPost, DecidePost, FailedPost, FeedAheadPost, FeedPost, FramePost, HangUpPost, LetGoPost, OutputPost, PosedPost, ReadyPost, RefusedPost, RestorePost, SyncedPost, TakePost, TellPost, TryPost, TurnPost, end_of, is_at_limit};
 ghost use Rattle.sk_durable.specs.Works.{CarryPost};
-ghost use Rattle.sk_durable.specs.Store.{is_closed, rests_on_at, HasFirstTicket, HasRefusals, IsNew};
+ghost use Rattle.sk_durable.specs.Store.{asked_at, is_closed, rests_on_at, HasFirstTicket, HasRefusals, IsNew};
 
-use crate::asked::{too_long, work_of};
+use crate::asked::{UNKNOWN, text, too_long, work_of};
 use crate::works::{Asker, Batches, NOBODY, WorkStep, carry_out, restore};
 use crate::{Limits, NotDone, Refusal};
 use sk_batched::{Batched, Outcome};
@@ -41,8 +44,17 @@ pub enum End {
     Part,
     /// It was carried out, or an error is its answer.
     Done,
+    /// The host is asked what its reply is (`Store::asked`): no byte of its channel is taken until it told (`Store::tell`).
+    Asked,
     /// Nothing of it was done: its ticket is told so in its turn.
     NotDone(NotDone),
+}
+
+/// What became of bytes that end no request that is carried out.
+fn end_of(is_posed: bool) -> End
+    ensures { result ≡ end_of is_posed }
+{
+    if is_posed { End::Asked } else { End::Part }
 }
 
 /// Where a log goes on: the numbers of the next frame and of its segment, and its place there.
@@ -63,6 +75,8 @@ pub struct Store {
     step: WorkStep,
     channels: Channels,
     places: Places,
+    /// The answer of what was carried out last, where it is looked at ahead.
+    ahead: Option<ByteString>,
     /// Only channels from this number on may have tickets that are told that nothing was done, and no answer before them.
     unswept: u16,
 }
@@ -80,6 +94,7 @@ impl Model for Store {
       batched = s.batched;
       channels = s.channels;
       places = s.places;
+      ahead = s.ahead;
     } };
 
     ghost invariant = { λ s. IsEmpty s.step × (are_sound s.limits ≡ true)
@@ -107,6 +122,7 @@ impl Store {
             step: Step::new(alloc),
             channels: Channels::new(alloc),
             places: Places::new(limits.segment, next.segment, next.offset),
+            ahead: None,
             unswept: 0,
         }
     }
@@ -167,6 +183,31 @@ impl Store {
     pub fn feed(&mut self, channel: u16, bytes: &[u8]) -> Result<Fed, Refusal>
         ensures { FeedPost channel bytes.now result self.old self.new }
     {
+        self.take(channel, bytes, false)
+    }
+
+    /// As `feed`; and where a request was carried out, `ahead` has its answer, as it is under the guesses that it rests on.
+    pub fn feed_ahead(&mut self, channel: u16, bytes: &[u8]) -> Result<Fed, Refusal>
+        ensures { FeedAheadPost channel bytes.now result self.old self.new }
+    {
+        self.ahead = None;
+        self.take(channel, bytes, true)
+    }
+
+    /// The text of the answer to the request that the last `feed_ahead` carried out, which goes out in its turn, unless nothing of
+    /// it is done; `None` where none was.
+    pub fn ahead(&self) -> Option<&[u8]>
+        ensures { option_map (λ s. s.now) result ≡ self.now.ahead }
+    {
+        match self.ahead.as_ref() {
+            Some(text) => Some(text.as_slice()),
+            None => None,
+        }
+    }
+
+    fn take(&mut self, channel: u16, bytes: &[u8], looks: bool) -> Result<Fed, Refusal>
+        ensures { TakePost looks channel bytes.now result self.old self.new }
+    {
         if self.batched.queue().has_refused() {
             return Err(Refusal::DecisionDue);
         }
@@ -178,12 +219,10 @@ impl Store {
         };
         let sk_channels::Fed { count, asked } = from.feed(bytes)?;
         let Some(Asked { ticket, ask }) = asked else {
-            return Ok(Fed {
-                count,
-                end: End::Part,
-            });
+            let end = end_of(from.is_posed());
+            return Ok(Fed { count, end });
         };
-        let end = self.answer(Asker { channel, ticket }, ask);
+        let end = self.answer(Asker { channel, ticket }, ask, looks);
         Ok(Fed { count, end })
     }
 
@@ -196,11 +235,14 @@ impl Store {
     }
 
     /// Carries out what was asked for; where a key is too long an error is the answer.
-    fn answer(&mut self, asker: Asker, ask: Ask) -> End
-        ensures { AnswerPost asker ask result self.old self.new }
+    fn answer(&mut self, asker: Asker, ask: Ask, looks: bool) -> End
+        ensures { AnswerPost looks asker ask result self.old self.new }
     {
-        match self.try_to_answer(asker, ask) {
-            Ok(()) => End::Done,
+        match self.try_to_answer(asker, ask, looks) {
+            Ok(ahead) => {
+                self.ahead = ahead;
+                End::Done
+            }
             Err(why) => {
                 self.unswept = self.unswept.min(asker.channel);
                 End::NotDone(why)
@@ -208,25 +250,96 @@ impl Store {
         }
     }
 
-    fn try_to_answer(&mut self, asker: Asker, ask: Ask) -> Result<(), NotDone>
-        ensures { TryPost asker ask result self.old self.new }
+    fn try_to_answer(
+        &mut self,
+        asker: Asker,
+        ask: Ask,
+        looks: bool,
+    ) -> Result<Option<ByteString>, NotDone>
+        ensures { TryPost looks asker ask result self.old self.new }
     {
         let work = work_of(self.alloc, ask)?;
-        match self.carry_out(asker, work) {
+        match self.carry_out(asker, work, looks) {
             Err(NotDone::LongKey) => {
                 let error = too_long(self.alloc)?;
-                self.carry_out(asker, error)
+                self.carry_out(asker, error, looks)
             }
             done => done,
         }
     }
 
-    fn carry_out(&mut self, asker: Asker, work: Work) -> Result<(), NotDone>
+    fn carry_out(
+        &mut self,
+        asker: Asker,
+        work: Work,
+        looks: bool,
+    ) -> Result<Option<ByteString>, NotDone>
         requires { names_reserved work ≡ false }
-        ensures post { CarryPost asker work result self.old.batched self.new.batched }
+        ensures post { CarryPost looks asker work result self.old.batched self.new.batched }
         ensures rest { self.new ≡ record self.old { batched = self.new.batched } }
     {
-        carry_out(self.alloc, &mut self.batched, &mut self.step, asker, work)
+        carry_out(
+            self.alloc,
+            &mut self.batched,
+            &mut self.step,
+            asker,
+            work,
+            looks,
+        )
+    }
+
+    // ---- what the host is asked
+
+    /// A word of the request that the host is asked on a channel, by its place: the first names no command. `None` past the last,
+    /// and where the host is not asked.
+    pub fn asked(&self, channel: u16, place: usize) -> Option<&[u8]>
+        ensures { option_map (λ s. s.now) result
+            ≡ asked_at place (channel_at self.now.channels channel) }
+    {
+        self.channels.get(channel)?.word(place)
+    }
+
+    /// The ticket of the request that the host is asked on a channel.
+    fn posed_ticket(&self, channel: u16) -> Result<u64, Refusal>
+        ensures { PosedPost channel result self.now }
+    {
+        let Some(from) = self.channels.get(channel) else {
+            return Err(Refusal::NoChannel);
+        };
+        match from.posed_ticket() {
+            Some(ticket) => Ok(ticket),
+            None => Err(Refusal::NoTicket),
+        }
+    }
+
+    /// The host tells the reply to what it is asked on a channel: these bytes, as they are, which go out in their turn. `NoTicket`
+    /// where it is not asked. After a refusal nothing has changed but that, without memory, the guess of the open batch may be
+    /// drawn.
+    pub fn tell(&mut self, channel: u16, reply: &[u8]) -> Result<(), Refusal>
+        ensures { TellPost channel reply.now result self.old self.new }
+    {
+        let is_due = self.batched.queue().has_refused();
+        if is_due {
+            return Err(Refusal::DecisionDue);
+        }
+        let ticket = self.posed_ticket(channel)?;
+        let work = text(self.alloc, reply)?;
+        let done = self.carry_out(Asker { channel, ticket }, work, false);
+        if done.is_err() {
+            return Err(Refusal::Memory);
+        }
+        let Some(to) = self.channels.channel(channel) else {
+            unreachable!();
+        };
+        to.tell();
+        Ok(())
+    }
+
+    /// The host tells that it knows no such command, in the words that clients know.
+    pub fn tell_unknown(&mut self, channel: u16) -> Result<(), Refusal>
+        ensures { TellPost channel (error_text (words_of Unknown)) result self.old self.new }
+    {
+        self.tell(channel, UNKNOWN)
     }
 
     // ---- the way out
@@ -442,6 +555,13 @@ impl Store {
         ensures { result ≡ length self.now.batched.kernel.parts.opens }
     {
         self.batched.kernel().undecided()
+    }
+
+    /// How many commands wait for their answers to be told.
+    pub fn answers(&self) -> usize
+        ensures { result ≡ length self.now.batched.kernel.parts.said }
+    {
+        self.batched.kernel().outputs()
     }
 
     /// What a key has now, whatever it rests on; `None` where it is absent.

@@ -4,7 +4,7 @@ ghost use Rattle.std.specs.Vec.{vec_items};
 ghost use Rattle.sk_commands.specs.Work.{wants_all};
 ghost use Rattle.sk_served.specs.Names.{names_reserved};
 ghost use Rattle.sk_batched.specs.Batched.{IsEmpty, Stays};
-ghost use Rattle.sk_durable.specs.Works.{CarryPost, IsHanded, KnowsIfTold, RestorePost, TakesAlone};
+ghost use Rattle.sk_durable.specs.Works.{ahead_in, CarryPost, IsHanded, KnowsIfTold, RestorePost, TakesAlone};
 
 use crate::known::known_keys;
 use crate::look::Keys;
@@ -76,45 +76,64 @@ fn hand_in(
     Ok(())
 }
 
-/// Work is handed in, and taken in the open batch where it may write.
+/// The text of what a step answers, where it is looked at ahead.
+fn look_ahead(alloc: Global, step: &WorkStep, looks: bool) -> Result<Option<ByteString>, AllocError>
+    ensures { IfOk result (λ ahead. ahead ≡ ahead_in looks step.now.said) }
+{
+    match &step.said {
+        Some(said) if looks => {
+            let text = said.1.answer().text(alloc)?;
+            Ok(Some(ByteString::new(text)))
+        }
+        _ => Ok(None),
+    }
+}
+
+/// Work is handed in, and taken in the open batch where it may write. Its answer is told, where it is looked at ahead.
 fn take_in(
     alloc: Global,
     batched: &mut Batches,
     step: &mut WorkStep,
     asker: Asker,
     work: Work,
-) -> Result<(), NotDone>
+    looks: bool,
+) -> Result<Option<ByteString>, NotDone>
     requires empty { IsEmpty step.old }
     requires named { names_reserved work ≡ false }
-    ensures post { CarryPost asker work result batched.old batched.new }
+    ensures post { CarryPost looks asker work result batched.old batched.new }
     ensures empty { OnOk result (IsEmpty step.new) }
 {
     if work.may_write() {
         let bytes = work.log_text(alloc)?;
         hand_in(alloc, batched.kernel(), step, asker, work)?;
+        let ahead = look_ahead(alloc, step, looks)?;
         batched.log(step, bytes.as_slice())?;
+        Ok(ahead)
     } else {
         hand_in(alloc, batched.kernel(), step, asker, work)?;
+        let ahead = look_ahead(alloc, step, looks)?;
         batched.take(step)?;
+        Ok(ahead)
     }
-    Ok(())
 }
 
-/// Carries out work that names no reserved key, in the open batch where it may write. Where nothing of it is done nothing has
-/// changed, but that, without memory, the guess of the open batch may be drawn.
+/// Carries out work that names no reserved key, in the open batch where it may write, and tells the text of its answer, where it
+/// is looked at ahead. Where nothing of it is done nothing has changed, but that, without memory, the guess of the open batch may
+/// be drawn.
 pub(crate) fn carry_out(
     alloc: Global,
     batched: &mut Batches,
     step: &mut WorkStep,
     asker: Asker,
     work: Work,
-) -> Result<(), NotDone>
+    looks: bool,
+) -> Result<Option<ByteString>, NotDone>
     requires empty { IsEmpty step.old }
     requires named { names_reserved work ≡ false }
-    ensures post { CarryPost asker work result batched.old batched.new }
+    ensures post { CarryPost looks asker work result batched.old batched.new }
     ensures empty { IsEmpty step.new }
 {
-    let done = take_in(alloc, batched, step, asker, work);
+    let done = take_in(alloc, batched, step, asker, work, looks);
     if done.is_err() {
         clear(step);
     }

@@ -4,7 +4,7 @@ use Rattle.sk_commands.specs.Parsing.{order_of}
 use Rattle.sk_commands.specs.Session.{turn}
 use Rattle.sk_commands.specs.Requests.{with_work, work_for}
 use Rattle.sk_commands.specs.declared.fault.Fault.{Fault}
-use Rattle.sk_commands.specs.declared.reply.Reply.TheVariants.{Simple, Error, Rejected, Integer, Bulk, Null, Array}
+use Rattle.sk_commands.specs.declared.reply.Reply.TheVariants.{Simple, Error, Rejected, Text, Integer, Bulk, Null, Array}
 use Rattle.sk_commands.specs.declared.session.Queue.{Queue}
 use Rattle.sk_commands.specs.declared.work.Work.{Work}
 use Rattle.sk_commands.specs.declared.work.Work.TheVariants.{Say, One, Each}
@@ -48,6 +48,7 @@ says_fault : (w : Work) (fault : Fault) → fault_in w ≡ Some fault → w ≡ 
 says_fault (Say (Simple word)) fault e = cc
 says_fault (Say (Error other)) fault e = ap (λ o. Say (Error (unwrap_or o other))) e
 says_fault (Say (Rejected words)) fault e = cc
+says_fault (Say (Text bytes)) fault e = cc
 says_fault (Say (Integer n)) fault e = cc
 says_fault (Say (Bulk bytes)) fault e = cc
 says_fault (Say Null) fault e = cc

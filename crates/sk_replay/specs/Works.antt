@@ -10,7 +10,7 @@ use Rattle.sk_commands.specs.Parsing.{order_of}
 use Rattle.sk_commands.specs.Session.{turn}
 use Rattle.sk_commands.specs.Requests.{work_for}
 use Rattle.sk_commands.specs.declared.fault.Fault.{Fault}
-use Rattle.sk_commands.specs.declared.reply.Reply.TheVariants.{Simple, Error, Rejected, Integer, Bulk, Null, Array}
+use Rattle.sk_commands.specs.declared.reply.Reply.TheVariants.{Simple, Error, Rejected, Text, Integer, Bulk, Null, Array}
 use Rattle.sk_commands.specs.declared.session.Queue.{Queue}
 use Rattle.sk_commands.specs.declared.work.Work.{Work}
 use Rattle.sk_commands.specs.declared.work.Work.TheVariants.{Say, One, Each}
@@ -33,6 +33,7 @@ abbrev pub fault_in : Work → Option Fault
 fault_in (Say (Simple word)) = None
 fault_in (Say (Error fault)) = Some fault
 fault_in (Say (Rejected words)) = None
+fault_in (Say (Text bytes)) = None
 fault_in (Say (Integer n)) = None
 fault_in (Say (Bulk bytes)) = None
 fault_in (Say Null) = None

@@ -11,7 +11,7 @@ returns-in_err-log-clause-post c =
     c.in_ok-hand_in.ensures in
     let told = c.from_residual-in_err-log in
     let why = c.in_err-log.field-0.0 in
-    told_so c.args.batched.now c.log.new.self c.args.asker c.args.work why told.result told.ensures.0 told.ensures.1
+    told_so c.args.batched.now c.log.new.self c.args.asker c.args.work why c.args.looks told.result told.ensures.0 told.ensures.1
     (not_logged c.args.batched.now c.args.asker c.args.work step handed (sym c.may_write.ensures ∙ c.if-may_write.true)
     c.as_slice.result.now (c.as_slice.ensures.value ∙ c.in_ok-bytes.ensures) c.log.new.self c.log.new.step why
     c.in_err-log.ensures)
@@ -23,7 +23,7 @@ returns-in_err-take-clause-post c =
     c.in_ok-hand_in-2.ensures in
     let told = c.from_residual-in_err-take in
     let why = c.in_err-take.field-0.0 in
-    told_so c.args.batched.now c.take.new.self c.args.asker c.args.work why told.result told.ensures.0 told.ensures.1
+    told_so c.args.batched.now c.take.new.self c.args.asker c.args.work why c.args.looks told.result told.ensures.0 told.ensures.1
     (not_taken c.args.batched.now c.args.asker c.args.work step handed (sym c.may_write.ensures ∙ c.if-may_write.false)
     c.take.new.self c.take.new.step why c.in_err-take.ensures)
 
@@ -34,7 +34,7 @@ returns-in_ok-log-clause-post c =
     c.in_ok-hand_in.ensures in
     logged c.args.batched.now c.args.asker c.args.work step handed (sym c.may_write.ensures ∙ c.if-may_write.true)
     c.as_slice.result.now (c.as_slice.ensures.value ∙ c.in_ok-bytes.ensures) c.log.new.self c.log.new.step
-    c.in_ok-log.field-0 c.in_ok-log.ensures
+    c.in_ok-log.field-0 c.args.looks c.in_ok-ahead.ahead c.in_ok-log.ensures c.in_ok-ahead.ensures
 
 pub returns-in_ok-take-clause-post : goal.returns-in_ok-take-clause-post
 returns-in_ok-take-clause-post c =
@@ -42,4 +42,4 @@ returns-in_ok-take-clause-post c =
     let handed = subst (λ (k : Kernel). IsHanded k c.args.asker c.args.work step) c.kernel-else-may_write.ensures
     c.in_ok-hand_in-2.ensures in
     taken c.args.batched.now c.args.asker c.args.work step handed (sym c.may_write.ensures ∙ c.if-may_write.false)
-    c.take.new.self c.take.new.step c.in_ok-take.ensures
+    c.take.new.self c.take.new.step c.args.looks c.in_ok-ahead-2.ahead c.in_ok-take.ensures c.in_ok-ahead-2.ensures

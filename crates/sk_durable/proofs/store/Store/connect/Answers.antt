@@ -15,6 +15,6 @@ invariant_of-self-2 c = (
 
 pub returns : goal.returns
 returns c =
-    let left : StoreView = record { limits = c.self.inside.limits; batched = c.self.inside.batched; channels = c.connect.new.self; places = c.self.inside.places } in
+    let left : StoreView = record { limits = c.self.inside.limits; batched = c.self.inside.batched; channels = c.connect.new.self; places = c.self.inside.places; ahead = c.self.inside.ahead } in
     subst (λ (a : StoreView). ConnectPost (Ok c.in_ok-connect.field-0) a left) c.self.view_is
     (c.new-channel.result, c.new-channel.ensures.served, c.new-channel.ensures.most, c.in_ok-connect.ensures, (refl, refl, refl))

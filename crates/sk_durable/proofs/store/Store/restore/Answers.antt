@@ -10,7 +10,7 @@ pub returns : goal.returns
 returns c =
     let s = c.self.inside in
     let done = c.restore in
-    let old : StoreView = record { limits = s.limits; batched = s.batched; channels = s.channels; places = s.places } in
+    let old : StoreView = record { limits = s.limits; batched = s.batched; channels = s.channels; places = s.places; ahead = s.ahead } in
     let new : StoreView = record old { batched = done.new.batched } in
     subst (λ (s : StoreView). RestorePost c.args.work done.result s new) c.self.view_is
     (restores old done.new.batched NOBODY c.args.work c.requires done.result done.ensures.post)

@@ -1,0 +1,11 @@
+-- Its ticket was given.
+use Rattle.sk_commands.specs.declared.reply.Reply.TheVariants.{Text}
+use Rattle.sk_commands.specs.declared.work.Work.TheVariants.{Say}
+use Rattle.sk_channels.specs.declared.inlet.Ask.TheVariants.{Do}
+use Rattle.sk_channels.proofs.Served.{asked_more}
+use Rattle.sk_channels.proofs.channel.Channel.tell.Goals as goal
+
+pub returns-clause-served : goal.returns-clause-served
+returns-clause-served c limits asked stream told handed text has =
+    asked_more limits asked stream told handed (Do (Say (Text text))) c.args.self.now c.tell.new.self has
+    (c.tell.ensures.heard limits asked stream text has.heard)

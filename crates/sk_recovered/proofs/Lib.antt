@@ -2,3 +2,4 @@ pub mod Taken
 pub mod Counted
 pub mod Joined
 pub mod Crashed
+mod Snapshots

@@ -3,3 +3,4 @@ pub mod Frames
 pub mod Recovered
 pub mod Laws
 pub mod Crash
+pub mod Snapshots

@@ -1,5 +1,5 @@
 //! The heads of segments: which frames of a segment count is said by those of the later ones.
-ghost use Rattle.std.specs.Prelude.{◌≡◌, ◌≤◌, [], drop, length};
+ghost use Rattle.std.specs.Prelude.{◌≡◌, ◌≤◌, ◌∷◌, [], drop, length, IfOk};
 ghost use Rattle.sk_recovered.specs.Segments.{least, lower, AddsHead};
 
 use sk_log::first_number;
@@ -42,6 +42,15 @@ impl Heads {
         Heads {
             heads: Vec::new(alloc),
         }
+    }
+
+    /// That of one segment.
+    pub(crate) fn one(alloc: Global, segment: u64, first: u64) -> Result<Heads, AllocError>
+        ensures { IfOk result (λ heads. heads ≡ record { segment = segment; first = first } ∷ []) }
+    {
+        let mut heads = Vec::new(alloc);
+        heads.push(Head { segment, first })?;
+        Ok(Heads { heads })
     }
 
     /// Takes the first 24 bytes of the next segment, or all there are. Says whether a whole head stands there; if not, the

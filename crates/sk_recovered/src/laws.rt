@@ -1,6 +1,7 @@
 //! What holds of recovery. Each law is the contract of a function that does nothing.
 ghost use Rattle.sk_recovered.specs.Laws.{CountedIsJoined, CountedIsRestored};
 ghost use Rattle.sk_recovered.specs.Crash.{CrashesAreRecovered};
+ghost use Rattle.sk_recovered.specs.Snapshots.{SnapshotsAreRead};
 
 /// What counts of segments is what `sk_log` joins of them, one with all that are later.
 pub fn joined_law()
@@ -17,4 +18,9 @@ pub fn restored_law()
 /// as synced, and none that was cut off.
 pub fn crash_law()
     ensures { CrashesAreRecovered }
+{}
+
+/// What is found of the pieces of a snapshot, one behind another with none left, is the entries that they were written of.
+pub fn snapshot_law()
+    ensures { SnapshotsAreRead }
 {}

@@ -10,4 +10,4 @@ mod segment;
 pub use frames::{Damage, Place};
 pub use heads::{Head, Heads};
 pub use recovered::{Found, Recovered};
-pub use segment::Segment;
+pub use segment::{FIRST_PIECE, SNAPSHOT, Segment};

@@ -5,12 +5,20 @@ ghost use Rattle.sk_plain_store.specs.Plain.{Entries};
 ghost use Rattle.sk_recovered.specs.declared.heads.Head.{Head};
 ghost use Rattle.sk_recovered.specs.Segments.{is_below};
 ghost use Rattle.sk_recovered.specs.Recovered.{HasRecovered, IsWithin, StepPost};
+ghost use Rattle.sk_recovered.specs.Snapshots.{snapshot_heads};
 
 use crate::frames::Place;
-use crate::heads::Head;
+use crate::heads::{Head, Heads};
 use crate::recovered::Recovered;
 use sk_log::{End, PieceRefusal, Recovery, Rest};
-use std::alloc::AllocError;
+use sk_plain_store::PlainStore;
+use std::alloc::{AllocError, Global};
+
+/// The number of the segment that a snapshot is. No segment of a log has it.
+pub const SNAPSHOT: u64 = 0;
+
+/// The number of the first frame of a snapshot.
+pub const FIRST_PIECE: u64 = 1;
 
 /// A segment that is being read, and all before it.
 #[derive(Drop)]
@@ -50,6 +58,17 @@ fn choose(so: bool, first: u64, second: u64) -> u64
 }
 
 impl Segment {
+    /// Begins to read a snapshot: frames of a segment of its own, carried out in an empty store.
+    pub fn of_snapshot(alloc: Global) -> Result<Segment, AllocError>
+        ensures { IfOk result (λ now. IsWithin [] 1 snapshot_heads [] [] now) }
+    {
+        let heads = Heads::one(alloc, SNAPSHOT, FIRST_PIECE)?;
+        match Recovered::new(alloc, PlainStore::new(alloc), FIRST_PIECE, heads, 0).open() {
+            Ok(now) => Ok(now),
+            Err(_) => Err(AllocError),
+        }
+    }
+
     /// Takes the next piece of the segment, and carries out the frames that came whole and count. After a refusal recovery begins
     /// anew: it has changed nothing on the disk.
     pub fn feed(mut self, piece: &[u8]) -> Result<Segment, PieceRefusal>

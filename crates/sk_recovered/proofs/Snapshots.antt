@@ -1,0 +1,79 @@
+-- What is found of a snapshot.
+use Rattle.std.proofs.Common.{◌≡◌, ℕ, suc, List, [], ◌∷◌, ◌++◌, flat_map, length, map, take, drop, Some, None, refl, sym, ap, subst, ◌∙◌, arith}
+use Rattle.std.proofs.lemmas.List.{length-map, map-append, take_all, take-append-drop}
+use Rattle.sk_log.specs.Crash.{Crashed}
+use Rattle.sk_log.specs.Log.{log, AreFrames}
+use Rattle.sk_commands.specs.Names.{text_of}
+use Rattle.sk_commands.specs.Requests.{log_text, AreAsked}
+use Rattle.sk_commands.specs.declared.name.Name.TheVariants as named
+use Rattle.sk_commands.specs.declared.work.Work.{Work}
+use Rattle.sk_commands.proofs.Said.{says}
+use Rattle.sk_plain_store.specs.Plain.{Entries}
+use Rattle.sk_replay.specs.Frames.{payloads_of, works_in, AreLogged}
+use Rattle.sk_replay.specs.Snapshot.{after_works, entries_text, set_of}
+use Rattle.sk_replay.proofs.Restored.{restored}
+use Rattle.sk_replay.proofs.Short.{short_is_within}
+use Rattle.sk_recovered.specs.Crash.{AreWritten, Written}
+use Rattle.sk_recovered.specs.Snapshots.{ArePieces, SnapshotsAreRead}
+use Rattle.sk_recovered.proofs.Crashed.{crashes_recovered}
+
+-- the works of each frame of a snapshot
+abbrev frames_of : (entries : Entries) (payloads : List (List ℕ)) → ArePieces entries payloads → List (List Work)
+frames_of entries [] none = []
+frames_of entries (payload ∷ payloads) (room, left, piece, more) = map set_of (take piece.count entries) ∷ frames_of left payloads more
+
+payloads_are : (entries : Entries) (payloads : List (List ℕ)) (pieces : ArePieces entries payloads) → payloads_of (frames_of entries payloads pieces) ≡ payloads
+payloads_are entries [] none = refl
+payloads_are entries (payload ∷ payloads) (room, left, piece, more) =
+    ap (λ ps. entries_text (take piece.count entries) ∷ ps) (payloads_are left payloads more) ∙ ap (λ p. p ∷ payloads) (sym piece.filled.is)
+
+works_are : (entries : Entries) (payloads : List (List ℕ)) (pieces : ArePieces entries payloads) → works_in (frames_of entries payloads pieces) ≡ map set_of entries
+works_are entries [] none = ap (map set_of) (sym none)
+works_are entries (payload ∷ payloads) (room, left, piece, more) =
+    let first = take piece.count entries in
+    ap (λ ws. map set_of first ++ ws) (works_are left payloads more)
+    ∙ ap (λ es. map set_of first ++ map set_of es) piece.left
+    ∙ sym (map-append set_of first (drop piece.count entries))
+    ∙ ap (map set_of) (take-append-drop piece.count entries)
+
+asked : (entries : Entries) → AreAsked (map set_of entries)
+asked [] = tt
+asked (e ∷ entries) = ((text_of named.Set ∷ e.0 ∷ e.1 ∷ [], says named.Set (e.0 ∷ e.1 ∷ [])), asked entries)
+
+logged : (number : ℕ) (entries : Entries) (payloads : List (List ℕ)) (pieces : ArePieces entries payloads) → AreFrames 0 number payloads → AreLogged (frames_of entries payloads pieces)
+logged number entries [] none made = tt
+logged number entries (payload ∷ payloads) (room, left, piece, more) made =
+    let works = map set_of (take piece.count entries) in (
+      asked (take piece.count entries),
+      short_is_within works (omega (arith, ap length piece.filled.is, made.0.short)),
+      logged (suc number) left payloads more made.1,
+    )
+
+-- all of it was written, and no byte is lost
+written : (payloads : List (List ℕ)) → AreFrames 0 1 payloads → Crashed 0 1 payloads (length payloads) (log 0 1 payloads)
+written payloads made = record {
+  frames = made;
+  within = omega arith;
+  room = omega arith;
+  faded = λ i. omega arith;
+  kept = λ i less. refl;
+}
+
+none_is : {A : Type 0} {P : Type 0} (a : A) → None ≡ Some a → P
+none_is a e = cc
+
+pub snapshots_read : SnapshotsAreRead
+snapshots_read entries bytes found rises (payloads, pieces, made, is) finds =
+    let frames = frames_of entries payloads pieces in
+    let same = payloads_are entries payloads pieces in
+    let few : length frames ≡ length payloads = sym (length-map frames (flat_map log_text)) ∙ ap length same in
+    let all : Crashed 0 1 payloads (length payloads) bytes = subst (Crashed 0 1 payloads (length payloads)) (sym is) (written payloads made) in
+    let crashed : Crashed 0 1 (payloads_of frames) (length frames) bytes =
+    subst (λ ps. Crashed 0 1 ps (length frames) bytes) (sym same) (subst (λ n. Crashed 0 1 payloads n bytes) (sym few) all) in
+    let one : Written = record { head = record { segment = 0; first = 1 }; frames = frames; synced = length frames; left = bytes } in
+    let writes : AreWritten (one ∷ []) = (record { crashed = crashed; logged = logged 1 entries payloads pieces made; on = λ bound e. none_is bound e }, tt) in
+    let recovered = crashes_recovered (one ∷ []) 1 [] found writes refl finds in
+    let whole = recovered.1 in
+    let stored : found.store ≡ after_works (works_in frames) [] =
+    whole.3 ∙ ap (λ fs. after_works (works_in fs) []) (take_all whole.0 frames whole.1) in
+    (recovered.0, stored ∙ ap (λ ws. after_works ws []) (works_are entries payloads pieces) ∙ restored entries rises)

@@ -1,0 +1,90 @@
+//! What a store takes no more of.
+use crate::bench::plays;
+use crate::call::Call::{
+    self, Connects, Decides, Feeds, FeedsLetters, HangsUp, Lacks, Refuses, Says, Synced, Takes,
+    Undecided, Waits,
+};
+use crate::wrong::Wrong;
+use sk_batched::Outcome;
+use sk_durable::{End, NotDone, Refusal};
+
+const BYTES: &[Call] = &[
+    Refuses(0, b"GET a\r\n", Refusal::NoChannel),
+    Connects(0),
+    Feeds(0, b"SET a 1234\r\n", 12, End::Done),
+    Undecided(30),
+    Refuses(0, b"GET a\r\n", Refusal::Full),
+    Refuses(1, b"GET a\r\n", Refusal::Full),
+    Takes(1, 1, 0),
+    Synced(1),
+    Decides(Some(Outcome::Logged(1))),
+    Undecided(0),
+    Refuses(1, b"GET a\r\n", Refusal::NoChannel),
+    Feeds(0, b"GET a\r\n", 7, End::Done),
+    HangsUp(0),
+    Refuses(0, b"GET a\r\n", Refusal::NoChannel),
+];
+
+#[test]
+fn no_bytes_are_taken_at_the_limit(rt: HostRuntime) -> Result<(), Wrong> {
+    plays(rt.alloc(), 30, 1000, BYTES)
+}
+
+const NOT_DONE: &[Call] = &[
+    Connects(0),
+    Feeds(0, b"SET a 1\r\n", 9, End::Done),
+    Feeds(0, b"SET b 1\r\nGET a\r\n", 9, End::NotDone(NotDone::Full)),
+    Lacks(b"b"),
+    Feeds(0, b"GET b\r\n", 7, End::Done),
+    Waits(0),
+    Takes(1, 1, 0),
+    Synced(1),
+    Decides(Some(Outcome::Logged(1))),
+    Says(
+        0,
+        b"+OK\r\n-IOERR the write did not reach the disk, nothing of it was done\r\n$-1\r\n",
+    ),
+];
+
+#[test]
+fn what_is_not_done_is_told_in_its_turn(rt: HostRuntime) -> Result<(), Wrong> {
+    plays(rt.alloc(), 40, 1000, NOT_DONE)
+}
+
+/// A key of 65,537 bytes.
+const LONG_KEY: &[Call] = &[
+    Connects(0),
+    Feeds(0, b"GET ", 4, End::Part),
+    FeedsLetters(0, 65_537),
+    Feeds(0, b"\r\n", 2, End::Done),
+    Says(0, b"-ERR a key is longer than 65536 bytes\r\n"),
+];
+
+#[test]
+fn long_key_is_answered_by_an_error(rt: HostRuntime) -> Result<(), Wrong> {
+    plays(rt.alloc(), 1000, 1000, LONG_KEY)
+}
+
+const COMMANDS: &[Call] = &[
+    Connects(0),
+    Connects(1),
+    Feeds(0, b"SET a 1\r\n", 9, End::Done),
+    Feeds(1, b"GET b\r\n", 7, End::Done),
+    Refuses(0, b"GET a\r\n", Refusal::Full),
+    Refuses(1, b"GET a\r\n", Refusal::Full),
+    Says(1, b"$-1\r\n"),
+    Feeds(1, b"GET a\r\n", 7, End::Done),
+    Refuses(1, b"GET a\r\n", Refusal::Full),
+    Takes(1, 1, 0),
+    Synced(1),
+    Decides(Some(Outcome::Logged(1))),
+    HangsUp(0),
+    Feeds(1, b"GET b\r\n", 7, End::Done),
+    Says(1, b"$1\r\n1\r\n$-1\r\n"),
+    Waits(1),
+];
+
+#[test]
+fn no_more_commands_wait_than_may(rt: HostRuntime) -> Result<(), Wrong> {
+    plays(rt.alloc(), 1000, 2, COMMANDS)
+}

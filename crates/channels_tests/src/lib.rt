@@ -4,6 +4,8 @@
 #[cfg(test)]
 mod bytes;
 #[cfg(test)]
+mod hosts;
+#[cfg(test)]
 mod replies;
 #[cfg(test)]
 mod wrong;

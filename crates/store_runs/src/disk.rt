@@ -63,6 +63,15 @@ impl Left {
     }
 }
 
+/// So many zeros.
+pub(crate) fn zeros(alloc: Global, len: usize) -> Result<Vec<u8>, Wrong> {
+    let mut bytes = Vec::new(alloc);
+    for _ in 0..len {
+        bytes.push(0)?;
+    }
+    Ok(bytes)
+}
+
 /// Writes those bytes that are left over some, from a place on.
 fn write_over(chance: &mut Chance, over: &mut [u8], at: usize, bytes: &[u8], left: Left) {
     for (i, byte) in bytes.iter().enumerate() {
@@ -99,6 +108,11 @@ impl Disk {
         }
     }
 
+    /// All segments are let go of.
+    pub(crate) fn let_go(&mut self) {
+        self.segments.clear();
+    }
+
     /// The place of a segment, which is made where it is not there.
     fn place_of(&mut self, number: u64) -> Result<usize, Wrong> {
         for (place, segment) in self.segments.iter().enumerate() {
@@ -106,10 +120,7 @@ impl Disk {
                 return Ok(place);
             }
         }
-        let mut bytes = Vec::new(self.alloc);
-        for _ in 0..self.len {
-            bytes.push(0)?;
-        }
+        let bytes = zeros(self.alloc, self.len)?;
         self.segments.push(Segment { number, bytes })?;
         Ok(self.segments.len().saturating_sub(1))
     }
@@ -199,7 +210,11 @@ impl Disk {
     /// A crash: of each write that is not on the disk for sure any bytes are.
     pub(crate) fn crash(&mut self, chance: &mut Chance) -> Result<(), Wrong> {
         let writes = replace(&mut self.writes, Vec::new(self.alloc));
-        for write in &writes {
+        self.leave_any(chance, writes.as_slice())
+    }
+
+    fn leave_any(&mut self, chance: &mut Chance, writes: &[Write]) -> Result<(), Wrong> {
+        for write in writes {
             let left = any_left(chance, write.bytes.len());
             self.leave(chance, write, left)?;
         }

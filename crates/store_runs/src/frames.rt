@@ -2,6 +2,7 @@
 
 use crate::wrong::Wrong;
 use std::alloc::Global;
+use std::mem::replace;
 
 /// Frames of a life of a store.
 #[derive(Drop)]
@@ -46,17 +47,28 @@ impl Frames {
 
     /// A cut takes the place of a frame, of these batches, and of all behind it.
     pub(crate) fn cut(&mut self, frame: u64, first: u64, last: u64) -> Result<(), Wrong> {
-        let mut sent = Vec::new(self.alloc);
-        for (batch, at) in &self.sent {
+        let sent = replace(&mut self.sent, Vec::new(self.alloc));
+        self.part(sent.as_slice(), frame, first, last)?;
+        self.synced.retain(|at| *at < frame);
+        self.sync(frame)
+    }
+
+    /// Of what was sent that before a frame stays so, and all else but these batches is to be sent again.
+    fn part(
+        &mut self,
+        sent: &[(u64, u64)],
+        frame: u64,
+        first: u64,
+        last: u64,
+    ) -> Result<(), Wrong> {
+        for (batch, at) in sent {
             if *at < frame {
-                sent.push((*batch, *at))?;
+                self.sent.push((*batch, *at))?;
             } else if *batch < first || last < *batch {
                 self.kept.push(*batch)?;
             }
         }
-        self.sent = sent;
-        self.synced.retain(|at| *at < frame);
-        self.sync(frame)
+        Ok(())
     }
 
     /// Whether the frame of a batch and all before it are on the disk.

@@ -2,19 +2,22 @@
 ghost use Rattle.std.specs.Prelude.{◌≡◌, ◌+◌, ◌<◌, ◌≤◌, true};
 
 use crate::chance::Chance;
-use crate::disk::Disk;
+use crate::disk::{Disk, zeros};
 use crate::frames::Frames;
 use crate::model::{FIRST_KEY, KEYS, Model};
 use crate::played::Played;
 use crate::recovery::recover;
 use crate::requests::any_bytes;
 use crate::script::Script;
+use crate::snapshot::{Base, write};
 use crate::wrong::{Wrong, holds};
 use sk_batched::Outcome;
 use sk_batches::Sealed;
 use sk_channels::{Ask, Asked, Channel};
+use sk_commands::{ByteString, Reply, Work};
 use sk_durable::{End, Fed, Limits, Next, Refusal};
 use sk_log::HEAD;
+use sk_plain_store::PlainStore;
 use sk_recovered::Found;
 use sk_reopened::{Last, Reopened, reopen};
 use std::alloc::Global;
@@ -28,6 +31,11 @@ const BATCHES: u64 = 50;
 
 /// How often something that ends is tried.
 const TURNS: usize = 2000;
+
+/// What the host tells of a command that it knows, and of one that it doesn't.
+const TOLD: &[u8] = b":7\r\n";
+
+const UNKNOWN: &[u8] = b"-ERR unknown command\r\n";
 
 /// How long the room for a frame is.
 pub(crate) const ROOM: usize = 2048;
@@ -53,6 +61,7 @@ pub(crate) struct Host {
     chance: Chance,
     store: Played,
     disk: Disk,
+    base: Base,
     model: Model,
     frames: Frames,
     links: Vec<Link>,
@@ -63,7 +72,7 @@ pub(crate) struct Host {
 }
 
 /// The work of what was asked for.
-fn work_of(asked: Asked) -> Result<(u64, sk_commands::Work), Wrong> {
+fn work_of(asked: Asked) -> Result<(u64, Work), Wrong> {
     let Asked { ticket, ask } = asked;
     match ask {
         Ask::Do(work) => Ok((ticket, work)),
@@ -72,7 +81,7 @@ fn work_of(asked: Asked) -> Result<(u64, sk_commands::Work), Wrong> {
 }
 
 impl Host {
-    /// A host of an empty disk.
+    /// A host of an empty disk, which has not started.
     pub(crate) fn new(
         alloc: Global,
         limits: Limits,
@@ -88,30 +97,26 @@ impl Host {
             segment: 1,
             offset: 0,
         };
-        let mut room = Vec::new(alloc);
-        for _ in 0..ROOM {
-            room.push(0)?;
-        }
-        let mut host = Host {
+        let room = zeros(alloc, ROOM)?;
+        Ok(Host {
             alloc,
             limits,
             chance: Chance::new(number),
             store: Played::new(alloc, limits, next, number, script),
             disk: Disk::new(alloc, segment),
+            base: Base::new(alloc),
             model: Model::new(alloc),
             frames: Frames::new(alloc, 1),
             links: Vec::new(alloc),
             connected: 0,
             stopped: false,
             room,
-        };
-        host.crash()?;
-        Ok(host)
+        })
     }
 
-    /// The calls so far, as lines.
-    pub(crate) fn script(&mut self) -> &[u8] {
-        self.store.script().text()
+    /// The calls of the run, as lines.
+    pub(crate) fn into_script(self) -> Script {
+        self.store.into_script()
     }
 
     /// One thing that a host does.
@@ -189,14 +194,19 @@ impl Host {
         if bytes.is_empty() {
             bytes = any_bytes(self.alloc, &mut self.chance)?;
         }
+        self.feed_some(place, bytes.as_slice())
+    }
+
+    /// Bytes come on a channel, all or the first of them. What is not taken is left behind.
+    fn feed_some(&mut self, place: usize, bytes: &[u8]) -> Result<(), Wrong> {
         let len = if self.chance.once_in(4) {
             self.chance.place(bytes.len())
         } else {
             bytes.len()
         };
-        let taken = self.feed_all(place, bytes.as_slice(), len)?;
+        let taken = self.feed_all(place, bytes, len)?;
         if let Some(link) = self.links.get_mut(place) {
-            let left = bytes.as_slice().get(taken..).ok_or(Wrong::Asked)?;
+            let left = bytes.get(taken..).ok_or(Wrong::Asked)?;
             link.left.extend_from_slice(left)?;
         }
         Ok(())
@@ -230,6 +240,9 @@ impl Host {
             Ok(fed) => {
                 let taken = piece.get(..fed.count).ok_or(Wrong::Asked)?;
                 self.came(place, taken, fed)?;
+                if fed.end == End::Asked {
+                    self.tell(place)?;
+                }
                 Ok(Some(fed.count))
             }
             Err(Refusal::DecisionDue) => {
@@ -255,16 +268,57 @@ impl Host {
             return Err(Wrong::Asked);
         };
         link.given = link.reader.next_given().saturating_sub(1);
+        let (order, is_posed) = (link.order, link.reader.is_posed());
         let sk_channels::Fed { count, asked } = read;
         holds(count == fed.count, Wrong::Asked)?;
-        match (fed.end, asked) {
-            (End::Part, None) | (End::NotDone(_), Some(_)) => Ok(()),
+        self.was_asked(order, is_posed, fed.end, asked)
+    }
+
+    /// What a channel alone reads of the bytes became this.
+    fn was_asked(
+        &mut self,
+        order: usize,
+        is_posed: bool,
+        end: End,
+        asked: Option<Asked>,
+    ) -> Result<(), Wrong> {
+        match (end, asked) {
+            (End::Part, None) | (End::NotDone(_), Some(_)) => holds(!is_posed, Wrong::Asked),
+            (End::Asked, None) => holds(is_posed, Wrong::Asked),
             (End::Done, Some(asked)) => {
                 let (ticket, work) = work_of(asked)?;
-                self.model.carry(link.order, ticket, work)
+                self.model.carry(order, ticket, work)?;
+                let ahead = self.store.store().ahead();
+                holds(ahead == self.model.last_answer(), Wrong::Answer)
             }
             _ => Err(Wrong::Asked),
         }
+    }
+
+    /// The host tells what it is asked on the channel at a place, or that it knows no such command; or it lets the channel wait.
+    fn tell(&mut self, place: usize) -> Result<(), Wrong> {
+        let Some(link) = self.links.get_mut(place) else {
+            return Err(Wrong::Asked);
+        };
+        if self.chance.once_in(3) {
+            return Ok(());
+        }
+        let ticket = link.reader.next_given();
+        if !link.reader.is_posed() {
+            return Err(Wrong::Asked);
+        }
+        if ticket == u64::MAX {
+            return Err(Wrong::Asked);
+        }
+        link.reader.tell();
+        link.given = ticket;
+        let known = self.chance.once_in(2);
+        let reply = if known { TOLD } else { UNKNOWN };
+        let text = ByteString::copy_of(self.alloc, reply)?;
+        self.store
+            .tell(link.channel, if known { Some(reply) } else { None })?;
+        self.model
+            .carry(link.order, ticket, Work::Say(Reply::Text(text)))
     }
 
     /// Takes what may go out of the channel at a place.
@@ -412,33 +466,89 @@ impl Host {
     // ---- crashes
 
     /// A crash, and a start, which may crash too.
-    fn crash(&mut self) -> Result<(), Wrong> {
+    pub(crate) fn crash(&mut self) -> Result<(), Wrong> {
         for _ in 0..TURNS {
             self.disk.crash(&mut self.chance)?;
-            let most = u64::from(self.limits.undecided).saturating_add(64 * HEAD as u64);
-            let found = recover(
-                self.alloc,
-                &mut self.chance,
-                self.disk.segments(),
-                most,
-                self.store.script(),
-            )?;
-            holds(!found.is_damaged, Wrong::Recovered)?;
-            self.model.recover(&found.store)?;
-            if self.start(found)? {
+            if self.begin()? {
                 return Ok(());
             }
         }
         Err(Wrong::Refused("a start"))
     }
 
+    /// A start: whether it comes to its end.
+    fn begin(&mut self) -> Result<bool, Wrong> {
+        let found = self.found()?;
+        match self.is_found(&found) {
+            Ok(()) => self.go_on(found),
+            Err(wrong) => Err(wrong),
+        }
+    }
+
+    /// What is read of the disk.
+    fn found(&mut self) -> Result<Found, Wrong> {
+        let most = u64::from(self.limits.undecided).saturating_add(64 * HEAD as u64);
+        recover(
+            self.alloc,
+            &mut self.chance,
+            &self.base,
+            self.disk.segments(),
+            most,
+            self.store.script(),
+        )
+    }
+
+    /// What was found is what may be.
+    fn is_found(&mut self, found: &Found) -> Result<(), Wrong> {
+        holds(!found.is_damaged, Wrong::Recovered)?;
+        self.model.recover(&found.store)
+    }
+
+    /// Where the log ends, of which this frame comes next.
+    fn last(&self, frame: u64) -> Last {
+        Last {
+            frame,
+            segment: self.disk.last().max(self.base.segment),
+        }
+    }
+
+    /// A snapshot is written of what was found, and then all is read again behind it; or the store goes on.
+    fn go_on(&mut self, found: Found) -> Result<bool, Wrong> {
+        let last = self.last(found.number);
+        if self.chance.once_in(4) {
+            self.keep(found.store, last)?;
+            return Ok(false);
+        }
+        self.start(found.store, last)
+    }
+
+    /// A snapshot is written, which stands for all segments from then on, unless the start crashes.
+    fn keep(&mut self, store: PlainStore, last: Last) -> Result<(), Wrong> {
+        let mut pieces = Vec::new(self.alloc);
+        write(
+            self.alloc,
+            &mut self.chance,
+            store,
+            &mut pieces,
+            self.store.script(),
+        )?;
+        if !self.chance.once_in(4) {
+            self.base.stand(pieces, last.frame, last.segment);
+            self.disk.let_go();
+        }
+        Ok(())
+    }
+
     /// The log goes on in a new segment, unless the start crashes.
-    fn start(&mut self, found: Found) -> Result<bool, Wrong> {
-        let last = Last {
-            frame: found.number,
-            segment: self.disk.last(),
-        };
-        let entries = found.store.into_entries()?;
+    fn start(&mut self, store: PlainStore, last: Last) -> Result<bool, Wrong> {
+        let Reopened { store, head } = self.reopened(store, last)?;
+        self.store.serve(store);
+        self.serve(last, head)
+    }
+
+    /// A store that goes on, whose head stands in the room.
+    fn reopened(&mut self, store: PlainStore, last: Last) -> Result<Reopened, Wrong> {
+        let entries = store.into_entries()?;
         let opened = reopen(
             self.alloc,
             self.limits,
@@ -447,10 +557,14 @@ impl Host {
             last,
             self.room.as_mut_slice(),
         );
-        let Ok(opened) = opened else {
-            return Err(Wrong::Refused("a start"));
-        };
-        let Reopened { store, head } = opened;
+        match opened {
+            Ok(opened) => Ok(opened),
+            Err(_) => Err(Wrong::Refused("a start")),
+        }
+    }
+
+    /// The head is written, and nothing is known any more of what was before, unless the start crashes.
+    fn serve(&mut self, last: Last, head: Sealed) -> Result<bool, Wrong> {
         let bytes = self.room.as_slice().get(..head.len).ok_or(Wrong::Place)?;
         self.store.open(&self.limits, last.frame, head, bytes)?;
         self.write(head)?;
@@ -458,9 +572,8 @@ impl Host {
             return Ok(false);
         }
         self.disk.sync(&mut self.chance, 0)?;
-        self.store.serve(store);
         self.frames = Frames::new(self.alloc, head.frame.saturating_add(1));
-        self.links = Vec::new(self.alloc);
+        self.links.clear();
         self.connected = 0;
         self.stopped = false;
         Ok(true)

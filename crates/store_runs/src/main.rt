@@ -10,6 +10,7 @@ mod played;
 mod recovery;
 mod requests;
 mod script;
+mod snapshot;
 mod wrong;
 
 use crate::host::Host;
@@ -47,22 +48,50 @@ fn limits(in_flight: NonZeroU16) -> Limits {
     }
 }
 
-/// A run, and its script where that is wanted.
-fn run(alloc: Global, number: u64, turns: u32, wanted: bool) -> Result<Host, Wrong> {
+/// A start, and so many things that happen.
+fn play(host: &mut Host, turns: u32) -> Result<(), Wrong> {
+    host.crash()?;
+    for _ in 0..turns {
+        host.turn()?;
+    }
+    Ok(())
+}
+
+/// A host that has not started.
+fn new_host(alloc: Global, number: u64, wanted: bool) -> Result<Host, Wrong> {
     let Some(in_flight) = NonZeroU16::new(4) else {
         return Err(Wrong::Refused("a limit"));
     };
-    let mut host = Host::new(
+    Host::new(
         alloc,
         limits(in_flight),
         SEGMENT,
         number,
         Script::new(alloc, wanted),
-    )?;
-    for _ in 0..turns {
-        host.turn()?;
+    )
+}
+
+/// A run, and its script where that is wanted.
+fn run(alloc: Global, number: u64, turns: u32, wanted: bool) -> Result<Script, Wrong> {
+    let mut host = new_host(alloc, number, wanted)?;
+    let played = play(&mut host, turns);
+    let script = host.into_script();
+    match played {
+        Ok(()) => Ok(script),
+        Err(wrong) => Err(wrong),
     }
-    Ok(host)
+}
+
+/// Makes a run, and tells its calls, or what is wrong.
+fn tell(rt: &HostRuntime, number: u64, turns: u32, wanted: bool) -> anyhow::Result<()> {
+    match run(rt.alloc(), number, turns, wanted) {
+        Ok(script) => rt.stdout().write_all(script.text())?,
+        Err(wrong) => {
+            println!(rt; "run {number}: {wrong}")?;
+            return Err(wrong.into());
+        }
+    }
+    Ok(())
 }
 
 /// The number that a word says, or another where there is no word.
@@ -77,18 +106,17 @@ fn number(word: Option<&String>, other: u64) -> anyhow::Result<u64> {
 /// of each.
 fn main(rt: HostRuntime) -> anyhow::Result<()> {
     let words = env::args(&rt)?.collect::<Vec<String>>(rt.alloc())?;
+    runs(&rt, words.as_slice())
+}
+
+/// The runs that the words say.
+fn runs(rt: &HostRuntime, words: &[String]) -> anyhow::Result<()> {
     let count = number(words.get(1), 0)?;
     let first = number(words.get(2), 0)?;
     let turns = u32::try_from(number(words.get(3), u64::from(TURNS))?)?;
     let wanted = words.get(4).is_some();
     for turn in first..first.saturating_add(count) {
-        match run(rt.alloc(), turn, turns, wanted) {
-            Ok(mut host) => rt.stdout().write_all(host.script())?,
-            Err(wrong) => {
-                println!(rt; "run {turn}: {wrong}")?;
-                return Err(wrong.into());
-            }
-        }
+        tell(rt, turn, turns, wanted)?;
     }
     if !wanted {
         println!(rt; "{count} runs")?;

@@ -31,6 +31,33 @@ struct Command {
     logged: bool,
 }
 
+impl Command {
+    /// One of which nothing is known.
+    fn new(alloc: Global, link: usize, ticket: u64) -> Command {
+        Command {
+            link,
+            ticket,
+            text: Vec::new(alloc),
+            answer: Vec::new(alloc),
+            wrote: 0,
+            rests: 0,
+            logged: false,
+        }
+    }
+
+    /// It is carried out again.
+    fn is_run(&self, alloc: Global, plain: &mut PlainStore) -> Result<(), Wrong> {
+        let _said = run_text(alloc, plain, self.text.as_slice())?;
+        Ok(())
+    }
+
+    /// The same, and it is answered as it was.
+    fn is_answered(&self, alloc: Global, plain: &mut PlainStore) -> Result<(), Wrong> {
+        let said = run_text(alloc, plain, self.text.as_slice())?;
+        holds(said == self.answer, Wrong::Answer)
+    }
+}
+
 /// What a store has to be.
 #[derive(Drop)]
 pub(crate) struct Model {
@@ -83,14 +110,35 @@ fn written_keys(writes: &Writes) -> u8 {
 /// Carries out works of a log in a plain store, and answers what the last says.
 fn run_text(alloc: Global, plain: &mut PlainStore, text: &[u8]) -> Result<Vec<u8>, Wrong> {
     let mut said = Vec::new(alloc);
-    let works = match works_of(alloc, text) {
-        Ok(works) => works,
-        Err(_) => return Err(Wrong::Answer),
+    let Ok(works) = works_of(alloc, text) else {
+        return Err(Wrong::Answer);
     };
     for work in works {
-        said = plain.run(work)?.text(alloc)?;
+        say(alloc, plain, work, &mut said)?;
     }
     Ok(said)
+}
+
+/// Carries out work, and keeps what it says.
+fn say(alloc: Global, plain: &mut PlainStore, work: Work, said: &mut Vec<u8>) -> Result<(), Wrong> {
+    let answer = plain.run(work)?;
+    *said = answer.text(alloc)?;
+    Ok(())
+}
+
+/// Whether these keys have the same in both, and there are no others.
+fn have_same(plain: &PlainStore, keys: &[Vec<u8>], read: &PlainStore, others: &[Vec<u8>]) -> bool {
+    for key in keys {
+        let (one, other) = (plain.value(key.as_slice()), read.value(key.as_slice()));
+        let same = match (one, other) {
+            (Some(one), Some(other)) => one.as_slice() == other.as_slice(),
+            _ => false,
+        };
+        if !same {
+            return false;
+        }
+    }
+    keys.len() == others.len()
 }
 
 impl Model {
@@ -142,29 +190,54 @@ impl Model {
     /// Work of a ticket of a channel is carried out.
     pub(crate) fn carry(&mut self, link: usize, ticket: u64, work: Work) -> Result<(), Wrong> {
         let known = self.plain.keys()?;
-        let text = work.log_text(self.alloc)?;
-        let logged = work.may_write();
-        let looked = self.looked(&work, known.as_slice())?;
-        let mut writes = Vec::new(self.alloc);
-        let answer: Answer = work.run(self.alloc, &self.plain, known.as_slice(), &mut writes)?;
-        let answer = answer.text(self.alloc)?;
-        if !text.is_empty() {
-            let again = run_text(self.alloc, &mut self.plain, text.as_slice())?;
-            holds(again == answer, Wrong::Answer)?;
-        }
-        let wrote = written_keys(&writes);
-        let own = if logged { bit_of(self.batch) } else { 0 };
-        let rests = self.rests_of(looked | wrote) | own;
-        self.commands.push(Command {
-            link,
-            ticket,
-            text,
-            answer,
-            wrote,
-            rests,
-            logged,
-        })?;
+        let mut command = Command::new(self.alloc, link, ticket);
+        let looked = self.note(&work, known.as_slice(), &mut command);
+        let ran = self.run(work, known.as_slice(), &mut command);
+        self.rest(looked, ran, &mut command)?;
+        self.commands.push(command)?;
         Ok(())
+    }
+
+    /// Notes what a log has of work; the keys that it looks at.
+    fn note(&self, work: &Work, known: &[Vec<u8>], command: &mut Command) -> Result<u8, Wrong> {
+        command.text = work.log_text(self.alloc)?;
+        command.logged = work.may_write();
+        self.looked(work, known)
+    }
+
+    /// Notes what work says, and what it writes.
+    fn run(&self, work: Work, known: &[Vec<u8>], command: &mut Command) -> Result<(), Wrong> {
+        let mut writes = Vec::new(self.alloc);
+        let answer: Answer = work.run(self.alloc, &self.plain, known, &mut writes)?;
+        command.wrote = written_keys(&writes);
+        command.answer = answer.text(self.alloc)?;
+        Ok(())
+    }
+
+    /// Carries it out, and notes what it rests on.
+    fn rest(
+        &mut self,
+        looked: Result<u8, Wrong>,
+        ran: Result<(), Wrong>,
+        command: &mut Command,
+    ) -> Result<(), Wrong> {
+        let looked = looked?;
+        ran?;
+        if !command.text.is_empty() {
+            command.is_answered(self.alloc, &mut self.plain)?;
+        }
+        let own = if command.logged {
+            bit_of(self.batch)
+        } else {
+            0
+        };
+        command.rests = self.rests_of(looked | command.wrote) | own;
+        Ok(())
+    }
+
+    /// The answer to the command that was carried out last, as bytes.
+    pub(crate) fn last_answer(&self) -> Option<&[u8]> {
+        Some(self.commands.last()?.answer.as_slice())
     }
 
     /// A frame was taken: the next batch is open.
@@ -205,13 +278,22 @@ impl Model {
         self.cut_off &= !bit_of(batch);
         self.failed |= bit_of(batch);
         let mut plain = self.at_start()?;
+        match self.stand(&mut plain) {
+            Ok(()) => {
+                self.plain = plain;
+                Ok(())
+            }
+            Err(wrong) => Err(wrong),
+        }
+    }
+
+    /// The commands that stand are carried out, and answer what they did.
+    fn stand(&self, plain: &mut PlainStore) -> Result<(), Wrong> {
         for command in &self.commands {
             if command.rests & self.failed == 0 && !command.text.is_empty() {
-                let again = run_text(self.alloc, &mut plain, command.text.as_slice())?;
-                holds(again == command.answer, Wrong::Answer)?;
+                command.is_answered(self.alloc, plain)?;
             }
         }
-        self.plain = plain;
         Ok(())
     }
 
@@ -266,54 +348,59 @@ impl Model {
     /// Whether a plain store is what another has.
     fn is_same(&self, plain: &PlainStore, read: &PlainStore) -> Result<bool, Wrong> {
         let keys = plain.keys()?;
-        if keys != read.keys()? {
-            return Ok(false);
-        }
-        for key in &keys {
-            let (one, other) = (plain.value(key.as_slice()), read.value(key.as_slice()));
-            let same = match (one, other) {
-                (Some(one), Some(other)) => one.as_slice() == other.as_slice(),
-                _ => false,
-            };
-            if !same {
-                return Ok(false);
-            }
-        }
-        Ok(true)
+        let others = read.keys()?;
+        Ok(have_same(plain, keys.as_slice(), read, others.as_slice()))
     }
 
     /// What was read after a crash is a plain store after the first of the logged commands, with all that was told as logged. It goes
     /// on from there.
     pub(crate) fn recover(&mut self, read: &PlainStore) -> Result<(), Wrong> {
-        let gone = self.failed | self.cut_off;
         let mut plain = self.at_start()?;
-        let mut start = Vec::from_slice(self.alloc, self.start.as_slice())?;
-        let mut found = false;
-        if self.is_settled(0) && self.is_same(&plain, read)? {
-            found = true;
+        match self.find(&mut plain, read) {
+            Ok(text) => self.begin(plain, text.as_slice()),
+            Err(wrong) => Err(wrong),
+        }
+    }
+
+    /// Carries out the logged commands up to what was read, and answers their text.
+    fn find(&self, plain: &mut PlainStore, read: &PlainStore) -> Result<Vec<u8>, Wrong> {
+        let mut text = Vec::new(self.alloc);
+        self.add_until(plain, read, &mut text)?;
+        Ok(text)
+    }
+
+    fn add_until(
+        &self,
+        plain: &mut PlainStore,
+        read: &PlainStore,
+        text: &mut Vec<u8>,
+    ) -> Result<(), Wrong> {
+        let gone = self.failed | self.cut_off;
+        if self.is_settled(0) && self.is_same(plain, read)? {
+            return Ok(());
         }
         for (place, command) in self.commands.iter().enumerate() {
-            if found || command.rests & gone != 0 || !command.logged {
+            if command.rests & gone != 0 || !command.logged {
                 continue;
             }
-            run_text(self.alloc, &mut plain, command.text.as_slice())?;
-            start.extend_from_slice(command.text.as_slice())?;
-            if self.is_settled(place.saturating_add(1)) && self.is_same(&plain, read)? {
-                found = true;
+            command.is_run(self.alloc, plain)?;
+            text.extend_from_slice(command.text.as_slice())?;
+            if self.is_settled(place.saturating_add(1)) && self.is_same(plain, read)? {
+                return Ok(());
             }
         }
-        holds(found, Wrong::Recovered)?;
-        let alloc = self.alloc;
-        *self = Model {
-            alloc,
-            start,
-            commands: Vec::new(alloc),
-            plain,
-            batch: 1,
-            committed: 0,
-            failed: 0,
-            cut_off: 0,
-        };
+        Err(Wrong::Recovered)
+    }
+
+    /// It begins with a store, behind these works more.
+    fn begin(&mut self, plain: PlainStore, text: &[u8]) -> Result<(), Wrong> {
+        self.plain = plain;
+        self.commands.clear();
+        self.batch = 1;
+        self.committed = 0;
+        self.failed = 0;
+        self.cut_off = 0;
+        self.start.extend_from_slice(text)?;
         Ok(())
     }
 

@@ -26,6 +26,7 @@ fn end_number(end: End) -> u64 {
         End::NotDone(NotDone::Full) => 4,
         End::NotDone(NotDone::TooMany) => 5,
         End::NotDone(NotDone::Memory) => 6,
+        End::Asked => 7,
     }
 }
 
@@ -87,6 +88,11 @@ impl Played {
         &mut self.script
     }
 
+    /// The same, where no more is called.
+    pub(crate) fn into_script(self) -> Script {
+        self.script
+    }
+
     /// A store is opened, whose head stands in the room.
     pub(crate) fn open(
         &mut self,
@@ -141,12 +147,30 @@ impl Played {
         bytes: &[u8],
     ) -> Result<Result<Fed, Refusal>, Wrong> {
         self.script.gives(b"> feed", &[u64::from(channel)], bytes)?;
-        let fed = self.store.feed(channel, bytes);
+        let fed = self.store.feed_ahead(channel, bytes);
         match fed {
             Ok(fed) => self.script.done(&[fed.count as u64, end_number(fed.end)])?,
             Err(why) => self.script.refused(refusal_number(why))?,
         }
         Ok(fed)
+    }
+
+    /// The host tells a reply to what it is asked, or that it knows no such command where there is none.
+    pub(crate) fn tell(&mut self, channel: u16, reply: Option<&[u8]>) -> Result<(), Wrong> {
+        let told = match reply {
+            Some(reply) => {
+                self.script.gives(b"> tell", &[u64::from(channel)], reply)?;
+                self.store.tell(channel, reply)
+            }
+            None => {
+                self.script.calls(b"> tell_unknown", &[u64::from(channel)])?;
+                self.store.tell_unknown(channel)
+            }
+        };
+        if told.is_err() {
+            return Err(Wrong::Refused("tell"));
+        }
+        self.script.done(&[])
     }
 
     pub(crate) fn output(&mut self, channel: u16, room: &mut [u8]) -> Result<usize, Wrong> {

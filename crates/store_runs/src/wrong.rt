@@ -24,8 +24,8 @@ pub(crate) enum Wrong {
     Place,
     #[error("what is read after a crash is no plain store after the first of the logged commands")]
     Recovered,
-    #[error("what is read after a crash lacks a write that was told as logged")]
-    Lost,
+    #[error("what is read of a snapshot is no snapshot")]
+    Snapshot,
 }
 
 impl From<AllocError> for Wrong {

@@ -248,6 +248,167 @@ static inline hidewillow_told hidewillow_own_step(hidewillow_own *own, const hid
     return told;
 }
 
+/* ---- A desk: a kernel whose cached copies are of files of a server of the caller's. Its requests go
+ * out as bytes, and the server's replies come as bytes; no call reads or writes a socket. A turn of a
+ * process that fetches or stores a file goes on from the cached copy under a guess, and asks the server
+ * whether it is good; without a copy the process waits. The reply commits the guess or fails it.
+ *
+ * The handle is used as the first one. Each call tells CLOSED where the handle holds nothing.
+ *
+ * Numbers have eight bytes, the lowest first. A request is eight numbers: its own, from 1 by one; the
+ * guess that its reply decides, 0 where a process waits for the reply; a number below which each guess
+ * is decided by now; what is asked: 1 the content of a file, 2 whether it has this version, 3 to write
+ * these bytes where it has this version; the version, 0 for the first kind; how many bytes the name of
+ * the file has, how many those to be written, and on how many guesses the request rests. Behind them
+ * stand the name, the bytes, and the numbers of these guesses, by rising number.
+ *
+ * A reply is four numbers: that of the request; the answer: 1 yes, the file has that version, or the
+ * bytes are written and make the next one; 2 no, and this is its content; 3 this is its content; 4
+ * dropped; the version of the content, at most 2^63 - 1; and how many bytes it has, at most 512. Behind
+ * them stand these bytes. The answers 1 and 4 have version 0 and no bytes. The kind 1 is answered by 3
+ * or 4, the others by 1, 2 or 4; a file that was never written has version 0 and no bytes.
+ *
+ * The server answers requests in their order. It remembers the guesses that it refused (by 2, or by 4),
+ * and drops (4) each request that rests on one of them; those below the third number it may forget. */
+
+typedef struct { void *at; } hidewillow_desk;
+
+/* Opens a desk over the kernel that a scenario's declarations say, at its start; the text ends with the
+ * line `world`, and the files that it declares are the server's: nothing is kept of them. Told: as of
+ * hidewillow_open. */
+hidewillow_told hidewillow_desk_open(hidewillow_desk *desk, const uint8_t *text, size_t text_bytes);
+
+/* Takes a turn of the process of this name, as `1` or `1.2`. Told: STEPPED; GUESSED with the guess, of
+ * which a request waits then; ASKED with the request for which the process waits; REFUSED with the
+ * refusal of a kernel's line; FAULT where no process can have this name; MEMORY. */
+hidewillow_told hidewillow_desk_turn(hidewillow_desk *desk, const uint8_t *name, size_t name_bytes);
+
+/* Shows the oldest request that waits to be sent, as bytes. It is taken where the room has all of it;
+ * else it stays, and the next of these calls shows it again. Told: SHOWN with the number of the request;
+ * IDLE where none waits; MEMORY. */
+hidewillow_told hidewillow_desk_request(hidewillow_desk *desk, uint8_t *room, size_t room_bytes);
+
+/* Gives the server's reply, of which these are the bytes, and all. Told: COMMITTED or FAILED with the
+ * guess; GONE with the guess, which another's failure had struck; TAKEN with the request, whose process
+ * went on; FORGOTTEN with the request. FAULT where the bytes are no reply; REFUSED 1 where it is another
+ * request's turn, or that one was not shown whole, 2 where it does not fit what was asked; MEMORY: then
+ * nothing has changed. */
+hidewillow_told hidewillow_desk_reply(hidewillow_desk *desk, const uint8_t *bytes, size_t byte_count);
+
+/* Tells the request whose reply is next. Told: SHOWN with its number, and `bytes` is how many requests
+ * have no reply. */
+hidewillow_told hidewillow_desk_pending(hidewillow_desk *desk);
+
+/* Begins a new epoch: what was done so far is let go of, but for two bits of each guess, so that a long
+ * run takes no more memory than an epoch; the state, and the numbers of guesses and requests, go on. Told: DONE; REFUSED 1 where a
+ * request has no reply; MEMORY. */
+hidewillow_told hidewillow_desk_epoch(hidewillow_desk *desk);
+
+/* Shows the text at a place, from 0 on, among those that a terminal had released when the last epoch
+ * ended; they are there until the next one ends. Told: SHOWN, or ABSENT past the last. */
+hidewillow_told hidewillow_desk_left(hidewillow_desk *desk, uint16_t number, size_t place, uint8_t *room,
+                                     size_t room_bytes);
+
+/* The same as those of the first handle, of the desk's kernel in this epoch. */
+hidewillow_told hidewillow_desk_report(hidewillow_desk *desk, uint8_t *room, size_t room_bytes);
+hidewillow_told hidewillow_desk_value(hidewillow_desk *desk, const uint8_t *name, size_t name_bytes,
+                                      uint8_t *room, size_t room_bytes);
+hidewillow_told hidewillow_desk_tags(hidewillow_desk *desk, const uint8_t *name, size_t name_bytes,
+                                     uint8_t *room, size_t room_bytes);
+hidewillow_told hidewillow_desk_terminal(hidewillow_desk *desk, uint16_t number, uint8_t *room,
+                                         size_t room_bytes);
+hidewillow_told hidewillow_desk_counts(hidewillow_desk *desk, hidewillow_counted *counts);
+
+/* Ends what the handle holds, if anything, and frees its memory. The guesses of requests without a
+ * reply fail. The handle holds nothing then. */
+void hidewillow_desk_close(hidewillow_desk *desk);
+
+/* ---- Of the bytes: a request that is read where it stands, a reply that is written, and how much is to
+ * be read of a stream. */
+
+enum hidewillow_kind { HIDEWILLOW_GET = 1, HIDEWILLOW_CHECK = 2, HIDEWILLOW_STORE = 3 };
+enum hidewillow_reply_kind {
+    HIDEWILLOW_IS_YES = 1,
+    HIDEWILLOW_IS_NO = 2,
+    HIDEWILLOW_IS_COPY = 3,
+    HIDEWILLOW_IS_DROPPED = 4
+};
+
+typedef struct {
+    uint64_t number, guess, settled, kind, version;
+    const uint8_t *name;
+    size_t name_bytes;
+    const uint8_t *stored;
+    size_t stored_bytes;
+    const uint8_t *rests; /* eight bytes a guess: hidewillow_number_at */
+    size_t rests_count;
+} hidewillow_request;
+
+static inline uint64_t hidewillow_number_at(const uint8_t *bytes, size_t place) {
+    uint64_t number = 0;
+    int i;
+    for (i = 7; i >= 0; i--) number = number << 8 | bytes[8 * place + i];
+    return number;
+}
+
+static inline void hidewillow_put_number(uint8_t *bytes, size_t place, uint64_t number) {
+    int i;
+    for (i = 0; i < 8; i++) bytes[8 * place + i] = (uint8_t)(number >> 8 * i);
+}
+
+/* How many bytes stand before those of the name, and of a reply before its content; and a room for any reply. */
+enum { HIDEWILLOW_REQUEST_HEAD = 64, HIDEWILLOW_REPLY_HEAD = 32, HIDEWILLOW_REPLY_BYTES = 544 };
+
+/* How many bytes stand behind these first 64 of a request. */
+static inline size_t hidewillow_request_left(const uint8_t *head) {
+    return (size_t)(hidewillow_number_at(head, 5) + hidewillow_number_at(head, 6) +
+                    8 * hidewillow_number_at(head, 7));
+}
+
+/* How many bytes stand behind these first 32 of a reply. */
+static inline size_t hidewillow_reply_left(const uint8_t *head) {
+    return (size_t)hidewillow_number_at(head, 3);
+}
+
+/* Reads a request that is these bytes. Answered: 1, or 0 where they are none. */
+static inline int hidewillow_request_of(const uint8_t *bytes, size_t byte_count,
+                                        hidewillow_request *request) {
+    uint64_t name_bytes, stored_bytes, rests, left;
+    if (byte_count < HIDEWILLOW_REQUEST_HEAD) return 0;
+    request->number = hidewillow_number_at(bytes, 0);
+    request->guess = hidewillow_number_at(bytes, 1);
+    request->settled = hidewillow_number_at(bytes, 2);
+    request->kind = hidewillow_number_at(bytes, 3);
+    request->version = hidewillow_number_at(bytes, 4);
+    name_bytes = hidewillow_number_at(bytes, 5);
+    stored_bytes = hidewillow_number_at(bytes, 6);
+    rests = hidewillow_number_at(bytes, 7);
+    left = byte_count - HIDEWILLOW_REQUEST_HEAD;
+    if (name_bytes > left || stored_bytes > left - name_bytes) return 0;
+    left -= name_bytes + stored_bytes;
+    if (left % 8 || rests != left / 8) return 0;
+    request->name = bytes + HIDEWILLOW_REQUEST_HEAD;
+    request->name_bytes = (size_t)name_bytes;
+    request->stored = request->name + request->name_bytes;
+    request->stored_bytes = (size_t)stored_bytes;
+    request->rests = request->stored + request->stored_bytes;
+    request->rests_count = (size_t)rests;
+    return request->kind >= HIDEWILLOW_GET && request->kind <= HIDEWILLOW_STORE;
+}
+
+/* Writes a reply into a room of HIDEWILLOW_REPLY_BYTES; of bytes there are at most 512.
+ * Answered: how many bytes it has. */
+static inline size_t hidewillow_reply_to(uint8_t *room, uint64_t number, uint64_t kind, uint64_t version,
+                                         const uint8_t *bytes, size_t byte_count) {
+    size_t i;
+    hidewillow_put_number(room, 0, number);
+    hidewillow_put_number(room, 1, kind);
+    hidewillow_put_number(room, 2, version);
+    hidewillow_put_number(room, 3, byte_count);
+    for (i = 0; i < byte_count; i++) room[HIDEWILLOW_REPLY_HEAD + i] = bytes[i];
+    return HIDEWILLOW_REPLY_HEAD + byte_count;
+}
+
 /* ---- A store of byte strings whose replies wait for exactly what they rest on. Commands come as bytes on
  * channels, in the protocol that its clients speak, and are carried out at once, in memory, under the guess
  * that the batch which logs them reaches the disk. A reply goes out once all that it rests on is there. No
@@ -263,7 +424,13 @@ static inline hidewillow_told hidewillow_own_step(hidewillow_own *own, const hid
  *
  * A start: hidewillow_recovery_open, then _head of each segment by rising number, then _feed of each
  * segment whole, in pieces, by rising number, then _end; then hidewillow_store_open, whose head is to be
- * written and synced before any other call. So an empty disk begins too. */
+ * written and synced before any other call. So an empty disk begins too.
+ *
+ * A snapshot, so that the log does not grow for ever: with a handle of its own, beside the store that goes
+ * on, read the old snapshot, if there is one, and segments that are full as a start does; then write what
+ * _snapshot shows, piece by piece, to a file. Once that is synced it stands for the segments that were
+ * read, which may go. A start then tells _open the number of the frame behind it (`next`), and _feed its
+ * bytes as those of segment 0, before the first head. */
 
 typedef struct { void *at; } hidewillow_recovery;
 typedef struct { void *at; } hidewillow_store;
@@ -278,26 +445,37 @@ typedef struct {
     uint64_t dropped;  /* bytes behind that count for nothing, up to the last that is not 0 */
 } hidewillow_read_counted;
 
-/* Begins to read a log. Told: OPENED, MEMORY or HELD. */
-hidewillow_told hidewillow_recovery_open(hidewillow_recovery *recovery);
+/* Begins to read a log. The first frame of its segments has the number `first`: 1, or behind a snapshot what
+ * was counted as `next` when that was made. Told: OPENED, MEMORY or HELD. */
+hidewillow_told hidewillow_recovery_open(hidewillow_recovery *recovery, uint64_t first);
 
-/* The first 24 bytes of the next segment, or all there are. Segments come by rising number. Told: DONE;
- * ABSENT where no whole head stands there: the segment counts for nothing; REFUSED 14 where the number
- * does not rise, or a piece came already; MEMORY. */
+/* The first 24 bytes of the next segment, or all there are. Segments come by rising number, from 1 on; behind
+ * a snapshot the first to come is the last that it stands for, of which no bytes are given, so that the log
+ * goes on behind it. Told: DONE; ABSENT where no whole head stands there: the segment counts for nothing;
+ * REFUSED 14 where the number does not rise, or a piece of a segment came already, 15 where what came is no
+ * snapshot, and all begins anew; MEMORY, and the snapshot, if one came before, comes anew. */
 hidewillow_told hidewillow_recovery_head(hidewillow_recovery *recovery, uint64_t segment,
                                          const uint8_t *bytes, size_t byte_count);
 
-/* The next piece of a segment, of any size. What came whole and counts is carried out. Told: DONE;
- * REFUSED 14 where another segment comes first, or this one came already; MEMORY, and all begins anew
- * with the heads: nothing on the disk has changed. */
+/* The next piece of a segment, of any size, or, as segment 0, of a snapshot. What came whole and counts is
+ * carried out. Told: DONE; REFUSED 14 where another segment comes first, or this one came already, or a head
+ * came before a piece of a snapshot, 15 where what came before is no snapshot, and all begins anew; MEMORY,
+ * and all begins anew with the snapshot and the heads: nothing on the disk has changed. */
 hidewillow_told hidewillow_recovery_feed(hidewillow_recovery *recovery, uint64_t segment,
                                          const uint8_t *bytes, size_t byte_count);
 
 /* All came. Told: DONE; REFUSED 15 where a whole frame says no works, or more bytes were dropped than
- * may have been in flight: the counts tell the place, and all begins anew; REFUSED 14 where this was told
- * before; MEMORY, and all begins anew. */
+ * may have been in flight: the counts tell the place, and all begins anew; the same where what came is no
+ * snapshot, and nothing is counted; REFUSED 14 where this was told before; MEMORY, and all begins anew. */
 hidewillow_told hidewillow_recovery_end(hidewillow_recovery *recovery, uint64_t in_flight,
                                         hidewillow_read_counted *counts);
+
+/* Shows the next piece of a snapshot of what was found: the next entries, as many as have room, one at least,
+ * as a frame. Where nothing was found there is no piece. Told: SHOWN, with `bytes`; ABSENT when all was given;
+ * REFUSED 14 before the end, 9 where the room is shorter than the next key and its value with 88 bytes, 8
+ * where no number is left; MEMORY. But for SHOWN nothing has changed. */
+hidewillow_told hidewillow_recovery_snapshot(hidewillow_recovery *recovery, uint8_t *room,
+                                             size_t room_bytes);
 
 /* Ends what the handle holds, if anything, and frees its memory. */
 void hidewillow_recovery_close(hidewillow_recovery *recovery);
@@ -331,9 +509,10 @@ typedef struct {
     uint64_t in_flight;  /* frames */
     size_t open_batches; /* that are undecided and have a guess */
     size_t next_frame;   /* how many bytes the next frame has: as long a room is wanted */
+    size_t answers;      /* of commands that wait to be told */
 } hidewillow_store_counted;
 
-/* Opens a store with what was read. The log goes on behind the
+/* Opens a store with what was read, of which no piece of a snapshot was given. The log goes on behind the
  * last segment whose head was told of; the first 24 bytes of the room are the head of the next one, which
  * is to be written and synced before anything else is done. Who doesn't know the seed can't choose keys
  * that are found slowly. Told: OPENED, and the recovery holds nothing; REFUSED 14 before the end, 12 where
@@ -356,10 +535,35 @@ hidewillow_told hidewillow_store_hang_up(hidewillow_store *store, uint16_t chann
  * DONE, with how many `bytes` were taken; `number` is what became of the request that they end: 0 it is
  * not whole yet or asks for nothing, 1 it was carried out, or an error is its answer; nothing of it was
  * done, which its client is told in its turn, since 2 a key is too long, 3 the store stopped, 4 too many
- * bytes would be undecided, 5 too many batches are, 6 there was no memory. REFUSED 2 where `decide` is to
+ * bytes would be undecided, 5 too many batches are, 6 there was no memory; 7 its first word names no
+ * command, outside MULTI: the host is asked what its reply is (hidewillow_store_asked), and no byte of the
+ * channel is taken until it told (hidewillow_store_tell). REFUSED 2 where `decide` is to
  * be called first, 3 where as many bytes are undecided or answers wait as may, 1, or 4; MEMORY: no byte was taken. */
 hidewillow_told hidewillow_store_feed(hidewillow_store *store, uint16_t channel, const uint8_t *bytes,
                                       size_t byte_count);
+
+/* As feed; and of a request that was carried out the answer is shown by hidewillow_store_ahead, as it is
+ * under what it rests on: it goes out in its turn, unless nothing of the command is done, which is then told
+ * in its place. */
+hidewillow_told hidewillow_store_feed_ahead(hidewillow_store *store, uint16_t channel,
+                                            const uint8_t *bytes, size_t byte_count);
+
+/* Shows the answer to the request that the last feed_ahead carried out. Told: SHOWN or ABSENT. */
+hidewillow_told hidewillow_store_ahead(hidewillow_store *store, uint8_t *room, size_t room_bytes);
+
+/* Shows a word of the request that the host is asked on a channel, by its place from 0 on: the first names
+ * no command of the store. Told: SHOWN; ABSENT past the last, and where the host is not asked. */
+hidewillow_told hidewillow_store_asked(hidewillow_store *store, uint16_t channel, size_t place,
+                                       uint8_t *room, size_t room_bytes);
+
+/* The host tells the reply to what it is asked on a channel: these bytes, as they are. They go out in their
+ * turn, behind all older replies of the channel, and feed takes its bytes again. Told: DONE; REFUSED 2, 1,
+ * or 4 where the host is not asked; MEMORY: nothing was told. */
+hidewillow_told hidewillow_store_tell(hidewillow_store *store, uint16_t channel, const uint8_t *reply,
+                                      size_t reply_bytes);
+
+/* The same with the error that clients know, where the host knows no such command either. */
+hidewillow_told hidewillow_store_tell_unknown(hidewillow_store *store, uint16_t channel);
 
 /* Tells whether a fault was told on a channel: what comes is dropped, and it is to be hung up once its
  * output is taken. Told: DONE with 1, or 0. */

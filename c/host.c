@@ -8,8 +8,8 @@
  *
  * With the word `again` a call that is told MEMORY is made once more. A recovery that is told so has lost what
  * it read: it is read again from its start. Bytes of which fewer were taken than the script says are given on.
- * Where nothing of a request was done for want of memory its client is told so, and what follows has other
- * answers than the script: the play ends there. */
+ * Where nothing of a request was done for want of memory, or it was not queued, its client is told so, and what
+ * follows has other answers than the script: the play ends there. */
 #include "hidewillow.h"
 
 #include <inttypes.h>
@@ -162,6 +162,8 @@ typedef struct {
 typedef struct {
     hidewillow_recovery recovery;
     hidewillow_store store;
+    uint64_t first;                 /* frame of the segments of the log that is read */
+    hidewillow_read_counted counts; /* of the log that was read */
     piece *pieces;
     size_t piece_count;
     buffer given;
@@ -251,7 +253,7 @@ static hidewillow_told read_piece(host *of, const piece *it) {
 
 static hidewillow_told begin(host *of) {
     hidewillow_recovery_close(&of->recovery);
-    return hidewillow_recovery_open(&of->recovery);
+    return hidewillow_recovery_open(&of->recovery, of->first);
 }
 
 /* Reads again what was read; what the last piece is told. */
@@ -262,8 +264,9 @@ static hidewillow_told read_again(host *of) {
     return told;
 }
 
+/* The first frame of the segments has number 1, or, behind a snapshot, that which is given. */
 static void reset(host *of, const words *call) {
-    (void)call;
+    of->first = call->count > 1 ? number(call, 1) : 1;
     hidewillow_store_close(&of->store);
     forget(of);
     hidewillow_told told = begin(of);
@@ -287,15 +290,38 @@ static void fed_piece(host *of, const words *call) { read_next(of, call, 0); }
 
 /* All was read; a number of bytes that may have been in flight may follow. */
 static void end(host *of, const words *call) {
-    hidewillow_read_counted counts = {0};
     uint64_t in_flight = call->count > 1 ? number(call, 1) : UINT64_MAX;
-    hidewillow_told told = hidewillow_recovery_end(&of->recovery, in_flight, &counts);
+    hidewillow_told told = hidewillow_recovery_end(&of->recovery, in_flight, &of->counts);
     for (int i = 0; of->again && told.answer == HIDEWILLOW_MEMORY && i < TRIES; i++) {
         told = read_again(of);
         if (told.answer != HIDEWILLOW_MEMORY)
-            told = hidewillow_recovery_end(&of->recovery, in_flight, &counts);
+            told = hidewillow_recovery_end(&of->recovery, in_flight, &of->counts);
     }
     answers(of, told);
+}
+
+/* What was counted at the end. */
+static void found(host *of, const words *call) {
+    (void)call;
+    clear(&of->answer);
+    add_text(&of->answer, "DONE");
+    add_number(of, of->counts.frames);
+    add_number(of, of->counts.commands);
+    add_number(of, of->counts.keys);
+    add_number(of, of->counts.next);
+    add_number(of, of->counts.segment);
+    add_number(of, of->counts.place);
+    add_number(of, of->counts.dropped);
+}
+
+/* A piece of a snapshot, in a room of so many bytes. */
+static hidewillow_told snapshot(host *of, const words *call) {
+    size_t room = (size_t)number(call, 1);
+    reserve(&of->room, room);
+    hidewillow_told told = hidewillow_recovery_snapshot(&of->recovery, of->room.bytes, room);
+    if (answers(of, told))
+        add_hex(&of->answer, of->room.bytes, told.bytes);
+    return told;
 }
 
 /* ---- a store; each of these makes its call once */
@@ -334,13 +360,28 @@ static hidewillow_told hung_up(host *of, const words *call) {
     return told;
 }
 
+/* Whether the last request was answered that its queue had no memory for it: its EXEC carries out nothing. */
+static int is_unqueued(host *of) {
+    static const char TEXT[] = "-OOM there is no memory to queue the command\r\n";
+    uint8_t answer[sizeof TEXT];
+    hidewillow_told told = hidewillow_store_ahead(&of->store, answer, sizeof answer);
+    return told.answer == HIDEWILLOW_SHOWN && told.bytes == sizeof TEXT - 1 &&
+           !memcmp(answer, TEXT, sizeof TEXT - 1);
+}
+
+/* Whether there was no memory for a request, and what follows has other answers: nothing of it was done, or it is not
+ * queued. */
+static int is_undone(host *of, hidewillow_told told) {
+    return is_wanted(of) ? told.number == 1 && is_unqueued(of) : told.number == 6;
+}
+
 static hidewillow_told fed(host *of, const words *call) {
     hidewillow_told told;
     size_t count = 0;
     bytes_of(call, 2, &of->given);
     do {
-        told = hidewillow_store_feed(&of->store, (uint16_t)number(call, 1), of->given.bytes + count,
-                                     of->given.count - count);
+        told = (of->again ? hidewillow_store_feed_ahead : hidewillow_store_feed)(
+            &of->store, (uint16_t)number(call, 1), of->given.bytes + count, of->given.count - count);
         if (told.answer == HIDEWILLOW_MEMORY && count) {
             told.answer = HIDEWILLOW_DONE;
             told.bytes = 0;
@@ -350,9 +391,23 @@ static hidewillow_told fed(host *of, const words *call) {
             add_number(of, count);
             add_number(of, told.number);
         }
-        of->ends = of->again && told.number == 6 && !is_wanted(of);
+        of->ends = of->again && told.answer == HIDEWILLOW_DONE && is_undone(of, told);
     } while (of->again && told.answer == HIDEWILLOW_DONE && !told.number && count < of->given.count &&
              !is_wanted(of));
+    return told;
+}
+
+static hidewillow_told told_reply(host *of, const words *call) {
+    bytes_of(call, 2, &of->given);
+    hidewillow_told told =
+        hidewillow_store_tell(&of->store, (uint16_t)number(call, 1), of->given.bytes, of->given.count);
+    answers(of, told);
+    return told;
+}
+
+static hidewillow_told told_unknown(host *of, const words *call) {
+    hidewillow_told told = hidewillow_store_tell_unknown(&of->store, (uint16_t)number(call, 1));
+    answers(of, told);
     return told;
 }
 
@@ -377,8 +432,6 @@ static hidewillow_told output(host *of, const words *call) {
             add_hex(&of->answer, of->room.bytes, count);
         }
     } while (of->again && told.answer == HIDEWILLOW_DONE && told.bytes && !is_wanted(of));
-    /* `-OOM`: a queue had no memory for a command, so it is not carried out. */
-    of->ends = of->again && !is_wanted(of) && strstr((const char *)of->answer.bytes, "2d4f4f4d");
     return told;
 }
 
@@ -496,8 +549,10 @@ typedef struct {
 static const kind KINDS[] = {
     {"reset", reset, NULL},          {"head", head, NULL},
     {"piece", fed_piece, NULL},      {"end", end, NULL},
+    {"found", found, NULL},          {"snapshot", NULL, snapshot},
     {"open", NULL, opened},          {"connect", NULL, connected},
     {"hang_up", NULL, hung_up},      {"feed", NULL, fed},
+    {"tell", NULL, told_reply},       {"tell_unknown", NULL, told_unknown},
     {"closed", NULL, closed},        {"output", NULL, output},
     {"next_ready", NULL, next_ready}, {"take", NULL, taken},
     {"turn", NULL, turned},          {"synced", NULL, synced},

@@ -1,6 +1,7 @@
 //! Safe Rust over the proved library. `.ci/declarations` compares what is declared here with the
 //! sources of the library.
 #![warn(missing_docs)]
+pub mod desk;
 pub mod speculator;
 pub mod store;
 

@@ -99,12 +99,14 @@ pub struct StoreCounts {
     pub open_batches: usize,
     /// How many bytes the next frame has.
     pub next_frame: usize,
+    /// The answers of commands that wait to be told.
+    pub answers: usize,
 }
 
 // Each of these takes for granted what those of the other handles do.
 unsafe extern "C" {
-    /// Begins to read a log, for a handle that holds nothing.
-    pub fn hidewillow_recovery_open(recovery: *mut Recovering) -> Told;
+    /// Begins to read a log, for a handle that holds nothing. The first frame of its segments has this number.
+    pub fn hidewillow_recovery_open(recovery: *mut Recovering, first: u64) -> Told;
 
     /// The head of the next segment comes: its first 24 bytes, or all there are.
     pub fn hidewillow_recovery_head(
@@ -114,7 +116,8 @@ unsafe extern "C" {
         bytes_count: usize,
     ) -> Told;
 
-    /// A piece of a segment comes, and what came whole is carried out. Without memory all begins anew.
+    /// A piece of a segment comes, or one of a snapshot, whose number is 0; what came whole is carried out. Without memory all
+    /// begins anew.
     pub fn hidewillow_recovery_feed(
         recovery: *mut Recovering,
         segment: u64,
@@ -128,6 +131,9 @@ unsafe extern "C" {
         in_flight: u64,
         counts: *mut ReadCounts,
     ) -> Told;
+
+    /// The next piece of a snapshot of what was found, as a frame in the room.
+    pub fn hidewillow_recovery_snapshot(recovery: *mut Recovering, room: *mut u8, room_count: usize) -> Told;
 
     /// Ends what the handle holds. It holds nothing then.
     pub fn hidewillow_recovery_close(recovery: *mut Recovering);
@@ -158,6 +164,37 @@ unsafe extern "C" {
         bytes: *const u8,
         bytes_count: usize,
     ) -> Told;
+
+    /// As feed; of a request that was carried out the answer is shown by `hidewillow_store_ahead`.
+    pub fn hidewillow_store_feed_ahead(
+        store: *mut Durable,
+        channel: u16,
+        bytes: *const u8,
+        bytes_count: usize,
+    ) -> Told;
+
+    /// Shows the answer to the request that the last `hidewillow_store_feed_ahead` carried out.
+    pub fn hidewillow_store_ahead(store: *mut Durable, room: *mut u8, room_count: usize) -> Told;
+
+    /// Shows a word of the request that the host is asked on a channel, by its place.
+    pub fn hidewillow_store_asked(
+        store: *mut Durable,
+        channel: u16,
+        place: usize,
+        room: *mut u8,
+        room_count: usize,
+    ) -> Told;
+
+    /// The host tells the reply to what it is asked on a channel, which goes out in its turn.
+    pub fn hidewillow_store_tell(
+        store: *mut Durable,
+        channel: u16,
+        reply: *const u8,
+        reply_count: usize,
+    ) -> Told;
+
+    /// The host tells that it knows no such command either.
+    pub fn hidewillow_store_tell_unknown(store: *mut Durable, channel: u16) -> Told;
 
     /// Tells whether a fault was told on a channel: what comes is dropped, and it is to be hung up once its output is taken.
     pub fn hidewillow_store_is_closed(store: *mut Durable, channel: u16) -> Told;

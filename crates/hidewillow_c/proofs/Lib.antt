@@ -2,3 +2,4 @@ mod Heap
 mod Pointer
 mod Shown
 mod Read
+mod Given

@@ -12,3 +12,5 @@ pub mod StoreCalls
 pub mod ReadingOwned
 pub mod Reading
 pub mod Reopening
+pub mod DeskOwned
+pub mod DeskCalls

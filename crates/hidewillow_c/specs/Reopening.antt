@@ -40,9 +40,9 @@ pub record AreGiven (given : StoreLimits) (limits : Limits) : Type 0 where
   pub commands : limits.commands ≡ given.commands
   pub segment : limits.segment ≡ given.segment
 
--- these entries were found
+-- these entries were found, and none of them was given as a snapshot
 abbrev pub HasFound : Reading → Entries → Type 0
-HasFound read entries = read.stage ≡ stages.Found entries
+HasFound read entries = (read.stage ≡ stages.Found entries) × (read.pieces ≡ 1)
 
 abbrev pub last_of : Reading → Last
 last_of read = record { frame = read.next; segment = read.last }

@@ -17,8 +17,8 @@ use Rattle.sk_durable.specs.declared.refusal.Refusal.TheVariants as refusals
 use Rattle.sk_durable.specs.declared.store.End.{End}
 use Rattle.sk_durable.specs.declared.store.End.TheVariants as ends
 use Rattle.sk_durable.specs.declared.store.Fed.{Fed}
-use Rattle.sk_durable.specs.Posts.{ConnectPost, CutFramePost, CutPost, DecidePost, FailedPost, FeedPost, FramePost, HangUpPost, OutputPost, ReadyPost, SyncedPost, TurnPost}
-use Rattle.sk_durable.specs.Store.{is_closed, rests_on_at, StoreView}
+use Rattle.sk_durable.specs.Posts.{ConnectPost, CutFramePost, CutPost, DecidePost, FailedPost, FeedAheadPost, FeedPost, FramePost, HangUpPost, OutputPost, ReadyPost, SyncedPost, TellPost, TurnPost}
+use Rattle.sk_durable.specs.Store.{asked_at, is_closed, rests_on_at, StoreView}
 use Rattle.hidewillow_c.specs.declared.codes.TheConstants.{ABSENT, CLOSED, COMMITTED, DONE, FAILED, MEMORY, REFUSED, SHOWN}
 use Rattle.hidewillow_c.specs.declared.store_calls.CutOff.{CutOff}
 use Rattle.hidewillow_c.specs.declared.store_calls.FramePlace.{FramePlace}
@@ -53,7 +53,7 @@ abbrev pub channel_told : Result ℕ Refusal → Told
 channel_told (Ok channel) = just DONE channel
 channel_told (Err why) = store_refused why
 
--- the number of what became of a request: it is not whole yet, it was carried out, or why nothing of it was done
+-- the number of what became of a request: it is not whole yet, it was carried out, why nothing of it was done, or the host is asked
 abbrev pub end_number : End → ℕ
 end_number ends.Part = 0
 end_number ends.Done = 1
@@ -62,11 +62,16 @@ end_number (ends.NotDone undone.Stopped) = 3
 end_number (ends.NotDone undone.Full) = 4
 end_number (ends.NotDone undone.TooMany) = 5
 end_number (ends.NotDone undone.Memory) = 6
+end_number ends.Asked = 7
 
 -- how many bytes were taken, and what became of the request that they end
 abbrev pub fed_told : Result Fed Refusal → Told
 fed_told (Ok fed) = record { answer = DONE; number = end_number fed.end; bytes = fed.count }
 fed_told (Err why) = store_refused why
+
+abbrev pub reply_told : Result (Unit {0}) Refusal → Told
+reply_told (Ok _) = just DONE 0
+reply_told (Err why) = store_refused why
 
 abbrev pub closed_told : Bool → Told
 closed_told closed = just DONE (if closed then 1 else 0)
@@ -112,6 +117,19 @@ pub record HangsUp (channel : ℕ) (told : Told) (a b : StoreView) : Type 0 wher
 abbrev pub Feeds : ℕ → List ℕ → Told → StoreView → StoreView → Type 0
 Feeds channel bytes told a b = (did : Result Fed Refusal) × (told ≡ fed_told did) × FeedPost channel bytes did a b
 
+abbrev pub FeedsAhead : ℕ → List ℕ → Told → StoreView → StoreView → Type 0
+FeedsAhead channel bytes told a b = (did : Result Fed Refusal) × (told ≡ fed_told did) × FeedAheadPost channel bytes did a b
+
+-- the host tells the reply to what it is asked
+abbrev pub TellsReply : ℕ → List ℕ → Told → StoreView → StoreView → Type 0
+TellsReply channel text told a b = (did : Result (Unit {0}) Refusal) × (told ≡ reply_told did) × TellPost channel text did a b
+
+abbrev pub ShowsAhead : List ℕ → List ℕ → Told → StoreView → Type 0
+ShowsAhead room filled told a = ShowsBytes told a.ahead room filled
+
+abbrev pub ShowsAsked : ℕ → ℕ → List ℕ → List ℕ → Told → StoreView → Type 0
+ShowsAsked channel place room filled told a = ShowsBytes told (asked_at place (channel_at a.channels channel)) room filled
+
 abbrev pub is_closed_at : ℕ → StoreView → Bool
 is_closed_at channel a = is_closed (channel_at a.channels channel)
 
@@ -156,12 +174,14 @@ Decides told a b = (did : Option Outcome) × (told ≡ outcome_told did) × Deci
 abbrev pub value_at : List ℕ → StoreView → Option (List ℕ)
 value_at key a = look_at bytes_cmp a.batched.kernel.parts.slots key
 
--- the undecided bytes, the frames in flight, the batches that are undecided and have a guess, and how long the next frame is
+-- the undecided bytes, the frames in flight, the batches that are undecided and have a guess, how long the next frame is, and the
+-- answers that were not taken out
 pub record AreStoreCounts (a : StoreView) (counts : StoreCounts) : Type 0 where
   pub undecided : counts.undecided ≡ undecided a.batched.queue
   pub in_flight : counts.in_flight ≡ in_flight a.batched.queue
   pub open_batches : counts.open_batches ≡ length a.batched.kernel.parts.opens
   pub next_frame : counts.next_frame ≡ 24 + length (next_payload a.batched.queue)
+  pub answers : counts.answers ≡ length a.batched.kernel.parts.said
 
 abbrev pub TellsClosed : ℕ → Told → StoreView → Type 0
 TellsClosed channel told a = told ≡ closed_told (is_closed_at channel a)

@@ -64,7 +64,7 @@ pub fn tell_counts(play: &Play, alloc: Global, counts: &mut Counts) -> Told
     }
 }
 
-fn value(alloc: Global, kernel: &Kernel, name: &[u8]) -> Result<Option<Vec<u8>>, Stop>
+pub(crate) fn value(alloc: Global, kernel: &Kernel, name: &[u8]) -> Result<Option<Vec<u8>>, Stop>
     ensures { Reads result (of_named (value_text kernel.now) (named kernel.now name.now)) }
 {
     match named(alloc, kernel, name) {
@@ -86,7 +86,7 @@ fn value_of(alloc: Global, kernel: &Kernel, entity: Entity) -> Result<Option<Vec
     Ok(Some(text))
 }
 
-fn tags(alloc: Global, kernel: &Kernel, name: &[u8]) -> Result<Option<Vec<u8>>, Stop>
+pub(crate) fn tags(alloc: Global, kernel: &Kernel, name: &[u8]) -> Result<Option<Vec<u8>>, Stop>
     ensures { Reads result (of_named (tags_text_of kernel.now) (named kernel.now name.now)) }
 {
     match named(alloc, kernel, name) {
@@ -106,7 +106,7 @@ fn tags_of(alloc: Global, kernel: &Kernel, entity: Entity) -> Result<Option<Vec<
     Ok(Some(text))
 }
 
-fn terminal(alloc: Global, kernel: &Kernel, number: u16) -> Result<Option<Vec<u8>>, Stop>
+pub(crate) fn terminal(alloc: Global, kernel: &Kernel, number: u16) -> Result<Option<Vec<u8>>, Stop>
     ensures { Reads result (Some (terminal_said kernel.now number)) }
 {
     let mut text = Vec::new(alloc);
@@ -115,7 +115,7 @@ fn terminal(alloc: Global, kernel: &Kernel, number: u16) -> Result<Option<Vec<u8
 }
 
 /// A text in the room, where there is one.
-fn shown(text: Result<Option<Vec<u8>>, Stop>, room: &mut [u8]) -> Told
+pub(crate) fn shown(text: Result<Option<Vec<u8>>, Stop>, room: &mut [u8]) -> Told
     ensures { ShowsRead result text room.old room.new }
 {
     match text {

@@ -4,14 +4,22 @@
 ghost use Rattle.std.specs.Prelude.{◌≡◌, None};
 ghost use Rattle.hidewillow_c.specs.Exports.{Opens, Takes, Shows, Counted};
 ghost use Rattle.hidewillow_c.specs.Asked.{report_shown, value_shown, tags_shown, terminal_shown};
-ghost use Rattle.hidewillow_c.specs.Reading.{EndsWith, ReadingDoes, ReadingOpens, TakesHead, TakesPiece};
+ghost use Rattle.sk_messages.specs.Replies.{reply_of};
+ghost use Rattle.sk_words.specs.Operands.{pid};
+ghost use Rattle.hidewillow_c.specs.DeskCalls.{kernel_report, kernel_tags, kernel_terminal, kernel_value, BeginsEpoch, CountsDesk, DeskDoes, DeskOpens, DeskTells, Gives, LeavesText, SendsRequest, ShowsKernel, TellsPending, TurnsAs};
+ghost use Rattle.hidewillow_c.specs.Reading.{EndsWith, GivesPiece, ReadingDoes, ReadingOpens, TakesHead, TakesPiece};
 ghost use Rattle.hidewillow_c.specs.Reopening.{StoreOpens};
+ghost use Rattle.sk_requests.specs.Replies.{error_text};
+ghost use Rattle.sk_commands.specs.Faults.{words_of};
+ghost use Rattle.sk_commands.specs.declared.fault.Fault.TheVariants.{Unknown};
 ghost use Rattle.hidewillow_c.specs.StoreCalls as durable;
-ghost use Rattle.hidewillow_c.specs.StoreCalls.{Connects, CountsStore, CutsOff, Decides, Feeds, HangsUp, NextReady, OutputsTo, SendsHead, ShowsValue, StoreDoes, StoreTells, Syncs, TakesFrame, TellsClosed, TellsCut, TellsRests, Turns};
+ghost use Rattle.hidewillow_c.specs.StoreCalls.{Connects, CountsStore, CutsOff, Decides, Feeds, FeedsAhead, HangsUp, NextReady, OutputsTo, SendsHead, ShowsAhead, ShowsAsked, ShowsValue, StoreDoes, StoreTells, Syncs, TakesFrame, TellsClosed, TellsCut, TellsReply, TellsRests, Turns};
 ghost use Rattle.hidewillow_c.specs.OwnCalls.{tag_at, undone_at, value_of, Clears, Commits, Fails, Guesses, Looks, OwnCounted, OwnDoes, OwnOpens, OwnReleases, OwnShows, OwnTells, Puts, Removes, Says, Steps};
 
 pub mod asked;
+pub mod client;
 pub mod codes;
+pub mod desk;
 pub mod durable;
 pub mod handle;
 pub mod kept;
@@ -21,13 +29,14 @@ pub mod own_calls;
 pub mod reading;
 pub mod recovering;
 pub mod reopening;
-pub mod rising;
 pub mod room;
 pub mod store_calls;
 pub mod told;
 
 use crate::asked::{tell_counts, tell_report, tell_tags, tell_terminal, tell_value};
+use crate::client::client_of;
 use crate::codes::{CLOSED, HELD, MEMORY, REFUSED, WRITTEN};
+use crate::desk::DeskHandle;
 use crate::durable::Durable;
 use crate::handle::Handle;
 use crate::opening::{play_of, tell_line};
@@ -416,16 +425,20 @@ pub extern "C" fn hidewillow_own_close(alloc: Global, own: &mut Own)
     let _held = replace(own, Own::closed()).into_box(alloc);
 }
 
-/// Begins to read a log, for a handle that holds nothing.
+/// Begins to read a log, for a handle that holds nothing. The first frame of its segments has this number.
 #[unsafe(no_mangle)]
-pub extern "C" fn hidewillow_recovery_open(alloc: Global, recovery: &mut Recovering) -> Told
-    ensures { ReadingOpens result recovery.old.held recovery.new.held }
+pub extern "C" fn hidewillow_recovery_open(
+    alloc: Global,
+    recovery: &mut Recovering,
+    first: u64,
+) -> Told
+    ensures { ReadingOpens first result recovery.old.held recovery.new.held }
 {
     if let Some(read) = replace(recovery, Recovering::closed()).into_box(alloc) {
         replace(recovery, Recovering::of(read)).let_go();
         return Told::of(HELD, 0);
     }
-    match Box::new(alloc, Reading::new(alloc)) {
+    match Box::new(alloc, Reading::new(first)) {
         Ok(read) => {
             replace(recovery, Recovering::of(read)).let_go();
             Told::opened()
@@ -448,12 +461,13 @@ pub extern "C" fn hidewillow_recovery_head(
     let Some(mut read) = replace(recovery, Recovering::closed()).into_box(alloc) else {
         return Told::of(CLOSED, 0);
     };
-    let told = read.head(segment, bytes);
+    let told = read.head(alloc, segment, bytes);
     replace(recovery, Recovering::of(read)).let_go();
     told
 }
 
-/// A piece of a segment comes, and what came whole is carried out. Without memory all begins anew.
+/// A piece of a segment comes, or one of a snapshot, whose number is 0; what came whole is carried out. Without memory all
+/// begins anew.
 #[unsafe(no_mangle)]
 pub extern "C" fn hidewillow_recovery_feed(
     alloc: Global,
@@ -487,6 +501,24 @@ pub extern "C" fn hidewillow_recovery_end(
         return Told::of(CLOSED, 0);
     };
     let told = read.end(alloc, in_flight, counts);
+    replace(recovery, Recovering::of(read)).let_go();
+    told
+}
+
+/// The next piece of a snapshot of what was found, as a frame in the room.
+#[unsafe(no_mangle)]
+pub extern "C" fn hidewillow_recovery_snapshot(
+    alloc: Global,
+    recovery: &mut Recovering,
+    room: &mut [u8],
+) -> Told
+    ensures { ReadingDoes (GivesPiece room.old room.new) (room.new ≡ room.old) result
+        recovery.old.held recovery.new.held }
+{
+    let Some(mut read) = replace(recovery, Recovering::closed()).into_box(alloc) else {
+        return Told::of(CLOSED, 0);
+    };
+    let told = read.piece(alloc, room);
     replace(recovery, Recovering::of(read)).let_go();
     told
 }
@@ -574,6 +606,100 @@ pub extern "C" fn hidewillow_store_feed(
         return Told::of(CLOSED, 0);
     };
     let told = store_calls::feed(&mut held, channel, bytes);
+    replace(store, Durable::of(held)).let_go();
+    told
+}
+
+/// As feed; and of a request that was carried out the answer is shown by `hidewillow_store_ahead`.
+#[unsafe(no_mangle)]
+pub extern "C" fn hidewillow_store_feed_ahead(
+    alloc: Global,
+    store: &mut Durable,
+    channel: u16,
+    bytes: &[u8],
+) -> Told
+    ensures { StoreDoes (FeedsAhead channel bytes.now) (Unit {0}) result
+        store.old.held store.new.held }
+{
+    let Some(mut held) = replace(store, Durable::closed()).into_box(alloc) else {
+        return Told::of(CLOSED, 0);
+    };
+    let told = store_calls::feed_ahead(&mut held, channel, bytes);
+    replace(store, Durable::of(held)).let_go();
+    told
+}
+
+/// Shows the answer to the request that the last call of `hidewillow_store_feed_ahead` carried out.
+#[unsafe(no_mangle)]
+pub extern "C" fn hidewillow_store_ahead(
+    alloc: Global,
+    store: &mut Durable,
+    room: &mut [u8],
+) -> Told
+    ensures { StoreTells (ShowsAhead room.old room.new) (room.new ≡ room.old) result
+        store.old.held store.new.held }
+{
+    let Some(held) = replace(store, Durable::closed()).into_box(alloc) else {
+        return Told::of(CLOSED, 0);
+    };
+    let told = store_calls::tell_ahead(&held, room);
+    replace(store, Durable::of(held)).let_go();
+    told
+}
+
+/// Shows a word of the request that the host is asked on a channel, by its place.
+#[unsafe(no_mangle)]
+pub extern "C" fn hidewillow_store_asked(
+    alloc: Global,
+    store: &mut Durable,
+    channel: u16,
+    place: usize,
+    room: &mut [u8],
+) -> Told
+    ensures { StoreTells (ShowsAsked channel place room.old room.new) (room.new ≡ room.old) result
+        store.old.held store.new.held }
+{
+    let Some(held) = replace(store, Durable::closed()).into_box(alloc) else {
+        return Told::of(CLOSED, 0);
+    };
+    let told = store_calls::tell_asked(&held, channel, place, room);
+    replace(store, Durable::of(held)).let_go();
+    told
+}
+
+/// The host tells the reply to what it is asked on a channel, which goes out in its turn.
+#[unsafe(no_mangle)]
+pub extern "C" fn hidewillow_store_tell(
+    alloc: Global,
+    store: &mut Durable,
+    channel: u16,
+    reply: &[u8],
+) -> Told
+    ensures { StoreDoes (TellsReply channel reply.now) (Unit {0}) result
+        store.old.held store.new.held }
+{
+    let Some(mut held) = replace(store, Durable::closed()).into_box(alloc) else {
+        return Told::of(CLOSED, 0);
+    };
+    let told = store_calls::tell(&mut held, channel, reply);
+    replace(store, Durable::of(held)).let_go();
+    told
+}
+
+/// The host tells that it knows no such command either.
+#[unsafe(no_mangle)]
+pub extern "C" fn hidewillow_store_tell_unknown(
+    alloc: Global,
+    store: &mut Durable,
+    channel: u16,
+) -> Told
+    ensures { StoreDoes (TellsReply channel (error_text (words_of Unknown))) (Unit {0}) result
+        store.old.held store.new.held }
+{
+    let Some(mut held) = replace(store, Durable::closed()).into_box(alloc) else {
+        return Told::of(CLOSED, 0);
+    };
+    let told = store_calls::tell_unknown(&mut held, channel);
     replace(store, Durable::of(held)).let_go();
     told
 }
@@ -809,4 +935,209 @@ pub extern "C" fn hidewillow_store_close(alloc: Global, store: &mut Durable)
     ensures { store.new.held ≡ None }
 {
     let _held = replace(store, Durable::closed()).into_box(alloc);
+}
+
+/// Opens a desk over the kernel that a text declares, for a handle that holds nothing: the text ends with the line `world`, and
+/// the files that it declares are the server's. Of a fault the line is told; then, and without memory, the handle still holds
+/// nothing.
+#[unsafe(no_mangle)]
+pub extern "C" fn hidewillow_desk_open(alloc: Global, desk: &mut DeskHandle, text: &[u8]) -> Told
+    ensures { DeskOpens result text.now desk.old.held desk.new.held }
+{
+    if let Some(client) = replace(desk, DeskHandle::closed()).into_box(alloc) {
+        replace(desk, DeskHandle::of(client)).let_go();
+        return Told::of(HELD, 0);
+    }
+    match client_of(alloc, text) {
+        Ok(client) => {
+            replace(desk, DeskHandle::of(client)).let_go();
+            Told::opened()
+        }
+        Err(why) => Told::unopened(why),
+    }
+}
+
+/// Takes a turn of the process of this name.
+#[unsafe(no_mangle)]
+pub extern "C" fn hidewillow_desk_turn(alloc: Global, desk: &mut DeskHandle, name: &[u8]) -> Told
+    ensures { DeskDoes (TurnsAs (pid name.now)) (Unit {0}) result desk.old.held desk.new.held }
+{
+    let Some(mut client) = replace(desk, DeskHandle::closed()).into_box(alloc) else {
+        return Told::of(CLOSED, 0);
+    };
+    let told = client.turn(name);
+    replace(desk, DeskHandle::of(client)).let_go();
+    told
+}
+
+/// Shows the oldest request that waits, as bytes. It is taken where the room has all of it; else the next call shows it again.
+#[unsafe(no_mangle)]
+pub extern "C" fn hidewillow_desk_request(
+    alloc: Global,
+    desk: &mut DeskHandle,
+    room: &mut [u8],
+) -> Told
+    ensures { DeskDoes (SendsRequest room.old room.new) (room.new ≡ room.old) result desk.old.held desk.new.held }
+{
+    let Some(mut client) = replace(desk, DeskHandle::closed()).into_box(alloc) else {
+        return Told::of(CLOSED, 0);
+    };
+    let told = client.request(alloc, room);
+    replace(desk, DeskHandle::of(client)).let_go();
+    told
+}
+
+/// Gives the reply that these bytes are. After a refusal everything is as it was.
+#[unsafe(no_mangle)]
+pub extern "C" fn hidewillow_desk_reply(alloc: Global, desk: &mut DeskHandle, bytes: &[u8]) -> Told
+    ensures { DeskDoes (Gives (reply_of bytes.now)) (Unit {0}) result desk.old.held desk.new.held }
+{
+    let Some(mut client) = replace(desk, DeskHandle::closed()).into_box(alloc) else {
+        return Told::of(CLOSED, 0);
+    };
+    let told = client.reply(bytes);
+    replace(desk, DeskHandle::of(client)).let_go();
+    told
+}
+
+/// Tells the number of the request whose reply is next, and how many have none.
+#[unsafe(no_mangle)]
+pub extern "C" fn hidewillow_desk_pending(alloc: Global, desk: &mut DeskHandle) -> Told
+    ensures { DeskTells TellsPending (Unit {0}) result desk.old.held desk.new.held }
+{
+    let Some(client) = replace(desk, DeskHandle::closed()).into_box(alloc) else {
+        return Told::of(CLOSED, 0);
+    };
+    let told = client.tell_pending();
+    replace(desk, DeskHandle::of(client)).let_go();
+    told
+}
+
+/// Begins a new epoch, where each request has its reply: the trace is let go of, and what terminals have released is kept until
+/// the next one.
+#[unsafe(no_mangle)]
+pub extern "C" fn hidewillow_desk_epoch(alloc: Global, desk: &mut DeskHandle) -> Told
+    ensures { DeskDoes BeginsEpoch (Unit {0}) result desk.old.held desk.new.held }
+{
+    let Some(mut client) = replace(desk, DeskHandle::closed()).into_box(alloc) else {
+        return Told::of(CLOSED, 0);
+    };
+    let told = client.begin_epoch();
+    replace(desk, DeskHandle::of(client)).let_go();
+    told
+}
+
+/// Shows the text at a place among those that a terminal had released when the last epoch ended.
+#[unsafe(no_mangle)]
+pub extern "C" fn hidewillow_desk_left(
+    alloc: Global,
+    desk: &mut DeskHandle,
+    number: u16,
+    place: usize,
+    room: &mut [u8],
+) -> Told
+    ensures { DeskTells (LeavesText number place room.old room.new) (room.new ≡ room.old) result desk.old.held desk.new.held }
+{
+    let Some(client) = replace(desk, DeskHandle::closed()).into_box(alloc) else {
+        return Told::of(CLOSED, 0);
+    };
+    let told = client.tell_left(number, place, room);
+    replace(desk, DeskHandle::of(client)).let_go();
+    told
+}
+
+/// Shows the report of the kernel in the room.
+#[unsafe(no_mangle)]
+pub extern "C" fn hidewillow_desk_report(
+    alloc: Global,
+    desk: &mut DeskHandle,
+    room: &mut [u8],
+) -> Told
+    ensures { DeskTells (ShowsKernel kernel_report room.old room.new) (room.new ≡ room.old) result desk.old.held desk.new.held }
+{
+    let Some(client) = replace(desk, DeskHandle::closed()).into_box(alloc) else {
+        return Told::of(CLOSED, 0);
+    };
+    let told = client.tell_report(alloc, room);
+    replace(desk, DeskHandle::of(client)).let_go();
+    told
+}
+
+/// Shows what an entity has that the report names so.
+#[unsafe(no_mangle)]
+pub extern "C" fn hidewillow_desk_value(
+    alloc: Global,
+    desk: &mut DeskHandle,
+    name: &[u8],
+    room: &mut [u8],
+) -> Told
+    ensures { DeskTells (ShowsKernel (kernel_value name.now) room.old room.new) (room.new ≡ room.old) result desk.old.held desk.new.held }
+{
+    let Some(client) = replace(desk, DeskHandle::closed()).into_box(alloc) else {
+        return Told::of(CLOSED, 0);
+    };
+    let told = client.tell_value(alloc, name, room);
+    replace(desk, DeskHandle::of(client)).let_go();
+    told
+}
+
+/// Shows the undecided guesses that an entity rests on, which the report names so.
+#[unsafe(no_mangle)]
+pub extern "C" fn hidewillow_desk_tags(
+    alloc: Global,
+    desk: &mut DeskHandle,
+    name: &[u8],
+    room: &mut [u8],
+) -> Told
+    ensures { DeskTells (ShowsKernel (kernel_tags name.now) room.old room.new) (room.new ≡ room.old) result desk.old.held desk.new.held }
+{
+    let Some(client) = replace(desk, DeskHandle::closed()).into_box(alloc) else {
+        return Told::of(CLOSED, 0);
+    };
+    let told = client.tell_tags(alloc, name, room);
+    replace(desk, DeskHandle::of(client)).let_go();
+    told
+}
+
+/// Shows what a terminal has released in this epoch, and how many texts wait.
+#[unsafe(no_mangle)]
+pub extern "C" fn hidewillow_desk_terminal(
+    alloc: Global,
+    desk: &mut DeskHandle,
+    number: u16,
+    room: &mut [u8],
+) -> Told
+    ensures { DeskTells (ShowsKernel (kernel_terminal number) room.old room.new) (room.new ≡ room.old) result desk.old.held desk.new.held }
+{
+    let Some(client) = replace(desk, DeskHandle::closed()).into_box(alloc) else {
+        return Told::of(CLOSED, 0);
+    };
+    let told = client.tell_terminal(alloc, number, room);
+    replace(desk, DeskHandle::of(client)).let_go();
+    told
+}
+
+/// Counts the guesses and the steps of this epoch.
+#[unsafe(no_mangle)]
+pub extern "C" fn hidewillow_desk_counts(
+    alloc: Global,
+    desk: &mut DeskHandle,
+    counts: &mut Counts,
+) -> Told
+    ensures { DeskTells (CountsDesk counts.old counts.new) (counts.new ≡ counts.old) result desk.old.held desk.new.held }
+{
+    let Some(client) = replace(desk, DeskHandle::closed()).into_box(alloc) else {
+        return Told::of(CLOSED, 0);
+    };
+    let told = client.tell_counts(alloc, counts);
+    replace(desk, DeskHandle::of(client)).let_go();
+    told
+}
+
+/// Ends what the handle holds: the guesses of requests without a reply fail. The handle holds nothing then.
+#[unsafe(no_mangle)]
+pub extern "C" fn hidewillow_desk_close(alloc: Global, desk: &mut DeskHandle)
+    ensures { desk.new.held ≡ None }
+{
+    let _client = replace(desk, DeskHandle::closed()).into_box(alloc);
 }

@@ -7,6 +7,7 @@ use crate::reading::{Reading, Stage};
 use crate::store_calls::{FramePlace, place_of};
 use crate::told::Told;
 use sk_durable::{Limits, Store};
+use sk_recovered::FIRST_PIECE;
 use sk_reopened::{Last, Refusal, reopen};
 use std::alloc::Global;
 use std::num::NonZeroU16;
@@ -28,7 +29,7 @@ pub struct StoreLimits {
 /// Why no store is opened.
 #[derive(Clone, Copy, Debug, PartialEq, Eq)]
 pub(crate) enum NotOpened {
-    /// No log is read whole.
+    /// No log is read whole, or a part of what was found was given as pieces of a snapshot.
     Order,
     Refused(Refusal),
 }
@@ -81,6 +82,9 @@ pub(crate) fn opened(
     let Stage::Found(entries) = &read.stage else {
         return Err(NotOpened::Order);
     };
+    if read.pieces != FIRST_PIECE {
+        return Err(NotOpened::Order);
+    }
     let Some(limits) = limits_of(limits) else {
         return Err(NotOpened::Refused(Refusal::Limits));
     };
@@ -88,7 +92,7 @@ pub(crate) fn opened(
         frame: read.next,
         segment: read.last,
     };
-    let reopened = match reopen(alloc, limits, seed, entries.as_slice(), last, room) {
+    let reopened = match reopen(alloc, limits, seed, entries.left(), last, room) {
         Ok(reopened) => reopened,
         Err(why) => return Err(NotOpened::Refused(why)),
     };

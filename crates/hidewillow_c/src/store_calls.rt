@@ -1,6 +1,9 @@
 //! What the calls of a store do, and what they are told.
 ghost use Rattle.std.specs.Prelude.{◌≡◌};
-ghost use Rattle.hidewillow_c.specs.StoreCalls.{channel_told, closed_told, done_told, end_number, fed_told, output_told, outcome_told, place_of, queue_refused, ready_told, store_refused, AreStoreCounts, Connects, CutsOff, Decides, Feeds, HangsUp, Fails, IsDone, NextReady, OutputsTo, SendsHead, ShowsValue, Syncs, TakesFrame, TellsClosed, TellsCut, TellsRests, Turns};
+ghost use Rattle.sk_requests.specs.Replies.{error_text};
+ghost use Rattle.sk_commands.specs.Faults.{words_of};
+ghost use Rattle.sk_commands.specs.declared.fault.Fault.TheVariants.{Unknown};
+ghost use Rattle.hidewillow_c.specs.StoreCalls.{channel_told, closed_told, done_told, end_number, fed_told, output_told, outcome_told, place_of, queue_refused, ready_told, reply_told, store_refused, AreStoreCounts, Connects, CutsOff, Decides, Feeds, FeedsAhead, HangsUp, Fails, IsDone, NextReady, OutputsTo, SendsHead, ShowsAhead, ShowsAsked, ShowsValue, Syncs, TakesFrame, TellsClosed, TellsCut, TellsReply, TellsRests, Turns};
 ghost use Rattle.hidewillow_c.specs.Told.{just};
 
 use crate::codes::{ABSENT, COMMITTED, DONE, FAILED, MEMORY, REFUSED, SHOWN};
@@ -37,6 +40,7 @@ pub struct StoreCounts {
     pub in_flight: u64,
     pub open_batches: usize,
     pub next_frame: usize,
+    pub answers: usize,
 }
 
 /// What a refused call of channels is told.
@@ -90,6 +94,7 @@ fn end_number(end: End) -> u64
         End::NotDone(NotDone::Full) => 4,
         End::NotDone(NotDone::TooMany) => 5,
         End::NotDone(NotDone::Memory) => 6,
+        End::Asked => 7,
     }
 }
 
@@ -98,6 +103,15 @@ fn of_fed(did: Result<Fed, Refusal>) -> Told
 {
     match did {
         Ok(fed) => Told::of(DONE, end_number(fed.end)).with_text(fed.count),
+        Err(why) => store_refused(why),
+    }
+}
+
+fn of_told(did: Result<(), Refusal>) -> Told
+    ensures { result ≡ reply_told did }
+{
+    match did {
+        Ok(()) => Told::of(DONE, 0),
         Err(why) => store_refused(why),
     }
 }
@@ -189,6 +203,50 @@ pub(crate) fn feed(store: &mut Store, channel: u16, bytes: &[u8]) -> Told
     ensures { Feeds channel bytes.now result store.old store.new }
 {
     of_fed(store.feed(channel, bytes))
+}
+
+pub(crate) fn feed_ahead(store: &mut Store, channel: u16, bytes: &[u8]) -> Told
+    ensures { FeedsAhead channel bytes.now result store.old store.new }
+{
+    of_fed(store.feed_ahead(channel, bytes))
+}
+
+/// Shows the answer of what was carried out last, where it is looked at ahead.
+pub(crate) fn tell_ahead(store: &Store, room: &mut [u8]) -> Told
+    ensures { ShowsAhead room.old room.new result store.now }
+{
+    match store.ahead() {
+        Some(text) => {
+            put(text, room);
+            Told::of(SHOWN, 0).with_text(text.len())
+        }
+        None => Told::of(ABSENT, 0),
+    }
+}
+
+/// Shows a word of the request that the host is asked.
+pub(crate) fn tell_asked(store: &Store, channel: u16, place: usize, room: &mut [u8]) -> Told
+    ensures { ShowsAsked channel place room.old room.new result store.now }
+{
+    match store.asked(channel, place) {
+        Some(word) => {
+            put(word, room);
+            Told::of(SHOWN, 0).with_text(word.len())
+        }
+        None => Told::of(ABSENT, 0),
+    }
+}
+
+pub(crate) fn tell(store: &mut Store, channel: u16, reply: &[u8]) -> Told
+    ensures { TellsReply channel reply.now result store.old store.new }
+{
+    of_told(store.tell(channel, reply))
+}
+
+pub(crate) fn tell_unknown(store: &mut Store, channel: u16) -> Told
+    ensures { TellsReply channel (error_text (words_of Unknown)) result store.old store.new }
+{
+    of_told(store.tell_unknown(channel))
 }
 
 pub(crate) fn tell_closed(store: &mut Store, channel: u16) -> Told
@@ -302,5 +360,6 @@ pub(crate) fn count(store: &Store, counts: &mut StoreCounts) -> Told
     counts.in_flight = store.in_flight();
     counts.open_batches = store.open_batches();
     counts.next_frame = store.next_frame_len();
+    counts.answers = store.answers();
     Told::of(SHOWN, 0)
 }

@@ -32,7 +32,7 @@ pub enum Unopened {
     Memory,
 }
 
-fn kind_number(kind: FaultKind) -> u64
+pub(crate) fn kind_number(kind: FaultKind) -> u64
     ensures { result ≡ kind_number kind }
 {
     match kind {
@@ -45,7 +45,7 @@ fn kind_number(kind: FaultKind) -> u64
 }
 
 /// A fault with this number; want of memory has none.
-fn faulty(kind: FaultKind, number: u64) -> Told
+pub(crate) fn faulty(kind: FaultKind, number: u64) -> Told
     ensures { result ≡ faulty kind number }
 {
     match kind {
@@ -138,7 +138,7 @@ impl Told {
         }
     }
 
-    fn of_turn(turn: Turn) -> Told
+    pub(crate) fn of_turn(turn: Turn) -> Told
         ensures { result ≡ told_of_turn turn }
     {
         match turn {
@@ -159,7 +159,7 @@ impl Told {
         }
     }
 
-    fn of_given(given: Given) -> Told
+    pub(crate) fn of_given(given: Given) -> Told
         ensures { result ≡ told_of_given given }
     {
         match given {

@@ -1,0 +1,9 @@
+-- The counts are those of the kernel.
+use Rattle.std.proofs.Common.{subst}
+use mathlib.Core.Logic.{inl}
+use Rattle.sk_kernel.specs.Kernel.{KernelView}
+use Rattle.sk_counts.specs.Counts.{AreCounts}
+use Rattle.hidewillow_c.proofs.client.Client.tell_counts.Goals as goal
+
+pub returns-in-Ok : goal.returns-in-Ok
+returns-in-Ok c = inl (c.of-in-Ok.ensures, subst (λ (k : KernelView). AreCounts k c.in-Ok.counted) c.kernel.ensures c.in-Ok.ensures)

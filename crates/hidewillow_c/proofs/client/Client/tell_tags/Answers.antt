@@ -1,0 +1,14 @@
+-- What is read of the kernel is shown.
+use Rattle.std.proofs.Common.{subst}
+use Rattle.sk_kernel.specs.Kernel.{KernelView}
+use Rattle.sk_talk.specs.Asked.{named}
+use Rattle.hidewillow_c.specs.Asked.{of_named, tags_text_of, Reads}
+use Rattle.hidewillow_c.specs.DeskCalls.{kernel_tags}
+use Rattle.hidewillow_c.proofs.Shown.{text_is_shown}
+use Rattle.hidewillow_c.proofs.client.Client.tell_tags.Goals as goal
+
+pub returns : goal.returns
+unfolding kernel_tags
+returns c =
+    let reads = subst (λ (k : KernelView). Reads c.tags.result (of_named (tags_text_of k) (named k c.args.name.now))) c.kernel.ensures c.tags.ensures in
+    text_is_shown c.shown.result c.tags.result (kernel_tags c.args.name.now c.args.self.now.desk.kernel) c.args.room.now c.shown.new.room reads c.shown.ensures

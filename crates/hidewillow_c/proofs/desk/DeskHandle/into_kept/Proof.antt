@@ -1,0 +1,105 @@
+-- At null nothing is held; elsewhere the pointer is passed on, with what is owned there.
+use Rattle.std.proofs.Common.{◌≡◌, ◌∙◌, ℕ, List, [], ◌∷◌, refl, ap, lit<, Option, Some, None}
+use seplogic.Ra.Ura.{Ura}
+use mir.Val.{Val, vcons, vnil}
+use mir.Raw.{raw as bare}
+use base.Logic.{ent, never, fst∗, snd∗, guard_i, via}
+use base.Fml.{ftrue}
+use prog.Wp.{WpFn}
+use types.Logic.{Logic, sem}
+use types.Kit.{Item, Goal, Seq, ‵, prop, at_ret, given, ◌⊛◌, ◌$◌, ◌∵◌, !, qed, drop, keep, split, join, fsplit, fjoin, feq_l, learn, regoal, rewrite, suffices, use0, use1, done}
+use types.Run.{enter, of_opd, bin, lit, stop, fld, first, branches, exec, no_more, and_then, returns}
+use types.ByLocal.{alloc_all, pass_all, free_all, look_at, get, get_in, sets, sets_last, env}
+use types.Part.{agg, sub, whole}
+use types.Match.{live}
+use contract.Monad.{fact, fact_use}
+use contract.Running.{tables}
+use denote.Exit.{yes}
+use denote.Memory.{lone}
+use denote.Param.{layout}
+use denote.RattleType.{RattleType}
+use denote.RawPtr.{Ptr, block_ptr, null_ptr, in_a_block, tests_null}
+use denote.Signature.{plain}
+use denote.Steps.{nothing}
+use denote.Triple.Walked.{Stays, stay_dropped, Goes-dropped, walk_of, says, ends_at}
+use Rattle.core.proofs.alloc.Shapes.{after}
+use Rattle.core.proofs.cell.Inside.{Good}
+use Rattle.core.proofs.option.Made.{Some-of, none_of}
+use Rattle.core.specs.Ptr.{points_to}
+use Rattle.core.specs.contracts.option.Option as option
+use Rattle.std.specs.contracts.impls.GlobalAllocator.TheImpl.{ghosts}
+use Rattle.std_heap.proofs.GlobalToken.{dealloc_token_start}
+use Rattle.std.proofs.raw_atomic.Walks.{proved}
+use Rattle.hidewillow_c.proofs.Pointer.{word, ptr_fits, word_fits, pointed}
+use Rattle.hidewillow_c.proofs.desk.DeskHandle.TheLaws.{lowers}
+use Rattle.hidewillow_c.specs.Kept.{heap, kept_at}
+use Rattle.hidewillow_c.specs.DeskOwned.{desk_at}
+use Rattle.hidewillow_c.specs.declared.client.Client.{Client}
+use Rattle.hidewillow_c.specs.contracts.client.Client.{the_row as R}
+use Rattle.hidewillow_c.specs.contracts.kept.Kept as kept
+use Rattle.hidewillow_c.specs.contracts.desk.DeskHandle.{the_row}
+use Rattle.hidewillow_c.specs.contracts.desk.DeskHandle.into_kept as f
+use Rattle.hidewillow_c.proofs.desk.DeskHandle.into_kept.Statement.{statement}
+use Rattle.hidewillow_c.proofs.desk.DeskHandle.into_kept.Code as code
+
+abbrev stayed : Stays f.ended.signature.params f.ended.kept
+stayed = (stay_dropped (plain (λ _. the_row)) yes, tt)
+
+module _ {M : Type 1} {𝓤 : Ura M} {𝓛 : Logic 𝓤} {K : Type 0} {Γ : List (Item 𝓤)} {G : Goal 𝓤 𝓛.H} where
+  -- a value that is kept lies at the start of a block
+  starts : K → (p : Ptr) (x : Client) → ((b : ℕ) → p ≡ block_ptr b 0 → Seq K 𝓛 (‵ (kept_at R (block_ptr b 0) x) ∷ Γ) G) → Seq K 𝓛 (‵ (kept_at R p x) ∷ Γ) G
+  starts t p x next =
+      in_a_block t p (λ q. kept_at R q x) (fst∗ 𝓤 (never 𝓤) (sem 𝓛 (ghosts.dealloc_token heap (bare (lone R.mir)) null_ptr))) (λ b o at.
+      let Kept = kept_at R (block_ptr b o) x in let mark = ghosts.dealloc_token heap (bare (lone R.mir)) (block_ptr b o) in
+      let starts : ent 𝓤 (sem 𝓛 Kept) (fact 𝓤 (o ≡ 0)) = via 𝓤 (sem 𝓛 mark) (snd∗ 𝓤 (sem 𝓛 (points_to R (block_ptr b o) x)) (sem 𝓛 mark)) (dealloc_token_start 𝓛 heap (bare (lone R.mir)) (block_ptr b o)) in
+      use1 𝓛 (given (o ≡ 0) (‵ Kept)) (fact_use 𝓤 (o ≡ 0) starts (λ e. guard_i 𝓤 (o ≡ 0) (sem 𝓛 Kept) e)) $ learn t (λ e.
+      rewrite t 0 (λ (k : ℕ). ‵ (kept_at R (block_ptr b k) x)) e refl $ next b (at ∙ ap (λ (k : ℕ). block_ptr b k) e)))
+
+  -- nothing is held at null, or a value at the start of a block
+  either : K → (p : Ptr) (held : Option Client) → (held ≡ None → p ≡ null_ptr → Seq K 𝓛 Γ G)
+      → ((b : ℕ) (x : Client) → held ≡ Some x → p ≡ block_ptr b 0 → Seq K 𝓛 (‵ (kept_at R (block_ptr b 0) x) ∷ Γ) G)
+      → Seq K 𝓛 (‵ (desk_at p held) ∷ Γ) G
+  either t p None none some = feq_l t (λ at. none refl at)
+  either t p (Some x) none some = starts t p x (λ b at. some b x refl at)
+
+pub into_kept_spec : {M : Type 1} → statement M
+into_kept_spec 𝓤 𝓛 𝓜 𝓡 wired =
+    let 𝓣 = tables 𝓤 𝓛.H 𝓜 𝓡 𝓡.env in let c = f.clauses 𝓛 𝓜.mem 𝓡.returns in let Kept : RattleType = kept.the_row R in let Out = layout (option.the_row Kept) in
+    proved 𝓛 f.ended stayed c 𝓜 𝓡 (Goes-dropped 𝓛 0 (plain (λ _. the_row)) yes (λ κs x w. refl), tt)
+    f.Key.name code.function (code.unfolded 𝓤 𝓛.H 𝓜 𝓡 wired)
+    (λ κs. ((λ h. word h.at ∷ []), tt)) (λ κs. (lowers.val_is, tt)) (λ κs qs bounds a n are.
+    let h = a.0 in let p = h.at in
+    let y : (walk_of 𝓛 f.ended stayed c).Ghost = ((κs, qs, bounds, a, (word p ∷ [], tt)), n) in
+    let Post = (walk_of 𝓛 f.ended stayed c).post y in
+    let Runs = λ (q : Ptr). prop (WpFn 𝓤 𝓛.H 𝓣.C 𝓣.Λ code.function (word q ∷ []) Post) in
+    qed 𝓛 ((‵ ftrue ⊛ ‵ (the_row.own_val h (word p ∷ [])) ⊛ ‵ ftrue) ∷ ‵ ftrue ∷ []) ∵
+    split ! $ drop ! $ split ! $ fsplit ! $ keep ! (1 ∷ []) $ either ! p h.held
+    (λ none at. let v : Val = live 0 vnil in
+    regoal ! Runs at refl $ use0 𝓛 (‵ ((option.the_row Kept).own_val None (v ∷ []))) (none_of 𝓛 Kept) $
+    -- [nothing, as an option]
+    enter ! _ _ _ _ _ $ alloc_all ! (λ l. pass_all ! refl (word_fits null_ptr, tt) $
+    sets ! (of_opd ! (get_in ! (fld ! refl (stop !)) (sub ! 0 refl (whole !)))) refl (ptr_fits null_ptr) $
+    sets ! (bin ! (get ! refl) (lit ! tt) tt) refl (tt, tt) $
+    first ! $ branches ! (get ! refl)
+    (λ _. let good : Good Out v = (tt, (record { fits = lit< tt }, tt)) in
+    sets_last ! (agg ! (and_then ! (lit ! tt) (no_more !))) refl good $
+    exec ! 𝓣.C 𝓣.Λ (env code.Mir.locals l) (after 3 (code.function).body) (at_ret _ Post) $
+    sets ! (of_opd ! (get ! refl)) refl good $ returns ! (look_at ! 0 refl) $ free_all ! refl $
+    suffices ! _ (ends_at 𝓛 f.ended stayed c y v None (tt, tt) (tt, tt)) $ says ! none $
+    nothing ! $ nothing ! $ join ! $ nothing ! $ done !)
+    (λ wrong. absurd wrong)))
+    (λ b x some at. let k : Kept.Denot = record { at = block_ptr b 0; value = x } in let v : Val = live 1 (vcons (word k.at) vnil) in
+    regoal ! Runs at refl $ pointed ! k.at $ fjoin ! $ use1 𝓛 (‵ ((option.the_row Kept).own_val (Some k) (v ∷ []))) (Some-of 𝓛 Kept k (word k.at)) $
+    -- [the kept box]
+    enter ! _ _ _ _ _ $ alloc_all ! (λ l. pass_all ! refl (word_fits k.at, tt) $
+    sets ! (of_opd ! (get_in ! (fld ! refl (stop !)) (sub ! 0 refl (whole !)))) refl (tt, tt) $
+    sets ! (bin ! (get ! refl) (lit ! tt) (tests_null k.at (lit< tt))) refl (tt, tt) $
+    first ! $ branches ! (get ! refl) (λ wrong. absurd wrong)
+    (λ _. let good : Good Out v = (tt, (record { fits = lit< tt }, ((tt, tt), tt))) in
+    sets ! (of_opd ! (get ! refl)) refl (tt, tt) $
+    sets ! (agg ! (and_then ! (get ! refl) (no_more !))) refl (tt, (tt, tt)) $
+    sets_last ! (agg ! (and_then ! (lit ! tt) (and_then ! (get ! refl) (no_more !)))) refl good $
+    exec ! 𝓣.C 𝓣.Λ (env code.Mir.locals l) (after 3 (code.function).body) (at_ret _ Post) $
+    sets ! (of_opd ! (get ! refl)) refl good $ returns ! (look_at ! 0 refl) $ free_all ! refl $
+    suffices ! _ (ends_at 𝓛 f.ended stayed c y v (Some k) (tt, tt) (tt, tt)) $ says ! some $
+    nothing ! $ nothing ! $ join ! $ nothing ! $ done !))))

@@ -1,0 +1,14 @@
+-- What was counted is what is held before and after.
+use Rattle.std.proofs.Common.{rules, ◌≡◌, subst, sym, Option, Some}
+use Rattle.hidewillow_c.specs.declared.client.Client.{Client}
+use Rattle.hidewillow_c.specs.DeskCalls.{CountsDesk, DeskTells}
+use Rattle.hidewillow_c.proofs.hidewillow_desk_counts.Goals as goal
+
+pub returns : goal.returns
+returns c =
+    let told = c.tell_counts-told.result in let old = c.args.counts.now in let new = c.tell_counts-told.new.counts in
+    let client = c.in-Some.client.value in
+    let held : c.args.desk.now.held ≡ Some client = search rules in
+    let kept : c.replace-2.new.dest.held ≡ Some client = search rules in
+    let counted : CountsDesk old new told client = subst (λ (it : Client). CountsDesk old new told it) c.deref.ensures c.tell_counts-told.ensures in
+    subst (λ (m : Option Client). DeskTells (CountsDesk old new) (new ≡ old) told m c.replace-2.new.dest.held) (sym held) (kept, counted)

@@ -3,3 +3,4 @@ pub mod Turns
 pub mod Replayed
 pub mod Happened
 pub mod Foreseen
+mod LeftOut

@@ -5,3 +5,5 @@ pub mod Replays
 pub mod Told
 pub mod Worlds
 pub mod Upcoming
+pub mod Epochs
+pub mod SessionCode

@@ -4,6 +4,8 @@
 
 pub mod ahead;
 pub mod answer;
+pub mod epoch;
+pub mod holding;
 mod line;
 pub mod replaying;
 pub mod session;
@@ -12,6 +14,8 @@ pub mod worlds;
 
 pub use ahead::upcoming;
 pub use answer::{CallAnswer, write_answer};
+pub use epoch::EpochTold;
+pub use holding::Holding;
 pub use replaying::{Unreplayed, replay};
 pub use session::Session;
 pub use told::{WorldTold, write_told};

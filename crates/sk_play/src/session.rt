@@ -1,19 +1,21 @@
 //! A kernel at play, with the tokens of its guesses.
-ghost use Rattle.std.specs.Prelude.{MatchResult, IfOk, None, Some, ◌≡◌};
-ghost use Rattle.sk_holder.specs.Holder.{holding};
+ghost use Rattle.std.specs.Prelude.{MatchResult, IfOk, IfErr, None, Some, [], ◌≡◌};
+ghost use Rattle.sk_holder.specs.Holder.{but, holding};
 ghost use Rattle.sk_play.specs.Session.{decision_told, entry, with_guess, held_after, AnswerMatches, CanWantMemory, StepTold, GuessTold};
 ghost use Rattle.sk_play.specs.Plays.{declared_kernel};
-ghost use Rattle.sk_kernel.specs.Kernel.{step_refused, guess_refused, next_guess};
+ghost use Rattle.sk_kernel.specs.Kernel.{step_refused, guess_refused, next_guess, undecided_at};
+ghost use Rattle.sk_kernel.specs.Calls.{EpochPost};
 ghost use Rattle.sk_trace.specs.Kept.{input_in};
 ghost use Rattle.sk_trace.specs.declared.event.Event.TheVariants as events;
 ghost use Rattle.sk_plain.specs.Refusal.{cause};
 
 use crate::answer::CallAnswer;
 use sk_holder::Holder;
-use sk_ids::Pid;
-use sk_kernel::{Kernel, Outcome};
-use sk_plain::{InputRef, Refusal};
+use sk_ids::{GuessId, Pid};
+use sk_kernel::{EpochRefusal, Kernel, Outcome};
+use sk_plain::{InputRef, Refusal, Trace};
 use sk_scenario::{Call, Declarations};
+use sk_terminal::Texts;
 use std::alloc::{AllocError, Global};
 
 /// A kernel with the tokens of its guesses, as a scenario calls it: each call is answered as the report tells it, of
@@ -105,6 +107,26 @@ impl Session {
             Ok(id) => Ok(CallAnswer::Guessed(id)),
             Err(refusal) => refused(refusal),
         }
+    }
+
+    /// Lets go of the token of a guess where none is undecided: it was struck. This takes no memory.
+    pub fn let_go(&mut self, id: GuessId)
+        requires { undecided_at self.old.holder.kernel ≡ [] }
+        ensures { self.new.holder
+            ≡ record { kernel = self.old.holder.kernel; held = but id self.old.holder.held } }
+    {
+        self.holder.fail(id);
+    }
+
+    /// Begins a new epoch where no token is held, as the kernel does; refused only for want of memory, and then nothing
+    /// has changed.
+    pub fn new_epoch(&mut self) -> Result<(Trace, Texts), EpochRefusal>
+        requires { self.old.holder.held ≡ [] }
+        ensures kernel { EpochPost result self.old.holder.kernel self.new.holder.kernel }
+        ensures memory { IfErr result (λ why. why ≡ EpochRefusal.Memory) }
+        ensures held { self.new.holder.held ≡ [] }
+    {
+        self.holder.new_epoch()
     }
 
     /// Fails the guesses that are left, and ends.

@@ -8,29 +8,38 @@ use Rattle.sk_words.specs.Words.{words, first_of}
 use Rattle.sk_questions.specs.Named.{entity}
 use Rattle.sk_questions.specs.declared.question.Question.{Question}
 use Rattle.sk_questions.specs.declared.question.Question.TheVariants as questions
+use Rattle.sk_questions.specs.declared.asked.Asked.{Asked}
+use Rattle.sk_questions.specs.declared.asked.Asked.TheVariants as asks
 
-abbrev pub question_rules : List (List ℕ × Rule (Option Question))
+-- this question is asked
+abbrev pub asking : Question → Option Asked
+asking q = Some (asks.Question q)
+
+abbrev pub question_rules : List (List ℕ × Rule (Option Asked))
 question_rules =
-    (codes "value", λ ws. entity ws >>= λ e. Ok (Some (questions.Value e))) ∷
-    (codes "tags", λ ws. entity ws >>= λ e. Ok (Some (questions.Tags e))) ∷
-    (codes "dependents", λ ws. one_of positive ws >>= λ id. Ok (Some (questions.Dependents id))) ∷
-    (codes "terminal", λ ws. one_of index ws >>= λ n. Ok (Some (questions.Terminal n))) ∷
-    (codes "trace", λ ws. none_of ws >>= λ _. Ok (Some questions.Trace)) ∷
-    (codes "report", λ ws. none_of ws >>= λ _. Ok (Some questions.Report)) ∷
+    (codes "value", λ ws. entity ws >>= λ e. Ok (asking (questions.Value e))) ∷
+    (codes "tags", λ ws. entity ws >>= λ e. Ok (asking (questions.Tags e))) ∷
+    (codes "dependents", λ ws. one_of positive ws >>= λ id. Ok (asking (questions.Dependents id))) ∷
+    (codes "terminal", λ ws. one_of index ws >>= λ n. Ok (asking (questions.Terminal n))) ∷
+    (codes "released", λ ws. one_of index ws >>= λ n. Ok (Some (asks.Released n))) ∷
+    (codes "counts", λ ws. none_of ws >>= λ _. Ok (asking questions.Counts)) ∷
+    (codes "trace", λ ws. none_of ws >>= λ _. Ok (asking questions.Trace)) ∷
+    (codes "report", λ ws. none_of ws >>= λ _. Ok (asking questions.Report)) ∷
+    (codes "epoch", λ ws. none_of ws >>= λ _. Ok (Some asks.Epoch)) ∷
     []
 
 -- a word that does not ask
-abbrev pub no_question : Rule (Option Question)
+abbrev pub no_question : Rule (Option Asked)
 no_question ws = Ok None
 
 -- what a line asks whose first word this is
-unfoldable pub asked_with : List ℕ → Rule (Option Question)
+unfoldable pub asked_with : List ℕ → Rule (Option Asked)
 asked_with word ws = rule_in question_rules no_question word ws
 
-abbrev pub asked_in : Option (List ℕ × List (List ℕ)) → Result (Option Question) FaultKind
+abbrev pub asked_in : Option (List ℕ × List (List ℕ)) → Result (Option Asked) FaultKind
 asked_in None = Ok None
 asked_in (Some x) = asked_with x.0 x.1
 
 -- what a line asks, if anything
-abbrev pub asked_by : List ℕ → Result (Option Question) FaultKind
+abbrev pub asked_by : List ℕ → Result (Option Asked) FaultKind
 asked_by line = asked_in (first_of (words line))

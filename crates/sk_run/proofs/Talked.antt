@@ -13,7 +13,8 @@ use Rattle.sk_words.specs.Lines.{parts}
 use Rattle.sk_words.proofs.Parts.{next_line}
 use Rattle.sk_words.specs.declared.fault.FaultKind.{FaultKind}
 use Rattle.sk_questions.specs.Questions.{asked_by}
-use Rattle.sk_questions.specs.declared.question.Question.{Question}
+use Rattle.sk_questions.specs.declared.asked.Asked.{Asked}
+use Rattle.sk_questions.specs.declared.asked.Asked.TheVariants as asks
 use Rattle.sk_talk.specs.declared.play.Play.{Play}
 use Rattle.sk_talk.specs.declared.line.LineTold.{LineTold}
 use Rattle.sk_talk.specs.declared.line.LineTold.TheVariants as tells
@@ -78,8 +79,12 @@ next_number (tells.Happened t) n = omega arith
 next_number tells.Nothing n = omega arith
 next_number (tells.Fault kind) n = omega arith
 
-answered_number : (asked : Result (Option Question) FaultKind) (n : ℕ) (l : List ℕ) (old new : Talk) (text : List ℕ) → AnswersAs asked n l old new text → new.number ≤ old.number + 1
-answered_number (Ok (Some question)) n l old new text h = rw h.0 (omega arith)
+answered_number : (asked : Result (Option Asked) FaultKind) (n : ℕ) (l : List ℕ) (old new : Talk) (text : List ℕ) → AnswersAs asked n l old new text → new.number ≤ old.number + 1
+answered_number (Ok (Some (asks.Question question))) n l old new text h = rw h.0 (omega arith)
+answered_number (Ok (Some (asks.Released t))) n l old new text h = rw h.1 (omega arith)
+answered_number (Ok (Some asks.Epoch)) n l old new text h =
+    let same : new.number ≡ old.number = ap (λ (t : Talk). t.number) h.3 in
+    omega (arith, same)
 answered_number (Ok None) n l old new text h = rw h.3 (next_number h.0 old.number)
 answered_number (Err kind) n l old new text h = rw h.0 (omega arith)
 

@@ -1,6 +1,7 @@
 -- What a talk comes to: the lines of an input, each answered before the next one is read.
 use Rattle.std.specs.Prelude.{◌≡◌, ◌⊎◌, ℕ, ◌+◌, Bool, false, List, [], ◌∷◌, ◌++◌, codes, bytes_eq, if◌then◌else◌, ⊤, Option, Some, None, Result, Ok, Err, IfSome}
 use Rattle.std.specs.Str.Lines.{lines}
+use Rattle.std.specs.FinMap as map
 use Rattle.std.specs.Io.KnownBytes.{Appends}
 use Rattle.sk_words.specs.Words.{words}
 use Rattle.sk_words.specs.declared.fault.FaultKind.{FaultKind}
@@ -9,8 +10,16 @@ use Rattle.sk_play.specs.Played.{answer_line}
 use Rattle.sk_play.specs.Told.{told_line}
 use Rattle.sk_questions.specs.Questions.{asked_by}
 use Rattle.sk_questions.specs.declared.question.Question.{Question}
+use Rattle.sk_questions.specs.declared.asked.Asked.{Asked}
+use Rattle.sk_questions.specs.declared.asked.Asked.TheVariants as asks
 use Rattle.sk_talk.specs.Asked.{IsAnswer}
+use Rattle.sk_play.specs.Epochs.{epoch_line}
+use Rattle.sk_talk.specs.Epochs.{EpochComes}
+use Rattle.sk_talk.specs.HandedOut.{HandedMap, all_handed, handed_at, released_answer}
 use Rattle.sk_talk.specs.Lines.{LineTaken}
+use Rattle.sk_talk.specs.Played.{kernel_of}
+use Rattle.sk_play.specs.declared.epoch.EpochTold.{EpochTold}
+use Rattle.sk_play.specs.declared.epoch.EpochTold.TheVariants as epochs
 use Rattle.sk_talk.specs.declared.play.Play.{Play}
 use Rattle.sk_talk.specs.declared.line.LineTold.{LineTold}
 use Rattle.sk_talk.specs.declared.line.LineTold.TheVariants as tells
@@ -58,11 +67,35 @@ number_behind (tells.Happened t) number = number + 1
 number_behind tells.Nothing number = number
 number_behind (tells.Fault kind) number = number
 
+-- the texts that a terminal has released and that were not handed out in this epoch, which are handed out then
+abbrev pub HandsOut : ℕ → Talk → Talk → List ℕ → Type 0
+HandsOut t old new text =
+    (text ≡ released_answer (kernel_of old.play) t (handed_at old.handed t)) × (new ≡ record old { handed = all_handed (kernel_of old.play) t old.handed })
+
+-- none is handed out of an epoch that has begun
+abbrev pub handed_behind : EpochTold → HandedMap → HandedMap
+handed_behind (epochs.Begun n) handed = map.empty
+handed_behind (epochs.Undecided n) handed = handed
+handed_behind epochs.World handed = handed
+
+-- what came of a wish for a new epoch is told
+abbrev pub BeginsEpoch : Talk → Talk → List ℕ → Type 0
+BeginsEpoch old new text =
+    (told : EpochTold) × EpochComes (Some told) old.play new.play × (text ≡ epoch_line told)
+    × (new ≡ record { play = new.play; number = old.number; handed = handed_behind told old.handed })
+
+-- the answer to what is asked, and what is left then; a question changes nothing
+abbrev pub Serves : Asked → Talk → Talk → List ℕ → Type 0
+Serves (asks.Question question) old new text = (new ≡ old) × IsAnswer old.play question text
+Serves (asks.Released t) old new text = HandsOut t old new text
+Serves asks.Epoch old new text = BeginsEpoch old new text
+
 -- A line that asks is answered, any other as what is at play takes it; what is wrong with a line that asks is told with its number.
-abbrev pub AnswersAs : Result (Option Question) FaultKind → ℕ → List ℕ → Talk → Talk → List ℕ → Type 0
-AnswersAs (Ok (Some question)) number line old new text = (new ≡ old) × IsAnswer old.play question text
+abbrev pub AnswersAs : Result (Option Asked) FaultKind → ℕ → List ℕ → Talk → Talk → List ℕ → Type 0
+AnswersAs (Ok (Some asked)) number line old new text = Serves asked old new text
 AnswersAs (Ok None) number line old new text =
     (told : LineTold) × LineTaken told line old.play new.play × (told_as number old.number told ≡ Some text) × (new.number ≡ number_behind told old.number)
+    × (new.handed ≡ old.handed)
 AnswersAs (Err kind) number line old new text = (new ≡ old) × (text ≡ message_text (messages.Fault number kind) ++ 10 ∷ [])
 
 abbrev pub Answers : ℕ → List ℕ → Talk → Talk → List ℕ → Type 0
@@ -70,7 +103,7 @@ Answers number line old new text = AnswersAs (asked_by line) number line old new
 
 -- a line can want memory: it asks, or what is at play takes it and it has no fault
 abbrev pub WantsMemory : List ℕ → Play → Play → Type 0
-WantsMemory line old new = ((question : Question) × (asked_by line ≡ Ok (Some question))) ⊎ LineTaken (tells.Fault kinds.Memory) line old new
+WantsMemory line old new = ((asked : Asked) × (asked_by line ≡ Ok (Some asked))) ⊎ LineTaken (tells.Fault kinds.Memory) line old new
 
 -- the lines in turn, numbered from here, and this text is their answers
 abbrev pub Talks : ℕ → List (List ℕ) → Talk → Talk → List ℕ → Type 0
@@ -82,7 +115,7 @@ Talks number (l ∷ ls) old new text =
 
 -- at its start
 abbrev pub begun : Play → Talk
-begun play = record { play = play; number = 1 }
+begun play = record { play = play; number = 1; handed = map.empty }
 
 -- the output has grown by the answers to these lines
 abbrev pub Talked : Play → List (List ℕ) → Option (List ℕ) → Option (List ℕ) → Type 0

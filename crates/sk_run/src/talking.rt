@@ -10,31 +10,33 @@ ghost use Rattle.sk_command.specs.Messages.{message_text};
 ghost use Rattle.sk_command.specs.declared.message.Message.TheVariants as messages;
 ghost use Rattle.sk_scenario.specs.Scenario.{section_view};
 ghost use Rattle.sk_talk.specs.Played.{opened_in};
+ghost use Rattle.sk_play.specs.Epochs.{epoch_line};
 ghost use Rattle.sk_talk.specs.Lines.{LineTaken};
 ghost use Rattle.sk_words.specs.declared.fault.FaultKind.TheVariants as kinds;
 ghost use Rattle.sk_talk.specs.declared.line.LineTold.TheVariants as tells;
 ghost use Rattle.sk_report.specs.declared.stop.Stop.TheVariants as stops;
-ghost use Rattle.sk_run.specs.Talk.{is_alone, fault_line, told_as, number_behind, AnswersAs, Answers, WritesAnswer, EndsTalk, EndsOpened, TakesLine, WantsMemory};
+ghost use Rattle.sk_run.specs.Talk.{begun, is_alone, fault_line, told_as, number_behind, handed_behind, AnswersAs, Answers, BeginsEpoch, HandsOut, Serves, WritesAnswer, EndsTalk, EndsOpened, TakesLine, WantsMemory};
 
 use sk_command::end::{End, flushed, tell_unread, tell_wrong_section};
 use sk_command::message::{Message, write_message};
 use sk_command::open_input::OpenInput;
 use sk_command::read_all::ReadFault;
-use sk_play::{write_answer, write_told};
-use sk_questions::Question;
+use sk_play::{EpochTold, write_answer, write_told};
+use sk_questions::{Asked, Question};
 use sk_report::Stop;
 use sk_scenario::{Declarations, Section};
-use sk_talk::{LineTold, Play};
+use sk_talk::{HandedOut, LineTold, Play};
 use sk_words::{Cursor, FaultKind, Words};
 use std::alloc::{AllocError, Global};
 use std::io;
 use std::io::{BufRead, BufReader, BufWriter, ErrorKind, Write};
 
-/// What is at play, and the number of its next event, from 1 on.
+/// What is at play, the number of its next event, from 1 on, and how many texts were handed out in this epoch.
 #[derive(Drop)]
 pub struct Talk {
     play: Play,
     number: usize,
+    handed: HandedOut,
 }
 
 /// Whether a line has this word alone.
@@ -125,7 +127,28 @@ fn number_behind(told: &LineTold, number: usize) -> usize
     }
 }
 
+/// Tells what came of a wish for a new epoch.
+fn write_epoch<W: Write>(told: &EpochTold, out: &mut W) -> Result<(), Stop>
+    ensures written { OnOk result
+        (Appends (W.contents out.old) (W.contents out.new) (epoch_line told.now)) }
+    ensures stop { result ≡ Err stops.Memory → ⊥ }
+{
+    writeln!(out, "epoch {told}")?;
+    Ok(())
+}
+
 impl Talk {
+    /// A talk at its start.
+    fn begin(alloc: Global, play: Play) -> Talk
+        ensures { result ≡ begun play }
+    {
+        Talk {
+            play,
+            number: 1,
+            handed: HandedOut::new(alloc),
+        }
+    }
+
     /// Writes the answer to a question.
     fn reply<W: Write>(&self, alloc: Global, question: &Question, out: &mut W) -> Result<(), Stop>
         ensures written { OnOk result
@@ -135,6 +158,53 @@ impl Talk {
         let text = self.play.asked(alloc, question)?;
         out.write_all(&text)?;
         Ok(())
+    }
+
+    /// Hands out the texts that a terminal has released and that were not handed out in this epoch.
+    fn hand_out<W: Write>(&mut self, alloc: Global, number: u16, out: &mut W) -> Result<(), Stop>
+        ensures written { OnOk result
+            ((text : List ℕ) × HandsOut number self.old self.new text
+            × Appends (W.contents out.old) (W.contents out.new) text) }
+        ensures memory { result ≡ Err stops.Memory → out.new ≡ out.old }
+    {
+        let text = self.handed.take(alloc, self.play.kernel(), number)?;
+        out.write_all(&text)?;
+        Ok(())
+    }
+
+    /// None of the texts of the epoch that has begun, if one has, is handed out.
+    fn forget(&mut self, alloc: Global, told: &EpochTold)
+        ensures { self.new ≡ record self.old { handed = handed_behind told.now self.old.handed } }
+    {
+        if let EpochTold::Begun(_) = told {
+            self.handed = HandedOut::new(alloc);
+        }
+    }
+
+    /// Begins a new epoch, and writes what came of it.
+    fn begin_epoch<W: Write>(&mut self, alloc: Global, out: &mut W) -> Result<(), Stop>
+        ensures written { OnOk result
+            ((text : List ℕ) × BeginsEpoch self.old self.new text
+            × Appends (W.contents out.old) (W.contents out.new) text) }
+        ensures memory { result ≡ Err stops.Memory → out.new ≡ out.old }
+    {
+        let told = self.play.new_epoch()?;
+        self.forget(alloc, &told);
+        write_epoch(&told, out)
+    }
+
+    /// Writes the answer to what is asked.
+    fn serve<W: Write>(&mut self, alloc: Global, asked: &Asked, out: &mut W) -> Result<(), Stop>
+        ensures written { OnOk result
+            ((text : List ℕ) × Serves asked.now self.old self.new text
+            × Appends (W.contents out.old) (W.contents out.new) text) }
+        ensures memory { result ≡ Err stops.Memory → out.new ≡ out.old }
+    {
+        match asked {
+            Asked::Question(question) => self.reply(alloc, question, out),
+            Asked::Released(number) => self.hand_out(alloc, number.get(), out),
+            Asked::Epoch => self.begin_epoch(alloc, out),
+        }
     }
 
     /// Makes the call that the line of this number says, and writes what it is told.
@@ -174,8 +244,8 @@ impl Talk {
         ensures memory { result ≡ Err stops.Memory
             → WantsMemory line.now self.old.play self.new.play × (out.new ≡ out.old) }
     {
-        match Question::of(line) {
-            Ok(Some(question)) => self.reply(alloc, &question, out),
+        match Asked::of(line) {
+            Ok(Some(asked)) => self.serve(alloc, &asked, out),
             Ok(None) => self.take(alloc, number, line, out),
             Err(kind) => write_wrong(number, kind, out),
         }
@@ -218,7 +288,7 @@ pub fn answer_lines<R: BufRead, W: Write + Drop, E: Write>(
     ensures at_once { writer_buffer out.old ≡ []
         → result ≡ End.Trouble → writer_buffer out.new ≡ [] }
 {
-    let mut talk = Talk { play, number: 1 };
+    let mut talk = Talk::begin(alloc, play);
     let mut line = Vec::new(alloc);
     for number in 1..u64::MAX {
         if let Err(error) = next_line(reader, &mut line) {

@@ -8,6 +8,9 @@ use Rattle.sk_record.specs.Effects.{is_in}
 use Rattle.sk_record.specs.Notes.{has}
 use Rattle.sk_store.specs.declared.entity_state.EntityState.{EntityState}
 use Rattle.sk_trace.specs.Text.{trace_text}
+use Rattle.sk_counts.specs.Counts.{AreCounts}
+use Rattle.sk_counts.specs.Text.{counts_text}
+use Rattle.sk_counts.specs.declared.counts.Counts.{Counts}
 use Rattle.sk_kernel.specs.Kernel.{KernelView, state_at, tags_at}
 use Rattle.sk_report.specs.Directories.{gathered}
 use Rattle.sk_report.specs.Footprints.{entities_text}
@@ -66,6 +69,13 @@ dependents_line es = codes "dependents " ++ entities_text es ++ 10 ∷ []
 abbrev pub trace_answer : KernelView → List ℕ
 trace_answer k = codes "trace\n" ++ trace_text k.trace ++ codes "end\n"
 
+-- the line `counts`, and these counts
+abbrev pub counts_lines : Counts → List ℕ
+counts_lines c = codes "counts\n" ++ counts_text c
+
+abbrev pub TellsCounts : KernelView → List ℕ → Type 0
+TellsCounts k text = (c : Counts) × AreCounts k c × (text ≡ counts_lines c)
+
 abbrev pub TellsDependents : KernelView → ℕ → List ℕ → Type 0
 TellsDependents k id text = (es : List Entity) × AreDependents k id es × (text ≡ dependents_line es)
 
@@ -75,5 +85,6 @@ IsAnswer p (questions.Value e) text = text ≡ value_answer (kernel_of p) e
 IsAnswer p (questions.Tags e) text = text ≡ tags_answer (kernel_of p) e
 IsAnswer p (questions.Dependents id) text = TellsDependents (kernel_of p) id text
 IsAnswer p (questions.Terminal number) text = text ≡ terminal_said (kernel_of p) number
+IsAnswer p questions.Counts text = TellsCounts (kernel_of p) text
 IsAnswer p questions.Trace text = text ≡ trace_answer (kernel_of p)
 IsAnswer p questions.Report text = text ≡ report_of p

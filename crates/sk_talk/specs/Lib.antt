@@ -1,3 +1,5 @@
 pub mod Played
 pub mod Lines
 pub mod Asked
+pub mod Epochs
+pub mod HandedOut

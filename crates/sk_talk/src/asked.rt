@@ -11,9 +11,10 @@ ghost use Rattle.sk_report.specs.Printed.{entity_text};
 ghost use Rattle.sk_report.specs.Report.{terminal_said};
 ghost use Rattle.sk_words.specs.Words.{words};
 ghost use Rattle.sk_talk.specs.Played.{kernel_of};
-ghost use Rattle.sk_talk.specs.Asked.{is_named, named, present_as, value_answer, tags_answer, dependents_line, trace_answer, TellsDependents, IsAnswer};
+ghost use Rattle.sk_talk.specs.Asked.{is_named, named, present_as, value_answer, tags_answer, counts_lines, dependents_line, trace_answer, TellsCounts, TellsDependents, IsAnswer};
 
 use crate::play::Play;
+use sk_counts::{Counts, write_counts};
 use sk_ids::{Entity, GuessId};
 use sk_kernel::Kernel;
 use sk_objects::Value;
@@ -143,6 +144,25 @@ fn terminal(alloc: Global, kernel: &Kernel, number: u16) -> Result<Vec<u8>, Stop
     Ok(text)
 }
 
+/// The line `counts`, and these counts.
+fn counted(alloc: Global, counts: &Counts) -> Result<Vec<u8>, Stop>
+    ensures { IfOk result (λ text. text.items ≡ counts_lines counts.now) }
+{
+    let mut text = Vec::new(alloc);
+    text.write_all(b"counts\n")?;
+    write_counts(counts, &mut text)?;
+    Ok(text)
+}
+
+/// The line `counts`, and the counts of a kernel.
+fn counts(alloc: Global, kernel: &Kernel) -> Result<Vec<u8>, Stop>
+    ensures { IfOk result (λ text. TellsCounts kernel.now text.items) }
+{
+    let counts = Counts::of(alloc, kernel)?;
+    let text = counted(alloc, &counts)?;
+    Ok(text)
+}
+
 /// The trace, between the line `trace` and the line `end`.
 fn trace(alloc: Global, kernel: &Kernel) -> Result<Vec<u8>, Stop>
     ensures { IfOk result (λ text. text.items ≡ trace_answer kernel.now) }
@@ -165,6 +185,7 @@ fn answer(play: &Play, alloc: Global, kernel: &Kernel, question: &Question) -> R
         Question::Tags(entity) => tags(alloc, kernel, entity),
         Question::Dependents(id) => dependents(alloc, kernel, *id),
         Question::Terminal(number) => terminal(alloc, kernel, number.get()),
+        Question::Counts => counts(alloc, kernel),
         Question::Trace => trace(alloc, kernel),
         Question::Report => {
             let text = play.report(alloc)?;

@@ -4,8 +4,9 @@ use Rattle.std.specs.Str.Lines.{lines}
 use Rattle.std.specs.Io.Buffered.{writer_contents}
 use Rattle.sk_report.specs.declared.stop.Stop.{Stop}
 use Rattle.sk_command.specs.declared.end.End.TheVariants as ends
+use Rattle.sk_run.specs.declared.talking.Talk.{Talk}
 use Rattle.sk_run.specs.Talk.{is_end, EndsTalk, TakesLine}
-use Rattle.sk_run.proofs.Talked.{goes_on, ends_by_line, ends_behind, ends_in_trouble}
+use Rattle.sk_run.proofs.Talked.{Going, begins, goes_on, ends_by_line, ends_behind, ends_in_trouble}
 use Rattle.sk_run.proofs.talking.answer_lines.Goals as goal
 
 pub returns-in-Err-clause-end : goal.returns-in-Err-clause-end
@@ -44,6 +45,14 @@ returns-in-Err-Memory-clause-end g c =
     subst (λ out. EndsTalk c.args.play input ends.Trouble old (writer_contents g.W.Write.contents out)) (sym (c.in-Err-Memory.ensures.memory (ap (λ (stop : Stop). Err stop) c.in-Err-Memory.field-0-is)).1)
     (ends_in_trouble c.args.play input c.loop-number.number c.loop-number.talk (g.R.Read.remaining c.loop-number.reader) old (writer_contents g.W.Write.contents c.loop-number.out)
     c.loop-number.invariant.going)
+
+pub loop-number-init : goal.loop-number-init
+loop-number-init g c =
+    let input = g.R.Read.remaining c.args.reader.now in
+    let old = writer_contents g.W.Write.contents c.args.out.now in record {
+      going = subst (λ (talk : Talk). Going c.args.play input 1 talk input old old) (sym c.begin-talk.ensures) (begins c.args.play input old);
+      at_once = λ h. h;
+    }
 
 pub loop-number-preserved : goal.loop-number-preserved
 loop-number-preserved g c =

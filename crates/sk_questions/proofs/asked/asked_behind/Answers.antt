@@ -2,7 +2,7 @@
 use Rattle.std.proofs.Common.{refl}
 use Rattle.sk_words.proofs.Unknown.{skipped, no_text}
 use Rattle.sk_questions.specs.Questions.{asked_with, question_rules, no_question}
-use Rattle.sk_questions.proofs.question.asked_behind.Goals as goal
+use Rattle.sk_questions.proofs.asked.asked_behind.Goals as goal
 
 pub returns-in-Err : goal.returns-in-Err
 unfolding asked_with

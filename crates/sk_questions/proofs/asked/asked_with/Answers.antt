@@ -2,7 +2,7 @@
 use Rattle.std.proofs.Common.{refl, rules}
 use Rattle.sk_words.proofs.Unknown.{skipped}
 use Rattle.sk_questions.specs.Questions.{asked_with, question_rules, no_question}
-use Rattle.sk_questions.proofs.question.asked_with.Goals as goal
+use Rattle.sk_questions.proofs.asked.asked_with.Goals as goal
 
 pub returns-in_default : goal.returns-in_default
 unfolding asked_with

@@ -2,6 +2,12 @@
 use Rattle.std.specs.Prelude.{ℕ, List, ◌++◌, codes, decimal}
 use Rattle.sk_words.specs.declared.fault.FaultKind.{FaultKind}
 use Rattle.sk_words.specs.declared.fault.FaultKind.TheVariants as kinds
+use Rattle.std.specs.declared.io.ErrorKind.{ErrorKind}
+use Rattle.std.specs.declared.io.ErrorKind.TheVariants as errors
+use Rattle.sk_command.specs.declared.read_all.ReadFault.{ReadFault}
+use Rattle.sk_command.specs.declared.read_all.ReadFault.TheVariants as reads
+use Rattle.sk_command.specs.declared.message.Taker.{Taker}
+use Rattle.sk_command.specs.declared.message.Taker.TheVariants as takers
 use Rattle.sk_command.specs.declared.message.Message.{Message}
 use Rattle.sk_command.specs.declared.message.Message.TheVariants as messages
 
@@ -13,9 +19,32 @@ kind_word kinds.Label = codes "Label"
 kind_word kinds.TooLong = codes "TooLong"
 kind_word kinds.Memory = codes "Memory"
 
+-- why an input can't be read
+abbrev pub failed_word : ErrorKind → List ℕ
+failed_word errors.NotFound = codes "not there"
+failed_word errors.IsADirectory = codes "a folder"
+failed_word errors.PermissionDenied = codes "no permission"
+failed_word kind = codes "a read failed"
+
+abbrev pub cause_word : ReadFault → List ℕ
+cause_word reads.TooLong = codes "more than 64 MB"
+cause_word (reads.Failed kind) = failed_word kind
+cause_word reads.NoEnd = codes "no end"
+cause_word reads.Memory = codes "out of memory"
+
+-- what a command takes
+abbrev pub takes : Taker → List ℕ
+takes takers.Play = codes "play takes steps or world, "
+takes takers.Talk = codes "talk takes steps or world without an event, "
+takes takers.Plain = codes "plain takes trace, "
+takes takers.Replay = codes "replay takes trace, "
+takes takers.Work = codes "work takes any section, "
+
 -- a message, without the end of its line
 abbrev pub message_text : Message → List ℕ
 message_text (messages.Fault line kind) = codes "speculate: line " ++ decimal line ++ codes ": " ++ kind_word kind
 message_text messages.WrongSection = codes "speculate: wrong section"
+message_text (messages.Other taker file has) = takes taker ++ file.now ++ codes " has " ++ has.now
 message_text (messages.Entry number) = codes "speculate: trace entry " ++ decimal number ++ codes " refused"
 message_text (messages.Unread file) = codes "speculate: cannot read " ++ file.now
+message_text (messages.Cause file fault) = codes "cannot read " ++ file.now ++ codes ": " ++ cause_word fault

@@ -83,6 +83,7 @@ pub fn tell_unread<E: Write>(fault: ReadFault, file: &str, err: &mut E) -> End
 {
     if fault != ReadFault::Memory {
         let _ = write_message(&Message::Unread(file), err);
+        let _ = write_message(&Message::Cause(file, fault), err);
     }
     End::Trouble
 }

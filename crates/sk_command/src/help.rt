@@ -57,8 +57,11 @@ line of standard input, and so is what is asked; `end` ends:
   tags ENTITY           the undecided guesses that it rests on
   dependents G          the entities that rest on the guess
   terminal T            what the terminal has released, and how many texts wait
+  released T            what it has released that was not handed out before
+  counts                how many guesses, steps and notes there are
   trace                 what happened so far
   report                the report
+  epoch                 a new epoch: the trace and the texts so far are let go
 `work` takes any section, and runs none of its lines.
 
 In these lines:

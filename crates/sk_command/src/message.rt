@@ -1,23 +1,45 @@
 //! What is told on the error writer.
 ghost use Rattle.std.specs.Prelude.{◌≡◌, ◌++◌, ◌∷◌, [], OnOk};
 ghost use Rattle.std.specs.Io.KnownBytes.{Appends};
-ghost use Rattle.sk_command.specs.Messages.{kind_word, message_text};
+ghost use Rattle.sk_command.specs.Messages.{kind_word, cause_word, message_text};
 
+use crate::read_all::ReadFault;
 use sk_words::FaultKind;
-use std::io::Write;
+use std::io::{ErrorKind, Write};
 use std::{fmt, io};
+
+/// The commands, by what sections they take.
+#[derive(Clone, Copy, Debug, PartialEq, Eq)]
+pub enum Taker {
+    Play,
+    Talk,
+    Plain,
+    Replay,
+    Work,
+}
 
 /// Why a run does not end well.
 #[derive(Clone, Copy, Debug)]
 pub enum Message<'a> {
     /// A line of the file has a fault of this kind.
-    Fault { line: u64, kind: FaultKind },
+    Fault {
+        line: u64,
+        kind: FaultKind,
+    },
     /// The section is not what the command takes.
     WrongSection,
+    /// What the command takes, and what the file of this name has in its place.
+    Other {
+        taker: Taker,
+        file: &'a str,
+        has: &'a str,
+    },
     /// The entry of this number, from 1, can't stand in the trace.
     Entry(usize),
     /// The input of this name can't be read.
     Unread(&'a str),
+    /// Why it can't.
+    Cause(&'a str, ReadFault),
 }
 
 impl fmt::Display for Message<'_> {
@@ -32,8 +54,22 @@ impl fmt::Display for Message<'_> {
                 write!(f, "speculate: line {line}: {kind}")
             }
             Message::WrongSection => write!(f, "speculate: wrong section"),
+            Message::Other { taker, file, has } => match taker {
+                Taker::Play => write!(f, "play takes steps or world, {file} has {has}"),
+                Taker::Talk => write!(
+                    f,
+                    "talk takes steps or world without an event, {file} has {has}"
+                ),
+                Taker::Plain => write!(f, "plain takes trace, {file} has {has}"),
+                Taker::Replay => write!(f, "replay takes trace, {file} has {has}"),
+                Taker::Work => write!(f, "work takes any section, {file} has {has}"),
+            },
             Message::Entry(number) => write!(f, "speculate: trace entry {number} refused"),
             Message::Unread(file) => write!(f, "speculate: cannot read {file}"),
+            Message::Cause(file, fault) => {
+                let cause = cause_of(fault);
+                write!(f, "cannot read {file}: {cause}")
+            }
         }
     }
 }
@@ -48,6 +84,21 @@ fn word_of(kind: FaultKind) -> &'static str
         FaultKind::Label => "Label",
         FaultKind::TooLong => "TooLong",
         FaultKind::Memory => "Memory",
+    }
+}
+
+/// Why an input can't be read.
+fn cause_of(fault: ReadFault) -> &'static str
+    ensures { result.now ≡ cause_word fault }
+{
+    match fault {
+        ReadFault::TooLong => "more than 64 MB",
+        ReadFault::Failed(ErrorKind::NotFound) => "not there",
+        ReadFault::Failed(ErrorKind::IsADirectory) => "a folder",
+        ReadFault::Failed(ErrorKind::PermissionDenied) => "no permission",
+        ReadFault::Failed(_) => "a read failed",
+        ReadFault::NoEnd => "no end",
+        ReadFault::Memory => "out of memory",
     }
 }
 

@@ -1,5 +1,5 @@
 -- What a run of the program comes to: how it ends, and what its output holds then.
-use Rattle.std.specs.Prelude.{◌⊎◌, ◌≢◌, ◌≤◌, ℕ, List, [], codes, length, Option, Some, None, Result, Ok, Err}
+use Rattle.std.specs.Prelude.{◌⊎◌, ◌≢◌, ◌≤◌, ◌++◌, if◌then◌else◌, Bool, true, false, ℕ, List, [], codes, length, Option, Some, None, Result, Ok, Err}
 use Rattle.std.specs.Str.Lines.{lines}
 use Rattle.sk_words.specs.declared.fault.Fault.{Fault}
 use Rattle.sk_scenario.specs.Declarations.{Declared}
@@ -11,6 +11,9 @@ use Rattle.sk_command.specs.declared.end.End.TheVariants as ends
 use Rattle.sk_command.specs.CommandLine.{Wish, wish_file, Play, Talk, Plain, Replay, Work, Asks, EndsWithoutJob}
 use Rattle.sk_command.specs.Ends.{EndsUnwritten, fault_end}
 use Rattle.sk_command.specs.ReadAll.{INPUT_LIMIT}
+use Rattle.sk_command.specs.Messages.{takes}
+use Rattle.sk_command.specs.declared.message.Taker.{Taker}
+use Rattle.sk_command.specs.declared.message.Taker.TheVariants as takers
 use Rattle.sk_talk.specs.Played.{opened_in}
 use Rattle.sk_run.specs.Run.{EndsPlain, EndsPlayed, EndsWorld}
 use Rattle.sk_run.specs.Replayed.{EndsReplayed}
@@ -56,3 +59,29 @@ EndsWish wish bytes_of end old new = EndsFile wish (bytes_of (codes "-")) (bytes
 abbrev pub EndsWords : List (List ℕ) → (List ℕ → Option (List ℕ)) → End → Option (List ℕ) → Option (List ℕ) → Type 0
 EndsWords words bytes_of end old new =
     EndsWithoutJob words end old new ⊎ ((wish : Wish) × Asks words wish × EndsWish wish bytes_of end old new)
+
+-- ---- what is told of a section that isn't taken
+
+abbrev pub taker : Wish → Taker
+taker (Play file shows) = takers.Play
+taker (Talk file) = takers.Talk
+taker (Plain file) = takers.Plain
+taker (Replay file) = takers.Replay
+taker (Work file workers turns) = takers.Work
+
+abbrev pub is_talk : Wish → Bool
+is_talk (Play file shows) = false
+is_talk (Talk file) = true
+is_talk (Plain file) = false
+is_talk (Replay file) = false
+is_talk (Work file workers turns) = false
+
+-- a talk takes no event, whichever the section
+abbrev pub has : Wish → SectionView → List ℕ
+has wish (Trace es) = codes "trace"
+has wish (Steps steps) = if is_talk wish then codes "events" else codes "steps"
+has wish (World es) = if is_talk wish then codes "events" else codes "world"
+
+-- what a wish takes, and what its file has
+abbrev pub section_told : Wish → SectionView → List ℕ
+section_told wish section = takes (taker wish) ++ wish_file wish ++ codes " has " ++ has wish section

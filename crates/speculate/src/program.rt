@@ -1,14 +1,18 @@
 //! The run of the program, from its words to its end.
-ghost use Rattle.std.specs.Prelude.{map, codes, string_bytes};
+ghost use Rattle.std.specs.Prelude.{◌≡◌, None, Some, MatchResult, map, codes, string_bytes};
 ghost use Rattle.std.specs.Io.Buffered.{writer_buffer, writer_contents};
 ghost use Rattle.sk_command.specs.CommandLine.{wish_file, wish_of, IsWithinBounds};
 ghost use Rattle.sk_command.specs.Ends.{IsFlushed};
-ghost use Rattle.speculate.specs.Program.{EndsRead, EndsText, EndsFile, EndsWords};
+ghost use Rattle.sk_command.specs.Messages.{message_text};
+ghost use Rattle.sk_scenario.specs.Scenario.{section_view};
+ghost use Rattle.speculate.specs.Program.{EndsRead, EndsText, EndsFile, EndsWords, section_told};
 
 use crate::working::run_work;
 use sk_command::end::{End, tell_fault, tell_wrong_section};
 use sk_command::job::{Job, asked, explain};
+use sk_command::message::{Message, Taker, write_message};
 use sk_command::open_input::{OpenInput, input};
+use sk_faults::write_detail;
 use sk_run::plain_run::run_trace;
 use sk_run::playing::run_steps;
 use sk_run::replaying::run_replay;
@@ -80,7 +84,44 @@ fn run_text<R: Threads + Wait + Sync, O: OpenInput, W: Write + Drop, E: Write>(
     ensures flushed { IsFlushed result (writer_buffer out.new) }
 {
     let read = Scenario::parse(alloc, text);
-    run_read(rt, alloc, job, read, inputs, out, err)
+    let fault = fault_of(&read);
+    let end = run_read(rt, alloc, job, read, inputs, out, err);
+    if let Some(fault) = fault {
+        let _ = write_detail(job.file(), text, &fault, err);
+    }
+    end
+}
+
+/// The fault that was told of a text.
+fn fault_of(read: &Result<Scenario, Fault>) -> Option<Fault>
+    ensures { MatchResult read.now (λ _. result ≡ None) (λ fault. result ≡ Some fault) }
+{
+    match read {
+        Ok(_) => None,
+        Err(fault) => Some(*fault),
+    }
+}
+
+/// What a job takes, and what its file has in its place.
+fn other_section<'a>(job: Job<'a>, section: &Section) -> Message<'a>
+    ensures { message_text result
+        ≡ section_told (wish_of job.entry) (section_view section.now) }
+{
+    let taker = match job {
+        Job::Play { .. } => Taker::Play,
+        Job::Talk { .. } => Taker::Talk,
+        Job::Plain { .. } => Taker::Plain,
+        Job::Replay { .. } => Taker::Replay,
+        Job::Work { .. } => Taker::Work,
+    };
+    let has = match (job, section) {
+        (_, Section::Trace(_)) => "trace",
+        (Job::Talk { .. }, _) => "events",
+        (_, Section::Steps(_)) => "steps",
+        (_, Section::World(_)) => "world",
+    };
+    let file = job.file();
+    Message::Other { taker, file, has }
 }
 
 /// Does a job with what was read, or tells its fault.
@@ -105,6 +146,7 @@ fn run_read<R: Threads + Wait + Sync, O: OpenInput, W: Write + Drop, E: Write>(
         Ok(scenario) => scenario,
         Err(fault) => return tell_fault(&fault, err),
     };
+    let other = other_section(job, &section);
     match (job, section) {
         (Job::Play { shows, .. }, Section::Steps(steps)) => {
             run_steps(alloc, &declarations, steps.as_slice(), shows, out)
@@ -113,7 +155,11 @@ fn run_read<R: Threads + Wait + Sync, O: OpenInput, W: Write + Drop, E: Write>(
             run_world(alloc, &declarations, events.as_slice(), shows, out)
         }
         (Job::Talk { .. }, section) => {
-            talk_declared(alloc, &declarations, &section, inputs, out, err)
+            let end = talk_declared(alloc, &declarations, &section, inputs, out, err);
+            if end == End::Fault {
+                let _ = write_message(&other, err);
+            }
+            end
         }
         (Job::Plain { .. }, Section::Trace(trace)) => {
             run_trace(alloc, declarations.boot(), &trace, out, err)
@@ -124,6 +170,10 @@ fn run_read<R: Threads + Wait + Sync, O: OpenInput, W: Write + Drop, E: Write>(
         (Job::Work { workers, turns, .. }, _) => {
             run_work(rt, alloc, workers, turns, &declarations, out)
         }
-        _ => tell_wrong_section(err),
+        _ => {
+            let end = tell_wrong_section(err);
+            let _ = write_message(&other, err);
+            end
+        }
     }
 }

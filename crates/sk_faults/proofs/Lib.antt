@@ -1,0 +1,9 @@
+pub mod Places
+pub mod Readings
+pub mod Agree
+pub mod Scripts
+pub mod ScriptLines
+pub mod Lists
+pub mod Sections
+pub mod Steps
+pub mod Calls

@@ -1,0 +1,55 @@
+-- What is found in a line of a script is what its reading tells: a label, or an instruction.
+use Rattle.std.proofs.Common.{◌≡◌, ℕ, List, [], ◌∷◌, ◌++◌, Bool, true, false, ◌==◌, Some, None, Option, Result, Ok, Err, length, slice_index, if◌then◌else◌}
+use Rattle.sk_words.specs.Operands.{none_of}
+use Rattle.sk_words.specs.declared.fault.FaultKind.{FaultKind}
+use Rattle.sk_words.specs.declared.fault.FaultKind.TheVariants as kinds
+use Rattle.sk_words.specs.Faults.{◌>>=◌}
+use Rattle.sk_script.specs.Script.{INSTRUCTIONS}
+use Rattle.sk_script.specs.declared.instruction.Instruction.{Instruction}
+use Rattle.sk_script.specs.Instructions.{place_of, instruction}
+use Rattle.sk_script.specs.Scripting as code
+use Rattle.sk_script.specs.Scripting.{ScriptState, label_in, declares_or_does, line_of, undeclared, room_for, added}
+use Rattle.sk_faults.specs.declared.form.Form.{Form}
+use Rattle.sk_faults.specs.declared.part.Part.TheVariants as parts
+use Rattle.sk_scenario.specs.Scenario.{is_end_of}
+use Rattle.sk_faults.specs.Tables.{instruction_forms, is_labelled}
+use Rattle.sk_faults.specs.Found.{operand_fault, found_of, Agrees, IsToldIn}
+use Rattle.sk_faults.proofs.Agree.{OnlyOther, then_agrees, none_agrees}
+use Rattle.sk_faults.proofs.Scripts.{instruction_agrees}
+
+only_new : (r : Result ℕ FaultKind) → OnlyOther (undeclared r)
+only_new (Ok place) = tt
+only_new (Err e) = tt
+
+only_room : (is : List Instruction) → OnlyOther (room_for is)
+only_room is =
+    elim (length is == INSTRUCTIONS) as (λ (t : Bool). OnlyOther {A = Unit {0}} (if t then Err kinds.TooLong else Ok tt)) [
+      | true ↦ tt
+      | false ↦ tt
+    ]
+
+only_so : {A B : Type 0} (r : Result A FaultKind) (f : A → B) → OnlyOther r → OnlyOther (r >>= λ a. Ok (f a))
+only_so (Ok a) f h = tt
+only_so (Err e) f h = h
+
+-- the forms of a first word that isn't `end`
+abbrev seen_forms : Option (List ℕ) → List ℕ → Option (List Form)
+seen_forms label word = if is_labelled label then Some [] else instruction_forms word
+
+labelled : (s : ScriptState) (label : Option (List ℕ)) (w : List ℕ) (ws : List (List ℕ)) → Agrees ws (added s (declares_or_does label w ws)) (operand_fault None (seen_forms label w) ws)
+unfolding added
+labelled s (Some name) w ws =
+    then_agrees ws (none_of ws) (operand_fault None (Some []) ws) (λ alone. undeclared (place_of s.declared name) >>= λ new. Ok (record s { declared = s.declared ++ (name, length s.instructions) ∷ [] }))
+    (none_agrees ws) (λ alone. only_so (undeclared (place_of s.declared name)) (λ new. record s { declared = s.declared ++ (name, length s.instructions) ∷ [] }) (only_new (place_of s.declared name)))
+labelled s None w ws =
+    then_agrees ws (instruction s.all w ws) (operand_fault None (instruction_forms w) ws) (λ i. room_for s.instructions >>= λ room. Ok (record s { instructions = s.instructions ++ i ∷ [] }))
+    (instruction_agrees s.all w ws) (λ i. only_so (room_for s.instructions) (λ room. record s { instructions = s.instructions ++ i ∷ [] }) (only_room s.instructions))
+
+pub script_told : (s : ScriptState) (ws : List (List ℕ)) → is_end_of ws ≡ false → IsToldIn parts.Script ws (added s (line_of ws))
+unfolding added
+script_told s [] e = tt
+script_told s (w ∷ ws) e =
+    elim (slice_index w 0 == 35) as (λ (t : Bool). Agrees ws (added s (if t then code.Ignored else declares_or_does (label_in w) w ws)) (found_of parts.Script (if t then None else Some (w, ws)))) [
+      | true ↦ tt
+      | false ↦ rw e (labelled s (label_in w) w ws)
+    ]

@@ -1,0 +1,40 @@
+-- Where a fault of a line is told.
+use Rattle.std.specs.Prelude.{◌≡◌, ◌⊎◌, ⊤, ℕ, List, [], Option, Some, None, length, drop}
+use Rattle.sk_words.specs.declared.fault.FaultKind.{FaultKind}
+use Rattle.sk_words.specs.declared.fault.FaultKind.TheVariants as kinds
+use Rattle.sk_words.specs.Words.{words, first_of}
+use Rattle.sk_faults.specs.declared.found.Found.{Found}
+use Rattle.sk_faults.specs.declared.part.Part.{Part}
+use Rattle.sk_faults.specs.Found.{found_of}
+use Rattle.sk_faults.specs.Places.{IsWordOf}
+
+-- at the word of this index, or behind the line's last byte where the line has no such word
+abbrev pub IsAt : List ℕ → ℕ → ℕ → List ℕ → Type 0
+IsAt line index start word =
+    IsWordOf line index word
+    ⊎ ((drop index (words line) ≡ []) × (start ≡ length line) × (word ≡ []))
+
+-- at some word of the line
+abbrev pub IsSomewhere : List ℕ → ℕ → List ℕ → Type 0
+IsSomewhere line start word = (index : ℕ) × IsAt line index start word
+
+-- at the word that is found, or behind the last byte of a line whose words are as they must be: the last of a script without an end
+abbrev pub IsAtFound : Option Found → List ℕ → ℕ → List ℕ → Type 0
+IsAtFound (Some f) line start word = IsAt line f.index start word
+IsAtFound None line start word = (start ≡ length line) × (word ≡ [])
+
+-- where a fault of this kind is told of a line that stands in a part
+abbrev pub IsTold : FaultKind → Part × List ℕ → ℕ → List ℕ → Type 0
+IsTold kinds.Word x start word = IsAtFound (found_of x.0 (first_of (words x.1))) x.1 start word
+IsTold kinds.Operand x start word = IsAtFound (found_of x.0 (first_of (words x.1))) x.1 start word
+IsTold kinds.Label x start word = IsSomewhere x.1 start word
+IsTold kinds.TooLong x start word = IsSomewhere x.1 start word
+IsTold kinds.Memory x start word = ⊥
+
+-- nothing is told of want of memory, nor of a line that there is not
+abbrev pub IsUntold : FaultKind → Option (Part × List ℕ) → Type 0
+IsUntold kinds.Word line = line ≡ None
+IsUntold kinds.Operand line = line ≡ None
+IsUntold kinds.Label line = line ≡ None
+IsUntold kinds.TooLong line = line ≡ None
+IsUntold kinds.Memory line = ⊤

@@ -1,0 +1,6 @@
+pub mod Forms
+pub mod Parts
+pub mod Tables
+pub mod Found
+pub mod Places
+pub mod Details

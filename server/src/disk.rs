@@ -1,5 +1,6 @@
 //! Threads that write frames and sync them, and work that goes on beside the loop.
 use crate::folder::Folder;
+use crate::log::Wish;
 use hidewillow::store::FramePlace;
 use std::fs::OpenOptions;
 use std::io::{self, Write};
@@ -22,6 +23,9 @@ pub struct Job {
 pub enum Word {
     Written(Job, io::Result<()>),
     Made(u64, io::Result<()>),
+    /// That may be tried again.
+    Rested,
+    Snapshot(Wish, io::Result<(String, u64)>),
 }
 
 /// Writes bytes where they are to be, and syncs them, through a file handle that nothing else is written by.

@@ -1,16 +1,28 @@
-//! What a store has in its folder: `log-N`, segments of zeros with frames over them.
-use crate::library::{done, well, Recovery, ABSENT, DAMAGED, DONE, OPENED, REFUSED};
+//! What a store has in its folder: `log-N`, segments of zeros with frames over them, and `snapshot-N-F`, which stands for all
+//! segments up to N; the log goes on behind it with frame F.
+use crate::library::{done, well, Recovery, ABSENT, DAMAGED, DONE, OPENED, REFUSED, SHOWN};
 use hidewillow::store::ReadCounts;
 use std::fs::{self, File, OpenOptions};
-use std::io::{self, Read};
+use std::io::{self, ErrorKind, Read, Write};
 use std::os::unix::fs::FileExt;
 use std::path::{Path, PathBuf};
 
 /// How long the head of a frame is.
 pub const HEAD: usize = 24;
 const PIECE: usize = 1 << 20;
+/// No piece of a snapshot is longer. What isn't used of it takes no memory.
+const ENTRIES: usize = 32 << 20;
 
 pub struct Folder(pub PathBuf);
+
+/// A log that was read: in words, its keys, the number of the next frame, and the segments that its snapshot stands for.
+pub struct Found {
+    pub words: String,
+    keys: u64,
+    next: u64,
+    pub kept: u64,
+    pub log: Recovery,
+}
 
 fn named<T>(path: &Path, did: io::Result<T>) -> io::Result<T> {
     did.map_err(|error| io::Error::new(error.kind(), format!("{}: {error}", path.display())))
@@ -49,58 +61,80 @@ impl Folder {
         self.0.join(format!("log-{segment:010}"))
     }
 
-    /// The files of a kind, by rising number.
-    fn files(&self, kind: &str) -> io::Result<Vec<(u64, PathBuf)>> {
+    /// The files of a kind, by rising number, with the number behind that of a snapshot.
+    fn files(&self, kind: &str) -> io::Result<Vec<(u64, u64, PathBuf)>> {
         let mut files = Vec::new();
         for entry in named(&self.0, fs::read_dir(&self.0))? {
             let path = entry?.path();
-            let name = path.file_name().and_then(|name| name.to_str()?.strip_prefix(kind));
-            files.extend(name.and_then(|name| name.parse().ok()).map(|number| (number, path.clone())));
+            let name = path.file_name().and_then(|name| name.to_str()?.strip_prefix(kind)).unwrap_or_default();
+            let mut numbers = name.split('-').map(str::parse);
+            if let (Some(Ok(number)), frame) = (numbers.next(), numbers.next()) {
+                files.push((number, frame.and_then(Result::ok).unwrap_or(1), path));
+            }
         }
         files.sort_unstable();
         Ok(files)
     }
 
+    /// Has the folder, which is made if it isn't there.
+    fn make(&self) -> io::Result<()> {
+        if self.0.is_dir() {
+            return Ok(());
+        }
+        named(&self.0, fs::create_dir(&self.0).and_then(|()| File::open(self.0.join(".."))?.sync_all()))
+    }
+
     /// Has the folder, a lock on it that keeps others out while it is open, and no file that a crash left in the making.
     pub fn lock(&self) -> io::Result<File> {
-        if !self.0.is_dir() {
-            named(&self.0, fs::create_dir(&self.0).and_then(|()| File::open(self.0.join(".."))?.sync_all()))?;
-        }
+        self.make()?;
         let path = self.0.join("lock");
         let file = named(&path, File::create(&path))?;
         named(&path, file.try_lock().map_err(|_| io::Error::other("another server has this folder")))?; // [10]
-        for (_, path) in self.files("new-")? {
+        for (.., path) in self.files("new-")? {
             named(&path, fs::remove_file(&path))?;
         }
         Ok(file)
     }
 
-    /// Makes a segment of zeros, under its name once it is on the disk, in the place of one that is unused.
-    pub fn make_segment(&self, segment: u64, bytes: u64) -> io::Result<()> {
-        let (new, path) = (self.0.join(format!("new-{segment:010}")), self.segment(segment));
+    /// Makes a file, under its name once it is on the disk, in the place of one of this name; and has that on the disk too.
+    fn place(&self, path: &Path, fill: impl FnOnce(&mut File) -> io::Result<u64>) -> io::Result<u64> {
+        let new = self.0.join(format!("new-0-{}", path.file_name().unwrap_or_default().display()));
         let mut file = named(&new, File::create(&new))?;
-        let zeros = io::copy(&mut io::repeat(0).take(bytes), &mut file);
-        let did = zeros.and_then(|_| file.sync_all()).and_then(|()| fs::rename(&new, &path));
+        let did = fill(&mut file).and_then(|bytes| file.sync_all().map(|()| bytes));
+        let did = did.and_then(|bytes| fs::rename(&new, path).map(|()| bytes));
         if did.is_err() {
             let _ = fs::remove_file(&new);
         }
-        named(&path, did.and_then(|()| File::open(&self.0)?.sync_all())) // [3]
+        named(path, did.and_then(|bytes| File::open(&self.0)?.sync_all().map(|()| bytes)))
     }
 
-    /// Reads the log, of which so many bytes may have been undecided: what was found in words, and the log.
-    pub fn recover(&self, undecided: u32, again: bool) -> io::Result<(String, Recovery)> {
+    /// Makes a segment of zeros, in the place of one that is unused.
+    pub fn make_segment(&self, segment: u64, bytes: u64) -> io::Result<()> {
+        let zeros = |file: &mut File| io::copy(&mut io::repeat(0).take(bytes), file);
+        self.place(&self.segment(segment), zeros).map(drop) // [3]
+    }
+
+    /// Reads the log up to the end of a segment, where so many bytes may have been undecided.
+    pub fn recover(&self, undecided: u32, up_to: u64, again: bool) -> io::Result<Found> {
+        let snapshot = self.files("snapshot-")?.pop();
+        let (kept, first) = snapshot.as_ref().map_or((0, 1), |(number, frame, _)| (*number, *frame));
         let (mut log, mut counts) = (Recovery::new(), ReadCounts::default());
-        well(log.open(), &[OPENED], "log")?;
+        well(log.open(first), &[OPENED], "log")?;
+        if let Some((.., path)) = &snapshot {
+            named(path, read(path, false, |piece| done(log.feed(0, piece), "piece")))?;
+            named(path, well(log.head(kept, &[]), &[ABSENT], "snapshot").map(drop))?;
+        }
         let mut segments = self.files("log-")?;
-        while segments.last().is_some_and(|(_, path)| is_unused(path).unwrap_or(false)) {
+        segments.retain(|(number, ..)| *number > kept);
+        while segments.last().is_some_and(|(.., path)| is_unused(path).unwrap_or(false)) {
             segments.pop();
         }
-        for (number, path) in &segments {
+        for (number, _, path) in &segments {
             let mut head = Vec::new();
             named(path, File::open(path).and_then(|file| file.take(HEAD as u64).read_to_end(&mut head)))?;
             well(log.head(*number, &head), &[DONE, ABSENT], "head")?;
         }
-        for (number, path) in &segments {
+        for (number, _, path) in segments.iter().filter(|(number, ..)| *number <= up_to) {
             let feed = |piece: &[u8]| done(log.feed(*number, piece), "piece");
             named(path, read(path, again, feed))?; // [9]
         }
@@ -109,14 +143,58 @@ impl Folder {
         let is_damaged = told.answer == REFUSED && told.number == DAMAGED;
         well(told, if is_damaged { &[REFUSED] } else { &[DONE] }, "log")?;
         let ReadCounts { frames, commands, keys, next, segment, place, dropped } = counts;
-        let found = format!(
+        let words = format!(
             "{keys} keys, {commands} commands in {frames} frames of the log; it ends at byte {place} of segment {segment}, before \
              frame {next}, and {dropped} bytes behind count for nothing"
         );
         if is_damaged {
             let says = "the log is damaged, more than a crash explains, and nothing was changed; go back to a copy";
-            return Err(io::Error::other(format!("{says}. Before that place are {found}")));
+            return Err(io::Error::other(format!("{says}. Before that place are {words}")));
         }
-        Ok((found, log))
+        Ok(Found { words, keys, next, kept, log })
+    }
+
+    /// Writes a snapshot that stands for all segments up to this one: its path, what it is in words, and its bytes.
+    fn write(&self, undecided: u32, up_to: u64, into: &Folder) -> io::Result<(PathBuf, String, u64)> {
+        let Found { keys, next, mut log, .. } = self.recover(undecided, up_to, false)?;
+        let (path, mut room) = (into.0.join(format!("snapshot-{up_to:010}-{next}")), vec![0; ENTRIES]);
+        let bytes = into.place(&path, |file| {
+            let mut bytes = 0;
+            loop {
+                let told = well(log.snapshot(&mut room), &[SHOWN, ABSENT], "snapshot")?;
+                if told.answer == ABSENT {
+                    return Ok(bytes);
+                }
+                file.write_all(&room[..told.bytes])?;
+                bytes += told.bytes as u64;
+            }
+        })?;
+        Ok((path, format!("{keys} keys in {bytes} bytes"), bytes))
+    }
+
+    /// Makes a snapshot that stands for all segments up to this one, and removes what it stands for. In words, and its bytes.
+    pub fn snapshot(&self, undecided: u32, up_to: u64) -> io::Result<(String, u64)> {
+        let (path, words, bytes) = self.write(undecided, up_to, self)?;
+        for (number, _, old) in [self.files("log-")?, self.files("snapshot-")?].concat() {
+            if number <= up_to && old != path {
+                named(&old, fs::remove_file(&old))?; // [9]
+            }
+        }
+        Ok((words, bytes))
+    }
+
+    /// Makes a folder with a snapshot of all segments up to this one, under its name once it is whole and on the disk.
+    pub fn backup(&self, undecided: u32, up_to: u64, path: &Path) -> io::Result<(String, u64)> {
+        let name = path.file_name().unwrap_or_default().display();
+        let (home, new) = (Folder(path.with_file_name("")), Folder(path.with_file_name(format!(".{name}"))));
+        home.make()?;
+        if path.exists() {
+            return named(path, Err(ErrorKind::AlreadyExists.into()));
+        }
+        let _ = fs::remove_dir_all(&new.0);
+        new.make()?;
+        let (_, words, bytes) = self.write(undecided, up_to, &new)?;
+        named(path, fs::rename(&new.0, path).and_then(|()| File::open(&home.0)?.sync_all()))?;
+        Ok((words, bytes))
     }
 }

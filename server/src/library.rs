@@ -8,7 +8,12 @@ pub const DONE: u32 = 2;
 pub const REFUSED: u32 = 5;
 pub const MEMORY: u32 = 7;
 pub const OPENED: u32 = 9;
+pub const SHOWN: u32 = 10;
 pub const ABSENT: u32 = 11;
+pub const COMMITTED: u32 = 17;
+pub const FAILED: u32 = 18;
+/// What became of a request: the host is asked.
+pub const ASKED: u64 = 7;
 /// Why one is refused.
 pub const DECISION_DUE: u64 = 2;
 pub const FULL: u64 = 3;
@@ -28,6 +33,16 @@ pub fn well(told: Told, answers: &[u32], what: &str) -> io::Result<Told> {
 
 pub fn done(told: Told, what: &str) -> io::Result<()> {
     well(told, &[DONE], what).map(drop)
+}
+
+/// What a call shows, in a room that is made long enough.
+pub fn shown(room: &mut Vec<u8>, mut call: impl FnMut(&mut [u8]) -> Told) -> Option<&[u8]> {
+    let mut told = call(room);
+    if told.bytes > room.len() {
+        room.resize(told.bytes, 0);
+        told = call(room);
+    }
+    (told.answer == SHOWN).then(|| &room[..told.bytes])
 }
 
 /// Makes calls methods of a handle.
@@ -50,10 +65,11 @@ impl Recovery {
     }
 
     calls! {
-        fn open() = hidewillow_recovery_open();
+        fn open(first: u64) = hidewillow_recovery_open(first);
         fn head(segment: u64, head: &[u8]) = hidewillow_recovery_head(segment, head.as_ptr(), head.len());
         fn feed(segment: u64, piece: &[u8]) = hidewillow_recovery_feed(segment, piece.as_ptr(), piece.len());
         fn end(in_flight: u64, counts: &mut ReadCounts) = hidewillow_recovery_end(in_flight, counts);
+        fn snapshot(room: &mut [u8]) = hidewillow_recovery_snapshot(room.as_mut_ptr(), room.len());
     }
 }
 
@@ -85,6 +101,11 @@ impl Store {
         fn connect() = hidewillow_store_connect();
         fn hang_up(channel: u16) = hidewillow_store_hang_up(channel);
         fn feed(channel: u16, bytes: &[u8]) = hidewillow_store_feed(channel, bytes.as_ptr(), bytes.len());
+        fn feed_ahead(channel: u16, bytes: &[u8]) = hidewillow_store_feed_ahead(channel, bytes.as_ptr(), bytes.len());
+        fn ahead(room: &mut [u8]) = hidewillow_store_ahead(room.as_mut_ptr(), room.len());
+        fn asked(channel: u16, place: usize, room: &mut [u8])
+            = hidewillow_store_asked(channel, place, room.as_mut_ptr(), room.len());
+        fn tell(channel: u16, reply: &[u8]) = hidewillow_store_tell(channel, reply.as_ptr(), reply.len());
         fn is_closed(channel: u16) = hidewillow_store_is_closed(channel);
         fn output(channel: u16, room: &mut [u8]) = hidewillow_store_output(channel, room.as_mut_ptr(), room.len());
         fn next_ready() = hidewillow_store_next_ready();

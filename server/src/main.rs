@@ -9,15 +9,29 @@
 //!  4. Each write has a file handle of its own, since the system tells an error once to each (`disk.rs`).
 //!  5. A cut is told as made, and a start serves, only when its head is on the disk; else a cut is tried in another segment, or the
 //!     program ends and answers nothing more (`log.rs`, `main.rs`).
-//!  6. Bytes that came on a socket are fed to its channel, in order and once (`clients.rs`).
-//!  7. What a channel puts out goes to its socket, in order and once, and nothing else does (`clients.rs`).
+//!  6. Bytes that came on a socket, behind those that say the password, are fed to its channel, in order and once; where there is no
+//!     room for what a request writes, one that the store hands back is fed in its place (`clients.rs`).
+//!  7. What a channel puts out goes to its socket, in order and once, behind what is answered at the door, and nothing else does; but
+//!     a client that wishes so is sent answers ahead, each with a number, until it waits for all (`clients.rs`, `asked.rs`).
 //!  8. What a start reads of a log it writes again and syncs before it serves, since what can be read needn't be on the disk
 //!     (`folder.rs`).
-//!  9. A start gives the library the heads of all segments, and then these whole, in order, but for the last ones if they are zeros;
-//!     none is removed, and no other is made anew (`folder.rs`).
+//!  9. A start gives the library the newest snapshot, the heads of all segments behind, and then these whole, in order, but for the
+//!     last ones if they are zeros. One is removed only when a snapshot of it is on the disk with its name, which is made only of
+//!     segments in which nothing is written any more, nor waits to be cut off; no other is made anew (`folder.rs`, `log.rs`).
 //! 10. One process has the folder, and one thread makes all calls of a store (`folder.rs`; a `Store` is not `Send`).
+
+/// Writes a line on stderr, if it can be written.
+macro_rules! say {
+    ($($words:tt)*) => {{
+        use std::io::Write as _;
+        let _ = writeln!(std::io::stderr(), $($words)*);
+    }};
+}
+
+mod asked;
 mod clients;
 mod disk;
+mod door;
 mod folder;
 mod library;
 mod log;
@@ -26,8 +40,8 @@ mod system;
 
 use clients::Client;
 use disk::Disk;
+use door::{Away, WRITES};
 use folder::Folder;
-use hidewillow::store::StoreCounts;
 use library::Store;
 use log::Log;
 use options::Options;
@@ -62,6 +76,14 @@ struct Server {
     later: Vec<u16>,
     touched: Vec<u16>,
     ending: Vec<u16>,
+    /// Channels that wait to be answered until more is decided.
+    waiting: Vec<u16>,
+    /// How many clients came, and how many commands; since when, and when memory was last looked at, and was too much.
+    connected: u64,
+    commands: u64,
+    begun: Instant,
+    weighed: Instant,
+    is_heavy: bool,
     /// Whether the store took nothing, as much is undecided as may be.
     is_full: bool,
     /// A room for what sockets read and channels put out.
@@ -75,16 +97,10 @@ impl Server {
         let mut signal = [0; 128];
         self.signals.read_exact(&mut signal)?;
         if u32::from(signal[0]) == system::SIGUSR1 {
-            let StoreCounts { undecided, in_flight, .. } = self.store.counts();
-            let (segment, [frames, bytes, all, longest, failed]) = (self.log.segment, self.log.counts);
-            let (clients, mean) = (self.clients.len(), all / frames.max(1));
-            eprintln!(
-                "{clients} connections; {undecided} bytes undecided, {in_flight} frames in flight; segment {segment}; {frames} frames \
-                 and {bytes} bytes on the disk, each in {mean} us, one in {longest}; {failed} failed"
-            );
+            say!("{}", self.info());
             return Ok(());
         }
-        eprintln!("stopping");
+        say!("stopping");
         (self.listener, self.stopping) = (None, Some(Instant::now() + PATIENCE));
         self.touched.extend(self.clients.keys());
         Ok(())
@@ -100,6 +116,18 @@ impl Server {
         Ok(is_late || undecided == 0 && self.clients.values().all(|client| client.unsent.is_empty()))
     }
 
+    /// Requests that there is no room for.
+    pub fn turned_away(&mut self) -> Option<Away> {
+        if self.options.memory > 0 && !self.log.is_keeping && self.weighed.elapsed() > Duration::from_millis(100) {
+            (self.weighed, self.is_heavy) = (Instant::now(), system::memory() > self.options.memory);
+        }
+        match (self.log.is_short(&self.options.limits), self.is_heavy) {
+            (true, _) => Some((&WRITES, b"NOROOM\r\n")),
+            (_, true) => Some((&WRITES[2..], b"NOMEMORY\r\n")),
+            _ => None,
+        }
+    }
+
     fn run(mut self) -> io::Result<()> {
         loop {
             let patience = match (self.is_full || self.stopping.is_some(), self.later.is_empty()) {
@@ -110,7 +138,7 @@ impl Server {
             for (of, is_read) in self.poll.wait(patience)? {
                 match of {
                     LISTENER => self.accept().unwrap_or_else(|error| {
-                        eprintln!("no connection: {error}");
+                        say!("no connection: {error}");
                         thread::sleep(Duration::from_millis(10));
                     }),
                     WAKE => drop(self.wake.read(&mut self.room)),
@@ -125,8 +153,9 @@ impl Server {
                 self.feed(channel);
             }
             self.send()?;
-            self.prepare();
+            self.prepare()?;
             self.take_output();
+            self.answer_waiting();
             self.touched.extend(&self.ending);
             for channel in mem::take(&mut self.touched) {
                 self.write(channel);
@@ -142,16 +171,18 @@ impl Server {
 fn serve(options: Options) -> io::Result<()> {
     let limits = options.limits;
     if let Some(folder) = &options.check {
-        return Folder(folder.into()).recover(limits.undecided, false).map(|(found, _)| println!("{found}"));
+        return Folder(folder.into())
+            .recover(limits.undecided, u64::MAX, false)
+            .map(|found| println!("{}", found.words));
     }
     let folder = Folder(options.folder.clone().into());
     let _lock = folder.lock()?;
     let signals = system::signals()?;
-    let (found, read) = folder.recover(limits.undecided, true)?;
-    eprintln!("{found}");
+    let found = folder.recover(limits.undecided, u64::MAX, true)?;
+    say!("{}", found.words);
     let mut room = vec![0; folder::HEAD];
     let seed = RandomState::new().hash_one(std::process::id());
-    let (store, at) = Store::open(read, &limits, seed, &mut room)?;
+    let (store, at) = Store::open(found.log, &limits, seed, &mut room)?;
     folder.make_segment(at.segment, limits.segment)?;
     disk::write(&folder, &at, &room)?; // [5]
     let listener = TcpListener::bind(&options.address)?;
@@ -163,7 +194,7 @@ fn serve(options: Options) -> io::Result<()> {
     poll.ask(true, &listener, LISTENER, (true, false))?;
     poll.ask(true, &wake, WAKE, (true, false))?;
     poll.ask(true, &signals, SIGNALS, (true, false))?;
-    eprintln!("listening on {}", listener.local_addr()?);
+    say!("listening on {}", listener.local_addr()?);
     let server = Server {
         poll,
         listener: Some(listener),
@@ -171,11 +202,17 @@ fn serve(options: Options) -> io::Result<()> {
         signals,
         disk: Disk::start(folder, limits.in_flight, waker),
         store,
-        log: Log::new(at),
+        log: Log::new(at, found.kept),
         clients: HashMap::new(),
         later: Vec::new(),
         touched: Vec::new(),
         ending: Vec::new(),
+        waiting: Vec::new(),
+        connected: 0,
+        commands: 0,
+        begun: Instant::now(),
+        weighed: Instant::now(),
+        is_heavy: false,
         is_full: false,
         room: vec![0; 1 << 18],
         stopping: None,
@@ -189,12 +226,12 @@ fn main() -> ExitCode {
     let did = match Options::of(&words) {
         Ok(options) => serve(options),
         Err(error) => {
-            eprintln!("{error}\n{}", options::HELP);
+            say!("{error}\n{}", options::HELP);
             return ExitCode::from(2);
         }
     };
     if let Err(error) = did {
-        eprintln!("hidewillow-server: {error}");
+        say!("hidewillow-server: {error}");
         return ExitCode::FAILURE;
     }
     ExitCode::SUCCESS

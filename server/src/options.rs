@@ -1,20 +1,30 @@
-//! Options: words of the command line.
+//! Options: words of the command line, and lines of a file.
 use hidewillow::store::StoreLimits;
+use std::fs;
 use std::ops::RangeInclusive;
 
 pub const HELP: &str = "hidewillow-server [--NAME VALUE]..
 
+  --config FILE              lines of a name and a value, as here without the dashes; # begins a line that says nothing
   --address 127.0.0.1:7379   where clients connect
+  --password WORD            what a client is to say by AUTH before all else. A file keeps it from those who see command lines
   --folder .                 where the log is, made if it isn't there
   --segment 64m              bytes of a segment of the log
   --undecided 32m            bytes that may wait for the disk, at most a segment; a request has a quarter of it at most
   --batches 4                writes that may be under way at once, up to 63
-  --check FOLDER             says what is in a folder, and ends";
+  --snapshot 1g              bytes of the log after which a snapshot is made, once it has as many as the last snapshot
+  --backups FOLDER/backups   where BACKUP NAME leaves a folder of this name
+  --memory 0                 bytes of memory from which on writes that add are refused; 0 is no limit
+  --check FOLDER             says what a start on a folder would, changes nothing, and ends with 0 or 1";
 
 pub struct Options {
     pub address: String,
     pub folder: String,
     pub check: Option<String>,
+    pub password: Vec<u8>,
+    pub snapshot: u64,
+    pub backups: Option<String>,
+    pub memory: u64,
     pub limits: StoreLimits,
 }
 
@@ -27,28 +37,52 @@ fn number(text: &str, of: RangeInclusive<u64>) -> Result<u64, String> {
 }
 
 impl Options {
-    /// Takes words by twos.
+    fn set(&mut self, name: &str, value: &str) -> Result<(), String> {
+        match name {
+            "address" => self.address = value.into(),
+            "password" => self.password = value.into(),
+            "folder" => self.folder = value.into(),
+            "snapshot" => self.snapshot = number(value, 1..=1 << 50)?,
+            "backups" => self.backups = Some(value.into()),
+            "memory" => self.memory = number(value, 0..=1 << 50)?,
+            "check" => self.check = Some(value.into()),
+            "segment" => self.limits.segment = number(value, 64 << 10..=1 << 40)?,
+            "undecided" => self.limits.undecided = number(value, 4 << 10..=128 << 20)? as u32,
+            "batches" => self.limits.in_flight = number(value, 1..=63)? as u16,
+            _ => return Err(format!("no option is called {name}")),
+        }
+        Ok(())
+    }
+
+    fn read(&mut self, path: &str) -> Result<(), String> {
+        let text = fs::read_to_string(path).map_err(|error| format!("{path}: {error}"))?;
+        for line in text.lines().map(str::trim).filter(|line| !line.is_empty() && !line.starts_with('#')) {
+            let words = line.split_once(char::is_whitespace).ok_or(format!("{path}: {line}: a name and a value"));
+            words.and_then(|(name, value)| self.set(name, value.trim()))?;
+        }
+        Ok(())
+    }
+
+    /// Takes words by twos; what comes later counts.
     pub fn of(words: &[String]) -> Result<Options, String> {
         let (line, waiting, commands) = (64 << 10, 1 << 20, 1_000_000);
         let (segment, undecided, in_flight) = (64 << 20, 32 << 20, 4);
-        let mut limits = StoreLimits { words: 0, bytes: 0, line, waiting, segment, undecided, commands, in_flight };
-        let (mut address, mut folder, mut check) = ("127.0.0.1:7379".into(), ".".into(), None);
+        let limits = StoreLimits { words: 0, bytes: 0, line, waiting, segment, undecided, commands, in_flight };
+        let (address, folder, password, snapshot) = ("127.0.0.1:7379".into(), ".".into(), Vec::new(), 1 << 30);
+        let (check, backups, memory) = (None, None, 0);
+        let mut options = Options { address, folder, check, password, snapshot, backups, memory, limits };
         for words in words.chunks(2) {
-            let [name, value] = words else { return Err(format!("{}: --NAME VALUE", words[0])) };
-            match name.as_str() {
-                "--address" => address = value.clone(),
-                "--folder" => folder = value.clone(),
-                "--check" => check = Some(value.clone()),
-                "--segment" => limits.segment = number(value, 64 << 10..=1 << 40)?,
-                "--undecided" => limits.undecided = number(value, 4 << 10..=128 << 20)? as u32,
-                "--batches" => limits.in_flight = number(value, 1..=63)? as u16,
-                _ => return Err(format!("no option is called {name}")),
+            let name = words[0].strip_prefix("--").filter(|_| words.len() == 2);
+            match name.ok_or(format!("{}: --NAME VALUE", words[0]))? {
+                "config" => options.read(&words[1])?,
+                name => options.set(name, &words[1])?,
             }
         }
+        let limits = &mut options.limits;
         (limits.bytes, limits.words) = (limits.undecided as usize / 4, limits.undecided as usize / 64);
         if u64::from(limits.undecided) + 48 > limits.segment {
             return Err("more is undecided than a segment has".into());
         }
-        Ok(Options { address, folder, check, limits })
+        Ok(options)
     }
 }

@@ -13,12 +13,24 @@ struct Event {
     of: u64,
 }
 
+/// What memory allocated by the C library is: the bytes mapped are the fifth, those in use beside these the eighth.
+#[repr(C)]
+struct Allocated([usize; 10]);
+
 extern "C" {
     fn epoll_create1(flags: c_int) -> c_int;
     fn epoll_ctl(epoll: c_int, op: c_int, fd: c_int, event: *mut Event) -> c_int;
     fn epoll_wait(epoll: c_int, events: *mut Event, most: c_int, timeout: c_int) -> c_int;
     fn pthread_sigmask(how: c_int, set: *const [u64; 16], old: *mut [u64; 16]) -> c_int;
     fn signalfd(fd: c_int, set: *const [u64; 16], flags: c_int) -> c_int;
+    fn mallinfo2() -> Allocated;
+}
+
+/// How many bytes of memory are in use.
+pub fn memory() -> u64 {
+    // Safety: it takes nothing, and is told by value.
+    let Allocated(of) = unsafe { mallinfo2() };
+    (of[4] + of[7]) as u64
 }
 
 const CLOEXEC: c_int = 0o2000000;

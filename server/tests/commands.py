@@ -1,18 +1,20 @@
 #!/usr/bin/env python3
-"""Each command of the table by a client library that exists, `redis` for Python, against a server.
+"""Each command of the table by a client library that exists, `redis` for Python, against a server; and `redis-cli` and
+`redis-benchmark` against it.
 
     tests/commands.py [--server PROGRAM]
 
-The last line is 'N passed, M failed'; where that library is not installed it is 'not there'.
+The last line is 'N passed, M failed'; a line says what is not installed, and nothing is counted for it.
 """
 import argparse
 import pathlib
+import re
+import shutil
 import signal
 import socket
 import subprocess
 import sys
 import tempfile
-import time
 
 TOP = pathlib.Path(__file__).resolve().parent.parent
 BIG = b"x" * 1_000_000
@@ -62,6 +64,26 @@ def queues(client):
         client.connection_pool.release(one)
 
 
+def hosts(client):
+    """What the server answers itself."""
+    yield "INFO", client.info()["connected_clients"] >= 1 and client.info()["lacks_room"] == 0
+    yield "CLIENT", client.client_id() > 0 and client.client_setname("x") and client.client_getname() is None
+    yield "CONFIG GET", client.config_get("appendfsync") == {"appendfsync": "always"} and client.config_get("x") == {}
+    yield "SELECT", client.execute_command("SELECT", 0) and isinstance(of_error(client, "SELECT", 1), Exception)
+    yield "SAVE and BGSAVE", client.save() and client.bgsave()
+    yield "COMMAND", client.execute_command("COMMAND") == {}
+    yield "among others", client.pipeline(transaction=False).incr("h").client_id().incr("h").execute()[::2] == [1, 2]
+    yield "not in a queue", isinstance(of_error(client.pipeline(transaction=True).incr("h").client_id(), "execute"), Exception)
+
+
+def of_error(client, name, *words):
+    """What a call answers, or the error that it raises."""
+    try:
+        return getattr(client, name)() if name == "execute" else client.execute_command(name, *words)
+    except Exception as error:
+        return error
+
+
 def large(client):
     yield "a large value", client.set("big", BIG) and client.get("big") == BIG
     pipe = client.pipeline(transaction=False)
@@ -74,34 +96,56 @@ def large(client):
     yield "a fault ends a connection, behind what came before", told.startswith(b"+OK\r\n-ERR") and client.get("last") == b"1"
 
 
+def programs(port):
+    """What people type, and what they measure with."""
+    def ran(*words, given=None):
+        return subprocess.run([words[0], "-p", str(port), *words[1:]], input=given, capture_output=True, text=True, timeout=120).stdout
+    if shutil.which("redis-cli"):
+        yield "redis-cli", ran("redis-cli", "SET", "typed", "a b") == "OK\n" and ran("redis-cli", "GET", "typed") == "a b\n"
+        yield "redis-cli INFO", re.search(r"^replies_held:\d+$", ran("redis-cli", "INFO"), re.M)
+        yield "redis-cli --pipe", "errors: 0, replies: 2000" in ran("redis-cli", "--pipe", given="INCR piped\r\n" * 2000)
+    else:
+        print("commands: no redis-cli")
+    if shutil.which("redis-benchmark"):
+        told = ran("redis-benchmark", "-t", "set,get", "-n", "20000", "-q")
+        rates = dict(re.findall(r"(SET|GET): ([\d.]+) requests per second", told))
+        print(f"commands: redis-benchmark, requests a second: {rates}")
+        yield "redis-benchmark", set(rates) == {"SET", "GET"}
+    else:
+        print("commands: no redis-benchmark")
+
+
+def by_library(port):
+    """Each command by the client library."""
+    try:
+        import redis
+    except ImportError:
+        return print("commands: no `redis` for Python")
+    client = redis.Redis(port=port, socket_timeout=20)
+    client.redis, client.port = redis, port
+    for row, wanted in ROWS:
+        yield row, is_answered(client, row, wanted)
+    yield from queues(client)
+    yield from hosts(client)
+    yield from large(client)
+
+
 def main():
     words = argparse.ArgumentParser(description=__doc__, formatter_class=argparse.RawDescriptionHelpFormatter)
     words.add_argument("--server", default=str(TOP / "target/release/hidewillow-server"))
     options = words.parse_args()
-    try:
-        import redis
-    except ImportError:
-        print("commands: no `redis` for Python\nnot there")
-        return
     with socket.socket() as probe:
         probe.bind(("127.0.0.1", 0))
         port = probe.getsockname()[1]
     passed, failed = 0, []
     with tempfile.TemporaryDirectory() as folder:
         server = subprocess.Popen([options.server, "--folder", folder, "--address", f"127.0.0.1:{port}", "--segment", "8m",
-                                   "--undecided", "4m"], stderr=subprocess.DEVNULL)
+                                   "--undecided", "4m"], stderr=subprocess.PIPE, text=True)
         try:
-            client = redis.Redis(port=port, socket_timeout=20)
-            client.redis, client.port = redis, port
-            for _ in range(400):
-                try:
-                    client.ping()
-                    break
-                except redis.ConnectionError:
-                    time.sleep(0.05)
-            tried = [(row, is_answered(client, row, wanted)) for row, wanted in ROWS]
-            for name, holds in [*tried, *queues(client), *large(client)]:
-                passed += holds
+            while "listening" not in server.stderr.readline() and server.poll() is None:
+                pass
+            for name, holds in [*by_library(port), *programs(port)]:
+                passed += bool(holds)
                 failed += [] if holds else [name]
         finally:
             server.send_signal(signal.SIGTERM)

@@ -1,21 +1,28 @@
 #!/usr/bin/env python3
 """Crashes of the server, and what must hold after each.
 
-    tests/crashes.py [--server PROGRAM] [--modes kill,power,fault,full,mixed] [--crashes 50] [--seconds 0.4] [--seed N] [--batches 4]
-    tests/crashes.py --wrong [NAME]      builds hosts that are wrong on purpose, and says whether they are found
+    tests/crashes.py [--server PROGRAM] [--modes kill,power,fault,cut,full,mixed] [--crashes 50] [--seconds 0.4] [--seed N] [--batches 4]
+    tests/crashes.py --wrong [NAME ..]   builds hosts that are wrong on purpose, and says whether they are found
 
-Eight connections write and read with 1 to 8 commands under way; one reads what it wrote once that is acknowledged. After each crash the server starts again, and then:
+Modes, or wrong hosts, go side by side, each in a folder of its own: in memory (/dev/shm) where there is some, since what a disk keeps
+is the shim's to say. The last line is 'N passed, M failed'.
+
+Eight connections write and read with 1 to 8 commands under way; one reads what it wrote once that is acknowledged, two are answered ahead and
+believe it once they have waited for all, and one asks for snapshots and for backups, of which each is tried. After each crash the server starts
+again, and then:
 
     acknowledged writes are there              refused ones are not, and no reader ever saw one
     what a reader saw is there                 INCR answers no number twice, over all restarts
     MSET is whole                              appends are there once, and in order
     with --slow: reads of what is acknowledged were not held behind syncs
 
-Modes: kill (-9); power (then bytes that no sync covered are taken back, all, none, or torn at any byte; names too); fault (also writes
+Modes: cut (the power is lost at a head that cuts off what failed, while what failed is on the disk after all); kill (-9); power (then bytes that no sync covered are taken back, all, none, or torn at any byte; names too); fault (also writes
 that fail or are short, and syncs that fail, told once to each open file); full (the disk is full from time to time); mixed (faults, and
 each crash is kill or power, so that a start also reads what is not on the disk).
 """
 import argparse
+import concurrent.futures
+import contextlib
 import os
 import pathlib
 import random
@@ -32,10 +39,11 @@ import time
 
 HERE = pathlib.Path(__file__).resolve().parent
 TOP = HERE.parent
+ROOMS = "/dev/shm" if os.access("/dev/shm", os.W_OK) else None
 RECORD = struct.Struct("<5Q")
 CONNECTIONS, LISTS, COUNTERS, PAIRS = 8, 3, 3, 4
 REFUSALS = ("IOERR",)
-FAULTS = "30,30,20"
+FAULTS = dict(fault="30,30,20", mixed="30,30,20", cut="0,0,30")
 # Hosts that are wrong on purpose: the file, what stands there, and what is put in its place.
 WRONG = {
     "reply at once": [("log.rs", "self.log.under_way.push(at);",
@@ -65,6 +73,11 @@ WRONG = {
                                 "                        done(self.store.cut(1), \"cut\")?;\n                    }"),
                                ("log.rs", "return done(self.store.cut(1), \"cut\"); // [5]", "return Ok(());"),
                                ("log.rs", "return done(self.store.turn(), \"turn\");", "return Ok(());")],
+    "snapshot that isn't on the disk": [("folder.rs", "fill(&mut file).and_then(|bytes| file.sync_all().map(|()| bytes))", "fill(&mut file)")],
+    "segments removed before the snapshot has its name": [("folder.rs", "named(path, did.and_then(|bytes| File::open(&self.0)?.sync_all().map(|()| bytes)))",
+                                                           "named(path, did)")],
+    "snapshot of what is written": [("log.rs", "self.under_way.iter().map(|at| at.segment).min().unwrap_or(self.segment) - 1", "self.segment")],
+    "all stands before it is decided": [("asked.rs", "Some(ahead) => ahead.waiting.is_empty(),", "Some(_) => true,")],
     "start that serves before its head": [("main.rs", "disk::write(&folder, &at, &room)?; // [5]", "let _ = room;")],
 }
 
@@ -78,11 +91,16 @@ def need(holds, *words):
         raise Wrong(" ".join(str(word) for word in words))
 
 
+def home():
+    """An address of this process alone, so that no other takes a port of it between two starts."""
+    return f"127.0.{1 + os.getpid() % 250}.1"
+
+
 class Link:
     """A connection: commands out, replies in, in order."""
 
     def __init__(self, port):
-        self.socket = socket.create_connection(("127.0.0.1", port), timeout=20)
+        self.socket = socket.create_connection((home(), port), timeout=20)
         self.socket.setsockopt(socket.IPPROTO_TCP, socket.TCP_NODELAY, 1)
         self.file = self.socket.makefile("rb")
 
@@ -138,7 +156,16 @@ class Book:
         self.acknowledged, self.refused, self.seen, self.newest = {}, set(), set(), {}
         self.appended = [dict(acked=set(), longest="") for _ in range(LISTS)]
         self.counts = [dict(told=set(), most=0) for _ in range(COUNTERS)]
-        self.held, self.totals = [], dict(acknowledged=0, refused=0)
+        self.held, self.totals = [], dict(acknowledged=0, refused=0, undone=0, snapshots=0, backups=0)
+
+    def frozen(self):
+        """What must be in a backup that is asked for now."""
+        book = Book()
+        with self.lock:
+            book.acknowledged, book.newest, book.refused = dict(self.acknowledged), dict(self.newest), self.refused
+            book.appended = [dict(acked=set(it["acked"]), longest=it["longest"]) for it in self.appended]
+            book.counts = [dict(told=set(), most=it["most"]) for it in self.counts]
+        return book
 
     def token(self, who):
         with self.lock:
@@ -185,14 +212,14 @@ class Book:
 class Client(threading.Thread):
     """A connection at work, until the server is gone."""
 
-    def __init__(self, book, port, who, seed):
+    def __init__(self, book, host, who, seed):
         super().__init__(daemon=True)
-        self.book, self.port, self.who, self.random, self.wrong = book, port, who, random.Random(seed), None
+        self.book, self.host, self.who, self.random, self.wrong = book, host, who, random.Random(seed), None
 
     def run(self):
         try:
-            link = Link(self.port)
-            self.quiet(link) if self.who == 1 else self.work(link)
+            work = {1: self.quiet, 2: self.go_on, 3: self.go_on, 4: self.keep}.get(self.who, self.work)
+            work(Link(self.host.port))
         except OSError:
             pass
         except Wrong as wrong:
@@ -248,6 +275,35 @@ class Client(threading.Thread):
             for _, tell in commands:
                 tell(link.reply())
 
+    def go_on(self, link):
+        """Is answered ahead, and believes it once all stands."""
+        need(link.ask("SPEC") == "OK", "SPEC")
+        while True:
+            commands = [self.command() for _ in range(self.random.randint(1, 20))]
+            link.send(*(words for words, _ in commands), ("WAITALL",))
+            answers = [link.reply() for _ in commands]
+            need([number for number, _ in answers] == list(range(1, len(commands) + 1)), "answers ahead have other numbers")
+            told, undone = link.reply(), []
+            if isinstance(told, RuntimeError):
+                need(str(told).startswith("UNDONE "), "WAITALL was answered", told)
+                undone = [int(it) for it in str(told).split()[1:]]
+                self.book.totals["undone"] += len(undone)
+            for number, ((_, tell), (_, answer)) in enumerate(zip(commands, answers), 1):
+                tell(RuntimeError("IOERR undone") if number in undone else answer)
+
+    def keep(self, link):
+        """Asks for snapshots and for backups, and tries what is in these."""
+        while True:
+            frozen, name = self.book.frozen(), self.book.token("backup").replace(".", "-")
+            if self.random.random() < 0.5:
+                self.book.totals["snapshots"] += not is_refused(link.ask("SAVE"))
+            elif not is_refused(link.ask("BACKUP", name)):
+                with self.host.started_on(self.host.folder / "backups" / name) as copy:
+                    check(frozen, copy, "backup", 0)
+                self.book.totals["backups"] += 1
+            for words, tell in [self.command() for _ in range(20)]:
+                tell(link.ask(*words))
+
     def quiet(self, link):
         """Reads what it wrote before, once that is acknowledged: such a read rests on nothing, and isn't to wait for what others write."""
         key = f"own:{self.who}"
@@ -298,16 +354,16 @@ def check(book, link, mode, slow):
         need(left not in book.refused, "a refused write is there:", left)
     both = book.seen & book.refused
     need(not both, "a reader saw what was refused:", sorted(both)[:3])
-    if slow and len(book.held) > 20:
-        late = sorted(book.held)[len(book.held) * 9 // 10]
-        need(late < slow / 2, "reads that rest on nothing were held:", late)
-    book.held.clear()
+    if slow and len(book.held) > 200:
+        late = sorted(book.held)[len(book.held) // 2]
+        need(late < slow / 2, "half of the reads that rest on nothing were held:", late)
+        book.held.clear()
 
 
-def take_back(journal, dice):
+def take_back(journal, dice, keeps_failed):
     """What a loss of power may do: takes back bytes that no sync covered, and names. Answers how many writes it took back of."""
     text, at, step, run = journal.read_bytes(), 0, 0, 0
-    writes, begun, names = {}, {}, []
+    writes, begun, names, home = {}, {}, [], journal.with_name("folder").stat().st_ino
     while at + RECORD.size <= len(text):
         kind, inode, number, offset, size = RECORD.unpack_from(text, at)
         bulk, at, step = text[at + RECORD.size:at + RECORD.size + size], at + RECORD.size + size, step + 1
@@ -336,13 +392,13 @@ def take_back(journal, dice):
             writes = {key: write for key, write in writes.items() if write["inode"] != inode}
         elif kind == "N":
             names.append(bulk.decode().split("\n"))
-        elif kind == "D":
+        elif kind == "D" and inode == home:
             names.clear()
     paths = {path.stat().st_ino: path for path in journal.with_name("folder").iterdir()}
     count = 0
     for write in reversed(list(writes.values())):
         path, old = paths.get(write["inode"]), write["old"]
-        if write["covered"] or path is None or dice.random() < 0.3:
+        if write["covered"] or path is None or dice.random() < 0.3 or write["lost"] and keeps_failed:
             continue
         count += 1
         with path.open("r+b") as file:
@@ -362,36 +418,65 @@ def take_back(journal, dice):
     return count
 
 
+def free_port():
+    with socket.socket() as probe:
+        probe.bind((home(), 0))
+        return probe.getsockname()[1]
+
+
+def connected(port, process):
+    """A connection once a server listens; nothing where it ends before."""
+    for _ in range(2000):
+        try:
+            return Link(port)
+        except OSError:
+            if process.poll() is not None:
+                return None
+            time.sleep(0.01)
+    raise Wrong("the server doesn't listen")
+
+
 class Host:
     """A server on a folder, under the shim."""
 
-    def __init__(self, options, room, mode):
-        self.options, self.room, self.mode, self.process = options, room, mode, None
+    def __init__(self, options, room, mode, shim):
+        self.options, self.room, self.mode, self.shim, self.process = options, room, mode, shim, None
         self.folder, self.journal, self.full = room / "folder", room / "journal", room / "full"
         self.folder.mkdir()
-        with socket.socket() as probe:
-            probe.bind(("127.0.0.1", 0))
-            self.port = probe.getsockname()[1]
+        self.port = free_port()
+
+    def words(self, folder, port):
+        """How a server is called."""
+        words = [self.options.server, "--folder", folder, "--address", f"{home()}:{port}", "--segment", "256k", "--undecided", "64k"]
+        return [str(word) for word in words + ["--batches", self.options.batches, "--snapshot", self.options.snapshot]]
+
+    @contextlib.contextmanager
+    def started_on(self, folder):
+        """A connection to a server on another folder, whose disk is as it should be; the folder is removed then."""
+        port = free_port()
+        process = subprocess.Popen(self.words(folder, port), stderr=subprocess.DEVNULL)
+        try:
+            link = connected(port, process)
+            need(link is not None, "no server starts on", folder)
+            yield link
+            link.close()
+        finally:
+            process.kill()
+            process.wait()
+        shutil.rmtree(folder)
 
     def start(self, faults):
-        shim = dict(LD_PRELOAD=str(self.room / "shim.so"), SHIM_FOLDER=str(self.folder), SHIM_JOURNAL=str(self.journal),
-                    SHIM_SLOW=str(int(self.options.slow * 1e6)), SHIM_FULL=str(self.full))
+        shim = dict(LD_PRELOAD=str(self.shim), SHIM_FOLDER=str(self.folder), SHIM_SLOW=str(int(self.options.slow * 1e6)),
+                    SHIM_FULL=str(self.full), SHIM_OVER="500")
+        if self.mode != "kill":
+            shim["SHIM_JOURNAL"] = str(self.journal)
         if self.options.lies:
             shim["SHIM_LIES"] = "1"
-        if faults and self.mode in ("fault", "mixed"):
-            shim["SHIM_FAULTS"] = FAULTS
-        words = [self.options.server, "--folder", self.folder, "--address", f"127.0.0.1:{self.port}", "--segment", "256k",
-                 "--undecided", "64k", "--batches", self.options.batches]
+        if faults and self.mode in FAULTS:
+            shim.update(SHIM_FAULTS=FAULTS[self.mode], SHIM_CUT="500" if self.mode == "cut" else "0")
         with (self.room / "log").open("ab") as log:
-            self.process = subprocess.Popen([str(word) for word in words], env=shim, stdout=log, stderr=log)
-        for _ in range(1000):
-            try:
-                return Link(self.port)
-            except OSError:
-                if self.process.poll() is not None:
-                    return None
-                time.sleep(0.01)
-        raise Wrong("the server doesn't listen")
+            self.process = subprocess.Popen(self.words(self.folder, self.port), env=shim, stdout=log, stderr=log)
+        return connected(self.port, self.process)
 
     def end(self, how):
         self.process.send_signal(how)
@@ -403,11 +488,11 @@ def one_crash(options, host, book, dice):
     link = host.start(True)
     if link is None:
         if host.mode != "kill":
-            take_back(host.journal, dice)
+            take_back(host.journal, dice, host.mode == "cut")
         link = host.start(False)
         need(link is not None, "the server doesn't start")
     check(book, link, host.mode, options.slow)
-    clients = [Client(book, host.port, who, dice.random()) for who in range(CONNECTIONS)]
+    clients = [Client(book, host, who, dice.random()) for who in range(CONNECTIONS)]
     for client in clients:
         client.start()
     until = time.monotonic() + options.seconds * (0.5 + dice.random())
@@ -425,18 +510,17 @@ def one_crash(options, host, book, dice):
     link.close()
     if host.mode == "kill" or host.mode == "mixed" and dice.random() < 0.5:
         return 0
-    return take_back(host.journal, dice)
+    return take_back(host.journal, dice, host.mode == "cut")
 
 
-def try_mode(options, mode, shim):
+def try_mode(options, mode, shim, most=None):
     """So many crashes of a mode, and a clean stop; answers a line."""
     dice = random.Random(f"{options.seed} {mode}")
-    room = pathlib.Path(tempfile.mkdtemp(prefix="crashes-"))
-    shutil.copy(shim, room / "shim.so")
-    host, book, taken = Host(options, room, mode), Book(), 0
+    room = pathlib.Path(tempfile.mkdtemp(prefix="crashes-", dir=ROOMS))
+    host, book, taken = Host(options, room, mode, shim), Book(), 0
     crashes = 0
     try:
-        for crashes in range(1, options.crashes + 1):
+        for crashes in range(1, (most or options.crashes) + 1):
             taken += one_crash(options, host, book, dice)
         link = host.start(False)
         check(book, link, mode, options.slow)
@@ -447,11 +531,15 @@ def try_mode(options, mode, shim):
         need(link.ask("GET", "last") == "1", "a clean stop keeps the last write")
         need(host.end(signal.SIGINT) == 0, "a clean stop exits 0")
     except Wrong as wrong:
-        host.process.kill()
-        return f"{mode}: WRONG at crash {crashes}: {wrong} (seed {options.seed}, {room})", False
+        line = f"{mode}: WRONG at crash {crashes}: {wrong} (seed {options.seed}"
+        if options.wrong is None and not options.lies:
+            return f"{line}, {room})", False
+        shutil.rmtree(room, ignore_errors=True)
+        return f"{line})", False
     finally:
         if host.process.poll() is None:
             host.process.kill()
+            host.process.wait()
     shutil.rmtree(room)
     return f"{mode}: {crashes} crashes, {book.totals}, unsynced writes taken back {taken}: nothing wrong", True
 
@@ -467,12 +555,22 @@ def built(folder, edits):
         if text.count(old) != 1:
             sys.exit(f"{name} has this {text.count(old)} times: {old}")
         path.write_text(text.replace(old, new))
-    words = ["cargo", "build", "--release", "--offline", "--quiet", "--target-dir", str(folder / "target")]
-    where = {"HIDEWILLOW_LIB": str(TOP.parent / "build"), **os.environ}
+    words = ["cargo", "build", "--offline", "--quiet", "--target-dir", str(folder / "target")]
+    where = {"HIDEWILLOW_LIB": str(TOP.parent / "build"), "CARGO_PROFILE_DEV_PANIC": "abort", **os.environ}
     did = subprocess.run(words, cwd=source, env=where, capture_output=True, text=True)
     if did.returncode:
         sys.exit(f"a wrong host doesn't compile: {did.stderr}")
-    return folder / "target/release/hidewillow-server"
+    return folder / "target/debug/hidewillow-server"
+
+
+def find(options, name, shim):
+    """Whether a wrong host is found, in words too."""
+    with tempfile.TemporaryDirectory() as room:
+        options.server = built(pathlib.Path(room), WRONG[name])
+        tries = [(mode, crashes) for crashes in (4, options.crashes) for mode in ("cut", "mixed", "fault", "power")]
+        lines = (try_mode(options, mode, shim, crashes) for mode, crashes in tries)
+        found = next((line for line, well in lines if not well), None)
+    return f"{name}: {found or 'NOT FOUND'}", found is not None
 
 
 def marks():
@@ -484,34 +582,32 @@ def marks():
 def main():
     words = argparse.ArgumentParser(description=__doc__, formatter_class=argparse.RawDescriptionHelpFormatter)
     words.add_argument("--server", default=str(TOP / "target/release/hidewillow-server"))
-    words.add_argument("--modes", default="kill,power,fault,full,mixed")
+    words.add_argument("--modes", default="kill,power,fault,cut,full,mixed")
     words.add_argument("--crashes", type=int, default=50)
     words.add_argument("--seconds", type=float, default=0.4)
     words.add_argument("--slow", type=float, default=0.0, help="seconds that each sync takes longer")
     words.add_argument("--seed", type=int, default=1)
     words.add_argument("--batches", type=int, default=4)
+    words.add_argument("--snapshot", default="1m", help="bytes of the log after which a snapshot is made")
     words.add_argument("--lies", action="store_true", help="a disk whose syncs do nothing, which is to be found in power and fault")
-    words.add_argument("--wrong", nargs="?", const="")
+    words.add_argument("--wrong", nargs="*", metavar="NAME", help="those that have one of these names, or all")
     options = words.parse_args()
     if not marks():
         sys.exit("the ten sentences and the marks of their lines don't agree")
-    with tempfile.TemporaryDirectory() as folder:
+    work, names = try_mode, options.modes.split(",")
+    if options.wrong is not None:
+        # Syncs that take a while, so that two are in flight at once.
+        options.slow = options.slow or 0.01
+        work, names = find, [name for name in WRONG if not options.wrong or any(part in name for part in options.wrong)]
+    with tempfile.TemporaryDirectory() as folder, concurrent.futures.ProcessPoolExecutor() as pool:
         shim = pathlib.Path(folder) / "shim.so"
         subprocess.run(["cc", "-O2", "-Wall", "-Wextra", "-shared", "-fPIC", "-o", shim, HERE / "shim.c", "-ldl", "-lpthread"], check=True)
-        if options.wrong is None:
-            lines = [try_mode(options, mode, shim) for mode in options.modes.split(",")]
-            print("\n".join(line for line, _ in lines))
-            sys.exit(not all(well for _, well in lines))
-        missed = 0
-        for name, edits in WRONG.items():
-            if options.wrong in name:
-                with tempfile.TemporaryDirectory() as room:
-                    options.server = built(pathlib.Path(room), edits)
-                    tries = (try_mode(options, mode, shim) for mode in ["fault", "power", "mixed"])
-                    found = next((line for line, well in tries if not well), None)
-                missed += found is None
-                print(f"{name}: {found or 'NOT FOUND'}", flush=True)
-        sys.exit(missed > 0)
+        passed = 0
+        for line, well in pool.map(work, *zip(*((options, name, shim) for name in names))):
+            passed += well
+            print(line, flush=True)
+    print(f"{passed} passed, {len(names) - passed} failed")
+    sys.exit(passed < len(names))
 
 
 if __name__ == "__main__":

@@ -3,8 +3,10 @@
  *
  *   SHIM_FOLDER   the folder that it looks at      SHIM_JOURNAL  where it keeps what it saw
  *   SHIM_FAULTS   parts of a thousand: writes that fail, writes that are short, syncs that fail (`30,30,20`)
- *   SHIM_FULL     while a file of this name is there, the disk is full
+ *   SHIM_FULL     while a file of this name is there, the disk is full: no file grows, and of what is written over zeros
+ *   SHIM_OVER     so many parts of a thousand fail, as where the file system writes nothing in place
  *   SHIM_SLOW     microseconds that each sync takes longer
+ *   SHIM_CUT      parts of a thousand of the heads that cut what failed, at which it waits a little, and then the power is lost
  *   SHIM_LIES     syncs answer well and do nothing, which crashes.py is to find
  *
  * A sync that fails is told once to each open file that wrote before, and what it was to bring to the disk is not on it, nor will
@@ -18,6 +20,7 @@
 #include <errno.h>
 #include <fcntl.h>
 #include <pthread.h>
+#include <signal.h>
 #include <stdint.h>
 #include <stdio.h>
 #include <stdlib.h>
@@ -28,15 +31,16 @@
 #include <unistd.h>
 
 #define FDS 4096
+#define HEAD 24
 #define INODES 1024
 
 struct record { uint64_t kind, inode, id, offset, len; };
 static struct { int known, ours, is_folder, inode, seen; uint64_t number; } fds[FDS];
 static struct { uint64_t number; int failures; } inodes[INODES];
 static pthread_mutex_t lock = PTHREAD_MUTEX_INITIALIZER;
-static int journal = -1, faults[3];
+static int journal = -1, faults[3], over;
 static useconds_t slow;
-static int lies;
+static int lies, cuts, has_failed;
 static uint64_t next_id = 1, state;
 static const char *folder, *full;
 static ssize_t (*real_pwrite)(int, const void *, size_t, off_t), (*real_write)(int, const void *, size_t);
@@ -53,8 +57,10 @@ __attribute__((constructor)) static void begin(void) {
     real_unlink = dlsym(RTLD_NEXT, "unlink");
     folder = getenv("SHIM_FOLDER");
     full = getenv("SHIM_FULL");
+    if ((text = getenv("SHIM_OVER"))) over = atoi(text);
     if ((text = getenv("SHIM_FAULTS"))) sscanf(text, "%d,%d,%d", faults, faults + 1, faults + 2);
     lies = getenv("SHIM_LIES") != NULL;
+    if ((text = getenv("SHIM_CUT"))) cuts = atoi(text);
     if ((text = getenv("SHIM_SLOW"))) slow = atoi(text);
     if ((text = getenv("SHIM_JOURNAL"))) journal = open(text, O_WRONLY | O_CREAT | O_APPEND | O_CLOEXEC, 0600);
     if (journal >= 0) {
@@ -91,7 +97,7 @@ static int is_ours(int fd) {
     fds[fd].ours = 0;
     if (len < 0 || fstat(fd, &stat) < 0) return 0;
     path[len] = 0;
-    if (strncmp(path, folder, strlen(folder))) return 0;
+    if (strncmp(path, folder, strlen(folder)) || (path[strlen(folder)] && path[strlen(folder)] != '/')) return 0;
     fds[fd].is_folder = S_ISDIR(stat.st_mode);
     fds[fd].number = stat.st_ino;
     for (i = 0; i < INODES - 1 && inodes[i].number && inodes[i].number != stat.st_ino; i++) {}
@@ -101,38 +107,50 @@ static int is_ours(int fd) {
     return fds[fd].ours = fds[fd].is_folder || S_ISREG(stat.st_mode);
 }
 
+/* Keeps what is in the place of bytes that are to be written, and tells their number; the lock is held. */
+static uint64_t note_before(int fd, size_t len, off_t offset) {
+    char name[64], *before = calloc(1, len + 1);
+    int reader;
+    if (journal < 0) return 0;
+    snprintf(name, sizeof name, "/proc/self/fd/%d", fd);
+    reader = open(name, O_RDONLY | O_CLOEXEC);
+    if (reader < 0 || !before || pread(reader, before, len, offset) < 0) abort();
+    real_close(reader);
+    note('W', fds[fd].number, next_id, (uint64_t)offset, before, len);
+    free(before);
+    return next_id++;
+}
+
+/* Once they are. */
+static void note_after(int fd, uint64_t id) {
+    if (!id) return;
+    pthread_mutex_lock(&lock);
+    note('C', fds[fd].number, id, 0, "", 0);
+    pthread_mutex_unlock(&lock);
+}
+
 ssize_t pwrite64(int fd, const void *bytes, size_t len, off_t offset) {
     uint64_t id = 0;
     ssize_t did;
     pthread_mutex_lock(&lock);
     if (is_ours(fd)) {
-        char name[64], *before;
-        int reader;
-        if ((is_full() && happens(500)) || happens(faults[0])) {
+        if (has_failed && offset == 0 && len == HEAD && happens(cuts)) {
+            pthread_mutex_unlock(&lock);
+            usleep(50000);
+            kill(getpid(), SIGKILL);
+        }
+        if ((is_full() && happens(over)) || happens(faults[0])) {
             int is_no_room = is_full();
             pthread_mutex_unlock(&lock);
             errno = is_no_room ? ENOSPC : EIO;
             return -1;
         }
         if (len > 1 && happens(faults[1])) len = 1 + (size_t)(state % (len - 1));
-        if (journal >= 0) {
-            snprintf(name, sizeof name, "/proc/self/fd/%d", fd);
-            reader = open(name, O_RDONLY | O_CLOEXEC);
-            before = calloc(1, len);
-            if (reader < 0 || !before || pread(reader, before, len, offset) < 0) abort();
-            real_close(reader);
-            id = next_id++;
-            note('W', fds[fd].number, id, (uint64_t)offset, before, len);
-            free(before);
-        }
+        id = note_before(fd, len, offset);
     }
     pthread_mutex_unlock(&lock);
     did = real_pwrite(fd, bytes, len, offset);
-    if (id) {
-        pthread_mutex_lock(&lock);
-        note('C', fds[fd].number, id, 0, "", 0);
-        pthread_mutex_unlock(&lock);
-    }
+    note_after(fd, id);
     return did;
 }
 
@@ -140,15 +158,19 @@ ssize_t pwrite(int fd, const void *bytes, size_t len, off_t offset) { return pwr
 
 ssize_t write(int fd, const void *bytes, size_t len) {
     int fails = 0, is_no_room = 0;
+    uint64_t id = 0;
+    ssize_t did = -1;
     pthread_mutex_lock(&lock);
     if (is_ours(fd)) {
         is_no_room = is_full();
         fails = is_no_room || happens(faults[0] / 10);
+        if (!fails) id = note_before(fd, len, lseek(fd, 0, SEEK_CUR));
     }
     pthread_mutex_unlock(&lock);
-    if (!fails) return real_write(fd, bytes, len);
-    errno = is_no_room ? ENOSPC : EIO;
-    return -1;
+    if (!fails) did = real_write(fd, bytes, len);
+    note_after(fd, id);
+    if (fails) errno = is_no_room ? ENOSPC : EIO;
+    return did;
 }
 
 static int sync_by(int fd, int (*real)(int)) {
@@ -161,6 +183,7 @@ static int sync_by(int fd, int (*real)(int)) {
         is_folder = fds[fd].is_folder;
         if (!is_folder && happens(faults[2])) {
             inodes[fds[fd].inode].failures++;
+            has_failed = 1;
             note('F', fds[fd].number, 0, 0, "", 0);
         }
         if (fds[fd].seen < inodes[fds[fd].inode].failures) {

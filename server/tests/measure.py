@@ -13,7 +13,6 @@ import argparse
 import os
 import pathlib
 import shutil
-import signal
 import socket
 import statistics
 import subprocess
@@ -54,8 +53,8 @@ class Bench:
                 raise SystemExit(f"measure: {name}: {ran.stderr.strip()}")
             return [float(it) for it in ran.stdout.split()], processor_of(process.pid) - begun
         finally:
-            process.send_signal(signal.SIGTERM)
-            process.wait(60)
+            process.kill()
+            process.wait()
             shutil.rmtree(folder)
 
     def mix(self, reads, connections, pipeline, added):

@@ -13,8 +13,8 @@ use Rattle.sk_plain.specs.Act.{plain}
 use Rattle.sk_plain.specs.Replay.{image, is_made}
 use Rattle.sk_trace.specs.declared.event.Event.TheVariants as events
 use Rattle.sk_kernel.specs.Laws.{HasSoundTrace}
-use Rattle.sk_counts.specs.declared.standing.Standing.{Standing}
-use Rattle.sk_counts.specs.Standing.{seen, Fits}
+use Rattle.sk_plain.specs.declared.standing.Standing.{Standing}
+use Rattle.sk_plain.specs.Standing.{seen, Fits}
 use Rattle.sk_kernel.specs.Kernel.{KernelView, record_at}
 use Rattle.sk_counts.specs.Counts.{most_up_to}
 

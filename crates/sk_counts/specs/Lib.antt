@@ -1,4 +1,3 @@
 pub mod Counts
-pub mod Standing
 pub mod Laws
 pub mod Text

@@ -3,7 +3,7 @@ ghost use Rattle.std.specs.Prelude.{IfOk};
 ghost use Rattle.sk_counts.specs.Counts.{AreCounts};
 
 use crate::kinds::{commits_in, failures_in, guesses_in, steps_in, struck_in};
-use crate::standing::read_trace;
+use crate::reading::read_trace;
 use sk_kernel::Kernel;
 use std::alloc::{AllocError, Global};
 

@@ -4,8 +4,7 @@
 pub mod counts;
 pub mod kinds;
 pub mod laws;
-mod left;
-pub mod standing;
+pub mod reading;
 pub mod text;
 
 pub use counts::Counts;

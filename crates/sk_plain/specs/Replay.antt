@@ -1,28 +1,19 @@
 -- What is left of a whole trace, and the first fault of one that is not sound.
 use Rattle.std.specs.Prelude.{◌≡◌, ℕ, ◌+◌, ◌≤◌, nat_lt, Bool, true, false, List, [], ◌∷◌, ◌++◌, length, Option, Some, None, Result, Ok, Err, IsOk, IsErr}
-use Rattle.std.specs.List.{list_any, filter}
-use Rattle.sk_record.specs.Effects.{is_marked}
 use Rattle.sk_record.specs.Run.{run, outcome, after}
-use Rattle.sk_record.specs.Notes.{has, without}
-use Rattle.sk_record.specs.Strike.{strike}
-use Rattle.sk_record.specs.Trace.{Event as Happens, Taken, Commit, Fail, IsDrawn, IsAllowed, IsSound, marks, record_of, undecided_of}
+use Rattle.sk_record.specs.Notes.{has}
+use Rattle.sk_record.specs.Trace.{Event as Happens, Taken, Commit, Fail, IsDrawn, IsAllowed, IsSound, all_recorded, marks, no_record, record_of}
 use Rattle.sk_store.specs.State.{State}
 use Rattle.sk_trace.specs.Entry.{EntryView}
 use Rattle.sk_plain.specs.Act.{Scripts, plain}
-use Rattle.sk_trace.specs.declared.event.Event.{Event}
 use Rattle.sk_trace.specs.declared.event.Event.TheVariants as events
+pub use Rattle.sk_plain.specs.Standing.{image, is_made}
+use Rattle.sk_plain.specs.Standing.{seen, Stands, GoesOn}
 use Rattle.sk_plain.specs.declared.replay.Replay.{Replay}
 use Rattle.sk_plain.specs.declared.replay.EventFault.{EventFault}
 use Rattle.sk_plain.specs.declared.replay.EventFault.TheVariants as faults
 use Rattle.sk_plain.specs.declared.replay.TraceFault.{TraceFault}
 use Rattle.sk_plain.specs.declared.replay.TraceFault.TheVariants.{Refused, UnknownGuess, NoStart, Memory}
-
--- an event as the laws of traces have it: steps and guesses take an entry
-abbrev pub image : Event → Happens EntryView
-image (events.Step pid input) = Taken (record { pid = pid; input = input; guess = None })
-image (events.Guess id pid input) = Taken (record { pid = pid; input = input; guess = Some id })
-image (events.Commit id) = Commit id
-image (events.Fail id) = Fail id
 
 module _ (scripts : Scripts) (start : State) where
   -- the plain kernel refuses the event's step after these events
@@ -77,31 +68,28 @@ abbrev pub newest : Option ℕ → Option ℕ → Option ℕ
 newest before (Some h) = Some h
 newest before None = before
 
--- whether one of these entries made the guess
-abbrev pub is_made : List EntryView → ℕ → Bool
-is_made entries g = list_any (λ n. is_marked n.guess g) entries
-
 -- the greatest number of a guess that was made, where one was
 abbrev pub IsGreatest : Scripts → List (Happens EntryView) → Option ℕ → Type 0
 IsGreatest scripts es None = (h : ℕ) → ¬ (IsDrawn (plain scripts) es h)
 IsGreatest scripts es (Some g) = IsDrawn (plain scripts) es g × ((h : ℕ) → IsDrawn (plain scripts) es h → h ≤ g)
 
--- where the replay of a sound trace stands
-pub record IsReplay (scripts : Scripts) (es : List (Happens EntryView)) (r : Replay) : Type 0 where
-  pub sound : IsSound (plain scripts) r.start es
-  pub entries : r.entries.items ≡ record_of (plain scripts) r.start es
-  pub now : r.now ≡ run (plain scripts) r.start r.entries.items
-  pub undecided : r.undecided.items ≡ undecided_of (plain scripts) r.start es
+-- where the replay of a sound trace stands, from this start
+pub record IsReplay (scripts : Scripts) (start : State) (es : List (Happens EntryView)) (r : Replay) : Type 0 where
+  pub sound : IsSound (plain scripts) start es
+  pub record_is : seen r.standing ≡ all_recorded (plain scripts) start no_record es
+  pub stands : Stands scripts start r.standing
+  pub now : r.now ≡ run (plain scripts) start (seen r.standing).entries
   pub greatest : IsGreatest scripts es r.greatest
 
 -- an entry was taken
 pub record HasTaken (scripts : Scripts) (old : Replay) (n : EntryView) (new : Replay) : Type 0 where
   pub accepted : IsOk (outcome (plain scripts) old.now n)
   pub above : is_above old.greatest n.guess ≡ true
-  pub start : new.start ≡ old.start
   pub now : new.now ≡ after (plain scripts) (outcome (plain scripts) old.now n) old.now
-  pub entries : new.entries.items ≡ old.entries.items ++ n ∷ []
-  pub undecided : new.undecided.items ≡ old.undecided.items ++ marks n.guess
+  pub settled : new.standing.settled.items ≡ old.standing.settled.items
+  pub base : new.standing.after ≡ old.standing.after
+  pub behind : new.standing.behind.items ≡ old.standing.behind.items ++ n ∷ []
+  pub undecided : new.standing.undecided.items ≡ old.standing.undecided.items ++ marks n.guess
   pub greatest : new.greatest ≡ newest old.greatest n.guess
 
 -- or why not; memory is wanted only where nothing else is wrong
@@ -111,36 +99,32 @@ StepFault scripts old n faults.Unknown = IsOk (outcome (plain scripts) old.now n
 StepFault scripts old n faults.Memory = IsOk (outcome (plain scripts) old.now n) × (is_above old.greatest n.guess ≡ true)
 
 -- a guess was decided, which was undecided
-pub record HasCommitted (old : Replay) (g : ℕ) (new : Replay) : Type 0 where
-  pub known : has g old.undecided.items ≡ true
-  pub start : new.start ≡ old.start
+pub record HasCommitted (scripts : Scripts) (old : Replay) (g : ℕ) (new : Replay) : Type 0 where
+  pub known : has g old.standing.undecided.items ≡ true
+  pub goes : GoesOn scripts (events.Commit g) old.standing new.standing
   pub now : new.now ≡ old.now
-  pub entries : new.entries.items ≡ old.entries.items
-  pub undecided : new.undecided.items ≡ without g old.undecided.items
   pub greatest : new.greatest ≡ old.greatest
 
 pub record HasFailed (scripts : Scripts) (old : Replay) (g : ℕ) (new : Replay) : Type 0 where
-  pub known : has g old.undecided.items ≡ true
-  pub start : new.start ≡ old.start
-  pub entries : new.entries.items ≡ strike (plain scripts) old.start old.entries.items g
-  pub now : new.now ≡ run (plain scripts) old.start new.entries.items
-  pub undecided : new.undecided.items ≡ filter (is_made new.entries.items) old.undecided.items
+  pub known : has g old.standing.undecided.items ≡ true
+  pub goes : GoesOn scripts (events.Fail g) old.standing new.standing
+  pub now : new.now ≡ run (plain scripts) new.standing.after new.standing.behind.items
   pub greatest : new.greatest ≡ old.greatest
 
 -- or why not
 abbrev pub DecisionFault : Replay → ℕ → EventFault → Type 0
 DecisionFault old g faults.Refused = ⊥
-DecisionFault old g faults.Unknown = has g old.undecided.items ≡ false
-DecisionFault old g faults.Memory = has g old.undecided.items ≡ true
+DecisionFault old g faults.Unknown = has g old.standing.undecided.items ≡ false
+DecisionFault old g faults.Memory = has g old.standing.undecided.items ≡ true
 
 -- the replay goes on with an event, or tells its fault
-abbrev pub Goes : Scripts → List (Happens EntryView) → Happens EntryView → Replay → Replay → Result (Unit {0}) EventFault → Type 0
-Goes scripts es e old new (Ok u) = IsReplay scripts (es ++ e ∷ []) new × (new.start ≡ old.start)
-Goes scripts es e old new (Err faults.Refused) = IsRefused scripts old.start es e
-Goes scripts es e old new (Err faults.Unknown) = IsUnknown scripts old.start es e
-Goes scripts es e old new (Err faults.Memory) = IsTaken scripts old.start es e
+abbrev pub Goes : Scripts → State → List (Happens EntryView) → Happens EntryView → Replay → Result (Unit {0}) EventFault → Type 0
+Goes scripts start es e new (Ok u) = IsReplay scripts start (es ++ e ∷ []) new
+Goes scripts start es e new (Err faults.Refused) = IsRefused scripts start es e
+Goes scripts start es e new (Err faults.Unknown) = IsUnknown scripts start es e
+Goes scripts start es e new (Err faults.Memory) = IsTaken scripts start es e
 
 -- after all these events, or the first fault among them
-abbrev pub Replays : Scripts → List (Happens EntryView) → State → Replay → Result (Unit {0}) TraceFault → Type 0
-Replays scripts es start new (Ok u) = IsReplay scripts es new × (new.start ≡ start)
-Replays scripts es start new (Err fault) = StopsIn scripts start es fault
+abbrev pub Replays : Scripts → State → List (Happens EntryView) → Replay → Result (Unit {0}) TraceFault → Type 0
+Replays scripts start es new (Ok u) = IsReplay scripts start es new
+Replays scripts start es new (Err fault) = StopsIn scripts start es fault

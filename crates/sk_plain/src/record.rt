@@ -5,6 +5,7 @@ ghost use Rattle.std.specs.FinMap as map;
 ghost use Rattle.sk_record.specs.Effects.{is_in, is_marked};
 ghost use Rattle.sk_record.specs.Run.{IsLegal, outcome, run, put_all};
 ghost use Rattle.sk_record.specs.Strike.{strike};
+ghost use Rattle.sk_ids.specs.declared.entity.Entity.{Entity};
 ghost use Rattle.sk_ids.specs.Entity.{entity_cmp};
 ghost use Rattle.sk_trace.specs.Entry.{EntryView};
 ghost use Rattle.sk_plain.specs.Act.{plain};
@@ -36,16 +37,28 @@ fn touches(dirty: &[Entity], entities: &[Entity]) -> bool
     entities.iter().any(|entity| is_dirty(dirty, *entity))
 }
 
-/// Adds entities to what is dirty.
+/// Adds an entity to what is dirty, where it is not there.
+fn mark_one(dirty: &mut Vec<Entity>, entity: &Entity) -> Result<(), AllocError>
+    ensures { OnOk result ((e : Entity) → is_in entity_cmp dirty.new.items e
+        ≡ is_in entity_cmp (entity.now ∷ dirty.old.items) e) }
+{
+    if is_dirty(dirty, *entity) {
+        return Ok(());
+    }
+    dirty.push(*entity)?;
+    Ok(())
+}
+
+/// Adds entities to what is dirty, each of which may be there.
 fn mark(dirty: &mut Vec<Entity>, entities: &[Entity]) -> Result<(), AllocError>
-    ensures { OnOk result (dirty.new.items ≡ entities.now ++ dirty.old.items) }
+    ensures { OnOk result ((e : Entity) → is_in entity_cmp dirty.new.items e
+        ≡ is_in entity_cmp (entities.now ++ dirty.old.items) e) }
 {
     let Some((entity, more)) = entities.split_first() else {
         return Ok(());
     };
     mark(dirty, more)?;
-    dirty.insert(0, *entity)?;
-    Ok(())
+    mark_one(dirty, entity)
 }
 
 /// Whether an entry made this guess.
@@ -70,7 +83,7 @@ fn depends(dirty: &[Entity], guess: GuessId, entry: &Entry, plan: &Plan) -> bool
     touches(dirty, read.as_slice()) || touches(dirty, written.as_slice())
 }
 
-/// Takes a planned step, and keeps its entry or adds what it writes to what is dirty.
+/// Takes a planned step, and keeps its entry or adds what it writes to what is dirty, in any order.
 fn take(
     store: &mut Store,
     scripts: &Scripts,
@@ -86,10 +99,10 @@ fn take(
         (writes_of (map.get store.old) entry.now.pid
         (seen_with (map.get store.old) scripts.now entry.now.pid entry.now.input plan.now))
         store.old) }
-    ensures dirty { OnOk result
-        (dirty.new.items
-        ≡ (if depends guess dirty.old.items entry.now plan.now then written_in entry.now.pid
-        plan.now ++ dirty.old.items else dirty.old.items)) }
+    ensures dirty { OnOk result ((e : Entity) → is_in entity_cmp dirty.new.items e
+        ≡ is_in entity_cmp
+        (if depends guess dirty.old.items entry.now plan.now then written_in entry.now.pid
+        plan.now ++ dirty.old.items else dirty.old.items) e) }
     ensures memory { IfErr result (λ why. why ≡ Memory) }
     ensures kept { OnOk result
         (kept.new.items

@@ -1,16 +1,15 @@
 //! A whole trace, replayed by the plain kernel.
-ghost use Rattle.std.specs.Prelude.{◌≡◌, ◌∷◌, [], List, map, take, length, OnOk, IfOk, IfErr};
-ghost use Rattle.sk_record.specs.Notes.{has};
-ghost use Rattle.sk_record.specs.Run.{run};
-ghost use Rattle.sk_record.specs.Strike.{strike};
+ghost use Rattle.std.specs.Prelude.{◌≡◌, [], List, map, OnOk, IfOk, IfErr};
 ghost use Rattle.sk_record.specs.Trace.{Event as Happens, IsSound, record_of};
 ghost use Rattle.sk_store.specs.Start.{start_of};
 ghost use Rattle.sk_trace.specs.Entry.{EntryView};
-ghost use Rattle.sk_plain.specs.Act.{plain};
-ghost use Rattle.sk_plain.specs.Replay.{image, is_above, is_made, IsReplay, HasTaken, StepFault, HasCommitted, HasFailed, DecisionFault, Goes, FaultIn, Replays};
+ghost use Rattle.sk_store.specs.State.{State};
+ghost use Rattle.sk_plain.specs.Act.{Scripts, plain};
+ghost use Rattle.sk_plain.specs.Standing.{image};
+ghost use Rattle.sk_plain.specs.Replay.{is_above, IsReplay, HasTaken, StepFault, HasCommitted, HasFailed, DecisionFault, Goes, FaultIn, Replays};
 
-use crate::record::{is_guess, strike_guess};
-use crate::{Entry, Event, InputRef, Plain, Refusal, Trace, apply_plan, plan_step};
+use crate::standing::{add, commit as commit_in, fail as fail_in, is_among};
+use crate::{Entry, Event, InputRef, Plain, Standing, Trace, apply_plan, plan_step};
 use sk_ids::GuessId;
 use sk_script::{Boot, Scripts};
 use sk_store::Store;
@@ -73,14 +72,11 @@ impl<T: Drop> From<AllocFailed<T>> for EventFault {
     }
 }
 
-/// The start, the record so far with what entities have after it, the guesses that are undecided, and the
-/// greatest number of a guess.
+/// The record so far with its undecided guesses, what entities have after it, and the greatest number of a guess.
 #[derive(Drop)]
 struct Replay {
-    start: Store,
+    standing: Standing,
     now: Store,
-    entries: Vec<Entry>,
-    undecided: Vec<GuessId>,
     greatest: Option<GuessId>,
 }
 
@@ -107,83 +103,24 @@ fn take_entry(replay: &mut Replay, scripts: &Scripts, entry: &Entry) -> Result<(
         return Err(EventFault::Unknown);
     }
     apply_plan(&mut replay.now, scripts, entry.pid, input, &plan)?;
-    replay.entries.push(*entry)?;
+    add(&mut replay.standing, *entry)?;
     if let Some(guess) = entry.guess {
-        replay.undecided.push(guess)?;
         replay.greatest = Some(guess);
     }
     Ok(())
 }
 
-/// Whether a guess is undecided.
-fn is_undecided(undecided: &[GuessId], guess: GuessId) -> bool
-    ensures { result ≡ has guess undecided.now }
-{
-    undecided.iter().any(|id| *id == guess)
-}
-
-/// Whether one of these entries made the guess.
-fn is_made(entries: &[Entry], guess: GuessId) -> bool
-    ensures { result ≡ is_made entries.now guess }
-{
-    entries.iter().any(|entry| is_guess(entry, guess))
-}
-
 /// Commits a guess.
 fn commit(replay: &mut Replay, guess: GuessId) -> Result<(), EventFault>
-    ensures ok { OnOk result (HasCommitted replay.old guess replay.new) }
+    ensures ok { (scripts : Scripts)
+        → OnOk result (HasCommitted scripts replay.old guess replay.new) }
     ensures err { IfErr result (DecisionFault replay.old guess) }
 {
-    if !is_undecided(&replay.undecided, guess) {
+    if !is_among(&replay.standing.undecided, guess) {
         return Err(EventFault::Unknown);
     }
-    replay.undecided.retain(|id| *id != guess);
+    commit_in(&mut replay.standing, guess);
     Ok(())
-}
-
-/// Takes the step of an entry that was taken before.
-fn take_again(store: &mut Store, scripts: &Scripts, entry: &Entry) -> Result<(), Refusal>
-    ensures { OnOk result
-        ((rest : List EntryView)
-        → run (plain scripts.now) store.new rest
-        ≡ run (plain scripts.now) store.old (entry.now ∷ rest)) }
-{
-    let input = InputRef::of(&entry.input);
-    let plan = match plan_step(store, scripts, entry.pid, input) {
-        Ok(plan) => plan,
-        Err(why) => return Err(why),
-    };
-    apply_plan(store, scripts, entry.pid, input, &plan)?;
-    Ok(())
-}
-
-/// Takes the steps of a record.
-fn run_record(store: &mut Store, scripts: &Scripts, entries: &[Entry]) -> Result<(), Refusal>
-    ensures { OnOk result (store.new ≡ run (plain scripts.now) store.old entries.now) }
-{
-    for entry in entries {
-        take_again(store, scripts, entry)?;
-    }
-    Ok(())
-}
-
-/// The record without what depends on a guess, and what entities have after it.
-fn struck(
-    alloc: Global,
-    start: &Store,
-    scripts: &Scripts,
-    entries: &[Entry],
-    guess: GuessId,
-) -> Result<(Vec<Entry>, Store), Refusal>
-    ensures kept { IfOk result
-        (λ r. r.0.items ≡ strike (plain scripts.now) start.now entries.now guess) }
-    ensures now { IfOk result (λ r. r.1 ≡ run (plain scripts.now) start.now r.0.items) }
-{
-    let mut whole = start.copy()?;
-    let kept = strike_guess(alloc, &mut whole, scripts, entries, guess)?;
-    let mut now = start.copy()?;
-    run_record(&mut now, scripts, &kept)?;
-    Ok((kept, now))
 }
 
 /// Fails a guess: the record loses what depends on it.
@@ -196,15 +133,11 @@ fn fail(
     ensures ok { OnOk result (HasFailed scripts.now replay.old guess replay.new) }
     ensures err { IfErr result (DecisionFault replay.old guess) }
 {
-    if !is_undecided(&replay.undecided, guess) {
+    if !is_among(&replay.standing.undecided, guess) {
         return Err(EventFault::Unknown);
     }
-    let Ok((kept, now)) = struck(alloc, &replay.start, scripts, &replay.entries, guess) else {
-        return Err(EventFault::Memory);
-    };
-    replay.undecided.retain(|id| is_made(&kept, *id));
-    replay.entries = kept;
-    replay.now = now;
+    fail_in(alloc, scripts, &mut replay.standing, guess)?;
+    replay.now = replay.standing.now(scripts)?;
     Ok(())
 }
 
@@ -215,8 +148,9 @@ fn take_event(
     scripts: &Scripts,
     event: &Event,
 ) -> Result<(), EventFault>
-    ensures { (es : List (Happens EntryView)) → IsReplay scripts.now es replay.old
-        → Goes scripts.now es (image event.now) replay.old replay.new result }
+    ensures { (start : State) (es : List (Happens EntryView))
+        → IsReplay scripts.now start es replay.old
+        → Goes scripts.now start es (image event.now) replay.new result }
 {
     match event {
         Event::Step { pid, input } => {
@@ -239,8 +173,8 @@ fn take_events(
     scripts: &Scripts,
     events: &[Event],
 ) -> Result<(), TraceFault>
-    requires { IsReplay scripts.now [] replay.old }
-    ensures { Replays scripts.now (map image events.now) replay.old.start replay.new result }
+    ensures { (start : State) → IsReplay scripts.now start [] replay.old
+        → Replays scripts.now start (map image events.now) replay.new result }
 {
     let mut at = 0;
     for event in events {
@@ -272,14 +206,15 @@ fn strike_at(
         return Err(TraceFault::NoStart);
     };
     let mut replay = Replay {
-        start,
+        standing: Standing::new(alloc, start),
         now,
-        entries: Vec::new(alloc),
-        undecided: Vec::new(alloc),
         greatest: None,
     };
     take_events(alloc, &mut replay, scripts, trace.events())?;
-    Ok(replay.entries)
+    match replay.standing.into_entries() {
+        Ok(entries) => Ok(entries),
+        Err(_) => Err(TraceFault::Memory),
+    }
 }
 
 /// The entries that a trace leaves: its steps and guesses, without those that depend on a guess that

@@ -4,8 +4,8 @@ use Rattle.sk_record.specs.Trace.{all_recorded, no_record}
 use Rattle.sk_plain.specs.Act.{plain}
 use Rattle.sk_plain.specs.Replay.{image}
 use Rattle.sk_counts.specs.Counts.{most_up_to}
-use Rattle.sk_counts.specs.Standing.{seen, Stands}
-use Rattle.sk_counts.proofs.standing.read_trace.Given as goal
+use Rattle.sk_plain.specs.Standing.{seen, Stands}
+use Rattle.sk_counts.proofs.reading.read_trace.Given as goal
 
 abbrev pub invariant-loop-event : goal.invariant-loop-event
 invariant-loop-event l = record {

@@ -4,8 +4,8 @@ use Rattle.sk_record.specs.Notes.{has}
 use Rattle.sk_record.specs.Trace.{Record, Fail, recorded}
 use Rattle.sk_trace.specs.Entry.{EntryView}
 use Rattle.sk_plain.specs.Act.{plain}
-use Rattle.sk_counts.proofs.Settled.{on_one}
-use Rattle.sk_counts.proofs.standing.fail.Goals as goal
+use Rattle.sk_plain.proofs.Settled.{on_one}
+use Rattle.sk_plain.proofs.standing.fail.Goals as goal
 
 pub returns : goal.returns
 returns c =

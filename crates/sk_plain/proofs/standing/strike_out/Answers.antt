@@ -4,10 +4,10 @@ use Rattle.std.specs.List.{filter}
 use Rattle.std.proofs.lemmas.Fn.{filter_same}
 use Rattle.sk_record.specs.Strike.{strike}
 use Rattle.sk_plain.specs.Act.{plain}
-use Rattle.sk_plain.specs.Replay.{is_made}
-use Rattle.sk_counts.specs.declared.standing.Standing.{Standing}
-use Rattle.sk_counts.proofs.Settled.{fails}
-use Rattle.sk_counts.proofs.standing.strike_out.Goals as goal
+use Rattle.sk_plain.specs.Standing.{is_made}
+use Rattle.sk_plain.specs.declared.standing.Standing.{Standing}
+use Rattle.sk_plain.proofs.Settled.{fails}
+use Rattle.sk_plain.proofs.standing.strike_out.Goals as goal
 
 pub returns : goal.returns
 returns c =

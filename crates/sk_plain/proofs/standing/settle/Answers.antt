@@ -4,10 +4,10 @@ use Rattle.std.specs.List.{prefix_len}
 use Rattle.sk_record.specs.Run.{run}
 use Rattle.sk_trace.specs.Entry.{EntryView}
 use Rattle.sk_plain.specs.Act.{plain}
-use Rattle.sk_counts.specs.declared.standing.Standing.{Standing}
-use Rattle.sk_counts.specs.Standing.{is_settled}
-use Rattle.sk_counts.proofs.Settled.{settles, ran, on_two}
-use Rattle.sk_counts.proofs.standing.settle.Goals as goal
+use Rattle.sk_plain.specs.declared.standing.Standing.{Standing}
+use Rattle.sk_plain.specs.Standing.{is_settled}
+use Rattle.sk_plain.proofs.Settled.{settles, ran, on_two}
+use Rattle.sk_plain.proofs.standing.settle.Goals as goal
 
 pub returns : goal.returns
 returns c =

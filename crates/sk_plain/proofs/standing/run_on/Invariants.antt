@@ -2,7 +2,7 @@
 use Rattle.std.proofs.Common.{◌≡◌, drop}
 use Rattle.sk_record.specs.Run.{run}
 use Rattle.sk_plain.specs.Act.{plain}
-use Rattle.sk_plain.proofs.replay.run_record.Given as goal
+use Rattle.sk_plain.proofs.standing.run_on.Given as goal
 
 abbrev pub invariant-loop-entry : goal.invariant-loop-entry
 invariant-loop-entry l = record {

@@ -2,8 +2,8 @@
 use Rattle.std.proofs.Common.{◌≡◌, true, rules}
 use Rattle.sk_record.specs.Effects.{is_in}
 use Rattle.sk_ids.specs.Entity.{entity_cmp}
-use Rattle.sk_counts.proofs.Alike.{there_is}
-use Rattle.sk_counts.proofs.left.soil_one.Goals as goal
+use Rattle.sk_plain.proofs.Alike.{there_is}
+use Rattle.sk_plain.proofs.record.mark_one.Goals as goal
 
 pub returns-then-is_dirty : goal.returns-then-is_dirty
 returns-then-is_dirty c =

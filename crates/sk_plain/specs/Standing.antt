@@ -1,15 +1,27 @@
--- Where the reading of a trace stands.
+-- Where the reading of a trace stands: the record so far, of which no failure reaches what is settled.
 use Rattle.std.specs.Prelude.{◌≡◌, ℕ, Bool, true, false, not, List, ◌++◌, Option, Some, None}
 use Rattle.sk_record.specs.Run.{run}
 use Rattle.sk_record.specs.Notes.{has}
-use Rattle.sk_record.specs.Trace.{Record, recorded}
+use Rattle.std.specs.List.{list_any}
+use Rattle.sk_record.specs.Effects.{is_marked}
+use Rattle.sk_record.specs.Trace.{Event as Happens, Taken, Commit, Fail, Record, recorded}
 use Rattle.sk_store.specs.State.{State}
 use Rattle.sk_trace.specs.Entry.{EntryView}
 use Rattle.sk_trace.specs.declared.event.Event.{Event}
 use Rattle.sk_trace.specs.declared.event.Event.TheVariants as events
 use Rattle.sk_plain.specs.Act.{Scripts, plain}
-use Rattle.sk_plain.specs.Replay.{image, is_made}
-use Rattle.sk_counts.specs.declared.standing.Standing.{Standing}
+use Rattle.sk_plain.specs.declared.standing.Standing.{Standing}
+
+-- an event as the laws of traces have it: steps and guesses take an entry
+abbrev pub image : Event → Happens EntryView
+image (events.Step pid input) = Taken (record { pid = pid; input = input; guess = None })
+image (events.Guess id pid input) = Taken (record { pid = pid; input = input; guess = Some id })
+image (events.Commit id) = Commit id
+image (events.Fail id) = Fail id
+
+-- whether one of these entries made the guess
+abbrev pub is_made : List EntryView → ℕ → Bool
+is_made entries g = list_any (λ n. is_marked n.guess g) entries
 
 -- the record so far, with its undecided guesses
 abbrev pub seen : Standing → Record EntryView

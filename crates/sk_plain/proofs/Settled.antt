@@ -18,10 +18,10 @@ use Rattle.sk_trace.specs.Entry.{EntryView}
 use Rattle.sk_trace.specs.declared.event.Event.TheVariants as events
 use Rattle.sk_script.specs.declared.instruction.Input.{Input}
 use Rattle.sk_plain.specs.Act.{Scripts, plain}
-use Rattle.sk_plain.specs.Replay.{is_made}
-use Rattle.sk_counts.specs.declared.standing.Standing.{Standing}
-use Rattle.sk_counts.specs.Standing.{seen, is_settled, is_other, Stands, GoesOn, Settles}
-use Rattle.sk_counts.proofs.Behind.{strike_behind}
+use Rattle.sk_plain.specs.Standing.{is_made}
+use Rattle.sk_plain.specs.declared.standing.Standing.{Standing}
+use Rattle.sk_plain.specs.Standing.{seen, is_settled, is_other, Stands, GoesOn, Settles}
+use Rattle.sk_plain.proofs.Behind.{strike_behind}
 
 -- entries before the first that made one of these guesses made none of them
 abbrev named : List ℕ → Option ℕ → Bool

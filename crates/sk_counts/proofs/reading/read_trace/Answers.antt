@@ -6,9 +6,9 @@ use Rattle.sk_trace.specs.Entry.{EntryView}
 use Rattle.sk_trace.specs.declared.event.Event.{Event}
 use Rattle.sk_plain.specs.Act.{Scripts, plain}
 use Rattle.sk_plain.specs.Replay.{image}
-use Rattle.sk_counts.specs.Standing.{seen, GoesOn}
+use Rattle.sk_plain.specs.Standing.{seen, GoesOn}
 use Rattle.sk_counts.proofs.Along.{after_first, one_more, most_more, all_entries, fits_next}
-use Rattle.sk_counts.proofs.standing.read_trace.Goals as goal
+use Rattle.sk_counts.proofs.reading.read_trace.Goals as goal
 
 pub loop-event-preserved : goal.loop-event-preserved
 loop-event-preserved c =
@@ -20,11 +20,11 @@ loop-event-preserved c =
     let scripts : c.scripts.result.now ≡ k.scripts = search rules in
     let within : i < length k.trace = subst (λ (es : List Event). i < length es) events c.loop-event-test.true in
     let item : x ≡ get_or k.trace i x = subst (λ (es : List Event). x ≡ get_or es i x) events c.event-item.is in
-    let goes : GoesOn k.scripts x old c.go_on.new.standing = subst (λ (s : Scripts). GoesOn s x old c.go_on.new.standing) scripts c.in_ok-go_on.ensures in
+    let goes : GoesOn k.scripts x old c.go_on.new.self = subst (λ (s : Scripts). GoesOn s x old c.go_on.new.self) scripts c.in_ok-go_on.ensures in
     let went = goes k.start c.loop-event.invariant.stands (fits_next k i x old within item c.trace.ensures.sound c.loop-event.invariant.standing) in
-    let stands : seen c.go_on.new.standing ≡ after_first k (i + 1) =
+    let stands : seen c.go_on.new.self ≡ after_first k (i + 1) =
     went.1 ∙ ap (λ (r : Record EntryView). recorded (plain k.scripts) k.start r (image x)) c.loop-event.invariant.standing ∙ sym (one_more k i x within item) in
-    let count : c.len.result ≡ length c.go_on.new.standing.undecided.items = search rules in
+    let count : c.len.result ≡ length c.go_on.new.self.undecided.items = search rules in
     record {
       stands = went.0;
       standing = stands;

@@ -1,5 +1,6 @@
-//! The record of a trace and its undecided guesses, read event by event.
-ghost use Rattle.std.specs.Prelude.{◌≡◌, ◌≤◌, ◌∷◌, ◌++◌, [], List, length, take, drop, max, OnOk, IfOk};
+//! The record of a trace and its undecided guesses, read event by event: a failure runs no more than what stands
+//! behind the oldest guess that was undecided before it.
+ghost use Rattle.std.specs.Prelude.{◌≡◌, ◌≤◌, ◌∷◌, ◌++◌, [], List, length, take, drop, OnOk, IfOk, IfErr};
 ghost use Rattle.std.specs.List.{prefix_len};
 ghost use Rattle.sk_record.specs.Run.{run};
 ghost use Rattle.sk_record.specs.Notes.{has};
@@ -7,25 +8,20 @@ ghost use Rattle.sk_record.specs.Strike.{strike};
 ghost use Rattle.sk_record.specs.Trace.{marks};
 ghost use Rattle.sk_trace.specs.Entry.{EntryView};
 ghost use Rattle.sk_trace.specs.declared.event.Event.TheVariants as events;
-ghost use Rattle.sk_plain.specs.Act.{plain};
-ghost use Rattle.sk_plain.specs.Replay.{is_made};
-ghost use Rattle.sk_kernel.specs.Kernel.{record_at};
-ghost use Rattle.sk_counts.specs.Counts.{most_up_to};
-ghost use Rattle.sk_counts.specs.Standing.{is_settled, GoesOn, Settles};
+ghost use Rattle.sk_plain.specs.Act.{Scripts, plain};
+ghost use Rattle.sk_plain.specs.Standing.{is_made, is_settled, seen, GoesOn, Settles};
 
-use crate::left::strike_guess;
+use crate::record::{is_guess, strike_guess};
+use crate::{Entry, Event, InputRef, Refusal, apply_plan, plan_step};
 use sk_ids::GuessId;
-use sk_kernel::Kernel;
-use sk_plain::{InputRef, Refusal, apply_plan, plan_step};
 use sk_script::Scripts;
 use sk_store::Store;
-use sk_trace::{Entry, Event};
 use std::alloc::{AllocError, Global};
 
-/// The entries that count so far: the settled ones, which no undecided guess is among, with what entities have after them, and
-/// those behind; and the guesses that are undecided.
+/// The entries that count so far: the settled ones, which no undecided guess is among, with what entities have after
+/// them, and those behind; and the guesses that are undecided.
 #[derive(Drop)]
-pub(crate) struct Standing {
+pub struct Standing {
     pub settled: Vec<Entry>,
     pub after: Store,
     pub behind: Vec<Entry>,
@@ -36,11 +32,11 @@ pub(crate) struct Standing {
 fn is_made(entries: &[Entry], guess: GuessId) -> bool
     ensures { result ≡ is_made entries.now guess }
 {
-    entries.iter().any(|entry| entry.guess == Some(guess))
+    entries.iter().any(|entry| is_guess(entry, guess))
 }
 
 /// Whether a guess is one of these.
-fn is_among(guesses: &[GuessId], guess: GuessId) -> bool
+pub(crate) fn is_among(guesses: &[GuessId], guess: GuessId) -> bool
     ensures { result ≡ has guess guesses.now }
 {
     guesses.iter().any(|id| *id == guess)
@@ -114,7 +110,7 @@ fn settle(scripts: &Scripts, standing: &mut Standing) -> Result<(), AllocError>
     ensures { OnOk result (Settles scripts.now standing.old standing.new) }
 {
     let count = settled_in(&standing.behind, &standing.undecided);
-    // The record of a kernel's trace is legal: only memory can be wanting.
+    // The steps were taken before: only memory can be wanting.
     if run_on(&mut standing.after, scripts, &standing.behind[..count]).is_err() {
         return Err(AllocError);
     }
@@ -122,7 +118,7 @@ fn settle(scripts: &Scripts, standing: &mut Standing) -> Result<(), AllocError>
 }
 
 /// Takes an entry in.
-fn add(standing: &mut Standing, entry: Entry) -> Result<(), AllocError>
+pub(crate) fn add(standing: &mut Standing, entry: Entry) -> Result<(), AllocError>
     ensures behind { OnOk result
         (standing.new.behind.items ≡ standing.old.behind.items ++ entry ∷ []) }
     ensures undecided { OnOk result
@@ -149,7 +145,7 @@ fn left_behind(
         ≡ strike (plain scripts.now) standing.now.after standing.now.behind.items guess) }
 {
     let mut store = standing.after.copy()?;
-    // The record of a kernel's trace is legal: only memory can be wanting.
+    // The steps were taken before: only memory can be wanting.
     match strike_guess(alloc, &mut store, scripts, &standing.behind, guess) {
         Ok(left) => Ok(left),
         Err(_) => Err(AllocError),
@@ -172,7 +168,7 @@ fn strike_out(
 }
 
 /// Takes a failure. What no failure can strike is settled first, so that it is run once.
-fn fail(
+pub(crate) fn fail(
     alloc: Global,
     scripts: &Scripts,
     standing: &mut Standing,
@@ -184,56 +180,83 @@ fn fail(
     strike_out(alloc, scripts, standing, guess)
 }
 
-/// Goes on with an event. Refused only for want of memory.
-fn go_on(
-    alloc: Global,
-    scripts: &Scripts,
-    standing: &mut Standing,
-    event: &Event,
-) -> Result<(), AllocError>
-    ensures { OnOk result (GoesOn scripts.now event.now standing.old standing.new) }
+/// Takes a commit.
+pub(crate) fn commit(standing: &mut Standing, guess: GuessId)
+    ensures { (scripts : Scripts) → GoesOn scripts (events.Commit guess) standing.old standing.new }
 {
-    match event {
-        Event::Step { pid, input } => {
-            let (pid, input, guess) = (*pid, input.input(), None);
-            add(standing, Entry { pid, input, guess })
-        }
-        Event::Guess { id, pid, input } => {
-            let (pid, input, guess) = (*pid, input.input(), Some(*id));
-            add(standing, Entry { pid, input, guess })
-        }
-        Event::Commit(id) => {
-            standing.undecided.retain(|other| *other != *id);
-            Ok(())
-        }
-        Event::Fail(id) => fail(alloc, scripts, standing, *id),
-    }
+    standing.undecided.retain(|id| *id != guess);
 }
 
-/// The larger of two numbers.
-fn larger(one: usize, other: usize) -> usize
-    ensures { result ≡ max one other }
-{
-    if one < other { other } else { one }
-}
-
-/// Reads a kernel's trace to its end: how many entries its record has, and how many guesses were undecided at most.
-/// Refused only for want of memory.
-pub(crate) fn read_trace(alloc: Global, kernel: &Kernel) -> Result<(usize, usize), AllocError>
-    ensures left { IfOk result (λ read. read.0 ≡ length (record_at kernel.now)) }
-    ensures most { IfOk result (λ read. read.1 ≡ most_up_to kernel.now (length kernel.now.trace)) }
-{
-    let start = kernel.opening().start();
-    let mut standing = Standing {
-        settled: Vec::new(alloc),
-        after: start.state().copy()?,
-        behind: Vec::new(alloc),
-        undecided: Vec::new(alloc),
-    };
-    let mut most = 0;
-    for event in kernel.trace().events() {
-        go_on(alloc, start.scripts(), &mut standing, event)?;
-        most = larger(most, standing.undecided.len());
+impl Standing {
+    /// Where nothing has happened yet.
+    pub fn new(alloc: Global, start: Store) -> Standing
+        ensures start { result.after ≡ start }
+        ensures settled { result.settled.items ≡ [] }
+        ensures behind { result.behind.items ≡ [] }
+        ensures undecided { result.undecided.items ≡ [] }
+    {
+        let (settled, behind, undecided) = (Vec::new(alloc), Vec::new(alloc), Vec::new(alloc));
+        Standing {
+            settled,
+            after: start,
+            behind,
+            undecided,
+        }
     }
-    Ok((standing.settled.len() + standing.behind.len(), most))
+
+    /// Goes on with an event. Refused only for want of memory.
+    pub fn go_on(
+        &mut self,
+        alloc: Global,
+        scripts: &Scripts,
+        event: &Event,
+    ) -> Result<(), AllocError>
+        ensures { OnOk result (GoesOn scripts.now event.now self.old self.new) }
+    {
+        match event {
+            Event::Step { pid, input } => {
+                let (pid, input, guess) = (*pid, input.input(), None);
+                add(self, Entry { pid, input, guess })
+            }
+            Event::Guess { id, pid, input } => {
+                let (pid, input, guess) = (*pid, input.input(), Some(*id));
+                add(self, Entry { pid, input, guess })
+            }
+            Event::Commit(id) => {
+                commit(self, *id);
+                Ok(())
+            }
+            Event::Fail(id) => fail(alloc, scripts, self, *id),
+        }
+    }
+
+    /// What entities have after all entries.
+    pub(crate) fn now(&self, scripts: &Scripts) -> Result<Store, AllocError>
+        ensures { IfOk result
+            (λ now. now ≡ run (plain scripts.now) self.now.after self.now.behind.items) }
+    {
+        let mut now = self.after.copy()?;
+        // The steps were taken before: only memory can be wanting.
+        match run_on(&mut now, scripts, &self.behind) {
+            Ok(()) => Ok(now),
+            Err(_) => Err(AllocError),
+        }
+    }
+
+    /// The entries. Memory is wanted only where some are settled.
+    pub(crate) fn into_entries(self) -> Result<Vec<Entry>, AllocError>
+        ensures entries { IfOk result (λ entries. entries.items ≡ (seen self).entries) }
+        ensures memory { IfErr result (λ _. ¬ (self.settled.items ≡ [])) }
+    {
+        let Standing {
+            mut settled,
+            behind,
+            ..
+        } = self;
+        if settled.is_empty() {
+            return Ok(behind);
+        }
+        settled.extend_from_slice(&behind)?;
+        Ok(settled)
+    }
 }

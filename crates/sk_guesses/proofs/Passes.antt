@@ -103,7 +103,7 @@ module _ {E : Type 0} where
   no_later (x ∷ ls) (suc i) zero d e rises le lt = absurd (omega arith)
   no_later (x ∷ ls) (suc i) (suc j) d e rises le lt = no_later ls i j d e rises.1 (omega arith) (omega arith)
 
-  earlier : (ls : List (Listing E)) (i j : ℕ) (d e : Listing E) → IsStrictlySortedBy nat_cmp (named (map guess_of ls)) → i < j → j < length ls
+  pub earlier : (ls : List (Listing E)) (i j : ℕ) (d e : Listing E) → IsStrictlySortedBy nat_cmp (named (map guess_of ls)) → i < j → j < length ls
       → (slice_index_or ls i d).guess.id < (slice_index_or ls j e).guess.id
   unfolding IsStrictlySortedBy
   earlier [] i j d e rises le lt = absurd (omega arith)
@@ -288,6 +288,11 @@ below_committed g (o ∷ os) below =
       | true ↦ ((λ h here. below.0 h (fewer_tags g h o.tags here)), below_committed g os below.1)
       | false ↦ below_committed g os below.1
     ]
+
+pub below_but : {E : Type 0} (g : ℕ) (os : List (OpenGuess E)) → AreBelow (opens_of os) → AreBelow (opens_of (but g os))
+below_but g [] below = tt
+below_but g (o ∷ os) below =
+    elim (not (o.id == g)) as (λ b. AreBelow (opens_of (cond b (o ∷ but g os) (but g os)))) [ true ↦ (below.0, below_but g os below.1) | false ↦ below_but g os below.1 ]
 
 pub below_more : {E : Type 0} (os : List (OpenGuess E)) (o : OpenGuess E) → AreBelow (opens_of os) → ((g : ℕ) → has g o.tags ≡ true → g ≤ o.id) → AreBelow (opens_of (os ++ o ∷ []))
 below_more [] o below its = (its, tt)

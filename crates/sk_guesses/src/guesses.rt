@@ -18,9 +18,10 @@ ghost use Rattle.sk_guesses.specs.Room.{HasRoom, Listing, DecidedSo};
 ghost use Rattle.sk_guesses.specs.Calls.{Draws, redeemed};
 
 use crate::open_guess::OpenGuess;
+use crate::open_guesses::stays_below;
 use crate::open_list::{
-    are_earlier, close, close_committed, close_resting, depend_on, is_rested_on, leave_to,
-    make_room, oldest, place_of, relieve, take_list,
+    are_earlier, close, close_committed, close_resting, depend_on, first_resting, is_rested_on,
+    leave_to, make_room, oldest, place_of, relieve, take_list,
 };
 use crate::row::Row;
 use crate::settled::{Settled, status_at};
@@ -54,13 +55,17 @@ pub struct Guesses<E: Key> {
     statuses: Vec<Status>,
     /// The undecided guesses, by rising number.
     opens: Row<OpenGuess<E>>,
+    /// Whether no guess is among the tags of an earlier one, so that a decision begins at its own place.
+    below: bool,
     /// The list with which the next guess begins: room, and no entity yet.
     next: EntitySet<E>,
 }
 
 impl<E: Key> Model for Guesses<E> {
-    ghost use Rattle.std.specs.Prelude.{map, vec_capacity};
+    ghost use Rattle.std.specs.Prelude.{◌≡◌, true, map, vec_capacity};
     ghost use Rattle.sk_guesses.specs.GuessesInvariant.{AreTidy};
+    ghost use Rattle.sk_guesses.specs.Kept.{AreBelow};
+    ghost use Rattle.sk_guesses.specs.Opens.{opens_of};
     ghost use Rattle.sk_guesses.specs.Room.{Roomy};
 
     ghost Value = { Roomy E };
@@ -79,7 +84,8 @@ impl<E: Key> Model for Guesses<E> {
 
     ghost invariant = { λ a. AreTidy
         (record { kernel = a.kernel; earlier = a.earlier.statuses; statuses = a.statuses.items })
-        a.opens.items a.next.entities };
+        a.opens.items a.next.entities
+        × (a.below ≡ true → AreBelow (opens_of (map (λ l. l.guess) a.opens.items))) };
 }
 
 /// Where a guess stands among those that were drawn after so many.
@@ -132,6 +138,7 @@ impl<E: Key> Guesses<E> {
             earlier: Settled::new(alloc),
             statuses: Vec::new(alloc),
             opens: Row::new(alloc),
+            below: true,
             next: EntitySet::new(alloc),
         }
     }
@@ -276,6 +283,7 @@ impl<E: Key> Guesses<E> {
         if self.reserve(entities.len()).is_err() {
             return Err(DrawRefusal::Memory);
         }
+        self.below = stays_below(self.below, &tags, id);
         let mut dependents = std::mem::replace(&mut self.next, EntitySet::new(self.alloc));
         dependents.add_all(entities);
         self.opens
@@ -349,7 +357,8 @@ impl<E: Key> Guesses<E> {
         if !self.is_open(id) {
             return;
         }
-        close_committed(&mut self.opens, 0, id);
+        let from = first_resting(&self.opens, self.below, id);
+        close_committed(&mut self.opens, from, id);
         self.statuses[place_after(self.earlier.len(), id)] = Status::Committed;
     }
 
@@ -402,7 +411,7 @@ impl<E: Key> Guesses<E> {
         ensures drawn { length self.new.view.statuses ≡ length self.old.view.statuses }
         ensures opens { self.new.opens ≡ not_resting id self.old.opens }
     {
-        if !is_rested_on(&self.opens, id) {
+        if !is_rested_on(&self.opens, self.below, id) {
             return;
         }
         strike_all(&mut self.statuses, self.earlier.len(), &self.opens, id);

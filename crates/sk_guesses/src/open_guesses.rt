@@ -116,7 +116,7 @@ fn strike_all<E: Key>(
 }
 
 /// Whether no guess of a set was drawn after one, where it was so of all before.
-fn stays_below(below: bool, tags: &TagSet, id: GuessId) -> bool
+pub(crate) fn stays_below(below: bool, tags: &TagSet, id: GuessId) -> bool
     ensures before { result ≡ true → below ≡ true }
     ensures drawn { result ≡ true → (g : ℕ) → has g tags.now ≡ true → g ≤ id }
 {

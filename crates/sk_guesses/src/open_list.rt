@@ -182,8 +182,24 @@ pub(crate) fn close_resting<E: Key>(opens: &mut Row<OpenGuess<E>>, from: usize, 
     }
 }
 
+/// Whether all of these guesses were drawn before one and, if no tag of theirs is above their own number, none rests on it.
+fn are_older<E: Key>(opens: &Row<OpenGuess<E>>, below: bool, id: GuessId) -> bool
+    requires rising { IsStrictlySortedBy nat_cmp
+        (numbers (opens_of (map (λ l. l.guess) opens.now.items))) }
+    requires below { below ≡ true → AreBelow (opens_of (map (λ l. l.guess) opens.now.items)) }
+    ensures { result ≡ true → list_any (λ l. has id l.guess.tags) opens.now.items ≡ false }
+{
+    if !below {
+        return false;
+    }
+    if opens.len() == 0 {
+        return false;
+    }
+    opens.at(opens.len() - 1).id().number() < id.number()
+}
+
 /// Whether the own step of one of these guesses rests on a guess.
-pub(crate) fn is_rested_on<E: Key>(opens: &Row<OpenGuess<E>>, id: GuessId) -> bool
+fn any_rests_on<E: Key>(opens: &Row<OpenGuess<E>>, id: GuessId) -> bool
     ensures { result ≡ list_any (λ l. has id l.guess.tags) opens.now.items }
 {
     for place in 0..opens.len() {
@@ -192,6 +208,19 @@ pub(crate) fn is_rested_on<E: Key>(opens: &Row<OpenGuess<E>>, id: GuessId) -> bo
         }
     }
     false
+}
+
+/// The same, if no tag of theirs is above their own number. Mostly all were drawn before that guess.
+pub(crate) fn is_rested_on<E: Key>(opens: &Row<OpenGuess<E>>, below: bool, id: GuessId) -> bool
+    requires rising { IsStrictlySortedBy nat_cmp
+        (numbers (opens_of (map (λ l. l.guess) opens.now.items))) }
+    requires below { below ≡ true → AreBelow (opens_of (map (λ l. l.guess) opens.now.items)) }
+    ensures { result ≡ list_any (λ l. has id l.guess.tags) opens.now.items }
+{
+    if are_older(opens, below, id) {
+        return false;
+    }
+    any_rests_on(opens, id)
 }
 
 /// The oldest of these guesses.

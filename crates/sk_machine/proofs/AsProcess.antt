@@ -1,7 +1,7 @@
 -- Steps that rest on just what their process rests on.
 use Rattle.std.proofs.Common.{◌≡◌, ℕ, suc, ◌<◌, ◌≤◌, length, true, false, cond, List, [], ◌∷◌, ◌++◌, Option, None, Result, Ok, Err, inl, inr, refl, sym, ◌∙◌, ap, subst, arith}
 use Rattle.std.specs.List.{list_any}
-use Rattle.std.specs.Prelude.{OnOk, OnErr}
+use Rattle.std.specs.Prelude.{OnOk, OnErr, slice_index_or}
 use Rattle.std.specs.Cmp.{both_ways, eq_by_cmp_equiv}
 use Rattle.std.specs.Ordering.{nat_cmp, eq_by_cmp}
 use Rattle.std.specs.List.Sorted.{IsStrictlySortedBy}
@@ -106,6 +106,14 @@ covers_one tags x base h e g there rests =
       | inl same ↦ h g (ap (λ y. has g (base y)) (sym (tied_is entity_total entity_exact e x same)) ∙ rests)
       | inr none ↦ absurd (false≢true none)
     ]
+
+-- where it rests on one
+pub one_within : (xs own : List ℕ) (one id : ℕ) (x : Entity) (base : Entity → List ℕ) → length xs ≡ 1 → one ≡ slice_index_or xs 0 one → one ≡ id → xs ≡ own → own ≡ base x → Covers (id ∷ []) (x ∷ []) base
+one_within [] own one id x base len at is same there = absurd (omega arith)
+one_within (y ∷ []) own one id x base len at is same there =
+    let whole : base x ≡ id ∷ [] = sym there ∙ sym same ∙ ap (λ n. n ∷ []) (sym at ∙ is) in
+    covers_one (id ∷ []) x base (λ g here. subst (λ ts. has g ts ≡ true) whole here)
+one_within (y ∷ z ∷ xs) own one id x base len at is same there = absurd (omega arith)
 
 -- where it rests on nothing
 pub none_within : (tags own : List ℕ) (x : Entity) (base : Entity → List ℕ) → is_empty own ≡ true → own ≡ base x → Covers tags (x ∷ []) base

@@ -1,6 +1,6 @@
 -- What the lists of dependents have, after writes and decisions.
-use Rattle.std.proofs.Common.{◌≡◌, ℕ, zero, suc, ◌<◌, ◌≤◌, ◌+◌, length, take, drop, true, false, not, ◌||◌, List, [], ◌∷◌, ◌++◌, map, Option, refl, sym, ◌∙◌, ap, subst, arith}
-use Rattle.std.specs.List.{list_any}
+use Rattle.std.proofs.Common.{◌≡◌, ℕ, zero, suc, ◌<◌, ◌≤◌, ◌+◌, length, take, drop, true, false, not, cond, ◌||◌, List, [], ◌∷◌, ◌++◌, map, Option, refl, sym, ◌∙◌, ap, subst, arith}
+use Rattle.std.specs.List.{list_any, AllByRecursion}
 use Rattle.std.specs.Prelude.{◌==◌, slice_index_or}
 use Rattle.std.specs.Ordering.{eq_by_cmp}
 use Rattle.std.specs.Cmp.{eq_by_cmp_equiv}
@@ -110,6 +110,52 @@ pub failed_almost : (g : ℕ) (m n : SlotMap) → AllGrow m → Unwound m g n �
 failed_almost g m n grows did os all here =
     lists.failed_almost entity_total entity_exact g (log_at m) (log_at n) grows did.logs (dependents_of g os) (exact_at (tags_in m) g os all here) (but g os)
     (all_kept (λ (o : OpenGuess Entity). (e : Entity) → is_in entity_cmp o.dependents e ≡ has o.id (tags_in m e)) (λ o. not (o.id == g)) os all)
+
+-- where that rested on the failed guess alone, it is in none of them
+but_apart : (g : ℕ) (os : List (OpenGuess Entity)) → AllByRecursion (λ (o : OpenGuess Entity). (o.id == g) ≡ false) (but g os)
+but_apart g [] = tt
+but_apart g (o ∷ os) =
+    elim (o.id == g) as (λ b. (o.id == g) ≡ b → AllByRecursion (λ (p : OpenGuess Entity). (p.id == g) ≡ false) (cond (not b) (o ∷ but g os) (but g os))) [
+      | true ↦ λ _. but_apart g os
+      | false ↦ λ is. (is, but_apart g os)
+    ] refl
+
+only_one : (g h : ℕ) → (h == g) ≡ false → has h (g ∷ []) ≡ false
+only_one g h apart =
+    elim (g == h) as (λ b. (g == h) ≡ b → (b || false) ≡ false) [
+      | true ↦ λ is. absurd (true≢false (sym (eq-eqb h g (sym (eqb-true g h is))) ∙ apart))
+      | false ↦ λ _. refl
+    ] refl
+
+exact_alone : (g : ℕ) (es : List Entity) (before later : Entity → List ℕ) → Covers (g ∷ []) es before → (os : List (OpenGuess Entity)) → AllExact before os
+    → AllByRecursion (λ (o : OpenGuess Entity). (o.id == g) ≡ false) os → AllAlmostExact later es os → AllExact later os
+exact_alone g es before later alone [] old apart almost = tt
+exact_alone g es before later alone (o ∷ os) old apart almost = (
+  (λ e.
+      let not_before : is_in entity_cmp es e ≡ true → is_in entity_cmp o.dependents e ≡ false =
+      λ there. old.0 e ∙ (elim (has o.id (before e)) as (λ b. has o.id (before e) ≡ b → b ≡ false) [
+        | true ↦ λ was. absurd (true≢false (sym (alone e o.id there was) ∙ only_one g o.id apart.0))
+        | false ↦ λ _. refl
+      ] refl) in
+      elim (is_in entity_cmp es e) as (λ b. is_in entity_cmp es e ≡ b → is_in entity_cmp o.dependents e ≡ has o.id (later e)) [
+        | true ↦ λ there. elim (has o.id (later e)) as (λ b. has o.id (later e) ≡ b → is_in entity_cmp o.dependents e ≡ b) [
+          | true ↦ λ rests. almost.0.kept e rests
+          | false ↦ λ _. not_before there
+        ] refl
+        | false ↦ λ none. almost.0.others e none
+      ] refl),
+  exact_alone g es before later alone os old.1 apart.1 almost.1,
+)
+
+pub failed_exact : (g : ℕ) (m n : SlotMap) → AllGrow m → Unwound m g n → (os : List (OpenGuess Entity)) → AllExact (tags_in m) os → has g (numbers (opens_of os)) ≡ true
+    → Covers (g ∷ []) (dependents_of g os) (tags_in m) → AllExact (tags_in n) (not_resting g (but g os))
+failed_exact g m n grows did os all here alone =
+    let exact = λ (o : OpenGuess Entity). (e : Entity) → is_in entity_cmp o.dependents e ≡ has o.id (tags_in m e) in
+    let stays = λ (o : OpenGuess Entity). not (has g o.tags) in
+    exact_alone g (dependents_of g os) (tags_in m) (tags_in n) alone (not_resting g (but g os))
+    (all_kept exact stays (but g os) (all_kept exact (λ o. not (o.id == g)) os all))
+    (all_kept (λ (o : OpenGuess Entity). (o.id == g) ≡ false) stays (but g os) (but_apart g os))
+    (failed_almost g m n grows did os all here)
 
 -- ---- the undecided guesses, as the machine has them
 pub commit_opens : (g : ℕ) (os : List (OpenGuess Entity)) → opens_of (after_commit g os) ≡ still_open g (opens_of os)

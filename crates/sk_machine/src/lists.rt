@@ -1,11 +1,11 @@
 //! The lists of what rests on each undecided guess, as steps and failures change them.
-ghost use Rattle.std.specs.Prelude.{◌≡◌, OnOk, OnErr, []};
-ghost use Rattle.sk_guesses.specs.Opens.{opens_of};
+ghost use Rattle.std.specs.Prelude.{◌≡◌, ◌∷◌, true, OnOk, OnErr, []};
+ghost use Rattle.sk_guesses.specs.Opens.{dependents_of, opens_of};
 ghost use Rattle.sk_machine.specs.Dependents.{AllAlmostExact, AllExact, Covers, Depends, tags_in, with_tags};
 
 use crate::machine::is_none;
 use sk_guesses::Guesses;
-use sk_ids::{Entity, TagSet};
+use sk_ids::{Entity, GuessId, TagSet};
 use sk_undo::Logs;
 use std::alloc::AllocError;
 
@@ -86,4 +86,69 @@ pub(crate) fn relieve_all(
     for entity in entities {
         guesses.leave_to(tags_of(logs, untagged, entity), entity);
     }
+}
+
+/// Whether an entity rests on one guess, and on no other.
+fn rests_alone(logs: &Logs, untagged: &TagSet, id: GuessId, entity: &Entity) -> bool
+    requires { untagged.now ≡ [] }
+    ensures { result ≡ true → Covers (id ∷ []) (entity.now ∷ []) (tags_in logs.now.slots) }
+{
+    match tags_of(logs, untagged, entity).ids() {
+        [one] => *one == id,
+        _ => false,
+    }
+}
+
+/// Whether each of these entities does.
+fn rest_alone(logs: &Logs, untagged: &TagSet, id: GuessId, entities: &[Entity]) -> bool
+    requires { untagged.now ≡ [] }
+    ensures { result ≡ true → Covers (id ∷ []) entities.now (tags_in logs.now.slots) }
+{
+    for entity in entities {
+        if !rests_alone(logs, untagged, id, entity) {
+            return false;
+        }
+    }
+    true
+}
+
+/// Whether all that rests on a guess rests on no other. Where no other is open nobody asks.
+pub(crate) fn is_alone(
+    guesses: &Guesses<Entity>,
+    logs: &Logs,
+    untagged: &TagSet,
+    id: GuessId,
+) -> bool
+    requires { untagged.now ≡ [] }
+    ensures { result ≡ true
+        → Covers (id ∷ []) (dependents_of id guesses.now.opens) (tags_in logs.now.slots) }
+{
+    if guesses.undecided() < 2 {
+        return false;
+    }
+    rest_alone(logs, untagged, id, guesses.dependents(id))
+}
+
+/// Takes what rested on a failed guess out of the lists of the guesses that it does not rest on. Mostly it is in none of them.
+pub(crate) fn relieve_freed(
+    guesses: &mut Guesses<Entity>,
+    logs: &Logs,
+    untagged: &TagSet,
+    alone: bool,
+    entities: &[Entity],
+)
+    requires almost { AllAlmostExact (tags_in logs.now.slots) entities.now guesses.old.opens }
+    requires alone { alone ≡ true → AllExact (tags_in logs.now.slots) guesses.old.opens }
+    requires untagged { untagged.now ≡ [] }
+    ensures view { guesses.new.view ≡ guesses.old.view }
+    ensures opens { opens_of guesses.new.opens ≡ opens_of guesses.old.opens }
+    ensures exact { AllExact (tags_in logs.now.slots) guesses.new.opens }
+{
+    if alone {
+        return;
+    }
+    if guesses.undecided() == 0 {
+        return;
+    }
+    relieve_all(guesses, logs, untagged, entities);
 }

@@ -31,7 +31,7 @@ ghost use Rattle.sk_machine.specs.Dependents.{Covers, tags_in};
 ghost use Rattle.sk_machine.specs.Performed.{entities_of, AreApart, IsClean, Performed};
 
 use crate::alike::set_alike;
-use crate::lists::{depend_all, relieve_all, tags_of};
+use crate::lists::{depend_all, is_alone, relieve_all, relieve_freed, tags_of};
 use sk_guesses::{Guess, Guesses, Redeemed, Status};
 use sk_ids::{Entity, GuessId, ObjId, Pid, TagSet};
 use sk_plain::{InputRef, Plan, perform_plan};
@@ -484,14 +484,16 @@ impl Machine {
         ensures earlier { self.new.guesses.earlier ≡ self.old.guesses.earlier }
         ensures drawn { length self.new.guesses.statuses ≡ length self.old.guesses.statuses }
     {
+        let alone = is_alone(&self.guesses, &self.logs, &self.untagged, id);
         self.logs.unwind(id, self.guesses.dependents(id));
         let freed = self.guesses.take_dependents(id);
         self.guesses.fail(id);
         self.guesses.strike_resting(id);
-        relieve_all(
+        relieve_freed(
             &mut self.guesses,
             &self.logs,
             &self.untagged,
+            alone,
             freed.as_slice(),
         );
         self.terminals.drop_of(id);

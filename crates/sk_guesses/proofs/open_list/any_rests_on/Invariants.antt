@@ -2,7 +2,7 @@ use Rattle.std.proofs.Common.{◌≡◌, drop}
 use Rattle.std.specs.List.{list_any}
 use Rattle.sk_record.specs.Notes.{has}
 use Rattle.sk_guesses.specs.Room.{Listing}
-use Rattle.sk_guesses.proofs.open_list.is_rested_on.Given as goal
+use Rattle.sk_guesses.proofs.open_list.any_rests_on.Given as goal
 
 abbrev pub invariant-loop-place : goal.invariant-loop-place
 invariant-loop-place g l = list_any (λ (x : Listing _). has l.id x.guess.tags) l.opens.items ≡ list_any (λ (x : Listing _). has l.id x.guess.tags) (drop l.place l.opens.items)

@@ -1,0 +1,7 @@
+-- Each before the loop's place rests on the guess alone.
+use Rattle.std.proofs.Common.{◌∷◌, [], take}
+use Rattle.sk_machine.specs.Dependents.{Covers, tags_in}
+use Rattle.sk_machine.proofs.lists.rest_alone.Given as goal
+
+abbrev pub invariant-loop-entity : goal.invariant-loop-entity
+invariant-loop-entity l = Covers (l.id ∷ []) (take l.entity-index l.entities) (tags_in l.logs.slots)

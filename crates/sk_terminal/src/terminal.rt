@@ -106,6 +106,11 @@ impl Terminal {
         ensures said { OnOk result (self.new ≡ self.old ++ (text, tags) ∷ []) }
         ensures refused { OnErr result (self.new ≡ self.old) }
     {
+        if self.waiting.is_empty() && tags.ids().is_empty() {
+            self.out.reserve(1)?;
+            self.out.push_reserved(text);
+            return Ok(());
+        }
         self.out.reserve(self.waiting.len() + 1)?;
         let newest = newest_of(self.newest, &tags);
         let said = BufferedText::new(text, tags);

@@ -27,3 +27,4 @@ pub mod First
 pub mod PlaceFacts
 pub mod RequestFacts
 pub mod Labels
+mod WorldEpochs

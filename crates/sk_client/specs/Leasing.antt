@@ -10,6 +10,7 @@ use Rattle.sk_kernel.specs.HandIn.{IsAsLent, with_steps}
 use Rattle.sk_kernel.specs.declared.hand_in.HandIn.{HandIn}
 use Rattle.sk_kernel.specs.declared.hand_in.HandIn.TheVariants.{Stale, TraceFull, Memory}
 use Rattle.sk_client.specs.Desk.{DeskView, pending, asked_count, asks_for}
+use Rattle.sk_client.specs.WorldView.{WorldView}
 
 -- a process that waits for a reply is not lent
 abbrev pub unless_asked : DeskView → ℕ → Result LeaseView Refusal → Result LeaseView Refusal
@@ -46,3 +47,10 @@ DeskTakesIn (Err Memory) l old new = IsAsLent old.kernel l × (l.count ≤ place
 abbrev pub DeskHandInPost : Result (Unit {0}) (LeaseView × HandIn) → LeaseView → DeskView → DeskView → Type 0
 DeskHandInPost (Ok u) l old new = DeskTakesIn (Ok u) l old new
 DeskHandInPost (Err back) l old new = (back.0 ≡ l) × DeskTakesIn (Err back.1) l old new
+
+-- the same of the desk of a world, of which all else stays
+abbrev pub WorldTakesIn : Result (Unit {0}) HandIn → LeaseView → WorldView → WorldView → Type 0
+WorldTakesIn handed l old new = DeskTakesIn handed l old.desk new.desk × (new ≡ record old { desk = new.desk })
+
+abbrev pub WorldHandInPost : Result (Unit {0}) (LeaseView × HandIn) → LeaseView → WorldView → WorldView → Type 0
+WorldHandInPost handed l old new = DeskHandInPost handed l old.desk new.desk × (new ≡ record old { desk = new.desk })

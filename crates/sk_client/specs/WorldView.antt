@@ -1,6 +1,9 @@
 -- A world as its callers see it: a desk, a server, and what is on its way between them; and what each event does.
 use Rattle.std.specs.Prelude.{◌≡◌, ℕ, ◌+◌, ◌≤◌, ◌⊎◌, true, length, List, [], ◌∷◌, ◌++◌, Option, Some, None, Result, Ok, Err, refl}
 use Rattle.std.specs.Coded.{Coded, code_by, coded×, coded_list, coded_option}
+use Rattle.sk_terminal.specs.Terminals.{TerminalMap}
+use Rattle.sk_trace.specs.Trace.{TraceView}
+use Rattle.sk_kernel.specs.declared.kernel.EpochRefusal.{EpochRefusal}
 use Rattle.sk_server.specs.declared.request.Request.{Request}
 use Rattle.sk_server.specs.declared.reply.Reply.{Reply}
 use Rattle.sk_server.specs.contracts.request.Request as request_row
@@ -20,7 +23,7 @@ use Rattle.sk_client.specs.declared.world.Cause.{Cause}
 use Rattle.sk_client.specs.declared.world.WorldStop.{WorldStop}
 use Rattle.sk_client.specs.declared.world.Cause.TheVariants as causes
 use Rattle.sk_client.specs.Desk.{DeskView, desk_code, sent, first_taken, fits_ask}
-use Rattle.sk_client.specs.DeskCalls.{TurnPost, ReplyPost}
+use Rattle.sk_client.specs.DeskCalls.{TurnPost, ReplyPost, DeskEpochPost}
 
 -- the replies on their way, the oldest first, and a request that was taken and that the server handed back
 pub record WorldView : Type 0 where
@@ -110,6 +113,11 @@ NewsPost (Ok news.Served) w e new = (reply : Reply) × (older : List Reply) × (
 NewsPost (Ok (news.Given given)) w e new = EventPost (Ok (answers.Given given)) w e new
 NewsPost (Ok (news.Edited version)) w e new = EventPost (Ok (answers.Edited version)) w e new
 NewsPost (Err why) w e new = EventPost (Err why) w e new
+
+-- the desk begins a new epoch, with nothing on its way to the server, which keeps its files; else nothing changes
+abbrev pub WorldEpochPost : Result (TraceView × TerminalMap) EpochRefusal → WorldView → WorldView → Type 0
+WorldEpochPost (Ok left) w new = DeskEpochPost (Ok left) w.desk new.desk × (new ≡ joined new.desk w.server)
+WorldEpochPost (Err why) w new = DeskEpochPost (Err why) w.desk w.desk × (new ≡ w)
 
 -- events in order, numbered from here, up to the first that is refused
 abbrev pub RunsTo : Result (Unit {0}) WorldStop → WorldView → List WorldEvent → ℕ → WorldView → Type 0

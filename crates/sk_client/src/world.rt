@@ -1,17 +1,20 @@
 //! A desk and a server, joined.
 ghost use Rattle.std.specs.Prelude.{◌≡◌, ◌↔◌, ◌<◌, ◌≤◌, ◌+◌, ◌-◌, [], true, length, IsSome, IfSome, slice_index_or};
-ghost use Rattle.sk_client.specs.WorldView.{joined, taken_by, told_as, EventPost, NewsPost, RunsTo, Turns, AnswersWith, ServesNext, Replies, EditsFile};
+ghost use Rattle.sk_client.specs.WorldView.{joined, taken_by, told_as, EventPost, NewsPost, RunsTo, Turns, AnswersWith, ServesNext, Replies, EditsFile, WorldEpochPost};
 ghost use Rattle.sk_client.specs.declared.world.WorldAnswer.TheVariants as answers;
 ghost use Rattle.sk_server.specs.Lent.{request_in};
 ghost use Rattle.sk_server.specs.declared.server.TheConstants.{LAST_REQUEST};
+ghost use Rattle.sk_client.specs.Leasing.{WorldHandInPost};
 ghost use Rattle.sk_client.specs.Upcoming.{upcoming};
 ghost use Rattle.sk_server.specs.Server.{is_in_turn};
 
 use crate::desk::{Desk, Given, ReplyRefusal, Turn};
 use sk_ids::{Name, Pid, Text};
-use sk_plain::Refusal;
-use sk_script::Input;
+use sk_kernel::{EpochRefusal, HandIn};
+use sk_plain::{Refusal, Trace};
+use sk_script::{Input, Lease};
 use sk_server::{EditRefusal, Reply, Request, RequestRef, Server, ServerRefusal};
+use sk_terminal::Texts;
 use std::alloc::Global;
 use std::collections::VecDeque;
 use std::marker::Model;
@@ -137,6 +140,13 @@ impl World {
         ensures { result.now ≡ self.now.desk }
     {
         &self.desk
+    }
+
+    /// Takes a lease of the desk in, as the desk does.
+    pub fn hand_in(&mut self, lease: Lease) -> Result<(), (Lease, HandIn)>
+        ensures { WorldHandInPost result lease self.old self.new }
+    {
+        self.desk.hand_in(lease)
     }
 
     /// The server.
@@ -285,6 +295,14 @@ impl World {
             Ok(version) => Ok(version),
             Err(why) => Err(Cause::Edit(why)),
         }
+    }
+
+    /// Begins a new epoch of the desk where no request is pending; the server keeps its files, and the world begins anew. Refusals
+    /// are those of the desk, and nothing has changed.
+    pub fn new_epoch(&mut self) -> Result<(Trace, Texts), EpochRefusal>
+        ensures { WorldEpochPost result self.old self.new }
+    {
+        self.desk.new_epoch()
     }
 
     /// Fails the guess of each pending request, the oldest first, and ends.

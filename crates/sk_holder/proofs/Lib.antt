@@ -5,3 +5,4 @@ pub mod Decided
 pub mod HandedIn
 mod Epochs
 pub mod Spent
+mod LetGo

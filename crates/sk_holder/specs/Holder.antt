@@ -1,5 +1,5 @@
 -- A kernel with the tokens of its guesses, as its callers see it, and what its calls answer.
-use Rattle.std.specs.Prelude.{◌≡◌, ℕ, true, false, List, [], ◌∷◌, ◌++◌, ◌==◌, map, Option, Some, None, Result, Ok, Err, refl, if◌then◌else◌}
+use Rattle.std.specs.Prelude.{◌≡◌, ℕ, ◌<◌, length, true, false, List, [], ◌∷◌, ◌++◌, ◌==◌, map, Option, Some, None, Result, Ok, Err, refl, if◌then◌else◌}
 use Rattle.std.specs.Coded.{Coded, code_by, coded×, coded_ℕ, coded_list}
 use Rattle.sk_record.specs.Notes.{has}
 use Rattle.sk_record.specs.declared.status.Status.TheVariants.{Undecided, Struck}
@@ -10,7 +10,12 @@ use Rattle.sk_trace.specs.declared.event.Event.TheVariants as events
 use Rattle.sk_plain.specs.Refusal.{cause}
 use Rattle.sk_plain.specs.declared.refusal.Refusal.{Refusal}
 use Rattle.sk_kernel.specs.Kernel.{KernelView, HasStatus, kernel_code, next_guess, undecided_at, with_event}
+use Rattle.sk_terminal.specs.Terminals.{TerminalMap}
+use Rattle.sk_trace.specs.Trace.{TraceView}
+use Rattle.sk_kernel.specs.Calls.{EpochPost}
 use Rattle.sk_kernel.specs.Laws.{with_events}
+use Rattle.sk_kernel.specs.declared.kernel.EpochRefusal.{EpochRefusal}
+use Rattle.sk_kernel.specs.declared.kernel.EpochRefusal.TheVariants as epoch_refusals
 use Rattle.sk_kernel.specs.declared.kernel.Outcome.{Outcome}
 use Rattle.sk_kernel.specs.declared.kernel.Outcome.TheVariants as outcomes
 
@@ -56,3 +61,10 @@ DecidesPost (Some outcomes.Gone) event id old new =
 -- only failures happened
 abbrev pub FailsSome : KernelView → KernelView → Type 0
 FailsSome old new = (failed : List ℕ) × (new ≡ with_events old (map events.Fail failed))
+
+-- where no guess is undecided a new epoch begins, with no token held; else nothing changes, but that where memory runs out the
+-- tokens of struck guesses are let go
+abbrev pub BeginsPost : Result (TraceView × TerminalMap) EpochRefusal → HolderView → HolderView → Type 0
+BeginsPost (Ok left) old new = EpochPost (Ok left) old.kernel new.kernel × (new.held ≡ [])
+BeginsPost (Err (epoch_refusals.Undecided n)) old new = (n ≡ length (undecided_at old.kernel)) × (0 < n) × (new ≡ old)
+BeginsPost (Err epoch_refusals.Memory) old new = (undecided_at old.kernel ≡ []) × (new ≡ holding old.kernel)

@@ -8,7 +8,7 @@ ghost use Rattle.sk_kernel.specs.HandIn.{HandInPost};
 ghost use Rattle.sk_terminal.specs.Terminals.{released_at};
 ghost use Rattle.sk_trace.specs.Kept.{input_in};
 ghost use Rattle.sk_trace.specs.declared.event.Event.TheVariants as events;
-ghost use Rattle.sk_holder.specs.Holder.{holding, GuessesPost, DecidesPost, FailsSome};
+ghost use Rattle.sk_holder.specs.Holder.{holding, GuessesPost, DecidesPost, FailsSome, BeginsPost};
 
 use sk_guesses::Guess;
 use sk_ids::{GuessId, Pid};
@@ -76,11 +76,29 @@ impl Holder {
         Refusal::Memory
     }
 
-    /// The place of a guess's token.
+    /// The place of the newest token, where it is a guess's.
+    fn newest_place(&self, id: GuessId) -> Option<usize>
+        ensures { IfSome result (λ place. slice_get self.now.held place ≡ Some id) }
+    {
+        let count = self.tokens.len();
+        if count == 0 {
+            return None;
+        }
+        let newest = count - 1;
+        if self.tokens[newest].id() == id {
+            return Some(newest);
+        }
+        None
+    }
+
+    /// The place of a guess's token. Mostly it is the newest or the oldest.
     fn place_of(&self, id: GuessId) -> Option<usize>
         ensures there { IfSome result (λ place. slice_get self.now.held place ≡ Some id) }
         ensures held { is_some result ≡ has id self.now.held }
     {
+        if let Some(newest) = self.newest_place(id) {
+            return Some(newest);
+        }
         for (place, token) in self.tokens.iter().enumerate() {
             if token.id() == id {
                 return Some(place);
@@ -164,6 +182,19 @@ impl Holder {
         self.kernel.new_epoch()
     }
 
+    /// Begins a new epoch where no guess is undecided, as the kernel does; the tokens that are left are of struck
+    /// guesses, and are let go. Refusals: `Undecided`, and nothing has changed; then `Memory`, where the kernel is as it was.
+    pub fn begin_epoch(&mut self) -> Result<(Trace, Texts), EpochRefusal>
+        ensures { BeginsPost result self.old self.new }
+    {
+        let undecided = self.kernel.undecided();
+        if undecided > 0 {
+            return Err(EpochRefusal::Undecided(undecided));
+        }
+        self.spend();
+        self.new_epoch()
+    }
+
     /// Ends a kernel of which no guess is held: its trace, and what its terminals have released. This takes no
     /// memory.
     pub fn shut(self) -> (Trace, Texts)
@@ -176,10 +207,12 @@ impl Holder {
         kernel.shut()
     }
 
-    /// Spends the tokens by failures, the oldest first: nothing is committed.
+    /// Spends the tokens by failures, the oldest first: nothing is committed. Where no guess is undecided they are of struck ones, and
+    /// nothing fails.
     fn spend(&mut self)
         ensures held { self.new.held ≡ [] }
         ensures fails { FailsSome self.old.kernel self.new.kernel }
+        ensures struck { undecided_at self.old.kernel ≡ [] → self.new.kernel ≡ self.old.kernel }
     {
         while let Some(token) = self.tokens.first() {
             let id = token.id();

@@ -24,3 +24,6 @@ returns-clause-held c =
     let kept : is_held c.args.id c.deref-token-items.result.now ≡ is_held c.args.id (drop c.loop-place.place c.deref-token-items.result.now) = c.loop-place.invariant in
     let none = subst (λ ts. is_held c.args.id ts ≡ false) same (kept ∙ none_past c.args.id c.deref-token-items.result.now c.loop-place.place past) in
     sym (subst (λ (h : HolderView). has c.args.id h.held ≡ false) c.self.view_is (held_ids c.args.id c.self.inside.tokens.items ∙ none))
+
+pub returns-in-Some-clause-held : goal.returns-in-Some-clause-held
+returns-in-Some-clause-held c = sym (has_at c.args.self.now.held c.in-Some.newest c.args.id c.in-Some.ensures)

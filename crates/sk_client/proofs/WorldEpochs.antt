@@ -1,0 +1,60 @@
+-- A new epoch of a world's desk leaves it joined with the server.
+use Rattle.std.proofs.Common.{◌≡◌, ◌+◌, List, [], ◌∷◌, ◌++◌, length, Option, Some, None, Result, Ok, Err, refl, sym, ◌∙◌, ap, subst}
+use Rattle.sk_terminal.specs.Terminals.{TerminalMap}
+use Rattle.sk_trace.specs.Trace.{TraceView}
+use Rattle.sk_kernel.specs.declared.kernel.EpochRefusal.{EpochRefusal}
+use Rattle.sk_kernel.specs.declared.kernel.EpochRefusal.TheVariants as epoch_refusals
+use Rattle.sk_kernel.specs.Kernel.{KernelView}
+use Rattle.sk_server.specs.declared.request.Request.{Request}
+use Rattle.sk_server.specs.declared.reply.Reply.{Reply}
+use Rattle.sk_server.specs.Server.{ServerView}
+use Rattle.sk_client.specs.declared.pending.PendingRequest.{PendingRequest}
+use Rattle.sk_client.specs.Desk.{DeskView, opened_at}
+use Rattle.sk_client.specs.DeskCalls.{DeskEpochPost}
+use Rattle.sk_client.specs.WorldView.{WorldView, AreReplies, IsJoined, WorldEpochPost}
+
+none_front : (xs ys : List PendingRequest) → xs ++ ys ≡ [] → xs ≡ []
+none_front [] ys h = refl
+none_front (x ∷ xs) ys h = absurd (let bad : x ∷ (xs ++ ys) ≡ [] = h in cc)
+
+none_behind : (xs ys : List PendingRequest) → xs ++ ys ≡ [] → ys ≡ []
+none_behind [] ys h = h
+none_behind (x ∷ xs) ys h = absurd (let bad : x ∷ (xs ++ ys) ≡ [] = h in cc)
+
+no_back : (rs : List Reply) (b : Request) → AreReplies rs (Some b) [] → ⊥
+no_back [] b h = h
+no_back (r ∷ rs) b h = h
+
+-- the same replies and the same request, beside a desk of no request with the same next number
+joined_anew : (s : ServerView) (rs : List Reply) (b : Option Request) (k : KernelView) (old : DeskView) → old.taken ≡ [] → old.waiting ≡ [] → IsJoined old s rs b → IsJoined (opened_at k old.next) s rs b
+joined_anew s rs (Some b) k old taken waiting j = absurd (no_back rs b (subst (AreReplies rs (Some b)) taken j.replies))
+joined_anew s rs None k old taken waiting j = record {
+  replies = subst (AreReplies rs None) taken j.replies;
+  next = (tt, j.next.1 ∙ ap (λ (qs : List PendingRequest). s.next + length qs) waiting);
+  last = j.last;
+}
+
+pub epoch_joined : (s : ServerView) (rs : List Reply) (b : Option Request) (result : Result (TraceView × TerminalMap) EpochRefusal) (old new : DeskView) → DeskEpochPost result old new
+    → IsJoined old s rs b → IsJoined new s rs b
+epoch_joined s rs b (Ok left) old new h j =
+    subst (λ (d : DeskView). IsJoined d s rs b) (sym h.2) (joined_anew s rs b new.kernel old (none_front old.taken old.waiting h.0) (none_behind old.taken old.waiting h.0) j)
+epoch_joined s rs b (Err (epoch_refusals.Undecided n)) old new h j = subst (λ (d : DeskView). IsJoined d s rs b) (sym h.2) j
+epoch_joined s rs b (Err epoch_refusals.Memory) old new h j = subst (λ (d : DeskView). IsJoined d s rs b) (sym h.1) j
+
+-- nothing is on its way, so that the world is that of the desk and the server
+none_on_its_way : (rs : List Reply) (b : Option Request) → AreReplies rs b [] → (rs ≡ []) × (b ≡ None)
+none_on_its_way [] None h = (refl, refl)
+none_on_its_way [] (Some b) h = absurd h
+none_on_its_way (r ∷ rs) None h = absurd h
+none_on_its_way (r ∷ rs) (Some b) h = absurd h
+
+abbrev pub world_of : DeskView → ServerView → List Reply → Option Request → WorldView
+world_of d s rs b = record { desk = d; server = s; replies = rs; back = b }
+
+pub epoch_left : (s : ServerView) (rs : List Reply) (b : Option Request) (result : Result (TraceView × TerminalMap) EpochRefusal) (old new : DeskView) → DeskEpochPost result old new
+    → IsJoined old s rs b → WorldEpochPost result (world_of old s rs b) (world_of new s rs b)
+epoch_left s rs b (Ok left) old new h j =
+    let none = none_on_its_way rs b (subst (AreReplies rs b) (none_front old.taken old.waiting h.0) j.replies) in
+    (h, λ i. world_of new s (none.0 i) (none.1 i))
+epoch_left s rs b (Err (epoch_refusals.Undecided n)) old new h j = ((h.0, h.1, refl), λ i. world_of (h.2 i) s rs b)
+epoch_left s rs b (Err epoch_refusals.Memory) old new h j = ((h.0, refl), λ i. world_of (h.1 i) s rs b)

@@ -5,7 +5,8 @@ use Rattle.std.specs.Ordering.{nat_cmp, eq_by_cmp}
 use Rattle.std.specs.Cmp.{nat_cmp_total, unsigned_tied}
 use Rattle.std.specs.FinMap.{entries, nat_cmp-IsAntisymmetric}
 use Rattle.std.specs.Global.{Vec}
-use Rattle.std.proofs.lemmas.Bool.{ne_eqb}
+use Rattle.std.proofs.lemmas.Bool.{ne_eqb, or_parts, true≢false}
+use Rattle.std.specs.List.{list_any}
 use Rattle.sk_record.specs.Run.{put}
 use Rattle.sk_record.specs.Effects.{is_in, written_value}
 use Rattle.sk_record.specs.Step.{Effect}
@@ -148,6 +149,31 @@ module _ {V : Type 0} where
         | false ↦ λ e. unwritten ws n v e
       ] out
 
+  -- what is set last is there
+  stays_set : (ws : List (ℕ × Option V)) (n : ℕ) (v : Option V) → list_any (λ w. is_none w.1) ws ≡ false → is_none v ≡ false → written_value nat_cmp ws n v ≡ None → ⊥
+  stays_set [] n v set some none = true≢false (sym (ap is_none none) ∙ some)
+  stays_set (w ∷ ws) n v set some none =
+      let parts = or_parts (is_none w.1) (list_any (λ x. is_none x.1) ws) set in
+      elim (eq_by_cmp nat_cmp n w.0) as (λ b. written_value nat_cmp ws n (cond b w.1 v) ≡ None → ⊥) [
+        | true ↦ λ gone. stays_set ws n w.1 parts.1 parts.0 gone
+        | false ↦ λ gone. stays_set ws n v parts.1 some gone
+      ] none
+
+  written_set : (ws : List (ℕ × Option V)) (n : ℕ) (v : Option V) → list_any (λ w. is_none w.1) ws ≡ false → is_in nat_cmp (names ws) n ≡ true → written_value nat_cmp ws n v ≡ None → ⊥
+  written_set [] n v set among none = true≢false (sym among)
+  written_set (w ∷ ws) n v set among none =
+      let parts = or_parts (is_none w.1) (list_any (λ x. is_none x.1) ws) set in
+      elim (eq_by_cmp nat_cmp n w.0) as (λ b. (b || is_in nat_cmp (names ws) n) ≡ true → written_value nat_cmp ws n (cond b w.1 v) ≡ None → ⊥) [
+        | true ↦ λ _ gone. stays_set ws n w.1 parts.1 parts.0 gone
+        | false ↦ λ later gone. written_set ws n v parts.1 later gone
+      ] among none
+
+-- where nothing of these is bare all keep what they have
+pub all_kept : {X S : Type 0} (some : Bool) (o : Option X) (s : Option S) → (some ≡ true → o ≡ None → ⊥) → s ≡ cond (some && is_none o) None s
+all_kept false o s apart = refl
+all_kept true None s apart = absurd (apart refl refl)
+all_kept true (Some x) s apart = refl
+
 -- a number without a string is none of these
 pub names_out : (es : Numbered) → IsTwoWay es → (bs : List (List ℕ)) (ks : List ℕ) → AreNames (number_of es) bs ks → (n : ℕ) → string_of es n ≡ None → is_in nat_cmp ks n ≡ false
 names_out es two [] [] are n none = refl
@@ -178,6 +204,14 @@ module _ {V O : Type 0} (es : Numbered) (a b : Parts ℕ V O) (fits : Fits es a)
   writes_it d mark t =
       let taken = t.takes fits.whole.status fits.whole.agrees in
       ap (λ (e : Effect ℕ V (ℕ × O)). e.written) (sym (ap (ok_or taken.effect) (sym (performs (look_at nat_cmp a.slots) d) ∙ taken.accepted)))
+
+  -- a step that makes nothing absent leaves something where it writes
+  pub set_shown : (d : Deed ℕ V O) (mark : Option ℕ) → list_any (λ w. is_none w.1) d.written ≡ false → Takes nat_cmp a d mark b → (n : ℕ) → is_in nat_cmp (names d.written) n ≡ true → slot_shown b.slots n ≡ None → ⊥
+  set_shown d mark set t n among bare =
+      let taken = t.takes fits.whole.status fits.whole.agrees in
+      let now = shown_none (look_at nat_cmp b.slots n) (log_at nat_cmp b.slots n) bare in
+      written_set d.written n (look_at nat_cmp a.slots n) set among
+      (ap (λ ws. written_value nat_cmp ws n (look_at nat_cmp a.slots n)) (sym (writes_it d mark t)) ∙ sym (taken.look n) ∙ now.0)
 
   pub fits_taken : (bs : List (List ℕ)) (d : Deed ℕ V O) → AreNames (number_of es) bs (names d.written) → (mark : Option ℕ) → ((g : ℕ) → mark ≡ Some g → a.guesses.drawn < g) → Takes nat_cmp a d mark b → Fits es b
   fits_taken bs d are mark next t =

@@ -21,7 +21,7 @@ ghost use Rattle.std.specs.Vec.{vec_capacity};
 
 use crate::Refusal;
 use crate::keys::Keys;
-use crate::numbers::{absent_dependents, give_back_any};
+use crate::numbers::{absent_dependents, give_back_any, makes_absent};
 use crate::refusal::named;
 use sk_guesses::{Guess, Status};
 use sk_ids::{GuessId, TagSet};
@@ -283,12 +283,13 @@ impl<V: Drop, O: Drop> Bytes<V, O> {
             self.keys.let_go(&self.kernel);
             return Err(Refusal::Memory);
         }
+        let makes_absent = makes_absent(self.keys.numbered.written.as_slice());
         if self.kernel.take(&mut self.keys.numbered).is_err() {
             self.keys.hand_back(step);
             self.keys.let_go(&self.kernel);
             return Err(Refusal::Memory);
         }
-        self.keys.let_go(&self.kernel);
+        self.keys.let_go_taken(&self.kernel, makes_absent);
         empty(step);
         Ok(())
     }

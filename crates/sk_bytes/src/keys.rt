@@ -1,12 +1,12 @@
 //! The keys that have numbers, and the step that is handed over with them.
-ghost use Rattle.std.specs.Prelude.{◌≡◌, ℕ, [], None, length, OnErr, OnOk};
+ghost use Rattle.std.specs.Prelude.{◌≡◌, ℕ, [], true, false, None, length, OnErr, OnOk};
 ghost use Rattle.std.specs.Ordering.{nat_cmp};
 ghost use Rattle.sk_record.specs.Effects.{is_in};
 ghost use Rattle.sk_renamed.specs.Renamed.{IsDeed};
 ghost use Rattle.sk_slots.specs.Slots.{log_at};
 ghost use Rattle.sk_index.specs.Index.{number_of};
 ghost use Rattle.sk_bytes.specs.Steps.{byte_deed, deed_in};
-ghost use Rattle.sk_bytes.specs.Told.{AllRest, IsTwoWay};
+ghost use Rattle.sk_bytes.specs.Told.{slot_shown, AllRest, IsTwoWay};
 ghost use Rattle.sk_bytes.specs.Numbers.{names, Gains, LetsGo};
 ghost use Rattle.sk_bytes.specs.Steps.{IsHandedOver, Swaps};
 
@@ -99,6 +99,29 @@ impl<V: Drop, O: Drop> Keys<V, O> {
         self.numbered.looked.clear();
         self.numbered.written.clear();
         give_back_all(&mut self.index, kernel, self.loose.as_slice());
+        self.loose.clear();
+    }
+
+    /// The same behind a step that was taken. Where it made no key absent each has something, and keeps its number.
+    pub(crate) fn let_go_taken(&mut self, kernel: &Speculator<Number, V, O>, makes_absent: bool)
+        requires two_way { IsTwoWay self.old.index }
+        requires rests { (n : ℕ) → AllRest (log_at nat_cmp kernel.now.slots n) }
+        requires set { makes_absent ≡ false
+            → (n : ℕ) → is_in nat_cmp self.old.loose.items n ≡ true
+            → slot_shown kernel.now.slots n ≡ None → ⊥ }
+        ensures gone { LetsGo self.old.index (is_in nat_cmp self.old.loose.items) kernel.now.slots
+            self.new.index }
+        ensures looked { self.new.numbered.looked.items ≡ [] }
+        ensures written { self.new.numbered.written.items ≡ [] }
+        ensures said { self.new.numbered.said ≡ self.old.numbered.said }
+        ensures loose { self.new.loose.items ≡ [] }
+    {
+        if makes_absent {
+            self.let_go(kernel);
+            return;
+        }
+        self.numbered.looked.clear();
+        self.numbered.written.clear();
         self.loose.clear();
     }
 }

@@ -1,5 +1,6 @@
 //! Numbers for the keys of a step, and what becomes of them behind it.
 ghost use Rattle.std.specs.Prelude.{◌≡◌, ◌∷◌, ◌++◌, ◌<◌, ℕ, true, [], None, Some, is_none, length, map, IfOk, OnErr, OnOk};
+ghost use Rattle.std.specs.List.{list_any};
 ghost use Rattle.std.specs.Ordering.{nat_cmp};
 ghost use Rattle.std.specs.Vec.{vec_capacity, vec_items, vec_len};
 ghost use Rattle.sk_record.specs.Effects.{is_in};
@@ -198,6 +199,18 @@ pub(crate) fn number_step<V, O>(
 {
     number_written(index, step.written.as_slice(), &mut numbered.written, loose)?;
     number_looked(index, step.looked.as_slice(), &mut numbered.looked)
+}
+
+/// Whether a write makes its key absent.
+pub(crate) fn makes_absent<V>(written: &[(Number, Option<V>)]) -> bool
+    ensures { result ≡ list_any (λ w. is_none w.1) written.now }
+{
+    for write in written {
+        if write.1.is_none() {
+            return true;
+        }
+    }
+    false
 }
 
 /// Exchanges what two have behind their names.

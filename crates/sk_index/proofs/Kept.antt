@@ -1,7 +1,6 @@
 -- What an index keeps holds after one string more, and after one less.
-use Rattle.std.proofs.Common.{◌≡◌, ◌≢◌, ℕ, zero, suc, ◌<◌, ◌≤◌, ◌^◌, true, false, ltb, List, [], ◌∷◌, Some, None, Ok, Err, cond, refl, sym, ap, ◌∙◌, subst, arith}
-use Rattle.std.specs.Prelude.{◌==◌, ◌||◌, ◌&&◌, not, Bool, Result, OnOk}
-use Rattle.std.specs.Result.{is_err}
+use Rattle.std.proofs.Common.{◌≡◌, ◌≢◌, ℕ, zero, suc, ◌<◌, ◌≤◌, ◌^◌, true, false, ltb, List, [], ◌∷◌, Some, None, cond, refl, sym, ap, ◌∙◌, subst, arith}
+use Rattle.std.specs.Prelude.{◌==◌, ◌||◌, ◌&&◌, not, Bool}
 use Rattle.std.specs.List.{filter, list_any}
 use Rattle.std.specs.Ordering.{nat_cmp, ordering_then, is_eq, is_le, is_lt}
 use Rattle.std.specs.Cmp.{nat_cmp_is}
@@ -10,8 +9,6 @@ use Rattle.std.specs.BTreeMap.Range.{range_contains}
 use Rattle.std.specs.declared.cmp.Ordering.{Ordering}
 use Rattle.std.specs.declared.cmp.Ordering.TheVariants.{Less, Equal, Greater}
 use Rattle.std.specs.BTreeMap.{is_at}
-use Rattle.std.specs.BTreeSet.{BTreeSet, contains}
-use Rattle.std.specs.BTreeSet as set
 use Rattle.std.specs.Global.{Vec}
 use Rattle.std.proofs.lemmas.Bool.{eqb-true, eqb-false, ltb-true, ltb-false}
 use Rattle.std.proofs.lemmas.Map.Lookups.{exact_unsigned, exact_pairs}
@@ -28,11 +25,7 @@ equal_of Greater is = absurd (cc)
 pub exact_place : (p q : ℕ × ℕ) → is_at (place_cmp p) q ≡ true → p ≡ q
 exact_place p q is = exact_pairs nat_cmp nat_cmp exact_unsigned exact_unsigned p q (equal_of (place_cmp p q) is)
 
-pub from_ok : {A E P : Type 0} (r : Result A E) → false ≡ is_err r → OnOk r P → P
-from_ok (Ok x) is p = p
-from_ok (Err e) is p = absurd (cc)
-
-still_true : (b x : Bool) → x ≡ true → cond b true x ≡ true
+pub still_true : (b x : Bool) → x ≡ true → cond b true x ≡ true
 still_true true x is = refl
 still_true false x is = is
 
@@ -44,10 +37,11 @@ elsewhere {P} m k here there =
       | false ↦ λ e. there (eqb-false m k e)
     ] refl
 
-module _ (hash : List ℕ → ℕ) (old : Slab (Vec ℕ)) (places : BTreeSet (ℕ × ℕ)) (is : IsIndex hash old places) where
-  module _ (mid new : Slab (Vec ℕ)) (more : BTreeSet (ℕ × ℕ)) (k : ℕ) (v : Vec ℕ) (kept : mid.slots ≡ old.slots)
+module _ (hash : List ℕ → ℕ) (old : Slab (Vec ℕ)) (under : ℕ × ℕ → Bool) (is : IsIndex hash old under) where
+  module _ (mid new : Slab (Vec ℕ)) (more : ℕ × ℕ → Bool) (k : ℕ) (v : Vec ℕ) (kept : mid.slots ≡ old.slots)
       (was : get mid k ≡ None) (updates : Updates mid new k (Some v))
-      (key : ℕ × ℕ) (is_key : key ≡ (hash v.items, k)) (put : set.Updates place_cmp places more key true)
+      (key : ℕ × ℕ) (is_key : key ≡ (hash v.items, k)) (put : more key ≡ true)
+      (stays : (q : ℕ × ℕ) → under q ≡ true → more q ≡ true)
       (fits : k < 2 ^ 64) (none : number_of (numbered 0 old.slots) v.items ≡ None) where
     was_none : strings.at old.slots k ≡ None
     was_none = ap (λ vs. strings.at vs k) (sym kept) ∙ was
@@ -70,18 +64,17 @@ module _ (hash : List ℕ → ℕ) (old : Slab (Vec ℕ)) (places : BTreeSet (�
           let same : w ≡ v = there w (ap (get new) (sym here) ∙ gets) in
           let at : key ≡ (hash w.items, n) =
           is_key ∙ (λ i. (ap (λ (x : Vec ℕ). hash x.items) (sym same) i, sym here i)) in
-          subst (λ q. contains place_cmp more q ≡ true) at put.1)
-          (λ other. put.0 (hash w.items, n)
-          ∙ still_true (is_at (place_cmp key) (hash w.items, n)) (contains place_cmp places (hash w.items, n))
-          (is.found n w (sym (others n other) ∙ gets)));
+          subst (λ q. more q ≡ true) at put)
+          (λ other. stays (hash w.items, n) (is.found n w (sym (others n other) ∙ gets)));
       small = λ n w gets.
           elsewhere n k (λ here. subst (λ m. m < 2 ^ 64) (sym here) fits)
           (λ other. is.small n w (sym (others n other) ∙ gets));
     }
 
-  module _ (new : Slab (Vec ℕ)) (less : BTreeSet (ℕ × ℕ)) (k : ℕ) (v : Vec ℕ) (was : get old k ≡ Some v)
+  module _ (new : Slab (Vec ℕ)) (less : ℕ × ℕ → Bool) (k : ℕ) (v : Vec ℕ) (was : get old k ≡ Some v)
       (updates : Updates old new k None)
-      (key : ℕ × ℕ) (is_key : key ≡ (hash v.items, k)) (gone : set.Updates place_cmp places less key false) where
+      (key : ℕ × ℕ) (is_key : key ≡ (hash v.items, k))
+      (gone : (q : ℕ × ℕ) → (q ≡ key → ⊥) → under q ≡ true → less q ≡ true) where
     pub removes : Removes (numbered 0 old.slots) v.items k (numbered 0 new.slots)
     removes = strings.removes old.slots new.slots k updates.others is.apart v was updates.changed
 
@@ -90,19 +83,12 @@ module _ (hash : List ℕ → ℕ) (old : Slab (Vec ℕ)) (places : BTreeSet (�
         let other : n ≢ k = λ same. strings.some_none w (sym gets ∙ ap (get new) same ∙ updates.changed) in
         (other, sym (updates.others n other) ∙ gets)
 
-    not_key : (n : ℕ) (w : Vec ℕ) → n ≢ k → (b : Bool) → is_at (place_cmp key) (hash w.items, n) ≡ b → b ≡ false
-    not_key n w other false at = refl
-    not_key n w other true at =
-        absurd (other (sym (ap (λ (q : ℕ × ℕ). q.1) (sym is_key ∙ exact_place key (hash w.items, n) at))))
-
     pub removed : IsIndex hash new less
     removed = record {
       apart = strings.removed_apart old.slots new.slots k updates.others is.apart v was updates.changed;
       found = λ n w gets.
           let had = before n w gets in
-          let apart_key : is_at (place_cmp key) (hash w.items, n) ≡ false =
-          not_key n w had.0 (is_at (place_cmp key) (hash w.items, n)) refl in
-          gone.2 (hash w.items, n) apart_key ∙ is.found n w had.1;
+          gone (hash w.items, n) (λ same. had.0 (ap (λ (q : ℕ × ℕ). q.1) (same ∙ is_key))) (is.found n w had.1);
       small = λ n w gets. is.small n w (before n w gets).1;
     }
 

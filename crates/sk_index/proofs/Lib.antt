@@ -1,3 +1,4 @@
 pub mod Strings
 pub mod Kept
 pub mod Counts
+pub mod Under

@@ -7,9 +7,10 @@ ghost use Rattle.std.specs.Ordering.{nat_cmp};
 ghost use Rattle.sk_index.specs.Index.{number_of, numbers_in, string_of, Adds, AreApart, Removes};
 
 use crate::Number;
+use crate::places::Places;
 use slab::Slab;
 use std::alloc::{AllocError, Global};
-use std::collections::BTreeSet;
+use std::collections::{BTreeSet, HashMap};
 use std::hash::{DefaultHasher, Hasher};
 use std::marker::Model;
 
@@ -20,15 +21,15 @@ pub struct Index {
     /// What each string is hashed from.
     seed: DefaultHasher,
     strings: Slab<Vec<u8>>,
-    /// The hash of each string, with its place.
-    places: BTreeSet<(u64, usize)>,
+    /// The place of each string under its hash.
+    places: Places,
 }
 
 impl Model for Index {
     ghost use Rattle.std.specs.Prelude.{ℕ, List};
     ghost use Rattle.std.specs.Coded.{coded_list, coded×, coded_ℕ};
     ghost use Rattle.std.specs.Hash.DefaultHasher.{finish, write};
-    ghost use Rattle.sk_index.specs.Inside.{numbered, IsIndex};
+    ghost use Rattle.sk_index.specs.Inside.{is_under, numbered, IsIndex};
 
     ghost Value = { List (List ℕ × ℕ) };
 
@@ -36,7 +37,8 @@ impl Model for Index {
 
     ghost view = { λ a. numbered 0 a.strings.slots };
 
-    ghost invariant = { λ a. IsIndex (λ s. finish (write a.seed s)) a.strings a.places };
+    ghost invariant = { λ a. IsIndex (λ s. finish (write a.seed s)) a.strings
+        (is_under a.places.firsts a.places.others) };
 }
 
 /// What a string comes to under a hash.
@@ -59,7 +61,10 @@ impl Index {
             alloc,
             seed: hasher,
             strings: Slab::new(alloc),
-            places: BTreeSet::new(alloc),
+            places: Places {
+                firsts: HashMap::new(alloc),
+                others: BTreeSet::new(alloc),
+            },
         }
     }
 
@@ -68,7 +73,10 @@ impl Index {
         ensures { result ≡ number_of self.now bytes.now }
     {
         let hash = hash_of(self.seed, bytes);
-        for place in self.places.range((hash, 0)..=(hash, usize::MAX)) {
+        if let Some(number) = self.number_at(self.places.first(hash), bytes) {
+            return Some(number);
+        }
+        for place in self.places.others.range((hash, 0)..=(hash, usize::MAX)) {
             if self.is_at(place.1, bytes) {
                 return Some(Number::new(place.1));
             }
@@ -96,9 +104,7 @@ impl Index {
         let hash = hash_of(self.seed, bytes);
         self.strings.reserve(1)?;
         let place = self.strings.vacant_key();
-        if self.places.insert((hash, place)).is_err() {
-            return Err(AllocError);
-        }
+        self.places.insert(hash, place)?;
         Ok(Number::new(self.strings.insert_reserved(string)))
     }
 
@@ -110,7 +116,7 @@ impl Index {
     {
         let string = self.strings.try_remove(number.place())?;
         let hash = hash_of(self.seed, string.as_slice());
-        self.places.remove(&(hash, number.place()));
+        self.places.remove(hash, number.place());
         Some(string)
     }
 
@@ -133,6 +139,20 @@ impl Index {
         ensures rising { IsStrictlySortedBy nat_cmp (numbers_in self.now) }
     {
         self.strings.capacity()
+    }
+
+    /// The number of a string, if it stands in a place that may have it.
+    fn number_at(&self, place: Option<usize>, bytes: &[u8]) -> Option<Number>
+        ensures some { IfSome result (λ n. string_of self.now n ≡ Some bytes.now) }
+        ensures none { result ≡ None
+            → (n : ℕ) → place ≡ Some n → string_of self.now n ≡ Some bytes.now → ⊥ }
+    {
+        let place = place?;
+        if self.is_at(place, bytes) {
+            Some(Number::new(place))
+        } else {
+            None
+        }
     }
 
     /// Whether this string stands in a place.

@@ -3,6 +3,7 @@
 
 mod index;
 mod number;
+mod places;
 
 pub use index::Index;
 pub use number::Number;

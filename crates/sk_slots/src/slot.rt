@@ -5,7 +5,7 @@ ghost use Rattle.sk_record.specs.Notes.{last_tags, unwound, cut, committed};
 ghost use Rattle.sk_record.specs.Merged.{merged, same_tags};
 ghost use Rattle.sk_inversion.specs.Undone.{value_before, FitsBefore};
 ghost use Rattle.sk_slots.specs.Kept.{newest_tags, seen, CanGoBack, CanTakeIn};
-ghost use Rattle.sk_slots.specs.Slot.{goes_unnoted, noted_on, is_bare, IsPrepared};
+ghost use Rattle.sk_slots.specs.Slot.{goes_unnoted, noted_on, is_bare, is_settled, IsPrepared};
 
 use crate::notes::{
     Kept, Notes, before_first, go_back, goes_unnoted, lighten, merge, take_in_newest,
@@ -114,6 +114,13 @@ impl<V, I: Inversion<V>> Slot<V, I> {
         self.value.is_none() && self.log.is_empty()
     }
 
+    /// Whether there is a value or a note, and no room for the next note.
+    fn is_settled(&self) -> bool
+        ensures { result ≡ is_settled self.now }
+    {
+        self.ready.is_none() && !self.is_bare()
+    }
+
     /// Lets go of the room that was made for the next note, and answers whether there is a value or a note.
     pub fn settle(&mut self) -> bool
         ensures slot { self.new ≡ record self.old { ready = None } }
@@ -142,25 +149,30 @@ impl<V: Drop, I: Inversion<V>> Slot<V, I> {
         Ok(())
     }
 
-    /// Sets or changes what is there, where what is to be noted has room. An old value is moved into the note.
-    pub fn write(&mut self, tags: &TagSet, write: I::Write)
+    /// Sets or changes what is there, where what is to be noted has room. An old value is moved into the note. Answers whether
+    /// there is a value or a note now, and no room for the next note.
+    pub fn write(&mut self, tags: &TagSet, write: I::Write) -> bool
         requires { IsPrepared tags.now self.old }
         ensures value { self.new.value ≡ I.written write self.old.value }
         ensures log { self.new.log ≡ noted_on tags.now self.old.value self.old.log }
         ensures again { IsPrepared tags.now self.new }
+        ensures settled { result ≡ is_settled self.new }
     {
         let before = I::write(&mut self.value, write);
         note::<V, I>(&mut self.log, &mut self.ready, tags, before);
+        self.is_settled()
     }
 
     /// Takes a guess out of all notes, and drops those that then rest on nothing, or on just what the note before
-    /// them rests on. It takes no memory.
-    pub fn commit(&mut self, id: GuessId)
+    /// them rests on. It takes no memory. Answers as `write` does.
+    pub fn commit(&mut self, id: GuessId) -> bool
         ensures value { self.new.value ≡ self.old.value }
         ensures log { self.new.log ≡ merged [] (committed id self.old.log) }
+        ensures settled { result ≡ is_settled self.new }
     {
         lighten::<V, I>(&mut self.log, id);
         merge::<V, I>(&mut self.log);
+        self.is_settled()
     }
 
     /// Puts back what was there before the first write that rests on the guess. It takes no memory.

@@ -106,8 +106,8 @@ impl<K: Key, V: Drop, I: Inversion<V>> Slots<K, V, I> {
         self.slots.put(*key, slot)
     }
 
-    /// Sets or changes what a key has, where what is to be noted has room.
-    pub fn write(&mut self, key: &K, tags: &TagSet, write: I::Write)
+    /// Sets or changes what a key has, where what is to be noted has room. Answers whether nothing is left to be settled of it.
+    pub fn write(&mut self, key: &K, tags: &TagSet, write: I::Write) -> bool
         requires { IsReady K.order tags.now self.old key.now }
         ensures look { (q : K) → look_at K.order self.new q
             ≡ (if eq_by_cmp K.order q key.now then I.written write (look_at K.order self.old q) else
@@ -119,6 +119,9 @@ impl<K: Key, V: Drop, I: Inversion<V>> Slots<K, V, I> {
             → IsReady K.order tags.now self.new q }
         ensures settled { (keys : List K) → is_in K.order keys key.now ≡ true
             → SettledBut K.order keys self.old → SettledBut K.order keys self.new }
+        ensures done { result ≡ true
+            → (keys : List K) → SettledBut K.order (key.now ∷ keys) self.old
+            → SettledBut K.order keys self.new }
     {
         match self.slots.get_mut(key) {
             Some(slot) => slot.write(tags, write),
@@ -143,19 +146,36 @@ impl<K: Key, V: Drop, I: Inversion<V>> Slots<K, V, I> {
         self.slots.remove(key);
     }
 
-    /// Takes a guess out of the notes of one key.
-    fn commit_at(&mut self, key: &K, id: GuessId)
+    /// Takes a guess out of the notes of one key, and answers whether nothing is left to be settled of it.
+    fn commit_at(&mut self, key: &K, id: GuessId) -> bool
         ensures look { (q : K) → look_at K.order self.new q ≡ look_at K.order self.old q }
         ensures log { (q : K) → log_at K.order self.new q
             ≡ (if eq_by_cmp K.order q key.now then merged [] (committed id
             (log_at K.order self.old q)) else log_at K.order self.old q) }
         ensures settled { (keys : List K) → is_in K.order keys key.now ≡ true
             → SettledBut K.order keys self.old → SettledBut K.order keys self.new }
+        ensures done { result ≡ true
+            → (keys : List K) → SettledBut K.order (key.now ∷ keys) self.old
+            → SettledBut K.order keys self.new }
     {
         let Some(slot) = self.slots.get_mut(key) else {
-            return;
+            return false;
         };
-        slot.commit(id);
+        slot.commit(id)
+    }
+
+    /// The same, and lets go of the slot where nothing is there and nothing is noted.
+    fn commit_one(&mut self, key: &K, id: GuessId)
+        ensures look { (q : K) → look_at K.order self.new q ≡ look_at K.order self.old q }
+        ensures log { (q : K) → log_at K.order self.new q
+            ≡ (if eq_by_cmp K.order q key.now then merged [] (committed id
+            (log_at K.order self.old q)) else log_at K.order self.old q) }
+        ensures settled { AllSettled K.order self.old → AllSettled K.order self.new }
+    {
+        if self.commit_at(key, id) {
+            return;
+        }
+        self.settle(key);
     }
 
     /// Takes back what rests on a guess at one key.
@@ -185,8 +205,7 @@ impl<K: Key, V: Drop, I: Inversion<V>> Slots<K, V, I> {
         ensures settled { AllSettled K.order self.old → AllSettled K.order self.new }
     {
         for key in keys {
-            self.commit_at(key, id);
-            self.settle(key);
+            self.commit_one(key, id);
         }
     }
 

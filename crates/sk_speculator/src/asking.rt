@@ -14,7 +14,7 @@ ghost use Rattle.sk_speculator.specs.Emptied.{IsEmptied};
 
 use crate::Step;
 use crate::lists::{depend_all, relieve_written};
-use crate::writes::{add_tags, add_written_tags, prepare_all, settle_all, write_all};
+use crate::writes::{add_tags, add_written_tags, prepare_all, settle_all, settle_rest, write_all};
 use sk_guesses::OpenGuesses;
 use sk_ids::{GuessId, TagSet};
 use sk_inversion::Inversion;
@@ -217,8 +217,8 @@ where
     ensures emptied { IsEmptied step.old step.new }
 {
     let written = step.written.as_mut_slice();
-    write_all(slots, &tags, written);
-    settle_all(slots, written);
+    let done = write_all(slots, &tags, written);
+    settle_rest(slots, written, done);
     step.looked.clear();
     step.written.clear();
     if let Some((to, output)) = mem::replace(&mut step.said, None) {

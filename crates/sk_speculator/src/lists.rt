@@ -1,9 +1,9 @@
 //! The lists of what rests on each undecided guess, as steps and failures change them.
-ghost use Rattle.std.specs.Prelude.{◌≡◌, [], OnErr, OnOk};
+ghost use Rattle.std.specs.Prelude.{◌≡◌, ℕ, [], true, OnErr, OnOk};
 ghost use Rattle.sk_guesses.specs.Dependents.{tags_by, with_tags, AllAlmostExact, AllExact, Covers, Depends};
 ghost use Rattle.sk_guesses.specs.Kept.{keys_of};
 ghost use Rattle.sk_guesses.specs.Opens.{opens_of};
-ghost use Rattle.sk_record.specs.Notes.{last_tags};
+ghost use Rattle.sk_record.specs.Notes.{has, last_tags};
 ghost use Rattle.sk_slots.specs.Slots.{log_at};
 
 use sk_guesses::OpenGuesses;
@@ -28,19 +28,40 @@ pub(crate) fn tags_of<'a, K: Key, V, I: Inversion<V>>(
     }
 }
 
-/// Adds a key to the lists of these guesses. Most keys rest on just these already, and are there.
-fn depend<K: Key>(
+/// Whether a key is in the lists of all these guesses. It is not looked up for one guess, since adding it costs no more.
+fn is_known_to_rest<K: Key, V, I: Inversion<V>>(
+    slots: &Slots<K, V, I>,
+    no_tags: &TagSet,
+    tags: &TagSet,
+    key: &K,
+) -> bool
+    requires { no_tags.now ≡ [] }
+    ensures { result ≡ true
+        → (g : ℕ) → has g tags.now ≡ true
+        → has g (last_tags [] (log_at K.order slots.now key.now)) ≡ true }
+{
+    if tags.ids().len() == 1 {
+        return false;
+    }
+    no_tags.covers(tags) || tags_of(slots, no_tags, key).covers(tags)
+}
+
+/// Adds a key to the lists of these guesses.
+fn depend<K: Key, V, I: Inversion<V>>(
     guesses: &mut OpenGuesses<K>,
-    own: &TagSet,
+    slots: &Slots<K, V, I>,
+    no_tags: &TagSet,
     tags: &TagSet,
     key: &K,
 ) -> Result<(), AllocError>
+    requires { no_tags.now ≡ [] }
     ensures view { guesses.new.view ≡ guesses.old.view }
     ensures ok { OnOk result
-        (Depends K.order own.now tags.now key.now guesses.old.opens guesses.new.opens) }
+        (Depends K.order (last_tags [] (log_at K.order slots.now key.now)) tags.now key.now
+        guesses.old.opens guesses.new.opens) }
     ensures err { OnErr result (guesses.new.opens ≡ guesses.old.opens) }
 {
-    if own.covers(tags) {
+    if is_known_to_rest(slots, no_tags, tags, key) {
         return Ok(());
     }
     guesses.depend(tags, key)
@@ -69,8 +90,7 @@ pub(crate) fn depend_all<K: Key, V, I: Inversion<V>>(
         (AllExact K.order (tags_by (log_at K.order slots.now)) guesses.new.opens) }
 {
     for write in written {
-        let own = tags_of(slots, no_tags, &write.0);
-        if depend(guesses, own, tags, &write.0).is_err() {
+        if depend(guesses, slots, no_tags, tags, &write.0).is_err() {
             relieve_written(guesses, slots, no_tags, written);
             return Err(AllocError);
         }

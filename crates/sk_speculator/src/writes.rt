@@ -99,12 +99,12 @@ fn take_write<K: Key, W: Default>(write: &mut (K, W)) -> (K, W)
     (write.0, mem::take(&mut write.1))
 }
 
-/// Makes writes that are ready, all with these tags. They are moved out.
+/// Makes writes that are ready, all with these tags, and answers whether nothing is left to be settled. They are moved out.
 pub(crate) fn write_all<K: Key, V: Drop, I: Inversion<V>>(
     slots: &mut Slots<K, V, I>,
     tags: &TagSet,
     written: &mut [(K, I::Write)],
-)
+) -> bool
     requires ready { (q : K) → is_in K.order (keys_of written.old) q ≡ true
         → IsReady K.order tags.now slots.old q }
     requires clean { (q : K) → is_in K.order (keys_of written.old) q ≡ true → tags.now ≡ []
@@ -114,11 +114,15 @@ pub(crate) fn write_all<K: Key, V: Drop, I: Inversion<V>>(
     ensures keys { keys_of written.new ≡ keys_of written.old }
     ensures settled { SettledBut K.order (keys_of written.old) slots.old
         → SettledBut K.order (keys_of written.old) slots.new }
+    ensures done { result ≡ true → SettledBut K.order (keys_of written.old) slots.old
+        → AllSettled K.order slots.new }
 {
+    let mut done = true;
     for place in 0..written.len() {
         let (key, write) = take_write(&mut written[place]);
-        slots.write(&key, tags, write);
+        done &= slots.write(&key, tags, write);
     }
+    done
 }
 
 /// Lets go of the room that was made for notes of these keys, and of slots of which there is nothing. It takes no memory.
@@ -134,4 +138,22 @@ pub(crate) fn settle_all<K: Key, V: Drop, I: Inversion<V>>(
     for write in written {
         slots.settle(&write.0);
     }
+}
+
+/// The same behind writes, where something may be left to be settled.
+pub(crate) fn settle_rest<K: Key, V: Drop, I: Inversion<V>>(
+    slots: &mut Slots<K, V, I>,
+    written: &[(K, I::Write)],
+    done: bool,
+)
+    requires { done ≡ true → AllSettled K.order slots.old }
+    ensures look { (q : K) → look_at K.order slots.new q ≡ look_at K.order slots.old q }
+    ensures log { (q : K) → log_at K.order slots.new q ≡ log_at K.order slots.old q }
+    ensures settled { SettledBut K.order (keys_of written.now) slots.old
+        → AllSettled K.order slots.new }
+{
+    if done {
+        return;
+    }
+    settle_all(slots, written);
 }

@@ -1,10 +1,11 @@
 -- One key more is in the lists of all the guesses; without memory all are taken out again.
-use Rattle.std.proofs.Common.{◌≡◌, ◌++◌, ◌∷◌, [], take, sym, ◌∙◌, ap, subst}
+use Rattle.std.proofs.Common.{◌≡◌, ◌++◌, ◌∷◌, [], take, refl, sym, ◌∙◌, ap, subst}
 use Rattle.std.specs.Cmp.{IsTotalOrder}
 use Rattle.std.specs.FinMap.{IsAntisymmetric}
 use Rattle.sk_guesses.specs.Dependents.{AllAlmostExact, AllExact, tags_by, with_tags}
 use Rattle.sk_guesses.specs.Kept.{keys_of}
 use Rattle.sk_guesses.specs.Opens.{opens_of}
+use Rattle.sk_record.specs.Notes.{last_tags}
 use Rattle.sk_guesses.proofs.Listed.{almost_of, depends_exact, depends_opens}
 use Rattle.sk_slots.specs.Slots.{log_at}
 use Rattle.sk_speculator.proofs.Writing.{from_ok, from_err, in_front, in_place, keys_more, take_all, take_next}
@@ -35,12 +36,13 @@ loop-write-preserved g c =
     let i = c.loop-write.write-index in
     let w = c.write-item.result in
     let tags = c.args.tags.now in
+    let own = last_tags [] (log_at R c.args.slots.now w.0) in
     let depends = from_ok c.depend.result c.if-is_err.ensures.value c.depend.ensures.ok in
     let here = in_place {R = R} total ws i w c.loop-write-test.true c.write-item.is in (
       c.depend.ensures.view ∙ c.loop-write.invariant.0,
-      depends_opens total exact c.tags_of-own.result.now tags w.0 c.loop-write.guesses.opens c.depend.new.guesses.opens depends ∙ c.loop-write.invariant.1,
+      depends_opens total exact own tags w.0 c.loop-write.guesses.opens c.depend.new.guesses.opens depends ∙ c.loop-write.invariant.1,
       subst (λ ks. AllExact R (with_tags R tags ks base) c.depend.new.guesses.opens) (sym (ap keys_of (take_next ws i w c.loop-write-test.true c.write-item.is) ∙ keys_more (take i ws) (w ∷ [])))
-          (depends_exact total exact tags (keys_of (take i ws)) w.0 base c.tags_of-own.result.now c.tags_of-own.ensures (λ n. c.requires.covers w.0 n here) c.loop-write.guesses.opens c.depend.new.guesses.opens depends c.loop-write.invariant.2),
+          (depends_exact total exact tags (keys_of (take i ws)) w.0 base own refl (λ n. c.requires.covers w.0 n here) c.loop-write.guesses.opens c.depend.new.guesses.opens depends c.loop-write.invariant.2),
     )
 
 pub returns-clause-ok : goal.returns-clause-ok

@@ -2,15 +2,15 @@
 use Rattle.std.proofs.Common.{◌≡◌, ℕ, ◌<◌, ◌+◌, ◌∷◌, ◌||◌, true, length, drop, arith, sym, ◌∙◌, ap, subst, slice_set}
 use Rattle.std.specs.Cmp.{IsTotalOrder, eq_by_cmp_equiv}
 use Rattle.std.specs.FinMap.{IsAntisymmetric}
-use Rattle.std.proofs.lemmas.Bool.{or_left}
+use Rattle.std.proofs.lemmas.Bool.{and_parts, or_left}
 use Rattle.sk_guesses.specs.Kept.{keys_of}
 use Rattle.sk_record.specs.Effects.{is_in}
-use Rattle.sk_slots.specs.Slots.{IsReady}
+use Rattle.sk_slots.specs.Slots.{IsReady, SettledBut}
 use Rattle.sk_speculator.proofs.Writing.{Writing, drop_all, drop_more, drop_next, drop_set, in_place, keys_set, set_length, writing_done, writing_more}
 use Rattle.sk_speculator.proofs.writes.write_all.Goals as goal
 
-pub write-requires : goal.write-requires
-write-requires g c =
+pub write-done-requires : goal.write-done-requires
+write-done-requires g c =
     let R = g.K.Key.order in
     let total = subst IsTotalOrder g.met.K.Key.same g.met.K.Ord.total in
     let l = c.loop-place in
@@ -35,15 +35,19 @@ loop-place-preserved g c =
     let one : w ≡ c.take_write-key.result = λ i. (own i, value i) in
     let from : drop l.place all ≡ c.take_write-key.result ∷ drop (l.place + 1) all = sym l.invariant.1 ∙ drop_next l.written l.place w lt c.index-written-place.is ∙ (λ i. one i ∷ behind i) in
     let left = c.take_write-key.new.write in (
-      writing_more R g.I.Inversion.written c.args.tags.now c.args.slots.now all exact l.slots c.write.new.self c.take_write-key.result.0 c.take_write-key.result.1 (drop (l.place + 1) all)
-          (subst (Writing R g.I.Inversion.written c.args.tags.now c.args.slots.now all l.slots) from l.invariant.0) c.write.ensures.look c.write.ensures.log c.write.ensures.ready,
+      writing_more R g.I.Inversion.written c.args.tags.now c.args.slots.now all exact l.slots c.write-done.new.self c.take_write-key.result.0 c.take_write-key.result.1 (drop (l.place + 1) all)
+          (subst (Writing R g.I.Inversion.written c.args.tags.now c.args.slots.now all l.slots) from l.invariant.0) c.write-done.ensures.look c.write-done.ensures.log c.write-done.ensures.ready,
       drop_set l.written l.place left ∙ behind,
       keys_set l.written l.place w left lt c.index-written-place.is (c.take_write-key.ensures.left ∙ sym (ap (λ (p : _ × _). p.0) c.index-written-place.is)) ∙ l.invariant.2,
       set_length l.written l.place left ∙ l.invariant.3,
       λ before.
-          c.write.ensures.settled (keys_of all)
+          c.write-done.ensures.settled (keys_of all)
           (subst (λ k. is_in R (keys_of all) k ≡ true) own (ap (λ ks. is_in R ks w.0) (sym l.invariant.2) ∙ in_place {R = R} total l.written l.place w lt c.index-written-place.is))
           (l.invariant.4 before),
+      λ done before.
+          let both = and_parts l.done c.write-done.result done in
+          c.write-done.ensures.done both.1 (keys_of (drop (l.place + 1) all))
+          (subst (λ xs. SettledBut R (keys_of xs) l.slots) from (l.invariant.5 both.0 before)),
     )
 
 pub returns-clause-performed : goal.returns-clause-performed
@@ -53,3 +57,10 @@ returns-clause-performed g c =
     let all = c.args.written.now in
     writing_done R g.I.Inversion.written c.args.tags.now c.args.slots.now all l.slots c.requires.clean
     (subst (Writing R g.I.Inversion.written c.args.tags.now c.args.slots.now all l.slots) (drop_all all l.place c.loop-place-test.false) l.invariant.0)
+
+pub returns-clause-done : goal.returns-clause-done
+returns-clause-done g c = λ done before.
+    let R = g.K.Key.order in
+    let l = c.loop-place in
+    let all = c.args.written.now in
+    subst (λ xs. SettledBut R (keys_of xs) l.slots) (drop_all all l.place c.loop-place-test.false) (l.invariant.5 done before)

@@ -1,5 +1,5 @@
--- What is left to write.
-use Rattle.std.proofs.Common.{◌≡◌, length, drop}
+-- What is left to write, and what may be left to settle.
+use Rattle.std.proofs.Common.{◌≡◌, true, length, drop}
 use Rattle.sk_guesses.specs.Kept.{keys_of}
 use Rattle.sk_slots.specs.Slots.{SettledBut}
 use Rattle.sk_speculator.proofs.Writing.{Writing}
@@ -13,3 +13,5 @@ invariant-loop-place g l =
     × (keys_of l.written ≡ keys_of l.fn.written)
     × (length l.written ≡ length l.fn.written)
     × (SettledBut R (keys_of l.fn.written) l.fn.slots → SettledBut R (keys_of l.fn.written) l.slots)
+    × (l.done ≡ true → SettledBut R (keys_of l.fn.written) l.fn.slots
+    → SettledBut R (keys_of (drop l.place l.fn.written)) l.slots)

@@ -1,5 +1,7 @@
 -- The step that is taken over numbers is taken over strings, and one that is refused changes nothing that is told.
 use Rattle.std.proofs.Common.{None, sym, ap, ◌∙◌, subst}
+use Rattle.std.specs.Prelude.{is_none}
+use Rattle.std.specs.List.{list_any}
 use Rattle.std.specs.Ordering.{nat_cmp}
 use Rattle.std.specs.Vec.{vec_items}
 use Rattle.sk_deeds.specs.Deed.{Deed}
@@ -13,7 +15,7 @@ use Rattle.sk_bytes.specs.Numbers.{names}
 use Rattle.sk_bytes.specs.Steps.{byte_deed, deed_in}
 use Rattle.sk_bytes.specs.Told.{told_of, ByteView, Fits, UsedBut}
 use Rattle.sk_bytes.proofs.Told.{taken_whole, takes_told}
-use Rattle.sk_bytes.proofs.Fitting.{any_err, fits_less, fits_more, fits_same, fits_taken, told_still, unchanged, writes_names}
+use Rattle.sk_bytes.proofs.Fitting.{any_err, fits_less, fits_more, fits_same, fits_taken, set_shown, told_still, unchanged, writes_names}
 use Rattle.sk_bytes.proofs.Used.{used_less, used_more, used_same, used_taken}
 use Rattle.sk_bytes.proofs.bytes.Bytes.take.Goals as goal
 
@@ -48,8 +50,8 @@ returns-then-is_err-2-clause-err g c =
     unchanged c.args.self.now es left.index m b c.self.inside.keys.loose.items left.loose.items c.self.view_is
     (three.1 ∙ ap (λ fs. told_of fs b) c.hand_back.ensures.index ∙ same.1 ∙ two.1 ∙ one.1) c.let_go-then-is_err-2.ensures.loose
 
-pub let_go-requires-2-clause-rests : goal.let_go-requires-2-clause-rests
-let_go-requires-2-clause-rests g c =
+pub let_go_taken-requires-clause-rests : goal.let_go_taken-requires-clause-rests
+let_go_taken-requires-clause-rests g c =
     let es = c.self.inside.keys.index in
     let m = c.self.inside.kernel in
     let b = c.take.new.self in
@@ -62,13 +64,26 @@ let_go-requires-2-clause-rests g c =
     let after = fits_taken mid.index m b two.0 (names d.written) (deed_in mid.numbered) (writes_names (number_of mid.index) d.written mid.numbered.written.items deed.written) None (no_next m.guesses.drawn) takes in
     after.rests
 
+pub let_go_taken-requires-clause-set : goal.let_go_taken-requires-clause-set
+let_go_taken-requires-clause-set g c = λ set n among.
+    let es = c.self.inside.keys.index in
+    let m = c.self.inside.kernel in
+    let b = c.take.new.self in
+    let mid = c.hand_over.new.self in
+    let one = fits_less es c.let_go.new.self.index m (is_in nat_cmp c.self.inside.keys.loose.items) c.self.invariant.0.fits c.let_go.ensures.gone in
+    let two = fits_more c.let_go.new.self.index mid.index m mid.loose.items one.0 c.hand_over.ensures.gains in
+    let over = sym c.if-is_err.false ∙ c.is_err.ensures.value in
+    let takes = taken_whole m b mid.numbered None (from_ok c.take.result (sym c.if-is_err-2.false ∙ c.is_err-2.ensures.value) c.take.ensures.ok) in
+    let loose = from_ok c.hand_over.result over c.hand_over.ensures.loose in
+    set_shown mid.index m b two.0 (deed_in mid.numbered) None (ap (list_any (λ (w : _ × _). is_none w.1)) (sym c.as_slice.ensures.value) ∙ sym c.makes_absent-makes_absent.ensures ∙ set) takes n (ap (λ ns. is_in nat_cmp ns n) (sym loose) ∙ among)
+
 pub invariant_of-self-2 : goal.invariant_of-self-2
 invariant_of-self-2 g c =
     let es = c.self.inside.keys.index in
     let m = c.self.inside.kernel in
     let b = c.take.new.self in
     let mid = c.hand_over.new.self in
-    let left = c.let_go-2.new.self in
+    let left = c.let_go_taken.new.self in
     let one = fits_less es c.let_go.new.self.index m (is_in nat_cmp c.self.inside.keys.loose.items) c.self.invariant.0.fits c.let_go.ensures.gone in
     let two = fits_more c.let_go.new.self.index mid.index m mid.loose.items one.0 c.hand_over.ensures.gains in
     let deed = from_ok c.hand_over.result (sym c.if-is_err.false ∙ c.is_err.ensures.value) c.hand_over.ensures.deed in
@@ -77,13 +92,13 @@ invariant_of-self-2 g c =
     let emptied = from_ok c.take.result told c.take.ensures.emptied in
     let d : Deed _ _ _ = byte_deed c.args.step.now in
     let after = fits_taken mid.index m b two.0 (names d.written) (deed_in mid.numbered) (writes_names (number_of mid.index) d.written mid.numbered.written.items deed.written) None (no_next m.guesses.drawn) takes in
-    let three = fits_less mid.index left.index b (is_in nat_cmp mid.loose.items) after c.let_go-2.ensures.gone in
+    let three = fits_less mid.index left.index b (is_in nat_cmp mid.loose.items) after c.let_go_taken.ensures.gone in
     let first = used_less es c.let_go.new.self.index m.slots c.self.inside.keys.loose.items c.self.invariant.0.needed c.let_go.ensures.gone in
     let second = used_more c.let_go.new.self.index mid.index m.slots mid.loose.items first c.hand_over.ensures.gains in
     let loose = from_ok c.hand_over.result (sym c.if-is_err.false ∙ c.is_err.ensures.value) c.hand_over.ensures.loose in
     let third = used_taken mid.index m b two.0 (deed_in mid.numbered) None (subst (UsedBut mid.index m.slots) loose second) takes in
-    let needed = used_less mid.index left.index b.slots mid.loose.items (subst (UsedBut mid.index b.slots) (sym loose) third) c.let_go-2.ensures.gone in
-    (told_still left.index b left.loose.items three.0 needed c.let_go-2.ensures.loose, c.let_go-2.ensures.looked, c.let_go-2.ensures.written, c.let_go-2.ensures.said ∙ emptied.said, c.self.invariant.4)
+    let needed = used_less mid.index left.index b.slots mid.loose.items (subst (UsedBut mid.index b.slots) (sym loose) third) c.let_go_taken.ensures.gone in
+    (told_still left.index b left.loose.items three.0 needed c.let_go_taken.ensures.loose, c.let_go_taken.ensures.looked, c.let_go_taken.ensures.written, c.let_go_taken.ensures.said ∙ emptied.said, c.self.invariant.4)
 
 pub returns-clause-ok : goal.returns-clause-ok
 returns-clause-ok g c =
@@ -91,14 +106,14 @@ returns-clause-ok g c =
     let m = c.self.inside.kernel in
     let b = c.take.new.self in
     let mid = c.hand_over.new.self in
-    let left = c.let_go-2.new.self in
+    let left = c.let_go_taken.new.self in
     let one = fits_less es c.let_go.new.self.index m (is_in nat_cmp c.self.inside.keys.loose.items) c.self.invariant.0.fits c.let_go.ensures.gone in
     let two = fits_more c.let_go.new.self.index mid.index m mid.loose.items one.0 c.hand_over.ensures.gains in
     let deed = from_ok c.hand_over.result (sym c.if-is_err.false ∙ c.is_err.ensures.value) c.hand_over.ensures.deed in
     let takes = taken_whole m b mid.numbered None (from_ok c.take.result (sym c.if-is_err-2.false ∙ c.is_err-2.ensures.value) c.take.ensures.ok) in
     let d : Deed _ _ _ = byte_deed c.args.step.now in
     let after = fits_taken mid.index m b two.0 (names d.written) (deed_in mid.numbered) (writes_names (number_of mid.index) d.written mid.numbered.written.items deed.written) None (no_next m.guesses.drawn) takes in
-    let three = fits_less mid.index left.index b (is_in nat_cmp mid.loose.items) after c.let_go-2.ensures.gone in
+    let three = fits_less mid.index left.index b (is_in nat_cmp mid.loose.items) after c.let_go_taken.ensures.gone in
     subst (λ (p : Parts _ _ _). Takes bytes_cmp p d None (told_of left.index b)) (two.1 ∙ one.1 ∙ ap (λ (v : ByteView _ _). v.parts) c.self.view_is)
     (subst (λ (p : Parts _ _ _). Takes bytes_cmp (told_of mid.index m) d None p) (sym three.1) (takes_told mid.index two.0.two_way m b d (deed_in mid.numbered) deed None takes))
 

@@ -3,7 +3,7 @@ use Rattle.std.proofs.Common.{◌<◌, ◌^◌, sym, ap, ◌∙◌, subst, arith
 use Rattle.std.specs.Hash.DefaultHasher.{finish, write}
 use Rattle.slab.specs.Slab.{Slab}
 use Rattle.sk_index.specs.Index.{number_of, Adds}
-use Rattle.sk_index.specs.Inside.{numbered}
+use Rattle.sk_index.specs.Inside.{is_under, numbered}
 use Rattle.sk_index.proofs.Kept as kept
 use Rattle.sk_index.proofs.index.Index.add.Goals as goal
 
@@ -12,12 +12,14 @@ invariant_of-self-2 c =
     let items = c.in_ok-string.ensures.items in
     let place = c.vacant_key-place.ensures.value ∙ sym c.insert_reserved.ensures.key in
     let fits : c.insert_reserved.result < 2 ^ 64 = omega (arith, place) in
-    kept.added (λ s. finish (write c.self.inside.seed s)) c.self.inside.strings c.self.inside.places c.self.invariant
-    c.reserve.new.self c.insert_reserved.new.self c.insert.new.self c.insert_reserved.result c.in_ok-string.string
+    kept.added (λ s. finish (write c.self.inside.seed s)) c.self.inside.strings
+    (is_under c.self.inside.places.firsts c.self.inside.places.others) c.self.invariant
+    c.reserve.new.self c.insert_reserved.new.self (is_under c.insert.new.self.firsts c.insert.new.self.others)
+    c.insert_reserved.result c.in_ok-string.string
     (ap (λ (s : Slab _). s.slots) c.reserve.ensures.rest_kept) c.insert_reserved.ensures.was_vacant
     c.insert_reserved.ensures.updates (c.hash_of-hash.result, c.vacant_key-place.result)
     (λ i. ((c.hash_of-hash.ensures ∙ ap (λ s. finish (write c.self.inside.seed s)) (sym items)) i, place i))
-    (kept.from_ok c.insert.result c.if-is_err.ensures.value c.insert.ensures.updates) fits
+    c.in_ok-insert.ensures.there c.insert.ensures.kept fits
     (ap (number_of (numbered 0 c.self.inside.strings.slots)) items
     ∙ ap (λ es. number_of es c.args.bytes.now) c.self.view_is ∙ c.requires)
 
@@ -31,11 +33,13 @@ returns-clause-ok c =
     (numbered 0 c.insert_reserved.new.self.slots)) items
     (subst (λ n. Adds (numbered 0 c.self.inside.strings.slots) c.in_ok-string.string.items n
     (numbered 0 c.insert_reserved.new.self.slots)) (sym c.new.ensures)
-    (kept.adds (λ s. finish (write c.self.inside.seed s)) c.self.inside.strings c.self.inside.places c.self.invariant
-    c.reserve.new.self c.insert_reserved.new.self c.insert.new.self c.insert_reserved.result c.in_ok-string.string
+    (kept.adds (λ s. finish (write c.self.inside.seed s)) c.self.inside.strings
+    (is_under c.self.inside.places.firsts c.self.inside.places.others) c.self.invariant
+    c.reserve.new.self c.insert_reserved.new.self (is_under c.insert.new.self.firsts c.insert.new.self.others)
+    c.insert_reserved.result c.in_ok-string.string
     (ap (λ (s : Slab _). s.slots) c.reserve.ensures.rest_kept) c.insert_reserved.ensures.was_vacant
     c.insert_reserved.ensures.updates (c.hash_of-hash.result, c.vacant_key-place.result)
     (λ i. ((c.hash_of-hash.ensures ∙ ap (λ s. finish (write c.self.inside.seed s)) (sym items)) i, place i))
-    (kept.from_ok c.insert.result c.if-is_err.ensures.value c.insert.ensures.updates) fits
+    c.in_ok-insert.ensures.there c.insert.ensures.kept fits
     (ap (number_of (numbered 0 c.self.inside.strings.slots)) items
     ∙ ap (λ es. number_of es c.args.bytes.now) c.self.view_is ∙ c.requires))))

@@ -2,13 +2,14 @@
 use Rattle.std.proofs.Common.{◌≡◌, ◌≤◌, true, Some, refl, sym, ap, ◌∙◌, subst, arith}
 use Rattle.std.specs.List.{list_any}
 use Rattle.std.specs.BTreeMap.{is_at}
-use Rattle.std.specs.BTreeSet.{keys_between}
+use Rattle.std.specs.BTreeSet.{contains, keys_between}
 use Rattle.std.specs.Hash.DefaultHasher.{finish, write}
 use Rattle.std.specs.declared.ops.Bound.TheVariants.{Included}
 use Rattle.sk_index.specs.Index.{number_of, string_of}
-use Rattle.sk_index.specs.Inside.{place_cmp}
+use Rattle.sk_index.specs.Inside.{first_under, is_under, place_cmp}
 use Rattle.sk_index.proofs.Strings.{number_at, slot_of, true_false, unnumbered}
 use Rattle.sk_index.proofs.Kept.{looked}
+use Rattle.sk_index.proofs.Under.{among_others}
 use Rattle.sk_index.proofs.index.Index.find.Goals as goal
 
 pub loop-place-init : goal.loop-place-init
@@ -20,23 +21,35 @@ loop-place-init c = (
       let slot = slot_of inside.strings.slots n c.args.bytes.now (ap (λ es. string_of es n) c.self.view_is ∙ at) in
       let small = c.self.invariant.small n slot.0 slot.1 in
       let below : n ≤ 18446744073709551615 = omega (arith, small) in
-      let any =
-      subst (λ k. list_any (is_at (place_cmp (k, n))) inside.places.keys ≡ true)
+      let found =
+      subst (λ k. is_under inside.places.firsts inside.places.others (k, n) ≡ true)
       (ap (λ s. finish (write inside.seed s)) slot.2 ∙ sym c.hash_of-hash.ensures)
       (c.self.invariant.found n slot.0 slot.1) in
+      let any =
+      among_others (first_under inside.places.firsts c.hash_of-hash.result) n
+      (contains place_cmp inside.places.others (c.hash_of-hash.result, n))
+      (λ first. c.number_at.ensures.none c.in_default.is n (c.first.ensures ∙ first) at) found in
       subst (λ xs. list_any (is_at (place_cmp (c.hash_of-hash.result, n))) xs ≡ true)
       (sym
       (c.into_iter-place-iterator.ensures.into_iter_gives ∙ c.range-place-items.ensures.between c.new.ensures.exhausted
-      ∙ ap (λ s. keys_between place_cmp (Included s) (Included c.new.result.end) inside.places) c.new.ensures.start
-      ∙ ap (λ s. keys_between place_cmp (Included (c.hash_of-hash.result, 0)) (Included s) inside.places)
+      ∙ ap (λ s. keys_between place_cmp (Included s) (Included c.new.result.end) inside.places.others) c.new.ensures.start
+      ∙ ap (λ s. keys_between place_cmp (Included (c.hash_of-hash.result, 0)) (Included s) inside.places.others)
       c.new.ensures.end))
-      (looked c.hash_of-hash.result n 18446744073709551615 inside.places.keys below any),
+      (looked c.hash_of-hash.result n 18446744073709551615 inside.places.others.keys below any),
 )
+
+pub returns-in-Some : goal.returns-in-Some
+returns-in-Some c =
+    let vs = c.self.inside.strings.slots in
+    let n = c.in-Some.number in
+    let slot = slot_of vs n c.args.bytes.now (ap (λ es. string_of es n) c.self.view_is ∙ c.in-Some.ensures.some) in
+    sym (number_at vs c.self.invariant.apart n slot.0 c.args.bytes.now slot.1 (sym slot.2))
+    ∙ ap (λ es. number_of es c.args.bytes.now) c.self.view_is
 
 pub returns-then-is_at : goal.returns-then-is_at
 returns-then-is_at c =
     let vs = c.self.inside.strings.slots in
-    let n = c.in-Some.place.now.1 in
+    let n = c.in-Some-place.place.now.1 in
     let slot = slot_of vs n c.args.bytes.now (ap (λ es. string_of es n) c.self.view_is ∙ c.if-is_at.ensures.yes refl) in
     ap Some c.new-then-is_at.ensures
     ∙ sym (number_at vs c.self.invariant.apart n slot.0 c.args.bytes.now slot.1 (sym slot.2))

@@ -4,7 +4,7 @@ use Rattle.std.specs.Option.{option_map}
 use Rattle.std.specs.Global.{Vec}
 use Rattle.std.specs.Hash.DefaultHasher.{finish, write}
 use Rattle.sk_index.specs.Index.{string_of, Removes}
-use Rattle.sk_index.specs.Inside.{numbered}
+use Rattle.sk_index.specs.Inside.{is_under, numbered}
 use Rattle.sk_index.proofs.Strings.{at, string_at}
 use Rattle.sk_index.proofs.Kept as kept
 use Rattle.sk_index.proofs.index.Index.remove.Goals as goal
@@ -18,14 +18,16 @@ returns-in_err-string-clause-none c = λ none.
 
 pub invariant_of-self-2 : goal.invariant_of-self-2
 invariant_of-self-2 c =
-    kept.removed (λ s. finish (write c.self.inside.seed s)) c.self.inside.strings c.self.inside.places
-    c.self.invariant c.try_remove.new.self c.remove.new.self c.place.result c.in_ok-string.string
+    kept.removed (λ s. finish (write c.self.inside.seed s)) c.self.inside.strings
+    (is_under c.self.inside.places.firsts c.self.inside.places.others)
+    c.self.invariant c.try_remove.new.self
+    (is_under c.remove.new.self.firsts c.remove.new.self.others) c.place.result c.in_ok-string.string
     (sym c.in_ok-string.ensures.value) c.in_ok-string.ensures.updates (c.hash_of-hash.result, c.place-2.result)
     (λ i. (
       (c.hash_of-hash.ensures ∙ ap (λ s. finish (write c.self.inside.seed s)) c.as_slice.ensures.value) i,
       (c.place-2.ensures ∙ sym c.place.ensures) i,
     ))
-    c.remove.ensures.updates
+    c.remove.ensures
 
 pub returns-clause-some : goal.returns-clause-some
 returns-clause-some c =
@@ -33,11 +35,13 @@ returns-clause-some c =
     c.self.view_is
     (subst (λ n. Removes (numbered 0 c.self.inside.strings.slots) c.in_ok-string.string.items n
     (numbered 0 c.try_remove.new.self.slots)) c.place.ensures
-    (kept.removes (λ s. finish (write c.self.inside.seed s)) c.self.inside.strings c.self.inside.places
-    c.self.invariant c.try_remove.new.self c.remove.new.self c.place.result c.in_ok-string.string
+    (kept.removes (λ s. finish (write c.self.inside.seed s)) c.self.inside.strings
+    (is_under c.self.inside.places.firsts c.self.inside.places.others)
+    c.self.invariant c.try_remove.new.self
+    (is_under c.remove.new.self.firsts c.remove.new.self.others) c.place.result c.in_ok-string.string
     (sym c.in_ok-string.ensures.value) c.in_ok-string.ensures.updates (c.hash_of-hash.result, c.place-2.result)
     (λ i. (
       (c.hash_of-hash.ensures ∙ ap (λ s. finish (write c.self.inside.seed s)) c.as_slice.ensures.value) i,
       (c.place-2.ensures ∙ sym c.place.ensures) i,
     ))
-    c.remove.ensures.updates))
+    c.remove.ensures))

@@ -1,6 +1,4 @@
 -- One key more.
-use Rattle.std.specs.Cmp.{IsTotalOrder, eq_by_cmp_equiv}
-use Rattle.std.proofs.lemmas.Bool.{or_left}
 use Rattle.std.proofs.Common.{◌≡◌, ℕ, ◌+◌, ◌<◌, ◌||◌, List, ◌∷◌, cond, sym, ◌∙◌, ap, subst, drop, length, [], refl, arith}
 use Rattle.std.specs.Ordering.{eq_by_cmp}
 use Rattle.sk_record.specs.Effects.{is_in}
@@ -16,13 +14,11 @@ loop-key-preserved g c =
     let R = g.K.Key.order in
     let i = c.loop-key.key-index in
     let k = c.key-item.result in
-    let total = subst IsTotalOrder g.met.K.Key.same g.met.K.Ord.total in
     let next = next_of c.args.keys.now i k c.loop-key-test.true c.key-item.is in
     let f = λ (ns : List (Note _)). merged [] (committed c.args.id ns) in (
-      λ q. c.settle.ensures.look q ∙ c.commit_at.ensures.look q ∙ c.loop-key.invariant.0 q,
+      λ q. c.commit_one.ensures.look q ∙ c.loop-key.invariant.0 q,
       λ q.
-          pass_more f (lightened_twice c.args.id) (eq_by_cmp R q k) (is_in R (drop (i + 1) c.args.keys.now) q) (log_at R c.loop-key.self q) (log_at R c.settle.new.self q) (c.settle.ensures.log q ∙ c.commit_at.ensures.log q)
+          pass_more f (lightened_twice c.args.id) (eq_by_cmp R q k) (is_in R (drop (i + 1) c.args.keys.now) q) (log_at R c.loop-key.self q) (log_at R c.commit_one.new.self q) (c.commit_one.ensures.log q)
           ∙ ap (λ es. cond (is_in R es q) (f (log_at R c.loop-key.self q)) (log_at R c.loop-key.self q)) (sym next) ∙ c.loop-key.invariant.1 q,
-      λ before. let settled = c.loop-key.invariant.2 before in
-          c.settle.ensures.settled [] (c.commit_at.ensures.settled (k ∷ []) (or_left _ _ (ap (λ b. b) ((eq_by_cmp_equiv total).refl k))) (λ q s here _. settled q s here refl)),
+      λ before. c.commit_one.ensures.settled (c.loop-key.invariant.2 before),
     )

@@ -7,7 +7,7 @@ use Rattle.sk_record.specs.Notes.{last_tags, unwound, cut, committed}
 use Rattle.sk_map.specs.Seen.{seen}
 use Rattle.sk_slots.specs.Slot.{SlotView, noted_on, IsPrepared}
 use Rattle.sk_slots.specs.Slots.{slot_in, look_at, log_at, IsReady, HasPrepared, SettledBut}
-use Rattle.sk_slots.proofs.Maps.{one_changed, none_changed, one_same, one_born, one_gone, bare_value, bare_log, still_ready, ready_at, settled_kept}
+use Rattle.sk_slots.proofs.Maps.{one_changed, none_changed, one_same, one_born, one_gone, bare_value, bare_log, still_ready, ready_at, settled_kept, settled_set}
 use Rattle.sk_slots.proofs.slots.Slots.write.Goals as goal
 
 pub returns-clause-look : goal.returns-clause-look
@@ -52,3 +52,15 @@ returns-clause-settled g c =
     let m = seen R c.self.inside.slots in
     let all = rw c.in-Some.is at (c.get_mut.follows.holds c.write.new.self) in
     λ keys among settled. settled_kept total exact keys m _ k c.write.new.self all among (subst (SettledBut R keys) (sym c.self.view_is) settled)
+
+pub returns-clause-done : goal.returns-clause-done
+returns-clause-done g c =
+    let R = g.K.Key.order in
+    let total = subst IsTotalOrder g.met.K.Key.same g.met.K.Ord.total in
+    let exact = subst IsAntisymmetric g.met.K.Key.same g.met.K.Key.exact in
+    let k = c.args.key.now in
+    let m = seen R c.self.inside.slots in
+    let all = rw c.in-Some.is at (c.get_mut.follows.holds c.write.new.self) in
+    λ is keys settled.
+    settled_set total exact keys m _ k c.write.new.self all (sym c.write.ensures.settled ∙ is)
+    (subst (SettledBut R (k ∷ keys)) (sym c.self.view_is) settled)

@@ -62,6 +62,7 @@ line of standard input, and so is what is asked; `end` ends:
   trace                 what happened so far
   report                the report
   epoch                 a new epoch: the trace and the texts so far are let go
+  lease PID N           up to N instructions of the process alone, at once
 `work` takes any section, and runs none of its lines.
 
 In these lines:

@@ -3,4 +3,3 @@ pub mod Turns
 pub mod Replayed
 pub mod Happened
 pub mod Foreseen
-mod LeftOut

@@ -6,4 +6,4 @@ pub mod Told
 pub mod Worlds
 pub mod Upcoming
 pub mod Epochs
-pub mod SessionCode
+pub mod Leases

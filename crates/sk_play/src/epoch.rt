@@ -11,8 +11,8 @@ pub enum EpochTold {
     Begun(usize),
     /// So many guesses are undecided.
     Undecided(usize),
-    /// A world has one epoch alone.
-    World,
+    /// So many requests have no reply.
+    Pending(usize),
 }
 
 impl fmt::Display for EpochTold {
@@ -22,7 +22,7 @@ impl fmt::Display for EpochTold {
         match self {
             EpochTold::Begun(events) => write!(f, "{events}"),
             EpochTold::Undecided(guesses) => write!(f, "refused {guesses} undecided"),
-            EpochTold::World => f.write_str("refused world"),
+            EpochTold::Pending(requests) => write!(f, "refused {requests} pending"),
         }
     }
 }

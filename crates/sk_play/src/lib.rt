@@ -5,7 +5,7 @@
 pub mod ahead;
 pub mod answer;
 pub mod epoch;
-pub mod holding;
+pub mod leasing;
 mod line;
 pub mod replaying;
 pub mod session;
@@ -15,7 +15,7 @@ pub mod worlds;
 pub use ahead::upcoming;
 pub use answer::{CallAnswer, write_answer};
 pub use epoch::EpochTold;
-pub use holding::Holding;
+pub use leasing::{LeaseTold, lease_at_desk, lease_in_world};
 pub use replaying::{Unreplayed, replay};
 pub use session::Session;
 pub use told::{WorldTold, write_told};

@@ -1,20 +1,21 @@
 //! A kernel at play, with the tokens of its guesses.
-ghost use Rattle.std.specs.Prelude.{MatchResult, IfOk, IfErr, None, Some, [], ◌≡◌};
-ghost use Rattle.sk_holder.specs.Holder.{but, holding};
+ghost use Rattle.std.specs.Prelude.{MatchResult, IfOk, None, Some, ◌≡◌};
+ghost use Rattle.sk_holder.specs.Holder.{holding, BeginsPost};
 ghost use Rattle.sk_play.specs.Session.{decision_told, entry, with_guess, held_after, AnswerMatches, CanWantMemory, StepTold, GuessTold};
 ghost use Rattle.sk_play.specs.Plays.{declared_kernel};
-ghost use Rattle.sk_kernel.specs.Kernel.{step_refused, guess_refused, next_guess, undecided_at};
-ghost use Rattle.sk_kernel.specs.Calls.{EpochPost};
+ghost use Rattle.sk_kernel.specs.Kernel.{step_refused, guess_refused, next_guess};
+ghost use Rattle.sk_kernel.specs.HandIn.{HandInPost};
 ghost use Rattle.sk_trace.specs.Kept.{input_in};
 ghost use Rattle.sk_trace.specs.declared.event.Event.TheVariants as events;
 ghost use Rattle.sk_plain.specs.Refusal.{cause};
 
 use crate::answer::CallAnswer;
 use sk_holder::Holder;
-use sk_ids::{GuessId, Pid};
-use sk_kernel::{EpochRefusal, Kernel, Outcome};
+use sk_ids::Pid;
+use sk_kernel::{EpochRefusal, HandIn, Kernel, Outcome};
 use sk_plain::{InputRef, Refusal, Trace};
 use sk_scenario::{Call, Declarations};
+use sk_script::Lease;
 use sk_terminal::Texts;
 use std::alloc::{AllocError, Global};
 
@@ -109,24 +110,20 @@ impl Session {
         }
     }
 
-    /// Lets go of the token of a guess where none is undecided: it was struck. This takes no memory.
-    pub fn let_go(&mut self, id: GuessId)
-        requires { undecided_at self.old.holder.kernel ≡ [] }
-        ensures { self.new.holder
-            ≡ record { kernel = self.old.holder.kernel; held = but id self.old.holder.held } }
+    /// Begins a new epoch where no guess is undecided, as the kernel does; the tokens of struck guesses are let go. Refusals:
+    /// `Undecided`, and nothing has changed; then `Memory`, where the kernel is as it was.
+    pub fn begin_epoch(&mut self) -> Result<(Trace, Texts), EpochRefusal>
+        ensures { BeginsPost result self.old.holder self.new.holder }
     {
-        self.holder.fail(id);
+        self.holder.begin_epoch()
     }
 
-    /// Begins a new epoch where no token is held, as the kernel does; refused only for want of memory, and then nothing
-    /// has changed.
-    pub fn new_epoch(&mut self) -> Result<(Trace, Texts), EpochRefusal>
-        requires { self.old.holder.held ≡ [] }
-        ensures kernel { EpochPost result self.old.holder.kernel self.new.holder.kernel }
-        ensures memory { IfErr result (λ why. why ≡ EpochRefusal.Memory) }
-        ensures held { self.new.holder.held ≡ [] }
+    /// Takes a lease in, as the kernel does.
+    pub(crate) fn hand_in(&mut self, lease: Lease) -> Result<(), (Lease, HandIn)>
+        ensures kernel { HandInPost result lease self.old.holder.kernel self.new.holder.kernel }
+        ensures held { self.new.holder.held ≡ self.old.holder.held }
     {
-        self.holder.new_epoch()
+        self.holder.hand_in(lease)
     }
 
     /// Fails the guesses that are left, and ends.

@@ -2,7 +2,7 @@
 use Rattle.std.specs.Prelude.{ℕ, List, [], ◌∷◌, Option, Some, None, Result, Ok, codes}
 use Rattle.sk_words.specs.declared.fault.FaultKind.{FaultKind}
 use Rattle.sk_words.specs.Faults.{◌>>=◌}
-use Rattle.sk_words.specs.Operands.{none_of, one_of, positive, index}
+use Rattle.sk_words.specs.Operands.{none_of, one_of, two_of, positive, index, short, pid}
 use Rattle.sk_words.specs.Tables.{Rule, rule_in}
 use Rattle.sk_words.specs.Words.{words, first_of}
 use Rattle.sk_questions.specs.Named.{entity}
@@ -26,6 +26,7 @@ question_rules =
     (codes "trace", λ ws. none_of ws >>= λ _. Ok (asking questions.Trace)) ∷
     (codes "report", λ ws. none_of ws >>= λ _. Ok (asking questions.Report)) ∷
     (codes "epoch", λ ws. none_of ws >>= λ _. Ok (Some asks.Epoch)) ∷
+    (codes "lease", λ ws. two_of pid short ws >>= λ x. Ok (Some (asks.Lease x.0 x.1))) ∷
     []
 
 -- a word that does not ask

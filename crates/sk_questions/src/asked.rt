@@ -4,7 +4,8 @@ ghost use Rattle.sk_questions.specs.Questions.{asking, asked_with, asked_by};
 
 use crate::Question;
 use crate::named::entity;
-use sk_words::{FaultKind, Index, Words, first_word, none, one};
+use sk_ids::Pid;
+use sk_words::{FaultKind, Index, Words, first_word, none, one, two};
 
 /// What a line asks.
 #[derive(Clone, Copy, Debug, PartialEq, Eq)]
@@ -15,6 +16,8 @@ pub enum Asked {
     Released(Index),
     /// A new epoch.
     Epoch,
+    /// Up to so many private instructions of a process, away from its kernel.
+    Lease(Pid, u32),
 }
 
 impl Asked {
@@ -55,6 +58,10 @@ fn asked_with(word: &str, words: &Words) -> Result<Option<Asked>, FaultKind>
         "epoch" => {
             none(words)?;
             Ok(Some(Asked::Epoch))
+        }
+        "lease" => {
+            let (pid, count): (Pid, u32) = two(words)?;
+            Ok(Some(Asked::Lease(pid, count)))
         }
         _ => Ok(None),
     }

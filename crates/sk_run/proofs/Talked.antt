@@ -85,6 +85,9 @@ answered_number (Ok (Some (asks.Released t))) n l old new text h = rw h.1 (omega
 answered_number (Ok (Some asks.Epoch)) n l old new text h =
     let same : new.number ≡ old.number = ap (λ (t : Talk). t.number) h.3 in
     omega (arith, same)
+answered_number (Ok (Some (asks.Lease pid count))) n l old new text h =
+    let same : new.number ≡ old.number = ap (λ (t : Talk). t.number) h.3 in
+    omega (arith, same)
 answered_number (Ok None) n l old new text h = rw h.3 (next_number h.0 old.number)
 answered_number (Err kind) n l old new text h = rw h.0 (omega arith)
 

@@ -14,7 +14,10 @@ use Rattle.sk_questions.specs.declared.asked.Asked.{Asked}
 use Rattle.sk_questions.specs.declared.asked.Asked.TheVariants as asks
 use Rattle.sk_talk.specs.Asked.{IsAnswer}
 use Rattle.sk_play.specs.Epochs.{epoch_line}
+use Rattle.sk_play.specs.Leases.{lease_line}
+use Rattle.sk_play.specs.declared.leasing.LeaseTold.{LeaseTold}
 use Rattle.sk_talk.specs.Epochs.{EpochComes}
+use Rattle.sk_talk.specs.Leases.{LeaseComes}
 use Rattle.sk_talk.specs.HandedOut.{HandedMap, all_handed, handed_at, released_answer}
 use Rattle.sk_talk.specs.Lines.{LineTaken}
 use Rattle.sk_talk.specs.Played.{kernel_of}
@@ -76,7 +79,7 @@ HandsOut t old new text =
 abbrev pub handed_behind : EpochTold → HandedMap → HandedMap
 handed_behind (epochs.Begun n) handed = map.empty
 handed_behind (epochs.Undecided n) handed = handed
-handed_behind epochs.World handed = handed
+handed_behind (epochs.Pending n) handed = handed
 
 -- what came of a wish for a new epoch is told
 abbrev pub BeginsEpoch : Talk → Talk → List ℕ → Type 0
@@ -84,11 +87,17 @@ BeginsEpoch old new text =
     (told : EpochTold) × EpochComes (Some told) old.play new.play × (text ≡ epoch_line told)
     × (new ≡ record { play = new.play; number = old.number; handed = handed_behind told old.handed })
 
+-- what came of a lease is told
+abbrev pub TellsLease : ℕ → ℕ → Talk → Talk → List ℕ → Type 0
+TellsLease pid count old new text =
+    (told : LeaseTold) × LeaseComes (Some told) pid count old.play new.play × (text ≡ lease_line told) × (new ≡ record old { play = new.play })
+
 -- the answer to what is asked, and what is left then; a question changes nothing
 abbrev pub Serves : Asked → Talk → Talk → List ℕ → Type 0
 Serves (asks.Question question) old new text = (new ≡ old) × IsAnswer old.play question text
 Serves (asks.Released t) old new text = HandsOut t old new text
 Serves asks.Epoch old new text = BeginsEpoch old new text
+Serves (asks.Lease pid count) old new text = TellsLease pid count old new text
 
 -- A line that asks is answered, any other as what is at play takes it; what is wrong with a line that asks is told with its number.
 abbrev pub AnswersAs : Result (Option Asked) FaultKind → ℕ → List ℕ → Talk → Talk → List ℕ → Type 0

@@ -11,17 +11,19 @@ ghost use Rattle.sk_command.specs.declared.message.Message.TheVariants as messag
 ghost use Rattle.sk_scenario.specs.Scenario.{section_view};
 ghost use Rattle.sk_talk.specs.Played.{opened_in};
 ghost use Rattle.sk_play.specs.Epochs.{epoch_line};
+ghost use Rattle.sk_play.specs.Leases.{lease_line};
 ghost use Rattle.sk_talk.specs.Lines.{LineTaken};
 ghost use Rattle.sk_words.specs.declared.fault.FaultKind.TheVariants as kinds;
 ghost use Rattle.sk_talk.specs.declared.line.LineTold.TheVariants as tells;
 ghost use Rattle.sk_report.specs.declared.stop.Stop.TheVariants as stops;
-ghost use Rattle.sk_run.specs.Talk.{begun, is_alone, fault_line, told_as, number_behind, handed_behind, AnswersAs, Answers, BeginsEpoch, HandsOut, Serves, WritesAnswer, EndsTalk, EndsOpened, TakesLine, WantsMemory};
+ghost use Rattle.sk_run.specs.Talk.{begun, is_alone, fault_line, told_as, number_behind, handed_behind, AnswersAs, Answers, BeginsEpoch, HandsOut, Serves, TellsLease, WritesAnswer, EndsTalk, EndsOpened, TakesLine, WantsMemory};
 
 use sk_command::end::{End, flushed, tell_unread, tell_wrong_section};
 use sk_command::message::{Message, write_message};
 use sk_command::open_input::OpenInput;
 use sk_command::read_all::ReadFault;
-use sk_play::{EpochTold, write_answer, write_told};
+use sk_ids::Pid;
+use sk_play::{EpochTold, LeaseTold, write_answer, write_told};
 use sk_questions::{Asked, Question};
 use sk_report::Stop;
 use sk_scenario::{Declarations, Section};
@@ -137,6 +139,16 @@ fn write_epoch<W: Write>(told: &EpochTold, out: &mut W) -> Result<(), Stop>
     Ok(())
 }
 
+/// Tells what came of a lease.
+fn write_lease<W: Write>(told: &LeaseTold, out: &mut W) -> Result<(), Stop>
+    ensures written { OnOk result
+        (Appends (W.contents out.old) (W.contents out.new) (lease_line told.now)) }
+    ensures stop { result ≡ Err stops.Memory → ⊥ }
+{
+    writeln!(out, "lease {told}")?;
+    Ok(())
+}
+
 impl Talk {
     /// A talk at its start.
     fn begin(alloc: Global, play: Play) -> Talk
@@ -193,6 +205,17 @@ impl Talk {
         write_epoch(&told, out)
     }
 
+    /// Has a process do up to so many private instructions, and writes what came of that.
+    fn lease<W: Write>(&mut self, pid: Pid, count: u32, out: &mut W) -> Result<(), Stop>
+        ensures written { OnOk result
+            ((text : List ℕ) × TellsLease pid count self.old self.new text
+            × Appends (W.contents out.old) (W.contents out.new) text) }
+        ensures memory { result ≡ Err stops.Memory → out.new ≡ out.old }
+    {
+        let told = self.play.lease(pid, count)?;
+        write_lease(&told, out)
+    }
+
     /// Writes the answer to what is asked.
     fn serve<W: Write>(&mut self, alloc: Global, asked: &Asked, out: &mut W) -> Result<(), Stop>
         ensures written { OnOk result
@@ -204,6 +227,7 @@ impl Talk {
             Asked::Question(question) => self.reply(alloc, question, out),
             Asked::Released(number) => self.hand_out(alloc, number.get(), out),
             Asked::Epoch => self.begin_epoch(alloc, out),
+            Asked::Lease(pid, count) => self.lease(*pid, *count, out),
         }
     }
 

@@ -2,4 +2,5 @@ pub mod Played
 pub mod Lines
 pub mod Asked
 pub mod Epochs
+pub mod Leases
 pub mod HandedOut

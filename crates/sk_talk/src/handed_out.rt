@@ -34,7 +34,7 @@ impl Model for HandedOut {
 }
 
 /// What a terminal has released.
-fn released(kernel: &Kernel, number: u16) -> &[Text]
+pub fn released(kernel: &Kernel, number: u16) -> &[Text]
     ensures { result.now ≡ released_in kernel.now number }
 {
     match kernel.terminal(number) {

@@ -5,10 +5,11 @@
 pub mod asked;
 pub mod epoch;
 pub mod handed_out;
+pub mod leasing;
 pub mod line;
 pub mod play;
 
 pub use asked::{named, write_value};
-pub use handed_out::HandedOut;
+pub use handed_out::{HandedOut, released};
 pub use line::LineTold;
 pub use play::Play;

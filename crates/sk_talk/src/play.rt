@@ -10,7 +10,7 @@ ghost use Rattle.sk_talk.specs.Lines.{only, StepsTake, WorldTakes, LineTaken};
 use crate::line::LineTold;
 use sk_client::{World, WorldEvent};
 use sk_kernel::Kernel;
-use sk_play::{Holding, happen, world_of};
+use sk_play::{Session, happen, world_of};
 use sk_report::{Stop, write_report, write_world_report};
 use sk_scenario::{Call, Calls, Declarations, Section, WorldEvents};
 use sk_words::{FaultKind, Reader};
@@ -18,7 +18,7 @@ use std::alloc::{AllocError, Global};
 
 /// What is at play. What is let go of ends: its guesses that are left fail.
 pub enum Play {
-    Steps(Holding),
+    Steps(Session),
     World(World),
 }
 
@@ -43,7 +43,7 @@ fn begin_steps(
     if !steps.is_empty() {
         return Ok(None);
     }
-    let session = Holding::new(alloc, declarations)?;
+    let session = Session::new(alloc, declarations)?;
     Ok(Some(Play::Steps(session)))
 }
 
@@ -64,7 +64,7 @@ fn begin_world(
 }
 
 /// Makes the call that a line of a section of steps says.
-fn take_step(alloc: Global, session: &mut Holding, line: &[u8]) -> LineTold
+fn take_step(alloc: Global, session: &mut Session, line: &[u8]) -> LineTold
     ensures { StepsTake result (only (step_line [] line.now)) session.old session.new }
 {
     let mut calls = Calls::new(alloc);

@@ -1,0 +1,7 @@
+//! The tests of what an engine's answers tell, row by row, and of whose a batch is.
+#![tactic(auto)]
+
+#[cfg(test)]
+mod owners;
+#[cfg(test)]
+mod words;

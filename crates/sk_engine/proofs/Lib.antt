@@ -1,0 +1,4 @@
+pub mod Tests
+pub mod Sound
+pub mod Steps
+pub mod Runs

@@ -1,0 +1,4 @@
+pub mod Told
+pub mod Engine
+pub mod Moves
+pub mod Laws

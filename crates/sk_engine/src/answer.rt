@@ -1,0 +1,72 @@
+//! What the engine answers.
+ghost use Rattle.std.specs.Prelude.{◌≡◌};
+ghost use Rattle.sk_engine.specs.Told.{held_of};
+
+/// What stands under the key of a batch.
+#[derive(Clone, Copy, Debug, PartialEq, Eq)]
+pub enum Held {
+    /// Nothing.
+    Absent,
+    /// Just the bytes that were to be put there.
+    Mine,
+    /// Other bytes.
+    Another,
+}
+
+/// What the engine saw as it did not put a batch: of which leadership the leader is, what stands under the number, and up to where the
+/// log was cut.
+#[derive(Clone, Copy, Debug, PartialEq, Eq)]
+pub struct BatchSeen {
+    pub leader: Option<u64>,
+    pub held: Held,
+    pub snap: u64,
+}
+
+/// What is known of a try of a batch.
+#[derive(Clone, Copy, Debug, PartialEq, Eq)]
+pub enum BatchAnswer {
+    /// It was put.
+    Done,
+    /// It was not put, and this was seen at that moment.
+    Not(BatchSeen),
+    /// Nothing: a time out, a lost connection, any error.
+    Unknown,
+}
+
+/// What the engine saw as it did not carry a fence out: of which leadership the leader is, and which one fenced last.
+#[derive(Clone, Copy, Debug, PartialEq, Eq)]
+pub struct FenceSeen {
+    pub leader: Option<u64>,
+    pub fence: u64,
+}
+
+/// What is known of a try of a fence.
+#[derive(Clone, Copy, Debug, PartialEq, Eq)]
+pub enum FenceAnswer {
+    /// All behind the gap was deleted.
+    Done,
+    /// Nothing was deleted, and this was seen at that moment.
+    Not(FenceSeen),
+    /// Nothing.
+    Unknown,
+}
+
+/// What is known of a round: of which leadership the leader was, if there was one.
+#[derive(Clone, Copy, Debug, PartialEq, Eq)]
+pub enum RoundAnswer {
+    Seen(Option<u64>),
+    /// Nothing.
+    Unknown,
+}
+
+/// Whether what stands under a number is what was to be put there. The bytes of a batch tell whose they are, so another's are never taken
+/// for them.
+pub fn held_under(mine: &[u8], there: &[u8]) -> Held
+    ensures { result ≡ held_of mine.now (Some there.now) }
+{
+    if mine == there {
+        Held::Mine
+    } else {
+        Held::Another
+    }
+}

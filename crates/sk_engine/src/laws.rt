@@ -1,0 +1,23 @@
+//! What holds of any number of hosts beside an engine. Each law is the contract of a function that does nothing.
+ghost use Rattle.sk_engine.specs.Laws.{DecidedIsRead, DecidedIsSent, DecidedStays, LostIsNeverFound, StillHasAll};
+
+/// What was decided holds the same bytes for ever, in the log or in the snapshot; from the gap on it is what was sent.
+pub fn decided_law()
+    ensures stays { DecidedStays }
+    ensures sent { DecidedIsSent }
+{}
+
+/// Each later leadership finds all that was decided as it begins.
+pub fn read_law()
+    ensures { DecidedIsRead }
+{}
+
+/// What was told as lost, and what was sent behind it, is in no leader's log.
+pub fn lost_law()
+    ensures { LostIsNeverFound }
+{}
+
+/// A leadership that still holds after a read was carried out has all that any other decided before.
+pub fn still_law()
+    ensures { StillHasAll }
+{}

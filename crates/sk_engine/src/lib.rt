@@ -1,0 +1,11 @@
+//! A log that is kept by a consensus engine: what each answer of the engine means, and what holds of all hosts that heed it.
+#![tactic(auto)]
+
+pub mod answer;
+pub mod laws;
+pub mod request;
+pub mod value;
+
+pub use answer::{BatchAnswer, BatchSeen, FenceAnswer, FenceSeen, Held, RoundAnswer, held_under};
+pub use request::{Batch, Fence, Round, Told};
+pub use value::{OWNER_LEN, owner, sign};

@@ -1,0 +1,18 @@
+//! What holds of stores whose log lies in an engine. Each law is the contract of a function that does nothing.
+ghost use Rattle.sk_led.specs.Laws.{LeadersGoOn, LoggedIsInEngine, RepliesRestOnEngine};
+
+/// What a batch logs that was told as logged stands in the engine for ever, and each later leadership finds it.
+pub fn logged_law()
+    ensures { LoggedIsInEngine }
+{}
+
+/// So does what each batch logs that a reply rests on which went out.
+pub fn replies_law()
+    ensures { RepliesRestOnEngine }
+{}
+
+/// What is found of a leadership is what the first of its logged commands leave of the store that it began with, with all that a batch
+/// logs which was told as logged.
+pub fn found_law()
+    ensures { LeadersGoOn }
+{}

@@ -1,0 +1,4 @@
+//! A store whose log lies in a consensus engine, under one leadership after another.
+#![tactic(auto)]
+
+pub mod laws;
